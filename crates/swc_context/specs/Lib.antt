@@ -1,0 +1,4 @@
+pub mod Operators
+pub mod Plain
+pub mod Reserved
+pub mod Words

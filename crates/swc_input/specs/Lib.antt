@@ -1,0 +1,6 @@
+pub mod Buffer
+pub mod Laws
+pub mod Listed
+pub mod Plain
+pub mod Recording
+pub mod Source

@@ -1,0 +1,131 @@
+-- `TokensInput` as a source.
+use Rattle.std.specs.Prelude.{◌≡◌, ℕ, ◌<◌, Bool, true, false, List, [], ◌∷◌, ◌++◌, Option, Some, None, All, length, map, MatchOption}
+use Rattle.std.proofs.Common.{refl, ap, sym, ◌∙◌, append_assoc, arith}
+use Rattle.std.proofs.lemmas.List.{append-nil, nil_from_length}
+use Rattle.std.proofs.lemmas.List.Elements.{All-nil}
+use Rattle.swc_context.specs.declared.context.Context.{Context}
+use Rattle.swc_context.specs.declared.context.EsVersion.{EsVersion}
+use Rattle.swc_context.specs.declared.context.Syntax.{Syntax}
+use Rattle.swc_context.specs.declared.error.Error.{Error}
+use Rattle.swc_input.specs.declared.token.TokenAndSpan.{TokenAndSpan}
+use Rattle.swc_input.specs.declared.listed.TokensInput.{TokensInput}
+use Rattle.swc_input.specs.Plain.{plain}
+use Rattle.swc_input.specs.Source.{Source, IsLawful, Keeps, Keeping, Gave, GivesToken, GivesEnd, Asked, IsFault}
+
+abbrev pub is_nil : {A : Type 0} → List A → Bool
+is_nil [] = true
+is_nil (x ∷ xs) = false
+
+-- the tokens still to come
+abbrev pub coming : TokensInput → List TokenAndSpan
+coming s = map plain s.rest.items
+
+abbrev pub listed_state : TokensInput → Source
+listed_state s = record {
+  context = s.context;
+  syntax = s.syntax;
+  target = s.target;
+  errors = s.errors.items;
+  waiting = s.module_errors.items;
+  failed = false;
+  ended = is_nil (coming s);
+  known = Some (coming s);
+  bound = length s.rest.items
+}
+
+-- a source that nothing was asked of
+abbrev pub new_state : List TokenAndSpan → Context → Syntax → EsVersion → Source
+new_state ts c x v = record {
+  context = c;
+  syntax = x;
+  target = v;
+  errors = [];
+  waiting = [];
+  failed = false;
+  ended = is_nil (map plain ts);
+  known = Some (map plain ts);
+  bound = length ts
+}
+
+pub record ListedGives (s : TokensInput) (xs : List TokenAndSpan) (t : TokensInput) : Type 0 where
+  pub list : coming s ≡ xs ++ coming t
+  pub syntax : t.syntax ≡ s.syntax
+  pub target : t.target ≡ s.target
+
+-- a call of `next` that answered r: it takes the first token, and nothing else changes
+pub record NextListed (s : TokensInput) (r : Option TokenAndSpan) (t : TokensInput) : Type 0 where
+  pub first : MatchOption r ((s.rest.items ≡ []) × (t.rest.items ≡ [])) (λ x. s.rest.items ≡ x ∷ t.rest.items)
+  pub context : t.context ≡ s.context
+  pub syntax : t.syntax ≡ s.syntax
+  pub target : t.target ≡ s.target
+  pub errors : t.errors.items ≡ s.errors.items
+  pub waiting : t.module_errors.items ≡ s.module_errors.items
+
+is_nil-nil : {A : Type 0} (xs : List A) → is_nil xs ≡ true → xs ≡ []
+is_nil-nil [] h = refl
+is_nil-nil (x ∷ xs) h = cc
+
+first_nil : {A : Type 0} (xs ys : List A) → [] ≡ xs ++ ys → xs ≡ []
+first_nil [] ys h = refl
+first_nil (x ∷ xs) ys h = cc
+
+second_nil : {A : Type 0} (xs ys : List A) → [] ≡ xs ++ ys → ys ≡ []
+second_nil [] ys h = sym h
+second_nil (x ∷ xs) ys h = cc
+
+pub Keeps-same : (es fs : List Error) → fs ≡ es → Keeps es fs
+Keeps-same es fs h = record { more = []; added = h ∙ sym (append-nil es); faults = All-nil IsFault }
+
+keeping : (s t : TokensInput) (r : Option TokenAndSpan) → NextListed s r t → Keeping (listed_state s) (listed_state t)
+keeping s t r n = record {
+  context = n.context;
+  errors = Keeps-same _ _ n.errors;
+  waiting = Keeps-same _ _ n.waiting;
+  quiet = λ m h. (n.errors, n.waiting)
+}
+
+pub listed_lawful : (s : TokensInput) → IsLawful (listed_state s)
+listed_lawful s = record {
+  none_waits = λ h. let none = s.none_waits h in let long = s.module_errors.ok in nil_from_length s.module_errors.items (omega arith);
+  sure = λ m h. refl;
+  over = λ m h e. let same : coming s ≡ m = cc in sym same ∙ is_nil-nil (coming s) e
+}
+
+pub listed_none : (s : TokensInput) → ListedGives s [] s
+listed_none s = record { list = refl; syntax = refl; target = refl }
+
+pub listed_then : (s t u : TokensInput) (xs ys : List TokenAndSpan) → ListedGives s xs t → ListedGives t ys u → ListedGives s (xs ++ ys) u
+listed_then s t u xs ys a b = record {
+  list = a.list ∙ ap (λ l. xs ++ l) b.list ∙ sym (append_assoc xs ys (coming u));
+  syntax = b.syntax ∙ a.syntax;
+  target = b.target ∙ a.target
+}
+
+pub listed_gave : (s t : TokensInput) (xs : List TokenAndSpan) → ListedGives s xs t → Gave (listed_state s) xs (listed_state t)
+listed_gave s t xs a = record {
+  syntax = a.syntax;
+  target = a.target;
+  ended = λ e. first_nil xs (coming t) (sym (is_nil-nil (coming s) e) ∙ a.list);
+  stays = λ e. ap is_nil (second_nil xs (coming t) (sym (is_nil-nil (coming s) e) ∙ a.list));
+  known = λ m h. (coming t, refl, (let same : coming s ≡ m = cc in sym same ∙ a.list));
+  unknown = λ h. cc
+}
+
+pub listed_asked : (s : TokensInput) (r : Option TokenAndSpan) (t : TokensInput) → NextListed s r t → Asked listed_state ListedGives s r t
+listed_asked s (Some x) t n = record {
+  gave = record { list = ap (λ l. map plain l) n.first; syntax = n.syntax; target = n.target };
+  token = record {
+    keeping = keeping s t (Some x) n;
+    failed = refl;
+    lower = let long = ap length n.first in omega arith
+  }
+}
+listed_asked s None t n = record {
+  gave = record { list = ap (λ l. map plain l) (n.first.0 ∙ sym n.first.1); syntax = n.syntax; target = n.target };
+  token = record {
+    keeping = keeping s t None n;
+    ended = λ h. ap (λ l. is_nil (map plain l)) n.first.1;
+    stays = λ h. h;
+    lower = let a = ap length n.first.0 in let b = ap length n.first.1 in omega arith
+  }
+}

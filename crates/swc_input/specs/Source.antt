@@ -1,0 +1,110 @@
+-- A source of tokens, as contracts see it.
+use Rattle.std.specs.Prelude.{◌≡◌, ◌≢◌, ℕ, ◌+◌, ◌<◌, ◌≤◌, Bool, true, false, List, [], ◌∷◌, ◌++◌, Option, Some, None, All, MatchOption}
+use Rattle.swc_context.specs.declared.context.Context.{Context}
+use Rattle.swc_context.specs.declared.context.EsVersion.{EsVersion}
+use Rattle.swc_context.specs.declared.context.Syntax.{Syntax}
+use Rattle.swc_context.specs.declared.error.Error.{Error}
+use Rattle.swc_context.specs.declared.error.SyntaxError.TheVariants.{OutOfMemory}
+use Rattle.swc_input.specs.declared.token.TokenAndSpan.{TokenAndSpan}
+use Rattle.swc_input.specs.Plain.{plain}
+
+-- one state of a source
+pub record Source : Type 0 where
+  pub context : Context
+  pub syntax : Syntax
+  pub target : EsVersion
+  -- the faults that were recorded, and the faults of modules that wait for the context to become one
+  pub errors : List Error
+  pub waiting : List Error
+  -- the source met want of memory
+  pub failed : Bool
+  -- the end was given, so no token comes any more
+  pub ended : Bool
+  -- of a listed source: the tokens still to come
+  pub known : Option (List TokenAndSpan)
+  -- no more tokens than this are still to come
+  pub bound : ℕ
+
+-- of faults that were waiting, or of a new one, those that a context records, and those that it keeps waiting
+abbrev pub recorded_in : Bool → List Error → List Error
+recorded_in true es = es
+recorded_in false es = []
+
+abbrev pub waiting_in : Bool → List Error → List Error
+waiting_in true es = []
+waiting_in false es = es
+
+-- the state once the context is c: in a module the faults that waited are recorded
+abbrev pub with_context : Context → Source → Source
+with_context c s = record s {
+  context = c;
+  errors = s.errors ++ recorded_in c.module s.waiting;
+  waiting = waiting_in c.module s.waiting
+}
+
+-- the state once the fault e is recorded
+abbrev pub with_error : Error → Source → Source
+with_error e s = record s { errors = s.errors ++ e ∷ [] }
+
+-- the state once e, a fault in modules alone, is recorded, or waits
+abbrev pub with_module_error : Error → Source → Source
+with_module_error e s = record s {
+  errors = s.errors ++ recorded_in s.context.module (e ∷ []);
+  waiting = s.waiting ++ waiting_in s.context.module (e ∷ [])
+}
+
+-- in a module no fault waits; a listed source never fails, and gives all its tokens before its end
+pub record IsLawful (s : Source) : Type 0 where
+  pub none_waits : s.context.module ≡ true → s.waiting ≡ []
+  pub sure : (m : List TokenAndSpan) → s.known ≡ Some m → s.failed ≡ false
+  pub over : (m : List TokenAndSpan) → s.known ≡ Some m → s.ended ≡ true → m ≡ []
+
+abbrev pub IsFault : Error → Type 0
+IsFault e = e.kind ≢ OutOfMemory
+
+-- fs are the faults es and then more, of which none is want of memory
+pub record Keeps (es fs : List Error) : Type 0 where
+  pub more : List Error
+  pub added : fs ≡ es ++ more
+  pub faults : All IsFault more
+
+-- what asking for a token leaves as it is, whether one came or not
+pub record Keeping (s t : Source) : Type 0 where
+  pub context : t.context ≡ s.context
+  pub errors : Keeps s.errors t.errors
+  pub waiting : Keeps s.waiting t.waiting
+  -- a listed source records nothing by itself
+  pub quiet : (m : List TokenAndSpan) → s.known ≡ Some m → (t.errors ≡ s.errors) × (t.waiting ≡ s.waiting)
+
+-- between s and t one token was asked for, and given
+pub record GivesToken (s t : Source) : Type 0 where
+  pub keeping : Keeping s t
+  pub failed : t.failed ≡ s.failed
+  pub lower : t.bound < s.bound
+
+-- between s and t one token was asked for, and none given: the end, unless the source has failed
+pub record GivesEnd (s t : Source) : Type 0 where
+  pub keeping : Keeping s t
+  pub ended : t.failed ≡ false → t.ended ≡ true
+  pub stays : s.failed ≡ true → t.failed ≡ true
+  pub lower : t.bound ≤ s.bound
+
+-- between s and t the tokens xs were given, by any calls
+pub record Gave (s : Source) (xs : List TokenAndSpan) (t : Source) : Type 0 where
+  pub syntax : t.syntax ≡ s.syntax
+  pub target : t.target ≡ s.target
+  -- after the end nothing comes
+  pub ended : s.ended ≡ true → xs ≡ []
+  pub stays : s.ended ≡ true → t.ended ≡ true
+  -- a listed source gives its list
+  pub known : (m : List TokenAndSpan) → s.known ≡ Some m → (n : List TokenAndSpan) × (t.known ≡ Some n) × (m ≡ xs ++ n)
+  pub unknown : s.known ≡ None → t.known ≡ None
+
+abbrev pub given_one : Option TokenAndSpan → List TokenAndSpan
+given_one None = []
+given_one (Some t) = plain t ∷ []
+
+-- a call of `next` that answered r
+pub record Asked {S : Type 0} (state : S → Source) (gives : S → List TokenAndSpan → S → Type 0) (s : S) (r : Option TokenAndSpan) (t : S) : Type 0 where
+  pub gave : gives s (given_one r) t
+  pub token : MatchOption r (GivesEnd (state s) (state t)) (λ x. GivesToken (state s) (state t))

@@ -1,0 +1,8 @@
+//! Where the parser's tokens come from: tokens, their sources, and the buffer over a source.
+#![tactic(auto)]
+
+pub mod buffer;
+pub mod listed;
+pub mod recording;
+pub mod token;
+pub mod tokens;
