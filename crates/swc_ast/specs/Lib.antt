@@ -1,0 +1,4 @@
+pub mod Parts
+pub mod Spans
+pub mod Tree
+pub mod TreeOf

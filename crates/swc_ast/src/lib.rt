@@ -1,0 +1,13 @@
+//! The syntax tree of ECMAScript's expressions and patterns: its types, its spans, which parts of it may be assigned to, and how it is printed.
+//!
+//! All types with parts are generic over three types that a caller brings: `F` for functions, `C` for classes and `K` for the blocks of functions.
+//! What a tree stands for in contracts is one uniform tree, of `specs/Tree.antt`, that `specs/TreeOf.antt` gives.
+#![tactic(auto)]
+
+pub mod expr;
+pub mod function;
+pub mod ident;
+pub mod lit;
+pub mod pat;
+pub mod prop;
+pub mod spanned;

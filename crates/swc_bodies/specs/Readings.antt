@@ -1,0 +1,110 @@
+-- What a hook reads: the bodies that the parser doesn't look into.
+use Rattle.std.specs.Prelude.{◌≡◌, ◌≢◌, ℕ, ◌≤◌, Bool, true, false, List, [], ◌∷◌, ◌++◌, Option, Some, None, Result, IfOk, IfErr, MatchResult, codes, length, ◌==◌, refl}
+use Rattle.std.specs.Cmp.Lexicographic.{pointwise}
+use Rattle.swc_context.specs.declared.context.Context.{Context}
+use Rattle.swc_context.specs.declared.error.Error.{Error}
+use Rattle.swc_context.specs.declared.error.SyntaxError.TheVariants.{OutOfMemory, ParserFailed}
+use Rattle.swc_context.specs.declared.span.Span.{Span}
+use Rattle.swc_context.specs.declared.word.Keyword.TheVariants as keyword
+use Rattle.swc_context.specs.declared.word.Word.TheVariants as word
+use Rattle.swc_input.specs.declared.buffer.Buffer.{Buffer}
+use Rattle.swc_input.specs.declared.token.Token.{Token}
+use Rattle.swc_input.specs.declared.token.Token.TheVariants as token
+use Rattle.swc_input.specs.declared.token.TokenAndSpan.{TokenAndSpan}
+use Rattle.swc_input.specs.Source.{Source}
+use Rattle.swc_input.specs.Buffer.{Read, Future, Known, source}
+
+abbrev pub is_function : Token → Bool
+is_function (token.Word (word.Keyword keyword.Function)) = true
+is_function t = false
+
+abbrev pub is_async : Token → Bool
+is_async (token.Word (word.Ident name)) = pointwise ◌==◌ name (codes "async")
+is_async t = false
+
+abbrev pub is_class : Token → Bool
+is_class (token.Word (word.Keyword keyword.Class)) = true
+is_class t = false
+
+abbrev pub is_brace : Token → Bool
+is_brace token.LBrace = true
+is_brace t = false
+
+-- the test at a current token; none passes it at the end
+abbrev pub at_token : (Token → Bool) → Option TokenAndSpan → Bool
+at_token f None = false
+at_token f (Some t) = f t.token
+
+abbrev pub either_one : Bool → Bool → Bool
+either_one true b = true
+either_one false b = b
+
+-- at `function`, or at `async`
+abbrev pub at_function : Option TokenAndSpan → Bool
+at_function None = false
+at_function (Some t) = either_one (is_function t.token) (is_async t.token)
+
+-- with which tokens each kind of body begins: `function`, or `async` and `function`; `class`; `{`
+abbrev pub begins_function : List TokenAndSpan → Bool
+begins_function [] = false
+begins_function (t ∷ []) = is_function t.token
+begins_function (t ∷ u ∷ ts) = elim (is_async t.token) [ true ↦ is_function u.token | false ↦ is_function t.token ]
+
+abbrev pub begins : (Token → Bool) → List TokenAndSpan → Bool
+begins f [] = false
+begins f (t ∷ ts) = f t.token
+
+-- from the start of the first token to the end of the last
+abbrev pub last_of : TokenAndSpan → List TokenAndSpan → TokenAndSpan
+last_of t [] = t
+last_of t (u ∷ us) = last_of u us
+
+abbrev pub whole_span : List TokenAndSpan → Span
+whole_span [] = record { lo = record { 0 = 0 }; hi = record { 0 = 0 } }
+whole_span (t ∷ ts) = record { lo = t.span.lo; hi = (last_of t ts).span.hi }
+
+-- From a context and the tokens to come: a value and the tokens left, or nothing. So there is at most one reading from each place.
+abbrev pub Reading : Type 0 → Type 0
+Reading V = Context → List TokenAndSpan → Option (V × List TokenAndSpan)
+
+-- the context without the flags that decide nothing
+abbrev pub view : Context → Context
+view c = record c {
+  will_expect_colon_for_cond = false;
+  in_cond_expr = false;
+  should_not_lex_lt_or_gt_as_type = false;
+  in_property_name = false
+}
+
+-- the tokens xs were read as v from a list that goes on with rest
+pub record ReadsOwn {V : Type 0} (place : V → Span) (starts : List TokenAndSpan → Bool) (reads : Reading V) (c : Context) (ts : List TokenAndSpan) (v : V) (rest : List TokenAndSpan) : Type 0 where
+  pub own : List TokenAndSpan
+  pub list : ts ≡ own ++ rest
+  pub begins : starts own ≡ true
+  -- a reading looks at its own tokens alone
+  pub alone : (other : List TokenAndSpan) → reads c (own ++ other) ≡ Some (v, other)
+  pub span : place v ≡ whole_span own
+
+-- the laws of a hook's reading
+pub record IsReading {V : Type 0} (place : V → Span) (starts : List TokenAndSpan → Bool) (reads : Reading V) : Type 0 where
+  pub owns : (c : Context) (ts : List TokenAndSpan) (v : V) (rest : List TokenAndSpan) → reads c ts ≡ Some (v, rest) → ReadsOwn place starts reads c ts v rest
+  pub viewed : (c : Context) (ts : List TokenAndSpan) → reads c ts ≡ reads (view c) ts
+
+module _ {S V : Type 0} (state : S → Source) (gives : S → List TokenAndSpan → S → Type 0) where
+  -- a call of a hook, from b to c, that answered r: it took a token at least, and where it answers a value and records nothing, the
+  -- value is what the reading gives, whatever comes after
+  pub record Hooked (reads : Reading V) (b : Buffer S) (r : Result V Error) (c : Buffer S) : Type 0 where
+    pub taken : List TokenAndSpan
+    pub some : 1 ≤ length taken
+    pub read : Read state gives b taken c
+    pub clean : (state (source c)).errors ≡ (state (source b)).errors → IfOk r (λ v. (rest : List TokenAndSpan) → Future state c rest → reads (state (source b)).context (taken ++ rest) ≡ Some (v, rest))
+    pub refused : IfErr r (λ e. e.kind ≢ ParserFailed)
+
+  -- over a listed source, a faithful hook reads cleanly what its reading gives, or answers want of memory
+  abbrev pub Faithful : Reading V → Buffer S → Result V Error → Buffer S → Type 0
+  Faithful reads b r c = (ts : List TokenAndSpan) (v : V) (rest : List TokenAndSpan) → Known state b ts → reads (state (source b)).context ts ≡ Some (v, rest) →
+      MatchResult r (λ w. (w ≡ v) × (Known state c rest) × ((state (source c)).errors ≡ (state (source b)).errors)) (λ e. e.kind ≡ OutOfMemory)
+
+-- nothing is read
+pub none_is_reading : {V : Type 0} (place : V → Span) (starts : List TokenAndSpan → Bool) → IsReading place starts (λ c ts. None)
+none_is_reading place starts = record { owns = λ c ts v rest h. cc; viewed = λ c ts. refl }

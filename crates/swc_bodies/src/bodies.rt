@@ -1,0 +1,59 @@
+// The hook by which the parser reads functions, classes and blocks.
+ghost use Rattle.std.specs.Prelude.{◌≡◌, Bool, true};
+ghost use Rattle.swc_input.specs.Buffer.{current};
+ghost use Rattle.swc_bodies.specs.Readings.{Reading, IsReading, Hooked, Faithful, is_function, is_async, is_class, is_brace, at_token, at_function, begins, begins_function};
+
+use swc_ast::spanned::Spanned;
+use swc_context::error::PResult;
+use swc_input::buffer::Buffer;
+use swc_input::tokens::Tokens;
+
+/// What a hook makes of functions, classes and blocks, and how it reads them: one reading for the type, over every source.
+pub trait BodyForms {
+    /// A function, from `function` or `async` on (ECMA-262, 15.2, 15.5, 15.8 and 15.6).
+    type Fun: Spanned + Drop;
+
+    /// A class, from `class` on (ECMA-262, 15.7).
+    type Class: Spanned + Drop;
+
+    /// The block of a function's body, from `{` through `}` (ECMA-262, 15.1).
+    type Block: Spanned + Drop;
+
+    ghost reads_fun: { Reading Self.Fun };
+
+    ghost reads_class: { Reading Self.Class };
+
+    ghost reads_block: { Reading Self.Block };
+}
+
+/// A hook over a kind of source.
+///
+/// Each call takes tokens through the buffer alone, one at least, and keeps the context. It may record faults, and refuse.
+pub trait Bodies<I: Tokens>: BodyForms + Drop {
+    /// The hook reads all that its readings give, and so completeness may be claimed of a parser with it.
+    ghost is_faithful: { Bool };
+
+    /// Reads a function. Called at `function`, or at `async` with `function` after it.
+    fn fun(&mut self, input: &mut Buffer<I>) -> PResult<Self::Fun>
+        requires { at_function (current input.old) ≡ true }
+        ensures hooked { Hooked I.state I.gives Self.reads_fun input.old result input.new }
+        ensures faithful { is_faithful ≡ true → Faithful I.state I.gives Self.reads_fun input.old result input.new };
+
+    /// Reads a class. Called at `class`.
+    fn class(&mut self, input: &mut Buffer<I>) -> PResult<Self::Class>
+        requires { at_token is_class (current input.old) ≡ true }
+        ensures hooked { Hooked I.state I.gives Self.reads_class input.old result input.new }
+        ensures faithful { is_faithful ≡ true → Faithful I.state I.gives Self.reads_class input.old result input.new };
+
+    /// Reads a block. Called at `{`.
+    fn block(&mut self, input: &mut Buffer<I>) -> PResult<Self::Block>
+        requires { at_token is_brace (current input.old) ≡ true }
+        ensures hooked { Hooked I.state I.gives Self.reads_block input.old result input.new }
+        ensures faithful { is_faithful ≡ true → Faithful I.state I.gives Self.reads_block input.old result input.new };
+
+    ghost fun_is_reading: { IsReading Self.Fun.place begins_function Self.reads_fun };
+
+    ghost class_is_reading: { IsReading Self.Class.place (begins is_class) Self.reads_class };
+
+    ghost block_is_reading: { IsReading Self.Block.place (begins is_brace) Self.reads_block };
+}

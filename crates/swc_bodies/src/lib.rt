@@ -1,0 +1,5 @@
+//! The hook by which the parser reads functions, classes and blocks, into which it doesn't look.
+#![tactic(auto)]
+
+pub mod bodies;
+pub mod none;

@@ -1,0 +1,66 @@
+// The hook that reads nothing.
+ghost use Rattle.std.specs.Prelude.{◌≡◌, ◌≢◌, ◌≤◌, ◌∷◌, [], List, IsSome, length};
+ghost use Rattle.swc_context.specs.declared.error.SyntaxError.TheVariants.{ParserFailed};
+ghost use Rattle.swc_input.specs.declared.token.TokenAndSpan.{TokenAndSpan};
+ghost use Rattle.swc_input.specs.Plain.{plain};
+ghost use Rattle.swc_input.specs.Buffer.{current, Read};
+
+use crate::bodies::{Bodies, BodyForms};
+use swc_context::error::{Error, PResult, SyntaxError};
+use swc_context::span::Span;
+use swc_input::buffer::Buffer;
+use swc_input::tokens::Tokens;
+
+/// The hook that reads no function, class or block: each call consumes the current token and refuses it, as `Unexpected` with `{`.
+#[derive(Clone, Copy, PartialEq, Eq, Debug)]
+pub struct NoBodies;
+
+impl BodyForms for NoBodies {
+    ghost use Rattle.std.specs.Prelude.{None};
+
+    type Fun = Span;
+    type Class = Span;
+    type Block = Span;
+
+    ghost reads_fun = { λ c ts. None };
+
+    ghost reads_class = { λ c ts. None };
+
+    ghost reads_block = { λ c ts. None };
+}
+
+/// Consumes the current token and refuses it.
+fn refuse_body<I: Tokens>(input: &mut Buffer<I>) -> Error
+    requires { IsSome (current input.old) }
+    ensures read { (t : TokenAndSpan) × (current input.old ≡ Some t) × Read I.state I.gives input.old (plain t ∷ []) input.new }
+    ensures refused { result.kind ≢ ParserFailed }
+{
+    let span = input.cur_span();
+    let _ = input.bump();
+    Error::new(span, SyntaxError::Unexpected("{"))
+}
+
+impl<I: Tokens> Bodies<I> for NoBodies {
+    ghost use Rattle.std.specs.Prelude.{true};
+    ghost use Rattle.swc_bodies.specs.Readings.{none_is_reading, begins, begins_function, is_class, is_brace};
+
+    ghost is_faithful = { true };
+
+    fn fun(&mut self, input: &mut Buffer<I>) -> PResult<Span> {
+        Err(refuse_body(input))
+    }
+
+    fn class(&mut self, input: &mut Buffer<I>) -> PResult<Span> {
+        Err(refuse_body(input))
+    }
+
+    fn block(&mut self, input: &mut Buffer<I>) -> PResult<Span> {
+        Err(refuse_body(input))
+    }
+
+    ghost fun_is_reading = { none_is_reading (λ s. s) begins_function };
+
+    ghost class_is_reading = { none_is_reading (λ s. s) (begins is_class) };
+
+    ghost block_is_reading = { none_is_reading (λ s. s) (begins is_brace) };
+}
