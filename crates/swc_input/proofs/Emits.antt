@@ -1,13 +1,60 @@
--- Lists of faults to which a fault is added, or none.
-use Rattle.std.proofs.Common.{◌≡◌, ◌≢◌, List, [], ◌∷◌, ◌++◌, sym, ◌∙◌}
+-- Lists of faults to which a fault is added, or none; and what the calls that record and refuse ensure, from what they call.
+use Rattle.std.proofs.Common.{◌≡◌, ◌≢◌, Bool, true, false, List, [], ◌∷◌, ◌++◌, Result, Ok, Err, OnOk, IfErr, sym, ◌∙◌}
 use Rattle.std.specs.Prelude.{All}
 use Rattle.std.proofs.lemmas.List.{append-nil}
 use Rattle.std.proofs.lemmas.List.Elements.{All-nil, All-cons}
 use Rattle.swc_context.specs.declared.error.Error.{Error}
-use Rattle.swc_input.specs.Source.{Keeps, IsFault}
+use Rattle.swc_context.specs.declared.error.SyntaxError.{SyntaxError}
+use Rattle.swc_context.specs.declared.error.SyntaxError.TheVariants as kind
+use Rattle.swc_context.specs.declared.span.BytePos.{BytePos}
+use Rattle.swc_input.specs.declared.buffer.Buffer.{Buffer}
+use Rattle.swc_input.specs.declared.token.TokenAndSpan.{TokenAndSpan}
+use Rattle.swc_input.specs.Source.{Source, Keeps, IsFault, recorded_in, waiting_in}
+use Rattle.swc_input.specs.Buffer.{Read, Looked, current, source, last_position}
+use Rattle.swc_input.specs.Laws.{Joins, Read-late}
+use Rattle.swc_input.specs.Recording.{Recorded, Refused, no_memory, counted_kind, counted, error_here, error_list, error_token, refusal}
 
 pub keeps_none : (es fs : List Error) → fs ≡ es → Keeps es fs
 keeps_none es fs h = record { more = []; added = h ∙ sym (append-nil es); faults = All-nil IsFault }
 
 pub keeps_one : (es fs : List Error) (e : Error) → fs ≡ es ++ e ∷ [] → IsFault e → Keeps es fs
 keeps_one es fs e h fault = record { more = e ∷ []; added = h; faults = All-cons IsFault e [] fault (All-nil IsFault) }
+
+-- a fault of modules is recorded in one, and waits elsewhere
+pub keeps_recorded : (m : Bool) (es fs : List Error) (e : Error) → fs ≡ es ++ recorded_in m (e ∷ []) → IsFault e → Keeps es fs
+keeps_recorded true es fs e h fault = keeps_one es fs e h fault
+keeps_recorded false es fs e h fault = keeps_none es fs (h ∙ append-nil es)
+
+pub keeps_waiting : (m : Bool) (es fs : List Error) (e : Error) → fs ≡ es ++ waiting_in m (e ∷ []) → IsFault e → Keeps es fs
+keeps_waiting true es fs e h fault = keeps_none es fs (h ∙ append-nil es)
+keeps_waiting false es fs e h fault = keeps_one es fs e h fault
+
+counted_kind_fault : (k : SyntaxError) → counted_kind k ≢ kind.OutOfMemory
+counted_kind_fault kind.OutOfMemory = λ h. cc
+counted_kind_fault kind.ParserFailed = λ h. cc
+counted_kind_fault k = λ h. cc
+
+-- the error of a token, as it counts, is never want of memory
+pub counted_fault : (e : Error) → IsFault (counted e)
+counted_fault e = counted_kind_fault e.kind
+
+module _ {S : Type 0} (state : S → Source) (gives : S → List TokenAndSpan → S → Type 0) where
+  pub recorded_by : (b h c : Buffer S) (e : Error) (r : Result (Unit {0}) Error) → Looked state gives b h → Read state gives h (error_token (current h)) c →
+      OnOk r ((state (source c)).errors ≡ (state (source h)).errors ++ (error_list (error_here (current h)) ++ e ∷ [])) →
+      OnOk r ((state (source c)).waiting ≡ (state (source h)).waiting) →
+      OnOk r (Recorded state gives b e c)
+  recorded_by b h c e (Ok u) l d p q = record { here = h; looked = l; read = d; errors = p; waiting = q }
+  recorded_by b h c e (Err f) l d p q = tt
+
+  -- what was consumed after a look was consumed
+  pub read_by : (joins : Joins gives) (b h c : Buffer S) (xs : List TokenAndSpan) → Looked state gives b h → Read state gives h xs c → (ys : List TokenAndSpan) × Read state gives b ys c
+  read_by joins b h c xs l d = (xs, Read-late state gives joins b h c xs l.look.read d)
+
+  pub no_memory_by : (b c : Buffer S) (at : BytePos) (r : Result (Unit {0}) Error) → (xs : List TokenAndSpan) × Read state gives b xs c →
+      IfErr r (λ e. e ≡ no_memory at) → IfErr r (λ e. (xs : List TokenAndSpan) × Read state gives b xs c × (e ≡ no_memory at))
+  no_memory_by b c at (Ok u) d p = tt
+  no_memory_by b c at (Err f) d p = (d.0, d.1, p)
+
+  pub refused_by : (b h c : Buffer S) (e : Buffer S → Error) (r : Error) → Looked state gives b h → Read state gives h (error_token (current h)) c →
+      r ≡ refusal (current h) (state (source h)).failed (last_position h) (e h) → Refused state gives b e r c
+  refused_by b h c e r l d p = record { here = h; looked = l; read = d; answer = p }

@@ -9,6 +9,7 @@ use Rattle.swc_input.specs.declared.token.TokenAndSpan.{TokenAndSpan}
 use Rattle.swc_input.specs.Plain.{plain}
 use Rattle.swc_input.specs.Source.{Source, Keeps, IsFault, Gave, IsLawful, given_one}
 use Rattle.swc_input.specs.Buffer.{held, left, Took, Read, Still, Looked, Peeked, Bumped, Future, Known}
+use Rattle.swc_input.specs.Recording.{Recorded, Refused, error_token}
 
 -- the law by which the lists given by calls are joined
 abbrev pub Joins : {S : Type 0} → (S → List TokenAndSpan → S → Type 0) → Type 0
@@ -17,6 +18,9 @@ Joins {S} gives = (s t u : S) (xs ys : List TokenAndSpan) → gives s xs t → g
 -- the law of what calls gave
 abbrev pub Gives : {S : Type 0} → (S → Source) → (S → List TokenAndSpan → S → Type 0) → Type 0
 Gives {S} state gives = (s t : S) (xs : List TokenAndSpan) → gives s xs t → Gave (state s) xs (state t)
+
+pub Keeps-same : (es : List Error) → Keeps es es
+Keeps-same es = record { more = []; added = sym (append-nil es); faults = All-nil IsFault }
 
 pub Keeps-then : (es fs gs : List Error) → Keeps es fs → Keeps fs gs → Keeps es gs
 Keeps-then es fs gs h k = record {
@@ -53,6 +57,23 @@ module _ {S : Type 0} (state : S → Source) (gives : S → List TokenAndSpan �
 
   pub Read-late : (joins : Joins gives) (b c d : Buffer S) (xs : List TokenAndSpan) → Read state gives b [] c → Read state gives c xs d → Read state gives b xs d
   Read-late joins b c d xs p q = Read-then joins b c d [] xs p q
+
+  -- no call consumed nothing
+  pub Read-same : (none : (s : S) → gives s [] s) (b : Buffer S) → Read state gives b [] b
+  Read-same none b = record {
+    took = record { given = []; gave = none b.iter; balance = append-nil (held b) };
+    context = refl;
+    errors = Keeps-same (state b.iter).errors;
+    waiting = Keeps-same (state b.iter).waiting;
+    lower = omega arith
+  }
+
+  -- with a fault that was recorded, and with a refusal, the tokens of some list were consumed: an error token, or none
+  pub Recorded-read : (joins : Joins gives) (b c : Buffer S) (e : Error) → Recorded state gives b e c → (xs : List TokenAndSpan) × Read state gives b xs c
+  Recorded-read joins b c e r = (error_token r.here.cur, Read-late joins b r.here c (error_token r.here.cur) r.looked.look.read r.read)
+
+  pub Refused-read : (joins : Joins gives) (b c : Buffer S) (e : Buffer S → Error) (f : Error) → Refused state gives b e f c → (xs : List TokenAndSpan) × Read state gives b xs c
+  Refused-read joins b c e f r = (error_token r.here.cur, Read-late joins b r.here c (error_token r.here.cur) r.looked.look.read r.read)
 
   -- what may come after a call may, behind what the call consumed, come before it
   pub Future-before : (gave : Gives state gives) (b c : Buffer S) (xs rest : List TokenAndSpan) → Took gives b xs c → Future state c rest → Future state b (xs ++ rest)

@@ -68,12 +68,12 @@ impl<I: Tokens> Buffer<I> {
         requires { held self.old ≡ [] }
         ensures { self.new ≡ with_current (stored token self.old) self.old }
     {
-        let token = TokenAndSpan {
+        let stored = TokenAndSpan {
             token,
             had_line_break: false,
             span: self.prev_span,
         };
-        put(&mut self.cur, Some(token));
+        put(&mut self.cur, Some(stored));
     }
 
     /// The current token, where it is known already.
@@ -124,7 +124,7 @@ impl<I: Tokens> Buffer<I> {
     {
         self.fill_next();
         match &self.next {
-            Some(token) => Some(&token.token),
+            Some(next) => Some(&next.token),
             None => None,
         }
     }
@@ -149,7 +149,7 @@ impl<I: Tokens> Buffer<I> {
     {
         self.fill_next();
         match &self.next {
-            Some(token) => token.had_line_break,
+            Some(next) => next.had_line_break,
             None => true,
         }
     }

@@ -1,10 +1,10 @@
 // Faults that are recorded, refusals, and want of memory.
 ghost use Rattle.std.specs.Prelude.{◌≡◌, ◌≢◌, true, false, not, List, [], ◌∷◌, ◌++◌, None, IsOk, OnOk, OnErr, IfOk, IfErr, IsSome};
-ghost use Rattle.swc_context.specs.declared.error.SyntaxError.TheVariants.{OutOfMemory};
+ghost use Rattle.swc_context.specs.declared.error.SyntaxError.TheVariants.{OutOfMemory, Eof};
 ghost use Rattle.swc_input.specs.declared.token.TokenAndSpan.{TokenAndSpan};
 ghost use Rattle.swc_input.specs.Source.{with_error, with_module_error, IsFault};
 ghost use Rattle.swc_input.specs.Buffer.{source, last_position, current, with_source, Read, Looked};
-ghost use Rattle.swc_input.specs.Recording.{is_silent, is_some, error_at, no_memory, counted, error_in, error_here, error_list, error_token, unfit, Recorded, Refused, Seen};
+ghost use Rattle.swc_input.specs.Recording.{is_silent, is_some, error_at, no_memory, counted, error_in, error_here, error_list, error_token, unfit, refusal, Recorded, Refused, Seen};
 
 use crate::buffer::Buffer;
 use crate::token::Token;
@@ -36,6 +36,8 @@ fn error_of(token: Token) -> Option<Error>
 
 /// Lets an error go, apart from callers whose proofs would have a case for each kind.
 fn let_go(_error: Error) {}
+
+fn let_kind_go(_kind: SyntaxError) {}
 
 impl<I: Tokens> Buffer<I> {
     /// The refusal for want of memory, at the end of the token consumed last.
@@ -102,5 +104,148 @@ impl<I: Tokens> Buffer<I> {
         }
         let token = self.bump();
         error_of(token)
+    }
+
+    /// Records a fault, after the error of a current error token, which is consumed. Silent contexts record nothing.
+    pub fn emit_error(&mut self, error: Error) -> PResult<()>
+        requires { IsFault error }
+        ensures silent { is_silent (I.state (source self.old)) ≡ true → IsOk result × (self.new ≡ self.old) }
+        ensures recorded { is_silent (I.state (source self.old)) ≡ false → OnOk result (Recorded I.state I.gives self.old error self.new) }
+        ensures refused { IfErr result (λ e. (xs : List TokenAndSpan) × Read I.state I.gives self.old xs self.new × (e ≡ no_memory (last_position self.new))) }
+        ensures read { (xs : List TokenAndSpan) × Read I.state I.gives self.old xs self.new }
+    {
+        if self.is_silent() {
+            let_go(error);
+            return Ok(());
+        }
+        let _ = self.had_line_break_before_cur();
+        self.emit_here(error)
+    }
+
+    /// The same aloud, where the current token is known, or none is left.
+    fn emit_here(&mut self, error: Error) -> PResult<()>
+        requires { IsFault error }
+        ensures errors { OnOk result ((I.state (source self.new)).errors ≡ (I.state (source self.old)).errors ++ (error_list (error_here (current self.old)) ++ error ∷ [])) }
+        ensures waiting { OnOk result ((I.state (source self.new)).waiting ≡ (I.state (source self.old)).waiting) }
+        ensures read { Read I.state I.gives self.old (error_token (current self.old)) self.new }
+        ensures refused { IfErr result (λ e. e ≡ no_memory (last_position self.new)) }
+    {
+        match self.take_error() {
+            None => self.record(error),
+            Some(found) => match self.record(found) {
+                Ok(()) => self.record(error),
+                Err(refusal) => {
+                    let_go(error);
+                    Err(refusal)
+                }
+            },
+        }
+    }
+
+    /// Records a fault of the kind at the place, as `emit_error` does.
+    pub fn emit_err(&mut self, span: Span, kind: SyntaxError) -> PResult<()>
+        requires { kind ≢ OutOfMemory }
+        ensures silent { is_silent (I.state (source self.old)) ≡ true → IsOk result × (self.new ≡ self.old) }
+        ensures recorded { is_silent (I.state (source self.old)) ≡ false → OnOk result (Recorded I.state I.gives self.old (record { span = span; kind = kind }) self.new) }
+        ensures refused { IfErr result (λ e. (xs : List TokenAndSpan) × Read I.state I.gives self.old xs self.new × (e ≡ no_memory (last_position self.new))) }
+        ensures read { (xs : List TokenAndSpan) × Read I.state I.gives self.old xs self.new }
+    {
+        self.emit_error(Error::new(span, kind))
+    }
+
+    /// Records a fault of strict code. It is one in modules alone, and waits outside them. Nothing is recorded, and nothing
+    /// waits, where the context ignores errors.
+    pub fn emit_strict_mode_err(&mut self, span: Span, kind: SyntaxError) -> PResult<()>
+        requires { kind ≢ OutOfMemory }
+        ensures read { Read I.state I.gives self.old [] self.new }
+        ensures rest { self.new ≡ with_source (source self.new) self.old }
+        ensures silent { (I.state (source self.old)).context.ignore_error ≡ true → IsOk result × (self.new ≡ self.old) }
+        ensures recorded { (I.state (source self.old)).context.ignore_error ≡ false → OnOk result (I.state (source self.new) ≡ with_module_error (record { span = span; kind = kind }) (I.state (source self.old))) }
+        ensures refused { IfErr result (λ e. (e ≡ no_memory (last_position self.old)) × (I.state (source self.new) ≡ I.state (source self.old))) }
+    {
+        let error = Error::new(span, kind);
+        if self.get_ctx().ignore_error {
+            let_go(error);
+            return Ok(());
+        }
+        self.record_for_modules(error)
+    }
+
+    /// Records a fault that is one in modules alone, or lets it wait.
+    fn record_for_modules(&mut self, error: Error) -> PResult<()>
+        requires { IsFault error }
+        ensures read { Read I.state I.gives self.old [] self.new }
+        ensures rest { self.new ≡ with_source (source self.new) self.old }
+        ensures recorded { OnOk result (I.state (source self.new) ≡ with_module_error error (I.state (source self.old))) }
+        ensures refused { IfErr result (λ e. (e ≡ no_memory (last_position self.old)) × (I.state (source self.new) ≡ I.state (source self.old))) }
+    {
+        match self.iter.add_module_mode_error(error) {
+            Ok(()) => Ok(()),
+            Err(AllocError) => Err(self.out_of_memory()),
+        }
+    }
+
+    /// A refusal of the kind at the place, unless an error token is current: that is consumed, and its error is the refusal.
+    /// Where the source has failed, it is want of memory.
+    pub fn syntax_error(&mut self, span: Span, kind: SyntaxError) -> Error
+        ensures { Refused I.state I.gives self.old (λ here. record { span = span; kind = kind }) result self.new }
+    {
+        let _ = self.had_line_break_before_cur();
+        self.refuse(Error::new(span, kind))
+    }
+
+    /// The refusal of the current token: of the kind, at that token. At the end it is `Eof`, where the token consumed last ends.
+    /// An error token and a failed source are refused as by `syntax_error`.
+    pub fn unexpected(&mut self, kind: SyntaxError) -> Error
+        ensures { Refused I.state I.gives self.old (λ here. unfit (current here) (last_position here) kind) result self.new }
+    {
+        let _ = self.had_line_break_before_cur();
+        let error = self.unfit(kind);
+        self.refuse(error)
+    }
+
+    /// Asks that a token is current. The end is refused as `Eof`, and an error token as its error, which is consumed.
+    pub fn require_cur(&mut self) -> PResult<()>
+        ensures found { OnOk result (Looked I.state I.gives self.old self.new × IsSome (current self.new) × (error_here (current self.new) ≡ None)) }
+        ensures refused { IfErr result (λ e. Refused I.state I.gives self.old (λ here. unfit (current here) (last_position here) Eof) e self.new) }
+    {
+        let _ = self.had_line_break_before_cur();
+        if self.knows_cur() && !self.is_error() {
+            return Ok(());
+        }
+        let error = self.unfit(SyntaxError::Eof);
+        Err(self.refuse(error))
+    }
+
+    /// A fault of the kind at the current token, or `Eof` where none is left.
+    fn unfit(&self, kind: SyntaxError) -> Error
+        ensures { result ≡ unfit (current self.now) (last_position self.now) kind }
+    {
+        match &self.cur {
+            Some(token) => Error::new(token.span, kind),
+            None => {
+                let_kind_go(kind);
+                let last = self.last_pos();
+                Error::new(Span { lo: last, hi: last }, SyntaxError::Eof)
+            }
+        }
+    }
+
+    /// The refusal in place of this one, where the current token is known, or none is left.
+    fn refuse(&mut self, error: Error) -> Error
+        ensures answer { result ≡ refusal (current self.old) (I.state (source self.old)).failed (last_position self.old) error }
+        ensures read { Read I.state I.gives self.old (error_token (current self.old)) self.new }
+    {
+        if !self.knows_cur() && self.failed() {
+            let_go(error);
+            return self.out_of_memory();
+        }
+        match self.take_error() {
+            Some(found) => {
+                let_go(error);
+                found
+            }
+            None => error,
+        }
     }
 }

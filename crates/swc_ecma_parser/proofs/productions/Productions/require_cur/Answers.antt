@@ -1,0 +1,9 @@
+use Rattle.std.proofs.Common.{Result, Ok, Err}
+use Rattle.swc_context.specs.declared.error.SyntaxError.TheVariants.{Eof, ParserFailed}
+use Rattle.swc_input.specs.Buffer.{current, last_position}
+use Rattle.swc_input.proofs.Refusals.{unfit-kind}
+use Rattle.swc_ecma_parser.proofs.Steps.{required}
+use Rattle.swc_ecma_parser.proofs.productions.Productions.require_cur.Goals as goal
+
+pub returns-clause-does : goal.returns-clause-does
+returns-clause-does g c = required g.I.Tokens.state g.I.Tokens.gives (record { none = g.met.I.Tokens.none; joins = g.met.I.Tokens.then }) _ _ c.require_cur.result c.require_cur.ensures.found c.require_cur.ensures.refused

@@ -1,0 +1,9 @@
+//! The expressions and patterns of ECMAScript: from tokens to a tree with spans and a list of recorded faults, or a refusal.
+#![tactic(auto)]
+
+pub use swc_ast as ast;
+pub use swc_bodies as bodies;
+pub use swc_context as context;
+pub use swc_input as input;
+
+mod productions;

@@ -1,0 +1,139 @@
+// What all productions stand on: the buffer, the hook, and the steps that can be refused.
+ghost use Rattle.std.specs.Prelude.{◌≡◌, ◌≢◌, ℕ, ◌<◌, ◌≤◌, true, Some, IfErr, IfOk, OnOk, IsSome};
+ghost use Rattle.swc_context.specs.declared.error.SyntaxError.TheVariants.{OutOfMemory, ParserFailed};
+ghost use Rattle.swc_input.specs.declared.token.TokenAndSpan.{TokenAndSpan};
+ghost use Rattle.swc_input.specs.Buffer.{current, last_position, previous, source, left};
+ghost use Rattle.swc_input.specs.Recording.{no_memory};
+ghost use Rattle.swc_ecma_parser.specs.Parsing.{is_lit, is_lparen, is_rparen, is_word, at_token, Leads, Advances, Moves, Refuses, Does, Stands};
+
+use std::alloc::Global;
+use swc_ast::expr::Expr;
+use swc_bodies::bodies::{Bodies, BodyForms};
+use swc_context::context::Context;
+use swc_context::error::{Error, PResult, SyntaxError};
+use swc_context::span::Span;
+use swc_context::word::Word;
+use swc_input::buffer::Buffer;
+use swc_input::token::Token;
+use swc_input::tokens::Tokens;
+
+/// An expression over a hook's values.
+pub type ExprOf<B> =
+    Expr<<B as BodyForms>::Fun, <B as BodyForms>::Class, <B as BodyForms>::Block>;
+
+/// The productions of the grammar, as methods: each reads its symbol from the buffer.
+#[derive(Drop)]
+pub struct Productions<I: Tokens, B: Bodies<I>> {
+    pub(crate) alloc: Global,
+    pub(crate) input: Buffer<I>,
+    pub(crate) bodies: B,
+}
+
+impl<I: Tokens, B: Bodies<I>> Productions<I, B> {
+    /// The expression in a box. Refused only for want of memory.
+    pub(crate) fn boxed(&self, expr: ExprOf<B>) -> PResult<Box<ExprOf<B>>>
+        ensures ok { IfOk result (λ b. b.value ≡ expr) }
+        ensures refused { IfErr result (λ e. e ≡ no_memory (last_position self.now.input)) }
+    {
+        match Box::new(self.alloc, expr) {
+            Ok(expr) => Ok(expr),
+            Err(_) => Err(self.input.out_of_memory()),
+        }
+    }
+
+    /// Looks at the current token: whether there is one, and not the end. Refused only for want of memory.
+    pub(crate) fn look(&mut self) -> PResult<bool>
+        ensures does { Does I.state I.gives self.old.input result self.new.input }
+        ensures stands { OnOk result (Stands I.state self.new.input) }
+        ensures token { IfOk result (λ r. r ≡ true → IsSome (current self.new.input)) }
+        ensures same { IsSome (current self.old.input) → self.new.input ≡ self.old.input }
+        ensures left { left I.state self.new.input ≤ left I.state self.old.input }
+    {
+        self.input.has_cur()
+    }
+
+    /// Asks that a token is current, and no error.
+    pub(crate) fn require_cur(&mut self) -> PResult<()>
+        ensures does { Does I.state I.gives self.old.input result self.new.input }
+        ensures token { OnOk result (IsSome (current self.new.input)) }
+        ensures left { left I.state self.new.input ≤ left I.state self.old.input }
+    {
+        self.input.require_cur()
+    }
+
+    /// Consumes the current token.
+    pub(crate) fn bump(&mut self) -> Token
+        requires { IsSome (current self.old.input) }
+        ensures advances { Advances I.state I.gives self.old.input self.new.input }
+        ensures was { (t : TokenAndSpan) × (current self.old.input ≡ Some t) × (result ≡ t.token) × (previous self.new.input ≡ t.span) }
+        ensures left { left I.state self.new.input < left I.state self.old.input }
+    {
+        self.input.bump()
+    }
+
+    /// A refusal at the place, unless an error token is current.
+    pub(crate) fn syntax_error(&mut self, span: Span, kind: SyntaxError) -> Error
+        requires { kind ≢ ParserFailed }
+        ensures refuses { Refuses I.state I.gives self.old.input result self.new.input }
+        ensures left { left I.state self.new.input ≤ left I.state self.old.input }
+    {
+        self.input.syntax_error(span, kind)
+    }
+
+    /// The refusal of the current token, which doesn't fit.
+    pub(crate) fn unexpected(&mut self, kind: SyntaxError) -> Error
+        requires { kind ≢ ParserFailed }
+        ensures refuses { Refuses I.state I.gives self.old.input result self.new.input }
+        ensures left { left I.state self.new.input ≤ left I.state self.old.input }
+    {
+        self.input.unexpected(kind)
+    }
+
+    /// Records a fault.
+    pub(crate) fn emit_err(&mut self, span: Span, kind: SyntaxError) -> PResult<()>
+        requires { kind ≢ OutOfMemory }
+        ensures does { Does I.state I.gives self.old.input result self.new.input }
+        ensures left { left I.state self.new.input ≤ left I.state self.old.input }
+    {
+        self.input.emit_err(span, kind)
+    }
+
+    /// Sets a context of the same kind of text, a module or a script, which can't be refused.
+    pub(crate) fn set_ctx(&mut self, ctx: Context)
+        requires { ctx.module ≡ (I.state (source self.old.input)).context.module }
+        ensures moves { Moves I.state I.gives self.old.input self.new.input }
+        ensures context { (I.state (source self.new.input)).context ≡ ctx }
+        ensures current { current self.new.input ≡ current self.old.input }
+        ensures state { ((I.state (source self.new.input)).failed ≡ (I.state (source self.old.input)).failed) × ((I.state (source self.new.input)).ended ≡ (I.state (source self.old.input)).ended) }
+        ensures left { left I.state self.new.input ≡ left I.state self.old.input }
+    {
+        if self.input.set_ctx(ctx).is_err() {
+            unreachable!()
+        }
+    }
+
+    pub(crate) fn is_lit(&self) -> bool
+        ensures value { result ≡ at_token is_lit (current self.now.input) }
+        ensures some { result ≡ true → IsSome (current self.now.input) }
+    {
+        match self.input.cur_debug() {
+            Some(Token::Word(Word::Null | Word::True | Word::False)) => true,
+            Some(Token::Num { .. } | Token::BigInt { .. } | Token::Str { .. }) => true,
+            _ => false,
+        }
+    }
+
+    pub(crate) fn is_lparen(&self) -> bool
+        ensures value { result ≡ at_token is_lparen (current self.now.input) }
+        ensures some { result ≡ true → IsSome (current self.now.input) }
+    {
+        matches!(self.input.cur_debug(), Some(Token::LParen))
+    }
+
+    pub(crate) fn is_rparen(&self) -> bool
+        ensures value { result ≡ at_token is_rparen (current self.now.input) }
+        ensures some { result ≡ true → IsSome (current self.now.input) }
+    {
+        matches!(self.input.cur_debug(), Some(Token::RParen))
+    }
+}
