@@ -1,4 +1,5 @@
 pub mod Parts
 pub mod Spans
+pub mod Targets
 pub mod Tree
 pub mod TreeOf

@@ -7,12 +7,11 @@ use Rattle.swc_ast.specs.declared.expr.AssignTarget.{AssignTarget}
 use Rattle.swc_ast.specs.declared.expr.AssignTarget.TheFolds.{fold-AssignTarget, fold-Expr, fold-ObjectPatProp, fold-Pat, fold-Prop, fold-PropOrSpread}
 use Rattle.swc_ast.specs.declared.expr.AssignTarget.TheOpen as o
 use Rattle.swc_ast.specs.declared.expr.Expr.{Expr}
-use Rattle.swc_ast.specs.declared.ident.Ident.{Ident}
 use Rattle.swc_ast.specs.declared.pat.ObjectPatProp.{ObjectPatProp}
 use Rattle.swc_ast.specs.declared.pat.Pat.{Pat}
 use Rattle.swc_ast.specs.declared.prop.Prop.{Prop}
 use Rattle.swc_ast.specs.declared.prop.PropOrSpread.{PropOrSpread}
-use Rattle.swc_ast.specs.Tree.{this, array, object, fun, class, block, unary, update, bin, assign, cond, seq, call, new, tagged, arrow, await, yield, meta, invalid, shorthand, key_value, method, function, getter, setter, binding_prop, default, pat_expr, Tree, node, nil, cons, trees, span_of}
+use Rattle.swc_ast.specs.Tree.{this, array, object, fun, class, block, unary, update, bin, assign, cond, seq, call, new, tagged, arrow, await, yield, meta, invalid, shorthand, key_value, method, getter, setter, binding_prop, default, pat_expr, Tree, node, nil, cons, trees, span_of}
 use Rattle.swc_ast.specs.Parts.{leaf, or_hole, unbox, ident_tree, binding_tree, private_tree, lit_tree, prop_name_tree, item_tree, item_trees, args_tree, paren_tree, member_tree, super_prop_tree, chain_tree, callee_tree, tpl_tree, body_tree, simple_tree, rest_tree, function_tree, cover_tree, spread_tree}
 
 -- the hook's types, and where their values stand

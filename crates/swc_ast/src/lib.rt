@@ -1,4 +1,4 @@
-//! The syntax tree of ECMAScript's expressions and patterns: its types, its spans, which parts of it may be assigned to, and how it is printed.
+//! The syntax tree of ECMAScript's expressions and patterns: its types, its spans, and which parts of it may be assigned to.
 //!
 //! All types with parts are generic over three types that a caller brings: `F` for functions, `C` for classes and `K` for the blocks of functions.
 //! What a tree stands for in contracts is one uniform tree, of `specs/Tree.antt`, that `specs/TreeOf.antt` gives.
@@ -11,3 +11,4 @@ pub mod lit;
 pub mod pat;
 pub mod prop;
 pub mod spanned;
+pub mod target;

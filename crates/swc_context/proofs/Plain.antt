@@ -4,7 +4,7 @@ use Rattle.std.specs.Global.{Box}
 use Rattle.std.specs.Ptr.{null_ptr}
 use Rattle.swc_context.specs.declared.error.Error.{Error}
 use Rattle.swc_context.specs.declared.span.Span.{Span}
-use Rattle.swc_context.specs.declared.error.SyntaxError.{SyntaxError, WithLabel'}
+use Rattle.swc_context.specs.declared.error.SyntaxError.{WithLabel'}
 use Rattle.swc_context.specs.declared.error.SyntaxError.TheVariants.{WithLabel}
 use Rattle.swc_context.specs.Plain.{plain_error, plain_kind}
 

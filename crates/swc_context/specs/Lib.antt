@@ -1,3 +1,4 @@
+pub mod Errors
 pub mod Operators
 pub mod Plain
 pub mod Reserved

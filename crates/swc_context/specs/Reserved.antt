@@ -2,7 +2,6 @@
 use Rattle.std.specs.Prelude.{ℕ, Bool, true, false, ◌||◌, ◌&&◌, List, [], ◌∷◌, codes, ◌==◌}
 use Rattle.std.specs.Cmp.Lexicographic.{pointwise}
 use Rattle.swc_context.specs.declared.context.Context.{Context}
-use Rattle.swc_context.specs.declared.word.Keyword.{Keyword}
 use Rattle.swc_context.specs.declared.word.Keyword.TheVariants as keyword
 use Rattle.swc_context.specs.declared.word.Word.{Word}
 use Rattle.swc_context.specs.declared.word.Word.TheVariants as word
@@ -50,3 +49,13 @@ is_reserved_word c w =
     || is_text w (codes "await") && (c.in_async || c.in_static_block || c.module)
     || is_text w (codes "yield") && (c.in_generator || c.strict)
     || is_one_of w strict_reserved && c.strict
+
+-- names that strict code doesn't bind
+abbrev pub strict_binding_words : List (List ℕ)
+strict_binding_words = codes "eval" ∷ codes "arguments" ∷ []
+
+-- words that are no identifiers in strict code; modules add `await`
+abbrev pub strict_words : List (List ℕ)
+strict_words =
+    codes "implements" ∷ codes "interface" ∷ codes "let" ∷ codes "package" ∷ codes "private" ∷ codes "protected"
+    ∷ codes "public" ∷ codes "static" ∷ codes "yield" ∷ []

@@ -1,9 +1,10 @@
 -- How words are written.
-use Rattle.std.specs.Prelude.{ℕ, List, codes}
+use Rattle.std.specs.Prelude.{ℕ, List, [], ◌∷◌, codes, Option, Some, None, if◌then◌else◌}
 use Rattle.swc_context.specs.declared.word.Keyword.{Keyword}
 use Rattle.swc_context.specs.declared.word.Keyword.TheVariants as keyword
 use Rattle.swc_context.specs.declared.word.Word.{Word}
 use Rattle.swc_context.specs.declared.word.Word.TheVariants as word
+use Rattle.swc_context.specs.Reserved.{is_text}
 
 abbrev pub keyword_text : Keyword → List ℕ
 keyword_text keyword.Await = codes "await"
@@ -48,3 +49,33 @@ word_text word.Null = codes "null"
 word_text word.True = codes "true"
 word_text word.False = codes "false"
 word_text (word.Ident name) = name
+
+abbrev pub keywords : List Keyword
+keywords =
+    keyword.Await ∷ keyword.Break ∷ keyword.Case ∷ keyword.Catch ∷ keyword.Class ∷ keyword.Const ∷ keyword.Continue
+    ∷ keyword.Debugger ∷ keyword.Default_ ∷ keyword.Delete ∷ keyword.Do ∷ keyword.Else ∷ keyword.Export ∷ keyword.Extends
+    ∷ keyword.Finally ∷ keyword.For ∷ keyword.Function ∷ keyword.If ∷ keyword.Import ∷ keyword.In ∷ keyword.InstanceOf
+    ∷ keyword.Let ∷ keyword.New ∷ keyword.Return ∷ keyword.Super ∷ keyword.Switch ∷ keyword.This ∷ keyword.Throw
+    ∷ keyword.Try ∷ keyword.TypeOf ∷ keyword.Var ∷ keyword.Void ∷ keyword.While ∷ keyword.With ∷ keyword.Yield ∷ []
+
+-- the first of the keywords that is written so
+abbrev pub keyword_among : List ℕ → List Keyword → Option Keyword
+keyword_among w [] = None
+keyword_among w (k ∷ ks) = if is_text w (keyword_text k) then Some k else keyword_among w ks
+
+-- the keyword that is written so
+abbrev pub keyword_of : List ℕ → Option Keyword
+keyword_of w = keyword_among w keywords
+
+-- the keyword, or else a name
+abbrev pub keyword_or_name : Option Keyword → List ℕ → Word
+keyword_or_name (Some k) w = word.Keyword k
+keyword_or_name None w = word.Ident w
+
+-- the word that is written so
+abbrev pub word_of : List ℕ → Word
+word_of w =
+    if is_text w (codes "null") then word.Null
+    else (if is_text w (codes "true") then word.True
+    else (if is_text w (codes "false") then word.False
+    else keyword_or_name (keyword_of w) w))

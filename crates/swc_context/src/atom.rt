@@ -9,7 +9,7 @@ use std::fmt;
 use std::marker::Model;
 
 /// An owned text: a name, or a piece of the source. Contracts see it as the list of its bytes.
-#[derive(Drop)]
+#[derive(Debug, Drop)]
 pub struct Atom {
     text: String,
 }
@@ -53,7 +53,7 @@ impl PartialEq for Atom {
     ghost laws = { Prim.search (comparing, rules) };
 
     fn eq(&self, other: &Atom) -> bool {
-        self.text.as_str() == other.text.as_str()
+        self.as_str() == other.as_str()
     }
 }
 
@@ -63,6 +63,6 @@ impl Eq for Atom {
 
 impl fmt::Display for Atom {
     fn fmt<W: fmt::Write>(&self, f: &mut fmt::Formatter<W>) -> fmt::Result {
-        f.write_str(self.text.as_str())
+        f.write_str(self.as_str())
     }
 }

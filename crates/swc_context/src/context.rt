@@ -1,4 +1,5 @@
 // Under which rules the parser reads.
+ghost use Rattle.std.specs.Prelude.{◌≡◌, true, false};
 
 /// Where in the head of a `for` the parser stands.
 #[derive(Clone, Copy, PartialEq, Eq, Debug, Default)]
@@ -61,6 +62,8 @@ pub struct Syntax {
 }
 
 impl Default for Syntax {
+    ghost is_default = { λ s. s ≡ record { early_errors = true; import_attributes = false; allow_super_outside_method = false } };
+
     fn default() -> Syntax {
         Syntax {
             early_errors: true,

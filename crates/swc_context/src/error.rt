@@ -1,16 +1,18 @@
 // What is refused and recorded.
 ghost use Rattle.std.specs.Prelude.{◌≡◌, IfOk};
+ghost use Rattle.swc_context.specs.Errors.{kind_name};
 ghost use Rattle.swc_context.specs.Plain.{plain_error, plain_kind};
 
 use crate::atom::Atom;
 use crate::span::Span;
 use std::alloc::AllocError;
+use std::fmt;
 
 /// The answer of a parsing call: what was read, or a refusal.
 pub type PResult<T> = Result<T, Error>;
 
 /// A fault and its place.
-#[derive(PartialEq, Eq, Drop)]
+#[derive(PartialEq, Eq, Debug, Drop)]
 #[cycle(fault)]
 pub struct Error {
     span: Span,
@@ -18,7 +20,7 @@ pub struct Error {
 }
 
 /// The kind of a fault. The place that is named is the span of the error.
-#[derive(PartialEq, Eq, Drop)]
+#[derive(PartialEq, Eq, Debug, Drop)]
 #[cycle(fault)]
 pub enum SyntaxError {
     /// A token is required where the text ends; at the end of the previous token.
@@ -169,6 +171,25 @@ impl Error {
     }
 }
 
+/// The kind's name, the place, and then what the kind holds: `TS1109 0..1`, `Expected 2..3 )`,
+/// `WithLabel 5..6 (TS1109 5..6)`.
+impl fmt::Display for Error {
+    fn fmt<W: fmt::Write>(&self, f: &mut fmt::Formatter<W>) -> fmt::Result {
+        let name = self.kind.name();
+        let span = self.span;
+        write!(f, "{name} {span}")?;
+        match self.kind() {
+            SyntaxError::Expected(text) | SyntaxError::Unexpected(text) => write!(f, " {text}"),
+            SyntaxError::WithLabel { inner, .. } => write!(f, " ({inner})"),
+            SyntaxError::InvalidIdentInStrict(word) => write!(f, " {word}"),
+            SyntaxError::DuplicatedRegExpFlags(flag) => write!(f, " {flag}"),
+            _ => Ok(()),
+        }
+    }
+}
+
+impl std::error::Error for Error {}
+
 impl SyntaxError {
     /// An equal kind of its own. The only error is want of memory.
     #[cycle(fault)]
@@ -253,7 +274,9 @@ impl SyntaxError {
     }
 
     /// The kind's name, without what it holds.
-    pub fn name(&self) -> &'static str {
+    pub fn name(&self) -> &'static str
+        ensures { result.now ≡ kind_name self.now }
+    {
         match self {
             SyntaxError::Eof => "Eof",
             SyntaxError::Expected(_) => "Expected",

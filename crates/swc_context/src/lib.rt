@@ -6,4 +6,7 @@ pub mod context;
 pub mod error;
 pub mod operator;
 pub mod span;
+#[cfg(test)]
+mod tests;
+pub mod util;
 pub mod word;

@@ -1,9 +1,9 @@
 // Words: keywords, and names.
 ghost use Rattle.std.specs.Prelude.{◌≡◌, IfOk, IfSome};
-ghost use Rattle.swc_context.specs.Words.{keyword_text, word_text};
+ghost use Rattle.swc_context.specs.Words.{keyword_text, keyword_of, word_text, word_of};
 
 use crate::atom::Atom;
-use std::alloc::AllocError;
+use std::alloc::{AllocError, Global};
 
 /// A word that is never the token of a name (ECMA-262, 12.7.2), with `let`.
 #[derive(Clone, Copy, PartialEq, Eq, Debug)]
@@ -81,9 +81,55 @@ pub enum Keyword {
 }
 
 impl Keyword {
+    /// The keyword that the text spells, if it is one.
+    pub fn from_text(text: &str) -> Option<Keyword>
+        ensures value { result ≡ keyword_of text.now }
+        ensures spelling { IfSome result (λ k. keyword_text k ≡ text.now) }
+    {
+        match text {
+            "await" => Some(Keyword::Await),
+            "break" => Some(Keyword::Break),
+            "case" => Some(Keyword::Case),
+            "catch" => Some(Keyword::Catch),
+            "class" => Some(Keyword::Class),
+            "const" => Some(Keyword::Const),
+            "continue" => Some(Keyword::Continue),
+            "debugger" => Some(Keyword::Debugger),
+            "default" => Some(Keyword::Default_),
+            "delete" => Some(Keyword::Delete),
+            "do" => Some(Keyword::Do),
+            "else" => Some(Keyword::Else),
+            "export" => Some(Keyword::Export),
+            "extends" => Some(Keyword::Extends),
+            "finally" => Some(Keyword::Finally),
+            "for" => Some(Keyword::For),
+            "function" => Some(Keyword::Function),
+            "if" => Some(Keyword::If),
+            "import" => Some(Keyword::Import),
+            "in" => Some(Keyword::In),
+            "instanceof" => Some(Keyword::InstanceOf),
+            "let" => Some(Keyword::Let),
+            "new" => Some(Keyword::New),
+            "return" => Some(Keyword::Return),
+            "super" => Some(Keyword::Super),
+            "switch" => Some(Keyword::Switch),
+            "this" => Some(Keyword::This),
+            "throw" => Some(Keyword::Throw),
+            "try" => Some(Keyword::Try),
+            "typeof" => Some(Keyword::TypeOf),
+            "var" => Some(Keyword::Var),
+            "void" => Some(Keyword::Void),
+            "while" => Some(Keyword::While),
+            "with" => Some(Keyword::With),
+            "yield" => Some(Keyword::Yield),
+            _ => None,
+        }
+    }
+
     /// The keyword as it is written.
     pub fn as_str(self) -> &'static str
-        ensures { result.now ≡ keyword_text self }
+        ensures text { result.now ≡ keyword_text self }
+        ensures read_back { keyword_of result.now ≡ Some self }
     {
         match self {
             Keyword::Await => "await",
@@ -126,7 +172,7 @@ impl Keyword {
 }
 
 /// A word of the text (ECMA-262, 12.7).
-#[derive(PartialEq, Eq, Drop)]
+#[derive(PartialEq, Eq, Debug, Drop)]
 pub enum Word {
     Keyword(Keyword),
     /// `null`
@@ -140,6 +186,22 @@ pub enum Word {
 }
 
 impl Word {
+    /// The word that the text spells. The only error is want of memory.
+    pub fn new(alloc: Global, text: &str) -> Result<Word, AllocError>
+        ensures value { IfOk result (λ w. w ≡ word_of text.now) }
+        ensures spelling { IfOk result (λ w. word_text w ≡ text.now) }
+    {
+        match text {
+            "null" => Ok(Word::Null),
+            "true" => Ok(Word::True),
+            "false" => Ok(Word::False),
+            _ => match Keyword::from_text(text) {
+                Some(keyword) => Ok(Word::Keyword(keyword)),
+                None => Ok(Word::Ident(Atom::new(alloc, text)?)),
+            },
+        }
+    }
+
     /// The word as it is written.
     pub fn as_str(&self) -> &str
         ensures { result.now ≡ word_text self.now }

@@ -1,15 +1,18 @@
 -- What parsing calls do to the buffer.
-use Rattle.std.specs.Prelude.{◌≡◌, ◌≢◌, ℕ, ◌+◌, ◌≤◌, Bool, true, false, List, [], ◌++◌, Option, Some, None, Result, MatchResult, MatchOption, length, ⊤}
+use Rattle.std.specs.Prelude.{◌≡◌, ◌≢◌, ℕ, ◌+◌, ◌≤◌, Bool, true, false, List, [], ◌++◌, Option, Some, None, not, ◌&&◌, codes, Result, MatchResult, length}
+use Rattle.swc_context.specs.Reserved.{is_reserved, is_text}
+use Rattle.swc_context.specs.declared.context.Context.{Context}
 use Rattle.swc_context.specs.declared.error.Error.{Error}
 use Rattle.swc_context.specs.declared.error.SyntaxError.TheVariants.{ParserFailed}
 use Rattle.swc_context.specs.declared.word.Keyword.TheVariants as keyword
+use Rattle.swc_context.specs.declared.word.Word.{Word}
 use Rattle.swc_context.specs.declared.word.Word.TheVariants as word
 use Rattle.swc_input.specs.declared.buffer.Buffer.{Buffer}
 use Rattle.swc_input.specs.declared.token.Token.{Token}
 use Rattle.swc_input.specs.declared.token.Token.TheVariants as token
 use Rattle.swc_input.specs.declared.token.TokenAndSpan.{TokenAndSpan}
 use Rattle.swc_input.specs.Source.{Source, Keeps}
-use Rattle.swc_input.specs.Buffer.{Took, Read, left, current, source}
+use Rattle.swc_input.specs.Buffer.{Took, Read, left}
 
 abbrev pub is_lit : Token → Bool
 is_lit (token.Word word.Null) = true
@@ -23,6 +26,17 @@ is_lit t = false
 abbrev pub is_word : Token → Bool
 is_word (token.Word w) = true
 is_word t = false
+
+-- a name that is an expression by itself
+abbrev pub is_name : Context → Word → Bool
+is_name c (word.Ident w) = not (is_reserved c (word.Ident w)) && not (is_text w (codes "async"))
+is_name c w = false
+
+-- the words that are expressions by themselves: so far, names that aren't reserved but `async`, and `let`
+abbrev pub is_identifier : Context → Token → Bool
+is_identifier c (token.Word (word.Keyword keyword.Let)) = true
+is_identifier c (token.Word w) = is_name c w
+is_identifier c t = false
 
 abbrev pub is_lparen : Token → Bool
 is_lparen token.LParen = true
@@ -75,7 +89,3 @@ module _ {S : Type 0} (state : S → Source) (gives : S → List TokenAndSpan �
   -- a call that may consume nothing
   abbrev pub Does : {T : Type 0} → Buffer S → Result T Error → Buffer S → Type 0
   Does b r c = MatchResult r (λ t. Leads b c) (λ e. Refuses b e c)
-
--- after a look: the current token is known, or it is the end, and no want of memory
-abbrev pub Stands : {S : Type 0} → (S → Source) → Buffer S → Type 0
-Stands state b = MatchOption (current b) (((state (source b)).failed ≡ false) × ((state (source b)).ended ≡ true)) (λ t. ⊤)

@@ -6,4 +6,6 @@ pub use swc_bodies as bodies;
 pub use swc_context as context;
 pub use swc_input as input;
 
+mod expr;
+pub mod parser;
 mod productions;

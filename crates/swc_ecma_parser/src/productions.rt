@@ -1,25 +1,25 @@
 // What all productions stand on: the buffer, the hook, and the steps that can be refused.
-ghost use Rattle.std.specs.Prelude.{◌≡◌, ◌≢◌, ℕ, ◌<◌, ◌≤◌, true, Some, IfErr, IfOk, OnOk, IsSome};
+ghost use Rattle.std.specs.Prelude.{◌≡◌, ◌≢◌, ℕ, ◌<◌, ◌≤◌, true, false, None, Some, IfErr, IfOk, OnOk, IsSome};
 ghost use Rattle.swc_context.specs.declared.error.SyntaxError.TheVariants.{OutOfMemory, ParserFailed};
 ghost use Rattle.swc_input.specs.declared.token.TokenAndSpan.{TokenAndSpan};
 ghost use Rattle.swc_input.specs.Buffer.{current, last_position, previous, source, left};
 ghost use Rattle.swc_input.specs.Recording.{no_memory};
-ghost use Rattle.swc_ecma_parser.specs.Parsing.{is_lit, is_lparen, is_rparen, is_word, at_token, Leads, Advances, Moves, Refuses, Does, Stands};
+ghost use Rattle.swc_ecma_parser.specs.Parsing.{is_identifier, is_lit, is_lparen, is_name, is_rparen, is_word, at_token, Leads, Advances, Moves, Refuses, Does};
 
 use std::alloc::Global;
 use swc_ast::expr::Expr;
 use swc_bodies::bodies::{Bodies, BodyForms};
+use swc_context::atom::Atom;
 use swc_context::context::Context;
 use swc_context::error::{Error, PResult, SyntaxError};
 use swc_context::span::Span;
-use swc_context::word::Word;
+use swc_context::word::{Keyword, Word};
 use swc_input::buffer::Buffer;
 use swc_input::token::Token;
 use swc_input::tokens::Tokens;
 
 /// An expression over a hook's values.
-pub type ExprOf<B> =
-    Expr<<B as BodyForms>::Fun, <B as BodyForms>::Class, <B as BodyForms>::Block>;
+pub type ExprOf<B> = Expr<<B as BodyForms>::Fun, <B as BodyForms>::Class, <B as BodyForms>::Block>;
 
 /// The productions of the grammar, as methods: each reads its symbol from the buffer.
 #[derive(Drop)]
@@ -44,12 +44,20 @@ impl<I: Tokens, B: Bodies<I>> Productions<I, B> {
     /// Looks at the current token: whether there is one, and not the end. Refused only for want of memory.
     pub(crate) fn look(&mut self) -> PResult<bool>
         ensures does { Does I.state I.gives self.old.input result self.new.input }
-        ensures stands { OnOk result (Stands I.state self.new.input) }
         ensures token { IfOk result (λ r. r ≡ true → IsSome (current self.new.input)) }
-        ensures same { IsSome (current self.old.input) → self.new.input ≡ self.old.input }
+        ensures end { IfOk result (λ r. r ≡ false → (current self.new.input ≡ None) × ((I.state (source self.new.input)).ended ≡ true)) }
         ensures left { left I.state self.new.input ≤ left I.state self.old.input }
     {
         self.input.has_cur()
+    }
+
+    /// Whether no token is left. Refused only for want of memory.
+    pub(crate) fn is_end(&mut self) -> PResult<bool>
+        ensures does { Does I.state I.gives self.old.input result self.new.input }
+        ensures end { IfOk result (λ r. r ≡ true → (current self.new.input ≡ None) × ((I.state (source self.new.input)).ended ≡ true)) }
+        ensures token { IfOk result (λ r. r ≡ false → IsSome (current self.new.input)) }
+    {
+        Ok(!self.look()?)
     }
 
     /// Asks that a token is current, and no error.
@@ -69,6 +77,15 @@ impl<I: Tokens, B: Bodies<I>> Productions<I, B> {
         ensures left { left I.state self.new.input < left I.state self.old.input }
     {
         self.input.bump()
+    }
+
+    /// Consumes the current token and lets it go.
+    pub(crate) fn skip(&mut self)
+        requires { IsSome (current self.old.input) }
+        ensures advances { Advances I.state I.gives self.old.input self.new.input }
+        ensures left { left I.state self.new.input < left I.state self.old.input }
+    {
+        let _ = self.bump();
     }
 
     /// A refusal at the place, unless an error token is current.
@@ -135,5 +152,44 @@ impl<I: Tokens, B: Bodies<I>> Productions<I, B> {
         ensures some { result ≡ true → IsSome (current self.now.input) }
     {
         matches!(self.input.cur_debug(), Some(Token::RParen))
+    }
+
+    /// Whether a word is current that is an expression by itself.
+    pub(crate) fn is_ident_ref(&self) -> bool
+        ensures value { result ≡ at_token (is_identifier (I.state (source self.now.input)).context) (current self.now.input) }
+        ensures word { result ≡ true → at_token is_word (current self.now.input) ≡ true }
+        ensures some { result ≡ true → IsSome (current self.now.input) }
+    {
+        let ctx = self.input.get_ctx();
+        match self.input.cur_debug() {
+            Some(Token::Word(Word::Keyword(Keyword::Let))) => true,
+            Some(Token::Word(word)) => is_identifier_word(ctx, word),
+            _ => false,
+        }
+    }
+
+    /// The text of a word.
+    pub(crate) fn name_of(&self, token: Token) -> PResult<Atom>
+        requires { is_word token ≡ true }
+        ensures { IfErr result (λ e. e ≡ no_memory (last_position self.now.input)) }
+    {
+        match token {
+            Token::Word(Word::Ident(name)) => Ok(name),
+            Token::Word(word) => match Atom::new(self.alloc, word.as_str()) {
+                Ok(name) => Ok(name),
+                Err(_) => Err(self.input.out_of_memory()),
+            },
+            _ => unreachable!(),
+        }
+    }
+}
+
+/// Whether a word other than `let` is an expression by itself.
+fn is_identifier_word(ctx: Context, word: &Word) -> bool
+    ensures { result ≡ is_name ctx word.now }
+{
+    match word {
+        Word::Ident(name) => !ctx.is_reserved(word) && name.as_str() != "async",
+        _ => false,
     }
 }

@@ -46,20 +46,20 @@ unfit-kind (Some t) at k other end own = own
 module _ {S : Type 0} (state : S → Source) (gives : S → List TokenAndSpan → S → Type 0) where
   pub Refused-kind : (b c : Buffer S) (e : Buffer S → Error) (f : Error) → ((here : Buffer S) → (e here).kind ≢ kind.ParserFailed) → Refused state gives b e f c → f.kind ≢ kind.ParserFailed
   Refused-kind b c e f own r h =
-    refusal-kind (current r.here) (state (source r.here)).failed (last_position r.here) (e r.here) (own r.here) (ap (λ x. x.kind) (sym r.answer) ∙ h)
+      refusal-kind (current r.here) (state (source r.here)).failed (last_position r.here) (e r.here) (own r.here) (ap (λ x. x.kind) (sym r.answer) ∙ h)
 
   -- want of memory is refused where the look met a failed source
   pub Refused-memory : (b c : Buffer S) (e : Buffer S → Error) (f : Error) → ((here : Buffer S) → IsFault (e here)) → (r : Refused state gives b e f c) → f.kind ≡ kind.OutOfMemory →
       (current r.here ≡ None) × ((state (source r.here)).failed ≡ true) × (f ≡ no_memory (last_position r.here))
   Refused-memory b c e f fault r h =
-    let m = refusal-memory (current r.here) (state (source r.here)).failed (last_position r.here) (e r.here) (fault r.here) (ap (λ x. x.kind) (sym r.answer) ∙ h) in
-    (m.0, m.1, r.answer ∙ m.2)
+      let m = refusal-memory (current r.here) (state (source r.here)).failed (last_position r.here) (e r.here) (fault r.here) (ap (λ x. x.kind) (sym r.answer) ∙ h) in
+      (m.0, m.1, r.answer ∙ m.2)
 
   -- over a listed source want of memory is never refused
   pub Refused-listed : (lawful : (s : S) → IsLawful (state s)) (gave : Gives state gives) (b c : Buffer S) (e : Buffer S → Error) (f : Error) (m : List TokenAndSpan) →
       ((here : Buffer S) → IsFault (e here)) → Refused state gives b e f c → (state (source b)).known ≡ Some m → IsFault f
   Refused-listed lawful gave b c e f m fault r known h =
-    let took = r.looked.look.read.took in
-    let k = (gave b.iter r.here.iter took.given took.gave).known m known in
-    let sound = (lawful r.here.iter).sure k.0 k.1 in
-    let failed = (Refused-memory b c e f fault r h).1 in cc
+      let took = r.looked.look.read.took in
+      let k = (gave b.iter r.here.iter took.given took.gave).known m known in
+      let sound = (lawful r.here.iter).sure k.0 k.1 in
+      let failed = (Refused-memory b c e f fault r h).1 in cc

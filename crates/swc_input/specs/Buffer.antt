@@ -1,5 +1,5 @@
 -- What a call of a buffer does, and which tokens may still come.
-use Rattle.std.specs.Prelude.{◌≡◌, ℕ, ◌+◌, ◌≤◌, Bool, true, false, List, [], ◌∷◌, ◌++◌, Option, Some, None, length, min}
+use Rattle.std.specs.Prelude.{◌≡◌, ℕ, ◌+◌, ◌≤◌, true, false, List, [], ◌∷◌, ◌++◌, Option, Some, None, length, min}
 use Rattle.swc_context.specs.declared.operator.BinOpToken.TheVariants.{Lt}
 use Rattle.swc_context.specs.declared.span.BytePos.{BytePos}
 use Rattle.swc_context.specs.declared.span.Span.{Span}
@@ -45,7 +45,7 @@ abbrev pub cut : TokenAndSpan → TokenAndSpan
 cut t = record {
   token = BinOp Lt;
   had_line_break = false;
-  span = record { lo = record { 0 = min (t.span.lo.0 + 1) 4294967295 }; hi = t.span.hi }
+  span = record { lo = record { 0 = min (t.span.lo.0 + 1) 4294967295 }; hi = t.span.hi };
 }
 
 -- t, put in where the token consumed last lies

@@ -1,5 +1,5 @@
 -- How calls of a buffer follow one another, and what may come after them.
-use Rattle.std.specs.Prelude.{◌≡◌, ℕ, ◌+◌, ◌≤◌, Bool, true, false, List, [], ◌∷◌, ◌++◌, Option, Some, None, All, length}
+use Rattle.std.specs.Prelude.{◌≡◌, true, List, [], ◌∷◌, ◌++◌, Some, None}
 use Rattle.std.proofs.Common.{refl, ap, sym, ◌∙◌, append_assoc, arith, length-append, subst}
 use Rattle.std.proofs.lemmas.List.{append-nil}
 use Rattle.std.proofs.lemmas.List.Elements.{All-append, All-nil}
@@ -8,7 +8,7 @@ use Rattle.swc_input.specs.declared.buffer.Buffer.{Buffer}
 use Rattle.swc_input.specs.declared.token.TokenAndSpan.{TokenAndSpan}
 use Rattle.swc_input.specs.Plain.{plain}
 use Rattle.swc_input.specs.Source.{Source, Keeps, IsFault, Gave, IsLawful, given_one}
-use Rattle.swc_input.specs.Buffer.{held, left, Took, Read, Still, Looked, Peeked, Bumped, Future, Known}
+use Rattle.swc_input.specs.Buffer.{held, Took, Read, Future, Known}
 use Rattle.swc_input.specs.Recording.{Recorded, Refused, error_token}
 
 -- the law by which the lists given by calls are joined
@@ -26,7 +26,7 @@ pub Keeps-then : (es fs gs : List Error) → Keeps es fs → Keeps fs gs → Kee
 Keeps-then es fs gs h k = record {
   more = h.more ++ k.more;
   added = k.added ∙ ap (λ l. l ++ k.more) h.added ∙ append_assoc es h.more k.more;
-  faults = All-append IsFault h.more k.more h.faults k.faults
+  faults = All-append IsFault h.more k.more h.faults k.faults;
 }
 
 -- held at b and then given are xs and then held at c; held at c and then given are ys and then held at d
@@ -39,7 +39,7 @@ module _ {S : Type 0} (state : S → Source) (gives : S → List TokenAndSpan �
   Took-then joins b c d xs ys p q = record {
     given = p.given ++ q.given;
     gave = joins b.iter c.iter d.iter p.given q.given p.gave q.gave;
-    balance = balance-then (held b) p.given xs (held c) q.given ys (held d) p.balance q.balance
+    balance = balance-then (held b) p.given xs (held c) q.given ys (held d) p.balance q.balance;
   }
 
   pub Read-then : (joins : Joins gives) (b c d : Buffer S) (xs ys : List TokenAndSpan) → Read state gives b xs c → Read state gives c ys d → Read state gives b (xs ++ ys) d
@@ -48,7 +48,7 @@ module _ {S : Type 0} (state : S → Source) (gives : S → List TokenAndSpan �
     context = q.context ∙ p.context;
     errors = Keeps-then (state b.iter).errors (state c.iter).errors (state d.iter).errors p.errors q.errors;
     waiting = Keeps-then (state b.iter).waiting (state c.iter).waiting (state d.iter).waiting p.waiting q.waiting;
-    lower = let l = p.lower in let m = q.lower in let n = length-append xs ys in omega arith
+    lower = let l = p.lower in let m = q.lower in let n = length-append xs ys in omega arith;
   }
 
   -- a call that consumed nothing, after one that consumed xs, and before it
@@ -65,7 +65,7 @@ module _ {S : Type 0} (state : S → Source) (gives : S → List TokenAndSpan �
     context = refl;
     errors = Keeps-same (state b.iter).errors;
     waiting = Keeps-same (state b.iter).waiting;
-    lower = omega arith
+    lower = omega arith;
   }
 
   -- with a fault that was recorded, and with a refusal, the tokens of some list were consumed: an error token, or none
@@ -81,22 +81,25 @@ module _ {S : Type 0} (state : S → Source) (gives : S → List TokenAndSpan �
     more = p.given ++ f.more;
     begins = ap (λ l. xs ++ l) f.begins ∙ sym (append_assoc xs (held c) f.more) ∙ ap (λ l. l ++ f.more) (sym p.balance) ∙ append_assoc (held b) p.given f.more;
     over = λ e. ap (λ l. l ++ f.more) (g.ended e) ∙ f.over (g.stays e);
-    known = λ m h. let k = g.known m h in ap (λ l. p.given ++ l) (f.known k.0 k.1) ∙ sym k.2
+    known = λ m h. let k = g.known m h in ap (λ l. p.given ++ l) (f.known k.0 k.1) ∙ sym k.2;
   }
 
   -- over a listed source, what is still to come before a call is what the call consumed and what is still to come after it
   pub Known-after : (gave : Gives state gives) (b c : Buffer S) (xs rest : List TokenAndSpan) →
       Took gives b xs c → Known state b rest → (r : List TokenAndSpan) × (Known state c r) × (rest ≡ xs ++ r)
-  Known-after gave b c xs rest p f = let g = gave b.iter c.iter p.given p.gave in let k = g.known f.more f.known in
-    (held c ++ k.0, record { more = k.0; begins = refl; known = k.1 },
-      f.begins ∙ ap (λ l. held b ++ l) k.2 ∙ sym (append_assoc (held b) p.given k.0) ∙ ap (λ l. l ++ k.0) p.balance ∙ append_assoc xs (held c) k.0)
+  Known-after gave b c xs rest p f = let g = gave b.iter c.iter p.given p.gave in let k = g.known f.more f.known in (
+    held c ++ k.0,
+    record { more = k.0; begins = refl; known = k.1 },
+    f.begins ∙ ap (λ l. held b ++ l) k.2 ∙ sym (append_assoc (held b) p.given k.0) ∙ ap (λ l. l ++ k.0) p.balance ∙ append_assoc xs (held c) k.0,
+  )
 
 module _ {S : Type 0} (state : S → Source) where
   -- something may come
   pub Future-some : (lawful : (s : S) → IsLawful (state s)) (b : Buffer S) → (rest : List TokenAndSpan) × (Future state b rest)
   Future-some lawful b = elim (state b.iter).known as (λ k. (state b.iter).known ≡ k → (rest : List TokenAndSpan) × (Future state b rest)) [
-    None ↦ (λ h. (held b ++ [], record { more = []; begins = refl; over = λ e. refl; known = λ m i. cc })) |
-    Some n ↦ (λ h. (held b ++ n, record { more = n; begins = refl; over = λ e. (lawful b.iter).over n h e; known = λ m i. cc })) ] refl
+    | None ↦ (λ h. (held b ++ [], record { more = []; begins = refl; over = λ e. refl; known = λ m i. cc }))
+    | Some n ↦ (λ h. (held b ++ n, record { more = n; begins = refl; over = λ e. (lawful b.iter).over n h e; known = λ m i. cc }))
+  ] refl
 
   -- of a listed source nothing may come but what will
   pub Known-only : (b : Buffer S) (rest other : List TokenAndSpan) → Known state b rest → Future state b other → other ≡ rest
@@ -107,7 +110,7 @@ module _ {S : Type 0} (state : S → Source) where
     more = k.more;
     begins = k.begins;
     over = λ e. (lawful b.iter).over k.more k.known e;
-    known = λ m h. cc
+    known = λ m h. cc;
   }
 
   -- what may come begins with the current token

@@ -1,5 +1,5 @@
 -- `TokensInput` as a source.
-use Rattle.std.specs.Prelude.{◌≡◌, ℕ, ◌<◌, Bool, true, false, List, [], ◌∷◌, ◌++◌, Option, Some, None, All, length, map, MatchOption}
+use Rattle.std.specs.Prelude.{◌≡◌, Bool, true, false, List, [], ◌∷◌, ◌++◌, Option, Some, None, length, map, MatchOption}
 use Rattle.std.proofs.Common.{refl, ap, sym, ◌∙◌, append_assoc, arith}
 use Rattle.std.proofs.lemmas.List.{append-nil, nil_from_length}
 use Rattle.std.proofs.lemmas.List.Elements.{All-nil}
@@ -10,7 +10,7 @@ use Rattle.swc_context.specs.declared.error.Error.{Error}
 use Rattle.swc_input.specs.declared.token.TokenAndSpan.{TokenAndSpan}
 use Rattle.swc_input.specs.declared.listed.TokensInput.{TokensInput}
 use Rattle.swc_input.specs.Plain.{plain}
-use Rattle.swc_input.specs.Source.{Source, IsLawful, Keeps, Keeping, Gave, GivesToken, GivesEnd, Asked, IsFault}
+use Rattle.swc_input.specs.Source.{Source, IsLawful, Keeps, Keeping, Gave, Asked, IsFault}
 
 abbrev pub is_nil : {A : Type 0} → List A → Bool
 is_nil [] = true
@@ -30,7 +30,7 @@ listed_state s = record {
   failed = false;
   ended = is_nil (coming s);
   known = Some (coming s);
-  bound = length s.rest.items
+  bound = length s.rest.items;
 }
 
 -- a source that nothing was asked of
@@ -44,7 +44,7 @@ new_state ts c x v = record {
   failed = false;
   ended = is_nil (map plain ts);
   known = Some (map plain ts);
-  bound = length ts
+  bound = length ts;
 }
 
 pub record ListedGives (s : TokensInput) (xs : List TokenAndSpan) (t : TokensInput) : Type 0 where
@@ -81,14 +81,14 @@ keeping s t r n = record {
   context = n.context;
   errors = Keeps-same _ _ n.errors;
   waiting = Keeps-same _ _ n.waiting;
-  quiet = λ m h. (n.errors, n.waiting)
+  quiet = λ m h. (n.errors, n.waiting);
 }
 
 pub listed_lawful : (s : TokensInput) → IsLawful (listed_state s)
 listed_lawful s = record {
   none_waits = λ h. let none = s.none_waits h in let long = s.module_errors.ok in nil_from_length s.module_errors.items (omega arith);
   sure = λ m h. refl;
-  over = λ m h e. let same : coming s ≡ m = cc in sym same ∙ is_nil-nil (coming s) e
+  over = λ m h e. let same : coming s ≡ m = cc in sym same ∙ is_nil-nil (coming s) e;
 }
 
 pub listed_none : (s : TokensInput) → ListedGives s [] s
@@ -98,7 +98,7 @@ pub listed_then : (s t u : TokensInput) (xs ys : List TokenAndSpan) → ListedGi
 listed_then s t u xs ys a b = record {
   list = a.list ∙ ap (λ l. xs ++ l) b.list ∙ sym (append_assoc xs ys (coming u));
   syntax = b.syntax ∙ a.syntax;
-  target = b.target ∙ a.target
+  target = b.target ∙ a.target;
 }
 
 pub listed_gave : (s t : TokensInput) (xs : List TokenAndSpan) → ListedGives s xs t → Gave (listed_state s) xs (listed_state t)
@@ -108,7 +108,7 @@ listed_gave s t xs a = record {
   ended = λ e. first_nil xs (coming t) (sym (is_nil-nil (coming s) e) ∙ a.list);
   stays = λ e. ap is_nil (second_nil xs (coming t) (sym (is_nil-nil (coming s) e) ∙ a.list));
   known = λ m h. (coming t, refl, (let same : coming s ≡ m = cc in sym same ∙ a.list));
-  unknown = λ h. cc
+  unknown = λ h. cc;
 }
 
 pub listed_asked : (s : TokensInput) (r : Option TokenAndSpan) (t : TokensInput) → NextListed s r t → Asked listed_state ListedGives s r t
@@ -117,8 +117,8 @@ listed_asked s (Some x) t n = record {
   token = record {
     keeping = keeping s t (Some x) n;
     failed = refl;
-    lower = let long = ap length n.first in omega arith
-  }
+    lower = let long = ap length n.first in omega arith;
+  };
 }
 listed_asked s None t n = record {
   gave = record { list = ap (λ l. map plain l) (n.first.0 ∙ sym n.first.1); syntax = n.syntax; target = n.target };
@@ -126,6 +126,6 @@ listed_asked s None t n = record {
     keeping = keeping s t None n;
     ended = λ h. ap (λ l. is_nil (map plain l)) n.first.1;
     stays = λ h. h;
-    lower = let a = ap length n.first.0 in let b = ap length n.first.1 in omega arith
-  }
+    lower = let a = ap length n.first.0 in let b = ap length n.first.1 in omega arith;
+  };
 }

@@ -1,5 +1,5 @@
 -- A source of tokens, as contracts see it.
-use Rattle.std.specs.Prelude.{◌≡◌, ◌≢◌, ℕ, ◌+◌, ◌<◌, ◌≤◌, Bool, true, false, List, [], ◌∷◌, ◌++◌, Option, Some, None, All, MatchOption}
+use Rattle.std.specs.Prelude.{◌≡◌, ◌≢◌, ℕ, ◌<◌, ◌≤◌, Bool, true, false, List, [], ◌∷◌, ◌++◌, Option, Some, None, All, MatchOption}
 use Rattle.swc_context.specs.declared.context.Context.{Context}
 use Rattle.swc_context.specs.declared.context.EsVersion.{EsVersion}
 use Rattle.swc_context.specs.declared.context.Syntax.{Syntax}
@@ -39,7 +39,7 @@ abbrev pub with_context : Context → Source → Source
 with_context c s = record s {
   context = c;
   errors = s.errors ++ recorded_in c.module s.waiting;
-  waiting = waiting_in c.module s.waiting
+  waiting = waiting_in c.module s.waiting;
 }
 
 -- the state once the fault e is recorded
@@ -50,7 +50,7 @@ with_error e s = record s { errors = s.errors ++ e ∷ [] }
 abbrev pub with_module_error : Error → Source → Source
 with_module_error e s = record s {
   errors = s.errors ++ recorded_in s.context.module (e ∷ []);
-  waiting = s.waiting ++ waiting_in s.context.module (e ∷ [])
+  waiting = s.waiting ++ waiting_in s.context.module (e ∷ []);
 }
 
 -- in a module no fault waits; a listed source never fails, and gives all its tokens before its end

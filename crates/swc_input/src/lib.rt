@@ -4,5 +4,7 @@
 pub mod buffer;
 pub mod listed;
 pub mod recording;
+#[cfg(test)]
+mod tests;
 pub mod token;
 pub mod tokens;

@@ -6,4 +6,4 @@ use Rattle.swc_ecma_parser.proofs.productions.Productions.unexpected.Goals as go
 
 pub returns-clause-refuses : goal.returns-clause-refuses
 returns-clause-refuses g c = refused g.I.Tokens.state g.I.Tokens.gives (record { none = g.met.I.Tokens.none; joins = g.met.I.Tokens.then }) _ _ _ _
-  (λ here. unfit-kind (current here) (last_position here) c.args.kind ParserFailed (λ h. cc) c.requires) c.unexpected.ensures
+    (λ here. unfit-kind (current here) (last_position here) c.args.kind ParserFailed (λ h. cc) c.requires) c.unexpected.ensures

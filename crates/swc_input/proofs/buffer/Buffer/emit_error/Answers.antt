@@ -10,17 +10,17 @@ returns-then-is_silent-clause-read g c = ([], Read-same g.I.Tokens.state g.I.Tok
 
 pub returns-clause-recorded : goal.returns-clause-recorded
 returns-clause-recorded g c = λ loud.
-  recorded_by g.I.Tokens.state g.I.Tokens.gives c.args.self.now c.had_line_break_before_cur.new.self c.emit_here.new.self c.args.error c.emit_here.result
+    recorded_by g.I.Tokens.state g.I.Tokens.gives c.args.self.now c.had_line_break_before_cur.new.self c.emit_here.new.self c.args.error c.emit_here.result
     c.had_line_break_before_cur.ensures.looked c.emit_here.ensures.read c.emit_here.ensures.errors c.emit_here.ensures.waiting
 
 pub returns-clause-read : goal.returns-clause-read
 returns-clause-read g c =
-  read_by g.I.Tokens.state g.I.Tokens.gives g.met.I.Tokens.then c.args.self.now c.had_line_break_before_cur.new.self c.emit_here.new.self
+    read_by g.I.Tokens.state g.I.Tokens.gives g.met.I.Tokens.then c.args.self.now c.had_line_break_before_cur.new.self c.emit_here.new.self
     (error_token (current c.had_line_break_before_cur.new.self)) c.had_line_break_before_cur.ensures.looked c.emit_here.ensures.read
 
 pub returns-clause-refused : goal.returns-clause-refused
 returns-clause-refused g c =
-  no_memory_by g.I.Tokens.state g.I.Tokens.gives c.args.self.now c.emit_here.new.self (last_position c.emit_here.new.self) c.emit_here.result
+    no_memory_by g.I.Tokens.state g.I.Tokens.gives c.args.self.now c.emit_here.new.self (last_position c.emit_here.new.self) c.emit_here.result
     (read_by g.I.Tokens.state g.I.Tokens.gives g.met.I.Tokens.then c.args.self.now c.had_line_break_before_cur.new.self c.emit_here.new.self
-      (error_token (current c.had_line_break_before_cur.new.self)) c.had_line_break_before_cur.ensures.looked c.emit_here.ensures.read)
+    (error_token (current c.had_line_break_before_cur.new.self)) c.had_line_break_before_cur.ensures.looked c.emit_here.ensures.read)
     c.emit_here.ensures.refused

@@ -7,5 +7,5 @@ use Rattle.swc_input.proofs.buffer.Buffer.require_cur.Goals as goal
 
 pub returns-clause-refused : goal.returns-clause-refused
 returns-clause-refused g c =
-  refused_by g.I.Tokens.state g.I.Tokens.gives c.args.self.now c.had_line_break_before_cur.new.self c.refuse.new.self (λ here. unfit (current here) (last_position here) Eof) c.refuse.result
+    refused_by g.I.Tokens.state g.I.Tokens.gives c.args.self.now c.had_line_break_before_cur.new.self c.refuse.new.self (λ here. unfit (current here) (last_position here) Eof) c.refuse.result
     c.had_line_break_before_cur.ensures.looked c.refuse.ensures.read (c.refuse.ensures.answer ∙ ap (λ e. refusal (current c.had_line_break_before_cur.new.self) (g.I.Tokens.state (source c.had_line_break_before_cur.new.self)).failed (last_position c.had_line_break_before_cur.new.self) e) c.unfit-error.ensures)

@@ -1,0 +1,68 @@
+// The program.
+use crate::answer::{Answer, answer};
+use crate::arguments::context_of;
+use std::alloc::Global;
+use std::io;
+use std::io::{Read, Write};
+
+const CLEAN: u8 = 0;
+const RECORDED: u8 = 1;
+const REFUSED: u8 = 2;
+const BAD_CALL: u8 = 3;
+
+const USAGE: &str = "usage: show_expr expr|pat script|module|strict|generator|async";
+const UNREADABLE: &str = "cannot read standard input";
+
+/// Reads the input as the arguments say, and writes on `output` the tree, or `refused: ` and the fault; then `unread` where tokens
+/// are left behind the tree; then each recorded fault on a line of its own.
+///
+/// Answers the program's status: 0 where nothing was recorded, 1 where something was, 2 for a refusal, and 3 for bad arguments (the
+/// usage is written on `complaints`, and nothing is read), for input that can't be read (also for want of memory), and for a write
+/// that fails. The text of the tree is built before anything is written.
+pub fn run<R: Read, W: Write, C: Write>(
+    alloc: Global,
+    arguments: &[&str],
+    input: &mut R,
+    output: &mut W,
+    complaints: &mut C,
+) -> u8 {
+    let Some(ctx) = context_of(arguments) else {
+        let _ = writeln!(complaints, "{USAGE}");
+        return BAD_CALL;
+    };
+    let mut text = Vec::new(alloc);
+    if input.read_to_end(&mut text).is_err() {
+        let _ = writeln!(complaints, "{UNREADABLE}");
+        return BAD_CALL;
+    }
+    let answer = answer(alloc, &text, ctx);
+    match write_answer(output, &answer) {
+        Ok(()) => status_of(&answer),
+        Err(_) => BAD_CALL,
+    }
+}
+
+fn write_answer<W: Write>(output: &mut W, answer: &Answer) -> io::Result<()> {
+    match &answer.shown {
+        Ok(shown) => {
+            let tree = shown.tree.as_str();
+            writeln!(output, "{tree}")?;
+            if shown.unread {
+                writeln!(output, "unread")?;
+            }
+        }
+        Err(refusal) => writeln!(output, "refused: {refusal}")?,
+    }
+    for error in &answer.recorded {
+        writeln!(output, "{error}")?;
+    }
+    output.flush()
+}
+
+fn status_of(answer: &Answer) -> u8 {
+    match &answer.shown {
+        Err(_) => REFUSED,
+        Ok(_) if answer.recorded.is_empty() => CLEAN,
+        Ok(_) => RECORDED,
+    }
+}

@@ -1,0 +1,40 @@
+-- Each call is made with fewer tokens to come, or on the way down to a primary expression.
+use Rattle.std.proofs.Common.{ℕ, ◌+◌, ◌*◌, ◌<◌, ◌≤◌}
+use Rattle.swc_input.specs.Buffer.{left}
+use Rattle.swc_ecma_parser.specs.Parsing.{Leads}
+use Rattle.swc_ecma_parser.proofs.productions.Productions.+productions.Given as goal
+
+abbrev pub decreases-parse_paren_expr : goal.decreases-parse_paren_expr
+decreases-parse_paren_expr g l = left g.I.Tokens.state l.self.now.input * 10 + 1
+
+abbrev pub decreases-parse_primary_expr : goal.decreases-parse_primary_expr
+decreases-parse_primary_expr g l = left g.I.Tokens.state l.self.now.input * 10 + 2
+
+abbrev pub decreases-parse_unary_expr : goal.decreases-parse_unary_expr
+decreases-parse_unary_expr g l = left g.I.Tokens.state l.self.now.input * 10 + 3
+
+abbrev pub decreases-parse_right_operand : goal.decreases-parse_right_operand
+decreases-parse_right_operand g l = left g.I.Tokens.state l.self.now.input * 10 + 4
+
+abbrev pub decreases-parse_bin_op_recursively_inner : goal.decreases-parse_bin_op_recursively_inner
+decreases-parse_bin_op_recursively_inner g l = left g.I.Tokens.state l.self.now.input * 10 + 5
+
+abbrev pub decreases-parse_bin_op_recursively : goal.decreases-parse_bin_op_recursively
+decreases-parse_bin_op_recursively g l = left g.I.Tokens.state l.self.now.input * 10 + 6
+
+abbrev pub invariant-parse_bin_op_recursively-loop-next_left : goal.invariant-parse_bin_op_recursively-loop-next_left
+invariant-parse_bin_op_recursively-loop-next_left g l =
+    Leads g.I.Tokens.state g.I.Tokens.gives l.fn.self.input l.self.input
+    × (left g.I.Tokens.state l.self.input ≤ left g.I.Tokens.state l.fn.self.input)
+
+abbrev pub decreases-parse_bin_op_recursively-loop-next_left : goal.decreases-parse_bin_op_recursively-loop-next_left
+decreases-parse_bin_op_recursively-loop-next_left g l = left g.I.Tokens.state l.self.input
+
+abbrev pub decreases-parse_bin_expr : goal.decreases-parse_bin_expr
+decreases-parse_bin_expr g l = left g.I.Tokens.state l.self.now.input * 10 + 7
+
+abbrev pub decreases-parse_assignment_expr : goal.decreases-parse_assignment_expr
+decreases-parse_assignment_expr g l = left g.I.Tokens.state l.self.now.input * 10 + 8
+
+abbrev pub decreases-parse_assignment_expr_with_in : goal.decreases-parse_assignment_expr_with_in
+decreases-parse_assignment_expr_with_in g l = left g.I.Tokens.state l.self.now.input * 10 + 9

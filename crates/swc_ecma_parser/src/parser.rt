@@ -1,0 +1,171 @@
+// The parser that is called from outside.
+ghost use Rattle.std.specs.Prelude.{◌≡◌, ◌||◌, true, false, [], IsSome, IfErr, IfOk, OnOk};
+ghost use Rattle.std.specs.Borrow.{sem, follows};
+ghost use Rattle.swc_input.specs.Buffer.{current, last_position, previous, source, with_source, fresh};
+ghost use Rattle.swc_ecma_parser.specs.Calls.{buffer_of, with_buffer, has_failed, is_memory, wants_memory, parser_failed};
+ghost use Rattle.swc_ecma_parser.specs.Parsing.{Reads, Does};
+ghost use Rattle.swc_ecma_parser.specs.contracts.parser.Parser.{the_row};
+
+use crate::productions::{ExprOf, Productions};
+use std::alloc::Global;
+use swc_ast::lit::Lit;
+use swc_bodies::bodies::Bodies;
+use swc_context::error::{Error, PResult, SyntaxError};
+use swc_input::buffer::Buffer;
+use swc_input::tokens::Tokens;
+
+/// A parser over a source of tokens, with a hook for functions, classes and blocks.
+///
+/// Each call that answers a `PResult` reads on from where the last one stopped, also after a refusal, and keeps the context of the
+/// source. A fault that leaves a tree is recorded, and handed out by `take_errors`. Want of memory is refused as `OutOfMemory`, at
+/// the end of the token consumed last; from then on each of these calls refuses, as `ParserFailed` at the token consumed last.
+#[derive(Drop)]
+pub struct Parser<I: Tokens, B: Bodies<I>> {
+    productions: Productions<I, B>,
+    failed: bool,
+}
+
+impl<I: Tokens, B: Bodies<I>> Parser<I, B> {
+    /// A parser that has read nothing. Takes no memory, and keeps the source's context.
+    pub fn new_from(alloc: Global, input: I, bodies: B) -> Parser<I, B>
+        ensures fresh { buffer_of result ≡ fresh input (last_position (buffer_of result)) }
+        ensures runs { has_failed result ≡ false }
+    {
+        Parser {
+            productions: Productions {
+                alloc,
+                input: Buffer::new(input),
+                bodies,
+            },
+            failed: false,
+        }
+    }
+
+    /// The source.
+    pub fn input(&mut self) -> &mut I
+        ensures value { result.now ≡ source (buffer_of self.old) }
+    {
+        self.productions.input.input()
+    }
+
+    /// Hands out the faults that were recorded, and none that wait for the context to become a module.
+    pub fn take_errors(&mut self) -> Vec<Error>
+        ensures taken { result.items ≡ (I.state (source (buffer_of self.old))).errors }
+        ensures left { I.state (source (buffer_of self.new)) ≡ record (I.state (source (buffer_of self.old))) { errors = [] } }
+        ensures rest { self.new ≡ with_buffer (with_source (source (buffer_of self.new)) (buffer_of self.old)) self.old }
+    {
+        self.productions.input.input().take_errors()
+    }
+
+    /// Whether no token is left. Consumes nothing.
+    pub fn at_end(&mut self) -> PResult<bool>
+        ensures again { has_failed self.old ≡ true → (self.new ≡ self.old) × (result ≡ Err (parser_failed (previous (buffer_of self.old)))) }
+        ensures does { has_failed self.old ≡ false → Does I.state I.gives (buffer_of self.old) result (buffer_of self.new) }
+        ensures end { IfOk result (λ r. r ≡ true → (current (buffer_of self.new) ≡ None) × ((I.state (source (buffer_of self.new))).ended ≡ true)) }
+        ensures token { IfOk result (λ r. r ≡ false → IsSome (current (buffer_of self.new))) }
+        ensures fails { has_failed self.old ≡ false → has_failed self.new ≡ wants_memory result }
+    {
+        self.begin()?;
+        let answer = self.productions.is_end();
+        self.finish(answer)
+    }
+
+    /// An expression (ECMA-262, 13.16): so far, an assignment expression.
+    ///
+    /// The end is refused as `Eof`, where the token consumed last ends.
+    pub fn parse_expr(&mut self) -> PResult<Box<ExprOf<B>>>
+        ensures again { has_failed self.old ≡ true → (self.new ≡ self.old) × (result ≡ Err (parser_failed (previous (buffer_of self.old)))) }
+        ensures reads { has_failed self.old ≡ false → Reads I.state I.gives (buffer_of self.old) result (buffer_of self.new) }
+        ensures fails { has_failed self.old ≡ false → has_failed self.new ≡ wants_memory result }
+    {
+        self.begin()?;
+        let answer = self.productions.parse_expr();
+        self.finish(answer)
+    }
+
+    /// An assignment expression (ECMA-262, 13.15): so far, binary operators of any precedence.
+    ///
+    /// The end is refused as `Eof`, where the token consumed last ends.
+    pub fn parse_assignment_expr(&mut self) -> PResult<Box<ExprOf<B>>>
+        ensures again { has_failed self.old ≡ true → (self.new ≡ self.old) × (result ≡ Err (parser_failed (previous (buffer_of self.old)))) }
+        ensures reads { has_failed self.old ≡ false → Reads I.state I.gives (buffer_of self.old) result (buffer_of self.new) }
+        ensures fails { has_failed self.old ≡ false → has_failed self.new ≡ wants_memory result }
+    {
+        self.begin()?;
+        let answer = self.productions.parse_assignment_expr();
+        self.finish(answer)
+    }
+
+    /// Operands and the binary operators between them, of any precedence (ECMA-262, 13.13): so far, all but `**`.
+    ///
+    /// Records `NullishCoalescingWithLogicalOp` at a node of `||` or `&&` that is an operand of `??`, or has a `??` on its left.
+    pub fn parse_bin_expr(&mut self) -> PResult<Box<ExprOf<B>>>
+        ensures again { has_failed self.old ≡ true → (self.new ≡ self.old) × (result ≡ Err (parser_failed (previous (buffer_of self.old)))) }
+        ensures reads { has_failed self.old ≡ false → Reads I.state I.gives (buffer_of self.old) result (buffer_of self.new) }
+        ensures fails { has_failed self.old ≡ false → has_failed self.new ≡ wants_memory result }
+    {
+        self.begin()?;
+        let answer = self.productions.parse_bin_expr();
+        self.finish(answer)
+    }
+
+    /// A unary expression (ECMA-262, 13.5): so far, a primary expression: a literal, an identifier, or an expression in parentheses.
+    ///
+    /// What begins none is refused as `TS1109`, at the current token or, at the end, at the token consumed last; `()` as
+    /// `EmptyParenExpr`, at the parentheses; what follows an expression in parentheses and is no `)` as `Expected`, at the current
+    /// token, and the end there as `Eof`.
+    pub fn parse_unary_expr(&mut self) -> PResult<Box<ExprOf<B>>>
+        ensures again { has_failed self.old ≡ true → (self.new ≡ self.old) × (result ≡ Err (parser_failed (previous (buffer_of self.old)))) }
+        ensures reads { has_failed self.old ≡ false → Reads I.state I.gives (buffer_of self.old) result (buffer_of self.new) }
+        ensures fails { has_failed self.old ≡ false → has_failed self.new ≡ wants_memory result }
+    {
+        self.begin()?;
+        let answer = self.productions.parse_unary_expr();
+        self.finish(answer)
+    }
+
+    /// A literal that is no regular expression (ECMA-262, 13.2.3).
+    ///
+    /// The end is refused as `Eof`, where the token consumed last ends, and another token as `TS1109`.
+    pub fn parse_lit(&mut self) -> PResult<Lit>
+        ensures again { has_failed self.old ≡ true → (self.new ≡ self.old) × (result ≡ Err (parser_failed (previous (buffer_of self.old)))) }
+        ensures reads { has_failed self.old ≡ false → Reads I.state I.gives (buffer_of self.old) result (buffer_of self.new) }
+        ensures fails { has_failed self.old ≡ false → has_failed self.new ≡ wants_memory result }
+    {
+        self.begin()?;
+        let answer = self.productions.parse_lit();
+        self.finish(answer)
+    }
+
+    /// After want of memory, refuses.
+    fn begin(&self) -> PResult<()>
+        ensures runs { OnOk result (has_failed self.now ≡ false) }
+        ensures again { IfErr result (λ e. (has_failed self.now ≡ true) × (e ≡ parser_failed (previous (buffer_of self.now)))) }
+    {
+        if self.failed {
+            let span = self.productions.input.prev_span();
+            return Err(Error::new(span, SyntaxError::ParserFailed));
+        }
+        Ok(())
+    }
+
+    /// Remembers want of memory.
+    fn finish<T>(&mut self, answer: PResult<T>) -> PResult<T>
+        ensures answer { result ≡ answer }
+        ensures buffer { buffer_of self.new ≡ buffer_of self.old }
+        ensures fails { has_failed self.new ≡ (has_failed self.old || wants_memory answer) }
+    {
+        if let Err(error) = &answer {
+            if is_out_of_memory(error) {
+                self.failed = true;
+            }
+        }
+        answer
+    }
+}
+
+fn is_out_of_memory(error: &Error) -> bool
+    ensures { result ≡ is_memory error.now.kind }
+{
+    matches!(error.kind(), SyntaxError::OutOfMemory)
+}

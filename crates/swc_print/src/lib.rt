@@ -1,0 +1,4 @@
+//! Trees as text.
+#![tactic(auto)]
+
+pub mod print;

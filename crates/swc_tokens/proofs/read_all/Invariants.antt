@@ -1,0 +1,10 @@
+use Rattle.std.proofs.Common.{◌≡◌, ◌-◌, length}
+use Rattle.swc_tokens.specs.Reading.{AreRead}
+use Rattle.swc_tokens.proofs.read_all.Given as goal
+
+-- the text stays, and the tokens stand in what is read of it
+abbrev pub invariant-loop-tokens : goal.invariant-loop-tokens
+invariant-loop-tokens l = (l.reader.text.now ≡ l.text) × AreRead l.text l.tokens.items l.reader.at
+
+abbrev pub decreases-loop-tokens : goal.decreases-loop-tokens
+decreases-loop-tokens l = length l.text - l.reader.at

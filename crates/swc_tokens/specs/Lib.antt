@@ -1,0 +1,4 @@
+pub mod Blanks
+pub mod Faults
+pub mod Order
+pub mod Reading

@@ -1,0 +1,89 @@
+//! The reader of a small ASCII profile of ECMAScript source text (ECMA-262, 12).
+//!
+//! Read so far are blanks, words without escapes, whole decimal numbers, signs and operators. The other forms (comments, strings,
+//! the other numbers, templates, regular expressions) are faults at the first byte that doesn't fit.
+#![tactic(auto)]
+
+ghost use Rattle.std.specs.Prelude.{◌≡◌, ◌+◌, ◌<◌, ◌≤◌, ◌∷◌, [], ◌++◌, length, IsFalse, IfOk, OnOk, IfErr, IfSome, IsNone, slice_get, nat_lt};
+ghost use Rattle.std.specs.List.{All, position};
+ghost use Rattle.swc_tokens.specs.Faults as faults;
+ghost use Rattle.swc_tokens.specs.Faults.{IsRefusal};
+ghost use Rattle.swc_tokens.specs.Blanks.{OnlyBlanksBetween};
+ghost use Rattle.swc_tokens.specs.Order.{InOrder, is_error};
+ghost use Rattle.swc_tokens.specs.Reading.{AreRead};
+ghost use Rattle.std.specs.Str.{IsAscii};
+
+mod fault;
+mod reader;
+mod sign;
+#[cfg(test)]
+mod tests;
+
+use crate::fault::{lex_fault, out_of_memory};
+use crate::reader::Reader;
+use std::alloc::Global;
+use swc_context::error::PResult;
+use swc_input::token::TokenAndSpan;
+
+/// The length of the longest text that can be read, in bytes.
+pub const MAX_LEN: usize = 4_294_967_295;
+
+/// The tokens of a text.
+///
+/// Positions count bytes from 0. A text longer than `MAX_LEN` is refused at 0..0, and then one with a byte above 127 at the first
+/// such byte, before all else. Any other fault is refused at the first byte that doesn't fit, and want of memory at 0..0.
+pub fn read_tokens(alloc: Global, text: &[u8]) -> PResult<Vec<TokenAndSpan>>
+    ensures too_long { MAX_LEN < length text.now → result ≡ Err (faults.lex_fault (faults.between 0 0)) }
+    ensures beyond_ascii { length text.now ≤ MAX_LEN → IfSome (position (λ byte. nat_lt 127 byte) text.now) (λ at. result
+        ≡ Err (faults.lex_fault (faults.between at (at + 1)))) }
+    ensures refused { length text.now ≤ MAX_LEN → IfErr result (IsRefusal text.now) }
+
+    ensures ascii { OnOk result (All (λ byte. byte < 128) text.now) }
+    ensures spans { IfOk result (λ tokens. InOrder 0 tokens.items (length text.now)) }
+    ensures blanks { IfOk result (λ tokens. OnlyBlanksBetween text.now 0 tokens.items (length text.now)) }
+    ensures first { IfOk result (λ tokens. IfSome (slice_get tokens.items 0) (λ t. IsFalse t.had_line_break)) }
+    ensures no_errors { IfOk result (λ tokens. All (λ t. IsFalse (is_error t.token)) tokens.items) }
+{
+    if text.len() > MAX_LEN {
+        return Err(lex_fault(0, 0));
+    }
+    match first_beyond_ascii(text) {
+        Some(at) => Err(lex_fault(at, at + 1)),
+        None => read_all(alloc, text),
+    }
+}
+
+/// Where the first byte above 127 stands.
+fn first_beyond_ascii(text: &[u8]) -> Option<usize>
+    ensures value { result ≡ position (λ byte. nat_lt 127 byte) text.now }
+    ensures inside { IfSome result (λ at. at < length text.now) }
+    ensures ascii { IsNone result → IsAscii text.now }
+{
+    text.iter().position(|byte| *byte > 127)
+}
+
+/// The tokens of an ASCII text that isn't too long.
+fn read_all(alloc: Global, text: &[u8]) -> PResult<Vec<TokenAndSpan>>
+    requires short { length text.now ≤ MAX_LEN }
+    requires ascii { IsAscii text.now }
+    ensures refused { IfErr result (IsRefusal text.now) }
+    ensures tokens { IfOk result (λ tokens. AreRead text.now tokens.items (length text.now)) }
+{
+    let mut reader = Reader::new(alloc, text);
+    let mut tokens = Vec::new(alloc);
+    while let Some(token) = reader.read_next(tokens.last())? {
+        push(&mut tokens, token)?;
+    }
+    Ok(tokens)
+}
+
+/// Adds a token.
+fn push(tokens: &mut Vec<TokenAndSpan>, token: TokenAndSpan) -> PResult<()>
+    ensures added { OnOk result (tokens.new.items ≡ tokens.old.items ++ token ∷ []) }
+    ensures refused { IfErr result (λ e. e ≡ faults.out_of_memory) }
+{
+    match tokens.push(token) {
+        Ok(()) => Ok(()),
+        Err(_) => Err(out_of_memory()),
+    }
+}
