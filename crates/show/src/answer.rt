@@ -1,12 +1,12 @@
 // What the parser makes of a source text.
 use std::alloc::Global;
-use swc_print::print::print_expr;
 use swc_bodies::none::NoBodies;
 use swc_context::context::{Context, EsVersion, Syntax};
 use swc_context::error::{Error, PResult, SyntaxError};
 use swc_context::span::{BytePos, Span};
 use swc_ecma_parser::parser::Parser;
 use swc_input::listed::TokensInput;
+use swc_print::print::print_expr;
 use swc_tokens::read_tokens;
 
 /// A tree, printed.
@@ -25,11 +25,16 @@ pub(crate) struct Answer {
 }
 
 /// Reads the text as an expression. A fault of the reader of tokens is a refusal.
-pub(crate) fn answer(alloc: Global, text: &[u8], ctx: Context) -> Answer {
+pub(crate) fn answer_to(alloc: Global, text: &[u8], ctx: Context) -> Answer {
     match read_tokens(alloc, text) {
         Ok(tokens) => {
-            let source =
-                TokensInput::new(alloc, tokens, ctx, Syntax::default(), EsVersion::default());
+            let source = TokensInput::new(
+                alloc,
+                tokens,
+                ctx,
+                Syntax::default(),
+                EsVersion::default(),
+            );
             let mut parser = Parser::new_from(alloc, source, NoBodies);
             let shown = show(alloc, &mut parser);
             let recorded = parser.take_errors();

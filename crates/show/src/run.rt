@@ -1,16 +1,23 @@
 // The program.
-use crate::answer::{Answer, answer};
+ghost use Rattle.std.specs.Prelude.{◌≡◌, ◌≢◌, ◌≤◌, map};
+ghost use Rattle.show.specs.Calls.{Asks, status};
+
+use crate::answer::{Answer, answer_to};
 use crate::arguments::context_of;
 use std::alloc::Global;
 use std::io;
 use std::io::{Read, Write};
 
 const CLEAN: u8 = 0;
+
 const RECORDED: u8 = 1;
+
 const REFUSED: u8 = 2;
+
 const BAD_CALL: u8 = 3;
 
 const USAGE: &str = "usage: show_expr expr|pat script|module|strict|generator|async";
+
 const UNREADABLE: &str = "cannot read standard input";
 
 /// Reads the input as the arguments say, and writes on `output` the tree, or `refused: ` and the fault; then `unread` where tokens
@@ -25,7 +32,12 @@ pub fn run<R: Read, W: Write, C: Write>(
     input: &mut R,
     output: &mut W,
     complaints: &mut C,
-) -> u8 {
+) -> u8
+    ensures status { result ≤ 3 }
+    ensures bad_call { ¬ Asks (map (λ a. a.now) arguments.now) → result ≡ 3 }
+    ensures unread { ¬ Asks (map (λ a. a.now) arguments.now) → input.new ≡ input.old }
+    ensures unwritten { ¬ Asks (map (λ a. a.now) arguments.now) → output.new ≡ output.old }
+{
     let Some(ctx) = context_of(arguments) else {
         let _ = writeln!(complaints, "{USAGE}");
         return BAD_CALL;
@@ -35,7 +47,7 @@ pub fn run<R: Read, W: Write, C: Write>(
         let _ = writeln!(complaints, "{UNREADABLE}");
         return BAD_CALL;
     }
-    let answer = answer(alloc, &text, ctx);
+    let answer = answer_to(alloc, &text, ctx);
     match write_answer(output, &answer) {
         Ok(()) => status_of(&answer),
         Err(_) => BAD_CALL,
@@ -59,7 +71,9 @@ fn write_answer<W: Write>(output: &mut W, answer: &Answer) -> io::Result<()> {
     output.flush()
 }
 
-fn status_of(answer: &Answer) -> u8 {
+fn status_of(answer: &Answer) -> u8
+    ensures { result ≡ status answer.now.shown answer.now.recorded.items }
+{
     match &answer.shown {
         Err(_) => REFUSED,
         Ok(_) if answer.recorded.is_empty() => CLEAN,

@@ -24,12 +24,6 @@ fn main(rt: HostRuntime) -> io::Result<ExitCode> {
     let mut input = rt.reader();
     let mut output = io::writer(&rt);
     let mut complaints = rt.stderr();
-    let status = run(
-        rt.alloc(),
-        &texts,
-        &mut input,
-        &mut output,
-        &mut complaints,
-    );
+    let status = run(rt.alloc(), &texts, &mut input, &mut output, &mut complaints);
     Ok(ExitCode::from(status))
 }

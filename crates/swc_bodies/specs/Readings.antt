@@ -73,7 +73,7 @@ view c = record c {
   will_expect_colon_for_cond = false;
   in_cond_expr = false;
   should_not_lex_lt_or_gt_as_type = false;
-  in_property_name = false
+  in_property_name = false;
 }
 
 -- the tokens xs were read as v from a list that goes on with rest

@@ -19,7 +19,9 @@ impl BodyForms for NoBodies {
     ghost use Rattle.std.specs.Prelude.{None};
 
     type Fun = Span;
+
     type Class = Span;
+
     type Block = Span;
 
     ghost reads_fun = { λ c ts. None };

@@ -1,5 +1,5 @@
 -- How the steps of a production follow one another.
-use Rattle.std.proofs.Common.{◌≡◌, ◌≢◌, ℕ, ◌+◌, ◌≤◌, ◌<◌, Bool, true, false, List, [], ◌∷◌, ◌++◌, Option, Some, None, Result, Ok, Err, MatchResult, OnOk, IfErr, IsSome, length, refl, sym, ap, ◌∙◌, arith, length-append, subst}
+use Rattle.std.proofs.Common.{◌≡◌, ◌≢◌, ◌≤◌, ◌<◌, Bool, true, false, List, [], ◌∷◌, ◌++◌, None, Result, Ok, Err, OnOk, IfErr, IsSome, length, refl, sym, ap, ◌∙◌, arith, length-append}
 use Rattle.std.proofs.lemmas.List.{append-nil}
 use Rattle.std.specs.Result.{is_err}
 use Rattle.std.specs.declared.alloc.AllocError.{AllocError}
@@ -11,7 +11,7 @@ use Rattle.swc_input.specs.declared.buffer.Buffer.{Buffer}
 use Rattle.swc_input.specs.declared.token.Token.{Token}
 use Rattle.swc_input.specs.declared.token.TokenAndSpan.{TokenAndSpan}
 use Rattle.swc_input.specs.Plain.{plain}
-use Rattle.swc_input.specs.Source.{Source, Keeps, IsLawful, with_context, recorded_in, waiting_in}
+use Rattle.swc_input.specs.Source.{Source, IsLawful, with_context, recorded_in, waiting_in}
 use Rattle.swc_input.specs.Buffer.{Took, Read, Looked, Bumped, left, source, current, last_position, held, with_source}
 use Rattle.swc_input.specs.Laws.{Took-then, Read-then, Read-late, Keeps-then}
 use Rattle.swc_input.specs.Recording.{Refused, error_here, unfit, no_memory}

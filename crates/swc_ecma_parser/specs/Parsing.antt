@@ -1,5 +1,5 @@
 -- What parsing calls do to the buffer.
-use Rattle.std.specs.Prelude.{◌≡◌, ◌≢◌, ℕ, ◌+◌, ◌≤◌, Bool, true, false, List, [], ◌++◌, Option, Some, None, not, ◌&&◌, codes, Result, MatchResult, length}
+use Rattle.std.specs.Prelude.{◌≢◌, ◌+◌, ◌≤◌, Bool, true, false, List, [], ◌++◌, Option, Some, None, not, ◌&&◌, codes, Result, MatchResult, length}
 use Rattle.swc_context.specs.Reserved.{is_reserved, is_text}
 use Rattle.swc_context.specs.declared.context.Context.{Context}
 use Rattle.swc_context.specs.declared.error.Error.{Error}

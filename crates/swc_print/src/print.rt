@@ -1,4 +1,5 @@
 // Trees as text.
+use std::alloc::{AllocError, Global};
 use swc_ast::expr::{
     AssignTarget, BlockStmtOrExpr, Callee, Expr, ExprOrSpread, ImportPhase, MemberExpr, MemberProp,
     MetaPropKind, OptChainBase, OptChainExpr, SimpleAssignTarget, SuperProp, SuperPropExpr, Tpl,
@@ -6,7 +7,6 @@ use swc_ast::expr::{
 use swc_ast::lit::{Lit, Regex};
 use swc_ast::pat::{ObjectPatProp, Pat, RestPat};
 use swc_ast::prop::{Prop, PropName, PropOrSpread};
-use std::alloc::{AllocError, Global};
 use swc_context::span::Span;
 
 /// A value of the hook, which is printed as the number of tokens that it kept.

@@ -1,5 +1,5 @@
 -- Each call is made with fewer tokens to come, or on the way down to a primary expression.
-use Rattle.std.proofs.Common.{ℕ, ◌+◌, ◌*◌, ◌<◌, ◌≤◌}
+use Rattle.std.proofs.Common.{◌+◌, ◌*◌, ◌≤◌}
 use Rattle.swc_input.specs.Buffer.{left}
 use Rattle.swc_ecma_parser.specs.Parsing.{Leads}
 use Rattle.swc_ecma_parser.proofs.productions.Productions.+productions.Given as goal

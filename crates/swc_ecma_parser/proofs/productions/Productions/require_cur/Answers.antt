@@ -1,7 +1,3 @@
-use Rattle.std.proofs.Common.{Result, Ok, Err}
-use Rattle.swc_context.specs.declared.error.SyntaxError.TheVariants.{Eof, ParserFailed}
-use Rattle.swc_input.specs.Buffer.{current, last_position}
-use Rattle.swc_input.proofs.Refusals.{unfit-kind}
 use Rattle.swc_ecma_parser.proofs.Steps.{required}
 use Rattle.swc_ecma_parser.proofs.productions.Productions.require_cur.Goals as goal
 
