@@ -1,0 +1,5 @@
+//! Tests of trees: printing, places and targets.
+#![tactic(auto)]
+
+#[cfg(test)]
+mod trees;
