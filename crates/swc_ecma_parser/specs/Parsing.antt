@@ -1,65 +1,79 @@
--- What parsing calls do to the buffer.
-use Rattle.std.specs.Prelude.{◌≢◌, ◌+◌, ◌≤◌, Bool, true, false, List, [], ◌++◌, Option, Some, None, not, ◌&&◌, codes, Result, MatchResult, length}
-use Rattle.swc_context.specs.Reserved.{is_reserved, is_text}
+-- What parsing calls do to the buffer, and which clean reading each answers.
+use Rattle.std.specs.Prelude.{◌≡◌, ◌≢◌, ℕ, ◌≤◌, ◌<◌, Bool, true, false, List, [], ◌++◌, Option, Some, None, Result, MatchResult, length}
+use Rattle.std.specs.declared.alloc.Global.{Global}
+use Rattle.std.specs.declared.boxed.Box.{Box}
+use Rattle.swc_context.specs.Words.{word_text}
 use Rattle.swc_context.specs.declared.context.Context.{Context}
 use Rattle.swc_context.specs.declared.error.Error.{Error}
-use Rattle.swc_context.specs.declared.error.SyntaxError.TheVariants.{ParserFailed}
-use Rattle.swc_context.specs.declared.word.Keyword.TheVariants as keyword
-use Rattle.swc_context.specs.declared.word.Word.{Word}
-use Rattle.swc_context.specs.declared.word.Word.TheVariants as word
+use Rattle.swc_context.specs.declared.error.SyntaxError.TheVariants.{OutOfMemory, ParserFailed}
+use Rattle.swc_context.specs.declared.span.Span.{Span}
 use Rattle.swc_input.specs.declared.buffer.Buffer.{Buffer}
 use Rattle.swc_input.specs.declared.token.Token.{Token}
 use Rattle.swc_input.specs.declared.token.Token.TheVariants as token
 use Rattle.swc_input.specs.declared.token.TokenAndSpan.{TokenAndSpan}
-use Rattle.swc_input.specs.Source.{Source, Keeps}
-use Rattle.swc_input.specs.Buffer.{Took, Read, left}
+use Rattle.swc_input.specs.Plain.{plain}
+use Rattle.swc_input.specs.Source.{Source, IsLawful}
+use Rattle.swc_input.specs.Buffer.{Took, Read, Looked, Future, Known, left}
+use Rattle.swc_input.specs.Laws.{Joins, Gives}
+use Rattle.swc_input.specs.Recording.{is_silent}
+use Rattle.swc_ast.specs.declared.expr.Expr.{Expr}
+use Rattle.swc_ast.specs.declared.lit.Lit.{Lit}
+use Rattle.swc_ast.specs.Parts.{lit_tree}
+use Rattle.swc_ast.specs.Tree.{Tree}
+use Rattle.swc_ast.specs.TreeOf.{boxed_tree, expr_tree}
+use Rattle.swc_bodies.specs.Readings.{at_token}
+use Rattle.swc_grammar.specs.Clean.{Out, no_error}
 
-abbrev pub is_lit : Token → Bool
-is_lit (token.Word word.Null) = true
-is_lit (token.Word word.True) = true
-is_lit (token.Word word.False) = true
-is_lit (token.Num raw) = true
-is_lit (token.BigInt raw) = true
-is_lit (token.Str value raw) = true
-is_lit t = false
+-- the tree that a boxed expression stands for, where the hook's values lie at the places given
+abbrev pub tree_by : {F C K : Type 0} → (F → Span) → (C → Span) → (K → Span) → Box (Expr F C K) Global → Tree F C K
+tree_by {F} {C} {K} fun class block e = boxed_tree F C K fun class block e
+
+abbrev pub bare_by : {F C K : Type 0} → (F → Span) → (C → Span) → (K → Span) → Expr F C K → Tree F C K
+bare_by {F} {C} {K} fun class block e = expr_tree F C K fun class block e
+
+abbrev pub lit_by : {F C K : Type 0} → (F → Span) → (C → Span) → (K → Span) → Lit → Tree F C K
+lit_by fun class block l = lit_tree l
 
 abbrev pub is_word : Token → Bool
 is_word (token.Word w) = true
 is_word t = false
 
--- a name that is an expression by itself
-abbrev pub is_name : Context → Word → Bool
-is_name c (word.Ident w) = not (is_reserved c (word.Ident w)) && not (is_text w (codes "async"))
-is_name c w = false
+-- the text of a word
+abbrev pub text_of : Token → Option (List ℕ)
+text_of (token.Word w) = Some (word_text w)
+text_of t = None
 
--- the words that are expressions by themselves: so far, names that aren't reserved but `async`, and `let`
-abbrev pub is_identifier : Context → Token → Bool
-is_identifier c (token.Word (word.Keyword keyword.Let)) = true
-is_identifier c (token.Word w) = is_name c w
-is_identifier c t = false
+-- the current token, as contracts compare it
+abbrev pub seen_of : Option TokenAndSpan → Option TokenAndSpan
+seen_of None = None
+seen_of (Some t) = Some (plain t)
 
-abbrev pub is_lparen : Token → Bool
-is_lparen token.LParen = true
-is_lparen t = false
+abbrev pub seen : {S : Type 0} → Buffer S → Option TokenAndSpan
+seen b = seen_of b.cur
 
-abbrev pub is_rparen : Token → Bool
-is_rparen token.RParen = true
-is_rparen t = false
+module _ {S : Type 0} (state : S → Source) where
+  abbrev pub context : Buffer S → Context
+  context b = (state b.iter).context
 
--- the test at a current token; none passes it at the end
-abbrev pub at_token : (Token → Bool) → Option TokenAndSpan → Bool
-at_token f None = false
-at_token f (Some t) = f t.token
+  -- how many faults were recorded
+  abbrev pub recorded : Buffer S → ℕ
+  recorded b = length (state b.iter).errors
 
--- the laws of a source by which calls join
-pub record Laws {S : Type 0} (gives : S → List TokenAndSpan → S → Type 0) : Type 0 where
-  pub none : (s : S) → gives s [] s
-  pub joins : (s t u : S) (xs ys : List TokenAndSpan) → gives s xs t → gives t ys u → gives s (xs ++ ys) u
+  -- faults are recorded: early errors are on, and not ignored
+  abbrev pub Loud : Buffer S → Type 0
+  Loud b = is_silent (state b.iter) ≡ false
 
 module _ {S : Type 0} (state : S → Source) (gives : S → List TokenAndSpan → S → Type 0) where
+  -- the laws of a source
+  pub record Laws : Type 0 where
+    pub none : (s : S) → gives s [] s
+    pub joins : Joins gives
+    pub gave : Gives state gives
+    pub lawful : (s : S) → IsLawful (state s)
+
   -- from b to c: the tokens that the call consumed, with the context kept and no recorded fault taken out
   pub record Leads (b c : Buffer S) : Type 0 where
-    pub laws : Laws gives
+    pub laws : Laws
     pub taken : List TokenAndSpan
     pub read : Read state gives b taken c
 
@@ -68,19 +82,23 @@ module _ {S : Type 0} (state : S → Source) (gives : S → List TokenAndSpan �
     pub leads : Leads b c
     pub some : 1 ≤ length leads.taken
 
-  -- the same with the context set to another of the same kind of text
+  -- the context was set to another of the same kind of text: nothing was consumed, and no fault recorded or set waiting
   pub record Moves (b c : Buffer S) : Type 0 where
-    pub laws : Laws gives
-    pub taken : List TokenAndSpan
-    pub took : Took gives b taken c
-    pub errors : Keeps (state b.iter).errors (state c.iter).errors
-    pub waiting : Keeps (state b.iter).waiting (state c.iter).waiting
-    pub lower : left state c + length taken ≤ left state b
+    pub laws : Laws
+    pub took : Took gives b [] c
+    pub errors : (state c.iter).errors ≡ (state b.iter).errors
+    pub waiting : (state c.iter).waiting ≡ (state b.iter).waiting
+    pub left : left state c ≡ left state b
 
   -- a refusal, which is never that of a failed parser
   pub record Refuses (b : Buffer S) (e : Error) (c : Buffer S) : Type 0 where
     pub leads : Leads b c
     pub kind : e.kind ≢ ParserFailed
+
+  -- a refusal for want of memory
+  pub record Forgoes (b : Buffer S) (e : Error) (c : Buffer S) : Type 0 where
+    pub leads : Leads b c
+    pub kind : e.kind ≡ OutOfMemory
 
   -- a call that reads a symbol, which has a token at least
   abbrev pub Reads : {T : Type 0} → Buffer S → Result T Error → Buffer S → Type 0
@@ -89,3 +107,52 @@ module _ {S : Type 0} (state : S → Source) (gives : S → List TokenAndSpan �
   -- a call that may consume nothing
   abbrev pub Does : {T : Type 0} → Buffer S → Result T Error → Buffer S → Type 0
   Does b r c = MatchResult r (λ t. Leads b c) (λ e. Refuses b e c)
+
+  -- a call that is refused for want of memory alone
+  abbrev pub Tries : {T : Type 0} → Buffer S → Result T Error → Buffer S → Type 0
+  Tries b r c = MatchResult r (λ t. Leads b c) (λ e. Forgoes b e c)
+
+  -- a look at c: a token is current, or none is left
+  pub record Here (b c : Buffer S) : Type 0 where
+    pub laws : Laws
+    pub looked : Looked state gives b c
+    pub end : c.cur ≡ None → (state c.iter).ended ≡ true
+
+  -- a refusal at an error token, or at the end
+  pub record Unfit (b : Buffer S) (e : Error) (c : Buffer S) : Type 0 where
+    pub at : Buffer S
+    pub looked : Looked state gives b at
+    pub end : at.cur ≡ None → (state at.iter).failed ≡ false → (state at.iter).ended ≡ true
+    pub unfit : at_token no_error (seen at) ≡ false
+    pub refuses : Refuses at e c
+
+  -- a fault is recorded unless all is well
+  pub record Checks (well : Bool) (b c : Buffer S) : Type 0 where
+    pub leads : Leads b c
+    pub passes : well ≡ true → c ≡ b
+    pub notes : well ≡ false → Loud state b → recorded state b < recorded state c
+
+  -- From b to c: what f reads at b is what g reads at c, where no fault was recorded; where one was, and the source is listed, f reads
+  -- nothing.
+  pub record On {A : Type 0} (f g : Context → List TokenAndSpan → Out A) (b c : Buffer S) : Type 0 where
+    pub leads : Leads b c
+    pub clean : Loud state b → recorded state c ≡ recorded state b → (ys : List TokenAndSpan) → Future state c ys → f (context state b) (leads.taken ++ ys) ≡ g (context state c) ys
+    pub faulty : Loud state b → recorded state b < recorded state c → (ts : List TokenAndSpan) → Known state b ts → f (context state b) ts ≡ None
+
+  -- t is what f reads, from one token at least
+  pub record Heard {A : Type 0} (f : Context → List TokenAndSpan → Out A) (t : A) (b c : Buffer S) : Type 0 where
+    pub on : On f (λ x ts. Some (t, ts)) b c
+    pub some : 1 ≤ length on.leads.taken
+
+  -- a refusal where f reads nothing, but for want of memory
+  pub record Unheard {A : Type 0} (f : Context → List TokenAndSpan → Out A) (b : Buffer S) (e : Error) (c : Buffer S) : Type 0 where
+    pub refuses : Refuses b e c
+    pub none : e.kind ≢ OutOfMemory → Loud state b → (ts : List TokenAndSpan) → Known state b ts → f (context state b) ts ≡ None
+
+  -- a call that reads what f reads
+  abbrev pub Parses : {T A : Type 0} → (T → A) → (Context → List TokenAndSpan → Out A) → Buffer S → Result T Error → Buffer S → Type 0
+  Parses view f b r c = MatchResult r (λ t. Heard f (view t) b c) (λ e. Unheard f b e c)
+
+  -- the same, where nothing may be consumed
+  abbrev pub Follows : {T A : Type 0} → (T → A) → (Context → List TokenAndSpan → Out A) → Buffer S → Result T Error → Buffer S → Type 0
+  Follows view f b r c = MatchResult r (λ t. On f (λ x ts. Some (view t, ts)) b c) (λ e. Unheard f b e c)

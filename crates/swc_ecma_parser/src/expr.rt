@@ -1,41 +1,33 @@
 // Expressions (ECMA-262, 13).
-ghost use Rattle.std.specs.Prelude.{◌≡◌, ℕ, ◌<◌, true, OnOk};
-ghost use Rattle.swc_input.specs.Buffer.{current, left};
-ghost use Rattle.swc_ecma_parser.specs.Parsing.{is_lit, is_lparen, is_word, at_token, Reads};
+ghost use Rattle.std.specs.Prelude.{◌≡◌, ℕ, ◌<◌, true, Some, OnOk, IfOk, IfErr};
+ghost use Rattle.swc_input.specs.Buffer.{last_position, left};
+ghost use Rattle.swc_input.specs.Plain.{plain_token};
+ghost use Rattle.swc_input.specs.Recording.{no_memory};
+ghost use Rattle.swc_bodies.specs.Readings.{at_token};
+ghost use Rattle.swc_grammar.specs.Trees as trees;
+ghost use Rattle.swc_grammar.specs.Clean as clean;
+ghost use Rattle.swc_grammar.specs.Clean.{run, is_lit, is_lparen};
+ghost use Rattle.swc_ecma_parser.specs.Parsing.{tree_by, lit_by, is_word, seen, Parses};
 
 use crate::productions::{ExprOf, Productions};
 use swc_ast::expr::{Expr, ParenExpr};
 use swc_ast::ident::Ident;
 use swc_ast::lit::{BigInt, Bool, Lit, Null, Num, Str};
 use swc_bodies::bodies::Bodies;
+use swc_context::atom::Atom;
 use swc_context::context::Context;
 use swc_context::error::{PResult, SyntaxError};
-use swc_context::span::Span;
+use swc_context::span::{BytePos, Span};
 use swc_context::word::Word;
 use swc_input::token::Token;
 use swc_input::tokens::Tokens;
 
 mod ops;
 
-/// The literal that a token is.
-fn lit_of(token: Token, span: Span) -> Lit
-    requires { is_lit token ≡ true }
-{
-    match token {
-        Token::Word(Word::Null) => Lit::Null(Null { span }),
-        Token::Word(Word::True) => Lit::Bool(Bool { span, value: true }),
-        Token::Word(Word::False) => Lit::Bool(Bool { span, value: false }),
-        Token::Num { raw } => Lit::Num(Num { span, raw }),
-        Token::BigInt { raw } => Lit::BigInt(BigInt { span, raw }),
-        Token::Str { value, raw } => Lit::Str(Str { span, value, raw }),
-        _ => unreachable!(),
-    }
-}
-
 impl<I: Tokens, B: Bodies<I>> Productions<I, B> {
     /// An expression (ECMA-262, 13.16).
     pub(crate) fn parse_expr(&mut self) -> PResult<Box<ExprOf<B>>>
-        ensures reads { Reads I.state I.gives self.old.input result self.new.input }
+        ensures parses { Parses I.state I.gives (tree_by B.Fun.place B.Class.place B.Block.place) (clean.assign run) self.old.input result self.new.input }
         ensures left { OnOk result (left I.state self.new.input < left I.state self.old.input) }
     {
         self.parse_assignment_expr()
@@ -44,7 +36,7 @@ impl<I: Tokens, B: Bodies<I>> Productions<I, B> {
     /// An assignment expression (ECMA-262, 13.15).
     #[cycle(productions)]
     pub(crate) fn parse_assignment_expr(&mut self) -> PResult<Box<ExprOf<B>>>
-        ensures reads { Reads I.state I.gives self.old.input result self.new.input }
+        ensures parses { Parses I.state I.gives (tree_by B.Fun.place B.Class.place B.Block.place) (clean.assign run) self.old.input result self.new.input }
         ensures left { OnOk result (left I.state self.new.input < left I.state self.old.input) }
     {
         self.require_cur()?;
@@ -54,13 +46,13 @@ impl<I: Tokens, B: Bodies<I>> Productions<I, B> {
     /// A primary expression (ECMA-262, 13.2).
     #[cycle(productions)]
     pub(crate) fn parse_primary_expr(&mut self) -> PResult<Box<ExprOf<B>>>
-        ensures reads { Reads I.state I.gives self.old.input result self.new.input }
+        ensures parses { Parses I.state I.gives (tree_by B.Fun.place B.Class.place B.Block.place) (clean.primary run) self.old.input result self.new.input }
         ensures left { OnOk result (left I.state self.new.input < left I.state self.old.input) }
     {
         self.look()?;
         if self.is_lit() {
             let lit = self.parse_lit()?;
-            return self.boxed(Expr::Lit(lit));
+            return self.lit_node(lit);
         }
         if self.is_lparen() {
             return self.parse_paren_expr();
@@ -74,21 +66,37 @@ impl<I: Tokens, B: Bodies<I>> Productions<I, B> {
 
     /// An identifier as an expression (ECMA-262, 13.1).
     fn parse_ident_expr(&mut self) -> PResult<Box<ExprOf<B>>>
-        requires { at_token is_word (current self.old.input) ≡ true }
-        ensures reads { Reads I.state I.gives self.old.input result self.new.input }
+        requires { at_token is_word (seen self.old.input) ≡ true }
+        ensures parses { Parses I.state I.gives (tree_by B.Fun.place B.Class.place B.Block.place) (clean.name run) self.old.input result self.new.input }
         ensures left { OnOk result (left I.state self.new.input < left I.state self.old.input) }
     {
         let token = self.bump();
         let span = self.input.prev_span();
         let sym = self.name_of(token)?;
+        self.ident_node(span, sym)
+    }
+
+    /// The node of an identifier.
+    fn ident_node(&self, span: Span, sym: Atom) -> PResult<Box<ExprOf<B>>>
+        ensures node { IfOk result (λ e. tree_by B.Fun.place B.Class.place B.Block.place e ≡ trees.ident_e span sym) }
+        ensures refused { IfErr result (λ e. e ≡ no_memory (last_position self.now.input)) }
+    {
         self.boxed(Expr::Ident(Ident { span, sym }))
+    }
+
+    /// The node of a literal.
+    fn lit_node(&self, lit: Lit) -> PResult<Box<ExprOf<B>>>
+        ensures node { IfOk result (λ e. tree_by B.Fun.place B.Class.place B.Block.place e ≡ lit_by B.Fun.place B.Class.place B.Block.place lit) }
+        ensures refused { IfErr result (λ e. e ≡ no_memory (last_position self.now.input)) }
+    {
+        self.boxed(Expr::Lit(lit))
     }
 
     /// An expression in parentheses (ECMA-262, 13.2.9).
     #[cycle(productions)]
     fn parse_paren_expr(&mut self) -> PResult<Box<ExprOf<B>>>
-        requires { at_token is_lparen (current self.old.input) ≡ true }
-        ensures reads { Reads I.state I.gives self.old.input result self.new.input }
+        requires { at_token is_lparen (seen self.old.input) ≡ true }
+        ensures parses { Parses I.state I.gives (tree_by B.Fun.place B.Class.place B.Block.place) (clean.parens run) self.old.input result self.new.input }
         ensures left { OnOk result (left I.state self.new.input < left I.state self.old.input) }
     {
         let start = self.input.cur_span().lo;
@@ -105,6 +113,14 @@ impl<I: Tokens, B: Bodies<I>> Productions<I, B> {
             return Err(self.unexpected(SyntaxError::Expected(")")));
         }
         self.skip();
+        self.paren_node(start, expr)
+    }
+
+    /// The node of an expression in parentheses, of which the second was consumed last.
+    fn paren_node(&self, start: BytePos, expr: Box<ExprOf<B>>) -> PResult<Box<ExprOf<B>>>
+        ensures node { IfOk result (λ e. tree_by B.Fun.place B.Class.place B.Block.place e ≡ trees.paren_e (trees.between start (last_position self.now.input)) (tree_by B.Fun.place B.Class.place B.Block.place expr)) }
+        ensures refused { IfErr result (λ e. e ≡ no_memory (last_position self.now.input)) }
+    {
         let span = Span::new(start, self.input.last_pos());
         self.boxed(Expr::Paren(ParenExpr { span, expr }))
     }
@@ -112,7 +128,7 @@ impl<I: Tokens, B: Bodies<I>> Productions<I, B> {
     /// An assignment expression in which `in` counts as an operator.
     #[cycle(productions)]
     fn parse_assignment_expr_with_in(&mut self) -> PResult<Box<ExprOf<B>>>
-        ensures reads { Reads I.state I.gives self.old.input result self.new.input }
+        ensures parses { Parses I.state I.gives (tree_by B.Fun.place B.Class.place B.Block.place) (clean.inside run) self.old.input result self.new.input }
         ensures left { OnOk result (left I.state self.new.input < left I.state self.old.input) }
     {
         let ctx = self.input.get_ctx();
@@ -125,9 +141,25 @@ impl<I: Tokens, B: Bodies<I>> Productions<I, B> {
         expr
     }
 
+    /// The literal that a token is.
+    fn lit_of(&self, token: Token, span: Span) -> Lit
+        requires { is_lit token ≡ true }
+        ensures { clean.lit_of (plain_token token) span ≡ Some (lit_by B.Fun.place B.Class.place B.Block.place result) }
+    {
+        match token {
+            Token::Word(Word::Null) => Lit::Null(Null { span }),
+            Token::Word(Word::True) => Lit::Bool(Bool { span, value: true }),
+            Token::Word(Word::False) => Lit::Bool(Bool { span, value: false }),
+            Token::Num { raw } => Lit::Num(Num { span, raw }),
+            Token::BigInt { raw } => Lit::BigInt(BigInt { span, raw }),
+            Token::Str { value, raw } => Lit::Str(Str { span, value, raw }),
+            _ => unreachable!(),
+        }
+    }
+
     /// A literal that is no regular expression (ECMA-262, 13.2.3).
     pub(crate) fn parse_lit(&mut self) -> PResult<Lit>
-        ensures reads { Reads I.state I.gives self.old.input result self.new.input }
+        ensures parses { Parses I.state I.gives (lit_by B.Fun.place B.Class.place B.Block.place) (clean.lit run) self.old.input result self.new.input }
         ensures left { OnOk result (left I.state self.new.input < left I.state self.old.input) }
     {
         self.require_cur()?;
@@ -137,6 +169,6 @@ impl<I: Tokens, B: Bodies<I>> Productions<I, B> {
         }
         let token = self.bump();
         let span = self.input.prev_span();
-        Ok(lit_of(token, span))
+        Ok(self.lit_of(token, span))
     }
 }

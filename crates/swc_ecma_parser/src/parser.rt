@@ -3,7 +3,9 @@ ghost use Rattle.std.specs.Prelude.{◌≡◌, ◌||◌, true, false, [], IsSome
 ghost use Rattle.std.specs.Borrow.{sem, follows};
 ghost use Rattle.swc_input.specs.Buffer.{current, last_position, previous, source, with_source, fresh};
 ghost use Rattle.swc_ecma_parser.specs.Calls.{buffer_of, with_buffer, has_failed, is_memory, wants_memory, parser_failed};
-ghost use Rattle.swc_ecma_parser.specs.Parsing.{Reads, Does};
+ghost use Rattle.swc_grammar.specs.Grammar.{Expr, Assign, Level, Unary};
+ghost use Rattle.swc_ecma_parser.specs.Parsing.{tree_by, Reads, Does};
+ghost use Rattle.swc_ecma_parser.specs.Promise.{hook_of, Sound, Complete, OneTree, Grouped};
 ghost use Rattle.swc_ecma_parser.specs.contracts.parser.Parser.{the_row};
 
 use crate::productions::{ExprOf, Productions};
@@ -76,6 +78,10 @@ impl<I: Tokens, B: Bodies<I>> Parser<I, B> {
     pub fn parse_expr(&mut self) -> PResult<Box<ExprOf<B>>>
         ensures again { has_failed self.old ≡ true → (self.new ≡ self.old) × (result ≡ Err (parser_failed (previous (buffer_of self.old)))) }
         ensures reads { has_failed self.old ≡ false → Reads I.state I.gives (buffer_of self.old) result (buffer_of self.new) }
+        ensures sound { has_failed self.old ≡ false → Sound I.state I.gives (hook_of B.reads_fun B.reads_class B.reads_block) (tree_by B.Fun.place B.Class.place B.Block.place) Expr (buffer_of self.old) result (buffer_of self.new) }
+        ensures complete { has_failed self.old ≡ false → Complete I.state I.gives (hook_of B.reads_fun B.reads_class B.reads_block) (tree_by B.Fun.place B.Class.place B.Block.place) Expr (buffer_of self.old) result (buffer_of self.new) }
+        ensures one_tree { has_failed self.old ≡ false → OneTree I.state I.gives (hook_of B.reads_fun B.reads_class B.reads_block) (tree_by B.Fun.place B.Class.place B.Block.place) Expr (buffer_of self.old) result (buffer_of self.new) }
+        ensures grouped { has_failed self.old ≡ false → Grouped I.state I.gives (hook_of B.reads_fun B.reads_class B.reads_block) (tree_by B.Fun.place B.Class.place B.Block.place) Expr (buffer_of self.old) result (buffer_of self.new) }
         ensures fails { has_failed self.old ≡ false → has_failed self.new ≡ wants_memory result }
     {
         self.begin()?;
@@ -89,6 +95,10 @@ impl<I: Tokens, B: Bodies<I>> Parser<I, B> {
     pub fn parse_assignment_expr(&mut self) -> PResult<Box<ExprOf<B>>>
         ensures again { has_failed self.old ≡ true → (self.new ≡ self.old) × (result ≡ Err (parser_failed (previous (buffer_of self.old)))) }
         ensures reads { has_failed self.old ≡ false → Reads I.state I.gives (buffer_of self.old) result (buffer_of self.new) }
+        ensures sound { has_failed self.old ≡ false → Sound I.state I.gives (hook_of B.reads_fun B.reads_class B.reads_block) (tree_by B.Fun.place B.Class.place B.Block.place) Assign (buffer_of self.old) result (buffer_of self.new) }
+        ensures complete { has_failed self.old ≡ false → Complete I.state I.gives (hook_of B.reads_fun B.reads_class B.reads_block) (tree_by B.Fun.place B.Class.place B.Block.place) Assign (buffer_of self.old) result (buffer_of self.new) }
+        ensures one_tree { has_failed self.old ≡ false → OneTree I.state I.gives (hook_of B.reads_fun B.reads_class B.reads_block) (tree_by B.Fun.place B.Class.place B.Block.place) Assign (buffer_of self.old) result (buffer_of self.new) }
+        ensures grouped { has_failed self.old ≡ false → Grouped I.state I.gives (hook_of B.reads_fun B.reads_class B.reads_block) (tree_by B.Fun.place B.Class.place B.Block.place) Assign (buffer_of self.old) result (buffer_of self.new) }
         ensures fails { has_failed self.old ≡ false → has_failed self.new ≡ wants_memory result }
     {
         self.begin()?;
@@ -102,6 +112,10 @@ impl<I: Tokens, B: Bodies<I>> Parser<I, B> {
     pub fn parse_bin_expr(&mut self) -> PResult<Box<ExprOf<B>>>
         ensures again { has_failed self.old ≡ true → (self.new ≡ self.old) × (result ≡ Err (parser_failed (previous (buffer_of self.old)))) }
         ensures reads { has_failed self.old ≡ false → Reads I.state I.gives (buffer_of self.old) result (buffer_of self.new) }
+        ensures sound { has_failed self.old ≡ false → Sound I.state I.gives (hook_of B.reads_fun B.reads_class B.reads_block) (tree_by B.Fun.place B.Class.place B.Block.place) (Level 1) (buffer_of self.old) result (buffer_of self.new) }
+        ensures complete { has_failed self.old ≡ false → Complete I.state I.gives (hook_of B.reads_fun B.reads_class B.reads_block) (tree_by B.Fun.place B.Class.place B.Block.place) (Level 1) (buffer_of self.old) result (buffer_of self.new) }
+        ensures one_tree { has_failed self.old ≡ false → OneTree I.state I.gives (hook_of B.reads_fun B.reads_class B.reads_block) (tree_by B.Fun.place B.Class.place B.Block.place) (Level 1) (buffer_of self.old) result (buffer_of self.new) }
+        ensures grouped { has_failed self.old ≡ false → Grouped I.state I.gives (hook_of B.reads_fun B.reads_class B.reads_block) (tree_by B.Fun.place B.Class.place B.Block.place) (Level 1) (buffer_of self.old) result (buffer_of self.new) }
         ensures fails { has_failed self.old ≡ false → has_failed self.new ≡ wants_memory result }
     {
         self.begin()?;
@@ -117,6 +131,10 @@ impl<I: Tokens, B: Bodies<I>> Parser<I, B> {
     pub fn parse_unary_expr(&mut self) -> PResult<Box<ExprOf<B>>>
         ensures again { has_failed self.old ≡ true → (self.new ≡ self.old) × (result ≡ Err (parser_failed (previous (buffer_of self.old)))) }
         ensures reads { has_failed self.old ≡ false → Reads I.state I.gives (buffer_of self.old) result (buffer_of self.new) }
+        ensures sound { has_failed self.old ≡ false → Sound I.state I.gives (hook_of B.reads_fun B.reads_class B.reads_block) (tree_by B.Fun.place B.Class.place B.Block.place) Unary (buffer_of self.old) result (buffer_of self.new) }
+        ensures complete { has_failed self.old ≡ false → Complete I.state I.gives (hook_of B.reads_fun B.reads_class B.reads_block) (tree_by B.Fun.place B.Class.place B.Block.place) Unary (buffer_of self.old) result (buffer_of self.new) }
+        ensures one_tree { has_failed self.old ≡ false → OneTree I.state I.gives (hook_of B.reads_fun B.reads_class B.reads_block) (tree_by B.Fun.place B.Class.place B.Block.place) Unary (buffer_of self.old) result (buffer_of self.new) }
+        ensures grouped { has_failed self.old ≡ false → Grouped I.state I.gives (hook_of B.reads_fun B.reads_class B.reads_block) (tree_by B.Fun.place B.Class.place B.Block.place) Unary (buffer_of self.old) result (buffer_of self.new) }
         ensures fails { has_failed self.old ≡ false → has_failed self.new ≡ wants_memory result }
     {
         self.begin()?;

@@ -1,10 +1,14 @@
 // What all productions stand on: the buffer, the hook, and the steps that can be refused.
-ghost use Rattle.std.specs.Prelude.{◌≡◌, ◌≢◌, ℕ, ◌<◌, ◌≤◌, true, false, None, Some, IfErr, IfOk, OnOk, IsSome};
+ghost use Rattle.std.specs.Prelude.{◌≡◌, ◌≢◌, ℕ, ◌<◌, ◌≤◌, true, false, None, Some, IfErr, IfOk, OnOk, IsSome, MatchResult};
 ghost use Rattle.swc_context.specs.declared.error.SyntaxError.TheVariants.{OutOfMemory, ParserFailed};
-ghost use Rattle.swc_input.specs.declared.token.TokenAndSpan.{TokenAndSpan};
-ghost use Rattle.swc_input.specs.Buffer.{current, last_position, previous, source, left};
+ghost use Rattle.swc_input.specs.declared.token.Token.{Token};
+ghost use Rattle.swc_input.specs.Buffer.{current, last_position, source, left, Bumped};
+ghost use Rattle.swc_input.specs.Plain.{plain_token};
 ghost use Rattle.swc_input.specs.Recording.{no_memory};
-ghost use Rattle.swc_ecma_parser.specs.Parsing.{is_identifier, is_lit, is_lparen, is_name, is_rparen, is_word, at_token, Leads, Advances, Moves, Refuses, Does};
+ghost use Rattle.swc_bodies.specs.Readings.{at_token};
+ghost use Rattle.swc_grammar.specs.Tokens.{is_name};
+ghost use Rattle.swc_grammar.specs.Clean.{is_lit, is_lparen, is_rparen, is_identifier, no_error};
+ghost use Rattle.swc_ecma_parser.specs.Parsing.{is_word, text_of, seen, context, recorded, Loud, Leads, Moves, Refuses, Forgoes, Tries, Here, Unfit};
 
 use std::alloc::Global;
 use swc_ast::expr::Expr;
@@ -43,7 +47,7 @@ impl<I: Tokens, B: Bodies<I>> Productions<I, B> {
 
     /// Looks at the current token: whether there is one, and not the end. Refused only for want of memory.
     pub(crate) fn look(&mut self) -> PResult<bool>
-        ensures does { Does I.state I.gives self.old.input result self.new.input }
+        ensures looks { MatchResult result (λ r. Here I.state I.gives self.old.input self.new.input) (λ e. Forgoes I.state I.gives self.old.input e self.new.input) }
         ensures token { IfOk result (λ r. r ≡ true → IsSome (current self.new.input)) }
         ensures end { IfOk result (λ r. r ≡ false → (current self.new.input ≡ None) × ((I.state (source self.new.input)).ended ≡ true)) }
         ensures left { left I.state self.new.input ≤ left I.state self.old.input }
@@ -53,7 +57,7 @@ impl<I: Tokens, B: Bodies<I>> Productions<I, B> {
 
     /// Whether no token is left. Refused only for want of memory.
     pub(crate) fn is_end(&mut self) -> PResult<bool>
-        ensures does { Does I.state I.gives self.old.input result self.new.input }
+        ensures tries { Tries I.state I.gives self.old.input result self.new.input }
         ensures end { IfOk result (λ r. r ≡ true → (current self.new.input ≡ None) × ((I.state (source self.new.input)).ended ≡ true)) }
         ensures token { IfOk result (λ r. r ≡ false → IsSome (current self.new.input)) }
     {
@@ -62,8 +66,8 @@ impl<I: Tokens, B: Bodies<I>> Productions<I, B> {
 
     /// Asks that a token is current, and no error.
     pub(crate) fn require_cur(&mut self) -> PResult<()>
-        ensures does { Does I.state I.gives self.old.input result self.new.input }
-        ensures token { OnOk result (IsSome (current self.new.input)) }
+        ensures fits { MatchResult result (λ r. Here I.state I.gives self.old.input self.new.input) (λ e. Unfit I.state I.gives self.old.input e self.new.input) }
+        ensures token { OnOk result (at_token no_error (seen self.new.input) ≡ true) }
         ensures left { left I.state self.new.input ≤ left I.state self.old.input }
     {
         self.input.require_cur()
@@ -72,8 +76,7 @@ impl<I: Tokens, B: Bodies<I>> Productions<I, B> {
     /// Consumes the current token.
     pub(crate) fn bump(&mut self) -> Token
         requires { IsSome (current self.old.input) }
-        ensures advances { Advances I.state I.gives self.old.input self.new.input }
-        ensures was { (t : TokenAndSpan) × (current self.old.input ≡ Some t) × (result ≡ t.token) × (previous self.new.input ≡ t.span) }
+        ensures took { Bumped I.state I.gives self.old.input result self.new.input }
         ensures left { left I.state self.new.input < left I.state self.old.input }
     {
         self.input.bump()
@@ -82,7 +85,7 @@ impl<I: Tokens, B: Bodies<I>> Productions<I, B> {
     /// Consumes the current token and lets it go.
     pub(crate) fn skip(&mut self)
         requires { IsSome (current self.old.input) }
-        ensures advances { Advances I.state I.gives self.old.input self.new.input }
+        ensures took { (t : Token) × Bumped I.state I.gives self.old.input t self.new.input }
         ensures left { left I.state self.new.input < left I.state self.old.input }
     {
         let _ = self.bump();
@@ -109,7 +112,8 @@ impl<I: Tokens, B: Bodies<I>> Productions<I, B> {
     /// Records a fault.
     pub(crate) fn emit_err(&mut self, span: Span, kind: SyntaxError) -> PResult<()>
         requires { kind ≢ OutOfMemory }
-        ensures does { Does I.state I.gives self.old.input result self.new.input }
+        ensures tries { Tries I.state I.gives self.old.input result self.new.input }
+        ensures notes { Loud I.state self.old.input → OnOk result (recorded I.state self.old.input < recorded I.state self.new.input) }
         ensures left { left I.state self.new.input ≤ left I.state self.old.input }
     {
         self.input.emit_err(span, kind)
@@ -130,7 +134,7 @@ impl<I: Tokens, B: Bodies<I>> Productions<I, B> {
     }
 
     pub(crate) fn is_lit(&self) -> bool
-        ensures value { result ≡ at_token is_lit (current self.now.input) }
+        ensures value { result ≡ at_token is_lit (seen self.now.input) }
         ensures some { result ≡ true → IsSome (current self.now.input) }
     {
         match self.input.cur_debug() {
@@ -141,14 +145,14 @@ impl<I: Tokens, B: Bodies<I>> Productions<I, B> {
     }
 
     pub(crate) fn is_lparen(&self) -> bool
-        ensures value { result ≡ at_token is_lparen (current self.now.input) }
+        ensures value { result ≡ at_token is_lparen (seen self.now.input) }
         ensures some { result ≡ true → IsSome (current self.now.input) }
     {
         matches!(self.input.cur_debug(), Some(Token::LParen))
     }
 
     pub(crate) fn is_rparen(&self) -> bool
-        ensures value { result ≡ at_token is_rparen (current self.now.input) }
+        ensures value { result ≡ at_token is_rparen (seen self.now.input) }
         ensures some { result ≡ true → IsSome (current self.now.input) }
     {
         matches!(self.input.cur_debug(), Some(Token::RParen))
@@ -156,8 +160,8 @@ impl<I: Tokens, B: Bodies<I>> Productions<I, B> {
 
     /// Whether a word is current that is an expression by itself.
     pub(crate) fn is_ident_ref(&self) -> bool
-        ensures value { result ≡ at_token (is_identifier (I.state (source self.now.input)).context) (current self.now.input) }
-        ensures word { result ≡ true → at_token is_word (current self.now.input) ≡ true }
+        ensures value { result ≡ at_token (is_identifier (context I.state self.now.input)) (seen self.now.input) }
+        ensures word { result ≡ true → at_token is_word (seen self.now.input) ≡ true }
         ensures some { result ≡ true → IsSome (current self.now.input) }
     {
         let ctx = self.input.get_ctx();
@@ -171,7 +175,8 @@ impl<I: Tokens, B: Bodies<I>> Productions<I, B> {
     /// The text of a word.
     pub(crate) fn name_of(&self, token: Token) -> PResult<Atom>
         requires { is_word token ≡ true }
-        ensures { IfErr result (λ e. e ≡ no_memory (last_position self.now.input)) }
+        ensures text { IfOk result (λ name. text_of token ≡ Some name) }
+        ensures refused { IfErr result (λ e. e ≡ no_memory (last_position self.now.input)) }
     {
         match token {
             Token::Word(Word::Ident(name)) => Ok(name),

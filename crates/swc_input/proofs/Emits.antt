@@ -11,7 +11,7 @@ use Rattle.swc_input.specs.declared.token.TokenAndSpan.{TokenAndSpan}
 use Rattle.swc_input.specs.Source.{Source, Keeps, IsFault, recorded_in, waiting_in}
 use Rattle.swc_input.specs.Buffer.{Read, Looked, current, source, last_position}
 use Rattle.swc_input.specs.Laws.{Joins, Read-late}
-use Rattle.swc_input.specs.Recording.{Recorded, Refused, no_memory, counted_kind, counted, error_here, error_list, error_token, refusal}
+use Rattle.swc_input.specs.Recording.{Recorded, Refused, no_memory, counted_kind, counted, error_here, error_list, error_token, is_fit, refusal}
 
 pub keeps_none : (es fs : List Error) → fs ≡ es → Keeps es fs
 keeps_none es fs h = record { more = []; added = h ∙ sym (append-nil es); faults = All-nil IsFault }
@@ -57,3 +57,8 @@ module _ {S : Type 0} (state : S → Source) (gives : S → List TokenAndSpan �
   pub refused_by : (b h c : Buffer S) (e : Buffer S → Error) (r : Error) → Looked state gives b h → Read state gives h (error_token (current h)) c →
       r ≡ refusal (current h) (state (source h)).failed (last_position h) (e h) → Refused state gives b e r c
   refused_by b h c e r l d p = record { here = h; looked = l; read = d; answer = p }
+
+  -- at a token that doesn't fit
+  pub unfit_by : (b h c : Buffer S) (e : Buffer S → Error) (r : Error) → Looked state gives b h → Read state gives h (error_token (current h)) c →
+      r ≡ refusal (current h) (state (source h)).failed (last_position h) (e h) → is_fit (current h) ≡ false → (x : Refused state gives b e r c) × (is_fit (current x.here) ≡ false)
+  unfit_by b h c e r l d p f = (record { here = h; looked = l; read = d; answer = p }, f)

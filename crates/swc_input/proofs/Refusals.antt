@@ -1,5 +1,5 @@
 -- What a refusal may be: never the parser's own failure, and want of memory only where the source has failed.
-use Rattle.std.proofs.Common.{◌≡◌, ◌≢◌, Bool, true, false, List, Option, Some, None, refl, sym, ◌∙◌, ap}
+use Rattle.std.proofs.Common.{◌≡◌, ◌≢◌, Bool, true, false, not, IsTrue, IsSome, List, Option, Some, None, refl, sym, ◌∙◌, ap}
 use Rattle.swc_context.specs.declared.error.Error.{Error}
 use Rattle.swc_context.specs.declared.error.SyntaxError.{SyntaxError}
 use Rattle.swc_context.specs.declared.error.SyntaxError.TheVariants as kind
@@ -11,7 +11,7 @@ use Rattle.swc_input.specs.declared.token.TokenAndSpan.{TokenAndSpan}
 use Rattle.swc_input.specs.Source.{Source, IsFault, IsLawful}
 use Rattle.swc_input.specs.Buffer.{current, source, last_position}
 use Rattle.swc_input.specs.Laws.{Gives}
-use Rattle.swc_input.specs.Recording.{Refused, no_memory, counted_kind, error_in, error_or, refusal, unfit}
+use Rattle.swc_input.specs.Recording.{Refused, no_memory, counted_kind, error_in, error_or, error_here, is_some, is_fit, refusal, unfit}
 use Rattle.swc_input.proofs.Emits.{counted_fault}
 
 counted_kind_parser : (k : SyntaxError) → counted_kind k ≢ kind.ParserFailed
@@ -42,6 +42,15 @@ refusal-memory (Some t) f at e fault h = absurd (error_or_fault t.token e fault 
 pub unfit-kind : (o : Option TokenAndSpan) (at : BytePos) (k other : SyntaxError) → kind.Eof ≢ other → k ≢ other → (unfit o at k).kind ≢ other
 unfit-kind None at k other end own = end
 unfit-kind (Some t) at k other end own = own
+
+-- a token that isn't known, and one that holds an error, don't fit
+pub unfit-unknown : (o : Option TokenAndSpan) (known : Bool) → (IsSome o → IsTrue known) → known ≡ false → is_fit o ≡ false
+unfit-unknown None known h e = refl
+unfit-unknown (Some t) known h e = let w = h refl in cc
+
+pub unfit-error : (o : Option TokenAndSpan) (e : Bool) → e ≡ is_some (error_here o) → e ≡ true → is_fit o ≡ false
+unfit-error None e h i = refl
+unfit-error (Some t) e h i = ap not (sym h ∙ i)
 
 module _ {S : Type 0} (state : S → Source) (gives : S → List TokenAndSpan → S → Type 0) where
   pub Refused-kind : (b c : Buffer S) (e : Buffer S → Error) (f : Error) → ((here : Buffer S) → (e here).kind ≢ kind.ParserFailed) → Refused state gives b e f c → f.kind ≢ kind.ParserFailed

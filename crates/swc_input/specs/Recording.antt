@@ -50,6 +50,11 @@ abbrev pub error_list : Option Error → List Error
 error_list None = []
 error_list (Some e) = e ∷ []
 
+-- a token is current, and holds no error
+abbrev pub is_fit : Option TokenAndSpan → Bool
+is_fit None = false
+is_fit (Some t) = not (is_some (error_in t.token))
+
 abbrev pub token_if : Option Error → TokenAndSpan → List TokenAndSpan
 token_if None t = []
 token_if (Some e) t = plain t ∷ []

@@ -4,7 +4,7 @@ ghost use Rattle.swc_context.specs.declared.error.SyntaxError.TheVariants.{OutOf
 ghost use Rattle.swc_input.specs.declared.token.TokenAndSpan.{TokenAndSpan};
 ghost use Rattle.swc_input.specs.Source.{with_error, with_module_error, IsFault};
 ghost use Rattle.swc_input.specs.Buffer.{source, last_position, current, with_source, Read, Looked};
-ghost use Rattle.swc_input.specs.Recording.{is_silent, is_some, error_at, no_memory, counted, error_in, error_here, error_list, error_token, unfit, refusal, Recorded, Refused, Seen};
+ghost use Rattle.swc_input.specs.Recording.{is_silent, is_some, error_at, no_memory, counted, error_in, error_here, error_list, error_token, unfit, is_fit, refusal, Recorded, Refused, Seen};
 
 use crate::buffer::Buffer;
 use crate::token::Token;
@@ -207,7 +207,7 @@ impl<I: Tokens> Buffer<I> {
     /// Asks that a token is current. The end is refused as `Eof`, and an error token as its error, which is consumed.
     pub fn require_cur(&mut self) -> PResult<()>
         ensures found { OnOk result (Looked I.state I.gives self.old self.new × IsSome (current self.new) × (error_here (current self.new) ≡ None)) }
-        ensures refused { IfErr result (λ e. Refused I.state I.gives self.old (λ here. unfit (current here) (last_position here) Eof) e self.new) }
+        ensures refused { IfErr result (λ e. (r : Refused I.state I.gives self.old (λ here. unfit (current here) (last_position here) Eof) e self.new) × (is_fit (current r.here) ≡ false)) }
     {
         let _ = self.had_line_break_before_cur();
         if self.knows_cur() && !self.is_error() {

@@ -1,8 +1,14 @@
 // Binary operators (ECMA-262, 13.6 to 13.13).
-ghost use Rattle.std.specs.Prelude.{◌≡◌, ℕ, ◌<◌, ◌≤◌, None, OnOk, IfOk, IsSome};
+ghost use Rattle.std.specs.Prelude.{◌≡◌, ℕ, ◌<◌, ◌≤◌, not, None, OnOk, IfOk, IfErr, IsSome, MatchResult};
+ghost use Rattle.swc_context.specs.Operators.{precedence_of};
 ghost use Rattle.swc_input.specs.Buffer as buffer;
 ghost use Rattle.swc_input.specs.Buffer.{current};
-ghost use Rattle.swc_ecma_parser.specs.Parsing.{Reads, Does};
+ghost use Rattle.swc_input.specs.Recording.{no_memory};
+ghost use Rattle.swc_ast.specs.Tree.{span_of};
+ghost use Rattle.swc_grammar.specs.Trees as trees;
+ghost use Rattle.swc_grammar.specs.Clean as clean;
+ghost use Rattle.swc_grammar.specs.Clean.{run, operator_at, left_ok};
+ghost use Rattle.swc_ecma_parser.specs.Parsing.{tree_by, bare_by, seen, context, Parses, Follows, Checks, Forgoes};
 
 use crate::productions::{ExprOf, Productions};
 use swc_ast::expr::Expr;
@@ -19,7 +25,7 @@ impl<I: Tokens, B: Bodies<I>> Productions<I, B> {
     /// Binary operators of any precedence (ECMA-262, 13.13).
     #[cycle(productions)]
     pub(crate) fn parse_bin_expr(&mut self) -> PResult<Box<ExprOf<B>>>
-        ensures reads { Reads I.state I.gives self.old.input result self.new.input }
+        ensures parses { Parses I.state I.gives (tree_by B.Fun.place B.Class.place B.Block.place) (clean.operand run 0) self.old.input result self.new.input }
         ensures left { OnOk result (buffer.left I.state self.new.input < buffer.left I.state self.old.input) }
     {
         let left = self.parse_unary_expr()?;
@@ -33,7 +39,7 @@ impl<I: Tokens, B: Bodies<I>> Productions<I, B> {
         mut left: Box<ExprOf<B>>,
         mut min_prec: u8,
     ) -> PResult<Box<ExprOf<B>>>
-        ensures does { Does I.state I.gives self.old.input result self.new.input }
+        ensures follows { Follows I.state I.gives (tree_by B.Fun.place B.Class.place B.Block.place) (clean.climb run (tree_by B.Fun.place B.Class.place B.Block.place left) min_prec) self.old.input result self.new.input }
         ensures left { OnOk result (buffer.left I.state self.new.input ≤ buffer.left I.state self.old.input) }
     {
         loop {
@@ -55,7 +61,7 @@ impl<I: Tokens, B: Bodies<I>> Productions<I, B> {
         left: Box<ExprOf<B>>,
         min_prec: u8,
     ) -> PResult<(Box<ExprOf<B>>, Option<u8>)>
-        ensures does { Does I.state I.gives self.old.input result self.new.input }
+        ensures follows { Follows I.state I.gives (λ r. (tree_by B.Fun.place B.Class.place B.Block.place r.0, r.1)) (clean.turn run (tree_by B.Fun.place B.Class.place B.Block.place left) min_prec) self.old.input result self.new.input }
         ensures left { OnOk result (buffer.left I.state self.new.input ≤ buffer.left I.state self.old.input) }
         ensures more { IfOk result (λ r. IsSome r.1 → buffer.left I.state self.new.input < buffer.left I.state self.old.input) }
     {
@@ -70,19 +76,33 @@ impl<I: Tokens, B: Bodies<I>> Productions<I, B> {
         self.skip();
         let right = self.parse_right_operand(op)?;
         self.check_operands(op, &left, &right)?;
-        let node = Expr::Bin {
-            span: Span::new(left.span().lo, right.span().hi),
+        let node = self.bin_node(op, left, right)?;
+        Ok((node, Some(min_prec)))
+    }
+
+    /// The node of an operator and its operands.
+    fn bin_node(
+        &self,
+        op: BinaryOp,
+        left: Box<ExprOf<B>>,
+        right: Box<ExprOf<B>>,
+    ) -> PResult<Box<ExprOf<B>>>
+        ensures node { IfOk result (λ e. tree_by B.Fun.place B.Class.place B.Block.place e ≡ trees.bin_e (trees.to (span_of (tree_by B.Fun.place B.Class.place B.Block.place left)) (span_of (tree_by B.Fun.place B.Class.place B.Block.place right))) op (tree_by B.Fun.place B.Class.place B.Block.place left) (tree_by B.Fun.place B.Class.place B.Block.place right)) }
+        ensures refused { IfErr result (λ e. e ≡ no_memory (buffer.last_position self.now.input)) }
+    {
+        let span = Span::new(left.span().lo, right.span().hi);
+        self.boxed(Expr::Bin {
+            span,
             op,
             left,
             right,
-        };
-        Ok((self.boxed(node)?, Some(min_prec)))
+        })
     }
 
     /// What stands right of an operator: an operand, and the operators that bind tighter.
     #[cycle(productions)]
     fn parse_right_operand(&mut self, op: BinaryOp) -> PResult<Box<ExprOf<B>>>
-        ensures reads { Reads I.state I.gives self.old.input result self.new.input }
+        ensures parses { Parses I.state I.gives (tree_by B.Fun.place B.Class.place B.Block.place) (clean.operand run (precedence_of op)) self.old.input result self.new.input }
         ensures left { OnOk result (buffer.left I.state self.new.input < buffer.left I.state self.old.input) }
     {
         let left_of_right = self.parse_unary_expr()?;
@@ -91,7 +111,8 @@ impl<I: Tokens, B: Bodies<I>> Productions<I, B> {
 
     /// The operator that the current token is. `in` is one only with `include_in_expr`.
     fn cur_binary_op(&self) -> Option<BinaryOp>
-        ensures { IsSome result → IsSome (current self.now.input) }
+        ensures value { result ≡ operator_at (context I.state self.now.input) (seen self.now.input) }
+        ensures some { IsSome result → IsSome (current self.now.input) }
     {
         match self.input.cur_debug()? {
             Token::Word(Word::Keyword(Keyword::In)) if self.input.get_ctx().include_in_expr => {
@@ -106,29 +127,21 @@ impl<I: Tokens, B: Bodies<I>> Productions<I, B> {
 
     /// Records a node of `||` or `&&` whose left operand is one of `??`.
     fn check_nullish_left(&mut self, expr: &ExprOf<B>) -> PResult<()>
-        ensures does { Does I.state I.gives self.old.input result self.new.input }
+        ensures checks { MatchResult result (λ r. Checks I.state I.gives (left_ok (bare_by B.Fun.place B.Class.place B.Block.place expr.now)) self.old.input self.new.input) (λ e. Forgoes I.state I.gives self.old.input e self.new.input) }
         ensures left { OnOk result (buffer.left I.state self.new.input ≤ buffer.left I.state self.old.input) }
     {
-        match expr {
-            Expr::Bin {
-                span,
-                op: BinaryOp::LogicalAnd | BinaryOp::LogicalOr,
-                left,
-                ..
-            } if is_nullish(left) => self.emit_err(
-                *span,
-                SyntaxError::NullishCoalescingWithLogicalOp,
-            ),
-            _ => Ok(()),
+        if self.has_nullish_left(expr) {
+            return self.emit_err(expr.span(), SyntaxError::NullishCoalescingWithLogicalOp);
         }
+        Ok(())
     }
 
     /// Records the operands of `??` that are nodes of `||` or `&&`.
     fn check_operands(&mut self, op: BinaryOp, left: &ExprOf<B>, right: &ExprOf<B>) -> PResult<()>
-        ensures does { Does I.state I.gives self.old.input result self.new.input }
+        ensures checks { MatchResult result (λ r. Checks I.state I.gives (trees.nullish_ok op (bare_by B.Fun.place B.Class.place B.Block.place left.now) (bare_by B.Fun.place B.Class.place B.Block.place right.now)) self.old.input self.new.input) (λ e. Forgoes I.state I.gives self.old.input e self.new.input) }
         ensures left { OnOk result (buffer.left I.state self.new.input ≤ buffer.left I.state self.old.input) }
     {
-        if op != BinaryOp::NullishCoalescing {
+        if !is_nullish_op(op) {
             return Ok(());
         }
         self.check_logical_operand(left)?;
@@ -137,35 +150,61 @@ impl<I: Tokens, B: Bodies<I>> Productions<I, B> {
 
     /// Records an operand of `??` that is a node of `||` or `&&`.
     fn check_logical_operand(&mut self, operand: &ExprOf<B>) -> PResult<()>
-        ensures does { Does I.state I.gives self.old.input result self.new.input }
+        ensures checks { MatchResult result (λ r. Checks I.state I.gives (not (trees.is_logical (bare_by B.Fun.place B.Class.place B.Block.place operand.now))) self.old.input self.new.input) (λ e. Forgoes I.state I.gives self.old.input e self.new.input) }
         ensures left { OnOk result (buffer.left I.state self.new.input ≤ buffer.left I.state self.old.input) }
     {
-        match operand {
-            Expr::Bin {
-                span,
-                op: BinaryOp::LogicalAnd | BinaryOp::LogicalOr,
-                ..
-            } => self.emit_err(*span, SyntaxError::NullishCoalescingWithLogicalOp),
-            _ => Ok(()),
+        if self.is_logical(operand) {
+            return self.emit_err(operand.span(), SyntaxError::NullishCoalescingWithLogicalOp);
         }
+        Ok(())
     }
 
     /// A unary expression (ECMA-262, 13.5): so far, a primary expression.
     #[cycle(productions)]
     pub(crate) fn parse_unary_expr(&mut self) -> PResult<Box<ExprOf<B>>>
-        ensures reads { Reads I.state I.gives self.old.input result self.new.input }
+        ensures parses { Parses I.state I.gives (tree_by B.Fun.place B.Class.place B.Block.place) (clean.unary run) self.old.input result self.new.input }
         ensures left { OnOk result (buffer.left I.state self.new.input < buffer.left I.state self.old.input) }
     {
         self.parse_primary_expr()
     }
+
+    /// Whether the node is one of `||` or `&&` with one of `??` on its left.
+    fn has_nullish_left(&self, expr: &ExprOf<B>) -> bool
+        ensures { result ≡ not (left_ok (bare_by B.Fun.place B.Class.place B.Block.place expr.now)) }
+    {
+        match expr {
+            Expr::Bin { op, left, .. } => is_logical_op(*op) && self.is_nullish(left),
+            _ => false,
+        }
+    }
+
+    fn is_logical(&self, expr: &ExprOf<B>) -> bool
+        ensures { result ≡ trees.is_logical (bare_by B.Fun.place B.Class.place B.Block.place expr.now) }
+    {
+        match expr {
+            Expr::Bin { op, .. } => is_logical_op(*op),
+            _ => false,
+        }
+    }
+
+    fn is_nullish(&self, expr: &ExprOf<B>) -> bool
+        ensures { result ≡ trees.is_nullish (bare_by B.Fun.place B.Class.place B.Block.place expr.now) }
+    {
+        match expr {
+            Expr::Bin { op, .. } => is_nullish_op(*op),
+            _ => false,
+        }
+    }
 }
 
-fn is_nullish<F, C, K>(expr: &Expr<F, C, K>) -> bool {
-    matches!(
-        expr,
-        Expr::Bin {
-            op: BinaryOp::NullishCoalescing,
-            ..
-        }
-    )
+fn is_logical_op(op: BinaryOp) -> bool
+    ensures { result ≡ trees.is_logical_op op }
+{
+    matches!(op, BinaryOp::LogicalAnd | BinaryOp::LogicalOr)
+}
+
+fn is_nullish_op(op: BinaryOp) -> bool
+    ensures { result ≡ trees.is_nullish_op op }
+{
+    matches!(op, BinaryOp::NullishCoalescing)
 }

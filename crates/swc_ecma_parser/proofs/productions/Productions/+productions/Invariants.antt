@@ -1,7 +1,8 @@
 -- Each call is made with fewer tokens to come, or on the way down to a primary expression.
 use Rattle.std.proofs.Common.{◌+◌, ◌*◌, ◌≤◌}
 use Rattle.swc_input.specs.Buffer.{left}
-use Rattle.swc_ecma_parser.specs.Parsing.{Leads}
+use Rattle.swc_grammar.specs.Clean.{climb, run}
+use Rattle.swc_ecma_parser.specs.Parsing.{tree_by, On}
 use Rattle.swc_ecma_parser.proofs.productions.Productions.+productions.Given as goal
 
 abbrev pub decreases-parse_paren_expr : goal.decreases-parse_paren_expr
@@ -24,7 +25,10 @@ decreases-parse_bin_op_recursively g l = left g.I.Tokens.state l.self.now.input 
 
 abbrev pub invariant-parse_bin_op_recursively-loop-next_left : goal.invariant-parse_bin_op_recursively-loop-next_left
 invariant-parse_bin_op_recursively-loop-next_left g l =
-    Leads g.I.Tokens.state g.I.Tokens.gives l.fn.self.input l.self.input
+    On g.I.Tokens.state g.I.Tokens.gives
+    (climb run (tree_by g.B.Fun.Spanned.place g.B.Class.Spanned.place g.B.Block.Spanned.place l.fn.left) l.fn.min_prec)
+    (climb run (tree_by g.B.Fun.Spanned.place g.B.Class.Spanned.place g.B.Block.Spanned.place l.left) l.min_prec)
+    l.fn.self.input l.self.input
     × (left g.I.Tokens.state l.self.input ≤ left g.I.Tokens.state l.fn.self.input)
 
 abbrev pub decreases-parse_bin_op_recursively-loop-next_left : goal.decreases-parse_bin_op_recursively-loop-next_left

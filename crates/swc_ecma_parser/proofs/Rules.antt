@@ -1,0 +1,171 @@
+-- The clean parser's functions, a step at a time, as the code goes them.
+use Rattle.std.proofs.Common.{◌≡◌, ℕ, ◌≤◌, ◌<◌, true, false, not, ◌||◌, List, [], ◌∷◌, Option, Some, None, refl, sym, ap, ◌∙◌}
+use Rattle.std.proofs.lemmas.Bool.{le-leb, lt-leb}
+use Rattle.swc_context.specs.Operators.{precedence_of}
+use Rattle.swc_context.specs.declared.context.Context.{Context}
+use Rattle.swc_context.specs.declared.operator.BinaryOp.{BinaryOp}
+use Rattle.swc_context.specs.declared.span.Span.{Span}
+use Rattle.swc_context.specs.Words.{word_text}
+use Rattle.swc_context.specs.declared.word.Word.TheVariants as word
+use Rattle.swc_input.specs.declared.token.Token.{Token}
+use Rattle.swc_input.specs.declared.token.Token.TheVariants as token
+use Rattle.swc_input.specs.declared.token.TokenAndSpan.{TokenAndSpan}
+use Rattle.swc_input.specs.Plain.{plain, plain_token}
+use Rattle.swc_ast.specs.Tree.{Tree, span_of}
+use Rattle.swc_bodies.specs.Readings.{at_token}
+use Rattle.swc_grammar.specs.Tokens.{with_in}
+use Rattle.swc_grammar.specs.Trees.{to, ident_e, paren_e, bin_e, is_logical, is_nullish_op, nullish_ok}
+use Rattle.swc_grammar.specs.Clean.{Out, ◌>>=◌, first, rest, is_lit, is_lparen, is_rparen, is_identifier, no_error, operator_at, left_ok, lit_of, name_of, Call, to_assign, to_operand, to_climb, lit, name, inside, close, opened, parens, primary, unary, node_by, operation, turn, go_on, turned, climb, operand, assign, run}
+use Rattle.swc_grammar.proofs.Knot.{knot}
+use Rattle.swc_ecma_parser.specs.Parsing.{text_of, seen_of}
+
+error_no : (t : Token) → no_error t ≡ false → is_lit t ≡ false
+error_no (token.Error e) h = refl
+error_no t h = cc
+
+error_not : (o : Option TokenAndSpan) → at_token no_error o ≡ false → at_token is_lit o ≡ false
+error_not None h = refl
+error_not (Some t) h = error_no t.token h
+
+pub rparen_plain : (o : Option TokenAndSpan) (t : TokenAndSpan) → o ≡ Some t → at_token is_rparen (seen_of o) ≡ true → is_rparen (plain t).token ≡ true
+rparen_plain o t e h = ap (λ v. at_token is_rparen (seen_of v)) (sym e) ∙ h
+
+pub nullish_other : {F C K : Type 0} (op : BinaryOp) (l r : Tree F C K) → is_nullish_op op ≡ false → nullish_ok op l r ≡ true
+nullish_other op l r h = rw h refl
+
+pub nullish_both : {F C K : Type 0} (op : BinaryOp) (l r : Tree F C K) → is_nullish_op op ≡ true → nullish_ok op l r ≡ not (is_logical l || is_logical r)
+nullish_both op l r h = rw h refl
+
+-- the operator at the first token is that of the current token
+pub same_op : {x y : Context} {s r : Option TokenAndSpan} (o q : Option BinaryOp) → x ≡ y → r ≡ s → o ≡ operator_at y s → o ≡ q → operator_at x r ≡ q
+same_op o q h i j k = rw (h, i) (sym j ∙ k)
+
+abbrev pub runs : (F C K : Type 0) → Call F C K → Context → List TokenAndSpan → Out (Tree F C K)
+runs F C K = run
+
+module _ {F C K : Type 0} where
+  pub assign_good : (x : Context) (ts : List TokenAndSpan) → at_token no_error (first ts) ≡ true → assign (runs F C K) x ts ≡ operand (runs F C K) 0 x ts
+  unfolding assign
+  assign_good x ts h = rw h refl
+
+  pub assign_bad : (x : Context) (ts : List TokenAndSpan) → at_token no_error (first ts) ≡ false → assign (runs F C K) x ts ≡ None
+  unfolding assign
+  assign_bad x ts h = rw h refl
+
+  pub inside_assign : (x : Context) (ts : List TokenAndSpan) → inside (runs F C K) x ts ≡ assign (runs F C K) (with_in x) ts
+  unfolding inside
+  inside_assign x ts = knot to_assign (with_in x) ts
+
+  pub operand_splits : (m : ℕ) (x : Context) (ts : List TokenAndSpan) → operand (runs F C K) m x ts ≡ (unary (runs F C K) x ts >>= (λ p. climb (runs F C K) p.0 m x p.1))
+  unfolding operand
+  operand_splits m x ts = refl
+
+  pub unary_is : (x : Context) (ts : List TokenAndSpan) → unary (runs F C K) x ts ≡ primary (runs F C K) x ts
+  unfolding unary
+  unary_is x ts = refl
+
+  pub climb_splits : (l : Tree F C K) (m : ℕ) (x : Context) (ts : List TokenAndSpan) → climb (runs F C K) l m x ts ≡ (turn (runs F C K) l m x ts >>= (λ p. turned (runs F C K) p.0.0 p.0.1 x p.1))
+  unfolding climb
+  climb_splits l m x ts = refl
+
+  pub turned_well : (t : Tree F C K) (o : Option ℕ) (x : Context) (ts : List TokenAndSpan) → left_ok t ≡ true → turned (runs F C K) t o x ts ≡ go_on (runs F C K) t o x ts
+  unfolding turned
+  turned_well t o x ts h = rw h refl
+
+  pub turned_ill : (t : Tree F C K) (o : Option ℕ) (x : Context) (ts : List TokenAndSpan) → left_ok t ≡ false → turned (runs F C K) t o x ts ≡ None
+  unfolding turned
+  turned_ill t o x ts h = rw h refl
+
+  pub goes_on : (t : Tree F C K) (m : ℕ) (x : Context) (ts : List TokenAndSpan) → go_on (runs F C K) t (Some m) x ts ≡ climb (runs F C K) t m x ts
+  goes_on t m x ts = knot (to_climb t m) x ts
+
+  pub turn_ends : (l : Tree F C K) (m : ℕ) (x : Context) (ts : List TokenAndSpan) → operator_at x (first ts) ≡ None → turn (runs F C K) l m x ts ≡ Some ((l, None), ts)
+  unfolding turn
+  turn_ends l m x ts h = rw h refl
+
+  pub turn_low : (l : Tree F C K) (m : ℕ) (op : BinaryOp) (x : Context) (ts : List TokenAndSpan) → operator_at x (first ts) ≡ Some op → precedence_of op ≤ m → turn (runs F C K) l m x ts ≡ Some ((l, None), ts)
+  unfolding turn
+  turn_low l m op x ts h le = rw (h, le-leb (precedence_of op) m le) refl
+
+  pub turn_takes : (l : Tree F C K) (m : ℕ) (op : BinaryOp) (x : Context) (ts : List TokenAndSpan) → operator_at x (first ts) ≡ Some op → m < precedence_of op → turn (runs F C K) l m x ts ≡ operation (runs F C K) op l m x (rest ts)
+  unfolding turn
+  turn_takes l m op x ts h lt = rw (h, lt-leb (precedence_of op) m lt) refl
+
+  pub operation_splits : (op : BinaryOp) (l : Tree F C K) (m : ℕ) (x : Context) (ts : List TokenAndSpan) → operation (runs F C K) op l m x ts ≡ (operand (runs F C K) (precedence_of op) x ts >>= (λ p. node_by (runs F C K) op l m p.0 p.1))
+  unfolding operation
+  operation_splits op l m x ts = rw (knot (to_operand (precedence_of op)) x ts) refl
+
+  pub node_well : (op : BinaryOp) (l t : Tree F C K) (m : ℕ) (ts : List TokenAndSpan) → nullish_ok op l t ≡ true → node_by (runs F C K) op l m t ts ≡ Some ((bin_e (to (span_of l) (span_of t)) op l t, Some m), ts)
+  node_well op l t m ts h = rw h refl
+
+  pub node_ill : (op : BinaryOp) (l t : Tree F C K) (m : ℕ) (ts : List TokenAndSpan) → nullish_ok op l t ≡ false → node_by (runs F C K) op l m t ts ≡ None
+  node_ill op l t m ts h = rw h refl
+
+  pub primary_lit : (x : Context) (ts : List TokenAndSpan) → at_token is_lit (first ts) ≡ true → primary (runs F C K) x ts ≡ lit (runs F C K) x ts
+  unfolding primary
+  primary_lit x ts h = rw h refl
+
+  pub primary_parens : (x : Context) (ts : List TokenAndSpan) → at_token is_lit (first ts) ≡ false → at_token is_lparen (first ts) ≡ true → primary (runs F C K) x ts ≡ parens (runs F C K) x ts
+  unfolding primary
+  primary_parens x ts h i = rw (h, i) refl
+
+  pub primary_name : (x : Context) (ts : List TokenAndSpan) → at_token is_lit (first ts) ≡ false → at_token is_lparen (first ts) ≡ false → at_token (is_identifier x) (first ts) ≡ true → primary (runs F C K) x ts ≡ name (runs F C K) x ts
+  unfolding primary
+  primary_name x ts h i j = rw (h, i, j) refl
+
+  pub primary_ends : (x : Context) (ts : List TokenAndSpan) → at_token is_lit (first ts) ≡ false → at_token is_lparen (first ts) ≡ false → at_token (is_identifier x) (first ts) ≡ false → primary (runs F C K) x ts ≡ None
+  unfolding primary
+  primary_ends x ts h i j = rw (h, i, j) refl
+
+  pub opened_empty : (s : Span) (x : Context) (ts : List TokenAndSpan) → at_token is_rparen (first ts) ≡ true → opened (runs F C K) s x ts ≡ None
+  unfolding opened
+  opened_empty s x ts h = rw h refl
+
+  pub opened_splits : (s : Span) (x : Context) (ts : List TokenAndSpan) → at_token is_rparen (first ts) ≡ false → opened (runs F C K) s x ts ≡ (inside (runs F C K) x ts >>= (λ p. close (runs F C K) s p.0 p.1))
+  unfolding opened
+  opened_splits s x ts h = rw h refl
+
+  pub parens_opens : (t : TokenAndSpan) (x : Context) (ts : List TokenAndSpan) → parens (runs F C K) x (t ∷ ts) ≡ opened (runs F C K) t.span x ts
+  unfolding parens
+  parens_opens t x ts = refl
+
+  pub close_takes : (s : Span) (e : Tree F C K) (t : TokenAndSpan) (ts : List TokenAndSpan) → is_rparen t.token ≡ true → close (runs F C K) s e (t ∷ ts) ≡ Some (paren_e (to s t.span) e, ts)
+  unfolding close
+  close_takes s e t ts h = rw h refl
+
+  close_not : (s : Span) (e : Tree F C K) (ts : List TokenAndSpan) → at_token is_rparen (first ts) ≡ false → close (runs F C K) s e ts ≡ None
+  unfolding close
+  close_not s e [] h = refl
+  close_not s e (t ∷ ts) h = rw h refl
+
+  pub close_ends : (s : Span) (e : Tree F C K) (ts : List TokenAndSpan) → at_token is_rparen (first ts) ≡ false → close (runs F C K) s e ts ≡ None
+  close_ends s e ts h = close_not s e ts h
+
+  pub lit_takes : (e : Tree F C K) (x : Context) (t : TokenAndSpan) (ts : List TokenAndSpan) → lit_of t.token t.span ≡ Some e → lit (runs F C K) x (t ∷ ts) ≡ Some (e, ts)
+  unfolding lit
+  lit_takes e x t ts h = rw h refl
+
+  pub name_takes : (e : Tree F C K) (x : Context) (t : TokenAndSpan) (ts : List TokenAndSpan) → name_of t.token t.span ≡ Some e → name (runs F C K) x (t ∷ ts) ≡ Some (e, ts)
+  unfolding name
+  name_takes e x t ts h = rw h refl
+
+  lit_no : (t : Token) (s : Span) → is_lit t ≡ false → lit_of {F = F} {C = C} {K = K} t s ≡ None
+  lit_no (token.Word word.Null) s h = cc
+  lit_no (token.Word word.True) s h = cc
+  lit_no (token.Word word.False) s h = cc
+  lit_no (token.Num raw) s h = cc
+  lit_no (token.BigInt raw) s h = cc
+  lit_no (token.Str value raw) s h = cc
+  lit_no t s h = refl
+
+  pub lit_not : (x : Context) (ts : List TokenAndSpan) → at_token is_lit (first ts) ≡ false → lit (runs F C K) x ts ≡ None
+  unfolding lit
+  lit_not x [] h = refl
+  lit_not x (t ∷ ts) h = rw (lit_no t.token t.span h) refl
+
+  pub lit_unfit : (x : Context) (ts : List TokenAndSpan) → at_token no_error (first ts) ≡ false → lit (runs F C K) x ts ≡ None
+  lit_unfit x ts h = lit_not x ts (error_not (first ts) h)
+
+  pub name_text : (t : Token) (s : Span) (name : List ℕ) → text_of t ≡ Some name → name_of {F = F} {C = C} {K = K} (plain_token t) s ≡ Some (ident_e s name)
+  name_text (token.Word w) s name h = let e : word_text w ≡ name = cc in rw e refl
+  name_text t s name h = cc

@@ -1,0 +1,48 @@
+-- Levels of binary operators, and the operators that are read at a place.
+use Rattle.std.specs.Prelude.{◌≡◌, ℕ, zero, suc, ◌+◌, ◌-◌, ◌≤◌, List, [], ◌∷◌, Option, Some, None}
+use Rattle.std.proofs.Common.{refl, subst, arith}
+use Rattle.std.proofs.lemmas.Bool.{lt-ltb}
+use Rattle.swc_context.specs.Operators.{precedence_of}
+use Rattle.swc_context.specs.declared.context.Context.{Context}
+use Rattle.swc_context.specs.declared.operator.BinaryOp.{BinaryOp}
+use Rattle.swc_context.specs.declared.operator.BinaryOp.TheVariants as binary
+use Rattle.swc_input.specs.declared.token.TokenAndSpan.{TokenAndSpan}
+use Rattle.swc_ast.specs.Tree.{Tree}
+use Rattle.swc_grammar.specs.Tokens.{binary_of}
+use Rattle.swc_grammar.specs.Grammar.{Hook, Reads, Level, level-up}
+use Rattle.swc_grammar.specs.Clean.{first, rest, but_exp, operator_at, Bound}
+
+-- a level is any lower one
+lift_by : {F C K : Type 0} {hook : Hook F C K} {c : Context} {xs ys : List TokenAndSpan} {t : Tree F C K} (n i j : ℕ)
+    → n + i ≡ j → j ≤ 11 → Reads hook (Level j) c xs ys t → Reads hook (Level i) c xs ys t
+lift_by zero i j e h d = let same : i ≡ j = omega arith in rw same d
+lift_by (suc n) i j e h d = level-up (lt-ltb i 11 (omega arith)) (lift_by n (suc i) j (omega arith) h d)
+
+pub lift : {F C K : Type 0} {hook : Hook F C K} {c : Context} {xs ys : List TokenAndSpan} {t : Tree F C K} (i j : ℕ)
+    → i ≤ j → j ≤ 11 → Reads hook (Level j) c xs ys t → Reads hook (Level i) c xs ys t
+lift i j e h d = lift_by (j - i) i j (omega arith) h d
+
+-- an operator that is read is no `**`, and so of a precedence up to 10
+of_same : (o op : BinaryOp) → Some o ≡ Some op → precedence_of o ≤ 10 → precedence_of op ≤ 10
+of_same o op h k = let same : o ≡ op = cc in subst (λ v. precedence_of v ≤ 10) same k
+
+but_exp-some : (o : Option BinaryOp) (op : BinaryOp) → but_exp o ≡ Some op → (o ≡ Some op) × (precedence_of op ≤ 10)
+but_exp-some None op h = cc
+but_exp-some (Some binary.Exp) op h = cc
+but_exp-some (Some o) op h = (h, of_same o op h (omega arith))
+
+-- where an operator is read, its token stands first
+pub operator-token : (c : Context) (ts : List TokenAndSpan) (op : BinaryOp) → operator_at c (first ts) ≡ Some op
+    → (t : TokenAndSpan) × (ts ≡ t ∷ rest ts) × (binary_of c t.token ≡ Some op) × (precedence_of op ≤ 10)
+operator-token c [] op h = cc
+operator-token c (t ∷ ts) op h = let k = but_exp-some (binary_of c t.token) op h in (t, refl, k.0, k.1)
+
+-- what bounds the operator at a place: there is none, or it binds no tighter, or any operator is below
+pub bound-none : (c : Context) (m : ℕ) (ts : List TokenAndSpan) → operator_at c (first ts) ≡ None → Bound c m ts
+bound-none c m ts h op k = cc
+
+pub bound-some : (c : Context) (m : ℕ) (ts : List TokenAndSpan) (op : BinaryOp) → operator_at c (first ts) ≡ Some op → precedence_of op ≤ m → Bound c m ts
+bound-some c m ts op h le op' k = let same : op ≡ op' = cc in subst (λ v. precedence_of v ≤ m) same le
+
+pub bound-any : (c : Context) (m : ℕ) (ts : List TokenAndSpan) → 10 ≤ m → Bound c m ts
+bound-any c m ts h op k = let (t, e, o, le) = operator-token c ts op k in omega arith

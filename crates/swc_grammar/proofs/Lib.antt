@@ -1,0 +1,13 @@
+pub mod Complete
+pub mod Computed
+pub mod Cut
+pub mod Firsts
+pub mod Grouped
+pub mod Knot
+pub mod Levels
+pub mod One
+mod Refused
+mod Rows
+pub mod Sound
+pub mod Taking
+pub mod Texts

@@ -1,0 +1,301 @@
+-- Worked texts: their tokens, and the trees that they are read as.
+use Rattle.std.specs.Prelude.{ℕ, true, false, List, [], ◌∷◌, codes}
+use Rattle.swc_context.specs.declared.context.Context.{Context}
+use Rattle.swc_context.specs.declared.operator.BinOpToken.{BinOpToken}
+use Rattle.swc_context.specs.declared.operator.BinOpToken.TheVariants as sign
+use Rattle.swc_context.specs.declared.operator.BinaryOp.{BinaryOp}
+use Rattle.swc_context.specs.declared.operator.BinaryOp.TheVariants as binary
+use Rattle.swc_context.specs.declared.span.Span.{Span}
+use Rattle.swc_context.specs.declared.word.Keyword.TheVariants as keyword
+use Rattle.swc_context.specs.declared.word.Word.{Word}
+use Rattle.swc_context.specs.declared.word.Word.TheVariants as word
+use Rattle.swc_input.specs.declared.token.Token.{Token}
+use Rattle.swc_input.specs.declared.token.Token.TheVariants as token
+use Rattle.swc_input.specs.declared.token.TokenAndSpan.{TokenAndSpan}
+use Rattle.swc_ast.specs.Tree.{Tree}
+use Rattle.swc_grammar.specs.Tokens.{tk}
+use Rattle.swc_grammar.specs.Trees.{null_e, boolean_e, num_e, big_e, str_e, ident_e, paren_e, bin_e}
+
+-- a script, where `in` isn't an operator, and where it is
+abbrev pub no_in : Context
+no_in = record {
+  «module» = false;
+  can_be_module = false;
+  strict = false;
+  include_in_expr = false;
+  in_async = false;
+  in_generator = false;
+  in_function = false;
+  in_parameters = false;
+  in_class = false;
+  in_class_field = false;
+  in_static_block = false;
+  inside_non_arrow_function_scope = false;
+  allow_direct_super = false;
+  ignore_error = false;
+  expr_ctx = record { for_loop_init = false; for_await_loop_init = false };
+  will_expect_colon_for_cond = false;
+  in_cond_expr = false;
+  should_not_lex_lt_or_gt_as_type = false;
+  in_property_name = false;
+}
+
+abbrev pub script : Context
+script = record no_in { include_in_expr = true }
+
+-- a module, and a class field of a script
+abbrev pub module_code : Context
+module_code = record script { «module» = true; strict = true }
+
+abbrev pub class_field : Context
+class_field = record script { in_class = true; in_class_field = true }
+
+abbrev pub place : ℕ → ℕ → Span
+place lo hi = record { lo = record { 0 = lo }; hi = record { 0 = hi } }
+
+-- tokens from lo to before hi, each on the line of the one before it
+abbrev pub tok : Token → ℕ → ℕ → TokenAndSpan
+tok t lo hi = tk t false (place lo hi)
+
+abbrev pub word_at : Word → ℕ → ℕ → TokenAndSpan
+word_at w lo hi = tok (token.Word w) lo hi
+
+abbrev pub name_at : List ℕ → ℕ → ℕ → TokenAndSpan
+name_at w lo hi = word_at (word.Ident w) lo hi
+
+abbrev pub num_at : List ℕ → ℕ → ℕ → TokenAndSpan
+num_at raw lo hi = tok (token.Num raw) lo hi
+
+abbrev pub sign_at : BinOpToken → ℕ → ℕ → TokenAndSpan
+sign_at o lo hi = tok (token.BinOp o) lo hi
+
+abbrev pub open_at : ℕ → ℕ → TokenAndSpan
+open_at lo hi = tok token.LParen lo hi
+
+abbrev pub close_at : ℕ → ℕ → TokenAndSpan
+close_at lo hi = tok token.RParen lo hi
+
+-- trees from lo to before hi
+abbrev pub ident : {F C K : Type 0} → List ℕ → ℕ → ℕ → Tree F C K
+ident w lo hi = ident_e (place lo hi) w
+
+abbrev pub num : {F C K : Type 0} → List ℕ → ℕ → ℕ → Tree F C K
+num raw lo hi = num_e (place lo hi) raw
+
+abbrev pub bin : {F C K : Type 0} → ℕ → ℕ → BinaryOp → Tree F C K → Tree F C K → Tree F C K
+bin lo hi op l r = bin_e (place lo hi) op l r
+
+abbrev pub paren : {F C K : Type 0} → ℕ → ℕ → Tree F C K → Tree F C K
+paren lo hi e = paren_e (place lo hi) e
+
+-- 5 + 4 * 7
+abbrev pub product_in_sum : List TokenAndSpan
+product_in_sum = num_at (codes "5") 0 1 ∷ sign_at sign.Add 2 3 ∷ num_at (codes "4") 4 5 ∷ sign_at sign.Mul 6 7 ∷ num_at (codes "7") 8 9 ∷ []
+
+abbrev pub product_in_sum_tree : {F C K : Type 0} → Tree F C K
+product_in_sum_tree = bin 0 9 binary.Add (num (codes "5") 0 1) (bin 4 9 binary.Mul (num (codes "4") 4 5) (num (codes "7") 8 9))
+
+-- a + b + c
+abbrev pub two_sums : List TokenAndSpan
+two_sums = name_at (codes "a") 0 1 ∷ sign_at sign.Add 2 3 ∷ name_at (codes "b") 4 5 ∷ sign_at sign.Add 6 7 ∷ name_at (codes "c") 8 9 ∷ []
+
+abbrev pub two_sums_tree : {F C K : Type 0} → Tree F C K
+two_sums_tree = bin 0 9 binary.Add (bin 0 5 binary.Add (ident (codes "a") 0 1) (ident (codes "b") 4 5)) (ident (codes "c") 8 9)
+
+-- (a)
+abbrev pub grouped_name : List TokenAndSpan
+grouped_name = open_at 0 1 ∷ name_at (codes "a") 1 2 ∷ close_at 2 3 ∷ []
+
+abbrev pub grouped_name_tree : {F C K : Type 0} → Tree F C K
+grouped_name_tree = paren 0 3 (ident (codes "a") 1 2)
+
+-- (5 + 4) * 7
+abbrev pub sum_in_product : List TokenAndSpan
+sum_in_product =
+    open_at 0 1 ∷ num_at (codes "5") 1 2 ∷ sign_at sign.Add 3 4 ∷ num_at (codes "4") 5 6 ∷ close_at 6 7 ∷ sign_at sign.Mul 8 9
+    ∷ num_at (codes "7") 10 11 ∷ []
+
+abbrev pub sum_in_product_tree : {F C K : Type 0} → Tree F C K
+sum_in_product_tree = bin 0 11 binary.Mul (paren 0 7 (bin 1 6 binary.Add (num (codes "5") 1 2) (num (codes "4") 5 6))) (num (codes "7") 10 11)
+
+-- a in b
+abbrev pub in_test : List TokenAndSpan
+in_test = name_at (codes "a") 0 1 ∷ word_at (word.Keyword keyword.In) 2 4 ∷ name_at (codes "b") 5 6 ∷ []
+
+abbrev pub in_test_tree : {F C K : Type 0} → Tree F C K
+in_test_tree = bin 0 6 binary.In (ident (codes "a") 0 1) (ident (codes "b") 5 6)
+
+-- (a in b)
+abbrev pub grouped_in_test : List TokenAndSpan
+grouped_in_test = open_at 0 1 ∷ name_at (codes "a") 1 2 ∷ word_at (word.Keyword keyword.In) 3 5 ∷ name_at (codes "b") 6 7 ∷ close_at 7 8 ∷ []
+
+abbrev pub grouped_in_test_tree : {F C K : Type 0} → Tree F C K
+grouped_in_test_tree = paren 0 8 (bin 1 7 binary.In (ident (codes "a") 1 2) (ident (codes "b") 6 7))
+
+-- a instanceof b
+abbrev pub instance_test : List TokenAndSpan
+instance_test = name_at (codes "a") 0 1 ∷ word_at (word.Keyword keyword.InstanceOf) 2 12 ∷ name_at (codes "b") 13 14 ∷ []
+
+abbrev pub instance_test_tree : {F C K : Type 0} → Tree F C K
+instance_test_tree = bin 0 14 binary.InstanceOf (ident (codes "a") 0 1) (ident (codes "b") 13 14)
+
+-- a ?? b
+abbrev pub default_value : List TokenAndSpan
+default_value = name_at (codes "a") 0 1 ∷ sign_at sign.NullishCoalescing 2 4 ∷ name_at (codes "b") 5 6 ∷ []
+
+abbrev pub default_value_tree : {F C K : Type 0} → Tree F C K
+default_value_tree = bin 0 6 binary.NullishCoalescing (ident (codes "a") 0 1) (ident (codes "b") 5 6)
+
+-- a || b && c
+abbrev pub and_in_or : List TokenAndSpan
+and_in_or =
+    name_at (codes "a") 0 1 ∷ sign_at sign.LogicalOr 2 4 ∷ name_at (codes "b") 5 6 ∷ sign_at sign.LogicalAnd 7 9 ∷ name_at (codes "c") 10 11 ∷ []
+
+abbrev pub and_in_or_tree : {F C K : Type 0} → Tree F C K
+and_in_or_tree = bin 0 11 binary.LogicalOr (ident (codes "a") 0 1) (bin 5 11 binary.LogicalAnd (ident (codes "b") 5 6) (ident (codes "c") 10 11))
+
+-- a ?? (b || c)
+abbrev pub or_in_default : List TokenAndSpan
+or_in_default =
+    name_at (codes "a") 0 1 ∷ sign_at sign.NullishCoalescing 2 4 ∷ open_at 5 6 ∷ name_at (codes "b") 6 7 ∷ sign_at sign.LogicalOr 8 10
+    ∷ name_at (codes "c") 11 12 ∷ close_at 12 13 ∷ []
+
+abbrev pub or_in_default_tree : {F C K : Type 0} → Tree F C K
+or_in_default_tree = bin 0 13 binary.NullishCoalescing
+    (ident (codes "a") 0 1)
+    (paren 5 13 (bin 6 12 binary.LogicalOr (ident (codes "b") 6 7) (ident (codes "c") 11 12)))
+
+-- null
+abbrev pub null_word : List TokenAndSpan
+null_word = word_at word.Null 0 4 ∷ []
+
+abbrev pub null_word_tree : {F C K : Type 0} → Tree F C K
+null_word_tree = null_e (place 0 4)
+
+-- true
+abbrev pub true_word : List TokenAndSpan
+true_word = word_at word.True 0 4 ∷ []
+
+abbrev pub true_word_tree : {F C K : Type 0} → Tree F C K
+true_word_tree = boolean_e (place 0 4) true
+
+-- false
+abbrev pub false_word : List TokenAndSpan
+false_word = word_at word.False 0 5 ∷ []
+
+abbrev pub false_word_tree : {F C K : Type 0} → Tree F C K
+false_word_tree = boolean_e (place 0 5) false
+
+-- 7
+abbrev pub number : List TokenAndSpan
+number = num_at (codes "7") 0 1 ∷ []
+
+abbrev pub number_tree : {F C K : Type 0} → Tree F C K
+number_tree = num (codes "7") 0 1
+
+-- 10n
+abbrev pub big_integer : List TokenAndSpan
+big_integer = tok (token.BigInt (codes "10n")) 0 3 ∷ []
+
+abbrev pub big_integer_tree : {F C K : Type 0} → Tree F C K
+big_integer_tree = big_e (place 0 3) (codes "10n")
+
+-- 'a'
+abbrev pub string : List TokenAndSpan
+string = tok (token.Str (codes "a") (codes "'a'")) 0 3 ∷ []
+
+abbrev pub string_tree : {F C K : Type 0} → Tree F C K
+string_tree = str_e (place 0 3) (codes "a") (codes "'a'")
+
+-- let
+abbrev pub let_word : List TokenAndSpan
+let_word = word_at (word.Keyword keyword.Let) 0 3 ∷ []
+
+abbrev pub let_word_tree : {F C K : Type 0} → Tree F C K
+let_word_tree = ident (codes "let") 0 3
+
+-- arguments
+abbrev pub arguments_word : List TokenAndSpan
+arguments_word = name_at (codes "arguments") 0 9 ∷ []
+
+abbrev pub arguments_word_tree : {F C K : Type 0} → Tree F C K
+arguments_word_tree = ident (codes "arguments") 0 9
+
+-- a + b * c - d
+abbrev pub product_in_sums : List TokenAndSpan
+product_in_sums =
+    name_at (codes "a") 0 1 ∷ sign_at sign.Add 2 3 ∷ name_at (codes "b") 4 5 ∷ sign_at sign.Mul 6 7 ∷ name_at (codes "c") 8 9 ∷ sign_at sign.Sub 10 11
+    ∷ name_at (codes "d") 12 13 ∷ []
+
+abbrev pub product_in_sums_tree : {F C K : Type 0} → Tree F C K
+product_in_sums_tree = bin 0 13 binary.Sub
+    (bin 0 9 binary.Add (ident (codes "a") 0 1) (bin 4 9 binary.Mul (ident (codes "b") 4 5) (ident (codes "c") 8 9)))
+    (ident (codes "d") 12 13)
+
+-- ((a))
+abbrev pub twice_grouped : List TokenAndSpan
+twice_grouped = open_at 0 1 ∷ open_at 1 2 ∷ name_at (codes "a") 2 3 ∷ close_at 3 4 ∷ close_at 4 5 ∷ []
+
+abbrev pub twice_grouped_tree : {F C K : Type 0} → Tree F C K
+twice_grouped_tree = paren 0 5 (paren 1 4 (ident (codes "a") 2 3))
+
+-- a < b == c
+abbrev pub order_in_equality : List TokenAndSpan
+order_in_equality = name_at (codes "a") 0 1 ∷ sign_at sign.Lt 2 3 ∷ name_at (codes "b") 4 5 ∷ sign_at sign.EqEq 6 8 ∷ name_at (codes "c") 9 10 ∷ []
+
+abbrev pub order_in_equality_tree : {F C K : Type 0} → Tree F C K
+order_in_equality_tree = bin 0 10 binary.EqEq (bin 0 5 binary.Lt (ident (codes "a") 0 1) (ident (codes "b") 4 5)) (ident (codes "c") 9 10)
+
+-- a ** b
+abbrev pub power : List TokenAndSpan
+power = name_at (codes "a") 0 1 ∷ sign_at sign.Exp 2 4 ∷ name_at (codes "b") 5 6 ∷ []
+
+-- )
+abbrev pub closer : List TokenAndSpan
+closer = close_at 0 1 ∷ []
+
+-- ( )
+abbrev pub empty_parens : List TokenAndSpan
+empty_parens = open_at 0 1 ∷ close_at 2 3 ∷ []
+
+-- a +
+abbrev pub half_sum : List TokenAndSpan
+half_sum = name_at (codes "a") 0 1 ∷ sign_at sign.Add 2 3 ∷ []
+
+-- 1 +
+abbrev pub half_number_sum : List TokenAndSpan
+half_number_sum = num_at (codes "1") 0 1 ∷ sign_at sign.Add 2 3 ∷ []
+
+-- a ?? b || c
+abbrev pub or_after_default : List TokenAndSpan
+or_after_default =
+    name_at (codes "a") 0 1 ∷ sign_at sign.NullishCoalescing 2 4 ∷ name_at (codes "b") 5 6 ∷ sign_at sign.LogicalOr 7 9 ∷ name_at (codes "c") 10 11
+    ∷ []
+
+-- a || b ?? c
+abbrev pub default_after_or : List TokenAndSpan
+default_after_or =
+    name_at (codes "a") 0 1 ∷ sign_at sign.LogicalOr 2 4 ∷ name_at (codes "b") 5 6 ∷ sign_at sign.NullishCoalescing 7 9 ∷ name_at (codes "c") 10 11
+    ∷ []
+
+-- a && b ?? c
+abbrev pub default_after_and : List TokenAndSpan
+default_after_and =
+    name_at (codes "a") 0 1 ∷ sign_at sign.LogicalAnd 2 4 ∷ name_at (codes "b") 5 6 ∷ sign_at sign.NullishCoalescing 7 9 ∷ name_at (codes "c") 10 11
+    ∷ []
+
+-- async
+abbrev pub async_word : List TokenAndSpan
+async_word = name_at (codes "async") 0 5 ∷ []
+
+-- if
+abbrev pub if_word : List TokenAndSpan
+if_word = word_at (word.Keyword keyword.If) 0 2 ∷ []
+
+-- a b
+abbrev pub two_names : List TokenAndSpan
+two_names = name_at (codes "a") 0 1 ∷ name_at (codes "b") 2 3 ∷ []
+
+-- (a
+abbrev pub unclosed : List TokenAndSpan
+unclosed = open_at 0 1 ∷ name_at (codes "a") 1 2 ∷ []

@@ -1,0 +1,6 @@
+pub mod Clean
+pub mod Cut
+pub mod Firsts
+pub mod Grammar
+pub mod Tokens
+pub mod Trees
