@@ -1,5 +1,9 @@
-//! Tests of trees: printing, places and targets.
+//! Tests of expressions: printing and places.
 #![tactic(auto)]
 
 #[cfg(test)]
-mod trees;
+mod calls;
+#[cfg(test)]
+mod leaves;
+#[cfg(test)]
+mod operations;

@@ -1,0 +1,10 @@
+-- Each call is made at a shorter list, or on the way down to the last rule.
+use Rattle.std.proofs.Common.{◌+◌, ◌*◌, length}
+use Rattle.bench_grammar.specs.Ranks.{rank}
+use Rattle.bench_grammar.proofs.grammar.+grammar.Given as goal
+
+abbrev pub decreases-derived : goal.decreases-derived
+decreases-derived l = length l.symbols.now * 8 + rank l.rule + 1
+
+abbrev pub decreases-primaries : goal.decreases-primaries
+decreases-primaries l = length l.symbols.now * 8

@@ -1,0 +1,105 @@
+// What the parser answers on a list.
+use crate::grammar::Symbol;
+use std::alloc::{AllocError, Global};
+use swc_ast::expr::Expr;
+use swc_bodies::none::NoBodies;
+use swc_context::atom::Atom;
+use swc_context::context::{Context, EsVersion, Syntax};
+use swc_context::error::PResult;
+use swc_context::operator::BinOpToken;
+use swc_context::span::{BytePos, Span};
+use swc_context::word::Word;
+use swc_ecma_parser::parser::Parser;
+use swc_input::listed::TokensInput;
+use swc_input::token::{Token, TokenAndSpan};
+use swc_print::print::print_expr;
+
+type ListedParser = Parser<TokensInput, NoBodies>;
+
+fn token_of(alloc: Global, symbol: Symbol) -> Result<Token, AllocError> {
+    match symbol {
+        Symbol::Name | Symbol::In => Ok(Token::Word(Word::new(alloc, symbol.as_str())?)),
+        Symbol::Number => Ok(Token::Num {
+            raw: Atom::new(alloc, symbol.as_str())?,
+        }),
+        Symbol::Add => Ok(Token::BinOp(BinOpToken::Add)),
+        Symbol::Mul => Ok(Token::BinOp(BinOpToken::Mul)),
+        Symbol::Nullish => Ok(Token::BinOp(BinOpToken::NullishCoalescing)),
+        Symbol::Or => Ok(Token::BinOp(BinOpToken::LogicalOr)),
+        Symbol::And => Ok(Token::BinOp(BinOpToken::LogicalAnd)),
+        Symbol::Open => Ok(Token::LParen),
+        Symbol::Close => Ok(Token::RParen),
+    }
+}
+
+fn push_token(
+    alloc: Global,
+    tokens: &mut Vec<TokenAndSpan>,
+    symbol: Symbol,
+    lo: u32,
+) -> Result<(), AllocError> {
+    let token = token_of(alloc, symbol)?;
+    let span = Span {
+        lo: BytePos(lo),
+        hi: BytePos(lo.saturating_add(1)),
+    };
+    tokens.push(TokenAndSpan {
+        token,
+        had_line_break: false,
+        span,
+    })?;
+    Ok(())
+}
+
+/// A parser over the symbols, at 0..1, 1..2 and so on, in a script.
+fn parser_over(
+    alloc: Global,
+    symbols: &[Symbol],
+    with_in: bool,
+) -> Result<ListedParser, AllocError> {
+    let mut tokens = Vec::new(alloc);
+    let mut lo = 0_u32;
+    for symbol in symbols {
+        push_token(alloc, &mut tokens, *symbol, lo)?;
+        lo = lo.saturating_add(1);
+    }
+    let ctx = Context {
+        include_in_expr: with_in,
+        ..Context::default()
+    };
+    let input = TokensInput::new(alloc, tokens, ctx, Syntax::default(), EsVersion::default());
+    Ok(Parser::new_from(alloc, input, NoBodies))
+}
+
+/// The tree of an answer, as it is printed.
+fn printed(
+    alloc: Global,
+    answer: PResult<Box<Expr<Span, Span, Span>>>,
+) -> Result<Option<String>, AllocError> {
+    match answer {
+        Ok(tree) => Ok(Some(print_expr(alloc, &tree)?)),
+        Err(_) => Ok(None),
+    }
+}
+
+/// Whether no token is left, and no fault was recorded.
+fn is_clean(parser: &mut ListedParser) -> bool {
+    matches!(parser.at_end(), Ok(true)) && parser.take_errors().is_empty()
+}
+
+/// The tree that the parser reads from the whole list, as it is printed: none where it refuses, records a fault or leaves a token.
+pub(crate) fn read(
+    alloc: Global,
+    symbols: &[Symbol],
+    with_in: bool,
+) -> Result<Vec<String>, AllocError> {
+    let mut parser = parser_over(alloc, symbols, with_in)?;
+    let tree = printed(alloc, parser.parse_expr())?;
+    let mut trees = Vec::new(alloc);
+    if is_clean(&mut parser) {
+        if let Some(tree) = tree {
+            trees.push(tree)?;
+        }
+    }
+    Ok(trees)
+}
