@@ -15,7 +15,7 @@ use Rattle.swc_ast.specs.Tree.{Tree, span_of}
 use Rattle.swc_bodies.specs.Readings.{at_token}
 use Rattle.swc_grammar.specs.Tokens.{with_in}
 use Rattle.swc_grammar.specs.Trees.{to, ident_e, paren_e, bin_e, is_logical, is_nullish_op, nullish_ok}
-use Rattle.swc_grammar.specs.Clean.{Out, ◌>>=◌, first, rest, is_lit, is_lparen, is_rparen, is_identifier, no_error, operator_at, left_ok, lit_of, name_of, Call, to_assign, to_operand, to_climb, lit, name, inside, close, opened, parens, primary, unary, node_by, operation, turn, go_on, turned, climb, operand, assign, run}
+use Rattle.swc_grammar.specs.Clean.{Out, ◌>>=◌, first, rest, is_lit, is_lparen, is_rparen, is_identifier, no_error, operator_at, left_ok, lit_of, name_of, one, Call, to_assign, to_operand, to_climb, lit, name, inside, close, opened, parens, primary, unary, node_by, operation, turn, go_on, turned, climb, operand, assign, run}
 use Rattle.swc_grammar.proofs.Knot.{knot}
 use Rattle.swc_ecma_parser.specs.Parsing.{text_of, seen_of}
 
@@ -169,3 +169,18 @@ module _ {F C K : Type 0} where
   pub name_text : (t : Token) (s : Span) (name : List ℕ) → text_of t ≡ Some name → name_of {F = F} {C = C} {K = K} (plain_token t) s ≡ Some (ident_e s name)
   name_text (token.Word w) s name h = let e : word_text w ≡ name = cc in rw e refl
   name_text t s name h = cc
+
+  some_lit : (t : Token) (s : Span) (us : List TokenAndSpan) → one (lit_of {F = F} {C = C} {K = K} t s) us ≡ None → is_lit t ≡ false
+  some_lit (token.Word word.Null) s us h = cc
+  some_lit (token.Word word.True) s us h = cc
+  some_lit (token.Word word.False) s us h = cc
+  some_lit (token.Num raw) s us h = cc
+  some_lit (token.BigInt raw) s us h = cc
+  some_lit (token.Str value raw) s us h = cc
+  some_lit t s us h = refl
+
+  -- where no literal is read none stands first
+  pub lit_none : (x : Context) (ts : List TokenAndSpan) → lit (runs F C K) x ts ≡ None → at_token is_lit (first ts) ≡ false
+  unfolding lit
+  lit_none x [] h = refl
+  lit_none x (t ∷ ts) h = some_lit t.token t.span ts h

@@ -21,8 +21,9 @@ use Rattle.swc_input.specs.Recording.{Refused, error_here, error_in, is_some, is
 use Rattle.swc_input.proofs.Emits.{keeps_none}
 use Rattle.swc_input.proofs.Refusals.{Refused-kind, unfit-kind}
 use Rattle.swc_bodies.specs.Readings.{at_token}
-use Rattle.swc_grammar.specs.Clean.{Out, ◌>>=◌, first, no_error}
-use Rattle.swc_ecma_parser.specs.Parsing.{seen, seen_of, context, recorded, Loud, Laws, Leads, Advances, Moves, Refuses, Forgoes, Reads, Does, Tries, Here, Unfit, Checks, On, Heard, Unheard, Parses, Follows}
+use Rattle.swc_grammar.specs.Clean.{Out, ◌>>=◌, first, lit_of, no_error}
+use Rattle.swc_ast.specs.Tree.{Tree}
+use Rattle.swc_ecma_parser.specs.Parsing.{seen, seen_of, context, recorded, Loud, Laws, Leads, Advances, Moves, Refuses, Forgoes, Reads, Does, Tries, Here, Unfit, Checks, On, Heard, Unheard, Parses, Follows, Literal}
 
 abbrev pub Reader : Type 0 → Type 0
 Reader A = Context → List TokenAndSpan → Out A
@@ -288,6 +289,10 @@ module _ {S : Type 0} {state : S → Source} {gives : S → List TokenAndSpan �
   at_was f x {t = t} h at p q =
       let place : at ≡ h.was.span = p ∙ ap (λ z. z.prev_span) h.now in
       ap (λ v. f (plain_token v) h.was.span) (sym h.token) ∙ ap (λ v. f (plain_token t) v) (sym place) ∙ q
+
+  -- a look, and then the token of a literal
+  pub literal_took : {F C K : Type 0} {t : Tree F C K} {b c d : Buffer S} {k : Token} → Here state gives b c → (h : Bumped state gives c k d) → lit_of (plain h.was).token (plain h.was).span ≡ Some t → Literal state gives t b d
+  literal_took {b = b} {c = c} {d = d} l h e = record { token = plain h.was; read = Read-late state gives l.laws.joins b c d (plain h.was ∷ []) l.looked.look.read h.read; literal = e }
 
   -- a token, and what follows it
   pub heard_first : {A : Type 0} {f g : Reader A} {t : A} {b c d : Buffer S} {k : Token} (laws : Laws state gives) (h : Bumped state gives b k c) → ((x : Context) (ts : List TokenAndSpan) → f x (plain h.was ∷ ts) ≡ g x ts) → On state gives g (give t) c d → Heard state gives f t b d

@@ -1,5 +1,5 @@
 -- From what the productions ensure to what callers are promised: the clean parser is the grammar's, both ways.
-use Rattle.std.proofs.Common.{◌≡◌, ◌≢◌, ◌<◌, List, [], ◌∷◌, ◌++◌, Some, Result, Ok, Err, length, refl, sym, ap, subst, ◌∙◌, ⊎_elim, arith, length-append}
+use Rattle.std.proofs.Common.{◌≡◌, ◌≢◌, ◌<◌, List, [], ◌∷◌, ◌++◌, Some, Result, Ok, Err, IfErr, length, refl, sym, ap, subst, ◌∙◌, ⊎_elim, arith, length-append}
 use Rattle.std.proofs.lemmas.Bool.{cases_lt}
 use Rattle.std.proofs.lemmas.List.{append-nil}
 use Rattle.swc_context.specs.declared.context.Context.{Context}
@@ -15,13 +15,14 @@ use Rattle.swc_ast.specs.Tree.{Tree}
 use Rattle.swc_grammar.specs.Tokens.{Lenient}
 use Rattle.swc_grammar.specs.Grammar as grammar
 use Rattle.swc_grammar.specs.Grammar.{Hook, Symbol, Expr, Assign, Level, Unary, Stops, at-end}
-use Rattle.swc_grammar.specs.Clean.{run, unary, operand, assign}
+use Rattle.swc_grammar.specs.Clean.{run, lit, unary, operand, assign}
 use Rattle.swc_grammar.proofs.Sound.{expr-sound, assign-sound, level-sound, unary-sound}
 use Rattle.swc_grammar.proofs.Complete.{expr-complete, assign-complete, level-complete, unary-complete, stops-bound}
 use Rattle.swc_grammar.proofs.Cut.{cut-append}
 use Rattle.swc_grammar.proofs.Grouped.{grouped}
-use Rattle.swc_ecma_parser.specs.Parsing.{context, recorded, Loud, Heard, Parses}
+use Rattle.swc_ecma_parser.specs.Parsing.{context, recorded, Loud, Heard, Parses, NoLiteral}
 use Rattle.swc_ecma_parser.specs.Promise.{Unmarred, Derives, Sound, Complete, OneTree, Grouped}
+use Rattle.swc_ecma_parser.proofs.Rules.{lit_none}
 use Rattle.swc_ecma_parser.proofs.Steps.{Reader}
 
 -- A clean reading of a symbol: it reads what the grammar derives, and no more.
@@ -101,3 +102,9 @@ module _ {S F C K T : Type 0} (state : S → Source) (gives : S → List TokenAn
   pub one_tree : (b : Buffer S) (r : Result T Error) (c : Buffer S) → Parses state gives view f b r c → OneTree state gives hook view s b r c
   one_tree b (Ok x) c h = λ l ts t k d. λ same end. sym (answered x b c ts [] t h l k (clean.complete (context state b) ts [] t d at-end)).0
   one_tree b (Err e) c h = λ l ts t k d. tt
+
+-- what a refused literal says of the tokens to come
+pub no_literal : {S F C K T : Type 0} (state : S → Source) (gives : S → List TokenAndSpan → S → Type 0) (view : T → Tree F C K) (b c : Buffer S) (r : Result T Error) →
+    Parses state gives view (lit run) b r c → IfErr r (λ e. NoLiteral state b e)
+no_literal state gives view b c (Ok x) h = tt
+no_literal state gives view b c (Err e) u = λ n l ts k. lit_none (context state b) ts (u.none n l ts k)

@@ -1,5 +1,5 @@
 -- What parsing calls do to the buffer, and which clean reading each answers.
-use Rattle.std.specs.Prelude.{◌≡◌, ◌≢◌, ℕ, ◌≤◌, ◌<◌, Bool, true, false, List, [], ◌++◌, Option, Some, None, Result, MatchResult, length}
+use Rattle.std.specs.Prelude.{◌≡◌, ◌≢◌, ℕ, ◌≤◌, ◌<◌, Bool, true, false, List, [], ◌∷◌, ◌++◌, Option, Some, None, Result, MatchResult, length}
 use Rattle.std.specs.declared.alloc.Global.{Global}
 use Rattle.std.specs.declared.boxed.Box.{Box}
 use Rattle.swc_context.specs.Words.{word_text}
@@ -22,7 +22,7 @@ use Rattle.swc_ast.specs.Parts.{lit_tree}
 use Rattle.swc_ast.specs.Tree.{Tree}
 use Rattle.swc_ast.specs.TreeOf.{boxed_tree, expr_tree}
 use Rattle.swc_bodies.specs.Readings.{at_token}
-use Rattle.swc_grammar.specs.Clean.{Out, no_error}
+use Rattle.swc_grammar.specs.Clean.{Out, first, is_lit, lit_of, no_error}
 
 -- the tree that a boxed expression stands for, where the hook's values lie at the places given
 abbrev pub tree_by : {F C K : Type 0} → (F → Span) → (C → Span) → (K → Span) → Box (Expr F C K) Global → Tree F C K
@@ -156,3 +156,14 @@ module _ {S : Type 0} (state : S → Source) (gives : S → List TokenAndSpan �
   -- the same, where nothing may be consumed
   abbrev pub Follows : {T A : Type 0} → (T → A) → (Context → List TokenAndSpan → Out A) → Buffer S → Result T Error → Buffer S → Type 0
   Follows view f b r c = MatchResult r (λ t. On f (λ x ts. Some (view t, ts)) b c) (λ e. Unheard f b e c)
+
+  -- one token was consumed, which is the literal
+  pub record Literal {F C K : Type 0} (t : Tree F C K) (b c : Buffer S) : Type 0 where
+    pub token : TokenAndSpan
+    pub read : Read state gives b (token ∷ []) c
+    pub literal : lit_of token.token token.span ≡ Some t
+
+module _ {S : Type 0} (state : S → Source) where
+  -- a refusal of what is no literal, but for want of memory: over a listed source none stands first
+  abbrev pub NoLiteral : Buffer S → Error → Type 0
+  NoLiteral b e = e.kind ≢ OutOfMemory → Loud state b → (ts : List TokenAndSpan) → Known state b ts → at_token is_lit (first ts) ≡ false

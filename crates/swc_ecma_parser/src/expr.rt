@@ -7,7 +7,7 @@ ghost use Rattle.swc_bodies.specs.Readings.{at_token};
 ghost use Rattle.swc_grammar.specs.Trees as trees;
 ghost use Rattle.swc_grammar.specs.Clean as clean;
 ghost use Rattle.swc_grammar.specs.Clean.{run, is_lit, is_lparen};
-ghost use Rattle.swc_ecma_parser.specs.Parsing.{tree_by, lit_by, is_word, seen, Parses};
+ghost use Rattle.swc_ecma_parser.specs.Parsing.{tree_by, lit_by, is_word, seen, Parses, Literal};
 
 use crate::productions::{ExprOf, Productions};
 use swc_ast::expr::{Expr, ParenExpr};
@@ -160,6 +160,7 @@ impl<I: Tokens, B: Bodies<I>> Productions<I, B> {
     /// A literal that is no regular expression (ECMA-262, 13.2.3).
     pub(crate) fn parse_lit(&mut self) -> PResult<Lit>
         ensures parses { Parses I.state I.gives (lit_by B.Fun.place B.Class.place B.Block.place) (clean.lit run) self.old.input result self.new.input }
+        ensures literal { IfOk result (λ l. Literal I.state I.gives (lit_by B.Fun.place B.Class.place B.Block.place l) self.old.input self.new.input) }
         ensures left { OnOk result (left I.state self.new.input < left I.state self.old.input) }
     {
         self.require_cur()?;

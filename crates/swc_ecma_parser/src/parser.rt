@@ -1,12 +1,10 @@
 // The parser that is called from outside.
-ghost use Rattle.std.specs.Prelude.{◌≡◌, ◌||◌, true, false, [], IsSome, IfErr, IfOk, OnOk};
-ghost use Rattle.std.specs.Borrow.{sem, follows};
+ghost use Rattle.std.specs.Prelude.{◌≡◌, ◌||◌, true, false, [], IsSome, IfErr, IfOk, OnOk, MatchResult};
 ghost use Rattle.swc_input.specs.Buffer.{current, last_position, previous, source, with_source, fresh};
 ghost use Rattle.swc_ecma_parser.specs.Calls.{buffer_of, with_buffer, has_failed, is_memory, wants_memory, parser_failed};
 ghost use Rattle.swc_grammar.specs.Grammar.{Expr, Assign, Level, Unary};
-ghost use Rattle.swc_ecma_parser.specs.Parsing.{tree_by, Reads, Does};
+ghost use Rattle.swc_ecma_parser.specs.Parsing.{tree_by, lit_by, Reads, Here, Forgoes, Literal, NoLiteral};
 ghost use Rattle.swc_ecma_parser.specs.Promise.{hook_of, Sound, Complete, OneTree, Grouped};
-ghost use Rattle.swc_ecma_parser.specs.contracts.parser.Parser.{the_row};
 
 use crate::productions::{ExprOf, Productions};
 use std::alloc::Global;
@@ -21,6 +19,11 @@ use swc_input::tokens::Tokens;
 /// Each call that answers a `PResult` reads on from where the last one stopped, also after a refusal, and keeps the context of the
 /// source. A fault that leaves a tree is recorded, and handed out by `take_errors`. Want of memory is refused as `OutOfMemory`, at
 /// the end of the token consumed last; from then on each of these calls refuses, as `ParserFailed` at the token consumed last.
+///
+/// Where early errors are on and not ignored, the calls on expressions answer by the written grammar: a tree answered with no fault
+/// recorded is one that it derives from the tokens consumed (`sound`, outside modules and class fields), and over a listed source a
+/// tree that it derives up to the end or a hard stop is answered, unless memory is wanted (`complete`); no other is derived from all
+/// tokens (`one_tree`); operators group by their precedence (`grouped`).
 #[derive(Drop)]
 pub struct Parser<I: Tokens, B: Bodies<I>> {
     productions: Productions<I, B>,
@@ -59,10 +62,10 @@ impl<I: Tokens, B: Bodies<I>> Parser<I, B> {
         self.productions.input.input().take_errors()
     }
 
-    /// Whether no token is left. Consumes nothing.
+    /// Whether no token is left. Consumes nothing, and is refused for want of memory alone.
     pub fn at_end(&mut self) -> PResult<bool>
         ensures again { has_failed self.old ≡ true → (self.new ≡ self.old) × (result ≡ Err (parser_failed (previous (buffer_of self.old)))) }
-        ensures does { has_failed self.old ≡ false → Does I.state I.gives (buffer_of self.old) result (buffer_of self.new) }
+        ensures looks { has_failed self.old ≡ false → MatchResult result (λ r. Here I.state I.gives (buffer_of self.old) (buffer_of self.new)) (λ e. Forgoes I.state I.gives (buffer_of self.old) e (buffer_of self.new)) }
         ensures end { IfOk result (λ r. r ≡ true → (current (buffer_of self.new) ≡ None) × ((I.state (source (buffer_of self.new))).ended ≡ true)) }
         ensures token { IfOk result (λ r. r ≡ false → IsSome (current (buffer_of self.new))) }
         ensures fails { has_failed self.old ≡ false → has_failed self.new ≡ wants_memory result }
@@ -148,6 +151,8 @@ impl<I: Tokens, B: Bodies<I>> Parser<I, B> {
     pub fn parse_lit(&mut self) -> PResult<Lit>
         ensures again { has_failed self.old ≡ true → (self.new ≡ self.old) × (result ≡ Err (parser_failed (previous (buffer_of self.old)))) }
         ensures reads { has_failed self.old ≡ false → Reads I.state I.gives (buffer_of self.old) result (buffer_of self.new) }
+        ensures literal { has_failed self.old ≡ false → IfOk result (λ l. Literal I.state I.gives (lit_by B.Fun.place B.Class.place B.Block.place l) (buffer_of self.old) (buffer_of self.new)) }
+        ensures none { has_failed self.old ≡ false → IfErr result (λ e. NoLiteral I.state (buffer_of self.old) e) }
         ensures fails { has_failed self.old ≡ false → has_failed self.new ≡ wants_memory result }
     {
         self.begin()?;

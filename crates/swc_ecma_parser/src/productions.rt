@@ -57,7 +57,7 @@ impl<I: Tokens, B: Bodies<I>> Productions<I, B> {
 
     /// Whether no token is left. Refused only for want of memory.
     pub(crate) fn is_end(&mut self) -> PResult<bool>
-        ensures tries { Tries I.state I.gives self.old.input result self.new.input }
+        ensures looks { MatchResult result (λ r. Here I.state I.gives self.old.input self.new.input) (λ e. Forgoes I.state I.gives self.old.input e self.new.input) }
         ensures end { IfOk result (λ r. r ≡ true → (current self.new.input ≡ None) × ((I.state (source self.new.input)).ended ≡ true)) }
         ensures token { IfOk result (λ r. r ≡ false → IsSome (current self.new.input)) }
     {

@@ -23,3 +23,8 @@ returns-clause-parses g c =
     let e = lit_by g.B.Fun.Spanned.place g.B.Class.Spanned.place g.B.Block.Spanned.place c.lit_of.result in
     s.heard_after (s.on_seen c.in_ok-require_cur.ensures.fits (λ x ts same h. refl))
     (s.heard_took (record { none = g.met.I.Tokens.none; joins = g.met.I.Tokens.then; gave = g.met.I.Tokens.gave; lawful = g.met.I.Tokens.lawful }) took (λ x ts. rule.lit_takes e x (plain took.was) ts (s.at_was lit_of e took c.prev_span-span.result c.prev_span-span.ensures c.lit_of.ensures)))
+
+pub returns-clause-literal : goal.returns-clause-literal
+returns-clause-literal g c =
+    s.literal_took c.in_ok-require_cur.ensures.fits c.bump-token.ensures.took
+    (s.at_was lit_of (lit_by g.B.Fun.Spanned.place g.B.Class.Spanned.place g.B.Block.Spanned.place c.lit_of.result) c.bump-token.ensures.took c.prev_span-span.result c.prev_span-span.ensures c.lit_of.ensures)
