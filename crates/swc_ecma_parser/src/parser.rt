@@ -14,6 +14,8 @@ use swc_context::error::{Error, PResult, SyntaxError};
 use swc_input::buffer::Buffer;
 use swc_input::tokens::Tokens;
 
+mod names;
+
 /// A parser over a source of tokens, with a hook for functions, classes and blocks.
 ///
 /// Each call that answers a `PResult` reads on from where the last one stopped, also after a refusal, and keeps the context of the

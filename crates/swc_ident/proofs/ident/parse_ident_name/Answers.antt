@@ -1,0 +1,36 @@
+use Rattle.std.proofs.Common.{refl}
+use Rattle.std.proofs.lemmas.Result.{err_from_is_err_and}
+use Rattle.swc_ident.specs.Naming.{none-noted}
+use Rattle.swc_ident.specs.Verdicts.{name_of_any}
+use Rattle.swc_ident.proofs.Reading.{forgone_here, spoken_reads, place_told}
+use Rattle.swc_ident.proofs.Finding.{forgone_unnamed, named_reads, names_read, taken_word}
+use Rattle.swc_ident.proofs.ident.parse_ident_name.Goals as goal
+
+pub returns-in_err-word-clause-names : goal.returns-in_err-word-clause-names
+returns-in_err-word-clause-names g c =
+    let p = err_from_is_err_and c.from_residual.result c.from_residual.ensures.1 in rw (p.1, p.2) c.in_err-word.ensures
+
+pub returns-in_err-word-clause-read : goal.returns-in_err-word-clause-read
+returns-in_err-word-clause-read g c =
+    names_read g.I.Tokens.state g.I.Tokens.gives name_of_any (λ i. i.sym) (λ i. i.span) _ _ c.from_residual.result
+    (record { none = g.met.I.Tokens.none; joins = g.met.I.Tokens.then; gave = g.met.I.Tokens.gave }) (returns-in_err-word-clause-names g c)
+
+pub returns-in_err-sym-clause-names : goal.returns-in_err-sym-clause-names
+returns-in_err-sym-clause-names g c =
+    let p = err_from_is_err_and c.from_residual-in_err-sym.result c.from_residual-in_err-sym.ensures.1 in rw (p.1, p.2)
+    (forgone_unnamed (record { none = g.met.I.Tokens.none; joins = g.met.I.Tokens.then; gave = g.met.I.Tokens.gave })
+    (spoken_reads (record { none = g.met.I.Tokens.none; joins = g.met.I.Tokens.then; gave = g.met.I.Tokens.gave }) c.in_ok-word.ensures)
+    (forgone_here (record { none = g.met.I.Tokens.none; joins = g.met.I.Tokens.then; gave = g.met.I.Tokens.gave }) c.in_err-sym.ensures))
+
+pub returns-in_err-sym-clause-read : goal.returns-in_err-sym-clause-read
+returns-in_err-sym-clause-read g c =
+    names_read g.I.Tokens.state g.I.Tokens.gives name_of_any (λ i. i.sym) (λ i. i.span) _ _ c.from_residual-in_err-sym.result
+    (record { none = g.met.I.Tokens.none; joins = g.met.I.Tokens.then; gave = g.met.I.Tokens.gave }) (returns-in_err-sym-clause-names g c)
+
+pub returns-clause-names : goal.returns-clause-names
+returns-clause-names g c =
+    taken_word _ (record { none = g.met.I.Tokens.none; joins = g.met.I.Tokens.then; gave = g.met.I.Tokens.gave }) refl
+    (place_told c.prev_span-span.ensures c.in_ok-word.ensures) c.in_ok-sym.ensures refl refl none-noted
+
+pub returns-clause-read : goal.returns-clause-read
+returns-clause-read g c = named_reads (returns-clause-names g c)

@@ -1,0 +1,3 @@
+pub mod Naming
+pub mod Steps
+pub mod Verdicts
