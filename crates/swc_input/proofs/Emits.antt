@@ -1,5 +1,5 @@
 -- Lists of faults to which a fault is added, or none; and what the calls that record and refuse ensure, from what they call.
-use Rattle.std.proofs.Common.{◌≡◌, ◌≢◌, Bool, true, false, List, [], ◌∷◌, ◌++◌, Result, Ok, Err, OnOk, IfErr, sym, ◌∙◌}
+use Rattle.std.proofs.Common.{◌≡◌, ◌≢◌, Bool, true, false, not, List, [], ◌∷◌, ◌++◌, Option, Some, None, Result, Ok, Err, OnOk, IfErr, refl, ap, sym, ◌∙◌}
 use Rattle.std.proofs.lemmas.List.{append-nil}
 use Rattle.std.proofs.lemmas.List.Elements.{All-nil, All-cons}
 use Rattle.swc_context.specs.declared.error.Error.{Error}
@@ -7,11 +7,13 @@ use Rattle.swc_context.specs.declared.error.SyntaxError.{SyntaxError}
 use Rattle.swc_context.specs.declared.error.SyntaxError.TheVariants as kind
 use Rattle.swc_context.specs.declared.span.BytePos.{BytePos}
 use Rattle.swc_input.specs.declared.buffer.Buffer.{Buffer}
+use Rattle.swc_input.specs.declared.token.Token.{Token}
+use Rattle.swc_input.specs.declared.token.Token.TheVariants as token
 use Rattle.swc_input.specs.declared.token.TokenAndSpan.{TokenAndSpan}
 use Rattle.swc_input.specs.Source.{Source, Keeps, IsFault, recorded_in, waiting_in}
 use Rattle.swc_input.specs.Buffer.{Read, Looked, current, source, last_position}
 use Rattle.swc_input.specs.Laws.{Joins, Read-late}
-use Rattle.swc_input.specs.Recording.{Recorded, Refused, no_memory, counted_kind, counted, error_here, error_list, error_token, is_fit, refusal}
+use Rattle.swc_input.specs.Recording.{Recorded, Refused, no_memory, counted_kind, counted, error_in, is_some, error_here, error_list, error_token, is_fit, refusal}
 
 pub keeps_none : (es fs : List Error) → fs ≡ es → Keeps es fs
 keeps_none es fs h = record { more = []; added = h ∙ sym (append-nil es); faults = All-nil IsFault }
@@ -36,6 +38,10 @@ counted_kind_fault k = λ h. cc
 -- the error of a token, as it counts, is never want of memory
 pub counted_fault : (e : Error) → IsFault (counted e)
 counted_fault e = counted_kind_fault e.kind
+
+fit_error : (t : Token) → not (is_some (error_in t)) ≡ true → error_in t ≡ None
+fit_error (token.Error x) fit = absurd cc
+fit_error t fit = refl
 
 module _ {S : Type 0} (state : S → Source) (gives : S → List TokenAndSpan → S → Type 0) where
   pub recorded_by : (b h c : Buffer S) (e : Error) (r : Result (Unit {0}) Error) → Looked state gives b h → Read state gives h (error_token (current h)) c →
@@ -62,3 +68,14 @@ module _ {S : Type 0} (state : S → Source) (gives : S → List TokenAndSpan �
   pub unfit_by : (b h c : Buffer S) (e : Buffer S → Error) (r : Error) → Looked state gives b h → Read state gives h (error_token (current h)) c →
       r ≡ refusal (current h) (state (source h)).failed (last_position h) (e h) → is_fit (current h) ≡ false → (x : Refused state gives b e r c) × (is_fit (current x.here) ≡ false)
   unfit_by b h c e r l d p f = (record { here = h; looked = l; read = d; answer = p }, f)
+
+  kept_at : (o : Option TokenAndSpan) (b h c : Buffer S) → current b ≡ o → Looked state gives b h → (error_here (current h) ≡ None → current c ≡ current h) →
+      is_fit o ≡ true → current c ≡ o
+  kept_at None b h c at l k fit = absurd cc
+  kept_at (Some t) b h c at l k fit =
+      let here : current h ≡ Some t = ap (λ x. current x) (l.same t at) ∙ at in
+      k (ap (λ o. error_here o) here ∙ fit_error t.token fit) ∙ here
+
+  -- a token that is fit stays at a look, and then wherever one without an error does
+  pub kept_by : (b h c : Buffer S) → Looked state gives b h → (error_here (current h) ≡ None → current c ≡ current h) → is_fit (current b) ≡ true → current c ≡ current b
+  kept_by b h c l k fit = kept_at (current b) b h c refl l k fit

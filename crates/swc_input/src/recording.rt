@@ -98,6 +98,7 @@ impl<I: Tokens> Buffer<I> {
         ensures here { result ≡ error_here (current self.old) }
         ensures read { Read I.state I.gives self.old (error_token (current self.old)) self.new }
         ensures same { source self.new ≡ source self.old }
+        ensures kept { result ≡ None → current self.new ≡ current self.old }
     {
         if !self.is_error() {
             return None;
@@ -106,13 +107,14 @@ impl<I: Tokens> Buffer<I> {
         error_of(token)
     }
 
-    /// Records a fault, after the error of a current error token, which is consumed. Silent contexts record nothing.
+    /// Records a fault, after the error of a current error token, which is consumed; any other current token stays. Silent contexts record nothing.
     pub fn emit_error(&mut self, error: Error) -> PResult<()>
         requires { IsFault error }
         ensures silent { is_silent (I.state (source self.old)) ≡ true → IsOk result × (self.new ≡ self.old) }
         ensures recorded { is_silent (I.state (source self.old)) ≡ false → OnOk result (Recorded I.state I.gives self.old error self.new) }
         ensures refused { IfErr result (λ e. (xs : List TokenAndSpan) × Read I.state I.gives self.old xs self.new × (e ≡ no_memory (last_position self.new))) }
         ensures read { (xs : List TokenAndSpan) × Read I.state I.gives self.old xs self.new }
+        ensures kept { is_fit (current self.old) ≡ true → current self.new ≡ current self.old }
     {
         if self.is_silent() {
             let_go(error);
@@ -129,6 +131,7 @@ impl<I: Tokens> Buffer<I> {
         ensures waiting { OnOk result ((I.state (source self.new)).waiting ≡ (I.state (source self.old)).waiting) }
         ensures read { Read I.state I.gives self.old (error_token (current self.old)) self.new }
         ensures refused { IfErr result (λ e. e ≡ no_memory (last_position self.new)) }
+        ensures kept { error_here (current self.old) ≡ None → current self.new ≡ current self.old }
     {
         match self.take_error() {
             None => self.record(error),
@@ -149,6 +152,7 @@ impl<I: Tokens> Buffer<I> {
         ensures recorded { is_silent (I.state (source self.old)) ≡ false → OnOk result (Recorded I.state I.gives self.old (record { span = span; kind = kind }) self.new) }
         ensures refused { IfErr result (λ e. (xs : List TokenAndSpan) × Read I.state I.gives self.old xs self.new × (e ≡ no_memory (last_position self.new))) }
         ensures read { (xs : List TokenAndSpan) × Read I.state I.gives self.old xs self.new }
+        ensures kept { is_fit (current self.old) ≡ true → current self.new ≡ current self.old }
     {
         self.emit_error(Error::new(span, kind))
     }

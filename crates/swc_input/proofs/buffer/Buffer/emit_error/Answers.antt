@@ -2,7 +2,7 @@ use Rattle.std.specs.Prelude.{[]}
 use Rattle.swc_input.specs.Buffer.{current, last_position}
 use Rattle.swc_input.specs.Laws.{Read-same}
 use Rattle.swc_input.specs.Recording.{error_token}
-use Rattle.swc_input.proofs.Emits.{recorded_by, read_by, no_memory_by}
+use Rattle.swc_input.proofs.Emits.{recorded_by, read_by, no_memory_by, kept_by}
 use Rattle.swc_input.proofs.buffer.Buffer.emit_error.Goals as goal
 
 pub returns-then-is_silent-clause-read : goal.returns-then-is_silent-clause-read
@@ -24,3 +24,8 @@ returns-clause-refused g c =
     (read_by g.I.Tokens.state g.I.Tokens.gives g.met.I.Tokens.then c.args.self.now c.had_line_break_before_cur.new.self c.emit_here.new.self
     (error_token (current c.had_line_break_before_cur.new.self)) c.had_line_break_before_cur.ensures.looked c.emit_here.ensures.read)
     c.emit_here.ensures.refused
+
+pub returns-clause-kept : goal.returns-clause-kept
+returns-clause-kept g c =
+    kept_by g.I.Tokens.state g.I.Tokens.gives c.args.self.now c.had_line_break_before_cur.new.self c.emit_here.new.self
+    c.had_line_break_before_cur.ensures.looked c.emit_here.ensures.kept
