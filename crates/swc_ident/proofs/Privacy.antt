@@ -38,6 +38,10 @@ module _ {S : Type 0} {state : S → Source} {gives : S → List TokenAndSpan �
   hashed_reads : {b c : Buffer S} {at : Span} → Laws state gives → Hashed state gives b at c → Reads state gives b c
   hashed_reads laws s = reads_then laws (looked_reads s.looked) (plain s.took.was ∷ [], s.took.read)
 
+  -- want of memory behind the `#`
+  pub private_forgone : {b c d : Buffer S} {e : Error} {at : Span} {last : BytePos} → Laws state gives → Hashed state gives b at c → Looked state gives c d → e ≡ rec.no_memory last → Unprivate state gives b e d
+  private_forgone laws s l h = let x = reads_then laws (hashed_reads laws s) (looked_reads l) in no_memory_either x.0 x.1 (ap (λ x. x.kind) h)
+
   hashed_later : {b c d : Buffer S} {at : Span} → Laws state gives → Looked state gives b c → Hashed state gives c at d → Hashed state gives b at d
   hashed_later laws l s = record { here = s.here; looked = looked_then laws l s.looked; took = s.took; place = s.place }
 
@@ -57,6 +61,7 @@ module _ {S : Type 0} {state : S → Source} {gives : S → List TokenAndSpan �
     sign = hashed_later laws l p.sign;
     near = p.near;
     looked = p.looked;
+    end = p.end;
     joined = p.joined;
     word = p.word;
     name = p.name;

@@ -76,6 +76,11 @@ module _ {S : Type 0} {state : S → Source} {gives : S → List TokenAndSpan �
   same_seen true laws s l = let t = s.token refl in ap current (l.same t.0 t.1)
   same_seen false laws s l = let e = s.end refl in over laws l e.0 e.1 e.3 ∙ sym e.0
 
+  -- and where it finds no token, none is left
+  pub end_seen : {b c d : Buffer S} (v : Bool) → Laws state gives → Seen state gives b v c → Looked state gives c d → current d ≡ None → (state (source d)).ended ≡ true
+  end_seen true laws s l h = let t = s.token refl in let same = ap current (l.same t.0 t.1) in absurd cc
+  end_seen {c = c} {d = d} false laws s l h = let took = l.look.read.took in (laws.gave c.iter d.iter took.given took.gave).stays (s.end refl).3
+
   pub refused_reads : {b c : Buffer S} {f : Buffer S → Error} {e : Error} → Laws state gives → Refused state gives b f e c → Reads state gives b c
   refused_reads {b} {c} {f} {e} laws r = Refused-read state gives laws.joins b c f e r
 

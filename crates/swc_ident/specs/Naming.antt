@@ -111,6 +111,8 @@ module _ {S : Type 0} (state : S → Source) (gives : S → List TokenAndSpan �
     pub sign : Hashed b hash hashed
     pub near : Buffer S
     pub looked : Looked state gives hashed near
+    -- where none is current, none is left
+    pub end : current near ≡ None → (state (source near)).ended ≡ true
     pub joined : next_begins near ≡ hash.hi
     pub word : Span
     pub name : Named name_of_any text word near c

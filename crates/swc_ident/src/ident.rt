@@ -50,6 +50,7 @@ pub fn parse_private_name<I: Tokens>(alloc: Global, input: &mut Buffer<I>) -> PR
     ensures read { (xs : List TokenAndSpan) × Read I.state I.gives input.old xs input.new }
 {
     let hash = parse_hash(input)?;
+    input.has_cur()?;
     if input.cur_pos().0 != hash.hi.0 {
         let at = Span::new(hash.lo, hash.hi);
         return Err(input.syntax_error(at, SyntaxError::SpaceBetweenHashAndIdent));
