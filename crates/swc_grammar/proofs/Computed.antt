@@ -2,196 +2,297 @@
 use Rattle.std.specs.Prelude.{◌≡◌, List, [], ◌∷◌, Some, None, codes}
 use Rattle.std.proofs.Common.{refl}
 use Rattle.swc_context.specs.declared.context.Context.{Context}
-use Rattle.swc_context.specs.declared.operator.BinOpToken.TheVariants as sign
 use Rattle.swc_context.specs.declared.word.Keyword.TheVariants as keyword
 use Rattle.swc_context.specs.declared.word.Word.TheVariants as word
 use Rattle.swc_input.specs.declared.token.TokenAndSpan.{TokenAndSpan}
 use Rattle.swc_ast.specs.Tree.{Tree}
-use Rattle.swc_grammar.specs.Clean.{Out, lit, name, inside, close, opened, parens, primary, unary, operation, turn, turned, climb, operand, assign, run}
-use Rattle.swc_grammar.proofs.Texts.{no_in, script, ident, name_at, word_at, sign_at, product_in_sum, product_in_sum_tree, two_sums, two_sums_tree}
-use Rattle.swc_grammar.proofs.Texts.{grouped_name, grouped_name_tree, sum_in_product, sum_in_product_tree, in_test, in_test_tree, grouped_in_test}
-use Rattle.swc_grammar.proofs.Texts.{grouped_in_test_tree, instance_test, instance_test_tree, default_value, default_value_tree, and_in_or, and_in_or_tree}
-use Rattle.swc_grammar.proofs.Texts.{or_in_default, or_in_default_tree, null_word, null_word_tree, true_word, true_word_tree, false_word, false_word_tree}
-use Rattle.swc_grammar.proofs.Texts.{number, number_tree, big_integer, big_integer_tree, string, string_tree, let_word, let_word_tree, arguments_word}
-use Rattle.swc_grammar.proofs.Texts.{arguments_word_tree, product_in_sums, product_in_sums_tree, twice_grouped, twice_grouped_tree, order_in_equality}
-use Rattle.swc_grammar.proofs.Texts.{order_in_equality_tree, power, closer, empty_parens, half_sum, half_number_sum, or_after_default, default_after_or}
-use Rattle.swc_grammar.proofs.Texts.{default_after_and, async_word, if_word, two_names, unclosed}
+use Rattle.swc_grammar.specs.Clean.{Out, word as word_name, lit, name, hashed, private_name, inside, close, opened, parens, primary, prefixed, prefix, unary}
+use Rattle.swc_grammar.specs.Clean.{operation, turn, turned, climb, operand, assign, run}
+use Rattle.swc_grammar.proofs.Texts.{no_in, script, module_code, class_field, generator, word_at, name_at, ident, product_in_sum, product_in_sum_tree}
+use Rattle.swc_grammar.proofs.Texts.{two_sums, two_sums_tree, grouped_name, grouped_name_tree, sum_in_product, sum_in_product_tree, in_test}
+use Rattle.swc_grammar.proofs.Texts.{in_test_tree, grouped_in_test, grouped_in_test_tree, instance_test, instance_test_tree, default_value}
+use Rattle.swc_grammar.proofs.Texts.{default_value_tree, and_in_or, and_in_or_tree, or_in_default, or_in_default_tree, null_word, null_word_tree}
+use Rattle.swc_grammar.proofs.Texts.{true_word, true_word_tree, false_word, false_word_tree, number, number_tree, big_integer, big_integer_tree}
+use Rattle.swc_grammar.proofs.Texts.{string, string_tree, let_word, let_word_tree, arguments_word, arguments_word_tree, product_in_sums}
+use Rattle.swc_grammar.proofs.Texts.{product_in_sums_tree, twice_grouped, twice_grouped_tree, order_in_equality, order_in_equality_tree, power}
+use Rattle.swc_grammar.proofs.Texts.{power_tree, two_powers, two_powers_tree, minus_name, minus_name_tree, not_minus_name, not_minus_name_tree}
+use Rattle.swc_grammar.proofs.Texts.{minus_in_power, minus_in_power_tree, type_in_sum, type_in_sum_tree, delete_name, delete_name_tree, private_word}
+use Rattle.swc_grammar.proofs.Texts.{private_word_tree, hash_and_name, hash_and_name_tree, yield_word, yield_word_tree, implements_word}
+use Rattle.swc_grammar.proofs.Texts.{implements_word_tree, power_of_minus, power_of_minus_in_product, hash_and_sign, lone_minus, closer, empty_parens}
+use Rattle.swc_grammar.proofs.Texts.{half_sum, half_number_sum, or_after_default, default_after_or, default_after_and, async_word, if_word, two_names}
+use Rattle.swc_grammar.proofs.Texts.{unclosed}
 
 module _ {F C K : Type 0} where
-  abbrev pub answer : Context → List TokenAndSpan → Out (Tree F C K)
+  unfoldable pub answer : Context → List TokenAndSpan → Out (Tree F C K)
+  unfolding word_name lit name hashed private_name inside close opened parens primary prefixed prefix unary operation turn turned climb operand assign run
   answer c ts = assign run c ts
 
   -- 5 + 4 * 7
   pub product_in_sum-computed : answer script product_in_sum ≡ Some (product_in_sum_tree, [])
-  unfolding lit name inside close opened parens primary unary operation turn turned climb operand assign run
+  unfolding answer
   product_in_sum-computed = refl
 
   -- a + b + c
   pub two_sums-computed : answer script two_sums ≡ Some (two_sums_tree, [])
-  unfolding lit name inside close opened parens primary unary operation turn turned climb operand assign run
+  unfolding answer
   two_sums-computed = refl
 
   -- (a)
   pub grouped_name-computed : answer script grouped_name ≡ Some (grouped_name_tree, [])
-  unfolding lit name inside close opened parens primary unary operation turn turned climb operand assign run
+  unfolding answer
   grouped_name-computed = refl
 
   -- (5 + 4) * 7
   pub sum_in_product-computed : answer script sum_in_product ≡ Some (sum_in_product_tree, [])
-  unfolding lit name inside close opened parens primary unary operation turn turned climb operand assign run
+  unfolding answer
   sum_in_product-computed = refl
 
   -- a in b
   pub in_test-computed : answer script in_test ≡ Some (in_test_tree, [])
-  unfolding lit name inside close opened parens primary unary operation turn turned climb operand assign run
+  unfolding answer
   in_test-computed = refl
 
   -- a in b, where `in` isn't an operator: `in b` is left
   pub in_test-front : answer no_in in_test ≡ Some (ident (codes "a") 0 1, word_at (word.Keyword keyword.In) 2 4 ∷ name_at (codes "b") 5 6 ∷ [])
-  unfolding lit name inside close opened parens primary unary operation turn turned climb operand assign run
+  unfolding answer
   in_test-front = refl
 
   -- (a in b), where `in` isn't an operator outside the parentheses
   pub grouped_in_test-computed : answer no_in grouped_in_test ≡ Some (grouped_in_test_tree, [])
-  unfolding lit name inside close opened parens primary unary operation turn turned climb operand assign run
+  unfolding answer
   grouped_in_test-computed = refl
 
   -- a instanceof b
   pub instance_test-computed : answer script instance_test ≡ Some (instance_test_tree, [])
-  unfolding lit name inside close opened parens primary unary operation turn turned climb operand assign run
+  unfolding answer
   instance_test-computed = refl
 
   -- a ?? b
   pub default_value-computed : answer script default_value ≡ Some (default_value_tree, [])
-  unfolding lit name inside close opened parens primary unary operation turn turned climb operand assign run
+  unfolding answer
   default_value-computed = refl
 
   -- a || b && c
   pub and_in_or-computed : answer script and_in_or ≡ Some (and_in_or_tree, [])
-  unfolding lit name inside close opened parens primary unary operation turn turned climb operand assign run
+  unfolding answer
   and_in_or-computed = refl
 
   -- a ?? (b || c)
   pub or_in_default-computed : answer script or_in_default ≡ Some (or_in_default_tree, [])
-  unfolding lit name inside close opened parens primary unary operation turn turned climb operand assign run
+  unfolding answer
   or_in_default-computed = refl
 
   -- null
   pub null_word-computed : answer script null_word ≡ Some (null_word_tree, [])
-  unfolding lit name inside close opened parens primary unary operation turn turned climb operand assign run
+  unfolding answer
   null_word-computed = refl
 
   -- true
   pub true_word-computed : answer script true_word ≡ Some (true_word_tree, [])
-  unfolding lit name inside close opened parens primary unary operation turn turned climb operand assign run
+  unfolding answer
   true_word-computed = refl
 
   -- false
   pub false_word-computed : answer script false_word ≡ Some (false_word_tree, [])
-  unfolding lit name inside close opened parens primary unary operation turn turned climb operand assign run
+  unfolding answer
   false_word-computed = refl
 
   -- 7
   pub number-computed : answer script number ≡ Some (number_tree, [])
-  unfolding lit name inside close opened parens primary unary operation turn turned climb operand assign run
+  unfolding answer
   number-computed = refl
 
   -- 10n
   pub big_integer-computed : answer script big_integer ≡ Some (big_integer_tree, [])
-  unfolding lit name inside close opened parens primary unary operation turn turned climb operand assign run
+  unfolding answer
   big_integer-computed = refl
 
   -- 'a'
   pub string-computed : answer script string ≡ Some (string_tree, [])
-  unfolding lit name inside close opened parens primary unary operation turn turned climb operand assign run
+  unfolding answer
   string-computed = refl
 
   -- let
   pub let_word-computed : answer script let_word ≡ Some (let_word_tree, [])
-  unfolding lit name inside close opened parens primary unary operation turn turned climb operand assign run
+  unfolding answer
   let_word-computed = refl
 
   -- arguments
   pub arguments_word-computed : answer script arguments_word ≡ Some (arguments_word_tree, [])
-  unfolding lit name inside close opened parens primary unary operation turn turned climb operand assign run
+  unfolding answer
   arguments_word-computed = refl
 
   -- a + b * c - d
   pub product_in_sums-computed : answer script product_in_sums ≡ Some (product_in_sums_tree, [])
-  unfolding lit name inside close opened parens primary unary operation turn turned climb operand assign run
+  unfolding answer
   product_in_sums-computed = refl
 
   -- ((a))
   pub twice_grouped-computed : answer script twice_grouped ≡ Some (twice_grouped_tree, [])
-  unfolding lit name inside close opened parens primary unary operation turn turned climb operand assign run
+  unfolding answer
   twice_grouped-computed = refl
 
   -- a < b == c
   pub order_in_equality-computed : answer script order_in_equality ≡ Some (order_in_equality_tree, [])
-  unfolding lit name inside close opened parens primary unary operation turn turned climb operand assign run
+  unfolding answer
   order_in_equality-computed = refl
 
-  -- a ** b: `** b` is left
-  pub power-computed : answer script power ≡ Some (ident (codes "a") 0 1, sign_at sign.Exp 2 4 ∷ name_at (codes "b") 5 6 ∷ [])
-  unfolding lit name inside close opened parens primary unary operation turn turned climb operand assign run
+  -- a ** b
+  pub power-computed : answer script power ≡ Some (power_tree, [])
+  unfolding answer
   power-computed = refl
+
+  -- 2 ** 3 ** 4
+  pub two_powers-computed : answer script two_powers ≡ Some (two_powers_tree, [])
+  unfolding answer
+  two_powers-computed = refl
+
+  -- -a
+  pub minus_name-computed : answer script minus_name ≡ Some (minus_name_tree, [])
+  unfolding answer
+  minus_name-computed = refl
+
+  -- !-a
+  pub not_minus_name-computed : answer script not_minus_name ≡ Some (not_minus_name_tree, [])
+  unfolding answer
+  not_minus_name-computed = refl
+
+  -- (-a) ** b
+  pub minus_in_power-computed : answer script minus_in_power ≡ Some (minus_in_power_tree, [])
+  unfolding answer
+  minus_in_power-computed = refl
+
+  -- typeof a + b
+  pub type_in_sum-computed : answer script type_in_sum ≡ Some (type_in_sum_tree, [])
+  unfolding answer
+  type_in_sum-computed = refl
+
+  -- delete a
+  pub delete_name-computed : answer script delete_name ≡ Some (delete_name_tree, [])
+  unfolding answer
+  delete_name-computed = refl
+
+  -- #a
+  pub private_word-computed : answer script private_word ≡ Some (private_word_tree, [])
+  unfolding answer
+  private_word-computed = refl
+
+  -- # a
+  pub hash_and_name-computed : answer script hash_and_name ≡ Some (hash_and_name_tree, [])
+  unfolding answer
+  hash_and_name-computed = refl
+
+  -- yield
+  pub yield_word-computed : answer script yield_word ≡ Some (yield_word_tree, [])
+  unfolding answer
+  yield_word-computed = refl
+
+  -- implements
+  pub implements_word-computed : answer script implements_word ≡ Some (implements_word_tree, [])
+  unfolding answer
+  implements_word-computed = refl
 
   -- no tokens
   pub no_tokens-computed : answer script [] ≡ None
-  unfolding lit name inside close opened parens primary unary operation turn turned climb operand assign run
+  unfolding answer
   no_tokens-computed = refl
 
   -- )
   pub closer-computed : answer script closer ≡ None
-  unfolding lit name inside close opened parens primary unary operation turn turned climb operand assign run
+  unfolding answer
   closer-computed = refl
 
   -- ( )
   pub empty_parens-computed : answer script empty_parens ≡ None
-  unfolding lit name inside close opened parens primary unary operation turn turned climb operand assign run
+  unfolding answer
   empty_parens-computed = refl
 
   -- a +
   pub half_sum-computed : answer script half_sum ≡ None
-  unfolding lit name inside close opened parens primary unary operation turn turned climb operand assign run
+  unfolding answer
   half_sum-computed = refl
 
   -- 1 +
   pub half_number_sum-computed : answer script half_number_sum ≡ None
-  unfolding lit name inside close opened parens primary unary operation turn turned climb operand assign run
+  unfolding answer
   half_number_sum-computed = refl
 
   -- a ?? b || c
   pub or_after_default-computed : answer script or_after_default ≡ None
-  unfolding lit name inside close opened parens primary unary operation turn turned climb operand assign run
+  unfolding answer
   or_after_default-computed = refl
 
   -- a || b ?? c
   pub default_after_or-computed : answer script default_after_or ≡ None
-  unfolding lit name inside close opened parens primary unary operation turn turned climb operand assign run
+  unfolding answer
   default_after_or-computed = refl
 
   -- a && b ?? c
   pub default_after_and-computed : answer script default_after_and ≡ None
-  unfolding lit name inside close opened parens primary unary operation turn turned climb operand assign run
+  unfolding answer
   default_after_and-computed = refl
 
   -- async
   pub async_word-computed : answer script async_word ≡ None
-  unfolding lit name inside close opened parens primary unary operation turn turned climb operand assign run
+  unfolding answer
   async_word-computed = refl
 
   -- if
   pub if_word-computed : answer script if_word ≡ None
-  unfolding lit name inside close opened parens primary unary operation turn turned climb operand assign run
+  unfolding answer
   if_word-computed = refl
 
   -- a b: `b` is left
   pub two_names-computed : answer script two_names ≡ Some (ident (codes "a") 0 1, name_at (codes "b") 2 3 ∷ [])
-  unfolding lit name inside close opened parens primary unary operation turn turned climb operand assign run
+  unfolding answer
   two_names-computed = refl
 
   -- (a
   pub unclosed-computed : answer script unclosed ≡ None
-  unfolding lit name inside close opened parens primary unary operation turn turned climb operand assign run
+  unfolding answer
   unclosed-computed = refl
+
+  -- -a ** b
+  pub power_of_minus-computed : answer script power_of_minus ≡ None
+  unfolding answer
+  power_of_minus-computed = refl
+
+  -- a * -b ** c
+  pub power_of_minus_in_product-computed : answer script power_of_minus_in_product ≡ None
+  unfolding answer
+  power_of_minus_in_product-computed = refl
+
+  -- # +
+  pub hash_and_sign-computed : answer script hash_and_sign ≡ None
+  unfolding answer
+  hash_and_sign-computed = refl
+
+  -- -
+  pub lone_minus-computed : answer script lone_minus ≡ None
+  unfolding answer
+  lone_minus-computed = refl
+
+  -- delete a, in a module
+  pub delete_name-module : answer module_code delete_name ≡ None
+  unfolding answer
+  delete_name-module = refl
+
+  -- let, in a module
+  pub let_word-module : answer module_code let_word ≡ None
+  unfolding answer
+  let_word-module = refl
+
+  -- implements, in a module
+  pub implements_word-module : answer module_code implements_word ≡ None
+  unfolding answer
+  implements_word-module = refl
+
+  -- yield, in a generator
+  pub yield_word-generator : answer generator yield_word ≡ None
+  unfolding answer
+  yield_word-generator = refl
+
+  -- arguments, in a class field
+  pub arguments_word-field : answer class_field arguments_word ≡ None
+  unfolding answer
+  arguments_word-field = refl

@@ -7,7 +7,9 @@ use Rattle.swc_context.specs.declared.context.Context.{Context}
 use Rattle.swc_input.specs.declared.token.TokenAndSpan.{TokenAndSpan}
 use Rattle.swc_ast.specs.Tree.{Tree}
 use Rattle.swc_grammar.specs.Cut.{Cut, here, there}
-use Rattle.swc_grammar.specs.Grammar.{Hook, Symbol, Reads, expr-one, assign-level, level-up, level-op, level-unary, unary-primary, primary-null, primary-true, primary-false, primary-num, primary-big, primary-str, primary-ref, primary-paren}
+use Rattle.swc_grammar.specs.Grammar.{Hook, Symbol, Reads, expr-one, assign-level, level-up, level-op, level-unary, level-exp, unary-prefix, unary-primary}
+use Rattle.swc_grammar.specs.Grammar.{primary-null, primary-true, primary-false, primary-num, primary-big, primary-str, primary-ref, primary-private, primary-paren}
+use Rattle.swc_grammar.proofs.Names.{cut-name, extend-name, reference-before}
 
 -- the law of the cut
 pub cut : {F C K : Type 0} {hook : Hook F C K} {s : Symbol} {c : Context} {zs xs ys ys' : List TokenAndSpan} {t : Tree F C K}
@@ -20,6 +22,11 @@ cut k (level-op b p h n g dl dr) =
     let (_, k2, l) = cut (there k1) dl in
     (_, k2, level-op b p h n g l r)
 cut k (level-unary d) = let (_, k1, r) = cut k d in (_, k1, level-unary r)
+cut k (level-exp dl n dr) =
+    let (_, k1, r) = cut k dr in
+    let (_, k2, l) = cut (there k1) dl in
+    (_, k2, level-exp l n r)
+cut k (unary-prefix p d e) = let (_, k1, r) = cut k d in (_, there k1, unary-prefix p r e)
 cut k (unary-primary d) = let (_, k1, r) = cut k d in (_, k1, unary-primary r)
 cut k primary-null = (_, there k, primary-null)
 cut k primary-true = (_, there k, primary-true)
@@ -27,7 +34,8 @@ cut k primary-false = (_, there k, primary-false)
 cut k primary-num = (_, there k, primary-num)
 cut k primary-big = (_, there k, primary-big)
 cut k primary-str = (_, there k, primary-str)
-cut k (primary-ref h e) = (_, there k, primary-ref h e)
+cut k (primary-ref h n) = (_, there k, primary-ref h (reference-before _ n))
+cut k (primary-private n) = let (_, k1, r) = cut-name k n in (_, there k1, primary-private r)
 cut k (primary-paren d) = let (_, k1, r) = cut (there k) d in (_, there k1, primary-paren r)
 
 -- a cut is an appended list taken away
@@ -58,6 +66,8 @@ extend zs (assign-level d) = assign-level (extend zs d)
 extend zs (level-up h d) = level-up h (extend zs d)
 extend zs (level-op b p h n g dl dr) = level-op b p h n g (extend zs dl) (extend zs dr)
 extend zs (level-unary d) = level-unary (extend zs d)
+extend zs (level-exp dl n dr) = level-exp (extend zs dl) n (extend zs dr)
+extend zs (unary-prefix p d e) = unary-prefix p (extend zs d) e
 extend zs (unary-primary d) = unary-primary (extend zs d)
 extend zs primary-null = primary-null
 extend zs primary-true = primary-true
@@ -65,7 +75,8 @@ extend zs primary-false = primary-false
 extend zs primary-num = primary-num
 extend zs primary-big = primary-big
 extend zs primary-str = primary-str
-extend zs (primary-ref h e) = primary-ref h e
+extend zs (primary-ref h n) = primary-ref h (extend-name zs n)
+extend zs (primary-private n) = primary-private (extend-name zs n)
 extend zs (primary-paren d) = primary-paren (extend zs d)
 
 -- the same tokens, whatever follows

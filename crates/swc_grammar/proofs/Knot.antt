@@ -3,14 +3,18 @@ use Rattle.std.proofs.Common.{◌≡◌, ℕ, zero, suc, ◌<◌, ◌≤◌, Boo
 use Rattle.swc_context.specs.Operators.{precedence_of}
 use Rattle.swc_context.specs.declared.context.Context.{Context}
 use Rattle.swc_context.specs.declared.operator.BinaryOp.{BinaryOp}
+use Rattle.swc_context.specs.declared.operator.UnaryOp.{UnaryOp}
 use Rattle.swc_context.specs.declared.span.Span.{Span}
+use Rattle.swc_context.specs.declared.word.Word.{Word}
 use Rattle.swc_input.specs.declared.token.TokenAndSpan.{TokenAndSpan}
 use Rattle.swc_ast.specs.Tree.{Tree, span_of}
 use Rattle.swc_bodies.specs.Readings.{at_token}
-use Rattle.swc_grammar.specs.Tokens.{with_in}
-use Rattle.swc_grammar.specs.Trees.{to, paren_e, bin_e, nullish_ok}
-use Rattle.swc_grammar.specs.Clean.{Out, ◌>>=◌, first, rest, one, is_lit, is_identifier, is_lparen, is_rparen, no_error, operator_at, left_ok, lit_of, name_of}
-use Rattle.swc_grammar.specs.Clean.{Call, to_assign, to_operand, to_climb, lit, name, inside, close, opened, parens, primary, unary}
+use Rattle.swc_grammar.specs.Names.{Spelling}
+use Rattle.swc_grammar.specs.Tokens.{with_in, ref_ok}
+use Rattle.swc_grammar.specs.Trees.{to, ident_e, private_e, unary_e, paren_e, bin_e, nullish_ok, delete_ok, exp_ok, min_right}
+use Rattle.swc_grammar.specs.Clean.{Out, ◌>>=◌, first, rest, one, is_lit, is_identifier, is_lparen, is_rparen, is_hash, no_error, operator_at, prefix_at}
+use Rattle.swc_grammar.specs.Clean.{left_ok, lit_of, spelled, word, may_name, Call, to_assign, to_unary, to_operand, to_climb, lit, name, hashed}
+use Rattle.swc_grammar.specs.Clean.{private_name, inside, close, opened, parens, primary, prefix_node, prefixed, prefix, unary_by, unary}
 use Rattle.swc_grammar.specs.Clean.{node_by, operation, turn_by, turn, go_on, turned, climb, operand, assign, step, run_at, run}
 
 -- what was read, and the tokens left
@@ -39,6 +43,15 @@ rest-less : (ts : List TokenAndSpan) → length (rest ts) ≤ length ts
 rest-less [] = omega arith
 rest-less (t ∷ ts) = omega arith
 
+word-less : (ok : Context → Word → Bool) (c : Context) (t : TokenAndSpan) (us : List TokenAndSpan) (r : Read Spelling) → word ok c (t ∷ us) ≡ Some r
+    → length r.1 ≤ length us
+unfolding word
+word-less ok c t us r h = one-less (spelled (ok c) t.token t.span) us r h
+
+no-word : (ok : Context → Word → Bool) (c : Context) (r : Read Spelling) → word ok c [] ≡ Some r → ⊥
+unfolding word
+no-word ok c r h = absurd cc
+
 -- what each function leaves, where the recursion leaves no more than it was given
 module _ {F C K : Type 0} (p : Call F C K → Context → List TokenAndSpan → Out (Tree F C K))
     (less : (k : Call F C K) (c : Context) (ts : List TokenAndSpan) (r : Read (Tree F C K)) → p k c ts ≡ Some r → length r.1 ≤ length ts) where
@@ -48,7 +61,24 @@ module _ {F C K : Type 0} (p : Call F C K → Context → List TokenAndSpan → 
 
   name-less : (c : Context) (t : TokenAndSpan) (us : List TokenAndSpan) (r : Read (Tree F C K)) → name p c (t ∷ us) ≡ Some r → length r.1 ≤ length us
   unfolding name
-  name-less c t us r h = one-less (name_of t.token t.span) us r h
+  name-less c t us r h =
+      let f : Read Spelling → Out (Tree F C K) = λ q. Some (ident_e q.0.at q.0.text, q.1) in
+      bind-less (word ref_ok c (t ∷ us)) f r _ (λ q e g. some-less (ident_e q.0.at q.0.text, q.1) r _ g (word-less ref_ok c t us q e)) h
+
+  hashed-less : (s : Span) (c : Context) (ts : List TokenAndSpan) (r : Read (Tree F C K)) → hashed p s c ts ≡ Some r → length r.1 ≤ length ts
+  unfolding hashed
+  hashed-less s c [] r h =
+      let f : Read Spelling → Out (Tree F C K) = λ q. Some (private_e (to s q.0.at) q.0.text, q.1) in
+      bind-less (word may_name c []) f r _ (λ q e g. absurd (no-word may_name c q e)) h
+  hashed-less s c (t ∷ us) r h =
+      let f : Read Spelling → Out (Tree F C K) = λ q. Some (private_e (to s q.0.at) q.0.text, q.1) in
+      bind-less (word may_name c (t ∷ us)) f r _
+      (λ q e g. let a = word-less may_name c t us q e in some-less (private_e (to s q.0.at) q.0.text, q.1) r _ g (omega arith)) h
+
+  private-less : (c : Context) (t : TokenAndSpan) (us : List TokenAndSpan) (r : Read (Tree F C K)) → private_name p c (t ∷ us) ≡ Some r
+      → length r.1 ≤ length us
+  unfolding private_name
+  private-less c t us r h = hashed-less t.span c us r h
 
   close-less : (s : Span) (e : Tree F C K) (ts : List TokenAndSpan) (r : Read (Tree F C K)) → close p s e ts ≡ Some r → length r.1 ≤ length ts
   unfolding close
@@ -79,12 +109,36 @@ module _ {F C K : Type 0} (p : Call F C K → Context → List TokenAndSpan → 
   primary-less c (t ∷ us) r h =
       let l = if-less (is_lit t.token) (lit p c (t ∷ us)) _ r (length us) (lit-less c t us r)
       (if-less (is_lparen t.token) (parens p c (t ∷ us)) _ r (length us) (parens-less c t us r)
-      (if-less (is_identifier c t.token) (name p c (t ∷ us)) None r (length us) (name-less c t us r) (λ g. absurd cc))) h in
+      (if-less (is_identifier c t.token) (name p c (t ∷ us)) _ r (length us) (name-less c t us r)
+      (if-less (is_hash t.token) (private_name p c (t ∷ us)) None r (length us) (private-less c t us r) (λ g. absurd cc)))) h in
       omega arith
+
+  prefix-node-less : (s : Span) (op : UnaryOp) (c : Context) (e : Tree F C K) (us : List TokenAndSpan) (r : Read (Tree F C K))
+      → prefix_node p s op c e us ≡ Some r → length r.1 ≤ length us
+  prefix-node-less s op c e us r h =
+      let v : Read (Tree F C K) = (unary_e (to s (span_of e)) op e, us) in
+      if-less (delete_ok c op e) (Some v) None r _ (λ g. some-less v r _ g (omega arith)) (λ g. absurd cc) h
+
+  prefixed-less : (s : Span) (op : UnaryOp) (c : Context) (ts : List TokenAndSpan) (r : Read (Tree F C K)) → prefixed p s op c ts ≡ Some r
+      → length r.1 ≤ length ts
+  unfolding prefixed
+  prefixed-less s op c ts r h =
+      bind-less (p to_unary c ts) (λ q. prefix_node p s op c q.0 q.1) r _
+      (λ q e g. let a = less to_unary c ts q e in let b = prefix-node-less s op c q.0 q.1 r g in omega arith) h
+
+  prefix-less : (op : UnaryOp) (c : Context) (ts : List TokenAndSpan) (r : Read (Tree F C K)) → prefix p op c ts ≡ Some r → length r.1 < length ts
+  unfolding prefix
+  prefix-less op c [] r h = absurd cc
+  prefix-less op c (t ∷ us) r h = let l = prefixed-less t.span op c us r h in omega arith
+
+  unary-by-less : (o : Option UnaryOp) (c : Context) (ts : List TokenAndSpan) (r : Read (Tree F C K)) → unary_by p o c ts ≡ Some r
+      → length r.1 < length ts
+  unary-by-less None c ts r h = primary-less c ts r h
+  unary-by-less (Some op) c ts r h = prefix-less op c ts r h
 
   unary-less : (c : Context) (ts : List TokenAndSpan) (r : Read (Tree F C K)) → unary p c ts ≡ Some r → length r.1 < length ts
   unfolding unary
-  unary-less c ts r h = primary-less c ts r h
+  unary-less c ts r h = unary-by-less (prefix_at (first ts)) c ts r h
 
   node-less : (op : BinaryOp) (l : Tree F C K) (m : ℕ) (u : Tree F C K) (us : List TokenAndSpan) (r : Read (Tree F C K × Option ℕ))
       → node_by p op l m u us ≡ Some r → length r.1 ≤ length us
@@ -96,8 +150,9 @@ module _ {F C K : Type 0} (p : Call F C K → Context → List TokenAndSpan → 
       → operation p op l m c ts ≡ Some r → length r.1 ≤ length ts
   unfolding operation
   operation-less op l m c ts r h =
-      bind-less (p (to_operand (precedence_of op)) c ts) (λ q. node_by p op l m q.0 q.1) r _
-      (λ q e g. let a = less (to_operand (precedence_of op)) c ts q e in let b = node-less op l m q.0 q.1 r g in omega arith) h
+      if-less (exp_ok op l) (p (to_operand (min_right op)) c ts >>= (λ q. node_by p op l m q.0 q.1)) None r _
+      (λ g. bind-less (p (to_operand (min_right op)) c ts) (λ q. node_by p op l m q.0 q.1) r _
+      (λ q e f. let a = less (to_operand (min_right op)) c ts q e in let b = node-less op l m q.0 q.1 r f in omega arith) g) (λ g. absurd cc) h
 
   turn-by-less : (o : Option BinaryOp) (l : Tree F C K) (m : ℕ) (c : Context) (ts : List TokenAndSpan) (r : Read (Tree F C K × Option ℕ))
       → turn_by p o l m c ts ≡ Some r → length r.1 ≤ length ts
@@ -139,6 +194,7 @@ module _ {F C K : Type 0} (p : Call F C K → Context → List TokenAndSpan → 
 
   step-less : (k : Call F C K) (c : Context) (ts : List TokenAndSpan) (r : Read (Tree F C K)) → step p k c ts ≡ Some r → length r.1 ≤ length ts
   step-less to_assign c ts r h = assign-less c ts r h
+  step-less to_unary c ts r h = let l = unary-less c ts r h in omega arith
   step-less (to_operand m) c ts r h = operand-less m c ts r h
   step-less (to_climb t m) c ts r h = climb-less t m c ts r h
 
@@ -155,6 +211,10 @@ run_less k c ts r h = run-at-less (suc (length ts)) k c ts r h
 pub run_primary_less : {F C K : Type 0} (c : Context) (ts : List TokenAndSpan) (r : Tree F C K × List TokenAndSpan) → primary run c ts ≡ Some r
     → length r.1 < length ts
 run_primary_less c ts r h = primary-less run run_less c ts r h
+
+pub run_unary_less : {F C K : Type 0} (c : Context) (ts : List TokenAndSpan) (r : Tree F C K × List TokenAndSpan) → unary run c ts ≡ Some r
+    → length r.1 < length ts
+run_unary_less c ts r h = unary-less run run_less c ts r h
 
 pub run_operation_less : {F C K : Type 0} (op : BinaryOp) (l : Tree F C K) (m : ℕ) (c : Context) (ts : List TokenAndSpan)
     (r : (Tree F C K × Option ℕ) × List TokenAndSpan) → operation run op l m c ts ≡ Some r → length r.1 ≤ length ts
@@ -179,8 +239,16 @@ module _ {F C K : Type 0} (p q : Call F C K → Context → List TokenAndSpan �
 
   name-same : (c : Context) (ts : List TokenAndSpan) → name p c ts ≡ name q c ts
   unfolding name
-  name-same c [] = refl
-  name-same c (t ∷ us) = refl
+  name-same c ts = refl
+
+  hashed-same : (s : Span) (c : Context) (ts : List TokenAndSpan) → hashed p s c ts ≡ hashed q s c ts
+  unfolding hashed
+  hashed-same s c ts = refl
+
+  private-same : (c : Context) (ts : List TokenAndSpan) → private_name p c ts ≡ private_name q c ts
+  unfolding private_name
+  private-same c [] = refl
+  private-same c (t ∷ us) = hashed-same t.span c us
 
   close-same : (s : Span) (e : Tree F C K) (ts : List TokenAndSpan) → close p s e ts ≡ close q s e ts
   unfolding close
@@ -207,17 +275,33 @@ module _ {F C K : Type 0} (p q : Call F C K → Context → List TokenAndSpan �
   primary-same c ts h =
       if-same (at_token is_lit (first ts)) _ _ _ _ (lit-same c ts)
       (if-same (at_token is_lparen (first ts)) _ _ _ _ (parens-same c ts h)
-      (if-same (at_token (is_identifier c) (first ts)) _ _ _ _ (name-same c ts) refl))
+      (if-same (at_token (is_identifier c) (first ts)) _ _ _ _ (name-same c ts)
+      (if-same (at_token is_hash (first ts)) _ _ _ _ (private-same c ts) refl)))
+
+  prefixed-same : (s : Span) (op : UnaryOp) (c : Context) (ts : List TokenAndSpan) → length ts < n → prefixed p s op c ts ≡ prefixed q s op c ts
+  unfolding prefixed
+  prefixed-same s op c ts h =
+      bind-same _ _ (λ r. prefix_node p s op c r.0 r.1) (λ r. prefix_node q s op c r.0 r.1) (same to_unary c ts h) (λ r e. refl)
+
+  prefix-same : (op : UnaryOp) (c : Context) (ts : List TokenAndSpan) → length ts ≤ n → prefix p op c ts ≡ prefix q op c ts
+  unfolding prefix
+  prefix-same op c [] h = refl
+  prefix-same op c (t ∷ us) h = prefixed-same t.span op c us (omega arith)
+
+  unary-by-same : (o : Option UnaryOp) (c : Context) (ts : List TokenAndSpan) → length ts ≤ n → unary_by p o c ts ≡ unary_by q o c ts
+  unary-by-same None c ts h = primary-same c ts h
+  unary-by-same (Some op) c ts h = prefix-same op c ts h
 
   unary-same : (c : Context) (ts : List TokenAndSpan) → length ts ≤ n → unary p c ts ≡ unary q c ts
   unfolding unary
-  unary-same c ts h = primary-same c ts h
+  unary-same c ts h = unary-by-same (prefix_at (first ts)) c ts h
 
   operation-same : (op : BinaryOp) (l : Tree F C K) (m : ℕ) (c : Context) (ts : List TokenAndSpan) → length ts < n
       → operation p op l m c ts ≡ operation q op l m c ts
   unfolding operation
   operation-same op l m c ts h =
-      bind-same _ _ (λ r. node_by p op l m r.0 r.1) (λ r. node_by q op l m r.0 r.1) (same (to_operand (precedence_of op)) c ts h) (λ r e. refl)
+      if-same (exp_ok op l) _ None _ None
+      (bind-same _ _ (λ r. node_by p op l m r.0 r.1) (λ r. node_by q op l m r.0 r.1) (same (to_operand (min_right op)) c ts h) (λ r e. refl)) refl
 
   stay-same : (t : Tree F C K) (c : Context) (ts : List TokenAndSpan) → turned p t None c ts ≡ turned q t None c ts
   unfolding turned
@@ -262,6 +346,7 @@ module _ {F C K : Type 0} (p q : Call F C K → Context → List TokenAndSpan �
 
   step-same : (k : Call F C K) (c : Context) (ts : List TokenAndSpan) → length ts ≤ n → step p k c ts ≡ step q k c ts
   step-same to_assign c ts h = assign-same c ts h
+  step-same to_unary c ts h = unary-same c ts h
   step-same (to_operand m) c ts h = operand-same m c ts h
   step-same (to_climb t m) c ts h = climb-same t m c ts h
 

@@ -1,5 +1,5 @@
 -- Levels of binary operators, and the operators that are read at a place.
-use Rattle.std.specs.Prelude.{◌≡◌, ℕ, zero, suc, ◌+◌, ◌-◌, ◌≤◌, List, [], ◌∷◌, Option, Some, None}
+use Rattle.std.specs.Prelude.{◌≡◌, ℕ, zero, suc, ◌+◌, ◌-◌, ◌≤◌, List, [], ◌∷◌, Some, None}
 use Rattle.std.proofs.Common.{refl, subst, arith}
 use Rattle.std.proofs.lemmas.Bool.{lt-ltb}
 use Rattle.swc_context.specs.Operators.{precedence_of}
@@ -9,8 +9,9 @@ use Rattle.swc_context.specs.declared.operator.BinaryOp.TheVariants as binary
 use Rattle.swc_input.specs.declared.token.TokenAndSpan.{TokenAndSpan}
 use Rattle.swc_ast.specs.Tree.{Tree}
 use Rattle.swc_grammar.specs.Tokens.{binary_of}
+use Rattle.swc_grammar.specs.Trees.{min_right}
 use Rattle.swc_grammar.specs.Grammar.{Hook, Reads, Level, level-up}
-use Rattle.swc_grammar.specs.Clean.{first, rest, but_exp, operator_at, Bound}
+use Rattle.swc_grammar.specs.Clean.{first, rest, operator_at, Bound}
 
 -- a level is any lower one
 lift_by : {F C K : Type 0} {hook : Hook F C K} {c : Context} {xs ys : List TokenAndSpan} {t : Tree F C K} (n i j : ℕ)
@@ -22,20 +23,21 @@ pub lift : {F C K : Type 0} {hook : Hook F C K} {c : Context} {xs ys : List Toke
     → i ≤ j → j ≤ 11 → Reads hook (Level j) c xs ys t → Reads hook (Level i) c xs ys t
 lift i j e h d = lift_by (j - i) i j (omega arith) h d
 
--- an operator that is read is no `**`, and so of a precedence up to 10
-of_same : (o op : BinaryOp) → Some o ≡ Some op → precedence_of o ≤ 10 → precedence_of op ≤ 10
-of_same o op h k = let same : o ≡ op = cc in subst (λ v. precedence_of v ≤ 10) same k
-
-but_exp-some : (o : Option BinaryOp) (op : BinaryOp) → but_exp o ≡ Some op → (o ≡ Some op) × (precedence_of op ≤ 10)
-but_exp-some None op h = cc
-but_exp-some (Some binary.Exp) op h = cc
-but_exp-some (Some o) op h = (h, of_same o op h (omega arith))
-
 -- where an operator is read, its token stands first
 pub operator-token : (c : Context) (ts : List TokenAndSpan) (op : BinaryOp) → operator_at c (first ts) ≡ Some op
-    → (t : TokenAndSpan) × (ts ≡ t ∷ rest ts) × (binary_of c t.token ≡ Some op) × (precedence_of op ≤ 10)
+    → (t : TokenAndSpan) × (ts ≡ t ∷ rest ts) × (binary_of c t.token ≡ Some op)
 operator-token c [] op h = cc
-operator-token c (t ∷ ts) op h = let k = but_exp-some (binary_of c t.token) op h in (t, refl, k.0, k.1)
+operator-token c (t ∷ ts) op h = (t, refl, h)
+
+-- no operator binds tighter than `**`
+pub below-exp : (op : BinaryOp) → precedence_of op ≤ 11
+below-exp binary.Exp = omega arith
+below-exp op = omega arith
+
+-- an operator but `**` goes on at its own precedence
+pub min-right-same : (op : BinaryOp) → precedence_of op ≤ 10 → min_right op ≡ precedence_of op
+min-right-same binary.Exp h = absurd (omega arith)
+min-right-same op h = refl
 
 -- what bounds the operator at a place: there is none, or it binds no tighter, or any operator is below
 pub bound-none : (c : Context) (m : ℕ) (ts : List TokenAndSpan) → operator_at c (first ts) ≡ None → Bound c m ts
@@ -44,5 +46,5 @@ bound-none c m ts h op k = cc
 pub bound-some : (c : Context) (m : ℕ) (ts : List TokenAndSpan) (op : BinaryOp) → operator_at c (first ts) ≡ Some op → precedence_of op ≤ m → Bound c m ts
 bound-some c m ts op h le op' k = let same : op ≡ op' = cc in subst (λ v. precedence_of v ≤ m) same le
 
-pub bound-any : (c : Context) (m : ℕ) (ts : List TokenAndSpan) → 10 ≤ m → Bound c m ts
-bound-any c m ts h op k = let (t, e, o, le) = operator-token c ts op k in omega arith
+pub bound-any : (c : Context) (m : ℕ) (ts : List TokenAndSpan) → 11 ≤ m → Bound c m ts
+bound-any c m ts h op k = let below = below-exp op in omega arith

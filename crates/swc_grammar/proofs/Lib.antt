@@ -1,3 +1,4 @@
+pub mod Answers
 pub mod Complete
 pub mod Computed
 pub mod Cut
@@ -5,9 +6,11 @@ pub mod Firsts
 pub mod Grouped
 pub mod Knot
 pub mod Levels
+pub mod Names
 pub mod One
 mod Refused
 mod Rows
 pub mod Sound
 pub mod Taking
 pub mod Texts
+pub mod Valid

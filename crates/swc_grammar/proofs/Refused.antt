@@ -1,25 +1,25 @@
 -- Texts that the grammar derives no tree from, read to their end: what it derives, the clean parser reads, and it reads none of these whole.
-use Rattle.std.specs.Prelude.{◌≡◌, Bool, true, false, ◌||◌, List, [], ◌∷◌, Some, None}
-use Rattle.std.proofs.Common.{refl, ap}
+use Rattle.std.specs.Prelude.{◌≡◌, List, [], ◌∷◌, Some, None}
+use Rattle.std.proofs.Common.{ap}
 use Rattle.swc_context.specs.declared.context.Context.{Context}
-use Rattle.swc_input.specs.declared.token.Token.{Token}
-use Rattle.swc_input.specs.declared.token.Token.TheVariants as token
 use Rattle.swc_input.specs.declared.token.TokenAndSpan.{TokenAndSpan}
 use Rattle.swc_ast.specs.Tree.{Tree}
-use Rattle.swc_grammar.specs.Tokens.{ref_ok}
-use Rattle.swc_grammar.specs.Grammar.{Hook, Symbol, Expr, Reads, expr-one, assign-level, level-up, level-op, level-unary, unary-primary}
-use Rattle.swc_grammar.specs.Grammar.{primary-null, primary-true, primary-false, primary-num, primary-big, primary-str, primary-ref, primary-paren}
-use Rattle.swc_grammar.specs.Clean.{is_lit}
+use Rattle.swc_grammar.specs.Grammar.{Hook, Expr, Reads}
 use Rattle.swc_grammar.proofs.Complete.{expr-complete}
 use Rattle.swc_grammar.proofs.Computed.{answer, in_test-front, no_tokens-computed, closer-computed, empty_parens-computed, half_sum-computed}
 use Rattle.swc_grammar.proofs.Computed.{half_number_sum-computed, or_after_default-computed, default_after_or-computed, default_after_and-computed}
-use Rattle.swc_grammar.proofs.Computed.{async_word-computed, if_word-computed, two_names-computed, unclosed-computed}
-use Rattle.swc_grammar.proofs.Texts.{no_in, script, module_code, class_field, in_test, let_word, arguments_word, closer, empty_parens, half_sum}
-use Rattle.swc_grammar.proofs.Texts.{half_number_sum, or_after_default, default_after_or, default_after_and, async_word, if_word, two_names, unclosed}
+use Rattle.swc_grammar.proofs.Computed.{async_word-computed, if_word-computed, two_names-computed, unclosed-computed, power_of_minus-computed}
+use Rattle.swc_grammar.proofs.Computed.{power_of_minus_in_product-computed, hash_and_sign-computed, lone_minus-computed, delete_name-module}
+use Rattle.swc_grammar.proofs.Computed.{let_word-module, implements_word-module, yield_word-generator, arguments_word-field}
+use Rattle.swc_grammar.proofs.Texts.{no_in, script, module_code, class_field, generator, in_test, let_word, arguments_word, delete_name, yield_word}
+use Rattle.swc_grammar.proofs.Texts.{implements_word, power_of_minus, power_of_minus_in_product, hash_and_sign, lone_minus, closer, empty_parens}
+use Rattle.swc_grammar.proofs.Texts.{half_sum, half_number_sum, or_after_default, default_after_or, default_after_and, async_word, if_word, two_names}
+use Rattle.swc_grammar.proofs.Texts.{unclosed}
 
 module _ {F C K : Type 0} (hook : Hook F C K) where
   -- what is derived from a whole text is answered for it
   whole : {c : Context} {xs : List TokenAndSpan} {e : Tree F C K} → Reads hook Expr c xs [] e → answer c xs ≡ Some (e, [])
+  unfolding answer
   whole d = expr-complete d (λ op h. cc)
 
   refused : {c : Context} {xs : List TokenAndSpan} {e : Tree F C K} → answer {F = F} {C = C} {K = K} c xs ≡ None → Reads hook Expr c xs [] e → ⊥
@@ -86,41 +86,38 @@ module _ {F C K : Type 0} (hook : Hook F C K) where
   in_test-refused : {e : Tree F C K} → Reads hook Expr no_in in_test [] e → ⊥
   in_test-refused d = unread in_test-front d
 
--- A word that is an early error where it stands begins no reading. The clean parser doesn't look for these errors.
-abbrev allowed : Context → Token → Bool
-allowed c (token.Word w) = is_lit (token.Word w) || ref_ok c w
-allowed c t = true
+  -- -a ** b
+  power_of_minus-refused : {e : Tree F C K} → Reads hook Expr script power_of_minus [] e → ⊥
+  power_of_minus-refused d = refused power_of_minus-computed d
 
-abbrev first_allowed : Context → List TokenAndSpan → Bool
-first_allowed c [] = true
-first_allowed c (t ∷ ts) = allowed c t.token
+  -- a * -b ** c
+  power_of_minus_in_product-refused : {e : Tree F C K} → Reads hook Expr script power_of_minus_in_product [] e → ⊥
+  power_of_minus_in_product-refused d = refused power_of_minus_in_product-computed d
 
-second : (a b : Bool) → b ≡ true → (a || b) ≡ true
-second true b h = refl
-second false b h = h
+  -- # +
+  hash_and_sign-refused : {e : Tree F C K} → Reads hook Expr script hash_and_sign [] e → ⊥
+  hash_and_sign-refused d = refused hash_and_sign-computed d
 
-begins-allowed : {F C K : Type 0} {hook : Hook F C K} {s : Symbol} {c : Context} {xs ys : List TokenAndSpan} {e : Tree F C K}
-    → Reads hook s c xs ys e → first_allowed c xs ≡ true
-begins-allowed (expr-one d) = begins-allowed d
-begins-allowed (assign-level d) = begins-allowed d
-begins-allowed (level-up h d) = begins-allowed d
-begins-allowed (level-op h p q f g dl dr) = begins-allowed dl
-begins-allowed (level-unary d) = begins-allowed d
-begins-allowed (unary-primary d) = begins-allowed d
-begins-allowed primary-null = refl
-begins-allowed primary-true = refl
-begins-allowed primary-false = refl
-begins-allowed primary-num = refl
-begins-allowed primary-big = refl
-begins-allowed primary-str = refl
-begins-allowed (primary-ref {c = c} {w = w} h k) = second (is_lit (token.Word w)) (ref_ok c w) k
-begins-allowed (primary-paren d) = refl
+  -- -
+  lone_minus-refused : {e : Tree F C K} → Reads hook Expr script lone_minus [] e → ⊥
+  lone_minus-refused d = refused lone_minus-computed d
 
-module _ {F C K : Type 0} (hook : Hook F C K) where
+  -- delete a, in a module
+  delete_name-refused : {e : Tree F C K} → Reads hook Expr module_code delete_name [] e → ⊥
+  delete_name-refused d = refused delete_name-module d
+
   -- let, in a module
   let_word-refused : {e : Tree F C K} → Reads hook Expr module_code let_word [] e → ⊥
-  let_word-refused d = let k = begins-allowed d in absurd cc
+  let_word-refused d = refused let_word-module d
+
+  -- implements, in a module
+  implements_word-refused : {e : Tree F C K} → Reads hook Expr module_code implements_word [] e → ⊥
+  implements_word-refused d = refused implements_word-module d
+
+  -- yield, in a generator
+  yield_word-refused : {e : Tree F C K} → Reads hook Expr generator yield_word [] e → ⊥
+  yield_word-refused d = refused yield_word-generator d
 
   -- arguments, in a class field
   arguments_word-refused : {e : Tree F C K} → Reads hook Expr class_field arguments_word [] e → ⊥
-  arguments_word-refused d = let k = begins-allowed d in absurd cc
+  arguments_word-refused d = refused arguments_word-field d

@@ -5,6 +5,8 @@ use Rattle.swc_context.specs.declared.operator.BinOpToken.{BinOpToken}
 use Rattle.swc_context.specs.declared.operator.BinOpToken.TheVariants as sign
 use Rattle.swc_context.specs.declared.operator.BinaryOp.{BinaryOp}
 use Rattle.swc_context.specs.declared.operator.BinaryOp.TheVariants as binary
+use Rattle.swc_context.specs.declared.operator.UnaryOp.{UnaryOp}
+use Rattle.swc_context.specs.declared.operator.UnaryOp.TheVariants as prefix
 use Rattle.swc_context.specs.declared.span.Span.{Span}
 use Rattle.swc_context.specs.declared.word.Keyword.TheVariants as keyword
 use Rattle.swc_context.specs.declared.word.Word.{Word}
@@ -14,7 +16,7 @@ use Rattle.swc_input.specs.declared.token.Token.TheVariants as token
 use Rattle.swc_input.specs.declared.token.TokenAndSpan.{TokenAndSpan}
 use Rattle.swc_ast.specs.Tree.{Tree}
 use Rattle.swc_grammar.specs.Tokens.{tk}
-use Rattle.swc_grammar.specs.Trees.{null_e, boolean_e, num_e, big_e, str_e, ident_e, paren_e, bin_e}
+use Rattle.swc_grammar.specs.Trees.{null_e, boolean_e, num_e, big_e, str_e, ident_e, private_e, unary_e, paren_e, bin_e}
 
 -- a script, where `in` isn't an operator, and where it is
 abbrev pub no_in : Context
@@ -43,12 +45,15 @@ no_in = record {
 abbrev pub script : Context
 script = record no_in { include_in_expr = true }
 
--- a module, and a class field of a script
+-- a module; a class field and a generator of a script
 abbrev pub module_code : Context
 module_code = record script { «module» = true; strict = true }
 
 abbrev pub class_field : Context
 class_field = record script { in_class = true; in_class_field = true }
+
+abbrev pub generator : Context
+generator = record script { in_generator = true; in_function = true; inside_non_arrow_function_scope = true }
 
 abbrev pub place : ℕ → ℕ → Span
 place lo hi = record { lo = record { 0 = lo }; hi = record { 0 = hi } }
@@ -75,12 +80,21 @@ open_at lo hi = tok token.LParen lo hi
 abbrev pub close_at : ℕ → ℕ → TokenAndSpan
 close_at lo hi = tok token.RParen lo hi
 
+abbrev pub hash_at : ℕ → ℕ → TokenAndSpan
+hash_at lo hi = tok token.Hash lo hi
+
 -- trees from lo to before hi
 abbrev pub ident : {F C K : Type 0} → List ℕ → ℕ → ℕ → Tree F C K
 ident w lo hi = ident_e (place lo hi) w
 
 abbrev pub num : {F C K : Type 0} → List ℕ → ℕ → ℕ → Tree F C K
 num raw lo hi = num_e (place lo hi) raw
+
+abbrev pub private : {F C K : Type 0} → List ℕ → ℕ → ℕ → Tree F C K
+private w lo hi = private_e (place lo hi) w
+
+abbrev pub unary : {F C K : Type 0} → ℕ → ℕ → UnaryOp → Tree F C K → Tree F C K
+unary lo hi op e = unary_e (place lo hi) op e
 
 abbrev pub bin : {F C K : Type 0} → ℕ → ℕ → BinaryOp → Tree F C K → Tree F C K → Tree F C K
 bin lo hi op l r = bin_e (place lo hi) op l r
@@ -249,6 +263,98 @@ order_in_equality_tree = bin 0 10 binary.EqEq (bin 0 5 binary.Lt (ident (codes "
 -- a ** b
 abbrev pub power : List TokenAndSpan
 power = name_at (codes "a") 0 1 ∷ sign_at sign.Exp 2 4 ∷ name_at (codes "b") 5 6 ∷ []
+
+abbrev pub power_tree : {F C K : Type 0} → Tree F C K
+power_tree = bin 0 6 binary.Exp (ident (codes "a") 0 1) (ident (codes "b") 5 6)
+
+-- 2 ** 3 ** 4
+abbrev pub two_powers : List TokenAndSpan
+two_powers = num_at (codes "2") 0 1 ∷ sign_at sign.Exp 2 4 ∷ num_at (codes "3") 5 6 ∷ sign_at sign.Exp 7 9 ∷ num_at (codes "4") 10 11 ∷ []
+
+abbrev pub two_powers_tree : {F C K : Type 0} → Tree F C K
+two_powers_tree = bin 0 11 binary.Exp (num (codes "2") 0 1) (bin 5 11 binary.Exp (num (codes "3") 5 6) (num (codes "4") 10 11))
+
+-- -a
+abbrev pub minus_name : List TokenAndSpan
+minus_name = sign_at sign.Sub 0 1 ∷ name_at (codes "a") 1 2 ∷ []
+
+abbrev pub minus_name_tree : {F C K : Type 0} → Tree F C K
+minus_name_tree = unary 0 2 prefix.Minus (ident (codes "a") 1 2)
+
+-- !-a
+abbrev pub not_minus_name : List TokenAndSpan
+not_minus_name = tok token.Bang 0 1 ∷ sign_at sign.Sub 1 2 ∷ name_at (codes "a") 2 3 ∷ []
+
+abbrev pub not_minus_name_tree : {F C K : Type 0} → Tree F C K
+not_minus_name_tree = unary 0 3 prefix.Bang (unary 1 3 prefix.Minus (ident (codes "a") 2 3))
+
+-- (-a) ** b
+abbrev pub minus_in_power : List TokenAndSpan
+minus_in_power =
+    open_at 0 1 ∷ sign_at sign.Sub 1 2 ∷ name_at (codes "a") 2 3 ∷ close_at 3 4 ∷ sign_at sign.Exp 5 7 ∷ name_at (codes "b") 8 9 ∷ []
+
+abbrev pub minus_in_power_tree : {F C K : Type 0} → Tree F C K
+minus_in_power_tree = bin 0 9 binary.Exp (paren 0 4 (unary 1 3 prefix.Minus (ident (codes "a") 2 3))) (ident (codes "b") 8 9)
+
+-- typeof a + b
+abbrev pub type_in_sum : List TokenAndSpan
+type_in_sum = word_at (word.Keyword keyword.TypeOf) 0 6 ∷ name_at (codes "a") 7 8 ∷ sign_at sign.Add 9 10 ∷ name_at (codes "b") 11 12 ∷ []
+
+abbrev pub type_in_sum_tree : {F C K : Type 0} → Tree F C K
+type_in_sum_tree = bin 0 12 binary.Add (unary 0 8 prefix.TypeOf (ident (codes "a") 7 8)) (ident (codes "b") 11 12)
+
+-- delete a
+abbrev pub delete_name : List TokenAndSpan
+delete_name = word_at (word.Keyword keyword.Delete) 0 6 ∷ name_at (codes "a") 7 8 ∷ []
+
+abbrev pub delete_name_tree : {F C K : Type 0} → Tree F C K
+delete_name_tree = unary 0 8 prefix.Delete (ident (codes "a") 7 8)
+
+-- #a
+abbrev pub private_word : List TokenAndSpan
+private_word = hash_at 0 1 ∷ name_at (codes "a") 1 2 ∷ []
+
+abbrev pub private_word_tree : {F C K : Type 0} → Tree F C K
+private_word_tree = private (codes "a") 0 2
+
+-- # a
+abbrev pub hash_and_name : List TokenAndSpan
+hash_and_name = hash_at 0 1 ∷ name_at (codes "a") 2 3 ∷ []
+
+abbrev pub hash_and_name_tree : {F C K : Type 0} → Tree F C K
+hash_and_name_tree = private (codes "a") 0 3
+
+-- yield
+abbrev pub yield_word : List TokenAndSpan
+yield_word = word_at (word.Keyword keyword.Yield) 0 5 ∷ []
+
+abbrev pub yield_word_tree : {F C K : Type 0} → Tree F C K
+yield_word_tree = ident (codes "yield") 0 5
+
+-- implements
+abbrev pub implements_word : List TokenAndSpan
+implements_word = name_at (codes "implements") 0 10 ∷ []
+
+abbrev pub implements_word_tree : {F C K : Type 0} → Tree F C K
+implements_word_tree = ident (codes "implements") 0 10
+
+-- -a ** b
+abbrev pub power_of_minus : List TokenAndSpan
+power_of_minus = sign_at sign.Sub 0 1 ∷ name_at (codes "a") 1 2 ∷ sign_at sign.Exp 3 5 ∷ name_at (codes "b") 6 7 ∷ []
+
+-- a * -b ** c
+abbrev pub power_of_minus_in_product : List TokenAndSpan
+power_of_minus_in_product =
+    name_at (codes "a") 0 1 ∷ sign_at sign.Mul 2 3 ∷ sign_at sign.Sub 4 5 ∷ name_at (codes "b") 5 6 ∷ sign_at sign.Exp 7 9 ∷ name_at (codes "c") 10 11
+    ∷ []
+
+-- # +
+abbrev pub hash_and_sign : List TokenAndSpan
+hash_and_sign = hash_at 0 1 ∷ sign_at sign.Add 2 3 ∷ []
+
+-- -
+abbrev pub lone_minus : List TokenAndSpan
+lone_minus = sign_at sign.Sub 0 1 ∷ []
 
 -- )
 abbrev pub closer : List TokenAndSpan

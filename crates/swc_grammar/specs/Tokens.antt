@@ -1,11 +1,13 @@
 -- Tokens, as the grammar tells them apart.
-use Rattle.std.specs.Prelude.{◌≡◌, Bool, true, false, not, ◌&&◌, ◌||◌, if◌then◌else◌, Option, Some, None, codes}
+use Rattle.std.specs.Prelude.{Bool, true, false, not, ◌&&◌, ◌||◌, if◌then◌else◌, Option, Some, None, codes}
 use Rattle.swc_context.specs.Operators.{operator_of}
-use Rattle.swc_context.specs.Reserved.{is_reserved, is_text, is_one_of, strict_words}
-use Rattle.swc_context.specs.Words.{word_text}
+use Rattle.swc_context.specs.Reserved.{is_reserved, is_text, is_one_of, strict_reserved, strict_binding_words}
 use Rattle.swc_context.specs.declared.context.Context.{Context}
 use Rattle.swc_context.specs.declared.operator.BinaryOp.{BinaryOp}
 use Rattle.swc_context.specs.declared.operator.BinaryOp.TheVariants as binary
+use Rattle.swc_context.specs.declared.operator.BinOpToken.TheVariants as sign
+use Rattle.swc_context.specs.declared.operator.UnaryOp.{UnaryOp}
+use Rattle.swc_context.specs.declared.operator.UnaryOp.TheVariants as unary
 use Rattle.swc_context.specs.declared.span.Span.{Span}
 use Rattle.swc_context.specs.declared.word.Keyword.TheVariants as keyword
 use Rattle.swc_context.specs.declared.word.Word.{Word}
@@ -22,24 +24,55 @@ tk t b s = record { token = t; had_line_break = b; span = s }
 abbrev pub with_in : Context → Context
 with_in c = record c { include_in_expr = true }
 
--- An identifier reference (ECMA-262, 13.1): a word that isn't reserved where it stands, or `let`. So far `async` is none.
-abbrev pub is_name : Context → Word → Bool
-is_name c (word.Ident w) = not (is_reserved c (word.Ident w)) && not (is_text w (codes "async"))
-is_name c w = false
+-- An identifier reference (ECMA-262, 13.1): a word that isn't reserved where it stands, or `let`.
+abbrev pub is_reference : Context → Word → Bool
+is_reference c (word.Keyword keyword.Let) = true
+is_reference c w = not (is_reserved c w)
 
+-- Words that no expression begins with so far, though they may be identifier references.
+abbrev pub is_put_off : Word → Bool
+is_put_off (word.Keyword keyword.Await) = true
+is_put_off (word.Ident w) = is_text w (codes "async")
+is_put_off w = false
+
+-- an identifier reference that is an expression by itself
 abbrev pub is_ref : Context → Word → Bool
-is_ref c (word.Keyword keyword.Let) = true
-is_ref c w = is_name c w
+is_ref c w = is_reference c w && not (is_put_off w)
 
--- Early errors of identifier references (ECMA-262, 13.1.1 and 15.7.1): in a module none is a word that strict code reserves, and in
--- a class field none is `arguments`.
+-- A binding identifier (13.1): a word that is no keyword, or `let`, `yield` or `await`; but nothing written `yield` in a generator, and no
+-- `await` in async code, in a static block or in a module.
+abbrev pub is_binding : Context → Word → Bool
+is_binding c (word.Ident w) = not (is_text w (codes "enum")) && not (c.in_generator && is_text w (codes "yield"))
+is_binding c (word.Keyword keyword.Let) = true
+is_binding c (word.Keyword keyword.Yield) = not c.in_generator
+is_binding c (word.Keyword keyword.Await) = not (c.in_async || c.in_static_block || c.module)
+is_binding c w = false
+
+-- Words that are no identifiers in a module, as its code is strict (12.7.2, 13.1.1).
+abbrev pub is_strict_word : Word → Bool
+is_strict_word (word.Keyword keyword.Let) = true
+is_strict_word (word.Keyword keyword.Yield) = true
+is_strict_word (word.Keyword keyword.Await) = true
+is_strict_word (word.Ident w) = is_text w (codes "static") || is_one_of w strict_reserved
+is_strict_word w = false
+
+-- the name `arguments`, and the names that strict code doesn't bind
+abbrev pub is_arguments : Word → Bool
+is_arguments (word.Ident w) = is_text w (codes "arguments")
+is_arguments w = false
+
+abbrev pub is_strict_binding : Word → Bool
+is_strict_binding (word.Ident w) = is_one_of w strict_binding_words
+is_strict_binding w = false
+
+-- Early errors of identifier references (13.1.1 and 15.7.1): in a module none is a word that strict code reserves, and in a class field
+-- none is `arguments`. Elsewhere in strict code the former isn't looked at.
 abbrev pub ref_ok : Context → Word → Bool
-ref_ok c w = not (c.module && is_one_of (word_text w) strict_words) && not (c.in_class_field && is_text (word_text w) (codes "arguments"))
+ref_ok c w = not (c.module && is_strict_word w) && not (c.in_class_field && is_arguments w)
 
--- where no early error of identifier references arises
-pub record Lenient (c : Context) : Type 0 where
-  pub script : c.module ≡ false
-  pub outside_fields : c.in_class_field ≡ false
+-- Early errors of binding identifiers (13.1.1): these, and in a module none is a name that strict code doesn't bind.
+abbrev pub binding_ok : Context → Word → Bool
+binding_ok c w = ref_ok c w && not (c.module && is_strict_binding w)
 
 -- The binary operator that a token is (ECMA-262, 13.6 to 13.13); `in` is one only where the context includes it.
 abbrev pub binary_of : Context → Token → Option BinaryOp
@@ -47,6 +80,17 @@ binary_of c (token.Word (word.Keyword keyword.In)) = if c.include_in_expr then S
 binary_of c (token.Word (word.Keyword keyword.InstanceOf)) = Some binary.InstanceOf
 binary_of c (token.BinOp b) = Some (operator_of b)
 binary_of c t = None
+
+-- The prefix operator that a token is (13.5), but for `++`, `--` and `await`.
+abbrev pub prefix_of : Token → Option UnaryOp
+prefix_of (token.Word (word.Keyword keyword.Delete)) = Some unary.Delete
+prefix_of (token.Word (word.Keyword keyword.Void)) = Some unary.Void
+prefix_of (token.Word (word.Keyword keyword.TypeOf)) = Some unary.TypeOf
+prefix_of (token.BinOp sign.Add) = Some unary.Plus
+prefix_of (token.BinOp sign.Sub) = Some unary.Minus
+prefix_of token.Tilde = Some unary.Tilde
+prefix_of token.Bang = Some unary.Bang
+prefix_of t = None
 
 -- Hard stops: what no expression goes on with. A word with a line break before it is one, unless it is an operator.
 abbrev pub is_word_stop : Word → Bool

@@ -3,10 +3,13 @@ use Rattle.std.specs.Prelude.{ℕ, Bool, true, false, not, ◌&&◌, ◌||◌, L
 use Rattle.swc_context.specs.Operators.{precedence_of}
 use Rattle.swc_context.specs.declared.operator.BinaryOp.{BinaryOp}
 use Rattle.swc_context.specs.declared.operator.BinaryOp.TheVariants as binary
+use Rattle.swc_context.specs.declared.context.Context.{Context}
+use Rattle.swc_context.specs.declared.operator.UnaryOp.{UnaryOp}
+use Rattle.swc_context.specs.declared.operator.UnaryOp.TheVariants as prefix
 use Rattle.swc_context.specs.declared.span.BytePos.{BytePos}
 use Rattle.swc_context.specs.declared.span.Span.{Span}
 use Rattle.swc_ast.specs.Tree.{Tree, node, Trees, nil, cons}
-use Rattle.swc_ast.specs.Tree.{ident, str, boolean, null, num, big, bin, paren}
+use Rattle.swc_ast.specs.Tree.{Kind, ident, private, str, boolean, null, num, big, unary, await, bin, paren, invalid}
 
 -- From the start of the first place to the end of the second: where the tokens are in order, the span of a node. The smaller end
 -- stands first in any case.
@@ -33,6 +36,12 @@ str_e s value raw = node (str value raw) s nil
 
 pattern abbrev pub ident_e : {F C K : Type 0} → Span → List ℕ → Tree F C K
 ident_e s name = node (ident name) s nil
+
+pattern abbrev pub private_e : {F C K : Type 0} → Span → List ℕ → Tree F C K
+private_e s name = node (private name) s nil
+
+pattern abbrev pub unary_e : {F C K : Type 0} → Span → UnaryOp → Tree F C K → Tree F C K
+unary_e s op e = node (unary op) s (cons e nil)
 
 pattern abbrev pub paren_e : {F C K : Type 0} → Span → Tree F C K → Tree F C K
 paren_e s e = node paren s (cons e nil)
@@ -66,15 +75,53 @@ nullish_ok op l r = not (is_nullish_op op && (is_logical l || is_logical r))
 abbrev pub logical_ok : {F C K : Type 0} → BinaryOp → Tree F C K → Bool
 logical_ok op l = not (is_logical_op op && is_nullish l)
 
+-- The early error of `delete` (13.5.1.1): in a module its operand is no identifier reference. Elsewhere in strict code that isn't looked
+-- at.
+abbrev pub is_delete : UnaryOp → Bool
+is_delete prefix.Delete = true
+is_delete op = false
+
+abbrev pub is_ident : {F C K : Type 0} → Tree F C K → Bool
+is_ident (node (ident name) s ts) = true
+is_ident t = false
+
+abbrev pub delete_ok : {F C K : Type 0} → Context → UnaryOp → Tree F C K → Bool
+delete_ok c op t = not (c.module && (is_delete op && is_ident t))
+
+-- a node of a prefix operator or of `await`, which `**` doesn't take on its left (13.6)
+abbrev pub is_unary : {F C K : Type 0} → Tree F C K → Bool
+is_unary (node (unary op) s ts) = true
+is_unary (node await s ts) = true
+is_unary t = false
+
+abbrev pub is_exp : BinaryOp → Bool
+is_exp binary.Exp = true
+is_exp op = false
+
+abbrev pub exp_ok : {F C K : Type 0} → BinaryOp → Tree F C K → Bool
+exp_ok op l = not (is_exp op && is_unary l)
+
 -- How tightly a tree holds together: what isn't a binary operator holds tightest.
 abbrev pub tightness : {F C K : Type 0} → Tree F C K → ℕ
 tightness (bin_e s op l r) = precedence_of op
 tightness t = 12
 
--- Everywhere in a tree operators group by how tightly they bind, to the left where they bind alike; and no `??` stands directly over
--- or under `||` or `&&` but for one on the right of a `||` or `&&`, which its own precedence keeps out.
+-- How tightly the left operand of an operator has to hold at least, and the precedence above which operators belong to the right one:
+-- `**` groups to the right, all others to the left.
+abbrev pub least_left : BinaryOp → ℕ
+least_left binary.Exp = 12
+least_left op = precedence_of op
+
+abbrev pub min_right : BinaryOp → ℕ
+min_right binary.Exp = 10
+min_right op = precedence_of op
+
+-- Everywhere in a tree operators group by how tightly they bind, to the left where they bind alike, but for `**`, which groups to the
+-- right and has no prefix operator on its left; a prefix operator has no binary one below it; and no `??` stands directly over or under
+-- `||` or `&&` but for one on the right of a `||` or `&&`, which its own precedence keeps out.
 abbrev pub grouped_at : {F C K : Type 0} → Tree F C K → Bool
-grouped_at (bin_e s op l r) = nat_le (precedence_of op) (tightness l) && nat_lt (precedence_of op) (tightness r) && nullish_ok op l r && logical_ok op l
+grouped_at (bin_e s op l r) = nat_le (least_left op) (tightness l) && nat_lt (min_right op) (tightness r) && exp_ok op l && nullish_ok op l r && logical_ok op l
+grouped_at (unary_e s op e) = nat_le 12 (tightness e)
 grouped_at t = true
 
 abbrev mutual
@@ -84,3 +131,16 @@ abbrev mutual
   pub are_grouped : {F C K : Type 0} → Trees F C K → Bool
   are_grouped nil = true
   are_grouped (cons t ts) = is_grouped t && are_grouped ts
+
+-- a tree that holds no place where something was expected and not found
+abbrev pub is_invalid : {F C K : Type 0} → Kind F C K → Bool
+is_invalid invalid = true
+is_invalid k = false
+
+abbrev mutual
+  pub is_valid : {F C K : Type 0} → Tree F C K → Bool
+  is_valid (node k s ts) = not (is_invalid k) && are_valid ts
+
+  pub are_valid : {F C K : Type 0} → Trees F C K → Bool
+  are_valid nil = true
+  are_valid (cons t ts) = is_valid t && are_valid ts
