@@ -1,23 +1,24 @@
 -- The clean parser's functions, a step at a time, as the code goes them.
-use Rattle.std.proofs.Common.{◌≡◌, ℕ, ◌≤◌, ◌<◌, true, false, not, ◌||◌, List, [], ◌∷◌, Option, Some, None, refl, sym, ap, ◌∙◌}
+use Rattle.std.proofs.Common.{◌≡◌, ℕ, ◌≤◌, ◌<◌, true, false, not, ◌||◌, ◌&&◌, List, [], ◌∷◌, Option, Some, None, refl, sym, ap, ◌∙◌}
 use Rattle.std.proofs.lemmas.Bool.{le-leb, lt-leb}
 use Rattle.swc_context.specs.Operators.{precedence_of}
 use Rattle.swc_context.specs.declared.context.Context.{Context}
 use Rattle.swc_context.specs.declared.operator.BinaryOp.{BinaryOp}
+use Rattle.swc_context.specs.declared.operator.UnaryOp.{UnaryOp}
 use Rattle.swc_context.specs.declared.span.Span.{Span}
-use Rattle.swc_context.specs.Words.{word_text}
-use Rattle.swc_context.specs.declared.word.Word.TheVariants as word
+use Rattle.swc_context.specs.declared.word.Word.TheVariants as written
 use Rattle.swc_input.specs.declared.token.Token.{Token}
 use Rattle.swc_input.specs.declared.token.Token.TheVariants as token
 use Rattle.swc_input.specs.declared.token.TokenAndSpan.{TokenAndSpan}
-use Rattle.swc_input.specs.Plain.{plain, plain_token}
+use Rattle.swc_input.specs.Plain.{plain}
 use Rattle.swc_ast.specs.Tree.{Tree, span_of}
 use Rattle.swc_bodies.specs.Readings.{at_token}
-use Rattle.swc_grammar.specs.Tokens.{with_in}
-use Rattle.swc_grammar.specs.Trees.{to, ident_e, paren_e, bin_e, is_logical, is_nullish_op, nullish_ok}
-use Rattle.swc_grammar.specs.Clean.{Out, ◌>>=◌, first, rest, is_lit, is_lparen, is_rparen, is_identifier, no_error, operator_at, left_ok, lit_of, name_of, one, Call, to_assign, to_operand, to_climb, lit, name, inside, close, opened, parens, primary, unary, node_by, operation, turn, go_on, turned, climb, operand, assign, run}
+use Rattle.swc_grammar.specs.Tokens.{with_in, ref_ok}
+use Rattle.swc_grammar.specs.Trees.{to, ident_e, private_e, unary_e, paren_e, bin_e, is_logical, is_nullish_op, nullish_ok, exp_ok, delete_ok, min_right}
+use Rattle.swc_grammar.specs.Clean.{Out, ◌>>=◌, first, rest, is_lit, is_lparen, is_rparen, is_identifier, is_hash, no_error, operator_at, prefix_at, left_ok, lit_of, one, spelled, may_name, Call, to_assign, to_unary, to_operand, to_climb}
+use Rattle.swc_grammar.specs.Clean.{word, lit, name, hashed, private_name, inside, close, opened, parens, primary, prefix_node, prefixed, prefix, unary, node_by, operation, turn, go_on, turned, climb, operand, assign, run}
 use Rattle.swc_grammar.proofs.Knot.{knot}
-use Rattle.swc_ecma_parser.specs.Parsing.{text_of, seen_of}
+use Rattle.swc_ecma_parser.specs.Parsing.{is_strict, seen_of}
 
 error_no : (t : Token) → no_error t ≡ false → is_lit t ≡ false
 error_no (token.Error e) h = refl
@@ -40,6 +41,11 @@ nullish_both op l r h = rw h refl
 pub same_op : {x y : Context} {s r : Option TokenAndSpan} (o q : Option BinaryOp) → x ≡ y → r ≡ s → o ≡ operator_at y s → o ≡ q → operator_at x r ≡ q
 same_op o q h i j k = rw (h, i) (sym j ∙ k)
 
+-- in a module a word of strict code is none
+strict_not : (c : Context) (t : Token) (s : Span) → c.module && is_strict t ≡ true → spelled (ref_ok c) t s ≡ None
+strict_not c (token.Word w) s h = rw h refl
+strict_not c t s h = refl
+
 abbrev pub runs : (F C K : Type 0) → Call F C K → Context → List TokenAndSpan → Out (Tree F C K)
 runs F C K = run
 
@@ -60,9 +66,27 @@ module _ {F C K : Type 0} where
   unfolding operand
   operand_splits m x ts = refl
 
-  pub unary_is : (x : Context) (ts : List TokenAndSpan) → unary (runs F C K) x ts ≡ primary (runs F C K) x ts
+  pub unary_prefix : (op : UnaryOp) (x : Context) (ts : List TokenAndSpan) → prefix_at (first ts) ≡ Some op → unary (runs F C K) x ts ≡ prefix (runs F C K) op x ts
   unfolding unary
-  unary_is x ts = refl
+  unary_prefix op x ts h = rw h refl
+
+  pub unary_primary : (x : Context) (ts : List TokenAndSpan) → prefix_at (first ts) ≡ None → unary (runs F C K) x ts ≡ primary (runs F C K) x ts
+  unfolding unary
+  unary_primary x ts h = rw h refl
+
+  pub prefix_opens : (op : UnaryOp) (t : TokenAndSpan) (x : Context) (ts : List TokenAndSpan) → prefix (runs F C K) op x (t ∷ ts) ≡ prefixed (runs F C K) t.span op x ts
+  unfolding prefix
+  prefix_opens op t x ts = refl
+
+  pub prefixed_splits : (s : Span) (op : UnaryOp) (x : Context) (ts : List TokenAndSpan) → prefixed (runs F C K) s op x ts ≡ (unary (runs F C K) x ts >>= (λ p. prefix_node (runs F C K) s op x p.0 p.1))
+  unfolding prefixed
+  prefixed_splits s op x ts = rw (knot to_unary x ts) refl
+
+  pub prefix_well : (s : Span) (op : UnaryOp) (x : Context) (t : Tree F C K) (ts : List TokenAndSpan) → delete_ok x op t ≡ true → prefix_node (runs F C K) s op x t ts ≡ Some (unary_e (to s (span_of t)) op t, ts)
+  prefix_well s op x t ts h = rw h refl
+
+  pub prefix_ill : (s : Span) (op : UnaryOp) (x : Context) (t : Tree F C K) (ts : List TokenAndSpan) → delete_ok x op t ≡ false → prefix_node (runs F C K) s op x t ts ≡ None
+  prefix_ill s op x t ts h = rw h refl
 
   pub climb_splits : (l : Tree F C K) (m : ℕ) (x : Context) (ts : List TokenAndSpan) → climb (runs F C K) l m x ts ≡ (turn (runs F C K) l m x ts >>= (λ p. turned (runs F C K) p.0.0 p.0.1 x p.1))
   unfolding climb
@@ -91,9 +115,13 @@ module _ {F C K : Type 0} where
   unfolding turn
   turn_takes l m op x ts h lt = rw (h, lt-leb (precedence_of op) m lt) refl
 
-  pub operation_splits : (op : BinaryOp) (l : Tree F C K) (m : ℕ) (x : Context) (ts : List TokenAndSpan) → operation (runs F C K) op l m x ts ≡ (operand (runs F C K) (precedence_of op) x ts >>= (λ p. node_by (runs F C K) op l m p.0 p.1))
+  pub operation_splits : (op : BinaryOp) (l : Tree F C K) (m : ℕ) (x : Context) (ts : List TokenAndSpan) → exp_ok op l ≡ true → operation (runs F C K) op l m x ts ≡ (operand (runs F C K) (min_right op) x ts >>= (λ p. node_by (runs F C K) op l m p.0 p.1))
   unfolding operation
-  operation_splits op l m x ts = rw (knot (to_operand (precedence_of op)) x ts) refl
+  operation_splits op l m x ts h = rw (h, knot (to_operand (min_right op)) x ts) refl
+
+  pub operation_ends : (op : BinaryOp) (l : Tree F C K) (m : ℕ) (x : Context) (ts : List TokenAndSpan) → exp_ok op l ≡ false → operation (runs F C K) op l m x ts ≡ None
+  unfolding operation
+  operation_ends op l m x ts h = rw h refl
 
   pub node_well : (op : BinaryOp) (l t : Tree F C K) (m : ℕ) (ts : List TokenAndSpan) → nullish_ok op l t ≡ true → node_by (runs F C K) op l m t ts ≡ Some ((bin_e (to (span_of l) (span_of t)) op l t, Some m), ts)
   node_well op l t m ts h = rw h refl
@@ -113,9 +141,13 @@ module _ {F C K : Type 0} where
   unfolding primary
   primary_name x ts h i j = rw (h, i, j) refl
 
-  pub primary_ends : (x : Context) (ts : List TokenAndSpan) → at_token is_lit (first ts) ≡ false → at_token is_lparen (first ts) ≡ false → at_token (is_identifier x) (first ts) ≡ false → primary (runs F C K) x ts ≡ None
+  pub primary_private : (x : Context) (ts : List TokenAndSpan) → at_token is_lit (first ts) ≡ false → at_token is_lparen (first ts) ≡ false → at_token (is_identifier x) (first ts) ≡ false → at_token is_hash (first ts) ≡ true → primary (runs F C K) x ts ≡ private_name (runs F C K) x ts
   unfolding primary
-  primary_ends x ts h i j = rw (h, i, j) refl
+  primary_private x ts h i j k = rw (h, i, j, k) refl
+
+  pub primary_ends : (x : Context) (ts : List TokenAndSpan) → at_token is_lit (first ts) ≡ false → at_token is_lparen (first ts) ≡ false → at_token (is_identifier x) (first ts) ≡ false → at_token is_hash (first ts) ≡ false → primary (runs F C K) x ts ≡ None
+  unfolding primary
+  primary_ends x ts h i j k = rw (h, i, j, k) refl
 
   pub opened_empty : (s : Span) (x : Context) (ts : List TokenAndSpan) → at_token is_rparen (first ts) ≡ true → opened (runs F C K) s x ts ≡ None
   unfolding opened
@@ -145,14 +177,27 @@ module _ {F C K : Type 0} where
   unfolding lit
   lit_takes e x t ts h = rw h refl
 
-  pub name_takes : (e : Tree F C K) (x : Context) (t : TokenAndSpan) (ts : List TokenAndSpan) → name_of t.token t.span ≡ Some e → name (runs F C K) x (t ∷ ts) ≡ Some (e, ts)
+  pub name_splits : (x : Context) (ts : List TokenAndSpan) → name (runs F C K) x ts ≡ (word ref_ok x ts >>= (λ p. Some (ident_e p.0.at p.0.text, p.1)))
   unfolding name
-  name_takes e x t ts h = rw h refl
+  name_splits x ts = refl
+
+  pub name_strict : (x : Context) (ts : List TokenAndSpan) → x.module && at_token is_strict (first ts) ≡ true → name (runs F C K) x ts ≡ None
+  unfolding name word
+  name_strict x [] h = refl
+  name_strict x (t ∷ ts) h = rw (strict_not x t.token t.span h) refl
+
+  pub private_opens : (t : TokenAndSpan) (x : Context) (ts : List TokenAndSpan) → private_name (runs F C K) x (t ∷ ts) ≡ hashed (runs F C K) t.span x ts
+  unfolding private_name
+  private_opens t x ts = refl
+
+  pub hashed_splits : (s : Span) (x : Context) (ts : List TokenAndSpan) → hashed (runs F C K) s x ts ≡ (word may_name x ts >>= (λ p. Some (private_e (to s p.0.at) p.0.text, p.1)))
+  unfolding hashed
+  hashed_splits s x ts = refl
 
   lit_no : (t : Token) (s : Span) → is_lit t ≡ false → lit_of {F = F} {C = C} {K = K} t s ≡ None
-  lit_no (token.Word word.Null) s h = cc
-  lit_no (token.Word word.True) s h = cc
-  lit_no (token.Word word.False) s h = cc
+  lit_no (token.Word written.Null) s h = cc
+  lit_no (token.Word written.True) s h = cc
+  lit_no (token.Word written.False) s h = cc
   lit_no (token.Num raw) s h = cc
   lit_no (token.BigInt raw) s h = cc
   lit_no (token.Str value raw) s h = cc
@@ -166,14 +211,10 @@ module _ {F C K : Type 0} where
   pub lit_unfit : (x : Context) (ts : List TokenAndSpan) → at_token no_error (first ts) ≡ false → lit (runs F C K) x ts ≡ None
   lit_unfit x ts h = lit_not x ts (error_not (first ts) h)
 
-  pub name_text : (t : Token) (s : Span) (name : List ℕ) → text_of t ≡ Some name → name_of {F = F} {C = C} {K = K} (plain_token t) s ≡ Some (ident_e s name)
-  name_text (token.Word w) s name h = let e : word_text w ≡ name = cc in rw e refl
-  name_text t s name h = cc
-
   some_lit : (t : Token) (s : Span) (us : List TokenAndSpan) → one (lit_of {F = F} {C = C} {K = K} t s) us ≡ None → is_lit t ≡ false
-  some_lit (token.Word word.Null) s us h = cc
-  some_lit (token.Word word.True) s us h = cc
-  some_lit (token.Word word.False) s us h = cc
+  some_lit (token.Word written.Null) s us h = cc
+  some_lit (token.Word written.True) s us h = cc
+  some_lit (token.Word written.False) s us h = cc
   some_lit (token.Num raw) s us h = cc
   some_lit (token.BigInt raw) s us h = cc
   some_lit (token.Str value raw) s us h = cc

@@ -1,21 +1,22 @@
 -- How the steps of a production follow one another.
-use Rattle.std.proofs.Common.{◌≡◌, ◌≢◌, ◌≤◌, ◌<◌, Bool, true, false, ◌||◌, not, List, [], ◌∷◌, ◌++◌, Option, Some, None, Result, Ok, Err, OnOk, IfOk, IfErr, MatchResult, MatchOption, IsSome, length, refl, sym, ap, subst, ◌∙◌, ⊎_elim, arith, append_assoc, length-append}
+use Rattle.std.proofs.Common.{◌≡◌, ◌≢◌, ℕ, ◌≤◌, ◌<◌, Bool, true, false, ◌||◌, ◌&&◌, not, List, [], ◌∷◌, ◌++◌, Option, Some, None, Result, Ok, Err, OnOk, IfOk, IfErr, IsOk, MatchResult, MatchOption, IsSome, length, refl, sym, ap, subst, ◌∙◌, ⊎_elim, arith, append_assoc, length-append}
 use Rattle.std.proofs.lemmas.Bool.{cases_lt}
 use Rattle.std.proofs.lemmas.List.{append-nil}
 use Rattle.std.specs.Result.{is_err}
 use Rattle.std.specs.declared.alloc.AllocError.{AllocError}
 use Rattle.swc_context.specs.declared.context.Context.{Context}
 use Rattle.swc_context.specs.declared.error.Error.{Error}
+use Rattle.swc_context.specs.declared.error.SyntaxError.{SyntaxError}
 use Rattle.swc_context.specs.declared.span.BytePos.{BytePos}
 use Rattle.swc_context.specs.declared.span.Span.{Span}
-use Rattle.swc_context.specs.declared.error.SyntaxError.TheVariants.{Eof, ParserFailed}
+use Rattle.swc_context.specs.declared.error.SyntaxError.TheVariants.{Eof, OutOfMemory, ParserFailed}
 use Rattle.swc_input.specs.declared.buffer.Buffer.{Buffer}
 use Rattle.swc_input.specs.declared.token.Token.{Token}
 use Rattle.swc_input.specs.declared.token.Token.TheVariants as token
 use Rattle.swc_input.specs.declared.token.TokenAndSpan.{TokenAndSpan}
 use Rattle.swc_input.specs.Plain.{plain, plain_token}
-use Rattle.swc_input.specs.Source.{Source, Keeps, with_context, recorded_in, waiting_in}
-use Rattle.swc_input.specs.Buffer.{Took, Looked, Bumped, Future, left, source, current, last_position, held, with_source}
+use Rattle.swc_input.specs.Source.{Source, Keeps, with_context, with_module_error, recorded_in, waiting_in}
+use Rattle.swc_input.specs.Buffer.{Took, Read, Looked, Bumped, Future, Known, left, source, current, last_position, held, with_source}
 use Rattle.swc_input.specs.Laws.{Took-then, Read-then, Read-late, Keeps-then, Future-before, Known-after, Known-Future, Future-current, Future-end}
 use Rattle.swc_input.specs.Recording.{Refused, error_here, error_in, is_some, is_fit, unfit, no_memory}
 use Rattle.swc_input.proofs.Emits.{keeps_none}
@@ -23,6 +24,7 @@ use Rattle.swc_input.proofs.Refusals.{Refused-kind, unfit-kind}
 use Rattle.swc_bodies.specs.Readings.{at_token}
 use Rattle.swc_grammar.specs.Clean.{Out, ◌>>=◌, first, lit_of, no_error}
 use Rattle.swc_ast.specs.Tree.{Tree}
+use Rattle.swc_ecma_parser.specs.Calls.{is_memory}
 use Rattle.swc_ecma_parser.specs.Parsing.{seen, seen_of, context, recorded, Loud, Laws, Leads, Advances, Moves, Refuses, Forgoes, Reads, Does, Tries, Here, Unfit, Checks, On, Heard, Unheard, Parses, Follows, Literal}
 
 abbrev pub Reader : Type 0 → Type 0
@@ -55,9 +57,55 @@ pub not_false : (b : Bool) → not b ≡ false → b ≡ true
 not_false true h = refl
 not_false false h = cc
 
+pub on_ok : {T : Type 0} {P : Type 0} (r : Result T Error) → P → OnOk r P
+on_ok (Ok x) p = p
+on_ok (Err e) p = tt
+
+pub if_err : {T : Type 0} {P : Type 0} (Q : Error → Type 0) (r : Result T Error) → P → IfErr r (λ e. Q e → P)
+if_err Q (Ok x) p = tt
+if_err Q (Err e) p = λ q. p
+
+pub memory_is : (k : SyntaxError) → is_memory k ≡ true → k ≡ OutOfMemory
+memory_is OutOfMemory h = refl
+memory_is k h = cc
+
+pub memory_not : (k : SyntaxError) → is_memory k ≡ false → k ≢ OutOfMemory
+memory_not k h e = let f : true ≡ false = ap is_memory (sym e) ∙ h in cc
+
+pub and_true : (m : Bool) → (m && true) ≡ m
+and_true true = refl
+and_true false = refl
+
+pub not_and : (m b : Bool) → b ≡ false → not (m && b) ≡ true
+not_and true b h = rw h refl
+not_and false b h = refl
+
+-- a fault of modules is recorded there, and nowhere else
+module_waits : (m : Bool) (es : List Error) (e : Error) → not m ≡ true → length (es ++ recorded_in m (e ∷ [])) ≡ length es
+module_waits true es e h = cc
+module_waits false es e h = ap length (append-nil es)
+
+module_notes : (m : Bool) (es : List Error) (e : Error) → not m ≡ false → length es < length (es ++ recorded_in m (e ∷ []))
+module_notes true es e h = let l = length-append es (e ∷ []) in omega arith
+module_notes false es e h = cc
+
+heeded : (a b : Bool) → (a || b) ≡ false → a ≡ false
+heeded true b h = cc
+heeded false b h = refl
+
+more_than : (n k m : ℕ) → k ≡ m → n < m → n < k
+more_than n k m e lt = omega arith
+
 place_of : (o : Option TokenAndSpan) (t : TokenAndSpan) (q p : Span) → o ≡ Some t → MatchOption o (p ≡ q) (λ x. p ≡ x.span) → p ≡ t.span
 place_of None t q p e m = cc
 place_of (Some x) t q p e m = let same : x ≡ t = cc in m ∙ ap (λ z. z.span) same
+
+seen_in : (f : Token → Bool) (o : Option TokenAndSpan) → at_token f (seen_of o) ≡ true → IsSome o
+seen_in f None h = cc
+seen_in f (Some t) h = refl
+
+pub seen_some : {S : Type 0} (f : Token → Bool) (b : Buffer S) → at_token f (seen b) ≡ true → IsSome (current b)
+seen_some f b h = seen_in f b.cur h
 
 none_some : {A : Type 0} (o : Option A) → o ≡ None → IsSome o → ⊥
 none_some None e h = cc
@@ -70,6 +118,11 @@ unfit_token t h = cc
 unfit_seen : (o : Option TokenAndSpan) → is_fit o ≡ false → at_token no_error (seen_of o) ≡ false
 unfit_seen None h = refl
 unfit_seen (Some t) h = unfit_token t.token h
+
+module _ {S : Type 0} (state : S → Source) where
+  strict_waits : (b c : Buffer S) (e : Error) → not (context state b).module ≡ true → (i : Bool) → (i ≡ true → c ≡ b) → (i ≡ false → state c.iter ≡ with_module_error e (state b.iter)) → recorded state c ≡ recorded state b
+  strict_waits b c e w true silent noted = ap (recorded state) (silent refl)
+  strict_waits b c e w false silent noted = ap (λ s. length s.errors) (noted refl) ∙ module_waits (context state b).module (state b.iter).errors e w
 
 module _ {S : Type 0} {state : S → Source} {gives : S → List TokenAndSpan → S → Type 0} where
   -- ---- what is consumed, and what is kept
@@ -91,6 +144,10 @@ module _ {S : Type 0} {state : S → Source} {gives : S → List TokenAndSpan �
   pub leads_then : {b c d : Buffer S} → Leads state gives b c → Leads state gives c d → Leads state gives b d
   leads_then {b} {c} {d} p q = record { laws = p.laws; taken = p.taken ++ q.taken; read = Read-then state gives p.laws.joins b c d p.taken q.taken p.read q.read }
 
+  pub longer : {b c d : Buffer S} (p : Leads state gives b c) (q : Leads state gives c d) → 1 ≤ length p.taken → 1 ≤ length (leads_then p q).taken
+  unfolding leads_then
+  longer p q s = let l = length-append p.taken q.taken in omega arith
+
   pub refuses_later : {b c d : Buffer S} {e : Error} → Leads state gives b c → Refuses state gives c e d → Refuses state gives b e d
   refuses_later p q = record { leads = leads_then p q.leads; kind = q.kind }
 
@@ -103,6 +160,10 @@ module _ {S : Type 0} {state : S → Source} {gives : S → List TokenAndSpan �
   -- want of memory, with nothing done
   pub forgoes_here : (laws : Laws state gives) (b : Buffer S) (at : BytePos) (e : Error) → e ≡ no_memory at → Forgoes state gives b e b
   forgoes_here laws b at e h = record { leads = here laws b; kind = ap (λ x. x.kind) h }
+
+  -- a refusal for want of memory is passed on
+  pub forgoes_on : Laws state gives → (b : Buffer S) (e : Error) → e.kind ≡ OutOfMemory → Forgoes state gives b e b
+  forgoes_on laws b e h = record { leads = here laws b; kind = h }
 
   pub less : {b c : Buffer S} → Leads state gives b c → left state c ≤ left state b
   less p = let l = p.read.lower in omega arith
@@ -117,7 +178,7 @@ module _ {S : Type 0} {state : S → Source} {gives : S → List TokenAndSpan �
     kind = Refused-kind state gives b c e r own h;
   }
 
-  more_recorded : {b c : Buffer S} → Leads state gives b c → recorded state b ≤ recorded state c
+  pub more_recorded : {b c : Buffer S} → Leads state gives b c → recorded state b ≤ recorded state c
   more_recorded p = kept p.read.errors
 
   pub loud_after : {b c : Buffer S} → Leads state gives b c → Loud state b → Loud state c
@@ -194,20 +255,78 @@ module _ {S : Type 0} {state : S → Source} {gives : S → List TokenAndSpan �
   }
 
   -- all is well, or a fault was recorded and f reads nothing
-  passed : {A : Type 0} {f g : Reader A} {b c : Buffer S} → Laws state gives → c ≡ b → ((x : Context) (ts : List TokenAndSpan) → f x ts ≡ g x ts) → On state gives f g b c
-  passed {f = f} {g = g} {b = b} laws e step = let P : Buffer S → Type 0 = λ v. On state gives f g b v in subst P (sym e) (on_here laws b step)
+  passed : {A : Type 0} {f g : Reader A} {b c : Buffer S} (p : Leads state gives b c) → p.taken ≡ [] → recorded state c ≡ recorded state b → ((ts : List TokenAndSpan) → f (context state b) ts ≡ g (context state b) ts) → On state gives f g b c
+  passed {f = f} {g = g} {b = b} p none same step = record {
+    leads = p;
+    clean = λ l s ys fut. ap (λ v. f (context state b) (v ++ ys)) none ∙ step ys ∙ ap (λ x. g x ys) (sym p.read.context);
+    faulty = λ l lt ts k. absurd (omega (arith, lt, same));
+  }
 
-  noted : {A : Type 0} {f g : Reader A} {b c : Buffer S} → Leads state gives b c → (Loud state b → recorded state b < recorded state c) → ((x : Context) (ts : List TokenAndSpan) → f x ts ≡ None) → On state gives f g b c
+  noted : {A : Type 0} {f g : Reader A} {b c : Buffer S} → Leads state gives b c → (Loud state b → recorded state b < recorded state c) → ((ts : List TokenAndSpan) → f (context state b) ts ≡ None) → On state gives f g b c
   noted {b = b} p lt none = record {
     leads = p;
     clean = λ l s ys f. let m = lt l in absurd (omega (arith, s, m));
-    faulty = λ l m ts k. none (context state b) ts;
+    faulty = λ l m ts k. none ts;
   }
+
+  noted_seen : {A : Type 0} {f g : Reader A} {b c : Buffer S} → Leads state gives b c → (Loud state b → recorded state b < recorded state c) → ((ts : List TokenAndSpan) → Known state b ts → f (context state b) ts ≡ None) → On state gives f g b c
+  noted_seen {b = b} p lt none = record {
+    leads = p;
+    clean = λ l s ys f. let m = lt l in absurd (omega (arith, s, m));
+    faulty = λ l m ts k. none ts k;
+  }
+
+  pub on_checked_in : {A : Type 0} {f g : Reader A} {b c : Buffer S} (well : Bool) → Checks state gives well b c →
+      ((ts : List TokenAndSpan) → well ≡ true → f (context state b) ts ≡ g (context state b) ts) → ((ts : List TokenAndSpan) → well ≡ false → f (context state b) ts ≡ None) → On state gives f g b c
+  on_checked_in true h goes fails = let p = h.passes refl in passed h.leads p.0 p.1 (λ ts. goes ts refl)
+  on_checked_in false h goes fails = noted h.leads (h.notes refl) (λ ts. fails ts refl)
 
   pub on_checked : {A : Type 0} {f g : Reader A} {b c : Buffer S} (well : Bool) → Checks state gives well b c →
       ((x : Context) (ts : List TokenAndSpan) → well ≡ true → f x ts ≡ g x ts) → ((x : Context) (ts : List TokenAndSpan) → well ≡ false → f x ts ≡ None) → On state gives f g b c
-  on_checked true h goes fails = passed h.leads.laws (h.passes refl) (λ x ts. goes x ts refl)
-  on_checked false h goes fails = noted h.leads (h.notes refl) (λ x ts. fails x ts refl)
+  on_checked {b = b} well h goes fails = on_checked_in well h (λ ts. goes (context state b) ts) (λ ts. fails (context state b) ts)
+
+  -- a look, whatever is seen
+  pub on_looked : {A : Type 0} {f : Reader A} {b c : Buffer S} → Laws state gives → Looked state gives b c → On state gives f f b c
+  on_looked {f = f} {b = b} laws h = record {
+    leads = record { laws = laws; taken = []; read = h.look.read };
+    clean = λ l s ys fut. ap (λ x. f x ys) (sym h.look.read.context);
+    faulty = λ l lt ts k. let e = ap length (h.look.quiet k.more k.known).0 in absurd (omega (arith, lt, e));
+  }
+
+  -- nothing was done
+  pub on_same : {A : Type 0} {f : Reader A} {b c : Buffer S} → Laws state gives → c ≡ b → On state gives f f b c
+  on_same {f = f} {b = b} laws e = let P : Buffer S → Type 0 = λ v. On state gives f f b v in subst P (sym e) (on_here laws b (λ x ts. refl))
+
+  pub same_leads : {b c : Buffer S} → Laws state gives → c ≡ b → Leads state gives b c
+  same_leads {b = b} laws e = let P : Buffer S → Type 0 = λ v. Leads state gives b v in subst P (sym e) (here laws b)
+
+  -- a current token, without a look
+  pub here_now : (laws : Laws state gives) (b : Buffer S) → IsSome (current b) → Here state gives b b
+  unfolding here
+  here_now laws b some = record {
+    laws = laws;
+    looked = record {
+      look = record { read = (here laws b).read; previous = refl; quiet = λ m k. (refl, refl) };
+      same = λ t e. refl;
+      end = λ e. absurd (none_some b.cur e some);
+    };
+    end = λ e. absurd (none_some b.cur e some);
+  }
+
+  -- ---- after a refusal
+
+  -- f reads nothing, so whatever was recorded since
+  pub on_doomed : {A : Type 0} {f g : Reader A} {b c d : Buffer S} {e : Error} → Unheard state gives f b e c → e.kind ≢ OutOfMemory → Leads state gives c d → (Loud state c → recorded state c < recorded state d) → On state gives f g b d
+  on_doomed {b = b} u n p lt =
+      let m = more_recorded u.refuses.leads in
+      record {
+        leads = leads_then u.refuses.leads p;
+        clean = λ l s ys fut. let k = lt (loud_after u.refuses.leads l) in absurd (omega (arith, s, m, k));
+        faulty = λ l more ts k. u.none n l ts k;
+      }
+
+  pub unheard_doomed : {A : Type 0} {f : Reader A} {b c d : Buffer S} {e x : Error} → Unheard state gives f b e c → (x.kind ≢ OutOfMemory → e.kind ≢ OutOfMemory) → Refuses state gives c x d → Unheard state gives f b x d
+  unheard_doomed u n r = record { refuses = refuses_later u.refuses.leads r; none = λ k l ts z. u.none (n k) l ts z }
 
   -- ---- refusals
 
@@ -249,6 +368,21 @@ module _ {S : Type 0} {state : S → Source} {gives : S → List TokenAndSpan �
   pub heard_then : {A : Type 0} {f g : Reader A} {t : A} {b c d : Buffer S} (p : On state gives f g b c) → 1 ≤ length p.leads.taken → On state gives g (give t) c d → Heard state gives f t b d
   unfolding on_then leads_then
   heard_then p s q = record { on = on_then p q; some = let l = length-append p.leads.taken q.leads.taken in omega arith }
+
+  -- the list to come begins with the current token
+  known_first : (laws : Laws state gives) (b : Buffer S) → IsSome (current b) → (ts : List TokenAndSpan) → Known state b ts → first ts ≡ seen b
+  known_first laws b some ts k = begins b.cur refl (here_now laws b some) ts (Known-Future state laws.lawful b ts k)
+
+  -- q is called, and what it read is all; but for a fault that is recorded where f reads nothing of what is seen
+  pub heard_unless : {A B : Type 0} {f : Reader A} {q : Reader B} {n : B} {t : A} {b c d : Buffer S} (bad : Bool) (k : Context → B × List TokenAndSpan → Out A) → ((x : Context) (ts : List TokenAndSpan) → f x ts ≡ (q x ts >>= k x)) →
+      ((x : Context) (ts : List TokenAndSpan) → k x (n, ts) ≡ Some (t, ts)) → IsSome (current b) → Heard state gives q n b c → Checks state gives (not bad) c d →
+      (bad ≡ true → (ts : List TokenAndSpan) → first ts ≡ seen b → f (context state b) ts ≡ None) → Heard state gives f t b d
+  unfolding leads_then on_call noted_seen
+  heard_unless {t = t} {b = b} false k step ends some h checks none = heard_then (on_call k step h.on) h.some (on_checked {g = give t} true checks (λ x ts w. ends x ts) (λ x ts w. cc))
+  heard_unless {b = b} true k step ends some h checks none = record {
+    on = noted_seen (leads_then h.on.leads checks.leads) (λ l. let m = more_recorded h.on.leads in let k = checks.notes refl (loud_after h.on.leads l) in omega arith) (λ ts known. none refl ts (known_first h.on.leads.laws b some ts known));
+    some = let l = length-append h.on.leads.taken checks.leads.taken in let s = h.some in omega arith;
+  }
 
   -- a token is current, and no error; or the refusal of what is
   pub required : {T : Type 0} (laws : Laws state gives) (b c : Buffer S) (r : Result T Error) →
@@ -321,12 +455,26 @@ module _ {S : Type 0} {state : S → Source} {gives : S → List TokenAndSpan �
   -- ---- faults that are recorded unless all is well
 
   pub check_passes : (well : Bool) → Laws state gives → (b : Buffer S) → well ≡ true → Checks state gives well b b
-  check_passes well laws b h = record { leads = here laws b; passes = λ w. refl; notes = λ n l. let e : true ≡ false = sym h ∙ n in cc }
+  unfolding here
+  check_passes well laws b h = record { leads = here laws b; passes = λ w. (refl, refl); notes = λ n l. let e : true ≡ false = sym h ∙ n in cc }
 
   pub checks_both : (p q : Bool) {b c d : Buffer S} → Checks state gives (not p) b c → Checks state gives (not q) c d → Checks state gives (not (p || q)) b d
+  unfolding leads_then
   checks_both true q h k = record { leads = leads_then h.leads k.leads; passes = λ w. cc; notes = λ n l. let a = h.notes refl l in let m = more_recorded k.leads in omega arith }
   checks_both false true h k = record { leads = leads_then h.leads k.leads; passes = λ w. cc; notes = λ n l. let a = k.notes refl (loud_after h.leads l) in let m = more_recorded h.leads in omega arith }
-  checks_both false false h k = record { leads = leads_then h.leads k.leads; passes = λ w. k.passes refl ∙ h.passes refl; notes = λ n l. cc }
+  checks_both false false h k =
+      let p = h.passes refl in
+      let q = k.passes refl in
+      record { leads = leads_then h.leads k.leads; passes = λ w. (ap (λ v. v ++ k.leads.taken) p.0 ∙ q.0, q.1 ∙ p.1); notes = λ n l. cc }
+
+  -- a fault of modules: it is recorded there, and waits elsewhere
+  pub checks_strict : (laws : Laws state gives) (b c : Buffer S) (e : Error) → Read state gives b [] c → ((context state b).ignore_error ≡ true → c ≡ b) →
+      ((context state b).ignore_error ≡ false → state c.iter ≡ with_module_error e (state b.iter)) → Checks state gives (not (context state b).module) b c
+  checks_strict laws b c e read silent noted = record {
+    leads = record { laws = laws; taken = []; read = read };
+    passes = λ w. (refl, strict_waits state b c e w (context state b).ignore_error silent noted);
+    notes = λ n l. more_than _ _ _ (ap (λ s. length s.errors) (noted (heeded _ _ l))) (module_notes (context state b).module (state b.iter).errors e n);
+  }
 
   -- ---- the context is set, and put back
 
@@ -423,6 +571,43 @@ module _ {S : Type 0} (state : S → Source) (gives : S → List TokenAndSpan �
   reads_of b c (Ok x) h = record { leads = h.on.leads; some = h.some }
   reads_of b c (Err e) u = u.refuses
 
+module _ {S : Type 0} (state : S → Source) (gives : S → List TokenAndSpan → S → Type 0) {T A : Type 0} (view : T → A) (f : Reader A) where
+  -- what was read so far, one token at least, and what may consume nothing
+  pub reads_then : {b c d : Buffer S} (p : Leads state gives b c) (q : Leads state gives c d) → 1 ≤ length q.taken → (e : Buffer S) (r : Result T Error) → Follows state gives view f d r e → Reads state gives b r e
+  unfolding leads_then
+  reads_then p q s e (Ok x) h = record { leads = leads_then (leads_then p q) h.leads; some = let k = length-append p.taken q.taken in let m = length-append (p.taken ++ q.taken) h.leads.taken in omega arith }
+  reads_then p q s e (Err x) u = refuses_later (leads_then p q) u.refuses
+
+  pub notes_then : (b : Buffer S) {c d : Buffer S} → recorded state b < recorded state c → Leads state gives c d → (e : Buffer S) (r : Result T Error) → Follows state gives view f d r e → OnOk r (recorded state b < recorded state e)
+  notes_then b lt p e (Ok x) h = let k = more_recorded p in let m = more_recorded h.leads in omega arith
+  notes_then b lt p e (Err x) u = tt
+
+  pub follows_of : (b c : Buffer S) (r : Result T Error) → Parses state gives view f b r c → Follows state gives view f b r c
+  follows_of b c (Ok x) h = h.on
+  follows_of b c (Err e) u = u
+
+  -- an answer that is known
+  pub parses_ok : (b c : Buffer S) (r : Result T Error) (x : T) → r ≡ Ok x → Parses state gives view f b r c → Heard state gives f (view x) b c
+  parses_ok b c (Ok y) x e h = let P : T → Type 0 = λ v. Heard state gives f (view v) b c in let same : y ≡ x = cc in subst P same h
+  parses_ok b c (Err y) x e h = cc
+
+  pub parses_err : (b c : Buffer S) (r : Result T Error) (x : Error) → r ≡ Err x → Parses state gives view f b r c → Unheard state gives f b x c
+  parses_err b c (Ok y) x e h = cc
+  parses_err b c (Err y) x e h = let P : Error → Type 0 = λ v. Unheard state gives f b v c in let same : y ≡ x = cc in subst P same h
+
+  -- a refused operand was recorded, and something stands in for it; but for want of memory
+  pub follows_recovered : {b c : Buffer S} {e : Error} (d : Buffer S) (r : Result T Error) → Unheard state gives f b e c → Tries state gives c r d →
+      (Loud state c → OnOk r (recorded state c < recorded state d)) → OnOk r (e.kind ≢ OutOfMemory) → Follows state gives view f b r d
+  follows_recovered d (Ok x) u t lt some = on_doomed u some t lt
+  follows_recovered d (Err y) u t lt some = unheard_memory (forgoes_later u.refuses.leads t)
+
+  -- a refused operand was recorded, and more was read
+  pub parses_recovered : {b c : Buffer S} {e : Error} (d : Buffer S) (r : Result T Error) → Unheard state gives f b e c → Reads state gives c r d →
+      (Loud state c → OnOk r (recorded state c < recorded state d)) → OnOk r (e.kind ≢ OutOfMemory) → IfErr r (λ x. x.kind ≢ OutOfMemory → e.kind ≢ OutOfMemory) → Parses state gives view f b r d
+  unfolding on_doomed leads_then
+  parses_recovered d (Ok x) u t lt some memory = record { on = on_doomed u some t.leads lt; some = let l = length-append u.refuses.leads.taken t.leads.taken in let s = t.some in omega arith }
+  parses_recovered d (Err y) u t lt some memory = unheard_doomed u memory t
+
 pub does_of : {S T : Type 0} (state : S → Source) (gives : S → List TokenAndSpan → S → Type 0) (b c : Buffer S) (r : Result T Error) → Tries state gives b r c → Does state gives b r c
 does_of state gives b c (Ok x) h = h
 does_of state gives b c (Err e) h = forgoes_refuses h
@@ -438,6 +623,23 @@ module _ {S : Type 0} (state : S → Source) (gives : S → List TokenAndSpan �
       MatchResult r (λ x. Checks state gives (not (p || q)) b d) (λ e. Forgoes state gives b e d)
   check_later p q b c d (Ok x) h k = checks_both p q h k
   check_later p q b c d (Err e) h k = forgoes_later h.leads k
+
+  -- a node is made in the end
+  pub tries_node : {T : Type 0} (b c : Buffer S) (at : BytePos) (r : Result T Error) → Leads state gives b c → IfErr r (λ x. x ≡ no_memory at) → Tries state gives b r c
+  tries_node b c at (Ok x) p fails = p
+  tries_node b c at (Err x) p fails = forgoes_later p (forgoes_here p.laws c at x fails)
+
+  pub strict_checked : {T : Type 0} (laws : Laws state gives) (b c : Buffer S) (r : Result T Error) (e : Error) → Read state gives b [] c →
+      ((context state b).ignore_error ≡ true → IsOk r × (c ≡ b)) → ((context state b).ignore_error ≡ false → OnOk r (state c.iter ≡ with_module_error e (state b.iter))) →
+      IfErr r (λ x. (x ≡ no_memory (last_position b)) × (state c.iter ≡ state b.iter)) →
+      MatchResult r (λ x. Checks state gives (not (context state b).module) b c) (λ x. Forgoes state gives b x c)
+  strict_checked laws b c (Ok x) e read silent noted refused = checks_strict laws b c e read (λ i. (silent i).1) noted
+  strict_checked laws b c (Err x) e read silent noted refused = record { leads = record { laws = laws; taken = []; read = read }; kind = ap (λ z. z.kind) refused.0 }
+
+  -- after what was read, a call that is refused for want of memory alone
+  pub does_after : {T : Type 0} {b c : Buffer S} (d : Buffer S) (r : Result T Error) → Leads state gives b c → Tries state gives c r d → Does state gives b r d
+  does_after d (Ok x) p t = leads_then p t
+  does_after d (Err e) p t = refuses_later p (forgoes_refuses t)
 
   -- a reading, whose answer is a node made in the end
   pub node_parses : {T A : Type 0} (view : T → A) {f : Reader A} {b c : Buffer S} (at : BytePos) (r : Result T Error) (t : A) → IfOk r (λ x. view x ≡ t) → IfErr r (λ x. x ≡ no_memory at) → Heard state gives f t b c → Parses state gives view f b r c

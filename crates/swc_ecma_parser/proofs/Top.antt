@@ -1,5 +1,5 @@
--- From what the productions ensure to what callers are promised: the clean parser is the grammar's, both ways.
-use Rattle.std.proofs.Common.{◌≡◌, ◌≢◌, ◌<◌, List, [], ◌∷◌, ◌++◌, Some, Result, Ok, Err, IfErr, length, refl, sym, ap, subst, ◌∙◌, ⊎_elim, arith, length-append}
+-- From what the productions ensure to what callers are promised: the clean readers are the grammar's, both ways.
+use Rattle.std.proofs.Common.{◌≡◌, ◌≢◌, ◌<◌, true, List, [], ◌∷◌, ◌++◌, Some, Result, Ok, Err, IfErr, IfOk, length, refl, sym, ap, subst, ◌∙◌, ⊎_elim, arith, length-append}
 use Rattle.std.proofs.lemmas.Bool.{cases_lt}
 use Rattle.std.proofs.lemmas.List.{append-nil}
 use Rattle.swc_context.specs.declared.context.Context.{Context}
@@ -12,35 +12,54 @@ use Rattle.swc_input.specs.Source.{Source, Keeps}
 use Rattle.swc_input.specs.Buffer.{Future, Known}
 use Rattle.swc_input.specs.Laws.{Known-after, Known-Future, Future-some}
 use Rattle.swc_ast.specs.Tree.{Tree}
-use Rattle.swc_grammar.specs.Tokens.{Lenient}
 use Rattle.swc_grammar.specs.Grammar as grammar
 use Rattle.swc_grammar.specs.Grammar.{Hook, Symbol, Expr, Assign, Level, Unary, Stops, at-end}
 use Rattle.swc_grammar.specs.Clean.{run, lit, unary, operand, assign}
+use Rattle.swc_grammar.specs.Trees.{is_grouped, is_valid}
 use Rattle.swc_grammar.proofs.Sound.{expr-sound, assign-sound, level-sound, unary-sound}
 use Rattle.swc_grammar.proofs.Complete.{expr-complete, assign-complete, level-complete, unary-complete, stops-bound}
 use Rattle.swc_grammar.proofs.Cut.{cut-append}
 use Rattle.swc_grammar.proofs.Grouped.{grouped}
+use Rattle.swc_grammar.proofs.Valid.{valid}
 use Rattle.swc_ecma_parser.specs.Parsing.{context, recorded, Loud, Heard, Parses, NoLiteral}
-use Rattle.swc_ecma_parser.specs.Promise.{Unmarred, Derives, Sound, Complete, OneTree, Grouped}
+use Rattle.swc_ecma_parser.specs.Promise.{Derivation, Unmarred, Derives, Sound, Complete, OneTree, Grouped, Valid}
 use Rattle.swc_ecma_parser.proofs.Rules.{lit_none}
 use Rattle.swc_ecma_parser.proofs.Steps.{Reader}
 
--- A clean reading of a symbol: it reads what the grammar derives, and no more.
-pub record IsClean {F C K : Type 0} (hook : Hook F C K) (s : Symbol) (f : Reader (Tree F C K)) : Type 0 where
-  pub sound : (c : Context) (ts ys : List TokenAndSpan) (t : Tree F C K) → Lenient c → f c ts ≡ Some (t, ys) → grammar.Reads hook s c ts ys t
-  pub complete : (c : Context) (ts ys : List TokenAndSpan) (t : Tree F C K) → grammar.Reads hook s c ts ys t → Stops s ys → f c ts ≡ Some (t, ys)
+-- What a clean reader reads is derived, and then also from its own tokens alone.
+pub record IsSound {A : Type 0} (derives : Derivation A) (f : Reader A) : Type 0 where
+  pub sound : (c : Context) (ts ys : List TokenAndSpan) (t : A) → f c ts ≡ Some (t, ys) → derives c ts ys t
+  pub cut : (c : Context) (own ys : List TokenAndSpan) (t : A) → derives c (own ++ ys) ys t → derives c own [] t
 
-pub expr-clean : {F C K : Type 0} (hook : Hook F C K) → IsClean hook Expr (assign run)
-expr-clean hook = record { sound = λ c ts ys t l h. expr-sound hook c ts (t, ys) l h; complete = λ c ts ys t d e. expr-complete d (stops-bound Expr c e) }
+-- It reads what is derived, up to where a reading may stop; that is so at the end.
+pub record IsComplete {A : Type 0} (derives : Derivation A) (stops : List TokenAndSpan → Type 0) (f : Reader A) : Type 0 where
+  pub complete : (c : Context) (ts ys : List TokenAndSpan) (t : A) → derives c ts ys t → stops ys → f c ts ≡ Some (t, ys)
+  pub end : stops []
 
-pub assign-clean : {F C K : Type 0} (hook : Hook F C K) → IsClean hook Assign (assign run)
-assign-clean hook = record { sound = λ c ts ys t l h. assign-sound hook c ts (t, ys) l h; complete = λ c ts ys t d e. assign-complete d (stops-bound Assign c e) }
+module _ {F C K : Type 0} (hook : Hook F C K) where
+  pub expr-is_sound : IsSound (grammar.Reads hook Expr) (assign run)
+  expr-is_sound = record { sound = λ c ts ys t h. expr-sound hook c ts (t, ys) h; cut = λ c own ys t d. cut-append own ys d }
 
-pub level-clean : {F C K : Type 0} (hook : Hook F C K) → IsClean hook (Level 1) (operand run 0)
-level-clean hook = record { sound = λ c ts ys t l h. level-sound hook c ts (t, ys) l h; complete = λ c ts ys t d e. level-complete d (stops-bound (Level 1) c e) }
+  pub expr-is_complete : IsComplete (grammar.Reads hook Expr) (Stops Expr) (assign run)
+  expr-is_complete = record { complete = λ c ts ys t d e. expr-complete d (stops-bound Expr c e); end = at-end }
 
-pub unary-clean : {F C K : Type 0} (hook : Hook F C K) → IsClean hook Unary (unary run)
-unary-clean hook = record { sound = λ c ts ys t l h. unary-sound hook c ts (t, ys) l h; complete = λ c ts ys t d e. unary-complete d }
+  pub assign-is_sound : IsSound (grammar.Reads hook Assign) (assign run)
+  assign-is_sound = record { sound = λ c ts ys t h. assign-sound hook c ts (t, ys) h; cut = λ c own ys t d. cut-append own ys d }
+
+  pub assign-is_complete : IsComplete (grammar.Reads hook Assign) (Stops Assign) (assign run)
+  assign-is_complete = record { complete = λ c ts ys t d e. assign-complete d (stops-bound Assign c e); end = at-end }
+
+  pub level-is_sound : IsSound (grammar.Reads hook (Level 1)) (operand run 0)
+  level-is_sound = record { sound = λ c ts ys t h. level-sound hook c ts (t, ys) h; cut = λ c own ys t d. cut-append own ys d }
+
+  pub level-is_complete : IsComplete (grammar.Reads hook (Level 1)) (Stops (Level 1)) (operand run 0)
+  level-is_complete = record { complete = λ c ts ys t d e. level-complete d (stops-bound (Level 1) c e); end = at-end }
+
+  pub unary-is_sound : IsSound (grammar.Reads hook Unary) (unary run)
+  unary-is_sound = record { sound = λ c ts ys t h. unary-sound hook c ts (t, ys) h; cut = λ c own ys t d. cut-append own ys d }
+
+  pub unary-is_complete : IsComplete (grammar.Reads hook Unary) (Stops Unary) (unary run)
+  unary-is_complete = record { complete = λ c ts ys t d e. unary-complete d; end = at-end }
 
 no_more : {A : Type 0} (more : List A) → length more ≡ 0 → more ≡ []
 no_more [] h = refl
@@ -68,25 +87,27 @@ memory k h = absurd (h (λ e. cc))
 parts : {A B : Type 0} (p q : A × B) → Some p ≡ Some q → (p.0 ≡ q.0) × (p.1 ≡ q.1)
 parts p q h = let e : p ≡ q = cc in (ap (λ v. v.0) e, ap (λ v. v.1) e)
 
-module _ {S F C K T : Type 0} (state : S → Source) (gives : S → List TokenAndSpan → S → Type 0) (hook : Hook F C K) (view : T → Tree F C K) (s : Symbol) (f : Reader (Tree F C K)) (clean : IsClean hook s f) where
-  derived : (t : Tree F C K) (b c : Buffer S) → Heard state gives f t b c → Loud state b → Lenient (context state b) → Unmarred state gives hook view s b c → Derives state gives hook view s t b c
-  derived t b c h l n same =
+module _ {S T A : Type 0} (state : S → Source) (gives : S → List TokenAndSpan → S → Type 0) (derives : Derivation A) (view : T → A) (f : Reader A) where
+  derived : IsSound derives f → (t : A) (b c : Buffer S) → Heard state gives f t b c → Loud state b → Unmarred state b c → Derives state gives derives view t b c
+  derived is t b c h l same =
       let counted = ap length same in
-      let front = λ (ys : List TokenAndSpan) (fut : Future state c ys). clean.sound (context state b) (h.on.leads.taken ++ ys) ys t n (h.on.clean l counted ys fut) in
+      let front = λ (ys : List TokenAndSpan) (fut : Future state c ys). is.sound (context state b) (h.on.leads.taken ++ ys) ys t (h.on.clean l counted ys fut) in
       let some = Future-some state h.on.leads.laws.lawful c in
-      record { consumed = h.on.leads.taken; read = h.on.leads.read; front = front; whole = cut-append h.on.leads.taken some.0 (front some.0 some.1) }
+      record { consumed = h.on.leads.taken; read = h.on.leads.read; front = front; whole = is.cut (context state b) h.on.leads.taken some.0 t (front some.0 some.1) }
 
-  pub sound : (b : Buffer S) (r : Result T Error) (c : Buffer S) → Parses state gives view f b r c → Sound state gives hook view s b r c
-  sound b (Ok x) c h = λ l n same. derived (view x) b c h l n same
-  sound b (Err e) c h = λ l n. tt
+  pub sound : IsSound derives f → (b : Buffer S) (r : Result T Error) (c : Buffer S) → Parses state gives view f b r c → Sound state gives derives view b r c
+  sound is b (Ok x) c h = λ l same. derived is (view x) b c h l same
+  sound is b (Err e) c h = λ l. tt
 
-  pub grouped-answer : (b : Buffer S) (r : Result T Error) (c : Buffer S) → Parses state gives view f b r c → Grouped state gives hook view s b r c
-  grouped-answer b (Ok x) c h = λ l n same. let d = derived (view x) b c h l n same in grouped d.whole
-  grouped-answer b (Err e) c h = λ l n. tt
+  -- what holds of all that is derived holds of the answer
+  pub holds : IsSound derives f → (P : A → Type 0) → ((c : Context) (xs ys : List TokenAndSpan) (t : A) → derives c xs ys t → P t) → (b : Buffer S) (r : Result T Error) (c : Buffer S) → Parses state gives view f b r c →
+      Loud state b → IfOk r (λ x. Unmarred state b c → P (view x))
+  holds is P all b (Ok x) c h = λ l same. let d = derived is (view x) b c h l same in all (context state b) d.consumed [] (view x) d.whole
+  holds is P all b (Err e) c h = λ l. tt
 
   -- of a listed source: what f reads is answered
-  answered : (x : T) (b c : Buffer S) (ts ys : List TokenAndSpan) (t : Tree F C K) → Heard state gives f (view x) b c → Loud state b → Known state b ts → f (context state b) ts ≡ Some (t, ys) →
-      (view x ≡ t) × Known state c ys × Unmarred state gives hook view s b c
+  answered : (x : T) (b c : Buffer S) (ts ys : List TokenAndSpan) (t : A) → Heard state gives f (view x) b c → Loud state b → Known state b ts → f (context state b) ts ≡ Some (t, ys) →
+      (view x ≡ t) × Known state c ys × Unmarred state b c
   answered x b c ts ys t h l k e =
       let laws = h.on.leads.laws in
       let w = Known-after state gives laws.gave b c h.on.leads.taken ts h.on.leads.read.took k in
@@ -95,13 +116,20 @@ module _ {S F C K T : Type 0} (state : S → Source) (gives : S → List TokenAn
       let q = parts (view x, w.0) (t, ys) (sym got ∙ ap (λ v. f (context state b) v) (sym w.2) ∙ e) in
       (q.0, subst (λ v. Known state c v) q.1 w.1, same_faults h.on.leads.read.errors counted)
 
-  pub complete : (b : Buffer S) (r : Result T Error) (c : Buffer S) → Parses state gives view f b r c → Complete state gives hook view s b r c
-  complete b (Ok x) c h = λ l ts ys t k d e. answered x b c ts ys t h l k (clean.complete (context state b) ts ys t d e)
-  complete b (Err x) c u = λ l ts ys t k d e. memory x.kind (λ n. let f0 = u.none n l ts k in let f1 = clean.complete (context state b) ts ys t d e in cc)
+  pub complete : (stops : List TokenAndSpan → Type 0) → IsComplete derives stops f → (b : Buffer S) (r : Result T Error) (c : Buffer S) → Parses state gives view f b r c → Complete state gives derives view stops b r c
+  complete stops is b (Ok x) c h = λ l ts ys t k d e. answered x b c ts ys t h l k (is.complete (context state b) ts ys t d e)
+  complete stops is b (Err x) c u = λ l ts ys t k d e. memory x.kind (λ n. let f0 = u.none n l ts k in let f1 = is.complete (context state b) ts ys t d e in cc)
 
-  pub one_tree : (b : Buffer S) (r : Result T Error) (c : Buffer S) → Parses state gives view f b r c → OneTree state gives hook view s b r c
-  one_tree b (Ok x) c h = λ l ts t k d. λ same end. sym (answered x b c ts [] t h l k (clean.complete (context state b) ts [] t d at-end)).0
-  one_tree b (Err e) c h = λ l ts t k d. tt
+  pub one_tree : (stops : List TokenAndSpan → Type 0) → IsComplete derives stops f → (b : Buffer S) (r : Result T Error) (c : Buffer S) → Parses state gives view f b r c → OneTree state gives derives view b r c
+  one_tree stops is b (Ok x) c h = λ l ts t k d. λ same end. sym (answered x b c ts [] t h l k (is.complete (context state b) ts [] t d is.end)).0
+  one_tree stops is b (Err e) c h = λ l ts t k d. tt
+
+module _ {S F C K T : Type 0} (state : S → Source) (gives : S → List TokenAndSpan → S → Type 0) (hook : Hook F C K) (view : T → Tree F C K) (s : Symbol) (f : Reader (Tree F C K)) (is : IsSound (grammar.Reads hook s) f) where
+  pub grouped-answer : (b : Buffer S) (r : Result T Error) (c : Buffer S) → Parses state gives view f b r c → Grouped state view b r c
+  grouped-answer b r c h = holds state gives (grammar.Reads hook s) view f is (λ t. is_grouped t ≡ true) (λ x xs ys t d. grouped d) b r c h
+
+  pub valid-answer : (b : Buffer S) (r : Result T Error) (c : Buffer S) → Parses state gives view f b r c → Valid state view b r c
+  valid-answer b r c h = holds state gives (grammar.Reads hook s) view f is (λ t. is_valid t ≡ true) (λ x xs ys t d. valid d) b r c h
 
 -- what a refused literal says of the tokens to come
 pub no_literal : {S F C K T : Type 0} (state : S → Source) (gives : S → List TokenAndSpan → S → Type 0) (view : T → Tree F C K) (b c : Buffer S) (r : Result T Error) →

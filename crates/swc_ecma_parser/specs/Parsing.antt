@@ -2,7 +2,6 @@
 use Rattle.std.specs.Prelude.{◌≡◌, ◌≢◌, ℕ, ◌≤◌, ◌<◌, Bool, true, false, List, [], ◌∷◌, ◌++◌, Option, Some, None, Result, MatchResult, length}
 use Rattle.std.specs.declared.alloc.Global.{Global}
 use Rattle.std.specs.declared.boxed.Box.{Box}
-use Rattle.swc_context.specs.Words.{word_text}
 use Rattle.swc_context.specs.declared.context.Context.{Context}
 use Rattle.swc_context.specs.declared.error.Error.{Error}
 use Rattle.swc_context.specs.declared.error.SyntaxError.TheVariants.{OutOfMemory, ParserFailed}
@@ -17,12 +16,18 @@ use Rattle.swc_input.specs.Buffer.{Took, Read, Looked, Future, Known, left}
 use Rattle.swc_input.specs.Laws.{Joins, Gives}
 use Rattle.swc_input.specs.Recording.{is_silent}
 use Rattle.swc_ast.specs.declared.expr.Expr.{Expr}
+use Rattle.swc_ast.specs.declared.ident.BindingIdent.{BindingIdent}
+use Rattle.swc_ast.specs.declared.ident.Ident.{Ident}
+use Rattle.swc_ast.specs.declared.ident.IdentName.{IdentName}
+use Rattle.swc_ast.specs.declared.ident.PrivateName.{PrivateName}
 use Rattle.swc_ast.specs.declared.lit.Lit.{Lit}
 use Rattle.swc_ast.specs.Parts.{lit_tree}
 use Rattle.swc_ast.specs.Tree.{Tree}
 use Rattle.swc_ast.specs.TreeOf.{boxed_tree, expr_tree}
 use Rattle.swc_bodies.specs.Readings.{at_token}
-use Rattle.swc_grammar.specs.Clean.{Out, first, is_lit, lit_of, no_error}
+use Rattle.swc_grammar.specs.Clean.{Out, first, rest, is_lit, lit_of, no_error}
+use Rattle.swc_grammar.specs.Names.{Spelling, spelling}
+use Rattle.swc_grammar.specs.Tokens.{is_strict_word}
 
 -- the tree that a boxed expression stands for, where the hook's values lie at the places given
 abbrev pub tree_by : {F C K : Type 0} → (F → Span) → (C → Span) → (K → Span) → Box (Expr F C K) Global → Tree F C K
@@ -34,14 +39,27 @@ bare_by {F} {C} {K} fun class block e = expr_tree F C K fun class block e
 abbrev pub lit_by : {F C K : Type 0} → (F → Span) → (C → Span) → (K → Span) → Lit → Tree F C K
 lit_by fun class block l = lit_tree l
 
-abbrev pub is_word : Token → Bool
-is_word (token.Word w) = true
-is_word t = false
+-- a word of strict code
+abbrev pub is_strict : Token → Bool
+is_strict (token.Word w) = is_strict_word w
+is_strict t = false
 
--- the text of a word
-abbrev pub text_of : Token → Option (List ℕ)
-text_of (token.Word w) = Some (word_text w)
-text_of t = None
+-- how identifiers and names are spelled
+abbrev pub ident_spelling : Ident → Spelling
+ident_spelling i = spelling i.sym i.span
+
+abbrev pub name_spelling : IdentName → Spelling
+name_spelling n = spelling n.sym n.span
+
+abbrev pub private_spelling : PrivateName → Spelling
+private_spelling n = spelling n.name n.span
+
+abbrev pub binding_spelling : BindingIdent → Spelling
+binding_spelling b = spelling b.id.sym b.id.span
+
+-- what f reads behind the first token
+abbrev pub behind : {A : Type 0} → (Context → List TokenAndSpan → Out A) → Context → List TokenAndSpan → Out A
+behind f c ts = f c (rest ts)
 
 -- the current token, as contracts compare it
 abbrev pub seen_of : Option TokenAndSpan → Option TokenAndSpan
@@ -126,10 +144,10 @@ module _ {S : Type 0} (state : S → Source) (gives : S → List TokenAndSpan �
     pub unfit : at_token no_error (seen at) ≡ false
     pub refuses : Refuses at e c
 
-  -- a fault is recorded unless all is well
+  -- A fault is recorded unless all is well. Where all is, none is recorded and nothing consumed; one may be set waiting.
   pub record Checks (well : Bool) (b c : Buffer S) : Type 0 where
     pub leads : Leads b c
-    pub passes : well ≡ true → c ≡ b
+    pub passes : well ≡ true → (leads.taken ≡ []) × (recorded state c ≡ recorded state b)
     pub notes : well ≡ false → Loud state b → recorded state b < recorded state c
 
   -- From b to c: what f reads at b is what g reads at c, where no fault was recorded; where one was, and the source is listed, f reads

@@ -1,20 +1,19 @@
 // Expressions (ECMA-262, 13).
-ghost use Rattle.std.specs.Prelude.{◌≡◌, ℕ, ◌<◌, true, Some, OnOk, IfOk, IfErr};
+ghost use Rattle.std.specs.Prelude.{◌≡◌, ℕ, ◌<◌, ◌≤◌, true, not, ◌&&◌, Some, OnOk, IfOk, IfErr, MatchResult};
 ghost use Rattle.swc_input.specs.Buffer.{last_position, left};
 ghost use Rattle.swc_input.specs.Plain.{plain_token};
 ghost use Rattle.swc_input.specs.Recording.{no_memory};
 ghost use Rattle.swc_bodies.specs.Readings.{at_token};
 ghost use Rattle.swc_grammar.specs.Trees as trees;
 ghost use Rattle.swc_grammar.specs.Clean as clean;
-ghost use Rattle.swc_grammar.specs.Clean.{run, is_lit, is_lparen};
-ghost use Rattle.swc_ecma_parser.specs.Parsing.{tree_by, lit_by, is_word, seen, Parses, Literal};
+ghost use Rattle.swc_grammar.specs.Clean.{run, is_lit, is_lparen, is_identifier, is_hash};
+ghost use Rattle.swc_ecma_parser.specs.Parsing.{tree_by, lit_by, seen, context, Parses, Checks, Forgoes, Literal};
 
 use crate::productions::{ExprOf, Productions};
 use swc_ast::expr::{Expr, ParenExpr};
-use swc_ast::ident::Ident;
+use swc_ast::ident::{Ident, IdentName, PrivateName};
 use swc_ast::lit::{BigInt, Bool, Lit, Null, Num, Str};
 use swc_bodies::bodies::Bodies;
-use swc_context::atom::Atom;
 use swc_context::context::Context;
 use swc_context::error::{PResult, SyntaxError};
 use swc_context::span::{BytePos, Span};
@@ -60,28 +59,65 @@ impl<I: Tokens, B: Bodies<I>> Productions<I, B> {
         if self.is_ident_ref() {
             return self.parse_ident_expr();
         }
+        if self.is_hash() {
+            return self.parse_private_expr();
+        }
         let span = self.input.cur_span();
         Err(self.syntax_error(span, SyntaxError::TS1109))
     }
 
-    /// An identifier as an expression (ECMA-262, 13.1).
+    /// An identifier reference as an expression (ECMA-262, 13.1).
     fn parse_ident_expr(&mut self) -> PResult<Box<ExprOf<B>>>
-        requires { at_token is_word (seen self.old.input) ≡ true }
+        requires { at_token (is_identifier (context I.state self.old.input)) (seen self.old.input) ≡ true }
         ensures parses { Parses I.state I.gives (tree_by B.Fun.place B.Class.place B.Block.place) (clean.name run) self.old.input result self.new.input }
         ensures left { OnOk result (left I.state self.new.input < left I.state self.old.input) }
     {
-        let token = self.bump();
-        let span = self.input.prev_span();
-        let sym = self.name_of(token)?;
-        self.ident_node(span, sym)
+        let is_strict = self.is_strict_word();
+        let ident = self.parse_ident_ref()?;
+        self.check_strict_word(is_strict, &ident)?;
+        self.ident_node(ident)
+    }
+
+    /// Records, for modules, an identifier that is a word of strict code.
+    fn check_strict_word(&mut self, is_strict: bool, ident: &Ident) -> PResult<()>
+        ensures checks { MatchResult result (λ r. Checks I.state I.gives (not ((context I.state self.old.input).module && is_strict)) self.old.input self.new.input) (λ e. Forgoes I.state I.gives self.old.input e self.new.input) }
+        ensures left { OnOk result (left I.state self.new.input ≤ left I.state self.old.input) }
+    {
+        if !is_strict {
+            return Ok(());
+        }
+        let sym = self.copy_of(&ident.sym)?;
+        self.emit_strict_mode_err(ident.span, SyntaxError::InvalidIdentInStrict(sym))
+    }
+
+    /// `#` and a name, as an expression (ECMA-262, 13.10.1).
+    fn parse_private_expr(&mut self) -> PResult<Box<ExprOf<B>>>
+        requires { at_token is_hash (seen self.old.input) ≡ true }
+        ensures parses { Parses I.state I.gives (tree_by B.Fun.place B.Class.place B.Block.place) (clean.private_name run) self.old.input result self.new.input }
+        ensures left { OnOk result (left I.state self.new.input < left I.state self.old.input) }
+    {
+        let start = self.input.cur_span().lo;
+        self.skip();
+        let name = self.parse_ident_name()?;
+        self.private_node(start, name)
     }
 
     /// The node of an identifier.
-    fn ident_node(&self, span: Span, sym: Atom) -> PResult<Box<ExprOf<B>>>
-        ensures node { IfOk result (λ e. tree_by B.Fun.place B.Class.place B.Block.place e ≡ trees.ident_e span sym) }
+    fn ident_node(&self, ident: Ident) -> PResult<Box<ExprOf<B>>>
+        ensures node { IfOk result (λ e. tree_by B.Fun.place B.Class.place B.Block.place e ≡ trees.ident_e ident.span ident.sym) }
         ensures refused { IfErr result (λ e. e ≡ no_memory (last_position self.now.input)) }
     {
-        self.boxed(Expr::Ident(Ident { span, sym }))
+        self.boxed(Expr::Ident(ident))
+    }
+
+    /// The node of a `#`, which begins at the position, and a name.
+    fn private_node(&self, start: BytePos, name: IdentName) -> PResult<Box<ExprOf<B>>>
+        ensures node { IfOk result (λ e. tree_by B.Fun.place B.Class.place B.Block.place e ≡ trees.private_e (trees.between start name.span.hi) name.sym) }
+        ensures refused { IfErr result (λ e. e ≡ no_memory (last_position self.now.input)) }
+    {
+        let span = Span::new(start, name.span.hi);
+        let name = name.sym;
+        self.boxed(Expr::PrivateName(PrivateName { span, name }))
     }
 
     /// The node of a literal.

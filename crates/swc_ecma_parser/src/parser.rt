@@ -2,11 +2,12 @@
 ghost use Rattle.std.specs.Prelude.{◌≡◌, ◌||◌, true, false, [], IsSome, IfErr, IfOk, OnOk, MatchResult};
 ghost use Rattle.swc_input.specs.Buffer.{current, last_position, previous, source, with_source, fresh};
 ghost use Rattle.swc_ecma_parser.specs.Calls.{buffer_of, with_buffer, has_failed, is_memory, wants_memory, parser_failed};
-ghost use Rattle.swc_grammar.specs.Grammar.{Expr, Assign, Level, Unary};
+ghost use Rattle.swc_grammar.specs.Grammar as grammar;
+ghost use Rattle.swc_grammar.specs.Grammar.{Expr, Assign, Level, Unary, Stops};
 ghost use Rattle.swc_ecma_parser.specs.Parsing.{tree_by, lit_by, Reads, Here, Forgoes, Literal, NoLiteral};
-ghost use Rattle.swc_ecma_parser.specs.Promise.{hook_of, Sound, Complete, OneTree, Grouped};
+ghost use Rattle.swc_ecma_parser.specs.Promise.{hook_of, Sound, Complete, OneTree, Grouped, Valid};
 
-use crate::productions::{ExprOf, Productions};
+use crate::productions::{ExprOf, Productions, is_out_of_memory};
 use std::alloc::Global;
 use swc_ast::lit::Lit;
 use swc_bodies::bodies::Bodies;
@@ -23,9 +24,9 @@ mod names;
 /// the end of the token consumed last; from then on each of these calls refuses, as `ParserFailed` at the token consumed last.
 ///
 /// Where early errors are on and not ignored, the calls on expressions answer by the written grammar: a tree answered with no fault
-/// recorded is one that it derives from the tokens consumed (`sound`, outside modules and class fields), and over a listed source a
-/// tree that it derives up to the end or a hard stop is answered, unless memory is wanted (`complete`); no other is derived from all
-/// tokens (`one_tree`); operators group by their precedence (`grouped`).
+/// recorded is one that it derives from the tokens consumed (`sound`), and over a listed source a tree that it derives up to the end or
+/// a hard stop is answered, unless memory is wanted (`complete`); no other is derived from all tokens (`one_tree`); operators group by
+/// their precedence (`grouped`), and no `Invalid` stands in for what was refused (`valid`).
 #[derive(Drop)]
 pub struct Parser<I: Tokens, B: Bodies<I>> {
     productions: Productions<I, B>,
@@ -83,10 +84,11 @@ impl<I: Tokens, B: Bodies<I>> Parser<I, B> {
     pub fn parse_expr(&mut self) -> PResult<Box<ExprOf<B>>>
         ensures again { has_failed self.old ≡ true → (self.new ≡ self.old) × (result ≡ Err (parser_failed (previous (buffer_of self.old)))) }
         ensures reads { has_failed self.old ≡ false → Reads I.state I.gives (buffer_of self.old) result (buffer_of self.new) }
-        ensures sound { has_failed self.old ≡ false → Sound I.state I.gives (hook_of B.reads_fun B.reads_class B.reads_block) (tree_by B.Fun.place B.Class.place B.Block.place) Expr (buffer_of self.old) result (buffer_of self.new) }
-        ensures complete { has_failed self.old ≡ false → Complete I.state I.gives (hook_of B.reads_fun B.reads_class B.reads_block) (tree_by B.Fun.place B.Class.place B.Block.place) Expr (buffer_of self.old) result (buffer_of self.new) }
-        ensures one_tree { has_failed self.old ≡ false → OneTree I.state I.gives (hook_of B.reads_fun B.reads_class B.reads_block) (tree_by B.Fun.place B.Class.place B.Block.place) Expr (buffer_of self.old) result (buffer_of self.new) }
-        ensures grouped { has_failed self.old ≡ false → Grouped I.state I.gives (hook_of B.reads_fun B.reads_class B.reads_block) (tree_by B.Fun.place B.Class.place B.Block.place) Expr (buffer_of self.old) result (buffer_of self.new) }
+        ensures sound { has_failed self.old ≡ false → Sound I.state I.gives (grammar.Reads (hook_of B.reads_fun B.reads_class B.reads_block) Expr) (tree_by B.Fun.place B.Class.place B.Block.place) (buffer_of self.old) result (buffer_of self.new) }
+        ensures complete { has_failed self.old ≡ false → Complete I.state I.gives (grammar.Reads (hook_of B.reads_fun B.reads_class B.reads_block) Expr) (tree_by B.Fun.place B.Class.place B.Block.place) (Stops Expr) (buffer_of self.old) result (buffer_of self.new) }
+        ensures one_tree { has_failed self.old ≡ false → OneTree I.state I.gives (grammar.Reads (hook_of B.reads_fun B.reads_class B.reads_block) Expr) (tree_by B.Fun.place B.Class.place B.Block.place) (buffer_of self.old) result (buffer_of self.new) }
+        ensures grouped { has_failed self.old ≡ false → Grouped I.state (tree_by B.Fun.place B.Class.place B.Block.place) (buffer_of self.old) result (buffer_of self.new) }
+        ensures valid { has_failed self.old ≡ false → Valid I.state (tree_by B.Fun.place B.Class.place B.Block.place) (buffer_of self.old) result (buffer_of self.new) }
         ensures fails { has_failed self.old ≡ false → has_failed self.new ≡ wants_memory result }
     {
         self.begin()?;
@@ -100,10 +102,11 @@ impl<I: Tokens, B: Bodies<I>> Parser<I, B> {
     pub fn parse_assignment_expr(&mut self) -> PResult<Box<ExprOf<B>>>
         ensures again { has_failed self.old ≡ true → (self.new ≡ self.old) × (result ≡ Err (parser_failed (previous (buffer_of self.old)))) }
         ensures reads { has_failed self.old ≡ false → Reads I.state I.gives (buffer_of self.old) result (buffer_of self.new) }
-        ensures sound { has_failed self.old ≡ false → Sound I.state I.gives (hook_of B.reads_fun B.reads_class B.reads_block) (tree_by B.Fun.place B.Class.place B.Block.place) Assign (buffer_of self.old) result (buffer_of self.new) }
-        ensures complete { has_failed self.old ≡ false → Complete I.state I.gives (hook_of B.reads_fun B.reads_class B.reads_block) (tree_by B.Fun.place B.Class.place B.Block.place) Assign (buffer_of self.old) result (buffer_of self.new) }
-        ensures one_tree { has_failed self.old ≡ false → OneTree I.state I.gives (hook_of B.reads_fun B.reads_class B.reads_block) (tree_by B.Fun.place B.Class.place B.Block.place) Assign (buffer_of self.old) result (buffer_of self.new) }
-        ensures grouped { has_failed self.old ≡ false → Grouped I.state I.gives (hook_of B.reads_fun B.reads_class B.reads_block) (tree_by B.Fun.place B.Class.place B.Block.place) Assign (buffer_of self.old) result (buffer_of self.new) }
+        ensures sound { has_failed self.old ≡ false → Sound I.state I.gives (grammar.Reads (hook_of B.reads_fun B.reads_class B.reads_block) Assign) (tree_by B.Fun.place B.Class.place B.Block.place) (buffer_of self.old) result (buffer_of self.new) }
+        ensures complete { has_failed self.old ≡ false → Complete I.state I.gives (grammar.Reads (hook_of B.reads_fun B.reads_class B.reads_block) Assign) (tree_by B.Fun.place B.Class.place B.Block.place) (Stops Assign) (buffer_of self.old) result (buffer_of self.new) }
+        ensures one_tree { has_failed self.old ≡ false → OneTree I.state I.gives (grammar.Reads (hook_of B.reads_fun B.reads_class B.reads_block) Assign) (tree_by B.Fun.place B.Class.place B.Block.place) (buffer_of self.old) result (buffer_of self.new) }
+        ensures grouped { has_failed self.old ≡ false → Grouped I.state (tree_by B.Fun.place B.Class.place B.Block.place) (buffer_of self.old) result (buffer_of self.new) }
+        ensures valid { has_failed self.old ≡ false → Valid I.state (tree_by B.Fun.place B.Class.place B.Block.place) (buffer_of self.old) result (buffer_of self.new) }
         ensures fails { has_failed self.old ≡ false → has_failed self.new ≡ wants_memory result }
     {
         self.begin()?;
@@ -111,16 +114,20 @@ impl<I: Tokens, B: Bodies<I>> Parser<I, B> {
         self.finish(answer)
     }
 
-    /// Operands and the binary operators between them, of any precedence (ECMA-262, 13.13): so far, all but `**`.
+    /// Operands and the binary operators between them, of any precedence (ECMA-262, 13.6 to 13.13).
     ///
-    /// Records `NullishCoalescingWithLogicalOp` at a node of `||` or `&&` that is an operand of `??`, or has a `??` on its left.
+    /// Records `NullishCoalescingWithLogicalOp` at a node of `||` or `&&` that is an operand of `??`, or has a `??` on its left. A
+    /// prefix operator left of `**` is refused as `UnaryInExp`, at the `**`, which was consumed. Where a binary operator follows a
+    /// refused left operand, `TS1109` is recorded at the operator, and a node of `Invalid` stands in for the operand, at the place of
+    /// the refusal.
     pub fn parse_bin_expr(&mut self) -> PResult<Box<ExprOf<B>>>
         ensures again { has_failed self.old ≡ true → (self.new ≡ self.old) × (result ≡ Err (parser_failed (previous (buffer_of self.old)))) }
         ensures reads { has_failed self.old ≡ false → Reads I.state I.gives (buffer_of self.old) result (buffer_of self.new) }
-        ensures sound { has_failed self.old ≡ false → Sound I.state I.gives (hook_of B.reads_fun B.reads_class B.reads_block) (tree_by B.Fun.place B.Class.place B.Block.place) (Level 1) (buffer_of self.old) result (buffer_of self.new) }
-        ensures complete { has_failed self.old ≡ false → Complete I.state I.gives (hook_of B.reads_fun B.reads_class B.reads_block) (tree_by B.Fun.place B.Class.place B.Block.place) (Level 1) (buffer_of self.old) result (buffer_of self.new) }
-        ensures one_tree { has_failed self.old ≡ false → OneTree I.state I.gives (hook_of B.reads_fun B.reads_class B.reads_block) (tree_by B.Fun.place B.Class.place B.Block.place) (Level 1) (buffer_of self.old) result (buffer_of self.new) }
-        ensures grouped { has_failed self.old ≡ false → Grouped I.state I.gives (hook_of B.reads_fun B.reads_class B.reads_block) (tree_by B.Fun.place B.Class.place B.Block.place) (Level 1) (buffer_of self.old) result (buffer_of self.new) }
+        ensures sound { has_failed self.old ≡ false → Sound I.state I.gives (grammar.Reads (hook_of B.reads_fun B.reads_class B.reads_block) (Level 1)) (tree_by B.Fun.place B.Class.place B.Block.place) (buffer_of self.old) result (buffer_of self.new) }
+        ensures complete { has_failed self.old ≡ false → Complete I.state I.gives (grammar.Reads (hook_of B.reads_fun B.reads_class B.reads_block) (Level 1)) (tree_by B.Fun.place B.Class.place B.Block.place) (Stops (Level 1)) (buffer_of self.old) result (buffer_of self.new) }
+        ensures one_tree { has_failed self.old ≡ false → OneTree I.state I.gives (grammar.Reads (hook_of B.reads_fun B.reads_class B.reads_block) (Level 1)) (tree_by B.Fun.place B.Class.place B.Block.place) (buffer_of self.old) result (buffer_of self.new) }
+        ensures grouped { has_failed self.old ≡ false → Grouped I.state (tree_by B.Fun.place B.Class.place B.Block.place) (buffer_of self.old) result (buffer_of self.new) }
+        ensures valid { has_failed self.old ≡ false → Valid I.state (tree_by B.Fun.place B.Class.place B.Block.place) (buffer_of self.old) result (buffer_of self.new) }
         ensures fails { has_failed self.old ≡ false → has_failed self.new ≡ wants_memory result }
     {
         self.begin()?;
@@ -128,18 +135,24 @@ impl<I: Tokens, B: Bodies<I>> Parser<I, B> {
         self.finish(answer)
     }
 
-    /// A unary expression (ECMA-262, 13.5): so far, a primary expression: a literal, an identifier, or an expression in parentheses.
+    /// A unary expression (ECMA-262, 13.5): so far, any number of `delete`, `void`, `typeof`, `+`, `-`, `~` and `!`, and then a primary
+    /// expression: a literal, an identifier, `#` and a name, or an expression in parentheses.
     ///
-    /// What begins none is refused as `TS1109`, at the current token or, at the end, at the token consumed last; `()` as
-    /// `EmptyParenExpr`, at the parentheses; what follows an expression in parentheses and is no `)` as `Expected`, at the current
-    /// token, and the end there as `Eof`.
+    /// A refused operand of such an operator is recorded, and a node of `Invalid` stands in its place, at one position, that before the
+    /// operand. `delete` of an identifier has the fault `TS1102`, and an identifier that is a word of strict code twice
+    /// `InvalidIdentInStrict`; these are recorded in modules, and wait elsewhere.
+    ///
+    /// What begins no primary expression is refused as `TS1109`, at the current token or, at the end, at the token consumed last; `()`
+    /// as `EmptyParenExpr`, at the parentheses; what follows an expression in parentheses and is no `)` as `Expected`, at the current
+    /// token, and the end there as `Eof`; what follows `#` and is no word as `ExpectedIdent`.
     pub fn parse_unary_expr(&mut self) -> PResult<Box<ExprOf<B>>>
         ensures again { has_failed self.old ≡ true → (self.new ≡ self.old) × (result ≡ Err (parser_failed (previous (buffer_of self.old)))) }
         ensures reads { has_failed self.old ≡ false → Reads I.state I.gives (buffer_of self.old) result (buffer_of self.new) }
-        ensures sound { has_failed self.old ≡ false → Sound I.state I.gives (hook_of B.reads_fun B.reads_class B.reads_block) (tree_by B.Fun.place B.Class.place B.Block.place) Unary (buffer_of self.old) result (buffer_of self.new) }
-        ensures complete { has_failed self.old ≡ false → Complete I.state I.gives (hook_of B.reads_fun B.reads_class B.reads_block) (tree_by B.Fun.place B.Class.place B.Block.place) Unary (buffer_of self.old) result (buffer_of self.new) }
-        ensures one_tree { has_failed self.old ≡ false → OneTree I.state I.gives (hook_of B.reads_fun B.reads_class B.reads_block) (tree_by B.Fun.place B.Class.place B.Block.place) Unary (buffer_of self.old) result (buffer_of self.new) }
-        ensures grouped { has_failed self.old ≡ false → Grouped I.state I.gives (hook_of B.reads_fun B.reads_class B.reads_block) (tree_by B.Fun.place B.Class.place B.Block.place) Unary (buffer_of self.old) result (buffer_of self.new) }
+        ensures sound { has_failed self.old ≡ false → Sound I.state I.gives (grammar.Reads (hook_of B.reads_fun B.reads_class B.reads_block) Unary) (tree_by B.Fun.place B.Class.place B.Block.place) (buffer_of self.old) result (buffer_of self.new) }
+        ensures complete { has_failed self.old ≡ false → Complete I.state I.gives (grammar.Reads (hook_of B.reads_fun B.reads_class B.reads_block) Unary) (tree_by B.Fun.place B.Class.place B.Block.place) (Stops Unary) (buffer_of self.old) result (buffer_of self.new) }
+        ensures one_tree { has_failed self.old ≡ false → OneTree I.state I.gives (grammar.Reads (hook_of B.reads_fun B.reads_class B.reads_block) Unary) (tree_by B.Fun.place B.Class.place B.Block.place) (buffer_of self.old) result (buffer_of self.new) }
+        ensures grouped { has_failed self.old ≡ false → Grouped I.state (tree_by B.Fun.place B.Class.place B.Block.place) (buffer_of self.old) result (buffer_of self.new) }
+        ensures valid { has_failed self.old ≡ false → Valid I.state (tree_by B.Fun.place B.Class.place B.Block.place) (buffer_of self.old) result (buffer_of self.new) }
         ensures fails { has_failed self.old ≡ false → has_failed self.new ≡ wants_memory result }
     {
         self.begin()?;
@@ -187,10 +200,4 @@ impl<I: Tokens, B: Bodies<I>> Parser<I, B> {
         }
         answer
     }
-}
-
-fn is_out_of_memory(error: &Error) -> bool
-    ensures { result ≡ is_memory error.now.kind }
-{
-    matches!(error.kind(), SyntaxError::OutOfMemory)
 }

@@ -1,23 +1,26 @@
 // What all productions stand on: the buffer, the hook, and the steps that can be refused.
-ghost use Rattle.std.specs.Prelude.{◌≡◌, ◌≢◌, ℕ, ◌<◌, ◌≤◌, true, false, None, Some, IfErr, IfOk, OnOk, IsSome, MatchResult};
+ghost use Rattle.std.specs.Prelude.{◌≡◌, ◌≢◌, ℕ, ◌<◌, ◌≤◌, true, false, not, None, Some, IfErr, IfOk, OnOk, IsSome, MatchResult};
 ghost use Rattle.swc_context.specs.declared.error.SyntaxError.TheVariants.{OutOfMemory, ParserFailed};
 ghost use Rattle.swc_input.specs.declared.token.Token.{Token};
 ghost use Rattle.swc_input.specs.Buffer.{current, last_position, source, left, Bumped};
 ghost use Rattle.swc_input.specs.Plain.{plain_token};
 ghost use Rattle.swc_input.specs.Recording.{no_memory};
 ghost use Rattle.swc_bodies.specs.Readings.{at_token};
-ghost use Rattle.swc_grammar.specs.Tokens.{is_name};
-ghost use Rattle.swc_grammar.specs.Clean.{is_lit, is_lparen, is_rparen, is_identifier, no_error};
-ghost use Rattle.swc_ecma_parser.specs.Parsing.{is_word, text_of, seen, context, recorded, Loud, Leads, Moves, Refuses, Forgoes, Tries, Here, Unfit};
+ghost use Rattle.swc_grammar.specs.Tokens.{is_ref, ref_ok, is_strict_word};
+ghost use Rattle.swc_grammar.specs.Clean.{is_lit, is_lparen, is_rparen, is_identifier, is_hash, no_error, word, may_name};
+ghost use Rattle.swc_ecma_parser.specs.Calls.{is_memory};
+ghost use Rattle.swc_ecma_parser.specs.Parsing.{is_strict, ident_spelling, name_spelling, seen, context, recorded, Loud, Leads, Moves, Refuses, Forgoes, Tries, Parses, Here, Unfit, Checks};
 
 use std::alloc::Global;
 use swc_ast::expr::Expr;
+use swc_ast::ident::{Ident, IdentName};
 use swc_bodies::bodies::{Bodies, BodyForms};
 use swc_context::atom::Atom;
 use swc_context::context::Context;
 use swc_context::error::{Error, PResult, SyntaxError};
 use swc_context::span::Span;
 use swc_context::word::{Keyword, Word};
+use swc_ident::ident;
 use swc_input::buffer::Buffer;
 use swc_input::token::Token;
 use swc_input::tokens::Tokens;
@@ -109,14 +112,38 @@ impl<I: Tokens, B: Bodies<I>> Productions<I, B> {
         self.input.unexpected(kind)
     }
 
-    /// Records a fault.
+    /// Records a fault. A current token that is no error stays.
     pub(crate) fn emit_err(&mut self, span: Span, kind: SyntaxError) -> PResult<()>
         requires { kind ≢ OutOfMemory }
         ensures tries { Tries I.state I.gives self.old.input result self.new.input }
         ensures notes { Loud I.state self.old.input → OnOk result (recorded I.state self.old.input < recorded I.state self.new.input) }
+        ensures kept { at_token no_error (seen self.old.input) ≡ true → current self.new.input ≡ current self.old.input }
         ensures left { left I.state self.new.input ≤ left I.state self.old.input }
     {
         self.input.emit_err(span, kind)
+    }
+
+    /// Records a refusal as a fault, unless it is want of memory, which is passed on.
+    pub(crate) fn emit_error(&mut self, error: Error) -> PResult<()>
+        requires { error.kind ≢ ParserFailed }
+        ensures tries { Tries I.state I.gives self.old.input result self.new.input }
+        ensures notes { Loud I.state self.old.input → OnOk result (recorded I.state self.old.input < recorded I.state self.new.input) }
+        ensures memory { OnOk result (error.kind ≢ OutOfMemory) }
+        ensures left { left I.state self.new.input ≤ left I.state self.old.input }
+    {
+        if is_out_of_memory(&error) {
+            return Err(error);
+        }
+        self.input.emit_error(error)
+    }
+
+    /// Records a fault of strict code, which is one in modules alone, and waits elsewhere.
+    pub(crate) fn emit_strict_mode_err(&mut self, span: Span, kind: SyntaxError) -> PResult<()>
+        requires { kind ≢ OutOfMemory }
+        ensures checks { MatchResult result (λ r. Checks I.state I.gives (not (context I.state self.old.input).module) self.old.input self.new.input) (λ e. Forgoes I.state I.gives self.old.input e self.new.input) }
+        ensures left { left I.state self.new.input ≤ left I.state self.old.input }
+    {
+        self.input.emit_strict_mode_err(span, kind)
     }
 
     /// Sets a context of the same kind of text, a module or a script, which can't be refused.
@@ -161,40 +188,88 @@ impl<I: Tokens, B: Bodies<I>> Productions<I, B> {
     /// Whether a word is current that is an expression by itself.
     pub(crate) fn is_ident_ref(&self) -> bool
         ensures value { result ≡ at_token (is_identifier (context I.state self.now.input)) (seen self.now.input) }
-        ensures word { result ≡ true → at_token is_word (seen self.now.input) ≡ true }
         ensures some { result ≡ true → IsSome (current self.now.input) }
     {
         let ctx = self.input.get_ctx();
         match self.input.cur_debug() {
-            Some(Token::Word(Word::Keyword(Keyword::Let))) => true,
             Some(Token::Word(word)) => is_identifier_word(ctx, word),
             _ => false,
         }
     }
 
-    /// The text of a word.
-    pub(crate) fn name_of(&self, token: Token) -> PResult<Atom>
-        requires { is_word token ≡ true }
-        ensures text { IfOk result (λ name. text_of token ≡ Some name) }
+    pub(crate) fn is_hash(&self) -> bool
+        ensures value { result ≡ at_token is_hash (seen self.now.input) }
+        ensures some { result ≡ true → IsSome (current self.now.input) }
+    {
+        matches!(self.input.cur_debug(), Some(Token::Hash))
+    }
+
+    /// Whether a word of strict code is current.
+    pub(crate) fn is_strict_word(&self) -> bool
+        ensures value { result ≡ at_token is_strict (seen self.now.input) }
+    {
+        match self.input.cur_debug() {
+            Some(Token::Word(word)) => is_strict_word(word),
+            _ => false,
+        }
+    }
+
+    /// An identifier reference, at a word that is one.
+    pub(crate) fn parse_ident_ref(&mut self) -> PResult<Ident>
+        requires { at_token (is_identifier (context I.state self.old.input)) (seen self.old.input) ≡ true }
+        ensures parses { Parses I.state I.gives ident_spelling (word ref_ok) self.old.input result self.new.input }
+        ensures left { OnOk result (left I.state self.new.input < left I.state self.old.input) }
+    {
+        ident::parse_ident_ref(self.alloc, &mut self.input)
+    }
+
+    /// A name that may be any word.
+    pub(crate) fn parse_ident_name(&mut self) -> PResult<IdentName>
+        ensures parses { Parses I.state I.gives name_spelling (word may_name) self.old.input result self.new.input }
+        ensures left { OnOk result (left I.state self.new.input < left I.state self.old.input) }
+    {
+        ident::parse_ident_name(self.alloc, &mut self.input)
+    }
+
+    /// A copy of the text. Refused only for want of memory.
+    pub(crate) fn copy_of(&self, text: &Atom) -> PResult<Atom>
         ensures refused { IfErr result (λ e. e ≡ no_memory (last_position self.now.input)) }
     {
-        match token {
-            Token::Word(Word::Ident(name)) => Ok(name),
-            Token::Word(word) => match Atom::new(self.alloc, word.as_str()) {
-                Ok(name) => Ok(name),
-                Err(_) => Err(self.input.out_of_memory()),
-            },
-            _ => unreachable!(),
+        match text.try_clone() {
+            Ok(copy) => Ok(copy),
+            Err(_) => Err(self.input.out_of_memory()),
         }
     }
 }
 
-/// Whether a word other than `let` is an expression by itself.
+/// Whether a word other than `let` and `await` is an expression by itself.
 fn is_identifier_word(ctx: Context, word: &Word) -> bool
-    ensures { result ≡ is_name ctx word.now }
+    ensures { result ≡ is_ref ctx word.now }
 {
     match word {
+        Word::Keyword(Keyword::Let) => true,
+        Word::Keyword(Keyword::Await) => false,
         Word::Ident(name) => !ctx.is_reserved(word) && name.as_str() != "async",
+        _ => !ctx.is_reserved(word),
+    }
+}
+
+/// Whether the word is no identifier in a module.
+fn is_strict_word(word: &Word) -> bool
+    ensures { result ≡ is_strict_word word.now }
+{
+    match word {
+        Word::Keyword(Keyword::Let | Keyword::Yield | Keyword::Await) => true,
+        Word::Ident(name) => matches!(
+            name.as_str(),
+            "static" | "implements" | "interface" | "package" | "private" | "protected" | "public"
+        ),
         _ => false,
     }
+}
+
+pub(crate) fn is_out_of_memory(error: &Error) -> bool
+    ensures { result ≡ is_memory error.now.kind }
+{
+    matches!(error.kind(), SyntaxError::OutOfMemory)
 }

@@ -5,6 +5,9 @@ ghost use Rattle.swc_input.specs.declared.token.TokenAndSpan.{TokenAndSpan};
 ghost use Rattle.swc_input.specs.Buffer.{previous, Read};
 ghost use Rattle.swc_ident.specs.Naming.{MatchExport, Names, Named, Unnamed, PrivateNames, Private, Neither, Quoted, Unexported, Unbound, Bound};
 ghost use Rattle.swc_ident.specs.Verdicts.{ident_verdict, reference_verdict, binding_verdict, name_of_any};
+ghost use Rattle.swc_grammar.specs.Names.{Reference, Binding, Name, Private as private_kind, ReadsName};
+ghost use Rattle.swc_ecma_parser.specs.Parsing.{ident_spelling, name_spelling, private_spelling, binding_spelling};
+ghost use Rattle.swc_ecma_parser.specs.Promise.{RefersIfFree, Anywhere, Sound, Complete};
 ghost use Rattle.swc_ecma_parser.specs.Calls.{buffer_of, has_failed, wants_memory, parser_failed};
 
 use crate::parser::Parser;
@@ -37,6 +40,8 @@ impl<I: Tokens, B: Bodies<I>> Parser<I, B> {
     pub fn parse_private_name(&mut self) -> PResult<PrivateName>
         ensures again { has_failed self.old ≡ true → (self.new ≡ self.old) × (result ≡ Err (parser_failed (previous (buffer_of self.old)))) }
         ensures private { has_failed self.old ≡ false → PrivateNames I.state I.gives (λ p. p.name) (λ p. p.span) (buffer_of self.old) result (buffer_of self.new) }
+        ensures sound { has_failed self.old ≡ false → Sound I.state I.gives (ReadsName private_kind) private_spelling (buffer_of self.old) result (buffer_of self.new) }
+        ensures complete { has_failed self.old ≡ false → Complete I.state I.gives (ReadsName private_kind) private_spelling Anywhere (buffer_of self.old) result (buffer_of self.new) }
         ensures read { has_failed self.old ≡ false → (xs : List TokenAndSpan) × Read I.state I.gives (buffer_of self.old) xs (buffer_of self.new) }
         ensures fails { has_failed self.old ≡ false → has_failed self.new ≡ wants_memory result }
     {
@@ -51,6 +56,8 @@ impl<I: Tokens, B: Bodies<I>> Parser<I, B> {
     pub fn parse_ident_ref(&mut self) -> PResult<Ident>
         ensures again { has_failed self.old ≡ true → (self.new ≡ self.old) × (result ≡ Err (parser_failed (previous (buffer_of self.old)))) }
         ensures names { has_failed self.old ≡ false → Names I.state I.gives reference_verdict (λ i. i.sym) (λ i. i.span) (buffer_of self.old) result (buffer_of self.new) }
+        ensures sound { has_failed self.old ≡ false → Sound I.state I.gives (RefersIfFree) ident_spelling (buffer_of self.old) result (buffer_of self.new) }
+        ensures complete { has_failed self.old ≡ false → Complete I.state I.gives (ReadsName Reference) ident_spelling Anywhere (buffer_of self.old) result (buffer_of self.new) }
         ensures read { has_failed self.old ≡ false → (xs : List TokenAndSpan) × Read I.state I.gives (buffer_of self.old) xs (buffer_of self.new) }
         ensures fails { has_failed self.old ≡ false → has_failed self.new ≡ wants_memory result }
     {
@@ -77,6 +84,8 @@ impl<I: Tokens, B: Bodies<I>> Parser<I, B> {
     pub fn parse_ident_name(&mut self) -> PResult<IdentName>
         ensures again { has_failed self.old ≡ true → (self.new ≡ self.old) × (result ≡ Err (parser_failed (previous (buffer_of self.old)))) }
         ensures names { has_failed self.old ≡ false → Names I.state I.gives name_of_any (λ i. i.sym) (λ i. i.span) (buffer_of self.old) result (buffer_of self.new) }
+        ensures sound { has_failed self.old ≡ false → Sound I.state I.gives (ReadsName Name) name_spelling (buffer_of self.old) result (buffer_of self.new) }
+        ensures complete { has_failed self.old ≡ false → Complete I.state I.gives (ReadsName Name) name_spelling Anywhere (buffer_of self.old) result (buffer_of self.new) }
         ensures read { has_failed self.old ≡ false → (xs : List TokenAndSpan) × Read I.state I.gives (buffer_of self.old) xs (buffer_of self.new) }
         ensures fails { has_failed self.old ≡ false → has_failed self.new ≡ wants_memory result }
     {
@@ -129,6 +138,8 @@ impl<I: Tokens, B: Bodies<I>> Parser<I, B> {
     pub fn parse_binding_ident(&mut self) -> PResult<BindingIdent>
         ensures again { has_failed self.old ≡ true → (self.new ≡ self.old) × (result ≡ Err (parser_failed (previous (buffer_of self.old)))) }
         ensures names { has_failed self.old ≡ false → Names I.state I.gives binding_verdict (λ b. b.id.sym) (λ b. b.id.span) (buffer_of self.old) result (buffer_of self.new) }
+        ensures sound { has_failed self.old ≡ false → Sound I.state I.gives (ReadsName Binding) binding_spelling (buffer_of self.old) result (buffer_of self.new) }
+        ensures complete { has_failed self.old ≡ false → Complete I.state I.gives (ReadsName Binding) binding_spelling Anywhere (buffer_of self.old) result (buffer_of self.new) }
         ensures read { has_failed self.old ≡ false → (xs : List TokenAndSpan) × Read I.state I.gives (buffer_of self.old) xs (buffer_of self.new) }
         ensures fails { has_failed self.old ≡ false → has_failed self.new ≡ wants_memory result }
     {

@@ -1,4 +1,5 @@
-use Rattle.swc_grammar.specs.Grammar.{Level}
+use Rattle.swc_grammar.specs.Grammar as grammar
+use Rattle.swc_grammar.specs.Grammar.{Level, Stops}
 use Rattle.swc_grammar.specs.Clean.{run, operand}
 use Rattle.swc_ecma_parser.specs.Parsing.{tree_by}
 use Rattle.swc_ecma_parser.specs.Promise.{hook_of}
@@ -11,20 +12,25 @@ returns-clause-reads g c = λ runs. rw (c.finish.ensures.answer, c.finish.ensure
 
 pub returns-clause-sound : goal.returns-clause-sound
 returns-clause-sound g c = λ runs. rw (c.finish.ensures.answer, c.finish.ensures.buffer)
-    (top.sound g.I.Tokens.state g.I.Tokens.gives (hook_of g.B.BodyForms.reads_fun g.B.BodyForms.reads_class g.B.BodyForms.reads_block) (tree_by g.B.Fun.Spanned.place g.B.Class.Spanned.place g.B.Block.Spanned.place)
-    (Level 1) (operand run 0) (top.level-clean (hook_of g.B.BodyForms.reads_fun g.B.BodyForms.reads_class g.B.BodyForms.reads_block)) _ c.parse_bin_expr-answer.result _ c.parse_bin_expr-answer.ensures.parses)
+    (top.sound g.I.Tokens.state g.I.Tokens.gives (grammar.Reads (hook_of g.B.BodyForms.reads_fun g.B.BodyForms.reads_class g.B.BodyForms.reads_block) (Level 1)) (tree_by g.B.Fun.Spanned.place g.B.Class.Spanned.place g.B.Block.Spanned.place) (operand run 0)
+    (top.level-is_sound (hook_of g.B.BodyForms.reads_fun g.B.BodyForms.reads_class g.B.BodyForms.reads_block)) _ c.parse_bin_expr-answer.result _ c.parse_bin_expr-answer.ensures.parses)
 
 pub returns-clause-complete : goal.returns-clause-complete
 returns-clause-complete g c = λ runs. rw (c.finish.ensures.answer, c.finish.ensures.buffer)
-    (top.complete g.I.Tokens.state g.I.Tokens.gives (hook_of g.B.BodyForms.reads_fun g.B.BodyForms.reads_class g.B.BodyForms.reads_block) (tree_by g.B.Fun.Spanned.place g.B.Class.Spanned.place g.B.Block.Spanned.place)
-    (Level 1) (operand run 0) (top.level-clean (hook_of g.B.BodyForms.reads_fun g.B.BodyForms.reads_class g.B.BodyForms.reads_block)) _ c.parse_bin_expr-answer.result _ c.parse_bin_expr-answer.ensures.parses)
+    (top.complete g.I.Tokens.state g.I.Tokens.gives (grammar.Reads (hook_of g.B.BodyForms.reads_fun g.B.BodyForms.reads_class g.B.BodyForms.reads_block) (Level 1)) (tree_by g.B.Fun.Spanned.place g.B.Class.Spanned.place g.B.Block.Spanned.place) (operand run 0)
+    (Stops (Level 1)) (top.level-is_complete (hook_of g.B.BodyForms.reads_fun g.B.BodyForms.reads_class g.B.BodyForms.reads_block)) _ c.parse_bin_expr-answer.result _ c.parse_bin_expr-answer.ensures.parses)
 
 pub returns-clause-one_tree : goal.returns-clause-one_tree
 returns-clause-one_tree g c = λ runs. rw (c.finish.ensures.answer, c.finish.ensures.buffer)
-    (top.one_tree g.I.Tokens.state g.I.Tokens.gives (hook_of g.B.BodyForms.reads_fun g.B.BodyForms.reads_class g.B.BodyForms.reads_block) (tree_by g.B.Fun.Spanned.place g.B.Class.Spanned.place g.B.Block.Spanned.place)
-    (Level 1) (operand run 0) (top.level-clean (hook_of g.B.BodyForms.reads_fun g.B.BodyForms.reads_class g.B.BodyForms.reads_block)) _ c.parse_bin_expr-answer.result _ c.parse_bin_expr-answer.ensures.parses)
+    (top.one_tree g.I.Tokens.state g.I.Tokens.gives (grammar.Reads (hook_of g.B.BodyForms.reads_fun g.B.BodyForms.reads_class g.B.BodyForms.reads_block) (Level 1)) (tree_by g.B.Fun.Spanned.place g.B.Class.Spanned.place g.B.Block.Spanned.place) (operand run 0)
+    (Stops (Level 1)) (top.level-is_complete (hook_of g.B.BodyForms.reads_fun g.B.BodyForms.reads_class g.B.BodyForms.reads_block)) _ c.parse_bin_expr-answer.result _ c.parse_bin_expr-answer.ensures.parses)
 
 pub returns-clause-grouped : goal.returns-clause-grouped
 returns-clause-grouped g c = λ runs. rw (c.finish.ensures.answer, c.finish.ensures.buffer)
-    (top.grouped-answer g.I.Tokens.state g.I.Tokens.gives (hook_of g.B.BodyForms.reads_fun g.B.BodyForms.reads_class g.B.BodyForms.reads_block) (tree_by g.B.Fun.Spanned.place g.B.Class.Spanned.place g.B.Block.Spanned.place)
-    (Level 1) (operand run 0) (top.level-clean (hook_of g.B.BodyForms.reads_fun g.B.BodyForms.reads_class g.B.BodyForms.reads_block)) _ c.parse_bin_expr-answer.result _ c.parse_bin_expr-answer.ensures.parses)
+    (top.grouped-answer g.I.Tokens.state g.I.Tokens.gives (hook_of g.B.BodyForms.reads_fun g.B.BodyForms.reads_class g.B.BodyForms.reads_block) (tree_by g.B.Fun.Spanned.place g.B.Class.Spanned.place g.B.Block.Spanned.place) (Level 1) (operand run 0)
+    (top.level-is_sound (hook_of g.B.BodyForms.reads_fun g.B.BodyForms.reads_class g.B.BodyForms.reads_block)) _ c.parse_bin_expr-answer.result _ c.parse_bin_expr-answer.ensures.parses)
+
+pub returns-clause-valid : goal.returns-clause-valid
+returns-clause-valid g c = λ runs. rw (c.finish.ensures.answer, c.finish.ensures.buffer)
+    (top.valid-answer g.I.Tokens.state g.I.Tokens.gives (hook_of g.B.BodyForms.reads_fun g.B.BodyForms.reads_class g.B.BodyForms.reads_block) (tree_by g.B.Fun.Spanned.place g.B.Class.Spanned.place g.B.Block.Spanned.place) (Level 1) (operand run 0)
+    (top.level-is_sound (hook_of g.B.BodyForms.reads_fun g.B.BodyForms.reads_class g.B.BodyForms.reads_block)) _ c.parse_bin_expr-answer.result _ c.parse_bin_expr-answer.ensures.parses)

@@ -1,21 +1,29 @@
+use Rattle.std.proofs.Common.{◌≡◌, true, Some, ◌&&◌, refl, sym, ap, ◌∙◌}
 use Rattle.std.proofs.lemmas.Result.{err_from_is_err_and}
-use Rattle.swc_input.specs.Plain.{plain}
+use Rattle.swc_bodies.specs.Readings.{at_token}
 use Rattle.swc_grammar.specs.Trees.{ident_e}
-use Rattle.swc_grammar.specs.Clean.{name_of}
-use Rattle.swc_ecma_parser.specs.Parsing.{tree_by}
-use Rattle.swc_ecma_parser.proofs.Steps as s
+use Rattle.swc_grammar.specs.Clean.{is_identifier}
+use Rattle.swc_ecma_parser.specs.Parsing.{tree_by, context, seen, is_strict}
 use Rattle.swc_ecma_parser.proofs.Rules as rule
+use Rattle.swc_ecma_parser.proofs.Steps as s
 use Rattle.swc_ecma_parser.proofs.productions.Productions.parse_ident_expr.Goals as goal
 
-pub returns-in_err-sym-clause-parses : goal.returns-in_err-sym-clause-parses
-returns-in_err-sym-clause-parses g c =
+pub returns-in_err-ident-clause-parses : goal.returns-in_err-ident-clause-parses
+returns-in_err-ident-clause-parses g c =
     let p = err_from_is_err_and c.from_residual.result c.from_residual.ensures.1 in rw (p.1, p.2)
-    (s.unheard_memory (s.forgoes_later (s.took_leads (record { none = g.met.I.Tokens.none; joins = g.met.I.Tokens.then; gave = g.met.I.Tokens.gave; lawful = g.met.I.Tokens.lawful }) c.bump-token.ensures.took) (s.forgoes_here (record { none = g.met.I.Tokens.none; joins = g.met.I.Tokens.then; gave = g.met.I.Tokens.gave; lawful = g.met.I.Tokens.lawful }) _ _ _ c.in_err-sym.ensures.refused)))
+    (s.unheard_call (λ x p. Some (ident_e p.0.at p.0.text, p.1)) (λ x ts. rule.name_splits x ts) c.in_err-ident.ensures.parses)
+
+pub returns-in_err-check_strict_word-clause-parses : goal.returns-in_err-check_strict_word-clause-parses
+returns-in_err-check_strict_word-clause-parses g c =
+    let p = err_from_is_err_and c.from_residual-in_err-check_strict_word.result c.from_residual-in_err-check_strict_word.ensures.1 in rw (p.1, p.2)
+    (s.unheard_memory (s.forgoes_later c.in_ok-ident.ensures.parses.on.leads c.in_err-check_strict_word.ensures.checks))
 
 pub returns-clause-parses : goal.returns-clause-parses
 returns-clause-parses g c =
-    let took = c.bump-token.ensures.took in
+    let word = c.in_ok-ident.ensures.parses in
+    let kept = ap (λ x. x.«module») word.on.leads.read.context in
     s.node_parses g.I.Tokens.state g.I.Tokens.gives (tree_by g.B.Fun.Spanned.place g.B.Class.Spanned.place g.B.Block.Spanned.place) _ c.ident_node.result _ c.ident_node.ensures.node c.ident_node.ensures.refused
-    (s.heard_took (record { none = g.met.I.Tokens.none; joins = g.met.I.Tokens.then; gave = g.met.I.Tokens.gave; lawful = g.met.I.Tokens.lawful }) took
-    (λ x ts. rule.name_takes (ident_e c.prev_span-span.result c.in_ok-sym.sym) x (plain took.was) ts
-    (s.at_was name_of (ident_e c.prev_span-span.result c.in_ok-sym.sym) took c.prev_span-span.result c.prev_span-span.ensures (rule.name_text c.bump-token.result c.prev_span-span.result c.in_ok-sym.sym c.in_ok-sym.ensures.text))))
+    (s.heard_unless ((context g.I.Tokens.state c.parse_ident_ref.new.self.input).«module» && c.is_strict_word-is_strict.result) (λ x p. Some (ident_e p.0.at p.0.text, p.1)) (λ x ts. rule.name_splits x ts) (λ x ts. refl)
+    (s.seen_some (is_identifier (context g.I.Tokens.state c.args.self.now.input)) c.args.self.now.input c.requires) word c.in_ok-check_strict_word.ensures.checks
+    (λ bad ts first. rule.name_strict (context g.I.Tokens.state c.args.self.now.input) ts
+    (ap (λ v. (context g.I.Tokens.state c.args.self.now.input).«module» && at_token is_strict v) first ∙ ap (λ v. v && at_token is_strict (seen c.args.self.now.input)) (sym kept) ∙ ap (λ v. (context g.I.Tokens.state c.parse_ident_ref.new.self.input).«module» && v) (sym c.is_strict_word-is_strict.ensures.value) ∙ bad)))
