@@ -8,55 +8,111 @@ use std::test::Fail;
 
 const USAGE: &str = "usage: show_expr expr|pat script|module|strict|generator|async\n";
 
-/// A text, and what has to be written of it as an expression of a script, with the status.
-type Row = (&'static [u8], &'static str, u8);
+/// A mode, a text, and what has to be written of it as an expression, with the status.
+type Row = (&'static str, &'static [u8], &'static str, u8);
 
-const ROWS: [Row; 16] = [
-    (b"5 + 4 * 7", "Bin(+, 5, Bin(*, 4, 7))\n", 0),
-    (b"5 + 4 + 7", "Bin(+, Bin(+, 5, 4), 7)\n", 0),
-    (b"", "refused: Eof 0..0\n", 2),
-    (b"()", "refused: EmptyParenExpr 0..2\n", 2),
+const ROWS: [Row; 39] = [
+    ("script", b"5 + 4 * 7", "Bin(+, 5, Bin(*, 4, 7))\n", 0),
+    ("script", b"5 + 4 + 7", "Bin(+, Bin(+, 5, 4), 7)\n", 0),
+    ("script", b"2 ** 3 ** 4", "Bin(**, 2, Bin(**, 3, 4))\n", 0),
+    ("script", b"-a ** b", "refused: UnaryInExp 3..5\n", 2),
+    ("script", b"", "refused: Eof 0..0\n", 2),
+    ("script", b"()", "refused: EmptyParenExpr 0..2\n", 2),
+    ("script", b"+", "Unary(+, Invalid)\nTS1109 0..1\n", 1),
     (
+        "script",
         b"a ?? b || c",
         "Bin(||, Bin(??, a, b), c)\nNullishCoalescingWithLogicalOp 0..11\nNullishCoalescingWithLogicalOp 0..11\n",
         1,
     ),
-    (b"a + b = c", "Bin(+, a, b)\nunread\n", 0),
+    ("script", b"a + b = c", "Bin(+, a, b)\nunread\n", 0),
     (
+        "script",
         b"a && b ?? c",
         "Bin(??, Bin(&&, a, b), c)\nNullishCoalescingWithLogicalOp 0..6\n",
         1,
     ),
     (
+        "script",
         b"a ?? b && c",
         "Bin(??, a, Bin(&&, b, c))\nNullishCoalescingWithLogicalOp 5..11\n",
         1,
     ),
     (
+        "script",
         b"a ?? b || c || d",
         "Bin(||, Bin(||, Bin(??, a, b), c), d)\nNullishCoalescingWithLogicalOp 0..11\n",
         1,
     ),
-    (b"(a, b)", "refused: Expected 2..3 )\n", 2),
-    (b"async", "refused: TS1109 0..5\n", 2),
-    (b"* a", "refused: TS1109 0..1\n", 2),
-    (b"5 @@ \\", "refused: Lex 5..6\n", 2),
-    (b"a + \xc3\xa9", "refused: Lex 4..5\n", 2),
-    (b"(null) in x", "Bin(in, Paren(null), x)\n", 0),
-    (b"a\n- (true", "refused: Eof 9..9\n", 2),
+    ("script", b"(a, b)", "refused: Expected 2..3 )\n", 2),
+    ("script", b"async", "refused: TS1109 0..5\n", 2),
+    ("script", b"5 @@ \\", "refused: Lex 5..6\n", 2),
+    ("script", b"a + \xc3\xa9", "refused: Lex 4..5\n", 2),
+    ("script", b"(null) in x", "Bin(in, Paren(null), x)\n", 0),
+    ("script", b"a\n- (true", "refused: Eof 9..9\n", 2),
+    (
+        "script",
+        b"(-a) ** -b",
+        "Bin(**, Paren(Unary(-, a)), Unary(-, b))\n",
+        0,
+    ),
+    (
+        "script",
+        b"void typeof delete ! ~ - + a",
+        "Unary(void, Unary(typeof, Unary(delete, Unary(!, Unary(~, Unary(-, Unary(+, a)))))))\n",
+        0,
+    ),
+    ("script", b"* a", "Bin(*, Invalid, a)\nTS1109 0..1\n", 1),
+    (
+        "script",
+        b"- * a",
+        "Bin(*, Unary(-, Invalid), a)\nTS1109 2..3\n",
+        1,
+    ),
+    (
+        "script",
+        b"- ** a",
+        "refused: UnaryInExp 2..4\nTS1109 2..4\n",
+        2,
+    ),
+    ("script", b"# a", "#a\n", 0),
+    ("script", b"# 1", "refused: ExpectedIdent 2..3\n", 2),
+    ("script", b"enum", "refused: TS1109 0..4\n", 2),
+    ("script", b"let", "let\n", 0),
+    ("script", b"delete a", "Unary(delete, a)\n", 0),
+    (
+        "module",
+        b"let",
+        "let\nInvalidIdentInStrict 0..3 let\nInvalidIdentInStrict 0..3 let\n",
+        1,
+    ),
+    ("module", b"delete a", "Unary(delete, a)\nTS1102 7..8\n", 1),
+    ("module", b"implements", "refused: TS1109 0..10\n", 2),
+    ("strict", b"let", "let\n", 0),
+    ("strict", b"delete a", "Unary(delete, a)\n", 0),
+    ("strict", b"implements", "refused: TS1109 0..10\n", 2),
+    (
+        "generator",
+        b"implements in a",
+        "Bin(in, implements, a)\n",
+        0,
+    ),
+    ("generator", b"yield", "refused: TS1109 0..5\n", 2),
+    ("async", b"yield", "yield\n", 0),
+    ("async", b"await", "refused: TS1109 0..5\n", 2),
+    ("async", b"static", "static\n", 0),
 ];
 
-const BAD_ARGUMENTS: [&[&str]; 10] = [
+const BAD_ARGUMENTS: [&[&str]; 9] = [
     &["expr"],
     &[],
     &["expr", "script", "x"],
     &["expr", "script", "pedantic"],
-    &["expr", "module"],
-    &["expr", "strict"],
-    &["expr", "generator"],
-    &["expr", "async"],
     &["pat", "script"],
     &["pat", "module"],
+    &["expr", "pedantic"],
+    &["expr", "Script"],
+    &["script", "expr"],
 ];
 
 /// What the program answers over memory.
@@ -83,13 +139,13 @@ fn run_over(alloc: Global, arguments: &[&str], input: &[u8]) -> Ran {
 }
 
 /// The status of the program with this much room on its output.
-fn status_in(alloc: Global, input: &[u8], room: usize, flushes: bool) -> u8 {
+fn status_in(alloc: Global, mode: &str, input: &[u8], room: usize, flushes: bool) -> u8 {
     let mut rest = input;
     let mut output = FailingWriter { room, flushes };
     let mut complaints = Vec::new(alloc);
     run(
         alloc,
-        &["expr", "script"],
+        &["expr", mode],
         &mut rest,
         &mut output,
         &mut complaints,
@@ -115,9 +171,9 @@ fn expect(
 }
 
 #[test]
-fn shows_expressions_of_scripts(rt: HostRuntime) -> Result<(), Fail> {
-    for (input, output, status) in ROWS {
-        let found = run_over(rt.alloc(), &["expr", "script"], input);
+fn shows_expressions(rt: HostRuntime) -> Result<(), Fail> {
+    for (mode, input, output, status) in ROWS {
+        let found = run_over(rt.alloc(), &["expr", mode], input);
         expect(&rt, &found, output, "", status)?;
         assert_eq!(rt; found.left, 0, "where {output:?} is written");
     }
@@ -154,16 +210,22 @@ fn says_that_input_fails(rt: HostRuntime) -> Result<(), Fail> {
     Ok(())
 }
 
+/// With less room than its output needs, the program has to answer that it can't write.
+fn fails_without_room(rt: &impl Abort, alloc: Global, (mode, input, output, _): Row) {
+    for room in 0..output.len() {
+        let found = status_in(alloc, mode, input, room, true);
+        assert_eq!(rt; found, 3, "with room for {room} bytes of {output:?}");
+    }
+}
+
 #[test]
 fn says_that_output_fails(rt: HostRuntime) {
-    for (input, output, status) in ROWS {
-        for room in 0..output.len() {
-            let found = status_in(rt.alloc(), input, room, true);
-            assert_eq!(rt; found, 3, "with room for {room} bytes of {output:?}");
-        }
-        let found = status_in(rt.alloc(), input, output.len(), true);
+    for row in ROWS {
+        fails_without_room(&rt, rt.alloc(), row);
+        let (mode, input, output, status) = row;
+        let found = status_in(rt.alloc(), mode, input, output.len(), true);
         assert_eq!(rt; found, status, "with room for {output:?}");
-        let found = status_in(rt.alloc(), input, output.len(), false);
+        let found = status_in(rt.alloc(), mode, input, output.len(), false);
         assert_eq!(rt; found, 3, "without a flush of {output:?}");
     }
 }

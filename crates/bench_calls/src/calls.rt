@@ -1,10 +1,12 @@
 // Rows that are calls.
 use crate::fixture::{
-    at, parser_of, parser_over, place, shown, shown_end, shown_faults, shown_lit, span, word,
+    at, parser_of, parser_over, place, script, shown, shown_end, shown_faults, shown_lit, span,
+    word,
 };
 use std::alloc::{AllocError, Global};
 use std::test::Fail;
 use swc_context::context::Context;
+use swc_context::error::{Error, SyntaxError};
 use swc_context::operator::BinOpToken;
 use swc_input::token::{Token, TokenAndSpan};
 use swc_input::tokens::Tokens;
@@ -68,5 +70,58 @@ fn each_call_reads_its_symbol(rt: HostRuntime) -> Result<(), Fail> {
         shown_faults(alloc, &parser.input().take_errors())?.as_str(),
         ""
     );
+    Ok(())
+}
+
+#[test]
+fn refuses_a_prefix_operator_left_of_a_power(rt: HostRuntime) -> Result<(), Fail> {
+    let alloc = rt.alloc();
+    let mut parser = parser_of(alloc, "-a ** b")?;
+    assert_eq!(rt;
+        shown(alloc, parser.parse_expr())?.as_str(),
+        "refused: UnaryInExp 3..5"
+    );
+    assert_eq!(rt; shown_faults(alloc, &parser.take_errors())?.as_str(), "");
+    assert_eq!(rt; shown(alloc, parser.parse_expr())?.as_str(), "b");
+    assert_eq!(rt; shown_end(alloc, parser.at_end())?.as_str(), "true");
+    Ok(())
+}
+
+/// `+` at 0..1 and an error token at 2..3.
+fn broken_off(alloc: Global) -> Result<Vec<TokenAndSpan>, AllocError> {
+    let place = span(2, 3);
+    let fault = Token::Error(Error::new(place, SyntaxError::Lex));
+    let mut tokens = Vec::new(alloc);
+    tokens.push(at(Token::BinOp(BinOpToken::Add), span(0, 1)))?;
+    tokens.push(at(fault, place))?;
+    Ok(tokens)
+}
+
+#[test]
+fn records_an_error_token_once(rt: HostRuntime) -> Result<(), Fail> {
+    let alloc = rt.alloc();
+    let mut parser = parser_over(alloc, broken_off(alloc)?, script());
+    assert_eq!(rt;
+        shown(alloc, parser.parse_expr())?.as_str(),
+        "Unary(+, Invalid)"
+    );
+    assert_eq!(rt;
+        shown_faults(alloc, &parser.take_errors())?.as_str(),
+        "Lex 2..3\n"
+    );
+    assert_eq!(rt; shown_end(alloc, parser.at_end())?.as_str(), "true");
+    Ok(())
+}
+
+// A refused operand of a prefix operator lies at one position, one before it; a refused left operand has its refusal's place.
+#[test]
+fn places_what_was_refused(rt: HostRuntime) -> Result<(), Fail> {
+    let alloc = rt.alloc();
+    let mut parser = parser_of(alloc, "+")?;
+    assert_eq!(rt; place(parser.parse_unary_expr()), Some(span(0, 0)));
+    let mut parser = parser_of(alloc, "- * a")?;
+    assert_eq!(rt; place(parser.parse_unary_expr()), Some(span(0, 1)));
+    let mut parser = parser_of(alloc, "* a")?;
+    assert_eq!(rt; place(parser.parse_bin_expr()), Some(span(0, 3)));
     Ok(())
 }

@@ -47,13 +47,18 @@ pub(crate) fn parser_over(alloc: Global, tokens: Vec<TokenAndSpan>, ctx: Context
     Parser::new_from(alloc, source(alloc, tokens, ctx), NoBodies)
 }
 
-/// A parser of a text, in a script where `in` counts as an operator.
-pub(crate) fn parser_of(alloc: Global, text: &str) -> Result<ListedParser, Error> {
-    let ctx = Context {
+/// A script where `in` counts as an operator.
+pub(crate) fn script() -> Context {
+    Context {
         include_in_expr: true,
         ..Context::default()
-    };
-    Ok(parser_over(alloc, read_tokens(alloc, text.as_bytes())?, ctx))
+    }
+}
+
+/// A parser of a text, in such a script.
+pub(crate) fn parser_of(alloc: Global, text: &str) -> Result<ListedParser, Error> {
+    let tokens = read_tokens(alloc, text.as_bytes())?;
+    Ok(parser_over(alloc, tokens, script()))
 }
 
 /// What a call answered, as the program prints it. (A test that let a tree go would have a case for each kind of node.)

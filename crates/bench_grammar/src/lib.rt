@@ -1,4 +1,4 @@
-//! The grammar of binary operators, enumerated, and the parser tested against it.
+//! The grammar of operators, names and numbers, enumerated, and the parser tested against it.
 #![tactic(auto)]
 
 pub mod grammar;
@@ -6,3 +6,4 @@ pub mod grammar;
 mod lists;
 #[cfg(test)]
 mod reading;
+pub mod symbol;

@@ -1,5 +1,5 @@
 // What the parser answers on a list.
-use crate::grammar::Symbol;
+use crate::symbol::{Mode, Place, Symbol};
 use std::alloc::{AllocError, Global};
 use swc_ast::expr::Expr;
 use swc_bodies::none::NoBodies;
@@ -18,17 +18,26 @@ type ListedParser = Parser<TokensInput, NoBodies>;
 
 fn token_of(alloc: Global, symbol: Symbol) -> Result<Token, AllocError> {
     match symbol {
-        Symbol::Name | Symbol::In => Ok(Token::Word(Word::new(alloc, symbol.as_str())?)),
         Symbol::Number => Ok(Token::Num {
             raw: Atom::new(alloc, symbol.as_str())?,
         }),
         Symbol::Add => Ok(Token::BinOp(BinOpToken::Add)),
+        Symbol::Sub => Ok(Token::BinOp(BinOpToken::Sub)),
         Symbol::Mul => Ok(Token::BinOp(BinOpToken::Mul)),
+        Symbol::Exp => Ok(Token::BinOp(BinOpToken::Exp)),
+        Symbol::Bang => Ok(Token::Bang),
         Symbol::Nullish => Ok(Token::BinOp(BinOpToken::NullishCoalescing)),
         Symbol::Or => Ok(Token::BinOp(BinOpToken::LogicalOr)),
         Symbol::And => Ok(Token::BinOp(BinOpToken::LogicalAnd)),
         Symbol::Open => Ok(Token::LParen),
         Symbol::Close => Ok(Token::RParen),
+        Symbol::Hash => Ok(Token::Hash),
+        Symbol::Name
+        | Symbol::In
+        | Symbol::Delete
+        | Symbol::Let
+        | Symbol::Yield
+        | Symbol::Implements => Ok(Token::Word(Word::new(alloc, symbol.as_str())?)),
     }
 }
 
@@ -51,11 +60,27 @@ fn push_token(
     Ok(())
 }
 
-/// A parser over the symbols, at 0..1, 1..2 and so on, in a script.
+fn context_of(place: Place) -> Context {
+    let is_module = matches!(place.mode, Mode::Module);
+    let in_function = matches!(place.mode, Mode::Generator | Mode::Async);
+    Context {
+        module: is_module,
+        can_be_module: is_module,
+        strict: is_module || matches!(place.mode, Mode::Strict),
+        include_in_expr: place.with_in,
+        in_async: matches!(place.mode, Mode::Async),
+        in_generator: matches!(place.mode, Mode::Generator),
+        in_function,
+        inside_non_arrow_function_scope: in_function,
+        ..Context::default()
+    }
+}
+
+/// A parser over the symbols, at 0..1, 1..2 and so on.
 fn parser_over(
     alloc: Global,
     symbols: &[Symbol],
-    with_in: bool,
+    place: Place,
 ) -> Result<ListedParser, AllocError> {
     let mut tokens = Vec::new(alloc);
     let mut lo = 0_u32;
@@ -63,11 +88,13 @@ fn parser_over(
         push_token(alloc, &mut tokens, *symbol, lo)?;
         lo = lo.saturating_add(1);
     }
-    let ctx = Context {
-        include_in_expr: with_in,
-        ..Context::default()
-    };
-    let input = TokensInput::new(alloc, tokens, ctx, Syntax::default(), EsVersion::default());
+    let input = TokensInput::new(
+        alloc,
+        tokens,
+        context_of(place),
+        Syntax::default(),
+        EsVersion::default(),
+    );
     Ok(Parser::new_from(alloc, input, NoBodies))
 }
 
@@ -91,9 +118,9 @@ fn is_clean(parser: &mut ListedParser) -> bool {
 pub(crate) fn read(
     alloc: Global,
     symbols: &[Symbol],
-    with_in: bool,
+    place: Place,
 ) -> Result<Vec<String>, AllocError> {
-    let mut parser = parser_over(alloc, symbols, with_in)?;
+    let mut parser = parser_over(alloc, symbols, place)?;
     let tree = printed(alloc, parser.parse_expr())?;
     let mut trees = Vec::new(alloc);
     if is_clean(&mut parser) {
