@@ -1,7 +1,6 @@
 -- Private names: what the call answers is what the clean reader of a `#` and a name reads.
-use Rattle.std.proofs.Common.{◌≡◌, ◌≢◌, ℕ, Bool, true, false, if◌then◌else◌, List, [], ◌++◌, Option, Some, None, Result, Ok, Err, refl, sym, ap, ◌∙◌}
+use Rattle.std.proofs.Common.{◌≡◌, ◌≢◌, ℕ, Bool, true, false, if◌then◌else◌, List, [], Option, Some, None, Result, Ok, Err, refl, sym, ap, ◌∙◌}
 use Rattle.std.proofs.lemmas.Bool.{eq-eqb, ne_eqb}
-use Rattle.std.proofs.lemmas.List.{append-nil}
 use Rattle.swc_context.specs.declared.context.Context.{Context}
 use Rattle.swc_context.specs.declared.error.Error.{Error}
 use Rattle.swc_context.specs.declared.error.SyntaxError.{SyntaxError}
@@ -13,10 +12,11 @@ use Rattle.swc_input.specs.declared.token.Token.{Token}
 use Rattle.swc_input.specs.declared.token.Token.TheVariants as token
 use Rattle.swc_input.specs.declared.token.TokenAndSpan.{TokenAndSpan}
 use Rattle.swc_input.specs.Plain.{plain_token}
-use Rattle.swc_input.specs.Source.{Source, given_one}
-use Rattle.swc_input.specs.Buffer.{Looked, current, peeked, source, held, last_position}
+use Rattle.swc_input.specs.Source.{Source}
+use Rattle.swc_input.specs.Buffer.{current, last_position}
 use Rattle.swc_input.specs.Laws.{Known-after}
 use Rattle.swc_input.specs.Recording.{Refused, unfit}
+use Rattle.swc_input.proofs.Ends.{past_end}
 use Rattle.swc_input.proofs.Refusals.{Refused-kind, unfit-kind}
 use Rattle.swc_bodies.specs.Readings.{at_token}
 use Rattle.swc_grammar.specs.Names.{Spelling, spelling}
@@ -68,23 +68,11 @@ nothing : {A : Type 0} (b : Bool) (o : Out A) → o ≡ None → (if b then o el
 nothing true o h = h
 nothing false o h = refl
 
-none_held : (o p : Option TokenAndSpan) → given_one o ++ given_one p ≡ [] → o ≡ None
-none_held None p h = refl
-none_held (Some t) p h = cc
-
 expected_kind : (k : SyntaxError) (text : List ℕ) → expects k ≡ Some text → k ≢ kind.ParserFailed
 expected_kind (kind.Expected t) text h e = cc
 expected_kind k text h e = cc
 
 module _ {S : Type 0} {state : S → Source} {gives : S → List TokenAndSpan → S → Type 0} where
-  -- past the end a look finds nothing
-  over : {b c : Buffer S} → Laws state gives → Looked state gives b c → current b ≡ None → peeked b ≡ None → (state (source b)).ended ≡ true → current c ≡ None
-  over {b} {c} laws l e f ended =
-      let took = l.look.read.took in
-      let none = (laws.gave b.iter c.iter took.given took.gave).ended ended in
-      let empty : held c ≡ [] = sym took.balance ∙ ap (λ g. held b ++ g) none ∙ append-nil (held b) ∙ ap (λ o. given_one o ++ given_one (peeked b)) e ∙ ap given_one f in
-      none_held (current c) (peeked c) empty
-
   -- f reads nothing where the refusal was made
   unheard_refused : {A : Type 0} {f : Reader A} {b c : Buffer S} {e : Error} (g : Buffer S → Error) → Laws state gives → (r : Refused state gives b g e c) → ((here : Buffer S) → (g here).kind ≢ kind.ParserFailed) →
       ((x : Context) (ts : List TokenAndSpan) → first ts ≡ seen r.here → f x ts ≡ None) → Unheard state gives f b e c
@@ -111,7 +99,7 @@ module _ {S : Type 0} {state : S → Source} {gives : S → List TokenAndSpan �
   heard_private {text} {at} {b} {c} laws p =
       let s = p.sign in
       let spoken = p.name.said in
-      let some : current p.near ≢ None = λ e. let none = over laws spoken.looked e (p.looked.end e).0 (p.end e) in let found = spoken.took.current in cc in
+      let some : current p.near ≢ None = λ e. let none = past_end laws.gave spoken.looked e (p.looked.end e).0 (p.end e) in let found = spoken.took.current in cc in
       let here : Here state gives p.hashed p.near = record { laws = laws; looked = p.looked; end = p.end } in
       let joined = joins p.hash (current p.near) (last_position p.near) some p.joined in
       heard_answer (ap (λ v. spelling text v) (sym p.place))

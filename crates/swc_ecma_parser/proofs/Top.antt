@@ -21,10 +21,10 @@ use Rattle.swc_grammar.proofs.Complete.{expr-complete, assign-complete, level-co
 use Rattle.swc_grammar.proofs.Cut.{cut-append}
 use Rattle.swc_grammar.proofs.Grouped.{grouped}
 use Rattle.swc_grammar.proofs.Valid.{valid}
-use Rattle.swc_ecma_parser.specs.Parsing.{context, recorded, Loud, Heard, Parses, NoLiteral}
+use Rattle.swc_ecma_parser.specs.Parsing.{context, recorded, Loud, Heard, Parses, Reads, NoLiteral}
 use Rattle.swc_ecma_parser.specs.Promise.{Derivation, Unmarred, Derives, Sound, Complete, OneTree, Grouped, Valid}
 use Rattle.swc_ecma_parser.proofs.Rules.{lit_none}
-use Rattle.swc_ecma_parser.proofs.Steps.{Reader}
+use Rattle.swc_ecma_parser.proofs.Steps.{Reader, reads_of}
 
 -- What a clean reader reads is derived, and then also from its own tokens alone.
 pub record IsSound {A : Type 0} (derives : Derivation A) (f : Reader A) : Type 0 where
@@ -37,28 +37,28 @@ pub record IsComplete {A : Type 0} (derives : Derivation A) (stops : List TokenA
   pub end : stops []
 
 module _ {F C K : Type 0} (hook : Hook F C K) where
-  pub expr-is_sound : IsSound (grammar.Reads hook Expr) (assign run)
+  expr-is_sound : IsSound (grammar.Reads hook Expr) (assign run)
   expr-is_sound = record { sound = λ c ts ys t h. expr-sound hook c ts (t, ys) h; cut = λ c own ys t d. cut-append own ys d }
 
-  pub expr-is_complete : IsComplete (grammar.Reads hook Expr) (Stops Expr) (assign run)
+  expr-is_complete : IsComplete (grammar.Reads hook Expr) (Stops Expr) (assign run)
   expr-is_complete = record { complete = λ c ts ys t d e. expr-complete d (stops-bound Expr c e); end = at-end }
 
-  pub assign-is_sound : IsSound (grammar.Reads hook Assign) (assign run)
+  assign-is_sound : IsSound (grammar.Reads hook Assign) (assign run)
   assign-is_sound = record { sound = λ c ts ys t h. assign-sound hook c ts (t, ys) h; cut = λ c own ys t d. cut-append own ys d }
 
-  pub assign-is_complete : IsComplete (grammar.Reads hook Assign) (Stops Assign) (assign run)
+  assign-is_complete : IsComplete (grammar.Reads hook Assign) (Stops Assign) (assign run)
   assign-is_complete = record { complete = λ c ts ys t d e. assign-complete d (stops-bound Assign c e); end = at-end }
 
-  pub level-is_sound : IsSound (grammar.Reads hook (Level 1)) (operand run 0)
+  level-is_sound : IsSound (grammar.Reads hook (Level 1)) (operand run 0)
   level-is_sound = record { sound = λ c ts ys t h. level-sound hook c ts (t, ys) h; cut = λ c own ys t d. cut-append own ys d }
 
-  pub level-is_complete : IsComplete (grammar.Reads hook (Level 1)) (Stops (Level 1)) (operand run 0)
+  level-is_complete : IsComplete (grammar.Reads hook (Level 1)) (Stops (Level 1)) (operand run 0)
   level-is_complete = record { complete = λ c ts ys t d e. level-complete d (stops-bound (Level 1) c e); end = at-end }
 
-  pub unary-is_sound : IsSound (grammar.Reads hook Unary) (unary run)
+  unary-is_sound : IsSound (grammar.Reads hook Unary) (unary run)
   unary-is_sound = record { sound = λ c ts ys t h. unary-sound hook c ts (t, ys) h; cut = λ c own ys t d. cut-append own ys d }
 
-  pub unary-is_complete : IsComplete (grammar.Reads hook Unary) (Stops Unary) (unary run)
+  unary-is_complete : IsComplete (grammar.Reads hook Unary) (Stops Unary) (unary run)
   unary-is_complete = record { complete = λ c ts ys t d e. unary-complete d; end = at-end }
 
 no_more : {A : Type 0} (more : List A) → length more ≡ 0 → more ≡ []
@@ -124,12 +124,38 @@ module _ {S T A : Type 0} (state : S → Source) (gives : S → List TokenAndSpa
   one_tree stops is b (Ok x) c h = λ l ts t k d. λ same end. sym (answered x b c ts [] t h l k (is.complete (context state b) ts [] t d is.end)).0
   one_tree stops is b (Err e) c h = λ l ts t k d. tt
 
-module _ {S F C K T : Type 0} (state : S → Source) (gives : S → List TokenAndSpan → S → Type 0) (hook : Hook F C K) (view : T → Tree F C K) (s : Symbol) (f : Reader (Tree F C K)) (is : IsSound (grammar.Reads hook s) f) where
-  pub grouped-answer : (b : Buffer S) (r : Result T Error) (c : Buffer S) → Parses state gives view f b r c → Grouped state view b r c
-  grouped-answer b r c h = holds state gives (grammar.Reads hook s) view f is (λ t. is_grouped t ≡ true) (λ x xs ys t d. grouped d) b r c h
+-- What the public calls say of a symbol of the grammar: what each of their runs does, and the promise.
+pub record Promised {S F C K T : Type 0} (state : S → Source) (gives : S → List TokenAndSpan → S → Type 0) (hook : Hook F C K) (view : T → Tree F C K) (s : Symbol) (b : Buffer S) (r : Result T Error) (c : Buffer S) : Type 0 where
+  pub reads : Reads state gives b r c
+  pub sound : Sound state gives (grammar.Reads hook s) view b r c
+  pub complete : Complete state gives (grammar.Reads hook s) view (Stops s) b r c
+  pub one_tree : OneTree state gives (grammar.Reads hook s) view b r c
+  pub grouped : Grouped state view b r c
+  pub valid : Valid state view b r c
 
-  pub valid-answer : (b : Buffer S) (r : Result T Error) (c : Buffer S) → Parses state gives view f b r c → Valid state view b r c
-  valid-answer b r c h = holds state gives (grammar.Reads hook s) view f is (λ t. is_valid t ≡ true) (λ x xs ys t d. valid d) b r c h
+module _ {S F C K T : Type 0} (state : S → Source) (gives : S → List TokenAndSpan → S → Type 0) (hook : Hook F C K) (view : T → Tree F C K) where
+  promised : (s : Symbol) (f : Reader (Tree F C K)) → IsSound (grammar.Reads hook s) f → IsComplete (grammar.Reads hook s) (Stops s) f →
+      (b : Buffer S) (r : Result T Error) (c : Buffer S) → Parses state gives view f b r c → Promised state gives hook view s b r c
+  promised s f is_sound is_complete b r c h = record {
+    reads = reads_of state gives view f b c r h;
+    sound = sound state gives (grammar.Reads hook s) view f is_sound b r c h;
+    complete = complete state gives (grammar.Reads hook s) view f (Stops s) is_complete b r c h;
+    one_tree = one_tree state gives (grammar.Reads hook s) view f (Stops s) is_complete b r c h;
+    grouped = holds state gives (grammar.Reads hook s) view f is_sound (λ t. is_grouped t ≡ true) (λ x xs ys t d. grouped d) b r c h;
+    valid = holds state gives (grammar.Reads hook s) view f is_sound (λ t. is_valid t ≡ true) (λ x xs ys t d. valid d) b r c h;
+  }
+
+  pub expr-promised : (b : Buffer S) (r : Result T Error) (c : Buffer S) → Parses state gives view (assign run) b r c → Promised state gives hook view Expr b r c
+  expr-promised = promised Expr (assign run) (expr-is_sound hook) (expr-is_complete hook)
+
+  pub assign-promised : (b : Buffer S) (r : Result T Error) (c : Buffer S) → Parses state gives view (assign run) b r c → Promised state gives hook view Assign b r c
+  assign-promised = promised Assign (assign run) (assign-is_sound hook) (assign-is_complete hook)
+
+  pub level-promised : (b : Buffer S) (r : Result T Error) (c : Buffer S) → Parses state gives view (operand run 0) b r c → Promised state gives hook view (Level 1) b r c
+  level-promised = promised (Level 1) (operand run 0) (level-is_sound hook) (level-is_complete hook)
+
+  pub unary-promised : (b : Buffer S) (r : Result T Error) (c : Buffer S) → Parses state gives view (unary run) b r c → Promised state gives hook view Unary b r c
+  unary-promised = promised Unary (unary run) (unary-is_sound hook) (unary-is_complete hook)
 
 -- what a refused literal says of the tokens to come
 pub no_literal : {S F C K T : Type 0} (state : S → Source) (gives : S → List TokenAndSpan → S → Type 0) (view : T → Tree F C K) (b c : Buffer S) (r : Result T Error) →

@@ -1,6 +1,5 @@
 -- What steps read, one after another: looks, words, and the faults that are noted.
 use Rattle.std.proofs.Common.{◌≡◌, Bool, true, false, List, [], ◌∷◌, ◌++◌, Option, Some, None, Result, Ok, Err, MatchOption, OnOk, IsOk, IfErr, refl, sym, ap, subst, ◌∙◌}
-use Rattle.std.proofs.lemmas.List.{append-nil}
 use Rattle.swc_context.specs.declared.error.Error.{Error}
 use Rattle.swc_context.specs.declared.error.SyntaxError.{SyntaxError}
 use Rattle.swc_context.specs.declared.span.BytePos.{BytePos}
@@ -9,11 +8,12 @@ use Rattle.swc_context.specs.declared.word.Word.{Word}
 use Rattle.swc_input.specs.declared.buffer.Buffer.{Buffer}
 use Rattle.swc_input.specs.declared.token.TokenAndSpan.{TokenAndSpan}
 use Rattle.swc_input.specs.Plain.{plain}
-use Rattle.swc_input.specs.Source.{Source, with_module_error, given_one}
-use Rattle.swc_input.specs.Buffer.{Read, Looked, current, peeked, last_position, source, with_source, held}
+use Rattle.swc_input.specs.Source.{Source, with_module_error}
+use Rattle.swc_input.specs.Buffer.{Read, Looked, current, last_position, source, with_source}
 use Rattle.swc_input.specs.Laws.{Joins, Gives, Read-then, Read-late, Read-same, Recorded-read, Refused-read}
 use Rattle.swc_input.specs.Recording as rec
 use Rattle.swc_input.specs.Recording.{is_silent, error_token, refusal, Recorded, Refused, Seen}
+use Rattle.swc_input.proofs.Ends.{past_end}
 use Rattle.swc_ident.specs.Naming.{fault_at, Notes, none-noted, now-silent, now-recorded, later-ignored, later-noted, Spoken}
 use Rattle.swc_ident.specs.Steps.{Forgone, Noting}
 use Rattle.swc_ident.specs.Verdicts.{Fault, now, in_modules}
@@ -27,10 +27,6 @@ pub record Laws {S : Type 0} (state : S → Source) (gives : S → List TokenAnd
 -- the tokens of some list were consumed
 abbrev pub Reads : {S : Type 0} (state : S → Source) (gives : S → List TokenAndSpan → S → Type 0) → Buffer S → Buffer S → Type 0
 Reads state gives b c = (xs : List TokenAndSpan) × Read state gives b xs c
-
-none_held : (o p : Option TokenAndSpan) → given_one o ++ given_one p ≡ [] → o ≡ None
-none_held None p h = refl
-none_held (Some t) p h = cc
 
 pub place_is : (o : Option TokenAndSpan) (p at : Span) → MatchOption o (at ≡ p) (λ t. at ≡ t.span) → at ≡ elim o [ None ↦ p | Some t ↦ t.span ]
 place_is None p at h = h
@@ -63,18 +59,10 @@ module _ {S : Type 0} {state : S → Source} {gives : S → List TokenAndSpan �
     end = q.end;
   }
 
-  -- past the end a look finds nothing
-  over : {b c : Buffer S} → Laws state gives → Looked state gives b c → current b ≡ None → peeked b ≡ None → (state (source b)).ended ≡ true → current c ≡ None
-  over {b} {c} laws l e f ended =
-      let took = l.look.read.took in
-      let none = (laws.gave b.iter c.iter took.given took.gave).ended ended in
-      let empty : held c ≡ [] = sym took.balance ∙ ap (λ g. held b ++ g) none ∙ append-nil (held b) ∙ ap (λ o. given_one o ++ given_one (peeked b)) e ∙ ap given_one f in
-      none_held (current c) (peeked c) empty
-
   -- where a look told the end from a failed source, a second look finds the same
   pub same_seen : {b c d : Buffer S} (v : Bool) → Laws state gives → Seen state gives b v c → Looked state gives c d → current d ≡ current c
   same_seen true laws s l = let t = s.token refl in ap current (l.same t.0 t.1)
-  same_seen false laws s l = let e = s.end refl in over laws l e.0 e.1 e.3 ∙ sym e.0
+  same_seen false laws s l = let e = s.end refl in past_end laws.gave l e.0 e.1 e.3 ∙ sym e.0
 
   -- and where it finds no token, none is left
   pub end_seen : {b c d : Buffer S} (v : Bool) → Laws state gives → Seen state gives b v c → Looked state gives c d → current d ≡ None → (state (source d)).ended ≡ true
