@@ -21,10 +21,10 @@ use Rattle.swc_grammar.proofs.Complete.{expr-complete, assign-complete, level-co
 use Rattle.swc_grammar.proofs.Cut.{cut-append}
 use Rattle.swc_grammar.proofs.Grouped.{grouped}
 use Rattle.swc_grammar.proofs.Valid.{valid}
-use Rattle.swc_ecma_parser.specs.Parsing.{context, recorded, Loud, Heard, Parses, Reads, NoLiteral}
+use Rattle.swc_productions.specs.Parsing.{context, recorded, Loud, Heard, Parses, Reads, NoLiteral}
 use Rattle.swc_ecma_parser.specs.Promise.{Derivation, Unmarred, Derives, Sound, Complete, OneTree, Grouped, Valid}
-use Rattle.swc_ecma_parser.proofs.Rules.{lit_none}
-use Rattle.swc_ecma_parser.proofs.Steps.{Reader, reads_of}
+use Rattle.swc_productions.proofs.Rules.{lit_none}
+use Rattle.swc_productions.proofs.Steps.{Reader, reads_of}
 
 -- What a clean reader reads is derived, and then also from its own tokens alone.
 pub record IsSound {A : Type 0} (derives : Derivation A) (f : Reader A) : Type 0 where

@@ -1,10 +1,10 @@
 -- What the calls of a parser do.
-use Rattle.std.specs.Prelude.{Bool, true, false, Result, Ok, Err}
+use Rattle.std.specs.Prelude.{Bool, false, Result, Ok, Err}
 use Rattle.swc_context.specs.declared.error.Error.{Error}
-use Rattle.swc_context.specs.declared.error.SyntaxError.{SyntaxError}
-use Rattle.swc_context.specs.declared.error.SyntaxError.TheVariants.{OutOfMemory, ParserFailed}
+use Rattle.swc_context.specs.declared.error.SyntaxError.TheVariants.{ParserFailed}
 use Rattle.swc_context.specs.declared.span.Span.{Span}
 use Rattle.swc_input.specs.declared.buffer.Buffer.{Buffer}
+use Rattle.swc_productions.specs.Parsing.{is_memory}
 use Rattle.swc_ecma_parser.specs.declared.parser.Parser.{Parser}
 
 -- the buffer that a parser reads from
@@ -17,10 +17,6 @@ with_buffer b p = record p { productions = record p.productions { input = b } }
 -- a call met want of memory
 abbrev pub has_failed : {S H F C K : Type 0} → Parser S H F C K → Bool
 has_failed p = p.failed
-
-abbrev pub is_memory : SyntaxError → Bool
-is_memory OutOfMemory = true
-is_memory k = false
 
 -- the answer is want of memory
 abbrev pub wants_memory : {T : Type 0} → Result T Error → Bool

@@ -16,7 +16,7 @@ use Rattle.swc_grammar.specs.Grammar.{Hook}
 use Rattle.swc_grammar.specs.Names.{Spelling, Reference, ReadsName}
 use Rattle.swc_grammar.specs.Tokens.{is_reference}
 use Rattle.swc_grammar.specs.Trees.{is_grouped, is_valid}
-use Rattle.swc_ecma_parser.specs.Parsing.{context, Loud}
+use Rattle.swc_productions.specs.Parsing.{context, Loud}
 
 -- what a hook reads, from its three readings
 abbrev pub hook_of : {F C K : Type 0} → Reading F → Reading C → Reading K → Hook F C K

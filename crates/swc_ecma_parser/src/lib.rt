@@ -6,7 +6,6 @@ pub use swc_bodies as bodies;
 pub use swc_context as context;
 pub use swc_ident as ident;
 pub use swc_input as input;
+pub use swc_productions as productions;
 
-mod expr;
 pub mod parser;
-mod productions;

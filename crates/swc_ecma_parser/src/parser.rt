@@ -1,19 +1,19 @@
 // The parser that is called from outside.
 ghost use Rattle.std.specs.Prelude.{◌≡◌, ◌||◌, true, false, [], IsSome, IfErr, IfOk, OnOk, MatchResult};
 ghost use Rattle.swc_input.specs.Buffer.{current, last_position, previous, source, with_source, fresh};
-ghost use Rattle.swc_ecma_parser.specs.Calls.{buffer_of, with_buffer, has_failed, is_memory, wants_memory, parser_failed};
+ghost use Rattle.swc_ecma_parser.specs.Calls.{buffer_of, with_buffer, has_failed, wants_memory, parser_failed};
 ghost use Rattle.swc_grammar.specs.Grammar as grammar;
 ghost use Rattle.swc_grammar.specs.Grammar.{Expr, Assign, Level, Unary, Stops};
-ghost use Rattle.swc_ecma_parser.specs.Parsing.{tree_by, lit_by, Reads, Here, Forgoes, Literal, NoLiteral};
+ghost use Rattle.swc_productions.specs.Parsing.{tree_by, lit_by, Reads, Here, Forgoes, Literal, NoLiteral};
 ghost use Rattle.swc_ecma_parser.specs.Promise.{hook_of, Sound, Complete, OneTree, Grouped, Valid};
 
-use crate::productions::{ExprOf, Productions, is_out_of_memory};
 use std::alloc::Global;
 use swc_ast::lit::Lit;
 use swc_bodies::bodies::Bodies;
 use swc_context::error::{Error, PResult, SyntaxError};
 use swc_input::buffer::Buffer;
 use swc_input::tokens::Tokens;
+use swc_productions::productions::{ExprOf, Productions, is_out_of_memory};
 
 mod names;
 

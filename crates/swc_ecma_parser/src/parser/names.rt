@@ -6,7 +6,7 @@ ghost use Rattle.swc_input.specs.Buffer.{previous, Read};
 ghost use Rattle.swc_ident.specs.Naming.{MatchExport, Names, Named, Unnamed, PrivateNames, Private, Neither, Quoted, Unexported, Unbound, Bound};
 ghost use Rattle.swc_ident.specs.Verdicts.{ident_verdict, reference_verdict, binding_verdict, name_of_any};
 ghost use Rattle.swc_grammar.specs.Names.{Reference, Binding, Name, Private as private_kind, ReadsName};
-ghost use Rattle.swc_ecma_parser.specs.Parsing.{ident_spelling, name_spelling, private_spelling, binding_spelling};
+ghost use Rattle.swc_productions.specs.Parsing.{ident_spelling, name_spelling, private_spelling, binding_spelling};
 ghost use Rattle.swc_ecma_parser.specs.Promise.{RefersIfFree, Anywhere, Sound, Complete};
 ghost use Rattle.swc_ecma_parser.specs.Calls.{buffer_of, has_failed, wants_memory, parser_failed};
 

@@ -1,4 +1,4 @@
-use Rattle.swc_ecma_parser.specs.Parsing.{tree_by}
+use Rattle.swc_productions.specs.Parsing.{tree_by}
 use Rattle.swc_ecma_parser.specs.Promise.{hook_of}
 use Rattle.swc_ecma_parser.proofs.Top.{assign-promised}
 use Rattle.swc_ecma_parser.proofs.parser.Parser.parse_assignment_expr.Goals as goal

@@ -1,8 +1,8 @@
 use Rattle.swc_grammar.specs.Names.{ReadsName, Binding}
 use Rattle.swc_ident.specs.Verdicts.{binding_verdict}
-use Rattle.swc_ecma_parser.specs.Parsing.{binding_spelling}
+use Rattle.swc_productions.specs.Parsing.{binding_spelling}
 use Rattle.swc_ecma_parser.specs.Promise.{Anywhere}
-use Rattle.swc_ecma_parser.proofs.Naming.{honest-binding, parses_name, word_of}
+use Rattle.swc_productions.proofs.Naming.{honest-binding, parses_name, word_of}
 use Rattle.swc_ecma_parser.proofs.NameTop.{binding-is_complete, binding-is_sound}
 use Rattle.swc_ecma_parser.proofs.Top as top
 use Rattle.swc_ecma_parser.proofs.parser.Parser.parse_binding_ident.Goals as goal

@@ -1,8 +1,8 @@
 use Rattle.swc_grammar.specs.Names.{ReadsName, Name}
 use Rattle.swc_ident.specs.Verdicts.{name_of_any}
-use Rattle.swc_ecma_parser.specs.Parsing.{name_spelling}
+use Rattle.swc_productions.specs.Parsing.{name_spelling}
 use Rattle.swc_ecma_parser.specs.Promise.{Anywhere}
-use Rattle.swc_ecma_parser.proofs.Naming.{honest-name, parses_name, word_of}
+use Rattle.swc_productions.proofs.Naming.{honest-name, parses_name, word_of}
 use Rattle.swc_ecma_parser.proofs.NameTop.{name-is_complete, name-is_sound}
 use Rattle.swc_ecma_parser.proofs.Top as top
 use Rattle.swc_ecma_parser.proofs.parser.Parser.parse_ident_name.Goals as goal

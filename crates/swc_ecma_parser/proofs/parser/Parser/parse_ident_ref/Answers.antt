@@ -1,8 +1,8 @@
 use Rattle.swc_grammar.specs.Names.{ReadsName, Reference}
 use Rattle.swc_ident.specs.Verdicts.{reference_verdict}
-use Rattle.swc_ecma_parser.specs.Parsing.{ident_spelling}
+use Rattle.swc_productions.specs.Parsing.{ident_spelling}
 use Rattle.swc_ecma_parser.specs.Promise.{Anywhere, RefersIfFree}
-use Rattle.swc_ecma_parser.proofs.Naming.{honest-reference, parses_name, word_of}
+use Rattle.swc_productions.proofs.Naming.{honest-reference, parses_name, word_of}
 use Rattle.swc_ecma_parser.proofs.NameTop.{reference-is_complete, reference-is_sound}
 use Rattle.swc_ecma_parser.proofs.Top as top
 use Rattle.swc_ecma_parser.proofs.parser.Parser.parse_ident_ref.Goals as goal

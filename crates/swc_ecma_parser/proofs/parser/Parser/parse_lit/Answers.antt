@@ -1,6 +1,6 @@
 use Rattle.swc_grammar.specs.Clean.{run, lit}
-use Rattle.swc_ecma_parser.specs.Parsing.{lit_by}
-use Rattle.swc_ecma_parser.proofs.Steps.{reads_of}
+use Rattle.swc_productions.specs.Parsing.{lit_by}
+use Rattle.swc_productions.proofs.Steps.{reads_of}
 use Rattle.swc_ecma_parser.proofs.Top.{no_literal}
 use Rattle.swc_ecma_parser.proofs.parser.Parser.parse_lit.Goals as goal
 

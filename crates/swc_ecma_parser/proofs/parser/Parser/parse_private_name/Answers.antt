@@ -1,6 +1,6 @@
 use Rattle.swc_grammar.specs.Clean.{hash_word}
 use Rattle.swc_grammar.specs.Names.{ReadsName, Private}
-use Rattle.swc_ecma_parser.specs.Parsing.{private_spelling}
+use Rattle.swc_productions.specs.Parsing.{private_spelling}
 use Rattle.swc_ecma_parser.specs.Promise.{Anywhere}
 use Rattle.swc_ecma_parser.proofs.PrivateNames.{parses_private}
 use Rattle.swc_ecma_parser.proofs.NameTop.{private-is_complete, private-is_sound}

@@ -1,0 +1,4 @@
+pub mod Naming
+pub mod Rules
+pub mod Steps
+pub mod Words
