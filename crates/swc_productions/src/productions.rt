@@ -27,11 +27,17 @@ use swc_input::tokens::Tokens;
 /// An expression over a hook's values.
 pub type ExprOf<B> = Expr<<B as BodyForms>::Fun, <B as BodyForms>::Class, <B as BodyForms>::Block>;
 
-/// The productions of the grammar, as methods: each reads its symbol from the buffer.
+/// The productions of the grammar, as methods: each reads its symbol from the buffer, from the current token on, and keeps the context.
+///
+/// `Parser` of swc_ecma_parser stands over them, and says of its calls what the productions of the same names record and refuse, and where. A
+/// production doesn't ask whether an earlier one wanted memory: that is left to its caller.
 #[derive(Drop)]
 pub struct Productions<I: Tokens, B: Bodies<I>> {
+    /// Where nodes are put.
     pub alloc: Global,
+    /// The tokens, and the faults that were recorded.
     pub input: Buffer<I>,
+    /// Reads functions, classes and blocks.
     pub bodies: B,
 }
 
@@ -57,7 +63,7 @@ impl<I: Tokens, B: Bodies<I>> Productions<I, B> {
         self.input.has_cur()
     }
 
-    /// Whether no token is left. Refused only for want of memory.
+    /// Whether no token is left. Consumes nothing, and is refused for want of memory alone.
     pub fn is_end(&mut self) -> PResult<bool>
         ensures looks { MatchResult result (λ r. Here I.state I.gives self.old.input self.new.input) (λ e. Forgoes I.state I.gives self.old.input e self.new.input) }
         ensures end { IfOk result (λ r. r ≡ true → (current self.new.input ≡ None) × ((I.state (source self.new.input)).ended ≡ true)) }
