@@ -1,0 +1,4 @@
+pub mod NodeTree
+pub mod Seats
+pub mod Slots
+pub mod Stands

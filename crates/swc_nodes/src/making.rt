@@ -1,0 +1,94 @@
+// Makes the nodes of productions, and says where they stand.
+ghost use Rattle.std.specs.Prelude.{◌≡◌, ℕ, ◌+◌, IfOk};
+ghost use Rattle.swc_ast.specs.Parts.{leaf, ident_tree, lit_tree};
+ghost use Rattle.swc_ast.specs.Tree.{invalid, span_of};
+ghost use Rattle.swc_grammar.specs.Trees as trees;
+ghost use Rattle.swc_nodes.specs.Slots.{expr_part};
+ghost use Rattle.swc_nodes.specs.Stands.{count, tree_at, first_at, From, Grows, Made};
+
+use crate::node::{ExprId, Node};
+use crate::nodes::Nodes;
+use std::alloc::AllocError;
+use swc_ast::expr::{Invalid, ParenExpr};
+use swc_ast::ident::{Ident, IdentName, PrivateName};
+use swc_ast::lit::Lit;
+use swc_ast::spanned::Spanned;
+use swc_context::operator::{BinaryOp, UnaryOp};
+use swc_context::span::{BytePos, Span};
+
+impl<F: Spanned + Drop, C: Spanned + Drop, K: Spanned + Drop> Nodes<F, C, K> {
+    /// A literal (ECMA-262, 13.2.3).
+    pub fn lit(&mut self, lit: Lit) -> Result<ExprId, AllocError>
+        ensures grows { Grows self.old self.new }
+        ensures made { IfOk result (λ id. Made (count self.old) self.new (expr_part id) (lit_tree lit)) }
+    {
+        Ok(ExprId(self.push(Node::Lit(lit))?))
+    }
+
+    /// An identifier (ECMA-262, 13.1).
+    pub fn ident(&mut self, ident: Ident) -> Result<ExprId, AllocError>
+        ensures grows { Grows self.old self.new }
+        ensures made { IfOk result (λ id. Made (count self.old) self.new (expr_part id) (ident_tree ident)) }
+    {
+        Ok(ExprId(self.push(Node::Ident(ident))?))
+    }
+
+    /// `#` and a name (ECMA-262, 13.10.1), from the `#` on.
+    pub fn private_name(&mut self, start: BytePos, name: IdentName) -> Result<ExprId, AllocError>
+        ensures grows { Grows self.old self.new }
+        ensures made { IfOk result (λ id. Made (count self.old) self.new (expr_part id) (trees.private_e (trees.between start name.span.hi) name.sym)) }
+    {
+        let span = Span::new(start, name.span.hi);
+        let name = name.sym;
+        Ok(ExprId(self.push(Node::PrivateName(PrivateName { span, name }))?))
+    }
+
+    /// What stands in for an operand that was refused.
+    pub fn invalid(&mut self, span: Span) -> Result<ExprId, AllocError>
+        ensures grows { Grows self.old self.new }
+        ensures made { IfOk result (λ id. Made (count self.old) self.new (expr_part id) (leaf invalid span)) }
+    {
+        Ok(ExprId(self.push(Node::Invalid(Invalid { span }))?))
+    }
+
+    /// An expression in parentheses (ECMA-262, 13.2.9).
+    pub fn paren(
+        &mut self,
+        start: BytePos,
+        end: BytePos,
+        expr: ExprId,
+    ) -> Result<ExprId, AllocError>
+        requires { From 0 self.old (expr_part expr) }
+        ensures grows { Grows self.old self.new }
+        ensures made { IfOk result (λ id. Made (first_at self.old expr.0) self.new (expr_part id) (trees.paren_e (trees.between start end) (tree_at self.old expr.0))) }
+    {
+        let span = Span::new(start, end);
+        Ok(ExprId(self.push(Node::Paren(ParenExpr { span, expr }))?))
+    }
+
+    /// A prefix operator and its operand (ECMA-262, 13.5).
+    pub fn unary(&mut self, start: BytePos, op: UnaryOp, arg: ExprId) -> Result<ExprId, AllocError>
+        requires { From 0 self.old (expr_part arg) }
+        ensures grows { Grows self.old self.new }
+        ensures made { IfOk result (λ id. Made (first_at self.old arg.0) self.new (expr_part id) (trees.unary_e (trees.between start (span_of (tree_at self.old arg.0)).hi) op (tree_at self.old arg.0))) }
+    {
+        let span = Span::new(start, self.span(arg).hi);
+        Ok(ExprId(self.push(Node::Unary { span, op, arg })?))
+    }
+
+    /// A binary operator and its operands (ECMA-262, 13.6 to 13.13).
+    pub fn bin(&mut self, op: BinaryOp, left: ExprId, right: ExprId) -> Result<ExprId, AllocError>
+        requires left { From 0 self.old (expr_part left) }
+        requires right { From (left.0 + 1) self.old (expr_part right) }
+        ensures grows { Grows self.old self.new }
+        ensures made { IfOk result (λ id. Made (first_at self.old left.0) self.new (expr_part id) (trees.bin_e (trees.to (span_of (tree_at self.old left.0)) (span_of (tree_at self.old right.0))) op (tree_at self.old left.0) (tree_at self.old right.0))) }
+    {
+        let span = Span::new(self.span(left).lo, self.span(right).hi);
+        Ok(ExprId(self.push(Node::Bin {
+            span,
+            op,
+            left,
+            right,
+        })?))
+    }
+}

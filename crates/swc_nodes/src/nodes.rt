@@ -1,0 +1,113 @@
+// The nodes of trees, in one vector.
+ghost use Rattle.std.specs.Prelude.{◌≡◌, ℕ, ◌<◌, ◌≤◌, ◌↔◌, true, length, take, IfOk, IsTrue, []};
+ghost use Rattle.swc_nodes.specs.Seats.{ordered};
+ghost use Rattle.swc_nodes.specs.Slots.{form, view_ok, expr};
+
+use crate::node::{ExprId, Node, PatId};
+use std::alloc::{AllocError, Global};
+use swc_ast::spanned::Spanned;
+
+/// The nodes of trees, each behind its parts. What is reached from one part of a node lies behind the part before it, in the order of the
+/// source, so no node is a part of two.
+///
+/// A number keeps its tree as nodes are appended. Letting go of nodes takes no recursion over trees.
+#[derive(Drop)]
+pub struct Nodes<F: Spanned, C: Spanned, K: Spanned> {
+    nodes: Vec<Node<F, C, K>>,
+    ghost in_order: { ordered F.place C.place K.place [] nodes.items ≡ true },
+}
+
+impl<F: Spanned + Drop, C: Spanned + Drop, K: Spanned + Drop> Nodes<F, C, K> {
+    ghost use Rattle.swc_nodes.specs.Slots.{slots, expr_part, pat_part};
+    ghost use Rattle.swc_nodes.specs.Stands.{count, Apart, From, Grows, Added, Stood, Popped};
+
+    /// No nodes. Takes no memory.
+    pub fn new(alloc: Global) -> Self
+        ensures { count result ≡ 0 }
+    {
+        Nodes {
+            nodes: Vec::new(alloc),
+        }
+    }
+
+    /// How many nodes there are: the number that the next one gets.
+    pub fn len(&self) -> usize
+        ensures { result ≡ count self.now }
+    {
+        self.nodes.len()
+    }
+
+    /// Whether there is no node.
+    pub fn is_empty(&self) -> bool
+        ensures { IsTrue result ↔ (count self.now ≡ 0) }
+    {
+        self.nodes.is_empty()
+    }
+
+    /// Whether an expression has the number.
+    pub fn has_expr(&self, id: ExprId) -> bool
+        ensures has { result ≡ true → From 0 self.now (expr_part id) }
+        ensures all { From 0 self.now (expr_part id) → result ≡ true }
+    {
+        id.0 < self.len() && is_expr(self.get(id.0))
+    }
+
+    /// Whether a pattern has the number.
+    pub fn has_pat(&self, id: PatId) -> bool
+        ensures has { result ≡ true → From 0 self.now (pat_part id) }
+        ensures all { From 0 self.now (pat_part id) → result ≡ true }
+    {
+        id.0 < self.len() && !is_expr(self.get(id.0))
+    }
+
+    /// The node that has the number.
+    pub fn get(&self, id: usize) -> &Node<F, C, K>
+        requires { id < count self.now }
+        ensures { Stood self.now id result.now }
+    {
+        &self.nodes[id]
+    }
+
+    /// Appends a node, and answers its number.
+    pub fn push(&mut self, node: Node<F, C, K>) -> Result<usize, AllocError>
+        requires { Apart 0 self.old (slots node) }
+        ensures grows { Grows self.old self.new }
+        ensures added { IfOk result (λ id. Added self.old self.new id node) }
+    {
+        let id = self.nodes.len();
+        self.nodes.push(node)?;
+        Ok(id)
+    }
+
+    /// Takes out the node that has the number, and lets go of all behind it.
+    pub fn pop_at(&mut self, id: usize) -> Node<F, C, K>
+        requires { id < count self.old }
+        ensures { Popped self.old id result self.new }
+    {
+        self.nodes.truncate(id + 1);
+        self.nodes.remove(id)
+    }
+
+    /// Lets go of all nodes from a number on.
+    pub fn cut(&mut self, from: usize)
+        ensures kept { self.new.nodes.items ≡ take from self.old.nodes.items }
+    {
+        self.nodes.truncate(from);
+    }
+}
+
+/// Whether the node is an expression.
+fn is_expr<F, C, K>(node: &Node<F, C, K>) -> bool
+    ensures { result ≡ view_ok expr (form node.now) }
+{
+    match node {
+        Node::PatIdent(_)
+        | Node::PatArray { .. }
+        | Node::PatObject { .. }
+        | Node::PatRest { .. }
+        | Node::PatAssign { .. }
+        | Node::PatExpr(_)
+        | Node::PatInvalid(_) => false,
+        _ => true,
+    }
+}

@@ -1,0 +1,119 @@
+// Where a node stands, and what form it has.
+ghost use Rattle.std.specs.Prelude.{◌≡◌, not};
+ghost use Rattle.swc_ast.specs.Tree.{span_of};
+ghost use Rattle.swc_grammar.specs.Clean.{left_ok};
+ghost use Rattle.swc_grammar.specs.Trees as trees;
+ghost use Rattle.swc_nodes.specs.Slots.{expr_part, pat_part};
+ghost use Rattle.swc_nodes.specs.Stands.{tree_at, From};
+
+use crate::node::{ExprId, Node, PatId};
+use crate::nodes::Nodes;
+use swc_ast::spanned::Spanned;
+use swc_context::operator::BinaryOp;
+use swc_context::span::Span;
+
+impl<F: Spanned + Drop, C: Spanned + Drop, K: Spanned + Drop> Nodes<F, C, K> {
+    /// The place of an expression.
+    pub fn span(&self, id: ExprId) -> Span
+        requires { From 0 self.now (expr_part id) }
+        ensures { result ≡ span_of (tree_at self.now id.0) }
+    {
+        match self.get(id.0) {
+            Node::Fn(f) => f.span(),
+            Node::Class(c) => c.span(),
+            Node::Array { span, .. }
+            | Node::Object { span, .. }
+            | Node::Unary { span, .. }
+            | Node::Update { span, .. }
+            | Node::Bin { span, .. }
+            | Node::Assign { span, .. }
+            | Node::Cond { span, .. }
+            | Node::Seq { span, .. }
+            | Node::Call { span, .. }
+            | Node::New { span, .. }
+            | Node::OptChain { span, .. }
+            | Node::TaggedTpl { span, .. }
+            | Node::Arrow { span, .. }
+            | Node::Await { span, .. }
+            | Node::Yield { span, .. } => *span,
+            Node::This(e) => e.span,
+            Node::Paren(e) => e.span,
+            Node::Member(e) => e.span,
+            Node::SuperProp(e) => e.span,
+            Node::Tpl(e) => e.span,
+            Node::MetaProp(e) => e.span,
+            Node::PrivateName(e) => e.span,
+            Node::Ident(e) => e.span,
+            Node::Lit(e) => e.span(),
+            Node::Invalid(e) => e.span,
+            Node::PatIdent(_)
+            | Node::PatArray { .. }
+            | Node::PatObject { .. }
+            | Node::PatRest { .. }
+            | Node::PatAssign { .. }
+            | Node::PatExpr(_)
+            | Node::PatInvalid(_) => unreachable!(),
+        }
+    }
+
+    /// Whether the expression is an identifier.
+    pub fn is_ident(&self, id: ExprId) -> bool
+        requires { From 0 self.now (expr_part id) }
+        ensures { result ≡ trees.is_ident (tree_at self.now id.0) }
+    {
+        matches!(self.get(id.0), Node::Ident(_))
+    }
+
+    /// Whether the expression is one of a prefix operator or of `await`.
+    pub fn is_unary(&self, id: ExprId) -> bool
+        requires { From 0 self.now (expr_part id) }
+        ensures { result ≡ trees.is_unary (tree_at self.now id.0) }
+    {
+        matches!(self.get(id.0), Node::Unary { .. } | Node::Await { .. })
+    }
+
+    /// Whether the expression is one of `||` or `&&`.
+    pub fn is_logical(&self, id: ExprId) -> bool
+        requires { From 0 self.now (expr_part id) }
+        ensures { result ≡ trees.is_logical (tree_at self.now id.0) }
+    {
+        match self.get(id.0) {
+            Node::Bin { op, .. } => is_logical_op(*op),
+            _ => false,
+        }
+    }
+
+    /// Whether the expression is one of `??`.
+    pub fn is_nullish(&self, id: ExprId) -> bool
+        requires { From 0 self.now (expr_part id) }
+        ensures { result ≡ trees.is_nullish (tree_at self.now id.0) }
+    {
+        match self.get(id.0) {
+            Node::Bin { op, .. } => is_nullish_op(*op),
+            _ => false,
+        }
+    }
+
+    /// Whether the expression is one of `||` or `&&` with one of `??` on its left.
+    pub fn has_nullish_left(&self, id: ExprId) -> bool
+        requires { From 0 self.now (expr_part id) }
+        ensures { result ≡ not (left_ok (tree_at self.now id.0)) }
+    {
+        match self.get(id.0) {
+            Node::Bin { op, left, .. } => is_logical_op(*op) && self.is_nullish(*left),
+            _ => false,
+        }
+    }
+}
+
+fn is_logical_op(op: BinaryOp) -> bool
+    ensures { result ≡ trees.is_logical_op op }
+{
+    matches!(op, BinaryOp::LogicalAnd | BinaryOp::LogicalOr)
+}
+
+fn is_nullish_op(op: BinaryOp) -> bool
+    ensures { result ≡ trees.is_nullish_op op }
+{
+    matches!(op, BinaryOp::NullishCoalescing)
+}
