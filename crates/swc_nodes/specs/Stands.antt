@@ -47,6 +47,14 @@ module _ {F C K : Type 0} {fg : Ghosts F} {cg : Ghosts C} {kg : Ghosts K} where
     pub more : List (Node F C K)
     pub appended : ms.nodes.items ≡ ns.nodes.items ++ more
 
+  -- the nodes are those that there were
+  abbrev pub SameNodes : Nodes F C K fg cg kg → Nodes F C K fg cg kg → Type 0
+  SameNodes ns ms = ms.nodes.items ≡ ns.nodes.items
+
+  -- the nodes are the first k of those that there were
+  abbrev pub CutTo : ℕ → Nodes F C K fg cg kg → Nodes F C K fg cg kg → Type 0
+  CutTo k ns ms = ms.nodes.items ≡ take k ns.nodes.items
+
   -- nodes were taken from the end alone, none with a number below k
   pub record Left (k : ℕ) (ns ms : Nodes F C K fg cg kg) : Type 0 where
     pub grows : Grows ms ns

@@ -1,5 +1,5 @@
 // The nodes of trees, in one vector.
-ghost use Rattle.std.specs.Prelude.{◌≡◌, ℕ, ◌<◌, ◌≤◌, ◌↔◌, true, length, take, IfOk, IsTrue, []};
+ghost use Rattle.std.specs.Prelude.{◌≡◌, ℕ, ◌<◌, ◌≤◌, ◌↔◌, true, length, IfOk, IsTrue, []};
 ghost use Rattle.swc_nodes.specs.Seats.{ordered};
 ghost use Rattle.swc_nodes.specs.Slots.{form, view_ok, expr};
 
@@ -19,7 +19,7 @@ pub struct Nodes<F: Spanned, C: Spanned, K: Spanned> {
 
 impl<F: Spanned + Drop, C: Spanned + Drop, K: Spanned + Drop> Nodes<F, C, K> {
     ghost use Rattle.swc_nodes.specs.Slots.{slots, expr_part, pat_part};
-    ghost use Rattle.swc_nodes.specs.Stands.{count, Apart, From, Grows, Added, Stood, Popped};
+    ghost use Rattle.swc_nodes.specs.Stands.{count, Apart, From, Grows, Added, Stood, Popped, CutTo};
 
     /// No nodes. Takes no memory.
     pub fn new(alloc: Global) -> Self
@@ -90,7 +90,7 @@ impl<F: Spanned + Drop, C: Spanned + Drop, K: Spanned + Drop> Nodes<F, C, K> {
 
     /// Lets go of all nodes from a number on.
     pub fn cut(&mut self, from: usize)
-        ensures kept { self.new.nodes.items ≡ take from self.old.nodes.items }
+        ensures { CutTo from self.old self.new }
     {
         self.nodes.truncate(from);
     }
