@@ -1,8 +1,8 @@
 -- The tree of a node, whose parts stand for what is given: one level of what specs/TreeOf.antt of swc_ast says of boxed trees.
 use Rattle.std.specs.Prelude.{ℕ, List, Option, Some, None, map}
 use Rattle.swc_context.specs.declared.span.Span.{Span}
-use Rattle.swc_ast.specs.Tree.{this, array, object, fun, class, block, unary, update, bin, assign, cond, seq, call, new, opt_chain, tagged, arrow, await, yield, meta, invalid, shorthand, key_value, method, getter, setter, binding_prop, rest, default, dots, pat_expr, Tree, node, nil, cons, trees, span_of}
-use Rattle.swc_ast.specs.Parts.{leaf, or_hole, ident_tree, binding_tree, private_tree, lit_tree, prop_name_tree, item_tree, item_trees, args_tree, paren_tree, member_tree, super_prop_tree, base_tree, callee_tree, tpl_tree, body_tree, function_tree, cover_tree, spread_tree}
+use Rattle.swc_ast.specs.Tree.{boolean, null, regex, this, array, object, fun, class, block, unary, update, bin, assign, cond, seq, call, new, tagged, arrow, await, yield, meta, invalid, shorthand, key_value, method, getter, setter, binding_prop, rest, default, dots, pat_expr, Tree, node, nil, cons, trees, span_of}
+use Rattle.swc_ast.specs.Parts.{leaf, or_hole, ident_tree, binding_tree, private_tree, str_tree, num_tree, big_tree, prop_name_tree, item_tree, item_trees, args_tree, paren_tree, member_tree, super_prop_tree, chain_tree, callee_tree, tpl_tree, body_tree, function_tree, cover_tree, spread_tree}
 use Rattle.swc_nodes.specs.declared.node.ExprId.{ExprId}
 use Rattle.swc_nodes.specs.declared.node.PatId.{PatId}
 use Rattle.swc_nodes.specs.declared.node.Node.{Node}
@@ -60,16 +60,21 @@ module _ {F C K : Type 0} (fun_at : F → Span) (class_at : C → Span) (block_a
   node_tree (n.SuperProp p) = super_prop_tree expr_of p
   node_tree (n.Call s c xs) = node call s (cons (callee_tree expr_of c) (item_trees expr_of xs.items))
   node_tree (n.New s c xs) = node new s (cons (at c.0) (cons (or_hole (args_tree expr_of) xs) nil))
-  node_tree (n.OptChain s o b) = node (opt_chain o) s (cons (base_tree expr_of b) nil)
+  node_tree (n.OptChain c) = chain_tree expr_of c
   node_tree (n.Tpl t) = tpl_tree expr_of t
-  node_tree (n.TaggedTpl s t q) = node tagged s (cons (at t.0) (cons (tpl_tree expr_of q) nil))
-  node_tree (n.Arrow s ps b a) = node (arrow a) s (cons (body_tree block_at expr_of b) (trees (map pat_of ps.items)))
+  node_tree (n.TaggedTpl s t q) = node tagged s (cons (at t.0) (cons (tpl_tree expr_of q.value) nil))
+  node_tree (n.Arrow s ps b a) = node (arrow a) s (cons (body_tree block_at expr_of b.value) (trees (map pat_of ps.items)))
   node_tree (n.Await s a) = node await s (cons (at a.0) nil)
   node_tree (n.Yield s a d) = node (yield d) s (cons (or_hole expr_of a) nil)
   node_tree (n.MetaProp m) = leaf (meta m.kind) m.span
   node_tree (n.PrivateName p) = private_tree p
   node_tree (n.Ident i) = ident_tree i
-  node_tree (n.Lit l) = lit_tree l
+  node_tree (n.Str s) = str_tree s
+  node_tree (n.Bool b) = leaf (boolean b.value) b.span
+  node_tree (n.Null l) = leaf null l.span
+  node_tree (n.Num l) = num_tree l
+  node_tree (n.BigInt l) = big_tree l
+  node_tree (n.Regex r) = leaf (regex r.exp r.flags) r.span
   node_tree (n.Invalid i) = leaf invalid i.span
   node_tree (n.PatIdent b) = binding_tree b
   node_tree (n.PatArray s elems) = node array s (trees (map (or_hole pat_of) elems.items))

@@ -22,7 +22,15 @@ impl<F: Spanned + Drop, C: Spanned + Drop, K: Spanned + Drop> Nodes<F, C, K> {
         ensures grows { Grows self.old self.new }
         ensures made { IfOk result (λ id. Made (count self.old) self.new (expr_part id) (lit_tree lit)) }
     {
-        Ok(ExprId(self.push(Node::Lit(lit))?))
+        let node = match lit {
+            Lit::Str(s) => Node::Str(s),
+            Lit::Bool(b) => Node::Bool(b),
+            Lit::Null(n) => Node::Null(n),
+            Lit::Num(n) => Node::Num(n),
+            Lit::BigInt(n) => Node::BigInt(n),
+            Lit::Regex(r) => Node::Regex(r),
+        };
+        Ok(ExprId(self.push(node)?))
     }
 
     /// An identifier (ECMA-262, 13.1).

@@ -1,11 +1,11 @@
 // A node, which holds its parts by their numbers.
 use swc_ast::expr::{
-    BlockStmtOrExpr, Callee, ExprOrSpread, Invalid, MemberExpr, MetaPropExpr, OptChainBase,
+    BlockStmtOrExpr, Callee, ExprOrSpread, Invalid, MemberExpr, MetaPropExpr, OptChainExpr,
     ParenExpr, SuperPropExpr, ThisExpr, Tpl,
 };
 use swc_ast::function::Function;
 use swc_ast::ident::{BindingIdent, Ident, PrivateName};
-use swc_ast::lit::Lit;
+use swc_ast::lit::{BigInt, Bool, Null, Num, Regex, Str};
 use swc_ast::prop::{AssignProp, PropName, SpreadElement};
 use swc_context::operator::{AssignOp, BinaryOp, UnaryOp, UpdateOp};
 use swc_context::span::Span;
@@ -95,24 +95,20 @@ pub enum Node<F, C, K> {
         args: Option<Vec<ExprOrSpread<ExprId>>>,
     },
     /// A link of an optional chain.
-    OptChain {
-        span: Span,
-        optional: bool,
-        base: OptChainBase<ExprId>,
-    },
+    OptChain(OptChainExpr<ExprId>),
     /// A template.
     Tpl(Tpl<ExprId>),
     /// A template with a tag.
     TaggedTpl {
         span: Span,
         tag: ExprId,
-        tpl: Tpl<ExprId>,
+        tpl: Box<Tpl<ExprId>>,
     },
     /// An arrow function.
     Arrow {
         span: Span,
         params: Vec<PatId>,
-        body: BlockStmtOrExpr<ExprId, K>,
+        body: Box<BlockStmtOrExpr<ExprId, K>>,
         is_async: bool,
     },
     /// `await arg`
@@ -132,8 +128,18 @@ pub enum Node<F, C, K> {
     PrivateName(PrivateName),
     /// An identifier.
     Ident(Ident),
-    /// A literal.
-    Lit(Lit),
+    /// A string.
+    Str(Str),
+    /// `true` or `false`
+    Bool(Bool),
+    /// `null`
+    Null(Null),
+    /// A number.
+    Num(Num),
+    /// A big integer.
+    BigInt(BigInt),
+    /// A regular expression.
+    Regex(Regex),
     /// What could not be read, where the fault was recorded.
     Invalid(Invalid),
     /// An identifier, as a pattern.

@@ -31,7 +31,6 @@ impl<F: Spanned + Drop, C: Spanned + Drop, K: Spanned + Drop> Nodes<F, C, K> {
             | Node::Seq { span, .. }
             | Node::Call { span, .. }
             | Node::New { span, .. }
-            | Node::OptChain { span, .. }
             | Node::TaggedTpl { span, .. }
             | Node::Arrow { span, .. }
             | Node::Await { span, .. }
@@ -40,11 +39,17 @@ impl<F: Spanned + Drop, C: Spanned + Drop, K: Spanned + Drop> Nodes<F, C, K> {
             Node::Paren(e) => e.span,
             Node::Member(e) => e.span,
             Node::SuperProp(e) => e.span,
+            Node::OptChain(e) => e.span,
             Node::Tpl(e) => e.span,
             Node::MetaProp(e) => e.span,
             Node::PrivateName(e) => e.span,
             Node::Ident(e) => e.span,
-            Node::Lit(e) => e.span(),
+            Node::Str(e) => e.span,
+            Node::Bool(e) => e.span,
+            Node::Null(e) => e.span,
+            Node::Num(e) => e.span,
+            Node::BigInt(e) => e.span,
+            Node::Regex(e) => e.span,
             Node::Invalid(e) => e.span,
             Node::PatIdent(_)
             | Node::PatArray { .. }
