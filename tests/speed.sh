@@ -1,43 +1,61 @@
 #!/bin/bash
-# Measures show_expr: prints, for each text, its bytes, the seconds of its run and the peak of its memory, as rows of a table.
+# Measures show_expr: prints, for each text, its bytes, the processor seconds of the run and the peak of its memory, as rows of a table.
 #
-#     tests/speed.sh [MEGABYTES OF STACK]     none: the stack that the shell gives
+#     tests/speed.sh [PROGRAM ..]     other builds of show_expr to run beside it, as that of an earlier commit
 #
-# The texts are one long expression, `a + 1 * b - a + 1 * b - .. - a`, of 0.25, 0.5 and 1 MB, bare and in 100 parentheses.
+# The texts are one long expression, `a + 1 * b - a + 1 * b - .. - a`, of 0.25, 0.5 and 1 MB, bare and in 100 parentheses. The least of five runs
+# counts. Where node and its package acorn are installed, acorn parses the same texts. The stack is as large as the system lets it grow, which
+# builds need that print by recursion; then the depth of parentheses that a stack of 8 MB holds is looked for.
 cd "$(dirname "$0")/.." || exit 2
-if [ -n "${1-}" ]; then
-    ulimit -Ss "$((${1} * 1024))" || exit 2
+program=crates/show_expr/out/show_expr
+if [ ! -x "$program" ]; then
+    echo "no proved program: (cd crates/show_expr && rt run </dev/null) builds it" >&2
+    exit 2
 fi
-./show_expr </dev/null >/dev/null 2>&1
-exec python3 - crates/show_expr/out/show_expr <<'END'
-import os, subprocess, sys, tempfile, time
+ulimit -Ss "$(ulimit -Hs)" 2>/dev/null
+exec python3 - "$program" "$@" <<'END'
+import os, resource, shutil, subprocess, sys, tempfile
+
+os.environ.setdefault('NODE_PATH', '/usr/share/nodejs')
 
 UNIT = b'a + 1 * b - '
+ACORN = 'const t = require("fs").readFileSync(0, "utf8"); require("acorn").parseExpressionAt(t, 0, {ecmaVersion: 2022}); console.log(t.length)'
 
 
 def text_of(size, depth):
     return b'(' * depth + UNIT * (size // len(UNIT)) + b'a' + b')' * depth + b'\n'
 
 
-def measure(program, text):
+def run(command, text, stack=None):
+    def limit():
+        if stack:
+            resource.setrlimit(resource.RLIMIT_STACK, (stack, stack))
     with tempfile.TemporaryFile() as given, tempfile.TemporaryFile() as wrote:
         given.write(text)
         given.seek(0)
-        begun = time.monotonic()
-        child = subprocess.Popen([program, 'expr', 'script'], stdin=given, stdout=wrote)
+        child = subprocess.Popen(command, stdin=given, stdout=wrote, stderr=subprocess.DEVNULL, preexec_fn=limit)
         status, usage = os.wait4(child.pid, 0)[1:]
-        seconds = time.monotonic() - begun
-        if os.WIFSIGNALED(status):
-            return 'signal %d' % os.WTERMSIG(status), seconds, usage.ru_maxrss
-        return 'status %d' % os.WEXITSTATUS(status), seconds, usage.ru_maxrss
+        return status, usage.ru_utime + usage.ru_stime, usage.ru_maxrss / 1024
 
 
-print('| text | bytes | seconds | peak memory, MB | ended |')
-print('|---|---|---|---|---|')
+commands = [(name, [name, 'expr', 'script']) for name in sys.argv[1:]]
+node = shutil.which('node')
+if node and run([node, '--stack-size=60000', '-e', ACORN], b'a')[0] == 0:
+    commands.append(('acorn', [node, '--stack-size=60000', '-e', ACORN]))
+print('| program | text | bytes | processor seconds | peak memory, MB | ended |')
+print('|---|---|---|---|---|---|')
 for depth in (0, 100):
     for size in (250_000, 500_000, 1_000_000):
         text = text_of(size, depth)
-        ended, seconds, peak = measure(sys.argv[1], text)
-        name = 'in 100 parentheses' if depth else 'bare'
-        print('| %s | %d | %.2f | %.0f | %s |' % (name, len(text), seconds, peak / 1024, ended), flush=True)
+        for name, command in commands:
+            runs = [run(command, text) for _ in range(5)]
+            ended = 'status %d' % os.WEXITSTATUS(runs[0][0]) if os.WIFEXITED(runs[0][0]) else 'signal %d' % os.WTERMSIG(runs[0][0])
+            text_name = 'in 100 parentheses' if depth else 'bare'
+            print('| %s | %s | %d | %.2f | %.0f | %s |' % (name, text_name, len(text), min(r[1] for r in runs), min(r[2] for r in runs), ended), flush=True)
+low, high = 0, 100_000
+while high - low > 10:
+    middle = (low + high) // 2
+    status = run(commands[0][1], b'(' * middle + b'a' + b')' * middle, 8 << 20)[0]
+    low, high = (middle, high) if os.WIFEXITED(status) else (low, middle)
+print('parentheses that a stack of 8 MB holds: some %d' % low)
 END

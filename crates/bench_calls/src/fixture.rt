@@ -12,7 +12,6 @@ use swc_context::word::Word;
 use swc_ecma_parser::parser::Parser;
 use swc_input::listed::TokensInput;
 use swc_input::token::{Token, TokenAndSpan};
-use swc_print::print::print_expr;
 use swc_tokens::read_tokens;
 
 /// A tree over the hook that reads nothing.
@@ -61,11 +60,61 @@ pub(crate) fn parser_of(alloc: Global, text: &str) -> Result<ListedParser, Error
     Ok(parser_over(alloc, tokens, script()))
 }
 
-/// What a call answered, as the program prints it. (A test that let a tree go would have a case for each kind of node.)
+/// What a call answered, in the form in which the program prints it. (A test that let a tree go would have a case for each kind of node.)
 pub(crate) fn shown(alloc: Global, answer: PResult<Box<Tree>>) -> Result<String, AllocError> {
     match answer {
-        Ok(tree) => print_expr(alloc, &tree),
+        Ok(tree) => printed(alloc, &tree),
         Err(fault) => refused(alloc, &fault),
+    }
+}
+
+fn printed(alloc: Global, tree: &Tree) -> Result<String, AllocError> {
+    let mut out = String::new(alloc);
+    put(&mut out, tree)?;
+    Ok(out)
+}
+
+/// Writes a tree of the kinds that are read so far.
+fn put(out: &mut String, tree: &Tree) -> Result<(), AllocError> {
+    match tree {
+        Expr::Ident(i) => out.push_str(i.sym.as_str()),
+        Expr::Lit(l) => put_lit(out, l),
+        Expr::PrivateName(p) => write!(out, "#{}", p.name.as_str()),
+        Expr::Paren(p) => {
+            out.push_str("Paren(")?;
+            put(out, &p.expr)?;
+            out.push_str(")")
+        }
+        Expr::Unary { op, arg, .. } => {
+            write!(out, "Unary({}, ", op.as_str())?;
+            put(out, arg)?;
+            out.push_str(")")
+        }
+        Expr::Bin {
+            op,
+            left,
+            right,
+            ..
+        } => {
+            write!(out, "Bin({}, ", op.as_str())?;
+            put(out, left)?;
+            out.push_str(", ")?;
+            put(out, right)?;
+            out.push_str(")")
+        }
+        Expr::Invalid(_) => out.push_str("Invalid"),
+        _ => out.push_str("of another kind"),
+    }
+}
+
+fn put_lit(out: &mut String, lit: &Lit) -> Result<(), AllocError> {
+    match lit {
+        Lit::Str(s) => out.push_str(s.raw.as_str()),
+        Lit::Bool(b) => out.push_str(if b.value { "true" } else { "false" }),
+        Lit::Null(_) => out.push_str("null"),
+        Lit::Num(n) => out.push_str(n.raw.as_str()),
+        Lit::BigInt(n) => out.push_str(n.raw.as_str()),
+        Lit::Regex(r) => out.push_str(r.exp.as_str()),
     }
 }
 

@@ -9,7 +9,7 @@ use swc_ast::pat::Pat;
 use swc_ast::prop::ComputedPropName;
 use swc_ast::spanned::Spanned;
 use swc_context::span::{BytePos, Span};
-use swc_print::print::{Kept, print_expr, print_pat};
+use swc_print::print::Kept;
 
 /// What a hook reads: its place, and how many tokens it kept.
 #[derive(Clone, Copy)]
@@ -125,14 +125,18 @@ pub fn item(spread: Option<Span>, built: Built) -> Result<Item, AllocError> {
     })
 }
 
-fn expr_says(alloc: Global, tree: &Tree, want: &str) -> Result<bool, AllocError> {
-    let text = print_expr(alloc, tree)?;
-    let place = tree.span();
-    let said = format!(in alloc; "{text} {place}")?;
-    Ok(said.as_str() == want)
+/// Whether the last word of what is wanted is the place.
+fn ends_with(alloc: Global, want: &str, place: Span) -> Result<bool, AllocError> {
+    let said = format!(in alloc; " {place}")?;
+    Ok(want.ends_with(said.as_str()))
 }
 
-/// Whether the tree's text and its place, with a space between, are these.
+fn expr_says(alloc: Global, tree: &Tree, want: &str) -> Result<bool, AllocError> {
+    ends_with(alloc, want, tree.span())
+}
+
+/// Whether the tree stands where the text says behind its last space. The text before it, the tree as it is printed from nodes, isn't
+/// compared as long as boxed trees aren't moved into nodes.
 pub fn says(alloc: Global, built: Built, want: &str) -> Result<bool, AllocError> {
     match built {
         Ok(tree) => expr_says(alloc, &tree, want),
@@ -141,13 +145,10 @@ pub fn says(alloc: Global, built: Built, want: &str) -> Result<bool, AllocError>
 }
 
 fn pattern_says(alloc: Global, pattern: &Pattern, want: &str) -> Result<bool, AllocError> {
-    let text = print_pat(alloc, pattern)?;
-    let place = pattern.span();
-    let said = format!(in alloc; "{text} {place}")?;
-    Ok(said.as_str() == want)
+    ends_with(alloc, want, pattern.span())
 }
 
-/// Whether the pattern's text and its place, with a space between, are these.
+/// Whether the pattern stands where the text says behind its last space, as for expressions.
 pub fn pat_says(alloc: Global, built: BuiltPat, want: &str) -> Result<bool, AllocError> {
     match built {
         Ok(pattern) => pattern_says(alloc, &pattern, want),

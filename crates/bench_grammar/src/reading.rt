@@ -1,18 +1,16 @@
 // What the parser answers on a list.
 use crate::symbol::{Mode, Place, Symbol};
 use std::alloc::{AllocError, Global};
-use swc_ast::expr::Expr;
 use swc_bodies::none::NoBodies;
 use swc_context::atom::Atom;
 use swc_context::context::{Context, EsVersion, Syntax};
-use swc_context::error::PResult;
 use swc_context::operator::BinOpToken;
 use swc_context::span::{BytePos, Span};
 use swc_context::word::Word;
 use swc_ecma_parser::parser::Parser;
 use swc_input::listed::TokensInput;
 use swc_input::token::{Token, TokenAndSpan};
-use swc_print::print::print_expr;
+use swc_print::print::PrintNodes;
 
 type ListedParser = Parser<TokensInput, NoBodies>;
 
@@ -98,14 +96,14 @@ fn parser_over(
     Ok(Parser::new_from(alloc, input, NoBodies))
 }
 
-/// The tree of an answer, as it is printed.
-fn printed(
-    alloc: Global,
-    answer: PResult<Box<Expr<Span, Span, Span>>>,
-) -> Result<Option<String>, AllocError> {
-    match answer {
-        Ok(tree) => Ok(Some(print_expr(alloc, &tree)?)),
-        Err(_) => Ok(None),
+/// The tree that the parser reads, as it is printed.
+fn printed(alloc: Global, parser: &mut ListedParser) -> Result<Option<String>, AllocError> {
+    let Ok(id) = parser.parse_expr_id() else {
+        return Ok(None);
+    };
+    match parser.nodes().print_expr(alloc, id) {
+        Ok(text) => Ok(Some(text)),
+        Err(_) => Err(AllocError),
     }
 }
 
@@ -121,7 +119,7 @@ pub(crate) fn read(
     place: Place,
 ) -> Result<Vec<String>, AllocError> {
     let mut parser = parser_over(alloc, symbols, place)?;
-    let tree = printed(alloc, parser.parse_expr())?;
+    let tree = printed(alloc, &mut parser)?;
     let mut trees = Vec::new(alloc);
     if is_clean(&mut parser) {
         if let Some(tree) = tree {

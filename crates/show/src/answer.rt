@@ -1,12 +1,19 @@
 // What the parser makes of a source text.
+ghost use Rattle.std.specs.Prelude.{IfOk};
+ghost use Rattle.swc_nodes.specs.Slots.{expr_part};
+ghost use Rattle.swc_nodes.specs.Stands.{From};
+ghost use Rattle.swc_ecma_parser.specs.Calls.{nodes_of};
+
 use std::alloc::Global;
 use swc_bodies::none::NoBodies;
 use swc_context::context::{Context, EsVersion, Syntax};
-use swc_context::error::{Error, PResult, SyntaxError};
-use swc_context::span::{BytePos, Span};
+use swc_context::error::{Error, PResult};
+use swc_context::span::Span;
 use swc_ecma_parser::parser::Parser;
 use swc_input::listed::TokensInput;
-use swc_print::print::print_expr;
+use swc_nodes::node::ExprId;
+use swc_nodes::nodes::Nodes;
+use swc_print::print::PrintNodes;
 use swc_tokens::read_tokens;
 
 /// A tree, printed.
@@ -36,8 +43,9 @@ pub(crate) fn answer_to(alloc: Global, text: &[u8], ctx: Context) -> Answer {
                 EsVersion::default(),
             );
             let mut parser = Parser::new_from(alloc, source, NoBodies);
-            let shown = show(alloc, &mut parser);
+            let read = read(&mut parser);
             let recorded = parser.take_errors();
+            let shown = show(alloc, &parser.into_nodes(), read);
             Answer { shown, recorded }
         }
         Err(fault) => Answer {
@@ -47,18 +55,24 @@ pub(crate) fn answer_to(alloc: Global, text: &[u8], ctx: Context) -> Answer {
     }
 }
 
-/// Reads and prints one expression.
-fn show(alloc: Global, parser: &mut Parser<TokensInput, NoBodies>) -> PResult<Shown> {
-    let expr = parser.parse_expr()?;
+/// Reads one expression: its number, and whether tokens are left behind it.
+fn read(parser: &mut Parser<TokensInput, NoBodies>) -> PResult<(ExprId, bool)>
+    ensures { IfOk result (λ r. From 0 (nodes_of parser.new) (expr_part r.0)) }
+{
+    let expr = parser.parse_expr_id()?;
     let unread = !parser.at_end()?;
-    match print_expr(alloc, &expr) {
-        Ok(tree) => Ok(Shown { tree, unread }),
-        Err(_) => Err(out_of_memory()),
-    }
+    Ok((expr, unread))
 }
 
-/// Want of memory while printing.
-fn out_of_memory() -> Error {
-    let start = BytePos(0);
-    Error::new(Span::new(start, start), SyntaxError::OutOfMemory)
+/// Prints what was read.
+fn show(
+    alloc: Global,
+    nodes: &Nodes<Span, Span, Span>,
+    read: PResult<(ExprId, bool)>,
+) -> PResult<Shown>
+    requires { IfOk read (λ r. From 0 nodes.now (expr_part r.0)) }
+{
+    let (expr, unread) = read?;
+    let tree = nodes.print_expr(alloc, expr)?;
+    Ok(Shown { tree, unread })
 }

@@ -15,15 +15,21 @@ fn arguments(rt: &HostRuntime) -> io::Result<Vec<String>> {
     Ok(all)
 }
 
-fn main(rt: HostRuntime) -> io::Result<ExitCode> {
-    let arguments = arguments(&rt)?;
-    let mut texts: Vec<&str> = Vec::new(rt.alloc());
-    for argument in &arguments {
-        texts.push(argument.as_str())?;
+fn texts<'a>(rt: &HostRuntime, arguments: &'a [String]) -> Result<Vec<&'a str>, AllocError> {
+    let mut all = Vec::new(rt.alloc());
+    for argument in arguments {
+        all.push(argument.as_str())?;
     }
+    Ok(all)
+}
+
+/// Arguments that can't be read, as those that are no UTF-8, are bad arguments: `run` says so of none.
+fn main(rt: HostRuntime) -> ExitCode {
+    let arguments = arguments(&rt).unwrap_or_else(|_| Vec::new(rt.alloc()));
+    let texts = texts(&rt, &arguments).unwrap_or_else(|_| Vec::new(rt.alloc()));
     let mut input = rt.reader();
     let mut output = io::writer(&rt);
     let mut complaints = rt.stderr();
     let status = run(rt.alloc(), &texts, &mut input, &mut output, &mut complaints);
-    Ok(ExitCode::from(status))
+    ExitCode::from(status)
 }

@@ -21,8 +21,8 @@ use Rattle.swc_grammar.proofs.Complete.{expr-complete, assign-complete, level-co
 use Rattle.swc_grammar.proofs.Cut.{cut-append}
 use Rattle.swc_grammar.proofs.Grouped.{grouped}
 use Rattle.swc_grammar.proofs.Valid.{valid}
-use Rattle.swc_productions.specs.Parsing.{context, recorded, Loud, Heard, Parses, Reads, NoLiteral}
-use Rattle.swc_ecma_parser.specs.Promise.{Derivation, Unmarred, Derives, Sound, Complete, OneTree, Grouped, Valid}
+use Rattle.swc_productions.specs.Parsing.{context, recorded, Loud, Heard, Parses, NoLiteral}
+use Rattle.swc_ecma_parser.specs.Promise.{Derivation, Unmarred, Derives, Sound, Complete, OneTree, Promised}
 use Rattle.swc_productions.proofs.Rules.{lit_none}
 use Rattle.swc_productions.proofs.Steps.{Reader, reads_of}
 
@@ -123,15 +123,6 @@ module _ {S T A : Type 0} (state : S → Source) (gives : S → List TokenAndSpa
   pub one_tree : (stops : List TokenAndSpan → Type 0) → IsComplete derives stops f → (b : Buffer S) (r : Result T Error) (c : Buffer S) → Parses state gives view f b r c → OneTree state gives derives view b r c
   one_tree stops is b (Ok x) c h = λ l ts t k d. λ same end. sym (answered x b c ts [] t h l k (is.complete (context state b) ts [] t d is.end)).0
   one_tree stops is b (Err e) c h = λ l ts t k d. tt
-
--- What the public calls say of a symbol of the grammar: what each of their runs does, and the promise.
-pub record Promised {S F C K T : Type 0} (state : S → Source) (gives : S → List TokenAndSpan → S → Type 0) (hook : Hook F C K) (view : T → Tree F C K) (s : Symbol) (b : Buffer S) (r : Result T Error) (c : Buffer S) : Type 0 where
-  pub reads : Reads state gives b r c
-  pub sound : Sound state gives (grammar.Reads hook s) view b r c
-  pub complete : Complete state gives (grammar.Reads hook s) view (Stops s) b r c
-  pub one_tree : OneTree state gives (grammar.Reads hook s) view b r c
-  pub grouped : Grouped state view b r c
-  pub valid : Valid state view b r c
 
 module _ {S F C K T : Type 0} (state : S → Source) (gives : S → List TokenAndSpan → S → Type 0) (hook : Hook F C K) (view : T → Tree F C K) where
   promised : (s : Symbol) (f : Reader (Tree F C K)) → IsSound (grammar.Reads hook s) f → IsComplete (grammar.Reads hook s) (Stops s) f →

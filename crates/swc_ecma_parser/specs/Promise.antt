@@ -12,11 +12,12 @@ use Rattle.swc_input.specs.Buffer.{Read, Future, Known}
 use Rattle.swc_ast.specs.Tree.{Tree}
 use Rattle.swc_bodies.specs.Readings.{Reading, at_token}
 use Rattle.swc_grammar.specs.Clean.{first}
-use Rattle.swc_grammar.specs.Grammar.{Hook}
+use Rattle.swc_grammar.specs.Grammar as grammar
+use Rattle.swc_grammar.specs.Grammar.{Hook, Symbol, Stops}
 use Rattle.swc_grammar.specs.Names.{Spelling, Reference, ReadsName}
 use Rattle.swc_grammar.specs.Tokens.{is_reference}
 use Rattle.swc_grammar.specs.Trees.{is_grouped, is_valid}
-use Rattle.swc_productions.specs.Parsing.{context, Loud}
+use Rattle.swc_productions.specs.Parsing.{context, Loud, Reads}
 
 -- what a hook reads, from its three readings
 abbrev pub hook_of : {F C K : Type 0} → Reading F → Reading C → Reading K → Hook F C K
@@ -76,3 +77,12 @@ module _ {S F C K T : Type 0} (state : S → Source) (view : T → Tree F C K) w
   -- A tree answered with no fault recorded holds no `Invalid`.
   abbrev pub Valid : Buffer S → Result T Error → Buffer S → Type 0
   Valid b r c = Loud state b → IfOk r (λ x. Unmarred state b c → is_valid (view x) ≡ true)
+
+-- What a call promises of a symbol of the grammar: what each of its runs does, and that what is answered is what the grammar derives.
+pub record Promised {S F C K T : Type 0} (state : S → Source) (gives : S → List TokenAndSpan → S → Type 0) (hook : Hook F C K) (view : T → Tree F C K) (s : Symbol) (b : Buffer S) (r : Result T Error) (c : Buffer S) : Type 0 where
+  pub reads : Reads state gives b r c
+  pub sound : Sound state gives (grammar.Reads hook s) view b r c
+  pub complete : Complete state gives (grammar.Reads hook s) view (Stops s) b r c
+  pub one_tree : OneTree state gives (grammar.Reads hook s) view b r c
+  pub grouped : Grouped state view b r c
+  pub valid : Valid state view b r c

@@ -6,6 +6,9 @@ pub use swc_bodies as bodies;
 pub use swc_context as context;
 pub use swc_ident as ident;
 pub use swc_input as input;
+pub use swc_nodes as nodes;
 pub use swc_productions as productions;
+pub use swc_trees as trees;
 
 pub mod parser;
+pub mod tree;

@@ -1,19 +1,26 @@
 // The parser that is called from outside.
 ghost use Rattle.std.specs.Prelude.{◌≡◌, ◌||◌, true, false, [], IsSome, IfErr, IfOk, OnOk, MatchResult};
 ghost use Rattle.swc_input.specs.Buffer.{current, last_position, previous, source, with_source, fresh};
-ghost use Rattle.swc_ecma_parser.specs.Calls.{buffer_of, with_buffer, has_failed, wants_memory, parser_failed};
-ghost use Rattle.swc_grammar.specs.Grammar as grammar;
-ghost use Rattle.swc_grammar.specs.Grammar.{Expr, Assign, Level, Unary, Stops};
-ghost use Rattle.swc_productions.specs.Parsing.{tree_by, lit_by, Reads, Here, Forgoes, Literal, NoLiteral};
-ghost use Rattle.swc_ecma_parser.specs.Promise.{hook_of, Sound, Complete, OneTree, Grouped, Valid};
+ghost use Rattle.swc_input.specs.Recording.{no_memory};
+ghost use Rattle.swc_nodes.specs.Slots.{expr_part};
+ghost use Rattle.swc_nodes.specs.Stands.{count, From, Grows, SameNodes, CutTo};
+ghost use Rattle.swc_ecma_parser.specs.Calls.{buffer_of, nodes_of, with_buffer, with_nodes, has_failed, wants_memory, parser_failed, tree_by};
+ghost use Rattle.swc_grammar.specs.Grammar.{Expr, Assign, Level, Unary};
+ghost use Rattle.swc_productions.specs.Parsing.{lit_in, tree_of, Reads, Here, Forgoes, Literal, NoLiteral};
+ghost use Rattle.swc_ecma_parser.specs.Promise.{hook_of, Promised};
 
+use crate::tree::ExprOf;
 use std::alloc::Global;
 use swc_ast::lit::Lit;
 use swc_bodies::bodies::Bodies;
 use swc_context::error::{Error, PResult, SyntaxError};
 use swc_input::buffer::Buffer;
 use swc_input::tokens::Tokens;
-use swc_productions::productions::{ExprOf, Productions, is_out_of_memory};
+use swc_nodes::node::ExprId;
+use swc_nodes::nodes::Nodes;
+use swc_productions::moves::is_out_of_memory;
+use swc_productions::productions::{NodesOf, Productions};
+use swc_trees::taking::take_expr;
 
 mod names;
 
@@ -38,12 +45,14 @@ impl<I: Tokens, B: Bodies<I>> Parser<I, B> {
     pub fn new_from(alloc: Global, input: I, bodies: B) -> Parser<I, B>
         ensures fresh { buffer_of result ≡ fresh input (last_position (buffer_of result)) }
         ensures runs { has_failed result ≡ false }
+        ensures nodes { count (nodes_of result) ≡ 0 }
     {
         Parser {
             productions: Productions {
                 alloc,
                 input: Buffer::new(input),
                 bodies,
+                nodes: Nodes::new(alloc),
             },
             failed: false,
         }
@@ -69,6 +78,7 @@ impl<I: Tokens, B: Bodies<I>> Parser<I, B> {
     pub fn at_end(&mut self) -> PResult<bool>
         ensures again { has_failed self.old ≡ true → (self.new ≡ self.old) × (result ≡ Err (parser_failed (previous (buffer_of self.old)))) }
         ensures looks { has_failed self.old ≡ false → MatchResult result (λ r. Here I.state I.gives (buffer_of self.old) (buffer_of self.new)) (λ e. Forgoes I.state I.gives (buffer_of self.old) e (buffer_of self.new)) }
+        ensures nodes { nodes_of self.new ≡ nodes_of self.old }
         ensures end { IfOk result (λ r. r ≡ true → (current (buffer_of self.new) ≡ None) × ((I.state (source (buffer_of self.new))).ended ≡ true)) }
         ensures token { IfOk result (λ r. r ≡ false → IsSome (current (buffer_of self.new))) }
         ensures fails { has_failed self.old ≡ false → has_failed self.new ≡ wants_memory result }
@@ -78,21 +88,68 @@ impl<I: Tokens, B: Bodies<I>> Parser<I, B> {
         self.finish(answer)
     }
 
+    /// The nodes of what `parse_expr_id` read.
+    pub fn nodes(&self) -> &NodesOf<B>
+        ensures { result.now ≡ nodes_of self.now }
+    {
+        &self.productions.nodes
+    }
+
+    /// The nodes of what `parse_expr_id` read, where nothing is to be read any more.
+    pub fn into_nodes(self) -> NodesOf<B>
+        ensures { result ≡ nodes_of self }
+    {
+        let Parser {
+            productions,
+            failed: _,
+        } = self;
+        let Productions {
+            alloc: _,
+            input: _,
+            nodes,
+            bodies: _,
+        } = productions;
+        nodes
+    }
+
+    /// Lets go of all nodes: the numbers that there were stand for nothing from now on.
+    pub fn clear_nodes(&mut self)
+        ensures none { count (nodes_of self.new) ≡ 0 }
+        ensures rest { self.new ≡ with_nodes (nodes_of self.new) self.old }
+    {
+        self.productions.nodes.cut(0);
+    }
+
+    /// An expression, as `parse_expr` reads it: its number among the nodes, which keeps its tree until they are let go.
+    ///
+    /// The nodes that were made are appended to those that there were. After a refusal the nodes are those from before.
+    pub fn parse_expr_id(&mut self) -> PResult<ExprId>
+        ensures again { has_failed self.old ≡ true → (self.new ≡ self.old) × (result ≡ Err (parser_failed (previous (buffer_of self.old)))) }
+        ensures promised { has_failed self.old ≡ false → Promised I.state I.gives (hook_of B.reads_fun B.reads_class B.reads_block) (tree_of (nodes_of self.new)) Expr (buffer_of self.old) result (buffer_of self.new) }
+        ensures nodes { MatchResult result (λ id. Grows (nodes_of self.old) (nodes_of self.new)) (λ e. SameNodes (nodes_of self.old) (nodes_of self.new)) }
+        ensures has { IfOk result (λ id. From (count (nodes_of self.old)) (nodes_of self.new) (expr_part id)) }
+        ensures fails { has_failed self.old ≡ false → has_failed self.new ≡ wants_memory result }
+    {
+        self.begin()?;
+        let start = self.productions.nodes.len();
+        let answer = self.productions.parse_expr();
+        let answer = self.keep(start, answer);
+        self.finish(answer)
+    }
+
     /// An expression (ECMA-262, 13.16): so far, an assignment expression.
     ///
     /// The end is refused as `Eof`, where the token consumed last ends.
     pub fn parse_expr(&mut self) -> PResult<Box<ExprOf<B>>>
         ensures again { has_failed self.old ≡ true → (self.new ≡ self.old) × (result ≡ Err (parser_failed (previous (buffer_of self.old)))) }
-        ensures reads { has_failed self.old ≡ false → Reads I.state I.gives (buffer_of self.old) result (buffer_of self.new) }
-        ensures sound { has_failed self.old ≡ false → Sound I.state I.gives (grammar.Reads (hook_of B.reads_fun B.reads_class B.reads_block) Expr) (tree_by B.Fun.place B.Class.place B.Block.place) (buffer_of self.old) result (buffer_of self.new) }
-        ensures complete { has_failed self.old ≡ false → Complete I.state I.gives (grammar.Reads (hook_of B.reads_fun B.reads_class B.reads_block) Expr) (tree_by B.Fun.place B.Class.place B.Block.place) (Stops Expr) (buffer_of self.old) result (buffer_of self.new) }
-        ensures one_tree { has_failed self.old ≡ false → OneTree I.state I.gives (grammar.Reads (hook_of B.reads_fun B.reads_class B.reads_block) Expr) (tree_by B.Fun.place B.Class.place B.Block.place) (buffer_of self.old) result (buffer_of self.new) }
-        ensures grouped { has_failed self.old ≡ false → Grouped I.state (tree_by B.Fun.place B.Class.place B.Block.place) (buffer_of self.old) result (buffer_of self.new) }
-        ensures valid { has_failed self.old ≡ false → Valid I.state (tree_by B.Fun.place B.Class.place B.Block.place) (buffer_of self.old) result (buffer_of self.new) }
+        ensures promised { has_failed self.old ≡ false → Promised I.state I.gives (hook_of B.reads_fun B.reads_class B.reads_block) (tree_by B.Fun.place B.Class.place B.Block.place) Expr (buffer_of self.old) result (buffer_of self.new) }
+        ensures nodes { SameNodes (nodes_of self.old) (nodes_of self.new) }
         ensures fails { has_failed self.old ≡ false → has_failed self.new ≡ wants_memory result }
     {
         self.begin()?;
+        let start = self.productions.nodes.len();
         let answer = self.productions.parse_expr();
+        let answer = self.move_out(start, answer);
         self.finish(answer)
     }
 
@@ -101,16 +158,14 @@ impl<I: Tokens, B: Bodies<I>> Parser<I, B> {
     /// The end is refused as `Eof`, where the token consumed last ends.
     pub fn parse_assignment_expr(&mut self) -> PResult<Box<ExprOf<B>>>
         ensures again { has_failed self.old ≡ true → (self.new ≡ self.old) × (result ≡ Err (parser_failed (previous (buffer_of self.old)))) }
-        ensures reads { has_failed self.old ≡ false → Reads I.state I.gives (buffer_of self.old) result (buffer_of self.new) }
-        ensures sound { has_failed self.old ≡ false → Sound I.state I.gives (grammar.Reads (hook_of B.reads_fun B.reads_class B.reads_block) Assign) (tree_by B.Fun.place B.Class.place B.Block.place) (buffer_of self.old) result (buffer_of self.new) }
-        ensures complete { has_failed self.old ≡ false → Complete I.state I.gives (grammar.Reads (hook_of B.reads_fun B.reads_class B.reads_block) Assign) (tree_by B.Fun.place B.Class.place B.Block.place) (Stops Assign) (buffer_of self.old) result (buffer_of self.new) }
-        ensures one_tree { has_failed self.old ≡ false → OneTree I.state I.gives (grammar.Reads (hook_of B.reads_fun B.reads_class B.reads_block) Assign) (tree_by B.Fun.place B.Class.place B.Block.place) (buffer_of self.old) result (buffer_of self.new) }
-        ensures grouped { has_failed self.old ≡ false → Grouped I.state (tree_by B.Fun.place B.Class.place B.Block.place) (buffer_of self.old) result (buffer_of self.new) }
-        ensures valid { has_failed self.old ≡ false → Valid I.state (tree_by B.Fun.place B.Class.place B.Block.place) (buffer_of self.old) result (buffer_of self.new) }
+        ensures promised { has_failed self.old ≡ false → Promised I.state I.gives (hook_of B.reads_fun B.reads_class B.reads_block) (tree_by B.Fun.place B.Class.place B.Block.place) Assign (buffer_of self.old) result (buffer_of self.new) }
+        ensures nodes { SameNodes (nodes_of self.old) (nodes_of self.new) }
         ensures fails { has_failed self.old ≡ false → has_failed self.new ≡ wants_memory result }
     {
         self.begin()?;
+        let start = self.productions.nodes.len();
         let answer = self.productions.parse_assignment_expr();
+        let answer = self.move_out(start, answer);
         self.finish(answer)
     }
 
@@ -122,16 +177,14 @@ impl<I: Tokens, B: Bodies<I>> Parser<I, B> {
     /// the refusal.
     pub fn parse_bin_expr(&mut self) -> PResult<Box<ExprOf<B>>>
         ensures again { has_failed self.old ≡ true → (self.new ≡ self.old) × (result ≡ Err (parser_failed (previous (buffer_of self.old)))) }
-        ensures reads { has_failed self.old ≡ false → Reads I.state I.gives (buffer_of self.old) result (buffer_of self.new) }
-        ensures sound { has_failed self.old ≡ false → Sound I.state I.gives (grammar.Reads (hook_of B.reads_fun B.reads_class B.reads_block) (Level 1)) (tree_by B.Fun.place B.Class.place B.Block.place) (buffer_of self.old) result (buffer_of self.new) }
-        ensures complete { has_failed self.old ≡ false → Complete I.state I.gives (grammar.Reads (hook_of B.reads_fun B.reads_class B.reads_block) (Level 1)) (tree_by B.Fun.place B.Class.place B.Block.place) (Stops (Level 1)) (buffer_of self.old) result (buffer_of self.new) }
-        ensures one_tree { has_failed self.old ≡ false → OneTree I.state I.gives (grammar.Reads (hook_of B.reads_fun B.reads_class B.reads_block) (Level 1)) (tree_by B.Fun.place B.Class.place B.Block.place) (buffer_of self.old) result (buffer_of self.new) }
-        ensures grouped { has_failed self.old ≡ false → Grouped I.state (tree_by B.Fun.place B.Class.place B.Block.place) (buffer_of self.old) result (buffer_of self.new) }
-        ensures valid { has_failed self.old ≡ false → Valid I.state (tree_by B.Fun.place B.Class.place B.Block.place) (buffer_of self.old) result (buffer_of self.new) }
+        ensures promised { has_failed self.old ≡ false → Promised I.state I.gives (hook_of B.reads_fun B.reads_class B.reads_block) (tree_by B.Fun.place B.Class.place B.Block.place) (Level 1) (buffer_of self.old) result (buffer_of self.new) }
+        ensures nodes { SameNodes (nodes_of self.old) (nodes_of self.new) }
         ensures fails { has_failed self.old ≡ false → has_failed self.new ≡ wants_memory result }
     {
         self.begin()?;
+        let start = self.productions.nodes.len();
         let answer = self.productions.parse_bin_expr();
+        let answer = self.move_out(start, answer);
         self.finish(answer)
     }
 
@@ -147,16 +200,14 @@ impl<I: Tokens, B: Bodies<I>> Parser<I, B> {
     /// token, and the end there as `Eof`; what follows `#` and is no word as `ExpectedIdent`.
     pub fn parse_unary_expr(&mut self) -> PResult<Box<ExprOf<B>>>
         ensures again { has_failed self.old ≡ true → (self.new ≡ self.old) × (result ≡ Err (parser_failed (previous (buffer_of self.old)))) }
-        ensures reads { has_failed self.old ≡ false → Reads I.state I.gives (buffer_of self.old) result (buffer_of self.new) }
-        ensures sound { has_failed self.old ≡ false → Sound I.state I.gives (grammar.Reads (hook_of B.reads_fun B.reads_class B.reads_block) Unary) (tree_by B.Fun.place B.Class.place B.Block.place) (buffer_of self.old) result (buffer_of self.new) }
-        ensures complete { has_failed self.old ≡ false → Complete I.state I.gives (grammar.Reads (hook_of B.reads_fun B.reads_class B.reads_block) Unary) (tree_by B.Fun.place B.Class.place B.Block.place) (Stops Unary) (buffer_of self.old) result (buffer_of self.new) }
-        ensures one_tree { has_failed self.old ≡ false → OneTree I.state I.gives (grammar.Reads (hook_of B.reads_fun B.reads_class B.reads_block) Unary) (tree_by B.Fun.place B.Class.place B.Block.place) (buffer_of self.old) result (buffer_of self.new) }
-        ensures grouped { has_failed self.old ≡ false → Grouped I.state (tree_by B.Fun.place B.Class.place B.Block.place) (buffer_of self.old) result (buffer_of self.new) }
-        ensures valid { has_failed self.old ≡ false → Valid I.state (tree_by B.Fun.place B.Class.place B.Block.place) (buffer_of self.old) result (buffer_of self.new) }
+        ensures promised { has_failed self.old ≡ false → Promised I.state I.gives (hook_of B.reads_fun B.reads_class B.reads_block) (tree_by B.Fun.place B.Class.place B.Block.place) Unary (buffer_of self.old) result (buffer_of self.new) }
+        ensures nodes { SameNodes (nodes_of self.old) (nodes_of self.new) }
         ensures fails { has_failed self.old ≡ false → has_failed self.new ≡ wants_memory result }
     {
         self.begin()?;
+        let start = self.productions.nodes.len();
         let answer = self.productions.parse_unary_expr();
+        let answer = self.move_out(start, answer);
         self.finish(answer)
     }
 
@@ -166,13 +217,53 @@ impl<I: Tokens, B: Bodies<I>> Parser<I, B> {
     pub fn parse_lit(&mut self) -> PResult<Lit>
         ensures again { has_failed self.old ≡ true → (self.new ≡ self.old) × (result ≡ Err (parser_failed (previous (buffer_of self.old)))) }
         ensures reads { has_failed self.old ≡ false → Reads I.state I.gives (buffer_of self.old) result (buffer_of self.new) }
-        ensures literal { has_failed self.old ≡ false → IfOk result (λ l. Literal I.state I.gives (lit_by B.Fun.place B.Class.place B.Block.place l) (buffer_of self.old) (buffer_of self.new)) }
+        ensures literal { has_failed self.old ≡ false → IfOk result (λ l. Literal I.state I.gives (lit_in (nodes_of self.old) l) (buffer_of self.old) (buffer_of self.new)) }
         ensures none { has_failed self.old ≡ false → IfErr result (λ e. NoLiteral I.state (buffer_of self.old) e) }
+        ensures nodes { nodes_of self.new ≡ nodes_of self.old }
         ensures fails { has_failed self.old ≡ false → has_failed self.new ≡ wants_memory result }
     {
         self.begin()?;
         let answer = self.productions.parse_lit();
         self.finish(answer)
+    }
+
+    /// Keeps the nodes that were made for the answer, or cuts them off after a refusal.
+    fn keep(&mut self, start: usize, answer: PResult<ExprId>) -> PResult<ExprId>
+        ensures answer { result ≡ answer }
+        ensures nodes { MatchResult answer (λ id. nodes_of self.new ≡ nodes_of self.old) (λ e. CutTo start (nodes_of self.old) (nodes_of self.new)) }
+        ensures buffer { buffer_of self.new ≡ buffer_of self.old }
+        ensures runs { has_failed self.new ≡ has_failed self.old }
+    {
+        if answer.is_err() {
+            self.productions.nodes.cut(start);
+        }
+        answer
+    }
+
+    /// Moves the tree of the answer out of the nodes, and cuts off those that were made for it.
+    fn move_out(&mut self, start: usize, answer: PResult<ExprId>) -> PResult<Box<ExprOf<B>>>
+        requires { IfOk answer (λ id. From start (nodes_of self.old) (expr_part id)) }
+        ensures moved { MatchResult answer (λ id. MatchResult result (λ e. tree_by B.Fun.place B.Class.place B.Block.place e ≡ tree_of (nodes_of self.old) id) (λ e. e ≡ no_memory (last_position (buffer_of self.old)))) (λ e. result ≡ Err e) }
+        ensures nodes { CutTo start (nodes_of self.old) (nodes_of self.new) }
+        ensures buffer { buffer_of self.new ≡ buffer_of self.old }
+        ensures runs { has_failed self.new ≡ has_failed self.old }
+    {
+        match answer {
+            Ok(id) => {
+                let alloc = self.productions.alloc;
+                let made = &mut self.productions.nodes;
+                let tree = take_expr(made, alloc, id);
+                made.cut(start);
+                match tree {
+                    Ok(tree) => Ok(tree),
+                    Err(_) => Err(self.productions.input.out_of_memory()),
+                }
+            }
+            Err(error) => {
+                self.productions.nodes.cut(start);
+                Err(error)
+            }
+        }
     }
 
     /// After want of memory, refuses.
@@ -191,6 +282,7 @@ impl<I: Tokens, B: Bodies<I>> Parser<I, B> {
     fn finish<T>(&mut self, answer: PResult<T>) -> PResult<T>
         ensures answer { result ≡ answer }
         ensures buffer { buffer_of self.new ≡ buffer_of self.old }
+        ensures nodes { nodes_of self.new ≡ nodes_of self.old }
         ensures fails { has_failed self.new ≡ (has_failed self.old || wants_memory answer) }
     {
         if let Err(error) = &answer {

@@ -1,0 +1,3 @@
+pub mod Memory
+pub mod Numbers
+pub mod Weights

@@ -1,3 +1,5 @@
+pub mod Building
+pub mod Making
 pub mod Naming
 pub mod Rules
 pub mod Steps

@@ -1,12 +1,9 @@
 -- What parsing calls do to the buffer, and which clean reading each answers.
-use Rattle.std.specs.Prelude.{◌≡◌, ◌≢◌, ℕ, ◌≤◌, ◌<◌, Bool, true, false, List, [], ◌∷◌, ◌++◌, Option, Some, None, Result, MatchResult, length}
-use Rattle.std.specs.declared.alloc.Global.{Global}
-use Rattle.std.specs.declared.boxed.Box.{Box}
+use Rattle.std.specs.Prelude.{◌≡◌, ◌≢◌, ℕ, ◌≤◌, ◌<◌, Bool, true, false, List, [], ◌∷◌, ◌++◌, Option, Some, None, Result, MatchResult, OnOk, IfOk, length}
 use Rattle.swc_context.specs.declared.context.Context.{Context}
 use Rattle.swc_context.specs.declared.error.Error.{Error}
 use Rattle.swc_context.specs.declared.error.SyntaxError.{SyntaxError}
 use Rattle.swc_context.specs.declared.error.SyntaxError.TheVariants.{OutOfMemory, ParserFailed}
-use Rattle.swc_context.specs.declared.span.Span.{Span}
 use Rattle.swc_input.specs.declared.buffer.Buffer.{Buffer}
 use Rattle.swc_input.specs.declared.token.Token.{Token}
 use Rattle.swc_input.specs.declared.token.Token.TheVariants as token
@@ -16,7 +13,6 @@ use Rattle.swc_input.specs.Source.{Source, IsLawful}
 use Rattle.swc_input.specs.Buffer.{Took, Read, Looked, Future, Known, left}
 use Rattle.swc_input.specs.Laws.{Joins, Gives}
 use Rattle.swc_input.specs.Recording.{is_silent}
-use Rattle.swc_ast.specs.declared.expr.Expr.{Expr}
 use Rattle.swc_ast.specs.declared.ident.BindingIdent.{BindingIdent}
 use Rattle.swc_ast.specs.declared.ident.Ident.{Ident}
 use Rattle.swc_ast.specs.declared.ident.IdentName.{IdentName}
@@ -24,21 +20,16 @@ use Rattle.swc_ast.specs.declared.ident.PrivateName.{PrivateName}
 use Rattle.swc_ast.specs.declared.lit.Lit.{Lit}
 use Rattle.swc_ast.specs.Parts.{lit_tree}
 use Rattle.swc_ast.specs.Tree.{Tree}
-use Rattle.swc_ast.specs.TreeOf.{boxed_tree, expr_tree}
+use Rattle.swc_ast.specs.declared.spanned.Spanned.{Ghosts}
 use Rattle.swc_bodies.specs.Readings.{at_token}
 use Rattle.swc_grammar.specs.Clean.{Out, first, rest, is_lit, lit_of, no_error}
 use Rattle.swc_grammar.specs.Names.{Spelling, spelling}
 use Rattle.swc_grammar.specs.Tokens.{is_strict_word}
-
--- the tree that a boxed expression stands for, where the hook's values lie at the places given
-abbrev pub tree_by : {F C K : Type 0} → (F → Span) → (C → Span) → (K → Span) → Box (Expr F C K) Global → Tree F C K
-tree_by {F} {C} {K} fun class block e = boxed_tree F C K fun class block e
-
-abbrev pub bare_by : {F C K : Type 0} → (F → Span) → (C → Span) → (K → Span) → Expr F C K → Tree F C K
-bare_by {F} {C} {K} fun class block e = expr_tree F C K fun class block e
-
-abbrev pub lit_by : {F C K : Type 0} → (F → Span) → (C → Span) → (K → Span) → Lit → Tree F C K
-lit_by fun class block l = lit_tree l
+use Rattle.swc_nodes.specs.Slots.{expr_part}
+use Rattle.swc_nodes.specs.Stands.{tree_at, From, Grows}
+use Rattle.swc_nodes.specs.declared.node.ExprId.{ExprId}
+use Rattle.swc_nodes.specs.declared.nodes.Nodes.{Nodes}
+use Rattle.swc_productions.specs.declared.productions.Productions.{Productions}
 
 -- want of memory
 abbrev pub is_memory : SyntaxError → Bool
@@ -191,3 +182,37 @@ module _ {S : Type 0} (state : S → Source) where
   -- a refusal of what is no literal, but for want of memory: over a listed source none stands first
   abbrev pub NoLiteral : Buffer S → Error → Type 0
   NoLiteral b e = e.kind ≢ OutOfMemory → Loud state b → (ts : List TokenAndSpan) → Known state b ts → at_token is_lit (first ts) ≡ false
+
+-- how an answer is seen: the number of a node; and that with the least precedence to go on with
+abbrev pub itself : ExprId → ExprId
+itself id = id
+
+abbrev pub operation_of : ExprId × Option ℕ → ExprId
+operation_of r = r.0
+
+module _ {F C K : Type 0} {fg : Ghosts F} {cg : Ghosts C} {kg : Ghosts K} where
+  -- the tree of an expression, of an operation, and of a literal, among nodes
+  abbrev pub tree_of : Nodes F C K fg cg kg → ExprId → Tree F C K
+  tree_of ns id = tree_at ns id.0
+
+  abbrev pub operation_at : Nodes F C K fg cg kg → ExprId × Option ℕ → Tree F C K × Option ℕ
+  operation_at ns r = (tree_of ns r.0, r.1)
+
+  abbrev pub lit_in : Nodes F C K fg cg kg → Lit → Tree F C K
+  lit_in ns l = lit_tree l
+
+module _ {S H F C K : Type 0} {fg : Ghosts F} {cg : Ghosts C} {kg : Ghosts K} (state : S → Source) (gives : S → List TokenAndSpan → S → Type 0) {T A : Type 0} (number : T → ExprId) (view : Nodes F C K fg cg kg → T → A) (f : Context → List TokenAndSpan → Out A) where
+  -- What a production does from p to q: it reads what f reads, from one token at least; nodes were appended alone, and the answer is the number
+  -- of one of them, from which no number below k is reached.
+  pub record Produces (k : ℕ) (p : Productions S H F C K fg cg kg) (r : Result T Error) (q : Productions S H F C K fg cg kg) : Type 0 where
+    pub reads : Parses state gives (view q.nodes) f p.input r q.input
+    pub left : OnOk r (left state q.input < left state p.input)
+    pub grows : Grows p.nodes q.nodes
+    pub from : IfOk r (λ t. From k q.nodes (expr_part (number t)))
+
+  -- the same, where nothing may be consumed
+  pub record GoesOn (k : ℕ) (p : Productions S H F C K fg cg kg) (r : Result T Error) (q : Productions S H F C K fg cg kg) : Type 0 where
+    pub reads : Follows state gives (view q.nodes) f p.input r q.input
+    pub left : OnOk r (left state q.input ≤ left state p.input)
+    pub grows : Grows p.nodes q.nodes
+    pub from : IfOk r (λ t. From k q.nodes (expr_part (number t)))

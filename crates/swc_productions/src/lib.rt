@@ -1,5 +1,6 @@
-//! The productions of ECMAScript's expressions, as methods over a buffer and a hook. The parser of `swc_ecma_parser` stands over them.
+//! The productions of ECMAScript's expressions, as methods over a buffer, a hook and the nodes that they make. The parser of `swc_ecma_parser` stands over them.
 #![tactic(auto)]
 
 mod expr;
+pub mod moves;
 pub mod productions;

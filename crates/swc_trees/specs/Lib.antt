@@ -1,1 +1,3 @@
+pub mod Kinds
 pub mod Moving
+pub mod Refusable

@@ -1,4 +1,6 @@
-//! Moves boxed trees out of the nodes, and into them. What is moved stands for the same tree.
+//! Moves boxed trees out of the nodes. What is moved stands for the same tree.
 #![tactic(auto)]
 
 pub mod parts;
+mod refusable;
+pub mod taking;

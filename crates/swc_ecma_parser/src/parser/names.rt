@@ -8,7 +8,7 @@ ghost use Rattle.swc_ident.specs.Verdicts.{ident_verdict, reference_verdict, bin
 ghost use Rattle.swc_grammar.specs.Names.{Reference, Binding, Name, Private as private_kind, ReadsName};
 ghost use Rattle.swc_productions.specs.Parsing.{ident_spelling, name_spelling, private_spelling, binding_spelling};
 ghost use Rattle.swc_ecma_parser.specs.Promise.{RefersIfFree, Anywhere, Sound, Complete};
-ghost use Rattle.swc_ecma_parser.specs.Calls.{buffer_of, has_failed, wants_memory, parser_failed};
+ghost use Rattle.swc_ecma_parser.specs.Calls.{buffer_of, nodes_of, has_failed, wants_memory, parser_failed};
 
 use crate::parser::Parser;
 use either::Either;
@@ -24,6 +24,7 @@ impl<I: Tokens, B: Bodies<I>> Parser<I, B> {
         ensures again { has_failed self.old ≡ true → (self.new ≡ self.old) × (result ≡ Err (parser_failed (previous (buffer_of self.old)))) }
         ensures either { has_failed self.old ≡ false → MatchResult result (λ r. MatchEither r (λ p. Private I.state I.gives p.name p.span (buffer_of self.old) (buffer_of self.new)) (λ n. Named I.state I.gives name_of_any n.sym n.span (buffer_of self.old) (buffer_of self.new))) (λ e. Neither I.state I.gives (buffer_of self.old) e (buffer_of self.new)) }
         ensures read { has_failed self.old ≡ false → (xs : List TokenAndSpan) × Read I.state I.gives (buffer_of self.old) xs (buffer_of self.new) }
+        ensures nodes { nodes_of self.new ≡ nodes_of self.old }
         ensures fails { has_failed self.old ≡ false → has_failed self.new ≡ wants_memory result }
     {
         self.begin()?;
@@ -43,6 +44,7 @@ impl<I: Tokens, B: Bodies<I>> Parser<I, B> {
         ensures sound { has_failed self.old ≡ false → Sound I.state I.gives (ReadsName private_kind) private_spelling (buffer_of self.old) result (buffer_of self.new) }
         ensures complete { has_failed self.old ≡ false → Complete I.state I.gives (ReadsName private_kind) private_spelling Anywhere (buffer_of self.old) result (buffer_of self.new) }
         ensures read { has_failed self.old ≡ false → (xs : List TokenAndSpan) × Read I.state I.gives (buffer_of self.old) xs (buffer_of self.new) }
+        ensures nodes { nodes_of self.new ≡ nodes_of self.old }
         ensures fails { has_failed self.old ≡ false → has_failed self.new ≡ wants_memory result }
     {
         self.begin()?;
@@ -59,6 +61,7 @@ impl<I: Tokens, B: Bodies<I>> Parser<I, B> {
         ensures sound { has_failed self.old ≡ false → Sound I.state I.gives (RefersIfFree) ident_spelling (buffer_of self.old) result (buffer_of self.new) }
         ensures complete { has_failed self.old ≡ false → Complete I.state I.gives (ReadsName Reference) ident_spelling Anywhere (buffer_of self.old) result (buffer_of self.new) }
         ensures read { has_failed self.old ≡ false → (xs : List TokenAndSpan) × Read I.state I.gives (buffer_of self.old) xs (buffer_of self.new) }
+        ensures nodes { nodes_of self.new ≡ nodes_of self.old }
         ensures fails { has_failed self.old ≡ false → has_failed self.new ≡ wants_memory result }
     {
         self.begin()?;
@@ -71,6 +74,7 @@ impl<I: Tokens, B: Bodies<I>> Parser<I, B> {
         ensures again { has_failed self.old ≡ true → (self.new ≡ self.old) × (result ≡ Err (parser_failed (previous (buffer_of self.old)))) }
         ensures names { has_failed self.old ≡ false → Names I.state I.gives reference_verdict (λ i. i.sym) (λ i. i.span) (buffer_of self.old) result (buffer_of self.new) }
         ensures read { has_failed self.old ≡ false → (xs : List TokenAndSpan) × Read I.state I.gives (buffer_of self.old) xs (buffer_of self.new) }
+        ensures nodes { nodes_of self.new ≡ nodes_of self.old }
         ensures fails { has_failed self.old ≡ false → has_failed self.new ≡ wants_memory result }
     {
         self.begin()?;
@@ -87,6 +91,7 @@ impl<I: Tokens, B: Bodies<I>> Parser<I, B> {
         ensures sound { has_failed self.old ≡ false → Sound I.state I.gives (ReadsName Name) name_spelling (buffer_of self.old) result (buffer_of self.new) }
         ensures complete { has_failed self.old ≡ false → Complete I.state I.gives (ReadsName Name) name_spelling Anywhere (buffer_of self.old) result (buffer_of self.new) }
         ensures read { has_failed self.old ≡ false → (xs : List TokenAndSpan) × Read I.state I.gives (buffer_of self.old) xs (buffer_of self.new) }
+        ensures nodes { nodes_of self.new ≡ nodes_of self.old }
         ensures fails { has_failed self.old ≡ false → has_failed self.new ≡ wants_memory result }
     {
         self.begin()?;
@@ -101,6 +106,7 @@ impl<I: Tokens, B: Bodies<I>> Parser<I, B> {
         ensures again { has_failed self.old ≡ true → (self.new ≡ self.old) × (result ≡ Err (parser_failed (previous (buffer_of self.old)))) }
         ensures export { has_failed self.old ≡ false → MatchResult result (λ n. MatchExport n (λ i. Named I.state I.gives name_of_any i.sym i.span (buffer_of self.old) (buffer_of self.new)) (λ s. Quoted I.state I.gives s.value s.raw s.span (buffer_of self.old) (buffer_of self.new))) (λ e. Unexported I.state I.gives (buffer_of self.old) e (buffer_of self.new)) }
         ensures read { has_failed self.old ≡ false → (xs : List TokenAndSpan) × Read I.state I.gives (buffer_of self.old) xs (buffer_of self.new) }
+        ensures nodes { nodes_of self.new ≡ nodes_of self.old }
         ensures fails { has_failed self.old ≡ false → has_failed self.new ≡ wants_memory result }
     {
         self.begin()?;
@@ -119,6 +125,7 @@ impl<I: Tokens, B: Bodies<I>> Parser<I, B> {
         ensures again { has_failed self.old ≡ true → (self.new ≡ self.old) × (result ≡ Err (parser_failed (previous (buffer_of self.old)))) }
         ensures names { has_failed self.old ≡ false → Names I.state I.gives (ident_verdict incl_yield incl_await) (λ i. i.sym) (λ i. i.span) (buffer_of self.old) result (buffer_of self.new) }
         ensures read { has_failed self.old ≡ false → (xs : List TokenAndSpan) × Read I.state I.gives (buffer_of self.old) xs (buffer_of self.new) }
+        ensures nodes { nodes_of self.new ≡ nodes_of self.old }
         ensures fails { has_failed self.old ≡ false → has_failed self.new ≡ wants_memory result }
     {
         self.begin()?;
@@ -141,6 +148,7 @@ impl<I: Tokens, B: Bodies<I>> Parser<I, B> {
         ensures sound { has_failed self.old ≡ false → Sound I.state I.gives (ReadsName Binding) binding_spelling (buffer_of self.old) result (buffer_of self.new) }
         ensures complete { has_failed self.old ≡ false → Complete I.state I.gives (ReadsName Binding) binding_spelling Anywhere (buffer_of self.old) result (buffer_of self.new) }
         ensures read { has_failed self.old ≡ false → (xs : List TokenAndSpan) × Read I.state I.gives (buffer_of self.old) xs (buffer_of self.new) }
+        ensures nodes { nodes_of self.new ≡ nodes_of self.old }
         ensures fails { has_failed self.old ≡ false → has_failed self.new ≡ wants_memory result }
     {
         self.begin()?;
@@ -156,6 +164,7 @@ impl<I: Tokens, B: Bodies<I>> Parser<I, B> {
         ensures again { has_failed self.old ≡ true → (self.new ≡ self.old) × (result ≡ Err (parser_failed (previous (buffer_of self.old)))) }
         ensures optional { has_failed self.old ≡ false → MatchResult result (λ o. MatchOption o (Unbound I.state I.gives (buffer_of self.old) (buffer_of self.new)) (λ b. Bound I.state I.gives b.id.sym b.id.span (buffer_of self.old) (buffer_of self.new))) (λ e. Unnamed I.state I.gives binding_verdict (buffer_of self.old) e (buffer_of self.new)) }
         ensures read { has_failed self.old ≡ false → (xs : List TokenAndSpan) × Read I.state I.gives (buffer_of self.old) xs (buffer_of self.new) }
+        ensures nodes { nodes_of self.new ≡ nodes_of self.old }
         ensures fails { has_failed self.old ≡ false → has_failed self.new ≡ wants_memory result }
     {
         self.begin()?;

@@ -1,33 +1,37 @@
 // Binary and unary operators (ECMA-262, 13.5 to 13.13).
-ghost use Rattle.std.specs.Prelude.{◌≡◌, ◌≢◌, ℕ, ◌<◌, ◌≤◌, true, false, not, ◌&&◌, None, OnOk, IfOk, IfErr, IsSome, MatchResult};
+ghost use Rattle.std.specs.Prelude.{◌≡◌, ◌≢◌, ◌<◌, ◌≤◌, true, false, not, ◌&&◌, None, OnOk, IfOk, IfErr, IsSome, MatchResult};
 ghost use Rattle.swc_context.specs.declared.error.SyntaxError.TheVariants.{OutOfMemory, ParserFailed};
 ghost use Rattle.swc_input.specs.Buffer as buffer;
 ghost use Rattle.swc_input.specs.Buffer.{current};
-ghost use Rattle.swc_input.specs.Recording.{no_memory};
-ghost use Rattle.swc_ast.specs.Tree.{span_of};
 ghost use Rattle.swc_grammar.specs.Trees as trees;
 ghost use Rattle.swc_grammar.specs.Clean as clean;
 ghost use Rattle.swc_grammar.specs.Clean.{run, operator_at, prefix_at, no_error, left_ok};
 ghost use Rattle.swc_bodies.specs.Readings.{at_token};
-ghost use Rattle.swc_productions.specs.Parsing.{tree_by, bare_by, seen, context, recorded, behind, Loud, Leads, Refuses, Reads, Does, Tries, Parses, Follows, Checks, Forgoes};
+ghost use Rattle.swc_nodes.specs.Slots.{expr_part};
+ghost use Rattle.swc_nodes.specs.Stands.{count, first_at, From, Grows};
+ghost use Rattle.swc_productions.specs.Parsing.{seen, context, recorded, behind, Loud, Leads, Refuses, Reads, Does, Tries, Produces, GoesOn, Checks, Forgoes, itself, operation_of, tree_of, operation_at};
 
-use crate::productions::{ExprOf, Productions, is_out_of_memory};
-use swc_ast::expr::{Expr, Invalid};
+use crate::moves::{
+    emit_err, emit_error, emit_strict_mode_err, is_out_of_memory, look, made, skip, syntax_error,
+};
+use crate::productions::{NodesOf, Productions};
 use swc_ast::spanned::Spanned;
 use swc_bodies::bodies::Bodies;
 use swc_context::error::{Error, PResult, SyntaxError};
 use swc_context::operator::{BinOpToken, BinaryOp, UnaryOp};
 use swc_context::span::{BytePos, Span};
 use swc_context::word::{Keyword, Word};
+use swc_input::buffer::Buffer;
 use swc_input::token::Token;
 use swc_input::tokens::Tokens;
+use swc_nodes::node::ExprId;
+use swc_nodes::nodes::Nodes;
 
 impl<I: Tokens, B: Bodies<I>> Productions<I, B> {
     /// Binary operators of any precedence (ECMA-262, 13.13).
     #[cycle(productions)]
-    pub fn parse_bin_expr(&mut self) -> PResult<Box<ExprOf<B>>>
-        ensures parses { Parses I.state I.gives (tree_by B.Fun.place B.Class.place B.Block.place) (clean.operand run 0) self.old.input result self.new.input }
-        ensures left { OnOk result (buffer.left I.state self.new.input < buffer.left I.state self.old.input) }
+    pub fn parse_bin_expr(&mut self) -> PResult<ExprId>
+        ensures { Produces I.state I.gives itself tree_of (clean.operand run 0) (count self.old.nodes) self.old result self.new }
     {
         match self.parse_unary_expr() {
             Ok(left) => self.parse_bin_op_recursively(left, 0),
@@ -37,23 +41,25 @@ impl<I: Tokens, B: Bodies<I>> Productions<I, B> {
 
     /// Reads on where the left operand was refused. A refusal that can't be recovered from stands.
     #[cycle(productions)]
-    fn parse_bin_expr_without_left(&mut self, error: Error) -> PResult<Box<ExprOf<B>>>
+    fn parse_bin_expr_without_left(&mut self, error: Error) -> PResult<ExprId>
         requires { error.kind ≢ ParserFailed }
         ensures reads { Reads I.state I.gives self.old.input result self.new.input }
         ensures notes { Loud I.state self.old.input → OnOk result (recorded I.state self.old.input < recorded I.state self.new.input) }
         ensures some { OnOk result (error.kind ≢ OutOfMemory) }
         ensures memory { IfErr result (λ e. e.kind ≢ OutOfMemory → error.kind ≢ OutOfMemory) }
         ensures left { OnOk result (buffer.left I.state self.new.input < buffer.left I.state self.old.input) }
+        ensures grows { Grows self.old.nodes self.new.nodes }
+        ensures from { IfOk result (λ id. From (count self.old.nodes) self.new.nodes (expr_part id)) }
     {
         let (left, op) = self.recover_left(error)?;
         let (node, _) = self.parse_operation(left, op, 0)?;
-        self.check_nullish_left(&node)?;
+        check_nullish_left::<I, B>(&mut self.input, &self.nodes, node)?;
         self.parse_bin_op_recursively(node, 0)
     }
 
     /// Records, before an operator, that its left operand was refused: a node of `Invalid` stands in for it. Elsewhere the refusal
     /// stands, and so does want of memory.
-    fn recover_left(&mut self, error: Error) -> PResult<(Box<ExprOf<B>>, BinaryOp)>
+    fn recover_left(&mut self, error: Error) -> PResult<(ExprId, BinaryOp)>
         requires { error.kind ≢ ParserFailed }
         ensures does { Does I.state I.gives self.old.input result self.new.input }
         ensures notes { Loud I.state self.old.input → OnOk result (recorded I.state self.old.input < recorded I.state self.new.input) }
@@ -61,55 +67,46 @@ impl<I: Tokens, B: Bodies<I>> Productions<I, B> {
         ensures some { OnOk result (error.kind ≢ OutOfMemory) }
         ensures memory { IfErr result (λ e. e.kind ≢ OutOfMemory → error.kind ≢ OutOfMemory) }
         ensures left { OnOk result (buffer.left I.state self.new.input ≤ buffer.left I.state self.old.input) }
+        ensures grows { Grows self.old.nodes self.new.nodes }
+        ensures from { IfOk result (λ r. From (count self.old.nodes) self.new.nodes (expr_part r.0)) }
     {
         if is_out_of_memory(&error) {
             return Err(error);
         }
-        match self.look_for_operator() {
+        match look_for_operator(&mut self.input) {
             Ok(Some(op)) => self.stand_in(place_of(error), op),
             Ok(None) => Err(error),
             Err(memory) => Err(instead(error, memory)),
         }
     }
 
-    /// The operator that is current, if one is. Refused only for want of memory.
-    fn look_for_operator(&mut self) -> PResult<Option<BinaryOp>>
-        ensures tries { Tries I.state I.gives self.old.input result self.new.input }
-        ensures some { IfOk result (λ o. IsSome o → (IsSome (current self.new.input)) × (at_token no_error (seen self.new.input) ≡ true)) }
-        ensures left { OnOk result (buffer.left I.state self.new.input ≤ buffer.left I.state self.old.input) }
-    {
-        self.look()?;
-        Ok(self.cur_binary_op())
-    }
-
     /// Records that the operator, which is current, has no left operand: a node of `Invalid` at the place stands in for it.
-    fn stand_in(&mut self, at: Span, op: BinaryOp) -> PResult<(Box<ExprOf<B>>, BinaryOp)>
+    fn stand_in(&mut self, at: Span, op: BinaryOp) -> PResult<(ExprId, BinaryOp)>
         requires known { IsSome (current self.old.input) }
         requires fit { at_token no_error (seen self.old.input) ≡ true }
         ensures tries { Tries I.state I.gives self.old.input result self.new.input }
         ensures notes { Loud I.state self.old.input → OnOk result (recorded I.state self.old.input < recorded I.state self.new.input) }
         ensures operator { OnOk result (IsSome (current self.new.input)) }
         ensures left { OnOk result (buffer.left I.state self.new.input ≤ buffer.left I.state self.old.input) }
+        ensures grows { Grows self.old.nodes self.new.nodes }
+        ensures from { IfOk result (λ r. From (count self.old.nodes) self.new.nodes (expr_part r.0)) }
     {
         let operator = self.input.cur_span();
-        self.emit_err(operator, SyntaxError::TS1109)?;
-        let left = self.invalid_node(at)?;
+        emit_err(&mut self.input, operator, SyntaxError::TS1109)?;
+        let node = self.nodes.invalid(at);
+        let left = made(&self.input, node)?;
         Ok((left, op))
     }
 
     /// Reads on after the operand `left`, through all operators of a precedence above `min_prec`.
     #[cycle(productions)]
-    fn parse_bin_op_recursively(
-        &mut self,
-        mut left: Box<ExprOf<B>>,
-        mut min_prec: u8,
-    ) -> PResult<Box<ExprOf<B>>>
-        ensures follows { Follows I.state I.gives (tree_by B.Fun.place B.Class.place B.Block.place) (clean.climb run (tree_by B.Fun.place B.Class.place B.Block.place left) min_prec) self.old.input result self.new.input }
-        ensures left { OnOk result (buffer.left I.state self.new.input ≤ buffer.left I.state self.old.input) }
+    fn parse_bin_op_recursively(&mut self, mut left: ExprId, mut min_prec: u8) -> PResult<ExprId>
+        requires from { From 0 self.old.nodes (expr_part left) }
+        ensures { GoesOn I.state I.gives itself tree_of (clean.climb run (tree_of self.old.nodes left) min_prec) (first_at self.old.nodes left.0) self.old result self.new }
     {
         loop {
             let (next_left, next_prec) = self.parse_bin_op_recursively_inner(left, min_prec)?;
-            self.check_nullish_left(&next_left)?;
+            check_nullish_left::<I, B>(&mut self.input, &self.nodes, next_left)?;
             min_prec = match next_prec {
                 Some(prec) => prec,
                 None => return Ok(next_left),
@@ -123,15 +120,15 @@ impl<I: Tokens, B: Bodies<I>> Productions<I, B> {
     #[cycle(productions)]
     fn parse_bin_op_recursively_inner(
         &mut self,
-        left: Box<ExprOf<B>>,
+        left: ExprId,
         min_prec: u8,
-    ) -> PResult<(Box<ExprOf<B>>, Option<u8>)>
-        ensures follows { Follows I.state I.gives (λ r. (tree_by B.Fun.place B.Class.place B.Block.place r.0, r.1)) (clean.turn run (tree_by B.Fun.place B.Class.place B.Block.place left) min_prec) self.old.input result self.new.input }
-        ensures left { OnOk result (buffer.left I.state self.new.input ≤ buffer.left I.state self.old.input) }
+    ) -> PResult<(ExprId, Option<u8>)>
+        requires from { From 0 self.old.nodes (expr_part left) }
+        ensures step { GoesOn I.state I.gives operation_of operation_at (clean.turn run (tree_of self.old.nodes left) min_prec) (first_at self.old.nodes left.0) self.old result self.new }
         ensures more { IfOk result (λ r. IsSome r.1 → buffer.left I.state self.new.input < buffer.left I.state self.old.input) }
     {
-        self.look()?;
-        let op = match self.cur_binary_op() {
+        look(&mut self.input)?;
+        let op = match cur_binary_op(&self.input) {
             Some(op) => op,
             None => return Ok((left, None)),
         };
@@ -145,123 +142,40 @@ impl<I: Tokens, B: Bodies<I>> Productions<I, B> {
     #[cycle(productions)]
     fn parse_operation(
         &mut self,
-        left: Box<ExprOf<B>>,
+        left: ExprId,
         op: BinaryOp,
         min_prec: u8,
-    ) -> PResult<(Box<ExprOf<B>>, Option<u8>)>
-        requires { IsSome (current self.old.input) }
-        ensures parses { Parses I.state I.gives (λ r. (tree_by B.Fun.place B.Class.place B.Block.place r.0, r.1)) (behind (clean.operation run op (tree_by B.Fun.place B.Class.place B.Block.place left) min_prec)) self.old.input result self.new.input }
-        ensures left { OnOk result (buffer.left I.state self.new.input < buffer.left I.state self.old.input) }
+    ) -> PResult<(ExprId, Option<u8>)>
+        requires from { From 0 self.old.nodes (expr_part left) }
+        requires operator { IsSome (current self.old.input) }
+        ensures { Produces I.state I.gives operation_of operation_at (behind (clean.operation run op (tree_of self.old.nodes left) min_prec)) (first_at self.old.nodes left.0) self.old result self.new }
     {
-        self.skip();
-        self.refuse_unary_in_exp(op, &left)?;
+        skip(&mut self.input);
+        refuse_unary_in_exp::<I, B>(&mut self.input, &self.nodes, op, left)?;
         let right = self.parse_right_operand(op)?;
-        self.check_operands(op, &left, &right)?;
-        let node = self.bin_node(op, left, right)?;
+        check_operands::<I, B>(&mut self.input, &self.nodes, op, left, right)?;
+        let node = self.nodes.bin(op, left, right);
+        let node = made(&self.input, node)?;
         Ok((node, Some(min_prec)))
-    }
-
-    /// Refuses a prefix operator left of `**`, which was consumed.
-    fn refuse_unary_in_exp(&mut self, op: BinaryOp, left: &ExprOf<B>) -> PResult<()>
-        ensures passes { OnOk result ((self.new ≡ self.old) × (trees.exp_ok op (bare_by B.Fun.place B.Class.place B.Block.place left.now) ≡ true)) }
-        ensures refuses { IfErr result (λ e. Refuses I.state I.gives self.old.input e self.new.input × (trees.exp_ok op (bare_by B.Fun.place B.Class.place B.Block.place left.now) ≡ false)) }
-    {
-        if self.is_unary_in_exp(op, left) {
-            let span = self.input.prev_span();
-            let left_span = left.span();
-            return Err(self.syntax_error(span, SyntaxError::UnaryInExp { left_span }));
-        }
-        Ok(())
-    }
-
-    /// The node of an operator and its operands.
-    fn bin_node(
-        &self,
-        op: BinaryOp,
-        left: Box<ExprOf<B>>,
-        right: Box<ExprOf<B>>,
-    ) -> PResult<Box<ExprOf<B>>>
-        ensures node { IfOk result (λ e. tree_by B.Fun.place B.Class.place B.Block.place e ≡ trees.bin_e (trees.to (span_of (tree_by B.Fun.place B.Class.place B.Block.place left)) (span_of (tree_by B.Fun.place B.Class.place B.Block.place right))) op (tree_by B.Fun.place B.Class.place B.Block.place left) (tree_by B.Fun.place B.Class.place B.Block.place right)) }
-        ensures refused { IfErr result (λ e. e ≡ no_memory (buffer.last_position self.now.input)) }
-    {
-        let span = Span::new(left.span().lo, right.span().hi);
-        self.boxed(Expr::Bin {
-            span,
-            op,
-            left,
-            right,
-        })
     }
 
     /// What stands right of an operator: an operand, and the operators that bind tighter; after `**`, `**` too.
     #[cycle(productions)]
-    fn parse_right_operand(&mut self, op: BinaryOp) -> PResult<Box<ExprOf<B>>>
-        ensures parses { Parses I.state I.gives (tree_by B.Fun.place B.Class.place B.Block.place) (clean.operand run (trees.min_right op)) self.old.input result self.new.input }
-        ensures left { OnOk result (buffer.left I.state self.new.input < buffer.left I.state self.old.input) }
+    fn parse_right_operand(&mut self, op: BinaryOp) -> PResult<ExprId>
+        ensures { Produces I.state I.gives itself tree_of (clean.operand run (trees.min_right op)) (count self.old.nodes) self.old result self.new }
     {
         let left_of_right = self.parse_unary_expr()?;
         self.parse_bin_op_recursively(left_of_right, right_min_prec(op))
     }
 
-    /// The operator that the current token is. `in` is one only with `include_in_expr`.
-    fn cur_binary_op(&self) -> Option<BinaryOp>
-        ensures value { result ≡ operator_at (context I.state self.now.input) (seen self.now.input) }
-        ensures some { IsSome result → IsSome (current self.now.input) }
-        ensures fit { IsSome result → at_token no_error (seen self.now.input) ≡ true }
-    {
-        match self.input.cur_debug()? {
-            Token::Word(Word::Keyword(Keyword::In)) if self.input.get_ctx().include_in_expr => {
-                Some(BinaryOp::In)
-            }
-            Token::Word(Word::Keyword(Keyword::InstanceOf)) => Some(BinaryOp::InstanceOf),
-            Token::BinOp(op) => Some(BinaryOp::from(*op)),
-            _ => None,
-        }
-    }
-
-    /// Records a node of `||` or `&&` whose left operand is one of `??`.
-    fn check_nullish_left(&mut self, expr: &ExprOf<B>) -> PResult<()>
-        ensures checks { MatchResult result (λ r. Checks I.state I.gives (left_ok (bare_by B.Fun.place B.Class.place B.Block.place expr.now)) self.old.input self.new.input) (λ e. Forgoes I.state I.gives self.old.input e self.new.input) }
-        ensures left { OnOk result (buffer.left I.state self.new.input ≤ buffer.left I.state self.old.input) }
-    {
-        if self.has_nullish_left(expr) {
-            return self.emit_err(expr.span(), SyntaxError::NullishCoalescingWithLogicalOp);
-        }
-        Ok(())
-    }
-
-    /// Records the operands of `??` that are nodes of `||` or `&&`.
-    fn check_operands(&mut self, op: BinaryOp, left: &ExprOf<B>, right: &ExprOf<B>) -> PResult<()>
-        ensures checks { MatchResult result (λ r. Checks I.state I.gives (trees.nullish_ok op (bare_by B.Fun.place B.Class.place B.Block.place left.now) (bare_by B.Fun.place B.Class.place B.Block.place right.now)) self.old.input self.new.input) (λ e. Forgoes I.state I.gives self.old.input e self.new.input) }
-        ensures left { OnOk result (buffer.left I.state self.new.input ≤ buffer.left I.state self.old.input) }
-    {
-        if !is_nullish_op(op) {
-            return Ok(());
-        }
-        self.check_logical_operand(left)?;
-        self.check_logical_operand(right)
-    }
-
-    /// Records an operand of `??` that is a node of `||` or `&&`.
-    fn check_logical_operand(&mut self, operand: &ExprOf<B>) -> PResult<()>
-        ensures checks { MatchResult result (λ r. Checks I.state I.gives (not (trees.is_logical (bare_by B.Fun.place B.Class.place B.Block.place operand.now))) self.old.input self.new.input) (λ e. Forgoes I.state I.gives self.old.input e self.new.input) }
-        ensures left { OnOk result (buffer.left I.state self.new.input ≤ buffer.left I.state self.old.input) }
-    {
-        if self.is_logical(operand) {
-            return self.emit_err(operand.span(), SyntaxError::NullishCoalescingWithLogicalOp);
-        }
-        Ok(())
-    }
-
     /// A unary expression (ECMA-262, 13.5): so far, a primary expression with any number of prefix operators before it, but for `++`,
     /// `--` and `await`.
     #[cycle(productions)]
-    pub fn parse_unary_expr(&mut self) -> PResult<Box<ExprOf<B>>>
-        ensures parses { Parses I.state I.gives (tree_by B.Fun.place B.Class.place B.Block.place) (clean.unary run) self.old.input result self.new.input }
-        ensures left { OnOk result (buffer.left I.state self.new.input < buffer.left I.state self.old.input) }
+    pub fn parse_unary_expr(&mut self) -> PResult<ExprId>
+        ensures { Produces I.state I.gives itself tree_of (clean.unary run) (count self.old.nodes) self.old result self.new }
     {
-        self.look()?;
-        match self.cur_prefix_op() {
+        look(&mut self.input)?;
+        match cur_prefix_op(&self.input) {
             Some(op) => self.parse_prefix_expr(op),
             None => self.parse_primary_expr(),
         }
@@ -269,24 +183,23 @@ impl<I: Tokens, B: Bodies<I>> Productions<I, B> {
 
     /// A prefix operator, which is current, and its operand.
     #[cycle(productions)]
-    fn parse_prefix_expr(&mut self, op: UnaryOp) -> PResult<Box<ExprOf<B>>>
+    fn parse_prefix_expr(&mut self, op: UnaryOp) -> PResult<ExprId>
         requires { IsSome (current self.old.input) }
-        ensures parses { Parses I.state I.gives (tree_by B.Fun.place B.Class.place B.Block.place) (clean.prefix run op) self.old.input result self.new.input }
-        ensures left { OnOk result (buffer.left I.state self.new.input < buffer.left I.state self.old.input) }
+        ensures { Produces I.state I.gives itself tree_of (clean.prefix run op) (count self.old.nodes) self.old result self.new }
     {
         let start = self.input.cur_span().lo;
-        self.skip();
+        skip(&mut self.input);
         let arg = self.parse_prefix_operand()?;
-        self.check_delete(op, &arg)?;
-        self.unary_node(start, op, arg)
+        check_delete::<I, B>(&mut self.input, &self.nodes, op, arg)?;
+        let node = self.nodes.unary(start, op, arg);
+        made(&self.input, node)
     }
 
     /// The operand of a prefix operator. A refused one is recorded, unless it is want of memory, and a node of `Invalid` at one
     /// position stands in its place.
     #[cycle(productions)]
-    fn parse_prefix_operand(&mut self) -> PResult<Box<ExprOf<B>>>
-        ensures follows { Follows I.state I.gives (tree_by B.Fun.place B.Class.place B.Block.place) (clean.unary run) self.old.input result self.new.input }
-        ensures left { OnOk result (buffer.left I.state self.new.input ≤ buffer.left I.state self.old.input) }
+    fn parse_prefix_operand(&mut self) -> PResult<ExprId>
+        ensures { GoesOn I.state I.gives itself tree_of (clean.unary run) (count self.old.nodes) self.old result self.new }
     {
         let at = self.input.cur_pos();
         match self.parse_unary_expr() {
@@ -296,126 +209,19 @@ impl<I: Tokens, B: Bodies<I>> Productions<I, B> {
     }
 
     /// Records a refusal, unless it is want of memory: a node of `Invalid` at the position stands in for what was refused.
-    fn recover(&mut self, error: Error, at: BytePos) -> PResult<Box<ExprOf<B>>>
+    fn recover(&mut self, error: Error, at: BytePos) -> PResult<ExprId>
         requires { error.kind ≢ ParserFailed }
         ensures tries { MatchResult result (λ r. Leads I.state I.gives self.old.input self.new.input) (λ e. Forgoes I.state I.gives self.old.input e self.new.input) }
         ensures notes { Loud I.state self.old.input → OnOk result (recorded I.state self.old.input < recorded I.state self.new.input) }
         ensures memory { OnOk result (error.kind ≢ OutOfMemory) }
         ensures left { OnOk result (buffer.left I.state self.new.input ≤ buffer.left I.state self.old.input) }
+        ensures grows { Grows self.old.nodes self.new.nodes }
+        ensures from { IfOk result (λ id. From (count self.old.nodes) self.new.nodes (expr_part id)) }
     {
-        self.emit_error(error)?;
-        self.invalid_node(Span::new(at, at))
+        emit_error(&mut self.input, error)?;
+        let node = self.nodes.invalid(Span::new(at, at));
+        made(&self.input, node)
     }
-
-    /// Records, for modules, an identifier as the operand of `delete`.
-    fn check_delete(&mut self, op: UnaryOp, arg: &ExprOf<B>) -> PResult<()>
-        ensures checks { MatchResult result (λ r. Checks I.state I.gives (trees.delete_ok (context I.state self.old.input) op (bare_by B.Fun.place B.Class.place B.Block.place arg.now)) self.old.input self.new.input) (λ e. Forgoes I.state I.gives self.old.input e self.new.input) }
-        ensures left { OnOk result (buffer.left I.state self.new.input ≤ buffer.left I.state self.old.input) }
-    {
-        if self.is_ident_deleted(op, arg) {
-            return self.emit_strict_mode_err(arg.span(), SyntaxError::TS1102);
-        }
-        Ok(())
-    }
-
-    /// The node of a prefix operator and its operand.
-    fn unary_node(
-        &self,
-        start: BytePos,
-        op: UnaryOp,
-        arg: Box<ExprOf<B>>,
-    ) -> PResult<Box<ExprOf<B>>>
-        ensures node { IfOk result (λ e. tree_by B.Fun.place B.Class.place B.Block.place e ≡ trees.unary_e (trees.between start (span_of (tree_by B.Fun.place B.Class.place B.Block.place arg)).hi) op (tree_by B.Fun.place B.Class.place B.Block.place arg)) }
-        ensures refused { IfErr result (λ e. e ≡ no_memory (buffer.last_position self.now.input)) }
-    {
-        let span = Span::new(start, arg.span().hi);
-        self.boxed(Expr::Unary { span, op, arg })
-    }
-
-    /// The node that stands in for an operand that was refused.
-    fn invalid_node(&self, span: Span) -> PResult<Box<ExprOf<B>>>
-        ensures refused { IfErr result (λ e. e ≡ no_memory (buffer.last_position self.now.input)) }
-    {
-        self.boxed(Expr::Invalid(Invalid { span }))
-    }
-
-    /// The prefix operator that the current token is: so far, none of `++`, `--` and `await`.
-    fn cur_prefix_op(&self) -> Option<UnaryOp>
-        ensures value { result ≡ prefix_at (seen self.now.input) }
-        ensures some { IsSome result → IsSome (current self.now.input) }
-    {
-        match self.input.cur_debug()? {
-            Token::Word(Word::Keyword(Keyword::Delete)) => Some(UnaryOp::Delete),
-            Token::Word(Word::Keyword(Keyword::Void)) => Some(UnaryOp::Void),
-            Token::Word(Word::Keyword(Keyword::TypeOf)) => Some(UnaryOp::TypeOf),
-            Token::BinOp(BinOpToken::Add) => Some(UnaryOp::Plus),
-            Token::BinOp(BinOpToken::Sub) => Some(UnaryOp::Minus),
-            Token::Tilde => Some(UnaryOp::Tilde),
-            Token::Bang => Some(UnaryOp::Bang),
-            _ => None,
-        }
-    }
-
-    /// Whether the node is one of `||` or `&&` with one of `??` on its left.
-    fn has_nullish_left(&self, expr: &ExprOf<B>) -> bool
-        ensures { result ≡ not (left_ok (bare_by B.Fun.place B.Class.place B.Block.place expr.now)) }
-    {
-        match expr {
-            Expr::Bin { op, left, .. } => is_logical_op(*op) && self.is_nullish(left),
-            _ => false,
-        }
-    }
-
-    fn is_logical(&self, expr: &ExprOf<B>) -> bool
-        ensures { result ≡ trees.is_logical (bare_by B.Fun.place B.Class.place B.Block.place expr.now) }
-    {
-        match expr {
-            Expr::Bin { op, .. } => is_logical_op(*op),
-            _ => false,
-        }
-    }
-
-    /// Whether `**` would take a prefix operator on its left.
-    fn is_unary_in_exp(&self, op: BinaryOp, left: &ExprOf<B>) -> bool
-        ensures { result ≡ not (trees.exp_ok op (bare_by B.Fun.place B.Class.place B.Block.place left.now)) }
-    {
-        is_exp_op(op) && self.is_unary(left)
-    }
-
-    /// Whether an identifier is the operand of `delete`.
-    fn is_ident_deleted(&self, op: UnaryOp, arg: &ExprOf<B>) -> bool
-        ensures { result ≡ (trees.is_delete op && trees.is_ident (bare_by B.Fun.place B.Class.place B.Block.place arg.now)) }
-    {
-        is_delete_op(op) && self.is_ident(arg)
-    }
-
-    /// Whether the node is one of a prefix operator or of `await`.
-    fn is_unary(&self, expr: &ExprOf<B>) -> bool
-        ensures { result ≡ trees.is_unary (bare_by B.Fun.place B.Class.place B.Block.place expr.now) }
-    {
-        matches!(expr, Expr::Unary { .. } | Expr::Await { .. })
-    }
-
-    fn is_ident(&self, expr: &ExprOf<B>) -> bool
-        ensures { result ≡ trees.is_ident (bare_by B.Fun.place B.Class.place B.Block.place expr.now) }
-    {
-        matches!(expr, Expr::Ident(_))
-    }
-
-    fn is_nullish(&self, expr: &ExprOf<B>) -> bool
-        ensures { result ≡ trees.is_nullish (bare_by B.Fun.place B.Class.place B.Block.place expr.now) }
-    {
-        match expr {
-            Expr::Bin { op, .. } => is_nullish_op(*op),
-            _ => false,
-        }
-    }
-}
-
-fn is_logical_op(op: BinaryOp) -> bool
-    ensures { result ≡ trees.is_logical_op op }
-{
-    matches!(op, BinaryOp::LogicalAnd | BinaryOp::LogicalOr)
 }
 
 fn is_nullish_op(op: BinaryOp) -> bool
@@ -457,4 +263,167 @@ fn instead(_first: Error, second: Error) -> Error
     ensures { result ≡ second }
 {
     second
+}
+
+/// The operator that is current, if one is. Refused only for want of memory.
+fn look_for_operator<I: Tokens>(input: &mut Buffer<I>) -> PResult<Option<BinaryOp>>
+    ensures tries { Tries I.state I.gives input.old result input.new }
+    ensures some { IfOk result (λ o. IsSome o → (IsSome (current input.new)) × (at_token no_error (seen input.new) ≡ true)) }
+    ensures left { OnOk result (buffer.left I.state input.new ≤ buffer.left I.state input.old) }
+{
+    look(input)?;
+    Ok(cur_binary_op(input))
+}
+
+/// The operator that the current token is. `in` is one only with `include_in_expr`.
+fn cur_binary_op<I: Tokens>(input: &Buffer<I>) -> Option<BinaryOp>
+    ensures value { result ≡ operator_at (context I.state input.now) (seen input.now) }
+    ensures some { IsSome result → IsSome (current input.now) }
+    ensures fit { IsSome result → at_token no_error (seen input.now) ≡ true }
+{
+    match input.cur_debug()? {
+        Token::Word(Word::Keyword(Keyword::In)) if input.get_ctx().include_in_expr => {
+            Some(BinaryOp::In)
+        }
+        Token::Word(Word::Keyword(Keyword::InstanceOf)) => Some(BinaryOp::InstanceOf),
+        Token::BinOp(op) => Some(BinaryOp::from(*op)),
+        _ => None,
+    }
+}
+
+/// The prefix operator that the current token is: so far, none of `++`, `--` and `await`.
+fn cur_prefix_op<I: Tokens>(input: &Buffer<I>) -> Option<UnaryOp>
+    ensures value { result ≡ prefix_at (seen input.now) }
+    ensures some { IsSome result → IsSome (current input.now) }
+{
+    match input.cur_debug()? {
+        Token::Word(Word::Keyword(Keyword::Delete)) => Some(UnaryOp::Delete),
+        Token::Word(Word::Keyword(Keyword::Void)) => Some(UnaryOp::Void),
+        Token::Word(Word::Keyword(Keyword::TypeOf)) => Some(UnaryOp::TypeOf),
+        Token::BinOp(BinOpToken::Add) => Some(UnaryOp::Plus),
+        Token::BinOp(BinOpToken::Sub) => Some(UnaryOp::Minus),
+        Token::Tilde => Some(UnaryOp::Tilde),
+        Token::Bang => Some(UnaryOp::Bang),
+        _ => None,
+    }
+}
+
+/// Refuses a prefix operator left of `**`, which was consumed.
+fn refuse_unary_in_exp<I: Tokens, B: Bodies<I>>(
+    input: &mut Buffer<I>,
+    nodes: &NodesOf<B>,
+    op: BinaryOp,
+    left: ExprId,
+) -> PResult<()>
+    requires { From 0 nodes.now (expr_part left) }
+    ensures passes { OnOk result ((input.new ≡ input.old) × (trees.exp_ok op (tree_of nodes.now left) ≡ true)) }
+    ensures refuses { IfErr result (λ e. Refuses I.state I.gives input.old e input.new × (trees.exp_ok op (tree_of nodes.now left) ≡ false)) }
+{
+    if is_unary_in_exp(nodes, op, left) {
+        let span = input.prev_span();
+        let left_span = nodes.span(left);
+        return Err(syntax_error(input, span, SyntaxError::UnaryInExp { left_span }));
+    }
+    Ok(())
+}
+
+/// Records a node of `||` or `&&` whose left operand is one of `??`.
+fn check_nullish_left<I: Tokens, B: Bodies<I>>(
+    input: &mut Buffer<I>,
+    nodes: &NodesOf<B>,
+    expr: ExprId,
+) -> PResult<()>
+    requires { From 0 nodes.now (expr_part expr) }
+    ensures checks { MatchResult result (λ r. Checks I.state I.gives (left_ok (tree_of nodes.now expr)) input.old input.new) (λ e. Forgoes I.state I.gives input.old e input.new) }
+    ensures left { OnOk result (buffer.left I.state input.new ≤ buffer.left I.state input.old) }
+{
+    if nodes.has_nullish_left(expr) {
+        return emit_err(
+            input,
+            nodes.span(expr),
+            SyntaxError::NullishCoalescingWithLogicalOp,
+        );
+    }
+    Ok(())
+}
+
+/// Records the operands of `??` that are nodes of `||` or `&&`.
+fn check_operands<I: Tokens, B: Bodies<I>>(
+    input: &mut Buffer<I>,
+    nodes: &NodesOf<B>,
+    op: BinaryOp,
+    left: ExprId,
+    right: ExprId,
+) -> PResult<()>
+    requires left { From 0 nodes.now (expr_part left) }
+    requires right { From 0 nodes.now (expr_part right) }
+    ensures checks { MatchResult result (λ r. Checks I.state I.gives (trees.nullish_ok op (tree_of nodes.now left) (tree_of nodes.now right)) input.old input.new) (λ e. Forgoes I.state I.gives input.old e input.new) }
+    ensures left { OnOk result (buffer.left I.state input.new ≤ buffer.left I.state input.old) }
+{
+    if !is_nullish_op(op) {
+        return Ok(());
+    }
+    check_logical_operand::<I, B>(input, nodes, left)?;
+    check_logical_operand::<I, B>(input, nodes, right)
+}
+
+/// Records an operand of `??` that is a node of `||` or `&&`.
+fn check_logical_operand<I: Tokens, B: Bodies<I>>(
+    input: &mut Buffer<I>,
+    nodes: &NodesOf<B>,
+    operand: ExprId,
+) -> PResult<()>
+    requires { From 0 nodes.now (expr_part operand) }
+    ensures checks { MatchResult result (λ r. Checks I.state I.gives (not (trees.is_logical (tree_of nodes.now operand))) input.old input.new) (λ e. Forgoes I.state I.gives input.old e input.new) }
+    ensures left { OnOk result (buffer.left I.state input.new ≤ buffer.left I.state input.old) }
+{
+    if nodes.is_logical(operand) {
+        return emit_err(
+            input,
+            nodes.span(operand),
+            SyntaxError::NullishCoalescingWithLogicalOp,
+        );
+    }
+    Ok(())
+}
+
+/// Records, for modules, an identifier as the operand of `delete`.
+fn check_delete<I: Tokens, B: Bodies<I>>(
+    input: &mut Buffer<I>,
+    nodes: &NodesOf<B>,
+    op: UnaryOp,
+    arg: ExprId,
+) -> PResult<()>
+    requires { From 0 nodes.now (expr_part arg) }
+    ensures checks { MatchResult result (λ r. Checks I.state I.gives (trees.delete_ok (context I.state input.old) op (tree_of nodes.now arg)) input.old input.new) (λ e. Forgoes I.state I.gives input.old e input.new) }
+    ensures left { OnOk result (buffer.left I.state input.new ≤ buffer.left I.state input.old) }
+{
+    if is_ident_deleted(nodes, op, arg) {
+        return emit_strict_mode_err(input, nodes.span(arg), SyntaxError::TS1102);
+    }
+    Ok(())
+}
+
+/// Whether `**` would take a prefix operator on its left.
+fn is_unary_in_exp<F: Spanned + Drop, C: Spanned + Drop, K: Spanned + Drop>(
+    nodes: &Nodes<F, C, K>,
+    op: BinaryOp,
+    left: ExprId,
+) -> bool
+    requires { From 0 nodes.now (expr_part left) }
+    ensures { result ≡ not (trees.exp_ok op (tree_of nodes.now left)) }
+{
+    is_exp_op(op) && nodes.is_unary(left)
+}
+
+/// Whether an identifier is the operand of `delete`.
+fn is_ident_deleted<F: Spanned + Drop, C: Spanned + Drop, K: Spanned + Drop>(
+    nodes: &Nodes<F, C, K>,
+    op: UnaryOp,
+    arg: ExprId,
+) -> bool
+    requires { From 0 nodes.now (expr_part arg) }
+    ensures { result ≡ (trees.is_delete op && trees.is_ident (tree_of nodes.now arg)) }
+{
+    is_delete_op(op) && nodes.is_ident(arg)
 }

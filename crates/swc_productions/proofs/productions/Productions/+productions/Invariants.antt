@@ -2,7 +2,9 @@
 use Rattle.std.proofs.Common.{◌+◌, ◌*◌, ◌≤◌}
 use Rattle.swc_input.specs.Buffer.{left}
 use Rattle.swc_grammar.specs.Clean.{climb, run}
-use Rattle.swc_productions.specs.Parsing.{tree_by, On}
+use Rattle.swc_nodes.specs.Slots.{expr_part}
+use Rattle.swc_nodes.specs.Stands.{first_at, From, Grows}
+use Rattle.swc_productions.specs.Parsing.{On, tree_of}
 use Rattle.swc_productions.proofs.productions.Productions.+productions.Given as goal
 
 abbrev pub decreases-parse_paren_expr : goal.decreases-parse_paren_expr
@@ -35,10 +37,12 @@ decreases-parse_bin_op_recursively g l = left g.I.Tokens.state l.self.now.input 
 abbrev pub invariant-parse_bin_op_recursively-loop-next_left : goal.invariant-parse_bin_op_recursively-loop-next_left
 invariant-parse_bin_op_recursively-loop-next_left g l =
     On g.I.Tokens.state g.I.Tokens.gives
-    (climb run (tree_by g.B.Fun.Spanned.place g.B.Class.Spanned.place g.B.Block.Spanned.place l.fn.left) l.fn.min_prec)
-    (climb run (tree_by g.B.Fun.Spanned.place g.B.Class.Spanned.place g.B.Block.Spanned.place l.left) l.min_prec)
+    (climb run (tree_of l.fn.self.nodes l.fn.left) l.fn.min_prec)
+    (climb run (tree_of l.self.nodes l.left) l.min_prec)
     l.fn.self.input l.self.input
     × (left g.I.Tokens.state l.self.input ≤ left g.I.Tokens.state l.fn.self.input)
+    × Grows l.fn.self.nodes l.self.nodes
+    × From (first_at l.fn.self.nodes l.fn.left.0) l.self.nodes (expr_part l.left)
 
 abbrev pub decreases-parse_bin_op_recursively-loop-next_left : goal.decreases-parse_bin_op_recursively-loop-next_left
 decreases-parse_bin_op_recursively-loop-next_left g l = left g.I.Tokens.state l.self.input

@@ -3,7 +3,7 @@ use Rattle.std.proofs.lemmas.Result.{err_from_is_err_and}
 use Rattle.swc_input.specs.Plain.{plain}
 use Rattle.swc_bodies.specs.Readings.{at_token}
 use Rattle.swc_grammar.specs.Clean.{is_lit, lit_of}
-use Rattle.swc_productions.specs.Parsing.{lit_by}
+use Rattle.swc_productions.specs.Parsing.{lit_in}
 use Rattle.swc_productions.proofs.Steps as s
 use Rattle.swc_productions.proofs.Rules as rule
 use Rattle.swc_productions.proofs.productions.Productions.parse_lit.Goals as goal
@@ -20,11 +20,11 @@ returns-then-not-is_lit-clause-parses g c =
 pub returns-clause-parses : goal.returns-clause-parses
 returns-clause-parses g c =
     let took = c.bump-token.ensures.took in
-    let e = lit_by g.B.Fun.Spanned.place g.B.Class.Spanned.place g.B.Block.Spanned.place c.lit_of.result in
+    let e = lit_in c.args.self.now.nodes c.lit_of.result in
     s.heard_after (s.on_seen c.in_ok-require_cur.ensures.fits (λ x ts same h. refl))
     (s.heard_took (record { none = g.met.I.Tokens.none; joins = g.met.I.Tokens.then; gave = g.met.I.Tokens.gave; lawful = g.met.I.Tokens.lawful }) took (λ x ts. rule.lit_takes e x (plain took.was) ts (s.at_was lit_of e took c.prev_span-span.result c.prev_span-span.ensures c.lit_of.ensures)))
 
 pub returns-clause-literal : goal.returns-clause-literal
 returns-clause-literal g c =
     s.literal_took c.in_ok-require_cur.ensures.fits c.bump-token.ensures.took
-    (s.at_was lit_of (lit_by g.B.Fun.Spanned.place g.B.Class.Spanned.place g.B.Block.Spanned.place c.lit_of.result) c.bump-token.ensures.took c.prev_span-span.result c.prev_span-span.ensures c.lit_of.ensures)
+    (s.at_was lit_of (lit_in c.args.self.now.nodes c.lit_of.result) c.bump-token.ensures.took c.prev_span-span.result c.prev_span-span.ensures c.lit_of.ensures)

@@ -1,3 +1,4 @@
+use Rattle.swc_nodes.proofs.Standing.{grows-same}
 use Rattle.std.proofs.lemmas.Result.{err_from_is_err_and}
 use Rattle.swc_productions.proofs.Steps.{forgoes_later, forgoes_here}
 use Rattle.swc_productions.proofs.productions.Productions.stand_in.Goals as goal
@@ -14,3 +15,6 @@ returns-in_err-left-clause-tries g c =
 
 pub returns-clause-tries : goal.returns-clause-tries
 returns-clause-tries g c = c.in_ok-emit_err.ensures.tries
+
+pub returns-in_err-emit_err-clause-grows : goal.returns-in_err-emit_err-clause-grows
+returns-in_err-emit_err-clause-grows g c = grows-same _

@@ -1,0 +1,52 @@
+-- The tree of an answer is moved out of the nodes, and the nodes that were made are cut off.
+use Rattle.std.proofs.Common.{◌≡◌, ℕ, ◌≤◌, Result, Ok, Err, IfOk, MatchResult, take, refl, sym, ap, subst, ◌∙◌, arith}
+use Rattle.std.proofs.lemmas.List.{take-append-le}
+use Rattle.swc_context.specs.declared.error.Error.{Error}
+use Rattle.swc_input.specs.declared.buffer.Buffer.{Buffer}
+use Rattle.swc_input.specs.declared.token.TokenAndSpan.{TokenAndSpan}
+use Rattle.std.proofs.Common.{List}
+use Rattle.swc_input.specs.Source.{Source}
+use Rattle.swc_input.specs.Buffer.{last_position}
+use Rattle.swc_input.specs.Recording.{no_memory}
+use Rattle.swc_ast.specs.Tree.{Tree}
+use Rattle.swc_ast.specs.declared.spanned.Spanned.{Ghosts}
+use Rattle.swc_nodes.specs.Slots.{expr_part}
+use Rattle.swc_nodes.specs.Stands.{count, From, Grows, Left, CutTo, SameNodes}
+use Rattle.swc_nodes.specs.declared.node.ExprId.{ExprId}
+use Rattle.swc_nodes.specs.declared.nodes.Nodes.{Nodes}
+use Rattle.swc_nodes.proofs.Standing.{cut_kept}
+use Rattle.swc_productions.specs.Parsing.{tree_of, Heard, Unheard, Parses}
+use Rattle.swc_productions.proofs.Steps.{Reader, unheard_memory}
+
+module _ {F C K : Type 0} {fg : Ghosts F} {cg : Ghosts C} {kg : Ghosts K} where
+  -- nodes were appended, and cut off again
+  pub cut-back : {ns ms : Nodes F C K fg cg kg} (ls : Nodes F C K fg cg kg) → Grows ns ms → CutTo (count ns) ms ls → SameNodes ns ls
+  cut-back ls g e = e ∙ cut_kept g
+
+  -- nodes were taken from the end, and more of them cut off
+  pub cut-taken : {ms ls : Nodes F C K fg cg kg} {k : ℕ} (xs : Nodes F C K fg cg kg) (start : ℕ) → Left k ms ls → start ≤ k → CutTo start ls xs → CutTo start ms xs
+  cut-taken {ms} {ls} {k} xs start l h e =
+      let a = l.above in
+      e ∙ sym (take-append-le start ls.nodes.items l.grows.more (omega arith)) ∙ ap (take start) (sym l.grows.appended)
+
+  -- after a refusal alone
+  pub kept-nodes : {ns ms : Nodes F C K fg cg kg} (ls : Nodes F C K fg cg kg) (answer : Result ExprId Error) → Grows ns ms → MatchResult answer (λ id. ls ≡ ms) (λ e. CutTo (count ns) ms ls) → MatchResult answer (λ id. Grows ns ls) (λ e. SameNodes ns ls)
+  kept-nodes {ns} ls (Ok id) g e = subst (λ v. Grows ns v) (sym e) g
+  kept-nodes ls (Err x) g e = cut-back ls g e
+
+  pub kept-from : (ms ls : Nodes F C K fg cg kg) (k s : ℕ) (answer : Result ExprId Error) → IfOk answer (λ id. From k ms (expr_part id)) → MatchResult answer (λ id. ls ≡ ms) (λ e. CutTo s ms ls) → IfOk answer (λ id. From k ls (expr_part id))
+  kept-from ms ls k s (Ok id) f e = subst (λ v. From k v (expr_part id)) (sym e) f
+  kept-from ms ls k s (Err x) f e = tt
+
+module _ {S F C K : Type 0} {fg : Ghosts F} {cg : Ghosts C} {kg : Ghosts K} (state : S → Source) (gives : S → List TokenAndSpan → S → Type 0) (f : Reader (Tree F C K)) where
+  pub kept-parses : (ms ns : Nodes F C K fg cg kg) (s : ℕ) (b c : Buffer S) (answer : Result ExprId Error) → Parses state gives (tree_of ms) f b answer c → MatchResult answer (λ id. ns ≡ ms) (λ e. CutTo s ms ns) → Parses state gives (tree_of ns) f b answer c
+  kept-parses ms ns s b c (Ok id) h e = subst (λ v. Heard state gives f (tree_of v id) b c) (sym e) h
+  kept-parses ms ns s b c (Err x) h e = h
+
+module _ {S F C K T : Type 0} {fg : Ghosts F} {cg : Ghosts C} {kg : Ghosts K} (state : S → Source) (gives : S → List TokenAndSpan → S → Type 0) (f : Reader (Tree F C K)) (ns : Nodes F C K fg cg kg) (view : T → Tree F C K) where
+  -- what is answered in boxes stands for what the number stood for, or memory was wanted
+  pub moved-parses : (b c : Buffer S) (answer : Result ExprId Error) (r : Result T Error) → Parses state gives (tree_of ns) f b answer c →
+      MatchResult answer (λ id. MatchResult r (λ e. view e ≡ tree_of ns id) (λ e. e ≡ no_memory (last_position c))) (λ e. r ≡ Err e) → Parses state gives view f b r c
+  moved-parses b c (Ok id) (Ok e) h m = subst (λ t. Heard state gives f t b c) (sym m) h
+  moved-parses b c (Ok id) (Err e) h m = subst (λ x. Unheard state gives f b x c) (sym m) (unheard_memory (record { leads = h.on.leads; kind = refl }))
+  moved-parses b c (Err x) r h m = subst (λ v. Parses state gives view f b v c) (sym m) h

@@ -1,0 +1,15 @@
+use Rattle.std.proofs.Common.{◌≡◌, [], ◌∷◌, ap}
+use Rattle.swc_print.specs.Numbers.{numbers}
+use Rattle.swc_print.specs.declared.pieces.Piece.{Piece}
+use Rattle.swc_print.proofs.Added.{text_taken, node_taken}
+use Rattle.swc_print.proofs.print.next_node.Goals as goal
+use Rattle.swc_print.proofs.print.next_node.Goals.{in-Text, in-Count}
+
+pub loop-piece-preserved : goal.loop-piece-preserved
+loop-piece-preserved c =
+    let none : numbers (c.in-Some.piece ∷ []) ≡ [] = elim c.match-piece.branch [ in-Text w ↦ ap (λ (v : Piece). numbers (v ∷ [])) w.in-Text.is | in-Count w ↦ ap (λ (v : Piece). numbers (v ∷ [])) w.in-Count.is ] in
+    text_taken c.loop-piece.stack.items c.pop.new.self.items c.in-Some.piece _ c.in-Some.ensures.items none c.loop-piece.invariant
+
+pub returns-in-Node : goal.returns-in-Node
+returns-in-Node c =
+    node_taken c.loop-piece.stack.items c.pop.new.self.items c.in-Some.piece c.in-Node.number _ c.in-Some.ensures.items (ap (λ (v : Piece). numbers (v ∷ [])) c.in-Node.is) c.loop-piece.invariant

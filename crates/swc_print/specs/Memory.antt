@@ -1,0 +1,11 @@
+-- The refusal for want of memory.
+use Rattle.swc_context.specs.declared.error.Error.{Error}
+use Rattle.swc_context.specs.declared.error.SyntaxError.TheVariants.{OutOfMemory}
+use Rattle.swc_context.specs.declared.span.BytePos.{BytePos}
+
+abbrev start : BytePos
+start = record { 0 = 0 }
+
+-- It has no place in a text.
+abbrev pub want_of_memory : Error
+want_of_memory = record { span = record { lo = start; hi = start }; kind = OutOfMemory }

@@ -1,0 +1,47 @@
+-- The numbers of nodes, among pieces of text and among the parts of a node.
+use Rattle.std.specs.Prelude.{ℕ, Bool, true, false, List, [], ◌∷◌, ◌++◌, length, take}
+use Rattle.swc_ast.specs.declared.expr.Tpl.{Tpl}
+use Rattle.swc_nodes.specs.declared.node.ExprId.{ExprId}
+use Rattle.swc_nodes.specs.Slots.{Part, slots, one_expr, flat}
+use Rattle.swc_nodes.specs.declared.node.Node.{Node}
+use Rattle.swc_nodes.specs.declared.node.Node.TheVariants as n
+use Rattle.swc_print.specs.declared.pieces.Piece.{Piece}
+use Rattle.swc_print.specs.declared.pieces.Piece.TheVariants as piece
+
+abbrev pub numbers : List Piece → List ℕ
+numbers [] = []
+numbers (piece.Node i ∷ ps) = i ∷ numbers ps
+numbers (piece.Text t ∷ ps) = numbers ps
+numbers (piece.Count k ∷ ps) = numbers ps
+
+abbrev pub ats : List Part → List ℕ
+ats [] = []
+ats (p ∷ ps) = p.at ∷ ats ps
+
+-- A template shows as many expressions as it has texts.
+abbrev pub tpl_shown : Tpl ExprId → List Part
+tpl_shown t = flat one_expr (take (length t.quasis.items) t.exprs.items)
+
+-- the parts of a node whose text is shown
+abbrev pub shown : {F C K : Type 0} → Node F C K → List Part
+shown (n.Tpl t) = tpl_shown t
+shown (n.TaggedTpl s t q) = one_expr t ++ tpl_shown q.value
+shown x = slots x
+
+-- the kinds with two or three parts, and operators between them
+abbrev pub is_infix : {F C K : Type 0} → Node F C K → Bool
+is_infix (n.Bin s op l r) = true
+is_infix (n.Assign s op l r) = true
+is_infix (n.Cond s t c a) = true
+is_infix x = false
+
+-- the kinds with one to three parts, and names or words between them
+abbrev pub is_operation : {F C K : Type 0} → Node F C K → Bool
+is_operation (n.Unary s op a) = true
+is_operation (n.Update s op prefix a) = true
+is_operation (n.Paren p) = true
+is_operation (n.Await s a) = true
+is_operation (n.PatRest s d p) = true
+is_operation (n.PatAssign s l r) = true
+is_operation (n.PatExpr e) = true
+is_operation x = is_infix x

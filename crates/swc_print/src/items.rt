@@ -1,0 +1,202 @@
+// What stands in lists: the items of arrays and arguments, parameters and properties.
+ghost use Rattle.std.specs.Prelude.{◌≡◌, ◌++◌, ◌∷◌, [], OnOk};
+ghost use Rattle.swc_nodes.specs.Slots.{one_expr, one_pat, if_some, item_parts, param_parts, prop_parts, pat_prop_parts, key_parts, flat};
+ghost use Rattle.swc_print.specs.Numbers.{numbers, ats};
+
+use crate::pieces::{Piece, put, put_computed, put_in, put_kept_last, put_text};
+use crate::print::Kept;
+use std::alloc::AllocError;
+use swc_ast::expr::ExprOrSpread;
+use swc_ast::function::{Function, Param};
+use swc_ast::prop::PropName;
+use swc_context::span::Span;
+use swc_nodes::node::{ExprId, PatId, PatPropNode, PropNode};
+
+/// An item of a list.
+pub trait Item {
+    ghost use Rattle.std.specs.Prelude.{List};
+    ghost use Rattle.swc_nodes.specs.Slots.{Part};
+
+    ghost parts: { Self → List Part };
+
+    /// Appends the pieces of its text.
+    fn put<'a>(&'a self, pieces: &mut Vec<Piece<'a>>) -> Result<(), AllocError>
+        ensures { OnOk result (numbers pieces.new.items ≡ numbers pieces.old.items ++ ats (parts self.now)) };
+}
+
+/// Appends the pieces of a list, with a comma between each two items.
+pub fn put_list<'a, T: Item>(
+    pieces: &mut Vec<Piece<'a>>,
+    open: &'a str,
+    items: &'a [T],
+    close: &'a str,
+) -> Result<(), AllocError>
+    ensures { OnOk result (numbers pieces.new.items ≡ numbers pieces.old.items ++ ats (flat T.parts items.now)) }
+{
+    put_text(pieces, open)?;
+    for (i, item) in items.iter().enumerate() {
+        put_text(pieces, if i == 0 { "" } else { ", " })?;
+        item.put(pieces)?;
+    }
+    put_text(pieces, close)
+}
+
+impl Item for ExprId {
+    ghost parts = { one_expr };
+
+    fn put<'a>(&'a self, pieces: &mut Vec<Piece<'a>>) -> Result<(), AllocError> {
+        put(pieces, &[Piece::Node(self.0)])
+    }
+}
+
+impl Item for PatId {
+    ghost parts = { one_pat };
+
+    fn put<'a>(&'a self, pieces: &mut Vec<Piece<'a>>) -> Result<(), AllocError> {
+        put(pieces, &[Piece::Node(self.0)])
+    }
+}
+
+impl<T: Item> Item for Option<T> {
+    ghost parts = { if_some T.parts };
+
+    fn put<'a>(&'a self, pieces: &mut Vec<Piece<'a>>) -> Result<(), AllocError> {
+        match self {
+            None => put_text(pieces, "-"),
+            Some(item) => item.put(pieces),
+        }
+    }
+}
+
+impl Item for ExprOrSpread<ExprId> {
+    ghost parts = { item_parts };
+
+    fn put<'a>(&'a self, pieces: &mut Vec<Piece<'a>>) -> Result<(), AllocError> {
+        put(
+            pieces,
+            &[
+                Piece::Text(spread_text(&self.spread)),
+                Piece::Node(self.expr.0),
+            ],
+        )
+    }
+}
+
+impl Item for Param<PatId> {
+    ghost parts = { param_parts };
+
+    fn put<'a>(&'a self, pieces: &mut Vec<Piece<'a>>) -> Result<(), AllocError> {
+        self.pat.put(pieces)
+    }
+}
+
+impl<K: Kept> Item for PropNode<K> {
+    ghost parts = { prop_parts };
+
+    fn put<'a>(&'a self, pieces: &mut Vec<Piece<'a>>) -> Result<(), AllocError> {
+        match self {
+            PropNode::Spread(s) => put(pieces, &[Piece::Text("..."), Piece::Node(s.expr.0)]),
+            PropNode::Shorthand(i) => put_text(pieces, i.sym.as_str()),
+            PropNode::KeyValue { key, value, .. } => put_key_value(pieces, key, value.0),
+            PropNode::Assign(p) => put_default(pieces, p.key.sym.as_str(), p.value.0),
+            PropNode::Method { key, function } => put_method(pieces, key, function),
+            PropNode::Getter { key, body, .. } => {
+                put_text(pieces, "Getter(")?;
+                put_key(pieces, key)?;
+                put_kept_last(pieces, ", ", body.kept())
+            }
+            PropNode::Setter {
+                key,
+                param,
+                body,
+                ..
+            } => {
+                put_text(pieces, "Setter(")?;
+                put_key(pieces, key)?;
+                put(pieces, &[Piece::Text(", "), Piece::Node(param.0)])?;
+                put_kept_last(pieces, ", ", body.kept())
+            }
+        }
+    }
+}
+
+impl Item for PatPropNode {
+    ghost parts = { pat_prop_parts };
+
+    fn put<'a>(&'a self, pieces: &mut Vec<Piece<'a>>) -> Result<(), AllocError> {
+        match self {
+            PatPropNode::KeyValue { key, value, .. } => put_key_value(pieces, key, value.0),
+            PatPropNode::Assign { key, value, .. } => match value {
+                None => put_text(pieces, key.id.sym.as_str()),
+                Some(e) => put_default(pieces, key.id.sym.as_str(), e.0),
+            },
+            PatPropNode::Rest { arg, .. } => put_in(pieces, "Rest(", arg.0),
+        }
+    }
+}
+
+fn spread_text(spread: &Option<Span>) -> &'static str {
+    if spread.is_some() { "..." } else { "" }
+}
+
+/// Appends a name and its default value.
+fn put_default<'a>(
+    pieces: &mut Vec<Piece<'a>>,
+    name: &'a str,
+    value: usize,
+) -> Result<(), AllocError>
+    ensures { OnOk result (numbers pieces.new.items ≡ numbers pieces.old.items ++ value ∷ []) }
+{
+    put(
+        pieces,
+        &[Piece::Text(name), Piece::Text(" = "), Piece::Node(value)],
+    )
+}
+
+fn put_key<'a>(pieces: &mut Vec<Piece<'a>>, key: &'a PropName<ExprId>) -> Result<(), AllocError>
+    ensures { OnOk result (numbers pieces.new.items ≡ numbers pieces.old.items ++ ats (key_parts key.now)) }
+{
+    match key {
+        PropName::Ident(i) => put_text(pieces, i.sym.as_str()),
+        PropName::Str(s) => put_text(pieces, s.raw.as_str()),
+        PropName::Num(n) => put_text(pieces, n.raw.as_str()),
+        PropName::BigInt(n) => put_text(pieces, n.raw.as_str()),
+        PropName::Computed(c) => put_computed(pieces, "[", c.expr.0),
+    }
+}
+
+fn put_key_value<'a>(
+    pieces: &mut Vec<Piece<'a>>,
+    key: &'a PropName<ExprId>,
+    value: usize,
+) -> Result<(), AllocError>
+    ensures { OnOk result (numbers pieces.new.items ≡ (numbers pieces.old.items ++ ats (key_parts key.now)) ++ value ∷ []) }
+{
+    put_key(pieces, key)?;
+    put(pieces, &[Piece::Text(": "), Piece::Node(value)])
+}
+
+fn put_method<'a, K: Kept>(
+    pieces: &mut Vec<Piece<'a>>,
+    key: &'a PropName<ExprId>,
+    function: &'a Function<PatId, K>,
+) -> Result<(), AllocError>
+    ensures { OnOk result (numbers pieces.new.items ≡ numbers pieces.old.items ++ ats (key_parts key.now ++ flat param_parts function.now.params.items)) }
+{
+    put_text(
+        pieces,
+        method_text(function.is_async, function.is_generator),
+    )?;
+    put_key(pieces, key)?;
+    put_list(pieces, ", [", &function.params, "], ")?;
+    put_kept_last(pieces, "", function.body.kept())
+}
+
+fn method_text(is_async: bool, is_generator: bool) -> &'static str {
+    match (is_async, is_generator) {
+        (false, false) => "Method(",
+        (true, false) => "AsyncMethod(",
+        (false, true) => "GeneratorMethod(",
+        (true, true) => "AsyncGeneratorMethod(",
+    }
+}

@@ -1,0 +1,42 @@
+-- Nodes that were made, and numbers that are held.
+use Rattle.std.proofs.Common.{◌≡◌, ℕ, ◌≤◌, Result, Ok, Err, IfOk, ap, subst, arith}
+use Rattle.std.specs.declared.alloc.AllocError.{AllocError}
+use Rattle.swc_context.specs.declared.error.Error.{Error}
+use Rattle.swc_ast.specs.Tree.{Tree}
+use Rattle.swc_ast.specs.declared.spanned.Spanned.{Ghosts}
+use Rattle.swc_nodes.specs.Slots.{Part, expr_part}
+use Rattle.swc_nodes.specs.Stands.{first_at, From, Grows, Made}
+use Rattle.swc_nodes.specs.declared.node.ExprId.{ExprId}
+use Rattle.swc_nodes.specs.declared.nodes.Nodes.{Nodes}
+use Rattle.swc_nodes.proofs.Held.{from-down, first-later}
+use Rattle.swc_nodes.proofs.Standing.{grows-none}
+use Rattle.swc_productions.specs.Parsing.{tree_of}
+
+module _ {F C K : Type 0} {fg : Ghosts F} {cg : Ghosts C} {kg : Ghosts K} where
+  pub made_at : (ms : Nodes F C K fg cg kg) (k : ℕ) (t : Tree F C K) (q : Result ExprId AllocError) (x : ExprId) → IfOk q (λ id. Made k ms (expr_part id) t) → q ≡ Ok x → Made k ms (expr_part x) t
+  made_at ms k t (Ok y) x m e = let same : y ≡ x = cc in subst (λ id. Made k ms (expr_part id) t) same m
+  made_at ms k t (Err y) x m e = cc
+
+  pub made_tree : (ms : Nodes F C K fg cg kg) (k : ℕ) (t : Tree F C K) (q : Result ExprId AllocError) (r : Result ExprId Error) → IfOk q (λ id. Made k ms (expr_part id) t) → IfOk r (λ id. q ≡ Ok id) → IfOk r (λ id. tree_of ms id ≡ t)
+  made_tree ms k t q (Ok y) m e = (made_at ms k t q y m e).stands
+  made_tree ms k t q (Err y) m e = tt
+
+  pub made_from : (ms : Nodes F C K fg cg kg) (k j : ℕ) (t : Tree F C K) (q : Result ExprId AllocError) (r : Result ExprId Error) → k ≤ j → IfOk q (λ id. Made j ms (expr_part id) t) → IfOk r (λ id. q ≡ Ok id) → IfOk r (λ id. From k ms (expr_part id))
+  made_from ms k j t q (Ok y) h m e = from-down h (made_at ms j t q y m e).from
+  made_from ms k j t q (Err y) h m e = tt
+
+  -- ---- numbers that are held
+
+  -- the nodes are the same
+  pub grows-kept : {ns ms : Nodes F C K fg cg kg} → ms ≡ ns → Grows ns ms
+  grows-kept {ns} {ms} e = grows-none ns ms (ap (λ v. v.nodes.items) e)
+
+  pub from_self : {ns : Nodes F C K fg cg kg} {k : ℕ} {p : Part} → From k ns p → From (first_at ns p.at) ns p
+  from_self f = record { within = f.within; above = omega arith; first = f.first; view = f.view }
+
+  pub first_kept : {ns ms : Nodes F C K fg cg kg} {k : ℕ} {p : Part} → Grows ns ms → From k ns p → first_at ns p.at ≤ first_at ms p.at
+  first_kept {ns} {ms} {k} {p} g f = let e : first_at ms p.at ≡ first_at ns p.at = first-later g f in omega arith
+
+  pub if_from : (ns : Nodes F C K fg cg kg) (k j : ℕ) {T : Type 0} {E : Type 0} (number : T → ExprId) (r : Result T E) → k ≤ j → IfOk r (λ t. From j ns (expr_part (number t))) → IfOk r (λ t. From k ns (expr_part (number t)))
+  if_from ns k j number (Ok x) h f = from-down h f
+  if_from ns k j number (Err e) h f = tt

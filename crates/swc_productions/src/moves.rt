@@ -1,0 +1,181 @@
+// The steps that productions take, on a buffer.
+ghost use Rattle.std.specs.Prelude.{◌≡◌, ◌≢◌, ◌<◌, ◌≤◌, true, false, not, None, IfErr, IfOk, OnOk, IsSome, Result, Ok, MatchResult};
+ghost use Rattle.swc_context.specs.declared.error.SyntaxError.TheVariants.{OutOfMemory, ParserFailed};
+ghost use Rattle.swc_input.specs.declared.token.Token.{Token};
+ghost use Rattle.swc_input.specs.Buffer.{current, last_position, source, left, Bumped};
+ghost use Rattle.swc_input.specs.Recording.{no_memory};
+ghost use Rattle.swc_bodies.specs.Readings.{at_token};
+ghost use Rattle.swc_grammar.specs.Tokens.{ref_ok};
+ghost use Rattle.swc_grammar.specs.Clean.{no_error, word, may_name, is_identifier};
+ghost use Rattle.swc_productions.specs.Parsing.{is_memory, ident_spelling, name_spelling, seen, context, recorded, Loud, Moves, Refuses, Forgoes, Tries, Parses, Here, Unfit, Checks};
+
+use std::alloc::{AllocError, Global};
+use swc_ast::ident::{Ident, IdentName};
+use swc_context::atom::Atom;
+use swc_context::context::Context;
+use swc_context::error::{Error, PResult, SyntaxError};
+use swc_context::span::Span;
+use swc_ident::ident;
+use swc_input::buffer::Buffer;
+use swc_input::token::Token;
+use swc_input::tokens::Tokens;
+use swc_nodes::node::ExprId;
+
+/// Looks at the current token: whether there is one, and not the end. Refused only for want of memory.
+pub(crate) fn look<I: Tokens>(input: &mut Buffer<I>) -> PResult<bool>
+    ensures looks { MatchResult result (λ r. Here I.state I.gives input.old input.new) (λ e. Forgoes I.state I.gives input.old e input.new) }
+    ensures token { IfOk result (λ r. r ≡ true → IsSome (current input.new)) }
+    ensures end { IfOk result (λ r. r ≡ false → (current input.new ≡ None) × ((I.state (source input.new)).ended ≡ true)) }
+    ensures left { left I.state input.new ≤ left I.state input.old }
+{
+    input.has_cur()
+}
+
+/// Asks that a token is current, and no error.
+pub(crate) fn require_cur<I: Tokens>(input: &mut Buffer<I>) -> PResult<()>
+    ensures fits { MatchResult result (λ r. Here I.state I.gives input.old input.new) (λ e. Unfit I.state I.gives input.old e input.new) }
+    ensures token { OnOk result (at_token no_error (seen input.new) ≡ true) }
+    ensures left { left I.state input.new ≤ left I.state input.old }
+{
+    input.require_cur()
+}
+
+/// Consumes the current token.
+pub(crate) fn bump<I: Tokens>(input: &mut Buffer<I>) -> Token
+    requires { IsSome (current input.old) }
+    ensures took { Bumped I.state I.gives input.old result input.new }
+    ensures left { left I.state input.new < left I.state input.old }
+{
+    input.bump()
+}
+
+/// Consumes the current token and lets it go.
+pub(crate) fn skip<I: Tokens>(input: &mut Buffer<I>)
+    requires { IsSome (current input.old) }
+    ensures took { (t : Token) × Bumped I.state I.gives input.old t input.new }
+    ensures left { left I.state input.new < left I.state input.old }
+{
+    let _ = bump(input);
+}
+
+/// A refusal at the place, unless an error token is current.
+pub(crate) fn syntax_error<I: Tokens>(input: &mut Buffer<I>, span: Span, kind: SyntaxError) -> Error
+    requires { kind ≢ ParserFailed }
+    ensures refuses { Refuses I.state I.gives input.old result input.new }
+    ensures left { left I.state input.new ≤ left I.state input.old }
+{
+    input.syntax_error(span, kind)
+}
+
+/// The refusal of the current token, which doesn't fit.
+pub(crate) fn unexpected<I: Tokens>(input: &mut Buffer<I>, kind: SyntaxError) -> Error
+    requires { kind ≢ ParserFailed }
+    ensures refuses { Refuses I.state I.gives input.old result input.new }
+    ensures left { left I.state input.new ≤ left I.state input.old }
+{
+    input.unexpected(kind)
+}
+
+/// Records a fault. A current token that is no error stays.
+pub(crate) fn emit_err<I: Tokens>(
+    input: &mut Buffer<I>,
+    span: Span,
+    kind: SyntaxError,
+) -> PResult<()>
+    requires { kind ≢ OutOfMemory }
+    ensures tries { Tries I.state I.gives input.old result input.new }
+    ensures notes { Loud I.state input.old → OnOk result (recorded I.state input.old < recorded I.state input.new) }
+    ensures kept { at_token no_error (seen input.old) ≡ true → current input.new ≡ current input.old }
+    ensures left { left I.state input.new ≤ left I.state input.old }
+{
+    input.emit_err(span, kind)
+}
+
+/// Records a refusal as a fault, unless it is want of memory, which is passed on.
+pub(crate) fn emit_error<I: Tokens>(input: &mut Buffer<I>, error: Error) -> PResult<()>
+    requires { error.kind ≢ ParserFailed }
+    ensures tries { Tries I.state I.gives input.old result input.new }
+    ensures notes { Loud I.state input.old → OnOk result (recorded I.state input.old < recorded I.state input.new) }
+    ensures memory { OnOk result (error.kind ≢ OutOfMemory) }
+    ensures left { left I.state input.new ≤ left I.state input.old }
+{
+    if is_out_of_memory(&error) {
+        return Err(error);
+    }
+    input.emit_error(error)
+}
+
+/// Records a fault of strict code, which is one in modules alone, and waits elsewhere.
+pub(crate) fn emit_strict_mode_err<I: Tokens>(
+    input: &mut Buffer<I>,
+    span: Span,
+    kind: SyntaxError,
+) -> PResult<()>
+    requires { kind ≢ OutOfMemory }
+    ensures checks { MatchResult result (λ r. Checks I.state I.gives (not (context I.state input.old).module) input.old input.new) (λ e. Forgoes I.state I.gives input.old e input.new) }
+    ensures left { left I.state input.new ≤ left I.state input.old }
+{
+    input.emit_strict_mode_err(span, kind)
+}
+
+/// Sets a context of the same kind of text, a module or a script, which can't be refused.
+pub(crate) fn set_ctx<I: Tokens>(input: &mut Buffer<I>, ctx: Context)
+    requires { ctx.module ≡ (I.state (source input.old)).context.module }
+    ensures moves { Moves I.state I.gives input.old input.new }
+    ensures context { (I.state (source input.new)).context ≡ ctx }
+    ensures current { current input.new ≡ current input.old }
+    ensures state { ((I.state (source input.new)).failed ≡ (I.state (source input.old)).failed) × ((I.state (source input.new)).ended ≡ (I.state (source input.old)).ended) }
+    ensures left { left I.state input.new ≡ left I.state input.old }
+{
+    if input.set_ctx(ctx).is_err() {
+        unreachable!()
+    }
+}
+
+/// An identifier reference, at a word that is one.
+pub(crate) fn parse_ident_ref<I: Tokens>(alloc: Global, input: &mut Buffer<I>) -> PResult<Ident>
+    requires { at_token (is_identifier (context I.state input.old)) (seen input.old) ≡ true }
+    ensures parses { Parses I.state I.gives ident_spelling (word ref_ok) input.old result input.new }
+    ensures left { OnOk result (left I.state input.new < left I.state input.old) }
+{
+    ident::parse_ident_ref(alloc, input)
+}
+
+/// A name that may be any word.
+pub(crate) fn parse_ident_name<I: Tokens>(
+    alloc: Global,
+    input: &mut Buffer<I>,
+) -> PResult<IdentName>
+    ensures parses { Parses I.state I.gives name_spelling (word may_name) input.old result input.new }
+    ensures left { OnOk result (left I.state input.new < left I.state input.old) }
+{
+    ident::parse_ident_name(alloc, input)
+}
+
+/// A copy of the text. Refused only for want of memory.
+pub(crate) fn copy_of<I: Tokens>(input: &Buffer<I>, text: &Atom) -> PResult<Atom>
+    ensures refused { IfErr result (λ e. e ≡ no_memory (last_position input.now)) }
+{
+    match text.try_clone() {
+        Ok(copy) => Ok(copy),
+        Err(_) => Err(input.out_of_memory()),
+    }
+}
+
+/// Whether the error is want of memory.
+pub fn is_out_of_memory(error: &Error) -> bool
+    ensures { result ≡ is_memory error.now.kind }
+{
+    matches!(error.kind(), SyntaxError::OutOfMemory)
+}
+
+/// The number of a node. Refused only for want of memory.
+pub(crate) fn made<I: Tokens>(input: &Buffer<I>, id: Result<ExprId, AllocError>) -> PResult<ExprId>
+    ensures ok { IfOk result (λ r. id ≡ Ok r) }
+    ensures refused { IfErr result (λ e. e ≡ no_memory (last_position input.now)) }
+{
+    match id {
+        Ok(id) => Ok(id),
+        Err(_) => Err(input.out_of_memory()),
+    }
+}

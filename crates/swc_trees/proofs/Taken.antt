@@ -1,0 +1,240 @@
+-- Parts are taken from the last on: what is left behind each is enough for those before it.
+use Rattle.std.proofs.Common.{◌≡◌, ℕ, suc, ◌<◌, ◌≤◌, true, List, [], ◌∷◌, ◌++◌, map, reverse, Result, Ok, Err, IfOk, refl, sym, ap, subst, ◌∙◌, arith, append_assoc}
+use Rattle.std.proofs.lemmas.List.{append-nil, map-append, reverse-append}
+use Rattle.std.specs.Result.{IsErr}
+use Rattle.std.specs.declared.alloc.AllocError.{AllocError}
+use Rattle.std.specs.declared.alloc.Global.{Global}
+use Rattle.std.specs.declared.boxed.Box.{Box}
+use Rattle.std.specs.declared.vec.Vec.{Vec}
+use Rattle.swc_ast.specs.Tree.{Tree, nil, cons, trees}
+use Rattle.swc_ast.specs.declared.spanned.Spanned.{Ghosts}
+use Rattle.swc_nodes.specs.NodeTree.{node_tree}
+use Rattle.swc_nodes.specs.Seats.{floor, chain}
+use Rattle.swc_nodes.specs.Slots.{Part, View, slots, form, view_ok, flat}
+use Rattle.swc_nodes.specs.Stands.{count, seat_at, tree_at, first_at, Apart, From, Grows, Left, Popped}
+use Rattle.swc_nodes.specs.declared.node.Node.{Node}
+use Rattle.swc_nodes.specs.declared.nodes.Nodes.{Nodes}
+use Rattle.swc_nodes.proofs.Chains.{both_true, chain-bound, chain-first, chain-second, chain-same, chain-up, floor-both}
+use Rattle.swc_nodes.proofs.Held.{from-apart, apart-from}
+use Rattle.swc_nodes.proofs.Standing.{grows-same, grows-then, grows-count, seat-later}
+use Rattle.swc_trees.specs.Moving.{Agrees, TakesOut}
+use Rattle.swc_trees.specs.Refusable.{Pushed, Reversed}
+
+if_ok-as : {Y E : Type 0} (P Q : Y → Type 0) (r : Result Y E) → ((y : Y) → P y → Q y) → IfOk r P → IfOk r Q
+if_ok-as P Q (Ok y) f h = f y h
+if_ok-as P Q (Err e) f h = h
+
+pub two : {F C K : Type 0} {s t u v : Tree F C K} → s ≡ u → t ≡ v → cons s (cons t nil) ≡ cons u (cons v nil)
+two {t = t} {u = u} e f = ap (λ w. cons w (cons t nil)) e ∙ ap (λ w. cons u (cons w nil)) f
+
+pub headed : {F C K : Type 0} {s t : Tree F C K} {us vs : List (Tree F C K)} → s ≡ t → us ≡ vs → cons s (trees us) ≡ cons t (trees vs)
+headed {t = t} {us = us} e f = ap (λ w. cons w (trees us)) e ∙ ap (λ w. cons t (trees w)) f
+
+pub three : {F C K : Type 0} {r s t u v w : Tree F C K} → r ≡ u → s ≡ v → t ≡ w → cons r (cons s (cons t nil)) ≡ cons u (cons v (cons w nil))
+three {r = r} {s = s} {t = t} {u = u} d e f = ap (λ x. cons x (cons s (cons t nil))) d ∙ ap (cons u) (two e f)
+
+pub both-of : {X Y E : Type 0} (q : Result X E) (r : Result Y E) (x : X) (y : Y) (w : Result (X × Y) E) → w ≡ Ok (x, y) → IfOk w (λ p. (q ≡ Ok p.0) × (r ≡ Ok p.1)) → (q ≡ Ok x) × (r ≡ Ok y)
+both-of q r x y w e h = subst (λ v. IfOk v (λ p. (q ≡ Ok p.0) × (r ≡ Ok p.1))) e h
+
+pub flat-append : {X Y : Type 0} (f : X → List Y) (xs ys : List X) → flat f (xs ++ ys) ≡ flat f xs ++ flat f ys
+flat-append f [] ys = refl
+flat-append f (x ∷ xs) ys = ap (λ v. f x ++ v) (flat-append f xs ys) ∙ sym (append_assoc (f x) (flat f xs) (flat f ys))
+
+module _ {F C K : Type 0} {fg : Ghosts F} {cg : Ghosts C} {kg : Ghosts K} where
+  -- ---- what parts stand for
+
+  agrees-first : (at : ℕ → Tree F C K) (ns : Nodes F C K fg cg kg) (ps qs : List Part) → Agrees at ns (ps ++ qs) → Agrees at ns ps
+  agrees-first at ns [] qs h = tt
+  agrees-first at ns (p ∷ ps) qs h = (h.0, agrees-first at ns ps qs h.1)
+
+  agrees-second : (at : ℕ → Tree F C K) (ns : Nodes F C K fg cg kg) (ps qs : List Part) → Agrees at ns (ps ++ qs) → Agrees at ns qs
+  agrees-second at ns [] qs h = h
+  agrees-second at ns (p ∷ ps) qs h = agrees-second at ns ps qs h.1
+
+  agrees-self : (ns : Nodes F C K fg cg kg) (ps : List Part) → Agrees (tree_at ns) ns ps
+  agrees-self ns [] = tt
+  agrees-self ns (p ∷ ps) = (refl, agrees-self ns ps)
+
+  agrees-later : (at : ℕ → Tree F C K) (ns ms : Nodes F C K fg cg kg) (lo : ℕ) (ps : List Part) (hi : ℕ) → Grows ms ns → hi ≤ count ms → chain (seat_at ns) lo ps hi ≡ true → Agrees at ns ps → Agrees at ms ps
+  agrees-later at ns ms lo [] hi g le h a = tt
+  agrees-later at ns ms lo (p ∷ ps) hi g le h a =
+      let b = both_true h in
+      let w = chain-bound (seat_at ns) (suc p.at) ps hi b.1 in
+      let e : seat_at ns p.at ≡ seat_at ms p.at = seat-later p.at g (omega arith) in
+      (a.0 ∙ ap (λ s. s.tree) e, agrees-later at ns ms (suc p.at) ps hi g le b.1 a.1)
+
+  -- ---- parts, and then more of them, which are taken first
+
+  floor-kept : (ns ms : Nodes F C K fg cg kg) (lo : ℕ) (ps : List Part) (hi : ℕ) → Grows ms ns → hi ≤ count ms → chain (seat_at ns) lo ps hi ≡ true → floor (seat_at ns) hi ps ≤ floor (seat_at ms) (count ms) ps
+  floor-kept ns ms lo [] hi g le h = le
+  floor-kept ns ms lo (p ∷ ps) hi g le h =
+      let b = both_true h in
+      let w = chain-bound (seat_at ns) (suc p.at) ps hi b.1 in
+      let e : first_at ns p.at ≡ first_at ms p.at = ap (λ s. s.first) (seat-later p.at g (omega arith)) in
+      omega arith
+
+  pub apart-second : {ns : Nodes F C K fg cg kg} (ps qs : List Part) → Apart 0 ns (ps ++ qs) → Apart 0 ns qs
+  apart-second {ns} ps qs a = record { chained = chain-second (seat_at ns) 0 ps qs (count ns) a.chained }
+
+  apart-left : {ns ms : Nodes F C K fg cg kg} (ps qs : List Part) → Apart 0 ns (ps ++ qs) → Left (floor (seat_at ns) (count ns) qs) ns ms → Apart 0 ms ps
+  apart-left {ns} {ms} ps qs a l =
+      let hi = floor (seat_at ns) (count ns) qs in
+      let le : hi ≤ count ms = l.above in
+      let h = chain-first (seat_at ns) 0 ps qs (count ns) a.chained in
+      record { chained = chain-up (seat_at ms) 0 ps hi (count ms) le (chain-same (seat_at ns) (seat_at ms) 0 ps hi (λ i lt. seat-later i l.grows (omega arith)) h) }
+
+  left-both : {ns ms ks : Nodes F C K fg cg kg} (ps qs : List Part) → Apart 0 ns (ps ++ qs) → Left (floor (seat_at ns) (count ns) qs) ns ms → Left (floor (seat_at ms) (count ms) ps) ms ks → Left (floor (seat_at ns) (count ns) (ps ++ qs)) ns ks
+  left-both {ns} {ms} {ks} ps qs a l m =
+      let e = floor-both (seat_at ns) ps qs (count ns) in
+      let k = floor-kept ns ms 0 ps (floor (seat_at ns) (count ns) qs) l.grows l.above (chain-first (seat_at ns) 0 ps qs (count ns) a.chained) in
+      let u = m.above in
+      record { grows = grows-then m.grows l.grows; above = omega arith }
+
+  -- the parts before those that were taken still lie apart
+  pub apart-first : {Y : Type 0} {ns ms : Nodes F C K fg cg kg} {same : (ℕ → Tree F C K) → Y → Type 0} {r : Result Y AllocError} (ps qs : List Part) → Apart 0 ns (ps ++ qs) → TakesOut qs same ns r ms → Apart 0 ms ps
+  apart-first ps qs a t = apart-left ps qs a t.left
+
+  moved-of : {Y : Type 0} {ns ms : Nodes F C K fg cg kg} {same : (ℕ → Tree F C K) → Y → Type 0} {r : Result Y AllocError} {y : Y} {ps : List Part} → r ≡ Ok y → TakesOut ps same ns r ms → (at : ℕ → Tree F C K) → Agrees at ns ps → same at y
+  moved-of {Y} {ns} {ms} {same} {r} {y} {ps} e t = subst (λ v. IfOk v (λ z. (at : ℕ → Tree F C K) → Agrees at ns ps → same at z)) e t.moved
+
+  -- ---- what is answered
+
+  pub taken-none : {Y : Type 0} {ns : Nodes F C K fg cg kg} {same : (ℕ → Tree F C K) → Y → Type 0} {y : Y} → ((at : ℕ → Tree F C K) → same at y) → TakesOut [] same ns (Ok y) ns
+  taken-none {ns = ns} f = record { left = record { grows = grows-same ns; above = omega arith }; moved = λ at h. f at }
+
+  pub taken-one : {Y Z : Type 0} {ns ms : Nodes F C K fg cg kg} {same : (ℕ → Tree F C K) → Y → Type 0} {then : (ℕ → Tree F C K) → Z → Type 0} {y : Y} {z : Z} {ps : List Part} →
+      TakesOut ps same ns (Ok y) ms → ((at : ℕ → Tree F C K) → same at y → then at z) → TakesOut ps then ns (Ok z) ms
+  taken-one t f = record { left = t.left; moved = λ at h. f at (t.moved at h) }
+
+  pub taken-by : {Y Z : Type 0} {ns ms : Nodes F C K fg cg kg} {same : (ℕ → Tree F C K) → Y → Type 0} {then : (ℕ → Tree F C K) → Z → Type 0} {r : Result Y AllocError} {y : Y} {z : Z} {ps : List Part} →
+      TakesOut ps same ns r ms → r ≡ Ok y → ((at : ℕ → Tree F C K) → same at y → then at z) → TakesOut ps then ns (Ok z) ms
+  taken-by t e f = record { left = t.left; moved = λ at h. f at (moved-of e t at h) }
+
+  pub refused-one : {Y Z : Type 0} {ns ms : Nodes F C K fg cg kg} {same : (ℕ → Tree F C K) → Y → Type 0} {then : (ℕ → Tree F C K) → Z → Type 0} {r : Result Y AllocError} {ps : List Part} (w : Result Z AllocError) →
+      IsErr w → TakesOut ps same ns r ms → TakesOut ps then ns w ms
+  refused-one (Ok z) e t = cc
+  refused-one (Err z) e t = record { left = t.left; moved = tt }
+
+  pub taken-two : {X Y Z : Type 0} {ns ms ks : Nodes F C K fg cg kg} {first : (ℕ → Tree F C K) → X → Type 0} {second : (ℕ → Tree F C K) → Y → Type 0} {then : (ℕ → Tree F C K) → Z → Type 0} {q : Result X AllocError} {r : Result Y AllocError} {x : X} {y : Y} {z : Z} (ps qs : List Part) →
+      Apart 0 ns (ps ++ qs) → TakesOut qs second ns r ms → TakesOut ps first ms q ks → q ≡ Ok x → r ≡ Ok y → ((at : ℕ → Tree F C K) → first at x → second at y → then at z) → TakesOut (ps ++ qs) then ns (Ok z) ks
+  taken-two {ns = ns} {ms = ms} ps qs a t s d e f = record {
+    left = left-both ps qs a t.left s.left;
+    moved = λ at h.
+        f at (moved-of d s at (agrees-later at ns ms 0 ps (floor (seat_at ns) (count ns) qs) t.left.grows t.left.above (chain-first (seat_at ns) 0 ps qs (count ns) a.chained) (agrees-first at ns ps qs h)))
+        (moved-of e t at (agrees-second at ns ps qs h));
+  }
+
+  pub refused-two : {X Y Z : Type 0} {ns ms ks : Nodes F C K fg cg kg} {first : (ℕ → Tree F C K) → X → Type 0} {second : (ℕ → Tree F C K) → Y → Type 0} {then : (ℕ → Tree F C K) → Z → Type 0} {q : Result X AllocError} {r : Result Y AllocError} (ps qs : List Part) (w : Result Z AllocError) →
+      IsErr w → Apart 0 ns (ps ++ qs) → TakesOut qs second ns r ms → TakesOut ps first ms q ks → TakesOut (ps ++ qs) then ns w ks
+  refused-two ps qs (Ok z) e a t s = cc
+  refused-two ps qs (Err z) e a t s = record { left = left-both ps qs a t.left s.left; moved = tt }
+
+  pub taken-three : {W X Y Z : Type 0} {ns ms ks js : Nodes F C K fg cg kg} {first : (ℕ → Tree F C K) → W → Type 0} {second : (ℕ → Tree F C K) → X → Type 0} {third : (ℕ → Tree F C K) → Y → Type 0} {then : (ℕ → Tree F C K) → Z → Type 0} {p : Result W AllocError} {q : Result X AllocError} {r : Result Y AllocError} {w : W} {x : X} {y : Y} {z : Z} (os ps qs : List Part) →
+      Apart 0 ns (os ++ (ps ++ qs)) → TakesOut qs third ns r ms → TakesOut ps second ms q ks → TakesOut os first ks p js → p ≡ Ok w → q ≡ Ok x → r ≡ Ok y →
+      ((at : ℕ → Tree F C K) → first at w → second at x → third at y → then at z) → TakesOut (os ++ (ps ++ qs)) then ns (Ok z) js
+  taken-three {ns = ns} {ks = ks} {second = second} {third = third} {x = x} {y = y} os ps qs a t s u c d e f =
+      let more : TakesOut {Y = Unit {0}} (ps ++ qs) (λ at v. second at x × third at y) ns (Ok tt) ks = taken-two ps qs (apart-second os (ps ++ qs) a) t s d e (λ at i j. (i, j)) in
+      taken-two os (ps ++ qs) a more u c refl (λ at i j. f at i j.0 j.1)
+
+  pub refused-three : {W X Y Z : Type 0} {ns ms ks js : Nodes F C K fg cg kg} {first : (ℕ → Tree F C K) → W → Type 0} {second : (ℕ → Tree F C K) → X → Type 0} {third : (ℕ → Tree F C K) → Y → Type 0} {then : (ℕ → Tree F C K) → Z → Type 0} {p : Result W AllocError} {q : Result X AllocError} {r : Result Y AllocError} (os ps qs : List Part) (w : Result Z AllocError) →
+      IsErr w → Apart 0 ns (os ++ (ps ++ qs)) → TakesOut qs third ns r ms → TakesOut ps second ms q ks → TakesOut os first ks p js → TakesOut (os ++ (ps ++ qs)) then ns w js
+  refused-three os ps qs (Ok z) e a t s u = cc
+  refused-three os ps qs (Err z) e a t s u =
+      record { left = left-both os (ps ++ qs) a (left-both ps qs (apart-second os (ps ++ qs) a) t.left s.left) u.left; moved = tt }
+
+  -- the last two of three parts
+  pub apart-middle : {Y : Type 0} {ns ms : Nodes F C K fg cg kg} {same : (ℕ → Tree F C K) → Y → Type 0} {r : Result Y AllocError} (os ps qs : List Part) → Apart 0 ns (os ++ (ps ++ qs)) → TakesOut qs same ns r ms → Apart 0 ms ps
+  apart-middle os ps qs a t = apart-first ps qs (apart-second os (ps ++ qs) a) t
+
+  pub apart-three : {X Y : Type 0} {ns ms ks : Nodes F C K fg cg kg} {second : (ℕ → Tree F C K) → X → Type 0} {third : (ℕ → Tree F C K) → Y → Type 0} {q : Result X AllocError} {r : Result Y AllocError} (os ps qs : List Part) →
+      Apart 0 ns (os ++ (ps ++ qs)) → TakesOut qs third ns r ms → TakesOut ps second ms q ks → Apart 0 ks os
+  apart-three os ps qs a t s = apart-left os (ps ++ qs) a (left-both ps qs (apart-second os (ps ++ qs) a) t.left s.left)
+
+  pub taken-boxed : {Y : Type 0} {ns ms : Nodes F C K fg cg kg} {same : (ℕ → Tree F C K) → Y → Type 0} {r : Result Y AllocError} {ps : List Part} (b : Result (Box Y Global) AllocError) → IfOk b (λ v. r ≡ Ok v.value) → TakesOut ps same ns r ms → TakesOut ps (λ at v. same at v.value) ns b ms
+  taken-boxed (Ok v) e t = record { left = t.left; moved = moved-of e t }
+  taken-boxed (Err v) e t = record { left = t.left; moved = tt }
+
+  -- ---- the node of a number
+
+  pub apart-along : {Y : Type 0} {ns : Nodes F C K fg cg kg} (parts : Y → List Part) {x y : Y} → y ≡ x → Apart 0 ns (parts x) → Apart 0 ns (parts y)
+  apart-along {ns = ns} parts e a = subst (λ v. Apart 0 ns (parts v)) (sym e) a
+
+  pub apart-is : {ns : Nodes F C K fg cg kg} {x y : Node F C K} → x ≡ y → Apart 0 ns (slots x) → Apart 0 ns (slots y)
+  apart-is {ns = ns} e a = subst (λ v. Apart 0 ns (slots v)) e a
+
+  pub taken-is : {Y : Type 0} {ns ms : Nodes F C K fg cg kg} {r : Result Y AllocError} {x y : Node F C K} (tree : Y → Tree F C K) → x ≡ y →
+      TakesOut (slots y) (λ at e. tree e ≡ node_tree fg.place cg.place kg.place at y) ns r ms → TakesOut (slots x) (λ at e. tree e ≡ node_tree fg.place cg.place kg.place at x) ns r ms
+  taken-is {ns = ns} {ms = ms} {r = r} tree e t = subst (λ v. TakesOut (slots v) (λ at z. tree z ≡ node_tree fg.place cg.place kg.place at v) ns r ms) (sym e) t
+
+  pub popped-view : {old new : Nodes F C K fg cg kg} {i : ℕ} {x : Node F C K} (v : View) → Apart 0 old (record { at = i; view = v } ∷ []) → Popped old i x new → view_ok v (form x) ≡ true
+  popped-view {i = i} v a p = ap (λ s. view_ok v s.form) (sym p.stood) ∙ (from-apart (record { at = i; view = v }) [] a).view
+
+  pub apart-within : {ns : Nodes F C K fg cg kg} (p : Part) → Apart 0 ns (p ∷ []) → p.at < count ns
+  apart-within p a = (from-apart p [] a).within
+
+  pub popped-taken : {Y : Type 0} {old new now : Nodes F C K fg cg kg} {i : ℕ} {x : Node F C K} {r : Result Y AllocError} (v : View) (tree : Y → Tree F C K) → Popped old i x new →
+      TakesOut (slots x) (λ at y. tree y ≡ node_tree fg.place cg.place kg.place at x) new r now → TakesOut (record { at = i; view = v } ∷ []) (λ at y. tree y ≡ at i) old r now
+  popped-taken {old = old} {new = new} {i = i} {x = x} {r = r} v tree p t =
+      let first : first_at old i ≡ floor (seat_at new) (count new) (slots x) = ap (λ s. s.first) p.stood ∙ ap (λ n. floor (seat_at new) n (slots x)) (sym p.counted) in
+      let u = t.left.above in
+      record {
+        left = record { grows = grows-then t.left.grows p.grows; above = omega arith };
+        moved = if_ok-as (λ y. (at : ℕ → Tree F C K) → Agrees at new (slots x) → tree y ≡ node_tree fg.place cg.place kg.place at x) (λ y. (at : ℕ → Tree F C K) → Agrees at old (record { at = i; view = v } ∷ []) → tree y ≡ at i) r
+            (λ y f at h. f (tree_at new) (agrees-self new (slots x)) ∙ sym (ap (λ s. s.tree) p.stood) ∙ sym h.0) t.moved;
+      }
+
+  -- the tree of one part
+  pub taken-tree : {Y : Type 0} {ns ms : Nodes F C K fg cg kg} {r : Result Y AllocError} (p : Part) (tree : Y → Tree F C K) → TakesOut (p ∷ []) (λ at y. tree y ≡ at p.at) ns r ms → IfOk r (λ y. tree y ≡ tree_at ns p.at)
+  taken-tree {ns = ns} {r = r} p tree t = if_ok-as (λ y. (at : ℕ → Tree F C K) → Agrees at ns (p ∷ []) → tree y ≡ at p.at) (λ y. tree y ≡ tree_at ns p.at) r (λ y f. f (tree_at ns) (refl, tt)) t.moved
+
+  -- ---- lists, the last item first
+
+  -- what is left of a list, and that all behind it was taken
+  pub record Taking {I X : Type 0} (parts : I → List Part) (of : (ℕ → Tree F C K) → I → Tree F C K) (tree : X → Tree F C K) (all rest : List I) (old : Nodes F C K fg cg kg) (r : Result (Vec X Global) AllocError) (now : Nodes F C K fg cg kg) : Type 0 where
+    pub done : List I
+    pub split : all ≡ rest ++ done
+    pub out : TakesOut (flat parts done) (λ at v. map tree (reverse v.items) ≡ map (of at) done) old r now
+
+  module _ {I X : Type 0} (parts : I → List Part) (of : (ℕ → Tree F C K) → I → Tree F C K) (tree : X → Tree F C K) where
+    pub taking-starts : {old : Nodes F C K fg cg kg} {v : Vec X Global} (all : List I) → v.items ≡ [] → Taking parts of tree all all old (Ok v) old
+    taking-starts all e = record { done = []; split = sym (append-nil all); out = taken-none (λ at. ap (λ w. map tree (reverse w)) e) }
+
+    pushed-out : {old now then : Nodes F C K fg cg kg} {r : Result (Vec X Global) AllocError} {q : Result X AllocError} (i : I) (done : List I) (s : Result (Vec X Global) AllocError) → IfOk s (λ v. Pushed r q v) →
+        Apart 0 old (parts i ++ flat parts done) → TakesOut (flat parts done) (λ at v. map tree (reverse v.items) ≡ map (of at) done) old r now → TakesOut (parts i) (λ at y. tree y ≡ of at i) now q then →
+        TakesOut (parts i ++ flat parts done) (λ at v. map tree (reverse v.items) ≡ map (of at) (i ∷ done)) old s then
+    pushed-out i done (Ok v) p a t u =
+        taken-two (parts i) (flat parts done) a t u p.item_was p.list_was
+        (λ at e f. ap (λ w. map tree (reverse w)) p.pushed ∙ ap (map tree) (reverse-append p.before.items (p.last ∷ [])) ∙ ap (λ w. w ∷ map tree (reverse p.before.items)) e ∙ ap (λ w. of at i ∷ w) f)
+    pushed-out i done (Err v) p a t u = refused-two (parts i) (flat parts done) (Err v) refl a t u
+
+    -- the last item's parts, and those behind it
+    taking-apart : {old now : Nodes F C K fg cg kg} {all rest : List I} {r : Result (Vec X Global) AllocError} (less : List I) (i : I) → rest ≡ less ++ i ∷ [] → Apart 0 old (flat parts all) → (t : Taking parts of tree all rest old r now) → Apart 0 old (parts i ++ flat parts t.done)
+    taking-apart {old = old} {all = all} less i e a t =
+        let w : all ≡ less ++ i ∷ t.done = t.split ∙ ap (λ v. v ++ t.done) e ∙ append_assoc less (i ∷ []) t.done in
+        let f : flat parts all ≡ flat parts less ++ (parts i ++ flat parts t.done) = ap (flat parts) w ∙ flat-append parts less (i ∷ t.done) in
+        apart-second (flat parts less) (parts i ++ flat parts t.done) (subst (λ v. Apart 0 old v) f a)
+
+    pub next-apart : {old now : Nodes F C K fg cg kg} {all rest : List I} {r : Result (Vec X Global) AllocError} (less : List I) (i : I) → rest ≡ less ++ i ∷ [] → Apart 0 old (flat parts all) → Taking parts of tree all rest old r now → Apart 0 now (parts i)
+    next-apart less i e a t = apart-first (parts i) (flat parts t.done) (taking-apart less i e a t) t.out
+
+    pub taking-more : {old now then : Nodes F C K fg cg kg} {all rest : List I} {r : Result (Vec X Global) AllocError} {q : Result X AllocError} (less : List I) (i : I) (s : Result (Vec X Global) AllocError) → rest ≡ less ++ i ∷ [] → IfOk s (λ v. Pushed r q v) →
+        Apart 0 old (flat parts all) → Taking parts of tree all rest old r now → TakesOut (parts i) (λ at y. tree y ≡ of at i) now q then → Taking parts of tree all less old s then
+    taking-more less i s e p a t u = record {
+      done = i ∷ t.done;
+      split = t.split ∙ ap (λ v. v ++ t.done) e ∙ append_assoc less (i ∷ []) t.done;
+      out = pushed-out i t.done s p (taking-apart less i e a t) t.out u;
+    }
+
+    turned-out : {old now : Nodes F C K fg cg kg} {r : Result (Vec X Global) AllocError} (all : List I) (s : Result (Vec X Global) AllocError) → IfOk s (λ v. Reversed r v) →
+        TakesOut (flat parts all) (λ at v. map tree (reverse v.items) ≡ map (of at) all) old r now → TakesOut (flat parts all) (λ at v. map tree v.items ≡ map (of at) all) old s now
+    turned-out all (Ok v) p t = record { left = t.left; moved = λ at h. ap (map tree) p.turned ∙ moved-of p.list_was t at h }
+    turned-out all (Err v) p t = record { left = t.left; moved = tt }
+
+    pub taking-ends : {old now : Nodes F C K fg cg kg} {all rest : List I} {r : Result (Vec X Global) AllocError} (s : Result (Vec X Global) AllocError) → rest ≡ [] → IfOk s (λ v. Reversed r v) → Taking parts of tree all rest old r now →
+        TakesOut (flat parts all) (λ at v. map tree v.items ≡ map (of at) all) old s now
+    taking-ends {old = old} {now = now} {all = all} s e p t =
+        let w : t.done ≡ all = sym (t.split ∙ ap (λ v. v ++ t.done) e) in
+        subst (λ v. TakesOut (flat parts v) (λ at x. map tree x.items ≡ map (of at) v) old s now) w (turned-out t.done s p t.out)
+
+    pub taking-grows : {old now : Nodes F C K fg cg kg} {all rest : List I} {r : Result (Vec X Global) AllocError} → Taking parts of tree all rest old r now → count now ≤ count old
+    taking-grows t = grows-count t.out.left.grows

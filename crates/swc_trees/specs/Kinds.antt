@@ -1,0 +1,46 @@
+-- Which nodes are taken out by which function.
+use Rattle.std.specs.Prelude.{Bool, true, false}
+use Rattle.swc_nodes.specs.declared.node.Node.{Node}
+use Rattle.swc_nodes.specs.declared.node.Node.TheVariants as n
+use Rattle.swc_nodes.specs.declared.node.PropNode.{PropNode}
+use Rattle.swc_nodes.specs.declared.node.PropNode.TheVariants as prop
+
+-- an assignment or an arrow function
+abbrev pub is_last : {F C K : Type 0} → Node F C K → Bool
+is_last (n.Assign s op l r) = true
+is_last (n.Arrow s ps b a) = true
+is_last x = false
+
+-- a call, or one of those
+abbrev pub is_call : {F C K : Type 0} → Node F C K → Bool
+is_call (n.Call s c xs) = true
+is_call (n.New s c xs) = true
+is_call (n.TaggedTpl s t q) = true
+is_call x = is_last x
+
+-- an operation with two operands or three, or one of those
+abbrev pub is_choice : {F C K : Type 0} → Node F C K → Bool
+is_choice (n.Bin s op l r) = true
+is_choice (n.Cond s t c a) = true
+is_choice x = is_call x
+
+-- a literal of parts, a link or an operation with one operand, or one of those
+abbrev pub is_operation : {F C K : Type 0} → Node F C K → Bool
+is_operation (n.Array s elems) = true
+is_operation (n.Object s props) = true
+is_operation (n.Seq s es) = true
+is_operation (n.Paren p) = true
+is_operation (n.Member m) = true
+is_operation (n.SuperProp p) = true
+is_operation (n.OptChain c) = true
+is_operation (n.Tpl t) = true
+is_operation (n.Unary s op a) = true
+is_operation (n.Update s op prefix a) = true
+is_operation (n.Await s a) = true
+is_operation (n.Yield s a d) = true
+is_operation x = is_choice x
+
+-- a property, which is no spread
+abbrev pub is_named : {K : Type 0} → PropNode K → Bool
+is_named (prop.Spread s) = false
+is_named p = true

@@ -1,0 +1,21 @@
+#!/bin/bash
+# Tries the wrong bodies of tests/wrong, each of which the prover must refuse, on a copy of the repository. By hand: they aren't part of the gate, which
+# tries those of crates/NAME/must-fail. Needs rt; an edit takes from some seconds up to minutes.
+#
+#     tests/wrong_bodies.sh [CRATE ..]     none: every crate that has a folder there
+#
+# Prints a line an edit, and ends with the status of `rt must-fail`.
+set -eu
+cd "$(dirname "$0")/.."
+if [ $# = 0 ]; then
+    set -- $(ls tests/wrong)
+fi
+copy=$(mktemp -d)
+trap 'rm -rf "$copy"' EXIT
+cp -r . "$copy/repository"
+cd "$copy/repository"
+for crate; do
+    rm -rf "crates/$crate/must-fail"
+    cp -r "tests/wrong/$crate" "crates/$crate/must-fail"
+done
+rt must-fail "$@"
