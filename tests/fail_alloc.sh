@@ -7,7 +7,7 @@
 # TEXT is the expression (none: 5 + 4 * 7), and FIRST the number of the first allocation that is tried (none: 1). A run with a failed
 # allocation has to end in one of these ways, and the script prints which:
 #
-#     start      main can't read its arguments: its error on standard error, status 1
+#     start      main can't read its arguments: the usage on standard error, status 3
 #     input      standard input can't be read: `cannot read standard input` on standard error, status 3
 #     refused    `refused: OutOfMemory LO..HI` alone on standard output, status 2
 #
@@ -33,7 +33,7 @@ run() {
 
 # Names the way in which the run ended, or fails.
 way() {
-    if [ "$status" = 1 ] && [ ! -s "$room/out" ] && grep -q '^Error: .*OutOfMemory' "$room/said"; then
+    if [ "$status" = 3 ] && [ ! -s "$room/out" ] && grep -q '^usage: show_expr ' "$room/said"; then
         echo start
     elif [ "$status" = 3 ] && [ ! -s "$room/out" ] && grep -qx 'cannot read standard input' "$room/said"; then
         echo input
