@@ -1,6 +1,7 @@
 // The hook that reads nothing.
 ghost use Rattle.std.specs.Prelude.{◌≡◌, true};
-ghost use Rattle.swc_bodies.specs.Readings.{at_function, at_token, is_brace, is_class};
+ghost use Rattle.swc_input.specs.Kinds.{at_token};
+ghost use Rattle.swc_bodies.specs.Readings.{at_function, is_brace, is_class};
 ghost use Rattle.swc_input.specs.Buffer.{current};
 
 use crate::fixture::{buffer_over, shown_refusal};

@@ -1,11 +1,10 @@
 // Which expressions may stand left of an operator that writes.
 ghost use Rattle.std.specs.Prelude.{◌≡◌};
-ghost use Rattle.swc_ast.specs.Targets.{is_strict_binding, is_target};
+ghost use Rattle.swc_ast.specs.Targets.{is_target};
 ghost use Rattle.swc_ast.specs.TreeOf.{expr_tree};
 
 use crate::expr::Expr;
 use crate::spanned::Spanned;
-use swc_context::atom::Atom;
 
 /// Tests on expressions, boxed or not.
 pub trait ExprExt<F: Spanned, C: Spanned, K: Spanned> {
@@ -48,7 +47,7 @@ fn is_simple_target<F: Spanned, C: Spanned, K: Spanned>(expr: &Expr<F, C, K>, st
     ensures { result ≡ is_target strict (expr_tree _ _ _ F.place C.place K.place expr.now) }
 {
     match expr {
-        Expr::Ident(i) => !(strict && is_strict_binding_name(&i.sym)),
+        Expr::Ident(i) => !(strict && i.sym.is_reserved_in_strict_bind()),
         Expr::Paren(p) => is_simple_target(&p.expr, strict),
         Expr::Member(m) => match &*m.obj {
             Expr::Member(_) => is_simple_target(&m.obj, strict),
@@ -58,11 +57,4 @@ fn is_simple_target<F: Spanned, C: Spanned, K: Spanned>(expr: &Expr<F, C, K>, st
         Expr::SuperProp(_) => true,
         _ => false,
     }
-}
-
-fn is_strict_binding_name(name: &Atom) -> bool
-    ensures { result ≡ is_strict_binding name.now }
-{
-    let text = name.as_str();
-    text == "eval" || text == "arguments"
 }

@@ -1,6 +1,6 @@
 -- What a hook reads: the bodies that the parser doesn't look into.
-use Rattle.std.specs.Prelude.{◌≡◌, ◌≢◌, ◌≤◌, Bool, true, false, List, [], ◌∷◌, ◌++◌, Option, Some, None, Result, IfOk, IfErr, MatchResult, codes, length, ◌==◌, refl}
-use Rattle.std.specs.Cmp.Lexicographic.{pointwise}
+use Rattle.std.specs.Prelude.{◌≡◌, ◌≢◌, ◌≤◌, Bool, true, false, List, [], ◌∷◌, ◌++◌, Option, Some, None, Result, IfOk, IfErr, MatchResult, codes, length, refl}
+use Rattle.swc_context.specs.Texts.{is_text}
 use Rattle.swc_context.specs.declared.context.Context.{Context}
 use Rattle.swc_context.specs.declared.error.Error.{Error}
 use Rattle.swc_context.specs.declared.error.SyntaxError.TheVariants.{OutOfMemory, ParserFailed}
@@ -19,7 +19,7 @@ is_function (token.Word (word.Keyword keyword.Function)) = true
 is_function t = false
 
 abbrev pub is_async : Token → Bool
-is_async (token.Word (word.Ident name)) = pointwise ◌==◌ name (codes "async")
+is_async (token.Word (word.Ident name)) = is_text name (codes "async")
 is_async t = false
 
 abbrev pub is_class : Token → Bool
@@ -29,11 +29,6 @@ is_class t = false
 abbrev pub is_brace : Token → Bool
 is_brace token.LBrace = true
 is_brace t = false
-
--- the test at a current token; none passes it at the end
-abbrev pub at_token : (Token → Bool) → Option TokenAndSpan → Bool
-at_token f None = false
-at_token f (Some t) = f t.token
 
 abbrev pub either_one : Bool → Bool → Bool
 either_one true b = true

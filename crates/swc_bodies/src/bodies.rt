@@ -1,8 +1,10 @@
 // The hook by which the parser reads functions, classes and blocks.
 ghost use Rattle.std.specs.Prelude.{◌≡◌, Bool, true};
 ghost use Rattle.swc_input.specs.Buffer.{current};
-ghost use Rattle.swc_bodies.specs.Readings.{Reading, IsReading, Hooked, Faithful, is_function, is_async, is_class, is_brace, at_token, at_function, begins, begins_function};
+ghost use Rattle.swc_input.specs.Kinds.{at_token};
+ghost use Rattle.swc_bodies.specs.Readings.{Reading, IsReading, Hooked, Faithful, is_function, is_async, is_class, is_brace, at_function, begins, begins_function};
 
+use swc_ast::expr::Expr;
 use swc_ast::spanned::Spanned;
 use swc_context::error::PResult;
 use swc_input::buffer::Buffer;
@@ -25,6 +27,9 @@ pub trait BodyForms {
 
     ghost reads_block: { Reading Self.Block };
 }
+
+/// An expression over a hook's values.
+pub type ExprOf<B> = Expr<<B as BodyForms>::Fun, <B as BodyForms>::Class, <B as BodyForms>::Block>;
 
 /// A hook over a kind of source.
 ///

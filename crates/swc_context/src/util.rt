@@ -1,6 +1,7 @@
 // Which words are reserved.
 ghost use Rattle.std.specs.Prelude.{◌≡◌, ◌||◌, ◌&&◌, codes};
-ghost use Rattle.swc_context.specs.Reserved.{is_text, is_one_of, always_reserved, strict_reserved, strict_binding_words, strict_words, is_reserved, is_reserved_word};
+ghost use Rattle.swc_context.specs.Texts.{is_text, is_one_of};
+ghost use Rattle.swc_context.specs.Reserved.{strict_reserved, strict_names, strict_binding_words, strict_words, is_reserved_keyword, is_reserved_name, is_reserved, is_reserved_word};
 
 use crate::atom::Atom;
 use crate::context::Context;
@@ -12,11 +13,9 @@ impl Context {
         ensures { result ≡ is_reserved self word.now }
     {
         match word {
-            Word::Keyword(Keyword::Let) => self.strict,
-            Word::Keyword(Keyword::Await) => self.in_async || self.in_static_block || self.strict,
-            Word::Keyword(Keyword::Yield) => self.in_generator || self.strict,
-            Word::Keyword(_) | Word::Null | Word::True | Word::False => true,
-            Word::Ident(name) => is_future_word(name) || self.strict && is_strict_future_word(name),
+            Word::Keyword(keyword) => self.is_reserved_keyword(*keyword),
+            Word::Null | Word::True | Word::False => true,
+            Word::Ident(name) => self.is_reserved_name(name),
         }
     }
 
@@ -25,11 +24,31 @@ impl Context {
         ensures { result ≡ is_reserved_word self word.now }
     {
         match word.as_str() {
-            "let" => self.strict,
-            "await" => self.in_async || self.in_static_block || self.module,
-            "yield" => self.in_generator || self.strict,
-            _ => is_always_reserved(word) || is_strict_future_word(word) && self.strict,
+            "null" | "true" | "false" => true,
+            text => match Keyword::from_text(text) {
+                Some(Keyword::Await) => self.in_async || self.in_static_block || self.module,
+                Some(keyword) => self.is_reserved_keyword(keyword),
+                None => self.is_reserved_name(word),
+            },
         }
+    }
+
+    fn is_reserved_keyword(self, keyword: Keyword) -> bool
+        ensures { result ≡ is_reserved_keyword self keyword }
+    {
+        match keyword {
+            Keyword::Let => self.strict,
+            Keyword::Await => self.in_async || self.in_static_block || self.strict,
+            Keyword::Yield => self.in_generator || self.strict,
+            _ => true,
+        }
+    }
+
+    /// Whether a word that is no keyword is reserved: `enum` is everywhere.
+    fn is_reserved_name(self, name: &Atom) -> bool
+        ensures { result ≡ is_reserved_name self name.now }
+    {
+        name.as_str() == "enum" || self.strict && name.is_strict_future_word()
     }
 }
 
@@ -47,78 +66,25 @@ impl Atom {
     {
         match self.as_str() {
             "await" => is_module,
-            "implements"
-            | "interface"
-            | "let"
-            | "package"
-            | "private"
-            | "protected"
-            | "public"
-            | "static"
-            | "yield" => true,
-            _ => false,
+            "let" | "yield" => true,
+            _ => self.is_strict_name(),
         }
     }
-}
 
-/// Whether the word is reserved in every place.
-fn is_always_reserved(word: &Atom) -> bool
-    ensures { result ≡ is_one_of word.now always_reserved }
-{
-    matches!(
-        word.as_str(),
-        "null"
-            | "true"
-            | "false"
-            | "enum"
-            | "break"
-            | "case"
-            | "catch"
-            | "class"
-            | "const"
-            | "continue"
-            | "debugger"
-            | "default"
-            | "delete"
-            | "do"
-            | "else"
-            | "export"
-            | "extends"
-            | "finally"
-            | "for"
-            | "function"
-            | "if"
-            | "import"
-            | "in"
-            | "instanceof"
-            | "new"
-            | "return"
-            | "super"
-            | "switch"
-            | "this"
-            | "throw"
-            | "try"
-            | "typeof"
-            | "var"
-            | "void"
-            | "while"
-            | "with"
-    )
-}
+    /// Whether the word is no keyword, and may not be an identifier in strict code (ECMA-262, 12.7.2 and 13.1.1).
+    pub fn is_strict_name(&self) -> bool
+        ensures { result ≡ is_one_of self.now strict_names }
+    {
+        self.as_str() == "static" || self.is_strict_future_word()
+    }
 
-/// Whether the name is `enum`, which is reserved everywhere and is no keyword.
-fn is_future_word(name: &Atom) -> bool
-    ensures { result ≡ is_text name.now (codes "enum") }
-{
-    name.as_str() == "enum"
-}
-
-/// Whether strict code alone reserves the name.
-fn is_strict_future_word(name: &Atom) -> bool
-    ensures { result ≡ is_one_of name.now strict_reserved }
-{
-    matches!(
-        name.as_str(),
-        "implements" | "interface" | "package" | "private" | "protected" | "public"
-    )
+    /// Whether the word is a strict name other than `static`, which `Context::is_reserved` doesn't reserve.
+    fn is_strict_future_word(&self) -> bool
+        ensures { result ≡ is_one_of self.now strict_reserved }
+    {
+        matches!(
+            self.as_str(),
+            "implements" | "interface" | "package" | "private" | "protected" | "public"
+        )
+    }
 }

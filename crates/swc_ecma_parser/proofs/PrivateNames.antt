@@ -1,12 +1,14 @@
 -- Private names: what the call answers is what the clean reader of a `#` and a name reads.
 use Rattle.std.proofs.Common.{◌≡◌, ◌≢◌, ℕ, Bool, true, false, if◌then◌else◌, List, [], Option, Some, None, Result, Ok, Err, refl, sym, ap, ◌∙◌}
 use Rattle.std.proofs.lemmas.Bool.{eq-eqb, ne_eqb}
+use Rattle.swc_context.specs.Spans.{between}
 use Rattle.swc_context.specs.declared.context.Context.{Context}
 use Rattle.swc_context.specs.declared.error.Error.{Error}
 use Rattle.swc_context.specs.declared.error.SyntaxError.{SyntaxError}
 use Rattle.swc_context.specs.declared.error.SyntaxError.TheVariants as kind
 use Rattle.swc_context.specs.declared.span.BytePos.{BytePos}
 use Rattle.swc_context.specs.declared.span.Span.{Span}
+use Rattle.swc_context.proofs.Spans.{same_position}
 use Rattle.swc_input.specs.declared.buffer.Buffer.{Buffer}
 use Rattle.swc_input.specs.declared.token.Token.{Token}
 use Rattle.swc_input.specs.declared.token.Token.TheVariants as token
@@ -18,16 +20,16 @@ use Rattle.swc_input.specs.Laws.{Known-after}
 use Rattle.swc_input.specs.Recording.{Refused, unfit}
 use Rattle.swc_input.proofs.Ends.{past_end}
 use Rattle.swc_input.proofs.Refusals.{Refused-kind, unfit-kind}
-use Rattle.swc_bodies.specs.Readings.{at_token}
+use Rattle.swc_input.specs.Kinds.{at_token}
 use Rattle.swc_grammar.specs.Names.{Spelling, spelling}
 use Rattle.swc_grammar.specs.Trees.{to}
 use Rattle.swc_grammar.specs.Clean.{Out, ◌>>=◌, first, rest, begins_at, hash_by, hash_word, word, may_name}
-use Rattle.swc_ident.specs.Naming.{fault_at, between, Hashed, Private, Unprivate, no_memory_either, no_hash, apart, no_name, PrivateNames, expects}
+use Rattle.swc_ident.specs.Naming.{fault_at, Hashed, Private, Unprivate, no_memory_either, no_hash, apart, no_name, PrivateNames, expects}
 use Rattle.swc_ident.specs.Verdicts.{name_of_any}
 use Rattle.swc_ident.specs.Verdicts as verdict
 use Rattle.swc_productions.specs.Parsing.{seen, seen_of, Laws, Refuses, Here, On, Heard, Unheard, Parses}
-use Rattle.swc_productions.proofs.Steps.{Reader, refused, on_seen, on_took, on_then, on_call, heard_after, heard_first, heard_answer, unheard_after, unheard_at, unheard_memory}
-use Rattle.swc_productions.proofs.Naming.{goes, stops, honest-name, on_look, heard_name, unheard_name}
+use Rattle.swc_productions.proofs.Steps.{Reader, refused, on_seen, on_took, on_then, on_call, heard_after, heard_first, heard_answer, unheard_after, unheard_at, unheard_memory, on_looked}
+use Rattle.swc_productions.proofs.Naming.{goes, stops, honest-name, heard_name, unheard_name}
 
 -- a name, behind the `#` at s
 abbrev named : Span → Spelling × List TokenAndSpan → Out Spelling
@@ -44,11 +46,11 @@ hash_goes : (s : Span) (x : Context) (t : Token) (b : Bool) (p : Span) (ts : Lis
 hash_goes s x t b p ts e q =
     ap (λ v. hash_by x (Some (record { token = plain_token v; had_line_break = b; span = p })) ts) (sym e) ∙ ap (λ v. behind_hash v x ts) (sym q)
 
-none_hashed : (x : Context) (t : Token) (b : Bool) (p : Span) (ts : List TokenAndSpan) → verdict.is_hash t ≡ false → hash_by x (Some (record { token = plain_token t; had_line_break = b; span = p })) ts ≡ None
+none_hashed : (x : Context) (t : Token) (b : Bool) (p : Span) (ts : List TokenAndSpan) → is_hash t ≡ false → hash_by x (Some (record { token = plain_token t; had_line_break = b; span = p })) ts ≡ None
 none_hashed x token.Hash b p ts h = cc
 none_hashed x t b p ts h = refl
 
-none_seen : (x : Context) (o : Option TokenAndSpan) (ts : List TokenAndSpan) → at_token verdict.is_hash o ≡ false → hash_by x (seen_of o) ts ≡ None
+none_seen : (x : Context) (o : Option TokenAndSpan) (ts : List TokenAndSpan) → at_token is_hash o ≡ false → hash_by x (seen_of o) ts ≡ None
 none_seen x None ts h = refl
 none_seen x (Some t) ts h = none_hashed x t.token t.had_line_break t.span ts h
 
@@ -57,12 +59,9 @@ joins : (s : Span) (o : Option TokenAndSpan) (last : BytePos) → o ≢ None →
 joins s None last some h = absurd (some refl)
 joins s (Some t) last some h = eq-eqb s.hi.0 t.span.lo.0 (ap (λ p. p.0) (sym h))
 
-position : (a b : BytePos) → a.0 ≡ b.0 → a ≡ b
-position a b h = let at : ℕ → BytePos = λ n. record { 0 = n } in ap at h
-
 is_apart : (s : Span) (o : Option TokenAndSpan) (last : BytePos) → ((elim o as (λ v. BytePos) [ None ↦ last | Some t ↦ t.span.lo ]) ≡ s.hi → ⊥) → begins_at s (seen_of o) ≡ false
 is_apart s None last away = refl
-is_apart s (Some t) last away = ne_eqb s.hi.0 t.span.lo.0 (λ e. away (position t.span.lo s.hi (sym e)))
+is_apart s (Some t) last away = ne_eqb s.hi.0 t.span.lo.0 (λ e. away (same_position t.span.lo s.hi (sym e)))
 
 nothing : {A : Type 0} (b : Bool) (o : Out A) → o ≡ None → (if b then o else None) ≡ None
 nothing true o h = h
@@ -90,7 +89,7 @@ module _ {S : Type 0} {state : S → Source} {gives : S → List TokenAndSpan �
   on_hashed : {b c : Buffer S} {at : Span} → Laws state gives → Hashed state gives b at c → On state gives hash_word (behind_hash at) b c
   unfolding hash_word
   on_hashed {at = at} laws s =
-      on_then (on_look {f = hash_word} laws s.looked)
+      on_then (on_looked {f = hash_word} laws s.looked)
       (on_took laws s.took (λ x ts. hash_goes at x s.took.was.token s.took.was.had_line_break s.took.was.span ts s.took.token s.place))
 
   -- a private name was read
@@ -103,7 +102,7 @@ module _ {S : Type 0} {state : S → Source} {gives : S → List TokenAndSpan �
       let here : Here state gives p.hashed p.near = record { laws = laws; looked = p.looked; end = p.end } in
       let joined = joins p.hash (current p.near) (last_position p.near) some p.joined in
       heard_answer (ap (λ v. spelling text v) (sym p.place))
-      (heard_after (on_look {f = hash_word} laws s.looked)
+      (heard_after (on_looked {f = hash_word} laws s.looked)
       (heard_first laws s.took (λ x ts. hash_goes p.hash x s.took.was.token s.took.was.had_line_break s.took.was.span ts s.took.token s.place)
       (on_then (on_seen {g = name_behind p.hash} here (λ x ts same h. goes (begins_at p.hash (first ts)) (name_behind p.hash x ts) (ap (begins_at p.hash) h ∙ joined)))
       (on_call (λ x r. named p.hash r) (λ x ts. refl) (heard_name name_of_any laws p.name).on))))
@@ -125,7 +124,7 @@ module _ {S : Type 0} {state : S → Source} {gives : S → List TokenAndSpan �
         refuses = u.refuses;
         none = λ m loud ts k. nothing (begins_at hash (first ts)) (name_behind hash _ ts) (ap (λ o. o >>= named hash) (u.none m loud ts k));
       } in
-      unheard_after (on_hashed laws s) (unheard_after (on_look laws l) v)
+      unheard_after (on_hashed laws s) (unheard_after (on_looked laws l) v)
 
 module _ {S : Type 0} (state : S → Source) (gives : S → List TokenAndSpan → S → Type 0) where
   pub parses_private : {T : Type 0} (text : T → List ℕ) (at : T → Span) (b c : Buffer S) (r : Result T Error) → Laws state gives → PrivateNames state gives text at b r c →

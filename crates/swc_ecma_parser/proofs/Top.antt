@@ -9,7 +9,7 @@ use Rattle.swc_context.specs.declared.error.SyntaxError.TheVariants.{OutOfMemory
 use Rattle.swc_input.specs.declared.buffer.Buffer.{Buffer}
 use Rattle.swc_input.specs.declared.token.TokenAndSpan.{TokenAndSpan}
 use Rattle.swc_input.specs.Source.{Source, Keeps}
-use Rattle.swc_input.specs.Buffer.{Future, Known}
+use Rattle.swc_input.specs.Buffer.{Future, Known, context}
 use Rattle.swc_input.specs.Laws.{Known-after, Known-Future, Future-some}
 use Rattle.swc_ast.specs.Tree.{Tree}
 use Rattle.swc_grammar.specs.Grammar as grammar
@@ -21,7 +21,7 @@ use Rattle.swc_grammar.proofs.Complete.{expr-complete, assign-complete, level-co
 use Rattle.swc_grammar.proofs.Cut.{cut-append}
 use Rattle.swc_grammar.proofs.Grouped.{grouped}
 use Rattle.swc_grammar.proofs.Valid.{valid}
-use Rattle.swc_productions.specs.Parsing.{context, recorded, Loud, Heard, Parses, NoLiteral}
+use Rattle.swc_productions.specs.Parsing.{recorded, Loud, Heard, Parses, NoLiteral}
 use Rattle.swc_ecma_parser.specs.Promise.{Derivation, Unmarred, Derives, Sound, Complete, OneTree, Promised}
 use Rattle.swc_productions.proofs.Rules.{lit_none}
 use Rattle.swc_productions.proofs.Steps.{Reader, reads_of}

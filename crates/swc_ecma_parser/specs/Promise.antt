@@ -1,23 +1,22 @@
 -- What the calls of a parser promise, by the written grammar alone.
-use Rattle.std.specs.Prelude.{◌≡◌, Bool, true, false, List, [], ◌++◌, Result, IfOk, MatchResult}
+use Rattle.std.specs.Prelude.{◌≡◌, true, false, List, [], ◌++◌, Result, IfOk, MatchResult}
 use Rattle.swc_context.specs.declared.context.Context.{Context}
 use Rattle.swc_context.specs.declared.error.Error.{Error}
 use Rattle.swc_context.specs.declared.error.SyntaxError.TheVariants.{OutOfMemory}
 use Rattle.swc_input.specs.declared.buffer.Buffer.{Buffer}
-use Rattle.swc_input.specs.declared.token.Token.{Token}
-use Rattle.swc_input.specs.declared.token.Token.TheVariants as token
 use Rattle.swc_input.specs.declared.token.TokenAndSpan.{TokenAndSpan}
 use Rattle.swc_input.specs.Source.{Source}
-use Rattle.swc_input.specs.Buffer.{Read, Future, Known}
+use Rattle.swc_input.specs.Buffer.{Read, Future, Known, context}
+use Rattle.swc_input.specs.Kinds.{at_token}
 use Rattle.swc_ast.specs.Tree.{Tree}
-use Rattle.swc_bodies.specs.Readings.{Reading, at_token}
+use Rattle.swc_bodies.specs.Readings.{Reading}
 use Rattle.swc_grammar.specs.Clean.{first}
 use Rattle.swc_grammar.specs.Grammar as grammar
 use Rattle.swc_grammar.specs.Grammar.{Hook, Symbol, Stops}
 use Rattle.swc_grammar.specs.Names.{Spelling, Reference, ReadsName}
-use Rattle.swc_grammar.specs.Tokens.{is_reference}
+use Rattle.swc_grammar.specs.Tokens.{may_be_reference}
 use Rattle.swc_grammar.specs.Trees.{is_grouped, is_valid}
-use Rattle.swc_productions.specs.Parsing.{context, Loud, Reads}
+use Rattle.swc_productions.specs.Parsing.{Loud, Reads}
 
 -- what a hook reads, from its three readings
 abbrev pub hook_of : {F C K : Type 0} → Reading F → Reading C → Reading K → Hook F C K
@@ -30,10 +29,6 @@ Derivation A = Context → List TokenAndSpan → List TokenAndSpan → A → Typ
 -- where a reading may stop anywhere
 abbrev pub Anywhere : List TokenAndSpan → Type 0
 Anywhere ys = Unit {0}
-
-abbrev pub may_be_reference : Context → Token → Bool
-may_be_reference c (token.Word w) = is_reference c w
-may_be_reference c t = false
 
 -- An identifier reference, where a word stands first that isn't reserved, or `let`. The other words are taken too, with faults that
 -- wait where the code is no module's.

@@ -9,17 +9,16 @@ ghost use Rattle.swc_grammar.specs.Grammar.{Expr, Assign, Level, Unary};
 ghost use Rattle.swc_productions.specs.Parsing.{lit_in, tree_of, Reads, Here, Forgoes, Literal, NoLiteral};
 ghost use Rattle.swc_ecma_parser.specs.Promise.{hook_of, Promised};
 
-use crate::tree::ExprOf;
 use std::alloc::Global;
 use swc_ast::lit::Lit;
-use swc_bodies::bodies::Bodies;
+use swc_bodies::bodies::{Bodies, ExprOf};
 use swc_context::error::{Error, PResult, SyntaxError};
 use swc_input::buffer::Buffer;
 use swc_input::tokens::Tokens;
 use swc_nodes::node::ExprId;
-use swc_nodes::nodes::Nodes;
+use swc_nodes::nodes::{Nodes, NodesOf};
 use swc_productions::moves::is_out_of_memory;
-use swc_productions::productions::{NodesOf, Productions};
+use swc_productions::productions::Productions;
 use swc_trees::taking::take_expr;
 
 mod names;

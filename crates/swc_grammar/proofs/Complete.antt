@@ -14,10 +14,10 @@ use Rattle.swc_context.specs.declared.word.Word.TheVariants as word
 use Rattle.swc_input.specs.declared.token.Token.{Token}
 use Rattle.swc_input.specs.declared.token.Token.TheVariants as token
 use Rattle.swc_input.specs.declared.token.TokenAndSpan.{TokenAndSpan}
+use Rattle.swc_input.specs.Kinds.{at_token}
 use Rattle.swc_ast.specs.Tree.{Tree, span_of}
-use Rattle.swc_bodies.specs.Readings.{at_token}
 use Rattle.swc_grammar.specs.Names.{Spelling, Reference, Name, ReadsName, reference, any-word}
-use Rattle.swc_grammar.specs.Tokens.{tk, with_in, is_reference, is_put_off, ref_ok, binary_of, prefix_of, is_closer, is_word_apart, is_stop, is_comma}
+use Rattle.swc_grammar.specs.Tokens.{tk, with_in, is_reference, may_be_reference, is_put_off, ref_ok, binary_of, prefix_of, is_closer, is_word_apart, is_stop, is_comma}
 use Rattle.swc_grammar.specs.Trees.{to, ident_e, private_e, unary_e, paren_e, bin_e, nullish_ok, logical_ok, delete_ok, is_unary, exp_ok, min_right}
 use Rattle.swc_grammar.specs.Grammar.{Hook, Symbol, Expr, Assign, Level, Unary, Primary, Reads, is_stop_for, Stops, at-end, at-stop}
 use Rattle.swc_grammar.specs.Grammar.{expr-one, assign-level, level-up, level-op, level-unary, level-exp, unary-prefix, unary-primary}
@@ -102,12 +102,8 @@ left-ok (primary-private d) = refl
 left-ok (primary-paren d) = refl
 
 -- names
-abbrev refers : Context → Token → Bool
-refers c (token.Word w) = is_reference c w
-refers c t = false
-
 reference-reads : {c : Context} {xs ys : List TokenAndSpan} {n : Spelling} → ReadsName Reference c xs ys n
-    → (word_name ref_ok c xs ≡ Some (n, ys)) × (at_token (refers c) (first xs) ≡ true)
+    → (word_name ref_ok c xs ≡ Some (n, ys)) × (at_token (may_be_reference c) (first xs) ≡ true)
 unfolding word_name
 reference-reads (reference h k) = (rw k refl, h)
 

@@ -9,9 +9,10 @@ use Rattle.swc_context.specs.declared.word.Word.TheVariants as word
 use Rattle.swc_input.specs.declared.token.Token.{Token}
 use Rattle.swc_input.specs.declared.token.Token.TheVariants as token
 use Rattle.swc_input.specs.declared.token.TokenAndSpan.{TokenAndSpan}
+use Rattle.swc_input.specs.Kinds.{is_hash}
 use Rattle.swc_ast.specs.Tree.{Tree}
 use Rattle.swc_grammar.specs.Tokens.{tk, is_ref, binary_of, prefix_of}
-use Rattle.swc_grammar.specs.Clean.{is_lit, is_identifier, is_lparen, is_hash}
+use Rattle.swc_grammar.specs.Clean.{is_lit, is_identifier, is_lparen}
 use Rattle.swc_grammar.specs.Firsts.{is_prefix_op, is_prefix, begins_expression}
 use Rattle.swc_grammar.specs.Grammar.{Hook, Symbol, Reads, expr-one, assign-level, level-up, level-op, level-unary, level-exp, unary-prefix, unary-primary}
 use Rattle.swc_grammar.specs.Grammar.{primary-null, primary-true, primary-false, primary-num, primary-big, primary-str, primary-ref, primary-private, primary-paren}

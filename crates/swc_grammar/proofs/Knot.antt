@@ -7,12 +7,12 @@ use Rattle.swc_context.specs.declared.operator.UnaryOp.{UnaryOp}
 use Rattle.swc_context.specs.declared.span.Span.{Span}
 use Rattle.swc_context.specs.declared.word.Word.{Word}
 use Rattle.swc_input.specs.declared.token.TokenAndSpan.{TokenAndSpan}
+use Rattle.swc_input.specs.Kinds.{at_token, is_hash}
 use Rattle.swc_ast.specs.Tree.{Tree, span_of}
-use Rattle.swc_bodies.specs.Readings.{at_token}
 use Rattle.swc_grammar.specs.Names.{Spelling}
 use Rattle.swc_grammar.specs.Tokens.{with_in, ref_ok}
 use Rattle.swc_grammar.specs.Trees.{to, ident_e, private_e, unary_e, paren_e, bin_e, nullish_ok, delete_ok, exp_ok, min_right}
-use Rattle.swc_grammar.specs.Clean.{Out, ◌>>=◌, first, rest, one, is_lit, is_identifier, is_lparen, is_rparen, is_hash, no_error, operator_at, prefix_at}
+use Rattle.swc_grammar.specs.Clean.{Out, ◌>>=◌, first, rest, one, is_lit, is_identifier, is_lparen, is_rparen, no_error, operator_at, prefix_at}
 use Rattle.swc_grammar.specs.Clean.{left_ok, lit_of, spelled, word, may_name, Call, to_assign, to_unary, to_operand, to_climb, lit, name, hashed}
 use Rattle.swc_grammar.specs.Clean.{private_name, inside, close, opened, parens, primary, prefix_node, prefixed, prefix, unary_by, unary}
 use Rattle.swc_grammar.specs.Clean.{node_by, operation, turn_by, turn, go_on, turned, climb, operand, assign, step, run_at, run}

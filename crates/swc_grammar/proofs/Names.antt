@@ -8,11 +8,11 @@ use Rattle.swc_context.specs.declared.word.Word.{Word}
 use Rattle.swc_input.specs.declared.token.Token.{Token}
 use Rattle.swc_input.specs.declared.token.Token.TheVariants as token
 use Rattle.swc_input.specs.declared.token.TokenAndSpan.{TokenAndSpan}
-use Rattle.swc_bodies.specs.Readings.{at_token}
+use Rattle.swc_input.specs.Kinds.{at_token, is_hash}
 use Rattle.swc_grammar.specs.Tokens.{tk, is_reference, ref_ok, is_binding, binding_ok}
 use Rattle.swc_grammar.specs.Trees.{to}
 use Rattle.swc_grammar.specs.Names.{Spelling, spelling, NameKind, Reference, Binding, Name, Private, ReadsName, reference, binding, any-word, hash-word}
-use Rattle.swc_grammar.specs.Clean.{first, is_hash, one, spelled, word, may_refer, may_bind, may_name, begins_at, hash_word}
+use Rattle.swc_grammar.specs.Clean.{first, one, spelled, word, may_refer, may_bind, may_name, begins_at, hash_word}
 use Rattle.swc_grammar.specs.Cut.{Cut, there}
 use Rattle.swc_grammar.proofs.Answers.{bind-ok, only, inj, passed, both}
 

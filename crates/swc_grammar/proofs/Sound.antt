@@ -16,15 +16,15 @@ use Rattle.swc_context.specs.declared.word.Word.TheVariants as word
 use Rattle.swc_input.specs.declared.token.Token.{Token}
 use Rattle.swc_input.specs.declared.token.Token.TheVariants as token
 use Rattle.swc_input.specs.declared.token.TokenAndSpan.{TokenAndSpan}
+use Rattle.swc_input.specs.Kinds.{at_token, is_hash}
 use Rattle.swc_ast.specs.Tree.{Tree, span_of}
-use Rattle.swc_bodies.specs.Readings.{at_token}
 use Rattle.swc_grammar.specs.Tokens.{tk, with_in, is_reference, is_put_off, ref_ok, binary_of, prefix_of}
 use Rattle.swc_grammar.specs.Trees.{to, ident_e, unary_e, bin_e, nullish_ok, logical_ok, delete_ok, exp_ok, min_right}
 use Rattle.swc_grammar.specs.Names.{Spelling, reference}
 use Rattle.swc_grammar.specs.Grammar.{Hook, Reads, Expr, Assign, Level, Unary, Primary, expr-one, assign-level, level-op, level-unary, level-exp}
 use Rattle.swc_grammar.specs.Grammar.{unary-prefix, unary-primary, primary-null, primary-true, primary-false, primary-num, primary-big, primary-str, primary-ref}
 use Rattle.swc_grammar.specs.Grammar.{primary-private, primary-paren}
-use Rattle.swc_grammar.specs.Clean.{Out, first, rest, is_lit, is_identifier, is_lparen, is_rparen, is_hash, no_error, operator_at, prefix_at, Bound}
+use Rattle.swc_grammar.specs.Clean.{Out, first, rest, is_lit, is_identifier, is_lparen, is_rparen, no_error, operator_at, prefix_at, Bound}
 use Rattle.swc_grammar.specs.Clean.{left_ok, lit_of, one, word as word_name, may_name, Call, to_assign, to_unary, to_operand, to_climb, lit, name, hashed, private_name}
 use Rattle.swc_grammar.specs.Clean.{inside, close, opened, parens, primary, prefixed, prefix, unary_by, unary, operation, turn_by, turn, go_on, turned, climb}
 use Rattle.swc_grammar.specs.Clean.{operand, assign, step, run_at, run}

@@ -1,5 +1,6 @@
 -- Worked texts: their tokens, and the trees that they are read as.
 use Rattle.std.specs.Prelude.{ℕ, true, false, List, [], ◌∷◌, codes}
+use Rattle.swc_context.specs.Contexts.{no_flags}
 use Rattle.swc_context.specs.declared.context.Context.{Context}
 use Rattle.swc_context.specs.declared.operator.BinOpToken.{BinOpToken}
 use Rattle.swc_context.specs.declared.operator.BinOpToken.TheVariants as sign
@@ -20,27 +21,7 @@ use Rattle.swc_grammar.specs.Trees.{null_e, boolean_e, num_e, big_e, str_e, iden
 
 -- a script, where `in` isn't an operator, and where it is
 abbrev pub no_in : Context
-no_in = record {
-  «module» = false;
-  can_be_module = false;
-  strict = false;
-  include_in_expr = false;
-  in_async = false;
-  in_generator = false;
-  in_function = false;
-  in_parameters = false;
-  in_class = false;
-  in_class_field = false;
-  in_static_block = false;
-  inside_non_arrow_function_scope = false;
-  allow_direct_super = false;
-  ignore_error = false;
-  expr_ctx = record { for_loop_init = false; for_await_loop_init = false };
-  will_expect_colon_for_cond = false;
-  in_cond_expr = false;
-  should_not_lex_lt_or_gt_as_type = false;
-  in_property_name = false;
-}
+no_in = no_flags
 
 abbrev pub script : Context
 script = record no_in { include_in_expr = true }

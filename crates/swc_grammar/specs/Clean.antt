@@ -13,8 +13,8 @@ use Rattle.swc_context.specs.declared.word.Word.TheVariants as written
 use Rattle.swc_input.specs.declared.token.Token.{Token}
 use Rattle.swc_input.specs.declared.token.Token.TheVariants as token
 use Rattle.swc_input.specs.declared.token.TokenAndSpan.{TokenAndSpan}
+use Rattle.swc_input.specs.Kinds.{at_token, is_hash}
 use Rattle.swc_ast.specs.Tree.{Tree, span_of}
-use Rattle.swc_bodies.specs.Readings.{at_token}
 use Rattle.swc_grammar.specs.Names.{Spelling, spelling, is_joined}
 use Rattle.swc_grammar.specs.Tokens.{with_in, is_reference, is_ref, ref_ok, is_binding, binding_ok, binary_of, prefix_of}
 use Rattle.swc_grammar.specs.Trees.{to, null_e, boolean_e, num_e, big_e, str_e, ident_e, private_e, unary_e, paren_e, bin_e}
@@ -57,10 +57,6 @@ is_lparen t = false
 abbrev pub is_rparen : Token → Bool
 is_rparen token.RParen = true
 is_rparen t = false
-
-abbrev pub is_hash : Token → Bool
-is_hash token.Hash = true
-is_hash t = false
 
 -- no fault of the text stands in its place
 abbrev pub no_error : Token → Bool

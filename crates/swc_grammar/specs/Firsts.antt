@@ -3,7 +3,8 @@ use Rattle.std.specs.Prelude.{Bool, true, false, ◌||◌, Option, Some, None}
 use Rattle.swc_context.specs.declared.context.Context.{Context}
 use Rattle.swc_context.specs.declared.operator.UnaryOp.{UnaryOp}
 use Rattle.swc_input.specs.declared.token.Token.{Token}
-use Rattle.swc_grammar.specs.Clean.{is_lit, is_identifier, is_lparen, is_hash}
+use Rattle.swc_input.specs.Kinds.{is_hash}
+use Rattle.swc_grammar.specs.Clean.{is_lit, is_identifier, is_lparen}
 use Rattle.swc_grammar.specs.Tokens.{prefix_of}
 
 abbrev pub is_prefix_op : Option UnaryOp → Bool

@@ -1,7 +1,8 @@
 -- Tokens, as the grammar tells them apart.
 use Rattle.std.specs.Prelude.{Bool, true, false, not, ◌&&◌, ◌||◌, if◌then◌else◌, Option, Some, None, codes}
 use Rattle.swc_context.specs.Operators.{operator_of}
-use Rattle.swc_context.specs.Reserved.{is_reserved, is_text, is_one_of, strict_reserved, strict_binding_words}
+use Rattle.swc_context.specs.Reserved.{is_reserved, strict_names, strict_binding_words}
+use Rattle.swc_context.specs.Texts.{is_text, is_one_of}
 use Rattle.swc_context.specs.declared.context.Context.{Context}
 use Rattle.swc_context.specs.declared.operator.BinaryOp.{BinaryOp}
 use Rattle.swc_context.specs.declared.operator.BinaryOp.TheVariants as binary
@@ -29,6 +30,10 @@ abbrev pub is_reference : Context → Word → Bool
 is_reference c (word.Keyword keyword.Let) = true
 is_reference c w = not (is_reserved c w)
 
+abbrev pub may_be_reference : Context → Token → Bool
+may_be_reference c (token.Word w) = is_reference c w
+may_be_reference c t = false
+
 -- Words that no expression begins with so far, though they may be identifier references.
 abbrev pub is_put_off : Word → Bool
 is_put_off (word.Keyword keyword.Await) = true
@@ -53,7 +58,7 @@ abbrev pub is_strict_word : Word → Bool
 is_strict_word (word.Keyword keyword.Let) = true
 is_strict_word (word.Keyword keyword.Yield) = true
 is_strict_word (word.Keyword keyword.Await) = true
-is_strict_word (word.Ident w) = is_text w (codes "static") || is_one_of w strict_reserved
+is_strict_word (word.Ident w) = is_one_of w strict_names
 is_strict_word w = false
 
 -- the name `arguments`, and the names that strict code doesn't bind

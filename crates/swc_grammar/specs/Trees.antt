@@ -1,6 +1,7 @@
 -- The nodes of trees, as the grammar writes them.
-use Rattle.std.specs.Prelude.{ℕ, Bool, true, false, not, ◌&&◌, ◌||◌, List, min, max, nat_le, nat_lt}
+use Rattle.std.specs.Prelude.{ℕ, Bool, true, false, not, ◌&&◌, ◌||◌, List, nat_le, nat_lt}
 use Rattle.swc_context.specs.Operators.{precedence_of}
+use Rattle.swc_context.specs.Spans.{between}
 use Rattle.swc_context.specs.declared.operator.BinaryOp.{BinaryOp}
 use Rattle.swc_context.specs.declared.operator.BinaryOp.TheVariants as binary
 use Rattle.swc_context.specs.declared.context.Context.{Context}
@@ -13,9 +14,6 @@ use Rattle.swc_ast.specs.Tree.{Kind, ident, private, str, boolean, null, num, bi
 
 -- From the start of the first place to the end of the second: where the tokens are in order, the span of a node. The smaller end
 -- stands first in any case.
-abbrev pub between : BytePos → BytePos → Span
-between lo hi = record { lo = record { 0 = min lo.0 hi.0 }; hi = record { 0 = max lo.0 hi.0 } }
-
 abbrev pub to : Span → Span → Span
 to a b = between a.lo b.hi
 

@@ -1,6 +1,7 @@
 -- What the calls on names answer, from their steps.
 use Rattle.std.proofs.Common.{◌≡◌, ℕ, Bool, true, false, not, ◌&&◌, if◌then◌else◌, codes, List, [], ◌∷◌, Option, Some, None, Result, Ok, Err, MatchOption, IsSome, refl, sym, ap, subst, ◌∙◌}
-use Rattle.swc_context.specs.Reserved.{is_text, is_one_of, strict_binding_words}
+use Rattle.swc_context.specs.Reserved.{strict_binding_words}
+use Rattle.swc_context.specs.Texts.{is_text, is_one_of}
 use Rattle.swc_context.specs.Words.{word_text}
 use Rattle.swc_context.specs.declared.context.Context.{Context}
 use Rattle.swc_context.specs.declared.error.Error.{Error}
@@ -15,12 +16,13 @@ use Rattle.swc_input.specs.declared.token.Token.{Token}
 use Rattle.swc_input.specs.declared.token.Token.TheVariants as token
 use Rattle.swc_input.specs.declared.token.TokenAndSpan.{TokenAndSpan}
 use Rattle.swc_input.specs.Source.{Source}
-use Rattle.swc_input.specs.Buffer.{Looked, current, previous}
+use Rattle.swc_input.specs.Buffer.{Looked, current, previous, context}
 use Rattle.swc_input.specs.Recording.{error_here, error_in, is_some, is_fit, Refused}
-use Rattle.swc_ident.specs.Naming.{Judges, at_token, fault_at, place_here, context, Notes, Spoken, Named, Unnamed, no_memory, not_fit, no_word, refused_word, Names, Unbound, Bound}
+use Rattle.swc_input.specs.Kinds.{at_token}
+use Rattle.swc_ident.specs.Naming.{Judges, fault_at, place_here, Notes, Spoken, Named, Unnamed, no_memory, not_fit, no_word, refused_word, Names, Unbound, Bound}
 use Rattle.swc_ident.specs.Steps.{Forgone, word_faults}
 use Rattle.swc_ident.specs.Verdicts.{Fault, now, in_modules, is_word, name_of_any, ident_verdict, binding_verdict, binding_faults, and_then, is_bindable}
-use Rattle.swc_ident.proofs.Reading.{Laws, Reads, place_is, reads_then, looked_then, looked_reads, refused_reads, met, noted_then, notes_read, spoken_reads, spoken_later}
+use Rattle.swc_ident.proofs.Reading.{Laws, Reads, place_is, reads_then, looked_then, looked_reads, refused_reads, met, noted_then, notes_read, passed_reads, passed_later}
 
 -- what is included decides over refusals alone
 pub same_faults : (y a : Bool) (c : Context) (w : Word) → word_faults c w ≡ (ident_verdict y a c w).faults
@@ -68,7 +70,7 @@ fit_word None h = cc
 fit_word (Some t) h = fit_token t.token h
 
 module _ {S : Type 0} {state : S → Source} {gives : S → List TokenAndSpan → S → Type 0} where
-  same_context : {b c : Buffer S} → Looked state gives b c → context state gives c ≡ context state gives b
+  same_context : {b c : Buffer S} → Looked state gives b c → context state c ≡ context state b
   same_context l = l.look.read.context
 
   -- ---- what was consumed
@@ -77,7 +79,7 @@ module _ {S : Type 0} {state : S → Source} {gives : S → List TokenAndSpan �
   unnamed_reads laws (no_memory xs r k) = (xs, r)
   unnamed_reads laws (not_fit r f) = refused_reads laws r
   unnamed_reads laws (no_word r fits f) = refused_reads laws r
-  unnamed_reads laws (refused_word s v n r) = reads_then laws (spoken_reads laws s) (reads_then laws (notes_read laws n) (refused_reads laws r))
+  unnamed_reads laws (refused_word s v n r) = reads_then laws (passed_reads laws s) (reads_then laws (notes_read laws n) (refused_reads laws r))
 
   pub named_reads : {judge : Judges} {text : List ℕ} {at : Span} {b c : Buffer S} → Named state gives judge text at b c → Reads state gives b c
   named_reads n = (n.consumed, n.read)
@@ -90,7 +92,7 @@ module _ {S : Type 0} {state : S → Source} {gives : S → List TokenAndSpan �
   unnamed_later laws l (no_word r fits f) = no_word (record { here = r.here; looked = looked_then laws l r.looked; read = r.read; answer = r.answer }) fits f
   unnamed_later {judge = judge} laws l (refused_word {w = w} {at = at} {spoken = s0} {noted = n0} s v n r) =
       let P : List Fault → Type 0 = λ fs. Notes state gives at fs s0 n0 in
-      refused_word (spoken_later laws l s) (ap (λ x. (judge x w).refusal) (sym (same_context l)) ∙ v) (subst P (ap (λ x. (judge x w).faults) (same_context l)) n) r
+      refused_word (passed_later laws l s) (ap (λ x. (judge x w).refusal) (sym (same_context l)) ∙ v) (subst P (ap (λ x. (judge x w).faults) (same_context l)) n) r
 
   pub named_later : {judge : Judges} {text : List ℕ} {at : Span} {b c d : Buffer S} → Laws state gives → Looked state gives b c → Named state gives judge text at c d → Named state gives judge text at b d
   named_later {judge = judge} {at = at} {d = d} laws l n =
@@ -99,7 +101,7 @@ module _ {S : Type 0} {state : S → Source} {gives : S → List TokenAndSpan �
       record {
         name = n.name;
         spoken = n.spoken;
-        said = spoken_later laws l n.said;
+        said = passed_later laws l n.said;
         spelled = n.spelled;
         accepts = ap (λ x. (judge x n.name).refusal) (sym (same_context l)) ∙ n.accepts;
         noted = subst P (ap (λ x. (judge x n.name).faults) (same_context l)) n.noted;
@@ -109,7 +111,7 @@ module _ {S : Type 0} {state : S → Source} {gives : S → List TokenAndSpan �
 
   -- ---- by another table that says the same in this context
 
-  unnamed_as : {p q : Judges} {b c : Buffer S} {e : Error} → ((w : Word) → p (context state gives b) w ≡ q (context state gives b) w) → Unnamed state gives p b e c → Unnamed state gives q b e c
+  unnamed_as : {p q : Judges} {b c : Buffer S} {e : Error} → ((w : Word) → p (context state b) w ≡ q (context state b) w) → Unnamed state gives p b e c → Unnamed state gives q b e c
   unnamed_as same (no_memory xs r k) = no_memory xs r k
   unnamed_as same (not_fit r f) = not_fit r f
   unnamed_as same (no_word r fits f) = no_word r fits f
@@ -117,7 +119,7 @@ module _ {S : Type 0} {state : S → Source} {gives : S → List TokenAndSpan �
       let P : List Fault → Type 0 = λ fs. Notes state gives at fs s0 n0 in
       refused_word s (ap (λ x. x.refusal) (sym (same w)) ∙ v) (subst P (ap (λ x. x.faults) (same w)) n) r
 
-  named_as : {p q : Judges} {text : List ℕ} {at : Span} {b c : Buffer S} → ((w : Word) → p (context state gives b) w ≡ q (context state gives b) w) → Named state gives p text at b c → Named state gives q text at b c
+  named_as : {p q : Judges} {text : List ℕ} {at : Span} {b c : Buffer S} → ((w : Word) → p (context state b) w ≡ q (context state b) w) → Named state gives p text at b c → Named state gives q text at b c
   named_as {at = at} {c = c} same n = let P : List Fault → Type 0 = λ fs. Notes state gives at fs n.spoken c in record {
     name = n.name;
     spoken = n.spoken;
@@ -150,11 +152,11 @@ module _ {S : Type 0} {state : S → Source} {gives : S → List TokenAndSpan �
   forgone_unnamed laws p f = let x = reads_then laws p (f.consumed, f.read) in no_memory x.0 x.1 f.kind
 
   -- a word was consumed, and its faults noted: it is taken, or refused
-  pub taken_word : {judge : Judges} {text : List ℕ} {at : Span} {w : Word} {fs : List Fault} {b c d : Buffer S} (ctx : Context) → Laws state gives → ctx ≡ context state gives b → Spoken state gives b w at c → text ≡ word_text w →
+  pub taken_word : {judge : Judges} {text : List ℕ} {at : Span} {w : Word} {fs : List Fault} {b c d : Buffer S} (ctx : Context) → Laws state gives → ctx ≡ context state b → Spoken state gives b w at c → text ≡ word_text w →
       (judge ctx w).refusal ≡ None → fs ≡ (judge ctx w).faults → Notes state gives at fs c d → Named state gives judge text at b d
   taken_word {judge = judge} {at = at} {w = w} {c = c} {d = d} ctx laws here s spelled takes same n =
       let P : List Fault → Type 0 = λ fs. Notes state gives at fs c d in
-      let x = reads_then laws (spoken_reads laws s) (notes_read laws n) in
+      let x = reads_then laws (passed_reads laws s) (notes_read laws n) in
       record {
         name = w;
         spoken = c;
@@ -166,7 +168,7 @@ module _ {S : Type 0} {state : S → Source} {gives : S → List TokenAndSpan �
         read = x.1;
       }
 
-  pub refused_name : {judge : Judges} {at : Span} {w : Word} {k : SyntaxError} {e : Error} {fs : List Fault} {b c d f : Buffer S} (ctx : Context) → ctx ≡ context state gives b → Spoken state gives b w at c →
+  pub refused_name : {judge : Judges} {at : Span} {w : Word} {k : SyntaxError} {e : Error} {fs : List Fault} {b c d f : Buffer S} (ctx : Context) → ctx ≡ context state b → Spoken state gives b w at c →
       (judge ctx w).refusal ≡ Some k → fs ≡ (judge ctx w).faults → Notes state gives at fs c d → Refused state gives d (λ here. fault_at at k) e f → Unnamed state gives judge b e f
   refused_name {judge = judge} {at = at} {w = w} {c = c} {d = d} ctx here s refuses same n r =
       let P : List Fault → Type 0 = λ fs. Notes state gives at fs c d in
@@ -192,17 +194,17 @@ module _ {S : Type 0} {state : S → Source} {gives : S → List TokenAndSpan �
   binding_unnamed (no_word r fits f) = no_word r fits f
   binding_unnamed {b = b} (refused_word {w = w} {k = k} {at = at} {spoken = s0} {noted = n0} s v n r) =
       let P : List Fault → Type 0 = λ fs. Notes state gives at fs s0 n0 in
-      let same = unbound_verdict (context state gives b) w k v in
+      let same = unbound_verdict (context state b) w k v in
       refused_word s (ap (λ x. x.refusal) same ∙ v) (subst P (ap (λ x. x.faults) (sym same)) n) r
 
-  pub binding_named : {text : List ℕ} {at : Span} {b c d : Buffer S} → Laws state gives → Named state gives (ident_verdict true true) text at b c → Notes state gives at (binding_faults (context state gives c) text) c d →
+  pub binding_named : {text : List ℕ} {at : Span} {b c d : Buffer S} → Laws state gives → Named state gives (ident_verdict true true) text at b c → Notes state gives at (binding_faults (context state c) text) c d →
       Named state gives binding_verdict text at b d
   binding_named {text = text} {at = at} {b = b} {c = c} {d = d} laws n m =
       let P : List Fault → Type 0 = λ fs. Notes state gives at fs c d in
       let Q : List Fault → Type 0 = λ fs. Notes state gives at fs n.spoken d in
-      let same = bound_verdict (context state gives b) n.name n.accepts in
+      let same = bound_verdict (context state b) n.name n.accepts in
       let x = reads_then laws (n.consumed, n.read) (notes_read laws m) in
-      let told = subst P (ap (λ x. binding_faults x text) n.read.context ∙ ap (λ w. binding_faults (context state gives b) w) n.spelled) m in
+      let told = subst P (ap (λ x. binding_faults x text) n.read.context ∙ ap (λ w. binding_faults (context state b) w) n.spelled) m in
       record {
         name = n.name;
         spoken = n.spoken;
@@ -214,14 +216,14 @@ module _ {S : Type 0} {state : S → Source} {gives : S → List TokenAndSpan �
         read = x.1;
       }
 
-  pub unbound : {b c : Buffer S} → Looked state gives b c → at_token (is_bindable (context state gives c)) (current c) ≡ false → Unbound state gives b c
+  pub unbound : {b c : Buffer S} → Looked state gives b c → at_token (is_bindable (context state c)) (current c) ≡ false → Unbound state gives b c
   unbound {c = c} l none = (l, ap (λ x. at_token (is_bindable x) (current c)) (sym (same_context l)) ∙ none)
 
-  pub bound_later : {text : List ℕ} {at : Span} {b c d : Buffer S} → Laws state gives → Looked state gives b c → at_token (is_bindable (context state gives c)) (current c) ≡ true →
+  pub bound_later : {text : List ℕ} {at : Span} {b c d : Buffer S} → Laws state gives → Looked state gives b c → at_token (is_bindable (context state c)) (current c) ≡ true →
       Named state gives binding_verdict text at c d → Bound state gives text at b d
   unfolding named_later
   bound_later {b = b} {c = c} laws l may n =
-      let f = is_bindable (context state gives c) in
+      let f = is_bindable (context state c) in
       let t = word_some f (current c) may in
       let took = n.said.took in
       let here : at_token f (current n.said.here) ≡ true = ap (λ x. at_token f (current x)) (n.said.looked.same t.0 t.1) ∙ may in
@@ -236,7 +238,7 @@ module _ {S : Type 0} (state : S → Source) (gives : S → List TokenAndSpan �
   names_read judge text at b c (Ok t) laws h = named_reads h
   names_read judge text at b c (Err e) laws h = unnamed_reads laws h
 
-  pub names_as : {T : Type 0} (p q : Judges) (text : T → List ℕ) (at : T → Span) (b c : Buffer S) (r : Result T Error) → ((w : Word) → p (context state gives b) w ≡ q (context state gives b) w) →
+  pub names_as : {T : Type 0} (p q : Judges) (text : T → List ℕ) (at : T → Span) (b c : Buffer S) (r : Result T Error) → ((w : Word) → p (context state b) w ≡ q (context state b) w) →
       Names state gives p text at b r c → Names state gives q text at b r c
   names_as p q text at b c (Ok t) same h = named_as same h
   names_as p q text at b c (Err e) same h = unnamed_as same h

@@ -1,9 +1,11 @@
 -- What the calls on private names answer, from their steps.
-use Rattle.std.proofs.Common.{◌≡◌, ℕ, min, max, List, [], ◌∷◌, Option, Some, None, MatchOption, sym, ap, ◌∙◌}
+use Rattle.std.proofs.Common.{◌≡◌, ℕ, List, [], ◌∷◌, Option, Some, None, MatchOption, sym, ap, ◌∙◌}
+use Rattle.swc_context.specs.Spans.{between}
 use Rattle.swc_context.specs.declared.error.Error.{Error}
 use Rattle.swc_context.specs.declared.error.SyntaxError.TheVariants as kind
 use Rattle.swc_context.specs.declared.span.BytePos.{BytePos}
 use Rattle.swc_context.specs.declared.span.Span.{Span}
+use Rattle.swc_context.proofs.Spans.{same_position}
 use Rattle.swc_input.specs.declared.buffer.Buffer.{Buffer}
 use Rattle.swc_input.specs.declared.token.TokenAndSpan.{TokenAndSpan}
 use Rattle.swc_input.specs.Plain.{plain}
@@ -12,22 +14,14 @@ use Rattle.swc_input.specs.Buffer.{Looked, current, last_position}
 use Rattle.swc_input.specs.Laws.{Read-same}
 use Rattle.swc_input.specs.Recording as rec
 use Rattle.swc_input.specs.Recording.{Refused}
-use Rattle.swc_ident.specs.Naming.{at_token, fault_at, between, Hashed, next_begins, Private, Unprivate, no_memory, no_memory_either, no_hash, apart, no_name, Neither}
-use Rattle.swc_ident.specs.Verdicts.{is_hash}
-use Rattle.swc_ident.proofs.Reading.{Laws, Reads, reads_then, looked_then, looked_reads, refused_reads, met}
+use Rattle.swc_input.specs.Kinds.{at_token, is_hash}
+use Rattle.swc_ident.specs.Naming.{fault_at, Hashed, next_begins, Private, Unprivate, no_memory, no_memory_either, no_hash, apart, no_name, Neither}
+use Rattle.swc_ident.proofs.Reading.{Laws, Reads, reads_then, looked_then, looked_reads, refused_reads, met, passed_reads, passed_later}
 use Rattle.swc_ident.proofs.Finding.{unnamed_reads}
 
 pub next_is : (o : Option TokenAndSpan) (p next : BytePos) → MatchOption o (next ≡ p) (λ t. next ≡ t.span.lo) → next ≡ elim o [ None ↦ p | Some t ↦ t.span.lo ]
 next_is None p next h = h
 next_is (Some t) p next h = h
-
-same_position : (a b : BytePos) → a.0 ≡ b.0 → a ≡ b
-same_position a b h = let at : ℕ → BytePos = λ n. record { 0 = n } in ap at h
-
-pub span_is : (s : Span) (lo hi : BytePos) → s.lo.0 ≡ min lo.0 hi.0 → s.hi.0 ≡ max lo.0 hi.0 → s ≡ between lo hi
-span_is s lo hi p q =
-    let at : ℕ → ℕ → Span = λ m n. record { lo = record { 0 = m }; hi = record { 0 = n } } in
-    ap (λ m. at m s.hi.0) p ∙ ap (λ n. at (min lo.0 hi.0) n) q
 
 -- what begins where a `#` ends
 pub joins_hash : {S : Type 0} (b : Buffer S) (hash : Span) (next : BytePos) → MatchOption (current b) (next ≡ last_position b) (λ t. next ≡ t.span.lo) → next.0 ≡ hash.hi.0 →
@@ -35,30 +29,24 @@ pub joins_hash : {S : Type 0} (b : Buffer S) (hash : Span) (next : BytePos) → 
 joins_hash b hash next h e = sym (next_is (current b) (last_position b) next h) ∙ same_position next hash.hi e
 
 module _ {S : Type 0} {state : S → Source} {gives : S → List TokenAndSpan → S → Type 0} where
-  hashed_reads : {b c : Buffer S} {at : Span} → Laws state gives → Hashed state gives b at c → Reads state gives b c
-  hashed_reads laws s = reads_then laws (looked_reads s.looked) (plain s.took.was ∷ [], s.took.read)
-
   -- want of memory behind the `#`
   pub private_forgone : {b c d : Buffer S} {e : Error} {at : Span} {last : BytePos} → Laws state gives → Hashed state gives b at c → Looked state gives c d → e ≡ rec.no_memory last → Unprivate state gives b e d
-  private_forgone laws s l h = let x = reads_then laws (hashed_reads laws s) (looked_reads l) in no_memory_either x.0 x.1 (ap (λ x. x.kind) h)
-
-  hashed_later : {b c d : Buffer S} {at : Span} → Laws state gives → Looked state gives b c → Hashed state gives c at d → Hashed state gives b at d
-  hashed_later laws l s = record { here = s.here; looked = looked_then laws l s.looked; took = s.took; place = s.place }
+  private_forgone laws s l h = let x = reads_then laws (passed_reads laws s) (looked_reads l) in no_memory_either x.0 x.1 (ap (λ x. x.kind) h)
 
   pub private_reads : {text : List ℕ} {at : Span} {b c : Buffer S} → Laws state gives → Private state gives text at b c → Reads state gives b c
-  private_reads laws p = reads_then laws (hashed_reads laws p.sign) (reads_then laws (looked_reads p.looked) (p.name.consumed, p.name.read))
+  private_reads laws p = reads_then laws (passed_reads laws p.sign) (reads_then laws (looked_reads p.looked) (p.name.consumed, p.name.read))
 
   pub unprivate_reads : {b c : Buffer S} {e : Error} → Laws state gives → Unprivate state gives b e c → Reads state gives b c
   unprivate_reads laws (no_memory_either xs r k) = (xs, r)
   unprivate_reads laws (no_hash r x f) = refused_reads laws r
-  unprivate_reads laws (apart s r f) = reads_then laws (hashed_reads laws s) (refused_reads laws r)
-  unprivate_reads laws (no_name s l j u) = reads_then laws (hashed_reads laws s) (reads_then laws (looked_reads l) (unnamed_reads laws u))
+  unprivate_reads laws (apart s r f) = reads_then laws (passed_reads laws s) (refused_reads laws r)
+  unprivate_reads laws (no_name s l j u) = reads_then laws (passed_reads laws s) (reads_then laws (looked_reads l) (unnamed_reads laws u))
 
   pub private_later : {text : List ℕ} {at : Span} {b c d : Buffer S} → Laws state gives → Looked state gives b c → Private state gives text at c d → Private state gives text at b d
   private_later laws l p = record {
     hash = p.hash;
     hashed = p.hashed;
-    sign = hashed_later laws l p.sign;
+    sign = passed_later laws l p.sign;
     near = p.near;
     looked = p.looked;
     end = p.end;

@@ -6,6 +6,7 @@ use Rattle.swc_context.specs.declared.span.BytePos.{BytePos}
 use Rattle.swc_context.specs.declared.span.Span.{Span}
 use Rattle.swc_context.specs.declared.word.Word.{Word}
 use Rattle.swc_input.specs.declared.buffer.Buffer.{Buffer}
+use Rattle.swc_input.specs.declared.token.Token.{Token}
 use Rattle.swc_input.specs.declared.token.TokenAndSpan.{TokenAndSpan}
 use Rattle.swc_input.specs.Plain.{plain}
 use Rattle.swc_input.specs.Source.{Source, with_module_error}
@@ -14,7 +15,7 @@ use Rattle.swc_input.specs.Laws.{Joins, Gives, Read-then, Read-late, Read-same, 
 use Rattle.swc_input.specs.Recording as rec
 use Rattle.swc_input.specs.Recording.{is_silent, error_token, refusal, Recorded, Refused, Seen}
 use Rattle.swc_input.proofs.Ends.{past_end}
-use Rattle.swc_ident.specs.Naming.{fault_at, Notes, none-noted, now-silent, now-recorded, later-ignored, later-noted, Spoken}
+use Rattle.swc_ident.specs.Naming.{fault_at, Notes, none-noted, now-silent, now-recorded, later-ignored, later-noted, Passed, Spoken}
 use Rattle.swc_ident.specs.Steps.{Forgone, Noting}
 use Rattle.swc_ident.specs.Verdicts.{Fault, now, in_modules}
 
@@ -120,16 +121,16 @@ module _ {S : Type 0} {state : S → Source} {gives : S → List TokenAndSpan �
   pub none_to_note : {at : Span} {fs : List Fault} {b : Buffer S} → fs ≡ [] → Notes state gives at fs b b
   none_to_note {at = at} {b = b} h = let P : List Fault → Type 0 = λ l. Notes state gives at l b b in subst P (sym h) none-noted
 
-  -- ---- words
+  -- ---- a token that was consumed
 
   pub place_told : {b c : Buffer S} {w : Word} {at told : Span} → told ≡ at → Spoken state gives b w at c → Spoken state gives b w told c
   place_told h s = record { here = s.here; looked = s.looked; took = s.took; place = h ∙ s.place }
 
-  pub spoken_reads : {b c : Buffer S} {w : Word} {at : Span} → Laws state gives → Spoken state gives b w at c → Reads state gives b c
-  spoken_reads laws s = reads_then laws (looked_reads s.looked) (plain s.took.was ∷ [], s.took.read)
+  pub passed_reads : {b c : Buffer S} {t : Token} {at : Span} → Laws state gives → Passed state gives b t at c → Reads state gives b c
+  passed_reads laws s = reads_then laws (looked_reads s.looked) (plain s.took.was ∷ [], s.took.read)
 
-  pub spoken_later : {b c d : Buffer S} {w : Word} {at : Span} → Laws state gives → Looked state gives b c → Spoken state gives c w at d → Spoken state gives b w at d
-  spoken_later laws l s = record { here = s.here; looked = looked_then laws l s.looked; took = s.took; place = s.place }
+  pub passed_later : {b c d : Buffer S} {t : Token} {at : Span} → Laws state gives → Looked state gives b c → Passed state gives c t at d → Passed state gives b t at d
+  passed_later laws l s = record { here = s.here; looked = looked_then laws l s.looked; took = s.took; place = s.place }
 
 module _ {S : Type 0} (state : S → Source) (gives : S → List TokenAndSpan → S → Type 0) where
   -- what the calls that record ensure

@@ -4,6 +4,7 @@ use Rattle.swc_ast.specs.declared.ident.Ident.{Ident}
 use Rattle.swc_ast.specs.declared.ident.ModuleExportName.{ModuleExportName}
 use Rattle.swc_ast.specs.declared.ident.ModuleExportName.TheVariants as export
 use Rattle.swc_ast.specs.declared.lit.Str.{Str}
+use Rattle.swc_context.specs.Spans.{between}
 use Rattle.swc_context.specs.Words.{word_text}
 use Rattle.swc_context.specs.declared.context.Context.{Context}
 use Rattle.swc_context.specs.declared.error.Error.{Error}
@@ -16,19 +17,15 @@ use Rattle.swc_input.specs.declared.buffer.Buffer.{Buffer}
 use Rattle.swc_input.specs.declared.token.Token.{Token}
 use Rattle.swc_input.specs.declared.token.Token.TheVariants as token
 use Rattle.swc_input.specs.declared.token.TokenAndSpan.{TokenAndSpan}
+use Rattle.swc_input.specs.Kinds.{at_token, is_hash}
 use Rattle.swc_input.specs.Source.{Source, with_module_error}
-use Rattle.swc_input.specs.Buffer.{Read, Looked, Bumped, current, last_position, previous, source, with_source}
+use Rattle.swc_input.specs.Buffer.{Read, Looked, Bumped, context, current, last_position, previous, source, with_source}
 use Rattle.swc_input.specs.Recording.{is_silent, is_fit, unfit, Recorded, Refused}
-use Rattle.swc_ident.specs.Verdicts.{Fault, now, in_modules, Verdict, is_word, is_hash, is_str, is_bindable, name_of_any, binding_verdict}
+use Rattle.swc_ident.specs.Verdicts.{Fault, now, in_modules, Verdict, is_word, is_str, is_bindable, name_of_any, binding_verdict}
 
 -- how a call judges a word
 abbrev pub Judges : Type 0
 Judges = Context → Word → Verdict
-
--- the test at a current token; none passes it at the end
-abbrev pub at_token : (Token → Bool) → Option TokenAndSpan → Bool
-at_token f None = false
-at_token f (Some t) = f t.token
 
 abbrev pub fault_at : Span → SyntaxError → Error
 fault_at at k = record { span = at; kind = k }
@@ -36,9 +33,6 @@ fault_at at k = record { span = at; kind = k }
 -- the place of the current token, and at the end that of the token consumed last
 abbrev pub place_here : {S : Type 0} → Buffer S → Span
 place_here b = elim (current b) [ None ↦ previous b | Some t ↦ t.span ]
-
-abbrev pub between : BytePos → BytePos → Span
-between lo hi = record { lo = record { 0 = min lo.0 hi.0 }; hi = record { 0 = max lo.0 hi.0 } }
 
 -- what an error says that is expected, or that is missed
 abbrev pub expects : SyntaxError → Option (List ℕ)
@@ -50,24 +44,30 @@ misses (kind.Unexpected text) = Some text.now
 misses k = None
 
 module _ {S : Type 0} (state : S → Source) (gives : S → List TokenAndSpan → S → Type 0) where
-  abbrev pub context : Buffer S → Context
-  context b = (state (source b)).context
-
   -- the faults were recorded, or set waiting, at the place and in their order; those that are silenced leave nothing
   pub data Notes (at : Span) : List Fault → Buffer S → Buffer S → Type 0 where
     none-noted : {b : Buffer S} → Notes at [] b b
     now-silent : {b c : Buffer S} {k : SyntaxError} {fs : List Fault} → is_silent (state (source b)) ≡ true → Notes at fs b c → Notes at (now k ∷ fs) b c
     now-recorded : {b c d : Buffer S} {k : SyntaxError} {fs : List Fault} → is_silent (state (source b)) ≡ false → Recorded state gives b (fault_at at k) c → Notes at fs c d → Notes at (now k ∷ fs) b d
-    later-ignored : {b c : Buffer S} {k : SyntaxError} {fs : List Fault} → (context b).ignore_error ≡ true → Notes at fs b c → Notes at (in_modules k ∷ fs) b c
-    later-noted : {b c d : Buffer S} {k : SyntaxError} {fs : List Fault} → (context b).ignore_error ≡ false → c ≡ with_source (source c) b →
+    later-ignored : {b c : Buffer S} {k : SyntaxError} {fs : List Fault} → (context state b).ignore_error ≡ true → Notes at fs b c → Notes at (in_modules k ∷ fs) b c
+    later-noted : {b c d : Buffer S} {k : SyntaxError} {fs : List Fault} → (context state b).ignore_error ≡ false → c ≡ with_source (source c) b →
         state (source c) ≡ with_module_error (fault_at at k) (state (source b)) → Read state gives b [] c → Notes at fs c d → Notes at (in_modules k ∷ fs) b d
 
-  -- from b a word was looked at, and consumed
-  pub record Spoken (b : Buffer S) (w : Word) (at : Span) (c : Buffer S) : Type 0 where
+  -- from b a token was looked at, and consumed; a word; a `#`; a string
+  pub record Passed (b : Buffer S) (t : Token) (at : Span) (c : Buffer S) : Type 0 where
     pub here : Buffer S
     pub looked : Looked state gives b here
-    pub took : Bumped state gives here (token.Word w) c
+    pub took : Bumped state gives here t c
     pub place : at ≡ took.was.span
+
+  abbrev pub Spoken : Buffer S → Word → Span → Buffer S → Type 0
+  Spoken b w at c = Passed b (token.Word w) at c
+
+  abbrev pub Hashed : Buffer S → Span → Buffer S → Type 0
+  Hashed b at c = Passed b token.Hash at c
+
+  abbrev pub Quoted : List ℕ → List ℕ → Span → Buffer S → Buffer S → Type 0
+  Quoted value raw at b c = Passed b (token.Str value raw) at c
 
   -- a word was taken as a name: its text and its place are the answer's, and its faults were noted
   pub record Named (judge : Judges) (text : List ℕ) (at : Span) (b c : Buffer S) : Type 0 where
@@ -75,8 +75,8 @@ module _ {S : Type 0} (state : S → Source) (gives : S → List TokenAndSpan �
     pub spoken : Buffer S
     pub said : Spoken b name at spoken
     pub spelled : text ≡ word_text name
-    pub accepts : (judge (context b) name).refusal ≡ None
-    pub noted : Notes at (judge (context b) name).faults spoken c
+    pub accepts : (judge (context state b) name).refusal ≡ None
+    pub noted : Notes at (judge (context state b) name).faults spoken c
     pub consumed : List TokenAndSpan
     pub read : Read state gives b consumed c
 
@@ -86,19 +86,12 @@ module _ {S : Type 0} (state : S → Source) (gives : S → List TokenAndSpan �
     no_memory : (xs : List TokenAndSpan) → Read state gives b xs c → e.kind ≡ kind.OutOfMemory → Unnamed judge b e c
     not_fit : (r : Refused state gives b (λ here. unfit (current here) (last_position here) kind.Eof) e c) → is_fit (current r.here) ≡ false → Unnamed judge b e c
     no_word : (r : Refused state gives b (λ here. fault_at (place_here here) kind.ExpectedIdent) e c) → is_fit (current r.here) ≡ true → at_token is_word (current r.here) ≡ false → Unnamed judge b e c
-    refused_word : {w : Word} {k : SyntaxError} {at : Span} {spoken noted : Buffer S} → Spoken b w at spoken → (judge (context b) w).refusal ≡ Some k →
-        Notes at (judge (context b) w).faults spoken noted → Refused state gives noted (λ here. fault_at at k) e c → Unnamed judge b e c
+    refused_word : {w : Word} {k : SyntaxError} {at : Span} {spoken noted : Buffer S} → Spoken b w at spoken → (judge (context state b) w).refusal ≡ Some k →
+        Notes at (judge (context state b) w).faults spoken noted → Refused state gives noted (λ here. fault_at at k) e c → Unnamed judge b e c
 
   -- a name, or why there is none
   abbrev pub Names : {T : Type 0} → Judges → (T → List ℕ) → (T → Span) → Buffer S → Result T Error → Buffer S → Type 0
   Names judge text at b r c = MatchResult r (λ t. Named judge (text t) (at t) b c) (λ e. Unnamed judge b e c)
-
-  -- a `#` was looked at, and consumed
-  pub record Hashed (b : Buffer S) (at : Span) (c : Buffer S) : Type 0 where
-    pub here : Buffer S
-    pub looked : Looked state gives b here
-    pub took : Bumped state gives here token.Hash c
-    pub place : at ≡ took.was.span
 
   -- where the next token begins; at the end, where the token consumed last ends
   abbrev pub next_begins : Buffer S → BytePos
@@ -136,13 +129,6 @@ module _ {S : Type 0} (state : S → Source) (gives : S → List TokenAndSpan �
     pub at_hash : at_token is_hash (current here) ≡ true → Unprivate here e c
     pub elsewhere : at_token is_hash (current here) ≡ false → Unnamed name_of_any here e c
 
-  -- a string was looked at, and consumed
-  pub record Quoted (value raw : List ℕ) (at : Span) (b c : Buffer S) : Type 0 where
-    pub here : Buffer S
-    pub looked : Looked state gives b here
-    pub took : Bumped state gives here (token.Str value raw) c
-    pub place : at ≡ took.was.span
-
   -- why there is neither a name nor a string
   pub data Unexported (b : Buffer S) (e : Error) (c : Buffer S) : Type 0 where
     no_memory_for_it : (xs : List TokenAndSpan) → Read state gives b xs c → e.kind ≡ kind.OutOfMemory → Unexported b e c
@@ -151,11 +137,11 @@ module _ {S : Type 0} (state : S → Source) (gives : S → List TokenAndSpan �
 
   -- a word that may be bound where it stands is bound; before anything else nothing is consumed
   abbrev pub Unbound : Buffer S → Buffer S → Type 0
-  Unbound b c = Looked state gives b c × (at_token (is_bindable (context b)) (current c) ≡ false)
+  Unbound b c = Looked state gives b c × (at_token (is_bindable (context state b)) (current c) ≡ false)
 
   pub record Bound (text : List ℕ) (at : Span) (b c : Buffer S) : Type 0 where
     pub named : Named binding_verdict text at b c
-    pub may : is_bindable (context b) (token.Word named.name) ≡ true
+    pub may : is_bindable (context state b) (token.Word named.name) ≡ true
 
 -- the name is a word, or a string
 abbrev pub MatchExport : ModuleExportName → (Ident → Type 0) → (Str → Type 0) → Type 0

@@ -1,6 +1,7 @@
 -- What each word is where a name is wanted: with which faults it is taken, or why it is refused (ECMA-262, 12.7 and 13.1.1).
 use Rattle.std.specs.Prelude.{ℕ, Bool, true, false, not, ◌&&◌, ◌||◌, if◌then◌else◌, List, [], ◌∷◌, ◌++◌, Option, Some, None, codes}
-use Rattle.swc_context.specs.Reserved.{is_reserved, is_text, is_one_of, strict_binding_words}
+use Rattle.swc_context.specs.Reserved.{is_reserved, strict_names, strict_binding_words}
+use Rattle.swc_context.specs.Texts.{is_text, is_one_of}
 use Rattle.swc_context.specs.Words.{word_text}
 use Rattle.swc_context.specs.declared.context.Context.{Context}
 use Rattle.swc_context.specs.declared.error.SyntaxError.{SyntaxError}
@@ -35,12 +36,7 @@ abbrev pub unless : Bool → Option SyntaxError
 unless true = None
 unless false = Some kind.ExpectedIdent
 
--- the names that strict code reserves; `let` and `yield`, which are keywords, have rows of their own
-abbrev pub strict_names : List (List ℕ)
-strict_names =
-    codes "static" ∷ codes "implements" ∷ codes "interface" ∷ codes "package" ∷ codes "private" ∷ codes "protected" ∷ codes "public" ∷ []
-
--- a word that is no keyword
+-- a word that is no keyword; `let` and `yield`, which strict code reserves too, are keywords, and have rows of their own
 abbrev pub name_verdict : Context → List ℕ → Verdict
 name_verdict c w =
     if is_text w (codes "enum") then taken_with (now (kind.InvalidIdentInStrict w)) else
@@ -90,10 +86,6 @@ is_bindable c t = false
 abbrev pub is_word : Token → Bool
 is_word (token.Word w) = true
 is_word t = false
-
-abbrev pub is_hash : Token → Bool
-is_hash token.Hash = true
-is_hash t = false
 
 abbrev pub is_str : Token → Bool
 is_str (token.Str value raw) = true

@@ -2,8 +2,9 @@
 ghost use Rattle.std.specs.Prelude.{◌≡◌, true, List, MatchResult, MatchOption};
 ghost use Rattle.either.specs.Either.{MatchEither};
 ghost use Rattle.swc_input.specs.declared.token.TokenAndSpan.{TokenAndSpan};
-ghost use Rattle.swc_input.specs.Buffer.{current, Read};
-ghost use Rattle.swc_ident.specs.Naming.{at_token, context, Names, Named, Unnamed, PrivateNames, Private, Hashed, Unprivate, Neither, Quoted, Unexported, Unbound, Bound, MatchExport};
+ghost use Rattle.swc_input.specs.Buffer.{current, Read, context};
+ghost use Rattle.swc_input.specs.Kinds.{at_token};
+ghost use Rattle.swc_ident.specs.Naming.{Names, Named, Unnamed, PrivateNames, Private, Hashed, Unprivate, Neither, Quoted, Unexported, Unbound, Bound, MatchExport};
 ghost use Rattle.swc_ident.specs.Verdicts.{ident_verdict, reference_verdict, binding_verdict, name_of_any, is_bindable};
 
 use crate::words::{
@@ -213,7 +214,7 @@ pub fn parse_opt_binding_ident<I: Tokens>(
 
 /// Whether a word is current that may be bound where it stands.
 fn is_at_bindable<I: Tokens>(input: &Buffer<I>) -> bool
-    ensures { result ≡ at_token (is_bindable (context I.state I.gives input.now)) (current input.now) }
+    ensures { result ≡ at_token (is_bindable (context I.state input.now)) (current input.now) }
 {
     let ctx = input.get_ctx();
     match input.cur_debug() {

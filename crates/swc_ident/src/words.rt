@@ -1,14 +1,16 @@
 // Words, where a name is wanted: their faults, their refusals, and their texts.
 ghost use Rattle.std.specs.Prelude.{◌≡◌, ◌≢◌, true, ◌&&◌, [], ◌∷◌, MatchResult, codes};
+ghost use Rattle.swc_context.specs.Reserved.{strict_names};
+ghost use Rattle.swc_context.specs.Texts.{is_text, is_one_of};
 ghost use Rattle.swc_context.specs.Words.{word_text};
-ghost use Rattle.swc_context.specs.Reserved.{is_one_of, is_text};
 ghost use Rattle.swc_context.specs.declared.error.SyntaxError.TheVariants.{InvalidIdentInStrict, OutOfMemory};
 ghost use Rattle.swc_input.specs.declared.token.Token.TheVariants as token;
-ghost use Rattle.swc_input.specs.Buffer.{current, previous, last_position, Bumped};
+ghost use Rattle.swc_input.specs.Buffer.{current, previous, last_position, Bumped, context};
 ghost use Rattle.swc_input.specs.Recording.{no_memory};
-ghost use Rattle.swc_ident.specs.Naming.{at_token, context, Spoken, Unnamed};
+ghost use Rattle.swc_input.specs.Kinds.{at_token, is_hash};
+ghost use Rattle.swc_ident.specs.Naming.{Spoken, Unnamed};
 ghost use Rattle.swc_ident.specs.Steps.{faults_of, word_faults, Noting};
-ghost use Rattle.swc_ident.specs.Verdicts.{now, in_modules, name_verdict, strict_names, await_refusal, ident_verdict, binding_faults, name_of_any, is_word, is_hash, is_str};
+ghost use Rattle.swc_ident.specs.Verdicts.{now, in_modules, name_verdict, await_refusal, ident_verdict, binding_faults, name_of_any, is_word, is_str};
 
 use std::alloc::Global;
 use swc_ast::lit::Str;
@@ -39,36 +41,26 @@ pub(crate) fn mark_of(ctx: Context, word: &Word) -> Mark
     ensures { faults_of result (word_text word.now) ≡ word_faults ctx word.now }
 {
     match word {
-        Word::Ident(name) => mark_of_name(ctx, name.as_str()),
+        Word::Ident(name) => mark_of_name(ctx, name),
         Word::Keyword(Keyword::Let | Keyword::Yield) => Mark::Strict,
         _ => Mark::Clean,
     }
 }
 
 /// What is wrong with a word that is no keyword.
-fn mark_of_name(ctx: Context, name: &str) -> Mark
+fn mark_of_name(ctx: Context, name: &Atom) -> Mark
     ensures { faults_of result name.now ≡ (name_verdict ctx name.now).faults }
 {
-    if name == "enum" {
+    if name.as_str() == "enum" {
         return Mark::Reserved;
     }
-    if is_strict_name(name) {
+    if name.is_strict_name() {
         return Mark::Strict;
     }
-    if ctx.in_class_field && name == "arguments" {
+    if ctx.in_class_field && name.as_str() == "arguments" {
         return Mark::Arguments;
     }
     Mark::Clean
-}
-
-/// Whether strict code reserves the name.
-fn is_strict_name(name: &str) -> bool
-    ensures { result ≡ is_one_of name.now strict_names }
-{
-    matches!(
-        name,
-        "static" | "implements" | "interface" | "package" | "private" | "protected" | "public"
-    )
 }
 
 /// Why the word is no identifier, if it isn't.
@@ -131,7 +123,7 @@ pub(crate) fn note_mark<I: Tokens>(
 
 /// Notes at the place what is wrong with a name that is bound.
 pub(crate) fn note_binding<I: Tokens>(input: &mut Buffer<I>, at: Span, name: &Atom) -> PResult<()>
-    ensures { Noting I.state I.gives at (binding_faults (context I.state I.gives input.old) name.now) input.old result input.new }
+    ensures { Noting I.state I.gives at (binding_faults (context I.state input.old) name.now) input.old result input.new }
 {
     if name.is_reserved_in_strict_bind() {
         return note_in_modules(input, at, SyntaxError::EvalAndArgumentsInStrict);

@@ -12,11 +12,8 @@ use Rattle.swc_input.specs.declared.token.Token.TheVariants as token
 use Rattle.swc_input.specs.declared.token.TokenAndSpan.{TokenAndSpan}
 use Rattle.swc_input.specs.Source.{Source, Keeps, IsFault, recorded_in, waiting_in}
 use Rattle.swc_input.specs.Buffer.{Read, Looked, current, source, last_position}
-use Rattle.swc_input.specs.Laws.{Joins, Read-late}
+use Rattle.swc_input.specs.Laws.{Joins, keeps_same, Read-late}
 use Rattle.swc_input.specs.Recording.{Recorded, Refused, no_memory, counted_kind, counted, error_in, is_some, error_here, error_list, error_token, is_fit, refusal}
-
-pub keeps_none : (es fs : List Error) → fs ≡ es → Keeps es fs
-keeps_none es fs h = record { more = []; added = h ∙ sym (append-nil es); faults = All-nil IsFault }
 
 pub keeps_one : (es fs : List Error) (e : Error) → fs ≡ es ++ e ∷ [] → IsFault e → Keeps es fs
 keeps_one es fs e h fault = record { more = e ∷ []; added = h; faults = All-cons IsFault e [] fault (All-nil IsFault) }
@@ -24,10 +21,10 @@ keeps_one es fs e h fault = record { more = e ∷ []; added = h; faults = All-co
 -- a fault of modules is recorded in one, and waits elsewhere
 pub keeps_recorded : (m : Bool) (es fs : List Error) (e : Error) → fs ≡ es ++ recorded_in m (e ∷ []) → IsFault e → Keeps es fs
 keeps_recorded true es fs e h fault = keeps_one es fs e h fault
-keeps_recorded false es fs e h fault = keeps_none es fs (h ∙ append-nil es)
+keeps_recorded false es fs e h fault = keeps_same es fs (h ∙ append-nil es)
 
 pub keeps_waiting : (m : Bool) (es fs : List Error) (e : Error) → fs ≡ es ++ waiting_in m (e ∷ []) → IsFault e → Keeps es fs
-keeps_waiting true es fs e h fault = keeps_none es fs (h ∙ append-nil es)
+keeps_waiting true es fs e h fault = keeps_same es fs (h ∙ append-nil es)
 keeps_waiting false es fs e h fault = keeps_one es fs e h fault
 
 counted_kind_fault : (k : SyntaxError) → counted_kind k ≢ kind.OutOfMemory

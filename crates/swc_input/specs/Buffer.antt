@@ -1,5 +1,6 @@
 -- What a call of a buffer does, and which tokens may still come.
 use Rattle.std.specs.Prelude.{◌≡◌, ℕ, ◌+◌, ◌≤◌, true, false, List, [], ◌∷◌, ◌++◌, Option, Some, None, length, min}
+use Rattle.swc_context.specs.declared.context.Context.{Context}
 use Rattle.swc_context.specs.declared.operator.BinOpToken.TheVariants.{Lt}
 use Rattle.swc_context.specs.declared.span.BytePos.{BytePos}
 use Rattle.swc_context.specs.declared.span.Span.{Span}
@@ -64,6 +65,9 @@ pub record Took {S : Type 0} (gives : S → List TokenAndSpan → S → Type 0) 
   pub balance : held b ++ given ≡ xs ++ held c
 
 module _ {S : Type 0} (state : S → Source) where
+  abbrev pub context : Buffer S → Context
+  context b = (state b.iter).context
+
   -- no more tokens than this are still to come, those held among them
   abbrev pub left : Buffer S → ℕ
   left b = (state b.iter).bound + length (held b)

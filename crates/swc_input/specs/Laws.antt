@@ -19,8 +19,8 @@ Joins {S} gives = (s t u : S) (xs ys : List TokenAndSpan) → gives s xs t → g
 abbrev pub Gives : {S : Type 0} → (S → Source) → (S → List TokenAndSpan → S → Type 0) → Type 0
 Gives {S} state gives = (s t : S) (xs : List TokenAndSpan) → gives s xs t → Gave (state s) xs (state t)
 
-pub Keeps-same : (es : List Error) → Keeps es es
-Keeps-same es = record { more = []; added = sym (append-nil es); faults = All-nil IsFault }
+pub keeps_same : (es fs : List Error) → fs ≡ es → Keeps es fs
+keeps_same es fs h = record { more = []; added = h ∙ sym (append-nil es); faults = All-nil IsFault }
 
 pub Keeps-then : (es fs gs : List Error) → Keeps es fs → Keeps fs gs → Keeps es gs
 Keeps-then es fs gs h k = record {
@@ -63,8 +63,8 @@ module _ {S : Type 0} (state : S → Source) (gives : S → List TokenAndSpan �
   Read-same none b = record {
     took = record { given = []; gave = none b.iter; balance = append-nil (held b) };
     context = refl;
-    errors = Keeps-same (state b.iter).errors;
-    waiting = Keeps-same (state b.iter).waiting;
+    errors = keeps_same _ _ refl;
+    waiting = keeps_same _ _ refl;
     lower = omega arith;
   }
 

@@ -1,4 +1,5 @@
 pub mod Buffer
+pub mod Kinds
 pub mod Laws
 pub mod Listed
 pub mod Plain

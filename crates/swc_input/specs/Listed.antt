@@ -11,6 +11,7 @@ use Rattle.swc_input.specs.declared.token.TokenAndSpan.{TokenAndSpan}
 use Rattle.swc_input.specs.declared.listed.TokensInput.{TokensInput}
 use Rattle.swc_input.specs.Plain.{plain}
 use Rattle.swc_input.specs.Source.{Source, IsLawful, Keeps, Keeping, Gave, Asked, IsFault}
+use Rattle.swc_input.specs.Laws.{keeps_same}
 
 abbrev pub is_nil : {A : Type 0} → List A → Bool
 is_nil [] = true
@@ -73,14 +74,11 @@ second_nil : {A : Type 0} (xs ys : List A) → [] ≡ xs ++ ys → ys ≡ []
 second_nil [] ys h = sym h
 second_nil (x ∷ xs) ys h = cc
 
-pub Keeps-same : (es fs : List Error) → fs ≡ es → Keeps es fs
-Keeps-same es fs h = record { more = []; added = h ∙ sym (append-nil es); faults = All-nil IsFault }
-
 keeping : (s t : TokensInput) (r : Option TokenAndSpan) → NextListed s r t → Keeping (listed_state s) (listed_state t)
 keeping s t r n = record {
   context = n.context;
-  errors = Keeps-same _ _ n.errors;
-  waiting = Keeps-same _ _ n.waiting;
+  errors = keeps_same _ _ n.errors;
+  waiting = keeps_same _ _ n.waiting;
   quiet = λ m h. (n.errors, n.waiting);
 }
 

@@ -64,7 +64,7 @@ impl<I: Tokens> Buffer<I> {
     }
 
     /// Records a fault, whatever is current.
-    #[tactic(auto, using(crate::proofs::Emits::keeps_one, crate::proofs::Emits::keeps_none))]
+    #[tactic(auto, using(crate::proofs::Emits::keeps_one, crate::specs::Laws::keeps_same))]
     fn record(&mut self, error: Error) -> PResult<()>
         requires { IsFault error }
         ensures read { Read I.state I.gives self.old [] self.new }

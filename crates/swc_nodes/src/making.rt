@@ -1,5 +1,6 @@
 // Makes the nodes of productions, and says where they stand.
 ghost use Rattle.std.specs.Prelude.{◌≡◌, ℕ, ◌+◌, IfOk};
+ghost use Rattle.swc_context.specs.Spans.{between};
 ghost use Rattle.swc_ast.specs.Parts.{leaf, ident_tree, lit_tree};
 ghost use Rattle.swc_ast.specs.Tree.{invalid, span_of};
 ghost use Rattle.swc_grammar.specs.Trees as trees;
@@ -44,7 +45,7 @@ impl<F: Spanned + Drop, C: Spanned + Drop, K: Spanned + Drop> Nodes<F, C, K> {
     /// `#` and a name (ECMA-262, 13.10.1), from the `#` on.
     pub fn private_name(&mut self, start: BytePos, name: IdentName) -> Result<ExprId, AllocError>
         ensures grows { Grows self.old self.new }
-        ensures made { IfOk result (λ id. Made (count self.old) self.new (expr_part id) (trees.private_e (trees.between start name.span.hi) name.sym)) }
+        ensures made { IfOk result (λ id. Made (count self.old) self.new (expr_part id) (trees.private_e (between start name.span.hi) name.sym)) }
     {
         let span = Span::new(start, name.span.hi);
         let name = name.sym;
@@ -68,7 +69,7 @@ impl<F: Spanned + Drop, C: Spanned + Drop, K: Spanned + Drop> Nodes<F, C, K> {
     ) -> Result<ExprId, AllocError>
         requires { From 0 self.old (expr_part expr) }
         ensures grows { Grows self.old self.new }
-        ensures made { IfOk result (λ id. Made (first_at self.old expr.0) self.new (expr_part id) (trees.paren_e (trees.between start end) (tree_at self.old expr.0))) }
+        ensures made { IfOk result (λ id. Made (first_at self.old expr.0) self.new (expr_part id) (trees.paren_e (between start end) (tree_at self.old expr.0))) }
     {
         let span = Span::new(start, end);
         Ok(ExprId(self.push(Node::Paren(ParenExpr { span, expr }))?))
@@ -78,7 +79,7 @@ impl<F: Spanned + Drop, C: Spanned + Drop, K: Spanned + Drop> Nodes<F, C, K> {
     pub fn unary(&mut self, start: BytePos, op: UnaryOp, arg: ExprId) -> Result<ExprId, AllocError>
         requires { From 0 self.old (expr_part arg) }
         ensures grows { Grows self.old self.new }
-        ensures made { IfOk result (λ id. Made (first_at self.old arg.0) self.new (expr_part id) (trees.unary_e (trees.between start (span_of (tree_at self.old arg.0)).hi) op (tree_at self.old arg.0))) }
+        ensures made { IfOk result (λ id. Made (first_at self.old arg.0) self.new (expr_part id) (trees.unary_e (between start (span_of (tree_at self.old arg.0)).hi) op (tree_at self.old arg.0))) }
     {
         let span = Span::new(start, self.span(arg).hi);
         Ok(ExprId(self.push(Node::Unary { span, op, arg })?))

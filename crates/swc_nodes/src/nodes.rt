@@ -6,6 +6,7 @@ ghost use Rattle.swc_nodes.specs.Slots.{form, view_ok, expr};
 use crate::node::{ExprId, Node, PatId};
 use std::alloc::{AllocError, Global};
 use swc_ast::spanned::Spanned;
+use swc_bodies::bodies::BodyForms;
 
 /// The nodes of trees, each behind its parts. What is reached from one part of a node lies behind the part before it, in the order of the
 /// source, so no node is a part of two.
@@ -16,6 +17,13 @@ pub struct Nodes<F: Spanned, C: Spanned, K: Spanned> {
     nodes: Vec<Node<F, C, K>>,
     ghost in_order: { ordered F.place C.place K.place [] nodes.items ≡ true },
 }
+
+/// Nodes over a hook's values.
+pub type NodesOf<B> = Nodes<
+    <B as BodyForms>::Fun,
+    <B as BodyForms>::Class,
+    <B as BodyForms>::Block,
+>;
 
 impl<F: Spanned + Drop, C: Spanned + Drop, K: Spanned + Drop> Nodes<F, C, K> {
     ghost use Rattle.swc_nodes.specs.Slots.{slots, expr_part, pat_part};

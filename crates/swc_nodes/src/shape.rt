@@ -117,7 +117,8 @@ fn is_logical_op(op: BinaryOp) -> bool
     matches!(op, BinaryOp::LogicalAnd | BinaryOp::LogicalOr)
 }
 
-fn is_nullish_op(op: BinaryOp) -> bool
+/// Whether the operator is `??`.
+pub fn is_nullish_op(op: BinaryOp) -> bool
     ensures { result ≡ trees.is_nullish_op op }
 {
     matches!(op, BinaryOp::NullishCoalescing)

@@ -1,6 +1,7 @@
 -- The calls on names: what they answer is what the clean readers of names read.
 use Rattle.std.proofs.Common.{◌≡◌, ◌≢◌, ◌≤◌, ◌<◌, ℕ, Bool, true, false, ◌||◌, not, ◌&&◌, if◌then◌else◌, List, [], ◌∷◌, ◌++◌, Option, Some, None, Result, Ok, Err, OnOk, length, refl, sym, ap, subst, ◌∙◌, arith, length-append, codes}
-use Rattle.swc_context.specs.Reserved.{is_text, is_one_of}
+use Rattle.swc_context.specs.Reserved.{strict_names}
+use Rattle.swc_context.specs.Texts.{is_text, is_one_of}
 use Rattle.swc_context.specs.Words.{word_text}
 use Rattle.swc_context.specs.declared.context.Context.{Context}
 use Rattle.swc_context.specs.declared.error.Error.{Error}
@@ -16,18 +17,18 @@ use Rattle.swc_input.specs.declared.token.Token.TheVariants as token
 use Rattle.swc_input.specs.declared.token.TokenAndSpan.{TokenAndSpan}
 use Rattle.swc_input.specs.Plain.{plain_token}
 use Rattle.swc_input.specs.Source.{Source, recorded_in}
-use Rattle.swc_input.specs.Buffer.{Read, Looked, current, source, left}
+use Rattle.swc_input.specs.Buffer.{Read, Looked, current, source, left, context}
 use Rattle.swc_input.specs.Laws.{Read-same, Recorded-read}
 use Rattle.swc_input.specs.Recording.{is_fit, is_silent, error_list, error_here, Recorded}
 use Rattle.swc_input.proofs.Refusals.{Refused-kind}
-use Rattle.swc_bodies.specs.Readings.{at_token}
+use Rattle.swc_input.specs.Kinds.{at_token}
 use Rattle.swc_grammar.specs.Names.{Spelling, spelling}
 use Rattle.swc_grammar.specs.Tokens.{is_reference, is_put_off, ref_ok}
 use Rattle.swc_grammar.specs.Clean.{Out, first, rest, is_identifier, no_error, one, spelled, word_by, word}
 use Rattle.swc_ident.specs.Naming.{Judges, fault_at, place_here, Notes, none-noted, now-silent, now-recorded, later-ignored, later-noted, Spoken, Named, Unnamed, no_memory, not_fit, no_word, refused_word, Names}
-use Rattle.swc_ident.specs.Verdicts.{Fault, Verdict, now, in_modules, is_word, taken, taken_with, unless, strict_names, name_of_any, ident_verdict, reference_verdict, binding_verdict, binding_faults, and_then}
-use Rattle.swc_productions.specs.Parsing.{seen, seen_of, context, recorded, Laws, Leads, Here, On, Heard, Unheard, Parses}
-use Rattle.swc_productions.proofs.Steps.{Reader, here, parses_after, on_took, leads_then, refuses_later, refused, required, on_seen, on_then, heard_after, heard_first, unheard_after, unheard_at, unheard_memory, unheard_unfit, lower}
+use Rattle.swc_ident.specs.Verdicts.{Fault, Verdict, now, in_modules, is_word, taken, taken_with, unless, name_of_any, ident_verdict, reference_verdict, binding_verdict, binding_faults, and_then}
+use Rattle.swc_productions.specs.Parsing.{seen, seen_of, recorded, Laws, Leads, Here, On, Heard, Unheard, Parses}
+use Rattle.swc_productions.proofs.Steps.{Reader, here, parses_after, on_took, leads_then, refuses_later, refused, required, on_seen, on_then, heard_after, heard_first, unheard_after, unheard_at, unheard_memory, unheard_unfit, lower, on_looked}
 use Rattle.swc_productions.proofs.Words.{none_counts, is_taken, is_clean, reference-table}
 
 -- a call never refuses a word as the parser's own failure
@@ -174,14 +175,6 @@ module _ {S : Type 0} {state : S → Source} {gives : S → List TokenAndSpan �
   here_at : {b c : Buffer S} → Laws state gives → Looked state gives b c → current c ≢ None → Here state gives b c
   here_at laws l some = record { laws = laws; looked = l; end = λ e. absurd (some e) }
 
-  -- what is read is read after a look
-  pub on_look : {A : Type 0} {f : Reader A} {b c : Buffer S} → Laws state gives → Looked state gives b c → On state gives f f b c
-  on_look {f = f} laws l = record {
-    leads = record { laws = laws; taken = []; read = l.look.read };
-    clean = λ e s ys fut. ap (λ x. f x ys) (sym l.look.read.context);
-    faulty = λ e lt ts k. let same = ap length (l.look.quiet k.more k.known).0 in absurd (omega (arith, lt, same));
-  }
-
   -- a fault that waits changes nothing
   on_waiting : {A : Type 0} {f : Reader A} {b c : Buffer S} → Laws state gives → Read state gives b [] c → recorded state c ≡ recorded state b → On state gives f f b c
   on_waiting {f = f} laws r same = record {
@@ -270,7 +263,7 @@ module _ {S : Type 0} {state : S → Source} {gives : S → List TokenAndSpan �
   pub on_spoken : (judge : Judges) {b c : Buffer S} {w : Word} {at : Span} (text : List ℕ) → Laws state gives → Spoken state gives b w at c → text ≡ word_text w → On state gives (word_of judge) (told judge w (spelling text at)) b c
   unfolding word
   on_spoken judge {w = w} {at = at} text laws s same =
-      on_then (on_look {f = word_of judge} laws s.looked) (on_took laws s.took (λ x ts. takes_word judge x w s.took.was.token s.took.was.span at text ts s.took.token s.place same))
+      on_then (on_looked {f = word_of judge} laws s.looked) (on_took laws s.took (λ x ts. takes_word judge x w s.took.was.token s.took.was.span at text ts s.took.token s.place same))
 
   -- a name was read
   pub heard_name : (judge : Judges) {text : List ℕ} {at : Span} {b c : Buffer S} → Laws state gives → Named state gives judge text at b c → Heard state gives (word_of judge) (spelling text at) b c
@@ -280,7 +273,7 @@ module _ {S : Type 0} {state : S → Source} {gives : S → List TokenAndSpan �
       let w = n.name in
       let s = n.said in
       let same : is_clean x (judge x w) ≡ none_counts x.module (judge (context state b) w).faults = clean_is judge x (context state b) w (spoken_context s) n.accepts in
-      heard_after (on_look {f = word_of judge} laws s.looked)
+      heard_after (on_looked {f = word_of judge} laws s.looked)
       (heard_first laws s.took (λ x ts. takes_word judge x w s.took.was.token s.took.was.span at text ts s.took.token s.place n.spelled)
       (on_notes laws n.noted (λ ts h. goes (is_clean x (judge x w)) (Some (spelling text at, ts)) (same ∙ h)) (λ ts h. stops (is_clean x (judge x w)) (Some (spelling text at, ts)) (same ∙ h))))
 

@@ -11,11 +11,11 @@ use Rattle.swc_input.specs.declared.token.Token.{Token}
 use Rattle.swc_input.specs.declared.token.Token.TheVariants as token
 use Rattle.swc_input.specs.declared.token.TokenAndSpan.{TokenAndSpan}
 use Rattle.swc_input.specs.Plain.{plain}
+use Rattle.swc_input.specs.Kinds.{at_token, is_hash}
 use Rattle.swc_ast.specs.Tree.{Tree, span_of}
-use Rattle.swc_bodies.specs.Readings.{at_token}
 use Rattle.swc_grammar.specs.Tokens.{with_in, ref_ok}
 use Rattle.swc_grammar.specs.Trees.{to, ident_e, private_e, unary_e, paren_e, bin_e, is_logical, is_nullish_op, nullish_ok, exp_ok, delete_ok, min_right}
-use Rattle.swc_grammar.specs.Clean.{Out, ◌>>=◌, first, rest, is_lit, is_lparen, is_rparen, is_identifier, is_hash, no_error, operator_at, prefix_at, left_ok, lit_of, one, spelled, may_name, Call, to_assign, to_unary, to_operand, to_climb}
+use Rattle.swc_grammar.specs.Clean.{Out, ◌>>=◌, first, rest, is_lit, is_lparen, is_rparen, is_identifier, no_error, operator_at, prefix_at, left_ok, lit_of, one, spelled, may_name, Call, to_assign, to_unary, to_operand, to_climb}
 use Rattle.swc_grammar.specs.Clean.{word, lit, name, hashed, private_name, inside, close, opened, parens, primary, prefix_node, prefixed, prefix, unary, node_by, operation, turn, go_on, turned, climb, operand, assign, run}
 use Rattle.swc_grammar.proofs.Knot.{knot}
 use Rattle.swc_productions.specs.Parsing.{is_strict, seen_of}

@@ -16,15 +16,14 @@ use Rattle.swc_input.specs.declared.token.Token.TheVariants as token
 use Rattle.swc_input.specs.declared.token.TokenAndSpan.{TokenAndSpan}
 use Rattle.swc_input.specs.Plain.{plain, plain_token}
 use Rattle.swc_input.specs.Source.{Source, Keeps, with_context, with_module_error, recorded_in, waiting_in}
-use Rattle.swc_input.specs.Buffer.{Took, Read, Looked, Bumped, Future, Known, left, source, current, last_position, held, with_source}
-use Rattle.swc_input.specs.Laws.{Took-then, Read-then, Read-late, Keeps-then, Future-before, Known-after, Known-Future, Future-current, Future-end}
+use Rattle.swc_input.specs.Buffer.{Took, Read, Looked, Bumped, Future, Known, left, source, current, last_position, held, with_source, context}
+use Rattle.swc_input.specs.Laws.{Took-then, Read-same, Read-then, Read-late, keeps_same, Keeps-then, Future-before, Known-after, Known-Future, Future-current, Future-end}
 use Rattle.swc_input.specs.Recording.{Refused, error_here, error_in, is_some, is_fit, unfit, no_memory}
-use Rattle.swc_input.proofs.Emits.{keeps_none}
 use Rattle.swc_input.proofs.Refusals.{Refused-kind, unfit-kind}
-use Rattle.swc_bodies.specs.Readings.{at_token}
+use Rattle.swc_input.specs.Kinds.{at_token}
 use Rattle.swc_grammar.specs.Clean.{Out, ◌>>=◌, first, lit_of, no_error}
 use Rattle.swc_ast.specs.Tree.{Tree}
-use Rattle.swc_productions.specs.Parsing.{is_memory, seen, seen_of, context, recorded, Loud, Laws, Leads, Advances, Moves, Refuses, Forgoes, Reads, Does, Tries, Here, Unfit, Checks, On, Heard, Unheard, Parses, Follows, Literal}
+use Rattle.swc_productions.specs.Parsing.{is_memory, seen, seen_of, recorded, Loud, Laws, Leads, Advances, Moves, Refuses, Forgoes, Reads, Does, Tries, Here, Unfit, Checks, On, Heard, Unheard, Parses, Follows, Literal}
 
 abbrev pub Reader : Type 0 → Type 0
 Reader A = Context → List TokenAndSpan → Out A
@@ -128,17 +127,7 @@ module _ {S : Type 0} {state : S → Source} {gives : S → List TokenAndSpan �
 
   -- nothing was done
   pub here : (laws : Laws state gives) (b : Buffer S) → Leads state gives b b
-  here laws b = record {
-    laws = laws;
-    taken = [];
-    read = record {
-      took = record { given = []; gave = laws.none b.iter; balance = append-nil (held b) };
-      context = refl;
-      errors = keeps_none _ _ refl;
-      waiting = keeps_none _ _ refl;
-      lower = omega arith;
-    };
-  }
+  here laws b = record { laws = laws; taken = []; read = Read-same state gives laws.none b }
 
   pub leads_then : {b c d : Buffer S} → Leads state gives b c → Leads state gives c d → Leads state gives b d
   leads_then {b} {c} {d} p q = record { laws = p.laws; taken = p.taken ++ q.taken; read = Read-then state gives p.laws.joins b c d p.taken q.taken p.read q.read }
@@ -493,10 +482,10 @@ module _ {S : Type 0} {state : S → Source} {gives : S → List TokenAndSpan �
       }
 
   moved_kept : {b c : Buffer S} → Moves state gives b c → Keeps (state b.iter).errors (state c.iter).errors
-  moved_kept m = keeps_none _ _ m.errors
+  moved_kept m = keeps_same _ _ m.errors
 
   moved_waiting : {b c : Buffer S} → Moves state gives b c → Keeps (state b.iter).waiting (state c.iter).waiting
-  moved_waiting m = keeps_none _ _ m.waiting
+  moved_waiting m = keeps_same _ _ m.waiting
 
   -- between two contexts, the second of which is put back
   pub within : {b c d e : Buffer S} → Moves state gives b c → Leads state gives c d → Moves state gives d e → context state e ≡ context state b → Leads state gives b e

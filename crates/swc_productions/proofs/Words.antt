@@ -1,7 +1,8 @@
 -- The words that a call on names takes with no fault that counts are those that the grammar takes.
 use Rattle.std.proofs.Common.{◌≡◌, ℕ, Bool, true, false, not, ◌&&◌, ◌||◌, if◌then◌else◌, codes, List, [], ◌∷◌, ◌++◌, Option, Some, None, refl, sym, ap, ◌∙◌}
 use Rattle.std.specs.Cmp.Lexicographic.{same_text}
-use Rattle.swc_context.specs.Reserved.{is_text, is_one_of, strict_reserved, strict_binding_words}
+use Rattle.swc_context.specs.Reserved.{strict_reserved, strict_binding_words, strict_names}
+use Rattle.swc_context.specs.Texts.{is_text, is_one_of}
 use Rattle.swc_context.specs.Words.{word_text}
 use Rattle.swc_context.specs.declared.context.Context.{Context}
 use Rattle.swc_context.specs.declared.error.SyntaxError.{SyntaxError}
@@ -11,7 +12,7 @@ use Rattle.swc_context.specs.declared.word.Word.{Word}
 use Rattle.swc_context.specs.declared.word.Word.TheVariants as word
 use Rattle.swc_grammar.specs.Clean.{may_bind, may_name}
 use Rattle.swc_grammar.specs.Tokens.{is_reference, ref_ok}
-use Rattle.swc_ident.specs.Verdicts.{Fault, now, in_modules, Verdict, taken, taken_with, unless, strict_names, ident_verdict, reference_verdict, binding_verdict, binding_faults, name_of_any}
+use Rattle.swc_ident.specs.Verdicts.{Fault, now, in_modules, Verdict, taken, taken_with, unless, ident_verdict, reference_verdict, binding_verdict, binding_faults, name_of_any}
 
 -- whether a fault counts, as it is recorded: one of modules waits elsewhere
 abbrev pub counts : Bool → Fault → Bool

@@ -10,9 +10,10 @@ use Rattle.swc_input.specs.declared.token.Token.TheVariants as token
 use Rattle.swc_input.specs.declared.token.TokenAndSpan.{TokenAndSpan}
 use Rattle.swc_input.specs.Plain.{plain}
 use Rattle.swc_input.specs.Source.{Source, IsLawful}
-use Rattle.swc_input.specs.Buffer.{Took, Read, Looked, Future, Known, left}
+use Rattle.swc_input.specs.Buffer.{Took, Read, Looked, Future, Known, context, left}
 use Rattle.swc_input.specs.Laws.{Joins, Gives}
 use Rattle.swc_input.specs.Recording.{is_silent}
+use Rattle.swc_input.specs.Kinds.{at_token}
 use Rattle.swc_ast.specs.declared.ident.BindingIdent.{BindingIdent}
 use Rattle.swc_ast.specs.declared.ident.Ident.{Ident}
 use Rattle.swc_ast.specs.declared.ident.IdentName.{IdentName}
@@ -21,7 +22,6 @@ use Rattle.swc_ast.specs.declared.lit.Lit.{Lit}
 use Rattle.swc_ast.specs.Parts.{lit_tree}
 use Rattle.swc_ast.specs.Tree.{Tree}
 use Rattle.swc_ast.specs.declared.spanned.Spanned.{Ghosts}
-use Rattle.swc_bodies.specs.Readings.{at_token}
 use Rattle.swc_grammar.specs.Clean.{Out, first, rest, is_lit, lit_of, no_error}
 use Rattle.swc_grammar.specs.Names.{Spelling, spelling}
 use Rattle.swc_grammar.specs.Tokens.{is_strict_word}
@@ -67,9 +67,6 @@ abbrev pub seen : {S : Type 0} → Buffer S → Option TokenAndSpan
 seen b = seen_of b.cur
 
 module _ {S : Type 0} (state : S → Source) where
-  abbrev pub context : Buffer S → Context
-  context b = (state b.iter).context
-
   -- how many faults were recorded
   abbrev pub recorded : Buffer S → ℕ
   recorded b = length (state b.iter).errors

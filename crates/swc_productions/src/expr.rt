@@ -1,12 +1,12 @@
 // Expressions (ECMA-262, 13).
 ghost use Rattle.std.specs.Prelude.{◌≡◌, ◌<◌, ◌≤◌, true, not, ◌&&◌, Some, OnOk, IfOk, MatchResult};
-ghost use Rattle.swc_input.specs.Buffer.{left};
+ghost use Rattle.swc_input.specs.Buffer.{left, context};
 ghost use Rattle.swc_input.specs.Plain.{plain_token};
-ghost use Rattle.swc_bodies.specs.Readings.{at_token};
+ghost use Rattle.swc_input.specs.Kinds.{at_token, is_hash};
 ghost use Rattle.swc_grammar.specs.Clean as clean;
-ghost use Rattle.swc_grammar.specs.Clean.{run, is_lit, is_lparen, is_identifier, is_hash};
+ghost use Rattle.swc_grammar.specs.Clean.{run, is_lit, is_lparen, is_identifier};
 ghost use Rattle.swc_nodes.specs.Stands.{count};
-ghost use Rattle.swc_productions.specs.Parsing.{lit_in, seen, context, Parses, Produces, Checks, Forgoes, Literal, itself, tree_of};
+ghost use Rattle.swc_productions.specs.Parsing.{lit_in, seen, Parses, Produces, Checks, Forgoes, Literal, itself, tree_of};
 
 use crate::moves::{
     bump, copy_of, emit_strict_mode_err, look, made, parse_ident_name, parse_ident_ref,

@@ -2,12 +2,12 @@
 ghost use Rattle.std.specs.Prelude.{◌≡◌, ◌≢◌, ◌<◌, ◌≤◌, true, false, not, None, IfErr, IfOk, OnOk, IsSome, Result, Ok, MatchResult};
 ghost use Rattle.swc_context.specs.declared.error.SyntaxError.TheVariants.{OutOfMemory, ParserFailed};
 ghost use Rattle.swc_input.specs.declared.token.Token.{Token};
-ghost use Rattle.swc_input.specs.Buffer.{current, last_position, source, left, Bumped};
+ghost use Rattle.swc_input.specs.Buffer.{current, last_position, source, left, Bumped, context};
 ghost use Rattle.swc_input.specs.Recording.{no_memory};
-ghost use Rattle.swc_bodies.specs.Readings.{at_token};
+ghost use Rattle.swc_input.specs.Kinds.{at_token};
 ghost use Rattle.swc_grammar.specs.Tokens.{ref_ok};
 ghost use Rattle.swc_grammar.specs.Clean.{no_error, word, may_name, is_identifier};
-ghost use Rattle.swc_productions.specs.Parsing.{is_memory, ident_spelling, name_spelling, seen, context, recorded, Loud, Moves, Refuses, Forgoes, Tries, Parses, Here, Unfit, Checks};
+ghost use Rattle.swc_productions.specs.Parsing.{is_memory, ident_spelling, name_spelling, seen, recorded, Loud, Moves, Refuses, Forgoes, Tries, Parses, Here, Unfit, Checks};
 
 use std::alloc::{AllocError, Global};
 use swc_ast::ident::{Ident, IdentName};

@@ -1,29 +1,22 @@
 // What all productions stand on: the buffer, the nodes and the hook.
 ghost use Rattle.std.specs.Prelude.{◌≡◌, true, false, None, Some, IfOk, IsSome, MatchResult};
 ghost use Rattle.swc_input.specs.declared.token.Token.{Token};
-ghost use Rattle.swc_input.specs.Buffer.{current, source};
-ghost use Rattle.swc_bodies.specs.Readings.{at_token};
+ghost use Rattle.swc_input.specs.Buffer.{current, source, context};
+ghost use Rattle.swc_input.specs.Kinds.{at_token, is_hash};
 ghost use Rattle.swc_grammar.specs.Tokens.{is_ref, is_strict_word};
-ghost use Rattle.swc_grammar.specs.Clean.{is_lit, is_lparen, is_rparen, is_identifier, is_hash};
-ghost use Rattle.swc_productions.specs.Parsing.{is_strict, seen, context, recorded, Forgoes, Here};
+ghost use Rattle.swc_grammar.specs.Clean.{is_lit, is_lparen, is_rparen, is_identifier};
+ghost use Rattle.swc_productions.specs.Parsing.{is_strict, seen, recorded, Forgoes, Here};
 
 use crate::moves::look;
 use std::alloc::Global;
-use swc_bodies::bodies::{Bodies, BodyForms};
+use swc_bodies::bodies::Bodies;
 use swc_context::context::Context;
 use swc_context::error::PResult;
 use swc_context::word::{Keyword, Word};
 use swc_input::buffer::Buffer;
 use swc_input::token::Token;
 use swc_input::tokens::Tokens;
-use swc_nodes::nodes::Nodes;
-
-/// Nodes over a hook's values.
-pub type NodesOf<B> = Nodes<
-    <B as BodyForms>::Fun,
-    <B as BodyForms>::Class,
-    <B as BodyForms>::Block,
->;
+use swc_nodes::nodes::NodesOf;
 
 /// The productions of the grammar, as methods: each reads its symbol from the buffer, from the current token on, and keeps the context.
 ///
@@ -125,10 +118,7 @@ fn is_strict_word(word: &Word) -> bool
 {
     match word {
         Word::Keyword(Keyword::Let | Keyword::Yield | Keyword::Await) => true,
-        Word::Ident(name) => matches!(
-            name.as_str(),
-            "static" | "implements" | "interface" | "package" | "private" | "protected" | "public"
-        ),
+        Word::Ident(name) => name.is_strict_name(),
         _ => false,
     }
 }

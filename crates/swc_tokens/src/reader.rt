@@ -8,6 +8,7 @@ ghost use Rattle.swc_tokens.specs.Order.{is_error};
 ghost use Rattle.swc_tokens.specs.Reading.{IsNext};
 
 use crate::fault::{lex_fault, out_of_memory, span};
+use crate::sign::{begins_regexp, longest_sign};
 use std::alloc::Global;
 use std::str;
 use swc_context::atom::Atom;
@@ -76,32 +77,6 @@ impl<'a> Reader<'a> {
         ensures at { self.new.at ≡ self.old.at + 1 }
     {
         self.at += 1;
-    }
-
-    /// Takes the next byte if it is this one, and says so.
-    pub(crate) fn eat(&mut self, byte: u8) -> bool
-        ensures text { self.new.text ≡ self.old.text }
-        ensures forward { self.old.at ≤ self.new.at }
-    {
-        if self.peek() == Some(byte) {
-            self.bump();
-            true
-        } else {
-            false
-        }
-    }
-
-    /// Takes two dots if they are next, and says so.
-    pub(crate) fn eat_two_dots(&mut self) -> bool
-        ensures text { self.new.text ≡ self.old.text }
-        ensures forward { self.old.at ≤ self.new.at }
-    {
-        if self.text[self.at..].starts_with(b"..") {
-            self.at += 2;
-            true
-        } else {
-            false
-        }
     }
 
     /// The fault of the next byte; at the end of the text an empty span there.
@@ -177,11 +152,45 @@ impl<'a> Reader<'a> {
         if first.is_ascii_digit() {
             return self.read_number(first);
         }
-        match first {
-            b'.' => self.read_dot(),
-            b'/' => self.read_slash(before),
-            _ => self.read_sign(first),
+        self.read_sign(before)
+    }
+
+    /// Reads a sign or an operator (ECMA-262, 12.8).
+    ///
+    /// Numbers that begin with a dot, comments and regular expressions, which begin with a slash, aren't read.
+    fn read_sign(&mut self, before: Option<&TokenAndSpan>) -> PResult<Token>
+        requires { self.old.at < length self.old.text.now }
+        ensures text { self.new.text ≡ self.old.text }
+        ensures forward { self.old.at < self.new.at }
+        ensures refused { IfErr result (IsRefusal self.old.text.now) }
+        ensures no_error { IfOk result (λ t. IsFalse (is_error t)) }
+    {
+        match &self.text[self.at..] {
+            [b'.', b'0'..=b'9', ..] | [b'/', b'/' | b'*', ..] => {
+                self.bump();
+                Err(self.fault())
+            }
+            [b'/', ..] if begins_regexp(before) => Err(self.refuse()),
+            rest => match longest_sign(rest) {
+                Some((token, len)) => {
+                    self.at += len;
+                    Ok(token)
+                }
+                None => Err(self.refuse()),
+            },
         }
+    }
+
+    /// Takes the next byte, which doesn't fit, and gives its fault.
+    fn refuse(&mut self) -> Error
+        requires { self.old.at < length self.old.text.now }
+        ensures text { self.new.text ≡ self.old.text }
+        ensures forward { self.old.at < self.new.at }
+        ensures fault { IsByteFault self.old.text.now result }
+    {
+        let fault = self.fault();
+        self.bump();
+        fault
     }
 
     /// Reads a word (ECMA-262, 12.7).
@@ -195,23 +204,10 @@ impl<'a> Reader<'a> {
     {
         let start = self.at;
         self.bump();
-        self.skip_word_parts();
+        self.skip_while(is_word_part);
         match Word::new(self.alloc, self.text_from(start)) {
             Ok(word) => Ok(Token::Word(word)),
             Err(_) => Err(out_of_memory()),
-        }
-    }
-
-    /// Skips the rest of a word.
-    fn skip_word_parts(&mut self)
-        ensures text { self.new.text ≡ self.old.text }
-        ensures forward { self.old.at ≤ self.new.at }
-    {
-        while let Some(byte) = self.peek() {
-            if !is_word_part(byte) {
-                break;
-            }
-            self.bump();
         }
     }
 
@@ -227,7 +223,7 @@ impl<'a> Reader<'a> {
         let start = self.at;
         self.bump();
         if first != b'0' {
-            self.skip_digits();
+            self.skip_while(|byte| byte.is_ascii_digit());
         }
         match self.peek() {
             Some(byte) if is_word_part(byte) || byte == b'.' => return Err(self.fault()),
@@ -239,13 +235,14 @@ impl<'a> Reader<'a> {
         }
     }
 
-    /// Skips digits.
-    fn skip_digits(&mut self)
+    /// Skips bytes as long as they pass.
+    fn skip_while<P: Fn(u8) -> bool>(&mut self, passes: P)
+        requires { P.IsAlwaysCallable passes }
         ensures text { self.new.text ≡ self.old.text }
         ensures forward { self.old.at ≤ self.new.at }
     {
         while let Some(byte) = self.peek() {
-            if !byte.is_ascii_digit() {
+            if !passes(byte) {
                 break;
             }
             self.bump();

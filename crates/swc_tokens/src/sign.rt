@@ -1,16 +1,16 @@
 // Signs and operators (ECMA-262, 12.8): the longest that fits is read.
-ghost use Rattle.std.specs.Prelude.{◌≡◌, ◌<◌, ◌≤◌, length, IsFalse, IfOk, IfErr, IfSome};
-ghost use Rattle.swc_tokens.specs.Faults.{IsRefusal};
+ghost use Rattle.std.specs.Prelude.{◌<◌, ◌≤◌, length, IsFalse, IfSome};
 ghost use Rattle.swc_tokens.specs.Order.{is_error};
 
-use crate::reader::Reader;
-use swc_context::error::PResult;
 use swc_context::operator::{AssignOp, BinOpToken};
 use swc_context::word::{Keyword, Word};
 use swc_input::token::{Token, TokenAndSpan};
 
+/// The length of the longest sign, in bytes.
+const LONGEST: usize = 4;
+
 /// Whether a slash after this token begins a regular expression, and doesn't divide.
-fn begins_regexp(before: Option<&TokenAndSpan>) -> bool {
+pub(crate) fn begins_regexp(before: Option<&TokenAndSpan>) -> bool {
     match before {
         None => true,
         Some(last) => !ends_operand(&last.token),
@@ -37,284 +37,84 @@ fn ends_operand(token: &Token) -> bool {
     }
 }
 
-/// The sign that is this byte alone, and begins no longer one.
-#[tactic(auto, unfolding(crate::specs::Order::is_error))]
-fn lone_sign(byte: u8) -> Option<Token>
-    ensures { IfSome result (λ t. IsFalse (is_error t)) }
+/// The longest sign that the text begins with, and its length.
+pub(crate) fn longest_sign(text: &[u8]) -> Option<(Token, usize)>
+    ensures no_error { IfSome result (λ r. IsFalse (is_error r.0)) }
+    ensures nonempty { IfSome result (λ r. 0 < r.1) }
+    ensures inside { IfSome result (λ r. r.1 ≤ length text.now) }
 {
-    match byte {
-        b'#' => Some(Token::Hash),
-        b'@' => Some(Token::At),
-        b'(' => Some(Token::LParen),
-        b')' => Some(Token::RParen),
-        b'[' => Some(Token::LBracket),
-        b']' => Some(Token::RBracket),
-        b'{' => Some(Token::LBrace),
-        b'}' => Some(Token::RBrace),
-        b';' => Some(Token::Semi),
-        b',' => Some(Token::Comma),
-        b':' => Some(Token::Colon),
-        b'~' => Some(Token::Tilde),
-        _ => None,
+    for len in (1..=LONGEST).rev() {
+        if let Some(token) = text.get(..len).and_then(sign_of) {
+            return Some((token, len));
+        }
     }
+    None
 }
 
-impl Reader<'_> {
-    /// Reads the sign or operator that begins with the next byte, `first`, which is neither `.` nor `/`.
-    pub(crate) fn read_sign(&mut self, first: u8) -> PResult<Token>
-        requires { self.old.at < length self.old.text.now }
-        ensures text { self.new.text ≡ self.old.text }
-        ensures forward { self.old.at < self.new.at }
-        ensures refused { IfErr result (IsRefusal self.old.text.now) }
-        ensures no_error { IfOk result (λ t. IsFalse (is_error t)) }
-    {
-        match lone_sign(first) {
-            Some(token) => {
-                self.bump();
-                Ok(token)
-            }
-            None => self.read_operator(first),
-        }
-    }
-
-    /// Reads the sign or operator that begins with the next byte, `first`, and may be longer.
-    fn read_operator(&mut self, first: u8) -> PResult<Token>
-        requires { self.old.at < length self.old.text.now }
-        ensures text { self.new.text ≡ self.old.text }
-        ensures forward { self.old.at < self.new.at }
-        ensures refused { IfErr result (IsRefusal self.old.text.now) }
-        ensures no_error { IfOk result (λ t. IsFalse (is_error t)) }
-    {
-        let fault = self.fault();
-        self.bump();
-        match first {
-            b'=' => Ok(self.after_equals()),
-            b'!' => Ok(self.after_bang()),
-            b'<' => Ok(self.after_less()),
-            b'>' => Ok(self.after_greater()),
-            b'+' => Ok(self.after_plus()),
-            b'-' => Ok(self.after_minus()),
-            b'*' => Ok(self.after_star()),
-            b'%' => Ok(self.assign_or(AssignOp::ModAssign, BinOpToken::Mod)),
-            b'&' => Ok(self.after_and()),
-            b'|' => Ok(self.after_bar()),
-            b'^' => Ok(self.assign_or(AssignOp::BitXorAssign, BinOpToken::BitXor)),
-            b'?' => Ok(self.after_question()),
-            _ => Err(fault),
-        }
-    }
-
-    /// Reads `.` or `...`. A digit after the dot would begin a number.
-    #[tactic(auto, unfolding(crate::specs::Order::is_error))]
-    pub(crate) fn read_dot(&mut self) -> PResult<Token>
-        requires { self.old.at < length self.old.text.now }
-        ensures text { self.new.text ≡ self.old.text }
-        ensures forward { self.old.at < self.new.at }
-        ensures refused { IfErr result (IsRefusal self.old.text.now) }
-        ensures no_error { IfOk result (λ t. IsFalse (is_error t)) }
-    {
-        self.bump();
-        if self.eat_two_dots() {
-            return Ok(Token::DotDotDot);
-        }
-        match self.peek() {
-            Some(byte) if byte.is_ascii_digit() => Err(self.fault()),
-            _ => Ok(Token::Dot),
-        }
-    }
-
-    /// Reads `/` or `/=`. A comment or a regular expression may begin there, too; `before` is the token before.
-    pub(crate) fn read_slash(&mut self, before: Option<&TokenAndSpan>) -> PResult<Token>
-        requires { self.old.at < length self.old.text.now }
-        ensures text { self.new.text ≡ self.old.text }
-        ensures forward { self.old.at < self.new.at }
-        ensures refused { IfErr result (IsRefusal self.old.text.now) }
-        ensures no_error { IfOk result (λ t. IsFalse (is_error t)) }
-    {
-        let fault = self.fault();
-        self.bump();
-        match self.peek() {
-            Some(b'/' | b'*') => Err(self.fault()),
-            _ if begins_regexp(before) => Err(fault),
-            _ => Ok(self.assign_or(AssignOp::DivAssign, BinOpToken::Div)),
-        }
-    }
-
-    /// The assignment operator, where `=` follows, or the operator that it is made of.
-    #[tactic(auto, unfolding(crate::specs::Order::is_error))]
-    fn assign_or(&mut self, assign: AssignOp, operator: BinOpToken) -> Token
-        ensures text { self.new.text ≡ self.old.text }
-        ensures forward { self.old.at ≤ self.new.at }
-        ensures no_error { IsFalse (is_error result) }
-    {
-        if self.eat(b'=') {
-            Token::AssignOp(assign)
-        } else {
-            Token::BinOp(operator)
-        }
-    }
-
-    /// The longer operator, where `=` follows, or the shorter one.
-    #[tactic(auto, unfolding(crate::specs::Order::is_error))]
-    fn equals_or(&mut self, longer: BinOpToken, shorter: BinOpToken) -> Token
-        ensures text { self.new.text ≡ self.old.text }
-        ensures forward { self.old.at ≤ self.new.at }
-        ensures no_error { IsFalse (is_error result) }
-    {
-        if self.eat(b'=') {
-            Token::BinOp(longer)
-        } else {
-            Token::BinOp(shorter)
-        }
-    }
-
-    /// After `=`.
-    #[tactic(auto, unfolding(crate::specs::Order::is_error))]
-    fn after_equals(&mut self) -> Token
-        ensures text { self.new.text ≡ self.old.text }
-        ensures forward { self.old.at ≤ self.new.at }
-        ensures no_error { IsFalse (is_error result) }
-    {
-        if self.eat(b'>') {
-            Token::Arrow
-        } else if self.eat(b'=') {
-            self.equals_or(BinOpToken::EqEqEq, BinOpToken::EqEq)
-        } else {
-            Token::AssignOp(AssignOp::Assign)
-        }
-    }
-
-    /// After `!`.
-    #[tactic(auto, unfolding(crate::specs::Order::is_error))]
-    fn after_bang(&mut self) -> Token
-        ensures text { self.new.text ≡ self.old.text }
-        ensures forward { self.old.at ≤ self.new.at }
-        ensures no_error { IsFalse (is_error result) }
-    {
-        if self.eat(b'=') {
-            self.equals_or(BinOpToken::NotEqEq, BinOpToken::NotEq)
-        } else {
-            Token::Bang
-        }
-    }
-
-    /// After `<`.
-    fn after_less(&mut self) -> Token
-        ensures text { self.new.text ≡ self.old.text }
-        ensures forward { self.old.at ≤ self.new.at }
-        ensures no_error { IsFalse (is_error result) }
-    {
-        if self.eat(b'<') {
-            self.assign_or(AssignOp::LShiftAssign, BinOpToken::LShift)
-        } else {
-            self.equals_or(BinOpToken::LtEq, BinOpToken::Lt)
-        }
-    }
-
-    /// After `>`.
-    fn after_greater(&mut self) -> Token
-        ensures text { self.new.text ≡ self.old.text }
-        ensures forward { self.old.at ≤ self.new.at }
-        ensures no_error { IsFalse (is_error result) }
-    {
-        if self.eat(b'>') {
-            self.after_two_greater()
-        } else {
-            self.equals_or(BinOpToken::GtEq, BinOpToken::Gt)
-        }
-    }
-
-    /// After `>>`.
-    fn after_two_greater(&mut self) -> Token
-        ensures text { self.new.text ≡ self.old.text }
-        ensures forward { self.old.at ≤ self.new.at }
-        ensures no_error { IsFalse (is_error result) }
-    {
-        if self.eat(b'>') {
-            self.assign_or(AssignOp::ZeroFillRShiftAssign, BinOpToken::ZeroFillRShift)
-        } else {
-            self.assign_or(AssignOp::RShiftAssign, BinOpToken::RShift)
-        }
-    }
-
-    /// After `+`.
-    #[tactic(auto, unfolding(crate::specs::Order::is_error))]
-    fn after_plus(&mut self) -> Token
-        ensures text { self.new.text ≡ self.old.text }
-        ensures forward { self.old.at ≤ self.new.at }
-        ensures no_error { IsFalse (is_error result) }
-    {
-        if self.eat(b'+') {
-            Token::PlusPlus
-        } else {
-            self.assign_or(AssignOp::AddAssign, BinOpToken::Add)
-        }
-    }
-
-    /// After `-`.
-    #[tactic(auto, unfolding(crate::specs::Order::is_error))]
-    fn after_minus(&mut self) -> Token
-        ensures text { self.new.text ≡ self.old.text }
-        ensures forward { self.old.at ≤ self.new.at }
-        ensures no_error { IsFalse (is_error result) }
-    {
-        if self.eat(b'-') {
-            Token::MinusMinus
-        } else {
-            self.assign_or(AssignOp::SubAssign, BinOpToken::Sub)
-        }
-    }
-
-    /// After `*`.
-    fn after_star(&mut self) -> Token
-        ensures text { self.new.text ≡ self.old.text }
-        ensures forward { self.old.at ≤ self.new.at }
-        ensures no_error { IsFalse (is_error result) }
-    {
-        if self.eat(b'*') {
-            self.assign_or(AssignOp::ExpAssign, BinOpToken::Exp)
-        } else {
-            self.assign_or(AssignOp::MulAssign, BinOpToken::Mul)
-        }
-    }
-
-    /// After `&`.
-    fn after_and(&mut self) -> Token
-        ensures text { self.new.text ≡ self.old.text }
-        ensures forward { self.old.at ≤ self.new.at }
-        ensures no_error { IsFalse (is_error result) }
-    {
-        if self.eat(b'&') {
-            self.assign_or(AssignOp::AndAssign, BinOpToken::LogicalAnd)
-        } else {
-            self.assign_or(AssignOp::BitAndAssign, BinOpToken::BitAnd)
-        }
-    }
-
-    /// After `|`.
-    fn after_bar(&mut self) -> Token
-        ensures text { self.new.text ≡ self.old.text }
-        ensures forward { self.old.at ≤ self.new.at }
-        ensures no_error { IsFalse (is_error result) }
-    {
-        if self.eat(b'|') {
-            self.assign_or(AssignOp::OrAssign, BinOpToken::LogicalOr)
-        } else {
-            self.assign_or(AssignOp::BitOrAssign, BinOpToken::BitOr)
-        }
-    }
-
-    /// After `?`. There is no token for `?.`.
-    #[tactic(auto, unfolding(crate::specs::Order::is_error))]
-    fn after_question(&mut self) -> Token
-        ensures text { self.new.text ≡ self.old.text }
-        ensures forward { self.old.at ≤ self.new.at }
-        ensures no_error { IsFalse (is_error result) }
-    {
-        if self.eat(b'?') {
-            self.assign_or(AssignOp::NullishAssign, BinOpToken::NullishCoalescing)
-        } else {
-            Token::QuestionMark
-        }
-    }
+/// The sign that is written so. There is no token for `?.`.
+#[tactic(auto, unfolding(crate::specs::Order::is_error))]
+fn sign_of(text: &[u8]) -> Option<Token>
+    ensures { IfSome result (λ t. IsFalse (is_error t)) }
+{
+    Some(match text {
+        b"=>" => Token::Arrow,
+        b"#" => Token::Hash,
+        b"@" => Token::At,
+        b"." => Token::Dot,
+        b"..." => Token::DotDotDot,
+        b"!" => Token::Bang,
+        b"(" => Token::LParen,
+        b")" => Token::RParen,
+        b"[" => Token::LBracket,
+        b"]" => Token::RBracket,
+        b"{" => Token::LBrace,
+        b"}" => Token::RBrace,
+        b";" => Token::Semi,
+        b"," => Token::Comma,
+        b":" => Token::Colon,
+        b"?" => Token::QuestionMark,
+        b"++" => Token::PlusPlus,
+        b"--" => Token::MinusMinus,
+        b"~" => Token::Tilde,
+        b"==" => Token::BinOp(BinOpToken::EqEq),
+        b"!=" => Token::BinOp(BinOpToken::NotEq),
+        b"===" => Token::BinOp(BinOpToken::EqEqEq),
+        b"!==" => Token::BinOp(BinOpToken::NotEqEq),
+        b"<" => Token::BinOp(BinOpToken::Lt),
+        b"<=" => Token::BinOp(BinOpToken::LtEq),
+        b">" => Token::BinOp(BinOpToken::Gt),
+        b">=" => Token::BinOp(BinOpToken::GtEq),
+        b"<<" => Token::BinOp(BinOpToken::LShift),
+        b">>" => Token::BinOp(BinOpToken::RShift),
+        b">>>" => Token::BinOp(BinOpToken::ZeroFillRShift),
+        b"+" => Token::BinOp(BinOpToken::Add),
+        b"-" => Token::BinOp(BinOpToken::Sub),
+        b"*" => Token::BinOp(BinOpToken::Mul),
+        b"/" => Token::BinOp(BinOpToken::Div),
+        b"%" => Token::BinOp(BinOpToken::Mod),
+        b"|" => Token::BinOp(BinOpToken::BitOr),
+        b"^" => Token::BinOp(BinOpToken::BitXor),
+        b"&" => Token::BinOp(BinOpToken::BitAnd),
+        b"||" => Token::BinOp(BinOpToken::LogicalOr),
+        b"&&" => Token::BinOp(BinOpToken::LogicalAnd),
+        b"**" => Token::BinOp(BinOpToken::Exp),
+        b"??" => Token::BinOp(BinOpToken::NullishCoalescing),
+        b"=" => Token::AssignOp(AssignOp::Assign),
+        b"+=" => Token::AssignOp(AssignOp::AddAssign),
+        b"-=" => Token::AssignOp(AssignOp::SubAssign),
+        b"*=" => Token::AssignOp(AssignOp::MulAssign),
+        b"/=" => Token::AssignOp(AssignOp::DivAssign),
+        b"%=" => Token::AssignOp(AssignOp::ModAssign),
+        b"<<=" => Token::AssignOp(AssignOp::LShiftAssign),
+        b">>=" => Token::AssignOp(AssignOp::RShiftAssign),
+        b">>>=" => Token::AssignOp(AssignOp::ZeroFillRShiftAssign),
+        b"|=" => Token::AssignOp(AssignOp::BitOrAssign),
+        b"^=" => Token::AssignOp(AssignOp::BitXorAssign),
+        b"&=" => Token::AssignOp(AssignOp::BitAndAssign),
+        b"**=" => Token::AssignOp(AssignOp::ExpAssign),
+        b"&&=" => Token::AssignOp(AssignOp::AndAssign),
+        b"||=" => Token::AssignOp(AssignOp::OrAssign),
+        b"??=" => Token::AssignOp(AssignOp::NullishAssign),
+        _ => return None,
+    })
 }

@@ -2,19 +2,19 @@
 ghost use Rattle.std.specs.Prelude.{◌≡◌, ◌≢◌, ◌<◌, ◌≤◌, true, false, not, ◌&&◌, None, OnOk, IfOk, IfErr, IsSome, MatchResult};
 ghost use Rattle.swc_context.specs.declared.error.SyntaxError.TheVariants.{OutOfMemory, ParserFailed};
 ghost use Rattle.swc_input.specs.Buffer as buffer;
-ghost use Rattle.swc_input.specs.Buffer.{current};
+ghost use Rattle.swc_input.specs.Buffer.{current, context};
+ghost use Rattle.swc_input.specs.Kinds.{at_token};
 ghost use Rattle.swc_grammar.specs.Trees as trees;
 ghost use Rattle.swc_grammar.specs.Clean as clean;
 ghost use Rattle.swc_grammar.specs.Clean.{run, operator_at, prefix_at, no_error, left_ok};
-ghost use Rattle.swc_bodies.specs.Readings.{at_token};
 ghost use Rattle.swc_nodes.specs.Slots.{expr_part};
 ghost use Rattle.swc_nodes.specs.Stands.{count, first_at, From, Grows};
-ghost use Rattle.swc_productions.specs.Parsing.{seen, context, recorded, behind, Loud, Leads, Refuses, Reads, Does, Tries, Produces, GoesOn, Checks, Forgoes, itself, operation_of, tree_of, operation_at};
+ghost use Rattle.swc_productions.specs.Parsing.{seen, recorded, behind, Loud, Leads, Refuses, Reads, Does, Tries, Produces, GoesOn, Checks, Forgoes, itself, operation_of, tree_of, operation_at};
 
 use crate::moves::{
     emit_err, emit_error, emit_strict_mode_err, is_out_of_memory, look, made, skip, syntax_error,
 };
-use crate::productions::{NodesOf, Productions};
+use crate::productions::Productions;
 use swc_ast::spanned::Spanned;
 use swc_bodies::bodies::Bodies;
 use swc_context::error::{Error, PResult, SyntaxError};
@@ -25,7 +25,8 @@ use swc_input::buffer::Buffer;
 use swc_input::token::Token;
 use swc_input::tokens::Tokens;
 use swc_nodes::node::ExprId;
-use swc_nodes::nodes::Nodes;
+use swc_nodes::nodes::{Nodes, NodesOf};
+use swc_nodes::shape::is_nullish_op;
 
 impl<I: Tokens, B: Bodies<I>> Productions<I, B> {
     /// Binary operators of any precedence (ECMA-262, 13.13).
@@ -222,12 +223,6 @@ impl<I: Tokens, B: Bodies<I>> Productions<I, B> {
         let node = self.nodes.invalid(Span::new(at, at));
         made(&self.input, node)
     }
-}
-
-fn is_nullish_op(op: BinaryOp) -> bool
-    ensures { result ≡ trees.is_nullish_op op }
-{
-    matches!(op, BinaryOp::NullishCoalescing)
 }
 
 fn is_exp_op(op: BinaryOp) -> bool

@@ -1,7 +1,7 @@
 use Rattle.std.proofs.Common.{refl, sym, ap, ◌∙◌}
 use Rattle.std.proofs.lemmas.Result.{err_from_is_err_and}
-use Rattle.swc_ident.specs.Naming.{at_token, no_memory_either, no_hash}
-use Rattle.swc_ident.specs.Verdicts.{is_hash}
+use Rattle.swc_input.specs.Kinds.{at_token, is_hash}
+use Rattle.swc_ident.specs.Naming.{no_memory_either, no_hash}
 use Rattle.swc_ident.proofs.Reading.{passed_over}
 use Rattle.swc_ident.proofs.ident.parse_hash.Goals as goal
 

@@ -1,7 +1,7 @@
 use Rattle.std.proofs.Common.{sym, ◌∙◌}
 use Rattle.std.proofs.lemmas.Result.{err_from_is_err_and}
 use Rattle.swc_ident.specs.Verdicts.{ident_verdict}
-use Rattle.swc_ident.proofs.Reading.{forgone_here, notes_read, place_told, reads_then, spoken_reads}
+use Rattle.swc_ident.proofs.Reading.{forgone_here, notes_read, place_told, reads_then, passed_reads}
 use Rattle.swc_ident.proofs.Finding.{forgone_unnamed, named_reads, names_read, refused_name, same_faults, taken_word, unnamed_any, unnamed_reads}
 use Rattle.swc_ident.proofs.ident.parse_ident.Goals as goal
 
@@ -17,7 +17,7 @@ returns-in_err-word-clause-read g c =
 pub returns-in-Err-clause-names : goal.returns-in-Err-clause-names
 returns-in-Err-clause-names g c =
     forgone_unnamed (record { none = g.met.I.Tokens.none; joins = g.met.I.Tokens.then; gave = g.met.I.Tokens.gave })
-    (spoken_reads (record { none = g.met.I.Tokens.none; joins = g.met.I.Tokens.then; gave = g.met.I.Tokens.gave }) c.in_ok-word.ensures) c.in-Err.ensures
+    (passed_reads (record { none = g.met.I.Tokens.none; joins = g.met.I.Tokens.then; gave = g.met.I.Tokens.gave }) c.in_ok-word.ensures) c.in-Err.ensures
 
 pub returns-in-Err-clause-read : goal.returns-in-Err-clause-read
 returns-in-Err-clause-read g c =
@@ -38,7 +38,7 @@ returns-in_err-sym-clause-names g c =
     let p = err_from_is_err_and c.from_residual-in_err-sym.result c.from_residual-in_err-sym.ensures.1 in rw (p.1, p.2)
     (forgone_unnamed (record { none = g.met.I.Tokens.none; joins = g.met.I.Tokens.then; gave = g.met.I.Tokens.gave })
     (reads_then (record { none = g.met.I.Tokens.none; joins = g.met.I.Tokens.then; gave = g.met.I.Tokens.gave })
-    (spoken_reads (record { none = g.met.I.Tokens.none; joins = g.met.I.Tokens.then; gave = g.met.I.Tokens.gave }) c.in_ok-word.ensures)
+    (passed_reads (record { none = g.met.I.Tokens.none; joins = g.met.I.Tokens.then; gave = g.met.I.Tokens.gave }) c.in_ok-word.ensures)
     (notes_read (record { none = g.met.I.Tokens.none; joins = g.met.I.Tokens.then; gave = g.met.I.Tokens.gave }) c.in_default.ensures))
     (forgone_here (record { none = g.met.I.Tokens.none; joins = g.met.I.Tokens.then; gave = g.met.I.Tokens.gave }) c.in_err-sym.ensures))
 

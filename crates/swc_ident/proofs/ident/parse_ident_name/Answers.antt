@@ -2,7 +2,7 @@ use Rattle.std.proofs.Common.{refl}
 use Rattle.std.proofs.lemmas.Result.{err_from_is_err_and}
 use Rattle.swc_ident.specs.Naming.{none-noted}
 use Rattle.swc_ident.specs.Verdicts.{name_of_any}
-use Rattle.swc_ident.proofs.Reading.{forgone_here, spoken_reads, place_told}
+use Rattle.swc_ident.proofs.Reading.{forgone_here, passed_reads, place_told}
 use Rattle.swc_ident.proofs.Finding.{forgone_unnamed, named_reads, names_read, taken_word}
 use Rattle.swc_ident.proofs.ident.parse_ident_name.Goals as goal
 
@@ -19,7 +19,7 @@ pub returns-in_err-sym-clause-names : goal.returns-in_err-sym-clause-names
 returns-in_err-sym-clause-names g c =
     let p = err_from_is_err_and c.from_residual-in_err-sym.result c.from_residual-in_err-sym.ensures.1 in rw (p.1, p.2)
     (forgone_unnamed (record { none = g.met.I.Tokens.none; joins = g.met.I.Tokens.then; gave = g.met.I.Tokens.gave })
-    (spoken_reads (record { none = g.met.I.Tokens.none; joins = g.met.I.Tokens.then; gave = g.met.I.Tokens.gave }) c.in_ok-word.ensures)
+    (passed_reads (record { none = g.met.I.Tokens.none; joins = g.met.I.Tokens.then; gave = g.met.I.Tokens.gave }) c.in_ok-word.ensures)
     (forgone_here (record { none = g.met.I.Tokens.none; joins = g.met.I.Tokens.then; gave = g.met.I.Tokens.gave }) c.in_err-sym.ensures))
 
 pub returns-in_err-sym-clause-read : goal.returns-in_err-sym-clause-read

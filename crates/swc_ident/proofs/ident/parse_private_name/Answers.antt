@@ -1,8 +1,9 @@
 use Rattle.std.proofs.Common.{refl}
 use Rattle.std.proofs.lemmas.Result.{err_from_is_err_and}
+use Rattle.swc_context.proofs.Spans.{span_is}
 use Rattle.swc_ident.specs.Naming.{no_name}
 use Rattle.swc_ident.proofs.Reading.{end_seen, looked_then}
-use Rattle.swc_ident.proofs.Privacy.{apart_from, joins_hash, private_forgone, private_reads, span_is, unprivate_reads}
+use Rattle.swc_ident.proofs.Privacy.{apart_from, joins_hash, private_forgone, private_reads, unprivate_reads}
 use Rattle.swc_ident.proofs.ident.parse_private_name.Goals as goal
 
 pub returns-in_err-hash-clause-read : goal.returns-in_err-hash-clause-read

@@ -1,6 +1,6 @@
 use Rattle.std.proofs.Common.{not, ◌&&◌}
 use Rattle.std.proofs.lemmas.Result.{err_from_is_err_and}
-use Rattle.swc_productions.specs.Parsing.{context}
+use Rattle.swc_input.specs.Buffer.{context}
 use Rattle.swc_productions.proofs.Steps.{and_true, not_and, check_passes, forgoes_here}
 use Rattle.swc_productions.proofs.expr.check_strict_word.Goals as goal
 

@@ -1,14 +1,16 @@
 -- What the steps of each production, one after another, ensure.
 use Rattle.std.proofs.Common.{Ok, ◌≡◌, ◌≢◌, Some, None, refl, sym, ap, ◌∙◌, arith}
 use Rattle.std.proofs.lemmas.Result.{err_from_is_err_and}
+use Rattle.swc_context.specs.Spans.{between}
 use Rattle.swc_context.specs.declared.error.SyntaxError.TheVariants.{OutOfMemory}
 use Rattle.swc_input.specs.Plain.{plain}
-use Rattle.swc_bodies.specs.Readings.{at_token}
+use Rattle.swc_input.specs.Kinds.{at_token, is_hash}
+use Rattle.swc_input.specs.Buffer.{context}
 use Rattle.swc_grammar.specs.Tokens.{with_in}
 use Rattle.swc_ast.specs.Tree.{span_of}
-use Rattle.swc_grammar.specs.Trees.{to, between, unary_e, paren_e, bin_e, nullish_ok, delete_ok, min_right}
-use Rattle.swc_grammar.specs.Clean.{◌>>=◌, run, go_on, is_lit, is_lparen, is_rparen, is_identifier, is_hash, prefix_at, no_error, left_ok, inside, close, opened, prefix_node, prefixed, node_by, operation, turned, climb, operand, assign}
-use Rattle.swc_productions.specs.Parsing.{seen, context, behind, itself, tree_of}
+use Rattle.swc_grammar.specs.Trees.{to, unary_e, paren_e, bin_e, nullish_ok, delete_ok, min_right}
+use Rattle.swc_grammar.specs.Clean.{◌>>=◌, run, go_on, is_lit, is_lparen, is_rparen, is_identifier, prefix_at, no_error, left_ok, inside, close, opened, prefix_node, prefixed, node_by, operation, turned, climb, operand, assign}
+use Rattle.swc_productions.specs.Parsing.{seen, behind, itself, tree_of}
 use Rattle.swc_nodes.proofs.Standing.{grows-count, grows-same, grows-then}
 use Rattle.swc_nodes.proofs.Held.{from-down, from-later, tree-later}
 use Rattle.swc_productions.proofs.Building.{first_kept, from_self, grows-kept, if_from, made_at}

@@ -1,10 +1,11 @@
+use Rattle.swc_input.specs.Kinds.{at_token}
+use Rattle.swc_input.specs.Buffer.{context}
 use Rattle.swc_nodes.proofs.Standing.{grows-same}
 use Rattle.std.proofs.Common.{Some, ◌&&◌, refl, sym, ap, ◌∙◌, arith}
 use Rattle.std.proofs.lemmas.Result.{err_from_is_err_and}
-use Rattle.swc_bodies.specs.Readings.{at_token}
 use Rattle.swc_grammar.specs.Trees.{ident_e}
 use Rattle.swc_grammar.specs.Clean.{is_identifier}
-use Rattle.swc_productions.specs.Parsing.{context, seen, is_strict}
+use Rattle.swc_productions.specs.Parsing.{seen, is_strict}
 use Rattle.swc_productions.proofs.Rules as rule
 use Rattle.swc_productions.proofs.Making as m
 use Rattle.swc_productions.proofs.Steps as s

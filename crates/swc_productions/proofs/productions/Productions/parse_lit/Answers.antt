@@ -1,7 +1,7 @@
 use Rattle.std.proofs.Common.{sym, ap, refl, ◌∙◌}
 use Rattle.std.proofs.lemmas.Result.{err_from_is_err_and}
 use Rattle.swc_input.specs.Plain.{plain}
-use Rattle.swc_bodies.specs.Readings.{at_token}
+use Rattle.swc_input.specs.Kinds.{at_token}
 use Rattle.swc_grammar.specs.Clean.{is_lit, lit_of}
 use Rattle.swc_productions.specs.Parsing.{lit_in}
 use Rattle.swc_productions.proofs.Steps as s

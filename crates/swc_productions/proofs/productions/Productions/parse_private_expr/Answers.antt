@@ -1,8 +1,9 @@
+use Rattle.swc_context.specs.Spans.{between}
 use Rattle.swc_nodes.proofs.Standing.{grows-same}
 use Rattle.std.proofs.Common.{◌≡◌, Some, sym, ap, arith}
 use Rattle.std.proofs.lemmas.Result.{err_from_is_err_and}
 use Rattle.swc_input.specs.Plain.{plain}
-use Rattle.swc_grammar.specs.Trees.{to, between, private_e}
+use Rattle.swc_grammar.specs.Trees.{to, private_e}
 use Rattle.swc_grammar.specs.Clean.{run, hashed}
 use Rattle.swc_productions.proofs.Rules as rule
 use Rattle.swc_productions.proofs.Making as m

@@ -1,0 +1,14 @@
+-- Tests on tokens.
+use Rattle.std.specs.Prelude.{Bool, true, false, Option, Some, None}
+use Rattle.swc_input.specs.declared.token.Token.{Token}
+use Rattle.swc_input.specs.declared.token.Token.TheVariants as token
+use Rattle.swc_input.specs.declared.token.TokenAndSpan.{TokenAndSpan}
+
+-- the test at a current token; none passes it at the end
+abbrev pub at_token : (Token → Bool) → Option TokenAndSpan → Bool
+at_token f None = false
+at_token f (Some t) = f t.token
+
+abbrev pub is_hash : Token → Bool
+is_hash token.Hash = true
+is_hash t = false
