@@ -53,6 +53,17 @@ module _ {F C K : Type 0} {fg : Ghosts F} {cg : Ghosts C} {kg : Ghosts K} where
   pub from-down : {ns : Nodes F C K fg cg kg} {k j : ℕ} {p : Part} → k ≤ j → From j ns p → From k ns p
   from-down h f = let a = f.above in record { within = f.within; above = omega arith; first = f.first; view = f.view }
 
+  pub from-up : {ns : Nodes F C K fg cg kg} {k j : ℕ} {p : Part} → k ≤ first_at ns p.at → From j ns p → From k ns p
+  from-up h f = record { within = f.within; above = h; first = f.first; view = f.view }
+
+  pub from_self : {ns : Nodes F C K fg cg kg} {k : ℕ} {p : Part} → From k ns p → From (first_at ns p.at) ns p
+  from_self f = from-up (omega arith) f
+
+  pub if_from : (ns : Nodes F C K fg cg kg) (k j : ℕ) {T E : Type 0} (number : T → ExprId) (r : Result T E) → k ≤ j →
+      IfOk r (λ t. From j ns (expr_part (number t))) → IfOk r (λ t. From k ns (expr_part (number t)))
+  if_from ns k j number (Ok t) h f = from-down h f
+  if_from ns k j number (Err e) h f = tt
+
   -- ---- the node of a number, and its parts
 
   pub stood-parts : {ns : Nodes F C K fg cg kg} {i : ℕ} {x : Node F C K} → Stood ns i x → i < count ns → chain (seat_at ns) 0 (slots x) i ≡ true
@@ -87,6 +98,10 @@ module _ {F C K : Type 0} {fg : Ghosts F} {cg : Ghosts C} {kg : Ghosts K} where
 
   pub first-later : {ns ms : Nodes F C K fg cg kg} {k : ℕ} {p : Part} → Grows ns ms → From k ns p → first_at ms p.at ≡ first_at ns p.at
   first-later {p = p} g f = ap (λ s. s.first) (seat-later p.at g f.within)
+
+  pub first_kept : {ns ms : Nodes F C K fg cg kg} {k : ℕ} {p : Part} → Grows ns ms → From k ns p →
+      first_at ns p.at ≤ first_at ms p.at
+  first_kept {ns} {ms} {k} {p} g f = let e = first-later g f in omega arith
 
   pub tree-later : {ns ms : Nodes F C K fg cg kg} {k : ℕ} {p : Part} → Grows ns ms → From k ns p → tree_at ms p.at ≡ tree_at ns p.at
   tree-later {p = p} g f = ap (λ s. s.tree) (seat-later p.at g f.within)

@@ -1,3 +1,4 @@
 pub mod Chains
 pub mod Held
 pub mod Standing
+pub mod Walked

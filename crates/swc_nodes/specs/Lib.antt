@@ -2,3 +2,4 @@ pub mod NodeTree
 pub mod Seats
 pub mod Slots
 pub mod Stands
+pub mod Walking

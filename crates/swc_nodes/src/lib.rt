@@ -3,6 +3,7 @@
 //! What a number stands for is `tree_at`, of `specs/Stands.antt`: a tree of the same kind as a boxed tree of swc_ast stands for.
 #![tactic(auto)]
 
+pub mod apart;
 pub mod making;
 pub mod node;
 pub mod nodes;

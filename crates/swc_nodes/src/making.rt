@@ -86,6 +86,8 @@ impl<F: Spanned + Drop, C: Spanned + Drop, K: Spanned + Drop> Nodes<F, C, K> {
     }
 
     /// A binary operator and its operands (ECMA-262, 13.6 to 13.13).
+    ///
+    /// All that is reached from the right one lies behind the left one: its `first` is above the left one's number.
     pub fn bin(&mut self, op: BinaryOp, left: ExprId, right: ExprId) -> Result<ExprId, AllocError>
         requires left { From 0 self.old (expr_part left) }
         requires right { From (left.0 + 1) self.old (expr_part right) }

@@ -1,9 +1,9 @@
 // The nodes of trees, in one vector.
 ghost use Rattle.std.specs.Prelude.{◌≡◌, ℕ, ◌<◌, ◌≤◌, ◌↔◌, true, length, IfOk, IsTrue, []};
 ghost use Rattle.swc_nodes.specs.Seats.{ordered};
-ghost use Rattle.swc_nodes.specs.Slots.{form, view_ok, expr};
+ghost use Rattle.swc_nodes.specs.Slots.{form, view_ok, expr, simple, pattern};
 
-use crate::node::{ExprId, Node, PatId};
+use crate::node::{ExprId, Node, PatId, TargetNode};
 use std::alloc::{AllocError, Global};
 use swc_ast::spanned::Spanned;
 use swc_bodies::bodies::BodyForms;
@@ -26,7 +26,7 @@ pub type NodesOf<B> = Nodes<
 >;
 
 impl<F: Spanned + Drop, C: Spanned + Drop, K: Spanned + Drop> Nodes<F, C, K> {
-    ghost use Rattle.swc_nodes.specs.Slots.{slots, expr_part, pat_part};
+    ghost use Rattle.swc_nodes.specs.Slots.{slots, expr_part, pat_part, target_part};
     ghost use Rattle.swc_nodes.specs.Stands.{count, Apart, From, Grows, Added, Stood, Popped, CutTo};
 
     /// No nodes. Takes no memory.
@@ -68,6 +68,17 @@ impl<F: Spanned + Drop, C: Spanned + Drop, K: Spanned + Drop> Nodes<F, C, K> {
         id.0 < self.len() && !is_expr(self.get(id.0))
     }
 
+    /// Whether what may be assigned to has the number, as it stands or as a pattern.
+    pub fn has_target(&self, target: TargetNode) -> bool
+        ensures has { result ≡ true → From 0 self.now (target_part target) }
+        ensures all { From 0 self.now (target_part target) → result ≡ true }
+    {
+        match target {
+            TargetNode::Simple(id) => id.0 < self.len() && is_target(self.get(id.0)),
+            TargetNode::Pat(id) => id.0 < self.len() && is_target_pat(self.get(id.0)),
+        }
+    }
+
     /// The node that has the number.
     pub fn get(&self, id: usize) -> &Node<F, C, K>
         requires { id < count self.now }
@@ -76,7 +87,7 @@ impl<F: Spanned + Drop, C: Spanned + Drop, K: Spanned + Drop> Nodes<F, C, K> {
         &self.nodes[id]
     }
 
-    /// Appends a node, and answers its number.
+    /// Appends a node whose parts lie apart (`is_apart`), and answers its number.
     pub fn push(&mut self, node: Node<F, C, K>) -> Result<usize, AllocError>
         requires { Apart 0 self.old (slots node) }
         ensures grows { Grows self.old self.new }
@@ -118,4 +129,21 @@ fn is_expr<F, C, K>(node: &Node<F, C, K>) -> bool
         | Node::PatInvalid(_) => false,
         _ => true,
     }
+}
+
+/// Whether the node is an expression that may be assigned to as it stands.
+fn is_target<F, C, K>(node: &Node<F, C, K>) -> bool
+    ensures { result ≡ view_ok simple (form node.now) }
+{
+    matches!(
+        node,
+        Node::Ident(_) | Node::Member(_) | Node::SuperProp(_) | Node::Paren(_) | Node::OptChain(_)
+    )
+}
+
+/// Whether the node is an array or object pattern.
+fn is_target_pat<F, C, K>(node: &Node<F, C, K>) -> bool
+    ensures { result ≡ view_ok pattern (form node.now) }
+{
+    matches!(node, Node::PatArray { .. } | Node::PatObject { .. })
 }

@@ -1,14 +1,14 @@
 -- Nodes that were made, and numbers that are held.
-use Rattle.std.proofs.Common.{◌≡◌, ℕ, ◌≤◌, Result, Ok, Err, IfOk, ap, subst, arith}
+use Rattle.std.proofs.Common.{◌≡◌, ℕ, ◌≤◌, Result, Ok, Err, IfOk, ap, subst}
 use Rattle.std.specs.declared.alloc.AllocError.{AllocError}
 use Rattle.swc_context.specs.declared.error.Error.{Error}
 use Rattle.swc_ast.specs.Tree.{Tree}
 use Rattle.swc_ast.specs.declared.spanned.Spanned.{Ghosts}
-use Rattle.swc_nodes.specs.Slots.{Part, expr_part}
-use Rattle.swc_nodes.specs.Stands.{first_at, From, Grows, Made}
+use Rattle.swc_nodes.specs.Slots.{expr_part}
+use Rattle.swc_nodes.specs.Stands.{From, Grows, Made}
 use Rattle.swc_nodes.specs.declared.node.ExprId.{ExprId}
 use Rattle.swc_nodes.specs.declared.nodes.Nodes.{Nodes}
-use Rattle.swc_nodes.proofs.Held.{from-down, first-later}
+use Rattle.swc_nodes.proofs.Held.{from-down}
 use Rattle.swc_nodes.proofs.Standing.{grows-none}
 use Rattle.swc_productions.specs.Parsing.{tree_of}
 
@@ -30,13 +30,3 @@ module _ {F C K : Type 0} {fg : Ghosts F} {cg : Ghosts C} {kg : Ghosts K} where
   -- the nodes are the same
   pub grows-kept : {ns ms : Nodes F C K fg cg kg} → ms ≡ ns → Grows ns ms
   grows-kept {ns} {ms} e = grows-none ns ms (ap (λ v. v.nodes.items) e)
-
-  pub from_self : {ns : Nodes F C K fg cg kg} {k : ℕ} {p : Part} → From k ns p → From (first_at ns p.at) ns p
-  from_self f = record { within = f.within; above = omega arith; first = f.first; view = f.view }
-
-  pub first_kept : {ns ms : Nodes F C K fg cg kg} {k : ℕ} {p : Part} → Grows ns ms → From k ns p → first_at ns p.at ≤ first_at ms p.at
-  first_kept {ns} {ms} {k} {p} g f = let e : first_at ms p.at ≡ first_at ns p.at = first-later g f in omega arith
-
-  pub if_from : (ns : Nodes F C K fg cg kg) (k j : ℕ) {T : Type 0} {E : Type 0} (number : T → ExprId) (r : Result T E) → k ≤ j → IfOk r (λ t. From j ns (expr_part (number t))) → IfOk r (λ t. From k ns (expr_part (number t)))
-  if_from ns k j number (Ok x) h f = from-down h f
-  if_from ns k j number (Err e) h f = tt

@@ -14,10 +14,11 @@ use Rattle.swc_nodes.specs.Slots.{expr_part}
 use Rattle.swc_nodes.specs.Stands.{From, Grows, Made}
 use Rattle.swc_nodes.specs.declared.node.ExprId.{ExprId}
 use Rattle.swc_nodes.specs.declared.nodes.Nodes.{Nodes}
+use Rattle.swc_nodes.proofs.Held.{if_from}
 use Rattle.swc_nodes.proofs.Standing.{grows-then}
 use Rattle.swc_productions.specs.declared.productions.Productions.{Productions}
 use Rattle.swc_productions.specs.Parsing.{On, Heard, Unheard, Parses, Follows, Produces, GoesOn, itself, tree_of}
-use Rattle.swc_productions.proofs.Building.{made_tree, made_from, if_from}
+use Rattle.swc_productions.proofs.Building.{made_tree, made_from}
 use Rattle.swc_productions.proofs.Steps.{Reader, lower, less, node_parses, parses_after, parses_call, follows_after, follows_of}
 
 module _ {S H F C K : Type 0} {fg : Ghosts F} {cg : Ghosts C} {kg : Ghosts K} {state : S → Source} {gives : S → List TokenAndSpan → S → Type 0} {T A : Type 0} {number : T → ExprId} {view : Nodes F C K fg cg kg → T → A} {f : Reader A} {k : ℕ} where

@@ -12,8 +12,8 @@ use Rattle.swc_grammar.specs.Trees.{to, unary_e, paren_e, bin_e, nullish_ok, del
 use Rattle.swc_grammar.specs.Clean.{◌>>=◌, run, go_on, is_lit, is_lparen, is_rparen, is_identifier, prefix_at, no_error, left_ok, inside, close, opened, prefix_node, prefixed, node_by, operation, turned, climb, operand, assign}
 use Rattle.swc_productions.specs.Parsing.{seen, behind, itself, tree_of}
 use Rattle.swc_nodes.proofs.Standing.{grows-count, grows-same, grows-then}
-use Rattle.swc_nodes.proofs.Held.{from-down, from-later, tree-later}
-use Rattle.swc_productions.proofs.Building.{first_kept, from_self, grows-kept, if_from, made_at}
+use Rattle.swc_nodes.proofs.Held.{from-down, from-later, from_self, first_kept, if_from, tree-later}
+use Rattle.swc_productions.proofs.Building.{grows-kept, made_at}
 use Rattle.swc_productions.proofs.Rules as rule
 use Rattle.swc_productions.proofs.Steps as s
 use Rattle.swc_productions.proofs.Making as m
