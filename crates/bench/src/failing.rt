@@ -9,14 +9,14 @@ use swc_input::tokens::Tokens;
 
 /// A source that gives the tokens of a list and then, in place of the end, fails.
 #[derive(Drop)]
-pub struct FailingInput {
+pub(crate) struct FailingInput {
     list: TokensInput,
     failed: bool,
 }
 
 impl FailingInput {
     /// A source that gives the tokens of this list.
-    pub fn new(list: TokensInput) -> FailingInput {
+    pub(crate) fn new(list: TokensInput) -> FailingInput {
         FailingInput {
             list,
             failed: false,
@@ -26,13 +26,14 @@ impl FailingInput {
 
 impl Iterator for FailingInput {
     ghost use Rattle.std.specs.Iterator.{at_most};
-    ghost use Rattle.bench.specs.Failing.{failing_state, NextFailing};
+    ghost use Rattle.std.specs.Prelude.{length};
+    ghost use Rattle.bench.specs.Failing.{NextFailing};
 
     type Item = TokenAndSpan;
 
-    ghost next_gives = { NextFailing };
+    ghost next_gives = { λ s r t. NextFailing s.list s.failed r t.list t.failed };
 
-    ghost remaining = { λ s. at_most (failing_state s).bound };
+    ghost remaining = { λ s. at_most (length s.list.rest.items) };
 
     fn next(&mut self) -> Option<TokenAndSpan> {
         let token = self.list.next();
@@ -45,25 +46,27 @@ impl Iterator for FailingInput {
 
 impl Tokens for FailingInput {
     ghost use Rattle.std.proofs.Common.{refl};
-    ghost use Rattle.bench.specs.Failing.{failing_state, FailingGives, failing_lawful, failing_none, failing_then, failing_gave, failing_asked};
+    ghost use Rattle.swc_input.specs.Listed.{ListedGives, listed_none, listed_then};
+    ghost use Rattle.bench.specs.declared.failing.FailingInput.{FailingInput};
+    ghost use Rattle.bench.specs.Failing.{failing_state, failing_lawful, failing_gave, failing_asked};
 
-    ghost state = { failing_state };
+    ghost state = { λ s. failing_state s.list s.failed };
 
-    ghost gives = { FailingGives };
+    ghost gives = { λ s xs t. ListedGives s.list xs t.list };
 
-    ghost lawful = { failing_lawful };
+    ghost lawful = { λ s. failing_lawful s.list s.failed };
 
-    ghost none = { failing_none };
+    ghost none = { λ s. listed_none s.list };
 
-    ghost then = { failing_then };
+    ghost then = { λ s t u. listed_then s.list t.list u.list };
 
-    ghost gave = { failing_gave };
+    ghost gave = { λ s t. failing_gave s.list s.failed t.list t.failed };
 
     ghost may_ask = { λ s. tt };
 
     ghost ends = { λ s. refl };
 
-    ghost asked = { failing_asked };
+    ghost asked = { failing_asked (λ (s : FailingInput). s.list) (λ (s : FailingInput). s.failed) };
 
     fn set_ctx(&mut self, ctx: Context) -> Result<(), AllocError> {
         self.list.set_ctx(ctx)

@@ -1,0 +1,177 @@
+// Calls of the parser.
+use crate::failing::FailingInput;
+use crate::rows::{Row, Subject, answers, expect, row_of};
+use crate::settings::{setting_of, source_of};
+use crate::shown::{Shown, show, show_faults, show_refusal};
+use crate::tokens::fault_of;
+use crate::trees::show_numbered;
+use std::alloc::{AllocError, Global};
+use std::test::Fail;
+use swc_bodies::none::NoBodies;
+use swc_context::error::Error;
+use swc_ecma_parser::parser::Parser;
+use swc_input::tokens::Tokens;
+
+/// What the calls of one parser answer, with places; then the faults that are recorded in the end, and the place of the first token that is left.
+///
+/// A `failing` source meets want of memory behind its tokens. Each row that tells nothing of nodes holds with `parse_expr_id` for `parse_expr`, too.
+const CALLS: &str =
+    r"parse_expr; parse_assignment_expr; parse_bin_expr; parse_unary_expr; at_end; parse_lit; at_end | script | a + b c d * e (f) 7 | Bin(+, a, b) 0..5; c 6..7; Bin(*, d, e) 8..13; Paren(f) 14..17; false; 7 18..19; true | none | end
+parse_bin_expr | script without_in | a in b | a 0..1 | none | 2..4
+parse_bin_expr; parse_bin_expr | script without_in | a in b | a 0..1; refused: TS1109 2..4 | none | 2..4
+parse_expr | script | -a ** b | refused: UnaryInExp 3..5 | none | 6..7
+parse_expr; parse_expr; at_end | script | -a ** b | refused: UnaryInExp 3..5; b 6..7; true | none | end
+parse_unary_expr | script | + | Unary(+, Invalid) 0..0 | TS1109 0..1 | end
+parse_bin_expr | script | * a | Bin(*, Invalid, a) 0..3 | TS1109 0..1 | end
+parse_expr | script | ( | refused: Eof 1..1 | none | end
+parse_expr | script | (a | refused: Eof 2..2 | none | end
+parse_expr | script | a@5..6 +@2..3 b@0..1 | Bin(+, a, b) 1..5 | none | end
+parse_expr | script without_in | a@5..6 +@2..3 b@0..1 | Bin(+, a, b) 1..5 | none | end
+parse_expr | script | -@0..1 )@0..1 | Unary(-, Invalid) 0..0 | TS1109 0..1 | 0..1
+parse_expr | script | +@0..1 E(Lex)@2..3 | Unary(+, Invalid) 0..1 | Lex 2..3 | end
+parse_expr | script no_early_errors | +@0..1 E(Lex)@2..3 | Unary(+, Invalid) 0..1 | none | end
+parse_expr; at_end | script | +@0..1 E(OutOfMemory)@2..3 | Unary(+, Invalid) 0..1; true | Lex 2..3 | end
+parse_expr | module no_early_errors | let | let 0..3 | InvalidIdentInStrict 0..3 let, InvalidIdentInStrict 0..3 let | end
+parse_expr | module ignore_error | let | let 0..3 | none | end
+add_error TS1102 1..2; parse_expr; parse_expr; parse_lit; at_end; parse_expr; parse_lit; at_end | script without_in failing | a + (b * | done; refused: OutOfMemory 8..8; refused: ParserFailed 7..8; refused: ParserFailed 7..8; refused: ParserFailed 7..8; refused: ParserFailed 7..8; refused: ParserFailed 7..8; refused: ParserFailed 7..8 | TS1102 1..2 | refused: ParserFailed 7..8
+add_error TS1102 1..2; parse_expr; parse_expr; parse_lit; at_end; parse_expr; parse_lit; at_end | script without_in failing | a ** - ! | done; refused: OutOfMemory 8..8; refused: ParserFailed 7..8; refused: ParserFailed 7..8; refused: ParserFailed 7..8; refused: ParserFailed 7..8; refused: ParserFailed 7..8; refused: ParserFailed 7..8 | TS1102 1..2 | refused: ParserFailed 7..8
+add_error TS1102 1..2; parse_expr; parse_expr; parse_lit; at_end; parse_expr; parse_lit; at_end | script without_in failing | ( -    # | done; refused: OutOfMemory 8..8; refused: ParserFailed 7..8; refused: ParserFailed 7..8; refused: ParserFailed 7..8; refused: ParserFailed 7..8; refused: ParserFailed 7..8; refused: ParserFailed 7..8 | TS1102 1..2 | refused: ParserFailed 7..8
+parse_expr_id; count_nodes; parse_expr; count_nodes; parse_expr_id; count_nodes; clear_nodes; count_nodes | script | a + b c (d | Bin(+, a, b) 0..5; 3; c 6..7; 3; refused: Eof 10..10; 3; done; 0 | none | end
+parse_ident(true, true) | script | enum | enum 0..4 | InvalidIdentInStrict 0..4 enum | end
+parse_binding_ident | generator | yield | yield 0..5 | ExpectedIdent 0..5 | end
+parse_binding_ident; set_ctx module | generator | yield | yield 0..5; done | ExpectedIdent 0..5, InvalidIdentInStrict 0..5 yield | end
+parse_private_name | script | # a | refused: SpaceBetweenHashAndIdent 0..1 | none | 2..3
+parse_label_ident | module | await | refused: InvalidIdentInAsync 0..5 | none | end
+parse_opt_binding_ident | script | if | none | none | 0..2
+parse_module_export_name | script | + | refused: Unexpected 0..1 identifier or string | none | 0..1
+parse_module_export_name | script |  | refused: Eof 0..0 | none | end
+parse_assignment_expr | script | a | a 0..1 | none | end
+parse_unary_expr | script | a | a 0..1 | none | end
+parse_ident_ref | script | a | a 0..1 | none | end
+parse_label_ident | script | a | a 0..1 | none | end
+parse_ident_name | script | a | a 0..1 | none | end
+parse_maybe_private_name | script | a | a 0..1 | none | end
+parse_module_export_name | script | a | a 0..1 | none | end
+parse_opt_binding_ident | script | a | a 0..1 | none | end
+parse_private_name | script | #a | #a 0..2 | none | end
+parse_maybe_private_name | script | #a | #a 0..2 | none | end
+parse_lit | script | 1 | 1 0..1 | none | end";
+
+/// A parser, and whether `parse_expr_id` is called for `parse_expr`.
+#[derive(Drop)]
+struct Tested<I: Tokens> {
+    parser: Parser<I, NoBodies>,
+    numbers: bool,
+}
+
+impl<I: Tokens> Subject for Tested<I> {
+    fn call(&mut self, out: &mut String, call: &str) -> Result<(), Fail> {
+        let parser = &mut self.parser;
+        match call {
+            "parse_expr_id" => show_numbered(out, parser)?,
+            "parse_expr" if self.numbers => show_numbered(out, parser)?,
+            "parse_expr" => show(out, parser.parse_expr())?,
+            "parse_assignment_expr" => show(out, parser.parse_assignment_expr())?,
+            "parse_bin_expr" => show(out, parser.parse_bin_expr())?,
+            "parse_unary_expr" => show(out, parser.parse_unary_expr())?,
+            "parse_lit" => show(out, parser.parse_lit())?,
+            "at_end" => show(out, parser.at_end())?,
+            "count_nodes" => write!(out, "{}", parser.nodes().len())?,
+            "clear_nodes" => {
+                parser.clear_nodes();
+                ().show(out)?;
+            }
+            _ => call_name(parser, out, call)?,
+        }
+        Ok(())
+    }
+}
+
+/// The calls on names.
+fn call_name<I: Tokens>(
+    parser: &mut Parser<I, NoBodies>,
+    out: &mut String,
+    call: &str,
+) -> Result<(), Fail> {
+    match call {
+        "parse_ident(true, true)" => show(out, parser.parse_ident(true, true))?,
+        "parse_ident_ref" => show(out, parser.parse_ident_ref())?,
+        "parse_label_ident" => show(out, parser.parse_label_ident())?,
+        "parse_ident_name" => show(out, parser.parse_ident_name())?,
+        "parse_binding_ident" => show(out, parser.parse_binding_ident())?,
+        "parse_opt_binding_ident" => show(out, parser.parse_opt_binding_ident())?,
+        "parse_module_export_name" => show(out, parser.parse_module_export_name())?,
+        "parse_private_name" => show(out, parser.parse_private_name())?,
+        "parse_maybe_private_name" => show(out, parser.parse_maybe_private_name())?,
+        _ => call_input(parser.input(), out, call)?,
+    }
+    Ok(())
+}
+
+/// The calls of the source.
+fn call_input<I: Tokens>(input: &mut I, out: &mut String, call: &str) -> Result<(), Fail> {
+    let (name, argument) = call.split_once(' ').ok_or("no call")?;
+    match name {
+        "add_error" => {
+            let (span, kind) = fault_of(argument).ok_or("no fault")?;
+            input.add_error(Error::new(span, kind))?;
+        }
+        "set_ctx" => {
+            let (context, _) = setting_of(argument).ok_or("no setting")?;
+            input.set_ctx(context)?;
+        }
+        _ => return Err(Fail::new("no call")),
+    }
+    ().show(out)?;
+    Ok(())
+}
+
+/// Writes the place of the first token that is left, which is no `#`.
+fn show_left<I: Tokens>(
+    out: &mut String,
+    parser: &mut Parser<I, NoBodies>,
+) -> Result<(), AllocError> {
+    match parser.at_end() {
+        Ok(true) => out.push_str("end"),
+        Ok(false) => match parser.parse_private_name() {
+            Ok(name) => name.show(out),
+            Err(fault) => fault.span().show(out),
+        },
+        Err(fault) => show_refusal(out, fault),
+    }
+}
+
+/// What the calls answer, record and leave.
+fn outcome<I: Tokens>(alloc: Global, tested: &mut Tested<I>, calls: &str) -> Result<String, Fail> {
+    let mut out = answers(alloc, tested, calls)?;
+    let parser = &mut tested.parser;
+    out.push_str(" | ")?;
+    show_faults(&mut out, &parser.take_errors())?;
+    out.push_str(" | ")?;
+    show_left(&mut out, parser)?;
+    Ok(out)
+}
+
+fn found(alloc: Global, row: Row<'_>, numbers: bool) -> Result<String, Fail> {
+    let source = source_of(alloc, row)?;
+    if row.setting.ends_with("failing") {
+        let parser = Parser::new_from(alloc, FailingInput::new(source), NoBodies);
+        let mut tested = Tested { parser, numbers };
+        return outcome(alloc, &mut tested, row.calls);
+    }
+    let parser = Parser::new_from(alloc, source, NoBodies);
+    let mut tested = Tested { parser, numbers };
+    outcome(alloc, &mut tested, row.calls)
+}
+
+#[test]
+fn calls_of_the_parser(rt: HostRuntime) -> Result<(), Fail> {
+    for line in CALLS.lines() {
+        let row = row_of(line).ok_or(line)?;
+        expect(&rt, line, &found(rt.alloc(), row, false)?, row.answer);
+        if !row.calls.contains("nodes") {
+            expect(&rt, line, &found(rt.alloc(), row, true)?, row.answer);
+        }
+    }
+    Ok(())
+}

@@ -1,0 +1,173 @@
+// Runs of the program: what it is given, and what it writes.
+use crate::rows::{Row, expect, row_of, unescaped};
+use show::run::run;
+use std::alloc::Global;
+use std::io::{ErrorKind, Read, Write};
+use std::process::Abort;
+use std::test::Fail;
+use std::{io, str};
+
+/// Arguments, a text, and what is written of it, on standard error after `stderr: `; then the status, and whether the text was left unread.
+/// `failing` input can't be read on behind the text.
+const RUNS: &str = r"show_expr | expr script | 5 + 4 * 7 | Bin(+, 5, Bin(*, 4, 7))\n | 0
+show_expr | expr script | 5 + 4 + 7 | Bin(+, Bin(+, 5, 4), 7)\n | 0
+show_expr | expr script | 2 ** 3 ** 4 | Bin(**, 2, Bin(**, 3, 4))\n | 0
+show_expr | expr script | -a ** b | refused: UnaryInExp 3..5\n | 2
+show_expr | expr script |  | refused: Eof 0..0\n | 2
+show_expr | expr script | () | refused: EmptyParenExpr 0..2\n | 2
+show_expr | expr script | + | Unary(+, Invalid)\nTS1109 0..1\n | 1
+show_expr | expr script | a ?? b || c | Bin(||, Bin(??, a, b), c)\nNullishCoalescingWithLogicalOp 0..11\nNullishCoalescingWithLogicalOp 0..11\n | 1
+show_expr | expr script | a + b = c | Bin(+, a, b)\nunread\n | 0
+show_expr | expr script | a && b ?? c | Bin(??, Bin(&&, a, b), c)\nNullishCoalescingWithLogicalOp 0..6\n | 1
+show_expr | expr script | a ?? b && c | Bin(??, a, Bin(&&, b, c))\nNullishCoalescingWithLogicalOp 5..11\n | 1
+show_expr | expr script | a ?? b || c || d | Bin(||, Bin(||, Bin(??, a, b), c), d)\nNullishCoalescingWithLogicalOp 0..11\n | 1
+show_expr | expr script | (a, b) | refused: Expected 2..3 )\n | 2
+show_expr | expr script | async | refused: TS1109 0..5\n | 2
+show_expr | expr script | 5 @@ \ | refused: Lex 5..6\n | 2
+show_expr | expr script | a + é | refused: Lex 4..5\n | 2
+show_expr | expr script | (null) in x | Bin(in, Paren(null), x)\n | 0
+show_expr | expr script | a\n- (true | refused: Eof 9..9\n | 2
+show_expr | expr script | (-a) ** -b | Bin(**, Paren(Unary(-, a)), Unary(-, b))\n | 0
+show_expr | expr script | void typeof delete ! ~ - + a | Unary(void, Unary(typeof, Unary(delete, Unary(!, Unary(~, Unary(-, Unary(+, a)))))))\n | 0
+show_expr | expr script | * a | Bin(*, Invalid, a)\nTS1109 0..1\n | 1
+show_expr | expr script | - * a | Bin(*, Unary(-, Invalid), a)\nTS1109 2..3\n | 1
+show_expr | expr script | - ** a | refused: UnaryInExp 2..4\nTS1109 2..4\n | 2
+show_expr | expr script | # a | #a\n | 0
+show_expr | expr script | # 1 | refused: ExpectedIdent 2..3\n | 2
+show_expr | expr script | enum | refused: TS1109 0..4\n | 2
+show_expr | expr script | let | let\n | 0
+show_expr | expr script | delete a | Unary(delete, a)\n | 0
+show_expr | expr module | let | let\nInvalidIdentInStrict 0..3 let\nInvalidIdentInStrict 0..3 let\n | 1
+show_expr | expr module | delete a | Unary(delete, a)\nTS1102 7..8\n | 1
+show_expr | expr module | implements | refused: TS1109 0..10\n | 2
+show_expr | expr strict | let | let\n | 0
+show_expr | expr strict | delete a | Unary(delete, a)\n | 0
+show_expr | expr strict | implements | refused: TS1109 0..10\n | 2
+show_expr | expr generator | implements in a | Bin(in, implements, a)\n | 0
+show_expr | expr generator | yield | refused: TS1109 0..5\n | 2
+show_expr | expr async | yield | yield\n | 0
+show_expr | expr async | await | refused: TS1109 0..5\n | 2
+show_expr | expr async | static | static\n | 0
+show_expr | expr | 5 | stderr: usage: show_expr expr|pat script|module|strict|generator|async\n | 3, unread
+show_expr |  | 5 | stderr: usage: show_expr expr|pat script|module|strict|generator|async\n | 3, unread
+show_expr | expr script x | 5 | stderr: usage: show_expr expr|pat script|module|strict|generator|async\n | 3, unread
+show_expr | expr script pedantic | 5 | stderr: usage: show_expr expr|pat script|module|strict|generator|async\n | 3, unread
+show_expr | pat script | 5 | stderr: usage: show_expr expr|pat script|module|strict|generator|async\n | 3, unread
+show_expr | pat module | 5 | stderr: usage: show_expr expr|pat script|module|strict|generator|async\n | 3, unread
+show_expr | expr pedantic | 5 | stderr: usage: show_expr expr|pat script|module|strict|generator|async\n | 3, unread
+show_expr | expr Script | 5 | stderr: usage: show_expr expr|pat script|module|strict|generator|async\n | 3, unread
+show_expr | script expr | 5 | stderr: usage: show_expr expr|pat script|module|strict|generator|async\n | 3, unread
+show_expr of failing input | expr script |  | stderr: cannot read standard input\n | 3
+show_expr of failing input | expr script | 5 + 4 | stderr: cannot read standard input\n | 3";
+
+/// Gives some bytes, and then ends, or fails.
+#[derive(Drop)]
+struct Input<'a> {
+    bytes: &'a [u8],
+    fails: bool,
+}
+
+impl Read for Input<'_> {
+    fn read(&mut self, buf: &mut [u8]) -> io::Result<usize> {
+        if self.fails && self.bytes.is_empty() {
+            return Err(io::Error::from(ErrorKind::Other));
+        }
+        self.bytes.read(buf)
+    }
+}
+
+/// Takes as many bytes as it has room for, and then fails. A flush may fail, too.
+#[derive(Drop)]
+struct Output {
+    room: usize,
+    flushes: bool,
+}
+
+impl Write for Output {
+    fn write(&mut self, buf: &[u8]) -> io::Result<usize> {
+        if self.room == 0 {
+            return Err(io::Error::from(ErrorKind::Other));
+        }
+        let count = buf.len().min(self.room);
+        self.room -= count;
+        Ok(count)
+    }
+
+    fn flush(&mut self) -> io::Result<()> {
+        if self.flushes {
+            return Ok(());
+        }
+        Err(io::Error::from(ErrorKind::Other))
+    }
+}
+
+/// Runs the program as the row says, and answers its status, and whether bytes of the text are left.
+fn run_on<W: Write, C: Write>(
+    alloc: Global,
+    row: Row<'_>,
+    output: &mut W,
+    complaints: &mut C,
+) -> Result<(u8, bool), Fail> {
+    let text = unescaped(alloc, row.text)?;
+    let arguments: Vec<&str> = row.setting.split_whitespace().collect(alloc)?;
+    let mut input = Input {
+        bytes: text.as_bytes(),
+        fails: row.calls.ends_with("failing input"),
+    };
+    let status = run(alloc, &arguments, &mut input, output, complaints);
+    Ok((status, !input.bytes.is_empty()))
+}
+
+/// What the program writes, and the length of what it writes on its output.
+fn ran(alloc: Global, row: Row<'_>) -> Result<(String, usize), Fail> {
+    let mut output = Vec::new(alloc);
+    let mut complaints = Vec::new(alloc);
+    let (status, unread) = run_on(alloc, row, &mut output, &mut complaints)?;
+    let mut out = String::from_str(alloc, str::from_utf8(&output)?)?;
+    if !complaints.is_empty() {
+        out.push_str("stderr: ")?;
+        out.push_str(str::from_utf8(&complaints)?)?;
+    }
+    write!(out, " | {status}")?;
+    if unread {
+        out.push_str(", unread")?;
+    }
+    Ok((out, output.len()))
+}
+
+/// The status of the program with this much room on its output.
+fn status_in(alloc: Global, row: Row<'_>, room: usize, flushes: bool) -> Result<u8, Fail> {
+    let mut output = Output { room, flushes };
+    let mut complaints = Vec::new(alloc);
+    let (status, _) = run_on(alloc, row, &mut output, &mut complaints)?;
+    Ok(status)
+}
+
+/// With less room than its output of this length needs, or where that can't be flushed, the program has to answer that it can't write.
+fn fails_without_room(
+    rt: &impl Abort,
+    alloc: Global,
+    row: Row<'_>,
+    length: usize,
+) -> Result<(), Fail> {
+    let answer = row.answer;
+    for room in 0..length {
+        let status = status_in(alloc, row, room, true)?;
+        assert_eq!(rt; status, 3, "with room for {room} bytes of {answer}");
+    }
+    let status = status_in(alloc, row, length, false)?;
+    assert_eq!(rt; status, 3, "without a flush of {answer}");
+    Ok(())
+}
+
+#[test]
+fn runs_of_the_program(rt: HostRuntime) -> Result<(), Fail> {
+    for line in RUNS.lines() {
+        let row = row_of(line).ok_or(line)?;
+        let wanted = unescaped(rt.alloc(), row.answer)?;
+        let (found, length) = ran(rt.alloc(), row)?;
+        expect(&rt, line, &found, &wanted);
+        fails_without_room(&rt, rt.alloc(), row, length)?;
+    }
+    Ok(())
+}

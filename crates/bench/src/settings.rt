@@ -1,0 +1,52 @@
+// The settings in which calls are made.
+use crate::rows::Row;
+use crate::tokens::tokens_of;
+use std::alloc::Global;
+use std::test::Fail;
+use swc_context::context::{Context, EsVersion, Syntax};
+use swc_input::listed::TokensInput;
+
+/// The source of the row's tokens, in its setting.
+pub(crate) fn source_of(alloc: Global, row: Row<'_>) -> Result<TokensInput, Fail> {
+    let (context, syntax) = setting_of(row.setting).ok_or("no setting")?;
+    let tokens = tokens_of(alloc, row.text)?;
+    Ok(TokensInput::new(alloc, tokens, context, syntax, EsVersion::default()))
+}
+
+/// The context and the syntax of some words: a mode of the program, and then what differs from it.
+pub(crate) fn setting_of(words: &str) -> Option<(Context, Syntax)> {
+    let mut context = Context {
+        include_in_expr: true,
+        ..Context::default()
+    };
+    let mut syntax = Syntax::default();
+    for word in words.split(' ') {
+        match word {
+            "no_early_errors" => syntax.early_errors = false,
+            _ => set(&mut context, word)?,
+        }
+    }
+    Some((context, syntax))
+}
+
+/// Changes what the word says.
+fn set(context: &mut Context, word: &str) -> Option<()> {
+    match word {
+        "script" | "failing" => {}
+        "strict" => context.strict = true,
+        "module" => {
+            context.module = true;
+            context.can_be_module = true;
+            context.strict = true;
+        }
+        "generator" => context.in_generator = true,
+        "async" => context.in_async = true,
+        "without_in" => context.include_in_expr = false,
+        "ignore_error" => context.ignore_error = true,
+        _ => return None,
+    }
+    let in_function = context.in_generator || context.in_async;
+    context.in_function = in_function;
+    context.inside_non_arrow_function_scope = in_function;
+    Some(())
+}
