@@ -1,5 +1,5 @@
 -- What the program is asked to do, and what it answers.
-use Rattle.std.specs.Prelude.{ℕ, true, false, if◌then◌else◌, List, [], ◌∷◌, Option, Some, None, IsSome, Result, Ok, Err, codes}
+use Rattle.std.specs.Prelude.{ℕ, true, if◌then◌else◌, List, [], ◌∷◌, Option, Some, None, IsSome, Result, Ok, Err, codes}
 use Rattle.swc_context.specs.Contexts.{no_flags}
 use Rattle.swc_context.specs.Texts.{is_text}
 use Rattle.swc_context.specs.declared.context.Context.{Context}

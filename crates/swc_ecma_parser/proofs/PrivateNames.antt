@@ -26,7 +26,6 @@ use Rattle.swc_grammar.specs.Trees.{to}
 use Rattle.swc_grammar.specs.Clean.{Out, ◌>>=◌, first, rest, begins_at, hash_by, hash_word, word, may_name}
 use Rattle.swc_ident.specs.Naming.{fault_at, Hashed, Private, Unprivate, no_memory_either, no_hash, apart, no_name, PrivateNames, expects}
 use Rattle.swc_ident.specs.Verdicts.{name_of_any}
-use Rattle.swc_ident.specs.Verdicts as verdict
 use Rattle.swc_productions.specs.Parsing.{seen, seen_of, Laws, Refuses, Here, On, Heard, Unheard, Parses}
 use Rattle.swc_productions.proofs.Steps.{Reader, refused, on_seen, on_took, on_then, on_call, heard_after, heard_first, heard_answer, unheard_after, unheard_at, unheard_memory, on_looked}
 use Rattle.swc_productions.proofs.Naming.{goes, stops, honest-name, heard_name, unheard_name}

@@ -1,5 +1,5 @@
 -- What the calls of a parser promise, by the written grammar alone.
-use Rattle.std.specs.Prelude.{◌≡◌, true, false, List, [], ◌++◌, Result, IfOk, MatchResult}
+use Rattle.std.specs.Prelude.{◌≡◌, true, List, [], ◌++◌, Result, IfOk, MatchResult}
 use Rattle.swc_context.specs.declared.context.Context.{Context}
 use Rattle.swc_context.specs.declared.error.Error.{Error}
 use Rattle.swc_context.specs.declared.error.SyntaxError.TheVariants.{OutOfMemory}

@@ -1,5 +1,5 @@
 -- What the calls on private names answer, from their steps.
-use Rattle.std.proofs.Common.{◌≡◌, ℕ, List, [], ◌∷◌, Option, Some, None, MatchOption, sym, ap, ◌∙◌}
+use Rattle.std.proofs.Common.{◌≡◌, ℕ, List, [], Option, Some, None, MatchOption, sym, ap, ◌∙◌}
 use Rattle.swc_context.specs.Spans.{between}
 use Rattle.swc_context.specs.declared.error.Error.{Error}
 use Rattle.swc_context.specs.declared.error.SyntaxError.TheVariants as kind
@@ -8,7 +8,6 @@ use Rattle.swc_context.specs.declared.span.Span.{Span}
 use Rattle.swc_context.proofs.Spans.{same_position}
 use Rattle.swc_input.specs.declared.buffer.Buffer.{Buffer}
 use Rattle.swc_input.specs.declared.token.TokenAndSpan.{TokenAndSpan}
-use Rattle.swc_input.specs.Plain.{plain}
 use Rattle.swc_input.specs.Source.{Source}
 use Rattle.swc_input.specs.Buffer.{Looked, current, last_position}
 use Rattle.swc_input.specs.Laws.{Read-same}
@@ -16,7 +15,7 @@ use Rattle.swc_input.specs.Recording as rec
 use Rattle.swc_input.specs.Recording.{Refused}
 use Rattle.swc_input.specs.Kinds.{at_token, is_hash}
 use Rattle.swc_ident.specs.Naming.{fault_at, Hashed, next_begins, Private, Unprivate, no_memory, no_memory_either, no_hash, apart, no_name, Neither}
-use Rattle.swc_ident.proofs.Reading.{Laws, Reads, reads_then, looked_then, looked_reads, refused_reads, met, passed_reads, passed_later}
+use Rattle.swc_ident.proofs.Reading.{Laws, Reads, reads_then, looked_reads, refused_reads, met, passed_reads, passed_later}
 use Rattle.swc_ident.proofs.Finding.{unnamed_reads}
 
 pub next_is : (o : Option TokenAndSpan) (p next : BytePos) → MatchOption o (next ≡ p) (λ t. next ≡ t.span.lo) → next ≡ elim o [ None ↦ p | Some t ↦ t.span.lo ]

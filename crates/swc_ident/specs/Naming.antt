@@ -1,5 +1,5 @@
 -- What the calls on names do.
-use Rattle.std.specs.Prelude.{◌≡◌, ℕ, Bool, true, false, List, [], ◌∷◌, Option, Some, None, MatchResult, Result, min, max, codes}
+use Rattle.std.specs.Prelude.{◌≡◌, ℕ, true, false, List, [], ◌∷◌, Option, Some, None, MatchResult, Result, codes}
 use Rattle.swc_ast.specs.declared.ident.Ident.{Ident}
 use Rattle.swc_ast.specs.declared.ident.ModuleExportName.{ModuleExportName}
 use Rattle.swc_ast.specs.declared.ident.ModuleExportName.TheVariants as export

@@ -1,7 +1,6 @@
 // Words, where a name is wanted: their faults, their refusals, and their texts.
 ghost use Rattle.std.specs.Prelude.{◌≡◌, ◌≢◌, true, ◌&&◌, [], ◌∷◌, MatchResult, codes};
-ghost use Rattle.swc_context.specs.Reserved.{strict_names};
-ghost use Rattle.swc_context.specs.Texts.{is_text, is_one_of};
+ghost use Rattle.swc_context.specs.Texts.{is_text};
 ghost use Rattle.swc_context.specs.Words.{word_text};
 ghost use Rattle.swc_context.specs.declared.error.SyntaxError.TheVariants.{InvalidIdentInStrict, OutOfMemory};
 ghost use Rattle.swc_input.specs.declared.token.Token.TheVariants as token;

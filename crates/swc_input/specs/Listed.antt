@@ -1,16 +1,14 @@
 -- `TokensInput` as a source.
 use Rattle.std.specs.Prelude.{◌≡◌, Bool, true, false, List, [], ◌∷◌, ◌++◌, Option, Some, None, length, map, MatchOption}
 use Rattle.std.proofs.Common.{refl, ap, sym, ◌∙◌, append_assoc, arith}
-use Rattle.std.proofs.lemmas.List.{append-nil, nil_from_length}
-use Rattle.std.proofs.lemmas.List.Elements.{All-nil}
+use Rattle.std.proofs.lemmas.List.{nil_from_length}
 use Rattle.swc_context.specs.declared.context.Context.{Context}
 use Rattle.swc_context.specs.declared.context.EsVersion.{EsVersion}
 use Rattle.swc_context.specs.declared.context.Syntax.{Syntax}
-use Rattle.swc_context.specs.declared.error.Error.{Error}
 use Rattle.swc_input.specs.declared.token.TokenAndSpan.{TokenAndSpan}
 use Rattle.swc_input.specs.declared.listed.TokensInput.{TokensInput}
 use Rattle.swc_input.specs.Plain.{plain}
-use Rattle.swc_input.specs.Source.{Source, IsLawful, Keeps, Keeping, Gave, Asked, IsFault}
+use Rattle.swc_input.specs.Source.{Source, IsLawful, Keeping, Gave, Asked}
 use Rattle.swc_input.specs.Laws.{keeps_same}
 
 abbrev pub is_nil : {A : Type 0} → List A → Bool

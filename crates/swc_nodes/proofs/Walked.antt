@@ -1,5 +1,5 @@
 -- What is found by going over the parts of a node.
-use Rattle.std.proofs.Common.{◌≡◌, ℕ, suc, ◌+◌, ◌<◌, ◌≤◌, Bool, true, false, ◌&&◌, Option, Some, None, List, [], ◌∷◌}
+use Rattle.std.proofs.Common.{◌≡◌, ℕ, suc, ◌+◌, ◌<◌, ◌≤◌, Bool, true, false, ◌&&◌, Some, None, List, [], ◌∷◌}
 use Rattle.std.proofs.Common.{fold, refl, sym, ap, ◌∙◌, arith, add-one}
 use Rattle.std.specs.Prelude.{if◌then◌else◌, is_some, nat_lt}
 use Rattle.std.proofs.lemmas.Bool.{lt-ltb, ltb-true, le-leb, false≢true}

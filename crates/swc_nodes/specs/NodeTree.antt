@@ -1,5 +1,5 @@
 -- The tree of a node, whose parts stand for what is given: one level of what specs/TreeOf.antt of swc_ast says of boxed trees.
-use Rattle.std.specs.Prelude.{ℕ, List, Option, Some, None, map}
+use Rattle.std.specs.Prelude.{ℕ, map}
 use Rattle.swc_context.specs.declared.span.Span.{Span}
 use Rattle.swc_ast.specs.Tree.{boolean, null, regex, this, array, object, fun, class, block, unary, update, bin, assign, cond, seq, call, new, tagged, arrow, await, yield, meta, invalid, shorthand, key_value, method, getter, setter, binding_prop, rest, default, dots, pat_expr, Tree, node, nil, cons, trees, span_of}
 use Rattle.swc_ast.specs.Parts.{leaf, or_hole, ident_tree, binding_tree, private_tree, str_tree, num_tree, big_tree, prop_name_tree, item_tree, item_trees, args_tree, paren_tree, member_tree, super_prop_tree, chain_tree, callee_tree, tpl_tree, body_tree, function_tree, cover_tree, spread_tree}
