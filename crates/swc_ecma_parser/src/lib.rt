@@ -7,7 +7,7 @@ pub use swc_context as context;
 pub use swc_ident as ident;
 pub use swc_input as input;
 pub use swc_nodes as nodes;
-pub use swc_print as print;
+pub use swc_print as printing;
 pub use swc_tokens as tokens;
 pub use swc_trees as trees;
 
