@@ -166,7 +166,7 @@ impl<'a> Builder<'a> {
         let prop = match prop {
             MemberProp::Ident(name) => SuperProp::Ident(name),
             MemberProp::Computed(name) => SuperProp::Computed(name),
-            MemberProp::PrivateName(_) => return Err(Fail::new("no property of super")),
+            MemberProp::PrivateName(_name) => return Err(Fail::new("no property of super")),
         };
         let prop = at(prop, place)?;
         let place = self.word()?.span;
