@@ -1,11 +1,9 @@
-//! The parser against the standard: against each expression that its productions derive, and on names against its rules.
+//! The grammar of operators, names and numbers, enumerated, and the parser tested against it.
 #![tactic(auto)]
 
-#[cfg(test)]
-mod grammar;
+pub mod grammar;
 #[cfg(test)]
 mod lists;
 #[cfg(test)]
-mod names;
-#[cfg(test)]
-mod parse;
+mod reading;
+pub mod symbol;
