@@ -20,7 +20,7 @@ use Rattle.swc_input.specs.Laws.{Known-after}
 use Rattle.swc_input.specs.Recording.{Refused, unfit}
 use Rattle.swc_input.proofs.Ends.{past_end}
 use Rattle.swc_input.proofs.Refusals.{Refused-kind, unfit-kind}
-use Rattle.swc_input.specs.Kinds.{at_token}
+use Rattle.swc_input.specs.Kinds.{at_token, is_hash}
 use Rattle.swc_grammar.specs.Names.{Spelling, spelling}
 use Rattle.swc_grammar.specs.Trees.{to}
 use Rattle.swc_grammar.specs.Clean.{Out, ◌>>=◌, first, rest, begins_at, hash_by, hash_word, word, may_name}
