@@ -149,7 +149,7 @@ impl<T: Spanned + ExprExt<Hooked, Hooked, Hooked>> Subject for Asked<'_, T> {
 }
 
 /// What the calls answer of an expression in its box and out of it.
-fn asked<B, T>(
+fn answer_of<B, T>(
     alloc: Global,
     boxed: &mut Asked<'_, B>,
     plain: &mut Asked<'_, T>,
@@ -189,7 +189,7 @@ fn of_expr(
         place,
         tree: &*tree,
     };
-    let answer = asked(alloc, &mut boxed, &mut plain, calls);
+    let answer = answer_of(alloc, &mut boxed, &mut plain, calls);
     let_go(tree);
     answer
 }

@@ -12,7 +12,6 @@ use swc_ast::function::Function;
 use swc_ast::ident::{BindingIdent, Ident, IdentName, PrivateName};
 use swc_ast::lit::{BigInt, Bool, Null, Num, Regex, Str};
 use swc_ast::prop::{AssignProp, ComputedPropName, PropName, SpreadElement};
-use swc_ast::spanned::Spanned;
 use swc_context::atom::Atom;
 use swc_context::operator::{AssignOp, BinaryOp, UnaryOp, UpdateOp};
 use swc_context::span::Span;
@@ -121,10 +120,7 @@ impl<'a> Builder<'a> {
 
     fn ident(&mut self) -> Result<Ident, Fail> {
         let word = self.word()?;
-        match written(self.alloc, word)? {
-            Node::Ident(ident) => Ok(ident),
-            _ => Err(Fail::new("no identifier")),
-        }
+        ident_of(self.alloc, word)
     }
 
     fn computed(&mut self, span: Span) -> Result<ComputedPropName<ExprId>, Fail> {
@@ -161,14 +157,14 @@ impl<'a> Builder<'a> {
     }
 
     fn super_prop(&mut self, span: Span) -> Result<SuperPropExpr<ExprId>, Fail> {
-        let prop = self.member_prop()?;
-        let place = prop.span();
-        let prop = match prop {
-            MemberProp::Ident(name) => SuperProp::Ident(name),
-            MemberProp::Computed(name) => SuperProp::Computed(name),
-            MemberProp::PrivateName(_name) => return Err(Fail::new("no property of super")),
+        let word = self.word()?;
+        let prop = if word.kind == "[]" {
+            SuperProp::Computed(self.computed(word.span)?)
+        } else {
+            let ident = ident_of(self.alloc, word)?;
+            SuperProp::Ident(at(name_of(ident), word.span)?)
         };
-        let prop = at(prop, place)?;
+        let prop = at(prop, word.span)?;
         let place = self.word()?.span;
         let obj = at(Super { span: place }, place)?;
         at(SuperPropExpr { span, obj, prop }, span)
@@ -181,7 +177,10 @@ impl<'a> Builder<'a> {
     }
 
     fn callee(&mut self) -> Result<Callee<ExprId>, Fail> {
-        let kind = self.words.last().map_or("", |word| word.kind);
+        let kind = match self.words.last() {
+            Some(word) => word.kind,
+            None => "",
+        };
         if kind != "super" && !kind.starts_with("import") {
             return Ok(Callee::Expr(self.take()?));
         }
@@ -588,6 +587,13 @@ fn leaf(alloc: Global, word: Word<'_>) -> Result<HookedNode, Fail> {
         }
         _ => return written(alloc, word),
     })
+}
+
+fn ident_of(alloc: Global, word: Word<'_>) -> Result<Ident, Fail> {
+    match written(alloc, word)? {
+        Node::Ident(ident) => Ok(ident),
+        _ => Err(Fail::new("no identifier")),
+    }
 }
 
 /// A name or a literal, with a dot before it or not.
