@@ -11,9 +11,9 @@ abbrev pub failing_state : TokensInput → Bool → Source
 failing_state list failed = record (listed_state list) { failed = failed; ended = false; known = None }
 
 -- a call of `next` that answered r: where the list has ended, it fails
-pub record NextFailing (list : TokensInput) (failed : Bool) (r : Option TokenAndSpan) (rest : TokensInput) (fails : Bool) : Type 0 where
+pub record NextFailing (list : TokensInput) (was : Bool) (r : Option TokenAndSpan) (rest : TokensInput) (fails : Bool) : Type 0 where
   pub next : NextListed list r rest
-  pub failed : MatchOption r (fails ≡ true) (λ x. fails ≡ failed)
+  pub failed : MatchOption r (fails ≡ true) (λ x. fails ≡ was)
 
 pub failing_lawful : (list : TokensInput) (failed : Bool) → IsLawful (failing_state list failed)
 failing_lawful list failed = record {
