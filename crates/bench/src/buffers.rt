@@ -2,9 +2,10 @@
 ghost use Rattle.std.specs.Prelude.{◌≡◌, ◌≢◌, true, Some, IsSome};
 ghost use Rattle.swc_context.specs.declared.error.SyntaxError.TheVariants.{OutOfMemory};
 ghost use Rattle.swc_context.specs.declared.operator.BinOpToken.TheVariants.{LShift};
-ghost use Rattle.swc_bodies.specs.Readings.{at_function, at_token, is_brace, is_class};
+ghost use Rattle.swc_bodies.specs.Readings.{at_function, is_brace, is_class};
 ghost use Rattle.swc_input.specs.declared.token.Token.TheVariants.{BinOp};
 ghost use Rattle.swc_input.specs.Buffer.{current, token_of};
+ghost use Rattle.swc_input.specs.Kinds.{at_token};
 
 use crate::rows::{Row, Subject, answers, expect, row_of};
 use crate::settings::{setting_of, source_of};
