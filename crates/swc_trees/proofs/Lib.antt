@@ -1,2 +1,5 @@
+pub mod Agreed
 pub mod Leaves
+pub mod Puts
 pub mod Taken
+pub mod Weights

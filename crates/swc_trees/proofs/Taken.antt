@@ -17,6 +17,7 @@ use Rattle.swc_nodes.specs.declared.nodes.Nodes.{Nodes}
 use Rattle.swc_nodes.proofs.Chains.{both_true, chain-bound, chain-first, chain-second, chain-same, chain-up, floor-both}
 use Rattle.swc_nodes.proofs.Held.{from-apart, apart-from}
 use Rattle.swc_nodes.proofs.Standing.{grows-same, grows-then, grows-count, seat-later}
+use Rattle.swc_trees.proofs.Agreed.{flat-append, agrees-first, agrees-second, agrees-self}
 use Rattle.swc_trees.specs.Moving.{Agrees, TakesOut}
 use Rattle.swc_trees.specs.Refusable.{Pushed, Reversed}
 
@@ -24,36 +25,11 @@ if_ok-as : {Y E : Type 0} (P Q : Y → Type 0) (r : Result Y E) → ((y : Y) →
 if_ok-as P Q (Ok y) f h = f y h
 if_ok-as P Q (Err e) f h = h
 
-pub two : {F C K : Type 0} {s t u v : Tree F C K} → s ≡ u → t ≡ v → cons s (cons t nil) ≡ cons u (cons v nil)
-two {t = t} {u = u} e f = ap (λ w. cons w (cons t nil)) e ∙ ap (λ w. cons u (cons w nil)) f
-
-pub headed : {F C K : Type 0} {s t : Tree F C K} {us vs : List (Tree F C K)} → s ≡ t → us ≡ vs → cons s (trees us) ≡ cons t (trees vs)
-headed {t = t} {us = us} e f = ap (λ w. cons w (trees us)) e ∙ ap (λ w. cons t (trees w)) f
-
-pub three : {F C K : Type 0} {r s t u v w : Tree F C K} → r ≡ u → s ≡ v → t ≡ w → cons r (cons s (cons t nil)) ≡ cons u (cons v (cons w nil))
-three {r = r} {s = s} {t = t} {u = u} d e f = ap (λ x. cons x (cons s (cons t nil))) d ∙ ap (cons u) (two e f)
-
 pub both-of : {X Y E : Type 0} (q : Result X E) (r : Result Y E) (x : X) (y : Y) (w : Result (X × Y) E) → w ≡ Ok (x, y) → IfOk w (λ p. (q ≡ Ok p.0) × (r ≡ Ok p.1)) → (q ≡ Ok x) × (r ≡ Ok y)
 both-of q r x y w e h = subst (λ v. IfOk v (λ p. (q ≡ Ok p.0) × (r ≡ Ok p.1))) e h
 
-pub flat-append : {X Y : Type 0} (f : X → List Y) (xs ys : List X) → flat f (xs ++ ys) ≡ flat f xs ++ flat f ys
-flat-append f [] ys = refl
-flat-append f (x ∷ xs) ys = ap (λ v. f x ++ v) (flat-append f xs ys) ∙ sym (append_assoc (f x) (flat f xs) (flat f ys))
-
 module _ {F C K : Type 0} {fg : Ghosts F} {cg : Ghosts C} {kg : Ghosts K} where
   -- ---- what parts stand for
-
-  agrees-first : (at : ℕ → Tree F C K) (ns : Nodes F C K fg cg kg) (ps qs : List Part) → Agrees at ns (ps ++ qs) → Agrees at ns ps
-  agrees-first at ns [] qs h = tt
-  agrees-first at ns (p ∷ ps) qs h = (h.0, agrees-first at ns ps qs h.1)
-
-  agrees-second : (at : ℕ → Tree F C K) (ns : Nodes F C K fg cg kg) (ps qs : List Part) → Agrees at ns (ps ++ qs) → Agrees at ns qs
-  agrees-second at ns [] qs h = h
-  agrees-second at ns (p ∷ ps) qs h = agrees-second at ns ps qs h.1
-
-  agrees-self : (ns : Nodes F C K fg cg kg) (ps : List Part) → Agrees (tree_at ns) ns ps
-  agrees-self ns [] = tt
-  agrees-self ns (p ∷ ps) = (refl, agrees-self ns ps)
 
   agrees-later : (at : ℕ → Tree F C K) (ns ms : Nodes F C K fg cg kg) (lo : ℕ) (ps : List Part) (hi : ℕ) → Grows ms ns → hi ≤ count ms → chain (seat_at ns) lo ps hi ≡ true → Agrees at ns ps → Agrees at ms ps
   agrees-later at ns ms lo [] hi g le h a = tt

@@ -1,3 +1,4 @@
+pub mod Boxed
 pub mod Kinds
 pub mod Moving
 pub mod Refusable

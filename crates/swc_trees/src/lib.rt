@@ -1,7 +1,9 @@
-//! Moves boxed trees out of the nodes. What is moved stands for the same tree.
+//! Moves boxed trees out of the nodes, and into them. What is moved stands for the same tree.
 #![tactic(auto)]
 
 pub mod letting_go;
+mod moved;
 pub mod parts;
+pub mod putting;
 mod refusable;
 pub mod taking;

@@ -7,7 +7,8 @@ use Rattle.swc_ast.specs.Tree.{array, object, block, unary, update, bin, assign,
 use Rattle.swc_ast.specs.TreeOf.{expr_tree, boxed_tree, pat_tree, pat_prop_tree, prop_or_spread_tree, target_tree}
 use Rattle.swc_nodes.specs.NodeTree.{expr_of, pat_of, prop_of, pat_prop_of}
 use Rattle.swc_nodes.specs.Slots.{expr, pat, simple, pattern, flat, if_some, one_expr, one_pat, target_part, item_parts, args_parts, key_parts, member_parts, callee_parts, body_parts, param_parts, prop_parts, pat_prop_parts, base_parts}
-use Rattle.swc_trees.proofs.Taken.{apart-along, both-of, two, three, headed, taken-none, taken-one, refused-one, taking-grows, taken-by, taken-two, taken-three, refused-two, refused-three, apart-first, apart-second, taking-ends, apart-middle, apart-three, apart-is, taken-is, taken-boxed, popped-taken, taking-starts, next-apart, taking-more}
+use Rattle.swc_trees.proofs.Agreed.{two, three, headed}
+use Rattle.swc_trees.proofs.Taken.{apart-along, both-of, taken-none, taken-one, refused-one, taking-grows, taken-by, taken-two, taken-three, refused-two, refused-three, apart-first, apart-second, taking-ends, apart-middle, apart-three, apart-is, taken-is, taken-boxed, popped-taken, taking-starts, next-apart, taking-more}
 use Rattle.swc_ast.specs.declared.lit.Lit.TheVariants as lit
 use Rattle.swc_trees.proofs.taking.+taking.Goals as goal
 

@@ -1,0 +1,34 @@
+-- Trees whose parts are equal, and what parts stand for, some of them and all.
+use Rattle.std.proofs.Common.{◌≡◌, ℕ, List, [], ◌∷◌, ◌++◌, refl, sym, ap, ◌∙◌, append_assoc}
+use Rattle.swc_ast.specs.Tree.{Tree, nil, cons, trees}
+use Rattle.swc_ast.specs.declared.spanned.Spanned.{Ghosts}
+use Rattle.swc_nodes.specs.Slots.{Part, flat}
+use Rattle.swc_nodes.specs.Stands.{tree_at}
+use Rattle.swc_nodes.specs.declared.nodes.Nodes.{Nodes}
+use Rattle.swc_trees.specs.Moving.{Agrees}
+
+pub two : {F C K : Type 0} {s t u v : Tree F C K} → s ≡ u → t ≡ v → cons s (cons t nil) ≡ cons u (cons v nil)
+two {t = t} {u = u} e f = ap (λ w. cons w (cons t nil)) e ∙ ap (λ w. cons u (cons w nil)) f
+
+pub headed : {F C K : Type 0} {s t : Tree F C K} {us vs : List (Tree F C K)} → s ≡ t → us ≡ vs → cons s (trees us) ≡ cons t (trees vs)
+headed {t = t} {us = us} e f = ap (λ w. cons w (trees us)) e ∙ ap (λ w. cons t (trees w)) f
+
+pub three : {F C K : Type 0} {r s t u v w : Tree F C K} → r ≡ u → s ≡ v → t ≡ w → cons r (cons s (cons t nil)) ≡ cons u (cons v (cons w nil))
+three {r = r} {s = s} {t = t} {u = u} d e f = ap (λ x. cons x (cons s (cons t nil))) d ∙ ap (cons u) (two e f)
+
+pub flat-append : {X Y : Type 0} (f : X → List Y) (xs ys : List X) → flat f (xs ++ ys) ≡ flat f xs ++ flat f ys
+flat-append f [] ys = refl
+flat-append f (x ∷ xs) ys = ap (λ v. f x ++ v) (flat-append f xs ys) ∙ sym (append_assoc (f x) (flat f xs) (flat f ys))
+
+module _ {F C K : Type 0} {fg : Ghosts F} {cg : Ghosts C} {kg : Ghosts K} where
+  pub agrees-first : (at : ℕ → Tree F C K) (ns : Nodes F C K fg cg kg) (ps qs : List Part) → Agrees at ns (ps ++ qs) → Agrees at ns ps
+  agrees-first at ns [] qs h = tt
+  agrees-first at ns (p ∷ ps) qs h = (h.0, agrees-first at ns ps qs h.1)
+
+  pub agrees-second : (at : ℕ → Tree F C K) (ns : Nodes F C K fg cg kg) (ps qs : List Part) → Agrees at ns (ps ++ qs) → Agrees at ns qs
+  agrees-second at ns [] qs h = h
+  agrees-second at ns (p ∷ ps) qs h = agrees-second at ns ps qs h.1
+
+  pub agrees-self : (ns : Nodes F C K fg cg kg) (ps : List Part) → Agrees (tree_at ns) ns ps
+  agrees-self ns [] = tt
+  agrees-self ns (p ∷ ps) = (refl, agrees-self ns ps)
