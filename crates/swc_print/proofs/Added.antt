@@ -1,7 +1,6 @@
 -- The numbers among pieces that are put together.
 use Rattle.std.proofs.Common.{◌≡◌, ℕ, zero, suc, ◌+◌, ◌<◌, List, [], ◌∷◌, ◌++◌, length, take, get_or, reverse, Result, Ok, Err, OnOk, refl, sym, ap, ◌∙◌, append_assoc, add-one}
-use Rattle.std.specs.Prelude.{if◌then◌else◌, slice_get}
-use Rattle.std.specs.Result.{is_ok}
+use Rattle.std.specs.Prelude.{slice_get}
 use Rattle.std.proofs.lemmas.List.{append-nil, reverse-append}
 use Rattle.std.proofs.lemmas.Option.{slice_get_read}
 use Rattle.swc_nodes.specs.Slots.{Part, flat, if_some}
@@ -14,14 +13,17 @@ numbers-append [] ys = refl
 numbers-append (piece.Text t ∷ xs) ys = numbers-append xs ys
 numbers-append (piece.Count k ∷ xs) ys = numbers-append xs ys
 numbers-append (piece.Node i ∷ xs) ys = ap (λ v. i ∷ v) (numbers-append xs ys)
+numbers-append (piece.Last i ∷ xs) ys = ap (λ v. i ∷ v) (numbers-append xs ys)
 
 pub ats-append : (ps qs : List Part) → ats (ps ++ qs) ≡ ats ps ++ ats qs
 ats-append [] qs = refl
 ats-append (p ∷ ps) qs = ap (λ v. p.at ∷ v) (ats-append ps qs)
 
-pub extended : {A B : Type 0} (r : Result A B) (old new more : List Piece) → new ≡ (if is_ok r then old ++ more else old) → OnOk r (numbers new ≡ numbers old ++ numbers more)
-extended (Ok a) old new more e = ap numbers e ∙ numbers-append old more
-extended (Err a) old new more e = tt
+pub piece_more : (old new : List Piece) (p : Piece) → new ≡ old ++ p ∷ [] → numbers new ≡ numbers old ++ numbers (p ∷ [])
+piece_more old new p e = ap numbers e ∙ numbers-append old (p ∷ [])
+
+pub text_more : (old new : List Piece) (p : Piece) → numbers (p ∷ []) ≡ [] → new ≡ old ++ p ∷ [] → numbers new ≡ numbers old
+text_more old new p none e = piece_more old new p e ∙ ap (λ v. numbers old ++ v) none ∙ append-nil (numbers old)
 
 -- some parts, and then more of them
 pub both : (a b c : List ℕ) (ps qs : List Part) → b ≡ a ++ ats ps → c ≡ b ++ ats qs → c ≡ a ++ ats (ps ++ qs)
@@ -49,17 +51,26 @@ both_ok (Err x) a b c ps qs e f = tt
 
 -- ---- the stack
 
-reversed_one : (p : Piece) (xs : List Piece) → numbers (reverse (p ∷ xs)) ≡ numbers (reverse xs) ++ numbers (p ∷ [])
-reversed_one p xs = ap numbers (reverse-append (p ∷ []) xs) ∙ numbers-append (reverse xs) (p ∷ [])
+-- the numbers on the stack once all the pieces are moved onto it
+abbrev pub all_moved : List Piece → List Piece → List ℕ
+all_moved stack pieces = numbers stack ++ reverse (numbers pieces)
 
-numbers-reverse : (xs : List Piece) → numbers (reverse xs) ≡ reverse (numbers xs)
-numbers-reverse [] = refl
-numbers-reverse (piece.Text t ∷ xs) = reversed_one (piece.Text t) xs ∙ append-nil (numbers (reverse xs)) ∙ numbers-reverse xs
-numbers-reverse (piece.Count k ∷ xs) = reversed_one (piece.Count k) xs ∙ append-nil (numbers (reverse xs)) ∙ numbers-reverse xs
-numbers-reverse (piece.Node i ∷ xs) = reversed_one (piece.Node i) xs ∙ ap (λ v. v ++ i ∷ []) (numbers-reverse xs) ∙ sym (reverse-append (i ∷ []) (numbers xs))
+reverse_one : (p : Piece) → reverse (numbers (p ∷ [])) ≡ numbers (p ∷ [])
+reverse_one (piece.Text t) = refl
+reverse_one (piece.Count k) = refl
+reverse_one (piece.Node i) = refl
+reverse_one (piece.Last i) = refl
 
-pub moved : (old more pieces new : List Piece) → more ≡ reverse pieces → new ≡ old ++ more → numbers new ≡ numbers old ++ reverse (numbers pieces)
-moved old more pieces new e h = ap numbers h ∙ numbers-append old more ∙ ap (λ v. numbers old ++ v) (ap numbers e ∙ numbers-reverse pieces)
+-- the last of the pieces is moved
+pub one_moved : (stack pieces more left : List Piece) (p : Piece) (whole : List ℕ) → pieces ≡ left ++ p ∷ [] → more ≡ stack ++ p ∷ [] → all_moved stack pieces ≡ whole → all_moved more left ≡ whole
+one_moved stack pieces more left p whole e f h =
+    let turned : reverse (numbers pieces) ≡ numbers (p ∷ []) ++ reverse (numbers left) =
+    ap reverse (piece_more left pieces p e) ∙ reverse-append (numbers left) (numbers (p ∷ [])) ∙ ap (λ v. v ++ reverse (numbers left)) (reverse_one p) in
+    ap (λ v. v ++ reverse (numbers left)) (piece_more stack more p f) ∙ append_assoc (numbers stack) (numbers (p ∷ [])) (reverse (numbers left)) ∙ sym (ap (λ v. numbers stack ++ v) turned) ∙ h
+
+-- none is left to move
+pub none_left : (stack pieces : List Piece) (whole : List ℕ) → pieces ≡ [] → all_moved stack pieces ≡ whole → numbers stack ≡ whole
+none_left stack pieces whole none h = sym (append-nil (numbers stack)) ∙ ap (λ v. numbers stack ++ reverse (numbers v)) (sym none) ∙ h
 
 -- a piece was taken from the top
 pub text_taken : (old new : List Piece) (p : Piece) (whole : List ℕ) → old ≡ new ++ p ∷ [] → numbers (p ∷ []) ≡ [] → numbers old ≡ whole → numbers new ≡ whole
@@ -67,3 +78,9 @@ text_taken old new p whole e none h = sym (append-nil (numbers new)) ∙ ap (λ 
 
 pub node_taken : (old new : List Piece) (p : Piece) (i : ℕ) (whole : List ℕ) → old ≡ new ++ p ∷ [] → numbers (p ∷ []) ≡ i ∷ [] → numbers old ≡ whole → whole ≡ numbers new ++ i ∷ []
 node_taken old new p i whole e one h = sym h ∙ ap numbers e ∙ numbers-append new (p ∷ []) ∙ ap (λ v. numbers new ++ v) one
+
+-- and a piece of text was put in its place
+pub last_taken : (old left new : List Piece) (p q : Piece) (i : ℕ) (whole : List ℕ) → old ≡ left ++ p ∷ [] → numbers (p ∷ []) ≡ i ∷ [] → new ≡ left ++ q ∷ [] → numbers (q ∷ []) ≡ [] → numbers old ≡ whole → whole ≡ numbers new ++ i ∷ []
+last_taken old left new p q i whole e one f none h =
+    let same : numbers new ≡ numbers left = piece_more left new q f ∙ ap (λ v. numbers left ++ v) none ∙ append-nil (numbers left) in
+    node_taken old left p i whole e one h ∙ ap (λ v. v ++ i ∷ []) (sym same)

@@ -11,6 +11,7 @@ use Rattle.swc_print.specs.declared.pieces.Piece.TheVariants as piece
 abbrev pub numbers : List Piece → List ℕ
 numbers [] = []
 numbers (piece.Node i ∷ ps) = i ∷ numbers ps
+numbers (piece.Last i ∷ ps) = i ∷ numbers ps
 numbers (piece.Text t ∷ ps) = numbers ps
 numbers (piece.Count k ∷ ps) = numbers ps
 

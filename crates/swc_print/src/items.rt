@@ -3,7 +3,9 @@ ghost use Rattle.std.specs.Prelude.{◌≡◌, ◌++◌, ◌∷◌, [], OnOk};
 ghost use Rattle.swc_nodes.specs.Slots.{one_expr, one_pat, if_some, item_parts, param_parts, prop_parts, pat_prop_parts, key_parts, flat};
 ghost use Rattle.swc_print.specs.Numbers.{numbers, ats};
 
-use crate::pieces::{Piece, put, put_computed, put_in, put_kept_last, put_text};
+use crate::pieces::{
+    Piece, Pieces, put_after, put_computed, put_in, put_kept_last, put_part, put_text,
+};
 use crate::print::Kept;
 use std::alloc::AllocError;
 use swc_ast::expr::ExprOrSpread;
@@ -20,18 +22,18 @@ pub trait Item {
     ghost parts: { Self → List Part };
 
     /// Appends the pieces of its text.
-    fn put<'a>(&'a self, pieces: &mut Vec<Piece<'a>>) -> Result<(), AllocError>
-        ensures { OnOk result (numbers pieces.new.items ≡ numbers pieces.old.items ++ ats (parts self.now)) };
+    fn put<'a>(&'a self, pieces: &mut Pieces<'a>) -> Result<(), AllocError>
+        ensures { OnOk result (numbers pieces.new.waiting.items ≡ numbers pieces.old.waiting.items ++ ats (parts self.now)) };
 }
 
 /// Appends the pieces of a list, with a comma between each two items.
 pub fn put_list<'a, T: Item>(
-    pieces: &mut Vec<Piece<'a>>,
+    pieces: &mut Pieces<'a>,
     open: &'a str,
     items: &'a [T],
     close: &'a str,
 ) -> Result<(), AllocError>
-    ensures { OnOk result (numbers pieces.new.items ≡ numbers pieces.old.items ++ ats (flat T.parts items.now)) }
+    ensures { OnOk result (numbers pieces.new.waiting.items ≡ numbers pieces.old.waiting.items ++ ats (flat T.parts items.now)) }
 {
     put_text(pieces, open)?;
     for (i, item) in items.iter().enumerate() {
@@ -44,23 +46,23 @@ pub fn put_list<'a, T: Item>(
 impl Item for ExprId {
     ghost parts = { one_expr };
 
-    fn put<'a>(&'a self, pieces: &mut Vec<Piece<'a>>) -> Result<(), AllocError> {
-        put(pieces, &[Piece::Node(self.0)])
+    fn put<'a>(&'a self, pieces: &mut Pieces<'a>) -> Result<(), AllocError> {
+        put_part(pieces, Piece::Node(self.0))
     }
 }
 
 impl Item for PatId {
     ghost parts = { one_pat };
 
-    fn put<'a>(&'a self, pieces: &mut Vec<Piece<'a>>) -> Result<(), AllocError> {
-        put(pieces, &[Piece::Node(self.0)])
+    fn put<'a>(&'a self, pieces: &mut Pieces<'a>) -> Result<(), AllocError> {
+        put_part(pieces, Piece::Node(self.0))
     }
 }
 
 impl<T: Item> Item for Option<T> {
     ghost parts = { if_some T.parts };
 
-    fn put<'a>(&'a self, pieces: &mut Vec<Piece<'a>>) -> Result<(), AllocError> {
+    fn put<'a>(&'a self, pieces: &mut Pieces<'a>) -> Result<(), AllocError> {
         match self {
             None => put_text(pieces, "-"),
             Some(item) => item.put(pieces),
@@ -71,21 +73,15 @@ impl<T: Item> Item for Option<T> {
 impl Item for ExprOrSpread<ExprId> {
     ghost parts = { item_parts };
 
-    fn put<'a>(&'a self, pieces: &mut Vec<Piece<'a>>) -> Result<(), AllocError> {
-        put(
-            pieces,
-            &[
-                Piece::Text(spread_text(&self.spread)),
-                Piece::Node(self.expr.0),
-            ],
-        )
+    fn put<'a>(&'a self, pieces: &mut Pieces<'a>) -> Result<(), AllocError> {
+        put_after(pieces, spread_text(&self.spread), self.expr.0)
     }
 }
 
 impl Item for Param<PatId> {
     ghost parts = { param_parts };
 
-    fn put<'a>(&'a self, pieces: &mut Vec<Piece<'a>>) -> Result<(), AllocError> {
+    fn put<'a>(&'a self, pieces: &mut Pieces<'a>) -> Result<(), AllocError> {
         self.pat.put(pieces)
     }
 }
@@ -93,9 +89,9 @@ impl Item for Param<PatId> {
 impl<K: Kept> Item for PropNode<K> {
     ghost parts = { prop_parts };
 
-    fn put<'a>(&'a self, pieces: &mut Vec<Piece<'a>>) -> Result<(), AllocError> {
+    fn put<'a>(&'a self, pieces: &mut Pieces<'a>) -> Result<(), AllocError> {
         match self {
-            PropNode::Spread(s) => put(pieces, &[Piece::Text("..."), Piece::Node(s.expr.0)]),
+            PropNode::Spread(s) => put_after(pieces, "...", s.expr.0),
             PropNode::Shorthand(i) => put_text(pieces, i.sym.as_str()),
             PropNode::KeyValue { key, value, .. } => put_key_value(pieces, key, value.0),
             PropNode::Assign(p) => put_default(pieces, p.key.sym.as_str(), p.value.0),
@@ -113,7 +109,7 @@ impl<K: Kept> Item for PropNode<K> {
             } => {
                 put_text(pieces, "Setter(")?;
                 put_key(pieces, key)?;
-                put(pieces, &[Piece::Text(", "), Piece::Node(param.0)])?;
+                put_after(pieces, ", ", param.0)?;
                 put_kept_last(pieces, ", ", body.kept())
             }
         }
@@ -123,7 +119,7 @@ impl<K: Kept> Item for PropNode<K> {
 impl Item for PatPropNode {
     ghost parts = { pat_prop_parts };
 
-    fn put<'a>(&'a self, pieces: &mut Vec<Piece<'a>>) -> Result<(), AllocError> {
+    fn put<'a>(&'a self, pieces: &mut Pieces<'a>) -> Result<(), AllocError> {
         match self {
             PatPropNode::KeyValue { key, value, .. } => put_key_value(pieces, key, value.0),
             PatPropNode::Assign { key, value, .. } => match value {
@@ -140,21 +136,15 @@ fn spread_text(spread: &Option<Span>) -> &'static str {
 }
 
 /// Appends a name and its default value.
-fn put_default<'a>(
-    pieces: &mut Vec<Piece<'a>>,
-    name: &'a str,
-    value: usize,
-) -> Result<(), AllocError>
-    ensures { OnOk result (numbers pieces.new.items ≡ numbers pieces.old.items ++ value ∷ []) }
+fn put_default<'a>(pieces: &mut Pieces<'a>, name: &'a str, value: usize) -> Result<(), AllocError>
+    ensures { OnOk result (numbers pieces.new.waiting.items ≡ numbers pieces.old.waiting.items ++ value ∷ []) }
 {
-    put(
-        pieces,
-        &[Piece::Text(name), Piece::Text(" = "), Piece::Node(value)],
-    )
+    put_text(pieces, name)?;
+    put_after(pieces, " = ", value)
 }
 
-fn put_key<'a>(pieces: &mut Vec<Piece<'a>>, key: &'a PropName<ExprId>) -> Result<(), AllocError>
-    ensures { OnOk result (numbers pieces.new.items ≡ numbers pieces.old.items ++ ats (key_parts key.now)) }
+fn put_key<'a>(pieces: &mut Pieces<'a>, key: &'a PropName<ExprId>) -> Result<(), AllocError>
+    ensures { OnOk result (numbers pieces.new.waiting.items ≡ numbers pieces.old.waiting.items ++ ats (key_parts key.now)) }
 {
     match key {
         PropName::Ident(i) => put_text(pieces, i.sym.as_str()),
@@ -166,22 +156,22 @@ fn put_key<'a>(pieces: &mut Vec<Piece<'a>>, key: &'a PropName<ExprId>) -> Result
 }
 
 fn put_key_value<'a>(
-    pieces: &mut Vec<Piece<'a>>,
+    pieces: &mut Pieces<'a>,
     key: &'a PropName<ExprId>,
     value: usize,
 ) -> Result<(), AllocError>
-    ensures { OnOk result (numbers pieces.new.items ≡ (numbers pieces.old.items ++ ats (key_parts key.now)) ++ value ∷ []) }
+    ensures { OnOk result (numbers pieces.new.waiting.items ≡ (numbers pieces.old.waiting.items ++ ats (key_parts key.now)) ++ value ∷ []) }
 {
     put_key(pieces, key)?;
-    put(pieces, &[Piece::Text(": "), Piece::Node(value)])
+    put_after(pieces, ": ", value)
 }
 
 fn put_method<'a, K: Kept>(
-    pieces: &mut Vec<Piece<'a>>,
+    pieces: &mut Pieces<'a>,
     key: &'a PropName<ExprId>,
     function: &'a Function<PatId, K>,
 ) -> Result<(), AllocError>
-    ensures { OnOk result (numbers pieces.new.items ≡ numbers pieces.old.items ++ ats (key_parts key.now ++ flat param_parts function.now.params.items)) }
+    ensures { OnOk result (numbers pieces.new.waiting.items ≡ numbers pieces.old.waiting.items ++ ats (key_parts key.now ++ flat param_parts function.now.params.items)) }
 {
     put_text(
         pieces,

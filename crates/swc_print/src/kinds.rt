@@ -8,7 +8,7 @@ use crate::links::{
     put_arrow, put_call, put_chain, put_member, put_new, put_super_prop, put_tagged, put_tpl,
     put_yield,
 };
-use crate::pieces::{Piece, put, put_in, put_named, put_text, put_two};
+use crate::pieces::{Pieces, put_after, put_in, put_kept, put_named, put_text, put_two};
 use crate::print::Kept;
 use std::alloc::AllocError;
 use swc_ast::expr::MetaPropKind;
@@ -17,10 +17,10 @@ use swc_nodes::node::{Node, TargetNode};
 
 /// Appends the pieces of the text of a node.
 pub fn put_node<'a, F: Kept, C: Kept, K: Kept>(
-    pieces: &mut Vec<Piece<'a>>,
+    pieces: &mut Pieces<'a>,
     node: &'a Node<F, C, K>,
 ) -> Result<(), AllocError>
-    ensures { OnOk result (numbers pieces.new.items ≡ numbers pieces.old.items ++ ats (shown node.now)) }
+    ensures { OnOk result (numbers pieces.new.waiting.items ≡ numbers pieces.old.waiting.items ++ ats (shown node.now)) }
 {
     match node {
         Node::Array { elems, .. } => put_list(pieces, "Array[", elems, "]"),
@@ -63,15 +63,15 @@ pub fn put_node<'a, F: Kept, C: Kept, K: Kept>(
 
 /// Appends the pieces of a node that has no parts.
 fn put_leaf<'a, F: Kept, C: Kept, K>(
-    pieces: &mut Vec<Piece<'a>>,
+    pieces: &mut Pieces<'a>,
     node: &'a Node<F, C, K>,
 ) -> Result<(), AllocError>
-    ensures { OnOk result (numbers pieces.new.items ≡ numbers pieces.old.items) }
+    ensures { OnOk result (numbers pieces.new.waiting.items ≡ numbers pieces.old.waiting.items) }
 {
     match node {
         Node::This(_) => put_text(pieces, "this"),
-        Node::Fn(f) => put(pieces, &[Piece::Text("Fn"), Piece::Count(f.kept())]),
-        Node::Class(c) => put(pieces, &[Piece::Text("Class"), Piece::Count(c.kept())]),
+        Node::Fn(f) => put_kept(pieces, "Fn", f.kept()),
+        Node::Class(c) => put_kept(pieces, "Class", c.kept()),
         Node::MetaProp(m) => put_text(pieces, meta_prop_text(&m.kind)),
         Node::PrivateName(p) => put_named(pieces, "#", p.name.as_str()),
         Node::Ident(i) => put_text(pieces, i.sym.as_str()),
@@ -88,11 +88,11 @@ fn put_leaf<'a, F: Kept, C: Kept, K>(
 
 /// Appends the pieces of a node with one to three parts, and names or words between them.
 fn put_operation<'a, F, C, K>(
-    pieces: &mut Vec<Piece<'a>>,
+    pieces: &mut Pieces<'a>,
     node: &'a Node<F, C, K>,
 ) -> Result<(), AllocError>
     requires { is_operation node.now ≡ true }
-    ensures { OnOk result (numbers pieces.new.items ≡ numbers pieces.old.items ++ ats (shown node.now)) }
+    ensures { OnOk result (numbers pieces.new.waiting.items ≡ numbers pieces.old.waiting.items ++ ats (shown node.now)) }
 {
     match node {
         Node::Unary { op, arg, .. } => put_operator(pieces, "Unary(", op.as_str(), arg.0),
@@ -116,11 +116,11 @@ fn put_operation<'a, F, C, K>(
 
 /// Appends the pieces of a binary operation, an assignment or a conditional.
 fn put_infix<'a, F, C, K>(
-    pieces: &mut Vec<Piece<'a>>,
+    pieces: &mut Pieces<'a>,
     node: &'a Node<F, C, K>,
 ) -> Result<(), AllocError>
     requires { is_infix node.now ≡ true }
-    ensures { OnOk result (numbers pieces.new.items ≡ numbers pieces.old.items ++ ats (shown node.now)) }
+    ensures { OnOk result (numbers pieces.new.waiting.items ≡ numbers pieces.old.waiting.items ++ ats (shown node.now)) }
 {
     match node {
         Node::Bin {
@@ -147,7 +147,7 @@ fn put_infix<'a, F, C, K>(
             alt,
             ..
         } => {
-            put(pieces, &[Piece::Text("Cond("), Piece::Node(test.0)])?;
+            put_after(pieces, "Cond(", test.0)?;
             put_two(pieces, ", ", cons.0, alt.0)
         }
         _ => unreachable!(),
@@ -155,19 +155,19 @@ fn put_infix<'a, F, C, K>(
 }
 
 fn put_operator<'a>(
-    pieces: &mut Vec<Piece<'a>>,
+    pieces: &mut Pieces<'a>,
     open: &'a str,
     op: &'a str,
     number: usize,
 ) -> Result<(), AllocError>
-    ensures { OnOk result (numbers pieces.new.items ≡ numbers pieces.old.items ++ number ∷ []) }
+    ensures { OnOk result (numbers pieces.new.waiting.items ≡ numbers pieces.old.waiting.items ++ number ∷ []) }
 {
     put_named(pieces, open, op)?;
     put_in(pieces, ", ", number)
 }
 
-fn put_regex<'a>(pieces: &mut Vec<Piece<'a>>, regex: &'a Regex) -> Result<(), AllocError>
-    ensures { OnOk result (numbers pieces.new.items ≡ numbers pieces.old.items) }
+fn put_regex<'a>(pieces: &mut Pieces<'a>, regex: &'a Regex) -> Result<(), AllocError>
+    ensures { OnOk result (numbers pieces.new.waiting.items ≡ numbers pieces.old.waiting.items) }
 {
     put_named(pieces, "/", regex.exp.as_str())?;
     put_named(pieces, "/", regex.flags.as_str())

@@ -4,7 +4,7 @@ ghost use Rattle.swc_nodes.specs.Slots.{one_expr, one_pat, if_some, flat, item_p
 ghost use Rattle.swc_print.specs.Numbers.{numbers, ats, tpl_shown};
 
 use crate::items::put_list;
-use crate::pieces::{Piece, put, put_computed, put_in, put_kept_last, put_named, put_text};
+use crate::pieces::{Pieces, put_after, put_computed, put_in, put_kept_last, put_named, put_text};
 use crate::print::Kept;
 use std::alloc::AllocError;
 use swc_ast::expr::{
@@ -15,12 +15,12 @@ use swc_nodes::node::{ExprId, PatId};
 
 /// Appends the pieces of a member.
 pub fn put_member<'a>(
-    pieces: &mut Vec<Piece<'a>>,
+    pieces: &mut Pieces<'a>,
     member: &'a MemberExpr<ExprId>,
 ) -> Result<(), AllocError>
-    ensures { OnOk result (numbers pieces.new.items ≡ numbers pieces.old.items ++ ats (one_expr member.now.obj ++ member_parts member.now.prop)) }
+    ensures { OnOk result (numbers pieces.new.waiting.items ≡ numbers pieces.old.waiting.items ++ ats (one_expr member.now.obj ++ member_parts member.now.prop)) }
 {
-    put(pieces, &[Piece::Text("Member("), Piece::Node(member.obj.0)])?;
+    put_after(pieces, "Member(", member.obj.0)?;
     match &member.prop {
         MemberProp::Ident(i) => put_named(pieces, ", .", i.sym.as_str())?,
         MemberProp::PrivateName(p) => put_named(pieces, ", .#", p.name.as_str())?,
@@ -31,10 +31,10 @@ pub fn put_member<'a>(
 
 /// Appends the pieces of a property of `super`.
 pub fn put_super_prop<'a>(
-    pieces: &mut Vec<Piece<'a>>,
+    pieces: &mut Pieces<'a>,
     super_prop: &'a SuperPropExpr<ExprId>,
 ) -> Result<(), AllocError>
-    ensures { OnOk result (numbers pieces.new.items ≡ numbers pieces.old.items ++ ats (super_parts super_prop.now.prop)) }
+    ensures { OnOk result (numbers pieces.new.waiting.items ≡ numbers pieces.old.waiting.items ++ ats (super_parts super_prop.now.prop)) }
 {
     put_text(pieces, "SuperProp(")?;
     match &super_prop.prop {
@@ -44,32 +44,29 @@ pub fn put_super_prop<'a>(
     put_text(pieces, ")")
 }
 
-fn put_args<'a>(
-    pieces: &mut Vec<Piece<'a>>,
-    args: &'a [ExprOrSpread<ExprId>],
-) -> Result<(), AllocError>
-    ensures { OnOk result (numbers pieces.new.items ≡ numbers pieces.old.items ++ ats (flat item_parts args.now)) }
+fn put_args<'a>(pieces: &mut Pieces<'a>, args: &'a [ExprOrSpread<ExprId>]) -> Result<(), AllocError>
+    ensures { OnOk result (numbers pieces.new.waiting.items ≡ numbers pieces.old.waiting.items ++ ats (flat item_parts args.now)) }
 {
     put_list(pieces, ", [", args, "])")
 }
 
-fn put_callee<'a>(pieces: &mut Vec<Piece<'a>>, callee: &Callee<ExprId>) -> Result<(), AllocError>
-    ensures { OnOk result (numbers pieces.new.items ≡ numbers pieces.old.items ++ ats (callee_parts callee.now)) }
+fn put_callee<'a>(pieces: &mut Pieces<'a>, callee: &Callee<ExprId>) -> Result<(), AllocError>
+    ensures { OnOk result (numbers pieces.new.waiting.items ≡ numbers pieces.old.waiting.items ++ ats (callee_parts callee.now)) }
 {
     match callee {
         Callee::Super(_) => put_text(pieces, "Call(super"),
         Callee::Import(i) => put_named(pieces, "Call(", import_text(&i.phase)),
-        Callee::Expr(e) => put(pieces, &[Piece::Text("Call("), Piece::Node(e.0)]),
+        Callee::Expr(e) => put_after(pieces, "Call(", e.0),
     }
 }
 
 /// Appends the pieces of a call.
 pub fn put_call<'a>(
-    pieces: &mut Vec<Piece<'a>>,
+    pieces: &mut Pieces<'a>,
     callee: &Callee<ExprId>,
     args: &'a [ExprOrSpread<ExprId>],
 ) -> Result<(), AllocError>
-    ensures { OnOk result (numbers pieces.new.items ≡ numbers pieces.old.items ++ ats (callee_parts callee.now ++ flat item_parts args.now)) }
+    ensures { OnOk result (numbers pieces.new.waiting.items ≡ numbers pieces.old.waiting.items ++ ats (callee_parts callee.now ++ flat item_parts args.now)) }
 {
     put_callee(pieces, callee)?;
     put_args(pieces, args)
@@ -77,13 +74,13 @@ pub fn put_call<'a>(
 
 /// Appends the pieces of a call by `new`.
 pub fn put_new<'a>(
-    pieces: &mut Vec<Piece<'a>>,
+    pieces: &mut Pieces<'a>,
     callee: ExprId,
     args: &'a Option<Vec<ExprOrSpread<ExprId>>>,
 ) -> Result<(), AllocError>
-    ensures { OnOk result (numbers pieces.new.items ≡ numbers pieces.old.items ++ ats (one_expr callee ++ if_some args_parts args.now)) }
+    ensures { OnOk result (numbers pieces.new.waiting.items ≡ numbers pieces.old.waiting.items ++ ats (one_expr callee ++ if_some args_parts args.now)) }
 {
-    put(pieces, &[Piece::Text("New("), Piece::Node(callee.0)])?;
+    put_after(pieces, "New(", callee.0)?;
     match args {
         None => put_text(pieces, ", -)"),
         Some(args) => put_args(pieces, args),
@@ -92,11 +89,11 @@ pub fn put_new<'a>(
 
 /// Appends the pieces of a link of an optional chain.
 pub fn put_chain<'a>(
-    pieces: &mut Vec<Piece<'a>>,
+    pieces: &mut Pieces<'a>,
     optional: bool,
     base: &'a OptChainBase<ExprId>,
 ) -> Result<(), AllocError>
-    ensures { OnOk result (numbers pieces.new.items ≡ numbers pieces.old.items ++ ats (base_parts base.now)) }
+    ensures { OnOk result (numbers pieces.new.waiting.items ≡ numbers pieces.old.waiting.items ++ ats (base_parts base.now)) }
 {
     put_text(
         pieces,
@@ -108,7 +105,7 @@ pub fn put_chain<'a>(
     )?;
     match base {
         OptChainBase::Call(c) => {
-            put(pieces, &[Piece::Text("Call("), Piece::Node(c.callee.0)])?;
+            put_after(pieces, "Call(", c.callee.0)?;
             put_args(pieces, &c.args)?;
         }
         OptChainBase::Member(m) => put_member(pieces, m)?,
@@ -117,8 +114,8 @@ pub fn put_chain<'a>(
 }
 
 /// Appends the pieces of a template: its texts, and an expression behind each of them as far as there are any.
-pub fn put_tpl<'a>(pieces: &mut Vec<Piece<'a>>, tpl: &'a Tpl<ExprId>) -> Result<(), AllocError>
-    ensures { OnOk result (numbers pieces.new.items ≡ numbers pieces.old.items ++ ats (tpl_shown tpl.now)) }
+pub fn put_tpl<'a>(pieces: &mut Pieces<'a>, tpl: &'a Tpl<ExprId>) -> Result<(), AllocError>
+    ensures { OnOk result (numbers pieces.new.waiting.items ≡ numbers pieces.old.waiting.items ++ ats (tpl_shown tpl.now)) }
 {
     put_text(pieces, "Tpl(")?;
     for (i, quasi) in tpl.quasis.iter().enumerate() {
@@ -129,47 +126,37 @@ pub fn put_tpl<'a>(pieces: &mut Vec<Piece<'a>>, tpl: &'a Tpl<ExprId>) -> Result<
     put_text(pieces, ")")
 }
 
-fn put_nth<'a>(
-    pieces: &mut Vec<Piece<'a>>,
-    exprs: &[ExprId],
-    index: usize,
-) -> Result<(), AllocError>
-    ensures { OnOk result (numbers pieces.new.items ≡ numbers pieces.old.items ++ ats (if_some one_expr (slice_get exprs.now index))) }
+fn put_nth<'a>(pieces: &mut Pieces<'a>, exprs: &[ExprId], index: usize) -> Result<(), AllocError>
+    ensures { OnOk result (numbers pieces.new.waiting.items ≡ numbers pieces.old.waiting.items ++ ats (if_some one_expr (slice_get exprs.now index))) }
 {
     match exprs.get(index) {
         None => Ok(()),
-        Some(expr) => put(pieces, &[Piece::Text(", "), Piece::Node(expr.0)]),
+        Some(expr) => put_after(pieces, ", ", expr.0),
     }
 }
 
 /// Appends the pieces of a template with a tag.
 pub fn put_tagged<'a>(
-    pieces: &mut Vec<Piece<'a>>,
+    pieces: &mut Pieces<'a>,
     tag: ExprId,
     tpl: &'a Tpl<ExprId>,
 ) -> Result<(), AllocError>
-    ensures { OnOk result (numbers pieces.new.items ≡ numbers pieces.old.items ++ ats (one_expr tag ++ tpl_shown tpl.now)) }
+    ensures { OnOk result (numbers pieces.new.waiting.items ≡ numbers pieces.old.waiting.items ++ ats (one_expr tag ++ tpl_shown tpl.now)) }
 {
-    put(
-        pieces,
-        &[
-            Piece::Text("Tagged("),
-            Piece::Node(tag.0),
-            Piece::Text(", "),
-        ],
-    )?;
+    put_after(pieces, "Tagged(", tag.0)?;
+    put_text(pieces, ", ")?;
     put_tpl(pieces, tpl)?;
     put_text(pieces, ")")
 }
 
 /// Appends the pieces of an arrow function.
 pub fn put_arrow<'a, K: Kept>(
-    pieces: &mut Vec<Piece<'a>>,
+    pieces: &mut Pieces<'a>,
     params: &'a [PatId],
     body: &BlockStmtOrExpr<ExprId, K>,
     is_async: bool,
 ) -> Result<(), AllocError>
-    ensures { OnOk result (numbers pieces.new.items ≡ numbers pieces.old.items ++ ats (flat one_pat params.now ++ body_parts body.now)) }
+    ensures { OnOk result (numbers pieces.new.waiting.items ≡ numbers pieces.old.waiting.items ++ ats (flat one_pat params.now ++ body_parts body.now)) }
 {
     let open = if is_async { "AsyncArrow([" } else { "Arrow([" };
     put_list(pieces, open, params, "], ")?;
@@ -177,10 +164,10 @@ pub fn put_arrow<'a, K: Kept>(
 }
 
 fn put_body<'a, K: Kept>(
-    pieces: &mut Vec<Piece<'a>>,
+    pieces: &mut Pieces<'a>,
     body: &BlockStmtOrExpr<ExprId, K>,
 ) -> Result<(), AllocError>
-    ensures { OnOk result (numbers pieces.new.items ≡ numbers pieces.old.items ++ ats (body_parts body.now)) }
+    ensures { OnOk result (numbers pieces.new.waiting.items ≡ numbers pieces.old.waiting.items ++ ats (body_parts body.now)) }
 {
     match body {
         BlockStmtOrExpr::BlockStmt(k) => put_kept_last(pieces, "", k.kept()),
@@ -190,11 +177,11 @@ fn put_body<'a, K: Kept>(
 
 /// Appends the pieces of an expression of `yield`.
 pub fn put_yield<'a>(
-    pieces: &mut Vec<Piece<'a>>,
+    pieces: &mut Pieces<'a>,
     arg: &Option<ExprId>,
     delegate: bool,
 ) -> Result<(), AllocError>
-    ensures { OnOk result (numbers pieces.new.items ≡ numbers pieces.old.items ++ ats (if_some one_expr arg.now)) }
+    ensures { OnOk result (numbers pieces.new.waiting.items ≡ numbers pieces.old.waiting.items ++ ats (if_some one_expr arg.now)) }
 {
     let open = if delegate { "YieldStar(" } else { "Yield(" };
     match arg {

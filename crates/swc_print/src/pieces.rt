@@ -1,5 +1,5 @@
 // The pieces of a text.
-ghost use Rattle.std.specs.Prelude.{◌≡◌, ◌++◌, ◌∷◌, [], OnOk, IfOk, reverse};
+ghost use Rattle.std.specs.Prelude.{◌≡◌, ◌++◌, ◌∷◌, [], OnOk};
 ghost use Rattle.swc_print.specs.Numbers.{numbers};
 
 use std::alloc::AllocError;
@@ -13,92 +13,121 @@ pub enum Piece<'a> {
     Count(usize),
     /// The text of the node that has the number.
     Node(usize),
+    /// A comma, the text of the node that has the number, and `)`.
+    Last(usize),
 }
 
-/// Appends pieces.
-pub fn put<'a>(pieces: &mut Vec<Piece<'a>>, more: &[Piece<'a>]) -> Result<(), AllocError>
-    ensures { OnOk result (numbers pieces.new.items ≡ numbers pieces.old.items ++ numbers more.now) }
+/// The text so far, and the pieces of one node.
+#[derive(Drop)]
+pub struct Pieces<'a> {
+    pub out: String,
+    /// The pieces from the node's first part on. What stands before it is written at once.
+    pub waiting: Vec<Piece<'a>>,
+}
+
+/// Appends a piece that is a node, or begins with one.
+pub fn put_part<'a>(pieces: &mut Pieces<'a>, part: Piece<'a>) -> Result<(), AllocError>
+    ensures { OnOk result (numbers pieces.new.waiting.items ≡ numbers pieces.old.waiting.items ++ numbers (part.entry ∷ [])) }
 {
-    pieces.extend_from_slice(more)
+    pieces.waiting.push(part)?;
+    Ok(())
 }
 
 /// Appends a text.
-pub fn put_text<'a>(pieces: &mut Vec<Piece<'a>>, text: &'a str) -> Result<(), AllocError>
-    ensures { OnOk result (numbers pieces.new.items ≡ numbers pieces.old.items) }
+pub fn put_text<'a>(pieces: &mut Pieces<'a>, text: &'a str) -> Result<(), AllocError>
+    ensures { OnOk result (numbers pieces.new.waiting.items ≡ numbers pieces.old.waiting.items) }
 {
-    put(pieces, &[Piece::Text(text)])
+    if pieces.waiting.is_empty() {
+        pieces.out.push_str(text)
+    } else {
+        Ok(pieces.waiting.push(Piece::Text(text))?)
+    }
+}
+
+/// Appends the number of tokens that a value of the hook kept.
+fn put_count(pieces: &mut Pieces, count: usize) -> Result<(), AllocError>
+    ensures { OnOk result (numbers pieces.new.waiting.items ≡ numbers pieces.old.waiting.items) }
+{
+    if pieces.waiting.is_empty() {
+        write!(pieces.out, "<{count}>")
+    } else {
+        Ok(pieces.waiting.push(Piece::Count(count))?)
+    }
 }
 
 /// Appends a mark and a name.
 pub fn put_named<'a>(
-    pieces: &mut Vec<Piece<'a>>,
+    pieces: &mut Pieces<'a>,
     mark: &'a str,
     name: &'a str,
 ) -> Result<(), AllocError>
-    ensures { OnOk result (numbers pieces.new.items ≡ numbers pieces.old.items) }
+    ensures { OnOk result (numbers pieces.new.waiting.items ≡ numbers pieces.old.waiting.items) }
 {
-    put(pieces, &[Piece::Text(mark), Piece::Text(name)])
+    put_text(pieces, mark)?;
+    put_text(pieces, name)
+}
+
+/// Appends a text, and a node behind it.
+pub fn put_after<'a>(
+    pieces: &mut Pieces<'a>,
+    text: &'a str,
+    number: usize,
+) -> Result<(), AllocError>
+    ensures { OnOk result (numbers pieces.new.waiting.items ≡ numbers pieces.old.waiting.items ++ number ∷ []) }
+{
+    put_text(pieces, text)?;
+    put_part(pieces, Piece::Node(number))
 }
 
 /// Appends a node between `open` and `)`.
-pub fn put_in<'a>(
-    pieces: &mut Vec<Piece<'a>>,
-    open: &'a str,
-    number: usize,
-) -> Result<(), AllocError>
-    ensures { OnOk result (numbers pieces.new.items ≡ numbers pieces.old.items ++ number ∷ []) }
+pub fn put_in<'a>(pieces: &mut Pieces<'a>, open: &'a str, number: usize) -> Result<(), AllocError>
+    ensures { OnOk result (numbers pieces.new.waiting.items ≡ numbers pieces.old.waiting.items ++ number ∷ []) }
 {
-    put(
-        pieces,
-        &[Piece::Text(open), Piece::Node(number), Piece::Text(")")],
-    )
+    put_after(pieces, open, number)?;
+    put_text(pieces, ")")
 }
 
 /// Appends two nodes, with a comma between them, between `open` and `)`.
 pub fn put_two<'a>(
-    pieces: &mut Vec<Piece<'a>>,
+    pieces: &mut Pieces<'a>,
     open: &'a str,
     left: usize,
     right: usize,
 ) -> Result<(), AllocError>
-    ensures { OnOk result (numbers pieces.new.items ≡ numbers pieces.old.items ++ left ∷ right ∷ []) }
+    ensures { OnOk result (numbers pieces.new.waiting.items ≡ numbers pieces.old.waiting.items ++ left ∷ right ∷ []) }
 {
-    put(
-        pieces,
-        &[
-            Piece::Text(open),
-            Piece::Node(left),
-            Piece::Text(", "),
-            Piece::Node(right),
-            Piece::Text(")"),
-        ],
-    )
+    put_after(pieces, open, left)?;
+    put_part(pieces, Piece::Last(right))
 }
 
 /// Appends a node between `open` and `]`.
 pub fn put_computed<'a>(
-    pieces: &mut Vec<Piece<'a>>,
+    pieces: &mut Pieces<'a>,
     open: &'a str,
     number: usize,
 ) -> Result<(), AllocError>
-    ensures { OnOk result (numbers pieces.new.items ≡ numbers pieces.old.items ++ number ∷ []) }
+    ensures { OnOk result (numbers pieces.new.waiting.items ≡ numbers pieces.old.waiting.items ++ number ∷ []) }
 {
-    put(
-        pieces,
-        &[Piece::Text(open), Piece::Node(number), Piece::Text("]")],
-    )
+    put_after(pieces, open, number)?;
+    put_text(pieces, "]")
+}
+
+/// Appends a text, and what a value of the hook kept.
+pub fn put_kept<'a>(pieces: &mut Pieces<'a>, text: &'a str, kept: usize) -> Result<(), AllocError>
+    ensures { OnOk result (numbers pieces.new.waiting.items ≡ numbers pieces.old.waiting.items) }
+{
+    put_text(pieces, text)?;
+    put_count(pieces, kept)
 }
 
 /// Appends what a value of the hook kept, which ends a node.
 pub fn put_kept_last<'a>(
-    pieces: &mut Vec<Piece<'a>>,
+    pieces: &mut Pieces<'a>,
     before: &'a str,
     kept: usize,
 ) -> Result<(), AllocError>
-    ensures { OnOk result (numbers pieces.new.items ≡ numbers pieces.old.items) }
+    ensures { OnOk result (numbers pieces.new.waiting.items ≡ numbers pieces.old.waiting.items) }
 {
-    put(
-        pieces,
-        &[Piece::Text(before), Piece::Count(kept), Piece::Text(")")],
-    )
+    put_kept(pieces, before, kept)?;
+    put_text(pieces, ")")
 }

@@ -6,7 +6,7 @@ ghost use Rattle.swc_print.specs.Numbers.{numbers};
 ghost use Rattle.swc_print.specs.Memory.{want_of_memory};
 
 use crate::kinds::put_node;
-use crate::pieces::Piece;
+use crate::pieces::{Piece, Pieces};
 use std::alloc::{AllocError, Global};
 use swc_ast::spanned::Spanned;
 use swc_context::error::{Error, PResult, SyntaxError};
@@ -88,15 +88,17 @@ fn print_node<F: Spanned + Drop + Kept, C: Spanned + Drop + Kept, K: Spanned + D
 ) -> Result<String, AllocError>
     requires { number < count nodes.now }
 {
-    let mut out = String::new(alloc);
     let mut stack = Vec::new(alloc);
-    let mut pieces = Vec::new(alloc);
+    let mut pieces = Pieces {
+        out: String::new(alloc),
+        waiting: Vec::new(alloc),
+    };
     stack.push(Piece::Node(number))?;
-    while let Some(next) = next_node(&mut stack, &mut out)? {
+    while let Some(next) = next_node(&mut stack, &mut pieces.out)? {
         put_node(&mut pieces, nodes.get(next))?;
-        move_onto(&mut stack, &mut pieces)?;
+        move_onto(&mut stack, &mut pieces.waiting)?;
     }
-    Ok(out)
+    Ok(pieces.out)
 }
 
 /// Writes the texts on top of the stack, and takes out the node below them.
@@ -108,6 +110,11 @@ fn next_node(stack: &mut Vec<Piece>, out: &mut String) -> Result<Option<usize>, 
             Piece::Text(text) => out.push_str(text),
             Piece::Count(count) => write!(out, "<{count}>"),
             Piece::Node(number) => return Ok(Some(number)),
+            Piece::Last(number) => {
+                out.push_str(", ")?;
+                stack.push(Piece::Text(")"))?;
+                return Ok(Some(number));
+            }
         }?;
     }
     Ok(None)
@@ -118,8 +125,8 @@ fn move_onto<'a>(stack: &mut Vec<Piece<'a>>, pieces: &mut Vec<Piece<'a>>) -> Res
     ensures moved { OnOk result (numbers stack.new.items ≡ numbers stack.old.items ++ reverse (numbers pieces.old.items)) }
     ensures none { OnOk result (numbers pieces.new.items ≡ []) }
 {
-    pieces.reverse();
-    stack.extend_from_slice(pieces)?;
-    pieces.clear();
+    while let Some(piece) = pieces.pop() {
+        stack.push(piece)?;
+    }
     Ok(())
 }

@@ -1,7 +1,7 @@
-use Rattle.std.proofs.Common.{◌≡◌, [], ◌∷◌, ap}
+use Rattle.std.proofs.Common.{◌≡◌, [], ◌∷◌, refl, ap}
 use Rattle.swc_print.specs.Numbers.{numbers}
 use Rattle.swc_print.specs.declared.pieces.Piece.{Piece}
-use Rattle.swc_print.proofs.Added.{text_taken, node_taken}
+use Rattle.swc_print.proofs.Added.{text_taken, node_taken, last_taken}
 use Rattle.swc_print.proofs.print.next_node.Goals as goal
 use Rattle.swc_print.proofs.print.next_node.Goals.{in-Text, in-Count}
 
@@ -13,3 +13,7 @@ loop-piece-preserved c =
 pub returns-in-Node : goal.returns-in-Node
 returns-in-Node c =
     node_taken c.loop-piece.stack.items c.pop.new.self.items c.in-Some.piece c.in-Node.number _ c.in-Some.ensures.items (ap (λ (v : Piece). numbers (v ∷ [])) c.in-Node.is) c.loop-piece.invariant
+
+pub returns-in-Last : goal.returns-in-Last
+returns-in-Last c =
+    last_taken c.loop-piece.stack.items c.pop.new.self.items c.push.new.self.items c.in-Some.piece _ c.in-Last.number _ c.in-Some.ensures.items (ap (λ (v : Piece). numbers (v ∷ [])) c.in-Last.is) c.in_ok-push-in-Last.ensures.items refl c.loop-piece.invariant
