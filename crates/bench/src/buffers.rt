@@ -37,6 +37,8 @@ start_pos; set_ctx strict; has_defaults; hint | script |  a | 1; true; true; don
 add_error TS1005 0..1; add_module_mode_error TS1014 1..2; next; next; failed | script |  a | done; done; a; none; false | TS1005 0..1
 prev_span; had_line_break_before_cur; cur_debug; cut_lshift; cur_debug; cur_span | script | <<@4294967294..4294967295 | 4294967294..4294967294; false; <<; done; <; 4294967295..4294967295 | none
 prev_span; had_line_break_before_cur; cur_debug; cut_lshift; cur_debug; cur_span | script | <<@4294967295..4294967295 | 4294967295..4294967295; false; <<; done; <; 4294967295..4294967295 | none
+emit_err TS1109 0..1; emit_err TS1005 1..2; eat ,; unexpected TS1109 | script | E(OutOfMemory)@2..3 ,@4..5 | done; done; true; refused: Eof 5..5 | Lex 2..3, TS1109 0..1, TS1005 1..2
+emit_strict_mode_err TS1102 0..1; emit_err TS1109 1..2; emit_strict_mode_err AwaitStar 2..3; take_errors; emit_err InvalidPat 3..4; set_ctx module | script | ,@5..6 | done; done; done; TS1109 1..2; done; true | InvalidPat 3..4, TS1102 0..1, AwaitStar 2..3
 prev_span | script | ,@5..6 | 5..5 | none
 prev_span | script | a@5..6 | 5..5 | none
 cur; fun; cur; class; cur; block | script | function class { | function; refused: Unexpected 0..8 {; class; refused: Unexpected 9..14 {; {; refused: Unexpected 15..16 { | none";
@@ -116,6 +118,7 @@ fn change(out: &mut String, buffer: &mut Tested, call: &str) -> Result<(), Fail>
         "fun" if is_at_function(buffer) => show(out, NoBodies.fun(buffer))?,
         "class" if is_at_class(buffer) => show(out, NoBodies.class(buffer))?,
         "block" if is_at_brace(buffer) => show(out, NoBodies.block(buffer))?,
+        "take_errors" => show_faults(out, &buffer.input().take_errors())?,
         "out_of_memory" => show_refusal(out, buffer.out_of_memory())?,
         "has_defaults" => has_defaults(buffer).show(out)?,
         "hint" => hint(buffer).show(out)?,

@@ -6,6 +6,8 @@ mod buffers;
 #[cfg(test)]
 mod failing;
 #[cfg(test)]
+mod faults;
+#[cfg(test)]
 mod hooked;
 #[cfg(test)]
 mod nodes;
@@ -17,6 +19,8 @@ mod parsing;
 mod parts;
 #[cfg(test)]
 mod program;
+#[cfg(test)]
+mod reader;
 #[cfg(test)]
 mod rows;
 #[cfg(test)]

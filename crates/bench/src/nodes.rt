@@ -10,11 +10,12 @@ use swc_ast::target::ExprExt;
 use swc_context::span::Span;
 use swc_nodes::node::{ExprId, PatId};
 use swc_print::print::{Kept, PrintNodes};
-use swc_trees::letting_go::{let_go, let_go_pat};
+use swc_trees::putting::{put_expr, put_pat};
 use swc_trees::taking::{take_expr, take_pat};
 
 /// What is asked of an expression or a pattern; its nodes, in the notation of `nodes_of`; the answer. The place that
-/// is shown is that of the node, and of the tree that is moved out of the nodes.
+/// is shown is that of the node, and of the tree that is moved out of the nodes. The tree is moved back into the nodes
+/// after that, and has to be printed as before.
 const ROWS: &str = r"show | expr | 'ab'@1..5 | 'ab' 1..5
 show | expr | true@0..4 | true 0..4
 show | expr | false@0..5 | false 0..5
@@ -189,9 +190,13 @@ fn of_expr(
         place,
         tree: &*tree,
     };
-    let answer = answer_of(alloc, &mut boxed, &mut plain, calls);
-    let_go(tree);
-    answer
+    let answer = answer_of(alloc, &mut boxed, &mut plain, calls)?;
+    let again = put_expr(nodes, alloc, tree)?;
+    if nodes.print_expr(alloc, again)?.as_str() == text {
+        Ok(answer)
+    } else {
+        Err(Fail::new("another tree when put back"))
+    }
 }
 
 fn of_pat(alloc: Global, nodes: &mut HookedNodes, id: PatId) -> Result<String, Fail> {
@@ -201,8 +206,12 @@ fn of_pat(alloc: Global, nodes: &mut HookedNodes, id: PatId) -> Result<String, F
     let text = nodes.print_pat(alloc, id)?;
     let tree = take_pat(nodes, alloc, id)?;
     let place = tree.span();
-    let_go_pat(tree);
-    Ok(format!(in alloc; "{text} {place}")?)
+    let again = put_pat(nodes, alloc, tree)?;
+    if nodes.print_pat(alloc, again)? == text {
+        Ok(format!(in alloc; "{text} {place}")?)
+    } else {
+        Err(Fail::new("another tree when put back"))
+    }
 }
 
 fn found(alloc: Global, row: Row<'_>) -> Result<String, Fail> {

@@ -74,6 +74,8 @@ pub(crate) fn kind_of(name: &str) -> SyntaxError
         "TS1014" => SyntaxError::TS1014,
         "TS1102" => SyntaxError::TS1102,
         "TS1109" => SyntaxError::TS1109,
+        "AwaitStar" => SyntaxError::AwaitStar,
+        "InvalidPat" => SyntaxError::InvalidPat,
         _ => SyntaxError::Lex,
     }
 }

@@ -1,9 +1,6 @@
 // Trees, by number and in boxes.
 use crate::shown::Shown;
 use std::alloc::AllocError;
-use swc_ast::expr::Expr;
-use swc_ast::lit::Lit;
-use swc_ast::spanned::Spanned;
 use swc_bodies::bodies::ExprOf;
 use swc_bodies::none::NoBodies;
 use swc_context::span::Span;
@@ -12,7 +9,7 @@ use swc_input::tokens::Tokens;
 use swc_nodes::node::ExprId;
 use swc_nodes::nodes::Nodes;
 use swc_print::print::PrintNodes;
-use swc_trees::letting_go::let_go;
+use swc_trees::putting::put_expr;
 
 fn show_id(
     out: &mut String,
@@ -42,60 +39,12 @@ pub(crate) fn show_numbered<I: Tokens>(
     }
 }
 
+/// A boxed tree is moved into nodes, and shown as they are.
 impl Shown for Box<ExprOf<NoBodies>> {
     fn show(self, out: &mut String) -> Result<(), AllocError> {
-        let shown = put_placed(out, &self);
-        let_go(self);
-        shown
-    }
-}
-
-/// Writes a tree, and where it lies.
-fn put_placed(out: &mut String, tree: &ExprOf<NoBodies>) -> Result<(), AllocError> {
-    put(out, tree)?;
-    write!(out, " {}", tree.span())
-}
-
-/// Writes a tree of the kinds that are read so far.
-fn put(out: &mut String, tree: &ExprOf<NoBodies>) -> Result<(), AllocError> {
-    match tree {
-        Expr::Ident(i) => out.push_str(i.sym.as_str()),
-        Expr::Lit(l) => put_lit(out, l),
-        Expr::PrivateName(p) => write!(out, "#{}", p.name.as_str()),
-        Expr::Paren(p) => {
-            out.push_str("Paren(")?;
-            put(out, &p.expr)?;
-            out.push_str(")")
-        }
-        Expr::Unary { op, arg, .. } => {
-            write!(out, "Unary({}, ", op.as_str())?;
-            put(out, arg)?;
-            out.push_str(")")
-        }
-        Expr::Bin {
-            op,
-            left,
-            right,
-            ..
-        } => {
-            write!(out, "Bin({}, ", op.as_str())?;
-            put(out, left)?;
-            out.push_str(", ")?;
-            put(out, right)?;
-            out.push_str(")")
-        }
-        Expr::Invalid(_) => out.push_str("Invalid"),
-        _ => out.push_str("of another kind"),
-    }
-}
-
-fn put_lit(out: &mut String, lit: &Lit) -> Result<(), AllocError> {
-    match lit {
-        Lit::Str(s) => out.push_str(s.raw.as_str()),
-        Lit::Bool(b) => out.push_str(if b.value { "true" } else { "false" }),
-        Lit::Null(_) => out.push_str("null"),
-        Lit::Num(n) => out.push_str(n.raw.as_str()),
-        Lit::BigInt(n) => out.push_str(n.raw.as_str()),
-        Lit::Regex(r) => out.push_str(r.exp.as_str()),
+        let alloc = *out.allocator();
+        let mut nodes = Nodes::new(alloc);
+        let id = put_expr(&mut nodes, alloc, self)?;
+        show_id(out, &nodes, id)
     }
 }

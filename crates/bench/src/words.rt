@@ -11,8 +11,8 @@ use swc_context::operator::{BinaryOp, UnaryOp, UpdateOp};
 use swc_context::word::{Keyword, Word};
 use swc_input::token::Token;
 
-/// What is said of a word: whether it is reserved as an identifier, as a shorthand, as what strict code binds and in strict code, which keyword it
-/// is, and a copy of it; and how the operator that ends a text is written, a binary one with its precedence.
+/// What is said of a word: whether it is reserved as an identifier, as a shorthand, as what strict code binds and in strict code, its kind, which
+/// keyword it is, and a copy of it; and how the operator that ends a text is written, a binary one with its precedence.
 const SAID: &str = r"is_reserved; is_reserved_word | script | let | false; false
 is_reserved; is_reserved_word | script | await | false; false
 is_reserved; is_reserved_word | script | enum | true; true
@@ -33,6 +33,16 @@ is_reserved_in_strict_mode | module | eval | false
 is_reserved_in_strict_mode | module | static | true
 is_reserved_in_strict_mode | module | await | true
 is_reserved_in_strict_mode | module | of | false
+word; copy | script | null | null(null); null(null)
+word; copy | script | true | true(true); true(true)
+word; copy | script | false | false(false); false(false)
+word; copy | script | instanceof | keyword(instanceof); keyword(instanceof)
+word; copy | script | default | keyword(default); keyword(default)
+word; copy | script | let | keyword(let); keyword(let)
+word; copy | script | async | name(async); name(async)
+word; copy | script | enum | name(enum); name(enum)
+word; copy | script | nul | name(nul); name(nul)
+word; copy | script |  | name(); name()
 keyword | script | instanceof | instanceof
 keyword | script | of | none
 operator | script | ?? | ?? 1
@@ -95,6 +105,8 @@ impl Subject for Said<'_> {
     fn call(&mut self, out: &mut String, call: &str) -> Result<(), Fail> {
         match call {
             "try_clone" => show_copy(out, self.text)?,
+            "word" => show_word(out, &Word::new(*out.allocator(), self.text)?)?,
+            "copy" => show_word(out, &Word::new(*out.allocator(), self.text)?.try_clone()?)?,
             "keyword" => out.push_str(keyword_of(self.text))?,
             "operator" => show_operator(out, self.text)?,
             _ => is_reserved(*out.allocator(), *self, call)?.show(out)?,
@@ -107,6 +119,18 @@ fn show_copy(out: &mut String, text: &str) -> Result<(), AllocError> {
     let name = Atom::new(*out.allocator(), text)?;
     let copy = name.try_clone()?;
     out.push_str(copy.as_str())
+}
+
+/// Writes a word behind its kind.
+fn show_word(out: &mut String, word: &Word) -> Result<(), AllocError> {
+    let kind = match word {
+        Word::Keyword(_) => "keyword",
+        Word::Null => "null",
+        Word::True => "true",
+        Word::False => "false",
+        Word::Ident(_) => "name",
+    };
+    write!(out, "{kind}({})", word.as_str())
 }
 
 /// Whether the word is reserved, by the call.

@@ -1,9 +1,11 @@
-//! The grammar of operators, names and numbers, enumerated, and the parser tested against it.
+//! The parser against the standard: against each expression that its productions derive, and on names against its rules.
 #![tactic(auto)]
 
-pub mod grammar;
+#[cfg(test)]
+mod grammar;
 #[cfg(test)]
 mod lists;
 #[cfg(test)]
-mod reading;
-pub mod symbol;
+mod names;
+#[cfg(test)]
+mod parse;

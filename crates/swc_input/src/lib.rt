@@ -4,7 +4,5 @@
 pub mod buffer;
 pub mod listed;
 pub mod recording;
-#[cfg(test)]
-mod tests;
 pub mod token;
 pub mod tokens;

@@ -16,8 +16,6 @@ ghost use Rattle.std.specs.Str.{IsAscii};
 mod fault;
 mod reader;
 mod sign;
-#[cfg(test)]
-mod tests;
 
 use crate::fault::{lex_fault, out_of_memory};
 use crate::reader::Reader;

@@ -1,0 +1,63 @@
+// Faults as they are printed, and copies of them.
+use crate::rows::expect;
+use std::alloc::{AllocError, Global};
+use std::test::Fail;
+use swc_context::atom::Atom;
+use swc_context::error::{Error, SyntaxError};
+use swc_context::span::{BytePos, Span};
+
+/// Faults, each by its name and the ends of its place, and how it is printed.
+const FAULTS: &str = "\
+TS1109 0 1 | TS1109 0..1
+TS1109 5 2 | TS1109 2..5
+Expected 2 3 | Expected 2..3 )
+Unexpected 4 6 | Unexpected 4..6 an expression
+WithLabel 5 6 | WithLabel 5..6 (TS1109 5..6)
+UnaryInExp 3 5 | UnaryInExp 3..5
+InvalidIdentInStrict 0 3 | InvalidIdentInStrict 0..3 let
+DuplicatedRegExpFlags 0 5 | DuplicatedRegExpFlags 0..5 g";
+
+fn place(lo: u32, hi: u32) -> Span {
+    Span::new(BytePos(lo), BytePos(hi))
+}
+
+/// The kind of fault that has the name.
+fn kind_named(alloc: Global, name: &str) -> Result<SyntaxError, AllocError> {
+    Ok(match name {
+        "Expected" => SyntaxError::Expected(")"),
+        "Unexpected" => SyntaxError::Unexpected("an expression"),
+        "WithLabel" => SyntaxError::WithLabel {
+            inner: Box::new(alloc, Error::new(place(5, 6), SyntaxError::TS1109))?,
+            span: place(1, 2),
+            note: "the parameters",
+        },
+        "UnaryInExp" => SyntaxError::UnaryInExp {
+            left_span: place(0, 2),
+        },
+        "InvalidIdentInStrict" => SyntaxError::InvalidIdentInStrict(Atom::new(alloc, "let")?),
+        "DuplicatedRegExpFlags" => SyntaxError::DuplicatedRegExpFlags('g'),
+        _ => SyntaxError::TS1109,
+    })
+}
+
+/// The fault that is written so.
+fn fault_of(alloc: Global, text: &str) -> Result<Error, Fail> {
+    let (name, ends) = text.split_once(' ').ok_or("no place")?;
+    let (lo, hi) = ends.split_once(' ').ok_or("no place")?;
+    let lo = lo.parse().ok().ok_or("no number")?;
+    let hi = hi.parse().ok().ok_or("no number")?;
+    Ok(Error::new(place(lo, hi), kind_named(alloc, name)?))
+}
+
+#[test]
+fn printed_faults(rt: HostRuntime) -> Result<(), Fail> {
+    for line in FAULTS.lines() {
+        let (text, printed) = line.split_once(" | ").ok_or(line)?;
+        let fault = fault_of(rt.alloc(), text)?;
+        let copy = fault.try_clone()?;
+        expect(&rt, line, &fault.to_string(rt.alloc())?, printed);
+        expect(&rt, line, &copy.to_string(rt.alloc())?, printed);
+        assert!(rt; copy == fault, "in: {line}");
+    }
+    Ok(())
+}
