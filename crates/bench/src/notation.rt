@@ -85,7 +85,7 @@ impl<'a> Builder<'a> {
     /// Appends a node whose parts lie apart.
     fn append(&mut self, node: HookedNode, span: Span) -> Result<(), Fail> {
         if !self.nodes.is_apart(&node) {
-            return Err(Fail::new("parts that don't lie apart"));
+            return Err(not_apart(node));
         }
         let number = Some(self.nodes.push(node)?);
         self.parts.push(Part {
@@ -134,10 +134,10 @@ impl<'a> Builder<'a> {
             return at(PropName::Computed(self.computed(word.span)?), word.span);
         }
         let key = match written(self.alloc, word)? {
-            Node::Str(text) => PropName::Str(text),
-            Node::Num(number) => PropName::Num(number),
-            Node::BigInt(number) => PropName::BigInt(number),
-            Node::Ident(ident) => PropName::Ident(at(name_of(ident), word.span)?),
+            Spelled::Str(text) => PropName::Str(text),
+            Spelled::Num(number) => PropName::Num(number),
+            Spelled::BigInt(number) => PropName::BigInt(number),
+            Spelled::Ident(ident) => PropName::Ident(at(name_of(ident), word.span)?),
             _ => return Err(Fail::new("no key")),
         };
         at(key, word.span)
@@ -149,8 +149,8 @@ impl<'a> Builder<'a> {
             return at(MemberProp::Computed(self.computed(word.span)?), word.span);
         }
         let prop = match written(self.alloc, word)? {
-            Node::Ident(ident) => MemberProp::Ident(at(name_of(ident), word.span)?),
-            Node::PrivateName(name) => MemberProp::PrivateName(name),
+            Spelled::Ident(ident) => MemberProp::Ident(at(name_of(ident), word.span)?),
+            Spelled::PrivateName(name) => MemberProp::PrivateName(name),
             _ => return Err(Fail::new("no member")),
         };
         at(prop, word.span)
@@ -585,29 +585,58 @@ fn leaf(alloc: Global, word: Word<'_>) -> Result<HookedNode, Fail> {
             let id = Ident { span, sym };
             Node::PatIdent(at(BindingIdent { id }, span)?)
         }
-        _ => return written(alloc, word),
+        _ => written(alloc, word)?.into_node(),
     })
 }
 
 fn ident_of(alloc: Global, word: Word<'_>) -> Result<Ident, Fail> {
     match written(alloc, word)? {
-        Node::Ident(ident) => Ok(ident),
+        Spelled::Ident(ident) => Ok(ident),
         _ => Err(Fail::new("no identifier")),
     }
 }
 
+/// The refusal of a node whose parts don't lie apart.
+fn not_apart(_node: HookedNode) -> Fail {
+    Fail::new("parts that don't lie apart")
+}
+
+/// What a word may be beside a node with parts.
+#[derive(Drop)]
+enum Spelled {
+    Str(Str),
+    Num(Num),
+    BigInt(BigInt),
+    Regex(Regex),
+    PrivateName(PrivateName),
+    Ident(Ident),
+}
+
+impl Spelled {
+    fn into_node(self) -> HookedNode {
+        match self {
+            Spelled::Str(text) => Node::Str(text),
+            Spelled::Num(number) => Node::Num(number),
+            Spelled::BigInt(number) => Node::BigInt(number),
+            Spelled::Regex(text) => Node::Regex(text),
+            Spelled::PrivateName(name) => Node::PrivateName(name),
+            Spelled::Ident(ident) => Node::Ident(ident),
+        }
+    }
+}
+
 /// A name or a literal, with a dot before it or not.
-fn written(alloc: Global, word: Word<'_>) -> Result<HookedNode, Fail> {
+fn written(alloc: Global, word: Word<'_>) -> Result<Spelled, Fail> {
     let span = word.span;
     let text = word.kind.trim_start_matches('.');
     let raw = Atom::new(alloc, text)?;
     Ok(match text.chars().next() {
         Some('\'') => {
             let value = Atom::new(alloc, text.trim_matches('\''))?;
-            Node::Str(at(Str { span, value, raw }, span)?)
+            Spelled::Str(at(Str { span, value, raw }, span)?)
         }
-        Some('0'..='9') if text.ends_with('n') => Node::BigInt(at(BigInt { span, raw }, span)?),
-        Some('0'..='9') => Node::Num(at(Num { span, raw }, span)?),
+        Some('0'..='9') if text.ends_with('n') => Spelled::BigInt(at(BigInt { span, raw }, span)?),
+        Some('0'..='9') => Spelled::Num(at(Num { span, raw }, span)?),
         Some('/') => {
             let (exp, flags) = text
                 .trim_start_matches('/')
@@ -615,12 +644,12 @@ fn written(alloc: Global, word: Word<'_>) -> Result<HookedNode, Fail> {
                 .ok_or("no end")?;
             let exp = Atom::new(alloc, exp)?;
             let flags = Atom::new(alloc, flags)?;
-            Node::Regex(at(Regex { span, exp, flags }, span)?)
+            Spelled::Regex(at(Regex { span, exp, flags }, span)?)
         }
         Some('#') => {
             let name = Atom::new(alloc, text.trim_start_matches('#'))?;
-            Node::PrivateName(at(PrivateName { span, name }, span)?)
+            Spelled::PrivateName(at(PrivateName { span, name }, span)?)
         }
-        _ => Node::Ident(at(Ident { span, sym: raw }, span)?),
+        _ => Spelled::Ident(at(Ident { span, sym: raw }, span)?),
     })
 }

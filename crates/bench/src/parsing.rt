@@ -155,13 +155,17 @@ fn outcome<I: Tokens>(alloc: Global, tested: &mut Tested<I>, calls: &str) -> Res
 fn found(alloc: Global, row: Row<'_>, numbers: bool) -> Result<String, Fail> {
     let source = source_of(alloc, row)?;
     if row.setting.ends_with("failing") {
-        let parser = Parser::new_from(alloc, FailingInput::new(source), NoBodies);
-        let mut tested = Tested { parser, numbers };
-        return outcome(alloc, &mut tested, row.calls);
+        run(alloc, FailingInput::new(source), row.calls, numbers)
+    } else {
+        run(alloc, source, row.calls, numbers)
     }
+}
+
+/// Runs a parser over the source.
+fn run<I: Tokens>(alloc: Global, source: I, calls: &str, numbers: bool) -> Result<String, Fail> {
     let parser = Parser::new_from(alloc, source, NoBodies);
     let mut tested = Tested { parser, numbers };
-    outcome(alloc, &mut tested, row.calls)
+    outcome(alloc, &mut tested, calls)
 }
 
 #[test]

@@ -13,8 +13,8 @@ ghost use Rattle.swc_trees.specs.Boxed.{Hooked, HookedProp, Short};
 ghost use Rattle.swc_trees.specs.Moving.{IsNode, PutsIn};
 
 use crate::moved::{
-    lit_node, no_prop, nothing, taken_big, taken_binding, taken_ident, taken_import,
-    taken_lit, taken_meta, taken_name, taken_num, taken_private, taken_str,
+    lit_node, no_prop, nothing, taken_big, taken_binding, taken_ident, taken_import, taken_lit,
+    taken_meta, taken_name, taken_num, taken_private, taken_str,
 };
 use crate::refusable::boxed;
 use std::alloc::{AllocError, Global};
