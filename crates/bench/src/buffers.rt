@@ -25,7 +25,8 @@ use swc_input::listed::TokensInput;
 use swc_input::token::Token;
 use swc_input::tokens::Tokens;
 
-/// What the calls of one buffer answer, and the faults that are recorded in the end. `set_ctx` tells whether the buffer and its source have the context.
+/// What the calls of one buffer answer, and the faults that are recorded in the end. `set_ctx`
+/// tells whether the buffer and its source have the context.
 const CALLS: &str =
     r"knows_cur; has_cur; require_cur; cur; knows_cur; peek; knows_cur | script | a\n+ b | false; true; done; a; true; +; true | none
 cur; has_linebreak_between_cur_and_peeked; knows_cur; bump; prev_span; last_pos; cur_pos; cur_span | script | a\n+ b | a; true; true; a; 0..1; 1; 2; 2..3 | none

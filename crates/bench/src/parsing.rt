@@ -12,9 +12,11 @@ use swc_context::error::Error;
 use swc_ecma_parser::parser::Parser;
 use swc_input::tokens::Tokens;
 
-/// What the calls of one parser answer, with places; then the faults that are recorded in the end, and the place of the first token that is left.
+/// What the calls of one parser answer, with places; then the faults that are recorded in the end,
+/// and the place of the first token that is left.
 ///
-/// A `failing` source meets want of memory behind its tokens. Each row that tells nothing of nodes holds with `parse_expr_id` for `parse_expr`, too.
+/// A `failing` source meets want of memory behind its tokens. Each row that tells nothing of nodes
+/// holds with `parse_expr_id` for `parse_expr`, too.
 const CALLS: &str =
     r"parse_expr; parse_assignment_expr; parse_bin_expr; parse_unary_expr; at_end; parse_lit; at_end | script | a + b c d * e (f) 7 | Bin(+, a, b) 0..5; c 6..7; Bin(*, d, e) 8..13; Paren(f) 14..17; false; 7 18..19; true | none | end
 parse_bin_expr | script without_in | a in b | a 0..1 | none | 2..4

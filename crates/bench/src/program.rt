@@ -7,8 +7,8 @@ use std::process::Abort;
 use std::test::Fail;
 use std::{io, str};
 
-/// Arguments, a text, and what is written of it, on standard error after `stderr: `; then the status, and whether the text was left unread.
-/// `failing` input can't be read on behind the text.
+/// Arguments, a text, and what is written of it, on standard error after `stderr: `; then the
+/// status, and whether the text was left unread. `failing` input can't be read on behind the text.
 const RUNS: &str = r"show_expr | expr script | 5 + 4 * 7 | Bin(+, 5, Bin(*, 4, 7))\n | 0
 show_expr | expr script | 5 + 4 + 7 | Bin(+, Bin(+, 5, 4), 7)\n | 0
 show_expr | expr script | 2 ** 3 ** 4 | Bin(**, 2, Bin(**, 3, 4))\n | 0
@@ -143,7 +143,8 @@ fn status_in(alloc: Global, row: Row<'_>, room: usize, flushes: bool) -> Result<
     Ok(status)
 }
 
-/// With less room than its output of this length needs, or where that can't be flushed, the program has to answer that it can't write.
+/// With less room than its output of this length needs, or where that can't be flushed, the program
+/// has to answer that it can't write.
 fn fails_without_room(
     rt: &impl Abort,
     alloc: Global,

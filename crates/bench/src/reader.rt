@@ -7,9 +7,11 @@ use swc_context::word::Word;
 use swc_input::token::{Token, TokenAndSpan};
 use swc_tokens::read_tokens;
 
-/// Texts with their tokens, each with its kind, as it is written, and its place. A `^` stands before a token that stands behind a line break.
+/// Texts with their tokens, each with its kind, as it is written, and its place. A `^` stands
+/// before a token that stands behind a line break.
 ///
-/// In a text `\n`, `\r` and `\t` are line breaks and a tabulator, `\0` is a byte of value 0, and `\80` one of value 128.
+/// In a text `\n`, `\r` and `\t` are line breaks and a tabulator, `\0` is a byte of value 0, and
+/// `\80` one of value 128.
 const TOKENS: &str = r#" | none
  \t\r\n | none
 a | name a 0..1

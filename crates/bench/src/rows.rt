@@ -5,8 +5,8 @@ use std::test::Fail;
 
 /// A row of a table, as it is written: `calls | setting | text | answer`.
 ///
-/// Calls, and what they answer, are parted by `; `. A `\n` stands for a line break. A bar with blanks on both sides parts fields, so a lone bar in a
-/// field has none.
+/// Calls, and what they answer, are parted by `; `. A `\n` stands for a line break. A bar with
+/// blanks on both sides parts fields, so a lone bar in a field has none.
 #[derive(Clone, Copy)]
 pub(crate) struct Row<'a> {
     pub(crate) calls: &'a str,

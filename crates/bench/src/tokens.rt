@@ -10,8 +10,9 @@ use swc_context::span::{BytePos, Span};
 use swc_input::token::{Token, TokenAndSpan};
 use swc_tokens::read_tokens;
 
-/// The tokens of a row: those that the reader of tokens gives or, where the text has an `@`, tokens with their places, parted by blanks, as `a@5..6`.
-/// `E(Lex)@2..3` is an error token with a fault of that kind at that place.
+/// The tokens of a row: those that the reader of tokens gives or, where the text has an `@`, tokens
+/// with their places, parted by blanks, as `a@5..6`. `E(Lex)@2..3` is an error token with a fault
+/// of that kind at that place.
 pub(crate) fn tokens_of(alloc: Global, text: &str) -> Result<Vec<TokenAndSpan>, Fail> {
     if !text.contains('@') {
         let text = unescaped(alloc, text)?;

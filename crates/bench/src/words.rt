@@ -11,8 +11,9 @@ use swc_context::operator::{BinaryOp, UnaryOp, UpdateOp};
 use swc_context::word::{Keyword, Word};
 use swc_input::token::Token;
 
-/// What is said of a word: whether it is reserved as an identifier, as a shorthand, as what strict code binds and in strict code, its kind, which
-/// keyword it is, and a copy of it; and how the operator that ends a text is written, a binary one with its precedence.
+/// What is said of a word: whether it is reserved as an identifier, as a shorthand, as what strict
+/// code binds and in strict code, its kind, which keyword it is, and a copy of it; and how the
+/// operator that ends a text is written, a binary one with its precedence.
 const SAID: &str = r"is_reserved; is_reserved_word | script | let | false; false
 is_reserved; is_reserved_word | script | await | false; false
 is_reserved; is_reserved_word | script | enum | true; true

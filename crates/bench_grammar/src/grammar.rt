@@ -1,12 +1,14 @@
 // The lists of tokens that the standard's productions derive, with their trees.
 use std::alloc::{AllocError, Global};
 
-/// The productions of ECMA-262, 13.1, 13.2 and 13.5 to 13.13, a line each: a symbol, what it is made of, and its tree, in which `_`
-/// stands for the tree of each symbol in turn. Behind `unless` stand the modes in which there is no such production. One that makes a
-/// symbol of another alone stands below those of the other.
+/// The productions of ECMA-262, 13.1, 13.2 and 13.5 to 13.13, a line each: a symbol, what it is
+/// made of, and its tree, in which `_` stands for the tree of each symbol in turn. Behind `unless`
+/// stand the modes in which there is no such production. One that makes a symbol of another alone
+/// stands below those of the other.
 ///
-/// `Whole` is an expression, where `in` is an operator but in the mode `without-in`. The symbols `..NoIn` stand for those without it.
-/// `# Name` is an operand, which the standard has left of `in` alone.
+/// `Whole` is an expression, where `in` is an operator but in the mode `without-in`. The symbols
+/// `..NoIn` stand for those without it. `# Name` is an operand, which the standard has left of `in`
+/// alone.
 const PRODUCTIONS: &str = "\
 Reference = a -> a
 Reference = let -> let unless module
@@ -107,7 +109,8 @@ Whole = Expression -> _ unless without-in
 Whole = ExpressionNoIn -> _ unless script module strict generator async
 ";
 
-/// A list, or the front of one, and its tree, in which `_` stands for what isn't there yet. A token by itself has no tree.
+/// A list, or the front of one, and its tree, in which `_` stands for what isn't there yet. A token
+/// by itself has no tree.
 #[derive(Drop)]
 struct Reading {
     tokens: String,

@@ -1,4 +1,5 @@
-//! The parser against the standard: against each expression that its productions derive, and on names against its rules.
+//! The parser against the standard: against each expression that its productions derive, and on
+//! names against its rules.
 #![tactic(auto)]
 
 #[cfg(test)]

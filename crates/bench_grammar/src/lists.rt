@@ -1,4 +1,5 @@
-// Every list of a few tokens: the parser reads it whole exactly if the productions derive it, and answers the one tree that they give it.
+// Every list of a few tokens: the parser reads it whole exactly if the productions derive it, and
+// answers the one tree that they give it.
 use crate::grammar::{Derived, add_all_derived, expressions, spelled, tokens_derived};
 use crate::parse::{context_of, tree_of};
 use std::alloc::{AllocError, Global};
@@ -76,7 +77,8 @@ fn same(rt: &impl Abort, read: &[String], wanted: &[String], count: usize, mode:
     assert_eq!(rt; [read.len(), wanted.len()], [count; 2]);
 }
 
-/// On the lists of this length the parser and the productions have to agree, where what the shorter ones derive was found.
+/// On the lists of this length the parser and the productions have to agree, where what the shorter
+/// ones derive was found.
 fn agree_on(
     rt: &impl Abort,
     found: &mut Vec<Derived>,

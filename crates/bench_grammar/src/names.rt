@@ -26,10 +26,12 @@ arguments eval async of a";
 const MODES: &str =
     "script strict module generator module-generator async static-block class-field";
 
-/// The rules of ECMA-262, 13.1 and 15.7.1, a line each: calls, words, modes, and what these calls answer at these words in these modes,
-/// where the word, for which `_` stands, lies at 2..5. The first line that fits holds.
+/// The rules of ECMA-262, 13.1 and 15.7.1, a line each: calls, words, modes, and what these calls
+/// answer at these words in these modes, where the word, for which `_` stands, lies at 2..5. The
+/// first line that fits holds.
 ///
-/// Behind the answer stands what is recorded, at once (`now`) or once the source is a module (`later`), and `left` where the word is left.
+/// Behind the answer stands what is recorded, at once (`now`) or once the source is a module
+/// (`later`), and `left` where the word is left.
 const RULES: &str = "\
 parse_ident_name parse_module_export_name | any | any | _ 2..5
 parse_opt_binding_ident | this if null true false enum | any | none, left
@@ -56,8 +58,8 @@ parse_binding_ident parse_opt_binding_ident | eval arguments | any | _ 2..5, lat
 any | any | any | _ 2..5
 ";
 
-/// Single calls: a call, a text, a mode, and the answer, as above. Where the mode is `asked-late`, faults are asked for only once the
-/// source is a module.
+/// Single calls: a call, a text, a mode, and the answer, as above. Where the mode is `asked-late`,
+/// faults are asked for only once the source is a module.
 const ROWS: &str = "\
 parse_ident(yield,await) | enum | script | enum 0..4, now InvalidIdentInStrict 0..4 enum
 parse_binding_ident | yield | generator | yield 0..5, now ExpectedIdent 0..5, later InvalidIdentInStrict 0..5 yield

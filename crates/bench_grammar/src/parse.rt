@@ -46,7 +46,8 @@ pub(crate) fn parser_over(
     Parser::new_from(alloc, source, NoBodies)
 }
 
-/// The tree of a text that the parser reads whole, with no fault recorded. None where it records one, or leaves a token.
+/// The tree of a text that the parser reads whole, with no fault recorded. None where it records
+/// one, or leaves a token.
 pub(crate) fn tree_of(alloc: Global, text: &str, context: Context) -> PResult<Option<String>> {
     let tokens = read_tokens(alloc, text.as_bytes())?;
     let mut parser = parser_over(alloc, tokens, context);

@@ -20,12 +20,14 @@ const USAGE: &str = "usage: show_expr expr|pat script|module|strict|generator|as
 
 const UNREADABLE: &str = "cannot read standard input";
 
-/// Reads the input as the arguments say, and writes on `output` the tree, or `refused: ` and the fault; then `unread` where tokens
-/// are left behind the tree; then each recorded fault on a line of its own.
+/// Reads the input as the arguments say, and writes on `output` the tree, or `refused: ` and the
+/// fault; then `unread` where tokens are left behind the tree; then each recorded fault on a line
+/// of its own.
 ///
-/// Answers the program's status: 0 where nothing was recorded, 1 where something was, 2 for a refusal, and 3 for bad arguments (the
-/// usage is written on `complaints`, and nothing is read), for input that can't be read (also for want of memory), and for a write
-/// that fails. The text of the tree is built before anything is written.
+/// Answers the program's status: 0 where nothing was recorded, 1 where something was, 2 for a
+/// refusal, and 3 for bad arguments (the usage is written on `complaints`, and nothing is read),
+/// for input that can't be read (also for want of memory), and for a write that fails. The text of
+/// the tree is built before anything is written.
 pub fn run<R: Read, W: Write, C: Write>(
     alloc: Global,
     arguments: &[&str],

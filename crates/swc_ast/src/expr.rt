@@ -58,7 +58,8 @@ pub struct MetaPropExpr {
     pub kind: MetaPropKind,
 }
 
-/// A text of a template (ECMA-262, 12.9.6): as it is written, and with its escapes read; `cooked` is `None` where an escape is bad.
+/// A text of a template (ECMA-262, 12.9.6): as it is written, and with its escapes read; `cooked`
+/// is `None` where an escape is bad.
 #[derive(Drop)]
 pub struct TplElement {
     pub span: Span,
@@ -67,7 +68,8 @@ pub struct TplElement {
     pub raw: Atom,
 }
 
-/// An item of arguments or of an array literal, with the place of its dots where it is a spread (ECMA-262, 13.2.4 and 13.3.8).
+/// An item of arguments or of an array literal, with the place of its dots where it is a spread
+/// (ECMA-262, 13.2.4 and 13.3.8).
 ///
 /// Its place runs from its dots, if there are any, through the expression.
 #[derive(Drop)]

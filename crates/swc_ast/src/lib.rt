@@ -1,7 +1,9 @@
-//! The syntax tree of ECMAScript's expressions and patterns: its types, its spans, and which parts of it may be assigned to.
+//! The syntax tree of ECMAScript's expressions and patterns: its types, its spans, and which parts
+//! of it may be assigned to.
 //!
-//! All types with parts are generic over three types that a caller brings: `F` for functions, `C` for classes and `K` for the blocks of functions.
-//! What a tree stands for in contracts is one uniform tree, of `specs/Tree.antt`, that `specs/TreeOf.antt` gives.
+//! All types with parts are generic over three types that a caller brings: `F` for functions, `C`
+//! for classes and `K` for the blocks of functions. What a tree stands for in contracts is one
+//! uniform tree, of `specs/Tree.antt`, that `specs/TreeOf.antt` gives.
 #![tactic(auto)]
 
 pub mod expr;

@@ -32,7 +32,8 @@ pub struct SpreadElement<E> {
     pub expr: E,
 }
 
-/// `key = value`, which only a literal that turns out to be a pattern may hold (`CoverInitializedName`; ECMA-262, 13.2.5).
+/// `key = value`, which only a literal that turns out to be a pattern may hold
+/// (`CoverInitializedName`; ECMA-262, 13.2.5).
 #[derive(Drop)]
 pub struct AssignProp<E> {
     pub span: Span,

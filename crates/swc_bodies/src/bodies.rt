@@ -10,7 +10,8 @@ use swc_context::error::PResult;
 use swc_input::buffer::Buffer;
 use swc_input::tokens::Tokens;
 
-/// What a hook makes of functions, classes and blocks, and how it reads them: one reading for the type, over every source.
+/// What a hook makes of functions, classes and blocks, and how it reads them: one reading for the
+/// type, over every source.
 pub trait BodyForms {
     /// A function, from `function` or `async` on (ECMA-262, 15.2, 15.5, 15.8 and 15.6).
     type Fun: Spanned + Drop;
@@ -33,7 +34,8 @@ pub type ExprOf<B> = Expr<<B as BodyForms>::Fun, <B as BodyForms>::Class, <B as 
 
 /// A hook over a kind of source.
 ///
-/// Each call takes tokens through the buffer alone, one at least, and keeps the context. It may record faults, and refuse.
+/// Each call takes tokens through the buffer alone, one at least, and keeps the context. It may
+/// record faults, and refuse.
 pub trait Bodies<I: Tokens>: BodyForms + Drop {
     /// The hook reads all that its readings give, and so completeness may be claimed of a parser with it.
     ghost is_faithful: { Bool };

@@ -11,7 +11,8 @@ use swc_context::span::Span;
 use swc_input::buffer::Buffer;
 use swc_input::tokens::Tokens;
 
-/// The hook that reads no function, class or block: each call consumes the current token and refuses it, as `Unexpected` with `{`.
+/// The hook that reads no function, class or block: each call consumes the current token and
+/// refuses it, as `Unexpected` with `{`.
 #[derive(Clone, Copy, PartialEq, Eq, Debug)]
 pub struct NoBodies;
 

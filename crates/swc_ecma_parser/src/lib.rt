@@ -1,4 +1,5 @@
-//! The expressions and patterns of ECMAScript: from tokens to a tree with spans and a list of recorded faults, or a refusal.
+//! The expressions and patterns of ECMAScript: from tokens to a tree with spans and a list of
+//! recorded faults, or a refusal.
 #![tactic(auto)]
 
 pub use swc_ast as ast;

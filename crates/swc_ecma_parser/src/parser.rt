@@ -25,14 +25,18 @@ mod names;
 
 /// A parser over a source of tokens, with a hook for functions, classes and blocks.
 ///
-/// Each call that answers a `PResult` reads on from where the last one stopped, also after a refusal, and keeps the context of the
-/// source. A fault that leaves a tree is recorded, and handed out by `take_errors`. Want of memory is refused as `OutOfMemory`, at
-/// the end of the token consumed last; from then on each of these calls refuses, as `ParserFailed` at the token consumed last.
+/// Each call that answers a `PResult` reads on from where the last one stopped, also after a
+/// refusal, and keeps the context of the source. A fault that leaves a tree is recorded, and handed
+/// out by `take_errors`. Want of memory is refused as `OutOfMemory`, at the end of the token
+/// consumed last; from then on each of these calls refuses, as `ParserFailed` at the token consumed
+/// last.
 ///
-/// Where early errors are on and not ignored, the calls on expressions answer by the written grammar: a tree answered with no fault
-/// recorded is one that it derives from the tokens consumed (`sound`), and over a listed source a tree that it derives up to the end or
-/// a hard stop is answered, unless memory is wanted (`complete`); no other is derived from all tokens (`one_tree`); operators group by
-/// their precedence (`grouped`), and no `Invalid` stands in for what was refused (`valid`).
+/// Where early errors are on and not ignored, the calls on expressions answer by the written
+/// grammar: a tree answered with no fault recorded is one that it derives from the tokens consumed
+/// (`sound`), and over a listed source a tree that it derives up to the end or a hard stop is
+/// answered, unless memory is wanted (`complete`); no other is derived from all tokens
+/// (`one_tree`); operators group by their precedence (`grouped`), and no `Invalid` stands in for
+/// what was refused (`valid`).
 #[derive(Drop)]
 pub struct Parser<I: Tokens, B: Bodies<I>> {
     productions: Productions<I, B>,
@@ -170,10 +174,11 @@ impl<I: Tokens, B: Bodies<I>> Parser<I, B> {
 
     /// Operands and the binary operators between them, of any precedence (ECMA-262, 13.6 to 13.13).
     ///
-    /// Records `NullishCoalescingWithLogicalOp` at a node of `||` or `&&` that is an operand of `??`, or has a `??` on its left. A
-    /// prefix operator left of `**` is refused as `UnaryInExp`, at the `**`, which was consumed. Where a binary operator follows a
-    /// refused left operand, `TS1109` is recorded at the operator, and a node of `Invalid` stands in for the operand, at the place of
-    /// the refusal.
+    /// Records `NullishCoalescingWithLogicalOp` at a node of `||` or `&&` that is an operand of
+    /// `??`, or has a `??` on its left. A prefix operator left of `**` is refused as `UnaryInExp`,
+    /// at the `**`, which was consumed. Where a binary operator follows a refused left operand,
+    /// `TS1109` is recorded at the operator, and a node of `Invalid` stands in for the operand, at
+    /// the place of the refusal.
     pub fn parse_bin_expr(&mut self) -> PResult<Box<ExprOf<B>>>
         ensures again { has_failed self.old ≡ true → (self.new ≡ self.old) × (result ≡ Err (parser_failed (previous (buffer_of self.old)))) }
         ensures promised { has_failed self.old ≡ false → Promised I.state I.gives (hook_of B.reads_fun B.reads_class B.reads_block) (tree_by B.Fun.place B.Class.place B.Block.place) (Level 1) (buffer_of self.old) result (buffer_of self.new) }
@@ -187,16 +192,19 @@ impl<I: Tokens, B: Bodies<I>> Parser<I, B> {
         self.finish(answer)
     }
 
-    /// A unary expression (ECMA-262, 13.5): so far, any number of `delete`, `void`, `typeof`, `+`, `-`, `~` and `!`, and then a primary
-    /// expression: a literal, an identifier, `#` and a name, or an expression in parentheses.
+    /// A unary expression (ECMA-262, 13.5): so far, any number of `delete`, `void`, `typeof`, `+`,
+    /// `-`, `~` and `!`, and then a primary expression: a literal, an identifier, `#` and a name,
+    /// or an expression in parentheses.
     ///
-    /// A refused operand of such an operator is recorded, and a node of `Invalid` stands in its place, at one position, that before the
-    /// operand. `delete` of an identifier has the fault `TS1102`, and an identifier that is a word of strict code twice
-    /// `InvalidIdentInStrict`; these are recorded in modules, and wait elsewhere.
+    /// A refused operand of such an operator is recorded, and a node of `Invalid` stands in its
+    /// place, at one position, that before the operand. `delete` of an identifier has the fault
+    /// `TS1102`, and an identifier that is a word of strict code twice `InvalidIdentInStrict`;
+    /// these are recorded in modules, and wait elsewhere.
     ///
-    /// What begins no primary expression is refused as `TS1109`, at the current token or, at the end, at the token consumed last; `()`
-    /// as `EmptyParenExpr`, at the parentheses; what follows an expression in parentheses and is no `)` as `Expected`, at the current
-    /// token, and the end there as `Eof`; what follows `#` and is no word as `ExpectedIdent`.
+    /// What begins no primary expression is refused as `TS1109`, at the current token or, at the
+    /// end, at the token consumed last; `()` as `EmptyParenExpr`, at the parentheses; what follows
+    /// an expression in parentheses and is no `)` as `Expected`, at the current token, and the end
+    /// there as `Eof`; what follows `#` and is no word as `ExpectedIdent`.
     pub fn parse_unary_expr(&mut self) -> PResult<Box<ExprOf<B>>>
         ensures again { has_failed self.old ≡ true → (self.new ≡ self.old) × (result ≡ Err (parser_failed (previous (buffer_of self.old)))) }
         ensures promised { has_failed self.old ≡ false → Promised I.state I.gives (hook_of B.reads_fun B.reads_class B.reads_block) (tree_by B.Fun.place B.Class.place B.Block.place) Unary (buffer_of self.old) result (buffer_of self.new) }

@@ -22,7 +22,8 @@ use swc_input::tokens::Tokens;
 
 /// A private name where a `#` is current, and else a name of any word (ECMA-262, 12.7).
 ///
-/// `Left` holds what `parse_private_name` reads, and `Right` what `parse_ident_name` does; each is refused as it is by that call.
+/// `Left` holds what `parse_private_name` reads, and `Right` what `parse_ident_name` does; each is
+/// refused as it is by that call.
 pub fn parse_maybe_private_name<I: Tokens>(
     alloc: Global,
     input: &mut Buffer<I>,
@@ -98,8 +99,8 @@ pub fn parse_label_ident<I: Tokens>(alloc: Global, input: &mut Buffer<I>) -> PRe
 
 /// A name that may be any word, as after a dot (IdentifierName; ECMA-262, 12.7).
 ///
-/// The answer holds the word's text and place. Records no fault. Refused are a token that is no word, as `ExpectedIdent` at that
-/// token, and the end, as `Eof`.
+/// The answer holds the word's text and place. Records no fault. Refused are a token that is no
+/// word, as `ExpectedIdent` at that token, and the end, as `Eof`.
 pub fn parse_ident_name<I: Tokens>(alloc: Global, input: &mut Buffer<I>) -> PResult<IdentName>
     ensures names { Names I.state I.gives name_of_any (λ i. i.sym) (λ i. i.span) input.old result input.new }
     ensures read { (xs : List TokenAndSpan) × Read I.state I.gives input.old xs input.new }
@@ -112,8 +113,9 @@ pub fn parse_ident_name<I: Tokens>(alloc: Global, input: &mut Buffer<I>) -> PRes
 
 /// A name under which a module exports something: a string, or any word (ModuleExportName; ECMA-262, 16.2).
 ///
-/// The answer holds the string's value and how it is written, or the word's text, and its place. Records no fault. Refused is
-/// another token, as `Unexpected`, which holds `identifier or string`, at that token; the end as `Eof`.
+/// The answer holds the string's value and how it is written, or the word's text, and its place.
+/// Records no fault. Refused is another token, as `Unexpected`, which holds `identifier or string`,
+/// at that token; the end as `Eof`.
 pub fn parse_module_export_name<I: Tokens>(
     alloc: Global,
     input: &mut Buffer<I>,
@@ -147,8 +149,8 @@ pub fn parse_module_export_name<I: Tokens>(
 /// `InvalidIdentInStrict`, which holds the word, at the word. It is one in modules, and waits elsewhere, as by
 /// `Buffer::emit_strict_mode_err`.
 ///
-/// Refused are a token that is no word, as `ExpectedIdent` at that token, and the end, as `Eof`. These words are refused at the
-/// word, which was consumed, and after their faults:
+/// Refused are a token that is no word, as `ExpectedIdent` at that token, and the end, as `Eof`.
+/// These words are refused at the word, which was consumed, and after their faults:
 ///
 /// - `await` in a static block: `ExpectedIdent`;
 /// - else `await` in a module or in async code: `InvalidIdentInAsync`;
@@ -180,7 +182,8 @@ pub fn parse_ident<I: Tokens>(
 
 /// An identifier that is bound (BindingIdentifier; ECMA-262, 13.1).
 ///
-/// As `parse_ident`, where `yield` and `await` are included. A word that is taken has a further fault at the word, where it is
+/// As `parse_ident`, where `yield` and `await` are included. A word that is taken has a further
+/// fault at the word, where it is
 ///
 /// - `eval` or `arguments`: `EvalAndArgumentsInStrict`, which is one in modules, and waits elsewhere;
 /// - `yield` in a generator: `ExpectedIdent`, which is recorded as by `Buffer::emit_err`.
@@ -195,8 +198,8 @@ pub fn parse_binding_ident<I: Tokens>(alloc: Global, input: &mut Buffer<I>) -> P
 
 /// A word that is bound, if one is current that `Context::is_reserved` doesn't reserve (ECMA-262, 13.1).
 ///
-/// Such a word is read as by `parse_binding_ident`. Before any other token, an error token too, and at the end the answer is
-/// `None`, and nothing is consumed.
+/// Such a word is read as by `parse_binding_ident`. Before any other token, an error token too, and
+/// at the end the answer is `None`, and nothing is consumed.
 pub fn parse_opt_binding_ident<I: Tokens>(
     alloc: Global,
     input: &mut Buffer<I>,

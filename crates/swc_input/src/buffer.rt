@@ -18,10 +18,11 @@ use swc_context::context::{Context, EsVersion, Syntax};
 use swc_context::operator::BinOpToken;
 use swc_context::span::{BytePos, Span};
 
-/// A source, and the tokens that were taken from it ahead: the current one and, where it was peeked at, the one after it.
+/// A source, and the tokens that were taken from it ahead: the current one and, where it was peeked
+/// at, the one after it.
 ///
-/// Looks take tokens from the source and consume none. A `None` of a look is the end, or want of memory where the source has
-/// `failed`; `Buffer::has_cur` tells these apart.
+/// Looks take tokens from the source and consume none. A `None` of a look is the end, or want of
+/// memory where the source has `failed`; `Buffer::has_cur` tells these apart.
 #[derive(Drop)]
 pub struct Buffer<I> {
     pub(crate) iter: I,

@@ -26,7 +26,8 @@ pub struct TokensInput {
 impl TokensInput {
     ghost use Rattle.swc_input.specs.Listed.{listed_state, new_state};
 
-    /// A source of these tokens, in which no fault was recorded. It begins where the first token does, or at 0. Takes no memory.
+    /// A source of these tokens, in which no fault was recorded. It begins where the first token
+    /// does, or at 0. Takes no memory.
     pub fn new(
         alloc: Global,
         tokens: Vec<TokenAndSpan>,

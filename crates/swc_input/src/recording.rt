@@ -107,7 +107,8 @@ impl<I: Tokens> Buffer<I> {
         error_of(token)
     }
 
-    /// Records a fault, after the error of a current error token, which is consumed; any other current token stays. Silent contexts record nothing.
+    /// Records a fault, after the error of a current error token, which is consumed; any other
+    /// current token stays. Silent contexts record nothing.
     pub fn emit_error(&mut self, error: Error) -> PResult<()>
         requires { IsFault error }
         ensures silent { is_silent (I.state (source self.old)) ≡ true → IsOk result × (self.new ≡ self.old) }
@@ -157,8 +158,8 @@ impl<I: Tokens> Buffer<I> {
         self.emit_error(Error::new(span, kind))
     }
 
-    /// Records a fault of strict code. It is one in modules alone, and waits outside them. Nothing is recorded, and nothing
-    /// waits, where the context ignores errors.
+    /// Records a fault of strict code. It is one in modules alone, and waits outside them. Nothing
+    /// is recorded, and nothing waits, where the context ignores errors.
     pub fn emit_strict_mode_err(&mut self, span: Span, kind: SyntaxError) -> PResult<()>
         requires { kind ≢ OutOfMemory }
         ensures read { Read I.state I.gives self.old [] self.new }
@@ -189,8 +190,8 @@ impl<I: Tokens> Buffer<I> {
         }
     }
 
-    /// A refusal of the kind at the place, unless an error token is current: that is consumed, and its error is the refusal.
-    /// Where the source has failed, it is want of memory.
+    /// A refusal of the kind at the place, unless an error token is current: that is consumed, and
+    /// its error is the refusal. Where the source has failed, it is want of memory.
     pub fn syntax_error(&mut self, span: Span, kind: SyntaxError) -> Error
         ensures { Refused I.state I.gives self.old (λ here. record { span = span; kind = kind }) result self.new }
     {
@@ -198,8 +199,9 @@ impl<I: Tokens> Buffer<I> {
         self.refuse(Error::new(span, kind))
     }
 
-    /// The refusal of the current token: of the kind, at that token. At the end it is `Eof`, where the token consumed last ends.
-    /// An error token and a failed source are refused as by `syntax_error`.
+    /// The refusal of the current token: of the kind, at that token. At the end it is `Eof`, where
+    /// the token consumed last ends. An error token and a failed source are refused as by
+    /// `syntax_error`.
     pub fn unexpected(&mut self, kind: SyntaxError) -> Error
         ensures { Refused I.state I.gives self.old (λ here. unfit (current here) (last_position here) kind) result self.new }
     {

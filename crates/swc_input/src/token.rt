@@ -9,8 +9,8 @@ use swc_context::operator::{AssignOp, BinOpToken};
 use swc_context::span::Span;
 use swc_context::word::Word;
 
-/// A token. There is none for `?.`, which is `?` and then `.`; the signs `+ - * / <` are binary operators, and `=` and `/=` are
-/// assignment operators.
+/// A token. There is none for `?.`, which is `?` and then `.`; the signs `+ - * / <` are binary
+/// operators, and `=` and `/=` are assignment operators.
 #[derive(PartialEq, Eq, Drop)]
 pub enum Token {
     /// A word.

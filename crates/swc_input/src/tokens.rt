@@ -12,8 +12,8 @@ use swc_context::span::BytePos;
 
 /// A source of tokens, which also keeps the context and the faults that were recorded.
 ///
-/// `next` gives the tokens. A `None` of a source that has `failed` is want of memory and not the end; any other `None` is the
-/// end, and stays.
+/// `next` gives the tokens. A `None` of a source that has `failed` is want of memory and not the
+/// end; any other `None` is the end, and stays.
 pub trait Tokens: Iterator<Item = TokenAndSpan> {
     /// What contracts see of a source.
     ghost state: { Self → Source };
@@ -21,7 +21,8 @@ pub trait Tokens: Iterator<Item = TokenAndSpan> {
     /// Calls led from the first state to the second, and gave these tokens between them.
     ghost gives: { Self → List TokenAndSpan → Self → Type 0 };
 
-    /// Sets the context. To a module, the faults that waited for one are recorded. Refused only there, and then nothing changes.
+    /// Sets the context. To a module, the faults that waited for one are recorded. Refused only
+    /// there, and then nothing changes.
     fn set_ctx(&mut self, ctx: Context) -> Result<(), AllocError>
         ensures gave { gives self.old [] self.new }
         ensures set { OnOk result (state self.new ≡ with_context ctx (state self.old)) }
@@ -50,7 +51,8 @@ pub trait Tokens: Iterator<Item = TokenAndSpan> {
         ensures gave { gives self.old [] self.new }
         ensures state { state self.new ≡ state self.old };
 
-    /// Hints to a lexer that a regular expression begins at the slash that it gave last. The slash may then come once more.
+    /// Hints to a lexer that a regular expression begins at the slash that it gave last. The slash
+    /// may then come once more.
     fn set_next_regexp(&mut self, start: Option<BytePos>)
         ensures gave { gives self.old [] self.new }
         ensures state { (b : ℕ) × (state self.new ≡ record (state self.old) { bound = b }) × (b ≤ (state self.old).bound + 1) };
@@ -72,8 +74,8 @@ pub trait Tokens: Iterator<Item = TokenAndSpan> {
         ensures added { OnOk result (state self.new ≡ with_error error (state self.old)) }
         ensures unchanged { OnErr result (state self.new ≡ state self.old) };
 
-    /// Records a fault that is one in modules alone: outside a module it waits. Refused only for want of memory, and then
-    /// nothing changes.
+    /// Records a fault that is one in modules alone: outside a module it waits. Refused only for
+    /// want of memory, and then nothing changes.
     fn add_module_mode_error(&mut self, error: Error) -> Result<(), AllocError>
         ensures gave { gives self.old [] self.new }
         ensures added { OnOk result (state self.new ≡ with_module_error error (state self.old)) }

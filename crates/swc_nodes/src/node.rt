@@ -18,7 +18,8 @@ pub struct ExprId(pub usize);
 #[derive(Clone, Copy, Debug, PartialEq, Eq)]
 pub struct PatId(pub usize);
 
-/// An expression (ECMA-262, 13) or a pattern (14.3.3 and 13.15.5). The kinds, and their parts, are those of `Expr` and `Pat` of swc_ast.
+/// An expression (ECMA-262, 13) or a pattern (14.3.3 and 13.15.5). The kinds, and their parts, are
+/// those of `Expr` and `Pat` of swc_ast.
 #[derive(Drop)]
 pub enum Node<F, C, K> {
     /// `this`

@@ -8,8 +8,8 @@ use std::alloc::{AllocError, Global};
 use swc_ast::spanned::Spanned;
 use swc_bodies::bodies::BodyForms;
 
-/// The nodes of trees, each behind its parts. What is reached from one part of a node lies behind the part before it, in the order of the
-/// source, so no node is a part of two.
+/// The nodes of trees, each behind its parts. What is reached from one part of a node lies behind
+/// the part before it, in the order of the source, so no node is a part of two.
 ///
 /// A number keeps its tree as nodes are appended. Letting go of nodes takes no recursion over trees.
 #[derive(Drop)]

@@ -28,8 +28,8 @@ impl Kept for Span {
 
 /// The texts of trees.
 ///
-/// A node with parts is its name and the parts in parentheses, as `Bin(+, a, Call(f, [b]))`; names, literals and `this` are as
-/// they are written; a hole, or a part that isn't there, is `-`.
+/// A node with parts is its name and the parts in parentheses, as `Bin(+, a, Call(f, [b]))`; names,
+/// literals and `this` are as they are written; a hole, or a part that isn't there, is `-`.
 pub trait PrintNodes {
     ghost use Rattle.swc_nodes.specs.declared.node.ExprId.{ExprId};
     ghost use Rattle.swc_nodes.specs.declared.node.PatId.{PatId};

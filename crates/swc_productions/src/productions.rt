@@ -18,10 +18,12 @@ use swc_input::token::Token;
 use swc_input::tokens::Tokens;
 use swc_nodes::nodes::NodesOf;
 
-/// The productions of the grammar, as methods: each reads its symbol from the buffer, from the current token on, and keeps the context.
+/// The productions of the grammar, as methods: each reads its symbol from the buffer, from the
+/// current token on, and keeps the context.
 ///
-/// `Parser` of swc_ecma_parser stands over them, and says of its calls what the productions of the same names record and refuse, and where. A
-/// production doesn't ask whether an earlier one wanted memory: that is left to its caller.
+/// `Parser` of swc_ecma_parser stands over them, and says of its calls what the productions of the
+/// same names record and refuse, and where. A production doesn't ask whether an earlier one wanted
+/// memory: that is left to its caller.
 #[derive(Drop)]
 pub struct Productions<I: Tokens, B: Bodies<I>> {
     /// Where names are put.

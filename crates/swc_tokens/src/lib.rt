@@ -1,7 +1,8 @@
 //! The reader of a small ASCII profile of ECMAScript source text (ECMA-262, 12).
 //!
-//! Read so far are blanks, words without escapes, whole decimal numbers, signs and operators. The other forms (comments, strings,
-//! the other numbers, templates, regular expressions) are faults at the first byte that doesn't fit.
+//! Read so far are blanks, words without escapes, whole decimal numbers, signs and operators. The
+//! other forms (comments, strings, the other numbers, templates, regular expressions) are faults at
+//! the first byte that doesn't fit.
 #![tactic(auto)]
 
 ghost use Rattle.std.specs.Prelude.{◌≡◌, ◌+◌, ◌<◌, ◌≤◌, ◌∷◌, [], ◌++◌, length, IsFalse, IfOk, OnOk, IfErr, IfSome, IsNone, slice_get, nat_lt};
@@ -28,8 +29,9 @@ pub const MAX_LEN: usize = 4_294_967_295;
 
 /// The tokens of a text.
 ///
-/// Positions count bytes from 0. A text longer than `MAX_LEN` is refused at 0..0, and then one with a byte above 127 at the first
-/// such byte, before all else. Any other fault is refused at the first byte that doesn't fit, and want of memory at 0..0.
+/// Positions count bytes from 0. A text longer than `MAX_LEN` is refused at 0..0, and then one with
+/// a byte above 127 at the first such byte, before all else. Any other fault is refused at the
+/// first byte that doesn't fit, and want of memory at 0..0.
 pub fn read_tokens(alloc: Global, text: &[u8]) -> PResult<Vec<TokenAndSpan>>
     ensures too_long { MAX_LEN < length text.now → result ≡ Err (faults.lex_fault (faults.between 0 0)) }
     ensures beyond_ascii { length text.now ≤ MAX_LEN → IfSome (position (λ byte. nat_lt 127 byte) text.now) (λ at. result

@@ -1,5 +1,6 @@
-// Moves boxed trees into the nodes, behind all that there are. The first part of a node is put in first, as in the source. What is moved leaves an
-// empty tree behind; no text and no value of the hook is copied.
+// Moves boxed trees into the nodes, behind all that there are. The first part of a node is put in
+// first, as in the source. What is moved leaves an empty tree behind; no text and no value of the
+// hook is copied.
 #![tactic(none)]
 
 ghost use Rattle.std.specs.Prelude.{◌≡◌, List, [], ◌∷◌, ◌++◌, map, IfOk};

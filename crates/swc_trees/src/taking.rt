@@ -1,4 +1,5 @@
-// Moves boxed trees out of the nodes. The last part of a node is taken first, so that all that a node holds leaves it by a plain move.
+// Moves boxed trees out of the nodes. The last part of a node is taken first, so that all that a
+// node holds leaves it by a plain move.
 ghost use Rattle.std.specs.Prelude.{◌≡◌, true, List, [], ◌∷◌, ◌++◌, map, IfOk};
 ghost use Rattle.swc_ast.specs.Parts.{or_hole, paren_tree, member_tree, member_prop_tree, super_prop_tree, super_part_tree, chain_tree, base_tree, callee_tree, args_tree, item_tree, tpl_tree, body_tree, prop_name_tree, function_tree, param_tree, simple_tree};
 ghost use Rattle.swc_ast.specs.Tree.{node, cons, nil, opt_chain, method};
@@ -109,7 +110,8 @@ fn take_node<F: Spanned + Drop, C: Spanned + Drop, K: Spanned + Drop>(
     }
 }
 
-/// Takes out the parts of a node that has any: of a literal of parts, a link or an operation with one operand, or of one of the nodes after it.
+/// Takes out the parts of a node that has any: of a literal of parts, a link or an operation with
+/// one operand, or of one of the nodes after it.
 #[cycle(taking)]
 fn take_operation<F: Spanned + Drop, C: Spanned + Drop, K: Spanned + Drop>(
     nodes: &mut Nodes<F, C, K>,

@@ -19,7 +19,8 @@ use swc_ident::ident;
 use swc_input::tokens::Tokens;
 
 impl<I: Tokens, B: Bodies<I>> Parser<I, B> {
-    /// A private name at `#`, and any other name elsewhere (ECMA-262, 12.7). As `parse_private_name` and `parse_ident_name`.
+    /// A private name at `#`, and any other name elsewhere (ECMA-262, 12.7). As
+    /// `parse_private_name` and `parse_ident_name`.
     pub fn parse_maybe_private_name(&mut self) -> PResult<Either<PrivateName, IdentName>>
         ensures again { has_failed self.old ≡ true → (self.new ≡ self.old) × (result ≡ Err (parser_failed (previous (buffer_of self.old)))) }
         ensures either { has_failed self.old ≡ false → MatchResult result (λ r. MatchEither r (λ p. Private I.state I.gives p.name p.span (buffer_of self.old) (buffer_of self.new)) (λ n. Named I.state I.gives name_of_any n.sym n.span (buffer_of self.old) (buffer_of self.new))) (λ e. Neither I.state I.gives (buffer_of self.old) e (buffer_of self.new)) }
@@ -37,7 +38,8 @@ impl<I: Tokens, B: Bodies<I>> Parser<I, B> {
 
     /// A private name: `#`, and a name that begins where it ends (PrivateIdentifier; ECMA-262, 12.7).
     ///
-    /// A token that is no `#` is refused as `Expected`, at that token; a name that begins elsewhere as `SpaceBetweenHashAndIdent`, at the `#`.
+    /// A token that is no `#` is refused as `Expected`, at that token; a name that begins elsewhere
+    /// as `SpaceBetweenHashAndIdent`, at the `#`.
     pub fn parse_private_name(&mut self) -> PResult<PrivateName>
         ensures again { has_failed self.old ≡ true → (self.new ≡ self.old) × (result ≡ Err (parser_failed (previous (buffer_of self.old)))) }
         ensures private { has_failed self.old ≡ false → PrivateNames I.state I.gives (λ p. p.name) (λ p. p.span) (buffer_of self.old) result (buffer_of self.new) }
@@ -119,8 +121,9 @@ impl<I: Tokens, B: Bodies<I>> Parser<I, B> {
 
     /// An identifier, where `yield` and `await` are included or not (ECMA-262, 13.1).
     ///
-    /// Which words are taken, with which faults, and which are refused, is the table `ident_verdict` of swc_ident: a fault and a refusal lie at the word,
-    /// which is consumed. A token that is no word is refused as `ExpectedIdent` at that token, and the end as `Eof`.
+    /// Which words are taken, with which faults, and which are refused, is the table
+    /// `ident_verdict` of swc_ident: a fault and a refusal lie at the word, which is consumed. A
+    /// token that is no word is refused as `ExpectedIdent` at that token, and the end as `Eof`.
     pub fn parse_ident(&mut self, incl_yield: bool, incl_await: bool) -> PResult<Ident>
         ensures again { has_failed self.old ≡ true → (self.new ≡ self.old) × (result ≡ Err (parser_failed (previous (buffer_of self.old)))) }
         ensures names { has_failed self.old ≡ false → Names I.state I.gives (ident_verdict incl_yield incl_await) (λ i. i.sym) (λ i. i.span) (buffer_of self.old) result (buffer_of self.new) }
@@ -140,8 +143,9 @@ impl<I: Tokens, B: Bodies<I>> Parser<I, B> {
 
     /// An identifier that is bound (BindingIdentifier; ECMA-262, 13.1).
     ///
-    /// As `parse_ident` with `yield` and `await` included. What strict code doesn't bind is a fault of modules (`EvalAndArgumentsInStrict`), and `yield` in a
-    /// generator is recorded (`ExpectedIdent`).
+    /// As `parse_ident` with `yield` and `await` included. What strict code doesn't bind is a fault
+    /// of modules (`EvalAndArgumentsInStrict`), and `yield` in a generator is recorded
+    /// (`ExpectedIdent`).
     pub fn parse_binding_ident(&mut self) -> PResult<BindingIdent>
         ensures again { has_failed self.old ≡ true → (self.new ≡ self.old) × (result ≡ Err (parser_failed (previous (buffer_of self.old)))) }
         ensures names { has_failed self.old ≡ false → Names I.state I.gives binding_verdict (λ b. b.id.sym) (λ b. b.id.span) (buffer_of self.old) result (buffer_of self.new) }
@@ -159,7 +163,8 @@ impl<I: Tokens, B: Bodies<I>> Parser<I, B> {
         self.finish(answer)
     }
 
-    /// An identifier that is bound, if a word is current that isn't reserved (ECMA-262, 13.1). Before anything else `None`, and nothing is consumed.
+    /// An identifier that is bound, if a word is current that isn't reserved (ECMA-262, 13.1).
+    /// Before anything else `None`, and nothing is consumed.
     pub fn parse_opt_binding_ident(&mut self) -> PResult<Option<BindingIdent>>
         ensures again { has_failed self.old ≡ true → (self.new ≡ self.old) × (result ≡ Err (parser_failed (previous (buffer_of self.old)))) }
         ensures optional { has_failed self.old ≡ false → MatchResult result (λ o. MatchOption o (Unbound I.state I.gives (buffer_of self.old) (buffer_of self.new)) (λ b. Bound I.state I.gives b.id.sym b.id.span (buffer_of self.old) (buffer_of self.new))) (λ e. Unnamed I.state I.gives binding_verdict (buffer_of self.old) e (buffer_of self.new)) }

@@ -58,8 +58,8 @@ impl<I: Tokens, B: Bodies<I>> Productions<I, B> {
         self.parse_bin_op_recursively(node, 0)
     }
 
-    /// Records, before an operator, that its left operand was refused: a node of `Invalid` stands in for it. Elsewhere the refusal
-    /// stands, and so does want of memory.
+    /// Records, before an operator, that its left operand was refused: a node of `Invalid` stands
+    /// in for it. Elsewhere the refusal stands, and so does want of memory.
     fn recover_left(&mut self, error: Error) -> PResult<(ExprId, BinaryOp)>
         requires { error.kind ≢ ParserFailed }
         ensures does { Does I.state I.gives self.old.input result self.new.input }
@@ -81,7 +81,8 @@ impl<I: Tokens, B: Bodies<I>> Productions<I, B> {
         }
     }
 
-    /// Records that the operator, which is current, has no left operand: a node of `Invalid` at the place stands in for it.
+    /// Records that the operator, which is current, has no left operand: a node of `Invalid` at the
+    /// place stands in for it.
     fn stand_in(&mut self, at: Span, op: BinaryOp) -> PResult<(ExprId, BinaryOp)>
         requires known { IsSome (current self.old.input) }
         requires fit { at_token no_error (seen self.old.input) ≡ true }
@@ -116,8 +117,8 @@ impl<I: Tokens, B: Bodies<I>> Productions<I, B> {
         }
     }
 
-    /// One operator and its right operand: the node, and the least precedence to go on with; or `left` itself and nothing, where
-    /// no operator of a precedence above `min_prec` is current.
+    /// One operator and its right operand: the node, and the least precedence to go on with; or
+    /// `left` itself and nothing, where no operator of a precedence above `min_prec` is current.
     #[cycle(productions)]
     fn parse_bin_op_recursively_inner(
         &mut self,
@@ -169,8 +170,8 @@ impl<I: Tokens, B: Bodies<I>> Productions<I, B> {
         self.parse_bin_op_recursively(left_of_right, right_min_prec(op))
     }
 
-    /// A unary expression (ECMA-262, 13.5): so far, a primary expression with any number of prefix operators before it, but for `++`,
-    /// `--` and `await`.
+    /// A unary expression (ECMA-262, 13.5): so far, a primary expression with any number of prefix
+    /// operators before it, but for `++`, `--` and `await`.
     #[cycle(productions)]
     pub fn parse_unary_expr(&mut self) -> PResult<ExprId>
         ensures { Produces I.state I.gives itself tree_of (clean.unary run) (count self.old.nodes) self.old result self.new }
@@ -196,8 +197,8 @@ impl<I: Tokens, B: Bodies<I>> Productions<I, B> {
         made(&self.input, node)
     }
 
-    /// The operand of a prefix operator. A refused one is recorded, unless it is want of memory, and a node of `Invalid` at one
-    /// position stands in its place.
+    /// The operand of a prefix operator. A refused one is recorded, unless it is want of memory,
+    /// and a node of `Invalid` at one position stands in its place.
     #[cycle(productions)]
     fn parse_prefix_operand(&mut self) -> PResult<ExprId>
         ensures { GoesOn I.state I.gives itself tree_of (clean.unary run) (count self.old.nodes) self.old result self.new }
@@ -209,7 +210,8 @@ impl<I: Tokens, B: Bodies<I>> Productions<I, B> {
         }
     }
 
-    /// Records a refusal, unless it is want of memory: a node of `Invalid` at the position stands in for what was refused.
+    /// Records a refusal, unless it is want of memory: a node of `Invalid` at the position stands
+    /// in for what was refused.
     fn recover(&mut self, error: Error, at: BytePos) -> PResult<ExprId>
         requires { error.kind ≢ ParserFailed }
         ensures tries { MatchResult result (λ r. Leads I.state I.gives self.old.input self.new.input) (λ e. Forgoes I.state I.gives self.old.input e self.new.input) }
