@@ -1,5 +1,5 @@
-// Going over the parts of nodes, in their order: which number is reached first, and whether parts lie apart.
-ghost use Rattle.std.specs.Prelude.{◌≡◌, ◌<◌, true, fold};
+// Going over the parts of nodes, in their order: which number is reached first, whether parts lie apart, and which parts there are.
+ghost use Rattle.std.specs.Prelude.{◌≡◌, ◌<◌, ◌++◌, true, fold, map, IfOk};
 ghost use Rattle.swc_nodes.specs.Slots.{slots, flat, if_some, one_expr, one_pat, item_parts, key_parts, member_parts};
 ghost use Rattle.swc_nodes.specs.Slots.{super_parts, callee_parts, base_parts, body_parts, param_parts, prop_parts};
 ghost use Rattle.swc_nodes.specs.Slots.{pat_prop_parts};
@@ -8,6 +8,7 @@ ghost use Rattle.swc_nodes.specs.Walking.{part_of, first_or, behind, is_operatio
 
 use crate::node::{ExprId, Node, PatId, PatPropNode, PropNode, TargetNode};
 use crate::nodes::Nodes;
+use std::alloc::{AllocError, Global};
 use swc_ast::expr::{BlockStmtOrExpr, Callee, ExprOrSpread, MemberProp, OptChainBase, SuperProp};
 use swc_ast::function::Param;
 use swc_ast::prop::PropName;
@@ -15,7 +16,7 @@ use swc_ast::spanned::Spanned;
 
 /// A part of a node.
 #[derive(Clone, Copy)]
-enum PartId {
+pub enum PartId {
     Expr(ExprId),
     Pat(PatId),
     Target(TargetNode),
@@ -43,6 +44,10 @@ trait Parts {
     /// What is found up to and with its parts, from what was found before them.
     fn walk<W: Walk>(&self, walk: &W, found: Option<usize>) -> Option<usize>
         ensures { result ≡ fold (W.step walk.now) found (parts self.now) };
+
+    /// Puts its parts behind those of a list.
+    fn list(&self, list: &mut Vec<PartId>) -> Result<(), AllocError>
+        ensures { IfOk result (λ _. map part_of list.new.items ≡ map part_of list.old.items ++ parts self.now) };
 }
 
 impl<F: Spanned + Drop, C: Spanned + Drop, K: Spanned + Drop> Nodes<F, C, K> {
@@ -79,8 +84,18 @@ impl<F: Spanned + Drop, C: Spanned + Drop, K: Spanned + Drop> Nodes<F, C, K> {
     }
 }
 
+/// The parts of a node, in their order.
+pub fn parts_of<F, C, K>(alloc: Global, node: &Node<F, C, K>) -> Result<Vec<PartId>, AllocError>
+    ensures { IfOk result (λ parts. map part_of parts.items ≡ slots node.now) }
+{
+    let mut parts = Vec::new(alloc);
+    node.list(&mut parts)?;
+    Ok(parts)
+}
+
 impl PartId {
-    fn number(self) -> usize
+    /// The number of the part.
+    pub fn number(self) -> usize
         ensures { result ≡ (part_of self).at }
     {
         match self {
@@ -130,6 +145,11 @@ impl Parts for ExprId {
     fn walk<W: Walk>(&self, walk: &W, found: Option<usize>) -> Option<usize> {
         walk.step(found, PartId::Expr(*self))
     }
+
+    fn list(&self, list: &mut Vec<PartId>) -> Result<(), AllocError> {
+        list.push(PartId::Expr(*self))?;
+        Ok(())
+    }
 }
 
 impl Parts for PatId {
@@ -137,6 +157,11 @@ impl Parts for PatId {
 
     fn walk<W: Walk>(&self, walk: &W, found: Option<usize>) -> Option<usize> {
         walk.step(found, PartId::Pat(*self))
+    }
+
+    fn list(&self, list: &mut Vec<PartId>) -> Result<(), AllocError> {
+        list.push(PartId::Pat(*self))?;
+        Ok(())
     }
 }
 
@@ -147,6 +172,13 @@ impl<T: Parts> Parts for Option<T> {
         match self {
             None => found,
             Some(item) => item.walk(walk, found),
+        }
+    }
+
+    fn list(&self, list: &mut Vec<PartId>) -> Result<(), AllocError> {
+        match self {
+            None => Ok(()),
+            Some(item) => item.list(list),
         }
     }
 }
@@ -161,6 +193,13 @@ impl<T: Parts> Parts for Vec<T> {
         }
         found
     }
+
+    fn list(&self, list: &mut Vec<PartId>) -> Result<(), AllocError> {
+        for item in self {
+            item.list(list)?;
+        }
+        Ok(())
+    }
 }
 
 impl Parts for ExprOrSpread<ExprId> {
@@ -168,6 +207,10 @@ impl Parts for ExprOrSpread<ExprId> {
 
     fn walk<W: Walk>(&self, walk: &W, found: Option<usize>) -> Option<usize> {
         self.expr.walk(walk, found)
+    }
+
+    fn list(&self, list: &mut Vec<PartId>) -> Result<(), AllocError> {
+        self.expr.list(list)
     }
 }
 
@@ -178,6 +221,13 @@ impl Parts for PropName<ExprId> {
         match self {
             PropName::Computed(name) => name.expr.walk(walk, found),
             _ => found,
+        }
+    }
+
+    fn list(&self, list: &mut Vec<PartId>) -> Result<(), AllocError> {
+        match self {
+            PropName::Computed(name) => name.expr.list(list),
+            _ => Ok(()),
         }
     }
 }
@@ -191,6 +241,13 @@ impl Parts for MemberProp<ExprId> {
             _ => found,
         }
     }
+
+    fn list(&self, list: &mut Vec<PartId>) -> Result<(), AllocError> {
+        match self {
+            MemberProp::Computed(name) => name.expr.list(list),
+            _ => Ok(()),
+        }
+    }
 }
 
 impl Parts for SuperProp<ExprId> {
@@ -200,6 +257,13 @@ impl Parts for SuperProp<ExprId> {
         match self {
             SuperProp::Computed(name) => name.expr.walk(walk, found),
             _ => found,
+        }
+    }
+
+    fn list(&self, list: &mut Vec<PartId>) -> Result<(), AllocError> {
+        match self {
+            SuperProp::Computed(name) => name.expr.list(list),
+            _ => Ok(()),
         }
     }
 }
@@ -213,6 +277,13 @@ impl Parts for Callee<ExprId> {
             _ => found,
         }
     }
+
+    fn list(&self, list: &mut Vec<PartId>) -> Result<(), AllocError> {
+        match self {
+            Callee::Expr(expr) => expr.list(list),
+            _ => Ok(()),
+        }
+    }
 }
 
 impl Parts for OptChainBase<ExprId> {
@@ -222,6 +293,19 @@ impl Parts for OptChainBase<ExprId> {
         match self {
             OptChainBase::Member(member) => member.prop.walk(walk, member.obj.walk(walk, found)),
             OptChainBase::Call(call) => call.args.walk(walk, call.callee.walk(walk, found)),
+        }
+    }
+
+    fn list(&self, list: &mut Vec<PartId>) -> Result<(), AllocError> {
+        match self {
+            OptChainBase::Member(member) => {
+                member.obj.list(list)?;
+                member.prop.list(list)
+            }
+            OptChainBase::Call(call) => {
+                call.callee.list(list)?;
+                call.args.list(list)
+            }
         }
     }
 }
@@ -235,6 +319,13 @@ impl<K> Parts for BlockStmtOrExpr<ExprId, K> {
             BlockStmtOrExpr::Expr(expr) => expr.walk(walk, found),
         }
     }
+
+    fn list(&self, list: &mut Vec<PartId>) -> Result<(), AllocError> {
+        match self {
+            BlockStmtOrExpr::BlockStmt(_) => Ok(()),
+            BlockStmtOrExpr::Expr(expr) => expr.list(list),
+        }
+    }
 }
 
 impl Parts for Param<PatId> {
@@ -242,6 +333,10 @@ impl Parts for Param<PatId> {
 
     fn walk<W: Walk>(&self, walk: &W, found: Option<usize>) -> Option<usize> {
         self.pat.walk(walk, found)
+    }
+
+    fn list(&self, list: &mut Vec<PartId>) -> Result<(), AllocError> {
+        self.pat.list(list)
     }
 }
 
@@ -261,6 +356,27 @@ impl<K> Parts for PropNode<K> {
             PropNode::Setter { key, param, .. } => param.walk(walk, key.walk(walk, found)),
         }
     }
+
+    fn list(&self, list: &mut Vec<PartId>) -> Result<(), AllocError> {
+        match self {
+            PropNode::Spread(spread) => spread.expr.list(list),
+            PropNode::Shorthand(_) => Ok(()),
+            PropNode::KeyValue { key, value, .. } => {
+                key.list(list)?;
+                value.list(list)
+            }
+            PropNode::Assign(prop) => prop.value.list(list),
+            PropNode::Method { key, function } => {
+                key.list(list)?;
+                function.params.list(list)
+            }
+            PropNode::Getter { key, .. } => key.list(list),
+            PropNode::Setter { key, param, .. } => {
+                key.list(list)?;
+                param.list(list)
+            }
+        }
+    }
 }
 
 impl Parts for PatPropNode {
@@ -271,6 +387,17 @@ impl Parts for PatPropNode {
             PatPropNode::KeyValue { key, value, .. } => value.walk(walk, key.walk(walk, found)),
             PatPropNode::Assign { value, .. } => value.walk(walk, found),
             PatPropNode::Rest { arg, .. } => arg.walk(walk, found),
+        }
+    }
+
+    fn list(&self, list: &mut Vec<PartId>) -> Result<(), AllocError> {
+        match self {
+            PatPropNode::KeyValue { key, value, .. } => {
+                key.list(list)?;
+                value.list(list)
+            }
+            PatPropNode::Assign { value, .. } => value.list(list),
+            PatPropNode::Rest { arg, .. } => arg.list(list),
         }
     }
 }
@@ -312,6 +439,56 @@ impl<F, C, K> Parts for Node<F, C, K> {
             _ => walk_operation(self, walk, found),
         }
     }
+
+    fn list(&self, list: &mut Vec<PartId>) -> Result<(), AllocError> {
+        match self {
+            Node::Array { elems, .. } => elems.list(list),
+            Node::Object { props, .. } => props.list(list),
+            Node::Seq { exprs, .. } => exprs.list(list),
+            Node::PatArray { elems, .. } => elems.list(list),
+            Node::PatObject { props, .. } => props.list(list),
+            Node::SuperProp(member) => member.prop.list(list),
+            Node::OptChain(link) => link.base.list(list),
+            Node::Tpl(tpl) => tpl.exprs.list(list),
+            Node::Yield { arg, .. } => arg.list(list),
+            Node::Member(member) => {
+                member.obj.list(list)?;
+                member.prop.list(list)
+            }
+            Node::Call { callee, args, .. } => {
+                callee.list(list)?;
+                args.list(list)
+            }
+            Node::New { callee, args, .. } => {
+                callee.list(list)?;
+                args.list(list)
+            }
+            Node::TaggedTpl { tag, tpl, .. } => {
+                tag.list(list)?;
+                tpl.exprs.list(list)
+            }
+            Node::Arrow { params, body, .. } => {
+                params.list(list)?;
+                body.list(list)
+            }
+            Node::This(_)
+            | Node::Fn(_)
+            | Node::Class(_)
+            | Node::MetaProp(_)
+            | Node::PrivateName(_)
+            | Node::Ident(_)
+            | Node::Str(_)
+            | Node::Bool(_)
+            | Node::Null(_)
+            | Node::Num(_)
+            | Node::BigInt(_)
+            | Node::Regex(_)
+            | Node::Invalid(_)
+            | Node::PatIdent(_)
+            | Node::PatInvalid(_) => Ok(()),
+            _ => list_operation(self, list),
+        }
+    }
 }
 
 /// Goes over the operands of an operation, or of a pattern that is a plain one with something before or behind it.
@@ -341,6 +518,44 @@ fn walk_operation<W: Walk, F, C, K>(
         Node::PatRest { arg, .. } => arg.walk(walk, found),
         Node::PatAssign { left, right, .. } => right.walk(walk, left.walk(walk, found)),
         Node::PatExpr(expr) => expr.walk(walk, found),
+        _ => unreachable!(),
+    }
+}
+
+/// Puts the operands of an operation behind those of a list, or the parts of a pattern that is a plain one with something before or behind it.
+fn list_operation<F, C, K>(node: &Node<F, C, K>, list: &mut Vec<PartId>) -> Result<(), AllocError>
+    requires { is_operation node.now ≡ true }
+    ensures { IfOk result (λ _. map part_of list.new.items ≡ map part_of list.old.items ++ slots node.now) }
+{
+    match node {
+        Node::Unary { arg, .. } => arg.list(list),
+        Node::Update { arg, .. } => arg.list(list),
+        Node::Bin { left, right, .. } => {
+            left.list(list)?;
+            right.list(list)
+        }
+        Node::Assign { left, right, .. } => {
+            list.push(PartId::Target(*left))?;
+            right.list(list)
+        }
+        Node::Cond {
+            test,
+            cons,
+            alt,
+            ..
+        } => {
+            test.list(list)?;
+            cons.list(list)?;
+            alt.list(list)
+        }
+        Node::Paren(paren) => paren.expr.list(list),
+        Node::Await { arg, .. } => arg.list(list),
+        Node::PatRest { arg, .. } => arg.list(list),
+        Node::PatAssign { left, right, .. } => {
+            left.list(list)?;
+            right.list(list)
+        }
+        Node::PatExpr(expr) => expr.list(list),
         _ => unreachable!(),
     }
 }

@@ -1,36 +1,30 @@
 -- Parts are taken from the last on: what is left behind each is enough for those before it.
 use Rattle.std.proofs.Common.{◌≡◌, ℕ, suc, ◌<◌, ◌≤◌, true, List, [], ◌∷◌, ◌++◌, map, reverse, Result, Ok, Err, IfOk, refl, sym, ap, subst, ◌∙◌, arith, append_assoc}
-use Rattle.std.proofs.lemmas.List.{append-nil, map-append, reverse-append}
+use Rattle.std.proofs.lemmas.List.{append-nil, reverse-append}
 use Rattle.std.specs.Result.{IsErr}
 use Rattle.std.specs.declared.alloc.AllocError.{AllocError}
 use Rattle.std.specs.declared.alloc.Global.{Global}
-use Rattle.std.specs.declared.boxed.Box.{Box}
 use Rattle.std.specs.declared.vec.Vec.{Vec}
-use Rattle.swc_ast.specs.Tree.{Tree, nil, cons, trees}
+use Rattle.swc_ast.specs.Tree.{Tree}
 use Rattle.swc_ast.specs.declared.spanned.Spanned.{Ghosts}
-use Rattle.swc_nodes.specs.NodeTree.{node_tree}
 use Rattle.swc_nodes.specs.Seats.{floor, chain}
-use Rattle.swc_nodes.specs.Slots.{Part, View, slots, form, view_ok, flat}
-use Rattle.swc_nodes.specs.Stands.{count, seat_at, tree_at, first_at, Apart, From, Grows, Left, Popped}
+use Rattle.swc_nodes.specs.Slots.{Part, form, view_ok, flat}
+use Rattle.swc_nodes.specs.Stands.{count, seat_at, first_at, Apart, Grows, Left, Popped}
 use Rattle.swc_nodes.specs.declared.node.Node.{Node}
 use Rattle.swc_nodes.specs.declared.nodes.Nodes.{Nodes}
 use Rattle.swc_nodes.proofs.Chains.{both_true, chain-bound, chain-first, chain-second, chain-same, chain-up, floor-both}
-use Rattle.swc_nodes.proofs.Held.{from-apart, apart-from}
+use Rattle.swc_nodes.proofs.Held.{from-apart}
 use Rattle.swc_nodes.proofs.Standing.{grows-same, grows-then, grows-count, seat-later}
-use Rattle.swc_trees.proofs.Agreed.{flat-append, agrees-first, agrees-second, agrees-self}
+use Rattle.swc_trees.proofs.Agreed.{flat-append, agrees-first, agrees-second}
 use Rattle.swc_trees.specs.Moving.{Agrees, TakesOut}
 use Rattle.swc_trees.specs.Refusable.{Pushed, Reversed}
 
-if_ok-as : {Y E : Type 0} (P Q : Y → Type 0) (r : Result Y E) → ((y : Y) → P y → Q y) → IfOk r P → IfOk r Q
+pub if_ok-as : {Y E : Type 0} (P Q : Y → Type 0) (r : Result Y E) → ((y : Y) → P y → Q y) → IfOk r P → IfOk r Q
 if_ok-as P Q (Ok y) f h = f y h
 if_ok-as P Q (Err e) f h = h
 
-pub both-of : {X Y E : Type 0} (q : Result X E) (r : Result Y E) (x : X) (y : Y) (w : Result (X × Y) E) → w ≡ Ok (x, y) → IfOk w (λ p. (q ≡ Ok p.0) × (r ≡ Ok p.1)) → (q ≡ Ok x) × (r ≡ Ok y)
-both-of q r x y w e h = subst (λ v. IfOk v (λ p. (q ≡ Ok p.0) × (r ≡ Ok p.1))) e h
-
 module _ {F C K : Type 0} {fg : Ghosts F} {cg : Ghosts C} {kg : Ghosts K} where
-  -- ---- what parts stand for
-
+  -- what parts stand for, once more parts were taken
   agrees-later : (at : ℕ → Tree F C K) (ns ms : Nodes F C K fg cg kg) (lo : ℕ) (ps : List Part) (hi : ℕ) → Grows ms ns → hi ≤ count ms → chain (seat_at ns) lo ps hi ≡ true → Agrees at ns ps → Agrees at ms ps
   agrees-later at ns ms lo [] hi g le h a = tt
   agrees-later at ns ms lo (p ∷ ps) hi g le h a =
@@ -70,26 +64,13 @@ module _ {F C K : Type 0} {fg : Ghosts F} {cg : Ghosts C} {kg : Ghosts K} where
   pub apart-first : {Y : Type 0} {ns ms : Nodes F C K fg cg kg} {same : (ℕ → Tree F C K) → Y → Type 0} {r : Result Y AllocError} (ps qs : List Part) → Apart 0 ns (ps ++ qs) → TakesOut qs same ns r ms → Apart 0 ms ps
   apart-first ps qs a t = apart-left ps qs a t.left
 
-  moved-of : {Y : Type 0} {ns ms : Nodes F C K fg cg kg} {same : (ℕ → Tree F C K) → Y → Type 0} {r : Result Y AllocError} {y : Y} {ps : List Part} → r ≡ Ok y → TakesOut ps same ns r ms → (at : ℕ → Tree F C K) → Agrees at ns ps → same at y
+  pub moved-of : {Y : Type 0} {ns ms : Nodes F C K fg cg kg} {same : (ℕ → Tree F C K) → Y → Type 0} {r : Result Y AllocError} {y : Y} {ps : List Part} → r ≡ Ok y → TakesOut ps same ns r ms → (at : ℕ → Tree F C K) → Agrees at ns ps → same at y
   moved-of {Y} {ns} {ms} {same} {r} {y} {ps} e t = subst (λ v. IfOk v (λ z. (at : ℕ → Tree F C K) → Agrees at ns ps → same at z)) e t.moved
 
   -- ---- what is answered
 
   pub taken-none : {Y : Type 0} {ns : Nodes F C K fg cg kg} {same : (ℕ → Tree F C K) → Y → Type 0} {y : Y} → ((at : ℕ → Tree F C K) → same at y) → TakesOut [] same ns (Ok y) ns
   taken-none {ns = ns} f = record { left = record { grows = grows-same ns; above = omega arith }; moved = λ at h. f at }
-
-  pub taken-one : {Y Z : Type 0} {ns ms : Nodes F C K fg cg kg} {same : (ℕ → Tree F C K) → Y → Type 0} {then : (ℕ → Tree F C K) → Z → Type 0} {y : Y} {z : Z} {ps : List Part} →
-      TakesOut ps same ns (Ok y) ms → ((at : ℕ → Tree F C K) → same at y → then at z) → TakesOut ps then ns (Ok z) ms
-  taken-one t f = record { left = t.left; moved = λ at h. f at (t.moved at h) }
-
-  pub taken-by : {Y Z : Type 0} {ns ms : Nodes F C K fg cg kg} {same : (ℕ → Tree F C K) → Y → Type 0} {then : (ℕ → Tree F C K) → Z → Type 0} {r : Result Y AllocError} {y : Y} {z : Z} {ps : List Part} →
-      TakesOut ps same ns r ms → r ≡ Ok y → ((at : ℕ → Tree F C K) → same at y → then at z) → TakesOut ps then ns (Ok z) ms
-  taken-by t e f = record { left = t.left; moved = λ at h. f at (moved-of e t at h) }
-
-  pub refused-one : {Y Z : Type 0} {ns ms : Nodes F C K fg cg kg} {same : (ℕ → Tree F C K) → Y → Type 0} {then : (ℕ → Tree F C K) → Z → Type 0} {r : Result Y AllocError} {ps : List Part} (w : Result Z AllocError) →
-      IsErr w → TakesOut ps same ns r ms → TakesOut ps then ns w ms
-  refused-one (Ok z) e t = cc
-  refused-one (Err z) e t = record { left = t.left; moved = tt }
 
   pub taken-two : {X Y Z : Type 0} {ns ms ks : Nodes F C K fg cg kg} {first : (ℕ → Tree F C K) → X → Type 0} {second : (ℕ → Tree F C K) → Y → Type 0} {then : (ℕ → Tree F C K) → Z → Type 0} {q : Result X AllocError} {r : Result Y AllocError} {x : X} {y : Y} {z : Z} (ps qs : List Part) →
       Apart 0 ns (ps ++ qs) → TakesOut qs second ns r ms → TakesOut ps first ms q ks → q ≡ Ok x → r ≡ Ok y → ((at : ℕ → Tree F C K) → first at x → second at y → then at z) → TakesOut (ps ++ qs) then ns (Ok z) ks
@@ -105,73 +86,23 @@ module _ {F C K : Type 0} {fg : Ghosts F} {cg : Ghosts C} {kg : Ghosts K} where
   refused-two ps qs (Ok z) e a t s = cc
   refused-two ps qs (Err z) e a t s = record { left = left-both ps qs a t.left s.left; moved = tt }
 
-  pub taken-three : {W X Y Z : Type 0} {ns ms ks js : Nodes F C K fg cg kg} {first : (ℕ → Tree F C K) → W → Type 0} {second : (ℕ → Tree F C K) → X → Type 0} {third : (ℕ → Tree F C K) → Y → Type 0} {then : (ℕ → Tree F C K) → Z → Type 0} {p : Result W AllocError} {q : Result X AllocError} {r : Result Y AllocError} {w : W} {x : X} {y : Y} {z : Z} (os ps qs : List Part) →
-      Apart 0 ns (os ++ (ps ++ qs)) → TakesOut qs third ns r ms → TakesOut ps second ms q ks → TakesOut os first ks p js → p ≡ Ok w → q ≡ Ok x → r ≡ Ok y →
-      ((at : ℕ → Tree F C K) → first at w → second at x → third at y → then at z) → TakesOut (os ++ (ps ++ qs)) then ns (Ok z) js
-  taken-three {ns = ns} {ks = ks} {second = second} {third = third} {x = x} {y = y} os ps qs a t s u c d e f =
-      let more : TakesOut {Y = Unit {0}} (ps ++ qs) (λ at v. second at x × third at y) ns (Ok tt) ks = taken-two ps qs (apart-second os (ps ++ qs) a) t s d e (λ at i j. (i, j)) in
-      taken-two os (ps ++ qs) a more u c refl (λ at i j. f at i j.0 j.1)
-
-  pub refused-three : {W X Y Z : Type 0} {ns ms ks js : Nodes F C K fg cg kg} {first : (ℕ → Tree F C K) → W → Type 0} {second : (ℕ → Tree F C K) → X → Type 0} {third : (ℕ → Tree F C K) → Y → Type 0} {then : (ℕ → Tree F C K) → Z → Type 0} {p : Result W AllocError} {q : Result X AllocError} {r : Result Y AllocError} (os ps qs : List Part) (w : Result Z AllocError) →
-      IsErr w → Apart 0 ns (os ++ (ps ++ qs)) → TakesOut qs third ns r ms → TakesOut ps second ms q ks → TakesOut os first ks p js → TakesOut (os ++ (ps ++ qs)) then ns w js
-  refused-three os ps qs (Ok z) e a t s u = cc
-  refused-three os ps qs (Err z) e a t s u =
-      record { left = left-both os (ps ++ qs) a (left-both ps qs (apart-second os (ps ++ qs) a) t.left s.left) u.left; moved = tt }
-
-  -- the last two of three parts
-  pub apart-middle : {Y : Type 0} {ns ms : Nodes F C K fg cg kg} {same : (ℕ → Tree F C K) → Y → Type 0} {r : Result Y AllocError} (os ps qs : List Part) → Apart 0 ns (os ++ (ps ++ qs)) → TakesOut qs same ns r ms → Apart 0 ms ps
-  apart-middle os ps qs a t = apart-first ps qs (apart-second os (ps ++ qs) a) t
-
-  pub apart-three : {X Y : Type 0} {ns ms ks : Nodes F C K fg cg kg} {second : (ℕ → Tree F C K) → X → Type 0} {third : (ℕ → Tree F C K) → Y → Type 0} {q : Result X AllocError} {r : Result Y AllocError} (os ps qs : List Part) →
-      Apart 0 ns (os ++ (ps ++ qs)) → TakesOut qs third ns r ms → TakesOut ps second ms q ks → Apart 0 ks os
-  apart-three os ps qs a t s = apart-left os (ps ++ qs) a (left-both ps qs (apart-second os (ps ++ qs) a) t.left s.left)
-
-  pub taken-boxed : {Y : Type 0} {ns ms : Nodes F C K fg cg kg} {same : (ℕ → Tree F C K) → Y → Type 0} {r : Result Y AllocError} {ps : List Part} (b : Result (Box Y Global) AllocError) → IfOk b (λ v. r ≡ Ok v.value) → TakesOut ps same ns r ms → TakesOut ps (λ at v. same at v.value) ns b ms
-  taken-boxed (Ok v) e t = record { left = t.left; moved = moved-of e t }
-  taken-boxed (Err v) e t = record { left = t.left; moved = tt }
-
   -- ---- the node of a number
 
-  pub apart-along : {Y : Type 0} {ns : Nodes F C K fg cg kg} (parts : Y → List Part) {x y : Y} → y ≡ x → Apart 0 ns (parts x) → Apart 0 ns (parts y)
-  apart-along {ns = ns} parts e a = subst (λ v. Apart 0 ns (parts v)) (sym e) a
-
-  pub apart-is : {ns : Nodes F C K fg cg kg} {x y : Node F C K} → x ≡ y → Apart 0 ns (slots x) → Apart 0 ns (slots y)
-  apart-is {ns = ns} e a = subst (λ v. Apart 0 ns (slots v)) e a
-
-  pub taken-is : {Y : Type 0} {ns ms : Nodes F C K fg cg kg} {r : Result Y AllocError} {x y : Node F C K} (tree : Y → Tree F C K) → x ≡ y →
-      TakesOut (slots y) (λ at e. tree e ≡ node_tree fg.place cg.place kg.place at y) ns r ms → TakesOut (slots x) (λ at e. tree e ≡ node_tree fg.place cg.place kg.place at x) ns r ms
-  taken-is {ns = ns} {ms = ms} {r = r} tree e t = subst (λ v. TakesOut (slots v) (λ at z. tree z ≡ node_tree fg.place cg.place kg.place at v) ns r ms) (sym e) t
-
-  pub popped-view : {old new : Nodes F C K fg cg kg} {i : ℕ} {x : Node F C K} (v : View) → Apart 0 old (record { at = i; view = v } ∷ []) → Popped old i x new → view_ok v (form x) ≡ true
-  popped-view {i = i} v a p = ap (λ s. view_ok v s.form) (sym p.stood) ∙ (from-apart (record { at = i; view = v }) [] a).view
+  pub popped-view : {old new : Nodes F C K fg cg kg} {x : Node F C K} (p : Part) → Apart 0 old (p ∷ []) → Popped old p.at x new → view_ok p.view (form x) ≡ true
+  popped-view p a o = ap (λ s. view_ok p.view s.form) (sym o.stood) ∙ (from-apart p [] a).view
 
   pub apart-within : {ns : Nodes F C K fg cg kg} (p : Part) → Apart 0 ns (p ∷ []) → p.at < count ns
   apart-within p a = (from-apart p [] a).within
 
-  pub popped-taken : {Y : Type 0} {old new now : Nodes F C K fg cg kg} {i : ℕ} {x : Node F C K} {r : Result Y AllocError} (v : View) (tree : Y → Tree F C K) → Popped old i x new →
-      TakesOut (slots x) (λ at y. tree y ≡ node_tree fg.place cg.place kg.place at x) new r now → TakesOut (record { at = i; view = v } ∷ []) (λ at y. tree y ≡ at i) old r now
-  popped-taken {old = old} {new = new} {i = i} {x = x} {r = r} v tree p t =
-      let first : first_at old i ≡ floor (seat_at new) (count new) (slots x) = ap (λ s. s.first) p.stood ∙ ap (λ n. floor (seat_at new) n (slots x)) (sym p.counted) in
-      let u = t.left.above in
-      record {
-        left = record { grows = grows-then t.left.grows p.grows; above = omega arith };
-        moved = if_ok-as (λ y. (at : ℕ → Tree F C K) → Agrees at new (slots x) → tree y ≡ node_tree fg.place cg.place kg.place at x) (λ y. (at : ℕ → Tree F C K) → Agrees at old (record { at = i; view = v } ∷ []) → tree y ≡ at i) r
-            (λ y f at h. f (tree_at new) (agrees-self new (slots x)) ∙ sym (ap (λ s. s.tree) p.stood) ∙ sym h.0) t.moved;
-      }
-
-  -- the tree of one part
-  pub taken-tree : {Y : Type 0} {ns ms : Nodes F C K fg cg kg} {r : Result Y AllocError} (p : Part) (tree : Y → Tree F C K) → TakesOut (p ∷ []) (λ at y. tree y ≡ at p.at) ns r ms → IfOk r (λ y. tree y ≡ tree_at ns p.at)
-  taken-tree {ns = ns} {r = r} p tree t = if_ok-as (λ y. (at : ℕ → Tree F C K) → Agrees at ns (p ∷ []) → tree y ≡ at p.at) (λ y. tree y ≡ tree_at ns p.at) r (λ y f. f (tree_at ns) (refl, tt)) t.moved
-
   -- ---- lists, the last item first
 
   -- what is left of a list, and that all behind it was taken
-  pub record Taking {I X : Type 0} (parts : I → List Part) (of : (ℕ → Tree F C K) → I → Tree F C K) (tree : X → Tree F C K) (all rest : List I) (old : Nodes F C K fg cg kg) (r : Result (Vec X Global) AllocError) (now : Nodes F C K fg cg kg) : Type 0 where
+  pub record Taking {I X Z : Type 0} (parts : I → List Part) (of : (ℕ → Tree F C K) → I → Z) (tree : X → Z) (all rest : List I) (old : Nodes F C K fg cg kg) (r : Result (Vec X Global) AllocError) (now : Nodes F C K fg cg kg) : Type 0 where
     pub done : List I
     pub split : all ≡ rest ++ done
     pub out : TakesOut (flat parts done) (λ at v. map tree (reverse v.items) ≡ map (of at) done) old r now
 
-  module _ {I X : Type 0} (parts : I → List Part) (of : (ℕ → Tree F C K) → I → Tree F C K) (tree : X → Tree F C K) where
+  module _ {I X Z : Type 0} (parts : I → List Part) (of : (ℕ → Tree F C K) → I → Z) (tree : X → Z) where
     pub taking-starts : {old : Nodes F C K fg cg kg} {v : Vec X Global} (all : List I) → v.items ≡ [] → Taking parts of tree all all old (Ok v) old
     taking-starts all e = record { done = []; split = sym (append-nil all); out = taken-none (λ at. ap (λ w. map tree (reverse w)) e) }
 

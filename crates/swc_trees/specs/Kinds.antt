@@ -5,22 +5,18 @@ use Rattle.swc_nodes.specs.declared.node.Node.TheVariants as n
 use Rattle.swc_nodes.specs.declared.node.PropNode.{PropNode}
 use Rattle.swc_nodes.specs.declared.node.PropNode.TheVariants as prop
 
--- an assignment or an arrow function
-abbrev pub is_last : {F C K : Type 0} → Node F C K → Bool
-is_last (n.Assign s op l r) = true
-is_last (n.Arrow s ps b a) = true
-is_last x = false
-
--- a call, or one of those
+-- a call or an arrow function
 abbrev pub is_call : {F C K : Type 0} → Node F C K → Bool
 is_call (n.Call s c xs) = true
 is_call (n.New s c xs) = true
 is_call (n.TaggedTpl s t q) = true
-is_call x = is_last x
+is_call (n.Arrow s ps b a) = true
+is_call x = false
 
 -- an operation with two operands or three, or one of those
 abbrev pub is_choice : {F C K : Type 0} → Node F C K → Bool
 is_choice (n.Bin s op l r) = true
+is_choice (n.Assign s op l r) = true
 is_choice (n.Cond s t c a) = true
 is_choice x = is_call x
 

@@ -1,4 +1,5 @@
 pub mod Boxed
+pub mod Building
 pub mod Kinds
 pub mod Moving
 pub mod Refusable

@@ -1,0 +1,314 @@
+// Makes an expression, a pattern or a target of a node and the trees of its parts, which are taken from the end of a list: the last part first.
+// Where memory is wanted, it is asked for before a tree is in hand, as far as that goes.
+ghost use Rattle.std.specs.Prelude.{◌≡◌, true, IfOk};
+ghost use Rattle.swc_ast.specs.Parts.{simple_tree};
+ghost use Rattle.swc_ast.specs.TreeOf.{expr_tree, boxed_tree, pat_tree, target_tree};
+ghost use Rattle.swc_nodes.specs.NodeTree.{node_tree};
+ghost use Rattle.swc_nodes.specs.Slots.{expr, pat, simple, pattern, form, view_ok, slots};
+ghost use Rattle.swc_trees.specs.Building.{Offers, Assembled};
+ghost use Rattle.swc_trees.specs.Kinds.{is_operation, is_choice, is_call};
+
+use crate::built::{Built, pop_expr, pop_if_some, pop_target};
+use crate::items::{all, boxed_pat};
+use crate::parts::both;
+use crate::pieces::{args_if_some, arrow_body, callee, chain, member, paren, super_prop, template};
+use crate::refusable::boxed;
+use std::alloc::{AllocError, Global};
+use swc_ast::expr::{AssignTarget, Expr, SimpleAssignTarget};
+use swc_ast::ident::BindingIdent;
+use swc_ast::lit::Lit;
+use swc_ast::pat::{Pat, RestPat};
+use swc_ast::spanned::Spanned;
+use swc_nodes::node::Node;
+
+/// An expression, from its node.
+pub(crate) fn assemble_expr<F: Spanned + Drop, C: Spanned + Drop, K: Spanned + Drop>(
+    alloc: Global,
+    built: &mut Vec<Built<F, C, K>>,
+    node: Node<F, C, K>,
+) -> Result<Expr<F, C, K>, AllocError>
+    requires offers { Offers (slots node) built.old.items }
+    requires expr { view_ok expr (form node) ≡ true }
+    ensures { IfOk result (λ y. Assembled F.place C.place K.place (slots node) (λ at. expr_tree _ _ _ F.place C.place K.place y ≡ node_tree F.place C.place K.place at node) built.old.items built.new.items) }
+{
+    match node {
+        Node::This(e) => Ok(Expr::This(e)),
+        Node::Fn(f) => Ok(Expr::Fn(f)),
+        Node::Class(c) => Ok(Expr::Class(c)),
+        Node::MetaProp(m) => Ok(Expr::MetaProp(m)),
+        Node::PrivateName(p) => Ok(Expr::PrivateName(p)),
+        Node::Ident(i) => Ok(Expr::Ident(i)),
+        Node::Str(s) => Ok(Expr::Lit(Lit::Str(s))),
+        Node::Bool(b) => Ok(Expr::Lit(Lit::Bool(b))),
+        Node::Null(l) => Ok(Expr::Lit(Lit::Null(l))),
+        Node::Num(l) => Ok(Expr::Lit(Lit::Num(l))),
+        Node::BigInt(l) => Ok(Expr::Lit(Lit::BigInt(l))),
+        Node::Regex(r) => Ok(Expr::Lit(Lit::Regex(r))),
+        Node::Invalid(i) => Ok(Expr::Invalid(i)),
+        node => assemble_operation(alloc, built, node),
+    }
+}
+
+/// A literal of parts, a link or an operation with one operand, or one of the nodes after it.
+fn assemble_operation<F: Spanned + Drop, C: Spanned + Drop, K: Spanned + Drop>(
+    alloc: Global,
+    built: &mut Vec<Built<F, C, K>>,
+    node: Node<F, C, K>,
+) -> Result<Expr<F, C, K>, AllocError>
+    requires offers { Offers (slots node) built.old.items }
+    requires operation { is_operation node ≡ true }
+    ensures { IfOk result (λ y. Assembled F.place C.place K.place (slots node) (λ at. expr_tree _ _ _ F.place C.place K.place y ≡ node_tree F.place C.place K.place at node) built.old.items built.new.items) }
+{
+    match node {
+        Node::Array { span, elems } => {
+            let elems = all(alloc, built, elems)?;
+            Ok(Expr::Array { span, elems })
+        }
+        Node::Object { span, props } => {
+            let props = all(alloc, built, props)?;
+            Ok(Expr::Object { span, props })
+        }
+        Node::Seq { span, exprs } => {
+            let exprs = all(alloc, built, exprs)?;
+            Ok(Expr::Seq { span, exprs })
+        }
+        Node::Paren(p) => Ok(Expr::Paren(paren(built, p))),
+        Node::Member(m) => Ok(Expr::Member(member(built, m))),
+        Node::SuperProp(p) => Ok(Expr::SuperProp(super_prop(built, p))),
+        Node::OptChain(c) => Ok(Expr::OptChain(chain(alloc, built, c)?)),
+        Node::Tpl(t) => Ok(Expr::Tpl(template(alloc, built, t)?)),
+        Node::Unary { span, op, arg } => {
+            let arg = pop_expr(built, arg);
+            Ok(Expr::Unary { span, op, arg })
+        }
+        Node::Update {
+            span,
+            op,
+            prefix,
+            arg,
+        } => {
+            let arg = pop_expr(built, arg);
+            Ok(Expr::Update {
+                span,
+                op,
+                prefix,
+                arg,
+            })
+        }
+        Node::Await { span, arg } => {
+            let arg = pop_expr(built, arg);
+            Ok(Expr::Await { span, arg })
+        }
+        Node::Yield {
+            span,
+            arg,
+            delegate,
+        } => {
+            let arg = pop_if_some(built, arg);
+            Ok(Expr::Yield {
+                span,
+                arg,
+                delegate,
+            })
+        }
+        node => assemble_choice(alloc, built, node),
+    }
+}
+
+/// An operation with two operands or three, or one of the nodes after it.
+fn assemble_choice<F: Spanned + Drop, C: Spanned + Drop, K: Spanned + Drop>(
+    alloc: Global,
+    built: &mut Vec<Built<F, C, K>>,
+    node: Node<F, C, K>,
+) -> Result<Expr<F, C, K>, AllocError>
+    requires offers { Offers (slots node) built.old.items }
+    requires choice { is_choice node ≡ true }
+    ensures { IfOk result (λ y. Assembled F.place C.place K.place (slots node) (λ at. expr_tree _ _ _ F.place C.place K.place y ≡ node_tree F.place C.place K.place at node) built.old.items built.new.items) }
+{
+    match node {
+        Node::Bin {
+            span,
+            op,
+            left,
+            right,
+        } => {
+            let right = pop_expr(built, right);
+            let left = pop_expr(built, left);
+            Ok(Expr::Bin {
+                span,
+                op,
+                left,
+                right,
+            })
+        }
+        Node::Assign {
+            span,
+            op,
+            left,
+            right,
+        } => {
+            let right = pop_expr(built, right);
+            let left = pop_target(built, left);
+            Ok(Expr::Assign {
+                span,
+                op,
+                left,
+                right,
+            })
+        }
+        Node::Cond {
+            span,
+            test,
+            cons,
+            alt,
+        } => {
+            let alt = pop_expr(built, alt);
+            let cons = pop_expr(built, cons);
+            let test = pop_expr(built, test);
+            Ok(Expr::Cond {
+                span,
+                test,
+                cons,
+                alt,
+            })
+        }
+        node => assemble_call(alloc, built, node),
+    }
+}
+
+/// A call, or an arrow function.
+fn assemble_call<F: Spanned + Drop, C: Spanned + Drop, K: Spanned + Drop>(
+    alloc: Global,
+    built: &mut Vec<Built<F, C, K>>,
+    node: Node<F, C, K>,
+) -> Result<Expr<F, C, K>, AllocError>
+    requires offers { Offers (slots node) built.old.items }
+    requires call { is_call node ≡ true }
+    ensures { IfOk result (λ y. Assembled F.place C.place K.place (slots node) (λ at. expr_tree _ _ _ F.place C.place K.place y ≡ node_tree F.place C.place K.place at node) built.old.items built.new.items) }
+{
+    match node {
+        Node::Call {
+            span,
+            callee: called,
+            args,
+        } => {
+            let args = all(alloc, built, args)?;
+            let callee = callee(built, called);
+            Ok(Expr::Call { span, callee, args })
+        }
+        Node::New { span, callee, args } => {
+            let args = args_if_some(alloc, built, args)?;
+            let callee = pop_expr(built, callee);
+            Ok(Expr::New { span, callee, args })
+        }
+        Node::TaggedTpl { span, tag, tpl } => {
+            let tpl = boxed(alloc, template(alloc, built, Box::into_inner(tpl)))?;
+            let tag = pop_expr(built, tag);
+            Ok(Expr::TaggedTpl { span, tag, tpl })
+        }
+        Node::Arrow {
+            span,
+            params,
+            body,
+            is_async,
+        } => {
+            let body = boxed(alloc, Ok(arrow_body(built, Box::into_inner(body))));
+            let params = all(alloc, built, params);
+            let (params, body) = both(params, body)?;
+            Ok(Expr::Arrow {
+                span,
+                params,
+                body,
+                is_async,
+            })
+        }
+        _ => unreachable!(),
+    }
+}
+
+/// A pattern, from its node.
+pub(crate) fn assemble_pat<F: Spanned + Drop, C: Spanned + Drop, K: Spanned + Drop>(
+    alloc: Global,
+    built: &mut Vec<Built<F, C, K>>,
+    node: Node<F, C, K>,
+) -> Result<Pat<F, C, K>, AllocError>
+    requires offers { Offers (slots node) built.old.items }
+    requires pat { view_ok pat (form node) ≡ true }
+    ensures { IfOk result (λ y. Assembled F.place C.place K.place (slots node) (λ at. pat_tree _ _ _ F.place C.place K.place y ≡ node_tree F.place C.place K.place at node) built.old.items built.new.items) }
+{
+    match node {
+        Node::PatIdent(b) => Ok(Pat::Ident(b)),
+        Node::PatArray { span, elems } => {
+            let elems = all(alloc, built, elems)?;
+            Ok(Pat::Array { span, elems })
+        }
+        Node::PatObject { span, props } => {
+            let props = all(alloc, built, props)?;
+            Ok(Pat::Object { span, props })
+        }
+        Node::PatRest {
+            span,
+            dot3_token,
+            arg,
+        } => {
+            let arg = boxed_pat(alloc, built, arg)?;
+            Ok(Pat::Rest(RestPat {
+                span,
+                dot3_token,
+                arg,
+            }))
+        }
+        Node::PatAssign { span, left, right } => {
+            let right = pop_expr(built, right);
+            let left = boxed_pat(alloc, built, left);
+            let (left, right) = both(left, Ok(right))?;
+            Ok(Pat::Assign { span, left, right })
+        }
+        Node::PatExpr(id) => Ok(Pat::Expr(pop_expr(built, id))),
+        Node::PatInvalid(i) => Ok(Pat::Invalid(i)),
+        _ => unreachable!(),
+    }
+}
+
+/// What is assigned to as it stands, from its node.
+pub(crate) fn assemble_simple<F: Spanned + Drop, C: Spanned + Drop, K: Spanned + Drop>(
+    alloc: Global,
+    built: &mut Vec<Built<F, C, K>>,
+    node: Node<F, C, K>,
+) -> Result<SimpleAssignTarget<Box<Expr<F, C, K>>>, AllocError>
+    requires offers { Offers (slots node) built.old.items }
+    requires simple { view_ok simple (form node) ≡ true }
+    ensures { IfOk result (λ y. Assembled F.place C.place K.place (slots node) (λ at. simple_tree (boxed_tree _ _ _ F.place C.place K.place) y ≡ node_tree F.place C.place K.place at node) built.old.items built.new.items) }
+{
+    match node {
+        Node::Ident(id) => Ok(SimpleAssignTarget::Ident(BindingIdent { id })),
+        Node::Member(m) => Ok(SimpleAssignTarget::Member(member(built, m))),
+        Node::SuperProp(p) => Ok(SimpleAssignTarget::SuperProp(super_prop(built, p))),
+        Node::Paren(p) => Ok(SimpleAssignTarget::Paren(paren(built, p))),
+        Node::OptChain(c) => Ok(SimpleAssignTarget::OptChain(chain(alloc, built, c)?)),
+        _ => unreachable!(),
+    }
+}
+
+/// An array or object pattern that is assigned to, from its node.
+pub(crate) fn assemble_pattern<F: Spanned + Drop, C: Spanned + Drop, K: Spanned + Drop>(
+    alloc: Global,
+    built: &mut Vec<Built<F, C, K>>,
+    node: Node<F, C, K>,
+) -> Result<AssignTarget<F, C, K>, AllocError>
+    requires offers { Offers (slots node) built.old.items }
+    requires pattern { view_ok pattern (form node) ≡ true }
+    ensures { IfOk result (λ y. Assembled F.place C.place K.place (slots node) (λ at. target_tree _ _ _ F.place C.place K.place y ≡ node_tree F.place C.place K.place at node) built.old.items built.new.items) }
+{
+    match node {
+        Node::PatArray { span, elems } => {
+            let elems = all(alloc, built, elems)?;
+            Ok(AssignTarget::Array { span, elems })
+        }
+        Node::PatObject { span, props } => {
+            let props = all(alloc, built, props)?;
+            Ok(AssignTarget::Object { span, props })
+        }
+        _ => unreachable!(),
+    }
+}

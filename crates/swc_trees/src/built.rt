@@ -1,0 +1,78 @@
+// Trees that were taken out, and wait for the node that they are parts of. Those of one node stand in a list, in the order of its parts, and
+// are taken from its end.
+ghost use Rattle.std.specs.Prelude.{◌≡◌, ◌∷◌, []};
+ghost use Rattle.swc_ast.specs.Parts.{or_hole};
+ghost use Rattle.swc_ast.specs.TreeOf.{boxed_tree, pat_tree, target_tree};
+ghost use Rattle.swc_nodes.specs.NodeTree.{expr_of, target_of};
+ghost use Rattle.swc_nodes.specs.Slots.{if_some, one_expr, one_pat, target_part};
+ghost use Rattle.swc_trees.specs.Building.{Offers, Assembled};
+
+use swc_ast::expr::{AssignTarget, Expr};
+use swc_ast::pat::Pat;
+use swc_ast::spanned::Spanned;
+use swc_nodes::node::{ExprId, PatId, TargetNode};
+
+/// A tree that was taken out.
+#[derive(Drop)]
+pub(crate) enum Built<F, C, K> {
+    Expr(Box<Expr<F, C, K>>),
+    Pat(Pat<F, C, K>),
+    /// What stands left of an assignment operator.
+    Target(AssignTarget<F, C, K>),
+}
+
+/// Takes the last tree, for the number of an expression.
+pub(crate) fn pop_expr<F: Spanned + Drop, C: Spanned + Drop, K: Spanned + Drop>(
+    built: &mut Vec<Built<F, C, K>>,
+    id: ExprId,
+) -> Box<Expr<F, C, K>>
+    requires { Offers (one_expr id) built.old.items }
+    ensures { Assembled F.place C.place K.place (one_expr id) (λ at. boxed_tree _ _ _ F.place C.place K.place result ≡ expr_of F.place C.place K.place at id) built.old.items built.new.items }
+{
+    match built.pop() {
+        Some(Built::Expr(expr)) => expr,
+        _ => unreachable!(),
+    }
+}
+
+/// Takes the last tree for the number of an expression, if there is one.
+pub(crate) fn pop_if_some<F: Spanned + Drop, C: Spanned + Drop, K: Spanned + Drop>(
+    built: &mut Vec<Built<F, C, K>>,
+    id: Option<ExprId>,
+) -> Option<Box<Expr<F, C, K>>>
+    requires { Offers (if_some one_expr id) built.old.items }
+    ensures { Assembled F.place C.place K.place (if_some one_expr id) (λ at. or_hole (boxed_tree _ _ _ F.place C.place K.place) result ≡ or_hole (expr_of F.place C.place K.place at) id) built.old.items built.new.items }
+{
+    match id {
+        None => None,
+        Some(id) => Some(pop_expr(built, id)),
+    }
+}
+
+/// Takes the last tree, for the number of a pattern.
+pub(crate) fn pop_pat<F: Spanned + Drop, C: Spanned + Drop, K: Spanned + Drop>(
+    built: &mut Vec<Built<F, C, K>>,
+    id: PatId,
+) -> Pat<F, C, K>
+    requires { Offers (one_pat id) built.old.items }
+    ensures { Assembled F.place C.place K.place (one_pat id) (λ at. pat_tree _ _ _ F.place C.place K.place result ≡ at id.0) built.old.items built.new.items }
+{
+    match built.pop() {
+        Some(Built::Pat(pat)) => pat,
+        _ => unreachable!(),
+    }
+}
+
+/// Takes the last tree, for what stands left of an assignment operator.
+pub(crate) fn pop_target<F: Spanned + Drop, C: Spanned + Drop, K: Spanned + Drop>(
+    built: &mut Vec<Built<F, C, K>>,
+    target: TargetNode,
+) -> AssignTarget<F, C, K>
+    requires { Offers (target_part target ∷ []) built.old.items }
+    ensures { Assembled F.place C.place K.place (target_part target ∷ []) (λ at. target_tree _ _ _ F.place C.place K.place result ≡ target_of F.place C.place K.place at target) built.old.items built.new.items }
+{
+    match built.pop() {
+        Some(Built::Target(target)) => target,
+        _ => unreachable!(),
+    }
+}
