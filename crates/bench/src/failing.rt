@@ -36,6 +36,9 @@ impl Iterator for FailingInput {
     ghost remaining = { λ s. at_most (length s.list.rest.items) };
 
     fn next(&mut self) -> Option<TokenAndSpan> {
+        if self.failed {
+            return None;
+        }
         let token = self.list.next();
         if token.is_none() {
             self.failed = true;
@@ -46,21 +49,12 @@ impl Iterator for FailingInput {
 
 impl Tokens for FailingInput {
     ghost use Rattle.std.proofs.Common.{refl};
-    ghost use Rattle.swc_input.specs.Listed.{ListedGives, listed_none, listed_then};
     ghost use Rattle.bench.specs.declared.failing.FailingInput.{FailingInput};
-    ghost use Rattle.bench.specs.Failing.{failing_state, failing_lawful, failing_gave, failing_asked};
+    ghost use Rattle.bench.specs.Failing.{failing_model, failing_laws, failing_asked};
 
-    ghost state = { λ s. failing_state s.list s.failed };
+    ghost model = { failing_model (λ (s : FailingInput). s.list) (λ (s : FailingInput). s.failed) };
 
-    ghost gives = { λ s xs t. ListedGives s.list xs t.list };
-
-    ghost lawful = { λ s. failing_lawful s.list s.failed };
-
-    ghost none = { λ s. listed_none s.list };
-
-    ghost then = { λ s t u. listed_then s.list t.list u.list };
-
-    ghost gave = { λ s t. failing_gave s.list s.failed t.list t.failed };
+    ghost laws = { failing_laws (λ (s : FailingInput). s.list) (λ (s : FailingInput). s.failed) };
 
     ghost may_ask = { λ s. tt };
 

@@ -2,15 +2,14 @@
 ghost use Rattle.std.specs.Prelude.{IfOk};
 ghost use Rattle.swc_nodes.specs.Slots.{expr_part};
 ghost use Rattle.swc_nodes.specs.Stands.{From};
-ghost use Rattle.swc_ecma_parser.specs.Calls.{nodes_of};
 
 use std::alloc::Global;
+use std::mem::forget;
 use swc_bodies::none::NoBodies;
 use swc_context::context::{Context, EsVersion, Syntax};
 use swc_context::error::{Error, PResult};
 use swc_context::span::Span;
-use swc_ecma_parser::parser::Parser;
-use swc_input::listed::TokensInput;
+use swc_ecma_parser::whole::{Whole, parse_whole_expr};
 use swc_nodes::node::ExprId;
 use swc_nodes::nodes::Nodes;
 use swc_print::print::PrintNodes;
@@ -35,17 +34,21 @@ pub(crate) struct Answer {
 pub(crate) fn answer_to(alloc: Global, text: &[u8], ctx: Context) -> Answer {
     match read_tokens(alloc, text) {
         Ok(tokens) => {
-            let source = TokensInput::new(
+            let Whole {
+                read,
+                nodes,
+                recorded,
+            } = parse_whole_expr(
                 alloc,
                 tokens,
                 ctx,
                 Syntax::default(),
                 EsVersion::default(),
+                NoBodies,
             );
-            let mut parser = Parser::new_from(alloc, source, NoBodies);
-            let read = read(&mut parser);
-            let recorded = parser.take_errors();
-            let shown = show(alloc, &parser.into_nodes(), read);
+            let shown = show(alloc, &nodes, read);
+            // The program ends soon: its memory goes back as a whole, faster than a node at a time.
+            forget(nodes);
             Answer { shown, recorded }
         }
         Err(fault) => Answer {
@@ -53,15 +56,6 @@ pub(crate) fn answer_to(alloc: Global, text: &[u8], ctx: Context) -> Answer {
             recorded: Vec::new(alloc),
         },
     }
-}
-
-/// Reads one expression: its number, and whether tokens are left behind it.
-fn read(parser: &mut Parser<TokensInput, NoBodies>) -> PResult<(ExprId, bool)>
-    ensures { IfOk result (λ r. From 0 (nodes_of parser.new) (expr_part r.0)) }
-{
-    let expr = parser.parse_expr_id()?;
-    let unread = !parser.at_end()?;
-    Ok((expr, unread))
 }
 
 /// Prints what was read.

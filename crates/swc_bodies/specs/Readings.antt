@@ -1,5 +1,6 @@
 -- What a hook reads: the bodies that the parser doesn't look into.
 use Rattle.std.specs.Prelude.{◌≡◌, ◌≢◌, ◌≤◌, Bool, true, false, List, [], ◌∷◌, ◌++◌, Option, Some, None, Result, IfOk, IfErr, MatchResult, codes, length, refl}
+use Rattle.swc_context.specs.Spans.{between}
 use Rattle.swc_context.specs.Texts.{is_text}
 use Rattle.swc_context.specs.declared.context.Context.{Context}
 use Rattle.swc_context.specs.declared.error.Error.{Error}
@@ -11,8 +12,9 @@ use Rattle.swc_input.specs.declared.buffer.Buffer.{Buffer}
 use Rattle.swc_input.specs.declared.token.Token.{Token}
 use Rattle.swc_input.specs.declared.token.Token.TheVariants as token
 use Rattle.swc_input.specs.declared.token.TokenAndSpan.{TokenAndSpan}
-use Rattle.swc_input.specs.Source.{Source}
-use Rattle.swc_input.specs.Buffer.{Read, Future, Known, source}
+use Rattle.swc_input.specs.Source.{Model}
+use Rattle.swc_input.specs.Buffer.{Read, Lives, Future, Known, source}
+use Rattle.swc_input.specs.Recording.{is_silent}
 
 abbrev pub is_function : Token → Bool
 is_function (token.Word (word.Keyword keyword.Function)) = true
@@ -49,14 +51,14 @@ abbrev pub begins : (Token → Bool) → List TokenAndSpan → Bool
 begins f [] = false
 begins f (t ∷ ts) = f t.token
 
--- from the start of the first token to the end of the last
+-- from the start of the first token to the end of the last, the smaller end first, as nodes have it
 abbrev pub last_of : TokenAndSpan → List TokenAndSpan → TokenAndSpan
 last_of t [] = t
 last_of t (u ∷ us) = last_of u us
 
 abbrev pub whole_span : List TokenAndSpan → Span
 whole_span [] = record { lo = record { 0 = 0 }; hi = record { 0 = 0 } }
-whole_span (t ∷ ts) = record { lo = t.span.lo; hi = (last_of t ts).span.hi }
+whole_span (t ∷ ts) = between t.span.lo (last_of t ts).span.hi
 
 -- From a context and the tokens to come: a value and the tokens left, or nothing. So there is at most one reading from each place.
 abbrev pub Reading : Type 0 → Type 0
@@ -85,21 +87,51 @@ pub record IsReading {V : Type 0} (place : V → Span) (starts : List TokenAndSp
   pub owns : (c : Context) (ts : List TokenAndSpan) (v : V) (rest : List TokenAndSpan) → reads c ts ≡ Some (v, rest) → ReadsOwn place starts reads c ts v rest
   pub viewed : (c : Context) (ts : List TokenAndSpan) → reads c ts ≡ reads (view c) ts
 
-module _ {S V : Type 0} (state : S → Source) (gives : S → List TokenAndSpan → S → Type 0) where
-  -- a call of a hook, from b to c, that answered r: it took a token at least, and where it answers a value and records nothing, the
-  -- value is what the reading gives, whatever comes after
+-- what a hook reads: functions, classes and blocks
+pub record Hook (F C K : Type 0) : Type 0 where
+  pub fun : Reading F
+  pub class : Reading C
+  pub block : Reading K
+
+-- the laws of a hook, where its values lie at the places given
+pub record LawfulHook {F C K : Type 0} (fun_place : F → Span) (class_place : C → Span) (block_place : K → Span) (forms : Hook F C K) : Type 0 where
+  pub fun : IsReading fun_place begins_function forms.fun
+  pub class : IsReading class_place (begins is_class) forms.class
+  pub block : IsReading block_place (begins is_brace) forms.block
+
+-- faults are recorded: early errors are on, and not ignored
+abbrev pub Loud : {S : Type 0} → Model S → Buffer S → Type 0
+Loud model b = is_silent (model.state (source b)) ≡ false
+
+module _ {S V : Type 0} (model : Model S) where
+  -- A call of a hook, from b to c, that answered r: it took a token at least. Where faults are recorded, and it answers a value and
+  -- records none, the value is what the reading gives, whatever comes after. Where the source fails, want of memory is refused.
   pub record Hooked (reads : Reading V) (b : Buffer S) (r : Result V Error) (c : Buffer S) : Type 0 where
     pub taken : List TokenAndSpan
     pub some : 1 ≤ length taken
-    pub read : Read state gives b taken c
-    pub clean : (state (source c)).errors ≡ (state (source b)).errors → IfOk r (λ v. (rest : List TokenAndSpan) → Future state c rest → reads (state (source b)).context (taken ++ rest) ≡ Some (v, rest))
+    pub read : Read model b taken c
+    pub clean : Loud model b → (model.state (source c)).errors ≡ (model.state (source b)).errors → IfOk r (λ v. (rest : List TokenAndSpan)
+        → Future model c rest → reads (model.state (source b)).context (taken ++ rest) ≡ Some (v, rest))
     pub refused : IfErr r (λ e. e.kind ≢ ParserFailed)
+    pub lives : MatchResult r (λ v. Lives model b c) (λ e. e.kind ≢ OutOfMemory → Lives model b c)
 
-  -- over a listed source, a faithful hook reads cleanly what its reading gives, or answers want of memory
+  -- Over a listed source, and where faults are recorded, a faithful hook reads cleanly what its reading gives, or answers want of memory.
   abbrev pub Faithful : Reading V → Buffer S → Result V Error → Buffer S → Type 0
-  Faithful reads b r c = (ts : List TokenAndSpan) (v : V) (rest : List TokenAndSpan) → Known state b ts → reads (state (source b)).context ts ≡ Some (v, rest) →
-      MatchResult r (λ w. (w ≡ v) × (Known state c rest) × ((state (source c)).errors ≡ (state (source b)).errors)) (λ e. e.kind ≡ OutOfMemory)
+  Faithful reads b r c = Loud model b → (ts : List TokenAndSpan) (v : V) (rest : List TokenAndSpan) → Known model b ts →
+      reads (model.state (source b)).context ts ≡ Some (v, rest) →
+      MatchResult r (λ w. (w ≡ v) × (Known model c rest) × ((model.state (source c)).errors ≡ (model.state (source b)).errors))
+      (λ e. e.kind ≡ OutOfMemory)
 
 -- nothing is read
-pub none_is_reading : {V : Type 0} (place : V → Span) (starts : List TokenAndSpan → Bool) → IsReading place starts (λ c ts. None)
+abbrev pub no_forms : {F C K : Type 0} → Hook F C K
+no_forms = record { fun = λ c ts. None; class = λ c ts. None; block = λ c ts. None }
+
+none_is_reading : {V : Type 0} (place : V → Span) (starts : List TokenAndSpan → Bool) → IsReading place starts (λ c ts. None)
 none_is_reading place starts = record { owns = λ c ts v rest h. cc; viewed = λ c ts. refl }
+
+pub no_forms_read : {F C K : Type 0} (fun_place : F → Span) (class_place : C → Span) (block_place : K → Span) → LawfulHook fun_place class_place block_place no_forms
+no_forms_read fun_place class_place block_place = record {
+  fun = none_is_reading fun_place begins_function;
+  class = none_is_reading class_place (begins is_class);
+  block = none_is_reading block_place (begins is_brace);
+}

@@ -2,7 +2,7 @@
 ghost use Rattle.std.specs.Prelude.{◌≡◌, Bool, true};
 ghost use Rattle.swc_input.specs.Buffer.{current};
 ghost use Rattle.swc_input.specs.Kinds.{at_token};
-ghost use Rattle.swc_bodies.specs.Readings.{Reading, IsReading, Hooked, Faithful, is_function, is_async, is_class, is_brace, at_function, begins, begins_function};
+ghost use Rattle.swc_bodies.specs.Readings.{Hook, LawfulHook, Hooked, Faithful, is_class, is_brace, at_function};
 
 use swc_ast::expr::Expr;
 use swc_ast::spanned::Spanned;
@@ -22,11 +22,8 @@ pub trait BodyForms {
     /// The block of a function's body, from `{` through `}` (ECMA-262, 15.1).
     type Block: Spanned + Drop;
 
-    ghost reads_fun: { Reading Self.Fun };
-
-    ghost reads_class: { Reading Self.Class };
-
-    ghost reads_block: { Reading Self.Block };
+    /// What is read of each.
+    ghost forms: { Hook Self.Fun Self.Class Self.Block };
 }
 
 /// An expression over a hook's values.
@@ -43,24 +40,20 @@ pub trait Bodies<I: Tokens>: BodyForms + Drop {
     /// Reads a function. Called at `function`, or at `async` with `function` after it.
     fn fun(&mut self, input: &mut Buffer<I>) -> PResult<Self::Fun>
         requires { at_function (current input.old) ≡ true }
-        ensures hooked { Hooked I.state I.gives Self.reads_fun input.old result input.new }
-        ensures faithful { is_faithful ≡ true → Faithful I.state I.gives Self.reads_fun input.old result input.new };
+        ensures hooked { Hooked I.model Self.forms.fun input.old result input.new }
+        ensures faithful { is_faithful ≡ true → Faithful I.model Self.forms.fun input.old result input.new };
 
     /// Reads a class. Called at `class`.
     fn class(&mut self, input: &mut Buffer<I>) -> PResult<Self::Class>
         requires { at_token is_class (current input.old) ≡ true }
-        ensures hooked { Hooked I.state I.gives Self.reads_class input.old result input.new }
-        ensures faithful { is_faithful ≡ true → Faithful I.state I.gives Self.reads_class input.old result input.new };
+        ensures hooked { Hooked I.model Self.forms.class input.old result input.new }
+        ensures faithful { is_faithful ≡ true → Faithful I.model Self.forms.class input.old result input.new };
 
     /// Reads a block. Called at `{`.
     fn block(&mut self, input: &mut Buffer<I>) -> PResult<Self::Block>
         requires { at_token is_brace (current input.old) ≡ true }
-        ensures hooked { Hooked I.state I.gives Self.reads_block input.old result input.new }
-        ensures faithful { is_faithful ≡ true → Faithful I.state I.gives Self.reads_block input.old result input.new };
+        ensures hooked { Hooked I.model Self.forms.block input.old result input.new }
+        ensures faithful { is_faithful ≡ true → Faithful I.model Self.forms.block input.old result input.new };
 
-    ghost fun_is_reading: { IsReading Self.Fun.place begins_function Self.reads_fun };
-
-    ghost class_is_reading: { IsReading Self.Class.place (begins is_class) Self.reads_class };
-
-    ghost block_is_reading: { IsReading Self.Block.place (begins is_brace) Self.reads_block };
+    ghost lawful: { LawfulHook Self.Fun.place Self.Class.place Self.Block.place Self.forms };
 }

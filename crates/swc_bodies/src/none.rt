@@ -3,7 +3,7 @@ ghost use Rattle.std.specs.Prelude.{◌≡◌, ◌≢◌, ◌≤◌, ◌∷◌, 
 ghost use Rattle.swc_context.specs.declared.error.SyntaxError.TheVariants.{ParserFailed};
 ghost use Rattle.swc_input.specs.declared.token.TokenAndSpan.{TokenAndSpan};
 ghost use Rattle.swc_input.specs.Plain.{plain};
-ghost use Rattle.swc_input.specs.Buffer.{current, Read};
+ghost use Rattle.swc_input.specs.Buffer.{current, Read, Lives};
 
 use crate::bodies::{Bodies, BodyForms};
 use swc_context::error::{Error, PResult, SyntaxError};
@@ -17,7 +17,7 @@ use swc_input::tokens::Tokens;
 pub struct NoBodies;
 
 impl BodyForms for NoBodies {
-    ghost use Rattle.std.specs.Prelude.{None};
+    ghost use Rattle.swc_bodies.specs.Readings.{no_forms};
 
     type Fun = Span;
 
@@ -25,18 +25,15 @@ impl BodyForms for NoBodies {
 
     type Block = Span;
 
-    ghost reads_fun = { λ c ts. None };
-
-    ghost reads_class = { λ c ts. None };
-
-    ghost reads_block = { λ c ts. None };
+    ghost forms = { no_forms };
 }
 
 /// Consumes the current token and refuses it.
 fn refuse_body<I: Tokens>(input: &mut Buffer<I>) -> Error
     requires { IsSome (current input.old) }
-    ensures read { (t : TokenAndSpan) × (current input.old ≡ Some t) × Read I.state I.gives input.old (plain t ∷ []) input.new }
+    ensures read { (t : TokenAndSpan) × (current input.old ≡ Some t) × Read I.model input.old (plain t ∷ []) input.new }
     ensures refused { result.kind ≢ ParserFailed }
+    ensures lives { Lives I.model input.old input.new }
 {
     let span = input.cur_span();
     let _ = input.bump();
@@ -45,7 +42,7 @@ fn refuse_body<I: Tokens>(input: &mut Buffer<I>) -> Error
 
 impl<I: Tokens> Bodies<I> for NoBodies {
     ghost use Rattle.std.specs.Prelude.{true};
-    ghost use Rattle.swc_bodies.specs.Readings.{none_is_reading, begins, begins_function, is_class, is_brace};
+    ghost use Rattle.swc_bodies.specs.Readings.{no_forms_read};
 
     ghost is_faithful = { true };
 
@@ -61,9 +58,5 @@ impl<I: Tokens> Bodies<I> for NoBodies {
         Err(refuse_body(input))
     }
 
-    ghost fun_is_reading = { none_is_reading (λ s. s) begins_function };
-
-    ghost class_is_reading = { none_is_reading (λ s. s) (begins is_class) };
-
-    ghost block_is_reading = { none_is_reading (λ s. s) (begins is_brace) };
+    ghost lawful = { no_forms_read (λ s. s) (λ s. s) (λ s. s) };
 }

@@ -1,11 +1,11 @@
 -- The tree of an answer is moved out of the nodes, and the nodes that were made are cut off.
-use Rattle.std.proofs.Common.{◌≡◌, ℕ, ◌≤◌, Result, Ok, Err, IfOk, MatchResult, take, refl, sym, ap, subst, ◌∙◌, arith}
+use Rattle.std.proofs.Common.{◌≡◌, ℕ, Bool, ◌≤◌, Result, Ok, Err, IfOk, MatchResult, take, refl, sym, ap, subst, ◌∙◌, arith}
 use Rattle.std.proofs.lemmas.List.{take-append-le}
 use Rattle.swc_context.specs.declared.error.Error.{Error}
 use Rattle.swc_input.specs.declared.buffer.Buffer.{Buffer}
 use Rattle.swc_input.specs.declared.token.TokenAndSpan.{TokenAndSpan}
 use Rattle.std.proofs.Common.{List}
-use Rattle.swc_input.specs.Source.{Source}
+use Rattle.swc_input.specs.Source.{Model}
 use Rattle.swc_input.specs.Buffer.{last_position}
 use Rattle.swc_input.specs.Recording.{no_memory}
 use Rattle.swc_ast.specs.Tree.{Tree}
@@ -16,7 +16,7 @@ use Rattle.swc_nodes.specs.declared.node.ExprId.{ExprId}
 use Rattle.swc_nodes.specs.declared.nodes.Nodes.{Nodes}
 use Rattle.swc_nodes.proofs.Standing.{cut_kept}
 use Rattle.swc_productions.specs.Parsing.{tree_of, Heard, Unheard, Parses}
-use Rattle.swc_productions.proofs.Steps.{Reader, unheard_memory}
+use Rattle.swc_productions.proofs.Steps.{Reader, spent, unheard_memory}
 
 module _ {F C K : Type 0} {fg : Ghosts F} {cg : Ghosts C} {kg : Ghosts K} where
   -- nodes were appended, and cut off again
@@ -30,23 +30,20 @@ module _ {F C K : Type 0} {fg : Ghosts F} {cg : Ghosts C} {kg : Ghosts K} where
       e ∙ sym (take-append-le start ls.nodes.items l.grows.more (omega arith)) ∙ ap (take start) (sym l.grows.appended)
 
   -- after a refusal alone
-  pub kept-nodes : {ns ms : Nodes F C K fg cg kg} (ls : Nodes F C K fg cg kg) (answer : Result ExprId Error) → Grows ns ms → MatchResult answer (λ id. ls ≡ ms) (λ e. CutTo (count ns) ms ls) → MatchResult answer (λ id. Grows ns ls) (λ e. SameNodes ns ls)
-  kept-nodes {ns} ls (Ok id) g e = subst (λ v. Grows ns v) (sym e) g
-  kept-nodes ls (Err x) g e = cut-back ls g e
+  pub kept-leaves : {ns ms : Nodes F C K fg cg kg} (ls : Nodes F C K fg cg kg) (answer : Result ExprId Error) → Grows ns ms → IfOk answer (λ id. From (count ns) ms (expr_part id)) →
+      MatchResult answer (λ id. ls ≡ ms) (λ e. CutTo (count ns) ms ls) → MatchResult answer (λ id. Grows ns ls × From (count ns) ls (expr_part id)) (λ e. SameNodes ns ls)
+  kept-leaves {ns} ls (Ok id) g f e = subst (λ v. Grows ns v × From (count ns) v (expr_part id)) (sym e) (g, f)
+  kept-leaves ls (Err x) g f e = cut-back ls g e
 
-  pub kept-from : (ms ls : Nodes F C K fg cg kg) (k s : ℕ) (answer : Result ExprId Error) → IfOk answer (λ id. From k ms (expr_part id)) → MatchResult answer (λ id. ls ≡ ms) (λ e. CutTo s ms ls) → IfOk answer (λ id. From k ls (expr_part id))
-  kept-from ms ls k s (Ok id) f e = subst (λ v. From k v (expr_part id)) (sym e) f
-  kept-from ms ls k s (Err x) f e = tt
-
-module _ {S F C K : Type 0} {fg : Ghosts F} {cg : Ghosts C} {kg : Ghosts K} (state : S → Source) (gives : S → List TokenAndSpan → S → Type 0) (f : Reader (Tree F C K)) where
-  pub kept-parses : (ms ns : Nodes F C K fg cg kg) (s : ℕ) (b c : Buffer S) (answer : Result ExprId Error) → Parses state gives (tree_of ms) f b answer c → MatchResult answer (λ id. ns ≡ ms) (λ e. CutTo s ms ns) → Parses state gives (tree_of ns) f b answer c
-  kept-parses ms ns s b c (Ok id) h e = subst (λ v. Heard state gives f (tree_of v id) b c) (sym e) h
+module _ {S F C K : Type 0} {fg : Ghosts F} {cg : Ghosts C} {kg : Ghosts K} (model : Model S) (sure : Bool) (f : Reader (Tree F C K)) where
+  pub kept-parses : (ms ns : Nodes F C K fg cg kg) (s : ℕ) (b c : Buffer S) (answer : Result ExprId Error) → Parses model sure (tree_of ms) f b answer c → MatchResult answer (λ id. ns ≡ ms) (λ e. CutTo s ms ns) → Parses model sure (tree_of ns) f b answer c
+  kept-parses ms ns s b c (Ok id) h e = subst (λ v. Heard model sure f (tree_of v id) b c) (sym e) h
   kept-parses ms ns s b c (Err x) h e = h
 
-module _ {S F C K T : Type 0} {fg : Ghosts F} {cg : Ghosts C} {kg : Ghosts K} (state : S → Source) (gives : S → List TokenAndSpan → S → Type 0) (f : Reader (Tree F C K)) (ns : Nodes F C K fg cg kg) (view : T → Tree F C K) where
+module _ {S F C K T : Type 0} {fg : Ghosts F} {cg : Ghosts C} {kg : Ghosts K} (model : Model S) (sure : Bool) (f : Reader (Tree F C K)) (ns : Nodes F C K fg cg kg) (view : T → Tree F C K) where
   -- what is answered in boxes stands for what the number stood for, or memory was wanted
-  pub moved-parses : (b c : Buffer S) (answer : Result ExprId Error) (r : Result T Error) → Parses state gives (tree_of ns) f b answer c →
-      MatchResult answer (λ id. MatchResult r (λ e. view e ≡ tree_of ns id) (λ e. e ≡ no_memory (last_position c))) (λ e. r ≡ Err e) → Parses state gives view f b r c
-  moved-parses b c (Ok id) (Ok e) h m = subst (λ t. Heard state gives f t b c) (sym m) h
-  moved-parses b c (Ok id) (Err e) h m = subst (λ x. Unheard state gives f b x c) (sym m) (unheard_memory (record { leads = h.on.leads; kind = refl }))
-  moved-parses b c (Err x) r h m = subst (λ v. Parses state gives view f b v c) (sym m) h
+  pub moved-parses : (b c : Buffer S) (answer : Result ExprId Error) (r : Result T Error) → Parses model sure (tree_of ns) f b answer c →
+      MatchResult answer (λ id. MatchResult r (λ e. view e ≡ tree_of ns id) (λ e. e ≡ no_memory (last_position c))) (λ e. r ≡ Err e) → Parses model sure view f b r c
+  moved-parses b c (Ok id) (Ok e) h m = subst (λ t. Heard model sure f t b c) (sym m) h
+  moved-parses b c (Ok id) (Err e) h m = subst (λ x. Unheard model sure f b x c) (sym m) (unheard_memory (record { spends = spent h.on.leads; kind = refl }))
+  moved-parses b c (Err x) r h m = subst (λ v. Parses model sure view f b v c) (sym m) h

@@ -9,9 +9,10 @@ use Rattle.swc_input.specs.declared.token.Token.{Token}
 use Rattle.swc_input.specs.declared.token.Token.TheVariants as token
 use Rattle.swc_input.specs.declared.token.TokenAndSpan.{TokenAndSpan}
 use Rattle.swc_input.specs.Kinds.{at_token}
-use Rattle.swc_grammar.specs.Names.{Spelling, spelling, NameKind, Reference, Binding, Name, Private, ReadsName, reference}
+use Rattle.swc_grammar.specs.Names.{Spelling, spelling, NameKind, Reference, Binding, Name, Private, ReadsName, reference, spelled, may_refer, may_bind}
 use Rattle.swc_grammar.specs.Tokens.{may_be_reference, ref_ok}
-use Rattle.swc_grammar.specs.Clean.{first, rest, one, spelled, word_by, word, may_refer, may_bind, hash_word}
+use Rattle.swc_grammar.specs.Clean.{first}
+use Rattle.swc_grammar.specs.Words.{rest, one, word_by, word, hash_word}
 use Rattle.swc_grammar.proofs.Cut.{cut-list, cut-of}
 use Rattle.swc_grammar.proofs.Names.{reference-sound, reference-complete, binding-sound, binding-complete, name-sound, name-complete, private-sound, private-complete, cut-name}
 use Rattle.swc_ident.specs.Verdicts.{reference_verdict, binding_verdict, name_of_any}

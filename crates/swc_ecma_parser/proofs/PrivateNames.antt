@@ -14,21 +14,22 @@ use Rattle.swc_input.specs.declared.token.Token.{Token}
 use Rattle.swc_input.specs.declared.token.Token.TheVariants as token
 use Rattle.swc_input.specs.declared.token.TokenAndSpan.{TokenAndSpan}
 use Rattle.swc_input.specs.Plain.{plain_token}
-use Rattle.swc_input.specs.Source.{Source}
+use Rattle.swc_input.specs.Source.{Model, Laws}
 use Rattle.swc_input.specs.Buffer.{current, last_position}
 use Rattle.swc_input.specs.Laws.{Known-after}
 use Rattle.swc_input.specs.Recording.{Refused, unfit}
 use Rattle.swc_input.proofs.Ends.{past_end}
 use Rattle.swc_input.proofs.Refusals.{Refused-kind, unfit-kind}
 use Rattle.swc_input.specs.Kinds.{at_token, is_hash}
-use Rattle.swc_grammar.specs.Names.{Spelling, spelling}
+use Rattle.swc_grammar.specs.Names.{Spelling, spelling, may_name}
 use Rattle.swc_grammar.specs.Trees.{to}
-use Rattle.swc_grammar.specs.Clean.{Out, ◌>>=◌, first, rest, begins_at, hash_by, hash_word, word, may_name}
+use Rattle.swc_grammar.specs.Clean.{Out, first}
+use Rattle.swc_grammar.specs.Words.{◌>>=◌, rest, begins_at, hash_by, hash_word, word}
 use Rattle.swc_ident.specs.Naming.{fault_at, Hashed, Private, Unprivate, no_memory_either, no_hash, apart, no_name, PrivateNames, expects}
 use Rattle.swc_ident.specs.Verdicts.{name_of_any}
-use Rattle.swc_productions.specs.Parsing.{seen, seen_of, Laws, Refuses, Here, On, Heard, Unheard, Parses}
-use Rattle.swc_productions.proofs.Steps.{Reader, refused, on_seen, on_took, on_then, on_call, heard_after, heard_first, heard_answer, unheard_after, unheard_at, unheard_memory, on_looked}
-use Rattle.swc_productions.proofs.Naming.{goes, stops, honest-name, heard_name, unheard_name}
+use Rattle.swc_productions.specs.Parsing.{seen, seen_of, Refuses, Here, On, Heard, Unheard, Parses}
+use Rattle.swc_productions.proofs.Steps.{Reader, refused, on_seen, on_took, on_then, on_call, heard_after, heard_first, heard_answer, unheard_after, unheard_at, unheard_looked, unheard_memory, on_looked}
+use Rattle.swc_productions.proofs.Naming.{goes, stops, here_at, honest-name, heard_name, refused_here, unheard_name, was_there}
 
 -- a name, behind the `#` at s
 abbrev named : Span → Spelling × List TokenAndSpan → Out Spelling
@@ -70,46 +71,46 @@ expected_kind : (k : SyntaxError) (text : List ℕ) → expects k ≡ Some text 
 expected_kind (kind.Expected t) text h e = cc
 expected_kind k text h e = cc
 
-module _ {S : Type 0} {state : S → Source} {gives : S → List TokenAndSpan → S → Type 0} where
+module _ {S : Type 0} {model : Model S} {sure : Bool} where
   -- f reads nothing where the refusal was made
-  unheard_refused : {A : Type 0} {f : Reader A} {b c : Buffer S} {e : Error} (g : Buffer S → Error) → Laws state gives → (r : Refused state gives b g e c) → ((here : Buffer S) → (g here).kind ≢ kind.ParserFailed) →
-      ((x : Context) (ts : List TokenAndSpan) → first ts ≡ seen r.here → f x ts ≡ None) → Unheard state gives f b e c
+  unheard_refused : {A : Type 0} {f : Reader A} {b c : Buffer S} {e : Error} (g : Buffer S → Error) → Laws model → (r : Refused model b g e c) → ((here : Buffer S) → (g here).kind ≢ kind.ParserFailed) →
+      ((x : Context) (ts : List TokenAndSpan) → first ts ≡ seen r.here → f x ts ≡ None) → Unheard model sure f b e c
   unheard_refused {f = f} {b = b} {c = c} {e = e} g laws r own step = record {
     refuses = refused laws g e own r;
-    none = λ n l ts k.
-        let w = Known-after state gives laws.gave b r.here [] ts r.looked.look.read.took k in
-        let sure = (laws.lawful r.here.iter).sure w.1.more w.1.known in
-        let here : Here state gives b r.here = record { laws = laws; looked = r.looked; end = λ h. (r.looked.end h).1 sure } in
-        let late : Refuses state gives r.here e c = record { leads = record { laws = laws; taken = _; read = r.read }; kind = Refused-kind state gives b c g e own r } in
-        let u : Unheard state gives f b e c = unheard_at here (λ x vs same h. step x vs h) late in
-        u.none n l ts k;
+    none = λ n y l ts k.
+        let w = Known-after laws b r.here [] ts r.looked.look.read.took k in
+        let runs = (laws.lawful r.here.iter).sure w.1.more w.1.known in
+        let here : Here model b r.here = record { laws = laws; looked = r.looked; served = record { before = λ f. absurd (let x : true ≡ false = sym f ∙ runs in cc) }; end = λ h. (r.looked.end h).1 runs } in
+        let late : Refuses model r.here e c = refused laws g e own (refused_here laws r) in
+        let u : Unheard model sure f b e c = unheard_at here (λ x vs same h. step x vs h) late in
+        u.none n y l ts k;
   }
 
-  on_hashed : {b c : Buffer S} {at : Span} → Laws state gives → Hashed state gives b at c → On state gives hash_word (behind_hash at) b c
+  on_hashed : {b c : Buffer S} {at : Span} → Laws model → Hashed model b at c → On model sure hash_word (behind_hash at) b c
   unfolding hash_word
   on_hashed {at = at} laws s =
-      on_then (on_looked {f = hash_word} laws s.looked)
+      on_then (on_looked {f = hash_word} laws s.looked (was_there s))
       (on_took laws s.took (λ x ts. hash_goes at x s.took.was.token s.took.was.had_line_break s.took.was.span ts s.took.token s.place))
 
   -- a private name was read
-  heard_private : {text : List ℕ} {at : Span} {b c : Buffer S} → Laws state gives → Private state gives text at b c → Heard state gives hash_word (spelling text at) b c
+  heard_private : {text : List ℕ} {at : Span} {b c : Buffer S} → Laws model → Private model text at b c → Heard model sure hash_word (spelling text at) b c
   unfolding hash_word
   heard_private {text} {at} {b} {c} laws p =
       let s = p.sign in
       let spoken = p.name.said in
-      let some : current p.near ≢ None = λ e. let none = past_end laws.gave spoken.looked e (p.looked.end e).0 (p.end e) in let found = spoken.took.current in cc in
-      let here : Here state gives p.hashed p.near = record { laws = laws; looked = p.looked; end = p.end } in
+      let some : current p.near ≢ None = λ e. let none = past_end laws spoken.looked e (p.looked.end e).0 (p.end e) in let found = spoken.took.current in cc in
+      let here : Here model p.hashed p.near = here_at laws p.looked some in
       let joined = joins p.hash (current p.near) (last_position p.near) some p.joined in
       heard_answer (ap (λ v. spelling text v) (sym p.place))
-      (heard_after (on_looked {f = hash_word} laws s.looked)
+      (heard_after (on_looked {f = hash_word} laws s.looked (was_there s))
       (heard_first laws s.took (λ x ts. hash_goes p.hash x s.took.was.token s.took.was.had_line_break s.took.was.span ts s.took.token s.place)
       (on_then (on_seen {g = name_behind p.hash} here (λ x ts same h. goes (begins_at p.hash (first ts)) (name_behind p.hash x ts) (ap (begins_at p.hash) h ∙ joined)))
       (on_call (λ x r. named p.hash r) (λ x ts. refl) (heard_name name_of_any laws p.name).on))))
 
   -- none was read
-  unheard_private : {b c : Buffer S} {e : Error} → Laws state gives → Unprivate state gives b e c → Unheard state gives hash_word b e c
+  unheard_private : {b c : Buffer S} {e : Error} → Laws model → Unprivate model b e c → Unheard model sure hash_word b e c
   unfolding hash_word
-  unheard_private laws (no_memory_either xs r k) = unheard_memory (record { leads = record { laws = laws; taken = xs; read = r }; kind = k })
+  unheard_private laws (no_memory_either xs r k) = unheard_memory (record { spends = record { laws = laws; taken = xs; read = r }; kind = k })
   unheard_private laws (no_hash {k = k} r x none) =
       unheard_refused (λ here. unfit (current here) (last_position here) k) laws r (λ here. unfit-kind (current here) (last_position here) k kind.ParserFailed (λ h. cc) (expected_kind k _ x))
       (λ x ts h. ap (λ o. hash_by x o (rest ts)) h ∙ none_seen x (current r.here) (rest ts) none)
@@ -119,14 +120,14 @@ module _ {S : Type 0} {state : S → Source} {gives : S → List TokenAndSpan �
       (λ x ts h. stops (begins_at hash (first ts)) (name_behind hash x ts) (ap (begins_at hash) h ∙ is_apart hash (current r.here) (last_position r.here) away)))
   unheard_private {c = c} {e = e} laws (no_name {hash = hash} {near = near} s l j n) =
       let u = unheard_name name_of_any honest-name laws n in
-      let v : Unheard state gives (behind_hash hash) near e c = record {
+      let v : Unheard model sure (behind_hash hash) near e c = record {
         refuses = u.refuses;
-        none = λ m loud ts k. nothing (begins_at hash (first ts)) (name_behind hash _ ts) (ap (λ o. o >>= named hash) (u.none m loud ts k));
+        none = λ m y loud ts k. nothing (begins_at hash (first ts)) (name_behind hash _ ts) (ap (λ o. o >>= named hash) (u.none m y loud ts k));
       } in
-      unheard_after (on_hashed laws s) (unheard_after (on_looked laws l) v)
+      unheard_after (on_hashed laws s) (unheard_looked laws l v)
 
-module _ {S : Type 0} (state : S → Source) (gives : S → List TokenAndSpan → S → Type 0) where
-  pub parses_private : {T : Type 0} (text : T → List ℕ) (at : T → Span) (b c : Buffer S) (r : Result T Error) → Laws state gives → PrivateNames state gives text at b r c →
-      Parses state gives (λ t. spelling (text t) (at t)) hash_word b r c
+module _ {S : Type 0} (model : Model S) (sure : Bool) where
+  pub parses_private : {T : Type 0} (text : T → List ℕ) (at : T → Span) (b c : Buffer S) (r : Result T Error) → Laws model → PrivateNames model text at b r c →
+      Parses model sure (λ t. spelling (text t) (at t)) hash_word b r c
   parses_private text at b c (Ok t) laws h = heard_private laws h
   parses_private text at b c (Err e) laws h = unheard_private laws h

@@ -1,65 +1,65 @@
 -- From what the productions ensure to what callers are promised: the clean readers are the grammar's, both ways.
-use Rattle.std.proofs.Common.{◌≡◌, ◌≢◌, ◌<◌, true, List, [], ◌∷◌, ◌++◌, Some, Result, Ok, Err, IfErr, IfOk, length, refl, sym, ap, subst, ◌∙◌, ⊎_elim, arith, length-append}
+use Rattle.std.proofs.Common.{◌≡◌, ◌≢◌, ◌<◌, Bool, true, List, [], ◌∷◌, ◌++◌, Some, Result, Ok, Err, IfOk, length, refl, sym, ap, subst, ◌∙◌, ⊎_elim, arith, length-append}
 use Rattle.std.proofs.lemmas.Bool.{cases_lt}
 use Rattle.std.proofs.lemmas.List.{append-nil}
 use Rattle.swc_context.specs.declared.context.Context.{Context}
 use Rattle.swc_context.specs.declared.error.Error.{Error}
 use Rattle.swc_context.specs.declared.error.SyntaxError.{SyntaxError}
 use Rattle.swc_context.specs.declared.error.SyntaxError.TheVariants.{OutOfMemory}
+use Rattle.swc_context.specs.declared.span.Span.{Span}
 use Rattle.swc_input.specs.declared.buffer.Buffer.{Buffer}
 use Rattle.swc_input.specs.declared.token.TokenAndSpan.{TokenAndSpan}
-use Rattle.swc_input.specs.Source.{Source, Keeps}
+use Rattle.swc_input.specs.Source.{Model, Keeps}
 use Rattle.swc_input.specs.Buffer.{Future, Known, context}
 use Rattle.swc_input.specs.Laws.{Known-after, Known-Future, Future-some}
+use Rattle.swc_ast.specs.declared.lit.Lit.{Lit}
+use Rattle.swc_ast.specs.Parts.{lit_tree}
 use Rattle.swc_ast.specs.Tree.{Tree}
-use Rattle.swc_grammar.specs.Grammar as grammar
-use Rattle.swc_grammar.specs.Grammar.{Hook, Symbol, Expr, Assign, Level, Unary, Stops, at-end}
-use Rattle.swc_grammar.specs.Clean.{run, lit, unary, operand, assign}
+use Rattle.swc_bodies.specs.Readings.{Hook, LawfulHook}
+use Rattle.swc_grammar.specs.Symbols.{Symbol, Expr, Assign, Level, Unary, Literal}
+use Rattle.swc_grammar.specs.Reads as grammar
+use Rattle.swc_grammar.specs.Reads.{Stops, at-end}
+use Rattle.swc_grammar.specs.Clean.{sym as at, Stop, run}
 use Rattle.swc_grammar.specs.Trees.{is_grouped, is_valid}
-use Rattle.swc_grammar.proofs.Sound.{expr-sound, assign-sound, level-sound, unary-sound}
-use Rattle.swc_grammar.proofs.Complete.{expr-complete, assign-complete, level-complete, unary-complete, stops-bound}
+use Rattle.swc_grammar.proofs.Sound as clean
+use Rattle.swc_grammar.proofs.Complete as clean_all
+use Rattle.swc_grammar.proofs.Complete.{stops-bound}
 use Rattle.swc_grammar.proofs.Cut.{cut-append}
-use Rattle.swc_grammar.proofs.Grouped.{grouped}
-use Rattle.swc_grammar.proofs.Valid.{valid}
-use Rattle.swc_productions.specs.Parsing.{recorded, Loud, Heard, Parses, NoLiteral}
-use Rattle.swc_ecma_parser.specs.Promise.{Derivation, Unmarred, Derives, Sound, Complete, OneTree, Promised}
-use Rattle.swc_productions.proofs.Rules.{lit_none}
-use Rattle.swc_productions.proofs.Steps.{Reader, reads_of}
+use Rattle.swc_grammar.proofs.Good.{grouped, valid}
+use Rattle.swc_grammar.proofs.Literals.{literal-read}
+use Rattle.swc_productions.specs.Parsing.{recorded, Loud, Consumes, Heard, Parses, TookLiteral}
+use Rattle.swc_ecma_parser.specs.Promise.{Derivation, Anywhere, Unmarred, Derives, Sound, Complete, OneTree}
+use Rattle.swc_ecma_parser.specs.Promise.{Grouped, Valid, PromisedLit}
+use Rattle.swc_productions.proofs.Steps.{Reader, consumes_of}
 
 -- What a clean reader reads is derived, and then also from its own tokens alone.
 pub record IsSound {A : Type 0} (derives : Derivation A) (f : Reader A) : Type 0 where
   pub sound : (c : Context) (ts ys : List TokenAndSpan) (t : A) → f c ts ≡ Some (t, ys) → derives c ts ys t
   pub cut : (c : Context) (own ys : List TokenAndSpan) (t : A) → derives c (own ++ ys) ys t → derives c own [] t
 
+-- what a reading of a symbol does and answers, from one state of the buffer to another
+pub record Meets {S F C K T : Type 0} (model : Model S) (sure : Bool) (hook : Hook F C K) (view : T → Tree F C K) (s : Symbol) (b : Buffer S) (r : Result T Error) (c : Buffer S) : Type 0 where
+  pub reads : Consumes model b r c
+  pub sound : Sound model (grammar.Reads hook s) view b r c
+  pub complete : sure ≡ true → Complete model (grammar.Reads hook s) view (Stops s) b r c
+  pub one_tree : sure ≡ true → OneTree model (grammar.Reads hook s) view b r c
+  pub grouped : Grouped model view b r c
+  pub valid : Valid model view b r c
+
 -- It reads what is derived, up to where a reading may stop; that is so at the end.
 pub record IsComplete {A : Type 0} (derives : Derivation A) (stops : List TokenAndSpan → Type 0) (f : Reader A) : Type 0 where
   pub complete : (c : Context) (ts ys : List TokenAndSpan) (t : A) → derives c ts ys t → stops ys → f c ts ≡ Some (t, ys)
   pub end : stops []
 
+module _ {F C K : Type 0} {fun_at : F → Span} {class_at : C → Span} {block_at : K → Span} (hook : Hook F C K)
+    (laws : LawfulHook fun_at class_at block_at hook) where
+  is_sound : (s : Symbol) → IsSound (grammar.Reads hook s) (run hook (at s))
+  is_sound s = record { sound = λ c ts ys t h. clean.sound hook laws s c ts (t, ys) h; cut = λ c own ys t d. cut-append own ys d }
+
 module _ {F C K : Type 0} (hook : Hook F C K) where
-  expr-is_sound : IsSound (grammar.Reads hook Expr) (assign run)
-  expr-is_sound = record { sound = λ c ts ys t h. expr-sound hook c ts (t, ys) h; cut = λ c own ys t d. cut-append own ys d }
-
-  expr-is_complete : IsComplete (grammar.Reads hook Expr) (Stops Expr) (assign run)
-  expr-is_complete = record { complete = λ c ts ys t d e. expr-complete d (stops-bound Expr c e); end = at-end }
-
-  assign-is_sound : IsSound (grammar.Reads hook Assign) (assign run)
-  assign-is_sound = record { sound = λ c ts ys t h. assign-sound hook c ts (t, ys) h; cut = λ c own ys t d. cut-append own ys d }
-
-  assign-is_complete : IsComplete (grammar.Reads hook Assign) (Stops Assign) (assign run)
-  assign-is_complete = record { complete = λ c ts ys t d e. assign-complete d (stops-bound Assign c e); end = at-end }
-
-  level-is_sound : IsSound (grammar.Reads hook (Level 1)) (operand run 0)
-  level-is_sound = record { sound = λ c ts ys t h. level-sound hook c ts (t, ys) h; cut = λ c own ys t d. cut-append own ys d }
-
-  level-is_complete : IsComplete (grammar.Reads hook (Level 1)) (Stops (Level 1)) (operand run 0)
-  level-is_complete = record { complete = λ c ts ys t d e. level-complete d (stops-bound (Level 1) c e); end = at-end }
-
-  unary-is_sound : IsSound (grammar.Reads hook Unary) (unary run)
-  unary-is_sound = record { sound = λ c ts ys t h. unary-sound hook c ts (t, ys) h; cut = λ c own ys t d. cut-append own ys d }
-
-  unary-is_complete : IsComplete (grammar.Reads hook Unary) (Stops Unary) (unary run)
-  unary-is_complete = record { complete = λ c ts ys t d e. unary-complete d; end = at-end }
+  is_complete : (s : Symbol) → ((c : Context) (ys : List TokenAndSpan) → Stops s ys → Stop s c ys)
+      → IsComplete (grammar.Reads hook s) (Stops s) (run hook (at s))
+  is_complete s stop = record { complete = λ c ts ys t d e. clean_all.complete hook d (stop c ys e); end = at-end }
 
 no_more : {A : Type 0} (more : List A) → length more ≡ 0 → more ≡ []
 no_more [] h = refl
@@ -87,69 +87,96 @@ memory k h = absurd (h (λ e. cc))
 parts : {A B : Type 0} (p q : A × B) → Some p ≡ Some q → (p.0 ≡ q.0) × (p.1 ≡ q.1)
 parts p q h = let e : p ≡ q = cc in (ap (λ v. v.0) e, ap (λ v. v.1) e)
 
-module _ {S T A : Type 0} (state : S → Source) (gives : S → List TokenAndSpan → S → Type 0) (derives : Derivation A) (view : T → A) (f : Reader A) where
-  derived : IsSound derives f → (t : A) (b c : Buffer S) → Heard state gives f t b c → Loud state b → Unmarred state b c → Derives state gives derives view t b c
+module _ {S T A : Type 0} (model : Model S) (sure : Bool) (derives : Derivation A) (view : T → A) (f : Reader A) where
+  derived : IsSound derives f → (t : A) (b c : Buffer S) → Heard model sure f t b c → Loud model b → Unmarred model b c → Derives model derives view t b c
   derived is t b c h l same =
       let counted = ap length same in
-      let front = λ (ys : List TokenAndSpan) (fut : Future state c ys). is.sound (context state b) (h.on.leads.taken ++ ys) ys t (h.on.clean l counted ys fut) in
-      let some = Future-some state h.on.leads.laws.lawful c in
-      record { consumed = h.on.leads.taken; read = h.on.leads.read; front = front; whole = is.cut (context state b) h.on.leads.taken some.0 t (front some.0 some.1) }
+      let front = λ (ys : List TokenAndSpan) (fut : Future model c ys). is.sound (context model b) (h.on.leads.taken ++ ys) ys t (h.on.clean l counted ys fut) in
+      let some = Future-some h.on.leads.laws c in
+      record { consumed = h.on.leads.taken; read = h.on.leads.read; front = front; whole = is.cut (context model b) h.on.leads.taken some.0 t (front some.0 some.1) }
 
-  pub sound : IsSound derives f → (b : Buffer S) (r : Result T Error) (c : Buffer S) → Parses state gives view f b r c → Sound state gives derives view b r c
+  pub sound : IsSound derives f → (b : Buffer S) (r : Result T Error) (c : Buffer S) → Parses model sure view f b r c → Sound model derives view b r c
   sound is b (Ok x) c h = λ l same. derived is (view x) b c h l same
   sound is b (Err e) c h = λ l. tt
 
   -- what holds of all that is derived holds of the answer
-  pub holds : IsSound derives f → (P : A → Type 0) → ((c : Context) (xs ys : List TokenAndSpan) (t : A) → derives c xs ys t → P t) → (b : Buffer S) (r : Result T Error) (c : Buffer S) → Parses state gives view f b r c →
-      Loud state b → IfOk r (λ x. Unmarred state b c → P (view x))
-  holds is P all b (Ok x) c h = λ l same. let d = derived is (view x) b c h l same in all (context state b) d.consumed [] (view x) d.whole
+  pub holds : IsSound derives f → (P : A → Type 0) → ((c : Context) (xs ys : List TokenAndSpan) (t : A) → derives c xs ys t → P t) → (b : Buffer S) (r : Result T Error) (c : Buffer S) → Parses model sure view f b r c →
+      Loud model b → IfOk r (λ x. Unmarred model b c → P (view x))
+  holds is P all b (Ok x) c h = λ l same. let d = derived is (view x) b c h l same in all (context model b) d.consumed [] (view x) d.whole
   holds is P all b (Err e) c h = λ l. tt
 
   -- of a listed source: what f reads is answered
-  answered : (x : T) (b c : Buffer S) (ts ys : List TokenAndSpan) (t : A) → Heard state gives f (view x) b c → Loud state b → Known state b ts → f (context state b) ts ≡ Some (t, ys) →
-      (view x ≡ t) × Known state c ys × Unmarred state b c
-  answered x b c ts ys t h l k e =
+  answered : sure ≡ true → (x : T) (b c : Buffer S) (ts ys : List TokenAndSpan) (t : A) → Heard model sure f (view x) b c → Loud model b → Known model b ts → f (context model b) ts ≡ Some (t, ys) →
+      (view x ≡ t) × Known model c ys × Unmarred model b c
+  answered y x b c ts ys t h l k e =
       let laws = h.on.leads.laws in
-      let w = Known-after state gives laws.gave b c h.on.leads.taken ts h.on.leads.read.took k in
-      let counted : recorded state c ≡ recorded state b = as_many h.on.leads.read.errors (λ lt. let f0 = h.on.faulty l lt ts k in cc) in
-      let got = h.on.clean l counted w.0 (Known-Future state laws.lawful c w.0 w.1) in
-      let q = parts (view x, w.0) (t, ys) (sym got ∙ ap (λ v. f (context state b) v) (sym w.2) ∙ e) in
-      (q.0, subst (λ v. Known state c v) q.1 w.1, same_faults h.on.leads.read.errors counted)
+      let w = Known-after laws b c h.on.leads.taken ts h.on.leads.read.took k in
+      let counted : recorded model c ≡ recorded model b = as_many h.on.leads.read.errors (λ lt. let f0 = h.on.faulty y l lt ts k in cc) in
+      let got = h.on.clean l counted w.0 (Known-Future laws c w.0 w.1) in
+      let q = parts (view x, w.0) (t, ys) (sym got ∙ ap (λ v. f (context model b) v) (sym w.2) ∙ e) in
+      (q.0, subst (λ v. Known model c v) q.1 w.1, same_faults h.on.leads.read.errors counted)
 
-  pub complete : (stops : List TokenAndSpan → Type 0) → IsComplete derives stops f → (b : Buffer S) (r : Result T Error) (c : Buffer S) → Parses state gives view f b r c → Complete state gives derives view stops b r c
-  complete stops is b (Ok x) c h = λ l ts ys t k d e. answered x b c ts ys t h l k (is.complete (context state b) ts ys t d e)
-  complete stops is b (Err x) c u = λ l ts ys t k d e. memory x.kind (λ n. let f0 = u.none n l ts k in let f1 = is.complete (context state b) ts ys t d e in cc)
+  pub complete : sure ≡ true → (stops : List TokenAndSpan → Type 0) → IsComplete derives stops f → (b : Buffer S) (r : Result T Error) (c : Buffer S) → Parses model sure view f b r c → Complete model derives view stops b r c
+  complete y stops is b (Ok x) c h = λ l ts ys t k d e. answered y x b c ts ys t h l k (is.complete (context model b) ts ys t d e)
+  complete y stops is b (Err x) c u = λ l ts ys t k d e. memory x.kind (λ n. let f0 = u.none n y l ts k in let f1 = is.complete (context model b) ts ys t d e in cc)
 
-  pub one_tree : (stops : List TokenAndSpan → Type 0) → IsComplete derives stops f → (b : Buffer S) (r : Result T Error) (c : Buffer S) → Parses state gives view f b r c → OneTree state gives derives view b r c
-  one_tree stops is b (Ok x) c h = λ l ts t k d. λ same end. sym (answered x b c ts [] t h l k (is.complete (context state b) ts [] t d is.end)).0
-  one_tree stops is b (Err e) c h = λ l ts t k d. tt
+  pub one_tree : sure ≡ true → (stops : List TokenAndSpan → Type 0) → IsComplete derives stops f → (b : Buffer S) (r : Result T Error) (c : Buffer S) → Parses model sure view f b r c → OneTree model derives view b r c
+  one_tree y stops is b (Ok x) c h = λ l ts t k d. λ same end. sym (answered y x b c ts [] t h l k (is.complete (context model b) ts [] t d is.end)).0
+  one_tree y stops is b (Err e) c h = λ l ts t k d. tt
 
-module _ {S F C K T : Type 0} (state : S → Source) (gives : S → List TokenAndSpan → S → Type 0) (hook : Hook F C K) (view : T → Tree F C K) where
-  promised : (s : Symbol) (f : Reader (Tree F C K)) → IsSound (grammar.Reads hook s) f → IsComplete (grammar.Reads hook s) (Stops s) f →
-      (b : Buffer S) (r : Result T Error) (c : Buffer S) → Parses state gives view f b r c → Promised state gives hook view s b r c
-  promised s f is_sound is_complete b r c h = record {
-    reads = reads_of state gives view f b c r h;
-    sound = sound state gives (grammar.Reads hook s) view f is_sound b r c h;
-    complete = complete state gives (grammar.Reads hook s) view f (Stops s) is_complete b r c h;
-    one_tree = one_tree state gives (grammar.Reads hook s) view f (Stops s) is_complete b r c h;
-    grouped = holds state gives (grammar.Reads hook s) view f is_sound (λ t. is_grouped t ≡ true) (λ x xs ys t d. grouped d) b r c h;
-    valid = holds state gives (grammar.Reads hook s) view f is_sound (λ t. is_valid t ≡ true) (λ x xs ys t d. valid d) b r c h;
+module _ {S F C K T : Type 0} (model : Model S) (sure : Bool) (hook : Hook F C K)
+    {fun_at : F → Span} {class_at : C → Span} {block_at : K → Span} (laws : LawfulHook fun_at class_at block_at hook) (view : T → Tree F C K) where
+  meets : (s : Symbol) (f : Reader (Tree F C K)) → IsSound (grammar.Reads hook s) f → IsComplete (grammar.Reads hook s) (Stops s) f →
+      (b : Buffer S) (r : Result T Error) (c : Buffer S) → Parses model sure view f b r c → Meets model sure hook view s b r c
+  meets s f is_sound is_complete b r c h = record {
+    reads = consumes_of model sure view f b c r h;
+    sound = sound model sure (grammar.Reads hook s) view f is_sound b r c h;
+    complete = λ y. complete model sure (grammar.Reads hook s) view f y (Stops s) is_complete b r c h;
+    one_tree = λ y. one_tree model sure (grammar.Reads hook s) view f y (Stops s) is_complete b r c h;
+    grouped = holds model sure (grammar.Reads hook s) view f is_sound (λ t. is_grouped t ≡ true) (λ x xs ys t d. grouped d) b r c h;
+    valid = holds model sure (grammar.Reads hook s) view f is_sound (λ t. is_valid t ≡ true) (λ x xs ys t d. valid d) b r c h;
   }
 
-  pub expr-promised : (b : Buffer S) (r : Result T Error) (c : Buffer S) → Parses state gives view (assign run) b r c → Promised state gives hook view Expr b r c
-  expr-promised = promised Expr (assign run) (expr-is_sound hook) (expr-is_complete hook)
+  meets_at : (s : Symbol) → ((c : Context) (ys : List TokenAndSpan) → Stops s ys → Stop s c ys) → (b : Buffer S) (r : Result T Error) (c : Buffer S)
+      → Parses model sure view (run hook (at s)) b r c → Meets model sure hook view s b r c
+  meets_at s stop = meets s (run hook (at s)) (is_sound hook laws s) (is_complete hook s stop)
 
-  pub assign-promised : (b : Buffer S) (r : Result T Error) (c : Buffer S) → Parses state gives view (assign run) b r c → Promised state gives hook view Assign b r c
-  assign-promised = promised Assign (assign run) (assign-is_sound hook) (assign-is_complete hook)
+  pub expr-meets : (b : Buffer S) (r : Result T Error) (c : Buffer S) → Parses model sure view (run hook (at Expr)) b r c → Meets model sure hook view Expr b r c
+  expr-meets = meets_at Expr (λ c ys e. stops-bound Expr c e)
 
-  pub level-promised : (b : Buffer S) (r : Result T Error) (c : Buffer S) → Parses state gives view (operand run 0) b r c → Promised state gives hook view (Level 1) b r c
-  level-promised = promised (Level 1) (operand run 0) (level-is_sound hook) (level-is_complete hook)
+  pub assign-meets : (b : Buffer S) (r : Result T Error) (c : Buffer S) → Parses model sure view (run hook (at Assign)) b r c → Meets model sure hook view Assign b r c
+  assign-meets = meets_at Assign (λ c ys e. stops-bound Assign c e)
 
-  pub unary-promised : (b : Buffer S) (r : Result T Error) (c : Buffer S) → Parses state gives view (unary run) b r c → Promised state gives hook view Unary b r c
-  unary-promised = promised Unary (unary run) (unary-is_sound hook) (unary-is_complete hook)
+  pub level-meets : (b : Buffer S) (r : Result T Error) (c : Buffer S) → Parses model sure view (run hook (at (Level 1))) b r c
+      → Meets model sure hook view (Level 1) b r c
+  level-meets = meets_at (Level 1) (λ c ys e. (omega arith, stops-bound (Level 1) c e))
 
--- what a refused literal says of the tokens to come
-pub no_literal : {S F C K T : Type 0} (state : S → Source) (gives : S → List TokenAndSpan → S → Type 0) (view : T → Tree F C K) (b c : Buffer S) (r : Result T Error) →
-    Parses state gives view (lit run) b r c → IfErr r (λ e. NoLiteral state b e)
-no_literal state gives view b c (Ok x) h = tt
-no_literal state gives view b c (Err e) u = λ n l ts k. lit_none (context state b) ts (u.none n l ts k)
+  pub unary-meets : (b : Buffer S) (r : Result T Error) (c : Buffer S) → Parses model sure view (run hook (at Unary)) b r c → Meets model sure hook view Unary b r c
+  unary-meets = meets_at Unary (λ c ys e. tt)
+
+-- a call on a literal
+module _ {S F C K : Type 0} (model : Model S) (hook : Hook F C K) where
+  literal-derives : (t : Tree F C K) (b c : Buffer S) → TookLiteral model t b c
+      → Derives model (grammar.Reads hook Literal) lit_tree t b c
+  literal-derives t b c h = record {
+    consumed = h.token ∷ [];
+    read = h.read;
+    front = λ ys fut. literal-read h.token ys t h.literal;
+    whole = literal-read h.token [] t h.literal;
+  }
+
+  literal-sound : (b : Buffer S) (r : Result Lit Error) (c : Buffer S)
+      → IfOk r (λ l. TookLiteral model {F = F} {C = C} {K = K} (lit_tree l) b c)
+      → IfOk r (λ l. Derives model (grammar.Reads hook Literal) lit_tree (lit_tree l) b c)
+  literal-sound b (Ok l) c h = literal-derives (lit_tree l) b c h
+  literal-sound b (Err e) c h = tt
+
+  pub literal-meets : (b : Buffer S) (r : Result Lit Error) (c : Buffer S)
+      → Parses model true lit_tree (run hook (at Literal)) b r c
+      → IfOk r (λ l. TookLiteral model {F = F} {C = C} {K = K} (lit_tree l) b c) → PromisedLit model hook b r c
+  literal-meets b r c h took = record {
+    reads = consumes_of model true lit_tree (run hook (at Literal)) b c r h;
+    sound = literal-sound b r c took;
+    complete = complete model true (grammar.Reads hook Literal) lit_tree (run hook (at Literal)) refl Anywhere
+        (record { complete = λ x ts ys t d e. clean_all.complete hook d tt; end = tt }) b r c h;
+  }

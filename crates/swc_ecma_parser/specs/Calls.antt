@@ -1,17 +1,21 @@
 -- What the calls of a parser do.
-use Rattle.std.specs.Prelude.{Bool, false, Result, Ok, Err}
+use Rattle.std.specs.Prelude.{◌≡◌, Bool, true, false, None, IsSome, Result, Ok, Err, IfOk, MatchResult}
 use Rattle.std.specs.declared.alloc.Global.{Global}
 use Rattle.std.specs.declared.boxed.Box.{Box}
 use Rattle.swc_context.specs.declared.error.Error.{Error}
 use Rattle.swc_context.specs.declared.error.SyntaxError.TheVariants.{ParserFailed}
 use Rattle.swc_context.specs.declared.span.Span.{Span}
 use Rattle.swc_input.specs.declared.buffer.Buffer.{Buffer}
+use Rattle.swc_input.specs.Source.{Model}
+use Rattle.swc_input.specs.Buffer.{ReadSome, current, last_position, previous, state_of}
+use Rattle.swc_input.specs.Recording.{no_memory}
 use Rattle.swc_ast.specs.Tree.{Tree}
 use Rattle.swc_ast.specs.TreeOf.{boxed_tree}
 use Rattle.swc_ast.specs.declared.expr.Expr.{Expr}
 use Rattle.swc_ast.specs.declared.spanned.Spanned.{Ghosts}
 use Rattle.swc_nodes.specs.declared.nodes.Nodes.{Nodes}
-use Rattle.swc_productions.specs.Parsing.{is_memory}
+use Rattle.swc_nodes.specs.declared.node.ExprId.{ExprId}
+use Rattle.swc_productions.specs.Parsing.{is_memory, Looks, tree_of}
 use Rattle.swc_ecma_parser.specs.declared.parser.Parser.{Parser}
 
 -- the buffer that a parser reads from
@@ -44,3 +48,32 @@ wants_memory (Err e) = is_memory e.kind
 -- the refusal of a parser that has failed
 abbrev pub parser_failed : Span → Error
 parser_failed at = record { span = at; kind = ParserFailed }
+
+module _ {S H F C K T : Type 0} {fg : Ghosts F} {cg : Ghosts C} {kg : Ghosts K} where
+  -- What a call does that makes no node, from the parser p to q, where it answers r. A parser that met want of memory does nothing, and
+  -- refuses as `ParserFailed` at the token consumed last (`again`). Of any other Effect says what is done to the buffer, and it has failed
+  -- from now on where it refuses for want of memory, and only there (`fails`).
+  pub record Called (Effect : Buffer S → Result T Error → Buffer S → Type 0) (p : Parser S H F C K fg cg kg) (r : Result T Error) (q : Parser S H F C K fg cg kg) : Type 0 where
+    pub again : has_failed p ≡ true → (q ≡ p) × (r ≡ Err (parser_failed (previous (buffer_of p))))
+    pub effect : has_failed p ≡ false → Effect (buffer_of p) r (buffer_of q)
+    pub nodes : nodes_of q ≡ nodes_of p
+    pub fails : has_failed p ≡ false → has_failed q ≡ wants_memory r
+
+module _ {S H F C K : Type 0} {fg : Ghosts F} {cg : Ghosts C} {kg : Ghosts K} where
+  -- the answer in boxes: what the number stands for among the nodes, or memory was wanted
+  abbrev pub MovesOut : Parser S H F C K fg cg kg → Result ExprId Error → Result (Box (Expr F C K) Global) Error → Type 0
+  MovesOut p answer r = MatchResult answer
+      (λ id. MatchResult r (λ e. tree_by fg.place cg.place kg.place e ≡ tree_of (nodes_of p) id) (λ e. e ≡ no_memory (last_position (buffer_of p))))
+      (λ e. r ≡ Err e)
+
+module _ {S : Type 0} (model : Model S) where
+  -- whether none is left: a look, which consumes nothing
+  pub record SeesEnd (b : Buffer S) (r : Result Bool Error) (c : Buffer S) : Type 0 where
+    pub looks : Looks model b r c
+    pub end : IfOk r (λ v. v ≡ true → (current c ≡ None) × ((state_of model c).ended ≡ true))
+    pub token : IfOk r (λ v. v ≡ false → IsSome (current c))
+
+  -- a call of swc_ident on a name
+  pub record ReadsAName {T : Type 0} (Names : Buffer S → Result T Error → Buffer S → Type 0) (b : Buffer S) (r : Result T Error) (c : Buffer S) : Type 0 where
+    pub names : Names b r c
+    pub read : ReadSome model b c

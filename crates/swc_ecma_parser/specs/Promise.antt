@@ -1,26 +1,34 @@
 -- What the calls of a parser promise, by the written grammar alone.
-use Rattle.std.specs.Prelude.{◌≡◌, true, List, [], ◌++◌, Result, IfOk, MatchResult}
+use Rattle.std.specs.Prelude.{◌≡◌, Bool, true, false, List, [], ◌++◌, Result, Err, IfOk, MatchResult}
 use Rattle.swc_context.specs.declared.context.Context.{Context}
 use Rattle.swc_context.specs.declared.error.Error.{Error}
 use Rattle.swc_context.specs.declared.error.SyntaxError.TheVariants.{OutOfMemory}
 use Rattle.swc_input.specs.declared.buffer.Buffer.{Buffer}
 use Rattle.swc_input.specs.declared.token.TokenAndSpan.{TokenAndSpan}
-use Rattle.swc_input.specs.Source.{Source}
-use Rattle.swc_input.specs.Buffer.{Read, Future, Known, context}
+use Rattle.swc_input.specs.Source.{Model}
+use Rattle.swc_input.specs.Buffer.{Read, ReadSome, Future, Known, context, previous}
 use Rattle.swc_input.specs.Kinds.{at_token}
+use Rattle.std.specs.declared.alloc.Global.{Global}
+use Rattle.std.specs.declared.boxed.Box.{Box}
+use Rattle.swc_ast.specs.Parts.{lit_tree}
 use Rattle.swc_ast.specs.Tree.{Tree}
-use Rattle.swc_bodies.specs.Readings.{Reading}
+use Rattle.swc_ast.specs.declared.expr.Expr.{Expr}
+use Rattle.swc_ast.specs.declared.lit.Lit.{Lit}
+use Rattle.swc_ast.specs.declared.spanned.Spanned.{Ghosts}
+use Rattle.swc_bodies.specs.Readings.{Hook}
 use Rattle.swc_grammar.specs.Clean.{first}
-use Rattle.swc_grammar.specs.Grammar as grammar
-use Rattle.swc_grammar.specs.Grammar.{Hook, Symbol, Stops}
-use Rattle.swc_grammar.specs.Names.{Spelling, Reference, ReadsName}
+use Rattle.swc_grammar.specs.Symbols.{Symbol, Literal}
+use Rattle.swc_grammar.specs.Reads.{Reads, Stops}
+use Rattle.swc_grammar.specs.Names.{Spelling, NameKind, Reference, ReadsName}
 use Rattle.swc_grammar.specs.Tokens.{may_be_reference}
 use Rattle.swc_grammar.specs.Trees.{is_grouped, is_valid}
-use Rattle.swc_productions.specs.Parsing.{Loud, Reads}
-
--- what a hook reads, from its three readings
-abbrev pub hook_of : {F C K : Type 0} → Reading F → Reading C → Reading K → Hook F C K
-hook_of fun class block = record { fun = fun; class = class; block = block }
+use Rattle.swc_nodes.specs.Slots.{expr_part}
+use Rattle.swc_nodes.specs.Stands.{count, From, Grows, SameNodes}
+use Rattle.swc_nodes.specs.declared.node.ExprId.{ExprId}
+use Rattle.swc_nodes.specs.declared.nodes.Nodes.{Nodes}
+use Rattle.swc_productions.specs.Parsing.{Loud, Consumes, tree_of}
+use Rattle.swc_ecma_parser.specs.Calls.{buffer_of, nodes_of, tree_by, has_failed, wants_memory, parser_failed}
+use Rattle.swc_ecma_parser.specs.declared.parser.Parser.{Parser}
 
 -- a derivation of A: in the context, from the tokens from the first list on to before the second
 abbrev pub Derivation : Type 0 → Type 1
@@ -35,49 +43,94 @@ Anywhere ys = Unit {0}
 abbrev pub RefersIfFree : Derivation Spelling
 RefersIfFree c xs ys n = at_token (may_be_reference c) (first xs) ≡ true → ReadsName Reference c xs ys n
 
-module _ {S : Type 0} (state : S → Source) where
+module _ {S : Type 0} (model : Model S) where
   -- no fault was recorded between b and c
   abbrev pub Unmarred : Buffer S → Buffer S → Type 0
-  Unmarred b c = (state c.iter).errors ≡ (state b.iter).errors
+  Unmarred b c = (model.state c.iter).errors ≡ (model.state b.iter).errors
 
-module _ {S T A : Type 0} (state : S → Source) (gives : S → List TokenAndSpan → S → Type 0) (derives : Derivation A) (view : T → A) where
+module _ {S T A : Type 0} (model : Model S) (derives : Derivation A) (view : T → A) where
   -- between b and c tokens were consumed from which t is derived: with whatever may follow, and as a list of their own
   pub record Derives (t : A) (b c : Buffer S) : Type 0 where
     pub consumed : List TokenAndSpan
-    pub read : Read state gives b consumed c
-    pub front : (ys : List TokenAndSpan) → Future state c ys → derives (context state b) (consumed ++ ys) ys t
-    pub whole : derives (context state b) consumed [] t
+    pub read : Read model b consumed c
+    pub front : (ys : List TokenAndSpan) → Future model c ys → derives (context model b) (consumed ++ ys) ys t
+    pub whole : derives (context model b) consumed [] t
 
   -- What is answered with no fault recorded is derived from the tokens consumed. Faults have to be recorded at all.
   abbrev pub Sound : Buffer S → Result T Error → Buffer S → Type 0
-  Sound b r c = Loud state b → IfOk r (λ x. Unmarred state b c → Derives (view x) b c)
+  Sound b r c = Loud model b → IfOk r (λ x. Unmarred model b c → Derives (view x) b c)
 
   -- Over a listed source: what is derived from the tokens to come, up to where a reading may stop, is answered, with no fault
   -- recorded, and what follows it is left; or the answer is want of memory.
   abbrev pub Complete : (List TokenAndSpan → Type 0) → Buffer S → Result T Error → Buffer S → Type 0
-  Complete stops b r c = Loud state b → (ts ys : List TokenAndSpan) (t : A) → Known state b ts → derives (context state b) ts ys t → stops ys →
-      MatchResult r (λ x. (view x ≡ t) × Known state c ys × Unmarred state b c) (λ e. e.kind ≡ OutOfMemory)
+  Complete stops b r c = Loud model b → (ts ys : List TokenAndSpan) (t : A) → Known model b ts → derives (context model b) ts ys t → stops ys →
+      MatchResult r (λ x. (view x ≡ t) × Known model c ys × Unmarred model b c) (λ e. e.kind ≡ OutOfMemory)
 
   -- Over a listed source: where all tokens to come were read with no fault recorded, nothing is derived from them but the answer.
   abbrev pub OneTree : Buffer S → Result T Error → Buffer S → Type 0
-  OneTree b r c = Loud state b → (ts : List TokenAndSpan) (t : A) → Known state b ts → derives (context state b) ts [] t →
-      IfOk r (λ x. Unmarred state b c → Known state c [] → t ≡ view x)
+  OneTree b r c = Loud model b → (ts : List TokenAndSpan) (t : A) → Known model b ts → derives (context model b) ts [] t →
+      IfOk r (λ x. Unmarred model b c → Known model c [] → t ≡ view x)
 
-module _ {S F C K T : Type 0} (state : S → Source) (view : T → Tree F C K) where
+module _ {S F C K T : Type 0} (model : Model S) (view : T → Tree F C K) where
   -- In a tree answered with no fault recorded operators group as their levels say, and none of `??` stands directly over or under one
   -- of `||` or `&&`.
   abbrev pub Grouped : Buffer S → Result T Error → Buffer S → Type 0
-  Grouped b r c = Loud state b → IfOk r (λ x. Unmarred state b c → is_grouped (view x) ≡ true)
+  Grouped b r c = Loud model b → IfOk r (λ x. Unmarred model b c → is_grouped (view x) ≡ true)
 
   -- A tree answered with no fault recorded holds no `Invalid`.
   abbrev pub Valid : Buffer S → Result T Error → Buffer S → Type 0
-  Valid b r c = Loud state b → IfOk r (λ x. Unmarred state b c → is_valid (view x) ≡ true)
+  Valid b r c = Loud model b → IfOk r (λ x. Unmarred model b c → is_valid (view x) ≡ true)
 
--- What a call promises of a symbol of the grammar: what each of its runs does, and that what is answered is what the grammar derives.
-pub record Promised {S F C K T : Type 0} (state : S → Source) (gives : S → List TokenAndSpan → S → Type 0) (hook : Hook F C K) (view : T → Tree F C K) (s : Symbol) (b : Buffer S) (r : Result T Error) (c : Buffer S) : Type 0 where
-  pub reads : Reads state gives b r c
-  pub sound : Sound state gives (grammar.Reads hook s) view b r c
-  pub complete : Complete state gives (grammar.Reads hook s) view (Stops s) b r c
-  pub one_tree : OneTree state gives (grammar.Reads hook s) view b r c
-  pub grouped : Grouped state view b r c
-  pub valid : Valid state view b r c
+-- How a call answers trees: which tree an answer stands for, by the nodes that the parser then has, and what becomes of the nodes.
+pub record Answer (T F C K : Type 0) (fg : Ghosts F) (cg : Ghosts C) (kg : Ghosts K) : Type 1 where
+  pub tree : Nodes F C K fg cg kg → T → Tree F C K
+  pub leaves : Nodes F C K fg cg kg → Result T Error → Nodes F C K fg cg kg → Type 0
+
+-- in boxes: the nodes are what they were
+abbrev pub in_boxes : {F C K : Type 0} {fg : Ghosts F} {cg : Ghosts C} {kg : Ghosts K} → Answer (Box (Expr F C K) Global) F C K fg cg kg
+in_boxes {fg = fg} {cg = cg} {kg = kg} = record {
+  tree = λ ns e. tree_by fg.place cg.place kg.place e;
+  leaves = λ ns r ms. SameNodes ns ms;
+}
+
+-- by the number of a new node: nodes were appended alone, or after a refusal none
+abbrev pub by_number : {F C K : Type 0} {fg : Ghosts F} {cg : Ghosts C} {kg : Ghosts K} → Answer ExprId F C K fg cg kg
+by_number = record {
+  tree = λ ns id. tree_of ns id;
+  leaves = λ ns r ms. MatchResult r (λ id. Grows ns ms × From (count ns) ms (expr_part id)) (λ e. SameNodes ns ms);
+}
+
+-- What a call promises that reads the symbol s, from the parser p to q, where it answers r.
+pub record Promised {S H T F C K : Type 0} {fg : Ghosts F} {cg : Ghosts C} {kg : Ghosts K} (model : Model S) (sure : Bool) (hook : Hook F C K) (answer : Answer T F C K fg cg kg) (s : Symbol) (p : Parser S H F C K fg cg kg) (r : Result T Error) (q : Parser S H F C K fg cg kg) : Type 0 where
+  -- A parser that met want of memory does nothing, and refuses as `ParserFailed` at the token consumed last.
+  pub again : has_failed p ≡ true → (q ≡ p) × (r ≡ Err (parser_failed (previous (buffer_of p))))
+  -- Any other reads: one token at least was consumed, or it refuses, and what was consumed isn't lost; the context is what it was, no
+  -- recorded fault was taken out, and no want of memory recorded.
+  pub reads : has_failed p ≡ false → Consumes model (buffer_of p) r (buffer_of q)
+  -- What is answered is what the grammar derives; and where the hook is faithful, what it derives is answered.
+  pub sound : has_failed p ≡ false → Sound model (Reads hook s) (answer.tree (nodes_of q)) (buffer_of p) r (buffer_of q)
+  pub complete : has_failed p ≡ false → sure ≡ true → Complete model (Reads hook s) (answer.tree (nodes_of q)) (Stops s) (buffer_of p) r (buffer_of q)
+  pub one_tree : has_failed p ≡ false → sure ≡ true → OneTree model (Reads hook s) (answer.tree (nodes_of q)) (buffer_of p) r (buffer_of q)
+  pub grouped : has_failed p ≡ false → Grouped model (answer.tree (nodes_of q)) (buffer_of p) r (buffer_of q)
+  pub valid : has_failed p ≡ false → Valid model (answer.tree (nodes_of q)) (buffer_of p) r (buffer_of q)
+  -- what becomes of the nodes
+  pub nodes : answer.leaves (nodes_of p) r (nodes_of q)
+  -- it has failed from now on where it refuses for want of memory, and only there
+  pub fails : has_failed p ≡ false → has_failed q ≡ wants_memory r
+
+-- What a call on a name does and promises, from b to c: by the calls of swc_ident, and that what is answered is what the grammar
+-- derives, and the other way.
+pub record PromisedName {S T : Type 0} (model : Model S) (Names : Buffer S → Result T Error → Buffer S → Type 0) (derives : Derivation Spelling) (kind : NameKind) (view : T → Spelling) (b : Buffer S) (r : Result T Error) (c : Buffer S) : Type 0 where
+  pub names : Names b r c
+  pub read : ReadSome model b c
+  pub sound : Sound model derives view b r c
+  pub complete : Complete model (ReadsName kind) view Anywhere b r c
+
+-- What a call on a literal does and promises, from b to c, whatever the hook reads.
+pub record PromisedLit {S F C K : Type 0} (model : Model S) (hook : Hook F C K) (b : Buffer S) (r : Result Lit Error)
+    (c : Buffer S) : Type 0 where
+  pub reads : Consumes model b r c
+  -- what is answered is derived from the tokens consumed, also where faults aren't recorded, or where some were
+  pub sound : IfOk r (λ l. Derives model (Reads hook Literal) lit_tree (lit_tree l) b c)
+  -- what is derived is answered, with no fault recorded, whatever follows
+  pub complete : Complete model (Reads hook Literal) lit_tree Anywhere b r c

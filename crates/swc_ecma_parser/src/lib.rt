@@ -13,3 +13,4 @@ pub use swc_tokens as tokens;
 pub use swc_trees as trees;
 
 pub mod parser;
+pub mod whole;

@@ -1,13 +1,12 @@
 // The parser that is called from outside.
-ghost use Rattle.std.specs.Prelude.{◌≡◌, ◌||◌, true, false, [], IsSome, IfErr, IfOk, OnOk, MatchResult};
-ghost use Rattle.swc_input.specs.Buffer.{current, last_position, previous, source, with_source, fresh};
-ghost use Rattle.swc_input.specs.Recording.{no_memory};
+ghost use Rattle.std.specs.Prelude.{◌≡◌, ◌||◌, true, false, [], IfErr, IfOk, OnOk, MatchResult};
+ghost use Rattle.swc_input.specs.Buffer.{last_position, previous, source, state_of, with_source, fresh};
 ghost use Rattle.swc_nodes.specs.Slots.{expr_part};
-ghost use Rattle.swc_nodes.specs.Stands.{count, From, Grows, SameNodes, CutTo};
-ghost use Rattle.swc_ecma_parser.specs.Calls.{buffer_of, nodes_of, with_buffer, with_nodes, has_failed, wants_memory, parser_failed, tree_by};
-ghost use Rattle.swc_grammar.specs.Grammar.{Expr, Assign, Level, Unary};
-ghost use Rattle.swc_productions.specs.Parsing.{lit_in, tree_of, Reads, Here, Forgoes, Literal, NoLiteral};
-ghost use Rattle.swc_ecma_parser.specs.Promise.{hook_of, Promised};
+ghost use Rattle.swc_nodes.specs.Stands.{count, From, CutTo};
+ghost use Rattle.swc_grammar.specs.Symbols.{Expr, Assign, Level, Unary};
+ghost use Rattle.swc_ecma_parser.specs.Calls.{buffer_of, nodes_of, with_buffer, with_nodes, has_failed, wants_memory};
+ghost use Rattle.swc_ecma_parser.specs.Calls.{parser_failed, Called, SeesEnd, MovesOut};
+ghost use Rattle.swc_ecma_parser.specs.Promise.{Promised, PromisedLit, in_boxes, by_number};
 
 use std::alloc::Global;
 use swc_ast::lit::Lit;
@@ -70,21 +69,18 @@ impl<I: Tokens, B: Bodies<I>> Parser<I, B> {
 
     /// Hands out the faults that were recorded, and none that wait for the context to become a module.
     pub fn take_errors(&mut self) -> Vec<Error>
-        ensures taken { result.items ≡ (I.state (source (buffer_of self.old))).errors }
-        ensures left { I.state (source (buffer_of self.new)) ≡ record (I.state (source (buffer_of self.old))) { errors = [] } }
-        ensures rest { self.new ≡ with_buffer (with_source (source (buffer_of self.new)) (buffer_of self.old)) self.old }
+        ensures taken { result.items ≡ (state_of I.model (buffer_of self.old)).errors }
+        ensures emptied { state_of I.model (buffer_of self.new)
+            ≡ record (state_of I.model (buffer_of self.old)) { errors = [] } }
+        ensures rest { self.new
+            ≡ with_buffer (with_source (source (buffer_of self.new)) (buffer_of self.old)) self.old }
     {
         self.productions.input.input().take_errors()
     }
 
     /// Whether no token is left. Consumes nothing, and is refused for want of memory alone.
     pub fn at_end(&mut self) -> PResult<bool>
-        ensures again { has_failed self.old ≡ true → (self.new ≡ self.old) × (result ≡ Err (parser_failed (previous (buffer_of self.old)))) }
-        ensures looks { has_failed self.old ≡ false → MatchResult result (λ r. Here I.state I.gives (buffer_of self.old) (buffer_of self.new)) (λ e. Forgoes I.state I.gives (buffer_of self.old) e (buffer_of self.new)) }
-        ensures nodes { nodes_of self.new ≡ nodes_of self.old }
-        ensures end { IfOk result (λ r. r ≡ true → (current (buffer_of self.new) ≡ None) × ((I.state (source (buffer_of self.new))).ended ≡ true)) }
-        ensures token { IfOk result (λ r. r ≡ false → IsSome (current (buffer_of self.new))) }
-        ensures fails { has_failed self.old ≡ false → has_failed self.new ≡ wants_memory result }
+        ensures { Called (SeesEnd I.model) self.old result self.new }
     {
         self.begin()?;
         let answer = self.productions.is_end();
@@ -127,11 +123,7 @@ impl<I: Tokens, B: Bodies<I>> Parser<I, B> {
     ///
     /// The nodes that were made are appended to those that there were. After a refusal the nodes are those from before.
     pub fn parse_expr_id(&mut self) -> PResult<ExprId>
-        ensures again { has_failed self.old ≡ true → (self.new ≡ self.old) × (result ≡ Err (parser_failed (previous (buffer_of self.old)))) }
-        ensures promised { has_failed self.old ≡ false → Promised I.state I.gives (hook_of B.reads_fun B.reads_class B.reads_block) (tree_of (nodes_of self.new)) Expr (buffer_of self.old) result (buffer_of self.new) }
-        ensures nodes { MatchResult result (λ id. Grows (nodes_of self.old) (nodes_of self.new)) (λ e. SameNodes (nodes_of self.old) (nodes_of self.new)) }
-        ensures has { IfOk result (λ id. From (count (nodes_of self.old)) (nodes_of self.new) (expr_part id)) }
-        ensures fails { has_failed self.old ≡ false → has_failed self.new ≡ wants_memory result }
+        ensures promised { Promised I.model B.is_faithful B.forms by_number Expr self.old result self.new }
     {
         self.begin()?;
         let start = self.productions.nodes.len();
@@ -144,10 +136,7 @@ impl<I: Tokens, B: Bodies<I>> Parser<I, B> {
     ///
     /// The end is refused as `Eof`, where the token consumed last ends.
     pub fn parse_expr(&mut self) -> PResult<Box<ExprOf<B>>>
-        ensures again { has_failed self.old ≡ true → (self.new ≡ self.old) × (result ≡ Err (parser_failed (previous (buffer_of self.old)))) }
-        ensures promised { has_failed self.old ≡ false → Promised I.state I.gives (hook_of B.reads_fun B.reads_class B.reads_block) (tree_by B.Fun.place B.Class.place B.Block.place) Expr (buffer_of self.old) result (buffer_of self.new) }
-        ensures nodes { SameNodes (nodes_of self.old) (nodes_of self.new) }
-        ensures fails { has_failed self.old ≡ false → has_failed self.new ≡ wants_memory result }
+        ensures promised { Promised I.model B.is_faithful B.forms in_boxes Expr self.old result self.new }
     {
         self.begin()?;
         let start = self.productions.nodes.len();
@@ -160,10 +149,7 @@ impl<I: Tokens, B: Bodies<I>> Parser<I, B> {
     ///
     /// The end is refused as `Eof`, where the token consumed last ends.
     pub fn parse_assignment_expr(&mut self) -> PResult<Box<ExprOf<B>>>
-        ensures again { has_failed self.old ≡ true → (self.new ≡ self.old) × (result ≡ Err (parser_failed (previous (buffer_of self.old)))) }
-        ensures promised { has_failed self.old ≡ false → Promised I.state I.gives (hook_of B.reads_fun B.reads_class B.reads_block) (tree_by B.Fun.place B.Class.place B.Block.place) Assign (buffer_of self.old) result (buffer_of self.new) }
-        ensures nodes { SameNodes (nodes_of self.old) (nodes_of self.new) }
-        ensures fails { has_failed self.old ≡ false → has_failed self.new ≡ wants_memory result }
+        ensures promised { Promised I.model B.is_faithful B.forms in_boxes Assign self.old result self.new }
     {
         self.begin()?;
         let start = self.productions.nodes.len();
@@ -180,10 +166,7 @@ impl<I: Tokens, B: Bodies<I>> Parser<I, B> {
     /// `TS1109` is recorded at the operator, and a node of `Invalid` stands in for the operand, at
     /// the place of the refusal.
     pub fn parse_bin_expr(&mut self) -> PResult<Box<ExprOf<B>>>
-        ensures again { has_failed self.old ≡ true → (self.new ≡ self.old) × (result ≡ Err (parser_failed (previous (buffer_of self.old)))) }
-        ensures promised { has_failed self.old ≡ false → Promised I.state I.gives (hook_of B.reads_fun B.reads_class B.reads_block) (tree_by B.Fun.place B.Class.place B.Block.place) (Level 1) (buffer_of self.old) result (buffer_of self.new) }
-        ensures nodes { SameNodes (nodes_of self.old) (nodes_of self.new) }
-        ensures fails { has_failed self.old ≡ false → has_failed self.new ≡ wants_memory result }
+        ensures promised { Promised I.model B.is_faithful B.forms in_boxes (Level 1) self.old result self.new }
     {
         self.begin()?;
         let start = self.productions.nodes.len();
@@ -206,10 +189,7 @@ impl<I: Tokens, B: Bodies<I>> Parser<I, B> {
     /// an expression in parentheses and is no `)` as `Expected`, at the current token, and the end
     /// there as `Eof`; what follows `#` and is no word as `ExpectedIdent`.
     pub fn parse_unary_expr(&mut self) -> PResult<Box<ExprOf<B>>>
-        ensures again { has_failed self.old ≡ true → (self.new ≡ self.old) × (result ≡ Err (parser_failed (previous (buffer_of self.old)))) }
-        ensures promised { has_failed self.old ≡ false → Promised I.state I.gives (hook_of B.reads_fun B.reads_class B.reads_block) (tree_by B.Fun.place B.Class.place B.Block.place) Unary (buffer_of self.old) result (buffer_of self.new) }
-        ensures nodes { SameNodes (nodes_of self.old) (nodes_of self.new) }
-        ensures fails { has_failed self.old ≡ false → has_failed self.new ≡ wants_memory result }
+        ensures promised { Promised I.model B.is_faithful B.forms in_boxes Unary self.old result self.new }
     {
         self.begin()?;
         let start = self.productions.nodes.len();
@@ -222,12 +202,7 @@ impl<I: Tokens, B: Bodies<I>> Parser<I, B> {
     ///
     /// The end is refused as `Eof`, where the token consumed last ends, and another token as `TS1109`.
     pub fn parse_lit(&mut self) -> PResult<Lit>
-        ensures again { has_failed self.old ≡ true → (self.new ≡ self.old) × (result ≡ Err (parser_failed (previous (buffer_of self.old)))) }
-        ensures reads { has_failed self.old ≡ false → Reads I.state I.gives (buffer_of self.old) result (buffer_of self.new) }
-        ensures literal { has_failed self.old ≡ false → IfOk result (λ l. Literal I.state I.gives (lit_in (nodes_of self.old) l) (buffer_of self.old) (buffer_of self.new)) }
-        ensures none { has_failed self.old ≡ false → IfErr result (λ e. NoLiteral I.state (buffer_of self.old) e) }
-        ensures nodes { nodes_of self.new ≡ nodes_of self.old }
-        ensures fails { has_failed self.old ≡ false → has_failed self.new ≡ wants_memory result }
+        ensures { Called (PromisedLit I.model B.forms) self.old result self.new }
     {
         self.begin()?;
         let answer = self.productions.parse_lit();
@@ -237,7 +212,8 @@ impl<I: Tokens, B: Bodies<I>> Parser<I, B> {
     /// Keeps the nodes that were made for the answer, or cuts them off after a refusal.
     fn keep(&mut self, start: usize, answer: PResult<ExprId>) -> PResult<ExprId>
         ensures answer { result ≡ answer }
-        ensures nodes { MatchResult answer (λ id. nodes_of self.new ≡ nodes_of self.old) (λ e. CutTo start (nodes_of self.old) (nodes_of self.new)) }
+        ensures nodes { MatchResult answer (λ id. nodes_of self.new ≡ nodes_of self.old)
+            (λ e. CutTo start (nodes_of self.old) (nodes_of self.new)) }
         ensures buffer { buffer_of self.new ≡ buffer_of self.old }
         ensures runs { has_failed self.new ≡ has_failed self.old }
     {
@@ -250,7 +226,7 @@ impl<I: Tokens, B: Bodies<I>> Parser<I, B> {
     /// Moves the tree of the answer out of the nodes, and cuts off those that were made for it.
     fn move_out(&mut self, start: usize, answer: PResult<ExprId>) -> PResult<Box<ExprOf<B>>>
         requires { IfOk answer (λ id. From start (nodes_of self.old) (expr_part id)) }
-        ensures moved { MatchResult answer (λ id. MatchResult result (λ e. tree_by B.Fun.place B.Class.place B.Block.place e ≡ tree_of (nodes_of self.old) id) (λ e. e ≡ no_memory (last_position (buffer_of self.old)))) (λ e. result ≡ Err e) }
+        ensures moved { MovesOut self.old answer result }
         ensures nodes { CutTo start (nodes_of self.old) (nodes_of self.new) }
         ensures buffer { buffer_of self.new ≡ buffer_of self.old }
         ensures runs { has_failed self.new ≡ has_failed self.old }
@@ -276,7 +252,8 @@ impl<I: Tokens, B: Bodies<I>> Parser<I, B> {
     /// After want of memory, refuses.
     fn begin(&self) -> PResult<()>
         ensures runs { OnOk result (has_failed self.now ≡ false) }
-        ensures again { IfErr result (λ e. (has_failed self.now ≡ true) × (e ≡ parser_failed (previous (buffer_of self.now)))) }
+        ensures again { IfErr result
+            (λ e. (has_failed self.now ≡ true) × (e ≡ parser_failed (previous (buffer_of self.now)))) }
     {
         if self.failed {
             let span = self.productions.input.prev_span();

@@ -1,40 +1,53 @@
--- What the grammar derives, the clean parser reads; so each symbol has one reading from each place where nothing continues it.
-use Rattle.std.proofs.Common.{◌≡◌, ℕ, zero, suc, ◌<◌, ◌≤◌, min, Bool, true, false, not, ◌||◌, List, [], ◌∷◌, Option, Some, None, refl, ◌∙◌, arith}
+-- What the grammar derives, the clean parser reads, where nothing goes on that it would take too.
+use Rattle.std.specs.Prelude.{◌≡◌, ℕ, zero, suc, ◌≤◌, ◌<◌, min, Bool, true, false, not, ◌||◌, List, [], ◌∷◌}
+use Rattle.std.specs.Prelude.{◌++◌, Option, Some, None}
+use Rattle.std.proofs.Common.{refl, sym as sym_path, ap, subst, ◌∙◌, arith}
 use Rattle.std.proofs.lemmas.Bool.{eqb-true, ltb-true, le-leb, lt-leb}
 use Rattle.swc_context.specs.Operators.{precedence_of}
 use Rattle.swc_context.specs.declared.context.Context.{Context}
-use Rattle.swc_context.specs.declared.operator.BinOpToken.TheVariants as sign
 use Rattle.swc_context.specs.declared.operator.BinaryOp.{BinaryOp}
 use Rattle.swc_context.specs.declared.operator.BinaryOp.TheVariants as binary
-use Rattle.swc_context.specs.declared.operator.UnaryOp.{UnaryOp}
 use Rattle.swc_context.specs.declared.span.Span.{Span}
 use Rattle.swc_context.specs.declared.word.Keyword.TheVariants as keyword
-use Rattle.swc_context.specs.declared.word.Word.{Word}
 use Rattle.swc_context.specs.declared.word.Word.TheVariants as word
 use Rattle.swc_input.specs.declared.token.Token.{Token}
 use Rattle.swc_input.specs.declared.token.Token.TheVariants as token
 use Rattle.swc_input.specs.declared.token.TokenAndSpan.{TokenAndSpan}
 use Rattle.swc_input.specs.Kinds.{at_token}
 use Rattle.swc_ast.specs.Tree.{Tree, span_of}
-use Rattle.swc_grammar.specs.Names.{Spelling, Reference, Name, ReadsName, reference, any-word}
-use Rattle.swc_grammar.specs.Tokens.{tk, with_in, is_reference, may_be_reference, is_put_off, ref_ok, binary_of, prefix_of, is_closer, is_word_apart, is_stop, is_comma}
-use Rattle.swc_grammar.specs.Trees.{to, ident_e, private_e, unary_e, paren_e, bin_e, nullish_ok, logical_ok, delete_ok, is_unary, exp_ok, min_right}
-use Rattle.swc_grammar.specs.Grammar.{Hook, Symbol, Expr, Assign, Level, Unary, Primary, Reads, is_stop_for, Stops, at-end, at-stop}
-use Rattle.swc_grammar.specs.Grammar.{expr-one, assign-level, level-up, level-op, level-unary, level-exp, unary-prefix, unary-primary}
-use Rattle.swc_grammar.specs.Grammar.{primary-null, primary-true, primary-false, primary-num, primary-big, primary-str, primary-ref, primary-private, primary-paren}
-use Rattle.swc_grammar.specs.Clean.{first, is_rparen, no_error, operator_at, prefix_at, Bound, left_ok, may_name, Call, to_assign, to_unary, to_operand, to_climb}
-use Rattle.swc_grammar.specs.Clean.{word as word_name, lit, name, hashed, private_name, inside, close, opened, parens, primary, prefixed, prefix, unary}
-use Rattle.swc_grammar.specs.Clean.{operation, turn_by, turn, turned, climb, operand, assign, run}
+use Rattle.swc_bodies.specs.Readings.{whole_span, Hook}
+use Rattle.swc_grammar.specs.Rule.{Rule, gives, never, take, check, peek, read, hear, sees, given, ◌>>=◌}
+use Rattle.swc_grammar.specs.Tokens.{tk, with_in, binary_of, prefix_of, is_rparen, is_power, is_closer, is_word_apart}
+use Rattle.swc_grammar.specs.Tokens.{is_stop, is_comma}
+use Rattle.swc_grammar.specs.Trees.{to, bin_e, nullish_ok, logical_ok, exp_ok, is_unary, min_right}
+use Rattle.swc_grammar.specs.Symbols.{Symbol, Expr, Assign, Level, Unary, Primary, Literal, Answer, Body, Value}
+use Rattle.swc_grammar.specs.Symbols.{begins_body, Side}
+use Rattle.swc_grammar.specs.Parts.{reference, any_name, lit_of, prefix_here, operator_here}
+use Rattle.swc_grammar.specs.Grammar.{Production, ident, lit, paren-expr, unary-primary, unary-expr, exp-unary}
+use Rattle.swc_grammar.specs.Grammar.{exp-expr, primary-literal}
+use Rattle.swc_grammar.specs.Grammar.{level-up, bin-expr, private-name, assign-level, expr-assign}
+use Rattle.swc_grammar.specs.Reads.{Hears, Reads, by, Follows, gave, took, held, calm, part, heard, is_stop_for, Stops}
+use Rattle.swc_grammar.specs.Reads.{at-end, at-stop}
+use Rattle.swc_grammar.specs.Clean.{Out, and_then, first, Call, sym, climb, plan, rank_of, rank, allowed, exec}
+use Rattle.swc_grammar.specs.Clean.{operator_at, prefix_at}
+use Rattle.swc_grammar.specs.Clean.{Bound, Stop, left_ok, no_error, Choice, pick, chosen, expr, assign, unary, primary}
+use Rattle.swc_grammar.specs.Clean.{literal, is_lit, turn, turned, step, run}
+use Rattle.swc_grammar.specs.Firsts.{starts, begins_primary, begins_expression}
+use Rattle.swc_grammar.proofs.Bodies.{hears-run}
+use Rattle.swc_grammar.proofs.Good.{Good, good}
+use Rattle.swc_grammar.proofs.Only.{only-lparen, only-rparen, only-hash, only-power}
+use Rattle.swc_grammar.proofs.Firsts.{Under, under-held, given-held, begins, placed-op, reference-first}
 use Rattle.swc_grammar.proofs.Knot.{knot}
-use Rattle.swc_grammar.proofs.Levels.{bound-some, min-right-same}
+use Rattle.swc_grammar.proofs.Levels.{bound-some, bound-above, min-right-same}
 
--- where a symbol's reading may stop, no operator is read
-stop-token : (c : Context) (t : Token) (b : Bool) → (is_comma t || (is_closer t || is_word_apart t b)) ≡ true → binary_of c t ≡ None
-stop-token c (token.Word (word.Keyword keyword.In)) true h = cc
-stop-token c (token.Word (word.Keyword keyword.In)) false h = cc
-stop-token c (token.Word (word.Keyword keyword.InstanceOf)) true h = cc
-stop-token c (token.Word (word.Keyword keyword.InstanceOf)) false h = cc
-stop-token c (token.BinOp o) b h = cc
+-- at the end and before a hard stop no operator is read
+stop-token : (c : Context) (t : Token) (b : Bool) → (is_comma t || (is_closer t || is_word_apart t b)) ≡ true
+    → binary_of c t ≡ None
+stop-token c (token.Word (word.Keyword keyword.In)) true h = absurd cc
+stop-token c (token.Word (word.Keyword keyword.In)) false h = absurd cc
+stop-token c (token.Word (word.Keyword keyword.InstanceOf)) true h = absurd cc
+stop-token c (token.Word (word.Keyword keyword.InstanceOf)) false h = absurd cc
+stop-token c (token.BinOp o) b h = absurd cc
 stop-token c t b h = refl
 
 or-right : (a b : Bool) → b ≡ true → (a || b) ≡ true
@@ -45,258 +58,349 @@ stop-any : (s : Symbol) (t : TokenAndSpan) → is_stop_for s t ≡ true → (is_
 stop-any Expr t h = or-right (is_comma t.token) (is_stop t) h
 stop-any s t h = h
 
-no-operator : (s : Symbol) (c : Context) (ys : List TokenAndSpan) → Stops s ys → operator_at c (first ys) ≡ None
-no-operator s c [] at-end = refl
-no-operator s c (t ∷ ts) (at-stop h) = stop-token c t.token t.had_line_break (stop-any s t h)
-
 pub stops-bound : {ys : List TokenAndSpan} (s : Symbol) (c : Context) → Stops s ys → Bound c 0 ys
-stops-bound {ys = ys} s c h = λ op e. let n = no-operator s c ys h in absurd cc
+stops-bound s c at-end = λ op e. absurd cc
+stops-bound s c (at-stop {t = t} h) =
+    let n = stop-token c t.token t.had_line_break (stop-any s t h) in λ op e. absurd cc
 
--- what a reading begins with: a token that is no fault and closes no parenthesis
-abbrev Begins : List TokenAndSpan → Type 0
-Begins xs = (at_token no_error (first xs) ≡ true) × (at_token is_rparen (first xs) ≡ false)
+-- Of a level the claim holds for climbing on from any precedence below it: so what a level above read needs no second
+-- climbing. And no `**` follows, since the right operand of one before would take it.
+abbrev Claim : {F C K : Type 0} (hook : Hook F C K) (s : Symbol)
+    → Context → List TokenAndSpan → List TokenAndSpan → Answer F C K s → Type 0
+Claim hook (Level zero) c xs ys t = Unit {0}
+Claim hook (Level (suc n)) c xs ys t = n ≤ 10 → Bound c (min (suc n) 10) ys → (m : ℕ) → m ≤ n
+    → run hook (sym (Level (suc m))) c xs ≡ run hook (climb t m) c ys
+Claim hook s c xs ys t = Stop s c ys → run hook (sym s) c xs ≡ Some (t, ys)
 
-prefix-begins : (t : Token) (op : UnaryOp) → prefix_of t ≡ Some op → (no_error t ≡ true) × (is_rparen t ≡ false)
-prefix-begins (token.Error e) op h = absurd cc
-prefix-begins token.RParen op h = absurd cc
-prefix-begins t op h = (refl, refl)
-
-begins : {F C K : Type 0} {hook : Hook F C K} {s : Symbol} {c : Context} {xs ys : List TokenAndSpan} {t : Tree F C K} → Reads hook s c xs ys t → Begins xs
-begins (expr-one d) = begins d
-begins (assign-level d) = begins d
-begins (level-up n d) = begins d
-begins (level-op o k n m l d e) = begins d
-begins (level-unary d) = begins d
-begins (level-exp d n e) = begins d
-begins (unary-prefix {op = op} {t = t} o d n) = prefix-begins t op o
-begins (unary-primary d) = begins d
-begins primary-null = (refl, refl)
-begins primary-true = (refl, refl)
-begins primary-false = (refl, refl)
-begins primary-num = (refl, refl)
-begins primary-big = (refl, refl)
-begins primary-str = (refl, refl)
-begins (primary-ref h d) = (refl, refl)
-begins (primary-private d) = (refl, refl)
-begins (primary-paren d) = (refl, refl)
-
--- a tree that the grammar derives passes the test after a turn
-left-ok : {F C K : Type 0} {hook : Hook F C K} {s : Symbol} {c : Context} {xs ys : List TokenAndSpan} {t : Tree F C K} → Reads hook s c xs ys t
-    → left_ok t ≡ true
-left-ok (expr-one d) = left-ok d
-left-ok (assign-level d) = left-ok d
-left-ok (level-up n d) = left-ok d
-left-ok (level-op o k n m l d e) = l
-left-ok (level-unary d) = left-ok d
-left-ok (level-exp d n e) = refl
-left-ok (unary-prefix o d n) = refl
-left-ok (unary-primary d) = left-ok d
-left-ok primary-null = refl
-left-ok primary-true = refl
-left-ok primary-false = refl
-left-ok primary-num = refl
-left-ok primary-big = refl
-left-ok primary-str = refl
-left-ok (primary-ref h d) = refl
-left-ok (primary-private d) = refl
-left-ok (primary-paren d) = refl
-
--- names
-reference-reads : {c : Context} {xs ys : List TokenAndSpan} {n : Spelling} → ReadsName Reference c xs ys n
-    → (word_name ref_ok c xs ≡ Some (n, ys)) × (at_token (may_be_reference c) (first xs) ≡ true)
-unfolding word_name
-reference-reads (reference h k) = (rw k refl, h)
-
-name-reads : {c : Context} {xs ys : List TokenAndSpan} {n : Spelling} → ReadsName Name c xs ys n → word_name may_name c xs ≡ Some (n, ys)
-unfolding word_name
-name-reads any-word = refl
-
--- no primary expression begins with a prefix operator
-no-prefix : (c : Context) (w : Word) → is_reference c w ≡ true → prefix_of (token.Word w) ≡ None
-no-prefix c (word.Keyword keyword.Delete) h = absurd cc
-no-prefix c (word.Keyword keyword.Void) h = absurd cc
-no-prefix c (word.Keyword keyword.TypeOf) h = absurd cc
-no-prefix c w h = refl
-
-begins-plain : {F C K : Type 0} {hook : Hook F C K} {c : Context} {xs ys : List TokenAndSpan} {t : Tree F C K} → Reads hook Primary c xs ys t
-    → prefix_at (first xs) ≡ None
-begins-plain primary-null = refl
-begins-plain primary-true = refl
-begins-plain primary-false = refl
-begins-plain primary-num = refl
-begins-plain primary-big = refl
-begins-plain primary-str = refl
-begins-plain (primary-ref {c = c} {w = w} h d) = no-prefix c w (reference-reads d).1
-begins-plain (primary-private d) = refl
-begins-plain (primary-paren d) = refl
-
--- climbing ends before an operator that binds no tighter, and takes one that does
-module _ {F C K : Type 0} where
-  turn-ends : (o : Option BinaryOp) (l : Tree F C K) (m : ℕ) (c : Context) (ts : List TokenAndSpan)
-      → ((op : BinaryOp) → o ≡ Some op → precedence_of op ≤ m) → turn_by run o l m c ts ≡ Some ((l, None), ts)
-  turn-ends None l m c ts b = refl
-  turn-ends (Some op) l m c ts b = rw (le-leb (precedence_of op) m (b op refl))
-
-  climb-ends : (t : Tree F C K) (m : ℕ) (c : Context) (ts : List TokenAndSpan) → left_ok t ≡ true → Bound c m ts → climb run t m c ts ≡ Some (t, ts)
-  unfolding climb turn turned
-  climb-ends t m c ts h b = rw (turn-ends (operator_at c (first ts)) t m c ts b, h)
-
-  operation-takes : (op : BinaryOp) (l r : Tree F C K) (m : ℕ) (c : Context) (ts us : List TokenAndSpan)
-      → exp_ok op l ≡ true → operand run (min_right op) c ts ≡ Some (r, us) → nullish_ok op l r ≡ true
-      → operation run op l m c ts ≡ Some ((bin_e (to (span_of l) (span_of r)) op l r, Some m), us)
-  unfolding operation
-  operation-takes op l r m c ts us x e h = rw (x, knot (to_operand (min_right op)) c ts, e, h)
-
-  turned-on : (t : Tree F C K) (m : ℕ) (c : Context) (ts : List TokenAndSpan) → left_ok t ≡ true → turned run t (Some m) c ts ≡ climb run t m c ts
-  unfolding turned
-  turned-on t m c ts h = rw h (knot (to_climb t m) c ts)
-
-  climb-takes : (op : BinaryOp) (l u : Tree F C K) (m : ℕ) (c : Context) (t : TokenAndSpan) (ts us : List TokenAndSpan)
-      → operator_at c (Some t) ≡ Some op → m < precedence_of op
-      → operation run op l m c ts ≡ Some ((u, Some m), us) → left_ok u ≡ true → climb run l m c (t ∷ ts) ≡ climb run u m c us
-  unfolding climb turn
-  climb-takes op l u m c t ts us o lt e h = rw (o, lt-leb (precedence_of op) m lt, e) (turned-on u m c us h)
-
-  operand-climbs : (m : ℕ) (c : Context) (xs ys : List TokenAndSpan) (t : Tree F C K) → unary run c xs ≡ Some (t, ys)
-      → operand run m c xs ≡ climb run t m c ys
-  unfolding operand
-  operand-climbs m c xs ys t e = rw e
-
-  assign-level-reads : (c : Context) (xs ys : List TokenAndSpan) (t : Tree F C K) → Begins xs → operand run 0 c xs ≡ Some (t, ys)
-      → assign run c xs ≡ Some (t, ys)
-  unfolding assign
-  assign-level-reads c xs ys t b e = rw b.0 e
-
-  prefixed-reads : (s : Span) (op : UnaryOp) (c : Context) (e : Tree F C K) (xs ys : List TokenAndSpan) → unary run c xs ≡ Some (e, ys)
-      → delete_ok c op e ≡ true → prefixed run s op c xs ≡ Some (unary_e (to s (span_of e)) op e, ys)
-  unfolding prefixed
-  prefixed-reads s op c e xs ys h d = let k : Call F C K = to_unary in rw (knot k c xs, h, d)
-
-  prefix-reads : (op : UnaryOp) (c : Context) (t : Token) (b : Bool) (s : Span) (xs ys : List TokenAndSpan) (u : Tree F C K) → prefix_of t ≡ Some op
-      → prefixed run s op c xs ≡ Some (u, ys) → unary run c (tk t b s ∷ xs) ≡ Some (u, ys)
-  unfolding unary prefix
-  prefix-reads op c t b s xs ys u o h = rw o h
-
-  unary-reads : (c : Context) (xs ys : List TokenAndSpan) (t : Tree F C K) → prefix_at (first xs) ≡ None → primary run c xs ≡ Some (t, ys)
-      → unary run c xs ≡ Some (t, ys)
-  unfolding unary
-  unary-reads c xs ys t o e = rw o e
-
-  ref-reads : (c : Context) (w : Word) (b : Bool) (s : Span) (n : Spelling) (ys : List TokenAndSpan) → is_reference c w ≡ true → not (is_put_off w) ≡ true
-      → word_name ref_ok c (tk (token.Word w) b s ∷ ys) ≡ Some (n, ys)
-      → primary {F = F} {C = C} {K = K} run c (tk (token.Word w) b s ∷ ys) ≡ Some (ident_e n.at n.text, ys)
-  unfolding primary name
-  ref-reads c word.Null b s n ys h g k = absurd cc
-  ref-reads c word.True b s n ys h g k = absurd cc
-  ref-reads c word.False b s n ys h g k = absurd cc
-  ref-reads c (word.Ident w) b s n ys h g k = rw (h, g, k)
-  ref-reads c (word.Keyword w) b s n ys h g k = rw (h, g, k)
-
-  private-reads : (c : Context) (b : Bool) (s : Span) (n : Spelling) (xs ys : List TokenAndSpan) → word_name may_name c xs ≡ Some (n, ys)
-      → primary {F = F} {C = C} {K = K} run c (tk token.Hash b s ∷ xs) ≡ Some (private_e (to s n.at) n.text, ys)
-  unfolding primary private_name hashed
-  private-reads c b s n xs ys h = rw h
-
-  paren-reads : (c : Context) (b b' : Bool) (s s' : Span) (e : Tree F C K) (xs ys : List TokenAndSpan) → Begins xs
-      → assign run (with_in c) xs ≡ Some (e, tk token.RParen b' s' ∷ ys)
-      → primary run c (tk token.LParen b s ∷ xs) ≡ Some (paren_e (to s s') e, ys)
-  unfolding primary parens opened inside close
-  paren-reads c b b' s s' e xs ys g h = let k : Call F C K = to_assign in rw (g.1, knot k (with_in c) xs, h)
-
--- Of a level the claim holds for climbing on from any precedence below it: so what a level above read needs no second climbing. And no `**`
--- follows, since the right operand of one before would take it.
-abbrev Claim : {F C K : Type 0} → Symbol → Context → List TokenAndSpan → List TokenAndSpan → Tree F C K → Type 0
-Claim Expr c xs ys t = Bound c 0 ys → assign run c xs ≡ Some (t, ys)
-Claim Assign c xs ys t = Bound c 0 ys → assign run c xs ≡ Some (t, ys)
-Claim (Level zero) c xs ys t = Unit {0}
-Claim (Level (suc n)) c xs ys t = Bound c (min (suc n) 10) ys → (m : ℕ) → m ≤ n → operand run m c xs ≡ climb run t m c ys
-Claim Unary c xs ys t = unary run c xs ≡ Some (t, ys)
-Claim Primary c xs ys t = primary run c xs ≡ Some (t, ys)
-
-bound-above : (c : Context) (m n : ℕ) (ys : List TokenAndSpan) → m ≤ n → Bound c m ys → Bound c n ys
-bound-above c m n ys le b = λ op e. let p = b op e in omega arith
-
--- operators but `**` take any left operand
-left-free : {F C K : Type 0} (op : BinaryOp) (l : Tree F C K) → precedence_of op ≤ 10 → exp_ok op l ≡ true
-left-free binary.Exp l h = absurd (omega arith)
-left-free op l h = refl
+starting : (Q : List TokenAndSpan → Type 0) (P : Token → Bool) (xs : List TokenAndSpan) → at_token P (first xs) ≡ true
+    → ((a : TokenAndSpan) (us : List TokenAndSpan) → P a.token ≡ true → Q (a ∷ us)) → Q xs
+starting Q P [] h f = absurd cc
+starting Q P (a ∷ us) h f = f a us h
 
 module _ {F C K : Type 0} where
-  -- an operand, up to where its operators end
-  operand-reads : (n : ℕ) (c : Context) (t : Tree F C K) (xs ys : List TokenAndSpan) → n ≤ 10 → left_ok t ≡ true → Claim (Level (suc n)) c xs ys t
-      → Bound c n ys → operand run n c xs ≡ Some (t, ys)
-  operand-reads n c t xs ys le w h b = h (bound-above c n (min (suc n) 10) ys (omega arith) b) n (omega arith) ∙ climb-ends t n c ys w b
+  -- what stands before a side is followed by tokens of which Q holds
+  abbrev Before : {A : Type 0} → (List TokenAndSpan → Type 0) → List TokenAndSpan
+      → Rule Symbol (Answer F C K) Body (Value F C K) A → Type 0
+  Before Q ys (gives a) = Q ys
+  Before Q ys never = Unit {0}
+  Before Q ys (take f) = (a : TokenAndSpan) (us : List TokenAndSpan) → Under (Q (a ∷ us)) (f a)
+  Before Q ys (check b r) = b ≡ true → Before Q ys r
+  Before Q ys (peek p r) = Before (λ xs. sees p xs ≡ false → Q xs) ys r
+  Before Q ys (read s c f) = (a : TokenAndSpan) (us : List TokenAndSpan) → starts s c a.token ≡ true → Q (a ∷ us)
+  Before Q ys (hear b c f) = (own us : List TokenAndSpan) → begins_body b own ≡ true → Q (own ++ us)
 
-  -- two operands with an operator between them
-  climb-reads : (op : BinaryOp) (m : ℕ) (c : Context) (t : TokenAndSpan) (l r : Tree F C K) (ms ys : List TokenAndSpan)
-      → operator_at c (Some t) ≡ Some op → m < precedence_of op → exp_ok op l ≡ true → nullish_ok op l r ≡ true → logical_ok op l ≡ true
-      → operand run (min_right op) c ms ≡ Some (r, ys) → climb run l m c (t ∷ ms) ≡ climb run (bin_e (to (span_of l) (span_of r)) op l r) m c ys
-  climb-reads op m c t l r ms ys o lt x k g e =
-      climb-takes op l (bin_e (to (span_of l) (span_of r)) op l r) m c t ms ys o lt (operation-takes op l r m c ms ys x e k) g
+  -- a side may be run: its parts stop before what follows them, and a call that stands first is of a lower rank
+  abbrev Ready : {A : Type 0} → Option ℕ → List TokenAndSpan → Rule Symbol (Answer F C K) Body (Value F C K) A → Type 0
+  Ready g ys (gives a) = Unit {0}
+  Ready g ys never = Unit {0}
+  Ready g ys (take f) = (a : TokenAndSpan) → Ready None ys (f a)
+  Ready g ys (check b r) = b ≡ true → Ready g ys r
+  Ready g ys (peek p r) = Ready g ys r
+  Ready g ys (read s c f) =
+      (allowed g (rank_of s) ≡ true) × ((e : Answer F C K s) → Before (Stop s c) ys (f e) × Ready g ys (f e))
+  Ready g ys (hear b c f) = (v : Value F C K b) (s : Span) → Ready None ys (f v s)
 
-  op-reads : (n : ℕ) (op : BinaryOp) (c : Context) (t : TokenAndSpan) (l r : Tree F C K) (xs ms ys : List TokenAndSpan) → suc n ≤ 10
-      → operator_at c (Some t) ≡ Some op → precedence_of op ≡ suc n → nullish_ok op l r ≡ true → logical_ok op l ≡ true → left_ok r ≡ true
-      → Claim (Level (suc n)) c xs (t ∷ ms) l → Claim (Level (suc (suc n))) c ms ys r
-      → Claim (Level (suc n)) c xs ys (bin_e (to (span_of l) (span_of r)) op l r)
-  op-reads n op c t l r xs ms ys top o p k g w left right = λ b m le.
+  ready-given : {A D : Type 0} (g : Option ℕ) (ys : List TokenAndSpan) (o : Option A)
+      (k : A → Rule Symbol (Answer F C K) Body (Value F C K) D)
+      → ((x : A) → o ≡ Some x → Ready g ys (k x)) → Ready g ys (given o >>= k)
+  ready-given g ys None k f = tt
+  ready-given g ys (Some x) k f = f x refl
+
+  before-held : {hook : Hook F C K} {s : Symbol} {r : Side F C K s} {xs ys : List TokenAndSpan} {t : Answer F C K s}
+      (Q : List TokenAndSpan → Type 0) → Follows hook s r xs ys t → Before Q ys r → Q xs
+  before-held Q gave b = b
+  before-held Q (took {a = a} {xs = xs} d) b = under-held d (b a xs)
+  before-held Q (held h d) b = before-held Q d (b h)
+  before-held Q (calm {p = p} h d) b = before-held (λ us. sees p us ≡ false → Q us) d b h
+  before-held Q (part {s' = s'} {c = c} {xs = xs} e d) b = starting Q (starts s' c) xs (begins e) b
+  before-held Q (heard {ms = ms} h d) b = subst Q (sym_path h.list) (b h.own ms h.begins)
+
+module _ {F C K : Type 0} (hook : Hook F C K) where
+  then-some : {A : Type 0} (o : Out A) → and_then o (λ e us. Some (e, us)) ≡ o
+  then-some None = refl
+  then-some (Some p) = refl
+
+  -- a call that stands last
+  pub last : (g : Option ℕ) (k : Call F C K) (c : Context) (ts : List TokenAndSpan) → allowed g (rank k) ≡ true
+      → exec hook (run hook) g (read k c (λ v. gives v)) ts ≡ run hook k c ts
+  last g k c ts h = rw h (then-some (run hook k c ts))
+
+  -- climbing
+  turn-ends : (o : Option BinaryOp) (l : Tree F C K) (m : ℕ) (c : Context) (ts : List TokenAndSpan) → left_ok l ≡ true
+      → ((op : BinaryOp) → o ≡ Some op → precedence_of op ≤ m)
+      → exec hook (run hook) (Some 1) (turn o l m c >>= (λ q. turned q.0 q.1 c)) ts ≡ Some (l, ts)
+  turn-ends None l m c ts w b = rw w refl
+  turn-ends (Some op) l m c ts w b = rw (le-leb (precedence_of op) m (b op refl), w) refl
+
+  climb-ends : (t : Tree F C K) (m : ℕ) (c : Context) (ts : List TokenAndSpan) → left_ok t ≡ true → Bound c m ts
+      → run hook (climb t m) c ts ≡ Some (t, ts)
+  climb-ends t m c ts w b = knot hook (climb t m) c ts ∙ turn-ends (operator_at c (first ts)) t m c ts w b
+
+  climb-takes : (op : BinaryOp) (m : ℕ) (c : Context) (t : TokenAndSpan) (l r : Tree F C K) (ms ys : List TokenAndSpan)
+      → binary_of c t.token ≡ Some op → m < precedence_of op → exp_ok op l ≡ true → nullish_ok op l r ≡ true
+      → logical_ok op l ≡ true
+      → run hook (sym (Level (suc (min_right op)))) c ms ≡ Some (r, ys)
+      → run hook (climb l m) c (t ∷ ms) ≡ run hook (climb (bin_e (to (span_of l) (span_of r)) op l r) m) c ys
+  climb-takes op m c t l r ms ys o lt x n g e =
+      knot hook (climb l m) c (t ∷ ms)
+      ∙ rw (o, lt-leb (precedence_of op) m lt, x, e, n, g)
+      (last None (climb (bin_e (to (span_of l) (span_of r)) op l r) m) c ys refl)
+
+  operand-climbs : (m : ℕ) (c : Context) (xs ys : List TokenAndSpan) (t : Tree F C K) → m ≤ 10
+      → run hook (sym Unary) c xs ≡ Some (t, ys)
+      → run hook (sym (Level (suc m))) c xs ≡ run hook (climb t m) c ys
+  operand-climbs m c xs ys t le e =
+      knot hook (sym (Level (suc m))) c xs ∙ rw (le-leb m 10 le, e) (last (Some 11) (climb t m) c ys refl)
+
+  -- a choice
+  pub picks : (s : Symbol) (c : Context) (xs : List TokenAndSpan) {r : Side F C K s} (p : Production s c r)
+      (x : Choice F C K s c)
+      {o : Out (Answer F C K s)} → step (sym s) c xs ≡ chosen x → x ≡ pick p
+      → exec hook (run hook) (Some (rank_of s)) (plan r) xs ≡ o → run hook (sym s) c xs ≡ o
+  picks s c xs p x e h d =
+      knot hook (sym s) c xs ∙ ap (λ v. exec hook (run hook) (Some (rank_of s)) v xs) e
+      ∙ ap (λ v. exec hook (run hook) (Some (rank_of s)) (chosen v) xs) h ∙ d
+
+  -- the claim, where the reading stops
+  settle : (s : Symbol) (c : Context) (xs ys : List TokenAndSpan) (t : Answer F C K s) → Good F C K s t
+      → Claim hook s c xs ys t → Stop s c ys → run hook (sym s) c xs ≡ Some (t, ys)
+  settle (Level zero) c xs ys t g h stop = absurd stop
+  settle (Level (suc n)) c xs ys t g h (le, b) =
+      h le (bound-above c n (min (suc n) 10) ys (omega arith) b) n (omega arith) ∙ climb-ends t n c ys g.left b
+  settle s c xs ys t g h stop = h stop
+
+  -- no reading goes on with `)`
+  quiet-rparen : (c : Context) (a : TokenAndSpan) (us : List TokenAndSpan) → is_rparen a.token ≡ true
+      → Stop Assign c (a ∷ us)
+  quiet-rparen c a us h =
+      only-rparen (λ v. Stop Assign c (tk v a.had_line_break a.span ∷ us)) (λ op k. absurd cc) a.token h
+
+  -- Which production is picked, where it is followed.
+  no-error-first : (c : Context) (xs : List TokenAndSpan) → at_token (begins_expression c) (first xs) ≡ true
+      → at_token no_error (first xs) ≡ true
+  no-error-first c [] h = absurd cc
+  no-error-first c (a ∷ us) h = by-token a.token h
+    where
+      by-token : (t : Token) → begins_expression c t ≡ true → no_error t ≡ true
+      by-token (token.Error e) h = absurd cc
+      by-token t h = refl
+
+  no-prefix-first : (c : Context) (xs : List TokenAndSpan) → at_token (begins_primary c) (first xs) ≡ true
+      → prefix_at (first xs) ≡ None
+  no-prefix-first c [] h = refl
+  no-prefix-first c (a ∷ us) h = by-token a.token h
+    where
+      by-token : (t : Token) → begins_primary c t ≡ true → prefix_of t ≡ None
+      by-token (token.Word (word.Keyword keyword.Delete)) h = absurd cc
+      by-token (token.Word (word.Keyword keyword.Void)) h = absurd cc
+      by-token (token.Word (word.Keyword keyword.TypeOf)) h = absurd cc
+      by-token (token.BinOp b) h = absurd cc
+      by-token token.Tilde h = absurd cc
+      by-token token.Bang h = absurd cc
+      by-token t h = refl
+
+  lit-token : (c : Context) (t : Token) (b : Bool) (s : Span) (us : List TokenAndSpan) → is_lit t ≡ true
+      → primary {F = F} {C = C} {K = K} c (tk t b s ∷ us) ≡ pick primary-literal
+  lit-token c (token.Word word.Null) b s us h = refl
+  lit-token c (token.Word word.True) b s us h = refl
+  lit-token c (token.Word word.False) b s us h = refl
+  lit-token c (token.Num raw) b s us h = refl
+  lit-token c (token.BigInt raw) b s us h = refl
+  lit-token c (token.Str value raw) b s us h = refl
+  lit-token c t b s us h = absurd cc
+
+  pub lit-picks : (c : Context) (xs : List TokenAndSpan) → at_token is_lit (first xs) ≡ true
+      → primary {F = F} {C = C} {K = K} c xs ≡ pick primary-literal
+  lit-picks c [] h = absurd cc
+  lit-picks c (a ∷ us) h = lit-token c a.token a.had_line_break a.span us h
+
+  picked-assign : {c : Context} {r : Side F C K Assign} {xs ys : List TokenAndSpan} {t : Tree F C K}
+      (p : Production Assign c r)
+      → Follows hook Assign r xs ys t → assign c xs ≡ pick p
+  picked-assign {c = c} assign-level (part {xs = xs} e d) = rw (no-error-first c xs (begins e)) refl
+
+  picked-unary : {c : Context} {r : Side F C K Unary} {xs ys : List TokenAndSpan} {t : Tree F C K}
+      (p : Production Unary c r)
+      → Follows hook Unary r xs ys t → unary c xs ≡ pick p
+  picked-unary unary-expr (took {a = a} d) =
+      let (x, h, k) = given-held (prefix_here a.token a.span) _ d in rw
+      (placed-op (prefix_of a.token) a.span x.0 x.1 h) refl
+  picked-unary {c = c} unary-primary (part {xs = xs} e d) = rw (no-prefix-first c xs (begins e)) refl
+
+  picked-primary : {c : Context} {r : Side F C K Primary} {xs ys : List TokenAndSpan} {t : Tree F C K}
+      (p : Production Primary c r)
+      → Follows hook Primary r xs ys t → primary c xs ≡ pick p
+  picked-primary {c = c} ident (took {a = a} d) =
+      let (n, h, k) = given-held (reference c a.token a.span) _ d in rw (reference-first c a.token a.span n h).0 refl
+  picked-primary {c = c} primary-literal (part {xs = xs} e d) = lit-picks c xs (begins e)
+  picked-primary {c = c} paren-expr (took {a = a} {xs = us} (held h d)) =
+      only-lparen (λ v. primary {F = F} {C = C} {K = K} c (tk v a.had_line_break a.span ∷ us)
+      ≡ pick paren-expr) refl a.token h
+  picked-primary {c = c} private-name (took {a = a} {xs = us} (held h d)) =
+      only-hash (λ v. primary {F = F} {C = C} {K = K} c (tk v a.had_line_break a.span ∷ us)
+      ≡ pick private-name) refl a.token h
+
+  -- where a symbol's reading stops, what a picked production reads stops too
+  ready-unary : {c : Context} {r : Side F C K Unary} (ys : List TokenAndSpan) → Production Unary c r
+      → Ready (Some 10) ys r
+  ready-unary ys unary-expr =
+      λ a. ready-given _ _ (prefix_here a.token a.span) _ (λ x h. (refl, λ e. (λ n. tt, λ n. tt)))
+  ready-unary ys unary-primary = (refl, λ e. (tt, tt))
+
+  ready-primary : {c : Context} {r : Side F C K Primary} (ys : List TokenAndSpan) → Production Primary c r
+      → Ready (Some 8) ys r
+  ready-primary ys (ident {c = c}) = λ a. ready-given _ _ (reference c a.token a.span) _ (λ n h. tt)
+  ready-primary ys primary-literal = (refl, λ e. (tt, tt))
+  ready-primary ys (paren-expr {c = c}) = λ a h. (refl, λ e. (λ b us. quiet-rparen (with_in c) b us, λ b k. tt))
+  ready-primary ys (private-name {c = c}) = λ a h b. ready-given _ _ (any_name c b.token b.span) _ (λ n h1. tt)
+
+  -- a side followed, with the claim of each part
+  data Ran : (s : Symbol) → Side F C K s → List TokenAndSpan → List TokenAndSpan → Answer F C K s → Type 0 where
+    ran-gave : {s : Symbol} {t : Answer F C K s} {ys : List TokenAndSpan} → Ran s (gives t) ys ys t
+    ran-took : {s : Symbol} {f : TokenAndSpan → Side F C K s} {a : TokenAndSpan} {xs ys : List TokenAndSpan}
+        {t : Answer F C K s} → Ran s (f a) xs ys t → Ran s (take f) (a ∷ xs) ys t
+    ran-held : {s : Symbol} {b : Bool} {r : Side F C K s} {xs ys : List TokenAndSpan} {t : Answer F C K s}
+        → b ≡ true → Ran s r xs ys t → Ran s (check b r) xs ys t
+    ran-calm : {s : Symbol} {p : TokenAndSpan → Bool} {r : Side F C K s} {xs ys : List TokenAndSpan}
+        {t : Answer F C K s}
+        → sees p xs ≡ false → Ran s r xs ys t → Ran s (peek p r) xs ys t
+    ran-part : {s s' : Symbol} {c : Context} {f : Answer F C K s' → Side F C K s} {e : Answer F C K s'}
+        {xs ms ys : List TokenAndSpan}
+        {t : Answer F C K s} → Reads hook s' c xs ms e → Claim hook s' c xs ms e → Ran s (f e) ms ys t
+        → Ran s (read s' c f) xs ys t
+    ran-heard : {s : Symbol} {b : Body} {c : Context} {f : Value F C K b → Span → Side F C K s} {v : Value F C K b}
+        {xs ms ys : List TokenAndSpan} {t : Answer F C K s}
+        → (h : Hears hook b c xs v ms) → Ran s (f v (whole_span h.own)) ms ys t → Ran s (hear b c f) xs ys t
+
+  forget : {s : Symbol} {r : Side F C K s} {xs ys : List TokenAndSpan} {t : Answer F C K s} → Ran s r xs ys t
+      → Follows hook s r xs ys t
+  forget ran-gave = gave
+  forget (ran-took d) = took (forget d)
+  forget (ran-held h d) = held h (forget d)
+  forget (ran-calm h d) = calm h (forget d)
+  forget (ran-part e k d) = part e (forget d)
+  forget (ran-heard h d) = heard h (forget d)
+
+  given-ran : {s : Symbol} {A : Type 0} {xs ys : List TokenAndSpan} {t : Answer F C K s}
+      (o : Option A) (k : A → Side F C K s)
+      → Ran s (given o >>= k) xs ys t → (x : A) × (o ≡ Some x) × Ran s (k x) xs ys t
+  given-ran None k d = let (x, h, e) = given-held None k (forget d) in absurd cc
+  given-ran (Some x) k d = (x, refl, d)
+
+  must-ran : {s : Symbol} {b : Bool} {r : Side F C K s} {xs ys : List TokenAndSpan} {t : Answer F C K s}
+      → Ran s (check b r) xs ys t → (b ≡ true) × Ran s r xs ys t
+  must-ran (ran-held h d) = (h, d)
+
+  part-ran : {s s' : Symbol} {c : Context} {f : Answer F C K s' → Side F C K s} {xs ys : List TokenAndSpan}
+      {t : Answer F C K s} → Ran s (read s' c f) xs ys t
+      → (e : Answer F C K s') × (ms : List TokenAndSpan) × Reads hook s' c xs ms e × Claim hook s' c xs ms e
+      × Ran s (f e) ms ys t
+  part-ran (ran-part {e = e} {ms = ms} d k r) = (e, ms, d, k, r)
+
+  gave-ran : {s : Symbol} {u t : Answer F C K s} {xs ys : List TokenAndSpan}
+      (P : Answer F C K s → List TokenAndSpan → Type 0) → Ran s (gives u) xs ys t → P u xs → P t ys
+  gave-ran P ran-gave h = h
+
+  -- a side is run to where it ends
+  side-reads : {s : Symbol} {r : Side F C K s} {xs ys : List TokenAndSpan} {t : Answer F C K s} (g : Option ℕ)
+      → Ran s r xs ys t → Ready g ys r → exec hook (run hook) g (plan r) xs ≡ Some (t, ys)
+  side-reads g ran-gave q = refl
+  side-reads g (ran-took {a = a} d) q = side-reads None d (q a)
+  side-reads g (ran-held h d) q = rw h (side-reads g d (q h))
+  side-reads g (ran-calm h d) q = rw h (side-reads g d q)
+  side-reads g (ran-part {s' = s'} {c = c} {e = e} {xs = xs} {ms = ms} l k d) q =
+      rw (q.0, settle s' c xs ms e (good l) k (before-held (Stop s' c) (forget d) (q.1 e).0)) (side-reads g d (q.1 e).1)
+  side-reads g (ran-heard {f = f} {v = v} h d) q =
+      hears-run h (λ v at us. exec hook (run hook) None (plan (f v at)) us) ∙ side-reads None d (q v _)
+
+  -- operators
+  left-free : (op : BinaryOp) (l : Tree F C K) → precedence_of op ≤ 10 → exp_ok op l ≡ true
+  left-free binary.Exp l h = absurd (omega arith)
+  left-free op l h = refl
+
+  op-reads : (n : ℕ) (op : BinaryOp) (c : Context) (a : TokenAndSpan) (l r : Tree F C K) (xs ms ys : List TokenAndSpan)
+      → suc n ≤ 10
+      → binary_of c a.token ≡ Some op → precedence_of op ≡ suc n → nullish_ok op l r ≡ true → logical_ok op l ≡ true
+      → Good F C K (Level (suc (suc n))) r
+      → Claim hook (Level (suc n)) c xs (a ∷ ms) l → Claim hook (Level (suc (suc n))) c ms ys r
+      → Claim hook (Level (suc n)) c xs ys (bin_e (to (span_of l) (span_of r)) op l r)
+  op-reads n op c a l r xs ms ys top o p k g w left right = λ le b m lt.
       let right-at : min_right op ≡ suc n = min-right-same op (omega arith) ∙ p in
-      let e : operand run (min_right op) c ms ≡ Some (r, ys) =
-      rw right-at (operand-reads (suc n) c r ms ys top w right (bound-above c (min (suc n) 10) (suc n) ys (omega arith) b)) in
-      left (bound-some c (min (suc n) 10) (t ∷ ms) op o (omega arith)) m le
-      ∙ climb-reads op m c t l r ms ys o (omega arith) (left-free op l (omega arith)) k g e
+      let e : run hook (sym (Level (suc (min_right op)))) c ms ≡ Some (r, ys) =
+      rw right-at (settle (Level (suc (suc n))) c ms ys r w right
+      (top, bound-above c (min (suc n) 10) (suc n) ys (omega arith) b)) in
+      left le (bound-some c (min (suc n) 10) (a ∷ ms) op o (omega arith)) m lt
+      ∙ climb-takes op m c a l r ms ys o (omega arith) (left-free op l (omega arith)) k g e
 
-  exp-reads : (c : Context) (t : TokenAndSpan) (l r : Tree F C K) (xs ms ys : List TokenAndSpan) → operator_at c (Some t) ≡ Some binary.Exp
-      → not (is_unary l) ≡ true → left_ok r ≡ true → Claim Unary c xs (t ∷ ms) l → Claim (Level 11) c ms ys r
-      → Claim (Level 11) c xs ys (bin_e (to (span_of l) (span_of r)) binary.Exp l r)
-  exp-reads c t l r xs ms ys o x w left right = λ b m le.
-      operand-climbs m c xs (t ∷ ms) l left
-      ∙ climb-reads binary.Exp m c t l r ms ys o (omega arith) x refl refl (operand-reads 10 c r ms ys (omega arith) w right b)
+  power-op : (c : Context) (a : TokenAndSpan) → is_power a.token ≡ true → binary_of c a.token ≡ Some binary.Exp
+  power-op c a h = only-power (λ v. binary_of c v ≡ Some binary.Exp) refl a.token h
 
-  level-ends : (c : Context) (xs ys : List TokenAndSpan) (t : Tree F C K) → left_ok t ≡ true → Claim (Level 1) c xs ys t → Bound c 0 ys
-      → operand run 0 c xs ≡ Some (t, ys)
-  level-ends c xs ys t w h b = operand-reads 0 c t xs ys (omega arith) w h b
+  exp-reads : (c : Context) (a : TokenAndSpan) (l r : Tree F C K) (xs ms ys : List TokenAndSpan)
+      → is_power a.token ≡ true → not (is_unary l) ≡ true → Good F C K (Level 11) r
+      → Claim hook Unary c xs (a ∷ ms) l → Claim hook (Level 11) c ms ys r
+      → Claim hook (Level 11) c xs ys (bin_e (to (span_of l) (span_of r)) binary.Exp l r)
+  exp-reads c a l r xs ms ys y x w left right = λ le b m lt.
+      operand-climbs m c xs (a ∷ ms) l (omega arith) (left tt)
+      ∙ climb-takes binary.Exp m c a l r ms ys (power-op c a y) (omega arith) x refl refl
+      (settle (Level 11) c ms ys r w right (omega arith, b))
 
-claim : {F C K : Type 0} {hook : Hook F C K} {s : Symbol} {c : Context} {xs ys : List TokenAndSpan} {t : Tree F C K} → Reads hook s c xs ys t
-    → Claim s c xs ys t
-unfolding primary lit
-claim (expr-one d) = claim d
-claim (assign-level {c = c} {xs = xs} {ys = ys} {e = e} d) = λ b. assign-level-reads c xs ys e (begins d) (level-ends c xs ys e (left-ok d) (claim d) b)
-claim (level-up {k = zero} n d) = tt
-claim (level-up {c = c} {k = suc k} {ys = ys} n d) = λ b m le. claim d (bound-above c (min (suc k) 10) (min (suc (suc k)) 10) ys (omega arith) b) m (omega arith)
-claim (level-op {k = zero} o k n m l d e) = tt
-claim (level-op {c = c} {k = suc k} {op = op} {t = t} {b = b} {s = s} {l = l} {r = r} {xs = xs} {ms = ms} {ys = ys} o p n g h d e) =
-    let same = eqb-true (precedence_of op) (suc k) p in
-    let less = ltb-true (suc k) 11 n in
-    op-reads k op c (tk t b s) l r xs ms ys (omega arith) o same g h (left-ok e) (claim d) (claim e)
-claim (level-unary {c = c} {xs = xs} {ys = ys} {e = e} d) = λ b m le. operand-climbs m c xs ys e (claim d)
-claim (level-exp {c = c} {b = b} {s = s} {l = l} {r = r} {xs = xs} {ms = ms} {ys = ys} d n e) =
-    exp-reads c (tk (token.BinOp sign.Exp) b s) l r xs ms ys refl n (left-ok e) (claim d) (claim e)
-claim (unary-prefix {c = c} {op = op} {t = t} {b = b} {s = s} {e = e} {xs = xs} {ys = ys} o d n) =
-    prefix-reads op c t b s xs ys (unary_e (to s (span_of e)) op e) o (prefixed-reads s op c e xs ys (claim d) n)
-claim (unary-primary {c = c} {xs = xs} {ys = ys} {e = e} d) = unary-reads c xs ys e (begins-plain d) (claim d)
-claim primary-null = refl
-claim primary-true = refl
-claim primary-false = refl
-claim primary-num = refl
-claim primary-big = refl
-claim primary-str = refl
-claim (primary-ref {c = c} {w = w} {b = b} {s = s} {n = n} {ys = ys} h d) = let (k, g) = reference-reads d in ref-reads c w b s n ys g h k
-claim (primary-private {c = c} {b = b} {s = s} {n = n} {xs = xs} {ys = ys} d) = private-reads c b s n xs ys (name-reads d)
-claim (primary-paren {c = c} {b = b} {b' = b'} {s = s} {s' = s'} {e = e} {xs = xs} {ys = ys} d) =
-    paren-reads c b b' s s' e xs ys (begins d) (claim d (λ op h. absurd cc))
+  -- one clause a production
+  claim-by : {s : Symbol} {c : Context} {r : Side F C K s} {xs ys : List TokenAndSpan} {t : Answer F C K s}
+      → Production s c r → Ran s r xs ys t → Claim hook s c xs ys t
+  claim-by {s = Primary} {c = c} {xs = xs} {ys = ys} p d = λ stop.
+      picks Primary c xs p (primary c xs) refl (picked-primary p (forget d))
+      (side-reads (Some 8) d (ready-primary {c = c} ys p))
+  claim-by {s = Unary} {c = c} {xs = xs} {ys = ys} p d = λ stop.
+      picks Unary c xs p (unary c xs) refl (picked-unary p (forget d))
+      (side-reads (Some 10) d (ready-unary {c = c} ys p))
+  claim-by {c = c} {xs = xs} lit d = λ stop.
+      picks Literal c xs lit (literal c xs) refl refl
+      (side-reads (Some 6) d (λ a. ready-given _ _ (lit_of a.token a.span) _ (λ e h. tt)))
+  claim-by {c = c} exp-unary (ran-part {e = e} {xs = xs} {ms = ms} l h d) =
+      gave-ran (λ u us. Claim hook (Level 11) c xs us u) d
+      (λ le b m lt. operand-climbs m c xs ms e (omega arith) (h tt))
+  claim-by {c = c} exp-expr (ran-part {e = l} {xs = xs} dl left (ran-took {a = a} {xs = us} d)) =
+      let (x, d1) = must-ran d in
+      let (n, d2) = must-ran d1 in
+      let (r, ms, dr, right, d3) = part-ran d2 in
+      gave-ran (λ u vs. Claim hook (Level 11) c xs vs u) d3 (exp-reads c a l r xs us ms x n (good dr) left right)
+  claim-by (level-up {k = zero} b) d = tt
+  claim-by {c = c} {ys = ys} {t = t} (level-up {k = suc k} b) (ran-part {e = e} {xs = xs} {ms = ms} l h d) =
+      gave-ran (λ u us. Claim hook (Level (suc k)) c xs us u) d
+      (λ le q m lt. let top = ltb-true (suc k) 11 b in
+      h (omega arith) (bound-above c (min (suc k) 10) (min (suc (suc k)) 10) ms (omega arith) q) m (omega arith))
+  claim-by (bin-expr {k = zero} b) d = tt
+  claim-by {c = c} (bin-expr {k = suc n} b) (ran-part {e = l} {xs = xs} dl left (ran-took {a = a} {xs = us} d)) =
+      let (op, o, d1) = given-ran (operator_here c a.token a.span) _ d in
+      let (p, d2) = must-ran d1 in
+      let (r, ms, dr, right, d3) = part-ran d2 in
+      let (k, d4) = must-ran d3 in
+      let (g, d5) = must-ran d4 in
+      let top = ltb-true (suc n) 11 b in
+      gave-ran (λ u vs. Claim hook (Level (suc n)) c xs vs u) d5
+      (op-reads n op c a l r xs us ms (omega arith) o (eqb-true (precedence_of op) (suc n) p) k g (good dr) left right)
+  claim-by {c = c} {xs = xs} {ys = ys} assign-level d = λ stop.
+      picks Assign c xs assign-level (assign c xs) refl (picked-assign assign-level (forget d))
+      (side-reads (Some 13) d (refl, λ e. ((omega arith, stop), tt)))
+  claim-by {c = c} {xs = xs} {ys = ys} expr-assign d = λ stop.
+      picks Expr c xs expr-assign (expr c xs) refl refl (side-reads (Some 14) d (refl, λ e. (stop, tt)))
 
-module _ {F C K : Type 0} {hook : Hook F C K} {c : Context} {xs ys : List TokenAndSpan} {t : Tree F C K} where
-  pub primary-complete : Reads hook Primary c xs ys t → primary run c xs ≡ Some (t, ys)
-  primary-complete d = claim d
+  mutual
+    claim : {s : Symbol} {c : Context} {xs ys : List TokenAndSpan} {t : Answer F C K s} → Reads hook s c xs ys t
+        → Claim hook s c xs ys t
+    claim (by p d) = claim-by p (ran d)
 
-  pub unary-complete : Reads hook Unary c xs ys t → unary run c xs ≡ Some (t, ys)
-  unary-complete d = claim d
+    ran : {s : Symbol} {r : Side F C K s} {xs ys : List TokenAndSpan} {t : Answer F C K s} → Follows hook s r xs ys t
+        → Ran s r xs ys t
+    ran gave = ran-gave
+    ran (took d) = ran-took (ran d)
+    ran (held h d) = ran-held h (ran d)
+    ran (calm h d) = ran-calm h (ran d)
+    ran (part e d) = ran-part e (claim e) (ran d)
+    ran (heard h d) = ran-heard h (ran d)
 
-  pub level-complete : Reads hook (Level 1) c xs ys t → Bound c 0 ys → operand run 0 c xs ≡ Some (t, ys)
-  level-complete d b = level-ends c xs ys t (left-ok d) (claim d) b
-
-  pub assign-complete : Reads hook Assign c xs ys t → Bound c 0 ys → assign run c xs ≡ Some (t, ys)
-  assign-complete d b = claim d b
-
-  pub expr-complete : Reads hook Expr c xs ys t → Bound c 0 ys → assign run c xs ≡ Some (t, ys)
-  expr-complete d b = claim d b
+  -- what the grammar derives is read, where nothing goes on
+  pub complete : {s : Symbol} {c : Context} {xs ys : List TokenAndSpan} {t : Answer F C K s} → Reads hook s c xs ys t
+      → Stop s c ys
+      → run hook (sym s) c xs ≡ Some (t, ys)
+  complete {s = s} {c = c} {xs = xs} {ys = ys} {t = t} d stop = settle s c xs ys t (good d) (claim d) stop

@@ -6,26 +6,39 @@ use Rattle.swc_context.specs.declared.word.Keyword.TheVariants as keyword
 use Rattle.swc_context.specs.declared.word.Word.TheVariants as word
 use Rattle.swc_input.specs.declared.token.TokenAndSpan.{TokenAndSpan}
 use Rattle.swc_ast.specs.Tree.{Tree}
-use Rattle.swc_grammar.specs.Clean.{Out, word as word_name, lit, name, hashed, private_name, inside, close, opened, parens, primary, prefixed, prefix, unary}
-use Rattle.swc_grammar.specs.Clean.{operation, turn, turned, climb, operand, assign, run}
-use Rattle.swc_grammar.proofs.Texts.{no_in, script, module_code, class_field, generator, word_at, name_at, ident, product_in_sum, product_in_sum_tree}
-use Rattle.swc_grammar.proofs.Texts.{two_sums, two_sums_tree, grouped_name, grouped_name_tree, sum_in_product, sum_in_product_tree, in_test}
-use Rattle.swc_grammar.proofs.Texts.{in_test_tree, grouped_in_test, grouped_in_test_tree, instance_test, instance_test_tree, default_value}
-use Rattle.swc_grammar.proofs.Texts.{default_value_tree, and_in_or, and_in_or_tree, or_in_default, or_in_default_tree, null_word, null_word_tree}
-use Rattle.swc_grammar.proofs.Texts.{true_word, true_word_tree, false_word, false_word_tree, number, number_tree, big_integer, big_integer_tree}
-use Rattle.swc_grammar.proofs.Texts.{string, string_tree, let_word, let_word_tree, arguments_word, arguments_word_tree, product_in_sums}
-use Rattle.swc_grammar.proofs.Texts.{product_in_sums_tree, twice_grouped, twice_grouped_tree, order_in_equality, order_in_equality_tree, power}
-use Rattle.swc_grammar.proofs.Texts.{power_tree, two_powers, two_powers_tree, minus_name, minus_name_tree, not_minus_name, not_minus_name_tree}
-use Rattle.swc_grammar.proofs.Texts.{minus_in_power, minus_in_power_tree, type_in_sum, type_in_sum_tree, delete_name, delete_name_tree, private_word}
-use Rattle.swc_grammar.proofs.Texts.{private_word_tree, hash_and_name, hash_and_name_tree, yield_word, yield_word_tree, implements_word}
-use Rattle.swc_grammar.proofs.Texts.{implements_word_tree, power_of_minus, power_of_minus_in_product, hash_and_sign, lone_minus, closer, empty_parens}
-use Rattle.swc_grammar.proofs.Texts.{half_sum, half_number_sum, or_after_default, default_after_or, default_after_and, async_word, if_word, two_names}
+use Rattle.swc_bodies.specs.Readings.{Hook}
+use Rattle.swc_grammar.specs.Symbols.{Expr}
+use Rattle.swc_grammar.specs.Clean.{Out, sym, run}
+use Rattle.swc_grammar.proofs.Texts.{no_in, script, module_code, class_field, generator, word_at, name_at, ident}
+use Rattle.swc_grammar.proofs.Texts.{product_in_sum, product_in_sum_tree}
+use Rattle.swc_grammar.proofs.Texts.{two_sums, two_sums_tree, grouped_name, grouped_name_tree, sum_in_product}
+use Rattle.swc_grammar.proofs.Texts.{sum_in_product_tree, in_test}
+use Rattle.swc_grammar.proofs.Texts.{in_test_tree, grouped_in_test, grouped_in_test_tree, instance_test}
+use Rattle.swc_grammar.proofs.Texts.{instance_test_tree, default_value}
+use Rattle.swc_grammar.proofs.Texts.{default_value_tree, and_in_or, and_in_or_tree, or_in_default, or_in_default_tree}
+use Rattle.swc_grammar.proofs.Texts.{null_word, null_word_tree}
+use Rattle.swc_grammar.proofs.Texts.{true_word, true_word_tree, false_word, false_word_tree, number, number_tree}
+use Rattle.swc_grammar.proofs.Texts.{big_integer, big_integer_tree}
+use Rattle.swc_grammar.proofs.Texts.{string, string_tree, let_word, let_word_tree, arguments_word, arguments_word_tree}
+use Rattle.swc_grammar.proofs.Texts.{product_in_sums}
+use Rattle.swc_grammar.proofs.Texts.{product_in_sums_tree, twice_grouped, twice_grouped_tree, order_in_equality}
+use Rattle.swc_grammar.proofs.Texts.{order_in_equality_tree, power}
+use Rattle.swc_grammar.proofs.Texts.{power_tree, two_powers, two_powers_tree, minus_name, minus_name_tree}
+use Rattle.swc_grammar.proofs.Texts.{not_minus_name, not_minus_name_tree}
+use Rattle.swc_grammar.proofs.Texts.{minus_in_power, minus_in_power_tree, type_in_sum, type_in_sum_tree, delete_name}
+use Rattle.swc_grammar.proofs.Texts.{delete_name_tree, private_word}
+use Rattle.swc_grammar.proofs.Texts.{private_word_tree, hash_and_name, hash_and_name_tree, yield_word, yield_word_tree}
+use Rattle.swc_grammar.proofs.Texts.{implements_word}
+use Rattle.swc_grammar.proofs.Texts.{implements_word_tree, power_of_minus, power_of_minus_in_product, hash_and_sign}
+use Rattle.swc_grammar.proofs.Texts.{lone_minus, closer, empty_parens}
+use Rattle.swc_grammar.proofs.Texts.{half_sum, half_number_sum, or_after_default, default_after_or, default_after_and}
+use Rattle.swc_grammar.proofs.Texts.{async_word, if_word, two_names}
 use Rattle.swc_grammar.proofs.Texts.{unclosed}
 
-module _ {F C K : Type 0} where
+module _ {F C K : Type 0} (hook : Hook F C K) where
   unfoldable pub answer : Context → List TokenAndSpan → Out (Tree F C K)
-  unfolding word_name lit name hashed private_name inside close opened parens primary prefixed prefix unary operation turn turned climb operand assign run
-  answer c ts = assign run c ts
+  unfolding run
+  answer c ts = run hook (sym Expr) c ts
 
   -- 5 + 4 * 7
   pub product_in_sum-computed : answer script product_in_sum ≡ Some (product_in_sum_tree, [])
@@ -53,7 +66,8 @@ module _ {F C K : Type 0} where
   in_test-computed = refl
 
   -- a in b, where `in` isn't an operator: `in b` is left
-  pub in_test-front : answer no_in in_test ≡ Some (ident (codes "a") 0 1, word_at (word.Keyword keyword.In) 2 4 ∷ name_at (codes "b") 5 6 ∷ [])
+  pub in_test-front : answer no_in in_test ≡ Some
+      (ident (codes "a") 0 1, word_at (word.Keyword keyword.In) 2 4 ∷ name_at (codes "b") 5 6 ∷ [])
   unfolding answer
   in_test-front = refl
 

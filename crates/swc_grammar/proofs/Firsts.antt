@@ -1,93 +1,272 @@
--- What a reading begins with: a literal, an identifier reference, `(`, `#` or a prefix operator, and nothing else.
-use Rattle.std.specs.Prelude.{◌≡◌, Bool, true, false, ◌||◌, List, [], ◌∷◌, Some, None, IsTrue}
-use Rattle.std.proofs.Common.{refl, ap, ◌∙◌, sym}
+-- What a reading begins with; so it takes a token at least.
+use Rattle.std.specs.Prelude.{◌≡◌, Bool, true, false, ◌&&◌, ◌||◌, not, suc, ◌≤◌, length, List, [], ◌∷◌, ◌++◌}
+use Rattle.std.specs.Prelude.{Option, Some, None, if◌then◌else◌}
+use Rattle.std.proofs.Common.{refl, sym, ap, subst, arith}
+use Rattle.std.proofs.lemmas.List.{length-append}
 use Rattle.swc_context.specs.declared.context.Context.{Context}
 use Rattle.swc_context.specs.declared.operator.BinaryOp.{BinaryOp}
+use Rattle.swc_context.specs.declared.operator.UnaryOp.{UnaryOp}
 use Rattle.swc_context.specs.declared.span.Span.{Span}
 use Rattle.swc_context.specs.declared.word.Keyword.TheVariants as keyword
 use Rattle.swc_context.specs.declared.word.Word.TheVariants as word
 use Rattle.swc_input.specs.declared.token.Token.{Token}
 use Rattle.swc_input.specs.declared.token.Token.TheVariants as token
 use Rattle.swc_input.specs.declared.token.TokenAndSpan.{TokenAndSpan}
-use Rattle.swc_input.specs.Kinds.{is_hash}
+use Rattle.swc_input.specs.Kinds.{at_token, is_hash}
 use Rattle.swc_ast.specs.Tree.{Tree}
-use Rattle.swc_grammar.specs.Tokens.{tk, is_ref, binary_of, prefix_of}
-use Rattle.swc_grammar.specs.Clean.{is_lit, is_identifier, is_lparen}
-use Rattle.swc_grammar.specs.Firsts.{is_prefix_op, is_prefix, begins_expression}
-use Rattle.swc_grammar.specs.Grammar.{Hook, Symbol, Reads, expr-one, assign-level, level-up, level-op, level-unary, level-exp, unary-prefix, unary-primary}
-use Rattle.swc_grammar.specs.Grammar.{primary-null, primary-true, primary-false, primary-num, primary-big, primary-str, primary-ref, primary-private, primary-paren}
-use Rattle.swc_grammar.proofs.Names.{reference-word}
+use Rattle.swc_grammar.specs.Rule.{Rule, gives, never, take, check, peek, read, hear, given, ◌>>=◌}
+use Rattle.swc_bodies.specs.Readings.{Hook}
+use Rattle.swc_grammar.specs.Symbols.{Symbol, Primary, Literal, Answer, Body, Value, begins_body, Side}
+use Rattle.swc_grammar.specs.Names.{Spelling, may_refer}
+use Rattle.swc_grammar.specs.Tokens.{tk, binary_of, prefix_of, is_reference, ref_ok, is_put_off, is_lparen}
+use Rattle.swc_grammar.specs.Parts.{reference, lit_of, with_place, prefix_here}
+use Rattle.swc_grammar.specs.Grammar.{Production, ident, lit, paren-expr, unary-primary, unary-expr, exp-unary}
+use Rattle.swc_grammar.specs.Grammar.{exp-expr, primary-literal}
+use Rattle.swc_grammar.specs.Grammar.{level-up, bin-expr, private-name, assign-level, expr-assign}
+use Rattle.swc_grammar.specs.Reads.{Reads, by, Follows, gave, took, held, calm, part, heard}
+use Rattle.swc_grammar.specs.Clean.{first, is_lit, is_identifier}
+use Rattle.swc_grammar.specs.Firsts.{is_prefix_op, is_prefix, starts, begins_primary, begins_expression}
+use Rattle.swc_grammar.proofs.Answers.{both}
+use Rattle.swc_grammar.proofs.Bodies.{body-some}
+use Rattle.swc_grammar.proofs.Cut.{follows-length}
+use Rattle.swc_grammar.proofs.Only.{only-lparen, only-hash}
 
-second : (a b c d e : Bool) → b ≡ true → (a || b || c || d || e) ≡ true
-second true b c d e h = refl
-second false b c d e h = rw h refl
+-- X holds where the rest of a side, behind the token that it tests, can be followed
+abbrev pub Under : {F C K A : Type 0} → Type 0 → Rule Symbol (Answer F C K) Body (Value F C K) A → Type 0
+Under X (check b r) = b ≡ true → Under X r
+Under X never = Unit {0}
+Under X r = X
 
-last : (a b c d e : Bool) → e ≡ true → (a || b || c || d || e) ≡ true
-last true b c d e h = refl
-last false true c d e h = refl
-last false false true d e h = refl
-last false false false true e h = refl
-last false false false false e h = h
+-- the tokens with which a side begins pass the test P
+abbrev pub Opens : {F C K A : Type 0} → (Token → Bool) → Rule Symbol (Answer F C K) Body (Value F C K) A → Type 0
+Opens P (gives a) = ⊥
+Opens P never = Unit {0}
+Opens P (take f) = (a : TokenAndSpan) → Under (P a.token ≡ true) (f a)
+Opens P (check b r) = b ≡ true → Opens P r
+Opens P (peek p r) = Opens P r
+Opens P (read s c f) = (t : Token) → starts s c t ≡ true → P t ≡ true
+Opens P (hear b c f) = (own : List TokenAndSpan) → begins_body b own ≡ true → at_token P (first own) ≡ true
 
-pub begins : {F C K : Type 0} {hook : Hook F C K} {s : Symbol} {c : Context} {xs ys : List TokenAndSpan} {t : Tree F C K}
-    → Reads hook s c xs ys t → (a : TokenAndSpan) × (us : List TokenAndSpan) × (xs ≡ a ∷ us) × IsTrue (begins_expression c a.token)
-begins (expr-one d) = begins d
-begins (assign-level d) = begins d
-begins (level-up h d) = begins d
-begins (level-op b p h n g dl dr) = begins dl
-begins (level-unary d) = begins d
-begins (level-exp dl n dr) = begins dl
-begins (unary-prefix {c = c} {op = op} {t = t} p d e) =
-    (_, _, refl, last (is_lit t) (is_identifier c t) (is_lparen t) (is_hash t) (is_prefix t) (ap is_prefix_op p))
-begins (unary-primary d) = begins d
-begins primary-null = (_, _, refl, refl)
-begins primary-true = (_, _, refl, refl)
-begins primary-false = (_, _, refl, refl)
-begins primary-num = (_, _, refl, refl)
-begins primary-big = (_, _, refl, refl)
-begins primary-str = (_, _, refl, refl)
-begins (primary-ref {c = c} {w = w} h n) =
-    (_, _, refl, second (is_lit (token.Word w)) (is_ref c w) false false (is_prefix (token.Word w)) (rw (reference-word n, h) refl))
-begins (primary-private n) = (_, _, refl, refl)
-begins (primary-paren d) = (_, _, refl, refl)
+or-left : (a b : Bool) → a ≡ true → (a || b) ≡ true
+or-left true b h = refl
+or-left false b h = absurd cc
 
--- where none begins
-pub no_end : {F C K : Type 0} {hook : Hook F C K} {s : Symbol} {c : Context} {ys : List TokenAndSpan} {e : Tree F C K} → Reads hook s c [] ys e → ⊥
-no_end d = let (a, us, same, h) = begins d in absurd cc
+or-right : (a b : Bool) → b ≡ true → (a || b) ≡ true
+or-right true b h = refl
+or-right false b h = h
 
-operator-begins : (c c' : Context) (t : Token) (op : BinaryOp) → binary_of c' t ≡ Some op → prefix_of t ≡ None → begins_expression c t ≡ false
+of-four : (a b c d : Bool) → a ≡ true → (a || b || c || d) ≡ true
+of-four true b c d h = refl
+of-four false b c d h = absurd cc
+
+second-of-four : (a b c d : Bool) → b ≡ true → (a || b || c || d) ≡ true
+second-of-four true b c d h = refl
+second-of-four false true c d h = refl
+second-of-four false false c d h = absurd cc
+
+pub lit-first : {F C K : Type 0} (t : Token) (s : Span) (e : Tree F C K) → lit_of t s ≡ Some e → is_lit t ≡ true
+lit-first (token.Word word.Null) s e h = refl
+lit-first (token.Word word.True) s e h = refl
+lit-first (token.Word word.False) s e h = refl
+lit-first (token.Num raw) s e h = refl
+lit-first (token.BigInt raw) s e h = refl
+lit-first (token.Str value raw) s e h = refl
+lit-first t s e h = absurd cc
+
+passed : {A : Type 0} (b : Bool) (a x : A) → (if b then Some a else None) ≡ Some x → b ≡ true
+passed true a x h = refl
+passed false a x h = absurd cc
+
+pub placed-op : (o : Option UnaryOp) (s : Span) (op : UnaryOp) (s' : Span) → with_place o s ≡ Some (op, s')
+    → o ≡ Some op
+placed-op None s op s' h = absurd cc
+placed-op (Some op') s op s' h =
+    let x : UnaryOp × Span = (op', s) in
+    let y : UnaryOp × Span = (op, s') in
+    let same : x ≡ y = cc in
+    ap (λ v. Some v.0) same
+
+pub placed-is : (o : Option UnaryOp) (s : Span) (x : UnaryOp × Span) → with_place o s ≡ Some x → is_prefix_op o ≡ true
+placed-is None s x h = absurd cc
+placed-is (Some op) s x h = refl
+
+at-every : (Q P : Token → Bool) (o : Option TokenAndSpan) → ((t : Token) → Q t ≡ true → P t ≡ true)
+    → at_token Q o ≡ true → at_token P o ≡ true
+at-every Q P None f h = absurd cc
+at-every Q P (Some t) f h = f t.token h
+
+pub reference-first : (c : Context) (t : Token) (s : Span) (n : Spelling) → reference c t s ≡ Some n
+    → (is_identifier c t ≡ true) × (begins_primary c t ≡ true)
+reference-first c (token.Word w) s n h =
+    let (a, b) = both (may_refer c w) (not (is_put_off w)) (passed (may_refer c w && not (is_put_off w)) _ n h) in
+    let (d, e) = both (is_reference c w) (ref_ok c w) a in
+    let own : is_identifier c (token.Word w) ≡ true = rw (d, b) refl in
+    (own, of-four (is_identifier c (token.Word w)) (is_lit (token.Word w)) false false own)
+reference-first c t s n h = absurd cc
+
+first-own : (P : Token → Bool) (own us : List TokenAndSpan) → suc 0 ≤ length own → at_token P (first own) ≡ true
+    → at_token P (first (own ++ us)) ≡ true
+first-own P [] us h k = absurd (omega arith)
+first-own P (t ∷ ts) us h k = k
+
+module _ {F C K : Type 0} where
+  pub under-given : {A D : Type 0} (X : Type 0) (o : Option A) (k : A → Rule Symbol (Answer F C K) Body (Value F C K) D)
+      → ((x : A) → o ≡ Some x → Under X (k x)) → Under X (given o >>= k)
+  under-given X None k f = tt
+  under-given X (Some x) k f = f x refl
+
+  no-never : {hook : Hook F C K} {s : Symbol} {xs ys : List TokenAndSpan} {t : Answer F C K s} {X : Type 0}
+      → Follows hook s never xs ys t → X
+  no-never d = elim d [ ]
+
+  pub given-held : {hook : Hook F C K} {s : Symbol} {A : Type 0} {xs ys : List TokenAndSpan} {t : Answer F C K s}
+      (o : Option A) (k : A → Side F C K s)
+      → Follows hook s (given o >>= k) xs ys t → (x : A) × (o ≡ Some x) × Follows hook s (k x) xs ys t
+  given-held None k d = no-never d
+  given-held (Some x) k d = (x, refl, d)
+
+  pub under-held : {hook : Hook F C K} {s : Symbol} {X : Type 0} {r : Side F C K s} {xs ys : List TokenAndSpan}
+      {t : Answer F C K s} → Follows hook s r xs ys t → Under X r → X
+  under-held gave h = h
+  under-held (took d) h = h
+  under-held (held b d) h = under-held d (h b)
+  under-held (calm b d) h = h
+  under-held (part e d) h = h
+  under-held (heard e d) h = h
+
+  -- one clause a production
+  opens : {s : Symbol} {c : Context} {r : Side F C K s} → Production s c r → Opens (starts s c) r
+  opens (ident {c = c}) =
+      λ a. under-given _ (reference c a.token a.span) _ (λ n h. (reference-first c a.token a.span n h).1)
+  opens lit = λ a. under-given _ (lit_of a.token a.span) _ (λ e h. lit-first a.token a.span e h)
+  opens (primary-literal {c = c}) =
+      λ t h. second-of-four (is_identifier c t) (is_lit t) (is_lparen t) (is_hash t) h
+  opens (paren-expr {c = c}) = λ a h. only-lparen (λ t. begins_primary c t ≡ true) refl a.token h
+  opens (unary-primary {c = c}) = λ t h. or-left (begins_primary c t) (is_prefix t) h
+  opens (unary-expr {c = c}) = λ a. under-given _ (prefix_here a.token a.span) _
+      (λ x h. or-right (begins_primary c a.token) (is_prefix a.token) (placed-is (prefix_of a.token) a.span x h))
+  opens exp-unary = λ t h. h
+  opens exp-expr = λ t h. h
+  opens (level-up b) = λ t h. h
+  opens (bin-expr b) = λ t h. h
+  opens (private-name {c = c}) = λ a h. only-hash (λ t. begins_primary c t ≡ true) refl a.token h
+  opens assign-level = λ t h. h
+  opens expr-assign = λ t h. h
+
+  mutual
+    pub begins : {hook : Hook F C K} {s : Symbol} {c : Context} {xs ys : List TokenAndSpan} {t : Answer F C K s}
+        → Reads hook s c xs ys t → at_token (starts s c) (first xs) ≡ true
+    begins (by {s = s} {c = c} p d) = begins-side d (starts s c) (opens p)
+
+    begins-side : {hook : Hook F C K} {s : Symbol} {r : Side F C K s} {xs ys : List TokenAndSpan} {t : Answer F C K s}
+        → Follows hook s r xs ys t → (P : Token → Bool) → Opens P r → at_token P (first xs) ≡ true
+    begins-side gave P o = absurd o
+    begins-side (took {a = a} d) P o = under-held d (o a)
+    begins-side (held b d) P o = begins-side d P (o b)
+    begins-side (calm b d) P o = begins-side d P o
+    begins-side (part {xs = xs} e d) P o = at-every _ P (first xs) o (begins e)
+    begins-side (heard {b = b} {ms = ms} h d) P o =
+        subst (λ v. at_token P (first v) ≡ true) (sym h.list)
+        (first-own P h.own ms (body-some b h.own h.begins) (o h.own h.begins))
+
+  -- so a token at least is taken
+  abbrev Leads : {A : Type 0} → Rule Symbol (Answer F C K) Body (Value F C K) A → Type 0
+  Leads (gives a) = ⊥
+  Leads (check b r) = Leads r
+  Leads (peek p r) = Leads r
+  Leads x = Unit {0}
+
+  leads : {s : Symbol} {c : Context} {r : Side F C K s} → Production s c r → Leads r
+  leads ident = tt
+  leads lit = tt
+  leads primary-literal = tt
+  leads paren-expr = tt
+  leads unary-primary = tt
+  leads unary-expr = tt
+  leads exp-unary = tt
+  leads exp-expr = tt
+  leads (level-up b) = tt
+  leads (bin-expr b) = tt
+  leads private-name = tt
+  leads assign-level = tt
+  leads expr-assign = tt
+
+  mutual
+    pub takes : {hook : Hook F C K} {s : Symbol} {c : Context} {xs ys : List TokenAndSpan} {t : Answer F C K s}
+        → Reads hook s c xs ys t → suc (length ys) ≤ length xs
+    takes (by p d) = takes-side d (leads p)
+
+    takes-side : {hook : Hook F C K} {s : Symbol} {r : Side F C K s} {xs ys : List TokenAndSpan} {t : Answer F C K s}
+        → Follows hook s r xs ys t → Leads r → suc (length ys) ≤ length xs
+    takes-side gave l = absurd l
+    takes-side (took d) l = let k = follows-length d in omega arith
+    takes-side (held h d) l = takes-side d l
+    takes-side (calm h d) l = takes-side d l
+    takes-side (part e d) l = let j = takes e in let k = follows-length d in omega arith
+    takes-side (heard {b = b} {ms = ms} {ys = ys} h d) l =
+        let some = body-some b h.own h.begins in
+        let n = length-append h.own ms in
+        let k = follows-length d in
+        subst (λ v. suc (length ys) ≤ length v) (sym h.list) (omega arith)
+
+-- where none begins: at the end, and at a token with which the symbol doesn't begin
+module _ {F C K : Type 0} {hook : Hook F C K} {s : Symbol} {c : Context} where
+  pub no_end : {ys : List TokenAndSpan} {e : Answer F C K s} → Reads hook s c [] ys e → ⊥
+  no_end d = let h = begins d in absurd cc
+
+  pub no_other : {us ys : List TokenAndSpan} {e : Answer F C K s} (t : TokenAndSpan) → starts s c t.token ≡ false
+      → Reads hook s c (t ∷ us) ys e → ⊥
+  no_other t n d = let h = begins d in absurd cc
+
+-- no symbol begins with a token that no expression begins with
+never-starts : (s : Symbol) (c : Context) (t : Token) → begins_expression c t ≡ false → starts s c t ≡ false
+never-starts s c t h = by-symbol s
+  where
+    left-false : (a b : Bool) → (a || b) ≡ false → a ≡ false
+    left-false true b h = cc
+    left-false false b h = refl
+
+    second-false : (a b c d : Bool) → (a || b || c || d) ≡ false → b ≡ false
+    second-false a false c d h = refl
+    second-false true true c d h = cc
+    second-false false true c d h = cc
+
+    by-symbol : (s : Symbol) → starts s c t ≡ false
+    by-symbol Primary = left-false (begins_primary c t) (is_prefix t) h
+    by-symbol Literal =
+        second-false (is_identifier c t) (is_lit t) (is_lparen t) (is_hash t)
+        (left-false (begins_primary c t) (is_prefix t) h)
+    by-symbol s = h
+
+operator-begins : (c c' : Context) (t : Token) (op : BinaryOp) → binary_of c' t ≡ Some op → prefix_of t ≡ None
+    → begins_expression c t ≡ false
 operator-begins c c' (token.Word (word.Keyword keyword.In)) op h n = refl
 operator-begins c c' (token.Word (word.Keyword keyword.InstanceOf)) op h n = refl
 operator-begins c c' (token.BinOp b) op h n = ap is_prefix_op n
 operator-begins c c' t op h n = cc
 
-module _ {F C K : Type 0} {hook : Hook F C K} {s : Symbol} {c : Context} {us ys : List TokenAndSpan} {e : Tree F C K} where
-  pub no_other : (t : TokenAndSpan) → begins_expression c t.token ≡ false → Reads hook s c (t ∷ us) ys e → ⊥
-  no_other t n d =
-      let (a, vs, same, h) = begins d in
-      let first : t ≡ a = cc in
-      let both : false ≡ true = sym n ∙ ap (λ v. begins_expression c v.token) first ∙ h in
-      absurd cc
-
+module _ {F C K : Type 0} {hook : Hook F C K} {s : Symbol} {c : Context} {us ys : List TokenAndSpan}
+    {e : Answer F C K s} where
   pub no_rparen : {b : Bool} {p : Span} → Reads hook s c (tk token.RParen b p ∷ us) ys e → ⊥
-  no_rparen {b = b} {p = p} d = no_other (tk token.RParen b p) refl d
+  no_rparen {b = b} {p = p} d = no_other (tk token.RParen b p) (never-starts s c token.RParen refl) d
 
   pub no_rbracket : {b : Bool} {p : Span} → Reads hook s c (tk token.RBracket b p ∷ us) ys e → ⊥
-  no_rbracket {b = b} {p = p} d = no_other (tk token.RBracket b p) refl d
+  no_rbracket {b = b} {p = p} d = no_other (tk token.RBracket b p) (never-starts s c token.RBracket refl) d
 
   pub no_rbrace : {b : Bool} {p : Span} → Reads hook s c (tk token.RBrace b p ∷ us) ys e → ⊥
-  no_rbrace {b = b} {p = p} d = no_other (tk token.RBrace b p) refl d
+  no_rbrace {b = b} {p = p} d = no_other (tk token.RBrace b p) (never-starts s c token.RBrace refl) d
 
   pub no_comma : {b : Bool} {p : Span} → Reads hook s c (tk token.Comma b p ∷ us) ys e → ⊥
-  no_comma {b = b} {p = p} d = no_other (tk token.Comma b p) refl d
+  no_comma {b = b} {p = p} d = no_other (tk token.Comma b p) (never-starts s c token.Comma refl) d
 
   pub no_semi : {b : Bool} {p : Span} → Reads hook s c (tk token.Semi b p ∷ us) ys e → ⊥
-  no_semi {b = b} {p = p} d = no_other (tk token.Semi b p) refl d
+  no_semi {b = b} {p = p} d = no_other (tk token.Semi b p) (never-starts s c token.Semi refl) d
 
   pub no_colon : {b : Bool} {p : Span} → Reads hook s c (tk token.Colon b p ∷ us) ys e → ⊥
-  no_colon {b = b} {p = p} d = no_other (tk token.Colon b p) refl d
+  no_colon {b = b} {p = p} d = no_other (tk token.Colon b p) (never-starts s c token.Colon refl) d
 
   -- a binary operator that is no prefix operator too, in whichever context it is one
-  pub no_operator : (c' : Context) (t : TokenAndSpan) (op : BinaryOp) → binary_of c' t.token ≡ Some op → prefix_of t.token ≡ None
+  pub no_operator : (c' : Context) (t : TokenAndSpan) (op : BinaryOp) → binary_of c' t.token ≡ Some op
+      → prefix_of t.token ≡ None
       → Reads hook s c (t ∷ us) ys e → ⊥
-  no_operator c' t op h n d = no_other t (operator-begins c c' t.token op h n) d
+  no_operator c' t op h n d = no_other t (never-starts s c t.token (operator-begins c c' t.token op h n)) d

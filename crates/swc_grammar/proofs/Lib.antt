@@ -1,16 +1,19 @@
+mod Parts
+mod Refused
+mod Rows
 pub mod Answers
+pub mod Bodies
 pub mod Complete
 pub mod Computed
 pub mod Cut
 pub mod Firsts
-pub mod Grouped
+pub mod Good
 pub mod Knot
 pub mod Levels
+pub mod Literals
 pub mod Names
 pub mod One
-mod Refused
-mod Rows
+pub mod Only
+pub mod Rules
 pub mod Sound
-pub mod Taking
 pub mod Texts
-pub mod Valid

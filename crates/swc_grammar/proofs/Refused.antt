@@ -1,31 +1,47 @@
--- Texts that the grammar derives no tree from, read to their end: what it derives, the clean parser reads, and it reads none of these whole.
+-- Texts that the grammar derives no tree from, read to their end: what it derives, the clean parser reads, and it reads
+-- none of these whole.
 use Rattle.std.specs.Prelude.{◌≡◌, List, [], ◌∷◌, Some, None}
 use Rattle.std.proofs.Common.{ap}
 use Rattle.swc_context.specs.declared.context.Context.{Context}
 use Rattle.swc_input.specs.declared.token.TokenAndSpan.{TokenAndSpan}
 use Rattle.swc_ast.specs.Tree.{Tree}
-use Rattle.swc_grammar.specs.Grammar.{Hook, Expr, Reads}
-use Rattle.swc_grammar.proofs.Complete.{expr-complete}
-use Rattle.swc_grammar.proofs.Computed.{answer, in_test-front, no_tokens-computed, closer-computed, empty_parens-computed, half_sum-computed}
-use Rattle.swc_grammar.proofs.Computed.{half_number_sum-computed, or_after_default-computed, default_after_or-computed, default_after_and-computed}
-use Rattle.swc_grammar.proofs.Computed.{async_word-computed, if_word-computed, two_names-computed, unclosed-computed, power_of_minus-computed}
-use Rattle.swc_grammar.proofs.Computed.{power_of_minus_in_product-computed, hash_and_sign-computed, lone_minus-computed, delete_name-module}
-use Rattle.swc_grammar.proofs.Computed.{let_word-module, implements_word-module, yield_word-generator, arguments_word-field}
-use Rattle.swc_grammar.proofs.Texts.{no_in, script, module_code, class_field, generator, in_test, let_word, arguments_word, delete_name, yield_word}
-use Rattle.swc_grammar.proofs.Texts.{implements_word, power_of_minus, power_of_minus_in_product, hash_and_sign, lone_minus, closer, empty_parens}
-use Rattle.swc_grammar.proofs.Texts.{half_sum, half_number_sum, or_after_default, default_after_or, default_after_and, async_word, if_word, two_names}
+use Rattle.swc_bodies.specs.Readings.{Hook}
+use Rattle.swc_grammar.specs.Symbols.{Expr, Literal}
+use Rattle.swc_grammar.specs.Reads.{Reads}
+use Rattle.swc_grammar.proofs.Complete.{complete}
+use Rattle.swc_grammar.proofs.Firsts.{begins}
+use Rattle.swc_grammar.proofs.Computed.{answer, in_test-front, no_tokens-computed, closer-computed}
+use Rattle.swc_grammar.proofs.Computed.{empty_parens-computed, half_sum-computed}
+use Rattle.swc_grammar.proofs.Computed.{half_number_sum-computed, or_after_default-computed, default_after_or-computed}
+use Rattle.swc_grammar.proofs.Computed.{default_after_and-computed}
+use Rattle.swc_grammar.proofs.Computed.{async_word-computed, if_word-computed, two_names-computed, unclosed-computed}
+use Rattle.swc_grammar.proofs.Computed.{power_of_minus-computed}
+use Rattle.swc_grammar.proofs.Computed.{power_of_minus_in_product-computed, hash_and_sign-computed, lone_minus-computed}
+use Rattle.swc_grammar.proofs.Computed.{delete_name-module}
+use Rattle.swc_grammar.proofs.Computed.{let_word-module, implements_word-module, yield_word-generator}
+use Rattle.swc_grammar.proofs.Computed.{arguments_word-field}
+use Rattle.swc_grammar.proofs.Texts.{no_in, script, module_code, class_field, generator, in_test, let_word}
+use Rattle.swc_grammar.proofs.Texts.{grouped_name}
+use Rattle.swc_grammar.proofs.Texts.{arguments_word, delete_name, yield_word}
+use Rattle.swc_grammar.proofs.Texts.{implements_word, power_of_minus, power_of_minus_in_product, hash_and_sign}
+use Rattle.swc_grammar.proofs.Texts.{lone_minus, closer, empty_parens}
+use Rattle.swc_grammar.proofs.Texts.{half_sum, half_number_sum, or_after_default, default_after_or, default_after_and}
+use Rattle.swc_grammar.proofs.Texts.{async_word, if_word, two_names}
 use Rattle.swc_grammar.proofs.Texts.{unclosed}
 
 module _ {F C K : Type 0} (hook : Hook F C K) where
   -- what is derived from a whole text is answered for it
-  whole : {c : Context} {xs : List TokenAndSpan} {e : Tree F C K} → Reads hook Expr c xs [] e → answer c xs ≡ Some (e, [])
+  whole : {c : Context} {xs : List TokenAndSpan} {e : Tree F C K} → Reads hook Expr c xs [] e
+      → answer hook c xs ≡ Some (e, [])
   unfolding answer
-  whole d = expr-complete d (λ op h. cc)
+  whole d = complete hook d (λ op h. cc)
 
-  refused : {c : Context} {xs : List TokenAndSpan} {e : Tree F C K} → answer {F = F} {C = C} {K = K} c xs ≡ None → Reads hook Expr c xs [] e → ⊥
+  refused : {c : Context} {xs : List TokenAndSpan} {e : Tree F C K} → answer hook c xs ≡ None
+      → Reads hook Expr c xs [] e → ⊥
   refused h d = let k = whole d in absurd cc
 
-  unread : {c : Context} {t : TokenAndSpan} {xs ts : List TokenAndSpan} {e e' : Tree F C K} → answer c xs ≡ Some (e', t ∷ ts) → Reads hook Expr c xs [] e → ⊥
+  unread : {c : Context} {t : TokenAndSpan} {xs ts : List TokenAndSpan} {e e' : Tree F C K}
+      → answer hook c xs ≡ Some (e', t ∷ ts) → Reads hook Expr c xs [] e → ⊥
   unread {t = t} {ts = ts} {e = e} {e' = e'} h d =
       let k = whole d in
       let x : Tree F C K × List TokenAndSpan = (e', t ∷ ts) in
@@ -36,88 +52,92 @@ module _ {F C K : Type 0} (hook : Hook F C K) where
 
   -- no tokens
   no_tokens-refused : {e : Tree F C K} → Reads hook Expr script [] [] e → ⊥
-  no_tokens-refused d = refused no_tokens-computed d
+  no_tokens-refused d = refused (no_tokens-computed hook) d
 
   -- )
   closer-refused : {e : Tree F C K} → Reads hook Expr script closer [] e → ⊥
-  closer-refused d = refused closer-computed d
+  closer-refused d = refused (closer-computed hook) d
 
   -- ( )
   empty_parens-refused : {e : Tree F C K} → Reads hook Expr script empty_parens [] e → ⊥
-  empty_parens-refused d = refused empty_parens-computed d
+  empty_parens-refused d = refused (empty_parens-computed hook) d
 
   -- a +
   half_sum-refused : {e : Tree F C K} → Reads hook Expr script half_sum [] e → ⊥
-  half_sum-refused d = refused half_sum-computed d
+  half_sum-refused d = refused (half_sum-computed hook) d
 
   -- 1 +
   half_number_sum-refused : {e : Tree F C K} → Reads hook Expr script half_number_sum [] e → ⊥
-  half_number_sum-refused d = refused half_number_sum-computed d
+  half_number_sum-refused d = refused (half_number_sum-computed hook) d
 
   -- a ?? b || c
   or_after_default-refused : {e : Tree F C K} → Reads hook Expr script or_after_default [] e → ⊥
-  or_after_default-refused d = refused or_after_default-computed d
+  or_after_default-refused d = refused (or_after_default-computed hook) d
 
   -- a || b ?? c
   default_after_or-refused : {e : Tree F C K} → Reads hook Expr script default_after_or [] e → ⊥
-  default_after_or-refused d = refused default_after_or-computed d
+  default_after_or-refused d = refused (default_after_or-computed hook) d
 
   -- a && b ?? c
   default_after_and-refused : {e : Tree F C K} → Reads hook Expr script default_after_and [] e → ⊥
-  default_after_and-refused d = refused default_after_and-computed d
+  default_after_and-refused d = refused (default_after_and-computed hook) d
 
   -- async
   async_word-refused : {e : Tree F C K} → Reads hook Expr script async_word [] e → ⊥
-  async_word-refused d = refused async_word-computed d
+  async_word-refused d = refused (async_word-computed hook) d
 
   -- if
   if_word-refused : {e : Tree F C K} → Reads hook Expr script if_word [] e → ⊥
-  if_word-refused d = refused if_word-computed d
+  if_word-refused d = refused (if_word-computed hook) d
 
   -- (a
   unclosed-refused : {e : Tree F C K} → Reads hook Expr script unclosed [] e → ⊥
-  unclosed-refused d = refused unclosed-computed d
+  unclosed-refused d = refused (unclosed-computed hook) d
 
   -- a b
   two_names-refused : {e : Tree F C K} → Reads hook Expr script two_names [] e → ⊥
-  two_names-refused d = unread two_names-computed d
+  two_names-refused d = unread (two_names-computed hook) d
 
   -- a in b, where `in` isn't an operator
   in_test-refused : {e : Tree F C K} → Reads hook Expr no_in in_test [] e → ⊥
-  in_test-refused d = unread in_test-front d
+  in_test-refused d = unread (in_test-front hook) d
 
   -- -a ** b
   power_of_minus-refused : {e : Tree F C K} → Reads hook Expr script power_of_minus [] e → ⊥
-  power_of_minus-refused d = refused power_of_minus-computed d
+  power_of_minus-refused d = refused (power_of_minus-computed hook) d
 
   -- a * -b ** c
   power_of_minus_in_product-refused : {e : Tree F C K} → Reads hook Expr script power_of_minus_in_product [] e → ⊥
-  power_of_minus_in_product-refused d = refused power_of_minus_in_product-computed d
+  power_of_minus_in_product-refused d = refused (power_of_minus_in_product-computed hook) d
 
   -- # +
   hash_and_sign-refused : {e : Tree F C K} → Reads hook Expr script hash_and_sign [] e → ⊥
-  hash_and_sign-refused d = refused hash_and_sign-computed d
+  hash_and_sign-refused d = refused (hash_and_sign-computed hook) d
 
   -- -
   lone_minus-refused : {e : Tree F C K} → Reads hook Expr script lone_minus [] e → ⊥
-  lone_minus-refused d = refused lone_minus-computed d
+  lone_minus-refused d = refused (lone_minus-computed hook) d
 
   -- delete a, in a module
   delete_name-refused : {e : Tree F C K} → Reads hook Expr module_code delete_name [] e → ⊥
-  delete_name-refused d = refused delete_name-module d
+  delete_name-refused d = refused (delete_name-module hook) d
 
   -- let, in a module
   let_word-refused : {e : Tree F C K} → Reads hook Expr module_code let_word [] e → ⊥
-  let_word-refused d = refused let_word-module d
+  let_word-refused d = refused (let_word-module hook) d
 
   -- implements, in a module
   implements_word-refused : {e : Tree F C K} → Reads hook Expr module_code implements_word [] e → ⊥
-  implements_word-refused d = refused implements_word-module d
+  implements_word-refused d = refused (implements_word-module hook) d
 
   -- yield, in a generator
   yield_word-refused : {e : Tree F C K} → Reads hook Expr generator yield_word [] e → ⊥
-  yield_word-refused d = refused yield_word-generator d
+  yield_word-refused d = refused (yield_word-generator hook) d
 
   -- arguments, in a class field
   arguments_word-refused : {e : Tree F C K} → Reads hook Expr class_field arguments_word [] e → ⊥
-  arguments_word-refused d = refused arguments_word-field d
+  arguments_word-refused d = refused (arguments_word-field hook) d
+
+  -- ( a ), as a literal
+  grouped_name-no_literal : {ys : List TokenAndSpan} {e : Tree F C K} → Reads hook Literal script grouped_name ys e → ⊥
+  grouped_name-no_literal d = let h = begins d in absurd cc

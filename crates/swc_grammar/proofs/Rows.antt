@@ -1,239 +1,217 @@
--- Worked rows: what the grammar derives from whole texts of a script, with places.
-use Rattle.std.specs.Prelude.{◌≡◌, ℕ, zero, suc, ◌+◌, ◌-◌, ◌≤◌, Bool, not, ◌&&◌, List, [], ◌∷◌, Some, IsTrue, nat_eq, nat_le, nat_lt, codes}
-use Rattle.std.proofs.Common.{refl, arith}
-use Rattle.std.proofs.lemmas.Bool.{leb-true, lt-ltb}
-use Rattle.swc_context.specs.Operators.{precedence_of}
-use Rattle.swc_context.specs.Words.{word_text}
+-- Worked rows: what the grammar derives from whole texts of a script, with places, whatever the hook.
+use Rattle.std.specs.Prelude.{◌≡◌, List, [], ◌∷◌, ◌++◌, Some, None, codes}
+use Rattle.std.proofs.Common.{refl}
 use Rattle.swc_context.specs.declared.context.Context.{Context}
-use Rattle.swc_context.specs.declared.operator.BinaryOp.{BinaryOp}
-use Rattle.swc_context.specs.declared.span.Span.{Span}
-use Rattle.swc_context.specs.declared.word.Keyword.TheVariants as keyword
-use Rattle.swc_context.specs.declared.word.Word.{Word}
 use Rattle.swc_context.specs.declared.word.Word.TheVariants as word
-use Rattle.swc_input.specs.declared.token.Token.{Token}
-use Rattle.swc_input.specs.declared.token.Token.TheVariants as token
 use Rattle.swc_input.specs.declared.token.TokenAndSpan.{TokenAndSpan}
-use Rattle.swc_ast.specs.Tree.{Tree, span_of}
-use Rattle.swc_grammar.specs.Tokens.{tk, with_in, is_reference, is_put_off, ref_ok, binary_of}
-use Rattle.swc_grammar.specs.Trees.{to, ident_e, paren_e, bin_e, nullish_ok, logical_ok}
-use Rattle.swc_grammar.specs.Names.{reference, any-word}
-use Rattle.swc_grammar.specs.Grammar.{Hook, Expr, Level, Unary, Primary, Reads, expr-one, assign-level, level-up, level-op, level-unary, level-exp}
-use Rattle.swc_grammar.specs.Grammar.{unary-prefix, unary-primary, primary-null, primary-true, primary-false, primary-num, primary-big, primary-str, primary-ref}
-use Rattle.swc_grammar.specs.Grammar.{primary-private, primary-paren}
-use Rattle.swc_grammar.proofs.Answers.{both}
-use Rattle.swc_grammar.proofs.Texts.{no_in, script, word_at, name_at, ident, product_in_sum, product_in_sum_tree, two_sums, two_sums_tree}
-use Rattle.swc_grammar.proofs.Texts.{grouped_name, grouped_name_tree, sum_in_product, sum_in_product_tree, in_test, in_test_tree, grouped_in_test}
-use Rattle.swc_grammar.proofs.Texts.{grouped_in_test_tree, instance_test, instance_test_tree, default_value, default_value_tree, and_in_or}
-use Rattle.swc_grammar.proofs.Texts.{and_in_or_tree, or_in_default, or_in_default_tree, null_word, null_word_tree, true_word, true_word_tree}
-use Rattle.swc_grammar.proofs.Texts.{false_word, false_word_tree, number, number_tree, big_integer, big_integer_tree, string, string_tree, let_word}
-use Rattle.swc_grammar.proofs.Texts.{let_word_tree, arguments_word, arguments_word_tree, product_in_sums, product_in_sums_tree, twice_grouped}
-use Rattle.swc_grammar.proofs.Texts.{twice_grouped_tree, order_in_equality, order_in_equality_tree, power, power_tree, two_powers, two_powers_tree}
-use Rattle.swc_grammar.proofs.Texts.{minus_name, minus_name_tree, not_minus_name, not_minus_name_tree, minus_in_power, minus_in_power_tree}
-use Rattle.swc_grammar.proofs.Texts.{type_in_sum, type_in_sum_tree, delete_name, delete_name_tree, private_word, private_word_tree, hash_and_name}
-use Rattle.swc_grammar.proofs.Texts.{hash_and_name_tree, yield_word, yield_word_tree, implements_word, implements_word_tree, two_names}
+use Rattle.swc_ast.specs.Tree.{Tree, no_span}
+use Rattle.swc_bodies.specs.Readings.{Hook, LawfulHook, no_forms, no_forms_read}
+use Rattle.swc_grammar.specs.Symbols.{Body, function, class, block, Symbol, Expr, Literal, Answer}
+use Rattle.swc_grammar.specs.Symbols.{reading_of, Side}
+use Rattle.swc_grammar.specs.Reads.{Reads, by, Follows, gave, took, held, calm, part, heard}
+use Rattle.swc_grammar.proofs.Literals.{literal-read}
+use Rattle.swc_grammar.proofs.Sound.{sound}
+use Rattle.swc_grammar.proofs.Computed.{answer}
+use Rattle.swc_grammar.proofs.Computed.{product_in_sum-computed, two_sums-computed, grouped_name-computed}
+use Rattle.swc_grammar.proofs.Computed.{sum_in_product-computed, in_test-computed}
+use Rattle.swc_grammar.proofs.Computed.{grouped_in_test-computed, instance_test-computed, default_value-computed}
+use Rattle.swc_grammar.proofs.Computed.{and_in_or-computed, or_in_default-computed}
+use Rattle.swc_grammar.proofs.Computed.{null_word-computed, true_word-computed, false_word-computed, number-computed}
+use Rattle.swc_grammar.proofs.Computed.{big_integer-computed}
+use Rattle.swc_grammar.proofs.Computed.{string-computed, let_word-computed, arguments_word-computed}
+use Rattle.swc_grammar.proofs.Computed.{product_in_sums-computed, twice_grouped-computed}
+use Rattle.swc_grammar.proofs.Computed.{order_in_equality-computed, power-computed, two_powers-computed}
+use Rattle.swc_grammar.proofs.Computed.{minus_name-computed, not_minus_name-computed}
+use Rattle.swc_grammar.proofs.Computed.{minus_in_power-computed, type_in_sum-computed, delete_name-computed}
+use Rattle.swc_grammar.proofs.Computed.{private_word-computed, hash_and_name-computed}
+use Rattle.swc_grammar.proofs.Computed.{yield_word-computed, implements_word-computed, two_names-computed}
+use Rattle.swc_grammar.proofs.Texts.{no_in, script, product_in_sum, product_in_sum_tree}
+use Rattle.swc_grammar.proofs.Texts.{two_sums, two_sums_tree, grouped_name, grouped_name_tree, sum_in_product}
+use Rattle.swc_grammar.proofs.Texts.{sum_in_product_tree, in_test}
+use Rattle.swc_grammar.proofs.Texts.{in_test_tree, grouped_in_test, grouped_in_test_tree, instance_test}
+use Rattle.swc_grammar.proofs.Texts.{instance_test_tree, default_value}
+use Rattle.swc_grammar.proofs.Texts.{default_value_tree, and_in_or, and_in_or_tree, or_in_default, or_in_default_tree}
+use Rattle.swc_grammar.proofs.Texts.{null_word, null_word_tree}
+use Rattle.swc_grammar.proofs.Texts.{true_word, true_word_tree, false_word, false_word_tree, number, number_tree}
+use Rattle.swc_grammar.proofs.Texts.{big_integer, big_integer_tree}
+use Rattle.swc_grammar.proofs.Texts.{string, string_tree, let_word, let_word_tree, arguments_word, arguments_word_tree}
+use Rattle.swc_grammar.proofs.Texts.{product_in_sums}
+use Rattle.swc_grammar.proofs.Texts.{product_in_sums_tree, twice_grouped, twice_grouped_tree, order_in_equality}
+use Rattle.swc_grammar.proofs.Texts.{order_in_equality_tree, power}
+use Rattle.swc_grammar.proofs.Texts.{power_tree, two_powers, two_powers_tree, minus_name, minus_name_tree}
+use Rattle.swc_grammar.proofs.Texts.{not_minus_name, not_minus_name_tree}
+use Rattle.swc_grammar.proofs.Texts.{minus_in_power, minus_in_power_tree, type_in_sum, type_in_sum_tree, delete_name}
+use Rattle.swc_grammar.proofs.Texts.{delete_name_tree, private_word}
+use Rattle.swc_grammar.proofs.Texts.{private_word_tree, hash_and_name, hash_and_name_tree, yield_word, yield_word_tree}
+use Rattle.swc_grammar.proofs.Texts.{implements_word}
+use Rattle.swc_grammar.proofs.Texts.{implements_word_tree, two_names, name_at, word_at, ident}
+
+-- a hook that reads nothing, which is lawful
+abbrev deaf : {F C K : Type 0} → Hook F C K
+deaf = no_forms
+
+deaf-lawful : {F C K : Type 0} → LawfulHook {F = F} {C = C} {K = K} (λ v. no_span) (λ v. no_span) (λ v. no_span) deaf
+deaf-lawful = no_forms_read (λ v. no_span) (λ v. no_span) (λ v. no_span)
 
 module _ {F C K : Type 0} (hook : Hook F C K) where
-  -- a derivation at a level is one at each level below it
-  down : {c : Context} {xs ys : List TokenAndSpan} {e : Tree F C K} (n k m : ℕ)
-      → n + k ≡ m → m ≤ 11 → Reads hook (Level m) c xs ys e → Reads hook (Level k) c xs ys e
-  down zero k m p q d = let same : k ≡ m = omega arith in rw same d
-  down (suc n) k m p q d = level-up (lt-ltb k 11 (omega arith)) (down n (suc k) m (omega arith) q d)
+  deaf-none : (b : Body) (c : Context) (ts : List TokenAndSpan)
+      → reading_of (deaf {F = F} {C = C} {K = K}) b c ts ≡ None
+  deaf-none function c ts = refl
+  deaf-none class c ts = refl
+  deaf-none block c ts = refl
 
-  under : {c : Context} {xs ys : List TokenAndSpan} {e : Tree F C K} (m k : ℕ)
-      → IsTrue (nat_le k m && nat_le m 11) → Reads hook (Level m) c xs ys e → Reads hook (Level k) c xs ys e
-  under m k h d =
-      let (p, q) = both (nat_le k m) (nat_le m 11) h in
-      let below : k ≤ m = leb-true k m p in
-      let bound : m ≤ 11 = leb-true m 11 q in
-      down (m - k) k m (omega arith) bound d
+  -- what is derived where the hook reads nothing is derived whatever it reads
+  mutual
+    any-hook : {s : Symbol} {c : Context} {xs ys : List TokenAndSpan} {t : Answer F C K s}
+        → Reads deaf s c xs ys t → Reads hook s c xs ys t
+    any-hook (by p d) = by p (any-hook-side d)
 
-  -- an operand, and a primary expression, alone at any level
-  operand : {c : Context} {xs ys : List TokenAndSpan} {e : Tree F C K} (k : ℕ)
-      → IsTrue (nat_le k 11) → Reads hook Unary c xs ys e → Reads hook (Level k) c xs ys e
-  operand k h d = under 11 k (rw h refl) (level-unary d)
+    any-hook-side : {s : Symbol} {r : Side F C K s} {xs ys : List TokenAndSpan} {t : Answer F C K s}
+        → Follows deaf s r xs ys t → Follows hook s r xs ys t
+    any-hook-side gave = gave
+    any-hook-side (took d) = took (any-hook-side d)
+    any-hook-side (held h d) = held h (any-hook-side d)
+    any-hook-side (calm h d) = calm h (any-hook-side d)
+    any-hook-side (part e d) = part (any-hook e) (any-hook-side d)
+    any-hook-side (heard {b = b} {c = c} h d) = let n = deaf-none b c (h.own ++ []) in let k = h.alone [] in absurd cc
 
-  alone : {c : Context} {xs ys : List TokenAndSpan} {e : Tree F C K} (k : ℕ)
-      → IsTrue (nat_le k 11) → Reads hook Primary c xs ys e → Reads hook (Level k) c xs ys e
-  alone k h d = operand k h (unary-primary d)
-
-  -- productions, with their conditions in one
-  whole : {c : Context} {xs ys : List TokenAndSpan} {e : Tree F C K} → Reads hook (Level 1) c xs ys e → Reads hook Expr c xs ys e
-  whole d = expr-one (assign-level d)
-
-  ref : {c : Context} {w : Word} {b : Bool} {s : Span} {ys : List TokenAndSpan}
-      → IsTrue (is_reference c w && (not (is_put_off w) && ref_ok c w)) → Reads hook Primary c (tk (token.Word w) b s ∷ ys) ys (ident_e s (word_text w))
-  ref {c = c} {w = w} h =
-      let (p, u) = both (is_reference c w) (not (is_put_off w) && ref_ok c w) h in
-      let (q, r) = both (not (is_put_off w)) (ref_ok c w) u in
-      primary-ref q (reference p r)
-
-  inner : {c : Context} {b b' : Bool} {s s' : Span} {e : Tree F C K} {xs ys : List TokenAndSpan}
-      → Reads hook (Level 1) (with_in c) xs (tk token.RParen b' s' ∷ ys) e
-      → Reads hook Primary c (tk token.LParen b s ∷ xs) ys (paren_e (to s s') e)
-  inner d = primary-paren (assign-level d)
-
-  op : {c : Context} {k : ℕ} {o : BinaryOp} {t : Token} {b : Bool} {s : Span} {l r : Tree F C K} {xs ms ys : List TokenAndSpan}
-      → binary_of c t ≡ Some o
-      → IsTrue (nat_eq (precedence_of o) k && (nat_lt k 11 && (nullish_ok o l r && logical_ok o l)))
-      → Reads hook (Level k) c xs (tk t b s ∷ ms) l
-      → Reads hook (Level (suc k)) c ms ys r
-      → Reads hook (Level k) c xs ys (bin_e (to (span_of l) (span_of r)) o l r)
-  op {k = k} {o = o} {l = l} {r = r} h i dl dr =
-      let (p, u) = both (nat_eq (precedence_of o) k) (nat_lt k 11 && (nullish_ok o l r && logical_ok o l)) i in
-      let (q, v) = both (nat_lt k 11) (nullish_ok o l r && logical_ok o l) u in
-      let (f, g) = both (nullish_ok o l r) (logical_ok o l) v in
-      level-op h p q f g dl dr
+  derived : {c : Context} {xs ys : List TokenAndSpan} {e : Tree F C K} → answer deaf c xs ≡ Some (e, ys)
+      → Reads hook Expr c xs ys e
+  unfolding answer
+  derived {c = c} {xs = xs} {ys = ys} {e = e} h = any-hook (sound deaf deaf-lawful Expr c xs (e, ys) h)
 
   -- 5 + 4 * 7
   product_in_sum-row : Reads hook Expr script product_in_sum [] product_in_sum_tree
-  product_in_sum-row = whole (under 9 1 refl (op refl refl
-      (alone 9 refl primary-num)
-      (op refl refl (alone 10 refl primary-num) (alone 11 refl primary-num))))
+  product_in_sum-row = derived (product_in_sum-computed deaf)
 
   -- a + b + c
   two_sums-row : Reads hook Expr script two_sums [] two_sums_tree
-  two_sums-row = whole (under 9 1 refl (op refl refl (op refl refl (alone 9 refl (ref refl)) (alone 10 refl (ref refl))) (alone 10 refl (ref refl))))
+  two_sums-row = derived (two_sums-computed deaf)
 
   -- (a)
   grouped_name-row : Reads hook Expr script grouped_name [] grouped_name_tree
-  grouped_name-row = whole (alone 1 refl (inner (alone 1 refl (ref refl))))
+  grouped_name-row = derived (grouped_name-computed deaf)
 
   -- (5 + 4) * 7
   sum_in_product-row : Reads hook Expr script sum_in_product [] sum_in_product_tree
-  sum_in_product-row = whole (under 10 1 refl (op refl refl
-      (alone 10 refl (inner (under 9 1 refl (op refl refl (alone 9 refl primary-num) (alone 10 refl primary-num)))))
-      (alone 11 refl primary-num)))
+  sum_in_product-row = derived (sum_in_product-computed deaf)
 
   -- a in b
   in_test-row : Reads hook Expr script in_test [] in_test_tree
-  in_test-row = whole (under 7 1 refl (op refl refl (alone 7 refl (ref refl)) (alone 8 refl (ref refl))))
-
-  -- a in b, where `in` isn't an operator: `a`, and `in b` is left
-  in_test-front : Reads hook (Level 1) no_in in_test (word_at (word.Keyword keyword.In) 2 4 ∷ name_at (codes "b") 5 6 ∷ []) (ident (codes "a") 0 1)
-  in_test-front = alone 1 refl (ref refl)
+  in_test-row = derived (in_test-computed deaf)
 
   -- (a in b), where `in` isn't an operator outside the parentheses
   grouped_in_test-row : Reads hook Expr no_in grouped_in_test [] grouped_in_test_tree
-  grouped_in_test-row = whole (alone 1 refl (inner (under 7 1 refl (op refl refl (alone 7 refl (ref refl)) (alone 8 refl (ref refl))))))
+  grouped_in_test-row = derived (grouped_in_test-computed deaf)
 
   -- a instanceof b
   instance_test-row : Reads hook Expr script instance_test [] instance_test_tree
-  instance_test-row = whole (under 7 1 refl (op refl refl (alone 7 refl (ref refl)) (alone 8 refl (ref refl))))
+  instance_test-row = derived (instance_test-computed deaf)
 
   -- a ?? b
   default_value-row : Reads hook Expr script default_value [] default_value_tree
-  default_value-row = whole (op refl refl (alone 1 refl (ref refl)) (alone 2 refl (ref refl)))
+  default_value-row = derived (default_value-computed deaf)
 
   -- a || b && c
   and_in_or-row : Reads hook Expr script and_in_or [] and_in_or_tree
-  and_in_or-row = whole (op refl refl (alone 1 refl (ref refl)) (op refl refl (alone 2 refl (ref refl)) (alone 3 refl (ref refl))))
+  and_in_or-row = derived (and_in_or-computed deaf)
 
   -- a ?? (b || c)
   or_in_default-row : Reads hook Expr script or_in_default [] or_in_default_tree
-  or_in_default-row = whole (op refl refl
-      (alone 1 refl (ref refl))
-      (alone 2 refl (inner (op refl refl (alone 1 refl (ref refl)) (alone 2 refl (ref refl))))))
+  or_in_default-row = derived (or_in_default-computed deaf)
 
   -- null
   null_word-row : Reads hook Expr script null_word [] null_word_tree
-  null_word-row = whole (alone 1 refl primary-null)
+  null_word-row = derived (null_word-computed deaf)
+
+  -- null, as a literal
+  null_word-literal : Reads hook Literal script null_word [] null_word_tree
+  null_word-literal = literal-read (word_at word.Null 0 4) [] null_word_tree refl
 
   -- true
   true_word-row : Reads hook Expr script true_word [] true_word_tree
-  true_word-row = whole (alone 1 refl primary-true)
+  true_word-row = derived (true_word-computed deaf)
 
   -- false
   false_word-row : Reads hook Expr script false_word [] false_word_tree
-  false_word-row = whole (alone 1 refl primary-false)
+  false_word-row = derived (false_word-computed deaf)
 
   -- 7
   number-row : Reads hook Expr script number [] number_tree
-  number-row = whole (alone 1 refl primary-num)
+  number-row = derived (number-computed deaf)
 
   -- 10n
   big_integer-row : Reads hook Expr script big_integer [] big_integer_tree
-  big_integer-row = whole (alone 1 refl primary-big)
+  big_integer-row = derived (big_integer-computed deaf)
 
   -- 'a'
   string-row : Reads hook Expr script string [] string_tree
-  string-row = whole (alone 1 refl primary-str)
+  string-row = derived (string-computed deaf)
 
   -- let
   let_word-row : Reads hook Expr script let_word [] let_word_tree
-  let_word-row = whole (alone 1 refl (ref refl))
+  let_word-row = derived (let_word-computed deaf)
 
   -- arguments
   arguments_word-row : Reads hook Expr script arguments_word [] arguments_word_tree
-  arguments_word-row = whole (alone 1 refl (ref refl))
+  arguments_word-row = derived (arguments_word-computed deaf)
 
   -- a + b * c - d
   product_in_sums-row : Reads hook Expr script product_in_sums [] product_in_sums_tree
-  product_in_sums-row = whole (under 9 1 refl (op refl refl
-      (op refl refl (alone 9 refl (ref refl)) (op refl refl (alone 10 refl (ref refl)) (alone 11 refl (ref refl))))
-      (alone 10 refl (ref refl))))
+  product_in_sums-row = derived (product_in_sums-computed deaf)
 
   -- ((a))
   twice_grouped-row : Reads hook Expr script twice_grouped [] twice_grouped_tree
-  twice_grouped-row = whole (alone 1 refl (inner (alone 1 refl (inner (alone 1 refl (ref refl))))))
+  twice_grouped-row = derived (twice_grouped-computed deaf)
 
   -- a < b == c
   order_in_equality-row : Reads hook Expr script order_in_equality [] order_in_equality_tree
-  order_in_equality-row = whole (under 6 1 refl (op refl refl
-      (under 7 6 refl (op refl refl (alone 7 refl (ref refl)) (alone 8 refl (ref refl))))
-      (alone 7 refl (ref refl))))
+  order_in_equality-row = derived (order_in_equality-computed deaf)
 
   -- a ** b
   power-row : Reads hook Expr script power [] power_tree
-  power-row = whole (under 11 1 refl (level-exp (unary-primary (ref refl)) refl (alone 11 refl (ref refl))))
+  power-row = derived (power-computed deaf)
 
   -- 2 ** 3 ** 4
   two_powers-row : Reads hook Expr script two_powers [] two_powers_tree
-  two_powers-row = whole (under 11 1 refl (level-exp
-      (unary-primary primary-num)
-      refl
-      (level-exp (unary-primary primary-num) refl (alone 11 refl primary-num))))
+  two_powers-row = derived (two_powers-computed deaf)
 
   -- -a
   minus_name-row : Reads hook Expr script minus_name [] minus_name_tree
-  minus_name-row = whole (operand 1 refl (unary-prefix refl (unary-primary (ref refl)) refl))
+  minus_name-row = derived (minus_name-computed deaf)
 
   -- !-a
   not_minus_name-row : Reads hook Expr script not_minus_name [] not_minus_name_tree
-  not_minus_name-row = whole (operand 1 refl (unary-prefix refl (unary-prefix refl (unary-primary (ref refl)) refl) refl))
+  not_minus_name-row = derived (not_minus_name-computed deaf)
 
   -- (-a) ** b
   minus_in_power-row : Reads hook Expr script minus_in_power [] minus_in_power_tree
-  minus_in_power-row = whole (under 11 1 refl (level-exp
-      (unary-primary (inner (operand 1 refl (unary-prefix refl (unary-primary (ref refl)) refl))))
-      refl
-      (alone 11 refl (ref refl))))
+  minus_in_power-row = derived (minus_in_power-computed deaf)
 
   -- typeof a + b
   type_in_sum-row : Reads hook Expr script type_in_sum [] type_in_sum_tree
-  type_in_sum-row = whole (under 9 1 refl (op refl refl
-      (operand 9 refl (unary-prefix refl (unary-primary (ref refl)) refl))
-      (alone 10 refl (ref refl))))
+  type_in_sum-row = derived (type_in_sum-computed deaf)
 
   -- delete a
   delete_name-row : Reads hook Expr script delete_name [] delete_name_tree
-  delete_name-row = whole (operand 1 refl (unary-prefix refl (unary-primary (ref refl)) refl))
+  delete_name-row = derived (delete_name-computed deaf)
 
   -- #a
   private_word-row : Reads hook Expr script private_word [] private_word_tree
-  private_word-row = whole (alone 1 refl (primary-private any-word))
+  private_word-row = derived (private_word-computed deaf)
 
   -- # a
   hash_and_name-row : Reads hook Expr script hash_and_name [] hash_and_name_tree
-  hash_and_name-row = whole (alone 1 refl (primary-private any-word))
+  hash_and_name-row = derived (hash_and_name-computed deaf)
 
   -- yield
   yield_word-row : Reads hook Expr script yield_word [] yield_word_tree
-  yield_word-row = whole (alone 1 refl (ref refl))
+  yield_word-row = derived (yield_word-computed deaf)
 
   -- implements
   implements_word-row : Reads hook Expr script implements_word [] implements_word_tree
-  implements_word-row = whole (alone 1 refl (ref refl))
+  implements_word-row = derived (implements_word-computed deaf)
 
   -- a b: `a`, and `b` is left
   two_names-front : Reads hook Expr script two_names (name_at (codes "b") 2 3 ∷ []) (ident (codes "a") 0 1)
-  two_names-front = whole (alone 1 refl (ref refl))
+  two_names-front = derived (two_names-computed deaf)

@@ -1,42 +1,110 @@
--- The clean parser: the grammar's readings, computed. Each function is that of the code that reads the same, on lists: from the tokens
--- to come, the tree and the tokens left, or nothing where the code refuses or records a fault. It is a private measure of the code:
--- that it reads what the grammar derives, and nothing else, is proved of it, and what is promised to callers speaks of the grammar.
-use Rattle.std.specs.Prelude.{◌≡◌, ℕ, zero, suc, Bool, true, false, ◌&&◌, if◌then◌else◌, List, [], ◌∷◌, Option, Some, None, length, nat_le, ◌≤◌}
+-- The clean parser: the grammar's readings, computed. From the tokens to come it answers a tree and the tokens left, or
+-- nothing where the code refuses or records a fault. By what stands first it picks one of the grammar's productions,
+-- whose right-hand side is then run as it stands, so what is read is derived by construction. It is a private measure
+-- of the code: what is promised to callers speaks of the grammar.
+use Rattle.std.specs.Prelude.{ℕ, zero, suc, ◌+◌, ◌-◌, ◌*◌, ◌≤◌, Bool, true, false, if◌then◌else◌}
+use Rattle.std.specs.Prelude.{List, [], ◌∷◌, Option, Some, None, ◌≡◌, length, take as front, nat_le, nat_lt}
 use Rattle.swc_context.specs.Operators.{precedence_of}
-use Rattle.swc_context.specs.Words.{word_text}
 use Rattle.swc_context.specs.declared.context.Context.{Context}
 use Rattle.swc_context.specs.declared.operator.BinaryOp.{BinaryOp}
 use Rattle.swc_context.specs.declared.operator.UnaryOp.{UnaryOp}
 use Rattle.swc_context.specs.declared.span.Span.{Span}
-use Rattle.swc_context.specs.declared.word.Word.{Word}
 use Rattle.swc_context.specs.declared.word.Word.TheVariants as written
 use Rattle.swc_input.specs.declared.token.Token.{Token}
 use Rattle.swc_input.specs.declared.token.Token.TheVariants as token
 use Rattle.swc_input.specs.declared.token.TokenAndSpan.{TokenAndSpan}
 use Rattle.swc_input.specs.Kinds.{at_token, is_hash}
 use Rattle.swc_ast.specs.Tree.{Tree, span_of}
-use Rattle.swc_grammar.specs.Names.{Spelling, spelling, is_joined}
-use Rattle.swc_grammar.specs.Tokens.{with_in, is_reference, is_ref, ref_ok, is_binding, binding_ok, binary_of, prefix_of}
-use Rattle.swc_grammar.specs.Trees.{to, null_e, boolean_e, num_e, big_e, str_e, ident_e, private_e, unary_e, paren_e, bin_e}
-use Rattle.swc_grammar.specs.Trees.{nullish_ok, logical_ok, delete_ok, exp_ok, min_right}
+use Rattle.swc_bodies.specs.Readings.{whole_span, Hook}
+use Rattle.swc_grammar.specs.Rule.{Rule, gives, never, take, check, peek, read, hear, sees, ◌>>=◌, ◌>>◌, symbol, must}
+use Rattle.swc_grammar.specs.Symbols.{Symbol, Expr, Assign, Level, Unary, Primary, Literal, Answer, Body, Value}
+use Rattle.swc_grammar.specs.Symbols.{reading_of, Side}
+use Rattle.swc_grammar.specs.Grammar.{Production, ident, lit, paren-expr, unary-primary, unary-expr, private-name}
+use Rattle.swc_grammar.specs.Grammar.{primary-literal, assign-level, expr-assign}
+use Rattle.swc_grammar.specs.Tokens.{is_ref, binary_of, prefix_of, is_lparen}
+use Rattle.swc_grammar.specs.Trees.{to, bin_e, nullish_ok, logical_ok, exp_ok, min_right}
 
 -- what was read, and the tokens left
 abbrev pub Out : Type 0 → Type 0
 Out A = Option (A × List TokenAndSpan)
 
-infixl 10 ◌>>=◌
-abbrev pub ◌>>=◌ : {A B : Type 0} → Out A → (A × List TokenAndSpan → Out B) → Out B
-None >>= f = None
-(Some p) >>= f = f p
+abbrev pub and_then : {A B : Type 0} → Out A → (A → List TokenAndSpan → Out B) → Out B
+and_then None f = None
+and_then (Some p) f = f p.0 p.1
 
 abbrev pub first : List TokenAndSpan → Option TokenAndSpan
 first [] = None
 first (t ∷ ts) = Some t
 
-abbrev pub rest : List TokenAndSpan → List TokenAndSpan
-rest [] = []
-rest (t ∷ ts) = ts
+-- the tokens that stand before the ones left
+abbrev pub before : List TokenAndSpan → List TokenAndSpan → List TokenAndSpan
+before ts us = front (length ts - length us) ts
 
+-- what the hook read, where it took a token, with the place of what it took
+abbrev pub hear_then : {V A : Type 0} → Out V → List TokenAndSpan → (V → Span → List TokenAndSpan → Out A) → Out A
+hear_then None ts f = None
+hear_then (Some p) ts f = if nat_lt (length p.1) (length ts) then f p.0 (whole_span (before ts p.1)) p.1 else None
+
+-- Where the recursion goes on: at a symbol; and behind an operand, at the operators above the precedence m.
+pub data Call (F C K : Type 0) : Type 0 where
+  sym : Symbol → Call F C K
+  climb : Tree F C K → ℕ → Call F C K
+
+-- what a call gives
+abbrev pub Ans : (F C K : Type 0) → Call F C K → Type 0
+Ans F C K (sym s) = Answer F C K s
+Ans F C K (climb l m) = Tree F C K
+
+-- what is run: a right-hand side, with calls in place of symbols
+abbrev pub Plan : (F C K : Type 0) → Type 0 → Type 0
+Plan F C K A = Rule (Call F C K) (Ans F C K) Body (Value F C K) A
+
+abbrev pub plan : {F C K A : Type 0} → Rule Symbol (Answer F C K) Body (Value F C K) A → Plan F C K A
+plan (gives a) = gives a
+plan never = never
+plan (take f) = take (λ t. plan (f t))
+plan (check b r) = check b (plan r)
+plan (peek p r) = peek p (plan r)
+plan (read s c f) = read (sym s) c (λ e. plan (f e))
+plan (hear b c f) = hear b c (λ v s. plan (f v s))
+
+-- Which calls may stand first in which, before a token: those of a lower rank. So the recursion ends.
+abbrev pub rank_of : Symbol → ℕ
+rank_of Expr = 14
+rank_of Assign = 13
+rank_of (Level k) = 11
+rank_of Unary = 10
+rank_of Primary = 8
+rank_of Literal = 6
+
+abbrev pub rank : {F C K : Type 0} → Call F C K → ℕ
+rank (sym s) = rank_of s
+rank (climb l m) = 1
+
+abbrev pub measure : {F C K : Type 0} → Call F C K → List TokenAndSpan → ℕ
+measure k ts = 20 * length ts + rank k
+
+-- whether a call of the rank n may stand here: a token was taken before, or its rank is below
+abbrev pub allowed : Option ℕ → ℕ → Bool
+allowed None n = true
+allowed (Some m) n = nat_lt n m
+
+abbrev pub Runs : (F C K : Type 0) → Type 0
+Runs F C K = (k : Call F C K) → Context → List TokenAndSpan → Out (Ans F C K k)
+
+-- a right-hand side run, from what the calls read; g is the rank below which a call may stand first
+abbrev pub exec : {F C K A : Type 0} → Hook F C K → Runs F C K → Option ℕ → Plan F C K A → List TokenAndSpan → Out A
+exec hook run g (gives a) ts = Some (a, ts)
+exec hook run g never ts = None
+exec hook run g (take f) [] = None
+exec hook run g (take f) (t ∷ ts) = exec hook run None (f t) ts
+exec hook run g (check b r) ts = if b then exec hook run g r ts else None
+exec hook run g (peek p r) ts = if sees p ts then None else exec hook run g r ts
+exec hook run g (read k c f) ts =
+    if allowed g (rank k) then and_then (run k c ts) (λ e us. exec hook run g (f e) us) else None
+exec hook run g (hear b c f) ts = hear_then (reading_of hook b c ts) ts (λ v s us. exec hook run None (f v s) us)
+
+-- Tests of what stands first.
 abbrev pub is_lit : Token → Bool
 is_lit (token.Word written.Null) = true
 is_lit (token.Word written.True) = true
@@ -49,14 +117,6 @@ is_lit t = false
 abbrev pub is_identifier : Context → Token → Bool
 is_identifier c (token.Word w) = is_ref c w
 is_identifier c t = false
-
-abbrev pub is_lparen : Token → Bool
-is_lparen token.LParen = true
-is_lparen t = false
-
-abbrev pub is_rparen : Token → Bool
-is_rparen token.RParen = true
-is_rparen t = false
 
 -- no fault of the text stands in its place
 abbrev pub no_error : Token → Bool
@@ -81,181 +141,85 @@ abbrev pub left_ok : {F C K : Type 0} → Tree F C K → Bool
 left_ok (bin_e s op l r) = logical_ok op l
 left_ok t = true
 
-abbrev pub lit_of : {F C K : Type 0} → Token → Span → Option (Tree F C K)
-lit_of (token.Word written.Null) s = Some (null_e s)
-lit_of (token.Word written.True) s = Some (boolean_e s true)
-lit_of (token.Word written.False) s = Some (boolean_e s false)
-lit_of (token.Num raw) s = Some (num_e s raw)
-lit_of (token.BigInt raw) s = Some (big_e s raw)
-lit_of (token.Str value raw) s = Some (str_e s value raw)
-lit_of t s = None
+-- where a symbol's reading stops for the clean parser: nothing goes on that it would take too
+abbrev pub Stop : Symbol → Context → List TokenAndSpan → Type 0
+Stop Primary c ys = Unit {0}
+Stop Literal c ys = Unit {0}
+Stop Unary c ys = Unit {0}
+Stop (Level zero) c ys = ⊥
+Stop (Level (suc n)) c ys = (n ≤ 10) × Bound c n ys
+Stop s c ys = Bound c 0 ys
 
-abbrev pub one : {A : Type 0} → Option A → List TokenAndSpan → Out A
-one None us = None
-one (Some t) us = Some (t, us)
+-- a choice: none of a symbol's productions, or one
+pub data Choice (F C K : Type 0) (s : Symbol) (c : Context) : Type 0 where
+  none : Choice F C K s c
+  pick : {r : Side F C K s} → Production s c r → Choice F C K s c
 
--- a word that passes a test, as a name
-abbrev pub spelled : (Word → Bool) → Token → Span → Option Spelling
-spelled ok (token.Word w) s = if ok w then Some (spelling (word_text w) s) else None
-spelled ok t s = None
+module _ {F C K : Type 0} where
+  abbrev pub chosen : {s : Symbol} {c : Context} → Choice F C K s c → Plan F C K (Answer F C K s)
+  chosen none = never
+  chosen (pick {r = r} p) = plan r
 
-abbrev pub word_by : (Context → Word → Bool) → Context → Option TokenAndSpan → List TokenAndSpan → Out Spelling
-word_by ok c None us = None
-word_by ok c (Some t) us = one (spelled (ok c) t.token t.span) us
+  -- The choices.
+  abbrev pub expr : (c : Context) → List TokenAndSpan → Choice F C K Expr c
+  expr c ts = pick expr-assign
 
-unfoldable pub word : (Context → Word → Bool) → Context → List TokenAndSpan → Out Spelling
-word ok c ts = word_by ok c (first ts) (rest ts)
+  abbrev pub assign : (c : Context) → List TokenAndSpan → Choice F C K Assign c
+  assign c ts = if at_token no_error (first ts) then pick assign-level else none
 
--- the tests of names: of references, of bindings, and of names that may be any word
-abbrev pub may_refer : Context → Word → Bool
-may_refer c w = is_reference c w && ref_ok c w
+  abbrev pub unary_by : {c : Context} → Option UnaryOp → Choice F C K Unary c
+  unary_by None = pick unary-primary
+  unary_by (Some op) = pick unary-expr
 
-abbrev pub may_bind : Context → Word → Bool
-may_bind c w = is_binding c w && binding_ok c w
+  abbrev pub unary : (c : Context) → List TokenAndSpan → Choice F C K Unary c
+  unary c ts = unary_by (prefix_at (first ts))
 
-abbrev pub may_name : Context → Word → Bool
-may_name c w = true
-
--- a `#`, and a word that begins where it ends
-abbrev pub begins_at : Span → Option TokenAndSpan → Bool
-begins_at s None = false
-begins_at s (Some t) = is_joined s t.span
-
-abbrev pub hash_by : Context → Option TokenAndSpan → List TokenAndSpan → Out Spelling
-hash_by c None us = None
-hash_by c (Some t) us = if is_hash t.token && begins_at t.span (first us) then (word may_name c us >>= (λ r. Some (spelling r.0.text (to t.span r.0.at), r.1))) else None
-
-unfoldable pub hash_word : Context → List TokenAndSpan → Out Spelling
-hash_word c ts = hash_by c (first ts) (rest ts)
-
--- where the recursion goes on, always after a token
-pub data Call (F C K : Type 0) : Type 0 where
-  to_assign : Call F C K
-  to_unary : Call F C K
-  to_operand : ℕ → Call F C K
-  to_climb : Tree F C K → ℕ → Call F C K
-
-module _ {F C K : Type 0} (run : Call F C K → Context → List TokenAndSpan → Out (Tree F C K)) where
-  abbrev pub lit_by : Option TokenAndSpan → List TokenAndSpan → Out (Tree F C K)
-  lit_by None us = None
-  lit_by (Some t) us = one (lit_of t.token t.span) us
-
-  unfoldable pub lit : Context → List TokenAndSpan → Out (Tree F C K)
-  lit c ts = lit_by (first ts) (rest ts)
-
-  -- an identifier reference has been seen
-  unfoldable pub name : Context → List TokenAndSpan → Out (Tree F C K)
-  name c ts = word ref_ok c ts >>= (λ r. Some (ident_e r.0.at r.0.text, r.1))
-
-  -- what stands behind the `#` at s
-  unfoldable pub hashed : Span → Context → List TokenAndSpan → Out (Tree F C K)
-  hashed s c ts = word may_name c ts >>= (λ r. Some (private_e (to s r.0.at) r.0.text, r.1))
-
-  abbrev pub private_by : Option TokenAndSpan → Context → List TokenAndSpan → Out (Tree F C K)
-  private_by None c us = None
-  private_by (Some t) c us = hashed t.span c us
-
-  -- a `#` has been seen
-  unfoldable pub private_name : Context → List TokenAndSpan → Out (Tree F C K)
-  private_name c ts = private_by (first ts) c (rest ts)
-
-  unfoldable pub inside : Context → List TokenAndSpan → Out (Tree F C K)
-  inside c ts = run to_assign (with_in c) ts
-
-  abbrev pub close_by : Span → Tree F C K → Option TokenAndSpan → List TokenAndSpan → Out (Tree F C K)
-  close_by s e None vs = None
-  close_by s e (Some t) vs = if is_rparen t.token then Some (paren_e (to s t.span) e, vs) else None
-
-  unfoldable pub close : Span → Tree F C K → List TokenAndSpan → Out (Tree F C K)
-  close s e ts = close_by s e (first ts) (rest ts)
-
-  -- what stands behind the parenthesis at s
-  unfoldable pub opened : Span → Context → List TokenAndSpan → Out (Tree F C K)
-  opened s c ts = if at_token is_rparen (first ts) then None else (inside c ts >>= (λ r. close s r.0 r.1))
-
-  abbrev pub parens_by : Option TokenAndSpan → Context → List TokenAndSpan → Out (Tree F C K)
-  parens_by None c us = None
-  parens_by (Some t) c us = opened t.span c us
-
-  -- a parenthesis has been seen
-  unfoldable pub parens : Context → List TokenAndSpan → Out (Tree F C K)
-  parens c ts = parens_by (first ts) c (rest ts)
-
-  unfoldable pub primary : Context → List TokenAndSpan → Out (Tree F C K)
+  abbrev pub primary : (c : Context) → List TokenAndSpan → Choice F C K Primary c
   primary c ts =
-      if at_token is_lit (first ts) then lit c ts else
-      (if at_token is_lparen (first ts) then parens c ts else
-      (if at_token (is_identifier c) (first ts) then name c ts else
-      (if at_token is_hash (first ts) then private_name c ts else None)))
+      if at_token (is_identifier c) (first ts) then pick ident else
+      (if at_token is_lit (first ts) then pick primary-literal else
+      (if at_token is_lparen (first ts) then pick paren-expr else
+      (if at_token is_hash (first ts) then pick private-name else none)))
 
-  -- the node of a prefix operator
-  abbrev pub prefix_node : Span → UnaryOp → Context → Tree F C K → List TokenAndSpan → Out (Tree F C K)
-  prefix_node s op c e us = if delete_ok c op e then Some (unary_e (to s (span_of e)) op e, us) else None
+  abbrev pub literal : (c : Context) → List TokenAndSpan → Choice F C K Literal c
+  literal c ts = pick lit
 
-  -- behind the prefix operator at s
-  unfoldable pub prefixed : Span → UnaryOp → Context → List TokenAndSpan → Out (Tree F C K)
-  prefixed s op c ts = run to_unary c ts >>= (λ r. prefix_node s op c r.0 r.1)
-
-  abbrev pub prefix_by : UnaryOp → Option TokenAndSpan → Context → List TokenAndSpan → Out (Tree F C K)
-  prefix_by op None c us = None
-  prefix_by op (Some t) c us = prefixed t.span op c us
-
-  -- the prefix operator has been seen
-  unfoldable pub prefix : UnaryOp → Context → List TokenAndSpan → Out (Tree F C K)
-  prefix op c ts = prefix_by op (first ts) c (rest ts)
-
-  abbrev pub unary_by : Option UnaryOp → Context → List TokenAndSpan → Out (Tree F C K)
-  unary_by None c ts = primary c ts
-  unary_by (Some op) c ts = prefix op c ts
-
-  unfoldable pub unary : Context → List TokenAndSpan → Out (Tree F C K)
-  unary c ts = unary_by (prefix_at (first ts)) c ts
-
-  -- the node of an operator, and the least precedence to go on with
-  abbrev pub node_by : BinaryOp → Tree F C K → ℕ → Tree F C K → List TokenAndSpan → Out (Tree F C K × Option ℕ)
-  node_by op l m r us = if nullish_ok op l r then Some ((bin_e (to (span_of l) (span_of r)) op l r, Some m), us) else None
-
-  -- behind the operator
-  unfoldable pub operation : BinaryOp → Tree F C K → ℕ → Context → List TokenAndSpan → Out (Tree F C K × Option ℕ)
-  operation op l m c ts = if exp_ok op l then (run (to_operand (min_right op)) c ts >>= (λ r. node_by op l m r.0 r.1)) else None
-
-  abbrev pub turn_by : Option BinaryOp → Tree F C K → ℕ → Context → List TokenAndSpan → Out (Tree F C K × Option ℕ)
-  turn_by None l m c ts = Some ((l, None), ts)
-  turn_by (Some op) l m c ts = if nat_le (precedence_of op) m then Some ((l, None), ts) else operation op l m c (rest ts)
+  -- behind an operator: what stands right of it, and their node, with the least precedence to go on with
+  abbrev pub operation : BinaryOp → Tree F C K → ℕ → Context → Plan F C K (Tree F C K × Option ℕ)
+  operation op l m c = do
+    must (exp_ok op l)
+    r ← symbol (sym (Level (suc (min_right op)))) c
+    must (nullish_ok op l r)
+    gives (bin_e (to (span_of l) (span_of r)) op l r, Some m)
 
   -- one operator above the precedence m with what stands right of it, or none
-  unfoldable pub turn : Tree F C K → ℕ → Context → List TokenAndSpan → Out (Tree F C K × Option ℕ)
-  turn l m c ts = turn_by (operator_at c (first ts)) l m c ts
-
-  abbrev pub go_on : Tree F C K → Option ℕ → Context → List TokenAndSpan → Out (Tree F C K)
-  go_on t None c ts = Some (t, ts)
-  go_on t (Some m) c ts = run (to_climb t m) c ts
+  abbrev pub turn : Option BinaryOp → Tree F C K → ℕ → Context → Plan F C K (Tree F C K × Option ℕ)
+  turn None l m c = gives (l, None)
+  turn (Some op) l m c = if nat_le (precedence_of op) m then gives (l, None) else take (λ t. operation op l m c)
 
   -- after a turn
-  unfoldable pub turned : Tree F C K → Option ℕ → Context → List TokenAndSpan → Out (Tree F C K)
-  turned t o c ts = if left_ok t then go_on t o c ts else None
+  abbrev pub go_on : Tree F C K → Option ℕ → Context → Plan F C K (Tree F C K)
+  go_on t None c = gives t
+  go_on t (Some m) c = symbol (climb t m) c
 
-  -- all operators above the precedence m
-  unfoldable pub climb : Tree F C K → ℕ → Context → List TokenAndSpan → Out (Tree F C K)
-  climb l m c ts = turn l m c ts >>= (λ r. turned r.0.0 r.0.1 c r.1)
+  abbrev pub turned : Tree F C K → Option ℕ → Context → Plan F C K (Tree F C K)
+  turned t o c = check (left_ok t) (go_on t o c)
 
-  -- an operand, and the operators above the precedence m
-  unfoldable pub operand : ℕ → Context → List TokenAndSpan → Out (Tree F C K)
-  operand m c ts = unary c ts >>= (λ r. climb r.0 m c r.1)
+  -- what is run at each call
+  abbrev pub step : (k : Call F C K) → Context → List TokenAndSpan → Plan F C K (Ans F C K k)
+  step (sym Expr) c ts = chosen (expr c ts)
+  step (sym Assign) c ts = chosen (assign c ts)
+  step (sym (Level zero)) c ts = never
+  step (sym (Level (suc m))) c ts = must (nat_le m 10) >> symbol (sym Unary) c >>= (λ e. symbol (climb e m) c)
+  step (sym Unary) c ts = chosen (unary c ts)
+  step (sym Primary) c ts = chosen (primary c ts)
+  step (sym Literal) c ts = chosen (literal c ts)
+  step (climb l m) c ts = turn (operator_at c (first ts)) l m c >>= (λ r. turned r.0 r.1 c)
 
-  unfoldable pub assign : Context → List TokenAndSpan → Out (Tree F C K)
-  assign c ts = if at_token no_error (first ts) then operand 0 c ts else None
+-- closed by as many steps as the measure of the call, which is enough
+abbrev pub run_at : {F C K : Type 0} → Hook F C K → ℕ → Runs F C K
+run_at hook zero k c ts = None
+run_at hook (suc n) k c ts = exec hook (run_at hook n) (Some (rank k)) (step k c ts) ts
 
-  abbrev pub step : Call F C K → Context → List TokenAndSpan → Out (Tree F C K)
-  step to_assign c ts = assign c ts
-  step to_unary c ts = unary c ts
-  step (to_operand m) c ts = operand m c ts
-  step (to_climb t m) c ts = climb t m c ts
-
--- closed by as many steps as there are tokens, which is enough
-abbrev pub run_at : {F C K : Type 0} → ℕ → Call F C K → Context → List TokenAndSpan → Out (Tree F C K)
-run_at zero k c ts = None
-run_at (suc n) k c ts = step (run_at n) k c ts
-
-unfoldable pub run : {F C K : Type 0} → Call F C K → Context → List TokenAndSpan → Out (Tree F C K)
-run k c ts = run_at (suc (length ts)) k c ts
+unfoldable pub run : {F C K : Type 0} → Hook F C K → Runs F C K
+run hook k c ts = run_at hook (suc (measure k ts)) k c ts

@@ -3,5 +3,10 @@ pub mod Cut
 pub mod Firsts
 pub mod Grammar
 pub mod Names
+pub mod Parts
+pub mod Reads
+pub mod Rule
+pub mod Symbols
 pub mod Tokens
 pub mod Trees
+pub mod Words

@@ -121,3 +121,16 @@ is_stop t = is_closer t.token || is_word_apart t.token t.had_line_break
 abbrev pub is_comma : Token → Bool
 is_comma token.Comma = true
 is_comma t = false
+
+abbrev pub is_lparen : Token → Bool
+is_lparen token.LParen = true
+is_lparen t = false
+
+abbrev pub is_rparen : Token → Bool
+is_rparen token.RParen = true
+is_rparen t = false
+
+-- `**`
+abbrev pub is_power : Token → Bool
+is_power (token.BinOp sign.Exp) = true
+is_power t = false

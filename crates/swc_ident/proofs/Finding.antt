@@ -15,14 +15,14 @@ use Rattle.swc_input.specs.declared.buffer.Buffer.{Buffer}
 use Rattle.swc_input.specs.declared.token.Token.{Token}
 use Rattle.swc_input.specs.declared.token.Token.TheVariants as token
 use Rattle.swc_input.specs.declared.token.TokenAndSpan.{TokenAndSpan}
-use Rattle.swc_input.specs.Source.{Source}
-use Rattle.swc_input.specs.Buffer.{Looked, current, previous, context}
+use Rattle.swc_input.specs.Source.{Model, Laws}
+use Rattle.swc_input.specs.Buffer.{ReadSome, Looked, current, previous, context}
 use Rattle.swc_input.specs.Recording.{error_here, error_in, is_some, is_fit, Refused}
 use Rattle.swc_input.specs.Kinds.{at_token}
 use Rattle.swc_ident.specs.Naming.{Judges, fault_at, place_here, Notes, Spoken, Named, Unnamed, no_memory, not_fit, no_word, refused_word, Names, Unbound, Bound}
 use Rattle.swc_ident.specs.Steps.{Forgone, word_faults}
 use Rattle.swc_ident.specs.Verdicts.{Fault, now, in_modules, is_word, name_of_any, ident_verdict, binding_verdict, binding_faults, and_then, is_bindable}
-use Rattle.swc_ident.proofs.Reading.{Laws, Reads, place_is, reads_then, looked_then, looked_reads, refused_reads, met, noted_then, notes_read, passed_reads, passed_later}
+use Rattle.swc_ident.proofs.Reading.{place_is, reads_then, looked_then, looked_reads, refused_reads, met, noted_then, notes_read, passed_reads, passed_later}
 
 -- what is included decides over refusals alone
 pub same_faults : (y a : Bool) (c : Context) (w : Word) → word_faults c w ≡ (ident_verdict y a c w).faults
@@ -69,35 +69,35 @@ fit_word : (o : Option TokenAndSpan) → at_token is_word o ≡ true → is_fit 
 fit_word None h = cc
 fit_word (Some t) h = fit_token t.token h
 
-module _ {S : Type 0} {state : S → Source} {gives : S → List TokenAndSpan → S → Type 0} where
-  same_context : {b c : Buffer S} → Looked state gives b c → context state c ≡ context state b
+module _ {S : Type 0} {model : Model S} where
+  same_context : {b c : Buffer S} → Looked model b c → context model c ≡ context model b
   same_context l = l.look.read.context
 
   -- ---- what was consumed
 
-  pub unnamed_reads : {judge : Judges} {b c : Buffer S} {e : Error} → Laws state gives → Unnamed state gives judge b e c → Reads state gives b c
+  pub unnamed_reads : {judge : Judges} {b c : Buffer S} {e : Error} → Laws model → Unnamed model judge b e c → ReadSome model b c
   unnamed_reads laws (no_memory xs r k) = (xs, r)
   unnamed_reads laws (not_fit r f) = refused_reads laws r
   unnamed_reads laws (no_word r fits f) = refused_reads laws r
   unnamed_reads laws (refused_word s v n r) = reads_then laws (passed_reads laws s) (reads_then laws (notes_read laws n) (refused_reads laws r))
 
-  pub named_reads : {judge : Judges} {text : List ℕ} {at : Span} {b c : Buffer S} → Named state gives judge text at b c → Reads state gives b c
+  pub named_reads : {judge : Judges} {text : List ℕ} {at : Span} {b c : Buffer S} → Named model judge text at b c → ReadSome model b c
   named_reads n = (n.consumed, n.read)
 
   -- ---- after a look
 
-  pub unnamed_later : {judge : Judges} {b c d : Buffer S} {e : Error} → Laws state gives → Looked state gives b c → Unnamed state gives judge c e d → Unnamed state gives judge b e d
+  pub unnamed_later : {judge : Judges} {b c d : Buffer S} {e : Error} → Laws model → Looked model b c → Unnamed model judge c e d → Unnamed model judge b e d
   unnamed_later laws l (no_memory xs r k) = let x = reads_then laws (looked_reads l) (xs, r) in no_memory x.0 x.1 k
-  unnamed_later laws l (not_fit r f) = not_fit (record { here = r.here; looked = looked_then laws l r.looked; read = r.read; answer = r.answer }) f
-  unnamed_later laws l (no_word r fits f) = no_word (record { here = r.here; looked = looked_then laws l r.looked; read = r.read; answer = r.answer }) fits f
+  unnamed_later laws l (not_fit r f) = not_fit (record { here = r.here; looked = looked_then laws l r.looked; read = r.read; lives = r.lives; answer = r.answer }) f
+  unnamed_later laws l (no_word r fits f) = no_word (record { here = r.here; looked = looked_then laws l r.looked; read = r.read; lives = r.lives; answer = r.answer }) fits f
   unnamed_later {judge = judge} laws l (refused_word {w = w} {at = at} {spoken = s0} {noted = n0} s v n r) =
-      let P : List Fault → Type 0 = λ fs. Notes state gives at fs s0 n0 in
+      let P : List Fault → Type 0 = λ fs. Notes model at fs s0 n0 in
       refused_word (passed_later laws l s) (ap (λ x. (judge x w).refusal) (sym (same_context l)) ∙ v) (subst P (ap (λ x. (judge x w).faults) (same_context l)) n) r
 
-  pub named_later : {judge : Judges} {text : List ℕ} {at : Span} {b c d : Buffer S} → Laws state gives → Looked state gives b c → Named state gives judge text at c d → Named state gives judge text at b d
+  pub named_later : {judge : Judges} {text : List ℕ} {at : Span} {b c d : Buffer S} → Laws model → Looked model b c → Named model judge text at c d → Named model judge text at b d
   named_later {judge = judge} {at = at} {d = d} laws l n =
       let x = reads_then laws (looked_reads l) (n.consumed, n.read) in
-      let P : List Fault → Type 0 = λ fs. Notes state gives at fs n.spoken d in
+      let P : List Fault → Type 0 = λ fs. Notes model at fs n.spoken d in
       record {
         name = n.name;
         spoken = n.spoken;
@@ -111,16 +111,16 @@ module _ {S : Type 0} {state : S → Source} {gives : S → List TokenAndSpan �
 
   -- ---- by another table that says the same in this context
 
-  unnamed_as : {p q : Judges} {b c : Buffer S} {e : Error} → ((w : Word) → p (context state b) w ≡ q (context state b) w) → Unnamed state gives p b e c → Unnamed state gives q b e c
+  unnamed_as : {p q : Judges} {b c : Buffer S} {e : Error} → ((w : Word) → p (context model b) w ≡ q (context model b) w) → Unnamed model p b e c → Unnamed model q b e c
   unnamed_as same (no_memory xs r k) = no_memory xs r k
   unnamed_as same (not_fit r f) = not_fit r f
   unnamed_as same (no_word r fits f) = no_word r fits f
   unnamed_as same (refused_word {w = w} {at = at} {spoken = s0} {noted = n0} s v n r) =
-      let P : List Fault → Type 0 = λ fs. Notes state gives at fs s0 n0 in
+      let P : List Fault → Type 0 = λ fs. Notes model at fs s0 n0 in
       refused_word s (ap (λ x. x.refusal) (sym (same w)) ∙ v) (subst P (ap (λ x. x.faults) (same w)) n) r
 
-  named_as : {p q : Judges} {text : List ℕ} {at : Span} {b c : Buffer S} → ((w : Word) → p (context state b) w ≡ q (context state b) w) → Named state gives p text at b c → Named state gives q text at b c
-  named_as {at = at} {c = c} same n = let P : List Fault → Type 0 = λ fs. Notes state gives at fs n.spoken c in record {
+  named_as : {p q : Judges} {text : List ℕ} {at : Span} {b c : Buffer S} → ((w : Word) → p (context model b) w ≡ q (context model b) w) → Named model p text at b c → Named model q text at b c
+  named_as {at = at} {c = c} same n = let P : List Fault → Type 0 = λ fs. Notes model at fs n.spoken c in record {
     name = n.name;
     spoken = n.spoken;
     said = n.said;
@@ -132,7 +132,7 @@ module _ {S : Type 0} {state : S → Source} {gives : S → List TokenAndSpan �
   }
 
   -- what is refused of any word is refused by each table
-  pub unnamed_any : {judge : Judges} {b c : Buffer S} {e : Error} → Unnamed state gives name_of_any b e c → Unnamed state gives judge b e c
+  pub unnamed_any : {judge : Judges} {b c : Buffer S} {e : Error} → Unnamed model name_of_any b e c → Unnamed model judge b e c
   unnamed_any (no_memory xs r k) = no_memory xs r k
   unnamed_any (not_fit r f) = not_fit r f
   unnamed_any (no_word r fits f) = no_word r fits f
@@ -141,21 +141,21 @@ module _ {S : Type 0} {state : S → Source} {gives : S → List TokenAndSpan �
   -- ---- words
 
   -- a token that is no word
-  pub missed_word : {b c d : Buffer S} {e : Error} (o : Option TokenAndSpan) (at : Span) → current c ≡ o → IsSome o → error_here o ≡ None → Looked state gives b c → at_token is_word (current c) ≡ false →
-      MatchOption (current c) (at ≡ previous c) (λ t. at ≡ t.span) → Refused state gives c (λ here. fault_at at kind.ExpectedIdent) e d → Unnamed state gives name_of_any b e d
+  pub missed_word : {b c d : Buffer S} {e : Error} (o : Option TokenAndSpan) (at : Span) → current c ≡ o → IsSome o → error_here o ≡ None → Looked model b c → at_token is_word (current c) ≡ false →
+      MatchOption (current c) (at ≡ previous c) (λ t. at ≡ t.span) → Refused model c (λ here. fault_at at kind.ExpectedIdent) e d → Unnamed model name_of_any b e d
   missed_word None at h some fits l none place r = absurd cc
   missed_word {c = c} (Some t) at h some fits l none place r =
       let x = met (λ here. fault_at (place_here here) kind.ExpectedIdent) t l h r (ap (λ p. fault_at p kind.ExpectedIdent) (place_is (current c) (previous c) at place)) in
       no_word x.0 (ap (λ b. is_fit (current b)) x.1 ∙ ap is_fit h ∙ ap (λ o. not (is_some o)) fits) (ap (λ b. at_token is_word (current b)) x.1 ∙ none)
 
-  pub forgone_unnamed : {judge : Judges} {b c d : Buffer S} {e : Error} → Laws state gives → Reads state gives b c → Forgone state gives c e d → Unnamed state gives judge b e d
+  pub forgone_unnamed : {judge : Judges} {b c d : Buffer S} {e : Error} → Laws model → ReadSome model b c → Forgone model c e d → Unnamed model judge b e d
   forgone_unnamed laws p f = let x = reads_then laws p (f.consumed, f.read) in no_memory x.0 x.1 f.kind
 
   -- a word was consumed, and its faults noted: it is taken, or refused
-  pub taken_word : {judge : Judges} {text : List ℕ} {at : Span} {w : Word} {fs : List Fault} {b c d : Buffer S} (ctx : Context) → Laws state gives → ctx ≡ context state b → Spoken state gives b w at c → text ≡ word_text w →
-      (judge ctx w).refusal ≡ None → fs ≡ (judge ctx w).faults → Notes state gives at fs c d → Named state gives judge text at b d
+  pub taken_word : {judge : Judges} {text : List ℕ} {at : Span} {w : Word} {fs : List Fault} {b c d : Buffer S} (ctx : Context) → Laws model → ctx ≡ context model b → Spoken model b w at c → text ≡ word_text w →
+      (judge ctx w).refusal ≡ None → fs ≡ (judge ctx w).faults → Notes model at fs c d → Named model judge text at b d
   taken_word {judge = judge} {at = at} {w = w} {c = c} {d = d} ctx laws here s spelled takes same n =
-      let P : List Fault → Type 0 = λ fs. Notes state gives at fs c d in
+      let P : List Fault → Type 0 = λ fs. Notes model at fs c d in
       let x = reads_then laws (passed_reads laws s) (notes_read laws n) in
       record {
         name = w;
@@ -168,14 +168,14 @@ module _ {S : Type 0} {state : S → Source} {gives : S → List TokenAndSpan �
         read = x.1;
       }
 
-  pub refused_name : {judge : Judges} {at : Span} {w : Word} {k : SyntaxError} {e : Error} {fs : List Fault} {b c d f : Buffer S} (ctx : Context) → ctx ≡ context state b → Spoken state gives b w at c →
-      (judge ctx w).refusal ≡ Some k → fs ≡ (judge ctx w).faults → Notes state gives at fs c d → Refused state gives d (λ here. fault_at at k) e f → Unnamed state gives judge b e f
+  pub refused_name : {judge : Judges} {at : Span} {w : Word} {k : SyntaxError} {e : Error} {fs : List Fault} {b c d f : Buffer S} (ctx : Context) → ctx ≡ context model b → Spoken model b w at c →
+      (judge ctx w).refusal ≡ Some k → fs ≡ (judge ctx w).faults → Notes model at fs c d → Refused model d (λ here. fault_at at k) e f → Unnamed model judge b e f
   refused_name {judge = judge} {at = at} {w = w} {c = c} {d = d} ctx here s refuses same n r =
-      let P : List Fault → Type 0 = λ fs. Notes state gives at fs c d in
+      let P : List Fault → Type 0 = λ fs. Notes model at fs c d in
       refused_word s (ap (λ x. (judge x w).refusal) (sym here) ∙ refuses) (subst P (same ∙ ap (λ x. (judge x w).faults) here) n) r
 
   -- where a word is current, only want of memory keeps a name from being read
-  pub word_forgone : {b c : Buffer S} {e : Error} → at_token is_word (current b) ≡ true → Unnamed state gives name_of_any b e c → Forgone state gives b e c
+  pub word_forgone : {b c : Buffer S} {e : Error} → at_token is_word (current b) ≡ true → Unnamed model name_of_any b e c → Forgone model b e c
   word_forgone h (no_memory xs r k) = record { consumed = xs; read = r; kind = k }
   word_forgone {b = b} h (not_fit r f) =
       let t = word_some is_word (current b) h in
@@ -188,23 +188,23 @@ module _ {S : Type 0} {state : S → Source} {gives : S → List TokenAndSpan �
 
   -- ---- names that are bound
 
-  pub binding_unnamed : {b c : Buffer S} {e : Error} → Unnamed state gives (ident_verdict true true) b e c → Unnamed state gives binding_verdict b e c
+  pub binding_unnamed : {b c : Buffer S} {e : Error} → Unnamed model (ident_verdict true true) b e c → Unnamed model binding_verdict b e c
   binding_unnamed (no_memory xs r k) = no_memory xs r k
   binding_unnamed (not_fit r f) = not_fit r f
   binding_unnamed (no_word r fits f) = no_word r fits f
   binding_unnamed {b = b} (refused_word {w = w} {k = k} {at = at} {spoken = s0} {noted = n0} s v n r) =
-      let P : List Fault → Type 0 = λ fs. Notes state gives at fs s0 n0 in
-      let same = unbound_verdict (context state b) w k v in
+      let P : List Fault → Type 0 = λ fs. Notes model at fs s0 n0 in
+      let same = unbound_verdict (context model b) w k v in
       refused_word s (ap (λ x. x.refusal) same ∙ v) (subst P (ap (λ x. x.faults) (sym same)) n) r
 
-  pub binding_named : {text : List ℕ} {at : Span} {b c d : Buffer S} → Laws state gives → Named state gives (ident_verdict true true) text at b c → Notes state gives at (binding_faults (context state c) text) c d →
-      Named state gives binding_verdict text at b d
+  pub binding_named : {text : List ℕ} {at : Span} {b c d : Buffer S} → Laws model → Named model (ident_verdict true true) text at b c → Notes model at (binding_faults (context model c) text) c d →
+      Named model binding_verdict text at b d
   binding_named {text = text} {at = at} {b = b} {c = c} {d = d} laws n m =
-      let P : List Fault → Type 0 = λ fs. Notes state gives at fs c d in
-      let Q : List Fault → Type 0 = λ fs. Notes state gives at fs n.spoken d in
-      let same = bound_verdict (context state b) n.name n.accepts in
+      let P : List Fault → Type 0 = λ fs. Notes model at fs c d in
+      let Q : List Fault → Type 0 = λ fs. Notes model at fs n.spoken d in
+      let same = bound_verdict (context model b) n.name n.accepts in
       let x = reads_then laws (n.consumed, n.read) (notes_read laws m) in
-      let told = subst P (ap (λ x. binding_faults x text) n.read.context ∙ ap (λ w. binding_faults (context state b) w) n.spelled) m in
+      let told = subst P (ap (λ x. binding_faults x text) n.read.context ∙ ap (λ w. binding_faults (context model b) w) n.spelled) m in
       record {
         name = n.name;
         spoken = n.spoken;
@@ -216,14 +216,14 @@ module _ {S : Type 0} {state : S → Source} {gives : S → List TokenAndSpan �
         read = x.1;
       }
 
-  pub unbound : {b c : Buffer S} → Looked state gives b c → at_token (is_bindable (context state c)) (current c) ≡ false → Unbound state gives b c
+  pub unbound : {b c : Buffer S} → Looked model b c → at_token (is_bindable (context model c)) (current c) ≡ false → Unbound model b c
   unbound {c = c} l none = (l, ap (λ x. at_token (is_bindable x) (current c)) (sym (same_context l)) ∙ none)
 
-  pub bound_later : {text : List ℕ} {at : Span} {b c d : Buffer S} → Laws state gives → Looked state gives b c → at_token (is_bindable (context state c)) (current c) ≡ true →
-      Named state gives binding_verdict text at c d → Bound state gives text at b d
+  pub bound_later : {text : List ℕ} {at : Span} {b c d : Buffer S} → Laws model → Looked model b c → at_token (is_bindable (context model c)) (current c) ≡ true →
+      Named model binding_verdict text at c d → Bound model text at b d
   unfolding named_later
   bound_later {b = b} {c = c} laws l may n =
-      let f = is_bindable (context state c) in
+      let f = is_bindable (context model c) in
       let t = word_some f (current c) may in
       let took = n.said.took in
       let here : at_token f (current n.said.here) ≡ true = ap (λ x. at_token f (current x)) (n.said.looked.same t.0 t.1) ∙ may in
@@ -233,12 +233,12 @@ module _ {S : Type 0} {state : S → Source} {gives : S → List TokenAndSpan �
         may = ap (λ x. is_bindable x (token.Word n.name)) (sym (same_context l)) ∙ ap f took.token ∙ was;
       }
 
-module _ {S : Type 0} (state : S → Source) (gives : S → List TokenAndSpan → S → Type 0) where
-  pub names_read : {T : Type 0} (judge : Judges) (text : T → List ℕ) (at : T → Span) (b c : Buffer S) (r : Result T Error) → Laws state gives → Names state gives judge text at b r c → Reads state gives b c
+module _ {S : Type 0} (model : Model S) where
+  pub names_read : {T : Type 0} (judge : Judges) (text : T → List ℕ) (at : T → Span) (b c : Buffer S) (r : Result T Error) → Laws model → Names model judge text at b r c → ReadSome model b c
   names_read judge text at b c (Ok t) laws h = named_reads h
   names_read judge text at b c (Err e) laws h = unnamed_reads laws h
 
-  pub names_as : {T : Type 0} (p q : Judges) (text : T → List ℕ) (at : T → Span) (b c : Buffer S) (r : Result T Error) → ((w : Word) → p (context state b) w ≡ q (context state b) w) →
-      Names state gives p text at b r c → Names state gives q text at b r c
+  pub names_as : {T : Type 0} (p q : Judges) (text : T → List ℕ) (at : T → Span) (b c : Buffer S) (r : Result T Error) → ((w : Word) → p (context model b) w ≡ q (context model b) w) →
+      Names model p text at b r c → Names model q text at b r c
   names_as p q text at b c (Ok t) same h = named_as same h
   names_as p q text at b c (Err e) same h = unnamed_as same h

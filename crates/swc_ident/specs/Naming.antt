@@ -1,6 +1,11 @@
 -- What the calls on names do.
-use Rattle.std.specs.Prelude.{◌≡◌, ℕ, true, false, List, [], ◌∷◌, Option, Some, None, MatchResult, Result, codes}
+use Rattle.std.specs.Prelude.{◌≡◌, ℕ, true, false, List, [], ◌∷◌, Option, Some, None, MatchOption, MatchResult, Result, codes}
+use Rattle.either.specs.declared.Either.{Either}
+use Rattle.either.specs.Either.{MatchEither}
+use Rattle.swc_ast.specs.declared.ident.BindingIdent.{BindingIdent}
 use Rattle.swc_ast.specs.declared.ident.Ident.{Ident}
+use Rattle.swc_ast.specs.declared.ident.IdentName.{IdentName}
+use Rattle.swc_ast.specs.declared.ident.PrivateName.{PrivateName}
 use Rattle.swc_ast.specs.declared.ident.ModuleExportName.{ModuleExportName}
 use Rattle.swc_ast.specs.declared.ident.ModuleExportName.TheVariants as export
 use Rattle.swc_ast.specs.declared.lit.Str.{Str}
@@ -18,7 +23,7 @@ use Rattle.swc_input.specs.declared.token.Token.{Token}
 use Rattle.swc_input.specs.declared.token.Token.TheVariants as token
 use Rattle.swc_input.specs.declared.token.TokenAndSpan.{TokenAndSpan}
 use Rattle.swc_input.specs.Kinds.{at_token, is_hash}
-use Rattle.swc_input.specs.Source.{Source, with_module_error}
+use Rattle.swc_input.specs.Source.{Model, with_module_error}
 use Rattle.swc_input.specs.Buffer.{Read, Looked, Bumped, context, current, last_position, previous, source, with_source}
 use Rattle.swc_input.specs.Recording.{is_silent, is_fit, unfit, Recorded, Refused}
 use Rattle.swc_ident.specs.Verdicts.{Fault, now, in_modules, Verdict, is_word, is_str, is_bindable, name_of_any, binding_verdict}
@@ -43,21 +48,21 @@ abbrev pub misses : SyntaxError → Option (List ℕ)
 misses (kind.Unexpected text) = Some text.now
 misses k = None
 
-module _ {S : Type 0} (state : S → Source) (gives : S → List TokenAndSpan → S → Type 0) where
+module _ {S : Type 0} (model : Model S) where
   -- the faults were recorded, or set waiting, at the place and in their order; those that are silenced leave nothing
   pub data Notes (at : Span) : List Fault → Buffer S → Buffer S → Type 0 where
     none-noted : {b : Buffer S} → Notes at [] b b
-    now-silent : {b c : Buffer S} {k : SyntaxError} {fs : List Fault} → is_silent (state (source b)) ≡ true → Notes at fs b c → Notes at (now k ∷ fs) b c
-    now-recorded : {b c d : Buffer S} {k : SyntaxError} {fs : List Fault} → is_silent (state (source b)) ≡ false → Recorded state gives b (fault_at at k) c → Notes at fs c d → Notes at (now k ∷ fs) b d
-    later-ignored : {b c : Buffer S} {k : SyntaxError} {fs : List Fault} → (context state b).ignore_error ≡ true → Notes at fs b c → Notes at (in_modules k ∷ fs) b c
-    later-noted : {b c d : Buffer S} {k : SyntaxError} {fs : List Fault} → (context state b).ignore_error ≡ false → c ≡ with_source (source c) b →
-        state (source c) ≡ with_module_error (fault_at at k) (state (source b)) → Read state gives b [] c → Notes at fs c d → Notes at (in_modules k ∷ fs) b d
+    now-silent : {b c : Buffer S} {k : SyntaxError} {fs : List Fault} → is_silent (model.state (source b)) ≡ true → Notes at fs b c → Notes at (now k ∷ fs) b c
+    now-recorded : {b c d : Buffer S} {k : SyntaxError} {fs : List Fault} → is_silent (model.state (source b)) ≡ false → Recorded model b (fault_at at k) c → Notes at fs c d → Notes at (now k ∷ fs) b d
+    later-ignored : {b c : Buffer S} {k : SyntaxError} {fs : List Fault} → (context model b).ignore_error ≡ true → Notes at fs b c → Notes at (in_modules k ∷ fs) b c
+    later-noted : {b c d : Buffer S} {k : SyntaxError} {fs : List Fault} → (context model b).ignore_error ≡ false → c ≡ with_source (source c) b →
+        model.state (source c) ≡ with_module_error (fault_at at k) (model.state (source b)) → Read model b [] c → Notes at fs c d → Notes at (in_modules k ∷ fs) b d
 
   -- from b a token was looked at, and consumed; a word; a `#`; a string
   pub record Passed (b : Buffer S) (t : Token) (at : Span) (c : Buffer S) : Type 0 where
     pub here : Buffer S
-    pub looked : Looked state gives b here
-    pub took : Bumped state gives here t c
+    pub looked : Looked model b here
+    pub took : Bumped model here t c
     pub place : at ≡ took.was.span
 
   abbrev pub Spoken : Buffer S → Word → Span → Buffer S → Type 0
@@ -75,19 +80,19 @@ module _ {S : Type 0} (state : S → Source) (gives : S → List TokenAndSpan �
     pub spoken : Buffer S
     pub said : Spoken b name at spoken
     pub spelled : text ≡ word_text name
-    pub accepts : (judge (context state b) name).refusal ≡ None
-    pub noted : Notes at (judge (context state b) name).faults spoken c
+    pub accepts : (judge (context model b) name).refusal ≡ None
+    pub noted : Notes at (judge (context model b) name).faults spoken c
     pub consumed : List TokenAndSpan
-    pub read : Read state gives b consumed c
+    pub read : Read model b consumed c
 
   -- Why no name was answered: want of memory; an error token, or the end; a token that is no word; or a word that isn't taken, which was
   -- consumed, and whose faults were noted.
   pub data Unnamed (judge : Judges) (b : Buffer S) (e : Error) (c : Buffer S) : Type 0 where
-    no_memory : (xs : List TokenAndSpan) → Read state gives b xs c → e.kind ≡ kind.OutOfMemory → Unnamed judge b e c
-    not_fit : (r : Refused state gives b (λ here. unfit (current here) (last_position here) kind.Eof) e c) → is_fit (current r.here) ≡ false → Unnamed judge b e c
-    no_word : (r : Refused state gives b (λ here. fault_at (place_here here) kind.ExpectedIdent) e c) → is_fit (current r.here) ≡ true → at_token is_word (current r.here) ≡ false → Unnamed judge b e c
-    refused_word : {w : Word} {k : SyntaxError} {at : Span} {spoken noted : Buffer S} → Spoken b w at spoken → (judge (context state b) w).refusal ≡ Some k →
-        Notes at (judge (context state b) w).faults spoken noted → Refused state gives noted (λ here. fault_at at k) e c → Unnamed judge b e c
+    no_memory : (xs : List TokenAndSpan) → Read model b xs c → e.kind ≡ kind.OutOfMemory → Unnamed judge b e c
+    not_fit : (r : Refused model b (λ here. unfit (current here) (last_position here) kind.Eof) e c) → is_fit (current r.here) ≡ false → Unnamed judge b e c
+    no_word : (r : Refused model b (λ here. fault_at (place_here here) kind.ExpectedIdent) e c) → is_fit (current r.here) ≡ true → at_token is_word (current r.here) ≡ false → Unnamed judge b e c
+    refused_word : {w : Word} {k : SyntaxError} {at : Span} {spoken noted : Buffer S} → Spoken b w at spoken → (judge (context model b) w).refusal ≡ Some k →
+        Notes at (judge (context model b) w).faults spoken noted → Refused model noted (λ here. fault_at at k) e c → Unnamed judge b e c
 
   -- a name, or why there is none
   abbrev pub Names : {T : Type 0} → Judges → (T → List ℕ) → (T → Span) → Buffer S → Result T Error → Buffer S → Type 0
@@ -103,9 +108,9 @@ module _ {S : Type 0} (state : S → Source) (gives : S → List TokenAndSpan �
     pub hashed : Buffer S
     pub sign : Hashed b hash hashed
     pub near : Buffer S
-    pub looked : Looked state gives hashed near
+    pub looked : Looked model hashed near
     -- where none is current, none is left
-    pub end : current near ≡ None → (state (source near)).ended ≡ true
+    pub end : current near ≡ None → (model.state (source near)).ended ≡ true
     pub joined : next_begins near ≡ hash.hi
     pub word : Span
     pub name : Named name_of_any text word near c
@@ -113,11 +118,11 @@ module _ {S : Type 0} (state : S → Source) (gives : S → List TokenAndSpan �
 
   -- why there is none: also a token that is no `#`, and a name that doesn't begin there
   pub data Unprivate (b : Buffer S) (e : Error) (c : Buffer S) : Type 0 where
-    no_memory_either : (xs : List TokenAndSpan) → Read state gives b xs c → e.kind ≡ kind.OutOfMemory → Unprivate b e c
-    no_hash : {k : SyntaxError} (r : Refused state gives b (λ here. unfit (current here) (last_position here) k) e c) → expects k ≡ Some (codes "#") → at_token is_hash (current r.here) ≡ false → Unprivate b e c
+    no_memory_either : (xs : List TokenAndSpan) → Read model b xs c → e.kind ≡ kind.OutOfMemory → Unprivate b e c
+    no_hash : {k : SyntaxError} (r : Refused model b (λ here. unfit (current here) (last_position here) k) e c) → expects k ≡ Some (codes "#") → at_token is_hash (current r.here) ≡ false → Unprivate b e c
     apart : {hash : Span} {hashed : Buffer S} → Hashed b hash hashed →
-        (r : Refused state gives hashed (λ here. fault_at (between hash.lo hash.hi) kind.SpaceBetweenHashAndIdent) e c) → (next_begins r.here ≡ hash.hi → ⊥) → Unprivate b e c
-    no_name : {hash : Span} {hashed near : Buffer S} → Hashed b hash hashed → Looked state gives hashed near → next_begins near ≡ hash.hi → Unnamed name_of_any near e c → Unprivate b e c
+        (r : Refused model hashed (λ here. fault_at (between hash.lo hash.hi) kind.SpaceBetweenHashAndIdent) e c) → (next_begins r.here ≡ hash.hi → ⊥) → Unprivate b e c
+    no_name : {hash : Span} {hashed near : Buffer S} → Hashed b hash hashed → Looked model hashed near → next_begins near ≡ hash.hi → Unnamed name_of_any near e c → Unprivate b e c
 
   abbrev pub PrivateNames : {T : Type 0} → (T → List ℕ) → (T → Span) → Buffer S → Result T Error → Buffer S → Type 0
   PrivateNames text at b r c = MatchResult r (λ t. Private (text t) (at t) b c) (λ e. Unprivate b e c)
@@ -125,25 +130,57 @@ module _ {S : Type 0} (state : S → Source) (gives : S → List TokenAndSpan �
   -- a private name at `#`, else a name: why there is neither
   pub record Neither (b : Buffer S) (e : Error) (c : Buffer S) : Type 0 where
     pub here : Buffer S
-    pub looked : Looked state gives b here
+    pub looked : Looked model b here
     pub at_hash : at_token is_hash (current here) ≡ true → Unprivate here e c
     pub elsewhere : at_token is_hash (current here) ≡ false → Unnamed name_of_any here e c
 
   -- why there is neither a name nor a string
   pub data Unexported (b : Buffer S) (e : Error) (c : Buffer S) : Type 0 where
-    no_memory_for_it : (xs : List TokenAndSpan) → Read state gives b xs c → e.kind ≡ kind.OutOfMemory → Unexported b e c
-    no_string : {k : SyntaxError} (r : Refused state gives b (λ here. unfit (current here) (last_position here) k) e c) → misses k ≡ Some (codes "identifier or string") →
+    no_memory_for_it : (xs : List TokenAndSpan) → Read model b xs c → e.kind ≡ kind.OutOfMemory → Unexported b e c
+    no_string : {k : SyntaxError} (r : Refused model b (λ here. unfit (current here) (last_position here) k) e c) → misses k ≡ Some (codes "identifier or string") →
         at_token is_word (current r.here) ≡ false → at_token is_str (current r.here) ≡ false → Unexported b e c
 
   -- a word that may be bound where it stands is bound; before anything else nothing is consumed
   abbrev pub Unbound : Buffer S → Buffer S → Type 0
-  Unbound b c = Looked state gives b c × (at_token (is_bindable (context state b)) (current c) ≡ false)
+  Unbound b c = Looked model b c × (at_token (is_bindable (context model b)) (current c) ≡ false)
 
   pub record Bound (text : List ℕ) (at : Span) (b c : Buffer S) : Type 0 where
     pub named : Named binding_verdict text at b c
-    pub may : is_bindable (context state b) (token.Word named.name) ≡ true
+    pub may : is_bindable (context model b) (token.Word named.name) ≡ true
 
 -- the name is a word, or a string
 abbrev pub MatchExport : ModuleExportName → (Ident → Type 0) → (Str → Type 0) → Type 0
 MatchExport (export.Ident i) P Q = P i
 MatchExport (export.Str s) P Q = Q s
+
+module _ {S : Type 0} (model : Model S) where
+  -- what the calls answer, beside why there is none: an identifier, a name that is bound, a name of any word, a private name
+  abbrev pub Identifies : Judges → Buffer S → Result Ident Error → Buffer S → Type 0
+  Identifies judge b r c = Names model judge (λ i. i.sym) (λ i. i.span) b r c
+
+  abbrev pub Binds : Judges → Buffer S → Result BindingIdent Error → Buffer S → Type 0
+  Binds judge b r c = Names model judge (λ i. i.id.sym) (λ i. i.id.span) b r c
+
+  abbrev pub Spells : Judges → Buffer S → Result IdentName Error → Buffer S → Type 0
+  Spells judge b r c = Names model judge (λ i. i.sym) (λ i. i.span) b r c
+
+  abbrev pub SpellsPrivate : Buffer S → Result PrivateName Error → Buffer S → Type 0
+  SpellsPrivate b r c = PrivateNames model (λ p. p.name) (λ p. p.span) b r c
+
+  -- a private name at `#`, else a name
+  abbrev pub SpellsEither : Buffer S → Result (Either PrivateName IdentName) Error → Buffer S → Type 0
+  SpellsEither b r c = MatchResult r
+      (λ x. MatchEither x (λ p. Private model p.name p.span b c) (λ n. Named model name_of_any n.sym n.span b c))
+      (λ e. Neither model b e c)
+
+  -- a name, or a string
+  abbrev pub Exports : Buffer S → Result ModuleExportName Error → Buffer S → Type 0
+  Exports b r c = MatchResult r
+      (λ x. MatchExport x (λ i. Named model name_of_any i.sym i.span b c) (λ s. Quoted model s.value s.raw s.span b c))
+      (λ e. Unexported model b e c)
+
+  -- a name that may be bound, or none
+  abbrev pub BindsIfBindable : Buffer S → Result (Option BindingIdent) Error → Buffer S → Type 0
+  BindsIfBindable b r c = MatchResult r
+      (λ o. MatchOption o (Unbound model b c) (λ i. Bound model i.id.sym i.id.span b c))
+      (λ e. Unnamed model binding_verdict b e c)

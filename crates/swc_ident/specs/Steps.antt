@@ -7,7 +7,7 @@ use Rattle.swc_context.specs.declared.span.Span.{Span}
 use Rattle.swc_context.specs.declared.word.Word.{Word}
 use Rattle.swc_input.specs.declared.buffer.Buffer.{Buffer}
 use Rattle.swc_input.specs.declared.token.TokenAndSpan.{TokenAndSpan}
-use Rattle.swc_input.specs.Source.{Source}
+use Rattle.swc_input.specs.Source.{Model}
 use Rattle.swc_input.specs.Buffer.{Read}
 use Rattle.swc_ident.specs.declared.words.Mark.{Mark}
 use Rattle.swc_ident.specs.declared.words.Mark.TheVariants as mark
@@ -25,13 +25,13 @@ faults_of mark.Arguments w = now kind.ArgumentsInClassField ∷ []
 abbrev pub word_faults : Context → Word → List Fault
 word_faults c w = (ident_verdict true true c w).faults
 
-module _ {S : Type 0} (state : S → Source) (gives : S → List TokenAndSpan → S → Type 0) where
+module _ {S : Type 0} (model : Model S) where
   -- want of memory, whatever was consumed
   pub record Forgone (b : Buffer S) (e : Error) (c : Buffer S) : Type 0 where
     pub consumed : List TokenAndSpan
-    pub read : Read state gives b consumed c
+    pub read : Read model b consumed c
     pub kind : e.kind ≡ kind.OutOfMemory
 
   -- the faults were noted, or memory ran out
   abbrev pub Noting : {T : Type 0} → Span → List Fault → Buffer S → Result T Error → Buffer S → Type 0
-  Noting at fs b r c = MatchResult r (λ u. Notes state gives at fs b c) (λ e. Forgone b e c)
+  Noting at fs b r c = MatchResult r (λ u. Notes model at fs b c) (λ e. Forgone b e c)

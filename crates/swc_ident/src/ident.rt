@@ -1,10 +1,9 @@
 // Names (ECMA-262, 12.7, 13.1 and 16.2).
-ghost use Rattle.std.specs.Prelude.{◌≡◌, true, List, MatchResult, MatchOption};
-ghost use Rattle.either.specs.Either.{MatchEither};
-ghost use Rattle.swc_input.specs.declared.token.TokenAndSpan.{TokenAndSpan};
-ghost use Rattle.swc_input.specs.Buffer.{current, Read, context};
+ghost use Rattle.std.specs.Prelude.{◌≡◌, MatchResult};
+ghost use Rattle.swc_input.specs.Buffer.{current, context, ReadSome};
 ghost use Rattle.swc_input.specs.Kinds.{at_token};
-ghost use Rattle.swc_ident.specs.Naming.{Names, Named, Unnamed, PrivateNames, Private, Hashed, Unprivate, Neither, Quoted, Unexported, Unbound, Bound, MatchExport};
+ghost use Rattle.swc_ident.specs.Naming.{Identifies, Binds, Spells, SpellsPrivate, SpellsEither, Exports};
+ghost use Rattle.swc_ident.specs.Naming.{BindsIfBindable, Hashed, Unprivate};
 ghost use Rattle.swc_ident.specs.Verdicts.{ident_verdict, reference_verdict, binding_verdict, name_of_any, is_bindable};
 
 use crate::words::{
@@ -28,8 +27,8 @@ pub fn parse_maybe_private_name<I: Tokens>(
     alloc: Global,
     input: &mut Buffer<I>,
 ) -> PResult<Either<PrivateName, IdentName>>
-    ensures either { MatchResult result (λ r. MatchEither r (λ p. Private I.state I.gives p.name p.span input.old input.new) (λ n. Named I.state I.gives name_of_any n.sym n.span input.old input.new)) (λ e. Neither I.state I.gives input.old e input.new) }
-    ensures read { (xs : List TokenAndSpan) × Read I.state I.gives input.old xs input.new }
+    ensures either { SpellsEither I.model input.old result input.new }
+    ensures read { ReadSome I.model input.old input.new }
 {
     input.has_cur()?;
     if is_at_hash(input) {
@@ -48,8 +47,8 @@ pub fn parse_maybe_private_name<I: Tokens>(
 /// - another token than `#`: `Expected`, which holds `#`, at that token; at the end `Eof`;
 /// - what begins later than where the `#` ends: `SpaceBetweenHashAndIdent`, at the `#`, which was consumed.
 pub fn parse_private_name<I: Tokens>(alloc: Global, input: &mut Buffer<I>) -> PResult<PrivateName>
-    ensures private { PrivateNames I.state I.gives (λ p. p.name) (λ p. p.span) input.old result input.new }
-    ensures read { (xs : List TokenAndSpan) × Read I.state I.gives input.old xs input.new }
+    ensures private { SpellsPrivate I.model input.old result input.new }
+    ensures read { ReadSome I.model input.old input.new }
 {
     let hash = parse_hash(input)?;
     input.has_cur()?;
@@ -66,7 +65,8 @@ pub fn parse_private_name<I: Tokens>(alloc: Global, input: &mut Buffer<I>) -> PR
 
 /// A `#`, of which the place is answered. Another token is refused as by `parse_private_name`.
 fn parse_hash<I: Tokens>(input: &mut Buffer<I>) -> PResult<Span>
-    ensures { MatchResult result (λ at. Hashed I.state I.gives input.old at input.new) (λ e. Unprivate I.state I.gives input.old e input.new) }
+    ensures { MatchResult result (λ at. Hashed I.model input.old at input.new)
+        (λ e. Unprivate I.model input.old e input.new) }
 {
     input.has_cur()?;
     if !is_at_hash(input) {
@@ -80,8 +80,8 @@ fn parse_hash<I: Tokens>(input: &mut Buffer<I>) -> PResult<Span>
 ///
 /// As `parse_ident`, where `yield` is included outside generators, and `await` outside async code.
 pub fn parse_ident_ref<I: Tokens>(alloc: Global, input: &mut Buffer<I>) -> PResult<Ident>
-    ensures names { Names I.state I.gives reference_verdict (λ i. i.sym) (λ i. i.span) input.old result input.new }
-    ensures read { (xs : List TokenAndSpan) × Read I.state I.gives input.old xs input.new }
+    ensures names { Identifies I.model reference_verdict input.old result input.new }
+    ensures read { ReadSome I.model input.old input.new }
 {
     let ctx = input.get_ctx();
     parse_ident(alloc, input, !ctx.in_generator, !ctx.in_async)
@@ -91,8 +91,8 @@ pub fn parse_ident_ref<I: Tokens>(alloc: Global, input: &mut Buffer<I>) -> PResu
 ///
 /// As `parse_ident`, where `yield` is included outside generators, and `await` outside async code.
 pub fn parse_label_ident<I: Tokens>(alloc: Global, input: &mut Buffer<I>) -> PResult<Ident>
-    ensures names { Names I.state I.gives reference_verdict (λ i. i.sym) (λ i. i.span) input.old result input.new }
-    ensures read { (xs : List TokenAndSpan) × Read I.state I.gives input.old xs input.new }
+    ensures names { Identifies I.model reference_verdict input.old result input.new }
+    ensures read { ReadSome I.model input.old input.new }
 {
     parse_ident_ref(alloc, input)
 }
@@ -102,8 +102,8 @@ pub fn parse_label_ident<I: Tokens>(alloc: Global, input: &mut Buffer<I>) -> PRe
 /// The answer holds the word's text and place. Records no fault. Refused are a token that is no
 /// word, as `ExpectedIdent` at that token, and the end, as `Eof`.
 pub fn parse_ident_name<I: Tokens>(alloc: Global, input: &mut Buffer<I>) -> PResult<IdentName>
-    ensures names { Names I.state I.gives name_of_any (λ i. i.sym) (λ i. i.span) input.old result input.new }
-    ensures read { (xs : List TokenAndSpan) × Read I.state I.gives input.old xs input.new }
+    ensures names { Spells I.model name_of_any input.old result input.new }
+    ensures read { ReadSome I.model input.old input.new }
 {
     let word = take_word(input)?;
     let span = input.prev_span();
@@ -120,8 +120,8 @@ pub fn parse_module_export_name<I: Tokens>(
     alloc: Global,
     input: &mut Buffer<I>,
 ) -> PResult<ModuleExportName>
-    ensures export { MatchResult result (λ n. MatchExport n (λ i. Named I.state I.gives name_of_any i.sym i.span input.old input.new) (λ s. Quoted I.state I.gives s.value s.raw s.span input.old input.new)) (λ e. Unexported I.state I.gives input.old e input.new) }
-    ensures read { (xs : List TokenAndSpan) × Read I.state I.gives input.old xs input.new }
+    ensures export { Exports I.model input.old result input.new }
+    ensures read { ReadSome I.model input.old input.new }
 {
     input.has_cur()?;
     if is_at_str(input) {
@@ -161,8 +161,8 @@ pub fn parse_ident<I: Tokens>(
     incl_yield: bool,
     incl_await: bool,
 ) -> PResult<Ident>
-    ensures names { Names I.state I.gives (ident_verdict incl_yield incl_await) (λ i. i.sym) (λ i. i.span) input.old result input.new }
-    ensures read { (xs : List TokenAndSpan) × Read I.state I.gives input.old xs input.new }
+    ensures names { Identifies I.model (ident_verdict incl_yield incl_await) input.old result input.new }
+    ensures read { ReadSome I.model input.old input.new }
 {
     let ctx = input.get_ctx();
     let word = take_word(input)?;
@@ -188,8 +188,8 @@ pub fn parse_ident<I: Tokens>(
 /// - `eval` or `arguments`: `EvalAndArgumentsInStrict`, which is one in modules, and waits elsewhere;
 /// - `yield` in a generator: `ExpectedIdent`, which is recorded as by `Buffer::emit_err`.
 pub fn parse_binding_ident<I: Tokens>(alloc: Global, input: &mut Buffer<I>) -> PResult<BindingIdent>
-    ensures names { Names I.state I.gives binding_verdict (λ b. b.id.sym) (λ b. b.id.span) input.old result input.new }
-    ensures read { (xs : List TokenAndSpan) × Read I.state I.gives input.old xs input.new }
+    ensures names { Binds I.model binding_verdict input.old result input.new }
+    ensures read { ReadSome I.model input.old input.new }
 {
     let id = parse_ident(alloc, input, true, true)?;
     note_binding(input, id.span, &id.sym)?;
@@ -204,8 +204,8 @@ pub fn parse_opt_binding_ident<I: Tokens>(
     alloc: Global,
     input: &mut Buffer<I>,
 ) -> PResult<Option<BindingIdent>>
-    ensures optional { MatchResult result (λ o. MatchOption o (Unbound I.state I.gives input.old input.new) (λ b. Bound I.state I.gives b.id.sym b.id.span input.old input.new)) (λ e. Unnamed I.state I.gives binding_verdict input.old e input.new) }
-    ensures read { (xs : List TokenAndSpan) × Read I.state I.gives input.old xs input.new }
+    ensures optional { BindsIfBindable I.model input.old result input.new }
+    ensures read { ReadSome I.model input.old input.new }
 {
     input.has_cur()?;
     if !is_at_bindable(input) {
@@ -217,7 +217,7 @@ pub fn parse_opt_binding_ident<I: Tokens>(
 
 /// Whether a word is current that may be bound where it stands.
 fn is_at_bindable<I: Tokens>(input: &Buffer<I>) -> bool
-    ensures { result ≡ at_token (is_bindable (context I.state input.now)) (current input.now) }
+    ensures { result ≡ at_token (is_bindable (context I.model input.now)) (current input.now) }
 {
     let ctx = input.get_ctx();
     match input.cur_debug() {

@@ -9,7 +9,8 @@ ghost use Rattle.swc_input.specs.Recording.{no_memory};
 ghost use Rattle.swc_input.specs.Kinds.{at_token, is_hash};
 ghost use Rattle.swc_ident.specs.Naming.{Spoken, Unnamed};
 ghost use Rattle.swc_ident.specs.Steps.{faults_of, word_faults, Noting};
-ghost use Rattle.swc_ident.specs.Verdicts.{now, in_modules, name_verdict, await_refusal, ident_verdict, binding_faults, name_of_any, is_word, is_str};
+ghost use Rattle.swc_ident.specs.Verdicts.{now, in_modules, name_verdict, await_refusal, ident_verdict, binding_faults};
+ghost use Rattle.swc_ident.specs.Verdicts.{name_of_any, is_word, is_str};
 
 use std::alloc::Global;
 use swc_ast::lit::Str;
@@ -104,7 +105,7 @@ pub(crate) fn note_mark<I: Tokens>(
     mark: Mark,
     word: &Word,
 ) -> PResult<()>
-    ensures { Noting I.state I.gives at (faults_of mark (word_text word.now)) input.old result input.new }
+    ensures { Noting I.model at (faults_of mark (word_text word.now)) input.old result input.new }
 {
     match mark {
         Mark::Clean => Ok(()),
@@ -122,7 +123,7 @@ pub(crate) fn note_mark<I: Tokens>(
 
 /// Notes at the place what is wrong with a name that is bound.
 pub(crate) fn note_binding<I: Tokens>(input: &mut Buffer<I>, at: Span, name: &Atom) -> PResult<()>
-    ensures { Noting I.state I.gives at (binding_faults (context I.state input.old) name.now) input.old result input.new }
+    ensures { Noting I.model at (binding_faults (context I.model input.old) name.now) input.old result input.new }
 {
     if name.is_reserved_in_strict_bind() {
         return note_in_modules(input, at, SyntaxError::EvalAndArgumentsInStrict);
@@ -146,7 +147,8 @@ fn invalid_in_strict<I: Tokens>(
     input: &Buffer<I>,
     word: &Word,
 ) -> PResult<SyntaxError>
-    ensures { MatchResult result (λ k. k ≡ InvalidIdentInStrict (word_text word.now)) (λ e. e ≡ no_memory (last_position input.now)) }
+    ensures { MatchResult result (λ k. k ≡ InvalidIdentInStrict (word_text word.now))
+        (λ e. e ≡ no_memory (last_position input.now)) }
 {
     match Atom::new(alloc, word.as_str()) {
         Ok(name) => Ok(SyntaxError::InvalidIdentInStrict(name)),
@@ -157,7 +159,7 @@ fn invalid_in_strict<I: Tokens>(
 /// Records a fault at once.
 fn note_now<I: Tokens>(input: &mut Buffer<I>, at: Span, kind: SyntaxError) -> PResult<()>
     requires { kind ≢ OutOfMemory }
-    ensures { Noting I.state I.gives at (now kind ∷ []) input.old result input.new }
+    ensures { Noting I.model at (now kind ∷ []) input.old result input.new }
 {
     input.emit_err(at, kind)
 }
@@ -165,14 +167,15 @@ fn note_now<I: Tokens>(input: &mut Buffer<I>, at: Span, kind: SyntaxError) -> PR
 /// Records a fault in a module; elsewhere it waits.
 fn note_in_modules<I: Tokens>(input: &mut Buffer<I>, at: Span, kind: SyntaxError) -> PResult<()>
     requires { kind ≢ OutOfMemory }
-    ensures { Noting I.state I.gives at (in_modules kind ∷ []) input.old result input.new }
+    ensures { Noting I.model at (in_modules kind ∷ []) input.old result input.new }
 {
     input.emit_strict_mode_err(at, kind)
 }
 
 /// Reads a word, whichever it is.
 pub(crate) fn take_word<I: Tokens>(input: &mut Buffer<I>) -> PResult<Word>
-    ensures { MatchResult result (λ w. Spoken I.state I.gives input.old w (previous input.new) input.new) (λ e. Unnamed I.state I.gives name_of_any input.old e input.new) }
+    ensures { MatchResult result (λ w. Spoken I.model input.old w (previous input.new) input.new)
+        (λ e. Unnamed I.model name_of_any input.old e input.new) }
 {
     input.require_cur()?;
     if is_at_word(input) {
@@ -185,7 +188,7 @@ pub(crate) fn take_word<I: Tokens>(input: &mut Buffer<I>) -> PResult<Word>
 /// Consumes the current word.
 fn bump_word<I: Tokens>(input: &mut Buffer<I>) -> Word
     requires { at_token is_word (current input.old) ≡ true }
-    ensures { Bumped I.state I.gives input.old (token.Word result) input.new }
+    ensures { Bumped I.model input.old (token.Word result) input.new }
 {
     match input.bump() {
         Token::Word(word) => word,
@@ -196,7 +199,7 @@ fn bump_word<I: Tokens>(input: &mut Buffer<I>) -> Word
 /// Consumes the current `#`.
 pub(crate) fn bump_hash<I: Tokens>(input: &mut Buffer<I>)
     requires { at_token is_hash (current input.old) ≡ true }
-    ensures { Bumped I.state I.gives input.old token.Hash input.new }
+    ensures { Bumped I.model input.old token.Hash input.new }
 {
     match input.bump() {
         Token::Hash => {}
@@ -207,7 +210,7 @@ pub(crate) fn bump_hash<I: Tokens>(input: &mut Buffer<I>)
 /// Consumes the current string.
 pub(crate) fn bump_str<I: Tokens>(input: &mut Buffer<I>) -> Str
     requires { at_token is_str (current input.old) ≡ true }
-    ensures took { Bumped I.state I.gives input.old (token.Str result.value result.raw) input.new }
+    ensures took { Bumped I.model input.old (token.Str result.value result.raw) input.new }
     ensures place { result.span ≡ previous input.new }
 {
     match input.bump() {

@@ -10,9 +10,9 @@ use Rattle.swc_input.specs.declared.buffer.Buffer.{Buffer}
 use Rattle.swc_input.specs.declared.token.Token.{Token}
 use Rattle.swc_input.specs.declared.token.Token.TheVariants as token
 use Rattle.swc_input.specs.declared.token.TokenAndSpan.{TokenAndSpan}
-use Rattle.swc_input.specs.Source.{Source, Keeps, IsFault, recorded_in, waiting_in}
-use Rattle.swc_input.specs.Buffer.{Read, Looked, current, source, last_position}
-use Rattle.swc_input.specs.Laws.{Joins, keeps_same, Read-late}
+use Rattle.swc_input.specs.Source.{Model, Laws, Keeps, IsFault, recorded_in, waiting_in}
+use Rattle.swc_input.specs.Buffer.{Read, Lives, Looked, current, source, last_position}
+use Rattle.swc_input.specs.Laws.{keeps_same, Read-late}
 use Rattle.swc_input.specs.Recording.{Recorded, Refused, no_memory, counted_kind, counted, error_in, is_some, error_here, error_list, error_token, is_fit, refusal}
 
 pub keeps_one : (es fs : List Error) (e : Error) → fs ≡ es ++ e ∷ [] → IsFault e → Keeps es fs
@@ -40,33 +40,34 @@ fit_error : (t : Token) → not (is_some (error_in t)) ≡ true → error_in t �
 fit_error (token.Error x) fit = absurd cc
 fit_error t fit = refl
 
-module _ {S : Type 0} (state : S → Source) (gives : S → List TokenAndSpan → S → Type 0) where
-  pub recorded_by : (b h c : Buffer S) (e : Error) (r : Result (Unit {0}) Error) → Looked state gives b h → Read state gives h (error_token (current h)) c →
-      OnOk r ((state (source c)).errors ≡ (state (source h)).errors ++ (error_list (error_here (current h)) ++ e ∷ [])) →
-      OnOk r ((state (source c)).waiting ≡ (state (source h)).waiting) →
-      OnOk r (Recorded state gives b e c)
-  recorded_by b h c e (Ok u) l d p q = record { here = h; looked = l; read = d; errors = p; waiting = q }
-  recorded_by b h c e (Err f) l d p q = tt
+module _ {S : Type 0} (model : Model S) where
+  pub recorded_by : (b h c : Buffer S) (e : Error) (r : Result (Unit {0}) Error) → Looked model b h → Read model h (error_token (current h)) c →
+      OnOk r ((model.state (source c)).errors ≡ (model.state (source h)).errors ++ (error_list (error_here (current h)) ++ e ∷ [])) →
+      OnOk r ((model.state (source c)).waiting ≡ (model.state (source h)).waiting) → Lives model b h → OnOk r (Lives model h c) →
+      OnOk r (Recorded model b e c)
+  recorded_by b h c e (Ok u) l d p q v w = record { here = h; looked = l; read = d; errors = p; waiting = q; lives = λ f. v (w f) }
+  recorded_by b h c e (Err f) l d p q v w = tt
 
   -- what was consumed after a look was consumed
-  pub read_by : (joins : Joins gives) (b h c : Buffer S) (xs : List TokenAndSpan) → Looked state gives b h → Read state gives h xs c → (ys : List TokenAndSpan) × Read state gives b ys c
-  read_by joins b h c xs l d = (xs, Read-late state gives joins b h c xs l.look.read d)
+  pub read_by : (laws : Laws model) (b h c : Buffer S) (xs : List TokenAndSpan) → Looked model b h → Read model h xs c → (ys : List TokenAndSpan) × Read model b ys c
+  read_by laws b h c xs l d = (xs, Read-late laws b h c xs l.look.read d)
 
-  pub no_memory_by : (b c : Buffer S) (at : BytePos) (r : Result (Unit {0}) Error) → (xs : List TokenAndSpan) × Read state gives b xs c →
-      IfErr r (λ e. e ≡ no_memory at) → IfErr r (λ e. (xs : List TokenAndSpan) × Read state gives b xs c × (e ≡ no_memory at))
+  pub no_memory_by : (b c : Buffer S) (at : BytePos) (r : Result (Unit {0}) Error) → (xs : List TokenAndSpan) × Read model b xs c →
+      IfErr r (λ e. e ≡ no_memory at) → IfErr r (λ e. (xs : List TokenAndSpan) × Read model b xs c × (e ≡ no_memory at))
   no_memory_by b c at (Ok u) d p = tt
   no_memory_by b c at (Err f) d p = (d.0, d.1, p)
 
-  pub refused_by : (b h c : Buffer S) (e : Buffer S → Error) (r : Error) → Looked state gives b h → Read state gives h (error_token (current h)) c →
-      r ≡ refusal (current h) (state (source h)).failed (last_position h) (e h) → Refused state gives b e r c
-  refused_by b h c e r l d p = record { here = h; looked = l; read = d; answer = p }
+  pub refused_by : (b h c : Buffer S) (e : Buffer S → Error) (r : Error) → Looked model b h → Read model h (error_token (current h)) c → Lives model h c →
+      r ≡ refusal (current h) (model.state (source h)).failed (last_position h) (e h) → Refused model b e r c
+  refused_by b h c e r l d v p = record { here = h; looked = l; read = d; lives = v; answer = p }
 
   -- at a token that doesn't fit
-  pub unfit_by : (b h c : Buffer S) (e : Buffer S → Error) (r : Error) → Looked state gives b h → Read state gives h (error_token (current h)) c →
-      r ≡ refusal (current h) (state (source h)).failed (last_position h) (e h) → is_fit (current h) ≡ false → (x : Refused state gives b e r c) × (is_fit (current x.here) ≡ false)
-  unfit_by b h c e r l d p f = (record { here = h; looked = l; read = d; answer = p }, f)
+  pub unfit_by : (b h c : Buffer S) (e : Buffer S → Error) (r : Error) → Looked model b h → Read model h (error_token (current h)) c → Lives model h c →
+      r ≡ refusal (current h) (model.state (source h)).failed (last_position h) (e h) → is_fit (current h) ≡ false →
+      (x : Refused model b e r c) × (is_fit (current x.here) ≡ false)
+  unfit_by b h c e r l d v p f = (record { here = h; looked = l; read = d; lives = v; answer = p }, f)
 
-  kept_at : (o : Option TokenAndSpan) (b h c : Buffer S) → current b ≡ o → Looked state gives b h → (error_here (current h) ≡ None → current c ≡ current h) →
+  kept_at : (o : Option TokenAndSpan) (b h c : Buffer S) → current b ≡ o → Looked model b h → (error_here (current h) ≡ None → current c ≡ current h) →
       is_fit o ≡ true → current c ≡ o
   kept_at None b h c at l k fit = absurd cc
   kept_at (Some t) b h c at l k fit =
@@ -74,5 +75,5 @@ module _ {S : Type 0} (state : S → Source) (gives : S → List TokenAndSpan �
       k (ap (λ o. error_here o) here ∙ fit_error t.token fit) ∙ here
 
   -- a token that is fit stays at a look, and then wherever one without an error does
-  pub kept_by : (b h c : Buffer S) → Looked state gives b h → (error_here (current h) ≡ None → current c ≡ current h) → is_fit (current b) ≡ true → current c ≡ current b
+  pub kept_by : (b h c : Buffer S) → Looked model b h → (error_here (current h) ≡ None → current c ≡ current h) → is_fit (current b) ≡ true → current c ≡ current b
   kept_by b h c l k fit = kept_at (current b) b h c refl l k fit

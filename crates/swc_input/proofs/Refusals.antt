@@ -8,9 +8,8 @@ use Rattle.swc_input.specs.declared.buffer.Buffer.{Buffer}
 use Rattle.swc_input.specs.declared.token.Token.{Token}
 use Rattle.swc_input.specs.declared.token.Token.TheVariants as token
 use Rattle.swc_input.specs.declared.token.TokenAndSpan.{TokenAndSpan}
-use Rattle.swc_input.specs.Source.{Source, IsFault, IsLawful}
+use Rattle.swc_input.specs.Source.{Model, Laws, IsFault}
 use Rattle.swc_input.specs.Buffer.{current, source, last_position}
-use Rattle.swc_input.specs.Laws.{Gives}
 use Rattle.swc_input.specs.Recording.{Refused, no_memory, counted_kind, error_in, error_or, error_here, is_some, is_fit, refusal, unfit}
 use Rattle.swc_input.proofs.Emits.{counted_fault}
 
@@ -52,23 +51,23 @@ pub unfit-error : (o : Option TokenAndSpan) (e : Bool) → e ≡ is_some (error_
 unfit-error None e h i = refl
 unfit-error (Some t) e h i = ap not (sym h ∙ i)
 
-module _ {S : Type 0} (state : S → Source) (gives : S → List TokenAndSpan → S → Type 0) where
-  pub Refused-kind : (b c : Buffer S) (e : Buffer S → Error) (f : Error) → ((here : Buffer S) → (e here).kind ≢ kind.ParserFailed) → Refused state gives b e f c → f.kind ≢ kind.ParserFailed
+module _ {S : Type 0} (model : Model S) where
+  pub Refused-kind : (b c : Buffer S) (e : Buffer S → Error) (f : Error) → ((here : Buffer S) → (e here).kind ≢ kind.ParserFailed) → Refused model b e f c → f.kind ≢ kind.ParserFailed
   Refused-kind b c e f own r h =
-      refusal-kind (current r.here) (state (source r.here)).failed (last_position r.here) (e r.here) (own r.here) (ap (λ x. x.kind) (sym r.answer) ∙ h)
+      refusal-kind (current r.here) (model.state (source r.here)).failed (last_position r.here) (e r.here) (own r.here) (ap (λ x. x.kind) (sym r.answer) ∙ h)
 
   -- want of memory is refused where the look met a failed source
-  pub Refused-memory : (b c : Buffer S) (e : Buffer S → Error) (f : Error) → ((here : Buffer S) → IsFault (e here)) → (r : Refused state gives b e f c) → f.kind ≡ kind.OutOfMemory →
-      (current r.here ≡ None) × ((state (source r.here)).failed ≡ true) × (f ≡ no_memory (last_position r.here))
+  pub Refused-memory : (b c : Buffer S) (e : Buffer S → Error) (f : Error) → ((here : Buffer S) → IsFault (e here)) → (r : Refused model b e f c) → f.kind ≡ kind.OutOfMemory →
+      (current r.here ≡ None) × ((model.state (source r.here)).failed ≡ true) × (f ≡ no_memory (last_position r.here))
   Refused-memory b c e f fault r h =
-      let m = refusal-memory (current r.here) (state (source r.here)).failed (last_position r.here) (e r.here) (fault r.here) (ap (λ x. x.kind) (sym r.answer) ∙ h) in
+      let m = refusal-memory (current r.here) (model.state (source r.here)).failed (last_position r.here) (e r.here) (fault r.here) (ap (λ x. x.kind) (sym r.answer) ∙ h) in
       (m.0, m.1, r.answer ∙ m.2)
 
   -- over a listed source want of memory is never refused
-  pub Refused-listed : (lawful : (s : S) → IsLawful (state s)) (gave : Gives state gives) (b c : Buffer S) (e : Buffer S → Error) (f : Error) (m : List TokenAndSpan) →
-      ((here : Buffer S) → IsFault (e here)) → Refused state gives b e f c → (state (source b)).known ≡ Some m → IsFault f
-  Refused-listed lawful gave b c e f m fault r known h =
+  pub Refused-listed : (laws : Laws model) (b c : Buffer S) (e : Buffer S → Error) (f : Error) (m : List TokenAndSpan) →
+      ((here : Buffer S) → IsFault (e here)) → Refused model b e f c → (model.state (source b)).known ≡ Some m → IsFault f
+  Refused-listed laws b c e f m fault r known h =
       let took = r.looked.look.read.took in
-      let k = (gave b.iter r.here.iter took.given took.gave).known m known in
-      let sound = (lawful r.here.iter).sure k.0 k.1 in
+      let k = (laws.gave b.iter r.here.iter took.given took.gave).known m known in
+      let sound = (laws.lawful r.here.iter).sure k.0 k.1 in
       let failed = (Refused-memory b c e f fault r h).1 in cc

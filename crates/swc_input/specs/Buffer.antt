@@ -1,5 +1,5 @@
 -- What a call of a buffer does, and which tokens may still come.
-use Rattle.std.specs.Prelude.{◌≡◌, ℕ, ◌+◌, ◌≤◌, true, false, List, [], ◌∷◌, ◌++◌, Option, Some, None, length, min}
+use Rattle.std.specs.Prelude.{◌≡◌, ◌≢◌, ℕ, ◌+◌, ◌≤◌, true, false, List, [], ◌∷◌, ◌++◌, Option, Some, None, IsSome, length, min}
 use Rattle.swc_context.specs.declared.context.Context.{Context}
 use Rattle.swc_context.specs.declared.operator.BinOpToken.TheVariants.{Lt}
 use Rattle.swc_context.specs.declared.span.BytePos.{BytePos}
@@ -9,7 +9,7 @@ use Rattle.swc_input.specs.declared.token.Token.{Token}
 use Rattle.swc_input.specs.declared.token.Token.TheVariants.{BinOp}
 use Rattle.swc_input.specs.declared.token.TokenAndSpan.{TokenAndSpan}
 use Rattle.swc_input.specs.Plain.{plain}
-use Rattle.swc_input.specs.Source.{Source, Keeps, given_one}
+use Rattle.swc_input.specs.Source.{Source, Model, Keeps, given_one}
 
 abbrev pub token_of : Option TokenAndSpan → Option Token
 token_of None = None
@@ -59,58 +59,75 @@ held b = given_one b.cur ++ given_one b.next
 
 -- The law of the buffer: between b and c the tokens xs were consumed. Those held at b, and then those given by the source, are xs,
 -- and then those held at c.
-pub record Took {S : Type 0} (gives : S → List TokenAndSpan → S → Type 0) (b : Buffer S) (xs : List TokenAndSpan) (c : Buffer S) : Type 0 where
+pub record Took {S : Type 0} (model : Model S) (b : Buffer S) (xs : List TokenAndSpan) (c : Buffer S) : Type 0 where
   pub given : List TokenAndSpan
-  pub gave : gives b.iter given c.iter
+  pub gave : model.gives b.iter given c.iter
   pub balance : held b ++ given ≡ xs ++ held c
 
-module _ {S : Type 0} (state : S → Source) where
+module _ {S : Type 0} (model : Model S) where
+  abbrev pub state_of : Buffer S → Source
+  state_of b = model.state b.iter
+
   abbrev pub context : Buffer S → Context
-  context b = (state b.iter).context
+  context b = (model.state b.iter).context
 
   -- no more tokens than this are still to come, those held among them
-  abbrev pub left : Buffer S → ℕ
-  left b = (state b.iter).bound + length (held b)
+  abbrev pub to_come : Buffer S → ℕ
+  to_come b = (model.state b.iter).bound + length (held b)
 
   -- rest may be the tokens still to come: those held, and then more, which is nothing after the end, and what a listed source knows
   pub record Future (b : Buffer S) (rest : List TokenAndSpan) : Type 0 where
     pub more : List TokenAndSpan
     pub begins : rest ≡ held b ++ more
-    pub over : (state b.iter).ended ≡ true → more ≡ []
-    pub known : (m : List TokenAndSpan) → (state b.iter).known ≡ Some m → more ≡ m
+    pub over : (model.state b.iter).ended ≡ true → more ≡ []
+    pub known : (m : List TokenAndSpan) → (model.state b.iter).known ≡ Some m → more ≡ m
 
   -- the source is listed, and rest are the tokens still to come
   pub record Known (b : Buffer S) (rest : List TokenAndSpan) : Type 0 where
     pub more : List TokenAndSpan
     pub begins : rest ≡ held b ++ more
-    pub known : (state b.iter).known ≡ Some more
+    pub known : (model.state b.iter).known ≡ Some more
 
-module _ {S : Type 0} (state : S → Source) (gives : S → List TokenAndSpan → S → Type 0) where
+module _ {S : Type 0} (model : Model S) where
   -- the tokens xs were consumed, the context is what it was, and no recorded fault was taken out
   pub record Read (b : Buffer S) (xs : List TokenAndSpan) (c : Buffer S) : Type 0 where
-    pub took : Took gives b xs c
-    pub context : (state c.iter).context ≡ (state b.iter).context
-    pub errors : Keeps (state b.iter).errors (state c.iter).errors
-    pub waiting : Keeps (state b.iter).waiting (state c.iter).waiting
-    pub lower : left state c + length xs ≤ left state b
+    pub took : Took model b xs c
+    pub context : (model.state c.iter).context ≡ (model.state b.iter).context
+    pub errors : Keeps (model.state b.iter).errors (model.state c.iter).errors
+    pub waiting : Keeps (model.state b.iter).waiting (model.state c.iter).waiting
+    pub lower : to_come model c + length xs ≤ to_come model b
+
+  -- the tokens of some list were consumed
+  abbrev pub ReadSome : Buffer S → Buffer S → Type 0
+  ReadSome b c = (xs : List TokenAndSpan) × Read b xs c
 
   -- a look consumed nothing, and moved nothing; over a listed source it recorded nothing
   pub record Still (b c : Buffer S) : Type 0 where
     pub read : Read b [] c
     pub previous : c.prev_span ≡ b.prev_span
-    pub quiet : (m : List TokenAndSpan) → (state b.iter).known ≡ Some m → ((state c.iter).errors ≡ (state b.iter).errors) × ((state c.iter).waiting ≡ (state b.iter).waiting)
+    pub quiet : (m : List TokenAndSpan) → (model.state b.iter).known ≡ Some m → ((model.state c.iter).errors ≡ (model.state b.iter).errors) × ((model.state c.iter).waiting ≡ (model.state b.iter).waiting)
+
+  -- the source didn't fail in between
+  abbrev pub Lives : Buffer S → Buffer S → Type 0
+  Lives b c = (model.state c.iter).failed ≡ true → (model.state b.iter).failed ≡ true
+
+  -- the source runs, or it had failed before, when tokens were held that weren't consumed yet
+  pub record Served (b c : Buffer S) : Type 0 where
+    pub before : (model.state c.iter).failed ≡ true → ((model.state b.iter).failed ≡ true) × (held b ≢ [])
 
   -- a look at the current token: it is known now, or none is left, or the source has failed
   pub record Looked (b c : Buffer S) : Type 0 where
     pub look : Still b c
     pub same : (t : TokenAndSpan) → b.cur ≡ Some t → c ≡ b
-    pub end : c.cur ≡ None → (c.next ≡ None) × ((state c.iter).failed ≡ false → (state c.iter).ended ≡ true)
+    pub lives : IsSome c.cur → Lives b c
+    pub end : c.cur ≡ None → (c.next ≡ None) × ((model.state c.iter).failed ≡ false → (model.state c.iter).ended ≡ true)
 
   -- a look at the token after the current one
   pub record Peeked (b c : Buffer S) : Type 0 where
     pub look : Still b c
     pub current : c.cur ≡ b.cur
-    pub end : c.next ≡ None → (state c.iter).failed ≡ false → (state c.iter).ended ≡ true
+    pub lives : IsSome c.next → Lives b c
+    pub end : c.next ≡ None → (model.state c.iter).failed ≡ false → (model.state c.iter).ended ≡ true
 
   -- the current token was consumed, and it was t
   pub record Bumped (b : Buffer S) (t : Token) (c : Buffer S) : Type 0 where

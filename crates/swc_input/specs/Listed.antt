@@ -8,7 +8,7 @@ use Rattle.swc_context.specs.declared.context.Syntax.{Syntax}
 use Rattle.swc_input.specs.declared.token.TokenAndSpan.{TokenAndSpan}
 use Rattle.swc_input.specs.declared.listed.TokensInput.{TokensInput}
 use Rattle.swc_input.specs.Plain.{plain}
-use Rattle.swc_input.specs.Source.{Source, IsLawful, Keeping, Gave, Asked}
+use Rattle.swc_input.specs.Source.{Source, Model, Laws, IsLawful, Keeping, Gave, Asked}
 use Rattle.swc_input.specs.Laws.{keeps_same}
 
 abbrev pub is_nil : {A : Type 0} → List A → Bool
@@ -80,6 +80,9 @@ keeping s t r n = record {
   quiet = λ m h. (n.errors, n.waiting);
 }
 
+abbrev pub listed_model : Model TokensInput
+listed_model = record { state = listed_state; gives = ListedGives }
+
 pub listed_lawful : (s : TokensInput) → IsLawful (listed_state s)
 listed_lawful s = record {
   none_waits = λ h. let none = s.none_waits h in let long = s.module_errors.ok in nil_from_length s.module_errors.items (omega arith);
@@ -90,8 +93,8 @@ listed_lawful s = record {
 pub listed_none : (s : TokensInput) → ListedGives s [] s
 listed_none s = record { list = refl; syntax = refl; target = refl }
 
-pub listed_then : (s t u : TokensInput) (xs ys : List TokenAndSpan) → ListedGives s xs t → ListedGives t ys u → ListedGives s (xs ++ ys) u
-listed_then s t u xs ys a b = record {
+pub listed_joins : (s t u : TokensInput) (xs ys : List TokenAndSpan) → ListedGives s xs t → ListedGives t ys u → ListedGives s (xs ++ ys) u
+listed_joins s t u xs ys a b = record {
   list = a.list ∙ ap (λ l. xs ++ l) b.list ∙ sym (append_assoc xs ys (coming u));
   syntax = b.syntax ∙ a.syntax;
   target = b.target ∙ a.target;
@@ -103,16 +106,20 @@ listed_gave s t xs a = record {
   target = a.target;
   ended = λ e. first_nil xs (coming t) (sym (is_nil-nil (coming s) e) ∙ a.list);
   stays = λ e. ap is_nil (second_nil xs (coming t) (sym (is_nil-nil (coming s) e) ∙ a.list));
+  failed = λ h. cc;
   known = λ m h. (coming t, refl, (let same : coming s ≡ m = cc in sym same ∙ a.list));
   unknown = λ h. cc;
 }
 
-pub listed_asked : (s : TokensInput) (r : Option TokenAndSpan) (t : TokensInput) → NextListed s r t → Asked listed_state ListedGives s r t
+pub listed_laws : Laws listed_model
+listed_laws = record { lawful = listed_lawful; none = listed_none; joins = listed_joins; gave = listed_gave }
+
+pub listed_asked : (s : TokensInput) (r : Option TokenAndSpan) (t : TokensInput) → NextListed s r t → Asked listed_model s r t
 listed_asked s (Some x) t n = record {
   gave = record { list = ap (λ l. map plain l) n.first; syntax = n.syntax; target = n.target };
   token = record {
     keeping = keeping s t (Some x) n;
-    failed = refl;
+    runs = (refl, refl);
     lower = let long = ap length n.first in omega arith;
   };
 }
@@ -121,7 +128,6 @@ listed_asked s None t n = record {
   token = record {
     keeping = keeping s t None n;
     ended = λ h. ap (λ l. is_nil (map plain l)) n.first.1;
-    stays = λ h. h;
     lower = let a = ap length n.first.0 in let b = ap length n.first.1 in omega arith;
   };
 }

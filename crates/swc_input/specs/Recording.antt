@@ -9,8 +9,8 @@ use Rattle.swc_input.specs.declared.token.Token.{Token}
 use Rattle.swc_input.specs.declared.token.Token.TheVariants as token
 use Rattle.swc_input.specs.declared.token.TokenAndSpan.{TokenAndSpan}
 use Rattle.swc_input.specs.Plain.{plain}
-use Rattle.swc_input.specs.Source.{Source}
-use Rattle.swc_input.specs.Buffer.{Read, Looked, last_position, current, peeked, source}
+use Rattle.swc_input.specs.Source.{Source, Model}
+use Rattle.swc_input.specs.Buffer.{Read, Lives, Looked, last_position, current, peeked, source}
 
 -- no fault is recorded
 abbrev pub is_silent : Source → Bool
@@ -80,24 +80,26 @@ abbrev pub unfit : Option TokenAndSpan → BytePos → SyntaxError → Error
 unfit None at k = error_at at kind.Eof
 unfit (Some t) at k = record { span = t.span; kind = k }
 
-module _ {S : Type 0} (state : S → Source) (gives : S → List TokenAndSpan → S → Type 0) where
+module _ {S : Type 0} (model : Model S) where
   -- the fault e was recorded, after the error of a current error token, which was consumed
   pub record Recorded (b : Buffer S) (e : Error) (c : Buffer S) : Type 0 where
     pub here : Buffer S
-    pub looked : Looked state gives b here
-    pub read : Read state gives here (error_token (current here)) c
-    pub errors : (state (source c)).errors ≡ (state (source here)).errors ++ (error_list (error_here (current here)) ++ e ∷ [])
-    pub waiting : (state (source c)).waiting ≡ (state (source here)).waiting
+    pub looked : Looked model b here
+    pub read : Read model here (error_token (current here)) c
+    pub errors : (model.state (source c)).errors ≡ (model.state (source here)).errors ++ (error_list (error_here (current here)) ++ e ∷ [])
+    pub waiting : (model.state (source c)).waiting ≡ (model.state (source here)).waiting
+    pub lives : Lives model b c
 
   -- the refusal r was made, where e is refused unless an error token is current; such a token was consumed
   pub record Refused (b : Buffer S) (e : Buffer S → Error) (r : Error) (c : Buffer S) : Type 0 where
     pub here : Buffer S
-    pub looked : Looked state gives b here
-    pub read : Read state gives here (error_token (current here)) c
-    pub answer : r ≡ refusal (current here) (state (source here)).failed (last_position here) (e here)
+    pub looked : Looked model b here
+    pub read : Read model here (error_token (current here)) c
+    pub lives : Lives model here c
+    pub answer : r ≡ refusal (current here) (model.state (source here)).failed (last_position here) (e here)
 
   -- a look that tells the end from a failed source: true at a token, false at the end
   pub record Seen (b : Buffer S) (r : Bool) (c : Buffer S) : Type 0 where
-    pub looked : Looked state gives b c
+    pub looked : Looked model b c
     pub token : r ≡ true → (t : TokenAndSpan) × (current c ≡ Some t)
-    pub end : r ≡ false → (current c ≡ None) × (peeked c ≡ None) × ((state (source c)).failed ≡ false) × ((state (source c)).ended ≡ true)
+    pub end : r ≡ false → (current c ≡ None) × (peeked c ≡ None) × ((model.state (source c)).failed ≡ false) × ((model.state (source c)).ended ≡ true)

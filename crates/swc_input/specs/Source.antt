@@ -1,5 +1,5 @@
 -- A source of tokens, as contracts see it.
-use Rattle.std.specs.Prelude.{◌≡◌, ◌≢◌, ℕ, ◌<◌, ◌≤◌, Bool, true, false, List, [], ◌∷◌, ◌++◌, Option, Some, None, All, MatchOption}
+use Rattle.std.specs.Prelude.{◌≡◌, ◌≢◌, ℕ, ◌+◌, ◌<◌, ◌≤◌, Bool, true, false, List, [], ◌∷◌, ◌++◌, Option, Some, None, All, MatchOption}
 use Rattle.swc_context.specs.declared.context.Context.{Context}
 use Rattle.swc_context.specs.declared.context.EsVersion.{EsVersion}
 use Rattle.swc_context.specs.declared.context.Syntax.{Syntax}
@@ -53,6 +53,14 @@ with_module_error e s = record s {
   waiting = s.waiting ++ waiting_in s.context.module (e ∷ []);
 }
 
+-- the context c, a module's, where faults wait outside one
+abbrev pub HeldBack : Context → Source → Type 0
+HeldBack c s = (s.context.module ≡ false) × (c.module ≡ true) × (s.waiting ≢ [])
+
+-- a token may come once more, and nothing else changed
+abbrev pub Hinted : Source → Source → Type 0
+Hinted s t = (b : ℕ) × (t ≡ record s { bound = b }) × (b ≤ s.bound + 1)
+
 -- in a module no fault waits; a listed source never fails, and gives all its tokens before its end
 pub record IsLawful (s : Source) : Type 0 where
   pub none_waits : s.context.module ≡ true → s.waiting ≡ []
@@ -76,17 +84,16 @@ pub record Keeping (s t : Source) : Type 0 where
   -- a listed source records nothing by itself
   pub quiet : (m : List TokenAndSpan) → s.known ≡ Some m → (t.errors ≡ s.errors) × (t.waiting ≡ s.waiting)
 
--- between s and t one token was asked for, and given
+-- between s and t one token was asked for, and given: by a source that hasn't failed, and doesn't
 pub record GivesToken (s t : Source) : Type 0 where
   pub keeping : Keeping s t
-  pub failed : t.failed ≡ s.failed
+  pub runs : (s.failed ≡ false) × (t.failed ≡ false)
   pub lower : t.bound < s.bound
 
 -- between s and t one token was asked for, and none given: the end, unless the source has failed
 pub record GivesEnd (s t : Source) : Type 0 where
   pub keeping : Keeping s t
   pub ended : t.failed ≡ false → t.ended ≡ true
-  pub stays : s.failed ≡ true → t.failed ≡ true
   pub lower : t.bound ≤ s.bound
 
 -- between s and t the tokens xs were given, by any calls
@@ -96,6 +103,8 @@ pub record Gave (s : Source) (xs : List TokenAndSpan) (t : Source) : Type 0 wher
   -- after the end nothing comes
   pub ended : s.ended ≡ true → xs ≡ []
   pub stays : s.ended ≡ true → t.ended ≡ true
+  -- a source that has failed gives nothing any more, and has failed from then on
+  pub failed : s.failed ≡ true → (xs ≡ []) × (t.failed ≡ true)
   -- a listed source gives its list
   pub known : (m : List TokenAndSpan) → s.known ≡ Some m → (n : List TokenAndSpan) × (t.known ≡ Some n) × (m ≡ xs ++ n)
   pub unknown : s.known ≡ None → t.known ≡ None
@@ -104,7 +113,21 @@ abbrev pub given_one : Option TokenAndSpan → List TokenAndSpan
 given_one None = []
 given_one (Some t) = plain t ∷ []
 
+-- What a source is to contracts: its states, and that calls led from one state to another and gave these tokens between them.
+pub record Model (S : Type 0) : Type 1 where
+  pub state : S → Source
+  pub gives : S → List TokenAndSpan → S → Type 0
+
+-- the laws of a source
+pub record Laws {S : Type 0} (model : Model S) : Type 0 where
+  pub lawful : (s : S) → IsLawful (model.state s)
+  -- where nothing was asked, nothing was given
+  pub none : (s : S) → model.gives s [] s
+  -- what calls gave one after another
+  pub joins : (s t u : S) (xs ys : List TokenAndSpan) → model.gives s xs t → model.gives t ys u → model.gives s (xs ++ ys) u
+  pub gave : (s t : S) (xs : List TokenAndSpan) → model.gives s xs t → Gave (model.state s) xs (model.state t)
+
 -- a call of `next` that answered r
-pub record Asked {S : Type 0} (state : S → Source) (gives : S → List TokenAndSpan → S → Type 0) (s : S) (r : Option TokenAndSpan) (t : S) : Type 0 where
-  pub gave : gives s (given_one r) t
-  pub token : MatchOption r (GivesEnd (state s) (state t)) (λ x. GivesToken (state s) (state t))
+pub record Asked {S : Type 0} (model : Model S) (s : S) (r : Option TokenAndSpan) (t : S) : Type 0 where
+  pub gave : model.gives s (given_one r) t
+  pub token : MatchOption r (GivesEnd (model.state s) (model.state t)) (λ x. GivesToken (model.state s) (model.state t))

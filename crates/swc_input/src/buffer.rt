@@ -1,5 +1,5 @@
 // The parser's buffer: the current token, and the one after it.
-ghost use Rattle.std.specs.Prelude.{◌≡◌, ◌≢◌, ℕ, ◌+◌, ◌≤◌, true, false, [], ◌∷◌, Some, MatchOption, IsSome, ⊤, IsTrue, ◌↔◌, OnOk, OnErr};
+ghost use Rattle.std.specs.Prelude.{◌≡◌, true, false, [], ◌∷◌, Some, MatchOption, IsSome, ⊤, IsTrue, ◌↔◌, OnOk, OnErr};
 ghost use Rattle.std.specs.Option.{option_copied};
 ghost use Rattle.std.specs.Borrow.{sem, follows, follows_so};
 ghost use mathlib.Core.Option.{none};
@@ -7,8 +7,10 @@ ghost use Rattle.swc_context.specs.declared.operator.BinOpToken.TheVariants.{LSh
 ghost use Rattle.swc_input.specs.declared.token.Token.TheVariants.{BinOp};
 ghost use Rattle.swc_input.specs.declared.token.TokenAndSpan.{TokenAndSpan};
 ghost use Rattle.swc_input.specs.Plain.{plain};
-ghost use Rattle.swc_input.specs.Source.{with_context};
-ghost use Rattle.swc_input.specs.Buffer.{token_of, current, peeked, previous, last_position, source, held, with_current, with_source, cut, stored, fresh, Took, Read, Looked, Peeked, Bumped};
+ghost use Rattle.swc_input.specs.Source.{HeldBack, Hinted, with_context};
+ghost use Rattle.swc_input.specs.Buffer.{current, peeked, previous, last_position, source, held, token_of, state_of};
+ghost use Rattle.swc_input.specs.Buffer.{with_current, with_source, cut, stored, fresh};
+ghost use Rattle.swc_input.specs.Buffer.{Took, Read, Looked, Peeked, Bumped};
 ghost use Rattle.swc_input.specs.contracts.buffer.Buffer.{the_row};
 
 use crate::token::{Token, TokenAndSpan};
@@ -58,7 +60,8 @@ impl<I: Tokens> Buffer<I> {
 
     /// The source.
     pub fn input(&mut self) -> &mut I
-        ensures* lent { sem 𝓛 (follows (the_row I.row) I.row self.entry.ghost_name result.ghost_name (λ s. with_source s self.old)) }
+        ensures* lent { sem 𝓛 (follows (the_row I.row) I.row self.entry.ghost_name result.ghost_name
+            (λ s. with_source s self.old)) }
         ensures value { result.now ≡ source self.old }
     {
         &mut self.iter
@@ -90,7 +93,7 @@ impl<I: Tokens> Buffer<I> {
     /// Consumes the current token.
     pub fn bump(&mut self) -> Token
         requires { IsSome (current self.old) }
-        ensures { Bumped I.state I.gives self.old result self.new }
+        ensures { Bumped I.model self.old result self.new }
     {
         match self.cur.take() {
             Some(token) => {
@@ -110,7 +113,7 @@ impl<I: Tokens> Buffer<I> {
 
     fn fill_next(&mut self)
         requires { IsSome (current self.old) }
-        ensures { Peeked I.state I.gives self.old self.new }
+        ensures { Peeked I.model self.old self.new }
     {
         if self.next.is_none() {
             let token = ask(&mut self.iter);
@@ -121,7 +124,8 @@ impl<I: Tokens> Buffer<I> {
     /// The token after the current one.
     pub fn peek(&mut self) -> Option<&Token>
         requires { IsSome (current self.old) }
-        ensures* { sem 𝓛 (follows_so (the_row I.row) (the_row I.row) self.entry.ghost_name none (λ _ _. ⊤) (λ v. Peeked I.state I.gives self.old v × (token_of (peeked v) ≡ option_copied result))) }
+        ensures* { sem 𝓛 (follows_so (the_row I.row) (the_row I.row) self.entry.ghost_name none (λ _ _. ⊤)
+            (λ v. Peeked I.model self.old v × (token_of (peeked v) ≡ option_copied result))) }
     {
         self.fill_next();
         match &self.next {
@@ -132,7 +136,7 @@ impl<I: Tokens> Buffer<I> {
 
     /// Whether a line break stands before the current token; true at the end.
     pub fn had_line_break_before_cur(&mut self) -> bool
-        ensures looked { Looked I.state I.gives self.old self.new }
+        ensures looked { Looked I.model self.old self.new }
         ensures value { MatchOption (current self.new) (result ≡ true) (λ t. result ≡ t.had_line_break) }
     {
         self.fill();
@@ -145,7 +149,7 @@ impl<I: Tokens> Buffer<I> {
     /// Whether a line break stands before the token after the current one; true where none is left.
     pub fn has_linebreak_between_cur_and_peeked(&mut self) -> bool
         requires { IsSome (current self.old) }
-        ensures peeked { Peeked I.state I.gives self.old self.new }
+        ensures peeked { Peeked I.model self.old self.new }
         ensures value { MatchOption (peeked self.new) (result ≡ true) (λ t. result ≡ t.had_line_break) }
     {
         self.fill_next();
@@ -156,7 +160,7 @@ impl<I: Tokens> Buffer<I> {
     }
 
     fn fill(&mut self)
-        ensures { Looked I.state I.gives self.old self.new }
+        ensures { Looked I.model self.old self.new }
     {
         if self.cur.is_some() {
             return;
@@ -171,7 +175,8 @@ impl<I: Tokens> Buffer<I> {
 
     /// The current token.
     pub fn cur(&mut self) -> Option<&Token>
-        ensures* { sem 𝓛 (follows_so (the_row I.row) (the_row I.row) self.entry.ghost_name none (λ _ _. ⊤) (λ v. Looked I.state I.gives self.old v × (token_of (current v) ≡ option_copied result))) }
+        ensures* { sem 𝓛 (follows_so (the_row I.row) (the_row I.row) self.entry.ghost_name none (λ _ _. ⊤)
+            (λ v. Looked I.model self.old v × (token_of (current v) ≡ option_copied result))) }
     {
         self.fill();
         self.cur_debug()
@@ -196,8 +201,9 @@ impl<I: Tokens> Buffer<I> {
 
     /// Whether the current token is this one.
     pub fn is(&mut self, expected: &Token) -> bool
-        ensures looked { Looked I.state I.gives self.old self.new }
-        ensures is { MatchOption (current self.new) (result ≡ false) (λ t. result ≡ ⟦<Token as PartialEq>⟧.eq expected.now t.token) }
+        ensures looked { Looked I.model self.old self.new }
+        ensures is { MatchOption (current self.new) (result ≡ false)
+            (λ t. result ≡ ⟦<Token as PartialEq>⟧.eq expected.now t.token) }
     {
         self.fill();
         match &self.cur {
@@ -208,8 +214,10 @@ impl<I: Tokens> Buffer<I> {
 
     /// Consumes the current token if it is this one, and says whether it was.
     pub fn eat(&mut self, expected: &Token) -> bool
-        ensures eaten { result ≡ true → (x : TokenAndSpan) × (⟦<Token as PartialEq>⟧.eq expected.now x.token ≡ true) × Read I.state I.gives self.old (plain x ∷ []) self.new × (previous self.new ≡ x.span) }
-        ensures left { result ≡ false → Looked I.state I.gives self.old self.new × MatchOption (current self.new) ⊤ (λ t. ⟦<Token as PartialEq>⟧.eq expected.now t.token ≡ false) }
+        ensures eaten { result ≡ true → (x : TokenAndSpan) × (⟦<Token as PartialEq>⟧.eq expected.now x.token ≡ true)
+            × Read I.model self.old (plain x ∷ []) self.new × (previous self.new ≡ x.span) }
+        ensures stays { result ≡ false → Looked I.model self.old self.new
+            × MatchOption (current self.new) ⊤ (λ t. ⟦<Token as PartialEq>⟧.eq expected.now t.token ≡ false) }
     {
         let here = self.is(expected);
         if here {
@@ -220,7 +228,7 @@ impl<I: Tokens> Buffer<I> {
 
     /// Where the current token begins, in bytes; at the end, where the token consumed last ends.
     pub fn cur_pos(&mut self) -> BytePos
-        ensures looked { Looked I.state I.gives self.old self.new }
+        ensures looked { Looked I.model self.old self.new }
         ensures value { MatchOption (current self.new) (result ≡ last_position self.new) (λ t. result ≡ t.span.lo) }
     {
         self.fill();
@@ -256,48 +264,48 @@ impl<I: Tokens> Buffer<I> {
 
     /// The context of the source.
     pub fn get_ctx(&self) -> Context
-        ensures { result ≡ (I.state (source self.now)).context }
+        ensures { result ≡ (state_of I.model self.now).context }
     {
         self.iter.ctx()
     }
 
     /// Sets the context of the source; see `Tokens::set_ctx`. Refused only to a module, and then nothing changes.
     pub fn set_ctx(&mut self, ctx: Context) -> Result<(), AllocError>
-        ensures took { Took I.gives self.old [] self.new }
+        ensures took { Took I.model self.old [] self.new }
         ensures rest { self.new ≡ with_source (source self.new) self.old }
-        ensures set { OnOk result (I.state (source self.new) ≡ with_context ctx (I.state (source self.old))) }
-        ensures unchanged { OnErr result (I.state (source self.new) ≡ I.state (source self.old)) }
-        ensures refused { OnErr result (((I.state (source self.old)).context.module ≡ false) × (ctx.module ≡ true) × ((I.state (source self.old)).waiting ≢ [])) }
+        ensures set { OnOk result (state_of I.model self.new ≡ with_context ctx (state_of I.model self.old)) }
+        ensures unchanged { OnErr result (state_of I.model self.new ≡ state_of I.model self.old) }
+        ensures refused { OnErr result (HeldBack ctx (state_of I.model self.old)) }
     {
         self.iter.set_ctx(ctx)
     }
 
     /// Which forms of the language are read.
     pub fn syntax(&self) -> Syntax
-        ensures { result ≡ (I.state (source self.now)).syntax }
+        ensures { result ≡ (state_of I.model self.now).syntax }
     {
         self.iter.syntax()
     }
 
     /// The edition of the standard.
     pub fn target(&self) -> EsVersion
-        ensures { result ≡ (I.state (source self.now)).target }
+        ensures { result ≡ (state_of I.model self.now).target }
     {
         self.iter.target()
     }
 
     /// Hints to a lexer that a regular expression begins at the slash that it gave last.
     pub fn set_next_regexp(&mut self, start: Option<BytePos>)
-        ensures took { Took I.gives self.old [] self.new }
+        ensures took { Took I.model self.old [] self.new }
         ensures rest { self.new ≡ with_source (source self.new) self.old }
-        ensures state { (b : ℕ) × (I.state (source self.new) ≡ record (I.state (source self.old)) { bound = b }) × (b ≤ (I.state (source self.old)).bound + 1) }
+        ensures state { Hinted (state_of I.model self.old) (state_of I.model self.new) }
     {
         self.iter.set_next_regexp(start);
     }
 
     /// The source met want of memory.
     pub fn failed(&self) -> bool
-        ensures { result ≡ (I.state (source self.now)).failed }
+        ensures { result ≡ (state_of I.model self.now).failed }
     {
         self.iter.failed()
     }

@@ -72,19 +72,11 @@ impl Iterator for TokensInput {
 
 impl Tokens for TokensInput {
     ghost use Rattle.std.proofs.Common.{refl};
-    ghost use Rattle.swc_input.specs.Listed.{listed_state, ListedGives, listed_lawful, listed_none, listed_then, listed_gave, listed_asked};
+    ghost use Rattle.swc_input.specs.Listed.{listed_model, listed_laws, listed_asked};
 
-    ghost state = { listed_state };
+    ghost model = { listed_model };
 
-    ghost gives = { ListedGives };
-
-    ghost lawful = { listed_lawful };
-
-    ghost none = { listed_none };
-
-    ghost then = { listed_then };
-
-    ghost gave = { listed_gave };
+    ghost laws = { listed_laws };
 
     ghost may_ask = { λ s. tt };
 

@@ -1,10 +1,13 @@
 // Faults that are recorded, refusals, and want of memory.
-ghost use Rattle.std.specs.Prelude.{◌≡◌, ◌≢◌, true, false, not, List, [], ◌∷◌, ◌++◌, None, IsOk, OnOk, OnErr, IfOk, IfErr, IsSome};
+ghost use Rattle.std.specs.Prelude.{◌≡◌, ◌≢◌, true, false, List, [], ◌∷◌, ◌++◌, None, IsSome};
+ghost use Rattle.std.specs.Prelude.{IsOk, OnOk, IfOk, IfErr};
 ghost use Rattle.swc_context.specs.declared.error.SyntaxError.TheVariants.{OutOfMemory, Eof};
 ghost use Rattle.swc_input.specs.declared.token.TokenAndSpan.{TokenAndSpan};
 ghost use Rattle.swc_input.specs.Source.{with_error, with_module_error, IsFault};
-ghost use Rattle.swc_input.specs.Buffer.{source, last_position, current, with_source, Read, Looked};
-ghost use Rattle.swc_input.specs.Recording.{is_silent, is_some, error_at, no_memory, counted, error_in, error_here, error_list, error_token, unfit, is_fit, refusal, Recorded, Refused, Seen};
+ghost use Rattle.swc_input.specs.Buffer.{source, last_position, current, state_of, with_source};
+ghost use Rattle.swc_input.specs.Buffer.{Read, ReadSome, Lives, Looked};
+ghost use Rattle.swc_input.specs.Recording.{is_silent, is_some, no_memory, counted, error_in, error_here, error_list};
+ghost use Rattle.swc_input.specs.Recording.{error_token, unfit, is_fit, refusal, Recorded, Refused, Seen};
 
 use crate::buffer::Buffer;
 use crate::token::Token;
@@ -50,8 +53,11 @@ impl<I: Tokens> Buffer<I> {
 
     /// Whether a token is current, and not the end. Where the source has failed, want of memory is refused.
     pub fn has_cur(&mut self) -> PResult<bool>
-        ensures seen { IfOk result (λ r. Seen I.state I.gives self.old r self.new) }
-        ensures refused { IfErr result (λ e. (e ≡ no_memory (last_position self.new)) × Looked I.state I.gives self.old self.new × (current self.new ≡ None) × ((I.state (source self.new)).failed ≡ true)) }
+        ensures looked { Looked I.model self.old self.new }
+        ensures lives { OnOk result (Lives I.model self.old self.new) }
+        ensures seen { IfOk result (λ r. Seen I.model self.old r self.new) }
+        ensures refused { IfErr result (λ e. (e ≡ no_memory (last_position self.new)) × Looked I.model self.old self.new
+            × (current self.new ≡ None) × ((state_of I.model self.new).failed ≡ true)) }
     {
         let _ = self.had_line_break_before_cur();
         if self.knows_cur() {
@@ -67,10 +73,11 @@ impl<I: Tokens> Buffer<I> {
     #[tactic(auto, using(crate::proofs::Emits::keeps_one, crate::specs::Laws::keeps_same))]
     fn record(&mut self, error: Error) -> PResult<()>
         requires { IsFault error }
-        ensures read { Read I.state I.gives self.old [] self.new }
+        ensures read { Read I.model self.old [] self.new }
         ensures rest { self.new ≡ with_source (source self.new) self.old }
-        ensures recorded { OnOk result (I.state (source self.new) ≡ with_error error (I.state (source self.old))) }
-        ensures refused { IfErr result (λ e. (e ≡ no_memory (last_position self.old)) × (I.state (source self.new) ≡ I.state (source self.old))) }
+        ensures recorded { OnOk result (state_of I.model self.new ≡ with_error error (state_of I.model self.old)) }
+        ensures refused { IfErr result (λ e. (e ≡ no_memory (last_position self.old))
+            × (state_of I.model self.new ≡ state_of I.model self.old)) }
     {
         match self.iter.add_error(error) {
             Ok(()) => Ok(()),
@@ -79,7 +86,7 @@ impl<I: Tokens> Buffer<I> {
     }
 
     fn is_silent(&self) -> bool
-        ensures { result ≡ is_silent (I.state (source self.now)) }
+        ensures { result ≡ is_silent (state_of I.model self.now) }
     {
         self.iter.ctx().ignore_error || !self.iter.syntax().early_errors
     }
@@ -96,7 +103,7 @@ impl<I: Tokens> Buffer<I> {
     /// Consumes the current token where it holds an error, and gives the error.
     fn take_error(&mut self) -> Option<Error>
         ensures here { result ≡ error_here (current self.old) }
-        ensures read { Read I.state I.gives self.old (error_token (current self.old)) self.new }
+        ensures read { Read I.model self.old (error_token (current self.old)) self.new }
         ensures same { source self.new ≡ source self.old }
         ensures kept { result ≡ None → current self.new ≡ current self.old }
     {
@@ -108,30 +115,40 @@ impl<I: Tokens> Buffer<I> {
     }
 
     /// Records a fault, after the error of a current error token, which is consumed; any other
-    /// current token stays. Silent contexts record nothing.
+    /// current token stays. Silent contexts record nothing. Where the source has failed, want of
+    /// memory is refused.
     pub fn emit_error(&mut self, error: Error) -> PResult<()>
         requires { IsFault error }
-        ensures silent { is_silent (I.state (source self.old)) ≡ true → IsOk result × (self.new ≡ self.old) }
-        ensures recorded { is_silent (I.state (source self.old)) ≡ false → OnOk result (Recorded I.state I.gives self.old error self.new) }
-        ensures refused { IfErr result (λ e. (xs : List TokenAndSpan) × Read I.state I.gives self.old xs self.new × (e ≡ no_memory (last_position self.new))) }
-        ensures read { (xs : List TokenAndSpan) × Read I.state I.gives self.old xs self.new }
+        ensures silent { is_silent (state_of I.model self.old) ≡ true → IsOk result × (self.new ≡ self.old) }
+        ensures recorded { is_silent (state_of I.model self.old) ≡ false
+            → OnOk result (Recorded I.model self.old error self.new) }
+        ensures refused { IfErr result (λ e. (xs : List TokenAndSpan) × Read I.model self.old xs self.new
+            × (e ≡ no_memory (last_position self.new))) }
+        ensures read { ReadSome I.model self.old self.new }
         ensures kept { is_fit (current self.old) ≡ true → current self.new ≡ current self.old }
     {
         if self.is_silent() {
             let_go(error);
             return Ok(());
         }
-        let _ = self.had_line_break_before_cur();
-        self.emit_here(error)
+        match self.has_cur() {
+            Ok(_) => self.emit_here(error),
+            Err(memory) => {
+                let_go(error);
+                Err(memory)
+            }
+        }
     }
 
     /// The same aloud, where the current token is known, or none is left.
     fn emit_here(&mut self, error: Error) -> PResult<()>
         requires { IsFault error }
-        ensures errors { OnOk result ((I.state (source self.new)).errors ≡ (I.state (source self.old)).errors ++ (error_list (error_here (current self.old)) ++ error ∷ [])) }
-        ensures waiting { OnOk result ((I.state (source self.new)).waiting ≡ (I.state (source self.old)).waiting) }
-        ensures read { Read I.state I.gives self.old (error_token (current self.old)) self.new }
+        ensures errors { OnOk result ((state_of I.model self.new).errors
+            ≡ (state_of I.model self.old).errors ++ (error_list (error_here (current self.old)) ++ error ∷ [])) }
+        ensures waiting { OnOk result ((state_of I.model self.new).waiting ≡ (state_of I.model self.old).waiting) }
+        ensures read { Read I.model self.old (error_token (current self.old)) self.new }
         ensures refused { IfErr result (λ e. e ≡ no_memory (last_position self.new)) }
+        ensures lives { OnOk result (Lives I.model self.old self.new) }
         ensures kept { error_here (current self.old) ≡ None → current self.new ≡ current self.old }
     {
         match self.take_error() {
@@ -149,10 +166,12 @@ impl<I: Tokens> Buffer<I> {
     /// Records a fault of the kind at the place, as `emit_error` does.
     pub fn emit_err(&mut self, span: Span, kind: SyntaxError) -> PResult<()>
         requires { kind ≢ OutOfMemory }
-        ensures silent { is_silent (I.state (source self.old)) ≡ true → IsOk result × (self.new ≡ self.old) }
-        ensures recorded { is_silent (I.state (source self.old)) ≡ false → OnOk result (Recorded I.state I.gives self.old (record { span = span; kind = kind }) self.new) }
-        ensures refused { IfErr result (λ e. (xs : List TokenAndSpan) × Read I.state I.gives self.old xs self.new × (e ≡ no_memory (last_position self.new))) }
-        ensures read { (xs : List TokenAndSpan) × Read I.state I.gives self.old xs self.new }
+        ensures silent { is_silent (state_of I.model self.old) ≡ true → IsOk result × (self.new ≡ self.old) }
+        ensures recorded { is_silent (state_of I.model self.old) ≡ false
+            → OnOk result (Recorded I.model self.old (record { span = span; kind = kind }) self.new) }
+        ensures refused { IfErr result (λ e. (xs : List TokenAndSpan) × Read I.model self.old xs self.new
+            × (e ≡ no_memory (last_position self.new))) }
+        ensures read { ReadSome I.model self.old self.new }
         ensures kept { is_fit (current self.old) ≡ true → current self.new ≡ current self.old }
     {
         self.emit_error(Error::new(span, kind))
@@ -162,11 +181,14 @@ impl<I: Tokens> Buffer<I> {
     /// is recorded, and nothing waits, where the context ignores errors.
     pub fn emit_strict_mode_err(&mut self, span: Span, kind: SyntaxError) -> PResult<()>
         requires { kind ≢ OutOfMemory }
-        ensures read { Read I.state I.gives self.old [] self.new }
+        ensures read { Read I.model self.old [] self.new }
         ensures rest { self.new ≡ with_source (source self.new) self.old }
-        ensures silent { (I.state (source self.old)).context.ignore_error ≡ true → IsOk result × (self.new ≡ self.old) }
-        ensures recorded { (I.state (source self.old)).context.ignore_error ≡ false → OnOk result (I.state (source self.new) ≡ with_module_error (record { span = span; kind = kind }) (I.state (source self.old))) }
-        ensures refused { IfErr result (λ e. (e ≡ no_memory (last_position self.old)) × (I.state (source self.new) ≡ I.state (source self.old))) }
+        ensures silent { (state_of I.model self.old).context.ignore_error ≡ true → IsOk result × (self.new ≡ self.old) }
+        ensures recorded { (state_of I.model self.old).context.ignore_error ≡ false
+            → OnOk result (state_of I.model self.new
+            ≡ with_module_error (record { span = span; kind = kind }) (state_of I.model self.old)) }
+        ensures refused { IfErr result (λ e. (e ≡ no_memory (last_position self.old))
+            × (state_of I.model self.new ≡ state_of I.model self.old)) }
     {
         let error = Error::new(span, kind);
         if self.get_ctx().ignore_error {
@@ -179,10 +201,12 @@ impl<I: Tokens> Buffer<I> {
     /// Records a fault that is one in modules alone, or lets it wait.
     fn record_for_modules(&mut self, error: Error) -> PResult<()>
         requires { IsFault error }
-        ensures read { Read I.state I.gives self.old [] self.new }
+        ensures read { Read I.model self.old [] self.new }
         ensures rest { self.new ≡ with_source (source self.new) self.old }
-        ensures recorded { OnOk result (I.state (source self.new) ≡ with_module_error error (I.state (source self.old))) }
-        ensures refused { IfErr result (λ e. (e ≡ no_memory (last_position self.old)) × (I.state (source self.new) ≡ I.state (source self.old))) }
+        ensures recorded { OnOk result (state_of I.model self.new
+            ≡ with_module_error error (state_of I.model self.old)) }
+        ensures refused { IfErr result (λ e. (e ≡ no_memory (last_position self.old))
+            × (state_of I.model self.new ≡ state_of I.model self.old)) }
     {
         match self.iter.add_module_mode_error(error) {
             Ok(()) => Ok(()),
@@ -193,7 +217,7 @@ impl<I: Tokens> Buffer<I> {
     /// A refusal of the kind at the place, unless an error token is current: that is consumed, and
     /// its error is the refusal. Where the source has failed, it is want of memory.
     pub fn syntax_error(&mut self, span: Span, kind: SyntaxError) -> Error
-        ensures { Refused I.state I.gives self.old (λ here. record { span = span; kind = kind }) result self.new }
+        ensures { Refused I.model self.old (λ here. record { span = span; kind = kind }) result self.new }
     {
         let _ = self.had_line_break_before_cur();
         self.refuse(Error::new(span, kind))
@@ -203,7 +227,7 @@ impl<I: Tokens> Buffer<I> {
     /// the token consumed last ends. An error token and a failed source are refused as by
     /// `syntax_error`.
     pub fn unexpected(&mut self, kind: SyntaxError) -> Error
-        ensures { Refused I.state I.gives self.old (λ here. unfit (current here) (last_position here) kind) result self.new }
+        ensures { Refused I.model self.old (λ here. unfit (current here) (last_position here) kind) result self.new }
     {
         let _ = self.had_line_break_before_cur();
         let error = self.unfit(kind);
@@ -212,8 +236,10 @@ impl<I: Tokens> Buffer<I> {
 
     /// Asks that a token is current. The end is refused as `Eof`, and an error token as its error, which is consumed.
     pub fn require_cur(&mut self) -> PResult<()>
-        ensures found { OnOk result (Looked I.state I.gives self.old self.new × IsSome (current self.new) × (error_here (current self.new) ≡ None)) }
-        ensures refused { IfErr result (λ e. (r : Refused I.state I.gives self.old (λ here. unfit (current here) (last_position here) Eof) e self.new) × (is_fit (current r.here) ≡ false)) }
+        ensures found { OnOk result (Looked I.model self.old self.new × IsSome (current self.new)
+            × (error_here (current self.new) ≡ None)) }
+        ensures refused { IfErr result (λ e. (r : Refused I.model self.old
+            (λ here. unfit (current here) (last_position here) Eof) e self.new) × (is_fit (current r.here) ≡ false)) }
     {
         let _ = self.had_line_break_before_cur();
         if self.knows_cur() && !self.is_error() {
@@ -239,8 +265,10 @@ impl<I: Tokens> Buffer<I> {
 
     /// The refusal in place of this one, where the current token is known, or none is left.
     fn refuse(&mut self, error: Error) -> Error
-        ensures answer { result ≡ refusal (current self.old) (I.state (source self.old)).failed (last_position self.old) error }
-        ensures read { Read I.state I.gives self.old (error_token (current self.old)) self.new }
+        ensures answer { result
+            ≡ refusal (current self.old) (state_of I.model self.old).failed (last_position self.old) error }
+        ensures read { Read I.model self.old (error_token (current self.old)) self.new }
+        ensures lives { Lives I.model self.old self.new }
     {
         if !self.knows_cur() && self.failed() {
             let_go(error);

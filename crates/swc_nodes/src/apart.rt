@@ -1,4 +1,5 @@
-// Going over the parts of nodes, in their order: which number is reached first, whether parts lie apart, and which parts there are.
+// Going over the parts of nodes, in their order: which number is reached first, whether parts lie apart, and which
+// parts there are.
 ghost use Rattle.std.specs.Prelude.{◌≡◌, ◌<◌, ◌++◌, true, fold, map, IfOk};
 ghost use Rattle.swc_nodes.specs.Slots.{slots, flat, if_some, one_expr, one_pat, item_parts, key_parts, member_parts};
 ghost use Rattle.swc_nodes.specs.Slots.{super_parts, callee_parts, base_parts, body_parts, param_parts, prop_parts};
@@ -522,7 +523,8 @@ fn walk_operation<W: Walk, F, C, K>(
     }
 }
 
-/// Puts the operands of an operation behind those of a list, or the parts of a pattern that is a plain one with something before or behind it.
+/// Puts the operands of an operation behind those of a list, or the parts of a pattern that is a plain one with
+/// something before or behind it.
 fn list_operation<F, C, K>(node: &Node<F, C, K>, list: &mut Vec<PartId>) -> Result<(), AllocError>
     requires { is_operation node.now ≡ true }
     ensures { IfOk result (λ _. map part_of list.new.items ≡ map part_of list.old.items ++ slots node.now) }

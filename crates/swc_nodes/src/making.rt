@@ -45,7 +45,8 @@ impl<F: Spanned + Drop, C: Spanned + Drop, K: Spanned + Drop> Nodes<F, C, K> {
     /// `#` and a name (ECMA-262, 13.10.1), from the `#` on.
     pub fn private_name(&mut self, start: BytePos, name: IdentName) -> Result<ExprId, AllocError>
         ensures grows { Grows self.old self.new }
-        ensures made { IfOk result (λ id. Made (count self.old) self.new (expr_part id) (trees.private_e (between start name.span.hi) name.sym)) }
+        ensures made { IfOk result (λ id. Made (count self.old) self.new (expr_part id)
+            (trees.private_e (between start name.span.hi) name.sym)) }
     {
         let span = Span::new(start, name.span.hi);
         let name = name.sym;
@@ -69,7 +70,8 @@ impl<F: Spanned + Drop, C: Spanned + Drop, K: Spanned + Drop> Nodes<F, C, K> {
     ) -> Result<ExprId, AllocError>
         requires { From 0 self.old (expr_part expr) }
         ensures grows { Grows self.old self.new }
-        ensures made { IfOk result (λ id. Made (first_at self.old expr.0) self.new (expr_part id) (trees.paren_e (between start end) (tree_at self.old expr.0))) }
+        ensures made { IfOk result (λ id. Made (first_at self.old expr.0) self.new (expr_part id)
+            (trees.paren_e (between start end) (tree_at self.old expr.0))) }
     {
         let span = Span::new(start, end);
         Ok(ExprId(self.push(Node::Paren(ParenExpr { span, expr }))?))
@@ -79,7 +81,8 @@ impl<F: Spanned + Drop, C: Spanned + Drop, K: Spanned + Drop> Nodes<F, C, K> {
     pub fn unary(&mut self, start: BytePos, op: UnaryOp, arg: ExprId) -> Result<ExprId, AllocError>
         requires { From 0 self.old (expr_part arg) }
         ensures grows { Grows self.old self.new }
-        ensures made { IfOk result (λ id. Made (first_at self.old arg.0) self.new (expr_part id) (trees.unary_e (between start (span_of (tree_at self.old arg.0)).hi) op (tree_at self.old arg.0))) }
+        ensures made { IfOk result (λ id. Made (first_at self.old arg.0) self.new (expr_part id)
+            (trees.unary_e (between start (span_of (tree_at self.old arg.0)).hi) op (tree_at self.old arg.0))) }
     {
         let span = Span::new(start, self.span(arg).hi);
         Ok(ExprId(self.push(Node::Unary { span, op, arg })?))
@@ -92,7 +95,10 @@ impl<F: Spanned + Drop, C: Spanned + Drop, K: Spanned + Drop> Nodes<F, C, K> {
         requires left { From 0 self.old (expr_part left) }
         requires right { From (left.0 + 1) self.old (expr_part right) }
         ensures grows { Grows self.old self.new }
-        ensures made { IfOk result (λ id. Made (first_at self.old left.0) self.new (expr_part id) (trees.bin_e (trees.to (span_of (tree_at self.old left.0)) (span_of (tree_at self.old right.0))) op (tree_at self.old left.0) (tree_at self.old right.0))) }
+        ensures made { IfOk result
+            (λ id. Made (first_at self.old left.0) self.new (expr_part id)
+            (trees.bin_e (trees.to (span_of (tree_at self.old left.0)) (span_of (tree_at self.old right.0))) op
+            (tree_at self.old left.0) (tree_at self.old right.0))) }
     {
         let span = Span::new(self.span(left).lo, self.span(right).hi);
         Ok(ExprId(self.push(Node::Bin {

@@ -1,10 +1,11 @@
 -- The numbers of nodes, among pieces of text and among the parts of a node.
-use Rattle.std.specs.Prelude.{ℕ, Bool, true, false, List, [], ◌∷◌, ◌++◌, length, take}
+use Rattle.std.specs.Prelude.{◌≡◌, ℕ, Bool, true, false, List, [], ◌∷◌, ◌++◌, Result, OnOk, length, take}
 use Rattle.swc_ast.specs.declared.expr.Tpl.{Tpl}
 use Rattle.swc_nodes.specs.declared.node.ExprId.{ExprId}
 use Rattle.swc_nodes.specs.Slots.{Part, slots, one_expr, flat}
 use Rattle.swc_nodes.specs.declared.node.Node.{Node}
 use Rattle.swc_nodes.specs.declared.node.Node.TheVariants as n
+use Rattle.swc_print.specs.declared.pieces.Pieces.{Pieces}
 use Rattle.swc_print.specs.declared.pieces.Piece.{Piece}
 use Rattle.swc_print.specs.declared.pieces.Piece.TheVariants as piece
 
@@ -46,3 +47,7 @@ is_operation (n.PatRest s d p) = true
 is_operation (n.PatAssign s l r) = true
 is_operation (n.PatExpr e) = true
 is_operation x = is_infix x
+
+-- The numbers of the parts, in their order, were laid behind the pieces that wait.
+abbrev pub Lays : {T E : Type 0} → List Part → Pieces → Result T E → Pieces → Type 0
+Lays ps old r new = OnOk r (numbers new.waiting.items ≡ numbers old.waiting.items ++ ats ps)

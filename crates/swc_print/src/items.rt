@@ -1,7 +1,8 @@
 // What stands in lists: the items of arrays and arguments, parameters and properties.
 ghost use Rattle.std.specs.Prelude.{◌≡◌, ◌++◌, ◌∷◌, [], OnOk};
-ghost use Rattle.swc_nodes.specs.Slots.{one_expr, one_pat, if_some, item_parts, param_parts, prop_parts, pat_prop_parts, key_parts, flat};
-ghost use Rattle.swc_print.specs.Numbers.{numbers, ats};
+ghost use Rattle.swc_nodes.specs.Slots.{one_expr, one_pat, if_some, item_parts, param_parts, prop_parts};
+ghost use Rattle.swc_nodes.specs.Slots.{pat_prop_parts, key_parts, flat};
+ghost use Rattle.swc_print.specs.Numbers.{Lays, numbers, ats};
 
 use crate::pieces::{
     Piece, Pieces, put_after, put_computed, put_in, put_kept_last, put_part, put_text,
@@ -23,7 +24,7 @@ pub trait Item {
 
     /// Appends the pieces of its text.
     fn put<'a>(&'a self, pieces: &mut Pieces<'a>) -> Result<(), AllocError>
-        ensures { OnOk result (numbers pieces.new.waiting.items ≡ numbers pieces.old.waiting.items ++ ats (parts self.now)) };
+        ensures { Lays (parts self.now) pieces.old result pieces.new };
 }
 
 /// Appends the pieces of a list, with a comma between each two items.
@@ -33,7 +34,7 @@ pub fn put_list<'a, T: Item>(
     items: &'a [T],
     close: &'a str,
 ) -> Result<(), AllocError>
-    ensures { OnOk result (numbers pieces.new.waiting.items ≡ numbers pieces.old.waiting.items ++ ats (flat T.parts items.now)) }
+    ensures { Lays (flat T.parts items.now) pieces.old result pieces.new }
 {
     put_text(pieces, open)?;
     for (i, item) in items.iter().enumerate() {
@@ -144,7 +145,7 @@ fn put_default<'a>(pieces: &mut Pieces<'a>, name: &'a str, value: usize) -> Resu
 }
 
 fn put_key<'a>(pieces: &mut Pieces<'a>, key: &'a PropName<ExprId>) -> Result<(), AllocError>
-    ensures { OnOk result (numbers pieces.new.waiting.items ≡ numbers pieces.old.waiting.items ++ ats (key_parts key.now)) }
+    ensures { Lays (key_parts key.now) pieces.old result pieces.new }
 {
     match key {
         PropName::Ident(i) => put_text(pieces, i.sym.as_str()),
@@ -160,7 +161,8 @@ fn put_key_value<'a>(
     key: &'a PropName<ExprId>,
     value: usize,
 ) -> Result<(), AllocError>
-    ensures { OnOk result (numbers pieces.new.waiting.items ≡ (numbers pieces.old.waiting.items ++ ats (key_parts key.now)) ++ value ∷ []) }
+    ensures { OnOk result (numbers pieces.new.waiting.items
+        ≡ (numbers pieces.old.waiting.items ++ ats (key_parts key.now)) ++ value ∷ []) }
 {
     put_key(pieces, key)?;
     put_after(pieces, ": ", value)
@@ -171,7 +173,7 @@ fn put_method<'a, K: Kept>(
     key: &'a PropName<ExprId>,
     function: &'a Function<PatId, K>,
 ) -> Result<(), AllocError>
-    ensures { OnOk result (numbers pieces.new.waiting.items ≡ numbers pieces.old.waiting.items ++ ats (key_parts key.now ++ flat param_parts function.now.params.items)) }
+    ensures { Lays (key_parts key.now ++ flat param_parts function.now.params.items) pieces.old result pieces.new }
 {
     put_text(
         pieces,

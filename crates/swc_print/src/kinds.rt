@@ -1,7 +1,7 @@
 // The pieces of the text of a node, by its kind.
 ghost use Rattle.std.specs.Prelude.{◌≡◌, ◌++◌, ◌∷◌, [], true, OnOk};
 ghost use Rattle.swc_nodes.specs.Slots.{target_part};
-ghost use Rattle.swc_print.specs.Numbers.{numbers, ats, shown, is_operation, is_infix};
+ghost use Rattle.swc_print.specs.Numbers.{Lays, numbers, shown, is_operation, is_infix};
 
 use crate::items::put_list;
 use crate::links::{
@@ -20,7 +20,7 @@ pub fn put_node<'a, F: Kept, C: Kept, K: Kept>(
     pieces: &mut Pieces<'a>,
     node: &'a Node<F, C, K>,
 ) -> Result<(), AllocError>
-    ensures { OnOk result (numbers pieces.new.waiting.items ≡ numbers pieces.old.waiting.items ++ ats (shown node.now)) }
+    ensures { Lays (shown node.now) pieces.old result pieces.new }
 {
     match node {
         Node::Array { elems, .. } => put_list(pieces, "Array[", elems, "]"),
@@ -92,7 +92,7 @@ fn put_operation<'a, F, C, K>(
     node: &'a Node<F, C, K>,
 ) -> Result<(), AllocError>
     requires { is_operation node.now ≡ true }
-    ensures { OnOk result (numbers pieces.new.waiting.items ≡ numbers pieces.old.waiting.items ++ ats (shown node.now)) }
+    ensures { Lays (shown node.now) pieces.old result pieces.new }
 {
     match node {
         Node::Unary { op, arg, .. } => put_operator(pieces, "Unary(", op.as_str(), arg.0),
@@ -120,7 +120,7 @@ fn put_infix<'a, F, C, K>(
     node: &'a Node<F, C, K>,
 ) -> Result<(), AllocError>
     requires { is_infix node.now ≡ true }
-    ensures { OnOk result (numbers pieces.new.waiting.items ≡ numbers pieces.old.waiting.items ++ ats (shown node.now)) }
+    ensures { Lays (shown node.now) pieces.old result pieces.new }
 {
     match node {
         Node::Bin {

@@ -1,7 +1,8 @@
 // The pieces of members, calls, templates, arrow functions and `yield`.
-ghost use Rattle.std.specs.Prelude.{◌≡◌, ◌++◌, ◌∷◌, [], OnOk, slice_get};
-ghost use Rattle.swc_nodes.specs.Slots.{one_expr, one_pat, if_some, flat, item_parts, args_parts, member_parts, super_parts, callee_parts, base_parts, body_parts};
-ghost use Rattle.swc_print.specs.Numbers.{numbers, ats, tpl_shown};
+ghost use Rattle.std.specs.Prelude.{◌++◌, slice_get};
+ghost use Rattle.swc_nodes.specs.Slots.{one_expr, one_pat, if_some, flat, item_parts, args_parts, member_parts};
+ghost use Rattle.swc_nodes.specs.Slots.{super_parts, callee_parts, base_parts, body_parts};
+ghost use Rattle.swc_print.specs.Numbers.{Lays, tpl_shown};
 
 use crate::items::put_list;
 use crate::pieces::{Pieces, put_after, put_computed, put_in, put_kept_last, put_named, put_text};
@@ -18,7 +19,7 @@ pub fn put_member<'a>(
     pieces: &mut Pieces<'a>,
     member: &'a MemberExpr<ExprId>,
 ) -> Result<(), AllocError>
-    ensures { OnOk result (numbers pieces.new.waiting.items ≡ numbers pieces.old.waiting.items ++ ats (one_expr member.now.obj ++ member_parts member.now.prop)) }
+    ensures { Lays (one_expr member.now.obj ++ member_parts member.now.prop) pieces.old result pieces.new }
 {
     put_after(pieces, "Member(", member.obj.0)?;
     match &member.prop {
@@ -34,7 +35,7 @@ pub fn put_super_prop<'a>(
     pieces: &mut Pieces<'a>,
     super_prop: &'a SuperPropExpr<ExprId>,
 ) -> Result<(), AllocError>
-    ensures { OnOk result (numbers pieces.new.waiting.items ≡ numbers pieces.old.waiting.items ++ ats (super_parts super_prop.now.prop)) }
+    ensures { Lays (super_parts super_prop.now.prop) pieces.old result pieces.new }
 {
     put_text(pieces, "SuperProp(")?;
     match &super_prop.prop {
@@ -45,13 +46,13 @@ pub fn put_super_prop<'a>(
 }
 
 fn put_args<'a>(pieces: &mut Pieces<'a>, args: &'a [ExprOrSpread<ExprId>]) -> Result<(), AllocError>
-    ensures { OnOk result (numbers pieces.new.waiting.items ≡ numbers pieces.old.waiting.items ++ ats (flat item_parts args.now)) }
+    ensures { Lays (flat item_parts args.now) pieces.old result pieces.new }
 {
     put_list(pieces, ", [", args, "])")
 }
 
 fn put_callee<'a>(pieces: &mut Pieces<'a>, callee: &Callee<ExprId>) -> Result<(), AllocError>
-    ensures { OnOk result (numbers pieces.new.waiting.items ≡ numbers pieces.old.waiting.items ++ ats (callee_parts callee.now)) }
+    ensures { Lays (callee_parts callee.now) pieces.old result pieces.new }
 {
     match callee {
         Callee::Super(_) => put_text(pieces, "Call(super"),
@@ -66,7 +67,7 @@ pub fn put_call<'a>(
     callee: &Callee<ExprId>,
     args: &'a [ExprOrSpread<ExprId>],
 ) -> Result<(), AllocError>
-    ensures { OnOk result (numbers pieces.new.waiting.items ≡ numbers pieces.old.waiting.items ++ ats (callee_parts callee.now ++ flat item_parts args.now)) }
+    ensures { Lays (callee_parts callee.now ++ flat item_parts args.now) pieces.old result pieces.new }
 {
     put_callee(pieces, callee)?;
     put_args(pieces, args)
@@ -78,7 +79,7 @@ pub fn put_new<'a>(
     callee: ExprId,
     args: &'a Option<Vec<ExprOrSpread<ExprId>>>,
 ) -> Result<(), AllocError>
-    ensures { OnOk result (numbers pieces.new.waiting.items ≡ numbers pieces.old.waiting.items ++ ats (one_expr callee ++ if_some args_parts args.now)) }
+    ensures { Lays (one_expr callee ++ if_some args_parts args.now) pieces.old result pieces.new }
 {
     put_after(pieces, "New(", callee.0)?;
     match args {
@@ -93,7 +94,7 @@ pub fn put_chain<'a>(
     optional: bool,
     base: &'a OptChainBase<ExprId>,
 ) -> Result<(), AllocError>
-    ensures { OnOk result (numbers pieces.new.waiting.items ≡ numbers pieces.old.waiting.items ++ ats (base_parts base.now)) }
+    ensures { Lays (base_parts base.now) pieces.old result pieces.new }
 {
     put_text(
         pieces,
@@ -115,7 +116,7 @@ pub fn put_chain<'a>(
 
 /// Appends the pieces of a template: its texts, and an expression behind each of them as far as there are any.
 pub fn put_tpl<'a>(pieces: &mut Pieces<'a>, tpl: &'a Tpl<ExprId>) -> Result<(), AllocError>
-    ensures { OnOk result (numbers pieces.new.waiting.items ≡ numbers pieces.old.waiting.items ++ ats (tpl_shown tpl.now)) }
+    ensures { Lays (tpl_shown tpl.now) pieces.old result pieces.new }
 {
     put_text(pieces, "Tpl(")?;
     for (i, quasi) in tpl.quasis.iter().enumerate() {
@@ -127,7 +128,7 @@ pub fn put_tpl<'a>(pieces: &mut Pieces<'a>, tpl: &'a Tpl<ExprId>) -> Result<(), 
 }
 
 fn put_nth<'a>(pieces: &mut Pieces<'a>, exprs: &[ExprId], index: usize) -> Result<(), AllocError>
-    ensures { OnOk result (numbers pieces.new.waiting.items ≡ numbers pieces.old.waiting.items ++ ats (if_some one_expr (slice_get exprs.now index))) }
+    ensures { Lays (if_some one_expr (slice_get exprs.now index)) pieces.old result pieces.new }
 {
     match exprs.get(index) {
         None => Ok(()),
@@ -141,7 +142,7 @@ pub fn put_tagged<'a>(
     tag: ExprId,
     tpl: &'a Tpl<ExprId>,
 ) -> Result<(), AllocError>
-    ensures { OnOk result (numbers pieces.new.waiting.items ≡ numbers pieces.old.waiting.items ++ ats (one_expr tag ++ tpl_shown tpl.now)) }
+    ensures { Lays (one_expr tag ++ tpl_shown tpl.now) pieces.old result pieces.new }
 {
     put_after(pieces, "Tagged(", tag.0)?;
     put_text(pieces, ", ")?;
@@ -156,7 +157,7 @@ pub fn put_arrow<'a, K: Kept>(
     body: &BlockStmtOrExpr<ExprId, K>,
     is_async: bool,
 ) -> Result<(), AllocError>
-    ensures { OnOk result (numbers pieces.new.waiting.items ≡ numbers pieces.old.waiting.items ++ ats (flat one_pat params.now ++ body_parts body.now)) }
+    ensures { Lays (flat one_pat params.now ++ body_parts body.now) pieces.old result pieces.new }
 {
     let open = if is_async { "AsyncArrow([" } else { "Arrow([" };
     put_list(pieces, open, params, "], ")?;
@@ -167,7 +168,7 @@ fn put_body<'a, K: Kept>(
     pieces: &mut Pieces<'a>,
     body: &BlockStmtOrExpr<ExprId, K>,
 ) -> Result<(), AllocError>
-    ensures { OnOk result (numbers pieces.new.waiting.items ≡ numbers pieces.old.waiting.items ++ ats (body_parts body.now)) }
+    ensures { Lays (body_parts body.now) pieces.old result pieces.new }
 {
     match body {
         BlockStmtOrExpr::BlockStmt(k) => put_kept_last(pieces, "", k.kept()),
@@ -181,7 +182,7 @@ pub fn put_yield<'a>(
     arg: &Option<ExprId>,
     delegate: bool,
 ) -> Result<(), AllocError>
-    ensures { OnOk result (numbers pieces.new.waiting.items ≡ numbers pieces.old.waiting.items ++ ats (if_some one_expr arg.now)) }
+    ensures { Lays (if_some one_expr arg.now) pieces.old result pieces.new }
 {
     let open = if delegate { "YieldStar(" } else { "Yield(" };
     match arg {

@@ -27,7 +27,8 @@ pub struct Pieces<'a> {
 
 /// Appends a piece that is a node, or begins with one.
 pub fn put_part<'a>(pieces: &mut Pieces<'a>, part: Piece<'a>) -> Result<(), AllocError>
-    ensures { OnOk result (numbers pieces.new.waiting.items ≡ numbers pieces.old.waiting.items ++ numbers (part.entry ∷ [])) }
+    ensures { OnOk result (numbers pieces.new.waiting.items ≡ numbers pieces.old.waiting.items
+        ++ numbers (part.entry ∷ [])) }
 {
     pieces.waiting.push(part)?;
     Ok(())

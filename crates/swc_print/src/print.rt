@@ -122,7 +122,8 @@ fn next_node(stack: &mut Vec<Piece>, out: &mut String) -> Result<Option<usize>, 
 
 /// Moves pieces onto the stack, the first of them to its top.
 fn move_onto<'a>(stack: &mut Vec<Piece<'a>>, pieces: &mut Vec<Piece<'a>>) -> Result<(), AllocError>
-    ensures moved { OnOk result (numbers stack.new.items ≡ numbers stack.old.items ++ reverse (numbers pieces.old.items)) }
+    ensures moved { OnOk result (numbers stack.new.items ≡ numbers stack.old.items
+        ++ reverse (numbers pieces.old.items)) }
     ensures none { OnOk result (numbers pieces.new.items ≡ []) }
 {
     while let Some(piece) = pieces.pop() {

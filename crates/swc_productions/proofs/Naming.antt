@@ -1,5 +1,5 @@
 -- The calls on names: what they answer is what the clean readers of names read.
-use Rattle.std.proofs.Common.{◌≡◌, ◌≢◌, ◌≤◌, ◌<◌, ℕ, Bool, true, false, ◌||◌, not, ◌&&◌, if◌then◌else◌, List, [], ◌∷◌, ◌++◌, Option, Some, None, Result, Ok, Err, OnOk, length, refl, sym, ap, subst, ◌∙◌, arith, length-append, codes}
+use Rattle.std.proofs.Common.{IsSome, ◌≡◌, ◌≢◌, ◌≤◌, ◌<◌, ℕ, Bool, true, false, ◌||◌, not, ◌&&◌, if◌then◌else◌, List, [], ◌∷◌, ◌++◌, Option, Some, None, Result, Ok, Err, OnOk, length, refl, sym, ap, subst, ◌∙◌, arith, length-append, codes}
 use Rattle.swc_context.specs.Reserved.{strict_names}
 use Rattle.swc_context.specs.Texts.{is_text, is_one_of}
 use Rattle.swc_context.specs.Words.{word_text}
@@ -16,19 +16,19 @@ use Rattle.swc_input.specs.declared.token.Token.{Token}
 use Rattle.swc_input.specs.declared.token.Token.TheVariants as token
 use Rattle.swc_input.specs.declared.token.TokenAndSpan.{TokenAndSpan}
 use Rattle.swc_input.specs.Plain.{plain_token}
-use Rattle.swc_input.specs.Source.{Source, recorded_in}
-use Rattle.swc_input.specs.Buffer.{Read, Looked, current, source, left, context}
-use Rattle.swc_input.specs.Laws.{Read-same, Recorded-read}
-use Rattle.swc_input.specs.Recording.{is_fit, is_silent, error_list, error_here, Recorded}
-use Rattle.swc_input.proofs.Refusals.{Refused-kind}
+use Rattle.swc_input.specs.Source.{Model, Laws, recorded_in}
+use Rattle.swc_input.specs.Buffer.{Read, Lives, Looked, current, source, to_come, context}
+use Rattle.swc_input.specs.Laws.{held_some, Looked-served, Read-same, Recorded-read}
+use Rattle.swc_input.specs.Recording.{is_fit, is_silent, error_list, error_here, Recorded, Refused}
 use Rattle.swc_input.specs.Kinds.{at_token}
-use Rattle.swc_grammar.specs.Names.{Spelling, spelling}
+use Rattle.swc_grammar.specs.Names.{Spelling, spelling, spelled}
 use Rattle.swc_grammar.specs.Tokens.{is_reference, is_put_off, ref_ok}
-use Rattle.swc_grammar.specs.Clean.{Out, first, rest, is_identifier, no_error, one, spelled, word_by, word}
-use Rattle.swc_ident.specs.Naming.{Judges, fault_at, place_here, Notes, none-noted, now-silent, now-recorded, later-ignored, later-noted, Spoken, Named, Unnamed, no_memory, not_fit, no_word, refused_word, Names}
+use Rattle.swc_grammar.specs.Clean.{Out, first, is_identifier, no_error}
+use Rattle.swc_grammar.specs.Words.{rest, one, word_by, word}
+use Rattle.swc_ident.specs.Naming.{Judges, fault_at, place_here, Notes, none-noted, now-silent, now-recorded, later-ignored, later-noted, Passed, Spoken, Named, Unnamed, no_memory, not_fit, no_word, refused_word, Names}
 use Rattle.swc_ident.specs.Verdicts.{Fault, Verdict, now, in_modules, is_word, taken, taken_with, unless, name_of_any, ident_verdict, reference_verdict, binding_verdict, binding_faults, and_then}
-use Rattle.swc_productions.specs.Parsing.{seen, seen_of, recorded, Laws, Leads, Here, On, Heard, Unheard, Parses}
-use Rattle.swc_productions.proofs.Steps.{Reader, here, parses_after, on_took, leads_then, refuses_later, refused, required, on_seen, on_then, heard_after, heard_first, unheard_after, unheard_at, unheard_memory, unheard_unfit, lower, on_looked}
+use Rattle.swc_productions.specs.Parsing.{seen, seen_of, recorded, Leads, Here, On, Heard, Unheard, Parses}
+use Rattle.swc_productions.proofs.Steps.{Reader, here, parses_after, on_took, leads_then, refuses_later, refused, required, on_seen, on_then, heard_after, heard_first, unheard_after, unheard_at, unheard_memory, unheard_unfit, lower, on_looked, looked_again}
 use Rattle.swc_productions.proofs.Words.{none_counts, is_taken, is_clean, reference-table}
 
 -- a call never refuses a word as the parser's own failure
@@ -78,6 +78,10 @@ error_spelled ok t s us h = cc
 error_first : (ok : Context → Word → Bool) (c : Context) (o : Option TokenAndSpan) (us : List TokenAndSpan) → at_token no_error o ≡ false → word_by ok c o us ≡ None
 error_first ok c None us h = refl
 error_first ok c (Some t) us h = error_spelled (ok c) t.token t.span us h
+
+is_there : (o : Option TokenAndSpan) → o ≢ None → IsSome o
+is_there None h = absurd (h refl)
+is_there (Some t) h = refl
 
 fit_some : (o : Option TokenAndSpan) → is_fit o ≡ true → o ≢ None
 fit_some None h e = cc
@@ -157,161 +161,174 @@ pub ref_same : (x : Context) (ts : List TokenAndSpan) → at_token (is_identifie
 unfolding word
 ref_same x ts h = ref_at x (first ts) (rest ts) h
 
-module _ {S : Type 0} {state : S → Source} {gives : S → List TokenAndSpan → S → Type 0} where
+module _ {S : Type 0} {model : Model S} where
   -- ---- looks, and faults
 
   -- a look at what is known changes nothing
-  pub here_same : {b : Buffer S} → Laws state gives → current b ≢ None → Here state gives b b
+  pub here_same : {b : Buffer S} → Laws model → current b ≢ None → Here model b b
   here_same {b} laws some = record {
     laws = laws;
     looked = record {
-      look = record { read = Read-same state gives laws.none b; previous = refl; quiet = λ m h. (refl, refl) };
+      look = record { read = Read-same laws b; previous = refl; quiet = λ m h. (refl, refl) };
       same = λ t h. refl;
+      lives = λ s f. f;
       end = λ e. absurd (some e);
     };
+    served = record { before = λ f. (f, held_some b (is_there b.cur some)) };
     end = λ e. absurd (some e);
   }
 
-  here_at : {b c : Buffer S} → Laws state gives → Looked state gives b c → current c ≢ None → Here state gives b c
-  here_at laws l some = record { laws = laws; looked = l; end = λ e. absurd (some e) }
+  pub here_at : {b c : Buffer S} → Laws model → Looked model b c → current c ≢ None → Here model b c
+  here_at {c = c} laws l some = record { laws = laws; looked = l; served = Looked-served laws l (is_there c.cur some); end = λ e. absurd (some e) }
 
+module _ {S : Type 0} {model : Model S} {sure : Bool} where
   -- a fault that waits changes nothing
-  on_waiting : {A : Type 0} {f : Reader A} {b c : Buffer S} → Laws state gives → Read state gives b [] c → recorded state c ≡ recorded state b → On state gives f f b c
-  on_waiting {f = f} laws r same = record {
-    leads = record { laws = laws; taken = []; read = r };
+  on_waiting : {A : Type 0} {f : Reader A} {b c : Buffer S} → Laws model → Read model b [] c → Lives model b c → recorded model c ≡ recorded model b → On model sure f f b c
+  on_waiting {f = f} laws r lives same = record {
+    leads = record { laws = laws; taken = []; read = r; lives = lives };
     clean = λ e s ys fut. ap (λ x. f x ys) (sym r.context);
-    faulty = λ e lt ts k. absurd (omega (arith, lt, same));
+    faulty = λ y e lt ts k. absurd (omega (arith, lt, same));
   }
 
   -- where a fault was recorded, f reads nothing
-  on_fault : {A : Type 0} {f g : Reader A} {b c : Buffer S} → Leads state gives b c → recorded state b < recorded state c → ((ts : List TokenAndSpan) → f (context state b) ts ≡ None) → On state gives f g b c
+  on_fault : {A : Type 0} {f g : Reader A} {b c : Buffer S} → Leads model b c → recorded model b < recorded model c → ((ts : List TokenAndSpan) → f (context model b) ts ≡ None) → On model sure f g b c
   on_fault p more none = record {
     leads = p;
     clean = λ e s ys fut. absurd (omega (arith, s, more));
-    faulty = λ e lt ts k. none ts;
+    faulty = λ y e lt ts k. none ts;
   }
 
-  on_silent : {A : Type 0} {f g : Reader A} {b c : Buffer S} → Leads state gives b c → is_silent (state (source b)) ≡ true → On state gives f g b c
-  on_silent p h = record { leads = p; clean = λ e. absurd cc; faulty = λ e. absurd cc }
+  on_silent : {A : Type 0} {f g : Reader A} {b c : Buffer S} → Leads model b c → is_silent (model.state (source b)) ≡ true → On model sure f g b c
+  on_silent p h = record { leads = p; clean = λ e. absurd cc; faulty = λ y e. absurd cc }
 
+module _ {S : Type 0} {model : Model S} where
   -- faults are only added
-  no_fewer : {b c : Buffer S} → Leads state gives b c → recorded state b ≤ recorded state c
-  no_fewer {b} {c} p = let h = p.read.errors in let all = ap length h.added in let sum = length-append (state b.iter).errors h.more in omega arith
+  no_fewer : {b c : Buffer S} {xs : List TokenAndSpan} → Read model b xs c → recorded model b ≤ recorded model c
+  no_fewer {b} {c} p = let h = p.errors in let all = ap length h.added in let sum = length-append (model.state b.iter).errors h.more in omega arith
 
-  recorded_leads : {b c : Buffer S} {e : Error} → Laws state gives → Recorded state gives b e c → Leads state gives b c
-  recorded_leads {b} {c} {e} laws r = let x = Recorded-read state gives laws.joins b c e r in record { laws = laws; taken = x.0; read = x.1 }
+  pub was_there : {b c : Buffer S} {t : Token} {at : Span} → (s : Passed model b t at c) → IsSome (current s.here)
+  was_there s = subst IsSome (sym s.took.current) refl
 
-  more_errors : {b c : Buffer S} {e : Error} → Laws state gives → Recorded state gives b e c → recorded state b < recorded state c
+  -- what is refused after a look is refused where it was looked
+  pub refused_here : {b c : Buffer S} {f : Buffer S → Error} {e : Error} → Laws model → (r : Refused model b f e c) → Refused model r.here f e c
+  refused_here laws r = record { here = r.here; looked = looked_again laws r.looked; read = r.read; lives = r.lives; answer = r.answer }
+
+  spoken_here : {b c : Buffer S} {w : Word} {at : Span} → Laws model → (s : Spoken model b w at c) → Here model b s.here
+  spoken_here laws s = here_at laws s.looked (λ e. let found = s.took.current in cc)
+
+  spoken_context : {b c : Buffer S} {w : Word} {at : Span} → Spoken model b w at c → context model c ≡ context model b
+  spoken_context s = s.took.read.context ∙ s.looked.look.read.context
+
+  recorded_leads : {b c : Buffer S} {e : Error} → Laws model → Recorded model b e c → Leads model b c
+  recorded_leads {b} {c} {e} laws r = let x = Recorded-read laws b c e r in record { laws = laws; taken = x.0; read = x.1; lives = r.lives }
+
+  more_errors : {b c : Buffer S} {e : Error} → Laws model → Recorded model b e c → recorded model b < recorded model c
   more_errors {b} {c} {e} laws r =
-      let looked = no_fewer (record { laws = laws; taken = []; read = r.looked.look.read }) in
+      let looked = no_fewer r.looked.look.read in
       let all = ap length r.errors in
-      let one = length-append (state (source r.here)).errors (error_list (error_here (current r.here)) ++ e ∷ []) in
+      let one = length-append (model.state (source r.here)).errors (error_list (error_here (current r.here)) ++ e ∷ []) in
       let two = length-append (error_list (error_here (current r.here))) (e ∷ []) in
       omega arith
 
-  notes_leads : {at : Span} {fs : List Fault} {b c : Buffer S} → Laws state gives → Notes state gives at fs b c → Leads state gives b c
+  notes_leads : {at : Span} {fs : List Fault} {b c : Buffer S} → Laws model → Notes model at fs b c → Leads model b c
   notes_leads {b = b} laws none-noted = here laws b
   notes_leads laws (now-silent h m) = notes_leads laws m
   notes_leads laws (now-recorded h r m) = leads_then (recorded_leads laws r) (notes_leads laws m)
   notes_leads laws (later-ignored h m) = notes_leads laws m
-  notes_leads laws (later-noted h back s r m) = leads_then (record { laws = laws; taken = []; read = r }) (notes_leads laws m)
+  notes_leads laws (later-noted h back s r m) = leads_then (record { laws = laws; taken = []; read = r; lives = λ f. ap (λ x. x.failed) (sym s) ∙ f }) (notes_leads laws m)
 
+module _ {S : Type 0} {model : Model S} {sure : Bool} where
   -- The faults were noted: where none counts g goes on, and else f reads nothing.
-  pub on_notes : {A : Type 0} {f g : Reader A} {at : Span} {fs : List Fault} {b c : Buffer S} → Laws state gives → Notes state gives at fs b c →
-      ((ts : List TokenAndSpan) → none_counts (context state b).module fs ≡ true → f (context state b) ts ≡ g (context state b) ts) →
-      ((ts : List TokenAndSpan) → none_counts (context state b).module fs ≡ false → f (context state b) ts ≡ None) → On state gives f g b c
+  pub on_notes : {A : Type 0} {f g : Reader A} {at : Span} {fs : List Fault} {b c : Buffer S} → Laws model → Notes model at fs b c →
+      ((ts : List TokenAndSpan) → none_counts (context model b).module fs ≡ true → f (context model b) ts ≡ g (context model b) ts) →
+      ((ts : List TokenAndSpan) → none_counts (context model b).module fs ≡ false → f (context model b) ts ≡ None) → On model sure f g b c
   on_notes {b = b} laws none-noted same none = record {
-    leads = record { laws = laws; taken = []; read = Read-same state gives laws.none b };
+    leads = record { laws = laws; taken = []; read = Read-same laws b; lives = λ f. f };
     clean = λ l s ys fut. same ys refl;
-    faulty = λ l lt ts k. absurd (omega (arith, lt));
+    faulty = λ y l lt ts k. absurd (omega (arith, lt));
   }
   on_notes laws (now-silent h m) same none = on_silent (notes_leads laws m) h
   on_notes laws (now-recorded h r m) same none =
       let p = notes_leads laws m in
       let more = more_errors laws r in
-      let late = no_fewer p in
+      let late = no_fewer p.read in
       on_fault (leads_then (recorded_leads laws r) p) (omega (arith, more, late)) (λ ts. none ts refl)
   on_notes laws (later-ignored h m) same none = on_silent (notes_leads laws m) (ignored _ _ h)
   on_notes {f = f} {g = g} {at = at} {b = b} {c = d} laws (later-noted {c = c} {k = k} {fs = gs} h back s r m) same none =
-      let p : Leads state gives b c = record { laws = laws; taken = []; read = r } in
+      let lives : Lives model b c = λ f. ap (λ x. x.failed) (sym s) ∙ f in
+      let p : Leads model b c = record { laws = laws; taken = []; read = r; lives = lives } in
       let q = notes_leads laws m in
       let added = ap (λ x. length x.errors) s in
-      let sum = length-append (state (source b)).errors (recorded_in (context state b).module (fault_at at k ∷ [])) in
-      elim (context state b).module as (λ v. (context state b).module ≡ v → On state gives f g b d) [
+      let sum = length-append (model.state (source b)).errors (recorded_in (context model b).module (fault_at at k ∷ [])) in
+      elim (context model b).module as (λ v. (context model b).module ≡ v → On model sure f g b d) [
         | true ↦ (λ e.
             let n = ap (λ v. length (recorded_in v (fault_at at k ∷ []))) e in
-            let late = no_fewer q in
+            let late = no_fewer q.read in
             on_fault (leads_then p q) (omega (arith, added, sum, n, late)) (λ ts. none ts (ap (λ v. not v && none_counts v gs) e)))
         | false ↦ (λ e.
             let n = ap (λ v. length (recorded_in v (fault_at at k ∷ []))) e in
             let on : Context → Type 0 = λ x. (ts : List TokenAndSpan) → none_counts x.module gs ≡ true → f x ts ≡ g x ts in
             let off : Context → Type 0 = λ x. (ts : List TokenAndSpan) → none_counts x.module gs ≡ false → f x ts ≡ None in
-            let counts_same : none_counts (context state b).module (in_modules k ∷ gs) ≡ none_counts (context state b).module gs = ap (λ v. not v && none_counts (context state b).module gs) e in
-            on_then (on_waiting {f = f} laws r (omega (arith, added, sum, n)))
+            let counts_same : none_counts (context model b).module (in_modules k ∷ gs) ≡ none_counts (context model b).module gs = ap (λ v. not v && none_counts (context model b).module gs) e in
+            on_then (on_waiting {f = f} laws r lives (omega (arith, added, sum, n)))
             (on_notes laws m (subst on (sym r.context) (λ ts h. same ts (counts_same ∙ h))) (subst off (sym r.context) (λ ts h. none ts (counts_same ∙ h)))))
       ] refl
 
   -- ---- words
 
-  spoken_here : {b c : Buffer S} {w : Word} {at : Span} → Laws state gives → (s : Spoken state gives b w at c) → Here state gives b s.here
-  spoken_here laws s = here_at laws s.looked (λ e. let found = s.took.current in cc)
-
-  spoken_context : {b c : Buffer S} {w : Word} {at : Span} → Spoken state gives b w at c → context state c ≡ context state b
-  spoken_context s = s.took.read.context ∙ s.looked.look.read.context
-
   -- a word was read: its faults decide whether it is taken
-  pub on_spoken : (judge : Judges) {b c : Buffer S} {w : Word} {at : Span} (text : List ℕ) → Laws state gives → Spoken state gives b w at c → text ≡ word_text w → On state gives (word_of judge) (told judge w (spelling text at)) b c
+  pub on_spoken : (judge : Judges) {b c : Buffer S} {w : Word} {at : Span} (text : List ℕ) → Laws model → Spoken model b w at c → text ≡ word_text w → On model sure (word_of judge) (told judge w (spelling text at)) b c
   unfolding word
   on_spoken judge {w = w} {at = at} text laws s same =
-      on_then (on_looked {f = word_of judge} laws s.looked) (on_took laws s.took (λ x ts. takes_word judge x w s.took.was.token s.took.was.span at text ts s.took.token s.place same))
+      on_then (on_looked {f = word_of judge} laws s.looked (was_there s)) (on_took laws s.took (λ x ts. takes_word judge x w s.took.was.token s.took.was.span at text ts s.took.token s.place same))
 
   -- a name was read
-  pub heard_name : (judge : Judges) {text : List ℕ} {at : Span} {b c : Buffer S} → Laws state gives → Named state gives judge text at b c → Heard state gives (word_of judge) (spelling text at) b c
+  pub heard_name : (judge : Judges) {text : List ℕ} {at : Span} {b c : Buffer S} → Laws model → Named model judge text at b c → Heard model sure (word_of judge) (spelling text at) b c
   unfolding word
   heard_name judge {text = text} {at = at} {b = b} laws n =
-      let x = context state n.spoken in
+      let x = context model n.spoken in
       let w = n.name in
       let s = n.said in
-      let same : is_clean x (judge x w) ≡ none_counts x.module (judge (context state b) w).faults = clean_is judge x (context state b) w (spoken_context s) n.accepts in
-      heard_after (on_looked {f = word_of judge} laws s.looked)
+      let same : is_clean x (judge x w) ≡ none_counts x.module (judge (context model b) w).faults = clean_is judge x (context model b) w (spoken_context s) n.accepts in
+      heard_after (on_looked {f = word_of judge} laws s.looked (was_there s))
       (heard_first laws s.took (λ x ts. takes_word judge x w s.took.was.token s.took.was.span at text ts s.took.token s.place n.spelled)
       (on_notes laws n.noted (λ ts h. goes (is_clean x (judge x w)) (Some (spelling text at, ts)) (same ∙ h)) (λ ts h. stops (is_clean x (judge x w)) (Some (spelling text at, ts)) (same ∙ h))))
 
   -- no name was read
-  pub unheard_name : (judge : Judges) → Honest judge → {b c : Buffer S} {e : Error} → Laws state gives → Unnamed state gives judge b e c → Unheard state gives (word_of judge) b e c
+  pub unheard_name : (judge : Judges) → Honest judge → {b c : Buffer S} {e : Error} → Laws model → Unnamed model judge b e c → Unheard model sure (word_of judge) b e c
   unfolding word
-  unheard_name judge honest laws (no_memory xs r k) = unheard_memory (record { leads = record { laws = laws; taken = xs; read = r }; kind = k })
+  unheard_name judge honest laws (no_memory xs r k) = unheard_memory (record { spends = record { laws = laws; taken = xs; read = r }; kind = k })
   unheard_name judge honest {b} {c} {e} laws (not_fit r f) =
       let u = required {T = Unit {0}} laws b c (Err e) tt (r, f) in
       unheard_unfit laws (λ x ts h. error_first (λ c w. is_clean c (judge c w)) x (first ts) (rest ts) h) u
   unheard_name judge honest {c = c} {e = e} laws (no_word r fits none) =
       unheard_at (here_at laws r.looked (fit_some (current r.here) fits))
       (λ x ts same h. ap (λ o. word_by (λ c w. is_clean c (judge c w)) x o (rest ts)) h ∙ none_seen (λ c w. is_clean c (judge c w)) x (current r.here) (rest ts) none)
-      (record { leads = record { laws = laws; taken = _; read = r.read }; kind = Refused-kind state gives _ c (λ here. fault_at (place_here here) kind.ExpectedIdent) e (λ here k. cc) r })
+      (refused laws (λ here. fault_at (place_here here) kind.ExpectedIdent) e (λ here k. cc) (refused_here laws r))
   unheard_name judge honest {b = b} {c = c} {e = e} laws (refused_word {w = w} {k = k} {at = at} {spoken = s0} s v n r) =
-      let x = context state s0 in
-      let same = unclean_is judge x (context state b) w k (spoken_context s) v in
+      let x = context model s0 in
+      let same = unclean_is judge x (context model b) w k (spoken_context s) v in
       unheard_after (on_spoken judge (word_text w) laws s refl)
       (record {
-        refuses = refuses_later (notes_leads laws n) (refused laws (λ here. fault_at at k) e (λ here. honest (context state b) w k v) r);
-        none = λ m l ts known. stops (is_clean x (judge x w)) (Some (spelling (word_text w) at, ts)) same;
+        refuses = refuses_later (notes_leads laws n) (refused laws (λ here. fault_at at k) e (λ here. honest (context model b) w k v) r);
+        none = λ m y l ts known. stops (is_clean x (judge x w)) (Some (spelling (word_text w) at, ts)) same;
       })
 
-module _ {S : Type 0} (state : S → Source) (gives : S → List TokenAndSpan → S → Type 0) where
+module _ {S : Type 0} (model : Model S) (sure : Bool) where
   -- what a call on names answers, the clean reader of its words reads
-  pub parses_name : {T : Type 0} (judge : Judges) → Honest judge → (text : T → List ℕ) (at : T → Span) (b c : Buffer S) (r : Result T Error) → Laws state gives → Names state gives judge text at b r c →
-      Parses state gives (λ t. spelling (text t) (at t)) (word_of judge) b r c
+  pub parses_name : {T : Type 0} (judge : Judges) → Honest judge → (text : T → List ℕ) (at : T → Span) (b c : Buffer S) (r : Result T Error) → Laws model → Names model judge text at b r c →
+      Parses model sure (λ t. spelling (text t) (at t)) (word_of judge) b r c
   parses_name judge honest text at b c (Ok t) laws h = heard_name judge laws h
   parses_name judge honest text at b c (Err e) laws h = unheard_name judge honest laws h
 
   -- at a word that is an expression by itself
-  pub parses_ref : {T : Type 0} (view : T → Spelling) (b c : Buffer S) (r : Result T Error) → Laws state gives → at_token (is_identifier (context state b)) (seen b) ≡ true → Parses state gives view (word_of reference_verdict) b r c →
-      Parses state gives view (word ref_ok) b r c
+  pub parses_ref : {T : Type 0} (view : T → Spelling) (b c : Buffer S) (r : Result T Error) → Laws model → at_token (is_identifier (context model b)) (seen b) ≡ true → Parses model sure view (word_of reference_verdict) b r c →
+      Parses model sure view (word ref_ok) b r c
   parses_ref view b c r laws h p =
-      parses_after state gives view (word ref_ok) {b = b} {c = b} c r
-      (on_seen (here_same laws (at_some (is_identifier (context state b)) (current b) h)) (λ x ts same e. ref_same x ts (ap (λ v. at_token (is_identifier v) (first ts)) same ∙ ap (at_token (is_identifier (context state b))) e ∙ h))) p
+      parses_after model sure view (word ref_ok) {b = b} {c = b} c r
+      (on_seen (here_same laws (at_some (is_identifier (context model b)) (current b) h)) (λ x ts same e. ref_same x ts (ap (λ v. at_token (is_identifier v) (first ts)) same ∙ ap (at_token (is_identifier (context model b))) e ∙ h))) p
 
   -- what is read leaves fewer tokens
-  pub parses_lower : {T A : Type 0} (view : T → A) (f : Reader A) (b c : Buffer S) (r : Result T Error) → Parses state gives view f b r c → OnOk r (left state c < left state b)
+  pub parses_lower : {T A : Type 0} (view : T → A) (f : Reader A) (b c : Buffer S) (r : Result T Error) → Parses model sure view f b r c → OnOk r (to_come model c < to_come model b)
   parses_lower view f b c (Ok t) h = lower (record { leads = h.on.leads; some = h.some })
   parses_lower view f b c (Err e) h = tt

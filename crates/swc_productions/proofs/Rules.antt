@@ -1,7 +1,11 @@
--- The clean parser's functions, a step at a time, as the code goes them.
-use Rattle.std.proofs.Common.{◌≡◌, ℕ, ◌≤◌, ◌<◌, true, false, not, ◌||◌, ◌&&◌, List, [], ◌∷◌, Option, Some, None, refl, sym, ap, ◌∙◌}
+-- What the clean parser reads, a step at a time, as the code goes it.
+use Rattle.std.proofs.Common.{◌≡◌, ℕ, suc, ◌≤◌, ◌<◌, Bool, true, false, not, ◌||◌, ◌&&◌, if◌then◌else◌, List, [], ◌∷◌}
+use Rattle.std.proofs.Common.{Option, Some, None}
+use Rattle.std.proofs.Common.{refl, sym, ap, ◌∙◌, arith}
+use Rattle.std.specs.Prelude.{nat_le}
 use Rattle.std.proofs.lemmas.Bool.{le-leb, lt-leb}
 use Rattle.swc_context.specs.Operators.{precedence_of}
+use Rattle.swc_context.specs.Words.{word_text}
 use Rattle.swc_context.specs.declared.context.Context.{Context}
 use Rattle.swc_context.specs.declared.operator.BinaryOp.{BinaryOp}
 use Rattle.swc_context.specs.declared.operator.UnaryOp.{UnaryOp}
@@ -13,12 +17,31 @@ use Rattle.swc_input.specs.declared.token.TokenAndSpan.{TokenAndSpan}
 use Rattle.swc_input.specs.Plain.{plain}
 use Rattle.swc_input.specs.Kinds.{at_token, is_hash}
 use Rattle.swc_ast.specs.Tree.{Tree, span_of}
-use Rattle.swc_grammar.specs.Tokens.{with_in, ref_ok}
-use Rattle.swc_grammar.specs.Trees.{to, ident_e, private_e, unary_e, paren_e, bin_e, is_logical, is_nullish_op, nullish_ok, exp_ok, delete_ok, min_right}
-use Rattle.swc_grammar.specs.Clean.{Out, ◌>>=◌, first, rest, is_lit, is_lparen, is_rparen, is_identifier, no_error, operator_at, prefix_at, left_ok, lit_of, one, spelled, may_name, Call, to_assign, to_unary, to_operand, to_climb}
-use Rattle.swc_grammar.specs.Clean.{word, lit, name, hashed, private_name, inside, close, opened, parens, primary, prefix_node, prefixed, prefix, unary, node_by, operation, turn, go_on, turned, climb, operand, assign, run}
+use Rattle.swc_grammar.specs.Rule.{gives, take, check, read, given, ◌>>=◌ as ◌▸◌}
+use Rattle.swc_bodies.specs.Readings.{Hook, LawfulHook}
+use Rattle.swc_grammar.specs.Symbols.{Expr, Assign, Level, Unary, Primary, Literal, Side}
+use Rattle.swc_grammar.specs.Tokens.{tk, with_in, is_reference, ref_ok, is_put_off, prefix_of, is_lparen, is_rparen}
+use Rattle.swc_grammar.specs.Names.{Spelling, spelling, may_refer, may_name, spelled}
+use Rattle.swc_grammar.specs.Trees.{to, ident_e, private_e, unary_e, paren_e, bin_e, is_logical, is_nullish_op}
+use Rattle.swc_grammar.specs.Trees.{nullish_ok, exp_ok, delete_ok, min_right}
+use Rattle.swc_grammar.specs.Parts.{reference, any_name, lit_of, with_place, prefix_here}
+use Rattle.swc_grammar.specs.Grammar.{ident, primary-literal, paren-expr, unary-expr, private-name}
+use Rattle.swc_grammar.specs.Clean.{Out, and_then, first, sym as at, climb, plan, exec, is_lit, is_identifier, no_error}
+use Rattle.swc_grammar.specs.Clean.{operator_at, prefix_at, left_ok}
+use Rattle.swc_grammar.specs.Clean.{pick, unary_by, primary, operation as operation_plan, turn as turn_plan}
+use Rattle.swc_grammar.specs.Clean.{turned as turned_plan, run}
+use Rattle.swc_grammar.specs.Words.{◌>>=◌, rest, one, word}
+use Rattle.swc_grammar.specs.Firsts.{begins_expression}
+use Rattle.swc_grammar.proofs.Answers.{both}
+use Rattle.swc_grammar.proofs.Complete.{last, lit-picks}
 use Rattle.swc_grammar.proofs.Knot.{knot}
+use Rattle.swc_grammar.proofs.Levels.{right-low}
+use Rattle.swc_grammar.proofs.Only.{only-lparen, only-rparen, only-hash}
+use Rattle.swc_grammar.proofs.Rules.{exec-bind, run_picked, reads_nothing}
 use Rattle.swc_productions.specs.Parsing.{is_strict, seen_of}
+use Rattle.swc_productions.specs.Readers.{reading, by_production, inside, hashed, opened, close, prefixed, prefix_node}
+use Rattle.swc_productions.specs.Readers.{prefix, turn, operation}
+use Rattle.swc_productions.specs.Readers.{node_by, turned, go_on}
 
 error_no : (t : Token) → no_error t ≡ false → is_lit t ≡ false
 error_no (token.Error e) h = refl
@@ -28,171 +51,274 @@ error_not : (o : Option TokenAndSpan) → at_token no_error o ≡ false → at_t
 error_not None h = refl
 error_not (Some t) h = error_no t.token h
 
-pub rparen_plain : (o : Option TokenAndSpan) (t : TokenAndSpan) → o ≡ Some t → at_token is_rparen (seen_of o) ≡ true → is_rparen (plain t).token ≡ true
-rparen_plain o t e h = ap (λ v. at_token is_rparen (seen_of v)) (sym e) ∙ h
+-- what is said of the current token is said of the one consumed
+pub passes_plain : (f : Token → Bool) (o : Option TokenAndSpan) (t : TokenAndSpan) → o ≡ Some t
+    → at_token f (seen_of o) ≡ true
+    → f (plain t).token ≡ true
+passes_plain f o t e h = ap (λ v. at_token f (seen_of v)) (sym e) ∙ h
 
-pub nullish_other : {F C K : Type 0} (op : BinaryOp) (l r : Tree F C K) → is_nullish_op op ≡ false → nullish_ok op l r ≡ true
+pub nullish_other : {F C K : Type 0} (op : BinaryOp) (l r : Tree F C K) → is_nullish_op op ≡ false
+    → nullish_ok op l r ≡ true
 nullish_other op l r h = rw h refl
 
-pub nullish_both : {F C K : Type 0} (op : BinaryOp) (l r : Tree F C K) → is_nullish_op op ≡ true → nullish_ok op l r ≡ not (is_logical l || is_logical r)
+pub nullish_both : {F C K : Type 0} (op : BinaryOp) (l r : Tree F C K) → is_nullish_op op ≡ true
+    → nullish_ok op l r ≡ not (is_logical l || is_logical r)
 nullish_both op l r h = rw h refl
 
 -- the operator at the first token is that of the current token
-pub same_op : {x y : Context} {s r : Option TokenAndSpan} (o q : Option BinaryOp) → x ≡ y → r ≡ s → o ≡ operator_at y s → o ≡ q → operator_at x r ≡ q
+pub same_op : {x y : Context} {s r : Option TokenAndSpan} (o q : Option BinaryOp) → x ≡ y → r ≡ s → o ≡ operator_at y s
+    → o ≡ q → operator_at x r ≡ q
 same_op o q h i j k = rw (h, i) (sym j ∙ k)
+
+and_true : (b : Bool) → (b && true) ≡ b
+and_true true = refl
+and_true false = refl
 
 -- in a module a word of strict code is none
 strict_not : (c : Context) (t : Token) (s : Span) → c.module && is_strict t ≡ true → spelled (ref_ok c) t s ≡ None
 strict_not c (token.Word w) s h = rw h refl
 strict_not c t s h = refl
 
-abbrev pub runs : (F C K : Type 0) → Call F C K → Context → List TokenAndSpan → Out (Tree F C K)
-runs F C K = run
-
 module _ {F C K : Type 0} where
-  pub assign_good : (x : Context) (ts : List TokenAndSpan) → at_token no_error (first ts) ≡ true → assign (runs F C K) x ts ≡ operand (runs F C K) 0 x ts
-  unfolding assign
-  assign_good x ts h = rw h refl
-
-  pub assign_bad : (x : Context) (ts : List TokenAndSpan) → at_token no_error (first ts) ≡ false → assign (runs F C K) x ts ≡ None
-  unfolding assign
-  assign_bad x ts h = rw h refl
-
-  pub inside_assign : (x : Context) (ts : List TokenAndSpan) → inside (runs F C K) x ts ≡ assign (runs F C K) (with_in x) ts
-  unfolding inside
-  inside_assign x ts = knot to_assign (with_in x) ts
-
-  pub operand_splits : (m : ℕ) (x : Context) (ts : List TokenAndSpan) → operand (runs F C K) m x ts ≡ (unary (runs F C K) x ts >>= (λ p. climb (runs F C K) p.0 m x p.1))
-  unfolding operand
-  operand_splits m x ts = refl
-
-  pub unary_prefix : (op : UnaryOp) (x : Context) (ts : List TokenAndSpan) → prefix_at (first ts) ≡ Some op → unary (runs F C K) x ts ≡ prefix (runs F C K) op x ts
-  unfolding unary
-  unary_prefix op x ts h = rw h refl
-
-  pub unary_primary : (x : Context) (ts : List TokenAndSpan) → prefix_at (first ts) ≡ None → unary (runs F C K) x ts ≡ primary (runs F C K) x ts
-  unfolding unary
-  unary_primary x ts h = rw h refl
-
-  pub prefix_opens : (op : UnaryOp) (t : TokenAndSpan) (x : Context) (ts : List TokenAndSpan) → prefix (runs F C K) op x (t ∷ ts) ≡ prefixed (runs F C K) t.span op x ts
-  unfolding prefix
-  prefix_opens op t x ts = refl
-
-  pub prefixed_splits : (s : Span) (op : UnaryOp) (x : Context) (ts : List TokenAndSpan) → prefixed (runs F C K) s op x ts ≡ (unary (runs F C K) x ts >>= (λ p. prefix_node (runs F C K) s op x p.0 p.1))
-  unfolding prefixed
-  prefixed_splits s op x ts = rw (knot to_unary x ts) refl
-
-  pub prefix_well : (s : Span) (op : UnaryOp) (x : Context) (t : Tree F C K) (ts : List TokenAndSpan) → delete_ok x op t ≡ true → prefix_node (runs F C K) s op x t ts ≡ Some (unary_e (to s (span_of t)) op t, ts)
-  prefix_well s op x t ts h = rw h refl
-
-  pub prefix_ill : (s : Span) (op : UnaryOp) (x : Context) (t : Tree F C K) (ts : List TokenAndSpan) → delete_ok x op t ≡ false → prefix_node (runs F C K) s op x t ts ≡ None
-  prefix_ill s op x t ts h = rw h refl
-
-  pub climb_splits : (l : Tree F C K) (m : ℕ) (x : Context) (ts : List TokenAndSpan) → climb (runs F C K) l m x ts ≡ (turn (runs F C K) l m x ts >>= (λ p. turned (runs F C K) p.0.0 p.0.1 x p.1))
-  unfolding climb
-  climb_splits l m x ts = refl
-
-  pub turned_well : (t : Tree F C K) (o : Option ℕ) (x : Context) (ts : List TokenAndSpan) → left_ok t ≡ true → turned (runs F C K) t o x ts ≡ go_on (runs F C K) t o x ts
-  unfolding turned
-  turned_well t o x ts h = rw h refl
-
-  pub turned_ill : (t : Tree F C K) (o : Option ℕ) (x : Context) (ts : List TokenAndSpan) → left_ok t ≡ false → turned (runs F C K) t o x ts ≡ None
-  unfolding turned
-  turned_ill t o x ts h = rw h refl
-
-  pub goes_on : (t : Tree F C K) (m : ℕ) (x : Context) (ts : List TokenAndSpan) → go_on (runs F C K) t (Some m) x ts ≡ climb (runs F C K) t m x ts
-  goes_on t m x ts = knot (to_climb t m) x ts
-
-  pub turn_ends : (l : Tree F C K) (m : ℕ) (x : Context) (ts : List TokenAndSpan) → operator_at x (first ts) ≡ None → turn (runs F C K) l m x ts ≡ Some ((l, None), ts)
-  unfolding turn
-  turn_ends l m x ts h = rw h refl
-
-  pub turn_low : (l : Tree F C K) (m : ℕ) (op : BinaryOp) (x : Context) (ts : List TokenAndSpan) → operator_at x (first ts) ≡ Some op → precedence_of op ≤ m → turn (runs F C K) l m x ts ≡ Some ((l, None), ts)
-  unfolding turn
-  turn_low l m op x ts h le = rw (h, le-leb (precedence_of op) m le) refl
-
-  pub turn_takes : (l : Tree F C K) (m : ℕ) (op : BinaryOp) (x : Context) (ts : List TokenAndSpan) → operator_at x (first ts) ≡ Some op → m < precedence_of op → turn (runs F C K) l m x ts ≡ operation (runs F C K) op l m x (rest ts)
-  unfolding turn
-  turn_takes l m op x ts h lt = rw (h, lt-leb (precedence_of op) m lt) refl
-
-  pub operation_splits : (op : BinaryOp) (l : Tree F C K) (m : ℕ) (x : Context) (ts : List TokenAndSpan) → exp_ok op l ≡ true → operation (runs F C K) op l m x ts ≡ (operand (runs F C K) (min_right op) x ts >>= (λ p. node_by (runs F C K) op l m p.0 p.1))
-  unfolding operation
-  operation_splits op l m x ts h = rw (h, knot (to_operand (min_right op)) x ts) refl
-
-  pub operation_ends : (op : BinaryOp) (l : Tree F C K) (m : ℕ) (x : Context) (ts : List TokenAndSpan) → exp_ok op l ≡ false → operation (runs F C K) op l m x ts ≡ None
-  unfolding operation
-  operation_ends op l m x ts h = rw h refl
-
-  pub node_well : (op : BinaryOp) (l t : Tree F C K) (m : ℕ) (ts : List TokenAndSpan) → nullish_ok op l t ≡ true → node_by (runs F C K) op l m t ts ≡ Some ((bin_e (to (span_of l) (span_of t)) op l t, Some m), ts)
-  node_well op l t m ts h = rw h refl
-
-  pub node_ill : (op : BinaryOp) (l t : Tree F C K) (m : ℕ) (ts : List TokenAndSpan) → nullish_ok op l t ≡ false → node_by (runs F C K) op l m t ts ≡ None
-  node_ill op l t m ts h = rw h refl
-
-  pub primary_lit : (x : Context) (ts : List TokenAndSpan) → at_token is_lit (first ts) ≡ true → primary (runs F C K) x ts ≡ lit (runs F C K) x ts
-  unfolding primary
-  primary_lit x ts h = rw h refl
-
-  pub primary_parens : (x : Context) (ts : List TokenAndSpan) → at_token is_lit (first ts) ≡ false → at_token is_lparen (first ts) ≡ true → primary (runs F C K) x ts ≡ parens (runs F C K) x ts
-  unfolding primary
-  primary_parens x ts h i = rw (h, i) refl
-
-  pub primary_name : (x : Context) (ts : List TokenAndSpan) → at_token is_lit (first ts) ≡ false → at_token is_lparen (first ts) ≡ false → at_token (is_identifier x) (first ts) ≡ true → primary (runs F C K) x ts ≡ name (runs F C K) x ts
-  unfolding primary
-  primary_name x ts h i j = rw (h, i, j) refl
-
-  pub primary_private : (x : Context) (ts : List TokenAndSpan) → at_token is_lit (first ts) ≡ false → at_token is_lparen (first ts) ≡ false → at_token (is_identifier x) (first ts) ≡ false → at_token is_hash (first ts) ≡ true → primary (runs F C K) x ts ≡ private_name (runs F C K) x ts
-  unfolding primary
-  primary_private x ts h i j k = rw (h, i, j, k) refl
-
-  pub primary_ends : (x : Context) (ts : List TokenAndSpan) → at_token is_lit (first ts) ≡ false → at_token is_lparen (first ts) ≡ false → at_token (is_identifier x) (first ts) ≡ false → at_token is_hash (first ts) ≡ false → primary (runs F C K) x ts ≡ None
-  unfolding primary
-  primary_ends x ts h i j k = rw (h, i, j, k) refl
-
-  pub opened_empty : (s : Span) (x : Context) (ts : List TokenAndSpan) → at_token is_rparen (first ts) ≡ true → opened (runs F C K) s x ts ≡ None
-  unfolding opened
-  opened_empty s x ts h = rw h refl
-
-  pub opened_splits : (s : Span) (x : Context) (ts : List TokenAndSpan) → at_token is_rparen (first ts) ≡ false → opened (runs F C K) s x ts ≡ (inside (runs F C K) x ts >>= (λ p. close (runs F C K) s p.0 p.1))
-  unfolding opened
-  opened_splits s x ts h = rw h refl
-
-  pub parens_opens : (t : TokenAndSpan) (x : Context) (ts : List TokenAndSpan) → parens (runs F C K) x (t ∷ ts) ≡ opened (runs F C K) t.span x ts
-  unfolding parens
-  parens_opens t x ts = refl
-
-  pub close_takes : (s : Span) (e : Tree F C K) (t : TokenAndSpan) (ts : List TokenAndSpan) → is_rparen t.token ≡ true → close (runs F C K) s e (t ∷ ts) ≡ Some (paren_e (to s t.span) e, ts)
-  unfolding close
-  close_takes s e t ts h = rw h refl
-
-  close_not : (s : Span) (e : Tree F C K) (ts : List TokenAndSpan) → at_token is_rparen (first ts) ≡ false → close (runs F C K) s e ts ≡ None
-  unfolding close
-  close_not s e [] h = refl
-  close_not s e (t ∷ ts) h = rw h refl
-
-  pub close_ends : (s : Span) (e : Tree F C K) (ts : List TokenAndSpan) → at_token is_rparen (first ts) ≡ false → close (runs F C K) s e ts ≡ None
-  close_ends s e ts h = close_not s e ts h
-
-  pub lit_takes : (e : Tree F C K) (x : Context) (t : TokenAndSpan) (ts : List TokenAndSpan) → lit_of t.token t.span ≡ Some e → lit (runs F C K) x (t ∷ ts) ≡ Some (e, ts)
-  unfolding lit
-  lit_takes e x t ts h = rw h refl
-
-  pub name_splits : (x : Context) (ts : List TokenAndSpan) → name (runs F C K) x ts ≡ (word ref_ok x ts >>= (λ p. Some (ident_e p.0.at p.0.text, p.1)))
-  unfolding name
-  name_splits x ts = refl
-
-  pub name_strict : (x : Context) (ts : List TokenAndSpan) → x.module && at_token is_strict (first ts) ≡ true → name (runs F C K) x ts ≡ None
-  unfolding name word
+  pub name_strict : (x : Context) (ts : List TokenAndSpan) → x.module && at_token is_strict (first ts) ≡ true
+      → (word ref_ok x ts >>= (λ p. Some (ident_e {F = F} {C = C} {K = K} p.0.at p.0.text, p.1))) ≡ None
+  unfolding word
   name_strict x [] h = refl
   name_strict x (t ∷ ts) h = rw (strict_not x t.token t.span h) refl
 
-  pub private_opens : (t : TokenAndSpan) (x : Context) (ts : List TokenAndSpan) → private_name (runs F C K) x (t ∷ ts) ≡ hashed (runs F C K) t.span x ts
-  unfolding private_name
-  private_opens t x ts = refl
+module _ {F C K : Type 0} (hook : Hook F C K) where
+  -- what a call read, and what is run behind it
+  calls : {A B : Type 0} (o : Out A) (k : A → List TokenAndSpan → Out B) → and_then o k ≡ (o >>= (λ p. k p.0 p.1))
+  calls None k = refl
+  calls (Some p) k = refl
 
-  pub hashed_splits : (s : Span) (x : Context) (ts : List TokenAndSpan) → hashed (runs F C K) s x ts ≡ (word may_name x ts >>= (λ p. Some (private_e (to s p.0.at) p.0.text, p.1)))
-  unfolding hashed
-  hashed_splits s x ts = refl
+  then_calls : {A B : Type 0} (o : Out A) (k : A → List TokenAndSpan → Out B) (f : A → List TokenAndSpan → Out B)
+      → ((e : A) (us : List TokenAndSpan) → k e us ≡ f e us) → and_then o k ≡ (o >>= (λ p. f p.0 p.1))
+  then_calls None k f h = refl
+  then_calls (Some p) k f h = h p.0 p.1
+
+  -- a token that is something, and one that is nothing
+  given_is : {A : Type 0} (o : Option A) (a : A) (k : A → Side F C K Primary) (ts : List TokenAndSpan) → o ≡ Some a
+      → exec hook (run hook) None (plan (given o ▸ k)) ts ≡ exec hook (run hook) None (plan (k a)) ts
+  given_is o a k ts h = ap (λ v. exec hook (run hook) None (plan (given v ▸ k)) ts) h
+
+  given_not : {A : Type 0} (o : Option A) (k : A → Side F C K Primary) (ts : List TokenAndSpan) → o ≡ None
+      → exec hook (run hook) None (plan (given o ▸ k)) ts ≡ None
+  given_not o k ts h = ap (λ v. exec hook (run hook) None (plan (given v ▸ k)) ts) h
+
+  -- ---- expressions, and binary operators
+
+  pub expr_assign : (x : Context) (ts : List TokenAndSpan) → run hook (at Expr) x ts ≡ run hook (at Assign) x ts
+  expr_assign x ts = knot hook (at Expr) x ts ∙ last hook (Some 14) (at Assign) x ts refl
+
+  pub assign_good : (x : Context) (ts : List TokenAndSpan) → at_token no_error (first ts) ≡ true
+      → run hook (at Assign) x ts ≡ run hook (at (Level 1)) x ts
+  assign_good x ts h = knot hook (at Assign) x ts ∙ rw h (last hook (Some 13) (at (Level 1)) x ts refl)
+
+  pub assign_bad : (x : Context) (ts : List TokenAndSpan) → at_token no_error (first ts) ≡ false
+      → run hook (at Assign) x ts ≡ None
+  assign_bad x ts h = knot hook (at Assign) x ts ∙ rw h refl
+
+  pub inside_assign : (x : Context) (ts : List TokenAndSpan) → inside hook x ts ≡ run hook (at Assign) (with_in x) ts
+  unfolding inside
+  inside_assign x ts = refl
+
+  pub operand_splits : (m : ℕ) (x : Context) (ts : List TokenAndSpan) → m ≤ 10
+      → run hook (at (Level (suc m))) x ts ≡ (run hook (at Unary) x ts >>= (λ p. run hook (climb p.0 m) x p.1))
+  operand_splits m x ts le =
+      knot hook (at (Level (suc m))) x ts ∙ rw (le-leb m 10 le)
+      (then_calls (run hook (at Unary) x ts) _ (λ e us. run hook (climb e m) x us)
+      (λ e us. last hook (Some 11) (climb e m) x us refl))
+
+  -- what stands right of an operator
+  pub right_splits : (op : BinaryOp) (m : ℕ) (x : Context) (ts : List TokenAndSpan) → m ≡ min_right op
+      → run hook (at (Level (suc (min_right op)))) x ts
+      ≡ (run hook (at Unary) x ts >>= (λ p. run hook (climb p.0 m) x p.1))
+  right_splits op m x ts e =
+      let low = right-low op in
+      ap (λ v. run hook (at (Level (suc v))) x ts) (sym e) ∙ operand_splits m x ts (let l = low.1 in omega arith)
+
+  turn_by : (b : Bool) (op : BinaryOp) (l : Tree F C K) (m : ℕ) (x : Context) (ts : List TokenAndSpan)
+      → exec hook (run hook) (Some 1)
+      ((if b then gives (l, None) else take (λ t. operation_plan op l m x)) ▸ (λ r. turned_plan r.0 r.1 x)) ts
+      ≡ (exec hook (run hook) None (if b then gives (l, None) else take (λ t. operation_plan op l m x)) ts
+      >>= (λ p. exec hook (run hook) None (turned_plan p.0.0 p.0.1 x) p.1))
+  turn_by true op l m x ts = refl
+  turn_by false op l m x [] = refl
+  turn_by false op l m x (t ∷ ts) =
+      exec-bind hook (operation_plan op l m x) (λ r. turned_plan r.0 r.1 x) ts
+      ∙ calls (exec hook (run hook) None (operation_plan op l m x) ts)
+      (λ r us. exec hook (run hook) None (turned_plan r.0 r.1 x) us)
+
+  turn_at : (o : Option BinaryOp) (l : Tree F C K) (m : ℕ) (x : Context) (ts : List TokenAndSpan)
+      → exec hook (run hook) (Some 1) (turn_plan o l m x ▸ (λ r. turned_plan r.0 r.1 x)) ts
+      ≡ (exec hook (run hook) None (turn_plan o l m x) ts >>=
+      (λ p. exec hook (run hook) None (turned_plan p.0.0 p.0.1 x) p.1))
+  turn_at None l m x ts = refl
+  turn_at (Some op) l m x ts = turn_by (nat_le (precedence_of op) m) op l m x ts
+
+  pub climb_splits : (l : Tree F C K) (m : ℕ) (x : Context) (ts : List TokenAndSpan)
+      → run hook (climb l m) x ts ≡ (turn hook l m x ts >>= (λ p. turned hook p.0.0 p.0.1 x p.1))
+  unfolding turn turned reading
+  climb_splits l m x ts = knot hook (climb l m) x ts ∙ turn_at (operator_at x (first ts)) l m x ts
+
+  pub turned_well : (t : Tree F C K) (o : Option ℕ) (x : Context) (ts : List TokenAndSpan) → left_ok t ≡ true
+      → turned hook t o x ts ≡ go_on hook t o x ts
+  unfolding turned reading
+  turned_well t None x ts h = rw h refl
+  turned_well t (Some m) x ts h = rw h (last hook None (climb t m) x ts refl)
+
+  pub turned_ill : (t : Tree F C K) (o : Option ℕ) (x : Context) (ts : List TokenAndSpan) → left_ok t ≡ false
+      → turned hook t o x ts ≡ None
+  unfolding turned reading
+  turned_ill t o x ts h = rw h refl
+
+  pub turn_ends : (l : Tree F C K) (m : ℕ) (x : Context) (ts : List TokenAndSpan) → operator_at x (first ts) ≡ None
+      → turn hook l m x ts ≡ Some ((l, None), ts)
+  unfolding turn reading
+  turn_ends l m x ts h = rw h refl
+
+  pub turn_low : (l : Tree F C K) (m : ℕ) (op : BinaryOp) (x : Context) (ts : List TokenAndSpan)
+      → operator_at x (first ts) ≡ Some op → precedence_of op ≤ m → turn hook l m x ts ≡ Some ((l, None), ts)
+  unfolding turn reading
+  turn_low l m op x ts h le = rw (h, le-leb (precedence_of op) m le) refl
+
+  pub turn_takes : (l : Tree F C K) (m : ℕ) (op : BinaryOp) (x : Context) (ts : List TokenAndSpan)
+      → operator_at x (first ts) ≡ Some op → m < precedence_of op
+      → turn hook l m x ts ≡ operation hook op l m x (rest ts)
+  unfolding turn operation reading
+  turn_takes l m op x [] h lt = cc
+  turn_takes l m op x (t ∷ ts) h lt = rw (h, lt-leb (precedence_of op) m lt) refl
+
+  pub operation_splits : (op : BinaryOp) (l : Tree F C K) (m : ℕ) (x : Context) (ts : List TokenAndSpan)
+      → exp_ok op l ≡ true
+      → operation hook op l m x ts
+      ≡ (run hook (at (Level (suc (min_right op)))) x ts >>= (λ p. node_by hook op l m p.0 p.1))
+  unfolding operation node_by reading
+  operation_splits op l m x ts h = rw h (calls (run hook (at (Level (suc (min_right op)))) x ts) _)
+
+  pub operation_ends : (op : BinaryOp) (l : Tree F C K) (m : ℕ) (x : Context) (ts : List TokenAndSpan)
+      → exp_ok op l ≡ false
+      → operation hook op l m x ts ≡ None
+  unfolding operation reading
+  operation_ends op l m x ts h = rw h refl
+
+  pub node_well : (op : BinaryOp) (l t : Tree F C K) (m : ℕ) (ts : List TokenAndSpan) → nullish_ok op l t ≡ true
+      → node_by hook op l m t ts ≡ Some ((bin_e (to (span_of l) (span_of t)) op l t, Some m), ts)
+  unfolding node_by reading
+  node_well op l t m ts h = rw h refl
+
+  pub node_ill : (op : BinaryOp) (l t : Tree F C K) (m : ℕ) (ts : List TokenAndSpan) → nullish_ok op l t ≡ false
+      → node_by hook op l m t ts ≡ None
+  unfolding node_by reading
+  node_ill op l t m ts h = rw h refl
+
+  -- ---- prefix operators
+
+  pub unary_prefix : (op : UnaryOp) (x : Context) (ts : List TokenAndSpan) → prefix_at (first ts) ≡ Some op
+      → run hook (at Unary) x ts ≡ prefix hook op x ts
+  unfolding prefix prefixed reading
+  unary_prefix op x [] h = cc
+  unary_prefix op x (t ∷ ts) h =
+      run_picked hook Unary x (t ∷ ts) unary-expr (unary_by (prefix_of t.token)) refl (ap unary_by h)
+      ∙ given_is (prefix_here t.token t.span) (op, t.span)
+      (λ p. read Unary x (λ e. check (delete_ok x p.0 e) (gives (unary_e (to p.1 (span_of e)) p.0 e)))) ts
+      (ap (λ o. with_place o t.span) h)
+
+  pub unary_primary : (x : Context) (ts : List TokenAndSpan) → prefix_at (first ts) ≡ None
+      → run hook (at Unary) x ts ≡ run hook (at Primary) x ts
+  unary_primary x ts h = knot hook (at Unary) x ts ∙ rw h (last hook (Some 10) (at Primary) x ts refl)
+
+  pub prefix_opens : (op : UnaryOp) (t : TokenAndSpan) (x : Context) (ts : List TokenAndSpan)
+      → prefix hook op x (t ∷ ts) ≡ prefixed hook t.span op x ts
+  unfolding prefix
+  prefix_opens op t x ts = refl
+
+  pub prefixed_splits : (s : Span) (op : UnaryOp) (x : Context) (ts : List TokenAndSpan)
+      → prefixed hook s op x ts ≡ (run hook (at Unary) x ts >>= (λ p. prefix_node hook s op x p.0 p.1))
+  unfolding prefixed prefix_node reading
+  prefixed_splits s op x ts = calls (run hook (at Unary) x ts) _
+
+  pub prefix_well : (s : Span) (op : UnaryOp) (x : Context) (t : Tree F C K) (ts : List TokenAndSpan)
+      → delete_ok x op t ≡ true
+      → prefix_node hook s op x t ts ≡ Some (unary_e (to s (span_of t)) op t, ts)
+  unfolding prefix_node reading
+  prefix_well s op x t ts h = rw h refl
+
+  pub prefix_ill : (s : Span) (op : UnaryOp) (x : Context) (t : Tree F C K) (ts : List TokenAndSpan)
+      → delete_ok x op t ≡ false
+      → prefix_node hook s op x t ts ≡ None
+  unfolding prefix_node reading
+  prefix_ill s op x t ts h = rw h refl
+
+  -- ---- primary expressions: each is picked by its first token
+
+  pub primary_lit : (x : Context) (ts : List TokenAndSpan) → at_token is_lit (first ts) ≡ true
+      → run hook (at Primary) x ts ≡ run hook (at Literal) x ts
+  primary_lit x ts h =
+      run_picked hook Primary x ts primary-literal (primary x ts) refl (lit-picks hook x ts h)
+      ∙ last hook (Some 8) (at Literal) x ts refl
+
+  pub primary_parens : (x : Context) (ts : List TokenAndSpan) → at_token is_lparen (first ts) ≡ true
+      → run hook (at Primary) x ts ≡ by_production hook (λ c. paren-expr) x ts
+  unfolding by_production reading
+  primary_parens x [] h = absurd cc
+  primary_parens x (t ∷ ts) h =
+      run_picked hook Primary x (t ∷ ts) paren-expr (primary x (t ∷ ts)) refl
+      (only-lparen (λ v. primary {F = F} {C = C} {K = K} x (tk v t.had_line_break t.span ∷ ts)
+      ≡ pick paren-expr) refl t.token h)
+
+  pub primary_name : (x : Context) (ts : List TokenAndSpan) → at_token (is_identifier x) (first ts) ≡ true
+      → run hook (at Primary) x ts ≡ by_production hook (λ c. ident) x ts
+  unfolding by_production reading
+  primary_name x [] h = absurd cc
+  primary_name x (t ∷ ts) h = run_picked hook Primary x (t ∷ ts) ident (primary x (t ∷ ts)) refl (rw h refl)
+
+  pub primary_private : (x : Context) (ts : List TokenAndSpan) → at_token is_hash (first ts) ≡ true
+      → run hook (at Primary) x ts ≡ by_production hook (λ c. private-name) x ts
+  unfolding by_production reading
+  primary_private x [] h = absurd cc
+  primary_private x (t ∷ ts) h =
+      run_picked hook Primary x (t ∷ ts) private-name (primary x (t ∷ ts)) refl
+      (only-hash (λ v. primary {F = F} {C = C} {K = K} x (tk v t.had_line_break t.span ∷ ts)
+      ≡ pick private-name) refl t.token h)
+
+  pub primary_ends : (x : Context) (ts : List TokenAndSpan) → at_token is_lit (first ts) ≡ false
+      → at_token is_lparen (first ts) ≡ false
+      → at_token (is_identifier x) (first ts) ≡ false → at_token is_hash (first ts) ≡ false
+      → run hook (at Primary) x ts ≡ None
+  primary_ends x ts h i j k = knot hook (at Primary) x ts ∙ rw (j, h, i, k) refl
+
+  -- ---- parentheses
+
+  pub parens_opens : (t : TokenAndSpan) (x : Context) (ts : List TokenAndSpan) → is_lparen t.token ≡ true
+      → by_production hook (λ c. paren-expr) x (t ∷ ts) ≡ opened hook t.span x ts
+  unfolding by_production opened reading
+  parens_opens t x ts h = rw h refl
+
+  pub opened_splits : (s : Span) (x : Context) (ts : List TokenAndSpan)
+      → opened hook s x ts ≡ (inside hook x ts >>= (λ p. close hook s p.0 p.1))
+  unfolding opened inside close reading
+  opened_splits s x ts = calls (run hook (at Assign) (with_in x) ts) _
+
+  pub close_takes : (s : Span) (e : Tree F C K) (t : TokenAndSpan) (ts : List TokenAndSpan) → is_rparen t.token ≡ true
+      → close hook s e (t ∷ ts) ≡ Some (paren_e (to s t.span) e, ts)
+  unfolding close reading
+  close_takes s e t ts h = rw h refl
+
+  pub close_ends : (s : Span) (e : Tree F C K) (ts : List TokenAndSpan) → at_token is_rparen (first ts) ≡ false
+      → close hook s e ts ≡ None
+  unfolding close reading
+  close_ends s e [] h = refl
+  close_ends s e (t ∷ ts) h = rw h refl
+
+  -- ---- literals and names
+
+  pub lit_takes : (e : Tree F C K) (x : Context) (t : TokenAndSpan) (ts : List TokenAndSpan)
+      → lit_of t.token t.span ≡ Some e
+      → run hook (at Literal) x (t ∷ ts) ≡ Some (e, ts)
+  lit_takes e x t ts h =
+      knot hook (at Literal) x (t ∷ ts) ∙ given_is (lit_of t.token t.span) e (λ v. gives v) ts h
 
   lit_no : (t : Token) (s : Span) → is_lit t ≡ false → lit_of {F = F} {C = C} {K = K} t s ≡ None
   lit_no (token.Word written.Null) s h = cc
@@ -203,25 +329,65 @@ module _ {F C K : Type 0} where
   lit_no (token.Str value raw) s h = cc
   lit_no t s h = refl
 
-  pub lit_not : (x : Context) (ts : List TokenAndSpan) → at_token is_lit (first ts) ≡ false → lit (runs F C K) x ts ≡ None
-  unfolding lit
-  lit_not x [] h = refl
-  lit_not x (t ∷ ts) h = rw (lit_no t.token t.span h) refl
+  pub lit_not : (x : Context) (ts : List TokenAndSpan) → at_token is_lit (first ts) ≡ false
+      → run hook (at Literal) x ts ≡ None
+  lit_not x [] h = knot hook (at Literal) x []
+  lit_not x (t ∷ ts) h =
+      knot hook (at Literal) x (t ∷ ts)
+      ∙ given_not (lit_of t.token t.span) (λ v. gives v) ts (lit_no t.token t.span h)
 
-  pub lit_unfit : (x : Context) (ts : List TokenAndSpan) → at_token no_error (first ts) ≡ false → lit (runs F C K) x ts ≡ None
+  pub lit_unfit : (x : Context) (ts : List TokenAndSpan) → at_token no_error (first ts) ≡ false
+      → run hook (at Literal) x ts ≡ None
   lit_unfit x ts h = lit_not x ts (error_not (first ts) h)
 
-  some_lit : (t : Token) (s : Span) (us : List TokenAndSpan) → one (lit_of {F = F} {C = C} {K = K} t s) us ≡ None → is_lit t ≡ false
-  some_lit (token.Word written.Null) s us h = cc
-  some_lit (token.Word written.True) s us h = cc
-  some_lit (token.Word written.False) s us h = cc
-  some_lit (token.Num raw) s us h = cc
-  some_lit (token.BigInt raw) s us h = cc
-  some_lit (token.Str value raw) s us h = cc
-  some_lit t s us h = refl
+  -- a name, and what is made of it
+  given_one : {A : Type 0} (o : Option A) (k : A → Tree F C K) (us : List TokenAndSpan)
+      → exec hook (run hook) None (plan (given o ▸ (λ n. gives (k n)))) us ≡ (one o us >>= (λ p. Some (k p.0, p.1)))
+  given_one None k us = refl
+  given_one (Some n) k us = refl
 
-  -- where no literal is read none stands first
-  pub lit_none : (x : Context) (ts : List TokenAndSpan) → lit (runs F C K) x ts ≡ None → at_token is_lit (first ts) ≡ false
-  unfolding lit
-  lit_none x [] h = refl
-  lit_none x (t ∷ ts) h = some_lit t.token t.span ts h
+  same_test : (a b : Bool) (n : Spelling) → a ≡ b → (if a then Some n else None) ≡ (if b then Some n else None)
+  same_test a b n h = ap (λ v. if v then Some n else None) h
+
+  -- an identifier that is an expression passes the tests that are left
+  ident_spelled : (c : Context) (t : Token) (s : Span) → is_identifier c t ≡ true
+      → reference c t s ≡ spelled (ref_ok c) t s
+  ident_spelled c (token.Word w) s h =
+      let (a, b) = both (is_reference c w) (not (is_put_off w)) h in
+      same_test (may_refer c w && not (is_put_off w)) (ref_ok c w) (spelling (word_text w) s)
+      (rw (a, b) (and_true (ref_ok c w)))
+  ident_spelled c t s h = absurd cc
+
+  pub ident_named : (x : Context) (ts : List TokenAndSpan) → at_token (is_identifier x) (first ts) ≡ true
+      → by_production hook (λ c. ident) x ts ≡ (word ref_ok x ts >>= (λ p. Some (ident_e p.0.at p.0.text, p.1)))
+  unfolding by_production reading word
+  ident_named x [] h = absurd cc
+  ident_named x (t ∷ ts) h =
+      given_one (reference x t.token t.span) (λ n. ident_e n.at n.text) ts
+      ∙ ap (λ o. one o ts >>= (λ p. Some (ident_e p.0.at p.0.text, p.1))) (ident_spelled x t.token t.span h)
+
+  pub private_opens : (t : TokenAndSpan) (x : Context) (ts : List TokenAndSpan) → is_hash t.token ≡ true
+      → by_production hook (λ c. private-name) x (t ∷ ts) ≡ hashed hook t.span x ts
+  unfolding by_production hashed reading
+  private_opens t x ts h = rw h refl
+
+  pub hashed_splits : (s : Span) (x : Context) (ts : List TokenAndSpan)
+      → hashed hook s x ts ≡ (word may_name x ts >>= (λ p. Some (private_e (to s p.0.at) p.0.text, p.1)))
+  unfolding hashed reading word
+  hashed_splits s x [] = refl
+  hashed_splits s x (t ∷ ts) = given_one (any_name x t.token t.span) (λ n. private_e (to s n.at) n.text) ts
+
+-- `()`: the code refuses it by itself, and nothing is read there, since no expression begins with `)`
+rparen_none : (x : Context) (ts : List TokenAndSpan) → at_token is_rparen (first ts) ≡ true
+    → at_token (begins_expression x) (first ts) ≡ false
+rparen_none x [] h = absurd cc
+rparen_none x (t ∷ ts) h = only-rparen (λ v. begins_expression x v ≡ false) refl t.token h
+
+pub opened_empty : {F C K : Type 0} {fun_at : F → Span} {class_at : C → Span} {block_at : K → Span} (hook : Hook F C K)
+    → LawfulHook fun_at class_at block_at hook → (s : Span) (x : Context) (ts : List TokenAndSpan)
+    → at_token is_rparen (first ts) ≡ true
+    → opened hook s x ts ≡ None
+opened_empty hook laws s x ts h =
+    opened_splits hook s x ts
+    ∙ ap (λ o. o >>= (λ p. close hook s p.0 p.1))
+    (inside_assign hook x ts ∙ reads_nothing hook laws Assign (with_in x) ts (rparen_none (with_in x) ts h))

@@ -15,15 +15,17 @@ use Rattle.swc_input.specs.declared.token.Token.{Token}
 use Rattle.swc_input.specs.declared.token.Token.TheVariants as token
 use Rattle.swc_input.specs.declared.token.TokenAndSpan.{TokenAndSpan}
 use Rattle.swc_input.specs.Plain.{plain, plain_token}
-use Rattle.swc_input.specs.Source.{Source, Keeps, with_context, with_module_error, recorded_in, waiting_in}
-use Rattle.swc_input.specs.Buffer.{Took, Read, Looked, Bumped, Future, Known, left, source, current, last_position, held, with_source, context}
-use Rattle.swc_input.specs.Laws.{Took-then, Read-same, Read-then, Read-late, keeps_same, Keeps-then, Future-before, Known-after, Known-Future, Future-current, Future-end}
-use Rattle.swc_input.specs.Recording.{Refused, error_here, error_in, is_some, is_fit, unfit, no_memory}
+use Rattle.swc_input.specs.Source.{Source, Model, Laws, Keeps, with_context, with_module_error, recorded_in, waiting_in}
+use Rattle.swc_input.specs.Buffer.{Took, Read, Lives, Served, Looked, Bumped, Future, Known, to_come, source, current, last_position, held, with_source, context}
+use Rattle.swc_input.specs.Laws.{held_some, held-before, Looked-served, Looked-some, Took-then, Read-same, Read-then, Read-late, keeps_same, Keeps-then, Future-before, Known-after, Known-Future, Future-current, Future-end}
+use Rattle.swc_input.specs.Recording.{Refused, Seen, refusal, error_here, error_in, is_some, is_fit, unfit, no_memory}
 use Rattle.swc_input.proofs.Refusals.{Refused-kind, unfit-kind}
 use Rattle.swc_input.specs.Kinds.{at_token}
-use Rattle.swc_grammar.specs.Clean.{Out, ◌>>=◌, first, lit_of, no_error}
+use Rattle.swc_grammar.specs.Parts.{lit_of}
+use Rattle.swc_grammar.specs.Clean.{Out, first, no_error}
+use Rattle.swc_grammar.specs.Words.{◌>>=◌}
 use Rattle.swc_ast.specs.Tree.{Tree}
-use Rattle.swc_productions.specs.Parsing.{is_memory, seen, seen_of, recorded, Loud, Laws, Leads, Advances, Moves, Refuses, Forgoes, Reads, Does, Tries, Here, Unfit, Checks, On, Heard, Unheard, Parses, Follows, Literal}
+use Rattle.swc_productions.specs.Parsing.{is_memory, seen, seen_of, recorded, Loud, Spends, Leads, Advances, Moves, Refuses, Forgoes, Consumes, Acts, Tries, Here, Looks, Unfit, Checks, On, Heard, Unheard, Parses, Continues, TookLiteral}
 
 abbrev pub Reader : Type 0 → Type 0
 Reader A = Context → List TokenAndSpan → Out A
@@ -117,99 +119,164 @@ unfit_seen : (o : Option TokenAndSpan) → is_fit o ≡ false → at_token no_er
 unfit_seen None h = refl
 unfit_seen (Some t) h = unfit_token t.token h
 
-module _ {S : Type 0} (state : S → Source) where
-  strict_waits : (b c : Buffer S) (e : Error) → not (context state b).module ≡ true → (i : Bool) → (i ≡ true → c ≡ b) → (i ≡ false → state c.iter ≡ with_module_error e (state b.iter)) → recorded state c ≡ recorded state b
-  strict_waits b c e w true silent noted = ap (recorded state) (silent refl)
-  strict_waits b c e w false silent noted = ap (λ s. length s.errors) (noted refl) ∙ module_waits (context state b).module (state b.iter).errors e w
+-- a refusal other than want of memory is made where a token is current, or at the end
+refused_at : (o : Option TokenAndSpan) (failed : Bool) (at : BytePos) (e r : Error) → r ≡ refusal o failed at e → r.kind ≢ OutOfMemory → failed ≡ true → IsSome o
+refused_at None true at e r h n f = absurd (n (ap (λ x. x.kind) h))
+refused_at None false at e r h n f = cc
+refused_at (Some t) failed at e r h n f = refl
 
-module _ {S : Type 0} {state : S → Source} {gives : S → List TokenAndSpan → S → Type 0} where
+module _ {S : Type 0} (model : Model S) where
+  strict_waits : (b c : Buffer S) (e : Error) → not (context model b).module ≡ true → (i : Bool) → (i ≡ true → c ≡ b) → (i ≡ false → model.state c.iter ≡ with_module_error e (model.state b.iter)) → recorded model c ≡ recorded model b
+  strict_waits b c e w true silent noted = ap (recorded model) (silent refl)
+  strict_waits b c e w false silent noted = ap (λ s. length s.errors) (noted refl) ∙ module_waits (context model b).module (model.state b.iter).errors e w
+
+  strict_lives : (b c : Buffer S) (e : Error) (i : Bool) → (i ≡ true → c ≡ b) → (i ≡ false → model.state c.iter ≡ with_module_error e (model.state b.iter)) → Lives model b c
+  strict_lives b c e true silent noted f = ap (λ z. (model.state z.iter).failed) (sym (silent refl)) ∙ f
+  strict_lives b c e false silent noted f = ap (λ s. s.failed) (sym (noted refl)) ∙ f
+
+module _ {S : Type 0} {model : Model S} where
   -- ---- what is consumed, and what is kept
 
   -- nothing was done
-  pub here : (laws : Laws state gives) (b : Buffer S) → Leads state gives b b
-  here laws b = record { laws = laws; taken = []; read = Read-same state gives laws.none b }
+  pub here : (laws : Laws model) (b : Buffer S) → Leads model b b
+  here laws b = record { laws = laws; taken = []; read = Read-same laws b; lives = λ f. f }
 
-  pub leads_then : {b c d : Buffer S} → Leads state gives b c → Leads state gives c d → Leads state gives b d
-  leads_then {b} {c} {d} p q = record { laws = p.laws; taken = p.taken ++ q.taken; read = Read-then state gives p.laws.joins b c d p.taken q.taken p.read q.read }
+  pub leads_then : {b c d : Buffer S} → Leads model b c → Leads model c d → Leads model b d
+  leads_then {b} {c} {d} p q = record {
+    laws = p.laws;
+    taken = p.taken ++ q.taken;
+    read = Read-then p.laws b c d p.taken q.taken p.read q.read;
+    lives = λ f. p.lives (q.lives f);
+  }
 
-  pub longer : {b c d : Buffer S} (p : Leads state gives b c) (q : Leads state gives c d) → 1 ≤ length p.taken → 1 ≤ length (leads_then p q).taken
+  -- what was consumed by a call that is refused
+  pub spent : {b c : Buffer S} → Leads model b c → Spends model b c
+  spent p = record { laws = p.laws; taken = p.taken; read = p.read }
+
+  spends_then : {b c d : Buffer S} → Spends model b c → Spends model c d → Spends model b d
+  spends_then {b} {c} {d} p q = record { laws = p.laws; taken = p.taken ++ q.taken; read = Read-then p.laws b c d p.taken q.taken p.read q.read }
+
+  pub served_later : {b c d : Buffer S} → Leads model b c → Served model c d → Served model b d
+  served_later p s = record { before = λ f. let h = s.before f in let g = p.lives h.0 in (g, held-before p.laws p.read.took g h.1) }
+
+  served_lives : {b c : Buffer S} → Served model b c → Lives model b c
+  served_lives s f = (s.before f).0
+
+  -- a token was consumed
+  pub took_leads : {b c : Buffer S} {k : Token} → Laws model → Bumped model b k c → Leads model b c
+  took_leads laws h = record { laws = laws; taken = plain h.was ∷ []; read = h.read; lives = λ f. ap (λ z. (model.state z.iter).failed) (sym h.now) ∙ f }
+
+  -- after a look, what is served
+  pub looked_again : {b c : Buffer S} → Laws model → Looked model b c → Looked model c c
+  looked_again {c = c} laws l = record {
+    look = record { read = Read-same laws c; previous = refl; quiet = λ m h. (refl, refl) };
+    same = λ t h. refl;
+    lives = λ s f. f;
+    end = l.end;
+  }
+
+  looked_later : {b c d : Buffer S} → Laws model → Looked model b c → Served model c d → Served model b d
+  looked_later laws l s = record { before = λ f. let h = s.before f in (Looked-served laws l (Looked-some laws l h.1)).before h.0 }
+
+  -- a refusal other than want of memory
+  pub leads_refused : {b c : Buffer S} {e : Error} → Refuses model b e c → e.kind ≢ OutOfMemory → Leads model b c
+  leads_refused r n = record { laws = r.spends.laws; taken = r.spends.taken; read = r.spends.read; lives = served_lives (r.served n) }
+
+  pub longer : {b c d : Buffer S} (p : Leads model b c) (q : Leads model c d) → 1 ≤ length p.taken → 1 ≤ length (leads_then p q).taken
   unfolding leads_then
   longer p q s = let l = length-append p.taken q.taken in omega arith
 
-  pub refuses_later : {b c d : Buffer S} {e : Error} → Leads state gives b c → Refuses state gives c e d → Refuses state gives b e d
-  refuses_later p q = record { leads = leads_then p q.leads; kind = q.kind }
+  pub refuses_later : {b c d : Buffer S} {e : Error} → Leads model b c → Refuses model c e d → Refuses model b e d
+  refuses_later p q = record { spends = spends_then (spent p) q.spends; kind = q.kind; served = λ n. served_later p (q.served n) }
 
-  pub forgoes_later : {b c d : Buffer S} {e : Error} → Leads state gives b c → Forgoes state gives c e d → Forgoes state gives b e d
-  forgoes_later p q = record { leads = leads_then p q.leads; kind = q.kind }
+  pub forgoes_later : {b c d : Buffer S} {e : Error} → Leads model b c → Forgoes model c e d → Forgoes model b e d
+  forgoes_later p q = record { spends = spends_then (spent p) q.spends; kind = q.kind }
 
-  pub forgoes_refuses : {b c : Buffer S} {e : Error} → Forgoes state gives b e c → Refuses state gives b e c
-  forgoes_refuses h = record { leads = h.leads; kind = λ k. let f = sym h.kind ∙ k in cc }
+  pub forgoes_refuses : {b c : Buffer S} {e : Error} → Forgoes model b e c → Refuses model b e c
+  forgoes_refuses h = record { spends = h.spends; kind = λ k. let f = sym h.kind ∙ k in cc; served = λ n. absurd (n h.kind) }
 
   -- want of memory, with nothing done
-  pub forgoes_here : (laws : Laws state gives) (b : Buffer S) (at : BytePos) (e : Error) → e ≡ no_memory at → Forgoes state gives b e b
-  forgoes_here laws b at e h = record { leads = here laws b; kind = ap (λ x. x.kind) h }
+  pub forgoes_here : (laws : Laws model) (b : Buffer S) (at : BytePos) (e : Error) → e ≡ no_memory at → Forgoes model b e b
+  forgoes_here laws b at e h = record { spends = spent (here laws b); kind = ap (λ x. x.kind) h }
 
   -- a refusal for want of memory is passed on
-  pub forgoes_on : Laws state gives → (b : Buffer S) (e : Error) → e.kind ≡ OutOfMemory → Forgoes state gives b e b
-  forgoes_on laws b e h = record { leads = here laws b; kind = h }
+  pub forgoes_on : Laws model → (b : Buffer S) (e : Error) → e.kind ≡ OutOfMemory → Forgoes model b e b
+  forgoes_on laws b e h = record { spends = spent (here laws b); kind = h }
 
-  pub less : {b c : Buffer S} → Leads state gives b c → left state c ≤ left state b
+  pub less : {b c : Buffer S} → Leads model b c → to_come model c ≤ to_come model b
   less p = let l = p.read.lower in omega arith
 
-  pub lower : {b c : Buffer S} → Advances state gives b c → left state c < left state b
+  pub lower : {b c : Buffer S} → Advances model b c → to_come model c < to_come model b
   lower p = let l = p.leads.read.lower in let s = p.some in omega arith
 
-  -- from what the buffer's calls ensure
-  pub refused : (laws : Laws state gives) {b c : Buffer S} (e : Buffer S → Error) (r : Error) → ((here : Buffer S) → (e here).kind ≢ ParserFailed) → Refused state gives b e r c → Refuses state gives b r c
-  refused laws {b} {c} e r own h = record {
-    leads = record { laws = laws; taken = _; read = Read-late state gives laws.joins b h.here c _ h.looked.look.read h.read };
-    kind = Refused-kind state gives b c e r own h;
+  seen_served : {b c d : Buffer S} (e : Buffer S → Error) (r : Error) → Looked model b c → Lives model c d → Laws model →
+      r ≡ refusal (current c) (model.state (source c)).failed (last_position c) (e c) → r.kind ≢ OutOfMemory → Served model b d
+  seen_served {c = c} e r looked lives laws answer n = record {
+    before = λ f. let g = lives f in (Looked-served laws looked (refused_at (current c) _ (last_position c) (e c) r answer n g)).before g;
   }
 
-  pub more_recorded : {b c : Buffer S} → Leads state gives b c → recorded state b ≤ recorded state c
+  refused_served : (laws : Laws model) {b c : Buffer S} (e : Buffer S → Error) (r : Error) → Refused model b e r c → r.kind ≢ OutOfMemory → Served model b c
+  refused_served laws e r h n = seen_served e r h.looked h.lives laws h.answer n
+
+  -- from what the buffer's calls ensure
+  pub refused : (laws : Laws model) {b c : Buffer S} (e : Buffer S → Error) (r : Error) → ((here : Buffer S) → (e here).kind ≢ ParserFailed) → Refused model b e r c → Refuses model b r c
+  refused laws {b} {c} e r own h = record {
+    spends = record { laws = laws; taken = _; read = Read-late laws b h.here c _ h.looked.look.read h.read };
+    kind = Refused-kind model b c e r own h;
+    served = λ n. refused_served laws e r h n;
+  }
+
+  pub more_recorded : {b c : Buffer S} → Leads model b c → recorded model b ≤ recorded model c
   more_recorded p = kept p.read.errors
 
-  pub loud_after : {b c : Buffer S} → Leads state gives b c → Loud state b → Loud state c
-  loud_after {b} {c} p l =
+  more_spent : {b c : Buffer S} → Spends model b c → recorded model b ≤ recorded model c
+  more_spent p = kept p.read.errors
+
+  loud_spent : {b c : Buffer S} → Spends model b c → Loud model b → Loud model c
+  loud_spent {b} {c} p l =
       let syntax = (p.laws.gave b.iter c.iter p.read.took.given p.read.took.gave).syntax in
       rw (p.read.context, syntax) l
+
+  pub loud_after : {b c : Buffer S} → Leads model b c → Loud model b → Loud model c
+  loud_after p l = loud_spent (spent p) l
 
   -- ---- what is read
 
   -- the list to come begins with what was seen
-  begins : {b c : Buffer S} (o : Option TokenAndSpan) → c.cur ≡ o → Here state gives b c → (ys : List TokenAndSpan) → Future state c ys → first ys ≡ seen_of o
-  begins {c = c} None e h ys f = ap first (Future-end state c ys e (h.looked.end e).0 (h.end e) f)
-  begins {c = c} (Some t) e h ys f = ap first (Future-current state c t ys e f).1
+  begins : {b c : Buffer S} (o : Option TokenAndSpan) → c.cur ≡ o → Here model b c → (ys : List TokenAndSpan) → Future model c ys → first ys ≡ seen_of o
+  begins {c = c} None e h ys f = ap first (Future-end model c ys e (h.looked.end e).0 (h.end e) f)
+  begins {c = c} (Some t) e h ys f = ap first (Future-current model c t ys e f).1
 
-  pub on_here : {A : Type 0} {f g : Reader A} (laws : Laws state gives) (b : Buffer S) → ((x : Context) (ts : List TokenAndSpan) → f x ts ≡ g x ts) → On state gives f g b b
+module _ {S : Type 0} {model : Model S} {sure : Bool} where
+  pub on_here : {A : Type 0} {f g : Reader A} (laws : Laws model) (b : Buffer S) → ((x : Context) (ts : List TokenAndSpan) → f x ts ≡ g x ts) → On model sure f g b b
   unfolding here
-  on_here laws b step = record { leads = here laws b; clean = λ l s ys f. step (context state b) ys; faulty = λ l lt ts k. absurd (omega (arith, lt)) }
+  on_here laws b step = record { leads = here laws b; clean = λ l s ys f. step (context model b) ys; faulty = λ y l lt ts k. absurd (omega (arith, lt)) }
 
-  pub on_by : {A : Type 0} {f g h : Reader A} {b c : Buffer S} → ((x : Context) (ts : List TokenAndSpan) → f x ts ≡ g x ts) → On state gives g h b c → On state gives f h b c
+  pub on_by : {A : Type 0} {f g h : Reader A} {b c : Buffer S} → ((x : Context) (ts : List TokenAndSpan) → f x ts ≡ g x ts) → On model sure g h b c → On model sure f h b c
   on_by {b = b} step o = record {
     leads = o.leads;
-    clean = λ l s ys f. step (context state b) (o.leads.taken ++ ys) ∙ o.clean l s ys f;
-    faulty = λ l lt ts k. step (context state b) ts ∙ o.faulty l lt ts k;
+    clean = λ l s ys f. step (context model b) (o.leads.taken ++ ys) ∙ o.clean l s ys f;
+    faulty = λ y l lt ts k. step (context model b) ts ∙ o.faulty y l lt ts k;
   }
 
   -- a look: f is g where the list to come begins with what is seen
-  pub on_seen : {A : Type 0} {f g : Reader A} {b c : Buffer S} → Here state gives b c → ((x : Context) (ts : List TokenAndSpan) → x ≡ context state c → first ts ≡ seen c → f x ts ≡ g x ts) → On state gives f g b c
+  pub on_seen : {A : Type 0} {f g : Reader A} {b c : Buffer S} → Here model b c → ((x : Context) (ts : List TokenAndSpan) → x ≡ context model c → first ts ≡ seen c → f x ts ≡ g x ts) → On model sure f g b c
   on_seen {g = g} {b = b} {c = c} h step = record {
-    leads = record { laws = h.laws; taken = []; read = h.looked.look.read };
-    clean = λ l s ys f. step (context state b) ys (sym h.looked.look.read.context) (begins c.cur refl h ys f) ∙ ap (λ x. g x ys) (sym h.looked.look.read.context);
-    faulty = λ l lt ts k. let e = ap length (h.looked.look.quiet k.more k.known).0 in absurd (omega (arith, lt, e));
+    leads = record { laws = h.laws; taken = []; read = h.looked.look.read; lives = served_lives h.served };
+    clean = λ l s ys f. step (context model b) ys (sym h.looked.look.read.context) (begins c.cur refl h ys f) ∙ ap (λ x. g x ys) (sym h.looked.look.read.context);
+    faulty = λ y l lt ts k. let e = ap length (h.looked.look.quiet k.more k.known).0 in absurd (omega (arith, lt, e));
   }
 
   -- a token was consumed
-  pub on_took : {A : Type 0} {f g : Reader A} {b c : Buffer S} {t : Token} → (laws : Laws state gives) (h : Bumped state gives b t c) → ((x : Context) (ts : List TokenAndSpan) → f x (plain h.was ∷ ts) ≡ g x ts) → On state gives f g b c
+  pub on_took : {A : Type 0} {f g : Reader A} {b c : Buffer S} {t : Token} → (laws : Laws model) (h : Bumped model b t c) → ((x : Context) (ts : List TokenAndSpan) → f x (plain h.was ∷ ts) ≡ g x ts) → On model sure f g b c
   on_took {g = g} {b = b} {c = c} laws h step = record {
-    leads = record { laws = laws; taken = plain h.was ∷ []; read = h.read };
-    clean = λ l s ys f. step (context state b) ys ∙ ap (λ x. g x ys) (sym h.read.context);
-    faulty = λ l lt ts k. let e = ap (λ z. recorded state z) h.now in absurd (omega (arith, lt, e));
+    leads = record { laws = laws; taken = plain h.was ∷ []; read = h.read; lives = (took_leads laws h).lives };
+    clean = λ l s ys f. step (context model b) ys ∙ ap (λ x. g x ys) (sym h.read.context);
+    faulty = λ y l lt ts k. let e = ap (λ z. recorded model z) h.now in absurd (omega (arith, lt, e));
   }
 
   -- one after another
-  pub on_then : {A : Type 0} {f g h : Reader A} {b c d : Buffer S} → On state gives f g b c → On state gives g h c d → On state gives f h b d
+  pub on_then : {A : Type 0} {f g h : Reader A} {b c d : Buffer S} → On model sure f g b c → On model sure g h c d → On model sure f h b d
   unfolding leads_then
   on_then {f = f} {g = g} {h = h} {b = b} {c = c} {d = d} p q =
       let m = more_recorded p.leads in
@@ -218,153 +285,181 @@ module _ {S : Type 0} {state : S → Source} {gives : S → List TokenAndSpan �
       record {
         leads = leads_then p.leads q.leads;
         clean = λ l s ys fut.
-            let s1 : recorded state c ≡ recorded state b = omega arith in
-            let s2 : recorded state d ≡ recorded state c = omega arith in
-            ap (λ v. f (context state b) v) (append_assoc p.leads.taken q.leads.taken ys)
-            ∙ p.clean l s1 (q.leads.taken ++ ys) (Future-before state gives laws.gave c d q.leads.taken ys q.leads.read.took fut)
+            let s1 : recorded model c ≡ recorded model b = omega arith in
+            let s2 : recorded model d ≡ recorded model c = omega arith in
+            ap (λ v. f (context model b) v) (append_assoc p.leads.taken q.leads.taken ys)
+            ∙ p.clean l s1 (q.leads.taken ++ ys) (Future-before laws c d q.leads.taken ys q.leads.read.took fut)
             ∙ q.clean (loud_after p.leads l) s2 ys fut;
-        faulty = λ l lt ts k. ⊎_elim
-            (λ lt1. p.faulty l lt1 ts k)
+        faulty = λ y l lt ts k. ⊎_elim
+            (λ lt1. p.faulty y l lt1 ts k)
             (λ ge.
-            let s1 : recorded state c ≡ recorded state b = omega arith in
-            let lt2 : recorded state c < recorded state d = omega arith in
-            let w = Known-after state gives laws.gave b c p.leads.taken ts p.leads.read.took k in
-            ap (λ v. f (context state b) v) w.2 ∙ p.clean l s1 w.0 (Known-Future state laws.lawful c w.0 w.1) ∙ q.faulty (loud_after p.leads l) lt2 w.0 w.1)
-            (cases_lt (recorded state b) (recorded state c));
+            let s1 : recorded model c ≡ recorded model b = omega arith in
+            let lt2 : recorded model c < recorded model d = omega arith in
+            let w = Known-after laws b c p.leads.taken ts p.leads.read.took k in
+            ap (λ v. f (context model b) v) w.2 ∙ p.clean l s1 w.0 (Known-Future laws c w.0 w.1) ∙ q.faulty y (loud_after p.leads l) lt2 w.0 w.1)
+            (cases_lt (recorded model b) (recorded model c));
       }
 
   -- q is called, and k goes on
   pub on_call : {A B : Type 0} {f : Reader A} {q : Reader B} {t : B} {b c : Buffer S} (k : Context → B × List TokenAndSpan → Out A) → ((x : Context) (ts : List TokenAndSpan) → f x ts ≡ (q x ts >>= k x)) →
-      On state gives q (give t) b c → On state gives f (λ x ts. k x (t, ts)) b c
+      On model sure q (give t) b c → On model sure f (λ x ts. k x (t, ts)) b c
   on_call {t = t} {b = b} {c = c} k step o = record {
     leads = o.leads;
-    clean = λ l s ys f. step (context state b) (o.leads.taken ++ ys) ∙ ap (λ v. v >>= k (context state b)) (o.clean l s ys f) ∙ ap (λ x. k x (t, ys)) (sym o.leads.read.context);
-    faulty = λ l lt ts h. step (context state b) ts ∙ ap (λ v. v >>= k (context state b)) (o.faulty l lt ts h);
+    clean = λ l s ys f. step (context model b) (o.leads.taken ++ ys) ∙ ap (λ v. v >>= k (context model b)) (o.clean l s ys f) ∙ ap (λ x. k x (t, ys)) (sym o.leads.read.context);
+    faulty = λ y l lt ts h. step (context model b) ts ∙ ap (λ v. v >>= k (context model b)) (o.faulty y l lt ts h);
   }
 
   -- all is well, or a fault was recorded and f reads nothing
-  passed : {A : Type 0} {f g : Reader A} {b c : Buffer S} (p : Leads state gives b c) → p.taken ≡ [] → recorded state c ≡ recorded state b → ((ts : List TokenAndSpan) → f (context state b) ts ≡ g (context state b) ts) → On state gives f g b c
+  passed : {A : Type 0} {f g : Reader A} {b c : Buffer S} (p : Leads model b c) → p.taken ≡ [] → recorded model c ≡ recorded model b → ((ts : List TokenAndSpan) → f (context model b) ts ≡ g (context model b) ts) → On model sure f g b c
   passed {f = f} {g = g} {b = b} p none same step = record {
     leads = p;
-    clean = λ l s ys fut. ap (λ v. f (context state b) (v ++ ys)) none ∙ step ys ∙ ap (λ x. g x ys) (sym p.read.context);
-    faulty = λ l lt ts k. absurd (omega (arith, lt, same));
+    clean = λ l s ys fut. ap (λ v. f (context model b) (v ++ ys)) none ∙ step ys ∙ ap (λ x. g x ys) (sym p.read.context);
+    faulty = λ y l lt ts k. absurd (omega (arith, lt, same));
   }
 
-  noted : {A : Type 0} {f g : Reader A} {b c : Buffer S} → Leads state gives b c → (Loud state b → recorded state b < recorded state c) → ((ts : List TokenAndSpan) → f (context state b) ts ≡ None) → On state gives f g b c
+  noted : {A : Type 0} {f g : Reader A} {b c : Buffer S} → Leads model b c → (Loud model b → recorded model b < recorded model c) → ((ts : List TokenAndSpan) → f (context model b) ts ≡ None) → On model sure f g b c
   noted {b = b} p lt none = record {
     leads = p;
     clean = λ l s ys f. let m = lt l in absurd (omega (arith, s, m));
-    faulty = λ l m ts k. none ts;
+    faulty = λ y l m ts k. none ts;
   }
 
-  noted_seen : {A : Type 0} {f g : Reader A} {b c : Buffer S} → Leads state gives b c → (Loud state b → recorded state b < recorded state c) → ((ts : List TokenAndSpan) → Known state b ts → f (context state b) ts ≡ None) → On state gives f g b c
+  noted_seen : {A : Type 0} {f g : Reader A} {b c : Buffer S} → Leads model b c → (Loud model b → recorded model b < recorded model c) → ((ts : List TokenAndSpan) → Known model b ts → f (context model b) ts ≡ None) → On model sure f g b c
   noted_seen {b = b} p lt none = record {
     leads = p;
     clean = λ l s ys f. let m = lt l in absurd (omega (arith, s, m));
-    faulty = λ l m ts k. none ts k;
+    faulty = λ y l m ts k. none ts k;
   }
 
-  pub on_checked_in : {A : Type 0} {f g : Reader A} {b c : Buffer S} (well : Bool) → Checks state gives well b c →
-      ((ts : List TokenAndSpan) → well ≡ true → f (context state b) ts ≡ g (context state b) ts) → ((ts : List TokenAndSpan) → well ≡ false → f (context state b) ts ≡ None) → On state gives f g b c
+  pub on_checked_in : {A : Type 0} {f g : Reader A} {b c : Buffer S} (well : Bool) → Checks model well b c →
+      ((ts : List TokenAndSpan) → well ≡ true → f (context model b) ts ≡ g (context model b) ts) → ((ts : List TokenAndSpan) → well ≡ false → f (context model b) ts ≡ None) → On model sure f g b c
   on_checked_in true h goes fails = let p = h.passes refl in passed h.leads p.0 p.1 (λ ts. goes ts refl)
   on_checked_in false h goes fails = noted h.leads (h.notes refl) (λ ts. fails ts refl)
 
-  pub on_checked : {A : Type 0} {f g : Reader A} {b c : Buffer S} (well : Bool) → Checks state gives well b c →
-      ((x : Context) (ts : List TokenAndSpan) → well ≡ true → f x ts ≡ g x ts) → ((x : Context) (ts : List TokenAndSpan) → well ≡ false → f x ts ≡ None) → On state gives f g b c
-  on_checked {b = b} well h goes fails = on_checked_in well h (λ ts. goes (context state b) ts) (λ ts. fails (context state b) ts)
+  pub on_checked : {A : Type 0} {f g : Reader A} {b c : Buffer S} (well : Bool) → Checks model well b c →
+      ((x : Context) (ts : List TokenAndSpan) → well ≡ true → f x ts ≡ g x ts) → ((x : Context) (ts : List TokenAndSpan) → well ≡ false → f x ts ≡ None) → On model sure f g b c
+  on_checked {b = b} well h goes fails = on_checked_in well h (λ ts. goes (context model b) ts) (λ ts. fails (context model b) ts)
 
-  -- a look, whatever is seen
-  pub on_looked : {A : Type 0} {f : Reader A} {b c : Buffer S} → Laws state gives → Looked state gives b c → On state gives f f b c
-  on_looked {f = f} {b = b} laws h = record {
-    leads = record { laws = laws; taken = []; read = h.look.read };
+  -- a look that finds a token
+  pub on_looked : {A : Type 0} {f : Reader A} {b c : Buffer S} → Laws model → Looked model b c → IsSome (current c) → On model sure f f b c
+  on_looked {f = f} {b = b} laws h some = record {
+    leads = record { laws = laws; taken = []; read = h.look.read; lives = h.lives some };
     clean = λ l s ys fut. ap (λ x. f x ys) (sym h.look.read.context);
-    faulty = λ l lt ts k. let e = ap length (h.look.quiet k.more k.known).0 in absurd (omega (arith, lt, e));
+    faulty = λ y l lt ts k. let e = ap length (h.look.quiet k.more k.known).0 in absurd (omega (arith, lt, e));
   }
 
   -- nothing was done
-  pub on_same : {A : Type 0} {f : Reader A} {b c : Buffer S} → Laws state gives → c ≡ b → On state gives f f b c
-  on_same {f = f} {b = b} laws e = let P : Buffer S → Type 0 = λ v. On state gives f f b v in subst P (sym e) (on_here laws b (λ x ts. refl))
+  pub on_same : {A : Type 0} {f : Reader A} {b c : Buffer S} → Laws model → c ≡ b → On model sure f f b c
+  on_same {f = f} {b = b} laws e = let P : Buffer S → Type 0 = λ v. On model sure f f b v in subst P (sym e) (on_here laws b (λ x ts. refl))
 
-  pub same_leads : {b c : Buffer S} → Laws state gives → c ≡ b → Leads state gives b c
-  same_leads {b = b} laws e = let P : Buffer S → Type 0 = λ v. Leads state gives b v in subst P (sym e) (here laws b)
+module _ {S : Type 0} {model : Model S} where
+  pub same_leads : {b c : Buffer S} → Laws model → c ≡ b → Leads model b c
+  same_leads {b = b} laws e = let P : Buffer S → Type 0 = λ v. Leads model b v in subst P (sym e) (here laws b)
 
   -- a current token, without a look
-  pub here_now : (laws : Laws state gives) (b : Buffer S) → IsSome (current b) → Here state gives b b
+  pub here_now : (laws : Laws model) (b : Buffer S) → IsSome (current b) → Here model b b
   unfolding here
   here_now laws b some = record {
     laws = laws;
     looked = record {
       look = record { read = (here laws b).read; previous = refl; quiet = λ m k. (refl, refl) };
       same = λ t e. refl;
+      lives = λ s f. f;
       end = λ e. absurd (none_some b.cur e some);
     };
+    served = record { before = λ f. (f, held_some b some) };
     end = λ e. absurd (none_some b.cur e some);
   }
-
   -- ---- after a refusal
 
+module _ {S : Type 0} {model : Model S} {sure : Bool} where
   -- f reads nothing, so whatever was recorded since
-  pub on_doomed : {A : Type 0} {f g : Reader A} {b c d : Buffer S} {e : Error} → Unheard state gives f b e c → e.kind ≢ OutOfMemory → Leads state gives c d → (Loud state c → recorded state c < recorded state d) → On state gives f g b d
+  pub on_doomed : {A : Type 0} {f g : Reader A} {b c d : Buffer S} {e : Error} → Unheard model sure f b e c → e.kind ≢ OutOfMemory → Leads model c d → (Loud model c → recorded model c < recorded model d) → On model sure f g b d
   on_doomed {b = b} u n p lt =
-      let m = more_recorded u.refuses.leads in
+      let q = leads_refused u.refuses n in
+      let m = more_recorded q in
       record {
-        leads = leads_then u.refuses.leads p;
-        clean = λ l s ys fut. let k = lt (loud_after u.refuses.leads l) in absurd (omega (arith, s, m, k));
-        faulty = λ l more ts k. u.none n l ts k;
+        leads = leads_then q p;
+        clean = λ l s ys fut. let k = lt (loud_after q l) in absurd (omega (arith, s, m, k));
+        faulty = λ y l more ts k. u.none n y l ts k;
       }
 
-  pub unheard_doomed : {A : Type 0} {f : Reader A} {b c d : Buffer S} {e x : Error} → Unheard state gives f b e c → (x.kind ≢ OutOfMemory → e.kind ≢ OutOfMemory) → Refuses state gives c x d → Unheard state gives f b x d
-  unheard_doomed u n r = record { refuses = refuses_later u.refuses.leads r; none = λ k l ts z. u.none (n k) l ts z }
+  pub unheard_doomed : {A : Type 0} {f : Reader A} {b c d : Buffer S} {e x : Error} → Unheard model sure f b e c → (x.kind ≢ OutOfMemory → e.kind ≢ OutOfMemory) → Refuses model c x d → Unheard model sure f b x d
+  unheard_doomed u n r = record {
+    refuses = record {
+      spends = spends_then u.refuses.spends r.spends;
+      kind = r.kind;
+      served = λ k. served_later (leads_refused u.refuses (n k)) (r.served k);
+    };
+    none = λ k y l ts z. u.none (n k) y l ts z;
+  }
 
   -- ---- refusals
 
   pub unheard_call : {A B : Type 0} {f : Reader A} {q : Reader B} {b c : Buffer S} {e : Error} (k : Context → B × List TokenAndSpan → Out A) → ((x : Context) (ts : List TokenAndSpan) → f x ts ≡ (q x ts >>= k x)) →
-      Unheard state gives q b e c → Unheard state gives f b e c
-  unheard_call {b = b} k step u = record { refuses = u.refuses; none = λ n l ts h. step (context state b) ts ∙ ap (λ v. v >>= k (context state b)) (u.none n l ts h) }
+      Unheard model sure q b e c → Unheard model sure f b e c
+  unheard_call {b = b} k step u = record { refuses = u.refuses; none = λ n y l ts h. step (context model b) ts ∙ ap (λ v. v >>= k (context model b)) (u.none n y l ts h) }
 
-  pub unheard_after : {A : Type 0} {f g : Reader A} {b c d : Buffer S} {e : Error} → On state gives f g b c → Unheard state gives g c e d → Unheard state gives f b e d
+  pub unheard_after : {A : Type 0} {f g : Reader A} {b c d : Buffer S} {e : Error} → On model sure f g b c → Unheard model sure g c e d → Unheard model sure f b e d
   unheard_after {f = f} {b = b} {c = c} p u = record {
     refuses = refuses_later p.leads u.refuses;
-    none = λ n l ts k. ⊎_elim
-        (λ lt. p.faulty l lt ts k)
+    none = λ n y l ts k. ⊎_elim
+        (λ lt. p.faulty y l lt ts k)
         (λ ge.
         let m = more_recorded p.leads in
-        let s : recorded state c ≡ recorded state b = omega arith in
+        let s : recorded model c ≡ recorded model b = omega arith in
         let laws = p.leads.laws in
-        let w = Known-after state gives laws.gave b c p.leads.taken ts p.leads.read.took k in
-        ap (λ v. f (context state b) v) w.2 ∙ p.clean l s w.0 (Known-Future state laws.lawful c w.0 w.1) ∙ u.none n (loud_after p.leads l) w.0 w.1)
-        (cases_lt (recorded state b) (recorded state c));
+        let w = Known-after laws b c p.leads.taken ts p.leads.read.took k in
+        ap (λ v. f (context model b) v) w.2 ∙ p.clean l s w.0 (Known-Future laws c w.0 w.1) ∙ u.none n y (loud_after p.leads l) w.0 w.1)
+        (cases_lt (recorded model b) (recorded model c));
   }
 
+  -- a look, whatever is seen
+  pub unheard_looked : {A : Type 0} {f : Reader A} {b c d : Buffer S} {e : Error} → Laws model → Looked model b c → Unheard model sure f c e d → Unheard model sure f b e d
+  unheard_looked {f = f} {b = b} {c = c} laws l u =
+      let here : Spends model b c = record { laws = laws; taken = []; read = l.look.read } in
+      record {
+        refuses = record {
+          spends = spends_then here u.refuses.spends;
+          kind = u.refuses.kind;
+          served = λ n. looked_later laws l (u.refuses.served n);
+        };
+        none = λ n y loud ts k.
+            let w = Known-after laws b c [] ts l.look.read.took k in
+            ap (λ v. f (context model b) v) w.2 ∙ ap (λ x. f x w.0) (sym l.look.read.context) ∙ u.none n y (loud_spent here loud) w.0 w.1;
+      }
+
   -- f reads nothing of any list
-  pub unheard_none : {A : Type 0} {f : Reader A} {b c : Buffer S} {e : Error} → ((x : Context) (ts : List TokenAndSpan) → f x ts ≡ None) → Refuses state gives b e c → Unheard state gives f b e c
-  unheard_none {b = b} none r = record { refuses = r; none = λ n l ts k. none (context state b) ts }
+  pub unheard_none : {A : Type 0} {f : Reader A} {b c : Buffer S} {e : Error} → ((x : Context) (ts : List TokenAndSpan) → f x ts ≡ None) → Refuses model b e c → Unheard model sure f b e c
+  unheard_none {b = b} none r = record { refuses = r; none = λ n y l ts k. none (context model b) ts }
 
   -- f reads nothing of a list that begins with what is seen
-  pub unheard_at : {A : Type 0} {f : Reader A} {b c d : Buffer S} {e : Error} → Here state gives b c → ((x : Context) (ts : List TokenAndSpan) → x ≡ context state c → first ts ≡ seen c → f x ts ≡ None) → Refuses state gives c e d → Unheard state gives f b e d
+  pub unheard_at : {A : Type 0} {f : Reader A} {b c d : Buffer S} {e : Error} → Here model b c → ((x : Context) (ts : List TokenAndSpan) → x ≡ context model c → first ts ≡ seen c → f x ts ≡ None) → Refuses model c e d → Unheard model sure f b e d
   unheard_at {A = A} {f = f} h none r = let n : Reader A = λ x ts. None in unheard_after (on_seen {g = n} h none) (unheard_none {f = n} (λ x ts. refl) r)
 
-  pub unheard_memory : {A : Type 0} {f : Reader A} {b c : Buffer S} {e : Error} → Forgoes state gives b e c → Unheard state gives f b e c
+  pub unheard_memory : {A : Type 0} {f : Reader A} {b c : Buffer S} {e : Error} → Forgoes model b e c → Unheard model sure f b e c
   unheard_memory h = record { refuses = forgoes_refuses h; none = λ n. absurd (n h.kind) }
 
   -- ---- answers
 
-  pub heard_after : {A : Type 0} {f g : Reader A} {t : A} {b c d : Buffer S} → On state gives f g b c → Heard state gives g t c d → Heard state gives f t b d
+  pub heard_after : {A : Type 0} {f g : Reader A} {t : A} {b c d : Buffer S} → On model sure f g b c → Heard model sure g t c d → Heard model sure f t b d
   unfolding on_then leads_then
   heard_after p h = record { on = on_then p h.on; some = let l = length-append p.leads.taken h.on.leads.taken in let s = h.some in omega arith }
 
-  pub heard_then : {A : Type 0} {f g : Reader A} {t : A} {b c d : Buffer S} (p : On state gives f g b c) → 1 ≤ length p.leads.taken → On state gives g (give t) c d → Heard state gives f t b d
+  pub heard_then : {A : Type 0} {f g : Reader A} {t : A} {b c d : Buffer S} (p : On model sure f g b c) → 1 ≤ length p.leads.taken → On model sure g (give t) c d → Heard model sure f t b d
   unfolding on_then leads_then
   heard_then p s q = record { on = on_then p q; some = let l = length-append p.leads.taken q.leads.taken in omega arith }
 
+module _ {S : Type 0} {model : Model S} where
   -- the list to come begins with the current token
-  known_first : (laws : Laws state gives) (b : Buffer S) → IsSome (current b) → (ts : List TokenAndSpan) → Known state b ts → first ts ≡ seen b
-  known_first laws b some ts k = begins b.cur refl (here_now laws b some) ts (Known-Future state laws.lawful b ts k)
+  known_first : (laws : Laws model) (b : Buffer S) → IsSome (current b) → (ts : List TokenAndSpan) → Known model b ts → first ts ≡ seen b
+  known_first laws b some ts k = begins b.cur refl (here_now laws b some) ts (Known-Future laws b ts k)
 
+module _ {S : Type 0} {model : Model S} {sure : Bool} where
   -- q is called, and what it read is all; but for a fault that is recorded where f reads nothing of what is seen
   pub heard_unless : {A B : Type 0} {f : Reader A} {q : Reader B} {n : B} {t : A} {b c d : Buffer S} (bad : Bool) (k : Context → B × List TokenAndSpan → Out A) → ((x : Context) (ts : List TokenAndSpan) → f x ts ≡ (q x ts >>= k x)) →
-      ((x : Context) (ts : List TokenAndSpan) → k x (n, ts) ≡ Some (t, ts)) → IsSome (current b) → Heard state gives q n b c → Checks state gives (not bad) c d →
-      (bad ≡ true → (ts : List TokenAndSpan) → first ts ≡ seen b → f (context state b) ts ≡ None) → Heard state gives f t b d
+      ((x : Context) (ts : List TokenAndSpan) → k x (n, ts) ≡ Some (t, ts)) → IsSome (current b) → Heard model sure q n b c → Checks model (not bad) c d →
+      (bad ≡ true → (ts : List TokenAndSpan) → first ts ≡ seen b → f (context model b) ts ≡ None) → Heard model sure f t b d
   unfolding leads_then on_call noted_seen
   heard_unless {t = t} {b = b} false k step ends some h checks none = heard_then (on_call k step h.on) h.some (on_checked {g = give t} true checks (λ x ts w. ends x ts) (λ x ts w. cc))
   heard_unless {b = b} true k step ends some h checks none = record {
@@ -372,81 +467,105 @@ module _ {S : Type 0} {state : S → Source} {gives : S → List TokenAndSpan �
     some = let l = length-append h.on.leads.taken checks.leads.taken in let s = h.some in omega arith;
   }
 
+module _ {S : Type 0} {model : Model S} where
+  -- a look, which tells the end from a source that has failed
+  pub looks : (laws : Laws model) (b c : Buffer S) (r : Result Bool Error) → Looked model b c → IfOk r (λ v. Seen model b v c) →
+      IfErr r (λ e. (e ≡ no_memory (last_position c)) × Looked model b c × (current c ≡ None) × ((model.state (source c)).failed ≡ true)) → Looks model b r c
+  looks laws b c (Ok true) l p q = record {
+    laws = laws;
+    looked = l;
+    served = Looked-served laws l (let t = p.token refl in subst IsSome (sym t.1) refl);
+    end = λ e. let t = p.token refl in absurd (none_some c.cur e (subst IsSome (sym t.1) refl));
+  }
+  looks laws b c (Ok false) l p q = record {
+    laws = laws;
+    looked = l;
+    served = record { before = λ f. absurd (let e : true ≡ false = sym f ∙ (p.end refl).2 in cc) };
+    end = λ e. (p.end refl).3;
+  }
+  looks laws b c (Err e) l p q = record { spends = record { laws = laws; taken = []; read = l.look.read }; kind = ap (λ x. x.kind) q.0 }
+
   -- a token is current, and no error; or the refusal of what is
-  pub required : {T : Type 0} (laws : Laws state gives) (b c : Buffer S) (r : Result T Error) →
-      OnOk r (Looked state gives b c × IsSome (current c) × (error_here (current c) ≡ None)) →
-      IfErr r (λ e. (x : Refused state gives b (λ here. unfit (current here) (last_position here) Eof) e c) × (is_fit (current x.here) ≡ false)) →
-      MatchResult r (λ t. Here state gives b c) (λ e. Unfit state gives b e c)
-  required laws b c (Ok t) p q = record { laws = laws; looked = p.0; end = λ e. absurd (none_some c.cur e p.1) }
+  pub required : {T : Type 0} (laws : Laws model) (b c : Buffer S) (r : Result T Error) →
+      OnOk r (Looked model b c × IsSome (current c) × (error_here (current c) ≡ None)) →
+      IfErr r (λ e. (x : Refused model b (λ here. unfit (current here) (last_position here) Eof) e c) × (is_fit (current x.here) ≡ false)) →
+      MatchResult r (λ t. Here model b c) (λ e. Unfit model b e c)
+  required laws b c (Ok t) p q = record { laws = laws; looked = p.0; served = Looked-served laws p.0 p.1; end = λ e. absurd (none_some c.cur e p.1) }
   required laws b c (Err e) p q = let x = q.0 in record {
     at = x.here;
     looked = x.looked;
     end = λ n f. (x.looked.end n).1 f;
     unfit = unfit_seen x.here.cur q.1;
     refuses = record {
-      leads = record { laws = laws; taken = _; read = x.read };
-      kind = Refused-kind state gives b c (λ here. unfit (current here) (last_position here) Eof) e (λ here. unfit-kind (current here) (last_position here) Eof ParserFailed (λ h. cc) (λ h. cc)) x;
+      spends = record { laws = laws; taken = _; read = x.read };
+      kind = Refused-kind model b c (λ here. unfit (current here) (last_position here) Eof) e (λ here. unfit-kind (current here) (last_position here) Eof ParserFailed (λ h. cc) (λ h. cc)) x;
+      served = λ n. seen_served (λ here. unfit (current here) (last_position here) Eof) e (looked_again laws x.looked) x.lives laws x.answer n;
     };
   }
 
+module _ {S : Type 0} {model : Model S} {sure : Bool} where
   -- f reads nothing at an error token, nor at the end
-  pub unheard_unfit : {A : Type 0} {f : Reader A} {b c : Buffer S} {e : Error} → Laws state gives → ((x : Context) (ts : List TokenAndSpan) → at_token no_error (first ts) ≡ false → f x ts ≡ None) → Unfit state gives b e c → Unheard state gives f b e c
+  pub unheard_unfit : {A : Type 0} {f : Reader A} {b c : Buffer S} {e : Error} → Laws model → ((x : Context) (ts : List TokenAndSpan) → at_token no_error (first ts) ≡ false → f x ts ≡ None) → Unfit model b e c → Unheard model sure f b e c
   unheard_unfit {b = b} laws step u = record {
-    refuses = refuses_later (record { laws = laws; taken = []; read = u.looked.look.read }) u.refuses;
-    none = λ n l ts k.
-        let w = Known-after state gives laws.gave b u.at [] ts u.looked.look.read.took k in
-        let sure = (laws.lawful u.at.iter).sure w.1.more w.1.known in
-        let here : Here state gives b u.at = record { laws = laws; looked = u.looked; end = λ e. u.end e sure } in
-        let first_is = begins u.at.cur refl here w.0 (Known-Future state laws.lawful u.at w.0 w.1) in
-        step (context state b) ts (ap (λ v. at_token no_error (first v)) w.2 ∙ ap (at_token no_error) first_is ∙ u.unfit);
+    refuses = record {
+      spends = spends_then (record { laws = laws; taken = []; read = u.looked.look.read }) u.refuses.spends;
+      kind = u.refuses.kind;
+      served = λ n. looked_later laws u.looked (u.refuses.served n);
+    };
+    none = λ n y l ts k.
+        let w = Known-after laws b u.at [] ts u.looked.look.read.took k in
+        let runs = (laws.lawful u.at.iter).sure w.1.more w.1.known in
+        let here : Here model b u.at = record { laws = laws; looked = u.looked; served = record { before = λ f. absurd (let e : true ≡ false = sym f ∙ runs in cc) }; end = λ e. u.end e runs } in
+        let first_is = begins u.at.cur refl here w.0 (Known-Future laws u.at w.0 w.1) in
+        step (context model b) ts (ap (λ v. at_token no_error (first v)) w.2 ∙ ap (at_token no_error) first_is ∙ u.unfit);
   }
 
   -- one token is all of it
-  pub heard_took : {A : Type 0} {f : Reader A} {t : A} {b c : Buffer S} {k : Token} (laws : Laws state gives) (h : Bumped state gives b k c) → ((x : Context) (ts : List TokenAndSpan) → f x (plain h.was ∷ ts) ≡ Some (t, ts)) → Heard state gives f t b c
+  pub heard_took : {A : Type 0} {f : Reader A} {t : A} {b c : Buffer S} {k : Token} (laws : Laws model) (h : Bumped model b k c) → ((x : Context) (ts : List TokenAndSpan) → f x (plain h.was ∷ ts) ≡ Some (t, ts)) → Heard model sure f t b c
   unfolding on_took
   heard_took {t = t} laws h step = record { on = on_took {g = give t} laws h step; some = omega arith }
 
+module _ {S : Type 0} {model : Model S} where
   -- what is said of a token that was consumed, and of its place
-  pub at_was : {X : Type 0} (f : Token → Span → Option X) (x : X) {b c : Buffer S} {t : Token} (h : Bumped state gives b t c) (at : Span) → at ≡ c.prev_span → f (plain_token t) at ≡ Some x → f (plain_token h.was.token) h.was.span ≡ Some x
+  pub at_was : {X : Type 0} (f : Token → Span → Option X) (x : X) {b c : Buffer S} {t : Token} (h : Bumped model b t c) (at : Span) → at ≡ c.prev_span → f (plain_token t) at ≡ Some x → f (plain_token h.was.token) h.was.span ≡ Some x
   at_was f x {t = t} h at p q =
       let place : at ≡ h.was.span = p ∙ ap (λ z. z.prev_span) h.now in
       ap (λ v. f (plain_token v) h.was.span) (sym h.token) ∙ ap (λ v. f (plain_token t) v) (sym place) ∙ q
 
   -- a look, and then the token of a literal
-  pub literal_took : {F C K : Type 0} {t : Tree F C K} {b c d : Buffer S} {k : Token} → Here state gives b c → (h : Bumped state gives c k d) → lit_of (plain h.was).token (plain h.was).span ≡ Some t → Literal state gives t b d
-  literal_took {b = b} {c = c} {d = d} l h e = record { token = plain h.was; read = Read-late state gives l.laws.joins b c d (plain h.was ∷ []) l.looked.look.read h.read; literal = e }
+  pub literal_took : {F C K : Type 0} {t : Tree F C K} {b c d : Buffer S} {k : Token} → Here model b c → (h : Bumped model c k d) → lit_of (plain h.was).token (plain h.was).span ≡ Some t → TookLiteral model t b d
+  literal_took {b = b} {c = c} {d = d} l h e = record { token = plain h.was; read = Read-late l.laws b c d (plain h.was ∷ []) l.looked.look.read h.read; literal = e }
 
+module _ {S : Type 0} {model : Model S} {sure : Bool} where
   -- a token, and what follows it
-  pub heard_first : {A : Type 0} {f g : Reader A} {t : A} {b c d : Buffer S} {k : Token} (laws : Laws state gives) (h : Bumped state gives b k c) → ((x : Context) (ts : List TokenAndSpan) → f x (plain h.was ∷ ts) ≡ g x ts) → On state gives g (give t) c d → Heard state gives f t b d
+  pub heard_first : {A : Type 0} {f g : Reader A} {t : A} {b c d : Buffer S} {k : Token} (laws : Laws model) (h : Bumped model b k c) → ((x : Context) (ts : List TokenAndSpan) → f x (plain h.was ∷ ts) ≡ g x ts) → On model sure g (give t) c d → Heard model sure f t b d
   unfolding on_took
   heard_first laws h step o = heard_then (on_took laws h step) (omega arith) o
 
-  pub on_answer : {A : Type 0} {f : Reader A} {t u : A} {b c : Buffer S} → t ≡ u → On state gives f (give t) b c → On state gives f (give u) b c
-  on_answer {A = A} {f = f} {b = b} {c = c} e o = let P : A → Type 0 = λ v. On state gives f (give v) b c in subst P e o
+  pub on_answer : {A : Type 0} {f : Reader A} {t u : A} {b c : Buffer S} → t ≡ u → On model sure f (give t) b c → On model sure f (give u) b c
+  on_answer {A = A} {f = f} {b = b} {c = c} e o = let P : A → Type 0 = λ v. On model sure f (give v) b c in subst P e o
 
-  pub heard_answer : {A : Type 0} {f : Reader A} {t u : A} {b c : Buffer S} → t ≡ u → Heard state gives f t b c → Heard state gives f u b c
-  heard_answer {A = A} {f = f} {b = b} {c = c} e o = let P : A → Type 0 = λ v. Heard state gives f v b c in subst P e o
+  pub heard_answer : {A : Type 0} {f : Reader A} {t u : A} {b c : Buffer S} → t ≡ u → Heard model sure f t b c → Heard model sure f u b c
+  heard_answer {A = A} {f = f} {b = b} {c = c} e o = let P : A → Type 0 = λ v. Heard model sure f v b c in subst P e o
 
+module _ {S : Type 0} {model : Model S} where
   -- the place of the current token, and of the one consumed last
-  pub place_was : {b c : Buffer S} {k : Token} (h : Bumped state gives b k c) (p : Span) → MatchOption (current b) (p ≡ b.prev_span) (λ t. p ≡ t.span) → p ≡ h.was.span
+  pub place_was : {b c : Buffer S} {k : Token} (h : Bumped model b k c) (p : Span) → MatchOption (current b) (p ≡ b.prev_span) (λ t. p ≡ t.span) → p ≡ h.was.span
   place_was {b} h p m = place_of b.cur h.was b.prev_span p h.current m
 
-  pub last_was : {b c : Buffer S} {k : Token} (h : Bumped state gives b k c) → c.prev_span ≡ h.was.span
+  pub last_was : {b c : Buffer S} {k : Token} (h : Bumped model b k c) → c.prev_span ≡ h.was.span
   last_was h = ap (λ z. z.prev_span) h.now
 
-  pub here_leads : {b c : Buffer S} → Here state gives b c → Leads state gives b c
-  here_leads h = record { laws = h.laws; taken = []; read = h.looked.look.read }
-
-  pub took_leads : {b c : Buffer S} {k : Token} → Laws state gives → Bumped state gives b k c → Leads state gives b c
-  took_leads laws h = record { laws = laws; taken = _; read = h.read }
+  pub here_leads : {b c : Buffer S} → Here model b c → Leads model b c
+  here_leads h = record { laws = h.laws; taken = []; read = h.looked.look.read; lives = served_lives h.served }
 
   -- ---- faults that are recorded unless all is well
 
-  pub check_passes : (well : Bool) → Laws state gives → (b : Buffer S) → well ≡ true → Checks state gives well b b
+  pub check_passes : (well : Bool) → Laws model → (b : Buffer S) → well ≡ true → Checks model well b b
   unfolding here
   check_passes well laws b h = record { leads = here laws b; passes = λ w. (refl, refl); notes = λ n l. let e : true ≡ false = sym h ∙ n in cc }
 
-  pub checks_both : (p q : Bool) {b c d : Buffer S} → Checks state gives (not p) b c → Checks state gives (not q) c d → Checks state gives (not (p || q)) b d
+  pub checks_both : (p q : Bool) {b c d : Buffer S} → Checks model (not p) b c → Checks model (not q) c d → Checks model (not (p || q)) b d
   unfolding leads_then
   checks_both true q h k = record { leads = leads_then h.leads k.leads; passes = λ w. cc; notes = λ n l. let a = h.notes refl l in let m = more_recorded k.leads in omega arith }
   checks_both false true h k = record { leads = leads_then h.leads k.leads; passes = λ w. cc; notes = λ n l. let a = k.notes refl (loud_after h.leads l) in let m = more_recorded h.leads in omega arith }
@@ -456,186 +575,215 @@ module _ {S : Type 0} {state : S → Source} {gives : S → List TokenAndSpan �
       record { leads = leads_then h.leads k.leads; passes = λ w. (ap (λ v. v ++ k.leads.taken) p.0 ∙ q.0, q.1 ∙ p.1); notes = λ n l. cc }
 
   -- a fault of modules: it is recorded there, and waits elsewhere
-  pub checks_strict : (laws : Laws state gives) (b c : Buffer S) (e : Error) → Read state gives b [] c → ((context state b).ignore_error ≡ true → c ≡ b) →
-      ((context state b).ignore_error ≡ false → state c.iter ≡ with_module_error e (state b.iter)) → Checks state gives (not (context state b).module) b c
+  pub checks_strict : (laws : Laws model) (b c : Buffer S) (e : Error) → Read model b [] c → ((context model b).ignore_error ≡ true → c ≡ b) →
+      ((context model b).ignore_error ≡ false → model.state c.iter ≡ with_module_error e (model.state b.iter)) → Checks model (not (context model b).module) b c
   checks_strict laws b c e read silent noted = record {
-    leads = record { laws = laws; taken = []; read = read };
-    passes = λ w. (refl, strict_waits state b c e w (context state b).ignore_error silent noted);
-    notes = λ n l. more_than _ _ _ (ap (λ s. length s.errors) (noted (heeded _ _ l))) (module_notes (context state b).module (state b.iter).errors e n);
+    leads = record { laws = laws; taken = []; read = read; lives = strict_lives model b c e (context model b).ignore_error silent noted };
+    passes = λ w. (refl, strict_waits model b c e w (context model b).ignore_error silent noted);
+    notes = λ n l. more_than _ _ _ (ap (λ s. length s.errors) (noted (heeded _ _ l))) (module_notes (context model b).module (model.state b.iter).errors e n);
   }
 
   -- ---- the context is set, and put back
 
   -- a context of the same kind of text records nothing, and sets nothing waiting
-  pub moved : (laws : Laws state gives) (b c : Buffer S) (ctx : Context) (r : Result (Unit {0}) AllocError) (e : Bool) → e ≡ is_err r → e ≡ false →
-      ctx.module ≡ (state (source b)).context.module → Took gives b [] c → c ≡ with_source (source c) b →
-      OnOk r (state (source c) ≡ with_context ctx (state (source b))) → Moves state gives b c
+  pub moved : (laws : Laws model) (b c : Buffer S) (ctx : Context) (r : Result (Unit {0}) AllocError) (e : Bool) → e ≡ is_err r → e ≡ false →
+      ctx.module ≡ (model.state (source b)).context.module → Took model b [] c → c ≡ with_source (source c) b →
+      OnOk r (model.state (source c) ≡ with_context ctx (model.state (source b))) → Moves model b c
   moved laws b c ctx r e p q same took rest set =
-      let s = answered (state (source b)) (state (source c)) ctx r e p q set in
+      let s = answered (model.state (source b)) (model.state (source c)) ctx r e p q set in
       let waits = λ (m : ctx.module ≡ true). (laws.lawful b.iter).none_waits (sym same ∙ m) in
       record {
         laws = laws;
         took = took;
-        errors = ap (λ x. x.errors) s ∙ ap (λ l. (state (source b)).errors ++ l) (none_recorded ctx.module (state (source b)).waiting waits) ∙ append-nil (state (source b)).errors;
-        waiting = ap (λ x. x.waiting) s ∙ all_waiting ctx.module (state (source b)).waiting waits;
-        left = let bound = ap (λ x. x.bound) s in let held = ap (λ x. length (held x)) rest in omega arith;
+        errors = ap (λ x. x.errors) s ∙ ap (λ l. (model.state (source b)).errors ++ l) (none_recorded ctx.module (model.state (source b)).waiting waits) ∙ append-nil (model.state (source b)).errors;
+        waiting = ap (λ x. x.waiting) s ∙ all_waiting ctx.module (model.state (source b)).waiting waits;
+        lives = λ f. ap (λ x. x.failed) (sym s) ∙ f;
+        stays = let bound = ap (λ x. x.bound) s in let held = ap (λ x. length (held x)) rest in omega arith;
       }
 
-  moved_kept : {b c : Buffer S} → Moves state gives b c → Keeps (state b.iter).errors (state c.iter).errors
+  moved_kept : {b c : Buffer S} → Moves model b c → Keeps (model.state b.iter).errors (model.state c.iter).errors
   moved_kept m = keeps_same _ _ m.errors
 
-  moved_waiting : {b c : Buffer S} → Moves state gives b c → Keeps (state b.iter).waiting (state c.iter).waiting
+  moved_waiting : {b c : Buffer S} → Moves model b c → Keeps (model.state b.iter).waiting (model.state c.iter).waiting
   moved_waiting m = keeps_same _ _ m.waiting
 
   -- between two contexts, the second of which is put back
-  pub within : {b c d e : Buffer S} → Moves state gives b c → Leads state gives c d → Moves state gives d e → context state e ≡ context state b → Leads state gives b e
-  within {b} {c} {d} {e} m p n back = record {
+  within_spent : {b c d e : Buffer S} → Moves model b c → Spends model c d → Moves model d e → context model e ≡ context model b → Spends model b e
+  within_spent {b} {c} {d} {e} m p n back = record {
     laws = m.laws;
     taken = p.taken ++ [];
     read = record {
-      took = Took-then state gives m.laws.joins b c e [] (p.taken ++ []) m.took (Took-then state gives m.laws.joins c d e p.taken [] p.read.took n.took);
+      took = Took-then m.laws b c e [] (p.taken ++ []) m.took (Took-then m.laws c d e p.taken [] p.read.took n.took);
       context = back;
       errors = Keeps-then _ _ _ (moved_kept m) (Keeps-then _ _ _ p.read.errors (moved_kept n));
       waiting = Keeps-then _ _ _ (moved_waiting m) (Keeps-then _ _ _ p.read.waiting (moved_waiting n));
-      lower = let a = m.left in let l = p.read.lower in let z = n.left in let k = length-append p.taken [] in omega arith;
+      lower = let a = m.stays in let l = p.read.lower in let z = n.stays in let k = length-append p.taken [] in omega arith;
     };
   }
 
+  pub within : {b c d e : Buffer S} → Moves model b c → Leads model c d → Moves model d e → context model e ≡ context model b → Leads model b e
+  within m p n back =
+      let s = within_spent m (spent p) n back in
+      record { laws = s.laws; taken = s.taken; read = s.read; lives = λ f. m.lives (p.lives (n.lives f)) }
+
+  within_served : {b c d e : Buffer S} → Moves model b c → Served model c d → Moves model d e → Served model b e
+  within_served m s n = record { before = λ f. let h = s.before (n.lives f) in let g = m.lives h.0 in (g, held-before m.laws m.took g h.1) }
+
   -- in a context that records what the other does
-  loud_within : {b c : Buffer S} → Moves state gives b c → (context state c).ignore_error ≡ (context state b).ignore_error → Loud state b → Loud state c
+  loud_within : {b c : Buffer S} → Moves model b c → (context model c).ignore_error ≡ (context model b).ignore_error → Loud model b → Loud model c
   loud_within {b} {c} m same l = let syntax = (m.laws.gave b.iter c.iter m.took.given m.took.gave).syntax in rw (same, syntax) l
 
+module _ {S : Type 0} {model : Model S} {sure : Bool} where
   -- f reads what q reads with the context changed by w
   pub on_within : {A : Type 0} {f q : Reader A} {t : A} {b c d e : Buffer S} (w : Context → Context) → ((x : Context) → (w x).ignore_error ≡ x.ignore_error) → ((x : Context) (ts : List TokenAndSpan) → f x ts ≡ q (w x) ts) →
-      Moves state gives b c → context state c ≡ w (context state b) → On state gives q (give t) c d → Moves state gives d e → context state e ≡ context state b → On state gives f (give t) b e
-  unfolding within
+      Moves model b c → context model c ≡ w (context model b) → On model sure q (give t) c d → Moves model d e → context model e ≡ context model b → On model sure f (give t) b e
+  unfolding within within_spent spent
   on_within {f = f} {q = q} {t = t} {b = b} {c = c} {d = d} {e = e} w quiet step m to o n back =
-      let loud = λ (l : Loud state b). loud_within m (ap (λ x. x.ignore_error) to ∙ quiet (context state b)) l in
+      let loud = λ (l : Loud model b). loud_within m (ap (λ x. x.ignore_error) to ∙ quiet (context model b)) l in
       let en = ap length n.errors in
       let em = ap length m.errors in
       record {
         leads = within m o.leads n back;
         clean = λ l s ys fut.
-            let s1 : recorded state d ≡ recorded state c = omega arith in
-            ap (λ v. f (context state b) v) (append_assoc o.leads.taken [] ys) ∙ step (context state b) (o.leads.taken ++ ys)
-            ∙ ap (λ x. q x (o.leads.taken ++ ys)) (sym to) ∙ o.clean (loud l) s1 ys (Future-before state gives m.laws.gave d e [] ys n.took fut);
-        faulty = λ l lt ts k.
-            let lt1 : recorded state c < recorded state d = omega arith in
-            let v = Known-after state gives m.laws.gave b c [] ts m.took k in
-            ap (λ x. f (context state b) x) v.2 ∙ step (context state b) v.0 ∙ ap (λ x. q x v.0) (sym to) ∙ o.faulty (loud l) lt1 v.0 v.1;
+            let s1 : recorded model d ≡ recorded model c = omega arith in
+            ap (λ v. f (context model b) v) (append_assoc o.leads.taken [] ys) ∙ step (context model b) (o.leads.taken ++ ys)
+            ∙ ap (λ x. q x (o.leads.taken ++ ys)) (sym to) ∙ o.clean (loud l) s1 ys (Future-before m.laws d e [] ys n.took fut);
+        faulty = λ y l lt ts k.
+            let lt1 : recorded model c < recorded model d = omega arith in
+            let v = Known-after m.laws b c [] ts m.took k in
+            ap (λ x. f (context model b) x) v.2 ∙ step (context model b) v.0 ∙ ap (λ x. q x v.0) (sym to) ∙ o.faulty y (loud l) lt1 v.0 v.1;
       }
 
   unheard_within : {A : Type 0} {f q : Reader A} {b c d e : Buffer S} {x : Error} (w : Context → Context) → ((x : Context) → (w x).ignore_error ≡ x.ignore_error) → ((x : Context) (ts : List TokenAndSpan) → f x ts ≡ q (w x) ts) →
-      Moves state gives b c → context state c ≡ w (context state b) → Unheard state gives q c x d → Moves state gives d e → context state e ≡ context state b → Unheard state gives f b x e
+      Moves model b c → context model c ≡ w (context model b) → Unheard model sure q c x d → Moves model d e → context model e ≡ context model b → Unheard model sure f b x e
   unheard_within {f = f} {q = q} {b = b} {c = c} w quiet step m to u n back = record {
-    refuses = record { leads = within m u.refuses.leads n back; kind = u.refuses.kind };
-    none = λ y l ts k.
-        let v = Known-after state gives m.laws.gave b c [] ts m.took k in
-        ap (λ x. f (context state b) x) v.2 ∙ step (context state b) v.0 ∙ ap (λ x. q x v.0) (sym to) ∙ u.none y (loud_within m (ap (λ x. x.ignore_error) to ∙ quiet (context state b)) l) v.0 v.1;
+    refuses = record {
+      spends = within_spent m u.refuses.spends n back;
+      kind = u.refuses.kind;
+      served = λ k. within_served m (u.refuses.served k) n;
+    };
+    none = λ z y l ts k.
+        let v = Known-after m.laws b c [] ts m.took k in
+        ap (λ x. f (context model b) x) v.2 ∙ step (context model b) v.0 ∙ ap (λ x. q x v.0) (sym to) ∙ u.none z y (loud_within m (ap (λ x. x.ignore_error) to ∙ quiet (context model b)) l) v.0 v.1;
   }
 
-module _ {S : Type 0} (state : S → Source) (gives : S → List TokenAndSpan → S → Type 0) {T A : Type 0} (view : T → A) (f : Reader A) where
-  pub parses_after : {g : Reader A} {b c : Buffer S} (d : Buffer S) (r : Result T Error) → On state gives f g b c → Parses state gives view g c r d → Parses state gives view f b r d
+module _ {S : Type 0} (model : Model S) (sure : Bool) {T A : Type 0} (view : T → A) (f : Reader A) where
+  pub parses_after : {g : Reader A} {b c : Buffer S} (d : Buffer S) (r : Result T Error) → On model sure f g b c → Parses model sure view g c r d → Parses model sure view f b r d
   parses_after d (Ok x) p h = heard_after p h
   parses_after d (Err e) p h = unheard_after p h
 
-  pub follows_after : {g : Reader A} {b c : Buffer S} (d : Buffer S) (r : Result T Error) → On state gives f g b c → Follows state gives view g c r d → Follows state gives view f b r d
-  follows_after d (Ok x) p h = on_then p h
-  follows_after d (Err e) p h = unheard_after p h
+  pub continues_after : {g : Reader A} {b c : Buffer S} (d : Buffer S) (r : Result T Error) → On model sure f g b c → Continues model sure view g c r d → Continues model sure view f b r d
+  continues_after d (Ok x) p h = on_then p h
+  continues_after d (Err e) p h = unheard_after p h
 
   -- once something was consumed, what may consume nothing reads
-  pub parses_then : {g : Reader A} {b c : Buffer S} (d : Buffer S) (r : Result T Error) (p : On state gives f g b c) → 1 ≤ length p.leads.taken → Follows state gives view g c r d → Parses state gives view f b r d
+  pub parses_then : {g : Reader A} {b c : Buffer S} (d : Buffer S) (r : Result T Error) (p : On model sure f g b c) → 1 ≤ length p.leads.taken → Continues model sure view g c r d → Parses model sure view f b r d
   parses_then d (Ok x) p s h = heard_then p s h
   parses_then d (Err e) p s h = unheard_after p h
 
   pub parses_within : (q : Reader A) {b c d e : Buffer S} (r : Result T Error) (w : Context → Context) → ((x : Context) → (w x).ignore_error ≡ x.ignore_error) → ((x : Context) (ts : List TokenAndSpan) → f x ts ≡ q (w x) ts) →
-      Moves state gives b c → context state c ≡ w (context state b) → Parses state gives view q c r d → Moves state gives d e → context state e ≡ context state b → Parses state gives view f b r e
-  unfolding on_within within
+      Moves model b c → context model c ≡ w (context model b) → Parses model sure view q c r d → Moves model d e → context model e ≡ context model b → Parses model sure view f b r e
+  unfolding on_within within within_spent spent
   parses_within q (Ok x) w quiet step m to h n back = record { on = on_within w quiet step m to h.on n back; some = let l = length-append h.on.leads.taken [] in let s = h.some in omega arith }
   parses_within q (Err x) w quiet step m to u n back = unheard_within w quiet step m to u n back
 
   -- what callers outside the productions are told
-  pub reads_of : (b c : Buffer S) (r : Result T Error) → Parses state gives view f b r c → Reads state gives b r c
-  reads_of b c (Ok x) h = record { leads = h.on.leads; some = h.some }
-  reads_of b c (Err e) u = u.refuses
+  pub consumes_of : (b c : Buffer S) (r : Result T Error) → Parses model sure view f b r c → Consumes model b r c
+  consumes_of b c (Ok x) h = record { leads = h.on.leads; some = h.some }
+  consumes_of b c (Err e) u = u.refuses
 
-module _ {S : Type 0} (state : S → Source) (gives : S → List TokenAndSpan → S → Type 0) {T A : Type 0} (view : T → A) (f : Reader A) where
+module _ {S : Type 0} (model : Model S) (sure : Bool) {T A : Type 0} (view : T → A) (f : Reader A) where
   -- what was read so far, one token at least, and what may consume nothing
-  pub reads_then : {b c d : Buffer S} (p : Leads state gives b c) (q : Leads state gives c d) → 1 ≤ length q.taken → (e : Buffer S) (r : Result T Error) → Follows state gives view f d r e → Reads state gives b r e
+  pub consumes_then : {b c d : Buffer S} (p : Leads model b c) (q : Leads model c d) → 1 ≤ length q.taken → (e : Buffer S) (r : Result T Error) → Continues model sure view f d r e → Consumes model b r e
   unfolding leads_then
-  reads_then p q s e (Ok x) h = record { leads = leads_then (leads_then p q) h.leads; some = let k = length-append p.taken q.taken in let m = length-append (p.taken ++ q.taken) h.leads.taken in omega arith }
-  reads_then p q s e (Err x) u = refuses_later (leads_then p q) u.refuses
+  consumes_then p q s e (Ok x) h = record { leads = leads_then (leads_then p q) h.leads; some = let k = length-append p.taken q.taken in let m = length-append (p.taken ++ q.taken) h.leads.taken in omega arith }
+  consumes_then p q s e (Err x) u = refuses_later (leads_then p q) u.refuses
 
-  pub notes_then : (b : Buffer S) {c d : Buffer S} → recorded state b < recorded state c → Leads state gives c d → (e : Buffer S) (r : Result T Error) → Follows state gives view f d r e → OnOk r (recorded state b < recorded state e)
+  pub notes_then : (b : Buffer S) {c d : Buffer S} → recorded model b < recorded model c → Leads model c d → (e : Buffer S) (r : Result T Error) → Continues model sure view f d r e → OnOk r (recorded model b < recorded model e)
   notes_then b lt p e (Ok x) h = let k = more_recorded p in let m = more_recorded h.leads in omega arith
   notes_then b lt p e (Err x) u = tt
 
-  pub follows_of : (b c : Buffer S) (r : Result T Error) → Parses state gives view f b r c → Follows state gives view f b r c
-  follows_of b c (Ok x) h = h.on
-  follows_of b c (Err e) u = u
+  pub continues_of : (b c : Buffer S) (r : Result T Error) → Parses model sure view f b r c → Continues model sure view f b r c
+  continues_of b c (Ok x) h = h.on
+  continues_of b c (Err e) u = u
 
   -- an answer that is known
-  pub parses_ok : (b c : Buffer S) (r : Result T Error) (x : T) → r ≡ Ok x → Parses state gives view f b r c → Heard state gives f (view x) b c
-  parses_ok b c (Ok y) x e h = let P : T → Type 0 = λ v. Heard state gives f (view v) b c in let same : y ≡ x = cc in subst P same h
+  pub parses_ok : (b c : Buffer S) (r : Result T Error) (x : T) → r ≡ Ok x → Parses model sure view f b r c → Heard model sure f (view x) b c
+  parses_ok b c (Ok y) x e h = let P : T → Type 0 = λ v. Heard model sure f (view v) b c in let same : y ≡ x = cc in subst P same h
   parses_ok b c (Err y) x e h = cc
 
-  pub parses_err : (b c : Buffer S) (r : Result T Error) (x : Error) → r ≡ Err x → Parses state gives view f b r c → Unheard state gives f b x c
+  pub parses_err : (b c : Buffer S) (r : Result T Error) (x : Error) → r ≡ Err x → Parses model sure view f b r c → Unheard model sure f b x c
   parses_err b c (Ok y) x e h = cc
-  parses_err b c (Err y) x e h = let P : Error → Type 0 = λ v. Unheard state gives f b v c in let same : y ≡ x = cc in subst P same h
+  parses_err b c (Err y) x e h = let P : Error → Type 0 = λ v. Unheard model sure f b v c in let same : y ≡ x = cc in subst P same h
 
   -- a refused operand was recorded, and something stands in for it; but for want of memory
-  pub follows_recovered : {b c : Buffer S} {e : Error} (d : Buffer S) (r : Result T Error) → Unheard state gives f b e c → Tries state gives c r d →
-      (Loud state c → OnOk r (recorded state c < recorded state d)) → OnOk r (e.kind ≢ OutOfMemory) → Follows state gives view f b r d
-  follows_recovered d (Ok x) u t lt some = on_doomed u some t lt
-  follows_recovered d (Err y) u t lt some = unheard_memory (forgoes_later u.refuses.leads t)
+  pub continues_recovered : {b c : Buffer S} {e : Error} (d : Buffer S) (r : Result T Error) → Unheard model sure f b e c → Tries model c r d →
+      (Loud model c → OnOk r (recorded model c < recorded model d)) → OnOk r (e.kind ≢ OutOfMemory) → Continues model sure view f b r d
+  continues_recovered d (Ok x) u t lt some = on_doomed u some t lt
+  continues_recovered d (Err y) u t lt some = unheard_memory (record { spends = spends_then u.refuses.spends t.spends; kind = t.kind })
 
   -- a refused operand was recorded, and more was read
-  pub parses_recovered : {b c : Buffer S} {e : Error} (d : Buffer S) (r : Result T Error) → Unheard state gives f b e c → Reads state gives c r d →
-      (Loud state c → OnOk r (recorded state c < recorded state d)) → OnOk r (e.kind ≢ OutOfMemory) → IfErr r (λ x. x.kind ≢ OutOfMemory → e.kind ≢ OutOfMemory) → Parses state gives view f b r d
-  unfolding on_doomed leads_then
-  parses_recovered d (Ok x) u t lt some memory = record { on = on_doomed u some t.leads lt; some = let l = length-append u.refuses.leads.taken t.leads.taken in let s = t.some in omega arith }
+  pub parses_recovered : {b c : Buffer S} {e : Error} (d : Buffer S) (r : Result T Error) → Unheard model sure f b e c → Consumes model c r d →
+      (Loud model c → OnOk r (recorded model c < recorded model d)) → OnOk r (e.kind ≢ OutOfMemory) → IfErr r (λ x. x.kind ≢ OutOfMemory → e.kind ≢ OutOfMemory) → Parses model sure view f b r d
+  unfolding on_doomed leads_refused leads_then
+  parses_recovered d (Ok x) u t lt some memory = record { on = on_doomed u some t.leads lt; some = let l = length-append u.refuses.spends.taken t.leads.taken in let s = t.some in omega arith }
   parses_recovered d (Err y) u t lt some memory = unheard_doomed u memory t
 
-pub does_of : {S T : Type 0} (state : S → Source) (gives : S → List TokenAndSpan → S → Type 0) (b c : Buffer S) (r : Result T Error) → Tries state gives b r c → Does state gives b r c
-does_of state gives b c (Ok x) h = h
-does_of state gives b c (Err e) h = forgoes_refuses h
+pub acts_of : {S T : Type 0} (model : Model S) (b c : Buffer S) (r : Result T Error) → Tries model b r c → Acts model b r c
+acts_of model b c (Ok x) h = h
+acts_of model b c (Err e) h = forgoes_refuses h
 
-module _ {S : Type 0} (state : S → Source) (gives : S → List TokenAndSpan → S → Type 0) where
+module _ {S : Type 0} (model : Model S) where
   -- a fault is recorded, as not all is well
-  pub check_notes : {T : Type 0} (well : Bool) (b c : Buffer S) (r : Result T Error) → well ≡ false → Tries state gives b r c → (Loud state b → OnOk r (recorded state b < recorded state c)) →
-      MatchResult r (λ x. Checks state gives well b c) (λ e. Forgoes state gives b e c)
+  pub check_notes : {T : Type 0} (well : Bool) (b c : Buffer S) (r : Result T Error) → well ≡ false → Tries model b r c → (Loud model b → OnOk r (recorded model b < recorded model c)) →
+      MatchResult r (λ x. Checks model well b c) (λ e. Forgoes model b e c)
   check_notes well b c (Ok x) h t lt = record { leads = t; passes = λ w. let e : true ≡ false = sym w ∙ h in cc; notes = λ n l. lt l }
   check_notes well b c (Err e) h t lt = t
 
-  pub check_later : {T : Type 0} (p q : Bool) (b c d : Buffer S) (r : Result T Error) → Checks state gives (not p) b c → MatchResult r (λ x. Checks state gives (not q) c d) (λ e. Forgoes state gives c e d) →
-      MatchResult r (λ x. Checks state gives (not (p || q)) b d) (λ e. Forgoes state gives b e d)
+  pub check_later : {T : Type 0} (p q : Bool) (b c d : Buffer S) (r : Result T Error) → Checks model (not p) b c → MatchResult r (λ x. Checks model (not q) c d) (λ e. Forgoes model c e d) →
+      MatchResult r (λ x. Checks model (not (p || q)) b d) (λ e. Forgoes model b e d)
   check_later p q b c d (Ok x) h k = checks_both p q h k
   check_later p q b c d (Err e) h k = forgoes_later h.leads k
 
   -- a node is made in the end
-  pub tries_node : {T : Type 0} (b c : Buffer S) (at : BytePos) (r : Result T Error) → Leads state gives b c → IfErr r (λ x. x ≡ no_memory at) → Tries state gives b r c
+  pub tries_node : {T : Type 0} (b c : Buffer S) (at : BytePos) (r : Result T Error) → Leads model b c → IfErr r (λ x. x ≡ no_memory at) → Tries model b r c
   tries_node b c at (Ok x) p fails = p
   tries_node b c at (Err x) p fails = forgoes_later p (forgoes_here p.laws c at x fails)
 
-  pub strict_checked : {T : Type 0} (laws : Laws state gives) (b c : Buffer S) (r : Result T Error) (e : Error) → Read state gives b [] c →
-      ((context state b).ignore_error ≡ true → IsOk r × (c ≡ b)) → ((context state b).ignore_error ≡ false → OnOk r (state c.iter ≡ with_module_error e (state b.iter))) →
-      IfErr r (λ x. (x ≡ no_memory (last_position b)) × (state c.iter ≡ state b.iter)) →
-      MatchResult r (λ x. Checks state gives (not (context state b).module) b c) (λ x. Forgoes state gives b x c)
+  pub strict_checked : {T : Type 0} (laws : Laws model) (b c : Buffer S) (r : Result T Error) (e : Error) → Read model b [] c →
+      ((context model b).ignore_error ≡ true → IsOk r × (c ≡ b)) → ((context model b).ignore_error ≡ false → OnOk r (model.state c.iter ≡ with_module_error e (model.state b.iter))) →
+      IfErr r (λ x. (x ≡ no_memory (last_position b)) × (model.state c.iter ≡ model.state b.iter)) →
+      MatchResult r (λ x. Checks model (not (context model b).module) b c) (λ x. Forgoes model b x c)
   strict_checked laws b c (Ok x) e read silent noted refused = checks_strict laws b c e read (λ i. (silent i).1) noted
-  strict_checked laws b c (Err x) e read silent noted refused = record { leads = record { laws = laws; taken = []; read = read }; kind = ap (λ z. z.kind) refused.0 }
+  strict_checked laws b c (Err x) e read silent noted refused = record { spends = record { laws = laws; taken = []; read = read }; kind = ap (λ z. z.kind) refused.0 }
 
   -- after what was read, a call that is refused for want of memory alone
-  pub does_after : {T : Type 0} {b c : Buffer S} (d : Buffer S) (r : Result T Error) → Leads state gives b c → Tries state gives c r d → Does state gives b r d
-  does_after d (Ok x) p t = leads_then p t
-  does_after d (Err e) p t = refuses_later p (forgoes_refuses t)
+  pub acts_after : {T : Type 0} {b c : Buffer S} (d : Buffer S) (r : Result T Error) → Leads model b c → Tries model c r d → Acts model b r d
+  acts_after d (Ok x) p t = leads_then p t
+  acts_after d (Err e) p t = refuses_later p (forgoes_refuses t)
 
+module _ {S : Type 0} (model : Model S) (sure : Bool) where
   -- a reading, whose answer is a node made in the end
-  pub node_parses : {T A : Type 0} (view : T → A) {f : Reader A} {b c : Buffer S} (at : BytePos) (r : Result T Error) (t : A) → IfOk r (λ x. view x ≡ t) → IfErr r (λ x. x ≡ no_memory at) → Heard state gives f t b c → Parses state gives view f b r c
-  node_parses {A = A} view {f = f} {b = b} {c = c} at (Ok x) t same fails h = let P : A → Type 0 = λ v. Heard state gives f v b c in subst P (sym same) h
+  pub node_parses : {T A : Type 0} (view : T → A) {f : Reader A} {b c : Buffer S} (at : BytePos) (r : Result T Error) (t : A) → IfOk r (λ x. view x ≡ t) → IfErr r (λ x. x ≡ no_memory at) → Heard model sure f t b c → Parses model sure view f b r c
+  node_parses {A = A} view {f = f} {b = b} {c = c} at (Ok x) t same fails h = let P : A → Type 0 = λ v. Heard model sure f v b c in subst P (sym same) h
   node_parses view {c = c} at (Err x) t same fails h = unheard_memory (forgoes_later h.on.leads (forgoes_here h.on.leads.laws c at x fails))
 
   -- q is called, and what it read is gone on from
   pub parses_call : {T A B : Type 0} (view : T → A) (f : Reader A) {q : Reader B} {t : B} {b c : Buffer S} (d : Buffer S) (r : Result T Error) (k : Context → B × List TokenAndSpan → Out A) → ((x : Context) (ts : List TokenAndSpan) → f x ts ≡ (q x ts >>= k x)) →
-      Heard state gives q t b c → Follows state gives view (λ x ts. k x (t, ts)) c r d → Parses state gives view f b r d
+      Heard model sure q t b c → Continues model sure view (λ x ts. k x (t, ts)) c r d → Parses model sure view f b r d
   unfolding on_call
-  parses_call view f d r k step h s = parses_then state gives view f d r (on_call k step h.on) h.some s
+  parses_call view f d r k step h s = parses_then model sure view f d r (on_call k step h.on) h.some s
+
+module _ {S : Type 0} (model : Model S) where
+  -- after a look, a call that records, and lowers the bound
+  pub notes_after : {T : Type 0} {b c : Buffer S} (d : Buffer S) (r : Result T Error) → Leads model b c → (Loud model c → OnOk r (recorded model c < recorded model d)) → Loud model b → OnOk r (recorded model b < recorded model d)
+  notes_after d (Ok x) p lt l = let m = more_recorded p in let k = lt (loud_after p l) in omega arith
+  notes_after d (Err e) p lt l = tt
+
+  pub falls_after : {T : Type 0} {b c : Buffer S} (d : Buffer S) (r : Result T Error) → Leads model b c → OnOk r (to_come model d ≤ to_come model c) → OnOk r (to_come model d ≤ to_come model b)
+  falls_after d (Ok x) p le = let l = less p in omega arith
+  falls_after d (Err e) p le = tt
+
+  pub consumes_falls : {T : Type 0} (b c : Buffer S) (r : Result T Error) → Consumes model b r c → OnOk r (to_come model c ≤ to_come model b)
+  consumes_falls b c (Ok x) h = less h.leads
+  consumes_falls b c (Err e) h = tt

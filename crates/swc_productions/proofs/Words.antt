@@ -10,7 +10,7 @@ use Rattle.swc_context.specs.declared.error.SyntaxError.TheVariants as kind
 use Rattle.swc_context.specs.declared.word.Keyword.TheVariants as keyword
 use Rattle.swc_context.specs.declared.word.Word.{Word}
 use Rattle.swc_context.specs.declared.word.Word.TheVariants as word
-use Rattle.swc_grammar.specs.Clean.{may_bind, may_name}
+use Rattle.swc_grammar.specs.Names.{may_bind, may_name}
 use Rattle.swc_grammar.specs.Tokens.{is_reference, ref_ok}
 use Rattle.swc_ident.specs.Verdicts.{Fault, now, in_modules, Verdict, taken, taken_with, unless, ident_verdict, reference_verdict, binding_verdict, binding_faults, name_of_any}
 

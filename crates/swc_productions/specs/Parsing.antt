@@ -1,17 +1,17 @@
 -- What parsing calls do to the buffer, and which clean reading each answers.
-use Rattle.std.specs.Prelude.{◌≡◌, ◌≢◌, ℕ, ◌≤◌, ◌<◌, Bool, true, false, List, [], ◌∷◌, ◌++◌, Option, Some, None, Result, MatchResult, OnOk, IfOk, length}
+use Rattle.std.specs.Prelude.{◌≡◌, ◌≢◌, ℕ, ◌≤◌, ◌<◌, Bool, true, false, List, [], ◌∷◌, ◌++◌, Option, Some, None, Result, MatchResult, OnOk, IfOk, IfErr, length}
 use Rattle.swc_context.specs.declared.context.Context.{Context}
 use Rattle.swc_context.specs.declared.error.Error.{Error}
 use Rattle.swc_context.specs.declared.error.SyntaxError.{SyntaxError}
 use Rattle.swc_context.specs.declared.error.SyntaxError.TheVariants.{OutOfMemory, ParserFailed}
+use Rattle.swc_context.specs.declared.operator.BinaryOp.{BinaryOp}
 use Rattle.swc_input.specs.declared.buffer.Buffer.{Buffer}
 use Rattle.swc_input.specs.declared.token.Token.{Token}
 use Rattle.swc_input.specs.declared.token.Token.TheVariants as token
 use Rattle.swc_input.specs.declared.token.TokenAndSpan.{TokenAndSpan}
 use Rattle.swc_input.specs.Plain.{plain}
-use Rattle.swc_input.specs.Source.{Source, IsLawful}
-use Rattle.swc_input.specs.Buffer.{Took, Read, Looked, Future, Known, context, left}
-use Rattle.swc_input.specs.Laws.{Joins, Gives}
+use Rattle.swc_input.specs.Source.{Model, Laws}
+use Rattle.swc_input.specs.Buffer.{Took, Read, Lives, Served, Looked, Future, Known, context, to_come}
 use Rattle.swc_input.specs.Recording.{is_silent}
 use Rattle.swc_input.specs.Kinds.{at_token}
 use Rattle.swc_ast.specs.declared.ident.BindingIdent.{BindingIdent}
@@ -22,11 +22,13 @@ use Rattle.swc_ast.specs.declared.lit.Lit.{Lit}
 use Rattle.swc_ast.specs.Parts.{lit_tree}
 use Rattle.swc_ast.specs.Tree.{Tree}
 use Rattle.swc_ast.specs.declared.spanned.Spanned.{Ghosts}
-use Rattle.swc_grammar.specs.Clean.{Out, first, rest, is_lit, lit_of, no_error}
+use Rattle.swc_grammar.specs.Parts.{lit_of}
+use Rattle.swc_grammar.specs.Clean.{Out, no_error}
+use Rattle.swc_grammar.specs.Words.{rest}
 use Rattle.swc_grammar.specs.Names.{Spelling, spelling}
 use Rattle.swc_grammar.specs.Tokens.{is_strict_word}
 use Rattle.swc_nodes.specs.Slots.{expr_part}
-use Rattle.swc_nodes.specs.Stands.{tree_at, From, Grows}
+use Rattle.swc_nodes.specs.Stands.{tree_at, count, From, Grows}
 use Rattle.swc_nodes.specs.declared.node.ExprId.{ExprId}
 use Rattle.swc_nodes.specs.declared.nodes.Nodes.{Nodes}
 use Rattle.swc_productions.specs.declared.productions.Productions.{Productions}
@@ -66,28 +68,28 @@ seen_of (Some t) = Some (plain t)
 abbrev pub seen : {S : Type 0} → Buffer S → Option TokenAndSpan
 seen b = seen_of b.cur
 
-module _ {S : Type 0} (state : S → Source) where
+module _ {S : Type 0} (model : Model S) where
   -- how many faults were recorded
   abbrev pub recorded : Buffer S → ℕ
-  recorded b = length (state b.iter).errors
+  recorded b = length (model.state b.iter).errors
 
   -- faults are recorded: early errors are on, and not ignored
   abbrev pub Loud : Buffer S → Type 0
-  Loud b = is_silent (state b.iter) ≡ false
+  Loud b = is_silent (model.state b.iter) ≡ false
 
-module _ {S : Type 0} (state : S → Source) (gives : S → List TokenAndSpan → S → Type 0) where
-  -- the laws of a source
-  pub record Laws : Type 0 where
-    pub none : (s : S) → gives s [] s
-    pub joins : Joins gives
-    pub gave : Gives state gives
-    pub lawful : (s : S) → IsLawful (state s)
-
+module _ {S : Type 0} (model : Model S) where
   -- from b to c: the tokens that the call consumed, with the context kept and no recorded fault taken out
-  pub record Leads (b c : Buffer S) : Type 0 where
-    pub laws : Laws
+  pub record Spends (b c : Buffer S) : Type 0 where
+    pub laws : Laws model
     pub taken : List TokenAndSpan
-    pub read : Read state gives b taken c
+    pub read : Read model b taken c
+
+  -- the same, and the source didn't fail in between
+  pub record Leads (b c : Buffer S) : Type 0 where
+    pub laws : Laws model
+    pub taken : List TokenAndSpan
+    pub read : Read model b taken c
+    pub lives : Lives model b c
 
   -- the same, where one token at least was consumed
   pub record Advances (b c : Buffer S) : Type 0 where
@@ -96,29 +98,31 @@ module _ {S : Type 0} (state : S → Source) (gives : S → List TokenAndSpan �
 
   -- the context was set to another of the same kind of text: nothing was consumed, and no fault recorded or set waiting
   pub record Moves (b c : Buffer S) : Type 0 where
-    pub laws : Laws
-    pub took : Took gives b [] c
-    pub errors : (state c.iter).errors ≡ (state b.iter).errors
-    pub waiting : (state c.iter).waiting ≡ (state b.iter).waiting
-    pub left : left state c ≡ left state b
+    pub laws : Laws model
+    pub took : Took model b [] c
+    pub errors : (model.state c.iter).errors ≡ (model.state b.iter).errors
+    pub waiting : (model.state c.iter).waiting ≡ (model.state b.iter).waiting
+    pub lives : Lives model b c
+    pub stays : to_come model c ≡ to_come model b
 
-  -- a refusal, which is never that of a failed parser
+  -- A refusal, which is never that of a failed parser. Where the source has failed, and no token was held before, it is want of memory.
   pub record Refuses (b : Buffer S) (e : Error) (c : Buffer S) : Type 0 where
-    pub leads : Leads b c
+    pub spends : Spends b c
     pub kind : e.kind ≢ ParserFailed
+    pub served : e.kind ≢ OutOfMemory → Served model b c
 
   -- a refusal for want of memory
   pub record Forgoes (b : Buffer S) (e : Error) (c : Buffer S) : Type 0 where
-    pub leads : Leads b c
+    pub spends : Spends b c
     pub kind : e.kind ≡ OutOfMemory
 
   -- a call that reads a symbol, which has a token at least
-  abbrev pub Reads : {T : Type 0} → Buffer S → Result T Error → Buffer S → Type 0
-  Reads b r c = MatchResult r (λ t. Advances b c) (λ e. Refuses b e c)
+  abbrev pub Consumes : {T : Type 0} → Buffer S → Result T Error → Buffer S → Type 0
+  Consumes b r c = MatchResult r (λ t. Advances b c) (λ e. Refuses b e c)
 
   -- a call that may consume nothing
-  abbrev pub Does : {T : Type 0} → Buffer S → Result T Error → Buffer S → Type 0
-  Does b r c = MatchResult r (λ t. Leads b c) (λ e. Refuses b e c)
+  abbrev pub Acts : {T : Type 0} → Buffer S → Result T Error → Buffer S → Type 0
+  Acts b r c = MatchResult r (λ t. Leads b c) (λ e. Refuses b e c)
 
   -- a call that is refused for want of memory alone
   abbrev pub Tries : {T : Type 0} → Buffer S → Result T Error → Buffer S → Type 0
@@ -126,30 +130,45 @@ module _ {S : Type 0} (state : S → Source) (gives : S → List TokenAndSpan �
 
   -- a look at c: a token is current, or none is left
   pub record Here (b c : Buffer S) : Type 0 where
-    pub laws : Laws
-    pub looked : Looked state gives b c
-    pub end : c.cur ≡ None → (state c.iter).ended ≡ true
+    pub laws : Laws model
+    pub looked : Looked model b c
+    pub served : Served model b c
+    pub end : c.cur ≡ None → (model.state c.iter).ended ≡ true
+
+  -- such a look, which is refused for want of memory alone
+  abbrev pub Looks : {T : Type 0} → Buffer S → Result T Error → Buffer S → Type 0
+  Looks b r c = MatchResult r (λ t. Here b c) (λ e. Forgoes b e c)
 
   -- a refusal at an error token, or at the end
   pub record Unfit (b : Buffer S) (e : Error) (c : Buffer S) : Type 0 where
     pub at : Buffer S
-    pub looked : Looked state gives b at
-    pub end : at.cur ≡ None → (state at.iter).failed ≡ false → (state at.iter).ended ≡ true
+    pub looked : Looked model b at
+    pub end : at.cur ≡ None → (model.state at.iter).failed ≡ false → (model.state at.iter).ended ≡ true
     pub unfit : at_token no_error (seen at) ≡ false
     pub refuses : Refuses at e c
+
+  -- a look that asks for a token which is no error
+  abbrev pub Fits : {T : Type 0} → Buffer S → Result T Error → Buffer S → Type 0
+  Fits b r c = MatchResult r (λ t. Here b c) (λ e. Unfit b e c)
 
   -- A fault is recorded unless all is well. Where all is, none is recorded and nothing consumed; one may be set waiting.
   pub record Checks (well : Bool) (b c : Buffer S) : Type 0 where
     pub leads : Leads b c
-    pub passes : well ≡ true → (leads.taken ≡ []) × (recorded state c ≡ recorded state b)
-    pub notes : well ≡ false → Loud state b → recorded state b < recorded state c
+    pub passes : well ≡ true → (leads.taken ≡ []) × (recorded model c ≡ recorded model b)
+    pub notes : well ≡ false → Loud model b → recorded model b < recorded model c
 
-  -- From b to c: what f reads at b is what g reads at c, where no fault was recorded; where one was, and the source is listed, f reads
-  -- nothing.
+  -- such a check, which is refused for want of memory alone
+  abbrev pub Checked : {T : Type 0} → Bool → Buffer S → Result T Error → Buffer S → Type 0
+  Checked well b r c = MatchResult r (λ t. Checks well b c) (λ e. Forgoes b e c)
+
+-- whether the hook is faithful, so that completeness may be claimed
+module _ {S : Type 0} (model : Model S) (sure : Bool) where
+  -- From b to c: what f reads at b is what g reads at c, where no fault was recorded; where one was, the source is listed and the hook
+  -- is faithful, f reads nothing.
   pub record On {A : Type 0} (f g : Context → List TokenAndSpan → Out A) (b c : Buffer S) : Type 0 where
-    pub leads : Leads b c
-    pub clean : Loud state b → recorded state c ≡ recorded state b → (ys : List TokenAndSpan) → Future state c ys → f (context state b) (leads.taken ++ ys) ≡ g (context state c) ys
-    pub faulty : Loud state b → recorded state b < recorded state c → (ts : List TokenAndSpan) → Known state b ts → f (context state b) ts ≡ None
+    pub leads : Leads model b c
+    pub clean : Loud model b → recorded model c ≡ recorded model b → (ys : List TokenAndSpan) → Future model c ys → f (context model b) (leads.taken ++ ys) ≡ g (context model c) ys
+    pub faulty : sure ≡ true → Loud model b → recorded model b < recorded model c → (ts : List TokenAndSpan) → Known model b ts → f (context model b) ts ≡ None
 
   -- t is what f reads, from one token at least
   pub record Heard {A : Type 0} (f : Context → List TokenAndSpan → Out A) (t : A) (b c : Buffer S) : Type 0 where
@@ -158,34 +177,37 @@ module _ {S : Type 0} (state : S → Source) (gives : S → List TokenAndSpan �
 
   -- a refusal where f reads nothing, but for want of memory
   pub record Unheard {A : Type 0} (f : Context → List TokenAndSpan → Out A) (b : Buffer S) (e : Error) (c : Buffer S) : Type 0 where
-    pub refuses : Refuses b e c
-    pub none : e.kind ≢ OutOfMemory → Loud state b → (ts : List TokenAndSpan) → Known state b ts → f (context state b) ts ≡ None
+    pub refuses : Refuses model b e c
+    pub none : e.kind ≢ OutOfMemory → sure ≡ true → Loud model b → (ts : List TokenAndSpan) → Known model b ts → f (context model b) ts ≡ None
 
   -- a call that reads what f reads
   abbrev pub Parses : {T A : Type 0} → (T → A) → (Context → List TokenAndSpan → Out A) → Buffer S → Result T Error → Buffer S → Type 0
   Parses view f b r c = MatchResult r (λ t. Heard f (view t) b c) (λ e. Unheard f b e c)
 
   -- the same, where nothing may be consumed
-  abbrev pub Follows : {T A : Type 0} → (T → A) → (Context → List TokenAndSpan → Out A) → Buffer S → Result T Error → Buffer S → Type 0
-  Follows view f b r c = MatchResult r (λ t. On f (λ x ts. Some (view t, ts)) b c) (λ e. Unheard f b e c)
+  abbrev pub Continues : {T A : Type 0} → (T → A) → (Context → List TokenAndSpan → Out A) → Buffer S → Result T Error → Buffer S → Type 0
+  Continues view f b r c = MatchResult r (λ t. On f (λ x ts. Some (view t, ts)) b c) (λ e. Unheard f b e c)
+
+module _ {S : Type 0} (model : Model S) where
+  -- a call that reads what f reads, and calls no hook
+  abbrev pub ParsesAlone : {T A : Type 0} → (T → A) → (Context → List TokenAndSpan → Out A) → Buffer S → Result T Error → Buffer S → Type 0
+  ParsesAlone view f b r c = (sure : Bool) → Parses model sure view f b r c
 
   -- one token was consumed, which is the literal
-  pub record Literal {F C K : Type 0} (t : Tree F C K) (b c : Buffer S) : Type 0 where
+  pub record TookLiteral {F C K : Type 0} (t : Tree F C K) (b c : Buffer S) : Type 0 where
     pub token : TokenAndSpan
-    pub read : Read state gives b (token ∷ []) c
+    pub read : Read model b (token ∷ []) c
     pub literal : lit_of token.token token.span ≡ Some t
 
-module _ {S : Type 0} (state : S → Source) where
-  -- a refusal of what is no literal, but for want of memory: over a listed source none stands first
-  abbrev pub NoLiteral : Buffer S → Error → Type 0
-  NoLiteral b e = e.kind ≢ OutOfMemory → Loud state b → (ts : List TokenAndSpan) → Known state b ts → at_token is_lit (first ts) ≡ false
-
--- how an answer is seen: the number of a node; and that with the least precedence to go on with
+-- how an answer is seen: the number of a node; that with the least precedence to go on with; and that with the operator after it
 abbrev pub itself : ExprId → ExprId
 itself id = id
 
 abbrev pub operation_of : ExprId × Option ℕ → ExprId
 operation_of r = r.0
+
+abbrev pub operand_of : ExprId × BinaryOp → ExprId
+operand_of r = r.0
 
 module _ {F C K : Type 0} {fg : Ghosts F} {cg : Ghosts C} {kg : Ghosts K} where
   -- the tree of an expression, of an operation, and of a literal, among nodes
@@ -198,18 +220,31 @@ module _ {F C K : Type 0} {fg : Ghosts F} {cg : Ghosts C} {kg : Ghosts K} where
   abbrev pub lit_in : Nodes F C K fg cg kg → Lit → Tree F C K
   lit_in ns l = lit_tree l
 
-module _ {S H F C K : Type 0} {fg : Ghosts F} {cg : Ghosts C} {kg : Ghosts K} (state : S → Source) (gives : S → List TokenAndSpan → S → Type 0) {T A : Type 0} (number : T → ExprId) (view : Nodes F C K fg cg kg → T → A) (f : Context → List TokenAndSpan → Out A) where
+module _ {S H F C K : Type 0} {fg : Ghosts F} {cg : Ghosts C} {kg : Ghosts K} (model : Model S) (sure : Bool) {T A : Type 0} (number : T → ExprId) (view : Nodes F C K fg cg kg → T → A) (f : Context → List TokenAndSpan → Out A) where
   -- What a production does from p to q: it reads what f reads, from one token at least; nodes were appended alone, and the answer is the number
   -- of one of them, from which no number below k is reached.
   pub record Produces (k : ℕ) (p : Productions S H F C K fg cg kg) (r : Result T Error) (q : Productions S H F C K fg cg kg) : Type 0 where
-    pub reads : Parses state gives (view q.nodes) f p.input r q.input
-    pub left : OnOk r (left state q.input < left state p.input)
+    pub reads : Parses model sure (view q.nodes) f p.input r q.input
+    pub falls : OnOk r (to_come model q.input < to_come model p.input)
     pub grows : Grows p.nodes q.nodes
     pub from : IfOk r (λ t. From k q.nodes (expr_part (number t)))
 
   -- the same, where nothing may be consumed
   pub record GoesOn (k : ℕ) (p : Productions S H F C K fg cg kg) (r : Result T Error) (q : Productions S H F C K fg cg kg) : Type 0 where
-    pub reads : Follows state gives (view q.nodes) f p.input r q.input
-    pub left : OnOk r (left state q.input ≤ left state p.input)
+    pub reads : Continues model sure (view q.nodes) f p.input r q.input
+    pub falls : OnOk r (to_come model q.input ≤ to_come model p.input)
     pub grows : Grows p.nodes q.nodes
     pub from : IfOk r (λ t. From k q.nodes (expr_part (number t)))
+
+module _ {S H F C K : Type 0} {fg : Ghosts F} {cg : Ghosts C} {kg : Ghosts K} (model : Model S) {T : Type 0} (number : T → ExprId) where
+  -- What is done from p to q in place of an operand that was refused, by the kind: a fault is recorded; nodes were appended alone, and
+  -- the answer is the number of a new one. Effect says how tokens are consumed, and what is refused.
+  pub record Recovers (Effect : Buffer S → Result T Error → Buffer S → Type 0) (kind : SyntaxError) (p : Productions S H F C K fg cg kg) (r : Result T Error) (q : Productions S H F C K fg cg kg) : Type 0 where
+    pub effect : Effect p.input r q.input
+    pub notes : Loud model p.input → OnOk r (recorded model p.input < recorded model q.input)
+    -- want of memory is not recovered from
+    pub some : OnOk r (kind ≢ OutOfMemory)
+    pub memory : IfErr r (λ e. e.kind ≢ OutOfMemory → kind ≢ OutOfMemory)
+    pub falls : OnOk r (to_come model q.input ≤ to_come model p.input)
+    pub grows : Grows p.nodes q.nodes
+    pub from : IfOk r (λ t. From (count p.nodes) q.nodes (expr_part (number t)))

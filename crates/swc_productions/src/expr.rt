@@ -1,12 +1,17 @@
 // Expressions (ECMA-262, 13).
-ghost use Rattle.std.specs.Prelude.{◌≡◌, ◌<◌, ◌≤◌, true, not, ◌&&◌, Some, OnOk, IfOk, MatchResult};
-ghost use Rattle.swc_input.specs.Buffer.{left, context};
+ghost use Rattle.std.specs.Prelude.{◌≡◌, ◌<◌, ◌≤◌, true, not, ◌&&◌, Some, OnOk, IfOk};
+ghost use Rattle.swc_input.specs.Buffer.{to_come, context};
 ghost use Rattle.swc_input.specs.Plain.{plain_token};
 ghost use Rattle.swc_input.specs.Kinds.{at_token, is_hash};
-ghost use Rattle.swc_grammar.specs.Clean as clean;
-ghost use Rattle.swc_grammar.specs.Clean.{run, is_lit, is_lparen, is_identifier};
+ghost use Rattle.swc_grammar.specs.Symbols.{Expr, Assign, Primary, Literal};
+ghost use Rattle.swc_grammar.specs.Tokens.{is_lparen};
+ghost use Rattle.swc_grammar.specs.Parts.{lit_of};
+ghost use Rattle.swc_grammar.specs.Grammar as grammar;
+ghost use Rattle.swc_grammar.specs.Clean.{sym, run, is_lit, is_identifier};
 ghost use Rattle.swc_nodes.specs.Stands.{count};
-ghost use Rattle.swc_productions.specs.Parsing.{lit_in, seen, Parses, Produces, Checks, Forgoes, Literal, itself, tree_of};
+ghost use Rattle.swc_productions.specs.Readers.{by_production, inside};
+ghost use Rattle.swc_productions.specs.Parsing.{lit_in, seen, ParsesAlone, Produces, Checked, TookLiteral};
+ghost use Rattle.swc_productions.specs.Parsing.{itself, tree_of};
 
 use crate::moves::{
     bump, copy_of, emit_strict_mode_err, look, made, parse_ident_name, parse_ident_ref,
@@ -30,7 +35,8 @@ mod ops;
 impl<I: Tokens, B: Bodies<I>> Productions<I, B> {
     /// An expression (ECMA-262, 13.16).
     pub fn parse_expr(&mut self) -> PResult<ExprId>
-        ensures { Produces I.state I.gives itself tree_of (clean.assign run) (count self.old.nodes) self.old result self.new }
+        ensures { Produces I.model B.is_faithful itself tree_of (run B.forms (sym Expr))
+            (count self.old.nodes) self.old result self.new }
     {
         self.parse_assignment_expr()
     }
@@ -38,7 +44,8 @@ impl<I: Tokens, B: Bodies<I>> Productions<I, B> {
     /// An assignment expression (ECMA-262, 13.15).
     #[cycle(productions)]
     pub fn parse_assignment_expr(&mut self) -> PResult<ExprId>
-        ensures { Produces I.state I.gives itself tree_of (clean.assign run) (count self.old.nodes) self.old result self.new }
+        ensures { Produces I.model B.is_faithful itself tree_of (run B.forms (sym Assign))
+            (count self.old.nodes) self.old result self.new }
     {
         require_cur(&mut self.input)?;
         self.parse_bin_expr()
@@ -47,7 +54,8 @@ impl<I: Tokens, B: Bodies<I>> Productions<I, B> {
     /// A primary expression (ECMA-262, 13.2).
     #[cycle(productions)]
     pub(crate) fn parse_primary_expr(&mut self) -> PResult<ExprId>
-        ensures { Produces I.state I.gives itself tree_of (clean.primary run) (count self.old.nodes) self.old result self.new }
+        ensures { Produces I.model B.is_faithful itself tree_of (run B.forms (sym Primary))
+            (count self.old.nodes) self.old result self.new }
     {
         look(&mut self.input)?;
         if self.is_lit() {
@@ -70,8 +78,9 @@ impl<I: Tokens, B: Bodies<I>> Productions<I, B> {
 
     /// An identifier reference as an expression (ECMA-262, 13.1).
     fn parse_ident_expr(&mut self) -> PResult<ExprId>
-        requires { at_token (is_identifier (context I.state self.old.input)) (seen self.old.input) ≡ true }
-        ensures { Produces I.state I.gives itself tree_of (clean.name run) (count self.old.nodes) self.old result self.new }
+        requires { at_token (is_identifier (context I.model self.old.input)) (seen self.old.input) ≡ true }
+        ensures { Produces I.model B.is_faithful itself tree_of (by_production B.forms (λ c. grammar.ident))
+            (count self.old.nodes) self.old result self.new }
     {
         let is_strict = self.is_strict_word();
         let ident = parse_ident_ref(self.alloc, &mut self.input)?;
@@ -83,7 +92,8 @@ impl<I: Tokens, B: Bodies<I>> Productions<I, B> {
     /// `#` and a name, as an expression (ECMA-262, 13.10.1).
     fn parse_private_expr(&mut self) -> PResult<ExprId>
         requires { at_token is_hash (seen self.old.input) ≡ true }
-        ensures { Produces I.state I.gives itself tree_of (clean.private_name run) (count self.old.nodes) self.old result self.new }
+        ensures { Produces I.model B.is_faithful itself tree_of (by_production B.forms (λ c. grammar.private-name))
+            (count self.old.nodes) self.old result self.new }
     {
         let start = self.input.cur_span().lo;
         skip(&mut self.input);
@@ -96,7 +106,8 @@ impl<I: Tokens, B: Bodies<I>> Productions<I, B> {
     #[cycle(productions)]
     fn parse_paren_expr(&mut self) -> PResult<ExprId>
         requires { at_token is_lparen (seen self.old.input) ≡ true }
-        ensures { Produces I.state I.gives itself tree_of (clean.parens run) (count self.old.nodes) self.old result self.new }
+        ensures { Produces I.model B.is_faithful itself tree_of (by_production B.forms (λ c. grammar.paren-expr))
+            (count self.old.nodes) self.old result self.new }
     {
         let start = self.input.cur_span().lo;
         skip(&mut self.input);
@@ -119,7 +130,8 @@ impl<I: Tokens, B: Bodies<I>> Productions<I, B> {
     /// An assignment expression in which `in` counts as an operator.
     #[cycle(productions)]
     fn parse_assignment_expr_with_in(&mut self) -> PResult<ExprId>
-        ensures { Produces I.state I.gives itself tree_of (clean.inside run) (count self.old.nodes) self.old result self.new }
+        ensures { Produces I.model B.is_faithful itself tree_of (inside B.forms)
+            (count self.old.nodes) self.old result self.new }
     {
         let ctx = self.input.get_ctx();
         set_ctx(
@@ -137,7 +149,7 @@ impl<I: Tokens, B: Bodies<I>> Productions<I, B> {
     /// The literal that a token is.
     fn lit_of(&self, token: Token, span: Span) -> Lit
         requires { is_lit token ≡ true }
-        ensures { clean.lit_of (plain_token token) span ≡ Some (lit_in self.now.nodes result) }
+        ensures { lit_of (plain_token token) span ≡ Some (lit_in self.now.nodes result) }
     {
         match token {
             Token::Word(Word::Null) => Lit::Null(Null { span }),
@@ -152,9 +164,11 @@ impl<I: Tokens, B: Bodies<I>> Productions<I, B> {
 
     /// A literal that is no regular expression (ECMA-262, 13.2.3).
     pub fn parse_lit(&mut self) -> PResult<Lit>
-        ensures parses { Parses I.state I.gives (lit_in self.old.nodes) (clean.lit run) self.old.input result self.new.input }
-        ensures literal { IfOk result (λ l. Literal I.state I.gives (lit_in self.old.nodes l) self.old.input self.new.input) }
-        ensures left { OnOk result (left I.state self.new.input < left I.state self.old.input) }
+        ensures parses { ParsesAlone I.model (lit_in self.old.nodes)
+            (run B.forms (sym Literal)) self.old.input result self.new.input }
+        ensures literal { IfOk result
+            (λ l. TookLiteral I.model (lit_in self.old.nodes l) self.old.input self.new.input) }
+        ensures falls { OnOk result (to_come I.model self.new.input < to_come I.model self.old.input) }
         ensures nodes { self.new.nodes ≡ self.old.nodes }
     {
         require_cur(&mut self.input)?;
@@ -174,8 +188,9 @@ fn check_strict_word<I: Tokens>(
     is_strict: bool,
     ident: &Ident,
 ) -> PResult<()>
-    ensures checks { MatchResult result (λ r. Checks I.state I.gives (not ((context I.state input.old).module && is_strict)) input.old input.new) (λ e. Forgoes I.state I.gives input.old e input.new) }
-    ensures left { OnOk result (left I.state input.new ≤ left I.state input.old) }
+    ensures checks { Checked I.model
+        (not ((context I.model input.old).module && is_strict)) input.old result input.new }
+    ensures falls { OnOk result (to_come I.model input.new ≤ to_come I.model input.old) }
 {
     if !is_strict {
         return Ok(());

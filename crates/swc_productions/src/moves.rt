@@ -1,20 +1,23 @@
 // The steps that productions take, on a buffer.
-ghost use Rattle.std.specs.Prelude.{◌≡◌, ◌≢◌, ◌<◌, ◌≤◌, true, false, not, None, IfErr, IfOk, OnOk, IsSome, Result, Ok, MatchResult};
+ghost use Rattle.std.specs.Prelude.{◌≡◌, ◌≢◌, ◌<◌, ◌≤◌, true, false, not, None, IfErr, IfOk, OnOk, IsSome, Result, Ok};
 ghost use Rattle.swc_context.specs.declared.error.SyntaxError.TheVariants.{OutOfMemory, ParserFailed};
 ghost use Rattle.swc_input.specs.declared.token.Token.{Token};
-ghost use Rattle.swc_input.specs.Buffer.{current, last_position, source, left, Bumped, context};
+ghost use Rattle.swc_input.specs.Buffer.{current, last_position, state_of, to_come, Bumped, context};
 ghost use Rattle.swc_input.specs.Recording.{no_memory};
 ghost use Rattle.swc_input.specs.Kinds.{at_token};
 ghost use Rattle.swc_grammar.specs.Tokens.{ref_ok};
-ghost use Rattle.swc_grammar.specs.Clean.{no_error, word, may_name, is_identifier};
-ghost use Rattle.swc_productions.specs.Parsing.{is_memory, ident_spelling, name_spelling, seen, recorded, Loud, Moves, Refuses, Forgoes, Tries, Parses, Here, Unfit, Checks};
+ghost use Rattle.swc_grammar.specs.Clean.{no_error, is_identifier};
+ghost use Rattle.swc_grammar.specs.Names.{may_name};
+ghost use Rattle.swc_grammar.specs.Words.{word};
+ghost use Rattle.swc_productions.specs.Parsing.{is_memory, ident_spelling, name_spelling, seen, recorded, Loud, Moves};
+ghost use Rattle.swc_productions.specs.Parsing.{Refuses, Tries, ParsesAlone, Looks, Fits, Checked};
 
 use std::alloc::{AllocError, Global};
 use swc_ast::ident::{Ident, IdentName};
 use swc_context::atom::Atom;
 use swc_context::context::Context;
 use swc_context::error::{Error, PResult, SyntaxError};
-use swc_context::span::Span;
+use swc_context::span::{BytePos, Span};
 use swc_ident::ident;
 use swc_input::buffer::Buffer;
 use swc_input::token::Token;
@@ -23,19 +26,33 @@ use swc_nodes::node::ExprId;
 
 /// Looks at the current token: whether there is one, and not the end. Refused only for want of memory.
 pub(crate) fn look<I: Tokens>(input: &mut Buffer<I>) -> PResult<bool>
-    ensures looks { MatchResult result (λ r. Here I.state I.gives input.old input.new) (λ e. Forgoes I.state I.gives input.old e input.new) }
+    ensures looks { Looks I.model input.old result input.new }
     ensures token { IfOk result (λ r. r ≡ true → IsSome (current input.new)) }
-    ensures end { IfOk result (λ r. r ≡ false → (current input.new ≡ None) × ((I.state (source input.new)).ended ≡ true)) }
-    ensures left { left I.state input.new ≤ left I.state input.old }
+    ensures end { IfOk result
+        (λ r. r ≡ false → (current input.new ≡ None) × ((state_of I.model input.new).ended ≡ true)) }
+    ensures falls { to_come I.model input.new ≤ to_come I.model input.old }
 {
     input.has_cur()
 }
 
+/// Where the current token begins, in bytes; at the end, where the token consumed last ends. Refused
+/// only for want of memory.
+pub(crate) fn cur_pos<I: Tokens>(input: &mut Buffer<I>) -> PResult<BytePos>
+    ensures looks { Looks I.model input.old result input.new }
+    ensures falls { to_come I.model input.new ≤ to_come I.model input.old }
+{
+    if look(input)? {
+        Ok(input.cur_span().lo)
+    } else {
+        Ok(input.last_pos())
+    }
+}
+
 /// Asks that a token is current, and no error.
 pub(crate) fn require_cur<I: Tokens>(input: &mut Buffer<I>) -> PResult<()>
-    ensures fits { MatchResult result (λ r. Here I.state I.gives input.old input.new) (λ e. Unfit I.state I.gives input.old e input.new) }
+    ensures fits { Fits I.model input.old result input.new }
     ensures token { OnOk result (at_token no_error (seen input.new) ≡ true) }
-    ensures left { left I.state input.new ≤ left I.state input.old }
+    ensures falls { to_come I.model input.new ≤ to_come I.model input.old }
 {
     input.require_cur()
 }
@@ -43,8 +60,8 @@ pub(crate) fn require_cur<I: Tokens>(input: &mut Buffer<I>) -> PResult<()>
 /// Consumes the current token.
 pub(crate) fn bump<I: Tokens>(input: &mut Buffer<I>) -> Token
     requires { IsSome (current input.old) }
-    ensures took { Bumped I.state I.gives input.old result input.new }
-    ensures left { left I.state input.new < left I.state input.old }
+    ensures took { Bumped I.model input.old result input.new }
+    ensures falls { to_come I.model input.new < to_come I.model input.old }
 {
     input.bump()
 }
@@ -52,8 +69,8 @@ pub(crate) fn bump<I: Tokens>(input: &mut Buffer<I>) -> Token
 /// Consumes the current token and lets it go.
 pub(crate) fn skip<I: Tokens>(input: &mut Buffer<I>)
     requires { IsSome (current input.old) }
-    ensures took { (t : Token) × Bumped I.state I.gives input.old t input.new }
-    ensures left { left I.state input.new < left I.state input.old }
+    ensures took { (t : Token) × Bumped I.model input.old t input.new }
+    ensures falls { to_come I.model input.new < to_come I.model input.old }
 {
     let _ = bump(input);
 }
@@ -61,8 +78,8 @@ pub(crate) fn skip<I: Tokens>(input: &mut Buffer<I>)
 /// A refusal at the place, unless an error token is current.
 pub(crate) fn syntax_error<I: Tokens>(input: &mut Buffer<I>, span: Span, kind: SyntaxError) -> Error
     requires { kind ≢ ParserFailed }
-    ensures refuses { Refuses I.state I.gives input.old result input.new }
-    ensures left { left I.state input.new ≤ left I.state input.old }
+    ensures refuses { Refuses I.model input.old result input.new }
+    ensures falls { to_come I.model input.new ≤ to_come I.model input.old }
 {
     input.syntax_error(span, kind)
 }
@@ -70,8 +87,8 @@ pub(crate) fn syntax_error<I: Tokens>(input: &mut Buffer<I>, span: Span, kind: S
 /// The refusal of the current token, which doesn't fit.
 pub(crate) fn unexpected<I: Tokens>(input: &mut Buffer<I>, kind: SyntaxError) -> Error
     requires { kind ≢ ParserFailed }
-    ensures refuses { Refuses I.state I.gives input.old result input.new }
-    ensures left { left I.state input.new ≤ left I.state input.old }
+    ensures refuses { Refuses I.model input.old result input.new }
+    ensures falls { to_come I.model input.new ≤ to_come I.model input.old }
 {
     input.unexpected(kind)
 }
@@ -83,10 +100,10 @@ pub(crate) fn emit_err<I: Tokens>(
     kind: SyntaxError,
 ) -> PResult<()>
     requires { kind ≢ OutOfMemory }
-    ensures tries { Tries I.state I.gives input.old result input.new }
-    ensures notes { Loud I.state input.old → OnOk result (recorded I.state input.old < recorded I.state input.new) }
+    ensures tries { Tries I.model input.old result input.new }
+    ensures notes { Loud I.model input.old → OnOk result (recorded I.model input.old < recorded I.model input.new) }
     ensures kept { at_token no_error (seen input.old) ≡ true → current input.new ≡ current input.old }
-    ensures left { left I.state input.new ≤ left I.state input.old }
+    ensures falls { to_come I.model input.new ≤ to_come I.model input.old }
 {
     input.emit_err(span, kind)
 }
@@ -94,10 +111,10 @@ pub(crate) fn emit_err<I: Tokens>(
 /// Records a refusal as a fault, unless it is want of memory, which is passed on.
 pub(crate) fn emit_error<I: Tokens>(input: &mut Buffer<I>, error: Error) -> PResult<()>
     requires { error.kind ≢ ParserFailed }
-    ensures tries { Tries I.state I.gives input.old result input.new }
-    ensures notes { Loud I.state input.old → OnOk result (recorded I.state input.old < recorded I.state input.new) }
+    ensures tries { Tries I.model input.old result input.new }
+    ensures notes { Loud I.model input.old → OnOk result (recorded I.model input.old < recorded I.model input.new) }
     ensures memory { OnOk result (error.kind ≢ OutOfMemory) }
-    ensures left { left I.state input.new ≤ left I.state input.old }
+    ensures falls { to_come I.model input.new ≤ to_come I.model input.old }
 {
     if is_out_of_memory(&error) {
         return Err(error);
@@ -112,20 +129,21 @@ pub(crate) fn emit_strict_mode_err<I: Tokens>(
     kind: SyntaxError,
 ) -> PResult<()>
     requires { kind ≢ OutOfMemory }
-    ensures checks { MatchResult result (λ r. Checks I.state I.gives (not (context I.state input.old).module) input.old input.new) (λ e. Forgoes I.state I.gives input.old e input.new) }
-    ensures left { left I.state input.new ≤ left I.state input.old }
+    ensures checks { Checked I.model (not (context I.model input.old).module) input.old result input.new }
+    ensures falls { to_come I.model input.new ≤ to_come I.model input.old }
 {
     input.emit_strict_mode_err(span, kind)
 }
 
 /// Sets a context of the same kind of text, a module or a script, which can't be refused.
 pub(crate) fn set_ctx<I: Tokens>(input: &mut Buffer<I>, ctx: Context)
-    requires { ctx.module ≡ (I.state (source input.old)).context.module }
-    ensures moves { Moves I.state I.gives input.old input.new }
-    ensures context { (I.state (source input.new)).context ≡ ctx }
+    requires { ctx.module ≡ (state_of I.model input.old).context.module }
+    ensures moves { Moves I.model input.old input.new }
+    ensures context { (state_of I.model input.new).context ≡ ctx }
     ensures current { current input.new ≡ current input.old }
-    ensures state { ((I.state (source input.new)).failed ≡ (I.state (source input.old)).failed) × ((I.state (source input.new)).ended ≡ (I.state (source input.old)).ended) }
-    ensures left { left I.state input.new ≡ left I.state input.old }
+    ensures state { ((state_of I.model input.new).failed ≡ (state_of I.model input.old).failed)
+        × ((state_of I.model input.new).ended ≡ (state_of I.model input.old).ended) }
+    ensures stays { to_come I.model input.new ≡ to_come I.model input.old }
 {
     if input.set_ctx(ctx).is_err() {
         unreachable!()
@@ -134,9 +152,9 @@ pub(crate) fn set_ctx<I: Tokens>(input: &mut Buffer<I>, ctx: Context)
 
 /// An identifier reference, at a word that is one.
 pub(crate) fn parse_ident_ref<I: Tokens>(alloc: Global, input: &mut Buffer<I>) -> PResult<Ident>
-    requires { at_token (is_identifier (context I.state input.old)) (seen input.old) ≡ true }
-    ensures parses { Parses I.state I.gives ident_spelling (word ref_ok) input.old result input.new }
-    ensures left { OnOk result (left I.state input.new < left I.state input.old) }
+    requires { at_token (is_identifier (context I.model input.old)) (seen input.old) ≡ true }
+    ensures parses { ParsesAlone I.model ident_spelling (word ref_ok) input.old result input.new }
+    ensures falls { OnOk result (to_come I.model input.new < to_come I.model input.old) }
 {
     ident::parse_ident_ref(alloc, input)
 }
@@ -146,8 +164,8 @@ pub(crate) fn parse_ident_name<I: Tokens>(
     alloc: Global,
     input: &mut Buffer<I>,
 ) -> PResult<IdentName>
-    ensures parses { Parses I.state I.gives name_spelling (word may_name) input.old result input.new }
-    ensures left { OnOk result (left I.state input.new < left I.state input.old) }
+    ensures parses { ParsesAlone I.model name_spelling (word may_name) input.old result input.new }
+    ensures falls { OnOk result (to_come I.model input.new < to_come I.model input.old) }
 {
     ident::parse_ident_name(alloc, input)
 }

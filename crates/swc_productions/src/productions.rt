@@ -1,11 +1,11 @@
 // What all productions stand on: the buffer, the nodes and the hook.
-ghost use Rattle.std.specs.Prelude.{◌≡◌, true, false, None, Some, IfOk, IsSome, MatchResult};
+ghost use Rattle.std.specs.Prelude.{◌≡◌, true, false, None, Some, IfOk, IsSome};
 ghost use Rattle.swc_input.specs.declared.token.Token.{Token};
-ghost use Rattle.swc_input.specs.Buffer.{current, source, context};
+ghost use Rattle.swc_input.specs.Buffer.{current, context, state_of};
 ghost use Rattle.swc_input.specs.Kinds.{at_token, is_hash};
-ghost use Rattle.swc_grammar.specs.Tokens.{is_ref, is_strict_word};
-ghost use Rattle.swc_grammar.specs.Clean.{is_lit, is_lparen, is_rparen, is_identifier};
-ghost use Rattle.swc_productions.specs.Parsing.{is_strict, seen, recorded, Forgoes, Here};
+ghost use Rattle.swc_grammar.specs.Tokens.{is_ref, is_strict_word, is_lparen, is_rparen};
+ghost use Rattle.swc_grammar.specs.Clean.{is_lit, is_identifier};
+ghost use Rattle.swc_productions.specs.Parsing.{is_strict, seen, Looks};
 
 use crate::moves::look;
 use std::alloc::Global;
@@ -39,8 +39,9 @@ pub struct Productions<I: Tokens, B: Bodies<I>> {
 impl<I: Tokens, B: Bodies<I>> Productions<I, B> {
     /// Whether no token is left. Consumes nothing, and is refused for want of memory alone.
     pub fn is_end(&mut self) -> PResult<bool>
-        ensures looks { MatchResult result (λ r. Here I.state I.gives self.old.input self.new.input) (λ e. Forgoes I.state I.gives self.old.input e self.new.input) }
-        ensures end { IfOk result (λ r. r ≡ true → (current self.new.input ≡ None) × ((I.state (source self.new.input)).ended ≡ true)) }
+        ensures looks { Looks I.model self.old.input result self.new.input }
+        ensures end { IfOk result
+            (λ r. r ≡ true → (current self.new.input ≡ None) × ((state_of I.model self.new.input).ended ≡ true)) }
         ensures token { IfOk result (λ r. r ≡ false → IsSome (current self.new.input)) }
         ensures nodes { self.new.nodes ≡ self.old.nodes }
     {
@@ -74,7 +75,7 @@ impl<I: Tokens, B: Bodies<I>> Productions<I, B> {
 
     /// Whether a word is current that is an expression by itself.
     pub(crate) fn is_ident_ref(&self) -> bool
-        ensures value { result ≡ at_token (is_identifier (context I.state self.now.input)) (seen self.now.input) }
+        ensures value { result ≡ at_token (is_identifier (context I.model self.now.input)) (seen self.now.input) }
         ensures some { result ≡ true → IsSome (current self.now.input) }
     {
         let ctx = self.input.get_ctx();

@@ -5,7 +5,8 @@
 //! the first byte that doesn't fit.
 #![tactic(auto)]
 
-ghost use Rattle.std.specs.Prelude.{◌≡◌, ◌+◌, ◌<◌, ◌≤◌, ◌∷◌, [], ◌++◌, length, IsFalse, IfOk, OnOk, IfErr, IfSome, IsNone, slice_get, nat_lt};
+ghost use Rattle.std.specs.Prelude.{◌≡◌, ◌+◌, ◌<◌, ◌≤◌, ◌∷◌, [], ◌++◌, length, IsFalse, IfOk, OnOk, IfErr, IfSome};
+ghost use Rattle.std.specs.Prelude.{IsNone, slice_get, nat_lt};
 ghost use Rattle.std.specs.List.{All, position};
 ghost use Rattle.swc_tokens.specs.Faults as faults;
 ghost use Rattle.swc_tokens.specs.Faults.{IsRefusal};
@@ -34,7 +35,8 @@ pub const MAX_LEN: usize = 4_294_967_295;
 /// first byte that doesn't fit, and want of memory at 0..0.
 pub fn read_tokens(alloc: Global, text: &[u8]) -> PResult<Vec<TokenAndSpan>>
     ensures too_long { MAX_LEN < length text.now → result ≡ Err (faults.lex_fault (faults.between 0 0)) }
-    ensures beyond_ascii { length text.now ≤ MAX_LEN → IfSome (position (λ byte. nat_lt 127 byte) text.now) (λ at. result
+    ensures beyond_ascii { length text.now ≤ MAX_LEN
+        → IfSome (position (λ byte. nat_lt 127 byte) text.now) (λ at. result
         ≡ Err (faults.lex_fault (faults.between at (at + 1)))) }
     ensures refused { length text.now ≤ MAX_LEN → IfErr result (IsRefusal text.now) }
 

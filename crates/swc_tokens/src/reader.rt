@@ -1,5 +1,6 @@
 // The reader: a text, and how far it is read.
-ghost use Rattle.std.specs.Prelude.{◌≡◌, ◌↔◌, ◌+◌, ◌<◌, ◌≤◌, ◌^◌, length, IsTrue, IsFalse, IsSome, IfOk, IfErr, IfSome, IfNone, slice_get};
+ghost use Rattle.std.specs.Prelude.{◌≡◌, ◌↔◌, ◌+◌, ◌<◌, ◌≤◌, ◌^◌, length, IsTrue, IsFalse, IsSome, IfOk, IfErr, IfSome};
+ghost use Rattle.std.specs.Prelude.{IfNone, slice_get};
 ghost use Rattle.std.specs.Str.{IsAscii};
 ghost use Rattle.swc_tokens.specs.Faults.{IsByteFault, IsRefusal};
 ghost use Rattle.swc_tokens.specs.Blanks as blanks;
@@ -101,7 +102,8 @@ impl<'a> Reader<'a> {
         ensures text { self.new.text ≡ self.old.text }
         ensures refused { IfErr result (IsRefusal self.old.text.now) }
         ensures next { IfOk result (λ next. IfSome next (λ t. IsNext self.old.text.now self.old.at t self.new.at)) }
-        ensures rest { IfOk result (λ next. IfNone next (AreBlanks self.old.text.now self.old.at (length self.old.text.now))) }
+        ensures rest { IfOk result
+            (λ next. IfNone next (AreBlanks self.old.text.now self.old.at (length self.old.text.now))) }
         ensures no_error { IfOk result (λ next. IfSome next (λ t. IsFalse (is_error t.token))) }
         ensures first { IfOk result (λ next. IfSome next (λ t. IsTrue t.had_line_break → IsSome before.entry)) }
     {

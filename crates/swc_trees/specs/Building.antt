@@ -1,9 +1,16 @@
 -- Trees that were taken out, and what is made of them: the part of a node, or the node, that they are parts of.
-use Rattle.std.specs.Prelude.{◌≡◌, ℕ, List, ◌++◌, map}
+use Rattle.std.specs.Prelude.{◌≡◌, ℕ, List, ◌++◌, Result, IfOk, map}
+use Rattle.std.specs.declared.alloc.AllocError.{AllocError}
+use Rattle.std.specs.declared.alloc.Global.{Global}
+use Rattle.std.specs.declared.boxed.Box.{Box}
 use Rattle.swc_context.specs.declared.span.Span.{Span}
 use Rattle.swc_ast.specs.Tree.{Tree}
-use Rattle.swc_ast.specs.TreeOf.{boxed_tree, pat_tree, target_tree}
-use Rattle.swc_nodes.specs.Slots.{View, Part, expr, pat, simple, pattern}
+use Rattle.swc_ast.specs.TreeOf.{expr_tree, boxed_tree, pat_tree, target_tree}
+use Rattle.swc_ast.specs.declared.expr.Expr.{Expr}
+use Rattle.swc_nodes.specs.NodeTree.{node_tree, expr_of}
+use Rattle.swc_nodes.specs.Slots.{View, Part, expr, pat, simple, pattern, slots}
+use Rattle.swc_nodes.specs.declared.node.ExprId.{ExprId}
+use Rattle.swc_nodes.specs.declared.node.Node.{Node}
 use Rattle.swc_trees.specs.declared.built.Built.{Built}
 use Rattle.swc_trees.specs.declared.built.Built.TheVariants as built
 
@@ -56,3 +63,15 @@ module _ {F C K : Type 0} (fun_at : F → Span) (class_at : C → Span) (block_a
     pub split : old ≡ new ++ own
     pub kinds : map built_kind own ≡ map part_kind ps
     pub moved : (at : ℕ → Tree F C K) → Stand at ps own → same at
+
+  -- the same, by the trees that boxes stand for, and that are given for numbers
+  abbrev pub Assembles : List Part → ((Box (Expr F C K) Global → Tree F C K) → (ExprId → Tree F C K) → Type 0) → List (Built F C K) → List (Built F C K) → Type 0
+  Assembles ps same old new = Assembled ps (λ at. same (boxed_tree F C K fun_at class_at block_at) (expr_of fun_at class_at block_at at)) old new
+
+  -- where memory may be wanted
+  abbrev pub AssemblesIf : {Y : Type 0} → List Part → ((Box (Expr F C K) Global → Tree F C K) → (ExprId → Tree F C K) → Y → Type 0) → List (Built F C K) → Result Y AllocError → List (Built F C K) → Type 0
+  AssemblesIf ps same old r new = IfOk r (λ y. Assembled ps (λ at. same (boxed_tree F C K fun_at class_at block_at) (expr_of fun_at class_at block_at at) y) old new)
+
+  -- the same of an expression, which takes the place of a node
+  abbrev pub AssemblesExpr : Node F C K → List (Built F C K) → Result (Expr F C K) AllocError → List (Built F C K) → Type 0
+  AssemblesExpr node old r new = IfOk r (λ y. Assembled (slots node) (λ at. expr_tree F C K fun_at class_at block_at y ≡ node_tree fun_at class_at block_at at node) old new)

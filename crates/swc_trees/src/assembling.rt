@@ -1,11 +1,12 @@
-// Makes an expression, a pattern or a target of a node and the trees of its parts, which are taken from the end of a list: the last part first.
+// Makes an expression, a pattern or a target of a node and the trees of its parts, which are taken from the end of a
+// list: the last part first.
 // Where memory is wanted, it is asked for before a tree is in hand, as far as that goes.
 ghost use Rattle.std.specs.Prelude.{◌≡◌, true, IfOk};
 ghost use Rattle.swc_ast.specs.Parts.{simple_tree};
-ghost use Rattle.swc_ast.specs.TreeOf.{expr_tree, boxed_tree, pat_tree, target_tree};
+ghost use Rattle.swc_ast.specs.TreeOf.{boxed_tree, pat_tree, target_tree};
 ghost use Rattle.swc_nodes.specs.NodeTree.{node_tree};
 ghost use Rattle.swc_nodes.specs.Slots.{expr, pat, simple, pattern, form, view_ok, slots};
-ghost use Rattle.swc_trees.specs.Building.{Offers, Assembled};
+ghost use Rattle.swc_trees.specs.Building.{AssemblesExpr, Offers, Assembled};
 ghost use Rattle.swc_trees.specs.Kinds.{is_operation, is_choice, is_call};
 
 use crate::built::{Built, pop_expr, pop_if_some, pop_target};
@@ -29,7 +30,7 @@ pub(crate) fn assemble_expr<F: Spanned + Drop, C: Spanned + Drop, K: Spanned + D
 ) -> Result<Expr<F, C, K>, AllocError>
     requires offers { Offers (slots node) built.old.items }
     requires expr { view_ok expr (form node) ≡ true }
-    ensures { IfOk result (λ y. Assembled F.place C.place K.place (slots node) (λ at. expr_tree _ _ _ F.place C.place K.place y ≡ node_tree F.place C.place K.place at node) built.old.items built.new.items) }
+    ensures { AssemblesExpr F.place C.place K.place node built.old.items result built.new.items }
 {
     match node {
         Node::This(e) => Ok(Expr::This(e)),
@@ -57,7 +58,7 @@ fn assemble_operation<F: Spanned + Drop, C: Spanned + Drop, K: Spanned + Drop>(
 ) -> Result<Expr<F, C, K>, AllocError>
     requires offers { Offers (slots node) built.old.items }
     requires operation { is_operation node ≡ true }
-    ensures { IfOk result (λ y. Assembled F.place C.place K.place (slots node) (λ at. expr_tree _ _ _ F.place C.place K.place y ≡ node_tree F.place C.place K.place at node) built.old.items built.new.items) }
+    ensures { AssemblesExpr F.place C.place K.place node built.old.items result built.new.items }
 {
     match node {
         Node::Array { span, elems } => {
@@ -123,7 +124,7 @@ fn assemble_choice<F: Spanned + Drop, C: Spanned + Drop, K: Spanned + Drop>(
 ) -> Result<Expr<F, C, K>, AllocError>
     requires offers { Offers (slots node) built.old.items }
     requires choice { is_choice node ≡ true }
-    ensures { IfOk result (λ y. Assembled F.place C.place K.place (slots node) (λ at. expr_tree _ _ _ F.place C.place K.place y ≡ node_tree F.place C.place K.place at node) built.old.items built.new.items) }
+    ensures { AssemblesExpr F.place C.place K.place node built.old.items result built.new.items }
 {
     match node {
         Node::Bin {
@@ -184,7 +185,7 @@ fn assemble_call<F: Spanned + Drop, C: Spanned + Drop, K: Spanned + Drop>(
 ) -> Result<Expr<F, C, K>, AllocError>
     requires offers { Offers (slots node) built.old.items }
     requires call { is_call node ≡ true }
-    ensures { IfOk result (λ y. Assembled F.place C.place K.place (slots node) (λ at. expr_tree _ _ _ F.place C.place K.place y ≡ node_tree F.place C.place K.place at node) built.old.items built.new.items) }
+    ensures { AssemblesExpr F.place C.place K.place node built.old.items result built.new.items }
 {
     match node {
         Node::Call {
@@ -234,7 +235,8 @@ pub(crate) fn assemble_pat<F: Spanned + Drop, C: Spanned + Drop, K: Spanned + Dr
 ) -> Result<Pat<F, C, K>, AllocError>
     requires offers { Offers (slots node) built.old.items }
     requires pat { view_ok pat (form node) ≡ true }
-    ensures { IfOk result (λ y. Assembled F.place C.place K.place (slots node) (λ at. pat_tree _ _ _ F.place C.place K.place y ≡ node_tree F.place C.place K.place at node) built.old.items built.new.items) }
+    ensures { IfOk result (λ y. Assembled F.place C.place K.place (slots node) (λ at. pat_tree _ _ _ F.place C.place
+        K.place y ≡ node_tree F.place C.place K.place at node) built.old.items built.new.items) }
 {
     match node {
         Node::PatIdent(b) => Ok(Pat::Ident(b)),
@@ -278,7 +280,8 @@ pub(crate) fn assemble_simple<F: Spanned + Drop, C: Spanned + Drop, K: Spanned +
 ) -> Result<SimpleAssignTarget<Box<Expr<F, C, K>>>, AllocError>
     requires offers { Offers (slots node) built.old.items }
     requires simple { view_ok simple (form node) ≡ true }
-    ensures { IfOk result (λ y. Assembled F.place C.place K.place (slots node) (λ at. simple_tree (boxed_tree _ _ _ F.place C.place K.place) y ≡ node_tree F.place C.place K.place at node) built.old.items built.new.items) }
+    ensures { IfOk result (λ y. Assembled F.place C.place K.place (slots node) (λ at. simple_tree (boxed_tree _ _ _
+        F.place C.place K.place) y ≡ node_tree F.place C.place K.place at node) built.old.items built.new.items) }
 {
     match node {
         Node::Ident(id) => Ok(SimpleAssignTarget::Ident(BindingIdent { id })),
@@ -298,7 +301,8 @@ pub(crate) fn assemble_pattern<F: Spanned + Drop, C: Spanned + Drop, K: Spanned 
 ) -> Result<AssignTarget<F, C, K>, AllocError>
     requires offers { Offers (slots node) built.old.items }
     requires pattern { view_ok pattern (form node) ≡ true }
-    ensures { IfOk result (λ y. Assembled F.place C.place K.place (slots node) (λ at. target_tree _ _ _ F.place C.place K.place y ≡ node_tree F.place C.place K.place at node) built.old.items built.new.items) }
+    ensures { IfOk result (λ y. Assembled F.place C.place K.place (slots node) (λ at. target_tree _ _ _ F.place C.place
+        K.place y ≡ node_tree F.place C.place K.place at node) built.old.items built.new.items) }
 {
     match node {
         Node::PatArray { span, elems } => {

@@ -1,11 +1,12 @@
-// Trees that were taken out, and wait for the node that they are parts of. Those of one node stand in a list, in the order of its parts, and
+// Trees that were taken out, and wait for the node that they are parts of. Those of one node stand in a list, in the
+// order of its parts, and
 // are taken from its end.
 ghost use Rattle.std.specs.Prelude.{◌≡◌, ◌∷◌, []};
 ghost use Rattle.swc_ast.specs.Parts.{or_hole};
-ghost use Rattle.swc_ast.specs.TreeOf.{boxed_tree, pat_tree, target_tree};
-ghost use Rattle.swc_nodes.specs.NodeTree.{expr_of, target_of};
+ghost use Rattle.swc_ast.specs.TreeOf.{pat_tree, target_tree};
+ghost use Rattle.swc_nodes.specs.NodeTree.{target_of};
 ghost use Rattle.swc_nodes.specs.Slots.{if_some, one_expr, one_pat, target_part};
-ghost use Rattle.swc_trees.specs.Building.{Offers, Assembled};
+ghost use Rattle.swc_trees.specs.Building.{Assembles, Offers, Assembled};
 
 use swc_ast::expr::{AssignTarget, Expr};
 use swc_ast::pat::Pat;
@@ -27,7 +28,8 @@ pub(crate) fn pop_expr<F: Spanned + Drop, C: Spanned + Drop, K: Spanned + Drop>(
     id: ExprId,
 ) -> Box<Expr<F, C, K>>
     requires { Offers (one_expr id) built.old.items }
-    ensures { Assembled F.place C.place K.place (one_expr id) (λ at. boxed_tree _ _ _ F.place C.place K.place result ≡ expr_of F.place C.place K.place at id) built.old.items built.new.items }
+    ensures { Assembles F.place C.place K.place (one_expr id)
+        (λ boxed number. boxed result ≡ number id) built.old.items built.new.items }
 {
     match built.pop() {
         Some(Built::Expr(expr)) => expr,
@@ -41,7 +43,8 @@ pub(crate) fn pop_if_some<F: Spanned + Drop, C: Spanned + Drop, K: Spanned + Dro
     id: Option<ExprId>,
 ) -> Option<Box<Expr<F, C, K>>>
     requires { Offers (if_some one_expr id) built.old.items }
-    ensures { Assembled F.place C.place K.place (if_some one_expr id) (λ at. or_hole (boxed_tree _ _ _ F.place C.place K.place) result ≡ or_hole (expr_of F.place C.place K.place at) id) built.old.items built.new.items }
+    ensures { Assembles F.place C.place K.place (if_some one_expr id)
+        (λ boxed number. or_hole boxed result ≡ or_hole number id) built.old.items built.new.items }
 {
     match id {
         None => None,
@@ -55,7 +58,8 @@ pub(crate) fn pop_pat<F: Spanned + Drop, C: Spanned + Drop, K: Spanned + Drop>(
     id: PatId,
 ) -> Pat<F, C, K>
     requires { Offers (one_pat id) built.old.items }
-    ensures { Assembled F.place C.place K.place (one_pat id) (λ at. pat_tree _ _ _ F.place C.place K.place result ≡ at id.0) built.old.items built.new.items }
+    ensures { Assembled F.place C.place K.place (one_pat id)
+        (λ at. pat_tree _ _ _ F.place C.place K.place result ≡ at id.0) built.old.items built.new.items }
 {
     match built.pop() {
         Some(Built::Pat(pat)) => pat,
@@ -69,7 +73,8 @@ pub(crate) fn pop_target<F: Spanned + Drop, C: Spanned + Drop, K: Spanned + Drop
     target: TargetNode,
 ) -> AssignTarget<F, C, K>
     requires { Offers (target_part target ∷ []) built.old.items }
-    ensures { Assembled F.place C.place K.place (target_part target ∷ []) (λ at. target_tree _ _ _ F.place C.place K.place result ≡ target_of F.place C.place K.place at target) built.old.items built.new.items }
+    ensures { Assembled F.place C.place K.place (target_part target ∷ []) (λ at. target_tree _ _ _ F.place C.place
+        K.place result ≡ target_of F.place C.place K.place at target) built.old.items built.new.items }
 {
     match built.pop() {
         Some(Built::Target(target)) => target,

@@ -3,7 +3,8 @@ ghost use Rattle.std.specs.Prelude.{◌≡◌, ◌++◌, true, map, IfOk};
 ghost use Rattle.swc_ast.specs.Parts.{or_hole, item_tree, param_tree, function_tree};
 ghost use Rattle.swc_ast.specs.TreeOf.{boxed_tree, pat_tree, pat_prop_tree, prop_tree, prop_or_spread_tree};
 ghost use Rattle.swc_nodes.specs.NodeTree.{expr_of, pat_of, prop_of, pat_prop_of};
-ghost use Rattle.swc_nodes.specs.Slots.{flat, if_some, one_expr, one_pat, item_parts, param_parts, prop_parts, pat_prop_parts};
+ghost use Rattle.swc_nodes.specs.Slots.{flat, if_some, one_expr, one_pat, item_parts, param_parts, prop_parts};
+ghost use Rattle.swc_nodes.specs.Slots.{pat_prop_parts};
 ghost use Rattle.swc_trees.specs.Building.{Offers, Assembled};
 ghost use Rattle.swc_trees.specs.Kinds.{is_named};
 
@@ -40,7 +41,8 @@ pub(crate) trait Item<F: Spanned, C: Spanned, K: Spanned> {
         built: &mut Vec<Built<F, C, K>>,
     ) -> Result<Self::Whole, AllocError>
         requires { Offers (parts self) built.old.items }
-        ensures { IfOk result (λ y. Assembled F.place C.place K.place (parts self) (λ at. tree y ≡ of at self) built.old.items built.new.items) };
+        ensures { IfOk result (λ y. Assembled F.place C.place K.place (parts self)
+            (λ at. tree y ≡ of at self) built.old.items built.new.items) };
 }
 
 /// The items of a list, each with its trees.
@@ -50,7 +52,8 @@ pub(crate) fn all<F: Spanned + Drop, C: Spanned + Drop, K: Spanned + Drop, T: It
     mut items: Vec<T>,
 ) -> Result<Vec<T::Whole>, AllocError>
     requires { Offers (flat T.parts items.items) built.old.items }
-    ensures { IfOk result (λ y. Assembled F.place C.place K.place (flat T.parts items.items) (λ at. map T.tree y.items ≡ map (T.of at) items.items) built.old.items built.new.items) }
+    ensures { IfOk result (λ y. Assembled F.place C.place K.place (flat T.parts items.items)
+        (λ at. map T.tree y.items ≡ map (T.of at) items.items) built.old.items built.new.items) }
 {
     let mut whole = Vec::with_capacity(alloc, items.len())?;
     while let Some(item) = items.pop() {
@@ -243,7 +246,8 @@ pub(crate) fn boxed_pat<F: Spanned + Drop, C: Spanned + Drop, K: Spanned + Drop>
     id: PatId,
 ) -> Result<Box<Pat<F, C, K>>, AllocError>
     requires { Offers (one_pat id) built.old.items }
-    ensures { IfOk result (λ y. Assembled F.place C.place K.place (one_pat id) (λ at. pat_tree _ _ _ F.place C.place K.place y.value ≡ at id.0) built.old.items built.new.items) }
+    ensures { IfOk result (λ y. Assembled F.place C.place K.place (one_pat id)
+        (λ at. pat_tree _ _ _ F.place C.place K.place y.value ≡ at id.0) built.old.items built.new.items) }
 {
     boxed(alloc, Ok(pop_pat(built, id)))
 }
@@ -256,7 +260,8 @@ fn named<F: Spanned + Drop, C: Spanned + Drop, K: Spanned + Drop>(
 ) -> Result<Prop<F, C, K>, AllocError>
     requires offers { Offers (prop_parts prop) built.old.items }
     requires named { is_named prop ≡ true }
-    ensures { IfOk result (λ y. Assembled F.place C.place K.place (prop_parts prop) (λ at. prop_tree _ _ _ F.place C.place K.place y ≡ prop_of F.place C.place K.place at prop) built.old.items built.new.items) }
+    ensures { IfOk result (λ y. Assembled F.place C.place K.place (prop_parts prop) (λ at. prop_tree _ _ _ F.place
+        C.place K.place y ≡ prop_of F.place C.place K.place at prop) built.old.items built.new.items) }
 {
     match prop {
         PropNode::Spread(_) => unreachable!(),
@@ -316,7 +321,10 @@ fn method_function<F: Spanned + Drop, C: Spanned + Drop, K: Spanned + Drop>(
     function: Function<PatId, K>,
 ) -> Result<Function<Pat<F, C, K>, K>, AllocError>
     requires { Offers (flat param_parts function.params.items) built.old.items }
-    ensures { IfOk result (λ y. Assembled F.place C.place K.place (flat param_parts function.params.items) (λ at. (function_tree K.place (pat_tree _ _ _ F.place C.place K.place) y ≡ function_tree K.place (pat_of F.place C.place K.place at) function) × (y.span ≡ function.span)) built.old.items built.new.items) }
+    ensures { IfOk result
+        (λ y. Assembled F.place C.place K.place (flat param_parts function.params.items)
+        (λ at. (function_tree K.place (pat_tree _ _ _ F.place C.place K.place) y ≡ function_tree K.place
+        (pat_of F.place C.place K.place at) function) × (y.span ≡ function.span)) built.old.items built.new.items) }
 {
     let Function {
         span,

@@ -1,10 +1,11 @@
 // The parts of a node that hold parts of their own: trees take the place of the numbers in them, the last first.
-ghost use Rattle.std.specs.Prelude.{◌≡◌, ◌++◌, IfOk};
-ghost use Rattle.swc_ast.specs.Parts.{or_hole, paren_tree, member_tree, member_prop_tree, super_prop_tree, super_part_tree, chain_tree, base_tree, callee_tree, args_tree, tpl_tree, body_tree, prop_name_tree};
-ghost use Rattle.swc_ast.specs.TreeOf.{boxed_tree};
-ghost use Rattle.swc_nodes.specs.NodeTree.{expr_of};
-ghost use Rattle.swc_nodes.specs.Slots.{flat, if_some, one_expr, args_parts, key_parts, member_parts, super_parts, callee_parts, base_parts, body_parts};
-ghost use Rattle.swc_trees.specs.Building.{Offers, Assembled};
+ghost use Rattle.std.specs.Prelude.{◌≡◌, ◌++◌};
+ghost use Rattle.swc_ast.specs.Parts.{or_hole, paren_tree, member_tree, member_prop_tree, super_prop_tree};
+ghost use Rattle.swc_ast.specs.Parts.{super_part_tree, chain_tree, base_tree, callee_tree, args_tree, tpl_tree};
+ghost use Rattle.swc_ast.specs.Parts.{body_tree, prop_name_tree};
+ghost use Rattle.swc_nodes.specs.Slots.{flat, if_some, one_expr, args_parts, key_parts, member_parts, super_parts};
+ghost use Rattle.swc_nodes.specs.Slots.{callee_parts, base_parts, body_parts};
+ghost use Rattle.swc_trees.specs.Building.{Assembles, AssemblesIf, Offers};
 
 use crate::built::{Built, pop_expr};
 use crate::items::all;
@@ -24,7 +25,8 @@ pub(crate) fn paren<F: Spanned + Drop, C: Spanned + Drop, K: Spanned + Drop>(
     paren: ParenExpr<ExprId>,
 ) -> ParenExpr<Box<Expr<F, C, K>>>
     requires { Offers (one_expr paren.expr) built.old.items }
-    ensures { Assembled F.place C.place K.place (one_expr paren.expr) (λ at. paren_tree (boxed_tree _ _ _ F.place C.place K.place) result ≡ paren_tree (expr_of F.place C.place K.place at) paren) built.old.items built.new.items }
+    ensures { Assembles F.place C.place K.place (one_expr paren.expr)
+        (λ boxed number. paren_tree boxed result ≡ paren_tree number paren) built.old.items built.new.items }
 {
     let expr = pop_expr(built, paren.expr);
     let span = paren.span;
@@ -37,7 +39,8 @@ pub(crate) fn member<F: Spanned + Drop, C: Spanned + Drop, K: Spanned + Drop>(
     member: MemberExpr<ExprId>,
 ) -> MemberExpr<Box<Expr<F, C, K>>>
     requires { Offers (one_expr member.obj ++ member_parts member.prop) built.old.items }
-    ensures { Assembled F.place C.place K.place (one_expr member.obj ++ member_parts member.prop) (λ at. member_tree (boxed_tree _ _ _ F.place C.place K.place) result ≡ member_tree (expr_of F.place C.place K.place at) member) built.old.items built.new.items }
+    ensures { Assembles F.place C.place K.place (one_expr member.obj ++ member_parts member.prop)
+        (λ boxed number. member_tree boxed result ≡ member_tree number member) built.old.items built.new.items }
 {
     let MemberExpr { span, obj, prop } = member;
     let prop = member_prop(built, prop);
@@ -51,7 +54,8 @@ pub(crate) fn member_prop<F: Spanned + Drop, C: Spanned + Drop, K: Spanned + Dro
     prop: MemberProp<ExprId>,
 ) -> MemberProp<Box<Expr<F, C, K>>>
     requires { Offers (member_parts prop) built.old.items }
-    ensures { Assembled F.place C.place K.place (member_parts prop) (λ at. member_prop_tree (boxed_tree _ _ _ F.place C.place K.place) result ≡ member_prop_tree (expr_of F.place C.place K.place at) prop) built.old.items built.new.items }
+    ensures { Assembles F.place C.place K.place (member_parts prop)
+        (λ boxed number. member_prop_tree boxed result ≡ member_prop_tree number prop) built.old.items built.new.items }
 {
     match prop {
         MemberProp::Ident(i) => MemberProp::Ident(i),
@@ -70,7 +74,9 @@ pub(crate) fn super_prop<F: Spanned + Drop, C: Spanned + Drop, K: Spanned + Drop
     super_prop: SuperPropExpr<ExprId>,
 ) -> SuperPropExpr<Box<Expr<F, C, K>>>
     requires { Offers (super_parts super_prop.prop) built.old.items }
-    ensures { Assembled F.place C.place K.place (super_parts super_prop.prop) (λ at. super_prop_tree (boxed_tree _ _ _ F.place C.place K.place) result ≡ super_prop_tree (expr_of F.place C.place K.place at) super_prop) built.old.items built.new.items }
+    ensures { Assembles F.place C.place K.place (super_parts super_prop.prop)
+        (λ boxed number. super_prop_tree boxed result ≡ super_prop_tree number super_prop)
+        built.old.items built.new.items }
 {
     let SuperPropExpr { span, obj, prop } = super_prop;
     let prop = super_part(built, prop);
@@ -83,7 +89,8 @@ pub(crate) fn super_part<F: Spanned + Drop, C: Spanned + Drop, K: Spanned + Drop
     prop: SuperProp<ExprId>,
 ) -> SuperProp<Box<Expr<F, C, K>>>
     requires { Offers (super_parts prop) built.old.items }
-    ensures { Assembled F.place C.place K.place (super_parts prop) (λ at. super_part_tree (boxed_tree _ _ _ F.place C.place K.place) result ≡ super_part_tree (expr_of F.place C.place K.place at) prop) built.old.items built.new.items }
+    ensures { Assembles F.place C.place K.place (super_parts prop)
+        (λ boxed number. super_part_tree boxed result ≡ super_part_tree number prop) built.old.items built.new.items }
 {
     match prop {
         SuperProp::Ident(i) => SuperProp::Ident(i),
@@ -101,7 +108,8 @@ pub(crate) fn callee<F: Spanned + Drop, C: Spanned + Drop, K: Spanned + Drop>(
     callee: Callee<ExprId>,
 ) -> Callee<Box<Expr<F, C, K>>>
     requires { Offers (callee_parts callee) built.old.items }
-    ensures { Assembled F.place C.place K.place (callee_parts callee) (λ at. callee_tree (boxed_tree _ _ _ F.place C.place K.place) result ≡ callee_tree (expr_of F.place C.place K.place at) callee) built.old.items built.new.items }
+    ensures { Assembles F.place C.place K.place (callee_parts callee)
+        (λ boxed number. callee_tree boxed result ≡ callee_tree number callee) built.old.items built.new.items }
 {
     match callee {
         Callee::Super(s) => Callee::Super(s),
@@ -116,7 +124,8 @@ pub(crate) fn key<F: Spanned + Drop, C: Spanned + Drop, K: Spanned + Drop>(
     key: PropName<ExprId>,
 ) -> PropName<Box<Expr<F, C, K>>>
     requires { Offers (key_parts key) built.old.items }
-    ensures { Assembled F.place C.place K.place (key_parts key) (λ at. prop_name_tree (boxed_tree _ _ _ F.place C.place K.place) result ≡ prop_name_tree (expr_of F.place C.place K.place at) key) built.old.items built.new.items }
+    ensures { Assembles F.place C.place K.place (key_parts key)
+        (λ boxed number. prop_name_tree boxed result ≡ prop_name_tree number key) built.old.items built.new.items }
 {
     match key {
         PropName::Ident(i) => PropName::Ident(i),
@@ -137,7 +146,9 @@ pub(crate) fn arrow_body<F: Spanned + Drop, C: Spanned + Drop, K: Spanned + Drop
     body: BlockStmtOrExpr<ExprId, K>,
 ) -> BlockStmtOrExpr<Box<Expr<F, C, K>>, K>
     requires { Offers (body_parts body) built.old.items }
-    ensures { Assembled F.place C.place K.place (body_parts body) (λ at. body_tree K.place (boxed_tree _ _ _ F.place C.place K.place) result ≡ body_tree K.place (expr_of F.place C.place K.place at) body) built.old.items built.new.items }
+    ensures { Assembles F.place C.place K.place (body_parts body)
+        (λ boxed number. body_tree K.place boxed result ≡ body_tree K.place number body)
+        built.old.items built.new.items }
 {
     match body {
         BlockStmtOrExpr::BlockStmt(k) => BlockStmtOrExpr::BlockStmt(k),
@@ -152,7 +163,9 @@ pub(crate) fn args_if_some<F: Spanned + Drop, C: Spanned + Drop, K: Spanned + Dr
     args: Option<Vec<ExprOrSpread<ExprId>>>,
 ) -> Result<Option<Vec<ExprOrSpread<Box<Expr<F, C, K>>>>>, AllocError>
     requires { Offers (if_some args_parts args) built.old.items }
-    ensures { IfOk result (λ y. Assembled F.place C.place K.place (if_some args_parts args) (λ at. or_hole (args_tree (boxed_tree _ _ _ F.place C.place K.place)) y ≡ or_hole (args_tree (expr_of F.place C.place K.place at)) args) built.old.items built.new.items) }
+    ensures { AssemblesIf F.place C.place K.place (if_some args_parts args)
+        (λ boxed number y. or_hole (args_tree boxed) y ≡ or_hole (args_tree number) args)
+        built.old.items result built.new.items }
 {
     match args {
         None => Ok(None),
@@ -167,7 +180,8 @@ pub(crate) fn template<F: Spanned + Drop, C: Spanned + Drop, K: Spanned + Drop>(
     tpl: Tpl<ExprId>,
 ) -> Result<Tpl<Box<Expr<F, C, K>>>, AllocError>
     requires { Offers (flat one_expr tpl.exprs.items) built.old.items }
-    ensures { IfOk result (λ y. Assembled F.place C.place K.place (flat one_expr tpl.exprs.items) (λ at. tpl_tree (boxed_tree _ _ _ F.place C.place K.place) y ≡ tpl_tree (expr_of F.place C.place K.place at) tpl) built.old.items built.new.items) }
+    ensures { AssemblesIf F.place C.place K.place (flat one_expr tpl.exprs.items)
+        (λ boxed number y. tpl_tree boxed y ≡ tpl_tree number tpl) built.old.items result built.new.items }
 {
     let Tpl {
         span,
@@ -189,7 +203,8 @@ pub(crate) fn chain<F: Spanned + Drop, C: Spanned + Drop, K: Spanned + Drop>(
     chain: OptChainExpr<ExprId>,
 ) -> Result<OptChainExpr<Box<Expr<F, C, K>>>, AllocError>
     requires { Offers (base_parts chain.base.value) built.old.items }
-    ensures { IfOk result (λ y. Assembled F.place C.place K.place (base_parts chain.base.value) (λ at. chain_tree (boxed_tree _ _ _ F.place C.place K.place) y ≡ chain_tree (expr_of F.place C.place K.place at) chain) built.old.items built.new.items) }
+    ensures { AssemblesIf F.place C.place K.place (base_parts chain.base.value)
+        (λ boxed number y. chain_tree boxed y ≡ chain_tree number chain) built.old.items result built.new.items }
 {
     let OptChainExpr {
         span,
@@ -211,7 +226,8 @@ pub(crate) fn chain_base<F: Spanned + Drop, C: Spanned + Drop, K: Spanned + Drop
     base: OptChainBase<ExprId>,
 ) -> Result<OptChainBase<Box<Expr<F, C, K>>>, AllocError>
     requires { Offers (base_parts base) built.old.items }
-    ensures { IfOk result (λ y. Assembled F.place C.place K.place (base_parts base) (λ at. base_tree (boxed_tree _ _ _ F.place C.place K.place) y ≡ base_tree (expr_of F.place C.place K.place at) base) built.old.items built.new.items) }
+    ensures { AssemblesIf F.place C.place K.place (base_parts base)
+        (λ boxed number y. base_tree boxed y ≡ base_tree number base) built.old.items result built.new.items }
 {
     match base {
         OptChainBase::Member(m) => Ok(OptChainBase::Member(member(built, m))),

@@ -3,15 +3,25 @@
 // hook is copied.
 #![tactic(none)]
 
-ghost use Rattle.std.specs.Prelude.{◌≡◌, List, [], ◌∷◌, ◌++◌, map, IfOk};
-ghost use Rattle.swc_ast.specs.Parts.{leaf, or_hole, binding_tree, paren_tree, member_tree, member_prop_tree, super_prop_tree, super_part_tree, chain_tree, chain_call_tree, base_tree, callee_tree, args_tree, item_tree, item_trees, tpl_tree, body_tree, prop_name_tree, computed_tree, function_tree, param_tree, simple_tree, rest_tree, cover_tree, spread_tree};
-ghost use Rattle.swc_ast.specs.Tree.{node, cons, nil, unary, update, bin, cond, assign, call, new, tagged, arrow, await, yield, seq, default, array, object, block, key_value, method, getter, setter, binding_prop, trees};
-ghost use Rattle.swc_ast.specs.TreeOf.{expr_tree, boxed_tree, pat_tree, pat_prop_tree, prop_tree, prop_or_spread_tree, target_tree};
-ghost use Rattle.swc_nodes.specs.NodeTree.{expr_of, pat_of, target_of, prop_of, pat_prop_of};
-ghost use Rattle.swc_nodes.specs.Slots.{expr as as_expr, pat as as_pat, simple as as_simple, pattern as as_pattern, slots, flat, if_some, one_expr, one_pat, expr_part, pat_part, target_part, item_parts, args_parts, key_parts, member_parts, super_parts, callee_parts, base_parts, body_parts, param_parts, prop_parts, pat_prop_parts};
+ghost use Rattle.std.specs.Prelude.{◌≡◌, ◌++◌, map, IfOk};
+ghost use Rattle.swc_ast.specs.Parts.{leaf, or_hole, binding_tree, paren_tree, member_tree, member_prop_tree};
+ghost use Rattle.swc_ast.specs.Parts.{super_prop_tree, super_part_tree, chain_tree, chain_call_tree, base_tree};
+ghost use Rattle.swc_ast.specs.Parts.{callee_tree, args_tree, item_tree, item_trees, tpl_tree, body_tree};
+ghost use Rattle.swc_ast.specs.Parts.{prop_name_tree, computed_tree, function_tree, param_tree, simple_tree, rest_tree};
+ghost use Rattle.swc_ast.specs.Parts.{cover_tree, spread_tree};
+ghost use Rattle.swc_ast.specs.Tree.{node, cons, nil, unary, update, bin, cond, assign, call, new, tagged, arrow};
+ghost use Rattle.swc_ast.specs.Tree.{await, yield, seq, default, array, object, block, key_value, method, getter};
+ghost use Rattle.swc_ast.specs.Tree.{setter, binding_prop, trees};
+ghost use Rattle.swc_nodes.specs.Slots.{expr as as_expr, pat as as_pat, simple as as_simple, pattern as as_pattern};
+ghost use Rattle.swc_nodes.specs.Slots.{flat, if_some, one_expr, one_pat, expr_part, pat_part};
+ghost use Rattle.swc_nodes.specs.Slots.{item_parts, args_parts, key_parts, member_parts, super_parts, callee_parts};
+ghost use Rattle.swc_nodes.specs.Slots.{base_parts, body_parts, param_parts, prop_parts, pat_prop_parts};
 ghost use Rattle.swc_nodes.specs.Stands.{count, Grows, Made};
 ghost use Rattle.swc_trees.specs.Boxed.{Hooked, HookedProp, Short};
-ghost use Rattle.swc_trees.specs.Moving.{IsNode, PutsIn};
+ghost use Rattle.swc_trees.specs.Moving.{PutsIn, PutsNode, PutsProp, PutsPatProp, PutsTarget, boxed_in, expr_in};
+ghost use Rattle.swc_trees.specs.Moving.{pat_in};
+ghost use Rattle.swc_trees.specs.Moving.{target_in, prop_in, prop_or_spread_in, pat_prop_in, expr_as, pat_as};
+ghost use Rattle.swc_trees.specs.Moving.{prop_node_as, pat_prop_node_as};
 
 use crate::moved::{
     lit_node, no_prop, nothing, taken_big, taken_binding, taken_ident, taken_import, taken_lit,
@@ -42,7 +52,7 @@ pub fn put_expr<F: Spanned + Drop, C: Spanned + Drop, K: Spanned + Drop>(
     mut expr: Box<Expr<F, C, K>>,
 ) -> Result<ExprId, AllocError>
     ensures grows { Grows nodes.old nodes.new }
-    ensures made { IfOk result (λ id. Made (count nodes.old) nodes.new (expr_part id) (boxed_tree _ _ _ F.place C.place K.place expr)) }
+    ensures made { IfOk result (λ id. Made (count nodes.old) nodes.new (expr_part id) (boxed_in nodes.old expr)) }
 {
     put_boxed(nodes, alloc, &mut expr)
 }
@@ -54,7 +64,7 @@ pub fn put_pat<F: Spanned + Drop, C: Spanned + Drop, K: Spanned + Drop>(
     mut pat: Pat<F, C, K>,
 ) -> Result<PatId, AllocError>
     ensures grows { Grows nodes.old nodes.new }
-    ensures made { IfOk result (λ id. Made (count nodes.old) nodes.new (pat_part id) (pat_tree _ _ _ F.place C.place K.place pat)) }
+    ensures made { IfOk result (λ id. Made (count nodes.old) nodes.new (pat_part id) (pat_in nodes.old pat)) }
 {
     put_pat_id(nodes, alloc, &mut pat)
 }
@@ -66,7 +76,7 @@ fn put_boxed<F: Spanned + Drop, C: Spanned + Drop, K: Spanned + Drop>(
     alloc: Global,
     expr: &mut Box<Expr<F, C, K>>,
 ) -> Result<ExprId, AllocError>
-    ensures { PutsIn one_expr (λ at y. at y.0 ≡ boxed_tree _ _ _ F.place C.place K.place expr.old) nodes.old result nodes.new }
+    ensures { PutsIn one_expr (λ at y. at y.0 ≡ boxed_in nodes.old expr.old) nodes.old result nodes.new }
 {
     let node = put_node(nodes, alloc, expr)?;
     Ok(ExprId(nodes.push(node)?))
@@ -79,7 +89,7 @@ fn put_node<F: Spanned + Drop, C: Spanned + Drop, K: Spanned + Drop>(
     alloc: Global,
     expr: &mut Expr<F, C, K>,
 ) -> Result<Node<F, C, K>, AllocError>
-    ensures { PutsIn slots (IsNode F.place C.place K.place as_expr (expr_tree _ _ _ F.place C.place K.place expr.old)) nodes.old result nodes.new }
+    ensures { PutsNode as_expr (expr_in nodes.old expr.old) nodes.old result nodes.new }
 {
     match expr {
         Expr::Fn(_) | Expr::Class(_) | Expr::Arrow { .. } => {
@@ -126,7 +136,7 @@ fn put_hooked<F: Spanned + Drop, C: Spanned + Drop, K: Spanned + Drop>(
     expr: Expr<F, C, K>,
 ) -> Result<Node<F, C, K>, AllocError>
     requires { Hooked expr }
-    ensures { PutsIn slots (IsNode F.place C.place K.place as_expr (expr_tree _ _ _ F.place C.place K.place expr)) nodes.old result nodes.new }
+    ensures { PutsNode as_expr (expr_in nodes.old expr) nodes.old result nodes.new }
 {
     match expr {
         Expr::Fn(f) => Ok(Node::Fn(f)),
@@ -149,7 +159,7 @@ fn put_short<F: Spanned + Drop, C: Spanned + Drop, K: Spanned + Drop>(
     expr: &mut Expr<F, C, K>,
 ) -> Result<Node<F, C, K>, AllocError>
     requires { Short expr.old }
-    ensures { PutsIn slots (IsNode F.place C.place K.place as_expr (expr_tree _ _ _ F.place C.place K.place expr.old)) nodes.old result nodes.new }
+    ensures { PutsNode as_expr (expr_in nodes.old expr.old) nodes.old result nodes.new }
 {
     match expr {
         Expr::This(e) => Ok(Node::This(ThisExpr { span: e.span })),
@@ -190,7 +200,8 @@ fn put_array<F: Spanned + Drop, C: Spanned + Drop, K: Spanned + Drop>(
     span: Span,
     elems: &mut Vec<Option<ExprOrSpread<Box<Expr<F, C, K>>>>>,
 ) -> Result<Node<F, C, K>, AllocError>
-    ensures { PutsIn slots (IsNode F.place C.place K.place as_expr (node array span (trees (map (or_hole (item_tree (boxed_tree _ _ _ F.place C.place K.place))) elems.old.items)))) nodes.old result nodes.new }
+    ensures { PutsNode as_expr (node array span
+        (trees (map (or_hole (item_tree (boxed_in nodes.old))) elems.old.items))) nodes.old result nodes.new }
 {
     let elems = put_elems(nodes, alloc, elems)?;
     Ok(Node::Array { span, elems })
@@ -204,7 +215,8 @@ fn put_object<F: Spanned + Drop, C: Spanned + Drop, K: Spanned + Drop>(
     span: Span,
     props: &mut Vec<PropOrSpread<F, C, K>>,
 ) -> Result<Node<F, C, K>, AllocError>
-    ensures { PutsIn slots (IsNode F.place C.place K.place as_expr (node object span (trees (map (prop_or_spread_tree _ _ _ F.place C.place K.place) props.old.items)))) nodes.old result nodes.new }
+    ensures { PutsNode as_expr
+        (node object span (trees (map (prop_or_spread_in nodes.old) props.old.items))) nodes.old result nodes.new }
 {
     let props = put_props(nodes, alloc, props)?;
     Ok(Node::Object { span, props })
@@ -218,7 +230,8 @@ fn put_seq<F: Spanned + Drop, C: Spanned + Drop, K: Spanned + Drop>(
     span: Span,
     exprs: &mut Vec<Box<Expr<F, C, K>>>,
 ) -> Result<Node<F, C, K>, AllocError>
-    ensures { PutsIn slots (IsNode F.place C.place K.place as_expr (node seq span (trees (map (boxed_tree _ _ _ F.place C.place K.place) exprs.old.items)))) nodes.old result nodes.new }
+    ensures { PutsNode as_expr
+        (node seq span (trees (map (boxed_in nodes.old) exprs.old.items))) nodes.old result nodes.new }
 {
     let exprs = put_exprs(nodes, alloc, exprs)?;
     Ok(Node::Seq { span, exprs })
@@ -233,7 +246,8 @@ fn put_unary<F: Spanned + Drop, C: Spanned + Drop, K: Spanned + Drop>(
     op: UnaryOp,
     arg: &mut Box<Expr<F, C, K>>,
 ) -> Result<Node<F, C, K>, AllocError>
-    ensures { PutsIn slots (IsNode F.place C.place K.place as_expr (node (unary op) span (cons ((boxed_tree _ _ _ F.place C.place K.place) arg.old) nil))) nodes.old result nodes.new }
+    ensures { PutsNode as_expr
+        (node (unary op) span (cons (boxed_in nodes.old arg.old) nil)) nodes.old result nodes.new }
 {
     let arg = put_boxed(nodes, alloc, arg)?;
     Ok(Node::Unary { span, op, arg })
@@ -249,7 +263,8 @@ fn put_update<F: Spanned + Drop, C: Spanned + Drop, K: Spanned + Drop>(
     prefix: bool,
     arg: &mut Box<Expr<F, C, K>>,
 ) -> Result<Node<F, C, K>, AllocError>
-    ensures { PutsIn slots (IsNode F.place C.place K.place as_expr (node (update op prefix) span (cons ((boxed_tree _ _ _ F.place C.place K.place) arg.old) nil))) nodes.old result nodes.new }
+    ensures { PutsNode as_expr
+        (node (update op prefix) span (cons (boxed_in nodes.old arg.old) nil)) nodes.old result nodes.new }
 {
     let arg = put_boxed(nodes, alloc, arg)?;
     Ok(Node::Update {
@@ -268,7 +283,7 @@ fn put_await<F: Spanned + Drop, C: Spanned + Drop, K: Spanned + Drop>(
     span: Span,
     arg: &mut Box<Expr<F, C, K>>,
 ) -> Result<Node<F, C, K>, AllocError>
-    ensures { PutsIn slots (IsNode F.place C.place K.place as_expr (node await span (cons ((boxed_tree _ _ _ F.place C.place K.place) arg.old) nil))) nodes.old result nodes.new }
+    ensures { PutsNode as_expr (node await span (cons (boxed_in nodes.old arg.old) nil)) nodes.old result nodes.new }
 {
     let arg = put_boxed(nodes, alloc, arg)?;
     Ok(Node::Await { span, arg })
@@ -283,7 +298,8 @@ fn put_yield<F: Spanned + Drop, C: Spanned + Drop, K: Spanned + Drop>(
     arg: &mut Option<Box<Expr<F, C, K>>>,
     delegate: bool,
 ) -> Result<Node<F, C, K>, AllocError>
-    ensures { PutsIn slots (IsNode F.place C.place K.place as_expr (node (yield delegate) span (cons (or_hole (boxed_tree _ _ _ F.place C.place K.place) arg.old) nil))) nodes.old result nodes.new }
+    ensures { PutsNode as_expr
+        (node (yield delegate) span (cons (or_hole (boxed_in nodes.old) arg.old) nil)) nodes.old result nodes.new }
 {
     let arg = put_if_some(nodes, alloc, arg)?;
     Ok(Node::Yield {
@@ -303,7 +319,8 @@ fn put_bin<F: Spanned + Drop, C: Spanned + Drop, K: Spanned + Drop>(
     left: &mut Box<Expr<F, C, K>>,
     right: &mut Box<Expr<F, C, K>>,
 ) -> Result<Node<F, C, K>, AllocError>
-    ensures { PutsIn slots (IsNode F.place C.place K.place as_expr (node (bin op) span (cons ((boxed_tree _ _ _ F.place C.place K.place) left.old) (cons ((boxed_tree _ _ _ F.place C.place K.place) right.old) nil)))) nodes.old result nodes.new }
+    ensures { PutsNode as_expr (node (bin op) span
+        (cons (boxed_in nodes.old left.old) (cons (boxed_in nodes.old right.old) nil))) nodes.old result nodes.new }
 {
     let left = put_boxed(nodes, alloc, left)?;
     let right = put_boxed(nodes, alloc, right)?;
@@ -325,7 +342,8 @@ fn put_cond<F: Spanned + Drop, C: Spanned + Drop, K: Spanned + Drop>(
     consequent: &mut Box<Expr<F, C, K>>,
     alt: &mut Box<Expr<F, C, K>>,
 ) -> Result<Node<F, C, K>, AllocError>
-    ensures { PutsIn slots (IsNode F.place C.place K.place as_expr (node cond span (cons ((boxed_tree _ _ _ F.place C.place K.place) test.old) (cons ((boxed_tree _ _ _ F.place C.place K.place) consequent.old) (cons ((boxed_tree _ _ _ F.place C.place K.place) alt.old) nil))))) nodes.old result nodes.new }
+    ensures { PutsNode as_expr (node cond span (cons (boxed_in nodes.old test.old) (cons
+        (boxed_in nodes.old consequent.old) (cons (boxed_in nodes.old alt.old) nil)))) nodes.old result nodes.new }
 {
     let test = put_boxed(nodes, alloc, test)?;
     let cons = put_boxed(nodes, alloc, consequent)?;
@@ -347,7 +365,8 @@ fn put_call<F: Spanned + Drop, C: Spanned + Drop, K: Spanned + Drop>(
     callee: &mut Callee<Box<Expr<F, C, K>>>,
     args: &mut Vec<ExprOrSpread<Box<Expr<F, C, K>>>>,
 ) -> Result<Node<F, C, K>, AllocError>
-    ensures { PutsIn slots (IsNode F.place C.place K.place as_expr (node call span (cons (callee_tree (boxed_tree _ _ _ F.place C.place K.place) callee.old) (item_trees (boxed_tree _ _ _ F.place C.place K.place) args.old.items)))) nodes.old result nodes.new }
+    ensures { PutsNode as_expr (node call span (cons (callee_tree (boxed_in nodes.old) callee.old)
+        (item_trees (boxed_in nodes.old) args.old.items))) nodes.old result nodes.new }
 {
     let callee = put_callee(nodes, alloc, callee)?;
     let args = put_args(nodes, alloc, args)?;
@@ -363,7 +382,8 @@ fn put_new<F: Spanned + Drop, C: Spanned + Drop, K: Spanned + Drop>(
     callee: &mut Box<Expr<F, C, K>>,
     args: &mut Option<Vec<ExprOrSpread<Box<Expr<F, C, K>>>>>,
 ) -> Result<Node<F, C, K>, AllocError>
-    ensures { PutsIn slots (IsNode F.place C.place K.place as_expr (node new span (cons ((boxed_tree _ _ _ F.place C.place K.place) callee.old) (cons (or_hole (args_tree (boxed_tree _ _ _ F.place C.place K.place)) args.old) nil)))) nodes.old result nodes.new }
+    ensures { PutsNode as_expr (node new span (cons (boxed_in nodes.old callee.old)
+        (cons (or_hole (args_tree (boxed_in nodes.old)) args.old) nil))) nodes.old result nodes.new }
 {
     let callee = put_boxed(nodes, alloc, callee)?;
     let args = put_new_args(nodes, alloc, args)?;
@@ -379,7 +399,8 @@ fn put_tagged<F: Spanned + Drop, C: Spanned + Drop, K: Spanned + Drop>(
     tag: &mut Box<Expr<F, C, K>>,
     tpl: &mut Box<Tpl<Box<Expr<F, C, K>>>>,
 ) -> Result<Node<F, C, K>, AllocError>
-    ensures { PutsIn slots (IsNode F.place C.place K.place as_expr (node tagged span (cons ((boxed_tree _ _ _ F.place C.place K.place) tag.old) (cons (tpl_tree (boxed_tree _ _ _ F.place C.place K.place) tpl.old.value) nil)))) nodes.old result nodes.new }
+    ensures { PutsNode as_expr (node tagged span (cons (boxed_in nodes.old tag.old)
+        (cons (tpl_tree (boxed_in nodes.old) tpl.old.value) nil))) nodes.old result nodes.new }
 {
     let tag = put_boxed(nodes, alloc, tag)?;
     let tpl = boxed(alloc, put_tpl(nodes, alloc, tpl))?;
@@ -396,7 +417,8 @@ fn put_assign<F: Spanned + Drop, C: Spanned + Drop, K: Spanned + Drop>(
     left: &mut AssignTarget<F, C, K>,
     right: &mut Box<Expr<F, C, K>>,
 ) -> Result<Node<F, C, K>, AllocError>
-    ensures { PutsIn slots (IsNode F.place C.place K.place as_expr (node (assign op) span (cons ((target_tree _ _ _ F.place C.place K.place) left.old) (cons ((boxed_tree _ _ _ F.place C.place K.place) right.old) nil)))) nodes.old result nodes.new }
+    ensures { PutsNode as_expr (node (assign op) span
+        (cons (target_in nodes.old left.old) (cons (boxed_in nodes.old right.old) nil))) nodes.old result nodes.new }
 {
     let left = put_target(nodes, alloc, left)?;
     let right = put_boxed(nodes, alloc, right)?;
@@ -418,7 +440,8 @@ fn put_arrow<F: Spanned + Drop, C: Spanned + Drop, K: Spanned + Drop>(
     body: Box<BlockStmtOrExpr<Box<Expr<F, C, K>>, K>>,
     is_async: bool,
 ) -> Result<Node<F, C, K>, AllocError>
-    ensures { PutsIn slots (IsNode F.place C.place K.place as_expr (node (arrow is_async) span (cons (body_tree K.place (boxed_tree _ _ _ F.place C.place K.place) body.value) (trees (map (pat_tree _ _ _ F.place C.place K.place) params.old.items))))) nodes.old result nodes.new }
+    ensures { PutsNode as_expr (node (arrow is_async) span (cons (body_tree K.place (boxed_in nodes.old) body.value)
+        (trees (map (pat_in nodes.old) params.old.items)))) nodes.old result nodes.new }
 {
     let params = put_pats(nodes, alloc, params)?;
     let body = boxed(alloc, put_body(nodes, alloc, Box::into_inner(body)))?;
@@ -437,7 +460,8 @@ fn put_body<F: Spanned + Drop, C: Spanned + Drop, K: Spanned + Drop>(
     alloc: Global,
     body: BlockStmtOrExpr<Box<Expr<F, C, K>>, K>,
 ) -> Result<BlockStmtOrExpr<ExprId, K>, AllocError>
-    ensures { PutsIn body_parts (λ at y. body_tree K.place (expr_of F.place C.place K.place at) y ≡ body_tree K.place (boxed_tree _ _ _ F.place C.place K.place) body) nodes.old result nodes.new }
+    ensures { PutsIn body_parts (λ at y. body_tree K.place (expr_as nodes.old at) y
+        ≡ body_tree K.place (boxed_in nodes.old) body) nodes.old result nodes.new }
 {
     match body {
         BlockStmtOrExpr::BlockStmt(k) => Ok(BlockStmtOrExpr::BlockStmt(k)),
@@ -452,7 +476,8 @@ fn put_if_some<F: Spanned + Drop, C: Spanned + Drop, K: Spanned + Drop>(
     alloc: Global,
     expr: &mut Option<Box<Expr<F, C, K>>>,
 ) -> Result<Option<ExprId>, AllocError>
-    ensures { PutsIn (λ y. if_some one_expr y) (λ at y. or_hole (expr_of F.place C.place K.place at) y ≡ or_hole (boxed_tree _ _ _ F.place C.place K.place) expr.old) nodes.old result nodes.new }
+    ensures { PutsIn (λ y. if_some one_expr y)
+        (λ at y. or_hole (expr_as nodes.old at) y ≡ or_hole (boxed_in nodes.old) expr.old) nodes.old result nodes.new }
 {
     match expr {
         None => Ok(None),
@@ -467,7 +492,8 @@ fn put_new_args<F: Spanned + Drop, C: Spanned + Drop, K: Spanned + Drop>(
     alloc: Global,
     args: &mut Option<Vec<ExprOrSpread<Box<Expr<F, C, K>>>>>,
 ) -> Result<Option<Vec<ExprOrSpread<ExprId>>>, AllocError>
-    ensures { PutsIn (λ y. if_some args_parts y) (λ at y. or_hole (args_tree (expr_of F.place C.place K.place at)) y ≡ or_hole (args_tree (boxed_tree _ _ _ F.place C.place K.place)) args.old) nodes.old result nodes.new }
+    ensures { PutsIn (λ y. if_some args_parts y) (λ at y. or_hole (args_tree (expr_as nodes.old at)) y
+        ≡ or_hole (args_tree (boxed_in nodes.old)) args.old) nodes.old result nodes.new }
 {
     match args {
         None => Ok(None),
@@ -482,7 +508,8 @@ fn put_elem<F: Spanned + Drop, C: Spanned + Drop, K: Spanned + Drop>(
     alloc: Global,
     elem: &mut Option<ExprOrSpread<Box<Expr<F, C, K>>>>,
 ) -> Result<Option<ExprOrSpread<ExprId>>, AllocError>
-    ensures { PutsIn (λ y. if_some item_parts y) (λ at y. or_hole (item_tree (expr_of F.place C.place K.place at)) y ≡ or_hole (item_tree (boxed_tree _ _ _ F.place C.place K.place)) elem.old) nodes.old result nodes.new }
+    ensures { PutsIn (λ y. if_some item_parts y) (λ at y. or_hole (item_tree (expr_as nodes.old at)) y
+        ≡ or_hole (item_tree (boxed_in nodes.old)) elem.old) nodes.old result nodes.new }
 {
     match elem {
         None => Ok(None),
@@ -497,7 +524,8 @@ fn put_pat_elem<F: Spanned + Drop, C: Spanned + Drop, K: Spanned + Drop>(
     alloc: Global,
     elem: &mut Option<Pat<F, C, K>>,
 ) -> Result<Option<PatId>, AllocError>
-    ensures { PutsIn (λ y. if_some one_pat y) (λ at y. or_hole (pat_of F.place C.place K.place at) y ≡ or_hole (pat_tree _ _ _ F.place C.place K.place) elem.old) nodes.old result nodes.new }
+    ensures { PutsIn (λ y. if_some one_pat y)
+        (λ at y. or_hole (pat_as nodes.old at) y ≡ or_hole (pat_in nodes.old) elem.old) nodes.old result nodes.new }
 {
     match elem {
         None => Ok(None),
@@ -512,7 +540,8 @@ fn put_paren<F: Spanned + Drop, C: Spanned + Drop, K: Spanned + Drop>(
     alloc: Global,
     paren: &mut ParenExpr<Box<Expr<F, C, K>>>,
 ) -> Result<ParenExpr<ExprId>, AllocError>
-    ensures { PutsIn (λ y. one_expr y.expr) (λ at y. paren_tree (expr_of F.place C.place K.place at) y ≡ paren_tree (boxed_tree _ _ _ F.place C.place K.place) paren.old) nodes.old result nodes.new }
+    ensures { PutsIn (λ y. one_expr y.expr) (λ at y. paren_tree (expr_as nodes.old at) y
+        ≡ paren_tree (boxed_in nodes.old) paren.old) nodes.old result nodes.new }
 {
     let expr = put_boxed(nodes, alloc, &mut paren.expr)?;
     let span = paren.span;
@@ -526,7 +555,8 @@ fn put_member<F: Spanned + Drop, C: Spanned + Drop, K: Spanned + Drop>(
     alloc: Global,
     member: &mut MemberExpr<Box<Expr<F, C, K>>>,
 ) -> Result<MemberExpr<ExprId>, AllocError>
-    ensures { PutsIn (λ y. one_expr y.obj ++ member_parts y.prop) (λ at y. member_tree (expr_of F.place C.place K.place at) y ≡ member_tree (boxed_tree _ _ _ F.place C.place K.place) member.old) nodes.old result nodes.new }
+    ensures { PutsIn (λ y. one_expr y.obj ++ member_parts y.prop) (λ at y. member_tree (expr_as nodes.old at) y
+        ≡ member_tree (boxed_in nodes.old) member.old) nodes.old result nodes.new }
 {
     let obj = put_boxed(nodes, alloc, &mut member.obj)?;
     let prop = put_member_prop(nodes, alloc, &mut member.prop)?;
@@ -541,7 +571,8 @@ fn put_member_prop<F: Spanned + Drop, C: Spanned + Drop, K: Spanned + Drop>(
     alloc: Global,
     prop: &mut MemberProp<Box<Expr<F, C, K>>>,
 ) -> Result<MemberProp<ExprId>, AllocError>
-    ensures { PutsIn member_parts (λ at y. member_prop_tree (expr_of F.place C.place K.place at) y ≡ member_prop_tree (boxed_tree _ _ _ F.place C.place K.place) prop.old) nodes.old result nodes.new }
+    ensures { PutsIn member_parts (λ at y. member_prop_tree (expr_as nodes.old at) y
+        ≡ member_prop_tree (boxed_in nodes.old) prop.old) nodes.old result nodes.new }
 {
     match prop {
         MemberProp::Ident(i) => Ok(MemberProp::Ident(taken_name(alloc, i)?)),
@@ -557,7 +588,8 @@ fn put_computed<F: Spanned + Drop, C: Spanned + Drop, K: Spanned + Drop>(
     alloc: Global,
     key: &mut ComputedPropName<Box<Expr<F, C, K>>>,
 ) -> Result<ComputedPropName<ExprId>, AllocError>
-    ensures { PutsIn (λ y. one_expr y.expr) (λ at y. computed_tree (expr_of F.place C.place K.place at) y ≡ computed_tree (boxed_tree _ _ _ F.place C.place K.place) key.old) nodes.old result nodes.new }
+    ensures { PutsIn (λ y. one_expr y.expr) (λ at y. computed_tree (expr_as nodes.old at) y
+        ≡ computed_tree (boxed_in nodes.old) key.old) nodes.old result nodes.new }
 {
     let expr = put_boxed(nodes, alloc, &mut key.expr)?;
     let span = key.span;
@@ -571,7 +603,8 @@ fn put_super_prop<F: Spanned + Drop, C: Spanned + Drop, K: Spanned + Drop>(
     alloc: Global,
     super_prop: &mut SuperPropExpr<Box<Expr<F, C, K>>>,
 ) -> Result<SuperPropExpr<ExprId>, AllocError>
-    ensures { PutsIn (λ y. super_parts y.prop) (λ at y. super_prop_tree (expr_of F.place C.place K.place at) y ≡ super_prop_tree (boxed_tree _ _ _ F.place C.place K.place) super_prop.old) nodes.old result nodes.new }
+    ensures { PutsIn (λ y. super_parts y.prop) (λ at y. super_prop_tree (expr_as nodes.old at) y
+        ≡ super_prop_tree (boxed_in nodes.old) super_prop.old) nodes.old result nodes.new }
 {
     let prop = put_super_part(nodes, alloc, &mut super_prop.prop)?;
     let span = super_prop.span;
@@ -588,7 +621,8 @@ fn put_super_part<F: Spanned + Drop, C: Spanned + Drop, K: Spanned + Drop>(
     alloc: Global,
     prop: &mut SuperProp<Box<Expr<F, C, K>>>,
 ) -> Result<SuperProp<ExprId>, AllocError>
-    ensures { PutsIn super_parts (λ at y. super_part_tree (expr_of F.place C.place K.place at) y ≡ super_part_tree (boxed_tree _ _ _ F.place C.place K.place) prop.old) nodes.old result nodes.new }
+    ensures { PutsIn super_parts (λ at y. super_part_tree (expr_as nodes.old at) y
+        ≡ super_part_tree (boxed_in nodes.old) prop.old) nodes.old result nodes.new }
 {
     match prop {
         SuperProp::Ident(i) => Ok(SuperProp::Ident(taken_name(alloc, i)?)),
@@ -603,7 +637,8 @@ fn put_chain<F: Spanned + Drop, C: Spanned + Drop, K: Spanned + Drop>(
     alloc: Global,
     chain: &mut OptChainExpr<Box<Expr<F, C, K>>>,
 ) -> Result<OptChainExpr<ExprId>, AllocError>
-    ensures { PutsIn (λ y. base_parts y.base.value) (λ at y. chain_tree (expr_of F.place C.place K.place at) y ≡ chain_tree (boxed_tree _ _ _ F.place C.place K.place) chain.old) nodes.old result nodes.new }
+    ensures { PutsIn (λ y. base_parts y.base.value) (λ at y. chain_tree (expr_as nodes.old at) y
+        ≡ chain_tree (boxed_in nodes.old) chain.old) nodes.old result nodes.new }
 {
     let base = boxed(alloc, put_base(nodes, alloc, &mut chain.base))?;
     let span = chain.span;
@@ -622,7 +657,8 @@ fn put_base<F: Spanned + Drop, C: Spanned + Drop, K: Spanned + Drop>(
     alloc: Global,
     base: &mut OptChainBase<Box<Expr<F, C, K>>>,
 ) -> Result<OptChainBase<ExprId>, AllocError>
-    ensures { PutsIn base_parts (λ at y. base_tree (expr_of F.place C.place K.place at) y ≡ base_tree (boxed_tree _ _ _ F.place C.place K.place) base.old) nodes.old result nodes.new }
+    ensures { PutsIn base_parts (λ at y. base_tree (expr_as nodes.old at) y
+        ≡ base_tree (boxed_in nodes.old) base.old) nodes.old result nodes.new }
 {
     match base {
         OptChainBase::Member(m) => Ok(OptChainBase::Member(put_member(nodes, alloc, m)?)),
@@ -637,7 +673,8 @@ fn put_chain_call<F: Spanned + Drop, C: Spanned + Drop, K: Spanned + Drop>(
     alloc: Global,
     call: &mut OptCall<Box<Expr<F, C, K>>>,
 ) -> Result<OptCall<ExprId>, AllocError>
-    ensures { PutsIn (λ y. one_expr y.callee ++ args_parts y.args) (λ at y. chain_call_tree (expr_of F.place C.place K.place at) y ≡ chain_call_tree (boxed_tree _ _ _ F.place C.place K.place) call.old) nodes.old result nodes.new }
+    ensures { PutsIn (λ y. one_expr y.callee ++ args_parts y.args) (λ at y. chain_call_tree (expr_as nodes.old at) y
+        ≡ chain_call_tree (boxed_in nodes.old) call.old) nodes.old result nodes.new }
 {
     let callee = put_boxed(nodes, alloc, &mut call.callee)?;
     let args = put_args(nodes, alloc, &mut call.args)?;
@@ -652,7 +689,8 @@ fn put_callee<F: Spanned + Drop, C: Spanned + Drop, K: Spanned + Drop>(
     alloc: Global,
     callee: &mut Callee<Box<Expr<F, C, K>>>,
 ) -> Result<Callee<ExprId>, AllocError>
-    ensures { PutsIn callee_parts (λ at y. callee_tree (expr_of F.place C.place K.place at) y ≡ callee_tree (boxed_tree _ _ _ F.place C.place K.place) callee.old) nodes.old result nodes.new }
+    ensures { PutsIn callee_parts (λ at y. callee_tree (expr_as nodes.old at) y
+        ≡ callee_tree (boxed_in nodes.old) callee.old) nodes.old result nodes.new }
 {
     match callee {
         Callee::Super(s) => Ok(Callee::Super(Super { span: s.span })),
@@ -668,7 +706,8 @@ fn put_item<F: Spanned + Drop, C: Spanned + Drop, K: Spanned + Drop>(
     alloc: Global,
     item: &mut ExprOrSpread<Box<Expr<F, C, K>>>,
 ) -> Result<ExprOrSpread<ExprId>, AllocError>
-    ensures { PutsIn item_parts (λ at y. item_tree (expr_of F.place C.place K.place at) y ≡ item_tree (boxed_tree _ _ _ F.place C.place K.place) item.old) nodes.old result nodes.new }
+    ensures { PutsIn item_parts (λ at y. item_tree (expr_as nodes.old at) y
+        ≡ item_tree (boxed_in nodes.old) item.old) nodes.old result nodes.new }
 {
     let expr = put_boxed(nodes, alloc, &mut item.expr)?;
     let spread = item.spread;
@@ -682,7 +721,8 @@ fn put_tpl<F: Spanned + Drop, C: Spanned + Drop, K: Spanned + Drop>(
     alloc: Global,
     tpl: &mut Tpl<Box<Expr<F, C, K>>>,
 ) -> Result<Tpl<ExprId>, AllocError>
-    ensures { PutsIn (λ y. flat one_expr y.exprs.items) (λ at y. tpl_tree (expr_of F.place C.place K.place at) y ≡ tpl_tree (boxed_tree _ _ _ F.place C.place K.place) tpl.old) nodes.old result nodes.new }
+    ensures { PutsIn (λ y. flat one_expr y.exprs.items)
+        (λ at y. tpl_tree (expr_as nodes.old at) y ≡ tpl_tree (boxed_in nodes.old) tpl.old) nodes.old result nodes.new }
 {
     let exprs = put_exprs(nodes, alloc, &mut tpl.exprs)?;
     let span = tpl.span;
@@ -701,7 +741,8 @@ fn put_exprs<F: Spanned + Drop, C: Spanned + Drop, K: Spanned + Drop>(
     alloc: Global,
     exprs: &mut Vec<Box<Expr<F, C, K>>>,
 ) -> Result<Vec<ExprId>, AllocError>
-    ensures { PutsIn (λ y. flat one_expr y.items) (λ at y. map (expr_of F.place C.place K.place at) y.items ≡ map (boxed_tree _ _ _ F.place C.place K.place) exprs.old.items) nodes.old result nodes.new }
+    ensures { PutsIn (λ y. flat one_expr y.items) (λ at y. map (expr_as nodes.old at) y.items
+        ≡ map (boxed_in nodes.old) exprs.old.items) nodes.old result nodes.new }
 {
     let mut put = Vec::new(alloc);
     for expr in exprs.iter_mut() {
@@ -717,7 +758,8 @@ fn put_args<F: Spanned + Drop, C: Spanned + Drop, K: Spanned + Drop>(
     alloc: Global,
     args: &mut Vec<ExprOrSpread<Box<Expr<F, C, K>>>>,
 ) -> Result<Vec<ExprOrSpread<ExprId>>, AllocError>
-    ensures { PutsIn (λ y. flat item_parts y.items) (λ at y. map (item_tree (expr_of F.place C.place K.place at)) y.items ≡ map (item_tree (boxed_tree _ _ _ F.place C.place K.place)) args.old.items) nodes.old result nodes.new }
+    ensures { PutsIn (λ y. flat item_parts y.items) (λ at y. map (item_tree (expr_as nodes.old at)) y.items
+        ≡ map (item_tree (boxed_in nodes.old)) args.old.items) nodes.old result nodes.new }
 {
     let mut put = Vec::new(alloc);
     for arg in args.iter_mut() {
@@ -733,7 +775,8 @@ fn put_elems<F: Spanned + Drop, C: Spanned + Drop, K: Spanned + Drop>(
     alloc: Global,
     elems: &mut Vec<Option<ExprOrSpread<Box<Expr<F, C, K>>>>>,
 ) -> Result<Vec<Option<ExprOrSpread<ExprId>>>, AllocError>
-    ensures { PutsIn (λ y. flat (if_some item_parts) y.items) (λ at y. map (or_hole (item_tree (expr_of F.place C.place K.place at))) y.items ≡ map (or_hole (item_tree (boxed_tree _ _ _ F.place C.place K.place))) elems.old.items) nodes.old result nodes.new }
+    ensures { PutsIn (λ y. flat (if_some item_parts) y.items) (λ at y. map (or_hole (item_tree (expr_as nodes.old at)))
+        y.items ≡ map (or_hole (item_tree (boxed_in nodes.old))) elems.old.items) nodes.old result nodes.new }
 {
     let mut put = Vec::new(alloc);
     for elem in elems.iter_mut() {
@@ -749,7 +792,8 @@ fn put_props<F: Spanned + Drop, C: Spanned + Drop, K: Spanned + Drop>(
     alloc: Global,
     props: &mut Vec<PropOrSpread<F, C, K>>,
 ) -> Result<Vec<PropNode<K>>, AllocError>
-    ensures { PutsIn (λ y. flat prop_parts y.items) (λ at y. map (prop_of F.place C.place K.place at) y.items ≡ map (prop_or_spread_tree _ _ _ F.place C.place K.place) props.old.items) nodes.old result nodes.new }
+    ensures { PutsIn (λ y. flat prop_parts y.items) (λ at y. map (prop_node_as nodes.old at) y.items
+        ≡ map (prop_or_spread_in nodes.old) props.old.items) nodes.old result nodes.new }
 {
     let mut put = Vec::new(alloc);
     for prop in props.iter_mut() {
@@ -765,7 +809,8 @@ fn put_pats<F: Spanned + Drop, C: Spanned + Drop, K: Spanned + Drop>(
     alloc: Global,
     pats: &mut Vec<Pat<F, C, K>>,
 ) -> Result<Vec<PatId>, AllocError>
-    ensures { PutsIn (λ y. flat one_pat y.items) (λ at y. map (pat_of F.place C.place K.place at) y.items ≡ map (pat_tree _ _ _ F.place C.place K.place) pats.old.items) nodes.old result nodes.new }
+    ensures { PutsIn (λ y. flat one_pat y.items)
+        (λ at y. map (pat_as nodes.old at) y.items ≡ map (pat_in nodes.old) pats.old.items) nodes.old result nodes.new }
 {
     let mut put = Vec::new(alloc);
     for pat in pats.iter_mut() {
@@ -781,7 +826,8 @@ fn put_params<F: Spanned + Drop, C: Spanned + Drop, K: Spanned + Drop>(
     alloc: Global,
     params: &mut Vec<Param<Pat<F, C, K>>>,
 ) -> Result<Vec<Param<PatId>>, AllocError>
-    ensures { PutsIn (λ y. flat param_parts y.items) (λ at y. map (param_tree (pat_of F.place C.place K.place at)) y.items ≡ map (param_tree (pat_tree _ _ _ F.place C.place K.place)) params.old.items) nodes.old result nodes.new }
+    ensures { PutsIn (λ y. flat param_parts y.items) (λ at y. map (param_tree (pat_as nodes.old at)) y.items
+        ≡ map (param_tree (pat_in nodes.old)) params.old.items) nodes.old result nodes.new }
 {
     let mut put = Vec::new(alloc);
     for param in params.iter_mut() {
@@ -797,7 +843,8 @@ fn put_pat_elems<F: Spanned + Drop, C: Spanned + Drop, K: Spanned + Drop>(
     alloc: Global,
     elems: &mut Vec<Option<Pat<F, C, K>>>,
 ) -> Result<Vec<Option<PatId>>, AllocError>
-    ensures { PutsIn (λ y. flat (if_some one_pat) y.items) (λ at y. map (or_hole (pat_of F.place C.place K.place at)) y.items ≡ map (or_hole (pat_tree _ _ _ F.place C.place K.place)) elems.old.items) nodes.old result nodes.new }
+    ensures { PutsIn (λ y. flat (if_some one_pat) y.items) (λ at y. map (or_hole (pat_as nodes.old at)) y.items
+        ≡ map (or_hole (pat_in nodes.old)) elems.old.items) nodes.old result nodes.new }
 {
     let mut put = Vec::new(alloc);
     for elem in elems.iter_mut() {
@@ -813,7 +860,8 @@ fn put_pat_props<F: Spanned + Drop, C: Spanned + Drop, K: Spanned + Drop>(
     alloc: Global,
     props: &mut Vec<ObjectPatProp<F, C, K>>,
 ) -> Result<Vec<PatPropNode>, AllocError>
-    ensures { PutsIn (λ y. flat pat_prop_parts y.items) (λ at y. map (pat_prop_of F.place C.place K.place at) y.items ≡ map (pat_prop_tree _ _ _ F.place C.place K.place) props.old.items) nodes.old result nodes.new }
+    ensures { PutsIn (λ y. flat pat_prop_parts y.items) (λ at y. map (pat_prop_node_as nodes.old at) y.items
+        ≡ map (pat_prop_in nodes.old) props.old.items) nodes.old result nodes.new }
 {
     let mut put = Vec::new(alloc);
     for prop in props.iter_mut() {
@@ -829,7 +877,7 @@ fn put_prop<F: Spanned + Drop, C: Spanned + Drop, K: Spanned + Drop>(
     alloc: Global,
     prop: &mut PropOrSpread<F, C, K>,
 ) -> Result<PropNode<K>, AllocError>
-    ensures { PutsIn prop_parts (λ at y. prop_of F.place C.place K.place at y ≡ prop_or_spread_tree _ _ _ F.place C.place K.place prop.old) nodes.old result nodes.new }
+    ensures { PutsProp (prop_or_spread_in nodes.old prop.old) nodes.old result nodes.new }
 {
     match prop {
         PropOrSpread::Spread(s) => put_spread(nodes, alloc, s),
@@ -844,7 +892,7 @@ fn put_spread<F: Spanned + Drop, C: Spanned + Drop, K: Spanned + Drop>(
     alloc: Global,
     spread: &mut SpreadElement<Box<Expr<F, C, K>>>,
 ) -> Result<PropNode<K>, AllocError>
-    ensures { PutsIn prop_parts (λ at y. prop_of F.place C.place K.place at y ≡ spread_tree (boxed_tree _ _ _ F.place C.place K.place) spread.old) nodes.old result nodes.new }
+    ensures { PutsProp (spread_tree (boxed_in nodes.old) spread.old) nodes.old result nodes.new }
 {
     let expr = put_boxed(nodes, alloc, &mut spread.expr)?;
     let span = spread.span;
@@ -863,7 +911,7 @@ fn put_named<F: Spanned + Drop, C: Spanned + Drop, K: Spanned + Drop>(
     alloc: Global,
     prop: &mut Prop<F, C, K>,
 ) -> Result<PropNode<K>, AllocError>
-    ensures { PutsIn prop_parts (λ at y. prop_of F.place C.place K.place at y ≡ prop_tree _ _ _ F.place C.place K.place prop.old) nodes.old result nodes.new }
+    ensures { PutsProp (prop_in nodes.old prop.old) nodes.old result nodes.new }
 {
     match prop {
         Prop::Shorthand(i) => Ok(PropNode::Shorthand(taken_ident(alloc, i)?)),
@@ -883,7 +931,7 @@ fn put_hooked_prop<F: Spanned + Drop, C: Spanned + Drop, K: Spanned + Drop>(
     prop: Prop<F, C, K>,
 ) -> Result<PropNode<K>, AllocError>
     requires { HookedProp prop }
-    ensures { PutsIn prop_parts (λ at y. prop_of F.place C.place K.place at y ≡ prop_tree _ _ _ F.place C.place K.place prop) nodes.old result nodes.new }
+    ensures { PutsProp (prop_in nodes.old prop) nodes.old result nodes.new }
 {
     match prop {
         Prop::Method { mut key, function } => put_method(nodes, alloc, &mut key, function),
@@ -911,7 +959,8 @@ fn put_key_value<F: Spanned + Drop, C: Spanned + Drop, K: Spanned + Drop>(
     key: &mut PropName<Box<Expr<F, C, K>>>,
     value: &mut Box<Expr<F, C, K>>,
 ) -> Result<PropNode<K>, AllocError>
-    ensures { PutsIn prop_parts (λ at y. prop_of F.place C.place K.place at y ≡ node key_value span (cons (prop_name_tree (boxed_tree _ _ _ F.place C.place K.place) key.old) (cons ((boxed_tree _ _ _ F.place C.place K.place) value.old) nil))) nodes.old result nodes.new }
+    ensures { PutsProp (node key_value span (cons (prop_name_tree (boxed_in nodes.old) key.old)
+        (cons (boxed_in nodes.old value.old) nil))) nodes.old result nodes.new }
 {
     let key = put_key(nodes, alloc, key)?;
     let value = put_boxed(nodes, alloc, value)?;
@@ -925,7 +974,7 @@ fn put_cover<F: Spanned + Drop, C: Spanned + Drop, K: Spanned + Drop>(
     alloc: Global,
     prop: &mut AssignProp<Box<Expr<F, C, K>>>,
 ) -> Result<PropNode<K>, AllocError>
-    ensures { PutsIn prop_parts (λ at y. prop_of F.place C.place K.place at y ≡ cover_tree (boxed_tree _ _ _ F.place C.place K.place) prop.old) nodes.old result nodes.new }
+    ensures { PutsProp (cover_tree (boxed_in nodes.old) prop.old) nodes.old result nodes.new }
 {
     let key = taken_ident(alloc, &mut prop.key)?;
     let value = put_boxed(nodes, alloc, &mut prop.value)?;
@@ -941,7 +990,8 @@ fn put_method<F: Spanned + Drop, C: Spanned + Drop, K: Spanned + Drop>(
     key: &mut PropName<Box<Expr<F, C, K>>>,
     function: Box<Function<Pat<F, C, K>, K>>,
 ) -> Result<PropNode<K>, AllocError>
-    ensures { PutsIn prop_parts (λ at y. prop_of F.place C.place K.place at y ≡ node method function.value.span (cons (prop_name_tree (boxed_tree _ _ _ F.place C.place K.place) key.old) (cons (function_tree K.place (pat_tree _ _ _ F.place C.place K.place) function.value) nil))) nodes.old result nodes.new }
+    ensures { PutsProp (node method function.value.span (cons (prop_name_tree (boxed_in nodes.old) key.old)
+        (cons (function_tree K.place (pat_in nodes.old) function.value) nil))) nodes.old result nodes.new }
 {
     let key = put_key(nodes, alloc, key)?;
     let function = put_function(nodes, alloc, function)?;
@@ -957,7 +1007,8 @@ fn put_getter<F: Spanned + Drop, C: Spanned + Drop, K: Spanned + Drop>(
     key: &mut PropName<Box<Expr<F, C, K>>>,
     body: K,
 ) -> Result<PropNode<K>, AllocError>
-    ensures { PutsIn prop_parts (λ at y. prop_of F.place C.place K.place at y ≡ node getter span (cons (prop_name_tree (boxed_tree _ _ _ F.place C.place K.place) key.old) (cons (leaf (block body) (K.place body)) nil))) nodes.old result nodes.new }
+    ensures { PutsProp (node getter span (cons (prop_name_tree (boxed_in nodes.old) key.old)
+        (cons (leaf (block body) (K.place body)) nil))) nodes.old result nodes.new }
 {
     let key = put_key(nodes, alloc, key)?;
     Ok(PropNode::Getter { span, key, body })
@@ -973,7 +1024,8 @@ fn put_setter<F: Spanned + Drop, C: Spanned + Drop, K: Spanned + Drop>(
     param: &mut Box<Pat<F, C, K>>,
     body: K,
 ) -> Result<PropNode<K>, AllocError>
-    ensures { PutsIn prop_parts (λ at y. prop_of F.place C.place K.place at y ≡ node setter span (cons (prop_name_tree (boxed_tree _ _ _ F.place C.place K.place) key.old) (cons ((pat_tree _ _ _ F.place C.place K.place) param.old.value) (cons (leaf (block body) (K.place body)) nil)))) nodes.old result nodes.new }
+    ensures { PutsProp (node setter span (cons (prop_name_tree (boxed_in nodes.old) key.old) (cons
+        (pat_in nodes.old param.old.value) (cons (leaf (block body) (K.place body)) nil)))) nodes.old result nodes.new }
 {
     let key = put_key(nodes, alloc, key)?;
     let param = put_pat_id(nodes, alloc, param)?;
@@ -992,7 +1044,9 @@ fn put_function<F: Spanned + Drop, C: Spanned + Drop, K: Spanned + Drop>(
     alloc: Global,
     function: Box<Function<Pat<F, C, K>, K>>,
 ) -> Result<Function<PatId, K>, AllocError>
-    ensures { PutsIn (λ y. flat param_parts y.params.items) (λ at y. (function_tree K.place (pat_of F.place C.place K.place at) y ≡ function_tree K.place (pat_tree _ _ _ F.place C.place K.place) function.value) × (y.span ≡ function.value.span)) nodes.old result nodes.new }
+    ensures { PutsIn (λ y. flat param_parts y.params.items)
+        (λ at y. (function_tree K.place (pat_as nodes.old at) y ≡ function_tree K.place
+        (pat_in nodes.old) function.value) × (y.span ≡ function.value.span)) nodes.old result nodes.new }
 {
     let Function {
         span,
@@ -1018,7 +1072,8 @@ fn put_key<F: Spanned + Drop, C: Spanned + Drop, K: Spanned + Drop>(
     alloc: Global,
     key: &mut PropName<Box<Expr<F, C, K>>>,
 ) -> Result<PropName<ExprId>, AllocError>
-    ensures { PutsIn key_parts (λ at y. prop_name_tree (expr_of F.place C.place K.place at) y ≡ prop_name_tree (boxed_tree _ _ _ F.place C.place K.place) key.old) nodes.old result nodes.new }
+    ensures { PutsIn key_parts (λ at y. prop_name_tree (expr_as nodes.old at) y
+        ≡ prop_name_tree (boxed_in nodes.old) key.old) nodes.old result nodes.new }
 {
     match key {
         PropName::Ident(i) => Ok(PropName::Ident(taken_name(alloc, i)?)),
@@ -1036,7 +1091,7 @@ fn put_pat_id<F: Spanned + Drop, C: Spanned + Drop, K: Spanned + Drop>(
     alloc: Global,
     pat: &mut Pat<F, C, K>,
 ) -> Result<PatId, AllocError>
-    ensures { PutsIn one_pat (λ at y. at y.0 ≡ pat_tree _ _ _ F.place C.place K.place pat.old) nodes.old result nodes.new }
+    ensures { PutsIn one_pat (λ at y. at y.0 ≡ pat_in nodes.old pat.old) nodes.old result nodes.new }
 {
     let node = put_pat_node(nodes, alloc, pat)?;
     Ok(PatId(nodes.push(node)?))
@@ -1049,7 +1104,7 @@ fn put_pat_node<F: Spanned + Drop, C: Spanned + Drop, K: Spanned + Drop>(
     alloc: Global,
     pat: &mut Pat<F, C, K>,
 ) -> Result<Node<F, C, K>, AllocError>
-    ensures { PutsIn slots (IsNode F.place C.place K.place as_pat (pat_tree _ _ _ F.place C.place K.place pat.old)) nodes.old result nodes.new }
+    ensures { PutsNode as_pat (pat_in nodes.old pat.old) nodes.old result nodes.new }
 {
     match pat {
         Pat::Ident(b) => Ok(Node::PatIdent(taken_binding(alloc, b)?)),
@@ -1070,7 +1125,8 @@ fn put_array_pat<F: Spanned + Drop, C: Spanned + Drop, K: Spanned + Drop>(
     span: Span,
     elems: &mut Vec<Option<Pat<F, C, K>>>,
 ) -> Result<Node<F, C, K>, AllocError>
-    ensures { PutsIn slots (IsNode F.place C.place K.place as_pattern (node array span (trees (map (or_hole (pat_tree _ _ _ F.place C.place K.place)) elems.old.items)))) nodes.old result nodes.new }
+    ensures { PutsNode as_pattern
+        (node array span (trees (map (or_hole (pat_in nodes.old)) elems.old.items))) nodes.old result nodes.new }
 {
     let elems = put_pat_elems(nodes, alloc, elems)?;
     Ok(Node::PatArray { span, elems })
@@ -1084,7 +1140,8 @@ fn put_object_pat<F: Spanned + Drop, C: Spanned + Drop, K: Spanned + Drop>(
     span: Span,
     props: &mut Vec<ObjectPatProp<F, C, K>>,
 ) -> Result<Node<F, C, K>, AllocError>
-    ensures { PutsIn slots (IsNode F.place C.place K.place as_pattern (node object span (trees (map (pat_prop_tree _ _ _ F.place C.place K.place) props.old.items)))) nodes.old result nodes.new }
+    ensures { PutsNode as_pattern
+        (node object span (trees (map (pat_prop_in nodes.old) props.old.items))) nodes.old result nodes.new }
 {
     let props = put_pat_props(nodes, alloc, props)?;
     Ok(Node::PatObject { span, props })
@@ -1097,7 +1154,7 @@ fn put_rest<F: Spanned + Drop, C: Spanned + Drop, K: Spanned + Drop>(
     alloc: Global,
     rest_pat: &mut RestPat<Pat<F, C, K>>,
 ) -> Result<Node<F, C, K>, AllocError>
-    ensures { PutsIn slots (IsNode F.place C.place K.place as_pat (rest_tree (pat_tree _ _ _ F.place C.place K.place) rest_pat.old)) nodes.old result nodes.new }
+    ensures { PutsNode as_pat (rest_tree (pat_in nodes.old) rest_pat.old) nodes.old result nodes.new }
 {
     let arg = put_pat_id(nodes, alloc, &mut rest_pat.arg)?;
     let span = rest_pat.span;
@@ -1118,7 +1175,8 @@ fn put_default<F: Spanned + Drop, C: Spanned + Drop, K: Spanned + Drop>(
     left: &mut Box<Pat<F, C, K>>,
     right: &mut Box<Expr<F, C, K>>,
 ) -> Result<Node<F, C, K>, AllocError>
-    ensures { PutsIn slots (IsNode F.place C.place K.place as_pat (node default span (cons ((pat_tree _ _ _ F.place C.place K.place) left.old.value) (cons ((boxed_tree _ _ _ F.place C.place K.place) right.old) nil)))) nodes.old result nodes.new }
+    ensures { PutsNode as_pat (node default span
+        (cons (pat_in nodes.old left.old.value) (cons (boxed_in nodes.old right.old) nil))) nodes.old result nodes.new }
 {
     let left = put_pat_id(nodes, alloc, left)?;
     let right = put_boxed(nodes, alloc, right)?;
@@ -1132,7 +1190,8 @@ fn put_param<F: Spanned + Drop, C: Spanned + Drop, K: Spanned + Drop>(
     alloc: Global,
     param: &mut Param<Pat<F, C, K>>,
 ) -> Result<Param<PatId>, AllocError>
-    ensures { PutsIn param_parts (λ at y. param_tree (pat_of F.place C.place K.place at) y ≡ param_tree (pat_tree _ _ _ F.place C.place K.place) param.old) nodes.old result nodes.new }
+    ensures { PutsIn param_parts (λ at y. param_tree (pat_as nodes.old at) y
+        ≡ param_tree (pat_in nodes.old) param.old) nodes.old result nodes.new }
 {
     let pat = put_pat_id(nodes, alloc, &mut param.pat)?;
     let span = param.span;
@@ -1146,7 +1205,7 @@ fn put_pat_prop<F: Spanned + Drop, C: Spanned + Drop, K: Spanned + Drop>(
     alloc: Global,
     prop: &mut ObjectPatProp<F, C, K>,
 ) -> Result<PatPropNode, AllocError>
-    ensures { PutsIn pat_prop_parts (λ at y. pat_prop_of F.place C.place K.place at y ≡ pat_prop_tree _ _ _ F.place C.place K.place prop.old) nodes.old result nodes.new }
+    ensures { PutsPatProp (pat_prop_in nodes.old prop.old) nodes.old result nodes.new }
 {
     match prop {
         ObjectPatProp::KeyValue { span, key, value } => put_key_pat(
@@ -1166,7 +1225,8 @@ fn put_key_pat<F: Spanned + Drop, C: Spanned + Drop, K: Spanned + Drop>(
     key: &mut PropName<Box<Expr<F, C, K>>>,
     value: &mut Box<Pat<F, C, K>>,
 ) -> Result<PatPropNode, AllocError>
-    ensures { PutsIn pat_prop_parts (λ at y. pat_prop_of F.place C.place K.place at y ≡ node key_value span (cons (prop_name_tree (boxed_tree _ _ _ F.place C.place K.place) key.old) (cons ((pat_tree _ _ _ F.place C.place K.place) value.old.value) nil))) nodes.old result nodes.new }
+    ensures { PutsPatProp (node key_value span (cons (prop_name_tree (boxed_in nodes.old) key.old)
+        (cons (pat_in nodes.old value.old.value) nil))) nodes.old result nodes.new }
 {
     let key = put_key(nodes, alloc, key)?;
     let value = put_pat_id(nodes, alloc, value)?;
@@ -1182,7 +1242,8 @@ fn put_binding<F: Spanned + Drop, C: Spanned + Drop, K: Spanned + Drop>(
     key: &mut BindingIdent,
     value: &mut Option<Box<Expr<F, C, K>>>,
 ) -> Result<PatPropNode, AllocError>
-    ensures { PutsIn pat_prop_parts (λ at y. pat_prop_of F.place C.place K.place at y ≡ node binding_prop span (cons (binding_tree key.old) (cons (or_hole (boxed_tree _ _ _ F.place C.place K.place) value.old) nil))) nodes.old result nodes.new }
+    ensures { PutsPatProp (node binding_prop span
+        (cons (binding_tree key.old) (cons (or_hole (boxed_in nodes.old) value.old) nil))) nodes.old result nodes.new }
 {
     let key = taken_binding(alloc, key)?;
     let value = put_if_some(nodes, alloc, value)?;
@@ -1196,7 +1257,7 @@ fn put_rest_prop<F: Spanned + Drop, C: Spanned + Drop, K: Spanned + Drop>(
     alloc: Global,
     rest_pat: &mut RestPat<Pat<F, C, K>>,
 ) -> Result<PatPropNode, AllocError>
-    ensures { PutsIn pat_prop_parts (λ at y. pat_prop_of F.place C.place K.place at y ≡ rest_tree (pat_tree _ _ _ F.place C.place K.place) rest_pat.old) nodes.old result nodes.new }
+    ensures { PutsPatProp (rest_tree (pat_in nodes.old) rest_pat.old) nodes.old result nodes.new }
 {
     let arg = put_pat_id(nodes, alloc, &mut rest_pat.arg)?;
     let span = rest_pat.span;
@@ -1215,7 +1276,7 @@ fn put_target<F: Spanned + Drop, C: Spanned + Drop, K: Spanned + Drop>(
     alloc: Global,
     target: &mut AssignTarget<F, C, K>,
 ) -> Result<TargetNode, AllocError>
-    ensures { PutsIn (λ y. target_part y ∷ []) (λ at y. target_of F.place C.place K.place at y ≡ target_tree _ _ _ F.place C.place K.place target.old) nodes.old result nodes.new }
+    ensures { PutsTarget (target_in nodes.old target.old) nodes.old result nodes.new }
 {
     match target {
         AssignTarget::Simple(s) => put_simple_target(nodes, alloc, s),
@@ -1231,7 +1292,7 @@ fn put_simple_target<F: Spanned + Drop, C: Spanned + Drop, K: Spanned + Drop>(
     alloc: Global,
     target: &mut SimpleAssignTarget<Box<Expr<F, C, K>>>,
 ) -> Result<TargetNode, AllocError>
-    ensures { PutsIn (λ y. target_part y ∷ []) (λ at y. target_of F.place C.place K.place at y ≡ simple_tree (boxed_tree _ _ _ F.place C.place K.place) target.old) nodes.old result nodes.new }
+    ensures { PutsTarget (simple_tree (boxed_in nodes.old) target.old) nodes.old result nodes.new }
 {
     let node = put_simple(nodes, alloc, target)?;
     Ok(TargetNode::Simple(ExprId(nodes.push(node)?)))
@@ -1245,7 +1306,8 @@ fn put_array_target<F: Spanned + Drop, C: Spanned + Drop, K: Spanned + Drop>(
     span: Span,
     elems: &mut Vec<Option<Pat<F, C, K>>>,
 ) -> Result<TargetNode, AllocError>
-    ensures { PutsIn (λ y. target_part y ∷ []) (λ at y. target_of F.place C.place K.place at y ≡ node array span (trees (map (or_hole (pat_tree _ _ _ F.place C.place K.place)) elems.old.items))) nodes.old result nodes.new }
+    ensures { PutsTarget (node array span (trees (map (or_hole (pat_in nodes.old)) elems.old.items))) nodes.old result
+        nodes.new }
 {
     let node = put_array_pat(nodes, alloc, span, elems)?;
     Ok(TargetNode::Pat(PatId(nodes.push(node)?)))
@@ -1259,7 +1321,8 @@ fn put_object_target<F: Spanned + Drop, C: Spanned + Drop, K: Spanned + Drop>(
     span: Span,
     props: &mut Vec<ObjectPatProp<F, C, K>>,
 ) -> Result<TargetNode, AllocError>
-    ensures { PutsIn (λ y. target_part y ∷ []) (λ at y. target_of F.place C.place K.place at y ≡ node object span (trees (map (pat_prop_tree _ _ _ F.place C.place K.place) props.old.items))) nodes.old result nodes.new }
+    ensures { PutsTarget (node object span (trees (map (pat_prop_in nodes.old) props.old.items))) nodes.old result
+        nodes.new }
 {
     let node = put_object_pat(nodes, alloc, span, props)?;
     Ok(TargetNode::Pat(PatId(nodes.push(node)?)))
@@ -1272,7 +1335,7 @@ fn put_simple<F: Spanned + Drop, C: Spanned + Drop, K: Spanned + Drop>(
     alloc: Global,
     target: &mut SimpleAssignTarget<Box<Expr<F, C, K>>>,
 ) -> Result<Node<F, C, K>, AllocError>
-    ensures { PutsIn slots (IsNode F.place C.place K.place as_simple (simple_tree (boxed_tree _ _ _ F.place C.place K.place) target.old)) nodes.old result nodes.new }
+    ensures { PutsNode as_simple (simple_tree (boxed_in nodes.old) target.old) nodes.old result nodes.new }
 {
     match target {
         SimpleAssignTarget::Ident(b) => Ok(Node::Ident(taken_ident(alloc, &mut b.id)?)),

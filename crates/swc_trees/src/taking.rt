@@ -2,13 +2,12 @@
 // node holds leaves it by a plain move.
 ghost use Rattle.std.specs.Prelude.{◌≡◌, ℕ, true, [], ◌∷◌, map, IfOk};
 ghost use Rattle.swc_ast.specs.Tree.{Tree};
-ghost use Rattle.swc_ast.specs.TreeOf.{boxed_tree, pat_tree};
 ghost use Rattle.swc_nodes.specs.NodeTree.{node_tree};
 ghost use Rattle.swc_nodes.specs.Slots.{form, view_ok, slots, expr_part, pat_part};
 ghost use Rattle.swc_nodes.specs.Stands.{tree_at, first_at, Apart, From, Left};
 ghost use Rattle.swc_nodes.specs.Walking.{part_of};
 ghost use Rattle.swc_trees.specs.Building.{part_kind, built_kind, built_tree, Stand, IsFor, AreFor};
-ghost use Rattle.swc_trees.specs.Moving.{TakesOut};
+ghost use Rattle.swc_trees.specs.Moving.{TakesOut, boxed_in, pat_in};
 
 use crate::assembling::{assemble_expr, assemble_pat, assemble_pattern, assemble_simple};
 use crate::built::Built;
@@ -29,7 +28,7 @@ pub fn take_expr<F: Spanned + Drop, C: Spanned + Drop, K: Spanned + Drop>(
 ) -> Result<Box<Expr<F, C, K>>, AllocError>
     requires { From 0 nodes.old (expr_part id) }
     ensures left { Left (first_at nodes.old id.0) nodes.old nodes.new }
-    ensures moved { IfOk result (λ e. boxed_tree _ _ _ F.place C.place K.place e ≡ tree_at nodes.old id.0) }
+    ensures moved { IfOk result (λ e. boxed_in nodes.old e ≡ tree_at nodes.old id.0) }
 {
     match take(nodes, alloc, PartId::Expr(id))? {
         Built::Expr(expr) => Ok(expr),
@@ -45,7 +44,7 @@ pub fn take_pat<F: Spanned + Drop, C: Spanned + Drop, K: Spanned + Drop>(
 ) -> Result<Pat<F, C, K>, AllocError>
     requires { From 0 nodes.old (pat_part id) }
     ensures left { Left (first_at nodes.old id.0) nodes.old nodes.new }
-    ensures moved { IfOk result (λ p. pat_tree _ _ _ F.place C.place K.place p ≡ tree_at nodes.old id.0) }
+    ensures moved { IfOk result (λ p. pat_in nodes.old p ≡ tree_at nodes.old id.0) }
 {
     match take(nodes, alloc, PartId::Pat(id))? {
         Built::Pat(pat) => Ok(pat),
@@ -61,7 +60,8 @@ fn take<F: Spanned + Drop, C: Spanned + Drop, K: Spanned + Drop>(
     part: PartId,
 ) -> Result<Built<F, C, K>, AllocError>
     requires { Apart 0 nodes.old (part_of part ∷ []) }
-    ensures { TakesOut (part_of part ∷ []) (λ at y. IsFor F.place C.place K.place at (part_of part) y) nodes.old result nodes.new }
+    ensures { TakesOut (part_of part ∷ [])
+        (λ at y. IsFor F.place C.place K.place at (part_of part) y) nodes.old result nodes.new }
 {
     let node = nodes.pop_at(part.number());
     let parts = parts_of(alloc, &node)?;
@@ -77,7 +77,8 @@ fn take_all<F: Spanned + Drop, C: Spanned + Drop, K: Spanned + Drop>(
     mut parts: Vec<PartId>,
 ) -> Result<Vec<Built<F, C, K>>, AllocError>
     requires { Apart 0 nodes.old (map part_of parts.items) }
-    ensures { TakesOut (map part_of parts.items) (λ at y. AreFor F.place C.place K.place at (map part_of parts.items) y.items) nodes.old result nodes.new }
+    ensures { TakesOut (map part_of parts.items)
+        (λ at y. AreFor F.place C.place K.place at (map part_of parts.items) y.items) nodes.old result nodes.new }
 {
     let mut taken = Ok(Vec::new(alloc));
     while let Some(part) = parts.pop() {
@@ -97,7 +98,8 @@ fn assemble<F: Spanned + Drop, C: Spanned + Drop, K: Spanned + Drop>(
     requires view { view_ok (part_of part).view (form node) ≡ true }
     requires kinds { map built_kind built.items ≡ map part_kind (slots node) }
     ensures kind { IfOk result (λ y. built_kind y ≡ part_kind (part_of part)) }
-    ensures tree { IfOk result (λ y. (at : ℕ → Tree F C K) → Stand F.place C.place K.place at (slots node) built.items → built_tree F.place C.place K.place y ≡ node_tree F.place C.place K.place at node) }
+    ensures tree { IfOk result (λ y. (at : ℕ → Tree F C K) → Stand F.place C.place K.place at (slots node) built.items
+        → built_tree F.place C.place K.place y ≡ node_tree F.place C.place K.place at node) }
 {
     match part {
         PartId::Expr(_) => {

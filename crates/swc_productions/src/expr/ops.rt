@@ -1,18 +1,21 @@
 // Binary and unary operators (ECMA-262, 13.5 to 13.13).
-ghost use Rattle.std.specs.Prelude.{◌≡◌, ◌≢◌, ◌<◌, ◌≤◌, true, false, not, ◌&&◌, None, OnOk, IfOk, IfErr, IsSome, MatchResult};
-ghost use Rattle.swc_context.specs.declared.error.SyntaxError.TheVariants.{OutOfMemory, ParserFailed};
-ghost use Rattle.swc_input.specs.Buffer as buffer;
-ghost use Rattle.swc_input.specs.Buffer.{current, context};
+ghost use Rattle.std.specs.Prelude.{suc, ◌≡◌, ◌≢◌, ◌<◌, ◌≤◌, true, false, not, ◌&&◌, OnOk, IfOk, IfErr, IsSome};
+ghost use Rattle.swc_context.specs.declared.error.SyntaxError.TheVariants.{ParserFailed, TS1109};
+ghost use Rattle.swc_input.specs.Buffer.{current, context, to_come};
 ghost use Rattle.swc_input.specs.Kinds.{at_token};
 ghost use Rattle.swc_grammar.specs.Trees as trees;
-ghost use Rattle.swc_grammar.specs.Clean as clean;
-ghost use Rattle.swc_grammar.specs.Clean.{run, operator_at, prefix_at, no_error, left_ok};
+ghost use Rattle.swc_grammar.specs.Symbols.{Level, Unary};
+ghost use Rattle.swc_grammar.specs.Clean.{sym, climb, run, operator_at, prefix_at, no_error, left_ok};
 ghost use Rattle.swc_nodes.specs.Slots.{expr_part};
-ghost use Rattle.swc_nodes.specs.Stands.{count, first_at, From, Grows};
-ghost use Rattle.swc_productions.specs.Parsing.{seen, recorded, behind, Loud, Leads, Refuses, Reads, Does, Tries, Produces, GoesOn, Checks, Forgoes, itself, operation_of, tree_of, operation_at};
+ghost use Rattle.swc_nodes.specs.Stands.{count, first_at, From};
+ghost use Rattle.swc_productions.specs.Readers.{turn, operation, prefix};
+ghost use Rattle.swc_productions.specs.Parsing.{seen, behind, Refuses, Consumes, Acts, Tries, Looks, Produces, GoesOn};
+ghost use Rattle.swc_productions.specs.Parsing.{Recovers, Checked, itself, operation_of, operand_of, tree_of};
+ghost use Rattle.swc_productions.specs.Parsing.{operation_at};
 
 use crate::moves::{
-    emit_err, emit_error, emit_strict_mode_err, is_out_of_memory, look, made, skip, syntax_error,
+    cur_pos, emit_err, emit_error, emit_strict_mode_err, is_out_of_memory, look, made, skip,
+    syntax_error,
 };
 use crate::productions::Productions;
 use swc_ast::spanned::Spanned;
@@ -32,7 +35,8 @@ impl<I: Tokens, B: Bodies<I>> Productions<I, B> {
     /// Binary operators of any precedence (ECMA-262, 13.13).
     #[cycle(productions)]
     pub fn parse_bin_expr(&mut self) -> PResult<ExprId>
-        ensures { Produces I.state I.gives itself tree_of (clean.operand run 0) (count self.old.nodes) self.old result self.new }
+        ensures { Produces I.model B.is_faithful itself tree_of (run B.forms (sym (Level 1)))
+            (count self.old.nodes) self.old result self.new }
     {
         match self.parse_unary_expr() {
             Ok(left) => self.parse_bin_op_recursively(left, 0),
@@ -44,13 +48,7 @@ impl<I: Tokens, B: Bodies<I>> Productions<I, B> {
     #[cycle(productions)]
     fn parse_bin_expr_without_left(&mut self, error: Error) -> PResult<ExprId>
         requires { error.kind ≢ ParserFailed }
-        ensures reads { Reads I.state I.gives self.old.input result self.new.input }
-        ensures notes { Loud I.state self.old.input → OnOk result (recorded I.state self.old.input < recorded I.state self.new.input) }
-        ensures some { OnOk result (error.kind ≢ OutOfMemory) }
-        ensures memory { IfErr result (λ e. e.kind ≢ OutOfMemory → error.kind ≢ OutOfMemory) }
-        ensures left { OnOk result (buffer.left I.state self.new.input < buffer.left I.state self.old.input) }
-        ensures grows { Grows self.old.nodes self.new.nodes }
-        ensures from { IfOk result (λ id. From (count self.old.nodes) self.new.nodes (expr_part id)) }
+        ensures { Recovers I.model itself (Consumes I.model) error.kind self.old result self.new }
     {
         let (left, op) = self.recover_left(error)?;
         let (node, _) = self.parse_operation(left, op, 0)?;
@@ -62,14 +60,8 @@ impl<I: Tokens, B: Bodies<I>> Productions<I, B> {
     /// in for it. Elsewhere the refusal stands, and so does want of memory.
     fn recover_left(&mut self, error: Error) -> PResult<(ExprId, BinaryOp)>
         requires { error.kind ≢ ParserFailed }
-        ensures does { Does I.state I.gives self.old.input result self.new.input }
-        ensures notes { Loud I.state self.old.input → OnOk result (recorded I.state self.old.input < recorded I.state self.new.input) }
+        ensures recovers { Recovers I.model operand_of (Acts I.model) error.kind self.old result self.new }
         ensures operator { OnOk result (IsSome (current self.new.input)) }
-        ensures some { OnOk result (error.kind ≢ OutOfMemory) }
-        ensures memory { IfErr result (λ e. e.kind ≢ OutOfMemory → error.kind ≢ OutOfMemory) }
-        ensures left { OnOk result (buffer.left I.state self.new.input ≤ buffer.left I.state self.old.input) }
-        ensures grows { Grows self.old.nodes self.new.nodes }
-        ensures from { IfOk result (λ r. From (count self.old.nodes) self.new.nodes (expr_part r.0)) }
     {
         if is_out_of_memory(&error) {
             return Err(error);
@@ -86,12 +78,8 @@ impl<I: Tokens, B: Bodies<I>> Productions<I, B> {
     fn stand_in(&mut self, at: Span, op: BinaryOp) -> PResult<(ExprId, BinaryOp)>
         requires known { IsSome (current self.old.input) }
         requires fit { at_token no_error (seen self.old.input) ≡ true }
-        ensures tries { Tries I.state I.gives self.old.input result self.new.input }
-        ensures notes { Loud I.state self.old.input → OnOk result (recorded I.state self.old.input < recorded I.state self.new.input) }
+        ensures recovers { Recovers I.model operand_of (Tries I.model) TS1109 self.old result self.new }
         ensures operator { OnOk result (IsSome (current self.new.input)) }
-        ensures left { OnOk result (buffer.left I.state self.new.input ≤ buffer.left I.state self.old.input) }
-        ensures grows { Grows self.old.nodes self.new.nodes }
-        ensures from { IfOk result (λ r. From (count self.old.nodes) self.new.nodes (expr_part r.0)) }
     {
         let operator = self.input.cur_span();
         emit_err(&mut self.input, operator, SyntaxError::TS1109)?;
@@ -104,7 +92,9 @@ impl<I: Tokens, B: Bodies<I>> Productions<I, B> {
     #[cycle(productions)]
     fn parse_bin_op_recursively(&mut self, mut left: ExprId, mut min_prec: u8) -> PResult<ExprId>
         requires from { From 0 self.old.nodes (expr_part left) }
-        ensures { GoesOn I.state I.gives itself tree_of (clean.climb run (tree_of self.old.nodes left) min_prec) (first_at self.old.nodes left.0) self.old result self.new }
+        ensures { GoesOn I.model B.is_faithful itself tree_of
+            (run B.forms (climb (tree_of self.old.nodes left) min_prec))
+            (first_at self.old.nodes left.0) self.old result self.new }
     {
         loop {
             let (next_left, next_prec) = self.parse_bin_op_recursively_inner(left, min_prec)?;
@@ -126,8 +116,10 @@ impl<I: Tokens, B: Bodies<I>> Productions<I, B> {
         min_prec: u8,
     ) -> PResult<(ExprId, Option<u8>)>
         requires from { From 0 self.old.nodes (expr_part left) }
-        ensures step { GoesOn I.state I.gives operation_of operation_at (clean.turn run (tree_of self.old.nodes left) min_prec) (first_at self.old.nodes left.0) self.old result self.new }
-        ensures more { IfOk result (λ r. IsSome r.1 → buffer.left I.state self.new.input < buffer.left I.state self.old.input) }
+        ensures step { GoesOn I.model B.is_faithful operation_of operation_at
+            (turn B.forms (tree_of self.old.nodes left) min_prec)
+            (first_at self.old.nodes left.0) self.old result self.new }
+        ensures more { IfOk result (λ r. IsSome r.1 → to_come I.model self.new.input < to_come I.model self.old.input) }
     {
         look(&mut self.input)?;
         let op = match cur_binary_op(&self.input) {
@@ -150,7 +142,9 @@ impl<I: Tokens, B: Bodies<I>> Productions<I, B> {
     ) -> PResult<(ExprId, Option<u8>)>
         requires from { From 0 self.old.nodes (expr_part left) }
         requires operator { IsSome (current self.old.input) }
-        ensures { Produces I.state I.gives operation_of operation_at (behind (clean.operation run op (tree_of self.old.nodes left) min_prec)) (first_at self.old.nodes left.0) self.old result self.new }
+        ensures { Produces I.model B.is_faithful operation_of operation_at
+            (behind (operation B.forms op (tree_of self.old.nodes left) min_prec))
+            (first_at self.old.nodes left.0) self.old result self.new }
     {
         skip(&mut self.input);
         refuse_unary_in_exp::<I, B>(&mut self.input, &self.nodes, op, left)?;
@@ -164,7 +158,8 @@ impl<I: Tokens, B: Bodies<I>> Productions<I, B> {
     /// What stands right of an operator: an operand, and the operators that bind tighter; after `**`, `**` too.
     #[cycle(productions)]
     fn parse_right_operand(&mut self, op: BinaryOp) -> PResult<ExprId>
-        ensures { Produces I.state I.gives itself tree_of (clean.operand run (trees.min_right op)) (count self.old.nodes) self.old result self.new }
+        ensures { Produces I.model B.is_faithful itself tree_of (run B.forms (sym (Level (suc (trees.min_right op)))))
+            (count self.old.nodes) self.old result self.new }
     {
         let left_of_right = self.parse_unary_expr()?;
         self.parse_bin_op_recursively(left_of_right, right_min_prec(op))
@@ -174,7 +169,8 @@ impl<I: Tokens, B: Bodies<I>> Productions<I, B> {
     /// operators before it, but for `++`, `--` and `await`.
     #[cycle(productions)]
     pub fn parse_unary_expr(&mut self) -> PResult<ExprId>
-        ensures { Produces I.state I.gives itself tree_of (clean.unary run) (count self.old.nodes) self.old result self.new }
+        ensures { Produces I.model B.is_faithful itself tree_of (run B.forms (sym Unary))
+            (count self.old.nodes) self.old result self.new }
     {
         look(&mut self.input)?;
         match cur_prefix_op(&self.input) {
@@ -187,7 +183,8 @@ impl<I: Tokens, B: Bodies<I>> Productions<I, B> {
     #[cycle(productions)]
     fn parse_prefix_expr(&mut self, op: UnaryOp) -> PResult<ExprId>
         requires { IsSome (current self.old.input) }
-        ensures { Produces I.state I.gives itself tree_of (clean.prefix run op) (count self.old.nodes) self.old result self.new }
+        ensures { Produces I.model B.is_faithful itself tree_of (prefix B.forms op)
+            (count self.old.nodes) self.old result self.new }
     {
         let start = self.input.cur_span().lo;
         skip(&mut self.input);
@@ -201,9 +198,10 @@ impl<I: Tokens, B: Bodies<I>> Productions<I, B> {
     /// and a node of `Invalid` at one position stands in its place.
     #[cycle(productions)]
     fn parse_prefix_operand(&mut self) -> PResult<ExprId>
-        ensures { GoesOn I.state I.gives itself tree_of (clean.unary run) (count self.old.nodes) self.old result self.new }
+        ensures { GoesOn I.model B.is_faithful itself tree_of (run B.forms (sym Unary))
+            (count self.old.nodes) self.old result self.new }
     {
-        let at = self.input.cur_pos();
+        let at = cur_pos(&mut self.input)?;
         match self.parse_unary_expr() {
             Ok(arg) => Ok(arg),
             Err(error) => self.recover(error, BytePos(at.0.saturating_sub(1))),
@@ -214,12 +212,7 @@ impl<I: Tokens, B: Bodies<I>> Productions<I, B> {
     /// in for what was refused.
     fn recover(&mut self, error: Error, at: BytePos) -> PResult<ExprId>
         requires { error.kind ≢ ParserFailed }
-        ensures tries { MatchResult result (λ r. Leads I.state I.gives self.old.input self.new.input) (λ e. Forgoes I.state I.gives self.old.input e self.new.input) }
-        ensures notes { Loud I.state self.old.input → OnOk result (recorded I.state self.old.input < recorded I.state self.new.input) }
-        ensures memory { OnOk result (error.kind ≢ OutOfMemory) }
-        ensures left { OnOk result (buffer.left I.state self.new.input ≤ buffer.left I.state self.old.input) }
-        ensures grows { Grows self.old.nodes self.new.nodes }
-        ensures from { IfOk result (λ id. From (count self.old.nodes) self.new.nodes (expr_part id)) }
+        ensures { Recovers I.model itself (Tries I.model) error.kind self.old result self.new }
     {
         emit_error(&mut self.input, error)?;
         let node = self.nodes.invalid(Span::new(at, at));
@@ -264,9 +257,10 @@ fn instead(_first: Error, second: Error) -> Error
 
 /// The operator that is current, if one is. Refused only for want of memory.
 fn look_for_operator<I: Tokens>(input: &mut Buffer<I>) -> PResult<Option<BinaryOp>>
-    ensures tries { Tries I.state I.gives input.old result input.new }
-    ensures some { IfOk result (λ o. IsSome o → (IsSome (current input.new)) × (at_token no_error (seen input.new) ≡ true)) }
-    ensures left { OnOk result (buffer.left I.state input.new ≤ buffer.left I.state input.old) }
+    ensures looks { Looks I.model input.old result input.new }
+    ensures some { IfOk result
+        (λ o. IsSome o → (IsSome (current input.new)) × (at_token no_error (seen input.new) ≡ true)) }
+    ensures falls { OnOk result (to_come I.model input.new ≤ to_come I.model input.old) }
 {
     look(input)?;
     Ok(cur_binary_op(input))
@@ -274,7 +268,7 @@ fn look_for_operator<I: Tokens>(input: &mut Buffer<I>) -> PResult<Option<BinaryO
 
 /// The operator that the current token is. `in` is one only with `include_in_expr`.
 fn cur_binary_op<I: Tokens>(input: &Buffer<I>) -> Option<BinaryOp>
-    ensures value { result ≡ operator_at (context I.state input.now) (seen input.now) }
+    ensures value { result ≡ operator_at (context I.model input.now) (seen input.now) }
     ensures some { IsSome result → IsSome (current input.now) }
     ensures fit { IsSome result → at_token no_error (seen input.now) ≡ true }
 {
@@ -314,7 +308,8 @@ fn refuse_unary_in_exp<I: Tokens, B: Bodies<I>>(
 ) -> PResult<()>
     requires { From 0 nodes.now (expr_part left) }
     ensures passes { OnOk result ((input.new ≡ input.old) × (trees.exp_ok op (tree_of nodes.now left) ≡ true)) }
-    ensures refuses { IfErr result (λ e. Refuses I.state I.gives input.old e input.new × (trees.exp_ok op (tree_of nodes.now left) ≡ false)) }
+    ensures refuses { IfErr result
+        (λ e. Refuses I.model input.old e input.new × (trees.exp_ok op (tree_of nodes.now left) ≡ false)) }
 {
     if is_unary_in_exp(nodes, op, left) {
         let span = input.prev_span();
@@ -331,8 +326,8 @@ fn check_nullish_left<I: Tokens, B: Bodies<I>>(
     expr: ExprId,
 ) -> PResult<()>
     requires { From 0 nodes.now (expr_part expr) }
-    ensures checks { MatchResult result (λ r. Checks I.state I.gives (left_ok (tree_of nodes.now expr)) input.old input.new) (λ e. Forgoes I.state I.gives input.old e input.new) }
-    ensures left { OnOk result (buffer.left I.state input.new ≤ buffer.left I.state input.old) }
+    ensures checks { Checked I.model (left_ok (tree_of nodes.now expr)) input.old result input.new }
+    ensures falls { OnOk result (to_come I.model input.new ≤ to_come I.model input.old) }
 {
     if nodes.has_nullish_left(expr) {
         return emit_err(
@@ -354,8 +349,9 @@ fn check_operands<I: Tokens, B: Bodies<I>>(
 ) -> PResult<()>
     requires left { From 0 nodes.now (expr_part left) }
     requires right { From 0 nodes.now (expr_part right) }
-    ensures checks { MatchResult result (λ r. Checks I.state I.gives (trees.nullish_ok op (tree_of nodes.now left) (tree_of nodes.now right)) input.old input.new) (λ e. Forgoes I.state I.gives input.old e input.new) }
-    ensures left { OnOk result (buffer.left I.state input.new ≤ buffer.left I.state input.old) }
+    ensures checks { Checked I.model
+        (trees.nullish_ok op (tree_of nodes.now left) (tree_of nodes.now right)) input.old result input.new }
+    ensures falls { OnOk result (to_come I.model input.new ≤ to_come I.model input.old) }
 {
     if !is_nullish_op(op) {
         return Ok(());
@@ -371,8 +367,8 @@ fn check_logical_operand<I: Tokens, B: Bodies<I>>(
     operand: ExprId,
 ) -> PResult<()>
     requires { From 0 nodes.now (expr_part operand) }
-    ensures checks { MatchResult result (λ r. Checks I.state I.gives (not (trees.is_logical (tree_of nodes.now operand))) input.old input.new) (λ e. Forgoes I.state I.gives input.old e input.new) }
-    ensures left { OnOk result (buffer.left I.state input.new ≤ buffer.left I.state input.old) }
+    ensures checks { Checked I.model (not (trees.is_logical (tree_of nodes.now operand))) input.old result input.new }
+    ensures falls { OnOk result (to_come I.model input.new ≤ to_come I.model input.old) }
 {
     if nodes.is_logical(operand) {
         return emit_err(
@@ -392,8 +388,9 @@ fn check_delete<I: Tokens, B: Bodies<I>>(
     arg: ExprId,
 ) -> PResult<()>
     requires { From 0 nodes.now (expr_part arg) }
-    ensures checks { MatchResult result (λ r. Checks I.state I.gives (trees.delete_ok (context I.state input.old) op (tree_of nodes.now arg)) input.old input.new) (λ e. Forgoes I.state I.gives input.old e input.new) }
-    ensures left { OnOk result (buffer.left I.state input.new ≤ buffer.left I.state input.old) }
+    ensures checks { Checked I.model
+        (trees.delete_ok (context I.model input.old) op (tree_of nodes.now arg)) input.old result input.new }
+    ensures falls { OnOk result (to_come I.model input.new ≤ to_come I.model input.old) }
 {
     if is_ident_deleted(nodes, op, arg) {
         return emit_strict_mode_err(input, nodes.span(arg), SyntaxError::TS1102);

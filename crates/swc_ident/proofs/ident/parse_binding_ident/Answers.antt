@@ -10,14 +10,14 @@ returns-in_err-id-clause-names g c =
 pub returns-in_err-note_binding-clause-names : goal.returns-in_err-note_binding-clause-names
 returns-in_err-note_binding-clause-names g c =
     let p = err_from_is_err_and c.from_residual-in_err-note_binding.result c.from_residual-in_err-note_binding.ensures.1 in rw (p.1, p.2)
-    (forgone_unnamed (record { none = g.met.I.Tokens.none; joins = g.met.I.Tokens.then; gave = g.met.I.Tokens.gave }) (named_reads c.in_ok-id.ensures.names) c.in_err-note_binding.ensures)
+    (forgone_unnamed g.met.I.Tokens.laws (named_reads c.in_ok-id.ensures.names) c.in_err-note_binding.ensures)
 
 pub returns-in_err-note_binding-clause-read : goal.returns-in_err-note_binding-clause-read
 returns-in_err-note_binding-clause-read g c =
-    let f = c.in_err-note_binding.ensures in reads_then (record { none = g.met.I.Tokens.none; joins = g.met.I.Tokens.then; gave = g.met.I.Tokens.gave }) (named_reads c.in_ok-id.ensures.names) (f.consumed, f.read)
+    let f = c.in_err-note_binding.ensures in reads_then g.met.I.Tokens.laws (named_reads c.in_ok-id.ensures.names) (f.consumed, f.read)
 
 pub returns-clause-names : goal.returns-clause-names
-returns-clause-names g c = binding_named (record { none = g.met.I.Tokens.none; joins = g.met.I.Tokens.then; gave = g.met.I.Tokens.gave }) c.in_ok-id.ensures.names c.in_ok-note_binding.ensures
+returns-clause-names g c = binding_named g.met.I.Tokens.laws c.in_ok-id.ensures.names c.in_ok-note_binding.ensures
 
 pub returns-clause-read : goal.returns-clause-read
 returns-clause-read g c = named_reads (returns-clause-names g c)

@@ -11,17 +11,17 @@ returns-in_err-word-clause-names g c =
 
 pub returns-in_err-word-clause-read : goal.returns-in_err-word-clause-read
 returns-in_err-word-clause-read g c =
-    names_read g.I.Tokens.state g.I.Tokens.gives (ident_verdict c.args.incl_yield c.args.incl_await) (λ i. i.sym) (λ i. i.span) _ _ c.from_residual.result
-    (record { none = g.met.I.Tokens.none; joins = g.met.I.Tokens.then; gave = g.met.I.Tokens.gave }) (returns-in_err-word-clause-names g c)
+    names_read g.I.Tokens.model (ident_verdict c.args.incl_yield c.args.incl_await) (λ i. i.sym) (λ i. i.span) _ _ c.from_residual.result
+    g.met.I.Tokens.laws (returns-in_err-word-clause-names g c)
 
 pub returns-in-Err-clause-names : goal.returns-in-Err-clause-names
 returns-in-Err-clause-names g c =
-    forgone_unnamed (record { none = g.met.I.Tokens.none; joins = g.met.I.Tokens.then; gave = g.met.I.Tokens.gave })
-    (passed_reads (record { none = g.met.I.Tokens.none; joins = g.met.I.Tokens.then; gave = g.met.I.Tokens.gave }) c.in_ok-word.ensures) c.in-Err.ensures
+    forgone_unnamed g.met.I.Tokens.laws
+    (passed_reads g.met.I.Tokens.laws c.in_ok-word.ensures) c.in-Err.ensures
 
 pub returns-in-Err-clause-read : goal.returns-in-Err-clause-read
 returns-in-Err-clause-read g c =
-    unnamed_reads (record { none = g.met.I.Tokens.none; joins = g.met.I.Tokens.then; gave = g.met.I.Tokens.gave }) (returns-in-Err-clause-names g c)
+    unnamed_reads g.met.I.Tokens.laws (returns-in-Err-clause-names g c)
 
 pub returns-in-Some-clause-names : goal.returns-in-Some-clause-names
 returns-in-Some-clause-names g c =
@@ -31,25 +31,25 @@ returns-in-Some-clause-names g c =
 
 pub returns-in-Some-clause-read : goal.returns-in-Some-clause-read
 returns-in-Some-clause-read g c =
-    unnamed_reads (record { none = g.met.I.Tokens.none; joins = g.met.I.Tokens.then; gave = g.met.I.Tokens.gave }) (returns-in-Some-clause-names g c)
+    unnamed_reads g.met.I.Tokens.laws (returns-in-Some-clause-names g c)
 
 pub returns-in_err-sym-clause-names : goal.returns-in_err-sym-clause-names
 returns-in_err-sym-clause-names g c =
     let p = err_from_is_err_and c.from_residual-in_err-sym.result c.from_residual-in_err-sym.ensures.1 in rw (p.1, p.2)
-    (forgone_unnamed (record { none = g.met.I.Tokens.none; joins = g.met.I.Tokens.then; gave = g.met.I.Tokens.gave })
-    (reads_then (record { none = g.met.I.Tokens.none; joins = g.met.I.Tokens.then; gave = g.met.I.Tokens.gave })
-    (passed_reads (record { none = g.met.I.Tokens.none; joins = g.met.I.Tokens.then; gave = g.met.I.Tokens.gave }) c.in_ok-word.ensures)
-    (notes_read (record { none = g.met.I.Tokens.none; joins = g.met.I.Tokens.then; gave = g.met.I.Tokens.gave }) c.in_default.ensures))
-    (forgone_here (record { none = g.met.I.Tokens.none; joins = g.met.I.Tokens.then; gave = g.met.I.Tokens.gave }) c.in_err-sym.ensures))
+    (forgone_unnamed g.met.I.Tokens.laws
+    (reads_then g.met.I.Tokens.laws
+    (passed_reads g.met.I.Tokens.laws c.in_ok-word.ensures)
+    (notes_read g.met.I.Tokens.laws c.in_default.ensures))
+    (forgone_here g.met.I.Tokens.laws c.in_err-sym.ensures))
 
 pub returns-in_err-sym-clause-read : goal.returns-in_err-sym-clause-read
 returns-in_err-sym-clause-read g c =
-    names_read g.I.Tokens.state g.I.Tokens.gives (ident_verdict c.args.incl_yield c.args.incl_await) (λ i. i.sym) (λ i. i.span) _ _ c.from_residual-in_err-sym.result
-    (record { none = g.met.I.Tokens.none; joins = g.met.I.Tokens.then; gave = g.met.I.Tokens.gave }) (returns-in_err-sym-clause-names g c)
+    names_read g.I.Tokens.model (ident_verdict c.args.incl_yield c.args.incl_await) (λ i. i.sym) (λ i. i.span) _ _ c.from_residual-in_err-sym.result
+    g.met.I.Tokens.laws (returns-in_err-sym-clause-names g c)
 
 pub returns-clause-names : goal.returns-clause-names
 returns-clause-names g c =
-    taken_word c.get_ctx-ctx.result (record { none = g.met.I.Tokens.none; joins = g.met.I.Tokens.then; gave = g.met.I.Tokens.gave }) c.get_ctx-ctx.ensures
+    taken_word c.get_ctx-ctx.result g.met.I.Tokens.laws c.get_ctx-ctx.ensures
     (place_told c.prev_span-span.ensures c.in_ok-word.ensures) c.in_ok-sym.ensures (sym c.refusal_of.ensures ∙ c.in_default-refusal_of.is)
     (c.mark_of-mark.ensures ∙ same_faults c.args.incl_yield c.args.incl_await c.get_ctx-ctx.result c.in_ok-word.word) c.in_default.ensures
 

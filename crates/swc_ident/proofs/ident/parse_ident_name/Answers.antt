@@ -12,24 +12,24 @@ returns-in_err-word-clause-names g c =
 
 pub returns-in_err-word-clause-read : goal.returns-in_err-word-clause-read
 returns-in_err-word-clause-read g c =
-    names_read g.I.Tokens.state g.I.Tokens.gives name_of_any (λ i. i.sym) (λ i. i.span) _ _ c.from_residual.result
-    (record { none = g.met.I.Tokens.none; joins = g.met.I.Tokens.then; gave = g.met.I.Tokens.gave }) (returns-in_err-word-clause-names g c)
+    names_read g.I.Tokens.model name_of_any (λ i. i.sym) (λ i. i.span) _ _ c.from_residual.result
+    g.met.I.Tokens.laws (returns-in_err-word-clause-names g c)
 
 pub returns-in_err-sym-clause-names : goal.returns-in_err-sym-clause-names
 returns-in_err-sym-clause-names g c =
     let p = err_from_is_err_and c.from_residual-in_err-sym.result c.from_residual-in_err-sym.ensures.1 in rw (p.1, p.2)
-    (forgone_unnamed (record { none = g.met.I.Tokens.none; joins = g.met.I.Tokens.then; gave = g.met.I.Tokens.gave })
-    (passed_reads (record { none = g.met.I.Tokens.none; joins = g.met.I.Tokens.then; gave = g.met.I.Tokens.gave }) c.in_ok-word.ensures)
-    (forgone_here (record { none = g.met.I.Tokens.none; joins = g.met.I.Tokens.then; gave = g.met.I.Tokens.gave }) c.in_err-sym.ensures))
+    (forgone_unnamed g.met.I.Tokens.laws
+    (passed_reads g.met.I.Tokens.laws c.in_ok-word.ensures)
+    (forgone_here g.met.I.Tokens.laws c.in_err-sym.ensures))
 
 pub returns-in_err-sym-clause-read : goal.returns-in_err-sym-clause-read
 returns-in_err-sym-clause-read g c =
-    names_read g.I.Tokens.state g.I.Tokens.gives name_of_any (λ i. i.sym) (λ i. i.span) _ _ c.from_residual-in_err-sym.result
-    (record { none = g.met.I.Tokens.none; joins = g.met.I.Tokens.then; gave = g.met.I.Tokens.gave }) (returns-in_err-sym-clause-names g c)
+    names_read g.I.Tokens.model name_of_any (λ i. i.sym) (λ i. i.span) _ _ c.from_residual-in_err-sym.result
+    g.met.I.Tokens.laws (returns-in_err-sym-clause-names g c)
 
 pub returns-clause-names : goal.returns-clause-names
 returns-clause-names g c =
-    taken_word _ (record { none = g.met.I.Tokens.none; joins = g.met.I.Tokens.then; gave = g.met.I.Tokens.gave }) refl
+    taken_word _ g.met.I.Tokens.laws refl
     (place_told c.prev_span-span.ensures c.in_ok-word.ensures) c.in_ok-sym.ensures refl refl none-noted
 
 pub returns-clause-read : goal.returns-clause-read

@@ -3,5 +3,5 @@ use Rattle.swc_productions.proofs.moves.emit_strict_mode_err.Goals as goal
 
 pub returns-clause-checks : goal.returns-clause-checks
 returns-clause-checks g c =
-    strict_checked g.I.Tokens.state g.I.Tokens.gives (record { none = g.met.I.Tokens.none; joins = g.met.I.Tokens.then; gave = g.met.I.Tokens.gave; lawful = g.met.I.Tokens.lawful }) _ _ c.emit_strict_mode_err.result (record { span = c.args.span; kind = c.args.kind })
+    strict_checked g.I.Tokens.model g.met.I.Tokens.laws _ _ c.emit_strict_mode_err.result (record { span = c.args.span; kind = c.args.kind })
     c.emit_strict_mode_err.ensures.read c.emit_strict_mode_err.ensures.silent c.emit_strict_mode_err.ensures.recorded c.emit_strict_mode_err.ensures.refused

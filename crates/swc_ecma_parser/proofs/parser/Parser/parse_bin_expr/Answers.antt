@@ -1,15 +1,26 @@
-use Rattle.std.proofs.Common.{sym, ◌∙◌}
-use Rattle.swc_grammar.specs.Clean.{run, operand}
+use Rattle.std.proofs.Common.{refl, sym, ◌∙◌}
+use Rattle.std.proofs.lemmas.Result.{err_from_is_err_and}
+use Rattle.swc_grammar.specs.Symbols.{Level}
+use Rattle.swc_grammar.specs.Clean.{sym as at, run}
 use Rattle.swc_ecma_parser.specs.Calls.{nodes_of, tree_by}
-use Rattle.swc_ecma_parser.specs.Promise.{hook_of}
+use Rattle.swc_ecma_parser.proofs.Calling.{promised, promised-again}
 use Rattle.swc_ecma_parser.proofs.Moving.{moved-parses, cut-back}
-use Rattle.swc_ecma_parser.proofs.Top.{level-promised}
+use Rattle.swc_ecma_parser.proofs.Top.{level-meets}
 use Rattle.swc_ecma_parser.proofs.parser.Parser.parse_bin_expr.Goals as goal
 
-pub returns-clause-promised : goal.returns-clause-promised
-returns-clause-promised g c = λ runs. rw (c.finish.ensures.answer, c.finish.ensures.buffer ∙ c.move_out-answer.ensures.buffer)
-    (level-promised g.I.Tokens.state g.I.Tokens.gives (hook_of g.B.BodyForms.reads_fun g.B.BodyForms.reads_class g.B.BodyForms.reads_block) (tree_by g.B.Fun.Spanned.place g.B.Class.Spanned.place g.B.Block.Spanned.place) _ c.move_out-answer.result _
-    (moved-parses g.I.Tokens.state g.I.Tokens.gives (operand run 0) _ (tree_by g.B.Fun.Spanned.place g.B.Class.Spanned.place g.B.Block.Spanned.place) _ _ c.parse_bin_expr-answer.result c.move_out-answer.result c.parse_bin_expr-answer.ensures.reads c.move_out-answer.ensures.moved))
+pub returns-in_err-begin : goal.returns-in_err-begin
+returns-in_err-begin g c = let p = err_from_is_err_and c.from_residual.result c.from_residual.ensures.1 in rw (p.1, p.2) (record { promised = promised-again c.in_err-begin.ensures.again refl })
 
-pub returns-clause-nodes : goal.returns-clause-nodes
-returns-clause-nodes g c = rw (c.finish.ensures.nodes) (cut-back (nodes_of c.move_out-answer.new.self) c.parse_bin_expr-answer.ensures.grows (rw (sym c.len-start.ensures) c.move_out-answer.ensures.nodes))
+pub returns : goal.returns
+returns g c =
+    let boxed = tree_by g.B.Fun.Spanned.place g.B.Class.Spanned.place g.B.Block.Spanned.place in
+    let done = c.finish.ensures in
+    let moved = c.move_out-answer.ensures in
+    let read = c.parse_bin_expr-answer.ensures in
+    record {
+      promised = promised c.parse_bin_expr-answer.new.self.input (nodes_of c.move_out-answer.new.self) c.move_out-answer.result c.finish.result c.in_ok-begin.ensures.runs moved.runs
+          done.answer (done.buffer ∙ moved.buffer) done.nodes done.fails
+          (level-meets g.I.Tokens.model g.B.Bodies.is_faithful g.B.BodyForms.forms g.met.B.Bodies.lawful boxed _ c.move_out-answer.result _
+          (moved-parses g.I.Tokens.model g.B.Bodies.is_faithful (run g.B.BodyForms.forms (at (Level 1))) c.parse_bin_expr-answer.new.self.nodes boxed _ _ c.parse_bin_expr-answer.result c.move_out-answer.result read.reads moved.moved))
+          (cut-back (nodes_of c.move_out-answer.new.self) read.grows (rw (sym c.len-start.ensures) moved.nodes));
+    }

@@ -1,22 +1,26 @@
-use Rattle.std.proofs.Common.{sym, ◌∙◌}
-use Rattle.swc_grammar.specs.Clean.{run, assign}
-use Rattle.swc_nodes.specs.Stands.{count}
+use Rattle.std.proofs.Common.{refl, sym, ◌∙◌}
+use Rattle.std.proofs.lemmas.Result.{err_from_is_err_and}
+use Rattle.swc_grammar.specs.Symbols.{Expr}
+use Rattle.swc_grammar.specs.Clean.{sym as at, run}
 use Rattle.swc_productions.specs.Parsing.{tree_of}
 use Rattle.swc_ecma_parser.specs.Calls.{nodes_of}
-use Rattle.swc_ecma_parser.specs.Promise.{hook_of}
-use Rattle.swc_ecma_parser.proofs.Moving.{kept-nodes, kept-from, kept-parses}
-use Rattle.swc_ecma_parser.proofs.Top.{expr-promised}
+use Rattle.swc_ecma_parser.proofs.Calling.{promised, promised-again}
+use Rattle.swc_ecma_parser.proofs.Moving.{kept-leaves, kept-parses}
+use Rattle.swc_ecma_parser.proofs.Top.{expr-meets}
 use Rattle.swc_ecma_parser.proofs.parser.Parser.parse_expr_id.Goals as goal
 
-pub returns-clause-promised : goal.returns-clause-promised
-returns-clause-promised g c = λ runs. rw (c.finish.ensures.answer, c.finish.ensures.nodes, c.keep-answer.ensures.answer, c.finish.ensures.buffer ∙ c.keep-answer.ensures.buffer)
-    (expr-promised g.I.Tokens.state g.I.Tokens.gives (hook_of g.B.BodyForms.reads_fun g.B.BodyForms.reads_class g.B.BodyForms.reads_block) (tree_of (nodes_of c.keep-answer.new.self)) _ c.parse_expr-answer.result _
-    (kept-parses g.I.Tokens.state g.I.Tokens.gives (assign run) c.parse_expr-answer.new.self.nodes _ c.len-start.result _ _ c.parse_expr-answer.result c.parse_expr-answer.ensures.reads c.keep-answer.ensures.nodes))
+pub returns-in_err-begin : goal.returns-in_err-begin
+returns-in_err-begin g c = let p = err_from_is_err_and c.from_residual.result c.from_residual.ensures.1 in rw (p.1, p.2) (record { promised = promised-again c.in_err-begin.ensures.again refl })
 
-pub returns-clause-nodes : goal.returns-clause-nodes
-returns-clause-nodes g c = rw (c.finish.ensures.answer, c.finish.ensures.nodes, c.keep-answer.ensures.answer)
-    (kept-nodes _ c.parse_expr-answer.result c.parse_expr-answer.ensures.grows (rw (sym c.len-start.ensures) c.keep-answer.ensures.nodes))
-
-pub returns-clause-has : goal.returns-clause-has
-returns-clause-has g c = rw (c.finish.ensures.answer, c.finish.ensures.nodes, c.keep-answer.ensures.answer)
-    (kept-from c.parse_expr-answer.new.self.nodes _ _ c.len-start.result c.parse_expr-answer.result c.parse_expr-answer.ensures.from c.keep-answer.ensures.nodes)
+pub returns : goal.returns
+returns g c =
+    let done = c.finish.ensures in
+    let kept = c.keep-answer.ensures in
+    let read = c.parse_expr-answer.ensures in
+    record {
+      promised = promised c.parse_expr-answer.new.self.input (nodes_of c.keep-answer.new.self) c.parse_expr-answer.result c.finish.result c.in_ok-begin.ensures.runs kept.runs
+          (done.answer ∙ kept.answer) (done.buffer ∙ kept.buffer) done.nodes (rw (sym kept.answer) done.fails)
+          (expr-meets g.I.Tokens.model g.B.Bodies.is_faithful g.B.BodyForms.forms g.met.B.Bodies.lawful (tree_of (nodes_of c.keep-answer.new.self)) _ c.parse_expr-answer.result _
+          (kept-parses g.I.Tokens.model g.B.Bodies.is_faithful (run g.B.BodyForms.forms (at Expr)) c.parse_expr-answer.new.self.nodes _ c.len-start.result _ _ c.parse_expr-answer.result read.reads kept.nodes))
+          (kept-leaves _ c.parse_expr-answer.result read.grows read.from (rw (sym c.len-start.ensures) kept.nodes));
+    }

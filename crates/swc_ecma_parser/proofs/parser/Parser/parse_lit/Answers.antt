@@ -1,11 +1,20 @@
-use Rattle.swc_grammar.specs.Clean.{run, lit}
-use Rattle.swc_productions.specs.Parsing.{lit_in}
-use Rattle.swc_productions.proofs.Steps.{reads_of}
-use Rattle.swc_ecma_parser.proofs.Top.{no_literal}
+use Rattle.std.specs.Prelude.{true}
+use Rattle.std.proofs.Common.{refl, ◌∙◌}
+use Rattle.std.proofs.lemmas.Result.{err_from_is_err_and}
+use Rattle.swc_ecma_parser.proofs.Calling.{called, called-again}
+use Rattle.swc_ecma_parser.proofs.Top.{literal-meets}
 use Rattle.swc_ecma_parser.proofs.parser.Parser.parse_lit.Goals as goal
 
-pub returns-clause-reads : goal.returns-clause-reads
-returns-clause-reads g c = λ runs. rw (c.finish.ensures.answer, c.finish.ensures.buffer) (reads_of g.I.Tokens.state g.I.Tokens.gives (lit_in c.args.self.now.productions.nodes) (lit run) _ _ c.parse_lit-answer.result c.parse_lit-answer.ensures.parses)
+pub returns-in_err-begin : goal.returns-in_err-begin
+returns-in_err-begin g c =
+    let p = err_from_is_err_and c.from_residual.result c.from_residual.ensures.1 in
+    rw (p.1, p.2) (called-again c.in_err-begin.ensures.again)
 
-pub returns-clause-none : goal.returns-clause-none
-returns-clause-none g c = λ runs. rw (c.finish.ensures.answer) (no_literal g.I.Tokens.state g.I.Tokens.gives (lit_in c.args.self.now.productions.nodes) _ _ c.parse_lit-answer.result c.parse_lit-answer.ensures.parses)
+pub returns : goal.returns
+returns g c =
+    let done = c.finish.ensures in
+    let answered = c.parse_lit-answer.ensures in
+    called c.parse_lit-answer.result c.finish.result c.in_ok-begin.ensures.runs refl done.answer done.buffer
+    (done.nodes ∙ answered.nodes) done.fails
+    (literal-meets g.I.Tokens.model g.B.BodyForms.forms _ c.parse_lit-answer.result _
+    (answered.parses true) answered.literal)

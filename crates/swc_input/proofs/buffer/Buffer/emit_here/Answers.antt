@@ -5,7 +5,7 @@ use Rattle.swc_input.proofs.buffer.Buffer.emit_here.Goals as goal
 
 pub returns-in-Ok-clause-read : goal.returns-in-Ok-clause-read
 returns-in-Ok-clause-read g c =
-    Read-still g.I.Tokens.state g.I.Tokens.gives g.met.I.Tokens.then c.args.self.now c.record-in-Some.new.self c.record-in-Ok.new.self (error_token (current c.args.self.now))
-    (Read-still g.I.Tokens.state g.I.Tokens.gives g.met.I.Tokens.then c.args.self.now c.take_error.new.self c.record-in-Some.new.self (error_token (current c.args.self.now))
+    Read-still g.met.I.Tokens.laws c.args.self.now c.record-in-Some.new.self c.record-in-Ok.new.self (error_token (current c.args.self.now))
+    (Read-still g.met.I.Tokens.laws c.args.self.now c.take_error.new.self c.record-in-Some.new.self (error_token (current c.args.self.now))
     c.take_error.ensures.read c.record-in-Some.ensures.read)
     c.record-in-Ok.ensures.read

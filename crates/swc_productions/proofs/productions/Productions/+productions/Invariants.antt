@@ -1,6 +1,6 @@
 -- Each call is made with fewer tokens to come, or on the way down to a primary expression.
 use Rattle.std.proofs.Common.{◌+◌, ◌*◌, ◌≤◌}
-use Rattle.swc_input.specs.Buffer.{left}
+use Rattle.swc_input.specs.Buffer.{to_come}
 use Rattle.swc_grammar.specs.Clean.{climb, run}
 use Rattle.swc_nodes.specs.Slots.{expr_part}
 use Rattle.swc_nodes.specs.Stands.{first_at, From, Grows}
@@ -8,53 +8,55 @@ use Rattle.swc_productions.specs.Parsing.{On, tree_of}
 use Rattle.swc_productions.proofs.productions.Productions.+productions.Given as goal
 
 abbrev pub decreases-parse_paren_expr : goal.decreases-parse_paren_expr
-decreases-parse_paren_expr g l = left g.I.Tokens.state l.self.now.input * 20 + 1
+decreases-parse_paren_expr g l = to_come g.I.Tokens.model l.self.now.input * 20 + 1
 
 abbrev pub decreases-parse_primary_expr : goal.decreases-parse_primary_expr
-decreases-parse_primary_expr g l = left g.I.Tokens.state l.self.now.input * 20 + 2
+decreases-parse_primary_expr g l = to_come g.I.Tokens.model l.self.now.input * 20 + 2
 
 abbrev pub decreases-parse_prefix_expr : goal.decreases-parse_prefix_expr
-decreases-parse_prefix_expr g l = left g.I.Tokens.state l.self.now.input * 20 + 3
+decreases-parse_prefix_expr g l = to_come g.I.Tokens.model l.self.now.input * 20 + 3
 
 abbrev pub decreases-parse_unary_expr : goal.decreases-parse_unary_expr
-decreases-parse_unary_expr g l = left g.I.Tokens.state l.self.now.input * 20 + 4
+decreases-parse_unary_expr g l = to_come g.I.Tokens.model l.self.now.input * 20 + 4
 
 abbrev pub decreases-parse_prefix_operand : goal.decreases-parse_prefix_operand
-decreases-parse_prefix_operand g l = left g.I.Tokens.state l.self.now.input * 20 + 5
+decreases-parse_prefix_operand g l = to_come g.I.Tokens.model l.self.now.input * 20 + 5
 
 abbrev pub decreases-parse_right_operand : goal.decreases-parse_right_operand
-decreases-parse_right_operand g l = left g.I.Tokens.state l.self.now.input * 20 + 6
+decreases-parse_right_operand g l = to_come g.I.Tokens.model l.self.now.input * 20 + 6
 
 abbrev pub decreases-parse_operation : goal.decreases-parse_operation
-decreases-parse_operation g l = left g.I.Tokens.state l.self.now.input * 20 + 7
+decreases-parse_operation g l = to_come g.I.Tokens.model l.self.now.input * 20 + 7
 
 abbrev pub decreases-parse_bin_op_recursively_inner : goal.decreases-parse_bin_op_recursively_inner
-decreases-parse_bin_op_recursively_inner g l = left g.I.Tokens.state l.self.now.input * 20 + 8
+decreases-parse_bin_op_recursively_inner g l = to_come g.I.Tokens.model l.self.now.input * 20 + 8
 
 abbrev pub decreases-parse_bin_op_recursively : goal.decreases-parse_bin_op_recursively
-decreases-parse_bin_op_recursively g l = left g.I.Tokens.state l.self.now.input * 20 + 9
+decreases-parse_bin_op_recursively g l = to_come g.I.Tokens.model l.self.now.input * 20 + 9
 
 abbrev pub invariant-parse_bin_op_recursively-loop-next_left : goal.invariant-parse_bin_op_recursively-loop-next_left
 invariant-parse_bin_op_recursively-loop-next_left g l =
-    On g.I.Tokens.state g.I.Tokens.gives
-    (climb run (tree_of l.fn.self.nodes l.fn.left) l.fn.min_prec)
-    (climb run (tree_of l.self.nodes l.left) l.min_prec)
+    On g.I.Tokens.model g.B.Bodies.is_faithful
+    (run g.B.BodyForms.forms
+    (climb (tree_of l.fn.self.nodes l.fn.left) l.fn.min_prec))
+    (run g.B.BodyForms.forms
+    (climb (tree_of l.self.nodes l.left) l.min_prec))
     l.fn.self.input l.self.input
-    × (left g.I.Tokens.state l.self.input ≤ left g.I.Tokens.state l.fn.self.input)
+    × (to_come g.I.Tokens.model l.self.input ≤ to_come g.I.Tokens.model l.fn.self.input)
     × Grows l.fn.self.nodes l.self.nodes
     × From (first_at l.fn.self.nodes l.fn.left.0) l.self.nodes (expr_part l.left)
 
 abbrev pub decreases-parse_bin_op_recursively-loop-next_left : goal.decreases-parse_bin_op_recursively-loop-next_left
-decreases-parse_bin_op_recursively-loop-next_left g l = left g.I.Tokens.state l.self.input
+decreases-parse_bin_op_recursively-loop-next_left g l = to_come g.I.Tokens.model l.self.input
 
 abbrev pub decreases-parse_bin_expr_without_left : goal.decreases-parse_bin_expr_without_left
-decreases-parse_bin_expr_without_left g l = left g.I.Tokens.state l.self.now.input * 20 + 10
+decreases-parse_bin_expr_without_left g l = to_come g.I.Tokens.model l.self.now.input * 20 + 10
 
 abbrev pub decreases-parse_bin_expr : goal.decreases-parse_bin_expr
-decreases-parse_bin_expr g l = left g.I.Tokens.state l.self.now.input * 20 + 11
+decreases-parse_bin_expr g l = to_come g.I.Tokens.model l.self.now.input * 20 + 11
 
 abbrev pub decreases-parse_assignment_expr : goal.decreases-parse_assignment_expr
-decreases-parse_assignment_expr g l = left g.I.Tokens.state l.self.now.input * 20 + 12
+decreases-parse_assignment_expr g l = to_come g.I.Tokens.model l.self.now.input * 20 + 12
 
 abbrev pub decreases-parse_assignment_expr_with_in : goal.decreases-parse_assignment_expr_with_in
-decreases-parse_assignment_expr_with_in g l = left g.I.Tokens.state l.self.now.input * 20 + 13
+decreases-parse_assignment_expr_with_in g l = to_come g.I.Tokens.model l.self.now.input * 20 + 13

@@ -1,0 +1,71 @@
+-- From what the body of a call does to what the call promises: of a parser that has failed, and of any other.
+use Rattle.std.proofs.Common.{◌≡◌, Bool, true, false, ◌||◌, ℕ, Result, Ok, Err, IfOk, MatchResult, refl, sym, ap, subst, ◌∙◌}
+use Rattle.swc_context.specs.declared.error.Error.{Error}
+use Rattle.swc_input.specs.declared.buffer.Buffer.{Buffer}
+use Rattle.swc_input.specs.Source.{Model}
+use Rattle.swc_input.specs.Buffer.{previous}
+use Rattle.swc_ast.specs.declared.spanned.Spanned.{Ghosts}
+use Rattle.swc_bodies.specs.Readings.{Hook}
+use Rattle.swc_grammar.specs.Symbols.{Symbol}
+use Rattle.swc_nodes.specs.declared.nodes.Nodes.{Nodes}
+use Rattle.swc_ecma_parser.specs.declared.parser.Parser.{Parser}
+use Rattle.swc_ecma_parser.specs.Calls.{buffer_of, nodes_of, has_failed, wants_memory, parser_failed, Called}
+use Rattle.swc_ecma_parser.specs.Promise.{Answer, Promised}
+use Rattle.swc_ecma_parser.proofs.Top.{Meets}
+
+not_both : {b : Bool} → b ≡ true → b ≡ false → ⊥
+not_both t f = let e : true ≡ false = sym t ∙ f in cc
+
+-- a parser that ran has failed where it answers want of memory
+failing : {T : Type 0} {was is f : Bool} (a r : Result T Error) → was ≡ false → f ≡ was → r ≡ a → is ≡ (f || wants_memory a) → is ≡ wants_memory r
+failing a r runs same e h = h ∙ ap (λ v. v || wants_memory a) (same ∙ runs) ∙ ap (λ v. wants_memory v) (sym e)
+
+module _ {S H F C K T : Type 0} {fg : Ghosts F} {cg : Ghosts C} {kg : Ghosts K} where
+  pub called-again : {Effect : Buffer S → Result T Error → Buffer S → Type 0} {p : Parser S H F C K fg cg kg} {e : Error} → (has_failed p ≡ true) × (e ≡ parser_failed (previous (buffer_of p))) → Called Effect p (Err e) p
+  called-again h = record {
+    again = λ failed. (refl, ap (λ x. Err x) h.1);
+    effect = λ runs. absurd (not_both h.0 runs);
+    nodes = refl;
+    fails = λ runs. absurd (not_both h.0 runs);
+  }
+
+  pub called : {Effect : Buffer S → Result T Error → Buffer S → Type 0} {p q : Parser S H F C K fg cg kg} {b : Buffer S} {f : Bool} (a r : Result T Error) → has_failed p ≡ false → f ≡ has_failed p →
+      r ≡ a → buffer_of q ≡ b → nodes_of q ≡ nodes_of p → has_failed q ≡ (f || wants_memory a) → Effect (buffer_of p) a b → Called Effect p r q
+  called a r runs same e buffer nodes fails done = record {
+    again = λ failed. absurd (not_both failed runs);
+    effect = λ w. rw (e, buffer) done;
+    nodes = nodes;
+    fails = λ w. failing a r runs same e fails;
+  }
+
+module _ {S H T F C K : Type 0} {fg : Ghosts F} {cg : Ghosts C} {kg : Ghosts K} {model : Model S} {sure : Bool} {hook : Hook F C K} {answer : Answer T F C K fg cg kg} {s : Symbol} where
+  pub promised-again : {p : Parser S H F C K fg cg kg} {e : Error} → (has_failed p ≡ true) × (e ≡ parser_failed (previous (buffer_of p))) → answer.leaves (nodes_of p) (Err e) (nodes_of p) → Promised model sure hook answer s p (Err e) p
+  promised-again h leaves = record {
+    again = λ failed. (refl, ap (λ x. Err x) h.1);
+    reads = λ runs. absurd (not_both h.0 runs);
+    sound = λ runs. absurd (not_both h.0 runs);
+    complete = λ runs. absurd (not_both h.0 runs);
+    one_tree = λ runs. absurd (not_both h.0 runs);
+    grouped = λ runs. absurd (not_both h.0 runs);
+    valid = λ runs. absurd (not_both h.0 runs);
+    nodes = leaves;
+    fails = λ runs. absurd (not_both h.0 runs);
+  }
+
+  -- the buffer and the nodes before the parser remembers want of memory
+  pub promised : {p q : Parser S H F C K fg cg kg} {f : Bool} (b : Buffer S) (ns : Nodes F C K fg cg kg) (a r : Result T Error) → has_failed p ≡ false → f ≡ has_failed p →
+      r ≡ a → buffer_of q ≡ b → nodes_of q ≡ ns → has_failed q ≡ (f || wants_memory a) → Meets model sure hook (answer.tree ns) s (buffer_of p) a b → answer.leaves (nodes_of p) a ns → Promised model sure hook answer s p r q
+  promised {p} {q} b ns a r runs same e buffer nodes fails done leaves =
+      let left : answer.leaves (nodes_of p) r (nodes_of q) = rw (e, nodes) leaves in
+      let meets : Meets model sure hook (answer.tree (nodes_of q)) s (buffer_of p) r (buffer_of q) = rw (e, buffer, nodes) done in
+      record {
+        again = λ failed. absurd (not_both failed runs);
+        reads = λ w. meets.reads;
+        sound = λ w. meets.sound;
+        complete = λ w. meets.complete;
+        one_tree = λ w. meets.one_tree;
+        grouped = λ w. meets.grouped;
+        valid = λ w. meets.valid;
+        nodes = left;
+        fails = λ w. failing a r runs same e fails;
+      }

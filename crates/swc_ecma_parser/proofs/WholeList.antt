@@ -1,0 +1,120 @@
+-- From one expression read, and the end looked for, to the headline.
+use Rattle.std.proofs.Common.{◌≡◌, Bool, true, false, not, ◌||◌, List, [], ◌∷◌, ◌++◌, Option, Some, None, Result, Ok, Err, IfOk, IsSome, MatchResult, refl, sym, ap, subst, ◌∙◌}
+use Rattle.std.proofs.lemmas.List.{append-nil}
+use Rattle.swc_context.specs.declared.context.Context.{Context}
+use Rattle.swc_context.specs.declared.context.EsVersion.{EsVersion}
+use Rattle.swc_context.specs.declared.context.Syntax.{Syntax}
+use Rattle.swc_context.specs.declared.error.Error.{Error}
+use Rattle.swc_context.specs.declared.span.BytePos.{BytePos}
+use Rattle.swc_context.specs.declared.error.SyntaxError.TheVariants.{OutOfMemory}
+use Rattle.swc_input.specs.declared.buffer.Buffer.{Buffer}
+use Rattle.swc_input.specs.declared.listed.TokensInput.{TokensInput}
+use Rattle.swc_input.specs.declared.token.TokenAndSpan.{TokenAndSpan}
+use Rattle.swc_input.specs.Source.{Model, Laws, given_one}
+use Rattle.swc_input.specs.Buffer.{Known, Looked, context, current, fresh, held, source}
+use Rattle.swc_input.specs.Listed.{listed_state, listed_model, listed_laws, new_state}
+use Rattle.swc_input.specs.Laws.{Known-after, Known-Future, Future-end}
+use Rattle.swc_input.specs.Recording.{is_silent}
+use Rattle.swc_ast.specs.Tree.{Tree}
+use Rattle.swc_ast.specs.declared.spanned.Spanned.{Ghosts}
+use Rattle.swc_bodies.specs.Readings.{Hook}
+use Rattle.swc_grammar.specs.Symbols.{Expr}
+use Rattle.swc_grammar.specs.Reads.{Reads, at-end}
+use Rattle.swc_nodes.specs.declared.node.ExprId.{ExprId}
+use Rattle.swc_productions.specs.Parsing.{Here, Loud, tree_of}
+use Rattle.swc_ecma_parser.specs.Calls.{Called, SeesEnd, buffer_of, has_failed, nodes_of}
+use Rattle.swc_ecma_parser.specs.Promise.{Promised, Unmarred, by_number}
+use Rattle.swc_ecma_parser.specs.WholeList.{plain_list, IsHeeded, Headline, Tries, tried, refused, lost}
+use Rattle.swc_ecma_parser.specs.declared.parser.Parser.{Parser}
+
+was_not : (v : Bool) → not v ≡ false → v ≡ true
+was_not true h = refl
+was_not false h = cc
+
+heeds : (a b : Bool) → a ≡ false → b ≡ true → (a || not b) ≡ false
+heeds false true h k = refl
+heeds a b h k = cc
+
+none_current : (o : Option TokenAndSpan) (l : List TokenAndSpan) → [] ≡ given_one o ++ l → IsSome o → ⊥
+none_current None l h some = cc
+none_current (Some t) l h some = cc
+
+nil_left : (xs ys : List TokenAndSpan) → [] ≡ xs ++ ys → [] ≡ xs
+nil_left [] ys h = refl
+nil_left (x ∷ xs) ys h = cc
+
+module _ {S : Type 0} {model : Model S} (laws : Laws model) where
+  -- a look over a listed source records nothing, and finds what is known
+  look_quiet : {b c : Buffer S} {ts : List TokenAndSpan} → Looked model b c → Known model b ts → (model.state (source c)).errors ≡ (model.state (source b)).errors
+  look_quiet l k = (l.look.quiet k.more k.known).0
+
+  look_known : {b c : Buffer S} (ts : List TokenAndSpan) → Looked model b c → Known model b ts → Known model c ts
+  look_known {b} {c} ts l k = let w = Known-after laws b c [] ts l.look.read.took k in subst (λ v. Known model c v) (sym w.2) w.1
+
+  -- at the end nothing is left
+  none_left : {b c : Buffer S} (ts : List TokenAndSpan) → Looked model b c → Known model b ts → current c ≡ None → (model.state (source c)).ended ≡ true → ts ≡ []
+  none_left {b} {c} ts l k e ended = Future-end model c ts e (l.end e).0 ended (Known-Future laws c ts (look_known ts l k))
+
+  -- where nothing is left no token is current
+  none_here : {b c : Buffer S} → Looked model b c → Known model b [] → IsSome (current c) → ⊥
+  none_here {b} {c} l k some =
+      let w = look_known [] l k in
+      none_current c.cur (given_one c.next) (nil_left (held c) w.more w.begins) some
+
+module _ {S H F C K : Type 0} {fg : Ghosts F} {cg : Ghosts C} {kg : Ghosts K} {model : Model S} {sure : Bool} {hook : Hook F C K} (laws : Laws model) where
+  whole-sound : {p q : Parser S H F C K fg cg kg} {r : Result (ExprId × Bool) Error} (ts : List TokenAndSpan) → Tries model sure hook p r q → has_failed p ≡ false
+      → Known model (buffer_of p) ts → Loud model (buffer_of p) → (model.state (source (buffer_of p))).errors ≡ []
+      → IfOk r (λ x. x.1 ≡ false → (model.state (source (buffer_of q))).errors ≡ [] → Reads hook Expr (context model (buffer_of p)) ts [] (tree_of (nodes_of q) x.0))
+  whole-sound {p} ts (tried {id = id} {v = v} {q = q} {r = r} h c) runs k loud clean = λ all none.
+      let sees = c.effect (h.fails runs) in
+      let d0 = h.reads runs in
+      let w = Known-after laws (buffer_of p) (buffer_of q) d0.leads.taken ts d0.leads.read.took k in
+      let same : Unmarred model (buffer_of p) (buffer_of q) = sym (look_quiet laws sees.looks.looked w.1) ∙ none ∙ sym clean in
+      let d = h.sound runs loud same in
+      let x = Known-after laws (buffer_of p) (buffer_of q) d.consumed ts d.read.took k in
+      let end = sees.end (was_not v all) in
+      let rest = none_left laws x.0 sees.looks.looked x.1 end.0 end.1 in
+      let whole : ts ≡ d.consumed = x.2 ∙ ap (λ l. d.consumed ++ l) rest ∙ append-nil d.consumed in
+      let P : List TokenAndSpan → Type 0 = λ l. Reads hook Expr (context model (buffer_of p)) l [] (tree_of (nodes_of r) id) in
+      subst P (sym whole) (rw (c.nodes) d.whole)
+  whole-sound ts (refused h) runs k loud clean = tt
+  whole-sound ts (lost h c) runs k loud clean = tt
+
+  whole-complete : {p q : Parser S H F C K fg cg kg} {r : Result (ExprId × Bool) Error} (ts : List TokenAndSpan) (t : Tree F C K) → Tries model sure hook p r q → has_failed p ≡ false
+      → Known model (buffer_of p) ts → Loud model (buffer_of p) → (model.state (source (buffer_of p))).errors ≡ [] → sure ≡ true → Reads hook Expr (context model (buffer_of p)) ts [] t
+      → MatchResult r (λ x. (tree_of (nodes_of q) x.0 ≡ t) × (x.1 ≡ false) × ((model.state (source (buffer_of q))).errors ≡ [])) (λ e. e.kind ≡ OutOfMemory)
+  whole-complete {p} ts t (tried {id = id} {v = true} {q = q} {r = r} h c) runs k loud clean y d =
+      let sees = c.effect (h.fails runs) in
+      let w = h.complete runs y loud ts [] t k d at-end in
+      (ap (λ ns. tree_of ns id) c.nodes ∙ w.0, refl, look_quiet laws sees.looks.looked w.1 ∙ w.2 ∙ clean)
+  whole-complete {p} ts t (tried {id = id} {v = false} {q = q} {r = r} h c) runs k loud clean y d =
+      let sees = c.effect (h.fails runs) in
+      let w = h.complete runs y loud ts [] t k d at-end in
+      absurd (none_here laws sees.looks.looked w.1 (sees.token refl))
+  whole-complete ts t (refused h) runs k loud clean y d = h.complete runs y loud ts [] t k d at-end
+  whole-complete ts t (lost h c) runs k loud clean y d = (c.effect (h.fails runs)).looks.kind
+
+-- a new buffer over a list
+module _ (input : TokensInput) (at : BytePos) (ts : List TokenAndSpan) (c : Context) (x : Syntax) (v : EsVersion) where
+  fresh-known : listed_state input ≡ new_state ts c x v → Known listed_model (fresh input at) (plain_list ts)
+  fresh-known is = record { more = plain_list ts; begins = refl; known = ap (λ s. s.known) is }
+
+  fresh-loud : listed_state input ≡ new_state ts c x v → IsHeeded c x → Loud listed_model (fresh input at)
+  fresh-loud is heeded = ap (λ s. is_silent s) is ∙ heeds c.ignore_error x.early_errors heeded.0 heeded.1
+
+module _ {H F C K : Type 0} {fg : Ghosts F} {cg : Ghosts C} {kg : Ghosts K} {sure : Bool} {hook : Hook F C K} where
+  -- by a new parser
+  pub headline : {p q : Parser TokensInput H F C K fg cg kg} {r : Result (ExprId × Bool) Error} (input : TokensInput) (at : BytePos) (ts : List TokenAndSpan) (c : Context) (x : Syntax) (v : EsVersion)
+      → listed_state input ≡ new_state ts c x v → buffer_of p ≡ fresh input at → has_failed p ≡ false → IsHeeded c x → Tries listed_model sure hook p r q
+      → Headline sure hook c (plain_list ts) r (nodes_of q) (listed_state (source (buffer_of q))).errors
+  headline {p} {q} {r} input at ts c x v is new runs heeded t =
+      let known : Known listed_model (buffer_of p) (plain_list ts) = rw (new) (fresh-known input at ts c x v is) in
+      let loud : Loud listed_model (buffer_of p) = rw (new) (fresh-loud input at ts c x v is heeded) in
+      let clean : (listed_state (source (buffer_of p))).errors ≡ [] = ap (λ b. (listed_state (source b)).errors) new ∙ ap (λ s. s.errors) is in
+      let same : context listed_model (buffer_of p) ≡ c = ap (λ b. context listed_model b) new ∙ ap (λ s. s.context) is in
+      let S : Context → Type 0 = λ k. IfOk r (λ y. y.1 ≡ false → (listed_state (source (buffer_of q))).errors ≡ [] → Reads hook Expr k (plain_list ts) [] (tree_of (nodes_of q) y.0)) in
+      record {
+        sound = subst S same (whole-sound listed_laws (plain_list ts) t runs known loud clean);
+        complete = λ y e d. whole-complete listed_laws (plain_list ts) e t runs known loud clean y
+            (let D : Context → Type 0 = λ k. Reads hook Expr k (plain_list ts) [] e in subst D (sym same) d);
+      }

@@ -1,0 +1,69 @@
+// A whole list of tokens, read as one expression.
+ghost use Rattle.std.specs.Prelude.{◌≡◌, false, IfOk};
+ghost use Rattle.swc_input.specs.Listed.{listed_model};
+ghost use Rattle.swc_nodes.specs.Slots.{expr_part};
+ghost use Rattle.swc_nodes.specs.Stands.{From};
+ghost use Rattle.swc_ecma_parser.specs.Calls.{has_failed, nodes_of};
+ghost use Rattle.swc_ecma_parser.specs.WholeList.{plain_list, IsHeeded, Headline, Tries};
+
+use crate::parser::Parser;
+use std::alloc::Global;
+use swc_bodies::bodies::Bodies;
+use swc_context::context::{Context, EsVersion, Syntax};
+use swc_context::error::{Error, PResult};
+use swc_input::listed::TokensInput;
+use swc_input::token::TokenAndSpan;
+use swc_nodes::node::ExprId;
+use swc_nodes::nodes::NodesOf;
+
+/// What was made of a whole list of tokens.
+#[derive(Drop)]
+pub struct Whole<B: Bodies<TokensInput>> {
+    /// The number of the expression, and whether tokens are left behind it; or the refusal.
+    pub read: PResult<(ExprId, bool)>,
+    /// The nodes of the expression's tree.
+    pub nodes: NodesOf<B>,
+    /// The faults that were recorded.
+    pub recorded: Vec<Error>,
+}
+
+/// Reads a list of tokens as one expression (ECMA-262, 13.16), with a parser of its own.
+///
+/// Refuses as `Parser::parse_expr` does, and for want of memory. Where early errors are on and not
+/// ignored (`headline`): a tree answered with no token left behind it and no fault recorded is one
+/// that the written grammar derives from the list; and with a faithful hook each tree that it
+/// derives from the list is answered so, unless memory is wanted.
+pub fn parse_whole_expr<B: Bodies<TokensInput>>(
+    alloc: Global,
+    tokens: Vec<TokenAndSpan>,
+    ctx: Context,
+    syntax: Syntax,
+    target: EsVersion,
+    bodies: B,
+) -> Whole<B>
+    ensures stands { IfOk result.read (λ r. From 0 result.nodes (expr_part r.0)) }
+    ensures headline { IsHeeded ctx syntax
+        → Headline B.is_faithful B.forms ctx (plain_list tokens.items) result.read result.nodes result.recorded.items }
+{
+    let source = TokensInput::new(alloc, tokens, ctx, syntax, target);
+    let mut parser = Parser::new_from(alloc, source, bodies);
+    let read = try_whole(&mut parser);
+    let recorded = parser.take_errors();
+    let nodes = parser.into_nodes();
+    Whole {
+        read,
+        nodes,
+        recorded,
+    }
+}
+
+/// Reads one expression: its number, and whether tokens are left behind it.
+fn try_whole<B: Bodies<TokensInput>>(parser: &mut Parser<TokensInput, B>) -> PResult<(ExprId, bool)>
+    requires { has_failed parser.old ≡ false }
+    ensures stands { IfOk result (λ r. From 0 (nodes_of parser.new) (expr_part r.0)) }
+    ensures tries { Tries listed_model B.is_faithful B.forms parser.old result parser.new }
+{
+    let expr = parser.parse_expr_id()?;
+    let at_end = parser.at_end()?;
+    Ok((expr, !at_end))
+}

@@ -1,0 +1,161 @@
+-- What holds of every tree that the grammar derives: it has no `Invalid` in it, its operators group as the levels say,
+-- and no `??` stands on the left of `||` or `&&`. One clause a production says that its node keeps this; the induction
+-- is done once.
+use Rattle.std.specs.Prelude.{◌≡◌, ℕ, suc, ◌≤◌, Bool, true, not, ◌&&◌, List, Option, Some, None, IsTrue, nat_le, nat_lt}
+use Rattle.std.specs.Prelude.{nat_eq}
+use Rattle.std.proofs.Common.{refl, subst, arith}
+use Rattle.std.proofs.lemmas.Bool.{eqb-true, ltb-true, le-leb, lt-ltb}
+use Rattle.swc_context.specs.Operators.{precedence_of}
+use Rattle.swc_context.specs.declared.context.Context.{Context}
+use Rattle.swc_context.specs.declared.operator.BinaryOp.{BinaryOp}
+use Rattle.swc_context.specs.declared.operator.BinaryOp.TheVariants as binary
+use Rattle.swc_context.specs.declared.span.Span.{Span}
+use Rattle.swc_context.specs.declared.word.Word.TheVariants as word
+use Rattle.swc_input.specs.declared.token.Token.{Token}
+use Rattle.swc_input.specs.declared.token.Token.TheVariants as token
+use Rattle.swc_input.specs.declared.token.TokenAndSpan.{TokenAndSpan}
+use Rattle.swc_ast.specs.Tree.{Tree, span_of}
+use Rattle.swc_grammar.specs.Rule.{Rule, gives, never, take, check, peek, read, hear, given, ◌>>=◌}
+use Rattle.swc_bodies.specs.Readings.{Hook}
+use Rattle.swc_grammar.specs.Symbols.{Symbol, Level, Unary, Primary, Literal, Answer, Body, Value, Side}
+use Rattle.swc_grammar.specs.Trees.{to, bin_e, tightness, least_left, min_right, exp_ok, is_unary, nullish_ok}
+use Rattle.swc_grammar.specs.Trees.{logical_ok}
+use Rattle.swc_grammar.specs.Trees.{is_valid, is_grouped}
+use Rattle.swc_grammar.specs.Parts.{reference, any_name, lit_of, prefix_here, operator_here}
+use Rattle.swc_grammar.specs.Grammar.{Production, ident, lit, paren-expr, unary-primary, unary-expr, exp-unary}
+use Rattle.swc_grammar.specs.Grammar.{exp-expr, primary-literal}
+use Rattle.swc_grammar.specs.Grammar.{level-up, bin-expr, private-name, assign-level, expr-assign}
+use Rattle.swc_grammar.specs.Reads.{Reads, by, Follows, gave, took, held, calm, part, heard}
+use Rattle.swc_grammar.specs.Clean.{left_ok}
+use Rattle.swc_grammar.proofs.Answers.{inj}
+
+-- how loosely a symbol's trees may hold together
+abbrev pub loosest : Symbol → ℕ
+loosest (Level k) = k
+loosest Unary = 12
+loosest Primary = 12
+loosest Literal = 12
+loosest s = 0
+
+-- what holds of each tree of a symbol
+pub record Good (F C K : Type 0) (s : Symbol) (t : Answer F C K s) : Type 0 where
+  pub valid : is_valid t ≡ true
+  pub left : left_ok t ≡ true
+  pub grouped : is_grouped t ≡ true
+  pub tight : loosest s ≤ tightness t
+
+-- a side gives what is so, where its parts are so
+abbrev Keeps : {F C K A : Type 0} → (A → Type 0) → Rule Symbol (Answer F C K) Body (Value F C K) A → Type 0
+Keeps P (gives a) = P a
+Keeps P never = Unit {0}
+Keeps P (take f) = (a : TokenAndSpan) → Keeps P (f a)
+Keeps P (check b r) = b ≡ true → Keeps P r
+Keeps P (peek p r) = Keeps P r
+Keeps {F} {C} {K} P (read s c f) = (e : Answer F C K s) → Good F C K s e → Keeps P (f e)
+Keeps {F} {C} {K} P (hear b c f) = (v : Value F C K b) (s : Span) → Keeps P (f v s)
+
+all-seven : (a b c d e l r : Bool) → IsTrue a → IsTrue b → IsTrue c → IsTrue d → IsTrue e → l ≡ true → r ≡ true
+    → ((a && b && c && d && e) && (l && (r && true))) ≡ true
+all-seven a b c d e l r ha hb hc hd he hl hr = rw (ha, hb, hc, hd, he, hl, hr) refl
+
+-- an operator below `**`
+plain : {F C K : Type 0} (op : BinaryOp) (l : Tree F C K) → precedence_of op ≤ 10
+    → (least_left op ≡ precedence_of op) × (min_right op ≡ precedence_of op) × (exp_ok op l ≡ true)
+plain binary.Exp l h = absurd (omega arith)
+plain op l h = (refl, refl, refl)
+
+module _ {F C K : Type 0} where
+  -- a tree that holds tightest, as it has no operator
+  leaf : {s : Symbol} (t : Answer F C K s) → is_valid t ≡ true → left_ok t ≡ true → is_grouped t ≡ true
+      → loosest s ≤ tightness t
+      → Good F C K s t
+  leaf t v l g h = record { valid = v; left = l; grouped = g; tight = h }
+
+  -- the same tree, of a looser symbol
+  looser : {s s' : Symbol} {t : Tree F C K} → loosest s' ≤ tightness t → Good F C K s t → Good F C K s' t
+  looser h g = record { valid = g.valid; left = g.left; grouped = g.grouped; tight = h }
+
+  land : {x y : Tree F C K} → Some x ≡ Some y → Good F C K Literal x → Good F C K Literal y
+  land {x = x} {y = y} p g = subst (λ v. Good F C K Literal v) (inj x y p) g
+
+  lit-good : (t : Token) (s : Span) (e : Tree F C K) → lit_of t s ≡ Some e → Good F C K Literal e
+  lit-good (token.Word word.Null) s e h = land h (leaf _ refl refl refl (omega arith))
+  lit-good (token.Word word.True) s e h = land h (leaf _ refl refl refl (omega arith))
+  lit-good (token.Word word.False) s e h = land h (leaf _ refl refl refl (omega arith))
+  lit-good (token.Num raw) s e h = land h (leaf _ refl refl refl (omega arith))
+  lit-good (token.BigInt raw) s e h = land h (leaf _ refl refl refl (omega arith))
+  lit-good (token.Str value raw) s e h = land h (leaf _ refl refl refl (omega arith))
+  lit-good t s e h = absurd cc
+
+  keeps-given : {A D : Type 0} (P : D → Type 0) (o : Option A) (k : A → Rule Symbol (Answer F C K) Body (Value F C K) D)
+      → ((x : A) → o ≡ Some x → Keeps P (k x)) → Keeps P (given o >>= k)
+  keeps-given P None k f = tt
+  keeps-given P (Some x) k f = f x refl
+
+  -- a node of an operator
+  bin-good : (k : ℕ) (op : BinaryOp) (l r : Tree F C K)
+      → IsTrue (nat_lt k 11) → nat_eq (precedence_of op) k ≡ true → nullish_ok op l r ≡ true → logical_ok op l ≡ true
+      → Good F C K (Level k) l → Good F C K (Level (suc k)) r
+      → Good F C K (Level k) (bin_e (to (span_of l) (span_of r)) op l r)
+  bin-good k op l r h p n g dl dr =
+      let e : precedence_of op ≡ k = eqb-true (precedence_of op) k p in
+      let small = ltb-true k 11 h in
+      let (least, least_right, fine) = plain op l (omega arith) in
+      let looser : nat_le (least_left op) (tightness l) ≡ true =
+      le-leb (least_left op) (tightness l) (let t = dl.tight in omega arith) in
+      let below : nat_lt (min_right op) (tightness r) ≡ true =
+      lt-ltb (min_right op) (tightness r) (let t = dr.tight in omega arith) in
+      leaf _ (rw (dl.valid, dr.valid) refl) g
+      (all-seven _ _ (exp_ok op l) (nullish_ok op l r) (logical_ok op l) (is_grouped l) (is_grouped r)
+      looser below fine n g dl.grouped dr.grouped) (omega arith)
+
+  exp-good : (l r : Tree F C K) → not (is_unary l) ≡ true → Good F C K Unary l → Good F C K (Level 11) r
+      → Good F C K (Level 11) (bin_e (to (span_of l) (span_of r)) binary.Exp l r)
+  exp-good l r n dl dr =
+      let looser : nat_le 12 (tightness l) ≡ true = le-leb 12 (tightness l) dl.tight in
+      let below : nat_lt 10 (tightness r) ≡ true = lt-ltb 10 (tightness r) (let t = dr.tight in omega arith) in
+      leaf _ (rw (dl.valid, dr.valid) refl) refl
+      (all-seven _ _ (not (is_unary l)) true true (is_grouped l) (is_grouped r)
+      looser below n refl refl dl.grouped dr.grouped) (omega arith)
+
+  -- one clause a production
+  keeps : {s : Symbol} {c : Context} {r : Side F C K s} → Production s c r → Keeps (Good F C K s) r
+  keeps (ident {c = c}) =
+      λ a. keeps-given _ (reference c a.token a.span) _ (λ n h. leaf _ refl refl refl (omega arith))
+  keeps lit = λ a. keeps-given _ (lit_of a.token a.span) _ (λ e h. lit-good a.token a.span e h)
+  keeps primary-literal = λ e g. looser g.tight g
+  keeps paren-expr = λ a h e g b h1. leaf _ (rw g.valid refl) refl (rw g.grouped refl) (omega arith)
+  keeps unary-primary = λ e g. looser g.tight g
+  keeps unary-expr = λ a. keeps-given _ (prefix_here a.token a.span) _
+      (λ x h e g n. leaf _ (rw g.valid refl) refl (rw (le-leb 12 (tightness e) g.tight, g.grouped) refl) (omega arith))
+  keeps exp-unary = λ e g. looser (let t = g.tight in omega arith) g
+  keeps exp-expr = λ l dl a h n r dr. exp-good l r n dl dr
+  keeps (level-up b) = λ e g. looser (let t = g.tight in omega arith) g
+  keeps (bin-expr {c = c} {k = k} b) =
+      λ l dl a. keeps-given _ (operator_here c a.token a.span) _ (λ op h p r dr n g. bin-good k op l r b p n g dl dr)
+  keeps (private-name {c = c}) =
+      λ a h b. keeps-given _ (any_name c b.token b.span) _ (λ n h1. leaf _ refl refl refl (omega arith))
+  keeps assign-level = λ e g. looser (omega arith) g
+  keeps expr-assign = λ e g. looser (omega arith) g
+
+  mutual
+    pub good : {hook : Hook F C K} {s : Symbol} {c : Context} {xs ys : List TokenAndSpan} {t : Answer F C K s}
+        → Reads hook s c xs ys t → Good F C K s t
+    good (by p d) = good-side d (keeps p)
+
+    good-side : {hook : Hook F C K} {s : Symbol} {r : Side F C K s} {xs ys : List TokenAndSpan} {t : Answer F C K s}
+        → Follows hook s r xs ys t → Keeps (Good F C K s) r → Good F C K s t
+    good-side gave k = k
+    good-side (took {a = a} d) k = good-side d (k a)
+    good-side (held b d) k = good-side d (k b)
+    good-side (calm b d) k = good-side d k
+    good-side (part {e = t} e d) k = good-side d (k t (good e))
+    good-side (heard {v = v} h d) k = good-side d (k v _)
+
+  pub grouped : {hook : Hook F C K} {s : Symbol} {c : Context} {xs ys : List TokenAndSpan} {t : Answer F C K s}
+      → Reads hook s c xs ys t → is_grouped t ≡ true
+  grouped d = (good d).grouped
+
+  pub valid : {hook : Hook F C K} {s : Symbol} {c : Context} {xs ys : List TokenAndSpan} {t : Answer F C K s}
+      → Reads hook s c xs ys t → is_valid t ≡ true
+  valid d = (good d).valid

@@ -1,0 +1,45 @@
+-- What the grammar speaks of: its symbols and what each gives, and what the hook reads.
+use Rattle.std.specs.Prelude.{ℕ, Bool, List}
+use Rattle.swc_input.specs.declared.token.TokenAndSpan.{TokenAndSpan}
+use Rattle.swc_ast.specs.Tree.{Tree}
+use Rattle.swc_bodies.specs.Readings.{Reading, Hook, begins, begins_function, is_class, is_brace}
+use Rattle.swc_grammar.specs.Rule.{Rule}
+
+-- The symbols. Of levels there are eleven: that of the least precedence is 1.
+pub data Symbol : Type 0 where
+  Expr : Symbol
+  Assign : Symbol
+  Level : ℕ → Symbol
+  Unary : Symbol
+  Primary : Symbol
+  Literal : Symbol
+
+-- what a symbol gives
+abbrev pub Answer : (F C K : Type 0) → Symbol → Type 0
+Answer F C K s = Tree F C K
+
+-- what the hook reads; no production calls it yet
+pub data Body : Type 0 where
+  function : Body
+  class : Body
+  block : Body
+
+abbrev pub Value : (F C K : Type 0) → Body → Type 0
+Value F C K function = F
+Value F C K class = C
+Value F C K block = K
+
+abbrev pub reading_of : {F C K : Type 0} → Hook F C K → (b : Body) → Reading (Value F C K b)
+reading_of hook function = hook.fun
+reading_of hook class = hook.class
+reading_of hook block = hook.block
+
+-- with which tokens a body begins
+abbrev pub begins_body : Body → List TokenAndSpan → Bool
+begins_body function ts = begins_function ts
+begins_body class ts = begins is_class ts
+begins_body block ts = begins is_brace ts
+
+-- a right-hand side of a symbol
+abbrev pub Side : (F C K : Type 0) → Symbol → Type 0
+Side F C K s = Rule Symbol (Answer F C K) Body (Value F C K) (Answer F C K s)

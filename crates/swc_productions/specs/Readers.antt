@@ -1,0 +1,90 @@
+-- What the steps of the code read, by the clean parser: right-hand sides of productions, and what is left of them
+-- behind their first parts.
+use Rattle.std.specs.Prelude.{ℕ, List, [], ◌∷◌, Option, Some, None}
+use Rattle.swc_context.specs.declared.context.Context.{Context}
+use Rattle.swc_context.specs.declared.operator.BinaryOp.{BinaryOp}
+use Rattle.swc_context.specs.declared.operator.UnaryOp.{UnaryOp}
+use Rattle.swc_context.specs.declared.span.Span.{Span}
+use Rattle.swc_input.specs.declared.token.TokenAndSpan.{TokenAndSpan}
+use Rattle.swc_ast.specs.Tree.{Tree, span_of}
+use Rattle.swc_grammar.specs.Rule.{gives, take, check, read, ◌>>=◌, ◌>>◌, symbol, token, one, must}
+use Rattle.swc_bodies.specs.Readings.{Hook}
+use Rattle.swc_grammar.specs.Symbols.{Symbol, Assign, Unary, Answer, Side}
+use Rattle.swc_grammar.specs.Tokens.{with_in, is_rparen}
+use Rattle.swc_grammar.specs.Trees.{to, private_e, unary_e, paren_e, bin_e, delete_ok, nullish_ok}
+use Rattle.swc_grammar.specs.Parts.{any_name}
+use Rattle.swc_grammar.specs.Grammar.{Production}
+use Rattle.swc_grammar.specs.Clean.{Out, first, sym, climb, Plan, plan, exec, operator_at, run}
+use Rattle.swc_grammar.specs.Clean.{operation as operation_plan, turn as turn_plan, turned as turned_plan}
+use Rattle.swc_grammar.specs.Words.{rest}
+
+module _ {F C K : Type 0} (hook : Hook F C K) where
+  unfoldable pub reading : {A : Type 0} → Plan F C K A → List TokenAndSpan → Out A
+  reading x ts = exec hook (run hook) None x ts
+
+  -- the right-hand side of a production
+  unfoldable pub by_production : {s : Symbol} {r : Context → Side F C K s} → ((c : Context) → Production s c (r c))
+      → Context → List TokenAndSpan → Out (Answer F C K s)
+  by_production {r = r} p c ts = reading (plan (r c)) ts
+
+  -- an assignment expression in which `in` is an operator
+  unfoldable pub inside : Context → List TokenAndSpan → Out (Tree F C K)
+  inside c ts = run hook (sym Assign) (with_in c) ts
+
+  -- behind the `#` at s
+  unfoldable pub hashed : Span → Context → List TokenAndSpan → Out (Tree F C K)
+  hashed s c ts = reading (plan (do
+    n ← one (any_name c)
+    gives (private_e (to s n.at) n.text))) ts
+
+  -- behind the parenthesis at s, and behind the expression in it
+  unfoldable pub opened : Span → Context → List TokenAndSpan → Out (Tree F C K)
+  opened s c ts = reading (plan (do
+    e ← symbol Assign (with_in c)
+    s' ← token is_rparen
+    gives (paren_e (to s s') e))) ts
+
+  unfoldable pub close : Span → Tree F C K → List TokenAndSpan → Out (Tree F C K)
+  close s e ts = reading (plan (do
+    s' ← token is_rparen
+    gives (paren_e (to s s') e))) ts
+
+  -- behind the prefix operator at s, and behind its operand
+  unfoldable pub prefixed : Span → UnaryOp → Context → List TokenAndSpan → Out (Tree F C K)
+  prefixed s op c ts = reading (plan (do
+    e ← symbol Unary c
+    must (delete_ok c op e)
+    gives (unary_e (to s (span_of e)) op e))) ts
+
+  unfoldable pub prefix_node : Span → UnaryOp → Context → Tree F C K → List TokenAndSpan → Out (Tree F C K)
+  prefix_node s op c e ts = reading (plan (do
+    must (delete_ok c op e)
+    gives (unary_e (to s (span_of e)) op e))) ts
+
+  -- from the prefix operator on
+  abbrev pub prefix_by : UnaryOp → Option TokenAndSpan → Context → List TokenAndSpan → Out (Tree F C K)
+  prefix_by op None c us = None
+  prefix_by op (Some t) c us = prefixed t.span op c us
+
+  unfoldable pub prefix : UnaryOp → Context → List TokenAndSpan → Out (Tree F C K)
+  prefix op c ts = prefix_by op (first ts) c (rest ts)
+
+  -- one operator above the precedence m with what stands right of it, or none; what stands behind the operator, and
+  -- behind its right operand
+  unfoldable pub turn : Tree F C K → ℕ → Context → List TokenAndSpan → Out (Tree F C K × Option ℕ)
+  turn l m c ts = reading (turn_plan (operator_at c (first ts)) l m c) ts
+
+  unfoldable pub operation : BinaryOp → Tree F C K → ℕ → Context → List TokenAndSpan → Out (Tree F C K × Option ℕ)
+  operation op l m c ts = reading (operation_plan op l m c) ts
+
+  unfoldable pub node_by : BinaryOp → Tree F C K → ℕ → Tree F C K → List TokenAndSpan → Out (Tree F C K × Option ℕ)
+  node_by op l m r ts =
+      reading (check (nullish_ok op l r) (gives (bin_e (to (span_of l) (span_of r)) op l r, Some m))) ts
+
+  -- after a turn
+  unfoldable pub turned : Tree F C K → Option ℕ → Context → List TokenAndSpan → Out (Tree F C K)
+  turned t o c ts = reading (turned_plan t o c) ts
+
+  abbrev pub go_on : Tree F C K → Option ℕ → Context → List TokenAndSpan → Out (Tree F C K)
+  go_on t None c ts = Some (t, ts)
+  go_on t (Some m) c ts = run hook (climb t m) c ts
