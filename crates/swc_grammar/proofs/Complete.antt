@@ -23,9 +23,9 @@ use Rattle.swc_grammar.specs.Trees.{to, bin_e, nullish_ok, logical_ok, exp_ok, i
 use Rattle.swc_grammar.specs.Symbols.{Symbol, Expr, Assign, Level, Unary, Primary, Literal, Answer, Body, Value}
 use Rattle.swc_grammar.specs.Symbols.{begins_body, Side}
 use Rattle.swc_grammar.specs.Parts.{reference, any_name, lit_of, prefix_here, operator_here}
-use Rattle.swc_grammar.specs.Grammar.{Production, ident, lit, paren-expr, unary-primary, unary-expr, exp-unary}
-use Rattle.swc_grammar.specs.Grammar.{exp-expr, primary-literal}
-use Rattle.swc_grammar.specs.Grammar.{level-up, bin-expr, private-name, assign-level, expr-assign}
+use Rattle.swc_grammar.specs.Grammar.{Production, ident-expr, lit, paren-expr, unary-primary, unary-op, exp-unary}
+use Rattle.swc_grammar.specs.Grammar.{exp-op, primary-literal}
+use Rattle.swc_grammar.specs.Grammar.{level-up, bin-op, private-expr, assign-level, expr-assign}
 use Rattle.swc_grammar.specs.Reads.{Hears, Reads, by, Follows, gave, took, held, calm, part, heard, is_stop_for, Stops}
 use Rattle.swc_grammar.specs.Reads.{at-end, at-stop}
 use Rattle.swc_grammar.specs.Clean.{Out, and_then, first, Call, sym, climb, plan, rank_of, rank, allowed, exec}
@@ -222,7 +222,7 @@ module _ {F C K : Type 0} (hook : Hook F C K) where
   picked-unary : {c : Context} {r : Side F C K Unary} {xs ys : List TokenAndSpan} {t : Tree F C K}
       (p : Production Unary c r)
       → Follows hook Unary r xs ys t → unary c xs ≡ pick p
-  picked-unary unary-expr (took {a = a} d) =
+  picked-unary unary-op (took {a = a} d) =
       let (x, h, k) = given-held (prefix_here a.token a.span) _ d in rw
       (placed-op (prefix_of a.token) a.span x.0 x.1 h) refl
   picked-unary {c = c} unary-primary (part {xs = xs} e d) = rw (no-prefix-first c xs (begins e)) refl
@@ -230,29 +230,29 @@ module _ {F C K : Type 0} (hook : Hook F C K) where
   picked-primary : {c : Context} {r : Side F C K Primary} {xs ys : List TokenAndSpan} {t : Tree F C K}
       (p : Production Primary c r)
       → Follows hook Primary r xs ys t → primary c xs ≡ pick p
-  picked-primary {c = c} ident (took {a = a} d) =
+  picked-primary {c = c} ident-expr (took {a = a} d) =
       let (n, h, k) = given-held (reference c a.token a.span) _ d in rw (reference-first c a.token a.span n h).0 refl
   picked-primary {c = c} primary-literal (part {xs = xs} e d) = lit-picks c xs (begins e)
   picked-primary {c = c} paren-expr (took {a = a} {xs = us} (held h d)) =
       only-lparen (λ v. primary {F = F} {C = C} {K = K} c (tk v a.had_line_break a.span ∷ us)
       ≡ pick paren-expr) refl a.token h
-  picked-primary {c = c} private-name (took {a = a} {xs = us} (held h d)) =
+  picked-primary {c = c} private-expr (took {a = a} {xs = us} (held h d)) =
       only-hash (λ v. primary {F = F} {C = C} {K = K} c (tk v a.had_line_break a.span ∷ us)
-      ≡ pick private-name) refl a.token h
+      ≡ pick private-expr) refl a.token h
 
   -- where a symbol's reading stops, what a picked production reads stops too
   ready-unary : {c : Context} {r : Side F C K Unary} (ys : List TokenAndSpan) → Production Unary c r
       → Ready (Some 10) ys r
-  ready-unary ys unary-expr =
+  ready-unary ys unary-op =
       λ a. ready-given _ _ (prefix_here a.token a.span) _ (λ x h. (refl, λ e. (λ n. tt, λ n. tt)))
   ready-unary ys unary-primary = (refl, λ e. (tt, tt))
 
   ready-primary : {c : Context} {r : Side F C K Primary} (ys : List TokenAndSpan) → Production Primary c r
       → Ready (Some 8) ys r
-  ready-primary ys (ident {c = c}) = λ a. ready-given _ _ (reference c a.token a.span) _ (λ n h. tt)
+  ready-primary ys (ident-expr {c = c}) = λ a. ready-given _ _ (reference c a.token a.span) _ (λ n h. tt)
   ready-primary ys primary-literal = (refl, λ e. (tt, tt))
   ready-primary ys (paren-expr {c = c}) = λ a h. (refl, λ e. (λ b us. quiet-rparen (with_in c) b us, λ b k. tt))
-  ready-primary ys (private-name {c = c}) = λ a h b. ready-given _ _ (any_name c b.token b.span) _ (λ n h1. tt)
+  ready-primary ys (private-expr {c = c}) = λ a h b. ready-given _ _ (any_name c b.token b.span) _ (λ n h1. tt)
 
   -- a side followed, with the claim of each part
   data Ran : (s : Symbol) → Side F C K s → List TokenAndSpan → List TokenAndSpan → Answer F C K s → Type 0 where
@@ -359,7 +359,7 @@ module _ {F C K : Type 0} (hook : Hook F C K) where
   claim-by {c = c} exp-unary (ran-part {e = e} {xs = xs} {ms = ms} l h d) =
       gave-ran (λ u us. Claim hook (Level 11) c xs us u) d
       (λ le b m lt. operand-climbs m c xs ms e (omega arith) (h tt))
-  claim-by {c = c} exp-expr (ran-part {e = l} {xs = xs} dl left (ran-took {a = a} {xs = us} d)) =
+  claim-by {c = c} exp-op (ran-part {e = l} {xs = xs} dl left (ran-took {a = a} {xs = us} d)) =
       let (x, d1) = must-ran d in
       let (n, d2) = must-ran d1 in
       let (r, ms, dr, right, d3) = part-ran d2 in
@@ -369,8 +369,8 @@ module _ {F C K : Type 0} (hook : Hook F C K) where
       gave-ran (λ u us. Claim hook (Level (suc k)) c xs us u) d
       (λ le q m lt. let top = ltb-true (suc k) 11 b in
       h (omega arith) (bound-above c (min (suc k) 10) (min (suc (suc k)) 10) ms (omega arith) q) m (omega arith))
-  claim-by (bin-expr {k = zero} b) d = tt
-  claim-by {c = c} (bin-expr {k = suc n} b) (ran-part {e = l} {xs = xs} dl left (ran-took {a = a} {xs = us} d)) =
+  claim-by (bin-op {k = zero} b) d = tt
+  claim-by {c = c} (bin-op {k = suc n} b) (ran-part {e = l} {xs = xs} dl left (ran-took {a = a} {xs = us} d)) =
       let (op, o, d1) = given-ran (operator_here c a.token a.span) _ d in
       let (p, d2) = must-ran d1 in
       let (r, ms, dr, right, d3) = part-ran d2 in

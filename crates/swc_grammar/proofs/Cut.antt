@@ -10,9 +10,9 @@ use Rattle.swc_grammar.specs.Cut.{Cut, here, there}
 use Rattle.swc_grammar.specs.Rule.{Rule, gives, never, take, check, peek, read, hear, sees, given, ◌>>=◌}
 use Rattle.swc_bodies.specs.Readings.{Hook}
 use Rattle.swc_grammar.specs.Symbols.{Symbol, Answer, Body, Value, Side}
-use Rattle.swc_grammar.specs.Grammar.{Production, ident, lit, paren-expr, unary-primary, unary-expr, exp-unary}
-use Rattle.swc_grammar.specs.Grammar.{exp-expr, primary-literal}
-use Rattle.swc_grammar.specs.Grammar.{level-up, bin-expr, private-name, assign-level, expr-assign}
+use Rattle.swc_grammar.specs.Grammar.{Production, ident-expr, lit, paren-expr, unary-primary, unary-op, exp-unary}
+use Rattle.swc_grammar.specs.Grammar.{exp-op, primary-literal}
+use Rattle.swc_grammar.specs.Grammar.{level-up, bin-op, private-expr, assign-level, expr-assign}
 use Rattle.swc_grammar.specs.Parts.{reference, any_name, lit_of, prefix_here, operator_here}
 use Rattle.swc_grammar.specs.Reads.{Hears, Reads, by, Follows, gave, took, held, calm, part, heard}
 
@@ -132,17 +132,17 @@ module _ {F C K : Type 0} where
 
   -- so far no production looks ahead
   blind : {s : Symbol} {c : Context} {r : Side F C K s} → Production s c r → Blind r
-  blind (ident {c = c}) = λ a. blind-given (reference c a.token a.span) _ (λ n. tt)
+  blind (ident-expr {c = c}) = λ a. blind-given (reference c a.token a.span) _ (λ n. tt)
   blind lit = λ a. blind-given (lit_of a.token a.span) _ (λ e. tt)
   blind primary-literal = λ e. tt
   blind paren-expr = λ a e b. tt
   blind unary-primary = λ e. tt
-  blind unary-expr = λ a. blind-given (prefix_here a.token a.span) _ (λ x e. tt)
+  blind unary-op = λ a. blind-given (prefix_here a.token a.span) _ (λ x e. tt)
   blind exp-unary = λ e. tt
-  blind exp-expr = λ l a r. tt
+  blind exp-op = λ l a r. tt
   blind (level-up h) = λ e. tt
-  blind (bin-expr {c = c} h) = λ l a. blind-given (operator_here c a.token a.span) _ (λ op r. tt)
-  blind (private-name {c = c}) = λ a b. blind-given (any_name c b.token b.span) _ (λ n. tt)
+  blind (bin-op {c = c} h) = λ l a. blind-given (operator_here c a.token a.span) _ (λ op r. tt)
+  blind (private-expr {c = c}) = λ a b. blind-given (any_name c b.token b.span) _ (λ n. tt)
   blind assign-level = λ e. tt
   blind expr-assign = λ e. tt
 

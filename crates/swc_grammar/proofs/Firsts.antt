@@ -20,9 +20,9 @@ use Rattle.swc_grammar.specs.Symbols.{Symbol, Primary, Literal, Answer, Body, Va
 use Rattle.swc_grammar.specs.Names.{Spelling, may_refer}
 use Rattle.swc_grammar.specs.Tokens.{tk, binary_of, prefix_of, is_reference, ref_ok, is_put_off, is_lparen}
 use Rattle.swc_grammar.specs.Parts.{reference, lit_of, with_place, prefix_here}
-use Rattle.swc_grammar.specs.Grammar.{Production, ident, lit, paren-expr, unary-primary, unary-expr, exp-unary}
-use Rattle.swc_grammar.specs.Grammar.{exp-expr, primary-literal}
-use Rattle.swc_grammar.specs.Grammar.{level-up, bin-expr, private-name, assign-level, expr-assign}
+use Rattle.swc_grammar.specs.Grammar.{Production, ident-expr, lit, paren-expr, unary-primary, unary-op, exp-unary}
+use Rattle.swc_grammar.specs.Grammar.{exp-op, primary-literal}
+use Rattle.swc_grammar.specs.Grammar.{level-up, bin-op, private-expr, assign-level, expr-assign}
 use Rattle.swc_grammar.specs.Reads.{Reads, by, Follows, gave, took, held, calm, part, heard}
 use Rattle.swc_grammar.specs.Clean.{first, is_lit, is_identifier}
 use Rattle.swc_grammar.specs.Firsts.{is_prefix_op, is_prefix, starts, begins_primary, begins_expression}
@@ -136,20 +136,20 @@ module _ {F C K : Type 0} where
 
   -- one clause a production
   opens : {s : Symbol} {c : Context} {r : Side F C K s} → Production s c r → Opens (starts s c) r
-  opens (ident {c = c}) =
+  opens (ident-expr {c = c}) =
       λ a. under-given _ (reference c a.token a.span) _ (λ n h. (reference-first c a.token a.span n h).1)
   opens lit = λ a. under-given _ (lit_of a.token a.span) _ (λ e h. lit-first a.token a.span e h)
   opens (primary-literal {c = c}) =
       λ t h. second-of-four (is_identifier c t) (is_lit t) (is_lparen t) (is_hash t) h
   opens (paren-expr {c = c}) = λ a h. only-lparen (λ t. begins_primary c t ≡ true) refl a.token h
   opens (unary-primary {c = c}) = λ t h. or-left (begins_primary c t) (is_prefix t) h
-  opens (unary-expr {c = c}) = λ a. under-given _ (prefix_here a.token a.span) _
+  opens (unary-op {c = c}) = λ a. under-given _ (prefix_here a.token a.span) _
       (λ x h. or-right (begins_primary c a.token) (is_prefix a.token) (placed-is (prefix_of a.token) a.span x h))
   opens exp-unary = λ t h. h
-  opens exp-expr = λ t h. h
+  opens exp-op = λ t h. h
   opens (level-up b) = λ t h. h
-  opens (bin-expr b) = λ t h. h
-  opens (private-name {c = c}) = λ a h. only-hash (λ t. begins_primary c t ≡ true) refl a.token h
+  opens (bin-op b) = λ t h. h
+  opens (private-expr {c = c}) = λ a h. only-hash (λ t. begins_primary c t ≡ true) refl a.token h
   opens assign-level = λ t h. h
   opens expr-assign = λ t h. h
 
@@ -177,17 +177,17 @@ module _ {F C K : Type 0} where
   Leads x = Unit {0}
 
   leads : {s : Symbol} {c : Context} {r : Side F C K s} → Production s c r → Leads r
-  leads ident = tt
+  leads ident-expr = tt
   leads lit = tt
   leads primary-literal = tt
   leads paren-expr = tt
   leads unary-primary = tt
-  leads unary-expr = tt
+  leads unary-op = tt
   leads exp-unary = tt
-  leads exp-expr = tt
+  leads exp-op = tt
   leads (level-up b) = tt
-  leads (bin-expr b) = tt
-  leads private-name = tt
+  leads (bin-op b) = tt
+  leads private-expr = tt
   leads assign-level = tt
   leads expr-assign = tt
 

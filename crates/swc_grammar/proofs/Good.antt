@@ -22,9 +22,9 @@ use Rattle.swc_grammar.specs.Trees.{to, bin_e, tightness, least_left, min_right,
 use Rattle.swc_grammar.specs.Trees.{logical_ok}
 use Rattle.swc_grammar.specs.Trees.{is_valid, is_grouped}
 use Rattle.swc_grammar.specs.Parts.{reference, any_name, lit_of, prefix_here, operator_here}
-use Rattle.swc_grammar.specs.Grammar.{Production, ident, lit, paren-expr, unary-primary, unary-expr, exp-unary}
-use Rattle.swc_grammar.specs.Grammar.{exp-expr, primary-literal}
-use Rattle.swc_grammar.specs.Grammar.{level-up, bin-expr, private-name, assign-level, expr-assign}
+use Rattle.swc_grammar.specs.Grammar.{Production, ident-expr, lit, paren-expr, unary-primary, unary-op, exp-unary}
+use Rattle.swc_grammar.specs.Grammar.{exp-op, primary-literal}
+use Rattle.swc_grammar.specs.Grammar.{level-up, bin-op, private-expr, assign-level, expr-assign}
 use Rattle.swc_grammar.specs.Reads.{Reads, by, Follows, gave, took, held, calm, part, heard}
 use Rattle.swc_grammar.specs.Clean.{left_ok}
 use Rattle.swc_grammar.proofs.Answers.{inj}
@@ -120,20 +120,20 @@ module _ {F C K : Type 0} where
 
   -- one clause a production
   keeps : {s : Symbol} {c : Context} {r : Side F C K s} → Production s c r → Keeps (Good F C K s) r
-  keeps (ident {c = c}) =
+  keeps (ident-expr {c = c}) =
       λ a. keeps-given _ (reference c a.token a.span) _ (λ n h. leaf _ refl refl refl (omega arith))
   keeps lit = λ a. keeps-given _ (lit_of a.token a.span) _ (λ e h. lit-good a.token a.span e h)
   keeps primary-literal = λ e g. looser g.tight g
   keeps paren-expr = λ a h e g b h1. leaf _ (rw g.valid refl) refl (rw g.grouped refl) (omega arith)
   keeps unary-primary = λ e g. looser g.tight g
-  keeps unary-expr = λ a. keeps-given _ (prefix_here a.token a.span) _
+  keeps unary-op = λ a. keeps-given _ (prefix_here a.token a.span) _
       (λ x h e g n. leaf _ (rw g.valid refl) refl (rw (le-leb 12 (tightness e) g.tight, g.grouped) refl) (omega arith))
   keeps exp-unary = λ e g. looser (let t = g.tight in omega arith) g
-  keeps exp-expr = λ l dl a h n r dr. exp-good l r n dl dr
+  keeps exp-op = λ l dl a h n r dr. exp-good l r n dl dr
   keeps (level-up b) = λ e g. looser (let t = g.tight in omega arith) g
-  keeps (bin-expr {c = c} {k = k} b) =
+  keeps (bin-op {c = c} {k = k} b) =
       λ l dl a. keeps-given _ (operator_here c a.token a.span) _ (λ op h p r dr n g. bin-good k op l r b p n g dl dr)
-  keeps (private-name {c = c}) =
+  keeps (private-expr {c = c}) =
       λ a h b. keeps-given _ (any_name c b.token b.span) _ (λ n h1. leaf _ refl refl refl (omega arith))
   keeps assign-level = λ e g. looser (omega arith) g
   keeps expr-assign = λ e g. looser (omega arith) g

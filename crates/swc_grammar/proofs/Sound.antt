@@ -23,7 +23,7 @@ use Rattle.swc_grammar.specs.Tokens.{binary_of, is_power}
 use Rattle.swc_grammar.specs.Trees.{to, bin_e, nullish_ok, logical_ok, exp_ok, min_right}
 use Rattle.swc_grammar.specs.Symbols.{Symbol, Expr, Assign, Level, Unary, Primary, Literal, Answer, Body, Value}
 use Rattle.swc_grammar.specs.Symbols.{reading_of, Side}
-use Rattle.swc_grammar.specs.Grammar.{exp-unary, exp-expr, bin-expr}
+use Rattle.swc_grammar.specs.Grammar.{exp-unary, exp-op, bin-op}
 use Rattle.swc_grammar.specs.Reads.{Hears, Reads, by, Follows, gave, took, held, calm, part, heard}
 use Rattle.swc_grammar.specs.Clean.{first, Call, sym, climb, Ans, Plan, plan, Runs, rank_of, rank, allowed, exec}
 use Rattle.swc_grammar.specs.Clean.{operator_at, Bound, left_ok, Choice, none, pick, chosen, expr, assign, unary}
@@ -130,7 +130,7 @@ module _ {F C K : Type 0} (hook : Hook F C K)
       → Left hook c m xs (t ∷ ts) l → Reads hook (Level (suc (min_right op))) c ts ys e
       → Reads hook (Level (precedence_of op)) c xs ys (bin_e (to (span_of l) (span_of e)) op l e)
   node-sound c binary.Exp l e m t xs ts ys at x n g (alone d) right =
-      by exp-expr (part d (took (held (power-token c t.token at) (held x (part right gave)))))
+      by exp-op (part d (took (held (power-token c t.token at) (held x (part right gave)))))
   node-sound c binary.Exp l e m t xs ts ys at x n g (node h low top d bound ten) right =
       let le = ten binary.Exp at in absurd (omega arith)
   node-sound c op l e m t xs ts ys at x n g d right =
@@ -138,7 +138,7 @@ module _ {F C K : Type 0} (hook : Hook F C K)
       let above = subst (λ v. Reads hook (Level (suc v)) c ts ys e) (min-right-same op small) right in
       let level : IsTrue (nat_eq (precedence_of op) (precedence_of op)) = eq-eqb (precedence_of op)
       (precedence_of op) refl in
-      by (bin-expr (lt-ltb (precedence_of op) 11 (omega arith)))
+      by (bin-op (lt-ltb (precedence_of op) 11 (omega arith)))
       (part (left d small) (took (given-follows (binary_of c t.token) _ op at
       (held level (part above (held n (held g gave)))))))
     where

@@ -19,7 +19,7 @@ use Rattle.swc_bodies.specs.Readings.{whole_span, Hook}
 use Rattle.swc_grammar.specs.Rule.{Rule, gives, never, take, check, peek, read, hear, sees, ◌>>=◌, ◌>>◌, symbol, must}
 use Rattle.swc_grammar.specs.Symbols.{Symbol, Expr, Assign, Level, Unary, Primary, Literal, Answer, Body, Value}
 use Rattle.swc_grammar.specs.Symbols.{reading_of, Side}
-use Rattle.swc_grammar.specs.Grammar.{Production, ident, lit, paren-expr, unary-primary, unary-expr, private-name}
+use Rattle.swc_grammar.specs.Grammar.{Production, ident-expr, lit, paren-expr, unary-primary, unary-op, private-expr}
 use Rattle.swc_grammar.specs.Grammar.{primary-literal, assign-level, expr-assign}
 use Rattle.swc_grammar.specs.Tokens.{is_ref, binary_of, prefix_of, is_lparen}
 use Rattle.swc_grammar.specs.Trees.{to, bin_e, nullish_ok, logical_ok, exp_ok, min_right}
@@ -169,24 +169,24 @@ module _ {F C K : Type 0} where
 
   abbrev pub unary_by : {c : Context} → Option UnaryOp → Choice F C K Unary c
   unary_by None = pick unary-primary
-  unary_by (Some op) = pick unary-expr
+  unary_by (Some op) = pick unary-op
 
   abbrev pub unary : (c : Context) → List TokenAndSpan → Choice F C K Unary c
   unary c ts = unary_by (prefix_at (first ts))
 
   abbrev pub primary : (c : Context) → List TokenAndSpan → Choice F C K Primary c
   primary c ts =
-      if at_token (is_identifier c) (first ts) then pick ident else
+      if at_token (is_identifier c) (first ts) then pick ident-expr else
       (if at_token is_lit (first ts) then pick primary-literal else
       (if at_token is_lparen (first ts) then pick paren-expr else
-      (if at_token is_hash (first ts) then pick private-name else none)))
+      (if at_token is_hash (first ts) then pick private-expr else none)))
 
   abbrev pub literal : (c : Context) → List TokenAndSpan → Choice F C K Literal c
   literal c ts = pick lit
 
   -- behind an operator: what stands right of it, and their node, with the least precedence to go on with
-  abbrev pub operation : BinaryOp → Tree F C K → ℕ → Context → Plan F C K (Tree F C K × Option ℕ)
-  operation op l m c = do
+  abbrev pub bin_op : BinaryOp → Tree F C K → ℕ → Context → Plan F C K (Tree F C K × Option ℕ)
+  bin_op op l m c = do
     must (exp_ok op l)
     r ← symbol (sym (Level (suc (min_right op)))) c
     must (nullish_ok op l r)
@@ -195,7 +195,7 @@ module _ {F C K : Type 0} where
   -- one operator above the precedence m with what stands right of it, or none
   abbrev pub turn : Option BinaryOp → Tree F C K → ℕ → Context → Plan F C K (Tree F C K × Option ℕ)
   turn None l m c = gives (l, None)
-  turn (Some op) l m c = if nat_le (precedence_of op) m then gives (l, None) else take (λ t. operation op l m c)
+  turn (Some op) l m c = if nat_le (precedence_of op) m then gives (l, None) else take (λ t. bin_op op l m c)
 
   -- after a turn
   abbrev pub go_on : Tree F C K → Option ℕ → Context → Plan F C K (Tree F C K)

@@ -16,7 +16,7 @@ use Rattle.swc_grammar.specs.Trees.{nullish_ok, logical_ok, delete_ok, is_unary}
 
 pub data Production {F C K : Type 0} : (s : Symbol) → Context → Side F C K s → Type 0 where
   -- Identifier references (13.1)
-  ident : {c : Context} → Production Primary c (do
+  ident-expr : {c : Context} → Production Primary c (do
     n ← one (reference c)
     gives (ident_e n.at n.text))
   -- Literals (13.2.3), by one table
@@ -32,14 +32,14 @@ pub data Production {F C K : Type 0} : (s : Symbol) → Context → Side F C K s
     gives (paren_e (to s s') e))
   -- UnaryExpression (13.5)
   unary-primary : {c : Context} → Production Unary c (symbol Primary c)
-  unary-expr : {c : Context} → Production Unary c (do
+  unary-op : {c : Context} → Production Unary c (do
     (op, s) ← one prefix_here
     e ← symbol Unary c
     must (delete_ok c op e)
     gives (unary_e (to s (span_of e)) op e))
   -- ExponentiationExpression (13.6): it groups to the right, and no prefix operator stands on its left
   exp-unary : {c : Context} → Production (Level 11) c (symbol Unary c)
-  exp-expr : {c : Context} → Production (Level 11) c (do
+  exp-op : {c : Context} → Production (Level 11) c (do
     l ← symbol Unary c
     token is_power
     must (not (is_unary l))
@@ -47,7 +47,7 @@ pub data Production {F C K : Type 0} : (s : Symbol) → Context → Side F C K s
     gives (bin_e (to (span_of l) (span_of r)) binary.Exp l r))
   -- Binary operators (13.7 to 13.13): level k is that of the operators of precedence k. They group to the left.
   level-up : {c : Context} {k : ℕ} → IsTrue (nat_lt k 11) → Production (Level k) c (symbol (Level (suc k)) c)
-  bin-expr : {c : Context} {k : ℕ} → IsTrue (nat_lt k 11) → Production (Level k) c (do
+  bin-op : {c : Context} {k : ℕ} → IsTrue (nat_lt k 11) → Production (Level k) c (do
     l ← symbol (Level k) c
     op ← one (operator_here c)
     must (nat_eq (precedence_of op) k)
@@ -56,7 +56,7 @@ pub data Production {F C K : Type 0} : (s : Symbol) → Context → Side F C K s
     must (logical_ok op l)
     gives (bin_e (to (span_of l) (span_of r)) op l r))
   -- `#` and a name, which the standard has on the left of `in` alone (13.10)
-  private-name : {c : Context} → Production Primary c (do
+  private-expr : {c : Context} → Production Primary c (do
     s ← token is_hash
     n ← one (any_name c)
     gives (private_e (to s n.at) n.text))

@@ -18,6 +18,14 @@ use swc_context::operator::{BinaryOp, UnaryOp};
 use swc_context::span::{BytePos, Span};
 
 impl<F: Spanned + Drop, C: Spanned + Drop, K: Spanned + Drop> Nodes<F, C, K> {
+    /// An identifier (ECMA-262, 13.1).
+    pub fn ident_expr(&mut self, ident: Ident) -> Result<ExprId, AllocError>
+        ensures grows { Grows self.old self.new }
+        ensures made { IfOk result (λ id. Made (count self.old) self.new (expr_part id) (ident_tree ident)) }
+    {
+        Ok(ExprId(self.push(Node::Ident(ident))?))
+    }
+
     /// A literal (ECMA-262, 13.2.3).
     pub fn lit(&mut self, lit: Lit) -> Result<ExprId, AllocError>
         ensures grows { Grows self.old self.new }
@@ -34,35 +42,8 @@ impl<F: Spanned + Drop, C: Spanned + Drop, K: Spanned + Drop> Nodes<F, C, K> {
         Ok(ExprId(self.push(node)?))
     }
 
-    /// An identifier (ECMA-262, 13.1).
-    pub fn ident(&mut self, ident: Ident) -> Result<ExprId, AllocError>
-        ensures grows { Grows self.old self.new }
-        ensures made { IfOk result (λ id. Made (count self.old) self.new (expr_part id) (ident_tree ident)) }
-    {
-        Ok(ExprId(self.push(Node::Ident(ident))?))
-    }
-
-    /// `#` and a name (ECMA-262, 13.10.1), from the `#` on.
-    pub fn private_name(&mut self, start: BytePos, name: IdentName) -> Result<ExprId, AllocError>
-        ensures grows { Grows self.old self.new }
-        ensures made { IfOk result (λ id. Made (count self.old) self.new (expr_part id)
-            (trees.private_e (between start name.span.hi) name.sym)) }
-    {
-        let span = Span::new(start, name.span.hi);
-        let name = name.sym;
-        Ok(ExprId(self.push(Node::PrivateName(PrivateName { span, name }))?))
-    }
-
-    /// What stands in for an operand that was refused.
-    pub fn invalid(&mut self, span: Span) -> Result<ExprId, AllocError>
-        ensures grows { Grows self.old self.new }
-        ensures made { IfOk result (λ id. Made (count self.old) self.new (expr_part id) (leaf invalid span)) }
-    {
-        Ok(ExprId(self.push(Node::Invalid(Invalid { span }))?))
-    }
-
     /// An expression in parentheses (ECMA-262, 13.2.9).
-    pub fn paren(
+    pub fn paren_expr(
         &mut self,
         start: BytePos,
         end: BytePos,
@@ -78,7 +59,7 @@ impl<F: Spanned + Drop, C: Spanned + Drop, K: Spanned + Drop> Nodes<F, C, K> {
     }
 
     /// A prefix operator and its operand (ECMA-262, 13.5).
-    pub fn unary(&mut self, start: BytePos, op: UnaryOp, arg: ExprId) -> Result<ExprId, AllocError>
+    pub fn unary_op(&mut self, start: BytePos, op: UnaryOp, arg: ExprId) -> Result<ExprId, AllocError>
         requires { From 0 self.old (expr_part arg) }
         ensures grows { Grows self.old self.new }
         ensures made { IfOk result (λ id. Made (first_at self.old arg.0) self.new (expr_part id)
@@ -91,7 +72,7 @@ impl<F: Spanned + Drop, C: Spanned + Drop, K: Spanned + Drop> Nodes<F, C, K> {
     /// A binary operator and its operands (ECMA-262, 13.6 to 13.13).
     ///
     /// All that is reached from the right one lies behind the left one: its `first` is above the left one's number.
-    pub fn bin(&mut self, op: BinaryOp, left: ExprId, right: ExprId) -> Result<ExprId, AllocError>
+    pub fn bin_op(&mut self, op: BinaryOp, left: ExprId, right: ExprId) -> Result<ExprId, AllocError>
         requires left { From 0 self.old (expr_part left) }
         requires right { From (left.0 + 1) self.old (expr_part right) }
         ensures grows { Grows self.old self.new }
@@ -107,5 +88,24 @@ impl<F: Spanned + Drop, C: Spanned + Drop, K: Spanned + Drop> Nodes<F, C, K> {
             left,
             right,
         })?))
+    }
+
+    /// `#` and a name (ECMA-262, 13.10.1), from the `#` on.
+    pub fn private_expr(&mut self, start: BytePos, name: IdentName) -> Result<ExprId, AllocError>
+        ensures grows { Grows self.old self.new }
+        ensures made { IfOk result (λ id. Made (count self.old) self.new (expr_part id)
+            (trees.private_e (between start name.span.hi) name.sym)) }
+    {
+        let span = Span::new(start, name.span.hi);
+        let name = name.sym;
+        Ok(ExprId(self.push(Node::PrivateName(PrivateName { span, name }))?))
+    }
+
+    /// What stands in for an operand that was refused.
+    pub fn invalid(&mut self, span: Span) -> Result<ExprId, AllocError>
+        ensures grows { Grows self.old self.new }
+        ensures made { IfOk result (λ id. Made (count self.old) self.new (expr_part id) (leaf invalid span)) }
+    {
+        Ok(ExprId(self.push(Node::Invalid(Invalid { span }))?))
     }
 }

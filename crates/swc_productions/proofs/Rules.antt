@@ -25,10 +25,10 @@ use Rattle.swc_grammar.specs.Names.{Spelling, spelling, may_refer, may_name, spe
 use Rattle.swc_grammar.specs.Trees.{to, ident_e, private_e, unary_e, paren_e, bin_e, is_logical, is_nullish_op}
 use Rattle.swc_grammar.specs.Trees.{nullish_ok, exp_ok, delete_ok, min_right}
 use Rattle.swc_grammar.specs.Parts.{reference, any_name, lit_of, with_place, prefix_here}
-use Rattle.swc_grammar.specs.Grammar.{ident, primary-literal, paren-expr, unary-expr, private-name}
+use Rattle.swc_grammar.specs.Grammar.{ident-expr, primary-literal, paren-expr, unary-op, private-expr}
 use Rattle.swc_grammar.specs.Clean.{Out, and_then, first, sym as at, climb, plan, exec, is_lit, is_identifier, no_error}
 use Rattle.swc_grammar.specs.Clean.{operator_at, prefix_at, left_ok}
-use Rattle.swc_grammar.specs.Clean.{pick, unary_by, primary, operation as operation_plan, turn as turn_plan}
+use Rattle.swc_grammar.specs.Clean.{pick, unary_by, primary, bin_op as bin_op_plan, turn as turn_plan}
 use Rattle.swc_grammar.specs.Clean.{turned as turned_plan, run}
 use Rattle.swc_grammar.specs.Words.{◌>>=◌, rest, one, word}
 use Rattle.swc_grammar.specs.Firsts.{begins_expression}
@@ -39,9 +39,9 @@ use Rattle.swc_grammar.proofs.Levels.{right-low}
 use Rattle.swc_grammar.proofs.Only.{only-lparen, only-rparen, only-hash}
 use Rattle.swc_grammar.proofs.Rules.{exec-bind, run_picked, reads_nothing}
 use Rattle.swc_productions.specs.Parsing.{is_strict, seen_of}
-use Rattle.swc_productions.specs.Readers.{reading, by_production, inside, hashed, opened, close, prefixed, prefix_node}
-use Rattle.swc_productions.specs.Readers.{prefix, turn, operation}
-use Rattle.swc_productions.specs.Readers.{node_by, turned, go_on}
+use Rattle.swc_productions.specs.Readers.{reading, by_production, inside, private_expr_tail, paren_expr_tail, paren_expr_close, unary_op_tail, unary_op_node}
+use Rattle.swc_productions.specs.Readers.{unary_op, turn, bin_op}
+use Rattle.swc_productions.specs.Readers.{bin_op_node, turned, go_on}
 
 error_no : (t : Token) → no_error t ≡ false → is_lit t ≡ false
 error_no (token.Error e) h = refl
@@ -106,22 +106,162 @@ module _ {F C K : Type 0} (hook : Hook F C K) where
       → exec hook (run hook) None (plan (given o ▸ k)) ts ≡ None
   given_not o k ts h = ap (λ v. exec hook (run hook) None (plan (given v ▸ k)) ts) h
 
-  -- ---- expressions, and binary operators
+  -- ---- primary expressions (13.2): each is picked by its first token
 
-  pub expr_assign : (x : Context) (ts : List TokenAndSpan) → run hook (at Expr) x ts ≡ run hook (at Assign) x ts
-  expr_assign x ts = knot hook (at Expr) x ts ∙ last hook (Some 14) (at Assign) x ts refl
+  pub ident_expr_picked : (x : Context) (ts : List TokenAndSpan) → at_token (is_identifier x) (first ts) ≡ true
+      → run hook (at Primary) x ts ≡ by_production hook (λ c. ident-expr) x ts
+  unfolding by_production reading
+  ident_expr_picked x [] h = absurd cc
+  ident_expr_picked x (t ∷ ts) h = run_picked hook Primary x (t ∷ ts) ident-expr (primary x (t ∷ ts)) refl (rw h refl)
 
-  pub assign_good : (x : Context) (ts : List TokenAndSpan) → at_token no_error (first ts) ≡ true
-      → run hook (at Assign) x ts ≡ run hook (at (Level 1)) x ts
-  assign_good x ts h = knot hook (at Assign) x ts ∙ rw h (last hook (Some 13) (at (Level 1)) x ts refl)
+  pub lit_picked : (x : Context) (ts : List TokenAndSpan) → at_token is_lit (first ts) ≡ true
+      → run hook (at Primary) x ts ≡ run hook (at Literal) x ts
+  lit_picked x ts h =
+      run_picked hook Primary x ts primary-literal (primary x ts) refl (lit-picks hook x ts h)
+      ∙ last hook (Some 8) (at Literal) x ts refl
 
-  pub assign_bad : (x : Context) (ts : List TokenAndSpan) → at_token no_error (first ts) ≡ false
-      → run hook (at Assign) x ts ≡ None
-  assign_bad x ts h = knot hook (at Assign) x ts ∙ rw h refl
+  pub paren_expr_picked : (x : Context) (ts : List TokenAndSpan) → at_token is_lparen (first ts) ≡ true
+      → run hook (at Primary) x ts ≡ by_production hook (λ c. paren-expr) x ts
+  unfolding by_production reading
+  paren_expr_picked x [] h = absurd cc
+  paren_expr_picked x (t ∷ ts) h =
+      run_picked hook Primary x (t ∷ ts) paren-expr (primary x (t ∷ ts)) refl
+      (only-lparen (λ v. primary {F = F} {C = C} {K = K} x (tk v t.had_line_break t.span ∷ ts)
+      ≡ pick paren-expr) refl t.token h)
 
-  pub inside_assign : (x : Context) (ts : List TokenAndSpan) → inside hook x ts ≡ run hook (at Assign) (with_in x) ts
-  unfolding inside
-  inside_assign x ts = refl
+  pub private_expr_picked : (x : Context) (ts : List TokenAndSpan) → at_token is_hash (first ts) ≡ true
+      → run hook (at Primary) x ts ≡ by_production hook (λ c. private-expr) x ts
+  unfolding by_production reading
+  private_expr_picked x [] h = absurd cc
+  private_expr_picked x (t ∷ ts) h =
+      run_picked hook Primary x (t ∷ ts) private-expr (primary x (t ∷ ts)) refl
+      (only-hash (λ v. primary {F = F} {C = C} {K = K} x (tk v t.had_line_break t.span ∷ ts)
+      ≡ pick private-expr) refl t.token h)
+
+  pub primary_ends : (x : Context) (ts : List TokenAndSpan) → at_token is_lit (first ts) ≡ false
+      → at_token is_lparen (first ts) ≡ false
+      → at_token (is_identifier x) (first ts) ≡ false → at_token is_hash (first ts) ≡ false
+      → run hook (at Primary) x ts ≡ None
+  primary_ends x ts h i j k = knot hook (at Primary) x ts ∙ rw (j, h, i, k) refl
+
+  -- ---- identifier references (13.1)
+
+  -- a name, and what is made of it
+  given_one : {A : Type 0} (o : Option A) (k : A → Tree F C K) (us : List TokenAndSpan)
+      → exec hook (run hook) None (plan (given o ▸ (λ n. gives (k n)))) us ≡ (one o us >>= (λ p. Some (k p.0, p.1)))
+  given_one None k us = refl
+  given_one (Some n) k us = refl
+
+  same_test : (a b : Bool) (n : Spelling) → a ≡ b → (if a then Some n else None) ≡ (if b then Some n else None)
+  same_test a b n h = ap (λ v. if v then Some n else None) h
+
+  -- an identifier that is an expression passes the tests that are left
+  ident_expr_spelled : (c : Context) (t : Token) (s : Span) → is_identifier c t ≡ true
+      → reference c t s ≡ spelled (ref_ok c) t s
+  ident_expr_spelled c (token.Word w) s h =
+      let (a, b) = both (is_reference c w) (not (is_put_off w)) h in
+      same_test (may_refer c w && not (is_put_off w)) (ref_ok c w) (spelling (word_text w) s)
+      (rw (a, b) (and_true (ref_ok c w)))
+  ident_expr_spelled c t s h = absurd cc
+
+  pub ident_expr_named : (x : Context) (ts : List TokenAndSpan) → at_token (is_identifier x) (first ts) ≡ true
+      → by_production hook (λ c. ident-expr) x ts ≡ (word ref_ok x ts >>= (λ p. Some (ident_e p.0.at p.0.text, p.1)))
+  unfolding by_production reading word
+  ident_expr_named x [] h = absurd cc
+  ident_expr_named x (t ∷ ts) h =
+      given_one (reference x t.token t.span) (λ n. ident_e n.at n.text) ts
+      ∙ ap (λ o. one o ts >>= (λ p. Some (ident_e p.0.at p.0.text, p.1))) (ident_expr_spelled x t.token t.span h)
+
+  -- ---- literals (13.2.3)
+
+  pub lit_takes : (e : Tree F C K) (x : Context) (t : TokenAndSpan) (ts : List TokenAndSpan)
+      → lit_of t.token t.span ≡ Some e
+      → run hook (at Literal) x (t ∷ ts) ≡ Some (e, ts)
+  lit_takes e x t ts h =
+      knot hook (at Literal) x (t ∷ ts) ∙ given_is (lit_of t.token t.span) e (λ v. gives v) ts h
+
+  lit_no : (t : Token) (s : Span) → is_lit t ≡ false → lit_of {F = F} {C = C} {K = K} t s ≡ None
+  lit_no (token.Word written.Null) s h = cc
+  lit_no (token.Word written.True) s h = cc
+  lit_no (token.Word written.False) s h = cc
+  lit_no (token.Num raw) s h = cc
+  lit_no (token.BigInt raw) s h = cc
+  lit_no (token.Str value raw) s h = cc
+  lit_no t s h = refl
+
+  pub lit_not : (x : Context) (ts : List TokenAndSpan) → at_token is_lit (first ts) ≡ false
+      → run hook (at Literal) x ts ≡ None
+  lit_not x [] h = knot hook (at Literal) x []
+  lit_not x (t ∷ ts) h =
+      knot hook (at Literal) x (t ∷ ts)
+      ∙ given_not (lit_of t.token t.span) (λ v. gives v) ts (lit_no t.token t.span h)
+
+  pub lit_unfit : (x : Context) (ts : List TokenAndSpan) → at_token no_error (first ts) ≡ false
+      → run hook (at Literal) x ts ≡ None
+  lit_unfit x ts h = lit_not x ts (error_not (first ts) h)
+
+  -- ---- parentheses (13.2.9)
+
+  pub paren_expr_opens : (t : TokenAndSpan) (x : Context) (ts : List TokenAndSpan) → is_lparen t.token ≡ true
+      → by_production hook (λ c. paren-expr) x (t ∷ ts) ≡ paren_expr_tail hook t.span x ts
+  unfolding by_production paren_expr_tail reading
+  paren_expr_opens t x ts h = rw h refl
+
+  pub paren_expr_splits : (s : Span) (x : Context) (ts : List TokenAndSpan)
+      → paren_expr_tail hook s x ts ≡ (inside hook x ts >>= (λ p. paren_expr_close hook s p.0 p.1))
+  unfolding paren_expr_tail inside paren_expr_close reading
+  paren_expr_splits s x ts = calls (run hook (at Assign) (with_in x) ts) _
+
+  pub paren_expr_closes : (s : Span) (e : Tree F C K) (t : TokenAndSpan) (ts : List TokenAndSpan) → is_rparen t.token ≡ true
+      → paren_expr_close hook s e (t ∷ ts) ≡ Some (paren_e (to s t.span) e, ts)
+  unfolding paren_expr_close reading
+  paren_expr_closes s e t ts h = rw h refl
+
+  pub paren_expr_ends : (s : Span) (e : Tree F C K) (ts : List TokenAndSpan) → at_token is_rparen (first ts) ≡ false
+      → paren_expr_close hook s e ts ≡ None
+  unfolding paren_expr_close reading
+  paren_expr_ends s e [] h = refl
+  paren_expr_ends s e (t ∷ ts) h = rw h refl
+
+  -- ---- prefix operators (13.5)
+
+  pub unary_op_picked : (op : UnaryOp) (x : Context) (ts : List TokenAndSpan) → prefix_at (first ts) ≡ Some op
+      → run hook (at Unary) x ts ≡ unary_op hook op x ts
+  unfolding unary_op unary_op_tail reading
+  unary_op_picked op x [] h = cc
+  unary_op_picked op x (t ∷ ts) h =
+      run_picked hook Unary x (t ∷ ts) unary-op (unary_by (prefix_of t.token)) refl (ap unary_by h)
+      ∙ given_is (prefix_here t.token t.span) (op, t.span)
+      (λ p. read Unary x (λ e. check (delete_ok x p.0 e) (gives (unary_e (to p.1 (span_of e)) p.0 e)))) ts
+      (ap (λ o. with_place o t.span) h)
+
+  pub unary_primary : (x : Context) (ts : List TokenAndSpan) → prefix_at (first ts) ≡ None
+      → run hook (at Unary) x ts ≡ run hook (at Primary) x ts
+  unary_primary x ts h = knot hook (at Unary) x ts ∙ rw h (last hook (Some 10) (at Primary) x ts refl)
+
+  pub unary_op_opens : (op : UnaryOp) (t : TokenAndSpan) (x : Context) (ts : List TokenAndSpan)
+      → unary_op hook op x (t ∷ ts) ≡ unary_op_tail hook t.span op x ts
+  unfolding unary_op
+  unary_op_opens op t x ts = refl
+
+  pub unary_op_splits : (s : Span) (op : UnaryOp) (x : Context) (ts : List TokenAndSpan)
+      → unary_op_tail hook s op x ts ≡ (run hook (at Unary) x ts >>= (λ p. unary_op_node hook s op x p.0 p.1))
+  unfolding unary_op_tail unary_op_node reading
+  unary_op_splits s op x ts = calls (run hook (at Unary) x ts) _
+
+  pub unary_op_well : (s : Span) (op : UnaryOp) (x : Context) (t : Tree F C K) (ts : List TokenAndSpan)
+      → delete_ok x op t ≡ true
+      → unary_op_node hook s op x t ts ≡ Some (unary_e (to s (span_of t)) op t, ts)
+  unfolding unary_op_node reading
+  unary_op_well s op x t ts h = rw h refl
+
+  pub unary_op_ill : (s : Span) (op : UnaryOp) (x : Context) (t : Tree F C K) (ts : List TokenAndSpan)
+      → delete_ok x op t ≡ false
+      → unary_op_node hook s op x t ts ≡ None
+  unfolding unary_op_node reading
+  unary_op_ill s op x t ts h = rw h refl
+
+  -- ---- binary operators (13.6 to 13.13)
 
   pub operand_splits : (m : ℕ) (x : Context) (ts : List TokenAndSpan) → m ≤ 10
       → run hook (at (Level (suc m))) x ts ≡ (run hook (at Unary) x ts >>= (λ p. run hook (climb p.0 m) x p.1))
@@ -140,14 +280,14 @@ module _ {F C K : Type 0} (hook : Hook F C K) where
 
   turn_by : (b : Bool) (op : BinaryOp) (l : Tree F C K) (m : ℕ) (x : Context) (ts : List TokenAndSpan)
       → exec hook (run hook) (Some 1)
-      ((if b then gives (l, None) else take (λ t. operation_plan op l m x)) ▸ (λ r. turned_plan r.0 r.1 x)) ts
-      ≡ (exec hook (run hook) None (if b then gives (l, None) else take (λ t. operation_plan op l m x)) ts
+      ((if b then gives (l, None) else take (λ t. bin_op_plan op l m x)) ▸ (λ r. turned_plan r.0 r.1 x)) ts
+      ≡ (exec hook (run hook) None (if b then gives (l, None) else take (λ t. bin_op_plan op l m x)) ts
       >>= (λ p. exec hook (run hook) None (turned_plan p.0.0 p.0.1 x) p.1))
   turn_by true op l m x ts = refl
   turn_by false op l m x [] = refl
   turn_by false op l m x (t ∷ ts) =
-      exec-bind hook (operation_plan op l m x) (λ r. turned_plan r.0 r.1 x) ts
-      ∙ calls (exec hook (run hook) None (operation_plan op l m x) ts)
+      exec-bind hook (bin_op_plan op l m x) (λ r. turned_plan r.0 r.1 x) ts
+      ∙ calls (exec hook (run hook) None (bin_op_plan op l m x) ts)
       (λ r us. exec hook (run hook) None (turned_plan r.0 r.1 x) us)
 
   turn_at : (o : Option BinaryOp) (l : Tree F C K) (m : ℕ) (x : Context) (ts : List TokenAndSpan)
@@ -185,197 +325,65 @@ module _ {F C K : Type 0} (hook : Hook F C K) where
 
   pub turn_takes : (l : Tree F C K) (m : ℕ) (op : BinaryOp) (x : Context) (ts : List TokenAndSpan)
       → operator_at x (first ts) ≡ Some op → m < precedence_of op
-      → turn hook l m x ts ≡ operation hook op l m x (rest ts)
-  unfolding turn operation reading
+      → turn hook l m x ts ≡ bin_op hook op l m x (rest ts)
+  unfolding turn bin_op reading
   turn_takes l m op x [] h lt = cc
   turn_takes l m op x (t ∷ ts) h lt = rw (h, lt-leb (precedence_of op) m lt) refl
 
-  pub operation_splits : (op : BinaryOp) (l : Tree F C K) (m : ℕ) (x : Context) (ts : List TokenAndSpan)
+  pub bin_op_splits : (op : BinaryOp) (l : Tree F C K) (m : ℕ) (x : Context) (ts : List TokenAndSpan)
       → exp_ok op l ≡ true
-      → operation hook op l m x ts
-      ≡ (run hook (at (Level (suc (min_right op)))) x ts >>= (λ p. node_by hook op l m p.0 p.1))
-  unfolding operation node_by reading
-  operation_splits op l m x ts h = rw h (calls (run hook (at (Level (suc (min_right op)))) x ts) _)
+      → bin_op hook op l m x ts
+      ≡ (run hook (at (Level (suc (min_right op)))) x ts >>= (λ p. bin_op_node hook op l m p.0 p.1))
+  unfolding bin_op bin_op_node reading
+  bin_op_splits op l m x ts h = rw h (calls (run hook (at (Level (suc (min_right op)))) x ts) _)
 
-  pub operation_ends : (op : BinaryOp) (l : Tree F C K) (m : ℕ) (x : Context) (ts : List TokenAndSpan)
+  pub bin_op_ends : (op : BinaryOp) (l : Tree F C K) (m : ℕ) (x : Context) (ts : List TokenAndSpan)
       → exp_ok op l ≡ false
-      → operation hook op l m x ts ≡ None
-  unfolding operation reading
-  operation_ends op l m x ts h = rw h refl
+      → bin_op hook op l m x ts ≡ None
+  unfolding bin_op reading
+  bin_op_ends op l m x ts h = rw h refl
 
-  pub node_well : (op : BinaryOp) (l t : Tree F C K) (m : ℕ) (ts : List TokenAndSpan) → nullish_ok op l t ≡ true
-      → node_by hook op l m t ts ≡ Some ((bin_e (to (span_of l) (span_of t)) op l t, Some m), ts)
-  unfolding node_by reading
-  node_well op l t m ts h = rw h refl
+  pub bin_op_well : (op : BinaryOp) (l t : Tree F C K) (m : ℕ) (ts : List TokenAndSpan) → nullish_ok op l t ≡ true
+      → bin_op_node hook op l m t ts ≡ Some ((bin_e (to (span_of l) (span_of t)) op l t, Some m), ts)
+  unfolding bin_op_node reading
+  bin_op_well op l t m ts h = rw h refl
 
-  pub node_ill : (op : BinaryOp) (l t : Tree F C K) (m : ℕ) (ts : List TokenAndSpan) → nullish_ok op l t ≡ false
-      → node_by hook op l m t ts ≡ None
-  unfolding node_by reading
-  node_ill op l t m ts h = rw h refl
+  pub bin_op_ill : (op : BinaryOp) (l t : Tree F C K) (m : ℕ) (ts : List TokenAndSpan) → nullish_ok op l t ≡ false
+      → bin_op_node hook op l m t ts ≡ None
+  unfolding bin_op_node reading
+  bin_op_ill op l t m ts h = rw h refl
 
-  -- ---- prefix operators
+  -- ---- `#` and a name (13.10)
 
-  pub unary_prefix : (op : UnaryOp) (x : Context) (ts : List TokenAndSpan) → prefix_at (first ts) ≡ Some op
-      → run hook (at Unary) x ts ≡ prefix hook op x ts
-  unfolding prefix prefixed reading
-  unary_prefix op x [] h = cc
-  unary_prefix op x (t ∷ ts) h =
-      run_picked hook Unary x (t ∷ ts) unary-expr (unary_by (prefix_of t.token)) refl (ap unary_by h)
-      ∙ given_is (prefix_here t.token t.span) (op, t.span)
-      (λ p. read Unary x (λ e. check (delete_ok x p.0 e) (gives (unary_e (to p.1 (span_of e)) p.0 e)))) ts
-      (ap (λ o. with_place o t.span) h)
+  pub private_expr_opens : (t : TokenAndSpan) (x : Context) (ts : List TokenAndSpan) → is_hash t.token ≡ true
+      → by_production hook (λ c. private-expr) x (t ∷ ts) ≡ private_expr_tail hook t.span x ts
+  unfolding by_production private_expr_tail reading
+  private_expr_opens t x ts h = rw h refl
 
-  pub unary_primary : (x : Context) (ts : List TokenAndSpan) → prefix_at (first ts) ≡ None
-      → run hook (at Unary) x ts ≡ run hook (at Primary) x ts
-  unary_primary x ts h = knot hook (at Unary) x ts ∙ rw h (last hook (Some 10) (at Primary) x ts refl)
+  pub private_expr_splits : (s : Span) (x : Context) (ts : List TokenAndSpan)
+      → private_expr_tail hook s x ts ≡ (word may_name x ts >>= (λ p. Some (private_e (to s p.0.at) p.0.text, p.1)))
+  unfolding private_expr_tail reading word
+  private_expr_splits s x [] = refl
+  private_expr_splits s x (t ∷ ts) = given_one (any_name x t.token t.span) (λ n. private_e (to s n.at) n.text) ts
 
-  pub prefix_opens : (op : UnaryOp) (t : TokenAndSpan) (x : Context) (ts : List TokenAndSpan)
-      → prefix hook op x (t ∷ ts) ≡ prefixed hook t.span op x ts
-  unfolding prefix
-  prefix_opens op t x ts = refl
+  -- ---- assignment expressions (13.15)
 
-  pub prefixed_splits : (s : Span) (op : UnaryOp) (x : Context) (ts : List TokenAndSpan)
-      → prefixed hook s op x ts ≡ (run hook (at Unary) x ts >>= (λ p. prefix_node hook s op x p.0 p.1))
-  unfolding prefixed prefix_node reading
-  prefixed_splits s op x ts = calls (run hook (at Unary) x ts) _
+  pub assign_good : (x : Context) (ts : List TokenAndSpan) → at_token no_error (first ts) ≡ true
+      → run hook (at Assign) x ts ≡ run hook (at (Level 1)) x ts
+  assign_good x ts h = knot hook (at Assign) x ts ∙ rw h (last hook (Some 13) (at (Level 1)) x ts refl)
 
-  pub prefix_well : (s : Span) (op : UnaryOp) (x : Context) (t : Tree F C K) (ts : List TokenAndSpan)
-      → delete_ok x op t ≡ true
-      → prefix_node hook s op x t ts ≡ Some (unary_e (to s (span_of t)) op t, ts)
-  unfolding prefix_node reading
-  prefix_well s op x t ts h = rw h refl
+  pub assign_bad : (x : Context) (ts : List TokenAndSpan) → at_token no_error (first ts) ≡ false
+      → run hook (at Assign) x ts ≡ None
+  assign_bad x ts h = knot hook (at Assign) x ts ∙ rw h refl
 
-  pub prefix_ill : (s : Span) (op : UnaryOp) (x : Context) (t : Tree F C K) (ts : List TokenAndSpan)
-      → delete_ok x op t ≡ false
-      → prefix_node hook s op x t ts ≡ None
-  unfolding prefix_node reading
-  prefix_ill s op x t ts h = rw h refl
+  pub inside_assign : (x : Context) (ts : List TokenAndSpan) → inside hook x ts ≡ run hook (at Assign) (with_in x) ts
+  unfolding inside
+  inside_assign x ts = refl
 
-  -- ---- primary expressions: each is picked by its first token
+  -- ---- expressions (13.16)
 
-  pub primary_lit : (x : Context) (ts : List TokenAndSpan) → at_token is_lit (first ts) ≡ true
-      → run hook (at Primary) x ts ≡ run hook (at Literal) x ts
-  primary_lit x ts h =
-      run_picked hook Primary x ts primary-literal (primary x ts) refl (lit-picks hook x ts h)
-      ∙ last hook (Some 8) (at Literal) x ts refl
-
-  pub primary_parens : (x : Context) (ts : List TokenAndSpan) → at_token is_lparen (first ts) ≡ true
-      → run hook (at Primary) x ts ≡ by_production hook (λ c. paren-expr) x ts
-  unfolding by_production reading
-  primary_parens x [] h = absurd cc
-  primary_parens x (t ∷ ts) h =
-      run_picked hook Primary x (t ∷ ts) paren-expr (primary x (t ∷ ts)) refl
-      (only-lparen (λ v. primary {F = F} {C = C} {K = K} x (tk v t.had_line_break t.span ∷ ts)
-      ≡ pick paren-expr) refl t.token h)
-
-  pub primary_name : (x : Context) (ts : List TokenAndSpan) → at_token (is_identifier x) (first ts) ≡ true
-      → run hook (at Primary) x ts ≡ by_production hook (λ c. ident) x ts
-  unfolding by_production reading
-  primary_name x [] h = absurd cc
-  primary_name x (t ∷ ts) h = run_picked hook Primary x (t ∷ ts) ident (primary x (t ∷ ts)) refl (rw h refl)
-
-  pub primary_private : (x : Context) (ts : List TokenAndSpan) → at_token is_hash (first ts) ≡ true
-      → run hook (at Primary) x ts ≡ by_production hook (λ c. private-name) x ts
-  unfolding by_production reading
-  primary_private x [] h = absurd cc
-  primary_private x (t ∷ ts) h =
-      run_picked hook Primary x (t ∷ ts) private-name (primary x (t ∷ ts)) refl
-      (only-hash (λ v. primary {F = F} {C = C} {K = K} x (tk v t.had_line_break t.span ∷ ts)
-      ≡ pick private-name) refl t.token h)
-
-  pub primary_ends : (x : Context) (ts : List TokenAndSpan) → at_token is_lit (first ts) ≡ false
-      → at_token is_lparen (first ts) ≡ false
-      → at_token (is_identifier x) (first ts) ≡ false → at_token is_hash (first ts) ≡ false
-      → run hook (at Primary) x ts ≡ None
-  primary_ends x ts h i j k = knot hook (at Primary) x ts ∙ rw (j, h, i, k) refl
-
-  -- ---- parentheses
-
-  pub parens_opens : (t : TokenAndSpan) (x : Context) (ts : List TokenAndSpan) → is_lparen t.token ≡ true
-      → by_production hook (λ c. paren-expr) x (t ∷ ts) ≡ opened hook t.span x ts
-  unfolding by_production opened reading
-  parens_opens t x ts h = rw h refl
-
-  pub opened_splits : (s : Span) (x : Context) (ts : List TokenAndSpan)
-      → opened hook s x ts ≡ (inside hook x ts >>= (λ p. close hook s p.0 p.1))
-  unfolding opened inside close reading
-  opened_splits s x ts = calls (run hook (at Assign) (with_in x) ts) _
-
-  pub close_takes : (s : Span) (e : Tree F C K) (t : TokenAndSpan) (ts : List TokenAndSpan) → is_rparen t.token ≡ true
-      → close hook s e (t ∷ ts) ≡ Some (paren_e (to s t.span) e, ts)
-  unfolding close reading
-  close_takes s e t ts h = rw h refl
-
-  pub close_ends : (s : Span) (e : Tree F C K) (ts : List TokenAndSpan) → at_token is_rparen (first ts) ≡ false
-      → close hook s e ts ≡ None
-  unfolding close reading
-  close_ends s e [] h = refl
-  close_ends s e (t ∷ ts) h = rw h refl
-
-  -- ---- literals and names
-
-  pub lit_takes : (e : Tree F C K) (x : Context) (t : TokenAndSpan) (ts : List TokenAndSpan)
-      → lit_of t.token t.span ≡ Some e
-      → run hook (at Literal) x (t ∷ ts) ≡ Some (e, ts)
-  lit_takes e x t ts h =
-      knot hook (at Literal) x (t ∷ ts) ∙ given_is (lit_of t.token t.span) e (λ v. gives v) ts h
-
-  lit_no : (t : Token) (s : Span) → is_lit t ≡ false → lit_of {F = F} {C = C} {K = K} t s ≡ None
-  lit_no (token.Word written.Null) s h = cc
-  lit_no (token.Word written.True) s h = cc
-  lit_no (token.Word written.False) s h = cc
-  lit_no (token.Num raw) s h = cc
-  lit_no (token.BigInt raw) s h = cc
-  lit_no (token.Str value raw) s h = cc
-  lit_no t s h = refl
-
-  pub lit_not : (x : Context) (ts : List TokenAndSpan) → at_token is_lit (first ts) ≡ false
-      → run hook (at Literal) x ts ≡ None
-  lit_not x [] h = knot hook (at Literal) x []
-  lit_not x (t ∷ ts) h =
-      knot hook (at Literal) x (t ∷ ts)
-      ∙ given_not (lit_of t.token t.span) (λ v. gives v) ts (lit_no t.token t.span h)
-
-  pub lit_unfit : (x : Context) (ts : List TokenAndSpan) → at_token no_error (first ts) ≡ false
-      → run hook (at Literal) x ts ≡ None
-  lit_unfit x ts h = lit_not x ts (error_not (first ts) h)
-
-  -- a name, and what is made of it
-  given_one : {A : Type 0} (o : Option A) (k : A → Tree F C K) (us : List TokenAndSpan)
-      → exec hook (run hook) None (plan (given o ▸ (λ n. gives (k n)))) us ≡ (one o us >>= (λ p. Some (k p.0, p.1)))
-  given_one None k us = refl
-  given_one (Some n) k us = refl
-
-  same_test : (a b : Bool) (n : Spelling) → a ≡ b → (if a then Some n else None) ≡ (if b then Some n else None)
-  same_test a b n h = ap (λ v. if v then Some n else None) h
-
-  -- an identifier that is an expression passes the tests that are left
-  ident_spelled : (c : Context) (t : Token) (s : Span) → is_identifier c t ≡ true
-      → reference c t s ≡ spelled (ref_ok c) t s
-  ident_spelled c (token.Word w) s h =
-      let (a, b) = both (is_reference c w) (not (is_put_off w)) h in
-      same_test (may_refer c w && not (is_put_off w)) (ref_ok c w) (spelling (word_text w) s)
-      (rw (a, b) (and_true (ref_ok c w)))
-  ident_spelled c t s h = absurd cc
-
-  pub ident_named : (x : Context) (ts : List TokenAndSpan) → at_token (is_identifier x) (first ts) ≡ true
-      → by_production hook (λ c. ident) x ts ≡ (word ref_ok x ts >>= (λ p. Some (ident_e p.0.at p.0.text, p.1)))
-  unfolding by_production reading word
-  ident_named x [] h = absurd cc
-  ident_named x (t ∷ ts) h =
-      given_one (reference x t.token t.span) (λ n. ident_e n.at n.text) ts
-      ∙ ap (λ o. one o ts >>= (λ p. Some (ident_e p.0.at p.0.text, p.1))) (ident_spelled x t.token t.span h)
-
-  pub private_opens : (t : TokenAndSpan) (x : Context) (ts : List TokenAndSpan) → is_hash t.token ≡ true
-      → by_production hook (λ c. private-name) x (t ∷ ts) ≡ hashed hook t.span x ts
-  unfolding by_production hashed reading
-  private_opens t x ts h = rw h refl
-
-  pub hashed_splits : (s : Span) (x : Context) (ts : List TokenAndSpan)
-      → hashed hook s x ts ≡ (word may_name x ts >>= (λ p. Some (private_e (to s p.0.at) p.0.text, p.1)))
-  unfolding hashed reading word
-  hashed_splits s x [] = refl
-  hashed_splits s x (t ∷ ts) = given_one (any_name x t.token t.span) (λ n. private_e (to s n.at) n.text) ts
+  pub expr_assign : (x : Context) (ts : List TokenAndSpan) → run hook (at Expr) x ts ≡ run hook (at Assign) x ts
+  expr_assign x ts = knot hook (at Expr) x ts ∙ last hook (Some 14) (at Assign) x ts refl
 
 -- `()`: the code refuses it by itself, and nothing is read there, since no expression begins with `)`
 rparen_none : (x : Context) (ts : List TokenAndSpan) → at_token is_rparen (first ts) ≡ true
@@ -383,11 +391,11 @@ rparen_none : (x : Context) (ts : List TokenAndSpan) → at_token is_rparen (fir
 rparen_none x [] h = absurd cc
 rparen_none x (t ∷ ts) h = only-rparen (λ v. begins_expression x v ≡ false) refl t.token h
 
-pub opened_empty : {F C K : Type 0} {fun_at : F → Span} {class_at : C → Span} {block_at : K → Span} (hook : Hook F C K)
+pub paren_expr_empty : {F C K : Type 0} {fun_at : F → Span} {class_at : C → Span} {block_at : K → Span} (hook : Hook F C K)
     → LawfulHook fun_at class_at block_at hook → (s : Span) (x : Context) (ts : List TokenAndSpan)
     → at_token is_rparen (first ts) ≡ true
-    → opened hook s x ts ≡ None
-opened_empty hook laws s x ts h =
-    opened_splits hook s x ts
-    ∙ ap (λ o. o >>= (λ p. close hook s p.0 p.1))
+    → paren_expr_tail hook s x ts ≡ None
+paren_expr_empty hook laws s x ts h =
+    paren_expr_splits hook s x ts
+    ∙ ap (λ o. o >>= (λ p. paren_expr_close hook s p.0 p.1))
     (inside_assign hook x ts ∙ reads_nothing hook laws Assign (with_in x) ts (rparen_none (with_in x) ts h))

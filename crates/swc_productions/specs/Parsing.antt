@@ -203,8 +203,8 @@ module _ {S : Type 0} (model : Model S) where
 abbrev pub itself : ExprId → ExprId
 itself id = id
 
-abbrev pub operation_of : ExprId × Option ℕ → ExprId
-operation_of r = r.0
+abbrev pub bin_op_of : ExprId × Option ℕ → ExprId
+bin_op_of r = r.0
 
 abbrev pub operand_of : ExprId × BinaryOp → ExprId
 operand_of r = r.0
@@ -214,8 +214,8 @@ module _ {F C K : Type 0} {fg : Ghosts F} {cg : Ghosts C} {kg : Ghosts K} where
   abbrev pub tree_of : Nodes F C K fg cg kg → ExprId → Tree F C K
   tree_of ns id = tree_at ns id.0
 
-  abbrev pub operation_at : Nodes F C K fg cg kg → ExprId × Option ℕ → Tree F C K × Option ℕ
-  operation_at ns r = (tree_of ns r.0, r.1)
+  abbrev pub bin_op_at : Nodes F C K fg cg kg → ExprId × Option ℕ → Tree F C K × Option ℕ
+  bin_op_at ns r = (tree_of ns r.0, r.1)
 
   abbrev pub lit_in : Nodes F C K fg cg kg → Lit → Tree F C K
   lit_in ns l = lit_tree l

@@ -15,7 +15,7 @@ use Rattle.swc_grammar.specs.Trees.{to, private_e, unary_e, paren_e, bin_e, dele
 use Rattle.swc_grammar.specs.Parts.{any_name}
 use Rattle.swc_grammar.specs.Grammar.{Production}
 use Rattle.swc_grammar.specs.Clean.{Out, first, sym, climb, Plan, plan, exec, operator_at, run}
-use Rattle.swc_grammar.specs.Clean.{operation as operation_plan, turn as turn_plan, turned as turned_plan}
+use Rattle.swc_grammar.specs.Clean.{bin_op as bin_op_plan, turn as turn_plan, turned as turned_plan}
 use Rattle.swc_grammar.specs.Words.{rest}
 
 module _ {F C K : Type 0} (hook : Hook F C K) where
@@ -27,58 +27,54 @@ module _ {F C K : Type 0} (hook : Hook F C K) where
       → Context → List TokenAndSpan → Out (Answer F C K s)
   by_production {r = r} p c ts = reading (plan (r c)) ts
 
-  -- an assignment expression in which `in` is an operator
-  unfoldable pub inside : Context → List TokenAndSpan → Out (Tree F C K)
-  inside c ts = run hook (sym Assign) (with_in c) ts
-
-  -- behind the `#` at s
-  unfoldable pub hashed : Span → Context → List TokenAndSpan → Out (Tree F C K)
-  hashed s c ts = reading (plan (do
-    n ← one (any_name c)
-    gives (private_e (to s n.at) n.text))) ts
+  -- ---- parentheses (13.2.9)
 
   -- behind the parenthesis at s, and behind the expression in it
-  unfoldable pub opened : Span → Context → List TokenAndSpan → Out (Tree F C K)
-  opened s c ts = reading (plan (do
+  unfoldable pub paren_expr_tail : Span → Context → List TokenAndSpan → Out (Tree F C K)
+  paren_expr_tail s c ts = reading (plan (do
     e ← symbol Assign (with_in c)
     s' ← token is_rparen
     gives (paren_e (to s s') e))) ts
 
-  unfoldable pub close : Span → Tree F C K → List TokenAndSpan → Out (Tree F C K)
-  close s e ts = reading (plan (do
+  unfoldable pub paren_expr_close : Span → Tree F C K → List TokenAndSpan → Out (Tree F C K)
+  paren_expr_close s e ts = reading (plan (do
     s' ← token is_rparen
     gives (paren_e (to s s') e))) ts
 
+  -- ---- prefix operators (13.5)
+
   -- behind the prefix operator at s, and behind its operand
-  unfoldable pub prefixed : Span → UnaryOp → Context → List TokenAndSpan → Out (Tree F C K)
-  prefixed s op c ts = reading (plan (do
+  unfoldable pub unary_op_tail : Span → UnaryOp → Context → List TokenAndSpan → Out (Tree F C K)
+  unary_op_tail s op c ts = reading (plan (do
     e ← symbol Unary c
     must (delete_ok c op e)
     gives (unary_e (to s (span_of e)) op e))) ts
 
-  unfoldable pub prefix_node : Span → UnaryOp → Context → Tree F C K → List TokenAndSpan → Out (Tree F C K)
-  prefix_node s op c e ts = reading (plan (do
+  unfoldable pub unary_op_node : Span → UnaryOp → Context → Tree F C K → List TokenAndSpan → Out (Tree F C K)
+  unary_op_node s op c e ts = reading (plan (do
     must (delete_ok c op e)
     gives (unary_e (to s (span_of e)) op e))) ts
 
   -- from the prefix operator on
-  abbrev pub prefix_by : UnaryOp → Option TokenAndSpan → Context → List TokenAndSpan → Out (Tree F C K)
-  prefix_by op None c us = None
-  prefix_by op (Some t) c us = prefixed t.span op c us
+  abbrev pub unary_op_by : UnaryOp → Option TokenAndSpan → Context → List TokenAndSpan → Out (Tree F C K)
+  unary_op_by op None c us = None
+  unary_op_by op (Some t) c us = unary_op_tail t.span op c us
 
-  unfoldable pub prefix : UnaryOp → Context → List TokenAndSpan → Out (Tree F C K)
-  prefix op c ts = prefix_by op (first ts) c (rest ts)
+  unfoldable pub unary_op : UnaryOp → Context → List TokenAndSpan → Out (Tree F C K)
+  unary_op op c ts = unary_op_by op (first ts) c (rest ts)
+
+  -- ---- binary operators (13.6 to 13.13)
 
   -- one operator above the precedence m with what stands right of it, or none; what stands behind the operator, and
   -- behind its right operand
   unfoldable pub turn : Tree F C K → ℕ → Context → List TokenAndSpan → Out (Tree F C K × Option ℕ)
   turn l m c ts = reading (turn_plan (operator_at c (first ts)) l m c) ts
 
-  unfoldable pub operation : BinaryOp → Tree F C K → ℕ → Context → List TokenAndSpan → Out (Tree F C K × Option ℕ)
-  operation op l m c ts = reading (operation_plan op l m c) ts
+  unfoldable pub bin_op : BinaryOp → Tree F C K → ℕ → Context → List TokenAndSpan → Out (Tree F C K × Option ℕ)
+  bin_op op l m c ts = reading (bin_op_plan op l m c) ts
 
-  unfoldable pub node_by : BinaryOp → Tree F C K → ℕ → Tree F C K → List TokenAndSpan → Out (Tree F C K × Option ℕ)
-  node_by op l m r ts =
+  unfoldable pub bin_op_node : BinaryOp → Tree F C K → ℕ → Tree F C K → List TokenAndSpan → Out (Tree F C K × Option ℕ)
+  bin_op_node op l m r ts =
       reading (check (nullish_ok op l r) (gives (bin_e (to (span_of l) (span_of r)) op l r, Some m))) ts
 
   -- after a turn
@@ -88,3 +84,17 @@ module _ {F C K : Type 0} (hook : Hook F C K) where
   abbrev pub go_on : Tree F C K → Option ℕ → Context → List TokenAndSpan → Out (Tree F C K)
   go_on t None c ts = Some (t, ts)
   go_on t (Some m) c ts = run hook (climb t m) c ts
+
+  -- ---- `#` and a name (13.10)
+
+  -- behind the `#` at s
+  unfoldable pub private_expr_tail : Span → Context → List TokenAndSpan → Out (Tree F C K)
+  private_expr_tail s c ts = reading (plan (do
+    n ← one (any_name c)
+    gives (private_e (to s n.at) n.text))) ts
+
+  -- ---- assignment expressions (13.15)
+
+  -- an assignment expression in which `in` is an operator
+  unfoldable pub inside : Context → List TokenAndSpan → Out (Tree F C K)
+  inside c ts = run hook (sym Assign) (with_in c) ts

@@ -79,26 +79,26 @@ impl<I: Tokens, B: Bodies<I>> Productions<I, B> {
     /// An identifier reference as an expression (ECMA-262, 13.1).
     fn parse_ident_expr(&mut self) -> PResult<ExprId>
         requires { at_token (is_identifier (context I.model self.old.input)) (seen self.old.input) ≡ true }
-        ensures { Produces I.model B.is_faithful itself tree_of (by_production B.forms (λ c. grammar.ident))
+        ensures { Produces I.model B.is_faithful itself tree_of (by_production B.forms (λ c. grammar.ident-expr))
             (count self.old.nodes) self.old result self.new }
     {
         let is_strict = self.is_strict_word();
         let ident = parse_ident_ref(self.alloc, &mut self.input)?;
         check_strict_word(&mut self.input, is_strict, &ident)?;
-        let node = self.nodes.ident(ident);
+        let node = self.nodes.ident_expr(ident);
         made(&self.input, node)
     }
 
     /// `#` and a name, as an expression (ECMA-262, 13.10.1).
     fn parse_private_expr(&mut self) -> PResult<ExprId>
         requires { at_token is_hash (seen self.old.input) ≡ true }
-        ensures { Produces I.model B.is_faithful itself tree_of (by_production B.forms (λ c. grammar.private-name))
+        ensures { Produces I.model B.is_faithful itself tree_of (by_production B.forms (λ c. grammar.private-expr))
             (count self.old.nodes) self.old result self.new }
     {
         let start = self.input.cur_span().lo;
         skip(&mut self.input);
         let name = parse_ident_name(self.alloc, &mut self.input)?;
-        let node = self.nodes.private_name(start, name);
+        let node = self.nodes.private_expr(start, name);
         made(&self.input, node)
     }
 
@@ -123,7 +123,7 @@ impl<I: Tokens, B: Bodies<I>> Productions<I, B> {
             return Err(unexpected(&mut self.input, SyntaxError::Expected(")")));
         }
         skip(&mut self.input);
-        let node = self.nodes.paren(start, self.input.last_pos(), expr);
+        let node = self.nodes.paren_expr(start, self.input.last_pos(), expr);
         made(&self.input, node)
     }
 

@@ -8,10 +8,10 @@ ghost use Rattle.swc_grammar.specs.Symbols.{Level, Unary};
 ghost use Rattle.swc_grammar.specs.Clean.{sym, climb, run, operator_at, prefix_at, no_error, left_ok};
 ghost use Rattle.swc_nodes.specs.Slots.{expr_part};
 ghost use Rattle.swc_nodes.specs.Stands.{count, first_at, From};
-ghost use Rattle.swc_productions.specs.Readers.{turn, operation, prefix};
+ghost use Rattle.swc_productions.specs.Readers.{turn, bin_op, unary_op};
 ghost use Rattle.swc_productions.specs.Parsing.{seen, behind, Refuses, Consumes, Acts, Tries, Looks, Produces, GoesOn};
-ghost use Rattle.swc_productions.specs.Parsing.{Recovers, Checked, itself, operation_of, operand_of, tree_of};
-ghost use Rattle.swc_productions.specs.Parsing.{operation_at};
+ghost use Rattle.swc_productions.specs.Parsing.{Recovers, Checked, itself, bin_op_of, operand_of, tree_of};
+ghost use Rattle.swc_productions.specs.Parsing.{bin_op_at};
 
 use crate::moves::{
     cur_pos, emit_err, emit_error, emit_strict_mode_err, is_out_of_memory, look, made, skip,
@@ -51,7 +51,7 @@ impl<I: Tokens, B: Bodies<I>> Productions<I, B> {
         ensures { Recovers I.model itself (Consumes I.model) error.kind self.old result self.new }
     {
         let (left, op) = self.recover_left(error)?;
-        let (node, _) = self.parse_operation(left, op, 0)?;
+        let (node, _) = self.parse_bin_op(left, op, 0)?;
         check_nullish_left::<I, B>(&mut self.input, &self.nodes, node)?;
         self.parse_bin_op_recursively(node, 0)
     }
@@ -116,7 +116,7 @@ impl<I: Tokens, B: Bodies<I>> Productions<I, B> {
         min_prec: u8,
     ) -> PResult<(ExprId, Option<u8>)>
         requires from { From 0 self.old.nodes (expr_part left) }
-        ensures step { GoesOn I.model B.is_faithful operation_of operation_at
+        ensures step { GoesOn I.model B.is_faithful bin_op_of bin_op_at
             (turn B.forms (tree_of self.old.nodes left) min_prec)
             (first_at self.old.nodes left.0) self.old result self.new }
         ensures more { IfOk result (λ r. IsSome r.1 → to_come I.model self.new.input < to_come I.model self.old.input) }
@@ -129,12 +129,12 @@ impl<I: Tokens, B: Bodies<I>> Productions<I, B> {
         if op.precedence() <= min_prec {
             return Ok((left, None));
         }
-        self.parse_operation(left, op, min_prec)
+        self.parse_bin_op(left, op, min_prec)
     }
 
     /// The operator that is current, and its right operand: the node, and the least precedence to go on with.
     #[cycle(productions)]
-    fn parse_operation(
+    fn parse_bin_op(
         &mut self,
         left: ExprId,
         op: BinaryOp,
@@ -142,22 +142,22 @@ impl<I: Tokens, B: Bodies<I>> Productions<I, B> {
     ) -> PResult<(ExprId, Option<u8>)>
         requires from { From 0 self.old.nodes (expr_part left) }
         requires operator { IsSome (current self.old.input) }
-        ensures { Produces I.model B.is_faithful operation_of operation_at
-            (behind (operation B.forms op (tree_of self.old.nodes left) min_prec))
+        ensures { Produces I.model B.is_faithful bin_op_of bin_op_at
+            (behind (bin_op B.forms op (tree_of self.old.nodes left) min_prec))
             (first_at self.old.nodes left.0) self.old result self.new }
     {
         skip(&mut self.input);
         refuse_unary_in_exp::<I, B>(&mut self.input, &self.nodes, op, left)?;
-        let right = self.parse_right_operand(op)?;
+        let right = self.parse_bin_operand(op)?;
         check_operands::<I, B>(&mut self.input, &self.nodes, op, left, right)?;
-        let node = self.nodes.bin(op, left, right);
+        let node = self.nodes.bin_op(op, left, right);
         let node = made(&self.input, node)?;
         Ok((node, Some(min_prec)))
     }
 
     /// What stands right of an operator: an operand, and the operators that bind tighter; after `**`, `**` too.
     #[cycle(productions)]
-    fn parse_right_operand(&mut self, op: BinaryOp) -> PResult<ExprId>
+    fn parse_bin_operand(&mut self, op: BinaryOp) -> PResult<ExprId>
         ensures { Produces I.model B.is_faithful itself tree_of (run B.forms (sym (Level (suc (trees.min_right op)))))
             (count self.old.nodes) self.old result self.new }
     {
@@ -174,30 +174,30 @@ impl<I: Tokens, B: Bodies<I>> Productions<I, B> {
     {
         look(&mut self.input)?;
         match cur_prefix_op(&self.input) {
-            Some(op) => self.parse_prefix_expr(op),
+            Some(op) => self.parse_unary_op(op),
             None => self.parse_primary_expr(),
         }
     }
 
     /// A prefix operator, which is current, and its operand.
     #[cycle(productions)]
-    fn parse_prefix_expr(&mut self, op: UnaryOp) -> PResult<ExprId>
+    fn parse_unary_op(&mut self, op: UnaryOp) -> PResult<ExprId>
         requires { IsSome (current self.old.input) }
-        ensures { Produces I.model B.is_faithful itself tree_of (prefix B.forms op)
+        ensures { Produces I.model B.is_faithful itself tree_of (unary_op B.forms op)
             (count self.old.nodes) self.old result self.new }
     {
         let start = self.input.cur_span().lo;
         skip(&mut self.input);
-        let arg = self.parse_prefix_operand()?;
+        let arg = self.parse_unary_operand()?;
         check_delete::<I, B>(&mut self.input, &self.nodes, op, arg)?;
-        let node = self.nodes.unary(start, op, arg);
+        let node = self.nodes.unary_op(start, op, arg);
         made(&self.input, node)
     }
 
     /// The operand of a prefix operator. A refused one is recorded, unless it is want of memory,
     /// and a node of `Invalid` at one position stands in its place.
     #[cycle(productions)]
-    fn parse_prefix_operand(&mut self) -> PResult<ExprId>
+    fn parse_unary_operand(&mut self) -> PResult<ExprId>
         ensures { GoesOn I.model B.is_faithful itself tree_of (run B.forms (sym Unary))
             (count self.old.nodes) self.old result self.new }
     {

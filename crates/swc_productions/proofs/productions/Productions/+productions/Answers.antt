@@ -13,7 +13,7 @@ use Rattle.swc_grammar.specs.Symbols.{Assign, Level}
 use Rattle.swc_grammar.specs.Tokens.{is_lparen, is_rparen}
 use Rattle.swc_grammar.specs.Clean.{sym as at, run, climb, is_lit, is_identifier, prefix_at, no_error, left_ok}
 use Rattle.swc_grammar.specs.Words.{◌>>=◌}
-use Rattle.swc_productions.specs.Readers.{go_on, inside, close, opened, prefix_node, prefixed, node_by, operation, turned}
+use Rattle.swc_productions.specs.Readers.{go_on, inside, paren_expr_close, paren_expr_tail, unary_op_node, unary_op_tail, bin_op_node, bin_op, turned}
 use Rattle.swc_productions.specs.Parsing.{seen, behind, itself, tree_of}
 use Rattle.swc_nodes.proofs.Standing.{grows-count, grows-same, grows-then}
 use Rattle.swc_nodes.proofs.Held.{from-down, from-later, from_self, first_kept, if_from, tree-later}
@@ -23,22 +23,185 @@ use Rattle.swc_productions.proofs.Steps as s
 use Rattle.swc_productions.proofs.Making as m
 use Rattle.swc_productions.proofs.productions.Productions.+productions.Goals as goal
 
-pub parse_assignment_expr-returns-in_err-require_cur : goal.parse_assignment_expr-returns-in_err-require_cur
-parse_assignment_expr-returns-in_err-require_cur g t c =
+pub parse_primary_expr-returns-in_err-lit : goal.parse_primary_expr-returns-in_err-lit
+parse_primary_expr-returns-in_err-lit g t c =
+    let p = err_from_is_err_and c.from_residual-in_err-lit.result c.from_residual-in_err-lit.ensures.1 in rw (p.1, p.2)
+    (m.no (s.unheard_after (s.on_seen c.in_ok-look.ensures.looks (λ x ts same e. rule.lit_picked _ x ts (ap (at_token is_lit) e ∙ sym c.is_lit.ensures.value ∙ c.if-is_lit.true))) (c.in_err-lit.ensures.parses g.B.Bodies.is_faithful)) (grows-kept c.parse_lit.ensures.nodes))
+
+pub parse_primary_expr-returns-then-is_lit : goal.parse_primary_expr-returns-then-is_lit
+parse_primary_expr-returns-then-is_lit g t c =
+    m.node _ c.lit-node.result c.made.result (grows-count (grows-kept c.parse_lit.ensures.nodes)) c.lit-node.ensures.made c.made.ensures.ok c.made.ensures.refused (grows-kept c.parse_lit.ensures.nodes) c.lit-node.ensures.grows
+    (s.heard_after (s.on_seen c.in_ok-look.ensures.looks (λ x ts same e. rule.lit_picked _ x ts (ap (at_token is_lit) e ∙ sym c.is_lit.ensures.value ∙ c.if-is_lit.true))) (c.in_ok-lit.ensures.parses g.B.Bodies.is_faithful))
+
+pub parse_primary_expr-returns-then-is_lparen : goal.parse_primary_expr-returns-then-is_lparen
+parse_primary_expr-returns-then-is_lparen g t c =
+    m.after c.parse_paren_expr.result (s.on_seen c.in_ok-look.ensures.looks (λ x ts same e. rule.paren_expr_picked _ x ts (ap (at_token is_lparen) e ∙ sym c.is_lparen.ensures.value ∙ c.if-is_lparen.true))) (grows-same _) c.parse_paren_expr.ensures
+
+pub parse_primary_expr-returns-then-is_ident_ref : goal.parse_primary_expr-returns-then-is_ident_ref
+parse_primary_expr-returns-then-is_ident_ref g t c =
+    m.after c.parse_ident_expr.result (s.on_seen c.in_ok-look.ensures.looks (λ x ts same e. rule.ident_expr_picked _ x ts
+    (ap (λ v. at_token (is_identifier x) v) e ∙ ap (λ v. at_token (is_identifier v) (seen c.look.new.input)) same ∙ sym c.is_ident_ref.ensures.value ∙ c.if-is_ident_ref.true))) (grows-same _) c.parse_ident_expr.ensures
+
+pub parse_primary_expr-returns-then-is_hash : goal.parse_primary_expr-returns-then-is_hash
+parse_primary_expr-returns-then-is_hash g t c =
+    m.after c.parse_private_expr.result (s.on_seen c.in_ok-look.ensures.looks (λ x ts same e. rule.private_expr_picked _ x ts
+    (ap (at_token is_hash) e ∙ sym c.is_hash.ensures.value ∙ c.if-is_hash.true))) (grows-same _) c.parse_private_expr.ensures
+
+pub parse_primary_expr-returns : goal.parse_primary_expr-returns
+parse_primary_expr-returns g t c =
+    m.no (s.unheard_at c.in_ok-look.ensures.looks (λ x ts same e. rule.primary_ends _ x ts (ap (at_token is_lit) e ∙ sym c.is_lit.ensures.value ∙ c.if-is_lit.false)
+    (ap (at_token is_lparen) e ∙ sym c.is_lparen.ensures.value ∙ c.if-is_lparen.false)
+    (ap (λ v. at_token (is_identifier x) v) e ∙ ap (λ v. at_token (is_identifier v) (seen c.look.new.input)) same ∙ sym c.is_ident_ref.ensures.value ∙ c.if-is_ident_ref.false)
+    (ap (at_token is_hash) e ∙ sym c.is_hash.ensures.value ∙ c.if-is_hash.false))
+    c.syntax_error.ensures.refuses) (grows-same _)
+
+pub parse_primary_expr-returns-in_err-look : goal.parse_primary_expr-returns-in_err-look
+parse_primary_expr-returns-in_err-look g t c =
     let p = err_from_is_err_and c.from_residual.result c.from_residual.ensures.1 in rw (p.1, p.2)
-    (m.no (s.unheard_unfit g.met.I.Tokens.laws (λ x ts h. rule.assign_bad _ x ts h) c.in_err-require_cur.ensures.fits) (grows-same _))
+    (m.no (s.unheard_memory c.in_err-look.ensures.looks) (grows-same _))
 
-pub parse_assignment_expr-returns : goal.parse_assignment_expr-returns
-parse_assignment_expr-returns g t c =
-    m.after c.parse_bin_expr.result (s.on_seen c.in_ok-require_cur.ensures.fits (λ x ts same e. rule.assign_good _ x ts (ap (at_token no_error) e ∙ c.in_ok-require_cur.ensures.token))) (grows-same _) c.parse_bin_expr.ensures
+pub parse_paren_expr-returns-in_err-look : goal.parse_paren_expr-returns-in_err-look
+parse_paren_expr-returns-in_err-look g t c =
+    let p = err_from_is_err_and c.from_residual.result c.from_residual.ensures.1 in rw (p.1, p.2)
+    (m.no (s.unheard_memory (s.forgoes_later (s.took_leads g.met.I.Tokens.laws c.skip.ensures.took.1) c.in_err-look.ensures.looks)) (grows-same _))
 
-pub parse_assignment_expr_with_in-returns : goal.parse_assignment_expr_with_in-returns
-parse_assignment_expr_with_in-returns g t c =
-    m.yes c.parse_assignment_expr-expr.result
-    (s.parses_within g.I.Tokens.model g.B.Bodies.is_faithful (tree_of c.parse_assignment_expr-expr.new.self.nodes) _ (run _ (at Assign)) c.parse_assignment_expr-expr.result with_in (λ x. refl) (λ x ts. rule.inside_assign _ x ts)
-    c.set_ctx.ensures.moves (c.set_ctx.ensures.context ∙ ap with_in c.get_ctx-ctx.ensures) c.parse_assignment_expr-expr.ensures.reads c.set_ctx-2.ensures.moves
-    (c.set_ctx-2.ensures.context ∙ c.get_ctx-ctx.ensures))
-    c.parse_assignment_expr-expr.ensures.grows c.parse_assignment_expr-expr.ensures.from
+pub parse_paren_expr-returns-then-is_rparen : goal.parse_paren_expr-returns-then-is_rparen
+parse_paren_expr-returns-then-is_rparen g t c =
+    m.no (s.unheard_after (s.on_took {g = paren_expr_tail _ (plain c.skip.ensures.took.1.was).span} g.met.I.Tokens.laws c.skip.ensures.took.1 (λ x ts. rule.paren_expr_opens _ (plain c.skip.ensures.took.1.was) x ts (rule.passes_plain is_lparen _ _ c.skip.ensures.took.1.current c.requires)))
+    (s.unheard_at c.in_ok-look.ensures.looks (λ x ts same e. rule.paren_expr_empty _ g.met.B.Bodies.lawful (plain c.skip.ensures.took.1.was).span x ts (ap (at_token is_rparen) e ∙ sym c.is_rparen.ensures.value ∙ c.if-is_rparen.true))
+    (s.refuses_later (s.took_leads g.met.I.Tokens.laws c.skip-then-is_rparen.ensures.took.1) c.syntax_error.ensures.refuses))) (grows-same _)
+
+pub parse_paren_expr-returns-in_err-expr : goal.parse_paren_expr-returns-in_err-expr
+parse_paren_expr-returns-in_err-expr g t c =
+    let p = err_from_is_err_and c.from_residual-in_err-expr.result c.from_residual-in_err-expr.ensures.1 in rw (p.1, p.2)
+    (m.no (s.unheard_after (s.on_took {g = paren_expr_tail _ (plain c.skip.ensures.took.1.was).span} g.met.I.Tokens.laws c.skip.ensures.took.1 (λ x ts. rule.paren_expr_opens _ (plain c.skip.ensures.took.1.was) x ts (rule.passes_plain is_lparen _ _ c.skip.ensures.took.1.current c.requires)))
+    (s.unheard_after (s.on_seen {g = λ x ts. inside _ x ts >>= (λ p. paren_expr_close _ (plain c.skip.ensures.took.1.was).span p.0 p.1)} c.in_ok-look.ensures.looks (λ x ts same e. rule.paren_expr_splits _ (plain c.skip.ensures.took.1.was).span x ts))
+    (s.unheard_call (λ x p. paren_expr_close _ (plain c.skip.ensures.took.1.was).span p.0 p.1) (λ x ts. refl) c.in_err-expr.ensures.reads))) c.parse_assignment_expr_with_in.ensures.grows)
+
+pub parse_paren_expr-returns-in_err-look-2 : goal.parse_paren_expr-returns-in_err-look-2
+parse_paren_expr-returns-in_err-look-2 g t c =
+    let p = err_from_is_err_and c.from_residual-in_err-look-2.result c.from_residual-in_err-look-2.ensures.1 in rw (p.1, p.2)
+    (m.no (s.unheard_memory (s.forgoes_later (s.leads_then (s.leads_then (s.took_leads g.met.I.Tokens.laws c.skip.ensures.took.1) (s.here_leads c.in_ok-look.ensures.looks)) c.in_ok-expr.ensures.reads.on.leads) c.in_err-look-2.ensures.looks)) c.parse_assignment_expr_with_in.ensures.grows)
+
+pub parse_paren_expr-returns-then-not-is_rparen : goal.parse_paren_expr-returns-then-not-is_rparen
+parse_paren_expr-returns-then-not-is_rparen g t c =
+    m.no (s.unheard_after (s.on_took {g = paren_expr_tail _ (plain c.skip.ensures.took.1.was).span} g.met.I.Tokens.laws c.skip.ensures.took.1 (λ x ts. rule.paren_expr_opens _ (plain c.skip.ensures.took.1.was) x ts (rule.passes_plain is_lparen _ _ c.skip.ensures.took.1.current c.requires)))
+    (s.unheard_after (s.on_then (s.on_seen {g = λ x ts. inside _ x ts >>= (λ p. paren_expr_close _ (plain c.skip.ensures.took.1.was).span p.0 p.1)} c.in_ok-look.ensures.looks (λ x ts same e. rule.paren_expr_splits _ (plain c.skip.ensures.took.1.was).span x ts))
+    (s.on_call (λ x p. paren_expr_close _ (plain c.skip.ensures.took.1.was).span p.0 p.1) (λ x ts. refl) c.in_ok-expr.ensures.reads.on))
+    (s.unheard_at c.in_ok-look-2.ensures.looks (λ x ts same e. rule.paren_expr_ends _ (plain c.skip.ensures.took.1.was).span (tree_of c.parse_assignment_expr_with_in.new.self.nodes c.in_ok-expr.expr) ts (ap (at_token is_rparen) e ∙ sym c.is_rparen-2.ensures.value ∙ c.if-not-is_rparen.true)) c.unexpected.ensures.refuses))) c.parse_assignment_expr_with_in.ensures.grows
+
+pub parse_paren_expr-returns : goal.parse_paren_expr-returns
+parse_paren_expr-returns g t c =
+    let first = c.skip.ensures.took.1 in
+    let last = c.skip-2.ensures.took.1 in
+    let whole : paren_e (to first.was.span last.was.span) (tree_of c.parse_assignment_expr_with_in.new.self.nodes c.in_ok-expr.expr) ≡ paren_e (between c.cur_span.result.lo c.last_pos-2.result) (tree_of c.parse_assignment_expr_with_in.new.self.nodes c.in_ok-expr.expr) =
+    ap (λ v. paren_e (between v last.was.span.hi) (tree_of c.parse_assignment_expr_with_in.new.self.nodes c.in_ok-expr.expr)) (ap (λ v. v.lo) (sym (s.place_was first c.cur_span.result c.cur_span.ensures)))
+    ∙ ap (λ v. paren_e (between c.cur_span.result.lo v) (tree_of c.parse_assignment_expr_with_in.new.self.nodes c.in_ok-expr.expr)) (ap (λ v. v.hi) (sym (s.last_was last)) ∙ sym c.last_pos-2.ensures) in
+    m.node _ c.paren-node.result c.made.result c.in_ok-expr.ensures.from.above c.paren-node.ensures.made c.made.ensures.ok c.made.ensures.refused c.parse_assignment_expr_with_in.ensures.grows c.paren-node.ensures.grows
+    (s.heard_answer whole (s.heard_first g.met.I.Tokens.laws first (λ x ts. rule.paren_expr_opens _ (plain first.was) x ts (rule.passes_plain is_lparen _ _ first.current c.requires))
+    (s.on_then (s.on_then (s.on_seen {g = λ x ts. inside _ x ts >>= (λ p. paren_expr_close _ (plain c.skip.ensures.took.1.was).span p.0 p.1)} c.in_ok-look.ensures.looks (λ x ts same e. rule.paren_expr_splits _ (plain c.skip.ensures.took.1.was).span x ts))
+    (s.on_call (λ x p. paren_expr_close _ (plain c.skip.ensures.took.1.was).span p.0 p.1) (λ x ts. refl) c.in_ok-expr.ensures.reads.on))
+    (s.on_then (s.on_seen c.in_ok-look-2.ensures.looks (λ x ts same e. refl))
+    (s.on_took {g = s.give (paren_e (to first.was.span last.was.span) (tree_of c.parse_assignment_expr_with_in.new.self.nodes c.in_ok-expr.expr))} g.met.I.Tokens.laws last
+    (λ x ts. rule.paren_expr_closes _ (plain c.skip.ensures.took.1.was).span (tree_of c.parse_assignment_expr_with_in.new.self.nodes c.in_ok-expr.expr) (plain last.was) ts (rule.passes_plain is_rparen _ last.was last.current (sym c.is_rparen-2.ensures.value ∙ c.if-not-is_rparen.false))))))))
+
+pub parse_unary_expr-returns-in-Some : goal.parse_unary_expr-returns-in-Some
+parse_unary_expr-returns-in-Some g t c =
+    m.after c.parse_unary_op.result (s.on_seen c.in_ok-look.ensures.looks (λ x ts same e. rule.unary_op_picked _ c.in-Some.op x ts (ap prefix_at e ∙ sym c.cur_prefix_op.ensures.value ∙ c.in-Some.is))) (grows-same _) c.parse_unary_op.ensures
+
+pub parse_unary_expr-returns-in-None : goal.parse_unary_expr-returns-in-None
+parse_unary_expr-returns-in-None g t c =
+    m.after c.parse_primary_expr.result (s.on_seen c.in_ok-look.ensures.looks (λ x ts same e. rule.unary_primary _ x ts (ap prefix_at e ∙ sym c.cur_prefix_op.ensures.value ∙ c.in-None.is))) (grows-same _) c.parse_primary_expr.ensures
+
+pub parse_unary_expr-returns-in_err-look : goal.parse_unary_expr-returns-in_err-look
+parse_unary_expr-returns-in_err-look g t c =
+    let p = err_from_is_err_and c.from_residual.result c.from_residual.ensures.1 in rw (p.1, p.2)
+    (m.no (s.unheard_memory c.in_err-look.ensures.looks) (grows-same _))
+
+pub parse_unary_op-returns-in_err-arg : goal.parse_unary_op-returns-in_err-arg
+parse_unary_op-returns-in_err-arg g t c =
+    let p = err_from_is_err_and c.from_residual.result c.from_residual.ensures.1 in rw (p.1, p.2)
+    (m.no (s.unheard_after (s.on_took {g = unary_op_tail _ (plain c.skip.ensures.took.1.was).span c.args.op} g.met.I.Tokens.laws c.skip.ensures.took.1 (λ x ts. rule.unary_op_opens _ c.args.op (plain c.skip.ensures.took.1.was) x ts))
+    (s.unheard_call (λ x p. unary_op_node _ (plain c.skip.ensures.took.1.was).span c.args.op x p.0 p.1) (λ x ts. rule.unary_op_splits _ (plain c.skip.ensures.took.1.was).span c.args.op x ts) c.in_err-arg.ensures.reads)) c.parse_unary_operand.ensures.grows)
+
+pub parse_unary_op-returns-in_err-check_delete : goal.parse_unary_op-returns-in_err-check_delete
+parse_unary_op-returns-in_err-check_delete g t c =
+    let p = err_from_is_err_and c.from_residual-in_err-check_delete.result c.from_residual-in_err-check_delete.ensures.1 in rw (p.1, p.2)
+    (m.no (s.unheard_memory (s.forgoes_later (s.leads_then (s.took_leads g.met.I.Tokens.laws c.skip.ensures.took.1) c.in_ok-arg.ensures.reads.leads) c.in_err-check_delete.ensures.checks)) c.parse_unary_operand.ensures.grows)
+
+pub parse_unary_op-returns : goal.parse_unary_op-returns
+parse_unary_op-returns g t c =
+    let first = c.skip.ensures.took.1 in
+    let whole : unary_e (to first.was.span (span_of (tree_of c.parse_unary_operand.new.self.nodes c.in_ok-arg.arg))) c.args.op (tree_of c.parse_unary_operand.new.self.nodes c.in_ok-arg.arg) ≡ unary_e (between c.cur_span.result.lo (span_of (tree_of c.parse_unary_operand.new.self.nodes c.in_ok-arg.arg)).hi) c.args.op (tree_of c.parse_unary_operand.new.self.nodes c.in_ok-arg.arg) =
+    ap (λ v. unary_e (between v (span_of (tree_of c.parse_unary_operand.new.self.nodes c.in_ok-arg.arg)).hi) c.args.op (tree_of c.parse_unary_operand.new.self.nodes c.in_ok-arg.arg)) (ap (λ v. v.lo) (sym (s.place_was first c.cur_span.result c.cur_span.ensures))) in
+    m.node _ c.unary-node.result c.made.result c.in_ok-arg.ensures.from.above c.unary-node.ensures.made c.made.ensures.ok c.made.ensures.refused c.parse_unary_operand.ensures.grows c.unary-node.ensures.grows
+    (s.heard_answer whole (s.heard_first g.met.I.Tokens.laws first (λ x ts. rule.unary_op_opens _ c.args.op (plain first.was) x ts)
+    (s.on_then (s.on_call (λ x p. unary_op_node _ (plain c.skip.ensures.took.1.was).span c.args.op x p.0 p.1) (λ x ts. rule.unary_op_splits _ (plain c.skip.ensures.took.1.was).span c.args.op x ts) c.in_ok-arg.ensures.reads)
+    (s.on_checked_in (delete_ok (context g.I.Tokens.model c.parse_unary_operand.new.self.input) c.args.op (tree_of c.parse_unary_operand.new.self.nodes c.in_ok-arg.arg)) c.in_ok-check_delete.ensures.checks
+    (λ ts h. rule.unary_op_well _ (plain c.skip.ensures.took.1.was).span c.args.op (context g.I.Tokens.model c.parse_unary_operand.new.self.input) (tree_of c.parse_unary_operand.new.self.nodes c.in_ok-arg.arg) ts h)
+    (λ ts h. rule.unary_op_ill _ (plain c.skip.ensures.took.1.was).span c.args.op (context g.I.Tokens.model c.parse_unary_operand.new.self.input) (tree_of c.parse_unary_operand.new.self.nodes c.in_ok-arg.arg) ts h)))))
+
+pub parse_unary_operand-returns-in_err-at : goal.parse_unary_operand-returns-in_err-at
+parse_unary_operand-returns-in_err-at g t c =
+    let p = err_from_is_err_and c.from_residual.result c.from_residual.ensures.1 in rw (p.1, p.2)
+    (m.no_more (s.unheard_memory c.in_err-at.ensures.looks) (grows-same _))
+
+pub parse_unary_operand-returns-in-Ok : goal.parse_unary_operand-returns-in-Ok
+parse_unary_operand-returns-in-Ok g t c =
+    m.on (Ok _)
+    (s.on_then (s.on_seen c.in_ok-at.ensures.looks (λ x ts same e. refl)) c.in-Ok.ensures.reads.on)
+    c.parse_unary_expr.ensures.grows c.in-Ok.ensures.from
+
+pub parse_unary_operand-returns-in-Err : goal.parse_unary_operand-returns-in-Err
+parse_unary_operand-returns-in-Err g t c =
+    m.on c.recover.result
+    (s.continues_after g.I.Tokens.model g.B.Bodies.is_faithful (tree_of c.recover.new.self.nodes) _ _ c.recover.result (s.on_seen c.in_ok-at.ensures.looks (λ x ts same e. refl))
+    (s.continues_recovered g.I.Tokens.model g.B.Bodies.is_faithful (tree_of c.recover.new.self.nodes) _ _ c.recover.result c.in-Err.ensures.reads c.recover.ensures.effect c.recover.ensures.notes c.recover.ensures.some))
+    (grows-then c.parse_unary_expr.ensures.grows c.recover.ensures.grows) (if_from _ _ _ itself c.recover.result (grows-count c.parse_unary_expr.ensures.grows) c.recover.ensures.from)
+
+pub parse_bin_expr-returns-in-Ok : goal.parse_bin_expr-returns-in-Ok
+parse_bin_expr-returns-in-Ok g t c =
+    m.call c.parse_bin_op_recursively.result (λ x p. run _ (climb p.0 0) x p.1) (λ x ts. rule.operand_splits _ 0 x ts (omega arith))
+    c.in-Ok.ensures.reads c.parse_unary_expr.ensures.grows c.in-Ok.ensures.from.above c.parse_bin_op_recursively.ensures
+
+pub parse_bin_expr-returns-in-Err : goal.parse_bin_expr-returns-in-Err
+parse_bin_expr-returns-in-Err g t c =
+    m.yes c.parse_bin_expr_without_left.result
+    (s.parses_recovered g.I.Tokens.model g.B.Bodies.is_faithful (tree_of c.parse_bin_expr_without_left.new.self.nodes) (run _ (at (Level 1))) _ c.parse_bin_expr_without_left.result (s.unheard_call (λ x p. run _ (climb p.0 0) x p.1) (λ x ts. rule.operand_splits _ 0 x ts (omega arith)) c.in-Err.ensures.reads)
+    c.parse_bin_expr_without_left.ensures.effect c.parse_bin_expr_without_left.ensures.notes c.parse_bin_expr_without_left.ensures.some c.parse_bin_expr_without_left.ensures.memory)
+    (grows-then c.parse_unary_expr.ensures.grows c.parse_bin_expr_without_left.ensures.grows) (if_from _ _ _ itself c.parse_bin_expr_without_left.result (grows-count c.parse_unary_expr.ensures.grows) c.parse_bin_expr_without_left.ensures.from)
+
+pub parse_bin_expr_without_left-returns-in_err-left : goal.parse_bin_expr_without_left-returns-in_err-left
+parse_bin_expr_without_left-returns-in_err-left g t c =
+    let p = err_from_is_err_and c.from_residual.result c.from_residual.ensures.1 in
+    let h = c.in_err-left.ensures.recovers in rw (p.1, p.2) (m.not_recovered h.effect h.memory h.grows)
+
+pub parse_bin_expr_without_left-returns-in_err-node : goal.parse_bin_expr_without_left-returns-in_err-node
+parse_bin_expr_without_left-returns-in_err-node g t c =
+    let p = err_from_is_err_and c.from_residual-in_err-node.result c.from_residual-in_err-node.ensures.1 in
+    let h = c.in_ok-left.ensures.recovers in rw (p.1, p.2)
+    (m.not_recovered (s.refuses_later h.effect c.in_err-node.ensures.reads.refuses) (λ n. h.some) (grows-then h.grows c.parse_bin_op.ensures.grows))
+
+pub parse_bin_expr_without_left-returns-in_err-check_nullish_left : goal.parse_bin_expr_without_left-returns-in_err-check_nullish_left
+parse_bin_expr_without_left-returns-in_err-check_nullish_left g t c =
+    let p = err_from_is_err_and c.from_residual-in_err-check_nullish_left.result c.from_residual-in_err-check_nullish_left.ensures.1 in
+    let h = c.in_ok-left.ensures.recovers in rw (p.1, p.2)
+    (m.not_recovered (s.refuses_later (s.leads_then h.effect c.in_ok-node.ensures.reads.on.leads) (s.forgoes_refuses c.in_err-check_nullish_left.ensures.checks)) (λ n. h.some) (grows-then h.grows c.parse_bin_op.ensures.grows))
+
+pub parse_bin_expr_without_left-returns : goal.parse_bin_expr_without_left-returns
+parse_bin_expr_without_left-returns g t c =
+    let h = c.in_ok-left.ensures.recovers in
+    let effect = s.consumes_then g.I.Tokens.model g.B.Bodies.is_faithful (tree_of c.parse_bin_op_recursively.new.self.nodes) (run _ (climb (tree_of c.parse_bin_op.new.self.nodes c.in_ok-node.node) 0)) h.effect (s.leads_then c.in_ok-node.ensures.reads.on.leads c.in_ok-check_nullish_left.ensures.checks.leads) (s.longer c.in_ok-node.ensures.reads.on.leads c.in_ok-check_nullish_left.ensures.checks.leads c.in_ok-node.ensures.reads.some) _ c.parse_bin_op_recursively.result c.parse_bin_op_recursively.ensures.reads in
+    let first = h.from.above in
+    let above = c.in_ok-node.ensures.from.above in record {
+      effect = effect;
+      notes = λ l. s.notes_then g.I.Tokens.model g.B.Bodies.is_faithful (tree_of c.parse_bin_op_recursively.new.self.nodes) (run _ (climb (tree_of c.parse_bin_op.new.self.nodes c.in_ok-node.node) 0)) c.args.self.now.input (h.notes l) (s.leads_then c.in_ok-node.ensures.reads.on.leads c.in_ok-check_nullish_left.ensures.checks.leads) _ c.parse_bin_op_recursively.result c.parse_bin_op_recursively.ensures.reads;
+      some = s.on_ok c.parse_bin_op_recursively.result h.some;
+      memory = s.if_err (λ e. e.kind ≢ OutOfMemory) c.parse_bin_op_recursively.result h.some;
+      falls = s.consumes_falls g.I.Tokens.model _ _ c.parse_bin_op_recursively.result effect;
+      grows = grows-then (grows-then h.grows c.parse_bin_op.ensures.grows) c.parse_bin_op_recursively.ensures.grows;
+      from = if_from _ _ _ itself c.parse_bin_op_recursively.result (omega arith) c.parse_bin_op_recursively.ensures.from;
+    }
 
 pub parse_bin_op_recursively-loop-next_left-init : goal.parse_bin_op_recursively-loop-next_left-init
 parse_bin_op_recursively-loop-next_left-init g t c = (s.on_here g.met.I.Tokens.laws _ (λ x ts. refl), omega arith, grows-same _, from_self c.requires.from)
@@ -88,247 +251,82 @@ parse_bin_op_recursively_inner-returns-then-precedence-min_prec-clause-step g t 
     (let le = c.if-precedence-min_prec.true in let p = c.precedence.ensures in omega arith)))
     (grows-same _) (from_self c.requires.from)
 
-pub parse_paren_expr-returns-in_err-look : goal.parse_paren_expr-returns-in_err-look
-parse_paren_expr-returns-in_err-look g t c =
-    let p = err_from_is_err_and c.from_residual.result c.from_residual.ensures.1 in rw (p.1, p.2)
-    (m.no (s.unheard_memory (s.forgoes_later (s.took_leads g.met.I.Tokens.laws c.skip.ensures.took.1) c.in_err-look.ensures.looks)) (grows-same _))
-
-pub parse_paren_expr-returns-then-is_rparen : goal.parse_paren_expr-returns-then-is_rparen
-parse_paren_expr-returns-then-is_rparen g t c =
-    m.no (s.unheard_after (s.on_took {g = opened _ (plain c.skip.ensures.took.1.was).span} g.met.I.Tokens.laws c.skip.ensures.took.1 (λ x ts. rule.parens_opens _ (plain c.skip.ensures.took.1.was) x ts (rule.passes_plain is_lparen _ _ c.skip.ensures.took.1.current c.requires)))
-    (s.unheard_at c.in_ok-look.ensures.looks (λ x ts same e. rule.opened_empty _ g.met.B.Bodies.lawful (plain c.skip.ensures.took.1.was).span x ts (ap (at_token is_rparen) e ∙ sym c.is_rparen.ensures.value ∙ c.if-is_rparen.true))
-    (s.refuses_later (s.took_leads g.met.I.Tokens.laws c.skip-then-is_rparen.ensures.took.1) c.syntax_error.ensures.refuses))) (grows-same _)
-
-pub parse_paren_expr-returns-in_err-expr : goal.parse_paren_expr-returns-in_err-expr
-parse_paren_expr-returns-in_err-expr g t c =
-    let p = err_from_is_err_and c.from_residual-in_err-expr.result c.from_residual-in_err-expr.ensures.1 in rw (p.1, p.2)
-    (m.no (s.unheard_after (s.on_took {g = opened _ (plain c.skip.ensures.took.1.was).span} g.met.I.Tokens.laws c.skip.ensures.took.1 (λ x ts. rule.parens_opens _ (plain c.skip.ensures.took.1.was) x ts (rule.passes_plain is_lparen _ _ c.skip.ensures.took.1.current c.requires)))
-    (s.unheard_after (s.on_seen {g = λ x ts. inside _ x ts >>= (λ p. close _ (plain c.skip.ensures.took.1.was).span p.0 p.1)} c.in_ok-look.ensures.looks (λ x ts same e. rule.opened_splits _ (plain c.skip.ensures.took.1.was).span x ts))
-    (s.unheard_call (λ x p. close _ (plain c.skip.ensures.took.1.was).span p.0 p.1) (λ x ts. refl) c.in_err-expr.ensures.reads))) c.parse_assignment_expr_with_in.ensures.grows)
-
-pub parse_paren_expr-returns-in_err-look-2 : goal.parse_paren_expr-returns-in_err-look-2
-parse_paren_expr-returns-in_err-look-2 g t c =
-    let p = err_from_is_err_and c.from_residual-in_err-look-2.result c.from_residual-in_err-look-2.ensures.1 in rw (p.1, p.2)
-    (m.no (s.unheard_memory (s.forgoes_later (s.leads_then (s.leads_then (s.took_leads g.met.I.Tokens.laws c.skip.ensures.took.1) (s.here_leads c.in_ok-look.ensures.looks)) c.in_ok-expr.ensures.reads.on.leads) c.in_err-look-2.ensures.looks)) c.parse_assignment_expr_with_in.ensures.grows)
-
-pub parse_paren_expr-returns-then-not-is_rparen : goal.parse_paren_expr-returns-then-not-is_rparen
-parse_paren_expr-returns-then-not-is_rparen g t c =
-    m.no (s.unheard_after (s.on_took {g = opened _ (plain c.skip.ensures.took.1.was).span} g.met.I.Tokens.laws c.skip.ensures.took.1 (λ x ts. rule.parens_opens _ (plain c.skip.ensures.took.1.was) x ts (rule.passes_plain is_lparen _ _ c.skip.ensures.took.1.current c.requires)))
-    (s.unheard_after (s.on_then (s.on_seen {g = λ x ts. inside _ x ts >>= (λ p. close _ (plain c.skip.ensures.took.1.was).span p.0 p.1)} c.in_ok-look.ensures.looks (λ x ts same e. rule.opened_splits _ (plain c.skip.ensures.took.1.was).span x ts))
-    (s.on_call (λ x p. close _ (plain c.skip.ensures.took.1.was).span p.0 p.1) (λ x ts. refl) c.in_ok-expr.ensures.reads.on))
-    (s.unheard_at c.in_ok-look-2.ensures.looks (λ x ts same e. rule.close_ends _ (plain c.skip.ensures.took.1.was).span (tree_of c.parse_assignment_expr_with_in.new.self.nodes c.in_ok-expr.expr) ts (ap (at_token is_rparen) e ∙ sym c.is_rparen-2.ensures.value ∙ c.if-not-is_rparen.true)) c.unexpected.ensures.refuses))) c.parse_assignment_expr_with_in.ensures.grows
-
-pub parse_paren_expr-returns : goal.parse_paren_expr-returns
-parse_paren_expr-returns g t c =
-    let first = c.skip.ensures.took.1 in
-    let last = c.skip-2.ensures.took.1 in
-    let whole : paren_e (to first.was.span last.was.span) (tree_of c.parse_assignment_expr_with_in.new.self.nodes c.in_ok-expr.expr) ≡ paren_e (between c.cur_span.result.lo c.last_pos-2.result) (tree_of c.parse_assignment_expr_with_in.new.self.nodes c.in_ok-expr.expr) =
-    ap (λ v. paren_e (between v last.was.span.hi) (tree_of c.parse_assignment_expr_with_in.new.self.nodes c.in_ok-expr.expr)) (ap (λ v. v.lo) (sym (s.place_was first c.cur_span.result c.cur_span.ensures)))
-    ∙ ap (λ v. paren_e (between c.cur_span.result.lo v) (tree_of c.parse_assignment_expr_with_in.new.self.nodes c.in_ok-expr.expr)) (ap (λ v. v.hi) (sym (s.last_was last)) ∙ sym c.last_pos-2.ensures) in
-    m.node _ c.paren-node.result c.made.result c.in_ok-expr.ensures.from.above c.paren-node.ensures.made c.made.ensures.ok c.made.ensures.refused c.parse_assignment_expr_with_in.ensures.grows c.paren-node.ensures.grows
-    (s.heard_answer whole (s.heard_first g.met.I.Tokens.laws first (λ x ts. rule.parens_opens _ (plain first.was) x ts (rule.passes_plain is_lparen _ _ first.current c.requires))
-    (s.on_then (s.on_then (s.on_seen {g = λ x ts. inside _ x ts >>= (λ p. close _ (plain c.skip.ensures.took.1.was).span p.0 p.1)} c.in_ok-look.ensures.looks (λ x ts same e. rule.opened_splits _ (plain c.skip.ensures.took.1.was).span x ts))
-    (s.on_call (λ x p. close _ (plain c.skip.ensures.took.1.was).span p.0 p.1) (λ x ts. refl) c.in_ok-expr.ensures.reads.on))
-    (s.on_then (s.on_seen c.in_ok-look-2.ensures.looks (λ x ts same e. refl))
-    (s.on_took {g = s.give (paren_e (to first.was.span last.was.span) (tree_of c.parse_assignment_expr_with_in.new.self.nodes c.in_ok-expr.expr))} g.met.I.Tokens.laws last
-    (λ x ts. rule.close_takes _ (plain c.skip.ensures.took.1.was).span (tree_of c.parse_assignment_expr_with_in.new.self.nodes c.in_ok-expr.expr) (plain last.was) ts (rule.passes_plain is_rparen _ last.was last.current (sym c.is_rparen-2.ensures.value ∙ c.if-not-is_rparen.false))))))))
-
-pub parse_primary_expr-returns-in_err-lit : goal.parse_primary_expr-returns-in_err-lit
-parse_primary_expr-returns-in_err-lit g t c =
-    let p = err_from_is_err_and c.from_residual-in_err-lit.result c.from_residual-in_err-lit.ensures.1 in rw (p.1, p.2)
-    (m.no (s.unheard_after (s.on_seen c.in_ok-look.ensures.looks (λ x ts same e. rule.primary_lit _ x ts (ap (at_token is_lit) e ∙ sym c.is_lit.ensures.value ∙ c.if-is_lit.true))) (c.in_err-lit.ensures.parses g.B.Bodies.is_faithful)) (grows-kept c.parse_lit.ensures.nodes))
-
-pub parse_primary_expr-returns-then-is_lit : goal.parse_primary_expr-returns-then-is_lit
-parse_primary_expr-returns-then-is_lit g t c =
-    m.node _ c.lit-node.result c.made.result (grows-count (grows-kept c.parse_lit.ensures.nodes)) c.lit-node.ensures.made c.made.ensures.ok c.made.ensures.refused (grows-kept c.parse_lit.ensures.nodes) c.lit-node.ensures.grows
-    (s.heard_after (s.on_seen c.in_ok-look.ensures.looks (λ x ts same e. rule.primary_lit _ x ts (ap (at_token is_lit) e ∙ sym c.is_lit.ensures.value ∙ c.if-is_lit.true))) (c.in_ok-lit.ensures.parses g.B.Bodies.is_faithful))
-
-pub parse_primary_expr-returns-then-is_lparen : goal.parse_primary_expr-returns-then-is_lparen
-parse_primary_expr-returns-then-is_lparen g t c =
-    m.after c.parse_paren_expr.result (s.on_seen c.in_ok-look.ensures.looks (λ x ts same e. rule.primary_parens _ x ts (ap (at_token is_lparen) e ∙ sym c.is_lparen.ensures.value ∙ c.if-is_lparen.true))) (grows-same _) c.parse_paren_expr.ensures
-
-pub parse_primary_expr-returns-then-is_ident_ref : goal.parse_primary_expr-returns-then-is_ident_ref
-parse_primary_expr-returns-then-is_ident_ref g t c =
-    m.after c.parse_ident_expr.result (s.on_seen c.in_ok-look.ensures.looks (λ x ts same e. rule.primary_name _ x ts
-    (ap (λ v. at_token (is_identifier x) v) e ∙ ap (λ v. at_token (is_identifier v) (seen c.look.new.input)) same ∙ sym c.is_ident_ref.ensures.value ∙ c.if-is_ident_ref.true))) (grows-same _) c.parse_ident_expr.ensures
-
-pub parse_bin_expr-returns-in-Ok : goal.parse_bin_expr-returns-in-Ok
-parse_bin_expr-returns-in-Ok g t c =
-    m.call c.parse_bin_op_recursively.result (λ x p. run _ (climb p.0 0) x p.1) (λ x ts. rule.operand_splits _ 0 x ts (omega arith))
-    c.in-Ok.ensures.reads c.parse_unary_expr.ensures.grows c.in-Ok.ensures.from.above c.parse_bin_op_recursively.ensures
-
-pub parse_bin_expr-returns-in-Err : goal.parse_bin_expr-returns-in-Err
-parse_bin_expr-returns-in-Err g t c =
-    m.yes c.parse_bin_expr_without_left.result
-    (s.parses_recovered g.I.Tokens.model g.B.Bodies.is_faithful (tree_of c.parse_bin_expr_without_left.new.self.nodes) (run _ (at (Level 1))) _ c.parse_bin_expr_without_left.result (s.unheard_call (λ x p. run _ (climb p.0 0) x p.1) (λ x ts. rule.operand_splits _ 0 x ts (omega arith)) c.in-Err.ensures.reads)
-    c.parse_bin_expr_without_left.ensures.effect c.parse_bin_expr_without_left.ensures.notes c.parse_bin_expr_without_left.ensures.some c.parse_bin_expr_without_left.ensures.memory)
-    (grows-then c.parse_unary_expr.ensures.grows c.parse_bin_expr_without_left.ensures.grows) (if_from _ _ _ itself c.parse_bin_expr_without_left.result (grows-count c.parse_unary_expr.ensures.grows) c.parse_bin_expr_without_left.ensures.from)
-
-pub parse_prefix_operand-returns-in_err-at : goal.parse_prefix_operand-returns-in_err-at
-parse_prefix_operand-returns-in_err-at g t c =
-    let p = err_from_is_err_and c.from_residual.result c.from_residual.ensures.1 in rw (p.1, p.2)
-    (m.no_more (s.unheard_memory c.in_err-at.ensures.looks) (grows-same _))
-
-pub parse_prefix_operand-returns-in-Ok : goal.parse_prefix_operand-returns-in-Ok
-parse_prefix_operand-returns-in-Ok g t c =
-    m.on (Ok _)
-    (s.on_then (s.on_seen c.in_ok-at.ensures.looks (λ x ts same e. refl)) c.in-Ok.ensures.reads.on)
-    c.parse_unary_expr.ensures.grows c.in-Ok.ensures.from
-
-pub parse_prefix_operand-returns-in-Err : goal.parse_prefix_operand-returns-in-Err
-parse_prefix_operand-returns-in-Err g t c =
-    m.on c.recover.result
-    (s.continues_after g.I.Tokens.model g.B.Bodies.is_faithful (tree_of c.recover.new.self.nodes) _ _ c.recover.result (s.on_seen c.in_ok-at.ensures.looks (λ x ts same e. refl))
-    (s.continues_recovered g.I.Tokens.model g.B.Bodies.is_faithful (tree_of c.recover.new.self.nodes) _ _ c.recover.result c.in-Err.ensures.reads c.recover.ensures.effect c.recover.ensures.notes c.recover.ensures.some))
-    (grows-then c.parse_unary_expr.ensures.grows c.recover.ensures.grows) (if_from _ _ _ itself c.recover.result (grows-count c.parse_unary_expr.ensures.grows) c.recover.ensures.from)
-
-pub parse_unary_expr-returns-in-Some : goal.parse_unary_expr-returns-in-Some
-parse_unary_expr-returns-in-Some g t c =
-    m.after c.parse_prefix_expr.result (s.on_seen c.in_ok-look.ensures.looks (λ x ts same e. rule.unary_prefix _ c.in-Some.op x ts (ap prefix_at e ∙ sym c.cur_prefix_op.ensures.value ∙ c.in-Some.is))) (grows-same _) c.parse_prefix_expr.ensures
-
-pub parse_unary_expr-returns-in-None : goal.parse_unary_expr-returns-in-None
-parse_unary_expr-returns-in-None g t c =
-    m.after c.parse_primary_expr.result (s.on_seen c.in_ok-look.ensures.looks (λ x ts same e. rule.unary_primary _ x ts (ap prefix_at e ∙ sym c.cur_prefix_op.ensures.value ∙ c.in-None.is))) (grows-same _) c.parse_primary_expr.ensures
-
-pub parse_prefix_expr-returns-in_err-arg : goal.parse_prefix_expr-returns-in_err-arg
-parse_prefix_expr-returns-in_err-arg g t c =
-    let p = err_from_is_err_and c.from_residual.result c.from_residual.ensures.1 in rw (p.1, p.2)
-    (m.no (s.unheard_after (s.on_took {g = prefixed _ (plain c.skip.ensures.took.1.was).span c.args.op} g.met.I.Tokens.laws c.skip.ensures.took.1 (λ x ts. rule.prefix_opens _ c.args.op (plain c.skip.ensures.took.1.was) x ts))
-    (s.unheard_call (λ x p. prefix_node _ (plain c.skip.ensures.took.1.was).span c.args.op x p.0 p.1) (λ x ts. rule.prefixed_splits _ (plain c.skip.ensures.took.1.was).span c.args.op x ts) c.in_err-arg.ensures.reads)) c.parse_prefix_operand.ensures.grows)
-
-pub parse_prefix_expr-returns-in_err-check_delete : goal.parse_prefix_expr-returns-in_err-check_delete
-parse_prefix_expr-returns-in_err-check_delete g t c =
-    let p = err_from_is_err_and c.from_residual-in_err-check_delete.result c.from_residual-in_err-check_delete.ensures.1 in rw (p.1, p.2)
-    (m.no (s.unheard_memory (s.forgoes_later (s.leads_then (s.took_leads g.met.I.Tokens.laws c.skip.ensures.took.1) c.in_ok-arg.ensures.reads.leads) c.in_err-check_delete.ensures.checks)) c.parse_prefix_operand.ensures.grows)
-
-pub parse_prefix_expr-returns : goal.parse_prefix_expr-returns
-parse_prefix_expr-returns g t c =
-    let first = c.skip.ensures.took.1 in
-    let whole : unary_e (to first.was.span (span_of (tree_of c.parse_prefix_operand.new.self.nodes c.in_ok-arg.arg))) c.args.op (tree_of c.parse_prefix_operand.new.self.nodes c.in_ok-arg.arg) ≡ unary_e (between c.cur_span.result.lo (span_of (tree_of c.parse_prefix_operand.new.self.nodes c.in_ok-arg.arg)).hi) c.args.op (tree_of c.parse_prefix_operand.new.self.nodes c.in_ok-arg.arg) =
-    ap (λ v. unary_e (between v (span_of (tree_of c.parse_prefix_operand.new.self.nodes c.in_ok-arg.arg)).hi) c.args.op (tree_of c.parse_prefix_operand.new.self.nodes c.in_ok-arg.arg)) (ap (λ v. v.lo) (sym (s.place_was first c.cur_span.result c.cur_span.ensures))) in
-    m.node _ c.unary-node.result c.made.result c.in_ok-arg.ensures.from.above c.unary-node.ensures.made c.made.ensures.ok c.made.ensures.refused c.parse_prefix_operand.ensures.grows c.unary-node.ensures.grows
-    (s.heard_answer whole (s.heard_first g.met.I.Tokens.laws first (λ x ts. rule.prefix_opens _ c.args.op (plain first.was) x ts)
-    (s.on_then (s.on_call (λ x p. prefix_node _ (plain c.skip.ensures.took.1.was).span c.args.op x p.0 p.1) (λ x ts. rule.prefixed_splits _ (plain c.skip.ensures.took.1.was).span c.args.op x ts) c.in_ok-arg.ensures.reads)
-    (s.on_checked_in (delete_ok (context g.I.Tokens.model c.parse_prefix_operand.new.self.input) c.args.op (tree_of c.parse_prefix_operand.new.self.nodes c.in_ok-arg.arg)) c.in_ok-check_delete.ensures.checks
-    (λ ts h. rule.prefix_well _ (plain c.skip.ensures.took.1.was).span c.args.op (context g.I.Tokens.model c.parse_prefix_operand.new.self.input) (tree_of c.parse_prefix_operand.new.self.nodes c.in_ok-arg.arg) ts h)
-    (λ ts h. rule.prefix_ill _ (plain c.skip.ensures.took.1.was).span c.args.op (context g.I.Tokens.model c.parse_prefix_operand.new.self.input) (tree_of c.parse_prefix_operand.new.self.nodes c.in_ok-arg.arg) ts h)))))
-
-pub parse_operation-returns-in_err-refuse_unary_in_exp : goal.parse_operation-returns-in_err-refuse_unary_in_exp
-parse_operation-returns-in_err-refuse_unary_in_exp g t c =
-    let p = err_from_is_err_and c.from_residual.result c.from_residual.ensures.1 in rw (p.1, p.2)
-    (m.no (s.unheard_after (s.on_took {g = operation _ c.args.op (tree_of c.args.self.now.nodes c.args.left) c.args.min_prec} g.met.I.Tokens.laws c.skip.ensures.took.1 (λ x ts. refl))
-    (s.unheard_none (λ x ts. rule.operation_ends _ c.args.op (tree_of c.args.self.now.nodes c.args.left) c.args.min_prec x ts c.in_err-refuse_unary_in_exp.ensures.refuses.1) c.in_err-refuse_unary_in_exp.ensures.refuses.0)) (grows-same _))
-
-pub parse_operation-returns-in_err-right : goal.parse_operation-returns-in_err-right
-parse_operation-returns-in_err-right g t c =
-    let p = err_from_is_err_and c.from_residual-in_err-right.result c.from_residual-in_err-right.ensures.1 in rw (p.1, p.2)
-    (m.no (s.unheard_after (s.on_then (s.on_took {g = operation _ c.args.op (tree_of c.args.self.now.nodes c.args.left) c.args.min_prec} g.met.I.Tokens.laws c.skip.ensures.took.1 (λ x ts. refl)) (s.on_same {f = operation _ c.args.op (tree_of c.args.self.now.nodes c.args.left) c.args.min_prec} g.met.I.Tokens.laws c.in_ok-refuse_unary_in_exp.ensures.passes.0))
-    (s.unheard_call (λ x p. node_by _ c.args.op (tree_of c.args.self.now.nodes c.args.left) c.args.min_prec p.0 p.1) (λ x ts. rule.operation_splits _ c.args.op (tree_of c.args.self.now.nodes c.args.left) c.args.min_prec x ts c.in_ok-refuse_unary_in_exp.ensures.passes.1) c.in_err-right.ensures.reads)) c.parse_right_operand.ensures.grows)
-
-pub parse_operation-returns-in_err-check_operands : goal.parse_operation-returns-in_err-check_operands
-parse_operation-returns-in_err-check_operands g t c =
-    let p = err_from_is_err_and c.from_residual-in_err-check_operands.result c.from_residual-in_err-check_operands.ensures.1 in rw (p.1, p.2)
-    (m.no (s.unheard_memory (s.forgoes_later (s.leads_then (s.leads_then (s.took_leads g.met.I.Tokens.laws c.skip.ensures.took.1) (s.same_leads g.met.I.Tokens.laws c.in_ok-refuse_unary_in_exp.ensures.passes.0)) c.in_ok-right.ensures.reads.on.leads) c.in_err-check_operands.ensures.checks)) c.parse_right_operand.ensures.grows)
-
-pub parse_operation-returns-in_err-node : goal.parse_operation-returns-in_err-node
-parse_operation-returns-in_err-node g t c =
-    let p = err_from_is_err_and c.from_residual-in_err-node.result c.from_residual-in_err-node.ensures.1 in rw (p.1, p.2)
-    (m.no (s.unheard_memory (s.forgoes_later (s.leads_then (s.leads_then (s.leads_then (s.took_leads g.met.I.Tokens.laws c.skip.ensures.took.1) (s.same_leads g.met.I.Tokens.laws c.in_ok-refuse_unary_in_exp.ensures.passes.0)) c.in_ok-right.ensures.reads.on.leads) c.in_ok-check_operands.ensures.checks.leads) (s.forgoes_here g.met.I.Tokens.laws _ _ _ c.in_err-node.ensures.refused))) (grows-then c.parse_right_operand.ensures.grows c.bin-node.ensures.grows))
-
-pub parse_operation-returns : goal.parse_operation-returns
-parse_operation-returns g t c =
-    let later = tree-later c.parse_right_operand.ensures.grows c.requires.from in
-    let made = made_at _ _ _ c.bin-node.result c.in_ok-node.node c.bin-node.ensures.made c.in_ok-node.ensures.ok in
-    let whole = ap (λ v. bin_e (to (span_of v) (span_of (tree_of c.parse_right_operand.new.self.nodes c.in_ok-right.right))) c.args.op v (tree_of c.parse_right_operand.new.self.nodes c.in_ok-right.right)) (sym later) ∙ sym made.stands in
-    m.yes (Ok _)
-    (s.heard_answer (ap (λ v. (v, Some c.args.min_prec)) whole) (s.heard_first g.met.I.Tokens.laws c.skip.ensures.took.1 (λ x ts. refl) (s.on_then (s.on_same {f = operation _ c.args.op (tree_of c.args.self.now.nodes c.args.left) c.args.min_prec} g.met.I.Tokens.laws c.in_ok-refuse_unary_in_exp.ensures.passes.0)
-    (s.on_then (s.on_call (λ x p. node_by _ c.args.op (tree_of c.args.self.now.nodes c.args.left) c.args.min_prec p.0 p.1) (λ x ts. rule.operation_splits _ c.args.op (tree_of c.args.self.now.nodes c.args.left) c.args.min_prec x ts c.in_ok-refuse_unary_in_exp.ensures.passes.1) c.in_ok-right.ensures.reads.on)
-    (s.on_checked (nullish_ok c.args.op (tree_of c.parse_right_operand.new.self.nodes c.args.left) (tree_of c.parse_right_operand.new.self.nodes c.in_ok-right.right)) c.in_ok-check_operands.ensures.checks
-    (λ x ts h. rule.node_well _ c.args.op (tree_of c.args.self.now.nodes c.args.left) (tree_of c.parse_right_operand.new.self.nodes c.in_ok-right.right) c.args.min_prec ts (ap (λ v. nullish_ok c.args.op v (tree_of c.parse_right_operand.new.self.nodes c.in_ok-right.right)) (sym later) ∙ h))
-    (λ x ts h. rule.node_ill _ c.args.op (tree_of c.args.self.now.nodes c.args.left) (tree_of c.parse_right_operand.new.self.nodes c.in_ok-right.right) c.args.min_prec ts (ap (λ v. nullish_ok c.args.op v (tree_of c.parse_right_operand.new.self.nodes c.in_ok-right.right)) (sym later) ∙ h)))))))
-    (grows-then c.parse_right_operand.ensures.grows c.bin-node.ensures.grows) (from-down (first_kept c.parse_right_operand.ensures.grows c.requires.from) made.from)
-
 pub parse_bin_op_recursively_inner-returns-clause-step : goal.parse_bin_op_recursively_inner-returns-clause-step
 parse_bin_op_recursively_inner-returns-clause-step g t c =
-    m.on_after c.parse_operation.result (s.on_seen {g = behind (operation _ c.in-Some.op (tree_of c.args.self.now.nodes c.args.left) c.args.min_prec)} c.in_ok-look.ensures.looks (λ x ts same e. rule.turn_takes _ (tree_of c.args.self.now.nodes c.args.left) c.args.min_prec c.in-Some.op x ts
+    m.on_after c.parse_bin_op.result (s.on_seen {g = behind (bin_op _ c.in-Some.op (tree_of c.args.self.now.nodes c.args.left) c.args.min_prec)} c.in_ok-look.ensures.looks (λ x ts same e. rule.turn_takes _ (tree_of c.args.self.now.nodes c.args.left) c.args.min_prec c.in-Some.op x ts
     (rule.same_op c.cur_binary_op.result (Some c.in-Some.op) same e c.cur_binary_op.ensures.value c.in-Some.is)
-    (let lt = c.if-precedence-min_prec.false in let p = c.precedence.ensures in omega arith))) (grows-same _) (m.weaker c.parse_operation.result c.parse_operation.ensures)
-
-pub parse_right_operand-returns-in_err-left_of_right : goal.parse_right_operand-returns-in_err-left_of_right
-parse_right_operand-returns-in_err-left_of_right g t c =
-    let p = err_from_is_err_and c.from_residual.result c.from_residual.ensures.1 in rw (p.1, p.2)
-    (m.no (s.unheard_call (λ x p. run _ (climb p.0 (min_right c.args.op)) x p.1) (λ x ts. rule.right_splits _ c.args.op (min_right c.args.op) x ts refl) c.in_err-left_of_right.ensures.reads) c.parse_unary_expr.ensures.grows)
-
-pub parse_right_operand-returns : goal.parse_right_operand-returns
-parse_right_operand-returns g t c =
-    m.call c.parse_bin_op_recursively.result (λ x p. run _ (climb p.0 c.right_min_prec.result) x p.1)
-    (λ x ts. rule.right_splits _ c.args.op c.right_min_prec.result x ts c.right_min_prec.ensures)
-    c.in_ok-left_of_right.ensures.reads c.parse_unary_expr.ensures.grows c.in_ok-left_of_right.ensures.from.above c.parse_bin_op_recursively.ensures
-
-pub parse_primary_expr-returns-then-is_hash : goal.parse_primary_expr-returns-then-is_hash
-parse_primary_expr-returns-then-is_hash g t c =
-    m.after c.parse_private_expr.result (s.on_seen c.in_ok-look.ensures.looks (λ x ts same e. rule.primary_private _ x ts
-    (ap (at_token is_hash) e ∙ sym c.is_hash.ensures.value ∙ c.if-is_hash.true))) (grows-same _) c.parse_private_expr.ensures
-
-pub parse_primary_expr-returns : goal.parse_primary_expr-returns
-parse_primary_expr-returns g t c =
-    m.no (s.unheard_at c.in_ok-look.ensures.looks (λ x ts same e. rule.primary_ends _ x ts (ap (at_token is_lit) e ∙ sym c.is_lit.ensures.value ∙ c.if-is_lit.false)
-    (ap (at_token is_lparen) e ∙ sym c.is_lparen.ensures.value ∙ c.if-is_lparen.false)
-    (ap (λ v. at_token (is_identifier x) v) e ∙ ap (λ v. at_token (is_identifier v) (seen c.look.new.input)) same ∙ sym c.is_ident_ref.ensures.value ∙ c.if-is_ident_ref.false)
-    (ap (at_token is_hash) e ∙ sym c.is_hash.ensures.value ∙ c.if-is_hash.false))
-    c.syntax_error.ensures.refuses) (grows-same _)
-
-pub parse_bin_expr_without_left-returns-in_err-left : goal.parse_bin_expr_without_left-returns-in_err-left
-parse_bin_expr_without_left-returns-in_err-left g t c =
-    let p = err_from_is_err_and c.from_residual.result c.from_residual.ensures.1 in
-    let h = c.in_err-left.ensures.recovers in rw (p.1, p.2) (m.not_recovered h.effect h.memory h.grows)
-
-pub parse_bin_expr_without_left-returns-in_err-node : goal.parse_bin_expr_without_left-returns-in_err-node
-parse_bin_expr_without_left-returns-in_err-node g t c =
-    let p = err_from_is_err_and c.from_residual-in_err-node.result c.from_residual-in_err-node.ensures.1 in
-    let h = c.in_ok-left.ensures.recovers in rw (p.1, p.2)
-    (m.not_recovered (s.refuses_later h.effect c.in_err-node.ensures.reads.refuses) (λ n. h.some) (grows-then h.grows c.parse_operation.ensures.grows))
-
-pub parse_bin_expr_without_left-returns-in_err-check_nullish_left : goal.parse_bin_expr_without_left-returns-in_err-check_nullish_left
-parse_bin_expr_without_left-returns-in_err-check_nullish_left g t c =
-    let p = err_from_is_err_and c.from_residual-in_err-check_nullish_left.result c.from_residual-in_err-check_nullish_left.ensures.1 in
-    let h = c.in_ok-left.ensures.recovers in rw (p.1, p.2)
-    (m.not_recovered (s.refuses_later (s.leads_then h.effect c.in_ok-node.ensures.reads.on.leads) (s.forgoes_refuses c.in_err-check_nullish_left.ensures.checks)) (λ n. h.some) (grows-then h.grows c.parse_operation.ensures.grows))
-
-pub parse_bin_expr_without_left-returns : goal.parse_bin_expr_without_left-returns
-parse_bin_expr_without_left-returns g t c =
-    let h = c.in_ok-left.ensures.recovers in
-    let effect = s.consumes_then g.I.Tokens.model g.B.Bodies.is_faithful (tree_of c.parse_bin_op_recursively.new.self.nodes) (run _ (climb (tree_of c.parse_operation.new.self.nodes c.in_ok-node.node) 0)) h.effect (s.leads_then c.in_ok-node.ensures.reads.on.leads c.in_ok-check_nullish_left.ensures.checks.leads) (s.longer c.in_ok-node.ensures.reads.on.leads c.in_ok-check_nullish_left.ensures.checks.leads c.in_ok-node.ensures.reads.some) _ c.parse_bin_op_recursively.result c.parse_bin_op_recursively.ensures.reads in
-    let first = h.from.above in
-    let above = c.in_ok-node.ensures.from.above in record {
-      effect = effect;
-      notes = λ l. s.notes_then g.I.Tokens.model g.B.Bodies.is_faithful (tree_of c.parse_bin_op_recursively.new.self.nodes) (run _ (climb (tree_of c.parse_operation.new.self.nodes c.in_ok-node.node) 0)) c.args.self.now.input (h.notes l) (s.leads_then c.in_ok-node.ensures.reads.on.leads c.in_ok-check_nullish_left.ensures.checks.leads) _ c.parse_bin_op_recursively.result c.parse_bin_op_recursively.ensures.reads;
-      some = s.on_ok c.parse_bin_op_recursively.result h.some;
-      memory = s.if_err (λ e. e.kind ≢ OutOfMemory) c.parse_bin_op_recursively.result h.some;
-      falls = s.consumes_falls g.I.Tokens.model _ _ c.parse_bin_op_recursively.result effect;
-      grows = grows-then (grows-then h.grows c.parse_operation.ensures.grows) c.parse_bin_op_recursively.ensures.grows;
-      from = if_from _ _ _ itself c.parse_bin_op_recursively.result (omega arith) c.parse_bin_op_recursively.ensures.from;
-    }
-
-pub parse_primary_expr-returns-in_err-look : goal.parse_primary_expr-returns-in_err-look
-parse_primary_expr-returns-in_err-look g t c =
-    let p = err_from_is_err_and c.from_residual.result c.from_residual.ensures.1 in rw (p.1, p.2)
-    (m.no (s.unheard_memory c.in_err-look.ensures.looks) (grows-same _))
-
-pub parse_unary_expr-returns-in_err-look : goal.parse_unary_expr-returns-in_err-look
-parse_unary_expr-returns-in_err-look g t c =
-    let p = err_from_is_err_and c.from_residual.result c.from_residual.ensures.1 in rw (p.1, p.2)
-    (m.no (s.unheard_memory c.in_err-look.ensures.looks) (grows-same _))
+    (let lt = c.if-precedence-min_prec.false in let p = c.precedence.ensures in omega arith))) (grows-same _) (m.weaker c.parse_bin_op.result c.parse_bin_op.ensures)
 
 pub parse_bin_op_recursively_inner-returns-in_err-look-clause-step : goal.parse_bin_op_recursively_inner-returns-in_err-look-clause-step
 parse_bin_op_recursively_inner-returns-in_err-look-clause-step g t c =
     let p = err_from_is_err_and c.from_residual.result c.from_residual.ensures.1 in rw (p.1, p.2)
     (m.no_more (s.unheard_memory c.in_err-look.ensures.looks) (grows-same _))
 
--- ---- numbers that are held
+pub parse_bin_op-returns-in_err-refuse_unary_in_exp : goal.parse_bin_op-returns-in_err-refuse_unary_in_exp
+parse_bin_op-returns-in_err-refuse_unary_in_exp g t c =
+    let p = err_from_is_err_and c.from_residual.result c.from_residual.ensures.1 in rw (p.1, p.2)
+    (m.no (s.unheard_after (s.on_took {g = bin_op _ c.args.op (tree_of c.args.self.now.nodes c.args.left) c.args.min_prec} g.met.I.Tokens.laws c.skip.ensures.took.1 (λ x ts. refl))
+    (s.unheard_none (λ x ts. rule.bin_op_ends _ c.args.op (tree_of c.args.self.now.nodes c.args.left) c.args.min_prec x ts c.in_err-refuse_unary_in_exp.ensures.refuses.1) c.in_err-refuse_unary_in_exp.ensures.refuses.0)) (grows-same _))
 
-pub parse_operation-check_operands-requires-clause-left : goal.parse_operation-check_operands-requires-clause-left
-parse_operation-check_operands-requires-clause-left g t c = from-later c.parse_right_operand.ensures.grows c.requires.from
+pub parse_bin_op-returns-in_err-right : goal.parse_bin_op-returns-in_err-right
+parse_bin_op-returns-in_err-right g t c =
+    let p = err_from_is_err_and c.from_residual-in_err-right.result c.from_residual-in_err-right.ensures.1 in rw (p.1, p.2)
+    (m.no (s.unheard_after (s.on_then (s.on_took {g = bin_op _ c.args.op (tree_of c.args.self.now.nodes c.args.left) c.args.min_prec} g.met.I.Tokens.laws c.skip.ensures.took.1 (λ x ts. refl)) (s.on_same {f = bin_op _ c.args.op (tree_of c.args.self.now.nodes c.args.left) c.args.min_prec} g.met.I.Tokens.laws c.in_ok-refuse_unary_in_exp.ensures.passes.0))
+    (s.unheard_call (λ x p. bin_op_node _ c.args.op (tree_of c.args.self.now.nodes c.args.left) c.args.min_prec p.0 p.1) (λ x ts. rule.bin_op_splits _ c.args.op (tree_of c.args.self.now.nodes c.args.left) c.args.min_prec x ts c.in_ok-refuse_unary_in_exp.ensures.passes.1) c.in_err-right.ensures.reads)) c.parse_bin_operand.ensures.grows)
 
-pub parse_operation-bin-node-requires-clause-left : goal.parse_operation-bin-node-requires-clause-left
-parse_operation-bin-node-requires-clause-left g t c = from-later c.parse_right_operand.ensures.grows c.requires.from
+pub parse_bin_op-returns-in_err-check_operands : goal.parse_bin_op-returns-in_err-check_operands
+parse_bin_op-returns-in_err-check_operands g t c =
+    let p = err_from_is_err_and c.from_residual-in_err-check_operands.result c.from_residual-in_err-check_operands.ensures.1 in rw (p.1, p.2)
+    (m.no (s.unheard_memory (s.forgoes_later (s.leads_then (s.leads_then (s.took_leads g.met.I.Tokens.laws c.skip.ensures.took.1) (s.same_leads g.met.I.Tokens.laws c.in_ok-refuse_unary_in_exp.ensures.passes.0)) c.in_ok-right.ensures.reads.on.leads) c.in_err-check_operands.ensures.checks)) c.parse_bin_operand.ensures.grows)
+
+pub parse_bin_op-returns-in_err-node : goal.parse_bin_op-returns-in_err-node
+parse_bin_op-returns-in_err-node g t c =
+    let p = err_from_is_err_and c.from_residual-in_err-node.result c.from_residual-in_err-node.ensures.1 in rw (p.1, p.2)
+    (m.no (s.unheard_memory (s.forgoes_later (s.leads_then (s.leads_then (s.leads_then (s.took_leads g.met.I.Tokens.laws c.skip.ensures.took.1) (s.same_leads g.met.I.Tokens.laws c.in_ok-refuse_unary_in_exp.ensures.passes.0)) c.in_ok-right.ensures.reads.on.leads) c.in_ok-check_operands.ensures.checks.leads) (s.forgoes_here g.met.I.Tokens.laws _ _ _ c.in_err-node.ensures.refused))) (grows-then c.parse_bin_operand.ensures.grows c.bin-node.ensures.grows))
+
+pub parse_bin_op-returns : goal.parse_bin_op-returns
+parse_bin_op-returns g t c =
+    let later = tree-later c.parse_bin_operand.ensures.grows c.requires.from in
+    let made = made_at _ _ _ c.bin-node.result c.in_ok-node.node c.bin-node.ensures.made c.in_ok-node.ensures.ok in
+    let whole = ap (λ v. bin_e (to (span_of v) (span_of (tree_of c.parse_bin_operand.new.self.nodes c.in_ok-right.right))) c.args.op v (tree_of c.parse_bin_operand.new.self.nodes c.in_ok-right.right)) (sym later) ∙ sym made.stands in
+    m.yes (Ok _)
+    (s.heard_answer (ap (λ v. (v, Some c.args.min_prec)) whole) (s.heard_first g.met.I.Tokens.laws c.skip.ensures.took.1 (λ x ts. refl) (s.on_then (s.on_same {f = bin_op _ c.args.op (tree_of c.args.self.now.nodes c.args.left) c.args.min_prec} g.met.I.Tokens.laws c.in_ok-refuse_unary_in_exp.ensures.passes.0)
+    (s.on_then (s.on_call (λ x p. bin_op_node _ c.args.op (tree_of c.args.self.now.nodes c.args.left) c.args.min_prec p.0 p.1) (λ x ts. rule.bin_op_splits _ c.args.op (tree_of c.args.self.now.nodes c.args.left) c.args.min_prec x ts c.in_ok-refuse_unary_in_exp.ensures.passes.1) c.in_ok-right.ensures.reads.on)
+    (s.on_checked (nullish_ok c.args.op (tree_of c.parse_bin_operand.new.self.nodes c.args.left) (tree_of c.parse_bin_operand.new.self.nodes c.in_ok-right.right)) c.in_ok-check_operands.ensures.checks
+    (λ x ts h. rule.bin_op_well _ c.args.op (tree_of c.args.self.now.nodes c.args.left) (tree_of c.parse_bin_operand.new.self.nodes c.in_ok-right.right) c.args.min_prec ts (ap (λ v. nullish_ok c.args.op v (tree_of c.parse_bin_operand.new.self.nodes c.in_ok-right.right)) (sym later) ∙ h))
+    (λ x ts h. rule.bin_op_ill _ c.args.op (tree_of c.args.self.now.nodes c.args.left) (tree_of c.parse_bin_operand.new.self.nodes c.in_ok-right.right) c.args.min_prec ts (ap (λ v. nullish_ok c.args.op v (tree_of c.parse_bin_operand.new.self.nodes c.in_ok-right.right)) (sym later) ∙ h)))))))
+    (grows-then c.parse_bin_operand.ensures.grows c.bin-node.ensures.grows) (from-down (first_kept c.parse_bin_operand.ensures.grows c.requires.from) made.from)
+
+pub parse_bin_op-check_operands-requires-clause-left : goal.parse_bin_op-check_operands-requires-clause-left
+parse_bin_op-check_operands-requires-clause-left g t c = from-later c.parse_bin_operand.ensures.grows c.requires.from
+
+pub parse_bin_op-bin-node-requires-clause-left : goal.parse_bin_op-bin-node-requires-clause-left
+parse_bin_op-bin-node-requires-clause-left g t c = from-later c.parse_bin_operand.ensures.grows c.requires.from
+
+pub parse_bin_operand-returns-in_err-left_of_right : goal.parse_bin_operand-returns-in_err-left_of_right
+parse_bin_operand-returns-in_err-left_of_right g t c =
+    let p = err_from_is_err_and c.from_residual.result c.from_residual.ensures.1 in rw (p.1, p.2)
+    (m.no (s.unheard_call (λ x p. run _ (climb p.0 (min_right c.args.op)) x p.1) (λ x ts. rule.right_splits _ c.args.op (min_right c.args.op) x ts refl) c.in_err-left_of_right.ensures.reads) c.parse_unary_expr.ensures.grows)
+
+pub parse_bin_operand-returns : goal.parse_bin_operand-returns
+parse_bin_operand-returns g t c =
+    m.call c.parse_bin_op_recursively.result (λ x p. run _ (climb p.0 c.right_min_prec.result) x p.1)
+    (λ x ts. rule.right_splits _ c.args.op c.right_min_prec.result x ts c.right_min_prec.ensures)
+    c.in_ok-left_of_right.ensures.reads c.parse_unary_expr.ensures.grows c.in_ok-left_of_right.ensures.from.above c.parse_bin_op_recursively.ensures
+
+pub parse_assignment_expr-returns-in_err-require_cur : goal.parse_assignment_expr-returns-in_err-require_cur
+parse_assignment_expr-returns-in_err-require_cur g t c =
+    let p = err_from_is_err_and c.from_residual.result c.from_residual.ensures.1 in rw (p.1, p.2)
+    (m.no (s.unheard_unfit g.met.I.Tokens.laws (λ x ts h. rule.assign_bad _ x ts h) c.in_err-require_cur.ensures.fits) (grows-same _))
+
+pub parse_assignment_expr-returns : goal.parse_assignment_expr-returns
+parse_assignment_expr-returns g t c =
+    m.after c.parse_bin_expr.result (s.on_seen c.in_ok-require_cur.ensures.fits (λ x ts same e. rule.assign_good _ x ts (ap (at_token no_error) e ∙ c.in_ok-require_cur.ensures.token))) (grows-same _) c.parse_bin_expr.ensures
+
+pub parse_assignment_expr_with_in-returns : goal.parse_assignment_expr_with_in-returns
+parse_assignment_expr_with_in-returns g t c =
+    m.yes c.parse_assignment_expr-expr.result
+    (s.parses_within g.I.Tokens.model g.B.Bodies.is_faithful (tree_of c.parse_assignment_expr-expr.new.self.nodes) _ (run _ (at Assign)) c.parse_assignment_expr-expr.result with_in (λ x. refl) (λ x ts. rule.inside_assign _ x ts)
+    c.set_ctx.ensures.moves (c.set_ctx.ensures.context ∙ ap with_in c.get_ctx-ctx.ensures) c.parse_assignment_expr-expr.ensures.reads c.set_ctx-2.ensures.moves
+    (c.set_ctx-2.ensures.context ∙ c.get_ctx-ctx.ensures))
+    c.parse_assignment_expr-expr.ensures.grows c.parse_assignment_expr-expr.ensures.from

@@ -13,20 +13,20 @@ decreases-parse_paren_expr g l = to_come g.I.Tokens.model l.self.now.input * 20 
 abbrev pub decreases-parse_primary_expr : goal.decreases-parse_primary_expr
 decreases-parse_primary_expr g l = to_come g.I.Tokens.model l.self.now.input * 20 + 2
 
-abbrev pub decreases-parse_prefix_expr : goal.decreases-parse_prefix_expr
-decreases-parse_prefix_expr g l = to_come g.I.Tokens.model l.self.now.input * 20 + 3
+abbrev pub decreases-parse_unary_op : goal.decreases-parse_unary_op
+decreases-parse_unary_op g l = to_come g.I.Tokens.model l.self.now.input * 20 + 3
 
 abbrev pub decreases-parse_unary_expr : goal.decreases-parse_unary_expr
 decreases-parse_unary_expr g l = to_come g.I.Tokens.model l.self.now.input * 20 + 4
 
-abbrev pub decreases-parse_prefix_operand : goal.decreases-parse_prefix_operand
-decreases-parse_prefix_operand g l = to_come g.I.Tokens.model l.self.now.input * 20 + 5
+abbrev pub decreases-parse_unary_operand : goal.decreases-parse_unary_operand
+decreases-parse_unary_operand g l = to_come g.I.Tokens.model l.self.now.input * 20 + 5
 
-abbrev pub decreases-parse_right_operand : goal.decreases-parse_right_operand
-decreases-parse_right_operand g l = to_come g.I.Tokens.model l.self.now.input * 20 + 6
+abbrev pub decreases-parse_bin_operand : goal.decreases-parse_bin_operand
+decreases-parse_bin_operand g l = to_come g.I.Tokens.model l.self.now.input * 20 + 6
 
-abbrev pub decreases-parse_operation : goal.decreases-parse_operation
-decreases-parse_operation g l = to_come g.I.Tokens.model l.self.now.input * 20 + 7
+abbrev pub decreases-parse_bin_op : goal.decreases-parse_bin_op
+decreases-parse_bin_op g l = to_come g.I.Tokens.model l.self.now.input * 20 + 7
 
 abbrev pub decreases-parse_bin_op_recursively_inner : goal.decreases-parse_bin_op_recursively_inner
 decreases-parse_bin_op_recursively_inner g l = to_come g.I.Tokens.model l.self.now.input * 20 + 8

@@ -15,7 +15,7 @@ pub returns-in_err-ident : goal.returns-in_err-ident
 returns-in_err-ident g c =
     let p = err_from_is_err_and c.from_residual.result c.from_residual.ensures.1 in rw (p.1, p.2)
     (m.no (s.unheard_after (s.on_seen (s.here_now g.met.I.Tokens.laws _ (s.seen_some (is_identifier (context g.I.Tokens.model c.args.self.now.input)) c.args.self.now.input c.requires))
-    (λ x ts same e. rule.ident_named _ x ts (ap (λ v. at_token (is_identifier v) (first ts)) same ∙ ap (at_token (is_identifier (context g.I.Tokens.model c.args.self.now.input))) e ∙ c.requires)))
+    (λ x ts same e. rule.ident_expr_named _ x ts (ap (λ v. at_token (is_identifier v) (first ts)) same ∙ ap (at_token (is_identifier (context g.I.Tokens.model c.args.self.now.input))) e ∙ c.requires)))
     (s.unheard_call (λ x p. Some (ident_e p.0.at p.0.text, p.1)) (λ x ts. refl) (c.in_err-ident.ensures.parses g.B.Bodies.is_faithful))) (grows-same _))
 
 pub returns-in_err-check_strict_word : goal.returns-in_err-check_strict_word
@@ -29,7 +29,7 @@ returns g c =
     let kept = ap (λ x. x.«module») word.on.leads.read.context in
     m.node _ c.ident-node.result c.made.result (omega arith) c.ident-node.ensures.made c.made.ensures.ok c.made.ensures.refused (grows-same _) c.ident-node.ensures.grows
     (s.heard_after (s.on_seen (s.here_now g.met.I.Tokens.laws _ (s.seen_some (is_identifier (context g.I.Tokens.model c.args.self.now.input)) c.args.self.now.input c.requires))
-    (λ x ts same e. rule.ident_named _ x ts (ap (λ v. at_token (is_identifier v) (first ts)) same ∙ ap (at_token (is_identifier (context g.I.Tokens.model c.args.self.now.input))) e ∙ c.requires)))
+    (λ x ts same e. rule.ident_expr_named _ x ts (ap (λ v. at_token (is_identifier v) (first ts)) same ∙ ap (at_token (is_identifier (context g.I.Tokens.model c.args.self.now.input))) e ∙ c.requires)))
     (s.heard_unless ((context g.I.Tokens.model c.parse_ident_ref.new.input).«module» && c.is_strict_word-is_strict.result) (λ x p. Some (ident_e p.0.at p.0.text, p.1)) (λ x ts. refl) (λ x ts. refl)
     (s.seen_some (is_identifier (context g.I.Tokens.model c.args.self.now.input)) c.args.self.now.input c.requires) word c.in_ok-check_strict_word.ensures.checks
     (λ bad ts first. rule.name_strict (context g.I.Tokens.model c.args.self.now.input) ts
