@@ -97,7 +97,7 @@ parse_paren_expr-returns g t c =
     let whole : paren_e (to first.was.span last.was.span) (tree_of c.parse_assignment_expr_with_in.new.self.nodes c.in_ok-expr.expr) ≡ paren_e (between c.cur_span.result.lo c.last_pos-2.result) (tree_of c.parse_assignment_expr_with_in.new.self.nodes c.in_ok-expr.expr) =
     ap (λ v. paren_e (between v last.was.span.hi) (tree_of c.parse_assignment_expr_with_in.new.self.nodes c.in_ok-expr.expr)) (ap (λ v. v.lo) (sym (s.place_was first c.cur_span.result c.cur_span.ensures)))
     ∙ ap (λ v. paren_e (between c.cur_span.result.lo v) (tree_of c.parse_assignment_expr_with_in.new.self.nodes c.in_ok-expr.expr)) (ap (λ v. v.hi) (sym (s.last_was last)) ∙ sym c.last_pos-2.ensures) in
-    m.node _ c.paren-node.result c.made.result c.in_ok-expr.ensures.from.above c.paren-node.ensures.made c.made.ensures.ok c.made.ensures.refused c.parse_assignment_expr_with_in.ensures.grows c.paren-node.ensures.grows
+    m.node _ c.paren_expr-node.result c.made.result c.in_ok-expr.ensures.from.above c.paren_expr-node.ensures.made c.made.ensures.ok c.made.ensures.refused c.parse_assignment_expr_with_in.ensures.grows c.paren_expr-node.ensures.grows
     (s.heard_answer whole (s.heard_first g.met.I.Tokens.laws first (λ x ts. rule.paren_expr_opens _ (plain first.was) x ts (rule.passes_plain is_lparen _ _ first.current c.requires))
     (s.on_then (s.on_then (s.on_seen {g = λ x ts. inside _ x ts >>= (λ p. paren_expr_close _ (plain c.skip.ensures.took.1.was).span p.0 p.1)} c.in_ok-look.ensures.looks (λ x ts same e. rule.paren_expr_splits _ (plain c.skip.ensures.took.1.was).span x ts))
     (s.on_call (λ x p. paren_expr_close _ (plain c.skip.ensures.took.1.was).span p.0 p.1) (λ x ts. refl) c.in_ok-expr.ensures.reads.on))
@@ -134,7 +134,7 @@ parse_unary_op-returns g t c =
     let first = c.skip.ensures.took.1 in
     let whole : unary_e (to first.was.span (span_of (tree_of c.parse_unary_operand.new.self.nodes c.in_ok-arg.arg))) c.args.op (tree_of c.parse_unary_operand.new.self.nodes c.in_ok-arg.arg) ≡ unary_e (between c.cur_span.result.lo (span_of (tree_of c.parse_unary_operand.new.self.nodes c.in_ok-arg.arg)).hi) c.args.op (tree_of c.parse_unary_operand.new.self.nodes c.in_ok-arg.arg) =
     ap (λ v. unary_e (between v (span_of (tree_of c.parse_unary_operand.new.self.nodes c.in_ok-arg.arg)).hi) c.args.op (tree_of c.parse_unary_operand.new.self.nodes c.in_ok-arg.arg)) (ap (λ v. v.lo) (sym (s.place_was first c.cur_span.result c.cur_span.ensures))) in
-    m.node _ c.unary-node.result c.made.result c.in_ok-arg.ensures.from.above c.unary-node.ensures.made c.made.ensures.ok c.made.ensures.refused c.parse_unary_operand.ensures.grows c.unary-node.ensures.grows
+    m.node _ c.unary_op-node.result c.made.result c.in_ok-arg.ensures.from.above c.unary_op-node.ensures.made c.made.ensures.ok c.made.ensures.refused c.parse_unary_operand.ensures.grows c.unary_op-node.ensures.grows
     (s.heard_answer whole (s.heard_first g.met.I.Tokens.laws first (λ x ts. rule.unary_op_opens _ c.args.op (plain first.was) x ts)
     (s.on_then (s.on_call (λ x p. unary_op_node _ (plain c.skip.ensures.took.1.was).span c.args.op x p.0 p.1) (λ x ts. rule.unary_op_splits _ (plain c.skip.ensures.took.1.was).span c.args.op x ts) c.in_ok-arg.ensures.reads)
     (s.on_checked_in (delete_ok (context g.I.Tokens.model c.parse_unary_operand.new.self.input) c.args.op (tree_of c.parse_unary_operand.new.self.nodes c.in_ok-arg.arg)) c.in_ok-check_delete.ensures.checks
@@ -282,12 +282,12 @@ parse_bin_op-returns-in_err-check_operands g t c =
 pub parse_bin_op-returns-in_err-node : goal.parse_bin_op-returns-in_err-node
 parse_bin_op-returns-in_err-node g t c =
     let p = err_from_is_err_and c.from_residual-in_err-node.result c.from_residual-in_err-node.ensures.1 in rw (p.1, p.2)
-    (m.no (s.unheard_memory (s.forgoes_later (s.leads_then (s.leads_then (s.leads_then (s.took_leads g.met.I.Tokens.laws c.skip.ensures.took.1) (s.same_leads g.met.I.Tokens.laws c.in_ok-refuse_unary_in_exp.ensures.passes.0)) c.in_ok-right.ensures.reads.on.leads) c.in_ok-check_operands.ensures.checks.leads) (s.forgoes_here g.met.I.Tokens.laws _ _ _ c.in_err-node.ensures.refused))) (grows-then c.parse_bin_operand.ensures.grows c.bin-node.ensures.grows))
+    (m.no (s.unheard_memory (s.forgoes_later (s.leads_then (s.leads_then (s.leads_then (s.took_leads g.met.I.Tokens.laws c.skip.ensures.took.1) (s.same_leads g.met.I.Tokens.laws c.in_ok-refuse_unary_in_exp.ensures.passes.0)) c.in_ok-right.ensures.reads.on.leads) c.in_ok-check_operands.ensures.checks.leads) (s.forgoes_here g.met.I.Tokens.laws _ _ _ c.in_err-node.ensures.refused))) (grows-then c.parse_bin_operand.ensures.grows c.bin_op-node.ensures.grows))
 
 pub parse_bin_op-returns : goal.parse_bin_op-returns
 parse_bin_op-returns g t c =
     let later = tree-later c.parse_bin_operand.ensures.grows c.requires.from in
-    let made = made_at _ _ _ c.bin-node.result c.in_ok-node.node c.bin-node.ensures.made c.in_ok-node.ensures.ok in
+    let made = made_at _ _ _ c.bin_op-node.result c.in_ok-node.node c.bin_op-node.ensures.made c.in_ok-node.ensures.ok in
     let whole = ap (λ v. bin_e (to (span_of v) (span_of (tree_of c.parse_bin_operand.new.self.nodes c.in_ok-right.right))) c.args.op v (tree_of c.parse_bin_operand.new.self.nodes c.in_ok-right.right)) (sym later) ∙ sym made.stands in
     m.yes (Ok _)
     (s.heard_answer (ap (λ v. (v, Some c.args.min_prec)) whole) (s.heard_first g.met.I.Tokens.laws c.skip.ensures.took.1 (λ x ts. refl) (s.on_then (s.on_same {f = bin_op _ c.args.op (tree_of c.args.self.now.nodes c.args.left) c.args.min_prec} g.met.I.Tokens.laws c.in_ok-refuse_unary_in_exp.ensures.passes.0)
@@ -295,13 +295,13 @@ parse_bin_op-returns g t c =
     (s.on_checked (nullish_ok c.args.op (tree_of c.parse_bin_operand.new.self.nodes c.args.left) (tree_of c.parse_bin_operand.new.self.nodes c.in_ok-right.right)) c.in_ok-check_operands.ensures.checks
     (λ x ts h. rule.bin_op_well _ c.args.op (tree_of c.args.self.now.nodes c.args.left) (tree_of c.parse_bin_operand.new.self.nodes c.in_ok-right.right) c.args.min_prec ts (ap (λ v. nullish_ok c.args.op v (tree_of c.parse_bin_operand.new.self.nodes c.in_ok-right.right)) (sym later) ∙ h))
     (λ x ts h. rule.bin_op_ill _ c.args.op (tree_of c.args.self.now.nodes c.args.left) (tree_of c.parse_bin_operand.new.self.nodes c.in_ok-right.right) c.args.min_prec ts (ap (λ v. nullish_ok c.args.op v (tree_of c.parse_bin_operand.new.self.nodes c.in_ok-right.right)) (sym later) ∙ h)))))))
-    (grows-then c.parse_bin_operand.ensures.grows c.bin-node.ensures.grows) (from-down (first_kept c.parse_bin_operand.ensures.grows c.requires.from) made.from)
+    (grows-then c.parse_bin_operand.ensures.grows c.bin_op-node.ensures.grows) (from-down (first_kept c.parse_bin_operand.ensures.grows c.requires.from) made.from)
 
 pub parse_bin_op-check_operands-requires-clause-left : goal.parse_bin_op-check_operands-requires-clause-left
 parse_bin_op-check_operands-requires-clause-left g t c = from-later c.parse_bin_operand.ensures.grows c.requires.from
 
-pub parse_bin_op-bin-node-requires-clause-left : goal.parse_bin_op-bin-node-requires-clause-left
-parse_bin_op-bin-node-requires-clause-left g t c = from-later c.parse_bin_operand.ensures.grows c.requires.from
+pub parse_bin_op-bin_op-node-requires-clause-left : goal.parse_bin_op-bin_op-node-requires-clause-left
+parse_bin_op-bin_op-node-requires-clause-left g t c = from-later c.parse_bin_operand.ensures.grows c.requires.from
 
 pub parse_bin_operand-returns-in_err-left_of_right : goal.parse_bin_operand-returns-in_err-left_of_right
 parse_bin_operand-returns-in_err-left_of_right g t c =

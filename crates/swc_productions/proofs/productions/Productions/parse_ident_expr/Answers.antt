@@ -27,7 +27,7 @@ pub returns : goal.returns
 returns g c =
     let word = c.in_ok-ident.ensures.parses g.B.Bodies.is_faithful in
     let kept = ap (λ x. x.«module») word.on.leads.read.context in
-    m.node _ c.ident-node.result c.made.result (omega arith) c.ident-node.ensures.made c.made.ensures.ok c.made.ensures.refused (grows-same _) c.ident-node.ensures.grows
+    m.node _ c.ident_expr-node.result c.made.result (omega arith) c.ident_expr-node.ensures.made c.made.ensures.ok c.made.ensures.refused (grows-same _) c.ident_expr-node.ensures.grows
     (s.heard_after (s.on_seen (s.here_now g.met.I.Tokens.laws _ (s.seen_some (is_identifier (context g.I.Tokens.model c.args.self.now.input)) c.args.self.now.input c.requires))
     (λ x ts same e. rule.ident_expr_named _ x ts (ap (λ v. at_token (is_identifier v) (first ts)) same ∙ ap (at_token (is_identifier (context g.I.Tokens.model c.args.self.now.input))) e ∙ c.requires)))
     (s.heard_unless ((context g.I.Tokens.model c.parse_ident_ref.new.input).«module» && c.is_strict_word-is_strict.result) (λ x p. Some (ident_e p.0.at p.0.text, p.1)) (λ x ts. refl) (λ x ts. refl)
