@@ -6,8 +6,9 @@
 Reads the rows of crates/bench_grammar/src/lists.rt, `tokens | mode | counts`, and counts anew how many lists of no token, of one, of
 two and so on are expressions. Prints each row whose counts differ, with the right ones. Status 0 if none does.
 
-A list is walked from left to right. What matters of its front: the open parentheses, whether an operand comes next, and which operators
-stand in the parentheses (`??` may not stand beside `||` or `&&`) and before the operand (none may stand left of `**`).
+A list is walked from left to right. What matters of its front: the open parentheses and brackets, whether an operand comes next, and
+which operators stand in these (`??` may not stand beside `||` or `&&`) and before the operand (none may stand left of `**`). Between
+brackets an item begins behind the bracket and behind each comma: there dots may stand, a comma (which makes a hole), or the end.
 """
 import re
 import sys
@@ -23,32 +24,54 @@ BARRED = {
     "implements": {"module", "strict"},
 }
 
-# outer: of each open parenthesis, the family outside it and whether its operand has a prefix operator. family: `??`, `||` (which is that
-# of `&&` too) or none. before: the token before. wants: an operand comes next. prefixed: that operand, or the last one, has a prefix operator.
+# outer: of each open parenthesis or bracket, what closes it, the family outside it and whether its operand has a prefix operator. family:
+# `??`, `||` (which is that of `&&` too) or none. before: the token before. wants: an operand comes next. prefixed: that operand, or the last
+# one, has a prefix operator.
 Front = namedtuple("Front", "outer family before wants prefixed")
+
+
+def opened(front, token):
+    """The front with an opening parenthesis or bracket more."""
+    close = {"(": ")", "[": "]"}[token]
+    return Front(front.outer + ((close, front.family, front.prefixed),), "", token, True, False)
+
+
+def closed(front):
+    """The front with what closes the last parenthesis or bracket more."""
+    _, family, prefixed = front.outer[-1]
+    return Front(front.outer[:-1], family, "", False, prefixed)
+
+
+def item(front, token):
+    """The front with a bracket, a comma or dots more, where an item between brackets begins."""
+    return closed(front) if token == "]" else front._replace(before=token)
 
 
 def operand(front, token, mode):
     """The front with a token more where an operand is wanted, or None."""
     if front.before == "#":
         return front._replace(before="", wants=False) if token.isalpha() else None
+    if front.before in ("[", ",") and token in ("]", ",", "..."):
+        return item(front, token)
     if token in PREFIX:
         return front._replace(before=token, prefixed=True)
     if token == "#":
         return front._replace(before=token)
-    if token == "(":
-        return Front(front.outer + ((front.family, front.prefixed),), "", "", True, False)
+    if token in ("(", "["):
+        return opened(front, token)
     reference = token in ("a", *BARRED) and mode not in BARRED.get(token, ())
     if reference and front.before == "delete" and mode == "module":
         return None
-    return front._replace(before="", wants=False) if reference or token == "1" else None
+    return front._replace(before="", wants=False) if reference or token in ("1", "this") else None
 
 
 def operator(front, token, mode):
     """The front with a token more where an operand is complete, or None."""
-    if token == ")" and front.outer:
-        family, prefixed = front.outer[-1]
-        return Front(front.outer[:-1], family, "", False, prefixed)
+    close = front.outer[-1][0] if front.outer else ""
+    if token == close:
+        return closed(front)
+    if token == "," and close == "]":
+        return front._replace(family="", before=",", wants=True, prefixed=False)
     family = {"??": "??", "||": "||", "&&": "||"}.get(token, front.family)
     mixed = front.family and family != front.family
     if token not in BINARY or mixed or (token == "**" and front.prefixed):

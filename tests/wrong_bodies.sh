@@ -1,6 +1,6 @@
 #!/bin/bash
 # Tries the wrong bodies of tests/wrong, each of which the prover must refuse, on a copy of the repository. By hand: they aren't part of the gate, which
-# tries those of crates/NAME/must-fail. Needs rt; an edit takes from some seconds up to minutes.
+# tries those of crates/NAME/must-fail. Needs rt; an edit takes from some seconds up to minutes. tests/wrong/README.md has which clause each is for.
 #
 #     tests/wrong_bodies.sh [CRATE ..]     none: every crate that has a folder there
 #
@@ -8,11 +8,12 @@
 set -eu
 cd "$(dirname "$0")/.."
 if [ $# = 0 ]; then
-    set -- $(ls tests/wrong)
+    set -- $(cd tests/wrong && ls -d */ | tr -d /)
 fi
 copy=$(mktemp -d)
 trap 'rm -rf "$copy"' EXIT
-cp -r . "$copy/repository"
+mkdir "$copy/repository"
+tar -c --exclude='crates/*/out/incremental' . | tar -x -C "$copy/repository"
 cd "$copy/repository"
 for crate; do
     rm -rf "crates/$crate/must-fail"

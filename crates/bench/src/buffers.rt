@@ -1,4 +1,4 @@
-// Calls of the buffer, of its source, and of the hook that reads nothing.
+// Calls of the buffer, of its source, and of the hooks.
 ghost use Rattle.std.specs.Prelude.{◌≡◌, ◌≢◌, true, Some, IsSome};
 ghost use Rattle.swc_context.specs.declared.error.SyntaxError.TheVariants.{OutOfMemory};
 ghost use Rattle.swc_context.specs.declared.operator.BinOpToken.TheVariants.{LShift};
@@ -13,10 +13,13 @@ use crate::shown::{Shown, show, show_faults, show_refusal};
 use crate::tokens::{fault_of, kind_of, last_token};
 use std::alloc::{AllocError, Global};
 use std::test::Fail;
+use swc_ast::spanned::Spanned;
 use swc_bodies::bodies::Bodies;
 use swc_bodies::none::NoBodies;
+use swc_bodies::token_bodies::TokenBodies;
+use swc_bodies::token_body::TokenBody;
 use swc_context::context::{Context, EsVersion, Syntax};
-use swc_context::error::{Error, SyntaxError};
+use swc_context::error::{Error, PResult, SyntaxError};
 use swc_context::operator::BinOpToken;
 use swc_context::span::{BytePos, Span};
 use swc_context::word::{Keyword, Word};
@@ -24,6 +27,7 @@ use swc_input::buffer::Buffer;
 use swc_input::listed::TokensInput;
 use swc_input::token::Token;
 use swc_input::tokens::Tokens;
+use swc_print::print::Kept;
 
 /// What the calls of one buffer answer, and the faults that are recorded in the end. `set_ctx`
 /// tells whether the buffer and its source have the context.
@@ -42,7 +46,18 @@ emit_err TS1109 0..1; emit_err TS1005 1..2; eat ,; unexpected TS1109 | script | 
 emit_strict_mode_err TS1102 0..1; emit_err TS1109 1..2; emit_strict_mode_err AwaitStar 2..3; take_errors; emit_err InvalidPat 3..4; set_ctx module | script | ,@5..6 | done; done; done; TS1109 1..2; done; true | InvalidPat 3..4, TS1102 0..1, AwaitStar 2..3
 prev_span | script | ,@5..6 | 5..5 | none
 prev_span | script | a@5..6 | 5..5 | none
-cur; fun; cur; class; cur; block | script | function class { | function; refused: Unexpected 0..8 {; class; refused: Unexpected 9..14 {; {; refused: Unexpected 15..16 { | none";
+cur; fun; cur; class; cur; block | script | function class { | function; refused: Unexpected 0..8 {; class; refused: Unexpected 9..14 {; {; refused: Unexpected 15..16 { | none
+cur; keep_fun; cur | script | function f() { return {} } a | function; Fn<9> 0..26; a | none
+cur; keep_fun; cur | script | function f({ a }) { b(}) | function; Fn<11> 0..23; another token | none
+cur; keep_fun; has_cur | script | async function () {} | async; Fn<6> 0..20; false | none
+cur; keep_class; cur; keep_block | script | class A extends B {} { [ } | class; Class<6> 0..20; {; Block<3> 21..26 | none
+cur; keep_class | script | class { | class; refused: Eof 7..7 | none
+cur; keep_class; cur | script | class ] | class; refused: Unexpected 6..7 {; another token | none
+cur; keep_class; cur_span | script | class } | class; refused: Unexpected 6..7 {; 6..7 | none
+cur; keep_fun; cur | script | async a {} | async; refused: Unexpected 6..7 {; a | none
+cur; keep_fun | script | async | async; refused: Eof 5..5 | none
+cur; keep_block; cur | script | {@0..1 E(TS1109)@2..3 a@4..5 | {; refused: TS1109 2..3; a | none
+cur; keep_class | script | class@0..5 a@6..9 b@7..8 {@9..10 }@10..11 | class; Class<4> 0..11 | none";
 
 type Tested = Buffer<TokensInput>;
 
@@ -119,6 +134,7 @@ fn change(out: &mut String, buffer: &mut Tested, call: &str) -> Result<(), Fail>
         "fun" if is_at_function(buffer) => show(out, NoBodies.fun(buffer))?,
         "class" if is_at_class(buffer) => show(out, NoBodies.class(buffer))?,
         "block" if is_at_brace(buffer) => show(out, NoBodies.block(buffer))?,
+        "keep_fun" | "keep_class" | "keep_block" => keep(out, buffer, call)?,
         "take_errors" => show_faults(out, &buffer.input().take_errors())?,
         "out_of_memory" => show_refusal(out, buffer.out_of_memory())?,
         "has_defaults" => has_defaults(buffer).show(out)?,
@@ -131,6 +147,26 @@ fn change(out: &mut String, buffer: &mut Tested, call: &str) -> Result<(), Fail>
     Ok(())
 }
 
+/// Reads with the hook that keeps tokens.
+fn keep(out: &mut String, buffer: &mut Tested, call: &str) -> Result<(), Fail> {
+    let mut hook = TokenBodies::new(*out.allocator());
+    match call {
+        "keep_fun" if is_at_function(buffer) => show_body(out, "Fn", hook.fun(buffer))?,
+        "keep_class" if is_at_class(buffer) => show_body(out, "Class", hook.class(buffer))?,
+        "keep_block" if is_at_brace(buffer) => show_body(out, "Block", hook.block(buffer))?,
+        _ => return Err(Fail::new("no call")),
+    }
+    Ok(())
+}
+
+/// Writes how many tokens were kept of the body, and its place; or the refusal.
+fn show_body(out: &mut String, name: &str, answer: PResult<TokenBody>) -> Result<(), AllocError> {
+    match answer {
+        Ok(body) => write!(out, "{name}<{}> {}", body.kept(), body.span()),
+        Err(fault) => show_refusal(out, fault),
+    }
+}
+
 fn is_at_lshift(buffer: &Tested) -> bool
     ensures { result ≡ true → token_of (current buffer.now) ≡ Some (BinOp LShift) }
 {
@@ -141,6 +177,7 @@ fn is_at_function(buffer: &Tested) -> bool
     ensures { result ≡ true → at_function (current buffer.now) ≡ true }
 {
     match buffer.cur_debug() {
+        Some(Token::Word(Word::Ident(name))) => name.as_str() == "async",
         Some(Token::Word(word)) => matches!(word, Word::Keyword(Keyword::Function)),
         _ => false,
     }

@@ -39,6 +39,56 @@ add_error TS1102 1..2; parse_expr; parse_expr; parse_lit; at_end; parse_expr; pa
 add_error TS1102 1..2; parse_expr; parse_expr; parse_lit; at_end; parse_expr; parse_lit; at_end | script without_in failing | a ** - ! | done; refused: OutOfMemory 8..8; refused: ParserFailed 7..8; refused: ParserFailed 7..8; refused: ParserFailed 7..8; refused: ParserFailed 7..8; refused: ParserFailed 7..8; refused: ParserFailed 7..8 | TS1102 1..2 | refused: ParserFailed 7..8
 add_error TS1102 1..2; parse_expr; parse_expr; parse_lit; at_end; parse_expr; parse_lit; at_end | script without_in failing | ( -    # | done; refused: OutOfMemory 8..8; refused: ParserFailed 7..8; refused: ParserFailed 7..8; refused: ParserFailed 7..8; refused: ParserFailed 7..8; refused: ParserFailed 7..8; refused: ParserFailed 7..8 | TS1102 1..2 | refused: ParserFailed 7..8
 parse_expr_id; count_nodes; parse_expr; count_nodes; parse_expr_id; count_nodes; clear_nodes; count_nodes | script | a + b c (d | Bin(+, a, b) 0..5; 3; c 6..7; 3; refused: Eof 10..10; 3; done; 0 | none | end
+parse_expr | script | this | this 0..4 | none | end
+parse_expr | script | this + this | Bin(+, this, this) 0..11 | none | end
+parse_expr | module | delete this | Unary(delete, this) 0..11 | none | end
+parse_expr | script | this this | this 0..4 | none | 5..9
+parse_expr | script | [] | Array[] 0..2 | none | end
+parse_expr | script | [,] | Array[-] 0..3 | none | end
+parse_expr | script | [a,] | Array[a] 0..4 | none | end
+parse_expr | script | [a,,] | Array[a, -] 0..5 | none | end
+parse_expr | script | [,,a] | Array[-, -, a] 0..5 | none | end
+parse_expr | script | [a, , ...b] | Array[a, -, ...b] 0..11 | none | end
+parse_expr | script | [a,...b, ] | Array[a, ...b] 0..10 | none | end
+parse_expr | script | [[a], [b]] | Array[Array[a], Array[b]] 0..10 | none | end
+parse_expr | script | [@4..5 a@2..3 ]@0..1 | Array[a] 1..4 | none | end
+parse_expr_id; count_nodes | script | [a, , [b]] | Array[a, -, Array[b]] 0..10; 4 | none | end
+parse_expr_id; count_nodes; parse_expr_id; count_nodes | script | [a, [b, c] d | refused: Expected 11..12 ,; 0; d 11..12; 1 | none | end
+parse_expr | script without_in | [a in b] | Array[Bin(in, a, b)] 0..8 | none | end
+parse_expr | script without_in | [...a in b] in c | Array[...Bin(in, a, b)] 0..11 | none | 12..14
+parse_expr | script | [* a] | Array[Bin(*, Invalid, a)] 0..5 | TS1109 1..2 | end
+parse_expr | script | [+] | Array[Unary(+, Invalid)] 0..3 | TS1109 2..3 | end
+parse_expr | script | [a = 1] | refused: Expected 3..4 , | none | 3..4
+parse_expr | script | [a b] | refused: Expected 3..4 , | none | 3..4
+parse_expr | script | [) | refused: TS1109 1..2 | none | 1..2
+parse_expr | script | [ | refused: Eof 1..1 | none | end
+parse_expr | script | [a | refused: Eof 2..2 | none | end
+parse_expr | script | [a, | refused: Eof 3..3 | none | end
+parse_expr | script | [...] | refused: WithLabel 4..5 (TS1109 4..5) | none | 4..5
+parse_expr | script | [... | refused: WithLabel 4..4 (Eof 4..4) | none | end
+parse_expr | script | [...[...]] | refused: WithLabel 8..9 (WithLabel 8..9 (TS1109 8..9)) | none | 8..9
+parse_expr | script | [@0..1 a@1..2 E(Lex)@3..4 b@5..6 | refused: Lex 3..4 | none | 5..6
+parse_expr | script | [@0..1 E(OutOfMemory)@1..2 b@3..4 | refused: Lex 1..2 | none | 3..4
+parse_expr; parse_bin_expr | script without_in | [a b in c | refused: Expected 3..4 ,; b 3..4 | none | 5..7
+parse_expr; parse_bin_expr | script without_in | [...a b in c | refused: Expected 6..7 ,; b 6..7 | none | 8..10
+parse_expr; parse_bin_expr | script without_in | [+ ) a in b | refused: Expected 3..4 ,; refused: TS1109 3..4 | TS1109 3..4 | 3..4
+parse_expr; parse_bin_expr | script without_in | [* b in c d in e | refused: Expected 10..11 ,; d 10..11 | TS1109 1..2 | 12..14
+parse_expr; parse_bin_expr | script without_in | [@0..1 ...@1..4 E(OutOfMemory)@5..6 a@7..8 in@9..11 b@12..13 | refused: WithLabel 5..6 (Lex 5..6); a 7..8 | none | 9..11
+parse_expr; parse_expr | script failing | [ | refused: OutOfMemory 1..1; refused: ParserFailed 0..1 | none | refused: ParserFailed 0..1
+parse_expr; parse_expr | script failing | [a | refused: OutOfMemory 2..2; refused: ParserFailed 1..2 | none | refused: ParserFailed 1..2
+parse_expr; parse_expr | script failing | [a, | refused: OutOfMemory 3..3; refused: ParserFailed 2..3 | none | refused: ParserFailed 2..3
+parse_expr; parse_expr | script failing | [a, ...  | refused: OutOfMemory 7..7; refused: ParserFailed 4..7 | none | refused: ParserFailed 4..7
+add_error TS1102 1..2; parse_expr; parse_expr | script without_in failing | [...[* a | done; refused: OutOfMemory 8..8; refused: ParserFailed 7..8 | TS1102 1..2, TS1109 5..6 | refused: ParserFailed 7..8
+parse_expr | script | function f() {} | refused: Unexpected 0..8 { | none | 9..10
+parse_expr | script | async function () {} | refused: Unexpected 0..5 { | none | 6..14
+parse_expr | script | async\nfunction () {} | refused: TS1109 0..5 | none | 0..5
+parse_expr | script | async (function) | refused: TS1109 0..5 | none | 0..5
+parse_expr; parse_expr | script failing | async | refused: OutOfMemory 0..0; refused: ParserFailed 0..0 | none | refused: ParserFailed 0..0
+parse_expr | script | class {} | refused: Unexpected 0..5 { | none | 6..7
+parse_expr | script | class * a | Bin(*, Invalid, a) 0..9 | TS1109 6..7 | end
+parse_expr | script | - function f | Unary(-, Invalid) 0..1 | Unexpected 2..10 { | 11..12
+parse_expr | script | [function] | refused: Unexpected 1..9 { | none | 9..10
+parse_expr | script | [...class] | refused: WithLabel 4..9 (Unexpected 4..9 {) | none | 9..10
 parse_ident(true, true) | script | enum | enum 0..4 | InvalidIdentInStrict 0..4 enum | end
 parse_binding_ident | generator | yield | yield 0..5 | ExpectedIdent 0..5 | end
 parse_binding_ident; set_ctx module | generator | yield | yield 0..5; done | ExpectedIdent 0..5, InvalidIdentInStrict 0..5 yield | end

@@ -48,6 +48,10 @@ show_expr | expr generator | yield | refused: TS1109 0..5\n | 2
 show_expr | expr async | yield | yield\n | 0
 show_expr | expr async | await | refused: TS1109 0..5\n | 2
 show_expr | expr async | static | static\n | 0
+show_expr | expr script | this | this\n | 0
+show_expr | expr script | [a, , ...b] | Array[a, -, ...b]\n | 0
+show_expr | expr script | [a, | refused: Eof 3..3\n | 2
+show_expr | expr script | a + [b, ...c] * this | Bin(+, a, Bin(*, Array[b, ...c], this))\n | 0
 show_expr | expr | 5 | stderr: usage: show_expr expr|pat script|module|strict|generator|async\n | 3, unread
 show_expr |  | 5 | stderr: usage: show_expr expr|pat script|module|strict|generator|async\n | 3, unread
 show_expr | expr script x | 5 | stderr: usage: show_expr expr|pat script|module|strict|generator|async\n | 3, unread
@@ -58,7 +62,12 @@ show_expr | expr pedantic | 5 | stderr: usage: show_expr expr|pat script|module|
 show_expr | expr Script | 5 | stderr: usage: show_expr expr|pat script|module|strict|generator|async\n | 3, unread
 show_expr | script expr | 5 | stderr: usage: show_expr expr|pat script|module|strict|generator|async\n | 3, unread
 show_expr of failing input | expr script |  | stderr: cannot read standard input\n | 3
-show_expr of failing input | expr script | 5 + 4 | stderr: cannot read standard input\n | 3";
+show_expr of failing input | expr script | 5 + 4 | stderr: cannot read standard input\n | 3
+show_expr | expr script | function f() { return {} } | Fn<9>\n | 0
+show_expr | expr script | async function () {} | Fn<6>\n | 0
+show_expr | expr script | class A extends B {} | Class<6>\n | 0
+show_expr | expr script | class { | refused: Eof 7..7\n | 2
+show_expr | expr script | class } | refused: Unexpected 6..7 {\n | 2";
 
 /// Gives some bytes, and then ends, or fails.
 #[derive(Drop)]

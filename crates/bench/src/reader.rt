@@ -10,8 +10,9 @@ use swc_tokens::read_tokens;
 /// Texts with their tokens, each with its kind, as it is written, and its place. A `^` stands
 /// before a token that stands behind a line break.
 ///
-/// In a text `\n`, `\r` and `\t` are line breaks and a tabulator, `\0` is a byte of value 0, and
-/// `\80` one of value 128.
+/// In a text `\n`, `\r`, `\t`, `\v` and `\f` are line breaks, tabulators and a form feed, `\5c` is a
+/// backslash, `\0` a byte of value 0, and `\80` one of value 128. A string is shown as it is written
+/// and, in brackets, with its value.
 const TOKENS: &str = r#" | none
  \t\r\n | none
 a | name a 0..1
@@ -38,20 +39,153 @@ a = /b/ | refused: Lex 4..5
 a * /=b/ | refused: Lex 4..5
 a \u0061 | refused: Lex 2..3
 a\0 | refused: Lex 1..2
-'a' | refused: Lex 0..1
-f("a") | refused: Lex 2..3
 x`a` | refused: Lex 1..2
-a // b | refused: Lex 3..4
-/* b */ | refused: Lex 1..2
-1.5 | refused: Lex 1..2
-12. | refused: Lex 2..3
- .5 | refused: Lex 2..3
-1e5 | refused: Lex 1..2
-1n | refused: Lex 1..2
+ \v\f\ta | name a 4..5
+a\rb\nc | name a 0..1, ^name b 2..3, ^name c 4..5
+a//b | name a 0..1
+// | none
+//b\n | none
+a//b\nc | name a 0..1, ^name c 5..6
+a//b\rc | name a 0..1, ^name c 5..6
+a // b\n // c\n d | name a 0..1, ^name d 14..15
+//a\nb | name b 4..5
+a///*\nb | name a 0..1, ^name b 6..7
+a/*b*/c | name a 0..1, name c 6..7
+a/**/b | name a 0..1, name b 5..6
+a/***/b | name a 0..1, name b 6..7
+a/*\n*/b | name a 0..1, ^name b 6..7
+a/*\r*/b | name a 0..1, ^name b 6..7
+a/*b*//*\n*/c | name a 0..1, ^name c 11..12
+a/*\n*//*b*/c | name a 0..1, ^name c 11..12
+/*\n*/a | name a 5..6
+/* b */ | none
+/* * / */a | name a 9..10
+/*a*/b/*c*/ | name b 5..6
+a/*b*/c*/d | refused: Lex 8..9
+a/*//*/b | name a 0..1, name b 7..8
+/*'*/a' | refused: Lex 7..7
+1/*a*//b | number 1 0..1, binary / 6..7, name b 7..8
+/* | refused: Lex 2..2
+/*/ | refused: Lex 3..3
+/** | refused: Lex 3..3
+a/*/b | refused: Lex 5..5
+a /* b * / | refused: Lex 10..10
+/*a*/ /b/ | refused: Lex 6..7
+a = //\n/b/ | refused: Lex 7..8
+1.5 | number 1.5 0..3
+12. | number 12. 0..3
+ .5 | number .5 1..3
+0.05 | number 0.05 0..4
+0. | number 0. 0..2
+1e5 | number 1e5 0..3
+1E+5 | number 1E+5 0..4
+1e-50 | number 1e-50 0..5
+1.5e10 | number 1.5e10 0..6
+1.e5 | number 1.e5 0..4
+.5e1 | number .5e1 0..4
+.5E-7 | number .5E-7 0..5
+0e00 | number 0e00 0..4
+0x1 | number 0x1 0..3
+0XaBcDeF09 | number 0XaBcDeF09 0..10
+0x1e5 | number 0x1e5 0..5
+0o17 | number 0o17 0..4
+0O70 | number 0O70 0..4
+0b10 | number 0b10 0..4
+0B01 | number 0B01 0..4
+1n | big 1n 0..2
+10n | big 10n 0..3
+0n | big 0n 0..2
+0x1Fn | big 0x1Fn 0..5
+0o7n | big 0o7n 0..4
+0b1n | big 0b1n 0..4
+1n/b | big 1n 0..2, binary / 2..3, name b 3..4
+1n.5 | big 1n 0..2, number .5 2..4
+1.2.3 | number 1.2 0..3, number .3 3..5
+.5.5 | number .5 0..2, number .5 2..4
+1..x | number 1. 0..2, sign . 2..3, name x 3..4
+1...x | number 1. 0..2, sign . 2..3, sign . 3..4, name x 4..5
+1e5.5 | number 1e5 0..3, number .5 3..5
+0x1.5 | number 0x1 0..3, number .5 3..5
+..5 | sign . 0..1, number .5 1..3
+...5 | sign ... 0..3, number 5 3..4
+a.5 | name a 0..1, number .5 1..3
+a?.5 | name a 0..1, sign ? 1..2, number .5 2..4
+.e5 | sign . 0..1, name e5 1..3
+.n | sign . 0..1, name n 1..2
+1+.5/2 | number 1 0..1, binary + 1..2, number .5 2..4, binary / 4..5, number 2 5..6
+1\n.5 | number 1 0..1, ^number .5 2..4
+0 9 | number 0 0..1, number 9 2..3
+1//2 | number 1 0..1
+01 | refused: Lex 1..2
+00 | refused: Lex 1..2
+00n | refused: Lex 1..2
+09.5 | refused: Lex 1..2
+1a | refused: Lex 1..2
+3in | refused: Lex 1..2
 10$ | refused: Lex 2..3
 1_0 | refused: Lex 1..2
-0x1 | refused: Lex 1..2
-01 | refused: Lex 1..2
+0_1 | refused: Lex 1..2
+1._5 | refused: Lex 2..3
+1.5_0 | refused: Lex 3..4
+1.5$ | refused: Lex 3..4
+1e1_0 | refused: Lex 3..4
+1e5e | refused: Lex 3..4
+0x1_1 | refused: Lex 3..4
+1nn | refused: Lex 2..3
+1n1 | refused: Lex 2..3
+1.n | refused: Lex 2..3
+1.5n | refused: Lex 3..4
+.5n | refused: Lex 2..3
+1e5n | refused: Lex 3..4
+1.x | refused: Lex 2..3
+1e | refused: Lex 1..2
+1e+ | refused: Lex 1..2
+1e-a | refused: Lex 1..2
+1e 5 | refused: Lex 1..2
+1e_5 | refused: Lex 1..2
+1.e | refused: Lex 2..3
+.5e- | refused: Lex 2..3
+0x | refused: Lex 1..2
+0xg | refused: Lex 1..2
+0xn | refused: Lex 1..2
+0x_1 | refused: Lex 1..2
+0o8 | refused: Lex 1..2
+0b2 | refused: Lex 1..2
+0B | refused: Lex 1..2
+0xFg | refused: Lex 3..4
+0o18 | refused: Lex 3..4
+0b12 | refused: Lex 3..4
+0b1e5 | refused: Lex 3..4
+'a' | string 'a' [a] 0..3
+f("a") | name f 0..1, sign ( 1..2, string "a" [a] 2..5, sign ) 5..6
+'' | string '' [] 0..2
+"" | string "" [] 0..2
+'a"b' | string 'a"b' [a"b] 0..5
+"a'b" | string "a'b" [a'b] 0..5
+'\5cn\5ct\5cr' | string '\n\t\r' [<10><9><13>] 0..8
+'\5cb\5cf\5cv' | string '\b\f\v' [<8><12><11>] 0..8
+'\'' | string '\'' ['] 0..4
+"\"a" | string "\"a" ["a] 0..5
+'\5c\5cn' | string '\\n' [\n] 0..5
+'\a\/\ \$\_' | string '\a\/\ \$\_' [a/ $_] 0..12
+'\5cN' | string '\N' [N] 0..4
+'a'/b | string 'a' [a] 0..3, binary / 3..4, name b 4..5
+'a'b | string 'a' [a] 0..3, name b 3..4
+'a''b' | string 'a' [a] 0..3, string 'b' [b] 3..6
+'//'\n"/*" | string '//' [//] 0..4, ^string "/*" [/*] 5..9
+'a\5c0' | refused: Lex 2..3
+'\5c9' | refused: Lex 1..2
+'\5cx41' | refused: Lex 1..2
+'\5cu0041' | refused: Lex 1..2
+'\5c\n' | refused: Lex 1..2
+'\5c\r' | refused: Lex 1..2
+'a\n' | refused: Lex 2..3
+"a\r" | refused: Lex 2..3
+' | refused: Lex 1..1
+'a | refused: Lex 2..2
+"a' | refused: Lex 3..3
+'a\5c' | refused: Lex 4..4
+'a\5c | refused: Lex 3..3
 'a' é | refused: Lex 4..5
 a \80 | refused: Lex 2..3"#;
 
@@ -63,14 +197,18 @@ assign: = += -= *= %= <<= >>= >>>= |= ^= &= **= &&= ||= ??=";
 
 /// The byte that an escape stands for, and what follows it.
 fn escaped(text: &str) -> Option<(u8, &str)> {
-    if let Some(rest) = text.strip_prefix("80") {
-        return Some((128, rest));
+    for (written, byte) in [("80", 128), ("5c", b'\\')] {
+        if let Some(rest) = text.strip_prefix(written) {
+            return Some((byte, rest));
+        }
     }
     let mut rest = text.chars();
     let byte = match rest.next()? {
         'n' => 10,
         'r' => 13,
         't' => 9,
+        'v' => 11,
+        'f' => 12,
         '0' => 0,
         _ => return None,
     };
@@ -107,6 +245,8 @@ fn kind_and_text(token: &Token) -> (&'static str, &str) {
         Token::Word(Word::Ident(word)) => ("name", word.as_str()),
         Token::Word(word) => ("word", word.as_str()),
         Token::Num { raw } => ("number", raw.as_str()),
+        Token::BigInt { raw } => ("big", raw.as_str()),
+        Token::Str { raw, .. } => ("string", raw.as_str()),
         Token::BinOp(operator) => ("binary", BinaryOp::from(*operator).as_str()),
         Token::AssignOp(operator) => ("assign", operator.as_str()),
         sign => ("sign", sign_text(sign)),
@@ -139,6 +279,28 @@ fn sign_text(token: &Token) -> &'static str {
     }
 }
 
+/// Writes a string's value in brackets, and what isn't printed in it by its number.
+fn show_value(out: &mut String, value: &str) -> Result<(), AllocError> {
+    out.push_str(" [")?;
+    for byte in value.bytes() {
+        match byte {
+            b' '..=b'~' => out.push(char::from(byte))?,
+            _ => write!(out, "<{byte}>")?,
+        }
+    }
+    out.push_str("]")
+}
+
+/// Writes a token, with its kind and its place.
+fn show_token(out: &mut String, found: &TokenAndSpan) -> Result<(), AllocError> {
+    let (kind, text) = kind_and_text(&found.token);
+    write!(out, "{kind} {text}")?;
+    if let Token::Str { value, .. } = &found.token {
+        show_value(out, value.as_str())?;
+    }
+    write!(out, " {}", found.span)
+}
+
 /// Writes the tokens.
 fn show_tokens(out: &mut String, tokens: &[TokenAndSpan]) -> Result<(), AllocError> {
     if tokens.is_empty() {
@@ -151,8 +313,7 @@ fn show_tokens(out: &mut String, tokens: &[TokenAndSpan]) -> Result<(), AllocErr
         if found.had_line_break {
             out.push_str("^")?;
         }
-        let (kind, text) = kind_and_text(&found.token);
-        write!(out, "{kind} {text} {}", found.span)?;
+        show_token(out, found)?;
     }
     Ok(())
 }

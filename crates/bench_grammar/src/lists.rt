@@ -43,6 +43,13 @@ a + - * / % ** << >> >>> ( ) | script | 0 1 2 14 46 237
 a < > <= >= instanceof in == != === !== | script | 0 1 0 10 0 100
 a < in == & ^ | ?? && || | without-in | 0 1 0 8 0 60
 a ~ ! void typeof delete + - ** | script | 0 1 7 52 378 2753
+a [ ] , ... | script | 0 1 1 2 5 12 31 83 227
+a this [ ] , ... | script | 0 2 1 3 8 21 61
+a in * + ** [ ] , ( ) | script | 0 1 2 9 27 107
+a in [ ] , ... ( ) | without-in | 0 1 1 3 6 18 48
+a ?? || && - [ ] , ... | script | 0 1 2 8 26 91
+a let # - delete this [ ] , ... | module | 0 2 8 23 85 316
+a let # - delete this [ ] , ... | strict | 0 3 11 35 139 543
 ";
 
 /// The lists of one token more.

@@ -5,13 +5,12 @@ ghost use Rattle.swc_nodes.specs.Stands.{From};
 
 use std::alloc::Global;
 use std::mem::forget;
-use swc_bodies::none::NoBodies;
+use swc_bodies::token_bodies::TokenBodies;
 use swc_context::context::{Context, EsVersion, Syntax};
 use swc_context::error::{Error, PResult};
-use swc_context::span::Span;
 use swc_ecma_parser::whole::{Whole, parse_whole_expr};
 use swc_nodes::node::ExprId;
-use swc_nodes::nodes::Nodes;
+use swc_nodes::nodes::NodesOf;
 use swc_print::print::PrintNodes;
 use swc_tokens::read_tokens;
 
@@ -44,7 +43,7 @@ pub(crate) fn answer_to(alloc: Global, text: &[u8], ctx: Context) -> Answer {
                 ctx,
                 Syntax::default(),
                 EsVersion::default(),
-                NoBodies,
+                TokenBodies::new(alloc),
             );
             let shown = show(alloc, &nodes, read);
             // The program ends soon: its memory goes back as a whole, faster than a node at a time.
@@ -61,7 +60,7 @@ pub(crate) fn answer_to(alloc: Global, text: &[u8], ctx: Context) -> Answer {
 /// Prints what was read.
 fn show(
     alloc: Global,
-    nodes: &Nodes<Span, Span, Span>,
+    nodes: &NodesOf<TokenBodies>,
     read: PResult<(ExprId, bool)>,
 ) -> PResult<Shown>
     requires { IfOk read (λ r. From 0 nodes.now (expr_part r.0)) }

@@ -1,1 +1,5 @@
+pub mod Keeping
+pub mod Laws
 pub mod Readings
+pub mod Steps
+pub mod Taking

@@ -1,5 +1,5 @@
 -- What a hook reads: the bodies that the parser doesn't look into.
-use Rattle.std.specs.Prelude.{◌≡◌, ◌≢◌, ◌≤◌, Bool, true, false, List, [], ◌∷◌, ◌++◌, Option, Some, None, Result, IfOk, IfErr, MatchResult, codes, length, refl}
+use Rattle.std.specs.Prelude.{◌≡◌, ◌≢◌, ◌≤◌, Bool, true, false, not, ◌&&◌, ◌||◌, List, [], ◌∷◌, ◌++◌, Option, Some, None, Result, IfOk, IfErr, MatchResult, codes, length, refl}
 use Rattle.swc_context.specs.Spans.{between}
 use Rattle.swc_context.specs.Texts.{is_text}
 use Rattle.swc_context.specs.declared.context.Context.{Context}
@@ -41,11 +41,14 @@ abbrev pub at_function : Option TokenAndSpan → Bool
 at_function None = false
 at_function (Some t) = either_one (is_function t.token) (is_async t.token)
 
--- with which tokens each kind of body begins: `function`, or `async` and `function`; `class`; `{`
+-- with which tokens each kind of body begins: `function`, or `async` and, on the same line, `function`; `class`; `{`
+abbrev pub is_function_here : List TokenAndSpan → Bool
+is_function_here [] = false
+is_function_here (t ∷ ts) = is_function t.token && not t.had_line_break
+
 abbrev pub begins_function : List TokenAndSpan → Bool
 begins_function [] = false
-begins_function (t ∷ []) = is_function t.token
-begins_function (t ∷ u ∷ ts) = elim (is_async t.token) [ true ↦ is_function u.token | false ↦ is_function t.token ]
+begins_function (t ∷ ts) = is_function t.token || (is_async t.token && is_function_here ts)
 
 abbrev pub begins : (Token → Bool) → List TokenAndSpan → Bool
 begins f [] = false

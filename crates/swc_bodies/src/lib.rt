@@ -3,3 +3,6 @@
 
 pub mod bodies;
 pub mod none;
+mod place;
+pub mod token_bodies;
+pub mod token_body;

@@ -1,6 +1,7 @@
 -- What the grammar derives, the clean parser reads, where nothing goes on that it would take too.
 use Rattle.std.specs.Prelude.{◌≡◌, ℕ, zero, suc, ◌≤◌, ◌<◌, min, Bool, true, false, not, ◌||◌, List, [], ◌∷◌}
-use Rattle.std.specs.Prelude.{◌++◌, Option, Some, None}
+use Rattle.std.specs.Prelude.{◌++◌, ◌&&◌, Option, Some, None, codes}
+use Rattle.swc_context.specs.Texts.{is_text}
 use Rattle.std.proofs.Common.{refl, sym as sym_path, ap, subst, ◌∙◌, arith}
 use Rattle.std.proofs.lemmas.Bool.{eqb-true, ltb-true, le-leb, lt-leb}
 use Rattle.swc_context.specs.Operators.{precedence_of}
@@ -15,27 +16,33 @@ use Rattle.swc_input.specs.declared.token.Token.TheVariants as token
 use Rattle.swc_input.specs.declared.token.TokenAndSpan.{TokenAndSpan}
 use Rattle.swc_input.specs.Kinds.{at_token}
 use Rattle.swc_ast.specs.Tree.{Tree, span_of}
-use Rattle.swc_bodies.specs.Readings.{whole_span, Hook}
+use Rattle.swc_bodies.specs.Readings.{whole_span, Hook, begins as begins_own, begins_function, is_function_here}
+use Rattle.swc_bodies.specs.Readings.{is_function, is_async, is_class}
 use Rattle.swc_grammar.specs.Rule.{Rule, gives, never, take, check, peek, read, hear, sees, given, ◌>>=◌}
 use Rattle.swc_grammar.specs.Tokens.{tk, with_in, binary_of, prefix_of, is_rparen, is_power, is_closer, is_word_apart}
-use Rattle.swc_grammar.specs.Tokens.{is_stop, is_comma}
+use Rattle.swc_grammar.specs.Tokens.{is_stop, is_comma, is_dots, is_reference}
 use Rattle.swc_grammar.specs.Trees.{to, bin_e, nullish_ok, logical_ok, exp_ok, is_unary, min_right}
-use Rattle.swc_grammar.specs.Symbols.{Symbol, Expr, Assign, Level, Unary, Primary, Literal, Answer, Body, Value}
+use Rattle.swc_grammar.specs.Symbols.{Symbol, Expr, Assign, Level, Unary, Primary, Literal, Elements, ElementsTail}
+use Rattle.swc_grammar.specs.Symbols.{Item, Answer, Body, Value}
 use Rattle.swc_grammar.specs.Symbols.{begins_body, Side}
 use Rattle.swc_grammar.specs.Parts.{reference, any_name, lit_of, prefix_here, operator_here}
 use Rattle.swc_grammar.specs.Grammar.{Production, ident-expr, lit, paren-expr, unary-primary, unary-op, exp-unary}
 use Rattle.swc_grammar.specs.Grammar.{exp-op, primary-literal}
+use Rattle.swc_grammar.specs.Grammar.{this-expr, array-lit, elements-end, elements-hole, elements-more, tail-end}
+use Rattle.swc_grammar.specs.Grammar.{tail-more, item-expr, item-spread, fn-expr, class-expr}
 use Rattle.swc_grammar.specs.Grammar.{level-up, bin-op, private-expr, assign-level, expr-assign}
 use Rattle.swc_grammar.specs.Reads.{Hears, Reads, by, Follows, gave, took, held, calm, part, heard, is_stop_for, Stops}
 use Rattle.swc_grammar.specs.Reads.{at-end, at-stop}
 use Rattle.swc_grammar.specs.Clean.{Out, and_then, first, Call, sym, climb, plan, rank_of, rank, allowed, exec}
 use Rattle.swc_grammar.specs.Clean.{operator_at, prefix_at}
 use Rattle.swc_grammar.specs.Clean.{Bound, Stop, left_ok, no_error, Choice, pick, chosen, expr, assign, unary, primary}
-use Rattle.swc_grammar.specs.Clean.{literal, is_lit, turn, turned, step, run}
+use Rattle.swc_grammar.specs.Clean.{literal, elements, elements_tail, item, is_lit, turn, turned, step, run}
 use Rattle.swc_grammar.specs.Firsts.{starts, begins_primary, begins_expression}
 use Rattle.swc_grammar.proofs.Bodies.{hears-run}
 use Rattle.swc_grammar.proofs.Good.{Good, good}
-use Rattle.swc_grammar.proofs.Only.{only-lparen, only-rparen, only-hash, only-power}
+use Rattle.swc_grammar.proofs.Answers.{both}
+use Rattle.swc_grammar.proofs.Only.{only-lparen, only-rparen, only-hash, only-power, only-this, only-lbracket}
+use Rattle.swc_grammar.proofs.Only.{only-rbracket, only-comma, only-dots, only-class}
 use Rattle.swc_grammar.proofs.Firsts.{Under, under-held, given-held, begins, placed-op, reference-first}
 use Rattle.swc_grammar.proofs.Knot.{knot}
 use Rattle.swc_grammar.proofs.Levels.{bound-some, bound-above, min-right-same}
@@ -49,6 +56,29 @@ stop-token c (token.Word (word.Keyword keyword.InstanceOf)) true h = absurd cc
 stop-token c (token.Word (word.Keyword keyword.InstanceOf)) false h = absurd cc
 stop-token c (token.BinOp o) b h = absurd cc
 stop-token c t b h = refl
+
+and-false : (a : Bool) → (a && false) ≡ false
+and-false true = refl
+and-false false = refl
+
+-- as a body begins, so does a list that goes on with more
+here-more : (ts us : List TokenAndSpan) → is_function_here ts ≡ true → is_function_here (ts ++ us) ≡ true
+here-more [] us h = absurd cc
+here-more (t ∷ ts) us h = h
+
+either-more : (a b d e : Bool) → (d ≡ true → e ≡ true) → (a || (b && d)) ≡ true → (a || (b && e)) ≡ true
+either-more true b d e f h = refl
+either-more false b d e f h = let (x, y) = both b d h in rw (x, f y) refl
+
+function-more : (ts us : List TokenAndSpan) → begins_function ts ≡ true → begins_function (ts ++ us) ≡ true
+function-more [] us h = absurd cc
+function-more (t ∷ ts) us h =
+    either-more (is_function t.token) (is_async t.token) (is_function_here ts) (is_function_here (ts ++ us))
+    (here-more ts us) h
+
+class-more : (ts us : List TokenAndSpan) → begins_own is_class ts ≡ true → begins_own is_class (ts ++ us) ≡ true
+class-more [] us h = absurd cc
+class-more (t ∷ ts) us h = h
 
 or-right : (a b : Bool) → b ≡ true → (a || b) ≡ true
 or-right true b h = refl
@@ -175,6 +205,16 @@ module _ {F C K : Type 0} (hook : Hook F C K) where
   quiet-rparen c a us h =
       only-rparen (λ v. Stop Assign c (tk v a.had_line_break a.span ∷ us)) (λ op k. absurd cc) a.token h
 
+  -- an item is followed by a comma or a bracket, with which none goes on
+  quiet-tail : (c : Context) (a : TokenAndSpan) (us : List TokenAndSpan) → starts ElementsTail c a.token ≡ true
+      → Stop Item c (a ∷ us)
+  quiet-tail c a us h = by-token a.token a.had_line_break a.span h
+    where
+      by-token : (t : Token) (b : Bool) (s : Span) → starts ElementsTail c t ≡ true → Stop Item c (tk t b s ∷ us)
+      by-token token.Comma b s h = λ op k. absurd cc
+      by-token token.RBracket b s h = λ op k. absurd cc
+      by-token t b s h = absurd cc
+
   -- Which production is picked, where it is followed.
   no-error-first : (c : Context) (xs : List TokenAndSpan) → at_token (begins_expression c) (first xs) ≡ true
       → at_token no_error (first xs) ≡ true
@@ -227,18 +267,101 @@ module _ {F C K : Type 0} (hook : Hook F C K) where
       (placed-op (prefix_of a.token) a.span x.0 x.1 h) refl
   picked-unary {c = c} unary-primary (part {xs = xs} e d) = rw (no-prefix-first c xs (begins e)) refl
 
+  -- functions and classes, by the tokens that stand first
+  fn-token : (c : Context) (t : Token) (b : Bool) (s : Span) (us : List TokenAndSpan)
+      → begins_function (tk t b s ∷ us) ≡ true → primary {F = F} {C = C} {K = K} c (tk t b s ∷ us) ≡ pick fn-expr
+  fn-token c (token.Word (word.Keyword keyword.Function)) b s us h = refl
+  fn-token c (token.Word (word.Ident w)) b s us h =
+      let (async, here) = both (is_text w (codes "async")) (is_function_here us) h in
+      rw (async, here, and-false (is_reference c (word.Ident w))) refl
+  fn-token c t b s us h = absurd cc
+
+  pub fn-picks : (c : Context) (xs : List TokenAndSpan) → begins_function xs ≡ true
+      → primary {F = F} {C = C} {K = K} c xs ≡ pick fn-expr
+  fn-picks c [] h = absurd cc
+  fn-picks c (a ∷ us) h = fn-token c a.token a.had_line_break a.span us h
+
+  pub class-picks : (c : Context) (xs : List TokenAndSpan) → begins_own is_class xs ≡ true
+      → primary {F = F} {C = C} {K = K} c xs ≡ pick class-expr
+  class-picks c [] h = absurd cc
+  class-picks c (a ∷ us) h =
+      only-class (λ v. primary {F = F} {C = C} {K = K} c (tk v a.had_line_break a.span ∷ us) ≡ pick class-expr) refl
+      a.token h
+
   picked-primary : {c : Context} {r : Side F C K Primary} {xs ys : List TokenAndSpan} {t : Tree F C K}
       (p : Production Primary c r)
       → Follows hook Primary r xs ys t → primary c xs ≡ pick p
   picked-primary {c = c} ident-expr (took {a = a} d) =
       let (n, h, k) = given-held (reference c a.token a.span) _ d in rw (reference-first c a.token a.span n h).0 refl
   picked-primary {c = c} primary-literal (part {xs = xs} e d) = lit-picks c xs (begins e)
+  picked-primary {c = c} this-expr (took {a = a} {xs = us} (held h d)) =
+      only-this (λ v. primary {F = F} {C = C} {K = K} c (tk v a.had_line_break a.span ∷ us)
+      ≡ pick this-expr) refl a.token h
+  picked-primary {c = c} array-lit (took {a = a} {xs = us} (held h d)) =
+      only-lbracket (λ v. primary {F = F} {C = C} {K = K} c (tk v a.had_line_break a.span ∷ us)
+      ≡ pick array-lit) refl a.token h
+  picked-primary {c = c} fn-expr (heard {ms = ms} h d) =
+      subst (λ v. primary {F = F} {C = C} {K = K} c v ≡ pick fn-expr) (sym_path h.list)
+      (fn-picks c (h.own ++ ms) (function-more h.own ms h.begins))
+  picked-primary {c = c} class-expr (heard {ms = ms} h d) =
+      subst (λ v. primary {F = F} {C = C} {K = K} c v ≡ pick class-expr) (sym_path h.list)
+      (class-picks c (h.own ++ ms) (class-more h.own ms h.begins))
   picked-primary {c = c} paren-expr (took {a = a} {xs = us} (held h d)) =
       only-lparen (λ v. primary {F = F} {C = C} {K = K} c (tk v a.had_line_break a.span ∷ us)
       ≡ pick paren-expr) refl a.token h
   picked-primary {c = c} private-expr (took {a = a} {xs = us} (held h d)) =
       only-hash (λ v. primary {F = F} {C = C} {K = K} c (tk v a.had_line_break a.span ∷ us)
       ≡ pick private-expr) refl a.token h
+
+  -- lists and items
+  not-listed : (c : Context) (xs : List TokenAndSpan) → at_token (starts Item c) (first xs) ≡ true
+      → elements {F = F} {C = C} {K = K} c xs ≡ pick elements-more
+  not-listed c [] h = absurd cc
+  not-listed c (a ∷ us) h = by-token a.token a.had_line_break a.span h
+    where
+      by-token : (t : Token) (b : Bool) (s : Span) → starts Item c t ≡ true
+          → elements {F = F} {C = C} {K = K} c (tk t b s ∷ us) ≡ pick elements-more
+      by-token token.Comma b s h = absurd cc
+      by-token token.RBracket b s h = absurd cc
+      by-token t b s h = refl
+
+  no-dots-first : (c : Context) (xs : List TokenAndSpan) → at_token (begins_expression c) (first xs) ≡ true
+      → at_token is_dots (first xs) ≡ false
+  no-dots-first c [] h = refl
+  no-dots-first c (a ∷ us) h = by-token a.token h
+    where
+      by-token : (t : Token) → begins_expression c t ≡ true → is_dots t ≡ false
+      by-token token.DotDotDot h = absurd cc
+      by-token t h = refl
+
+  picked-elements : {c : Context} {r : Side F C K Elements} {xs ys : List TokenAndSpan} {t : Tree F C K}
+      (p : Production Elements c r)
+      → Follows hook Elements r xs ys t → elements c xs ≡ pick p
+  picked-elements {c = c} elements-end (took {a = a} {xs = us} (held h d)) =
+      only-rbracket (λ v. elements {F = F} {C = C} {K = K} c (tk v a.had_line_break a.span ∷ us)
+      ≡ pick elements-end) refl a.token h
+  picked-elements {c = c} elements-hole (took {a = a} {xs = us} (held h d)) =
+      only-comma (λ v. elements {F = F} {C = C} {K = K} c (tk v a.had_line_break a.span ∷ us)
+      ≡ pick elements-hole) refl a.token h
+  picked-elements {c = c} elements-more (part {xs = xs} e d) = not-listed c xs (begins e)
+
+  picked-tail : {c : Context} {r : Side F C K ElementsTail} {xs ys : List TokenAndSpan} {t : Tree F C K}
+      (p : Production ElementsTail c r)
+      → Follows hook ElementsTail r xs ys t → elements_tail c xs ≡ pick p
+  picked-tail {c = c} tail-end (took {a = a} {xs = us} (held h d)) =
+      only-rbracket (λ v. elements_tail {F = F} {C = C} {K = K} c (tk v a.had_line_break a.span ∷ us)
+      ≡ pick tail-end) refl a.token h
+  picked-tail {c = c} tail-more (took {a = a} {xs = us} (held h d)) =
+      only-comma (λ v. elements_tail {F = F} {C = C} {K = K} c (tk v a.had_line_break a.span ∷ us)
+      ≡ pick tail-more) refl a.token h
+
+  picked-item : {c : Context} {r : Side F C K Item} {xs ys : List TokenAndSpan} {t : Tree F C K}
+      (p : Production Item c r)
+      → Follows hook Item r xs ys t → item c xs ≡ pick p
+  picked-item {c = c} item-expr (part {xs = xs} e d) = rw (no-dots-first c xs (begins e)) refl
+  picked-item {c = c} item-spread (took {a = a} {xs = us} (held h d)) =
+      only-dots (λ v. item {F = F} {C = C} {K = K} c (tk v a.had_line_break a.span ∷ us)
+      ≡ pick item-spread) refl a.token h
 
   -- where a symbol's reading stops, what a picked production reads stops too
   ready-unary : {c : Context} {r : Side F C K Unary} (ys : List TokenAndSpan) → Production Unary c r
@@ -250,9 +373,29 @@ module _ {F C K : Type 0} (hook : Hook F C K) where
   ready-primary : {c : Context} {r : Side F C K Primary} (ys : List TokenAndSpan) → Production Primary c r
       → Ready (Some 8) ys r
   ready-primary ys (ident-expr {c = c}) = λ a. ready-given _ _ (reference c a.token a.span) _ (λ n h. tt)
+  ready-primary ys this-expr = λ a h. tt
   ready-primary ys primary-literal = (refl, λ e. (tt, tt))
+  ready-primary ys array-lit = λ a h. (refl, λ e. (tt, tt))
+  ready-primary ys fn-expr = λ v s. tt
+  ready-primary ys class-expr = λ v s. tt
   ready-primary ys (paren-expr {c = c}) = λ a h. (refl, λ e. (λ b us. quiet-rparen (with_in c) b us, λ b k. tt))
   ready-primary ys (private-expr {c = c}) = λ a h b. ready-given _ _ (any_name c b.token b.span) _ (λ n h1. tt)
+
+  ready-elements : {c : Context} {r : Side F C K Elements} (ys : List TokenAndSpan) → Production Elements c r
+      → Ready (Some 16) ys r
+  ready-elements ys elements-end = λ a h. tt
+  ready-elements ys elements-hole = λ a h. (refl, λ e. (tt, tt))
+  ready-elements ys (elements-more {c = c}) = (refl, λ e. (λ a us h. quiet-tail c a us h, (refl, λ es. (tt, tt))))
+
+  ready-tail : {c : Context} {r : Side F C K ElementsTail} (ys : List TokenAndSpan) → Production ElementsTail c r
+      → Ready (Some 5) ys r
+  ready-tail ys tail-end = λ a h. tt
+  ready-tail ys tail-more = λ a h. (refl, λ e. (tt, tt))
+
+  ready-item : {c : Context} {r : Side F C K Item} (ys : List TokenAndSpan) → Stop Item c ys → Production Item c r
+      → Ready (Some 15) ys r
+  ready-item ys stop item-expr = (refl, λ e. (stop, tt))
+  ready-item ys stop item-spread = λ a h. (refl, λ e. (stop, tt))
 
   -- a side followed, with the claim of each part
   data Ran : (s : Symbol) → Side F C K s → List TokenAndSpan → List TokenAndSpan → Answer F C K s → Type 0 where
@@ -353,6 +496,15 @@ module _ {F C K : Type 0} (hook : Hook F C K) where
   claim-by {s = Unary} {c = c} {xs = xs} {ys = ys} p d = λ stop.
       picks Unary c xs p (unary c xs) refl (picked-unary p (forget d))
       (side-reads (Some 10) d (ready-unary {c = c} ys p))
+  claim-by {s = Elements} {c = c} {xs = xs} {ys = ys} p d = λ stop.
+      picks Elements c xs p (elements c xs) refl (picked-elements p (forget d))
+      (side-reads (Some 16) d (ready-elements {c = c} ys p))
+  claim-by {s = ElementsTail} {c = c} {xs = xs} {ys = ys} p d = λ stop.
+      picks ElementsTail c xs p (elements_tail c xs) refl (picked-tail p (forget d))
+      (side-reads (Some 5) d (ready-tail {c = c} ys p))
+  claim-by {s = Item} {c = c} {xs = xs} {ys = ys} p d = λ stop.
+      picks Item c xs p (item c xs) refl (picked-item p (forget d))
+      (side-reads (Some 15) d (ready-item {c = c} ys stop p))
   claim-by {c = c} {xs = xs} lit d = λ stop.
       picks Literal c xs lit (literal c xs) refl refl
       (side-reads (Some 6) d (λ a. ready-given _ _ (lit_of a.token a.span) _ (λ e h. tt)))

@@ -9,6 +9,7 @@ use Rattle.swc_ast.specs.Tree.{Tree}
 use Rattle.swc_bodies.specs.Readings.{Hook}
 use Rattle.swc_grammar.specs.Symbols.{Expr}
 use Rattle.swc_grammar.specs.Clean.{Out, sym, run}
+use Rattle.swc_grammar.proofs.Texts.{this_word, this_word_tree, items, items_tree, no_comma_between}
 use Rattle.swc_grammar.proofs.Texts.{no_in, script, module_code, class_field, generator, word_at, name_at, ident}
 use Rattle.swc_grammar.proofs.Texts.{product_in_sum, product_in_sum_tree}
 use Rattle.swc_grammar.proofs.Texts.{two_sums, two_sums_tree, grouped_name, grouped_name_tree, sum_in_product}
@@ -310,3 +311,18 @@ module _ {F C K : Type 0} (hook : Hook F C K) where
   pub arguments_word-field : answer class_field arguments_word ≡ None
   unfolding answer
   arguments_word-field = refl
+
+  -- this
+  pub this_word-computed : answer script this_word ≡ Some (this_word_tree, [])
+  unfolding answer
+  this_word-computed = refl
+
+  -- [a, , ...b]
+  pub items-computed : answer script items ≡ Some (items_tree, [])
+  unfolding answer
+  items-computed = refl
+
+  -- [a b]
+  pub no_comma_between-computed : answer script no_comma_between ≡ None
+  unfolding answer
+  no_comma_between-computed = refl

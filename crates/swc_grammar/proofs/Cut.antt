@@ -12,6 +12,8 @@ use Rattle.swc_bodies.specs.Readings.{Hook}
 use Rattle.swc_grammar.specs.Symbols.{Symbol, Answer, Body, Value, Side}
 use Rattle.swc_grammar.specs.Grammar.{Production, ident-expr, lit, paren-expr, unary-primary, unary-op, exp-unary}
 use Rattle.swc_grammar.specs.Grammar.{exp-op, primary-literal}
+use Rattle.swc_grammar.specs.Grammar.{this-expr, array-lit, elements-end, elements-hole, elements-more, tail-end}
+use Rattle.swc_grammar.specs.Grammar.{tail-more, item-expr, item-spread, fn-expr, class-expr}
 use Rattle.swc_grammar.specs.Grammar.{level-up, bin-op, private-expr, assign-level, expr-assign}
 use Rattle.swc_grammar.specs.Parts.{reference, any_name, lit_of, prefix_here, operator_here}
 use Rattle.swc_grammar.specs.Reads.{Hears, Reads, by, Follows, gave, took, held, calm, part, heard}
@@ -133,8 +135,19 @@ module _ {F C K : Type 0} where
   -- so far no production looks ahead
   blind : {s : Symbol} {c : Context} {r : Side F C K s} → Production s c r → Blind r
   blind (ident-expr {c = c}) = λ a. blind-given (reference c a.token a.span) _ (λ n. tt)
+  blind this-expr = λ a. tt
   blind lit = λ a. blind-given (lit_of a.token a.span) _ (λ e. tt)
   blind primary-literal = λ e. tt
+  blind array-lit = λ a es. tt
+  blind elements-end = λ a. tt
+  blind elements-hole = λ a es. tt
+  blind elements-more = λ e es. tt
+  blind tail-end = λ a. tt
+  blind tail-more = λ a es. tt
+  blind item-expr = λ e. tt
+  blind item-spread = λ a e. tt
+  blind fn-expr = λ v s. tt
+  blind class-expr = λ v s. tt
   blind paren-expr = λ a e b. tt
   blind unary-primary = λ e. tt
   blind unary-op = λ a. blind-given (prefix_here a.token a.span) _ (λ x e. tt)

@@ -1,8 +1,9 @@
 -- What a reading begins with; so it takes a token at least.
 use Rattle.std.specs.Prelude.{◌≡◌, Bool, true, false, ◌&&◌, ◌||◌, not, suc, ◌≤◌, length, List, [], ◌∷◌, ◌++◌}
-use Rattle.std.specs.Prelude.{Option, Some, None, if◌then◌else◌}
+use Rattle.std.specs.Prelude.{Option, Some, None, if◌then◌else◌, codes}
 use Rattle.std.proofs.Common.{refl, sym, ap, subst, arith}
 use Rattle.std.proofs.lemmas.List.{length-append}
+use Rattle.swc_context.specs.Texts.{is_text}
 use Rattle.swc_context.specs.declared.context.Context.{Context}
 use Rattle.swc_context.specs.declared.operator.BinaryOp.{BinaryOp}
 use Rattle.swc_context.specs.declared.operator.UnaryOp.{UnaryOp}
@@ -12,24 +13,31 @@ use Rattle.swc_context.specs.declared.word.Word.TheVariants as word
 use Rattle.swc_input.specs.declared.token.Token.{Token}
 use Rattle.swc_input.specs.declared.token.Token.TheVariants as token
 use Rattle.swc_input.specs.declared.token.TokenAndSpan.{TokenAndSpan}
-use Rattle.swc_input.specs.Kinds.{at_token, is_hash}
+use Rattle.swc_input.specs.Kinds.{at_token}
 use Rattle.swc_ast.specs.Tree.{Tree}
 use Rattle.swc_grammar.specs.Rule.{Rule, gives, never, take, check, peek, read, hear, given, ◌>>=◌}
-use Rattle.swc_bodies.specs.Readings.{Hook}
-use Rattle.swc_grammar.specs.Symbols.{Symbol, Primary, Literal, Answer, Body, Value, begins_body, Side}
+use Rattle.swc_bodies.specs.Readings.{Hook, is_function, is_async, is_class, is_function_here, begins as begins_own}
+use Rattle.swc_bodies.specs.Readings.{begins_function}
+use Rattle.swc_grammar.specs.Symbols.{Symbol, Expr, Assign, Level, Unary, Primary, Literal, Elements, ElementsTail, Item, Answer, Body, Value}
+use Rattle.swc_grammar.specs.Symbols.{begins_body, Side}
 use Rattle.swc_grammar.specs.Names.{Spelling, may_refer}
-use Rattle.swc_grammar.specs.Tokens.{tk, binary_of, prefix_of, is_reference, ref_ok, is_put_off, is_lparen}
+use Rattle.swc_grammar.specs.Tokens.{tk, binary_of, prefix_of, is_reference, ref_ok, is_put_off, is_comma, is_rbracket}
+use Rattle.swc_grammar.specs.Tokens.{is_dots}
 use Rattle.swc_grammar.specs.Parts.{reference, lit_of, with_place, prefix_here}
 use Rattle.swc_grammar.specs.Grammar.{Production, ident-expr, lit, paren-expr, unary-primary, unary-op, exp-unary}
 use Rattle.swc_grammar.specs.Grammar.{exp-op, primary-literal}
+use Rattle.swc_grammar.specs.Grammar.{this-expr, array-lit, elements-end, elements-hole, elements-more, tail-end}
+use Rattle.swc_grammar.specs.Grammar.{tail-more, item-expr, item-spread, fn-expr, class-expr}
 use Rattle.swc_grammar.specs.Grammar.{level-up, bin-op, private-expr, assign-level, expr-assign}
 use Rattle.swc_grammar.specs.Reads.{Reads, by, Follows, gave, took, held, calm, part, heard}
 use Rattle.swc_grammar.specs.Clean.{first, is_lit, is_identifier}
-use Rattle.swc_grammar.specs.Firsts.{is_prefix_op, is_prefix, starts, begins_primary, begins_expression}
+use Rattle.swc_grammar.specs.Firsts.{is_prefix_op, is_prefix, is_expression, is_first, starts, begins_primary}
+use Rattle.swc_grammar.specs.Firsts.{begins_expression}
 use Rattle.swc_grammar.proofs.Answers.{both}
 use Rattle.swc_grammar.proofs.Bodies.{body-some}
 use Rattle.swc_grammar.proofs.Cut.{follows-length}
-use Rattle.swc_grammar.proofs.Only.{only-lparen, only-hash}
+use Rattle.swc_grammar.proofs.Only.{only-lparen, only-hash, only-this, only-lbracket, only-rbracket, only-comma, only-dots}
+use Rattle.swc_grammar.proofs.Only.{only-class}
 
 -- X holds where the rest of a side, behind the token that it tests, can be followed
 abbrev pub Under : {F C K A : Type 0} → Type 0 → Rule Symbol (Answer F C K) Body (Value F C K) A → Type 0
@@ -55,15 +63,6 @@ or-right : (a b : Bool) → b ≡ true → (a || b) ≡ true
 or-right true b h = refl
 or-right false b h = h
 
-of-four : (a b c d : Bool) → a ≡ true → (a || b || c || d) ≡ true
-of-four true b c d h = refl
-of-four false b c d h = absurd cc
-
-second-of-four : (a b c d : Bool) → b ≡ true → (a || b || c || d) ≡ true
-second-of-four true b c d h = refl
-second-of-four false true c d h = refl
-second-of-four false false c d h = absurd cc
-
 pub lit-first : {F C K : Type 0} (t : Token) (s : Span) (e : Tree F C K) → lit_of t s ≡ Some e → is_lit t ≡ true
 lit-first (token.Word word.Null) s e h = refl
 lit-first (token.Word word.True) s e h = refl
@@ -72,6 +71,35 @@ lit-first (token.Num raw) s e h = refl
 lit-first (token.BigInt raw) s e h = refl
 lit-first (token.Str value raw) s e h = refl
 lit-first t s e h = absurd cc
+
+-- a token with which a primary expression begins, in any context
+by-first : (c : Context) (t : Token) → is_first t ≡ true → begins_primary c t ≡ true
+by-first c t h = or-right (is_identifier c t) (is_first t) h
+
+pub lit-is-first : (t : Token) → is_lit t ≡ true → is_first t ≡ true
+lit-is-first (token.Word word.Null) h = refl
+lit-is-first (token.Word word.True) h = refl
+lit-is-first (token.Word word.False) h = refl
+lit-is-first (token.Num raw) h = refl
+lit-is-first (token.BigInt raw) h = refl
+lit-is-first (token.Str value raw) h = refl
+lit-is-first t h = absurd cc
+
+-- a function begins with `function` or `async`, a class with `class`
+is-first-of-function : (t : Token) (b : Bool) → (is_function t || (is_async t && b)) ≡ true → is_first t ≡ true
+is-first-of-function (token.Word (word.Keyword keyword.Function)) b h = refl
+is-first-of-function (token.Word (word.Ident w)) b h = (both (is_text w (codes "async")) b h).0
+is-first-of-function t b h = absurd cc
+
+function-first : (c : Context) (own : List TokenAndSpan) → begins_function own ≡ true
+    → at_token (begins_primary c) (first own) ≡ true
+function-first c [] h = absurd cc
+function-first c (t ∷ ts) h = by-first c t.token (is-first-of-function t.token (is_function_here ts) h)
+
+class-first : (c : Context) (own : List TokenAndSpan) → begins_own is_class own ≡ true
+    → at_token (begins_primary c) (first own) ≡ true
+class-first c [] h = absurd cc
+class-first c (t ∷ ts) h = by-first c t.token (only-class (λ v. is_first v ≡ true) refl t.token h)
 
 passed : {A : Type 0} (b : Bool) (a x : A) → (if b then Some a else None) ≡ Some x → b ≡ true
 passed true a x h = refl
@@ -101,7 +129,7 @@ reference-first c (token.Word w) s n h =
     let (a, b) = both (may_refer c w) (not (is_put_off w)) (passed (may_refer c w && not (is_put_off w)) _ n h) in
     let (d, e) = both (is_reference c w) (ref_ok c w) a in
     let own : is_identifier c (token.Word w) ≡ true = rw (d, b) refl in
-    (own, of-four (is_identifier c (token.Word w)) (is_lit (token.Word w)) false false own)
+    (own, or-left (is_identifier c (token.Word w)) (is_first (token.Word w)) own)
 reference-first c t s n h = absurd cc
 
 first-own : (P : Token → Bool) (own us : List TokenAndSpan) → suc 0 ≤ length own → at_token P (first own) ≡ true
@@ -139,9 +167,20 @@ module _ {F C K : Type 0} where
   opens (ident-expr {c = c}) =
       λ a. under-given _ (reference c a.token a.span) _ (λ n h. (reference-first c a.token a.span n h).1)
   opens lit = λ a. under-given _ (lit_of a.token a.span) _ (λ e h. lit-first a.token a.span e h)
-  opens (primary-literal {c = c}) =
-      λ t h. second-of-four (is_identifier c t) (is_lit t) (is_lparen t) (is_hash t) h
-  opens (paren-expr {c = c}) = λ a h. only-lparen (λ t. begins_primary c t ≡ true) refl a.token h
+  opens (this-expr {c = c}) = λ a h. by-first c a.token (only-this (λ t. is_first t ≡ true) refl a.token h)
+  opens (primary-literal {c = c}) = λ t h. by-first c t (lit-is-first t h)
+  opens (array-lit {c = c}) = λ a h. by-first c a.token (only-lbracket (λ t. is_first t ≡ true) refl a.token h)
+  opens (elements-end {c = c}) = λ a h. only-rbracket (λ t. starts Elements c t ≡ true) refl a.token h
+  opens (elements-hole {c = c}) = λ a h. only-comma (λ t. starts Elements c t ≡ true) refl a.token h
+  opens (elements-more {c = c}) =
+      λ t h. or-left (begins_expression c t || is_dots t) (is_comma t || is_rbracket t) h
+  opens (tail-end {c = c}) = λ a h. only-rbracket (λ t. starts ElementsTail c t ≡ true) refl a.token h
+  opens (tail-more {c = c}) = λ a h. only-comma (λ t. starts ElementsTail c t ≡ true) refl a.token h
+  opens (item-expr {c = c}) = λ t h. or-left (begins_expression c t) (is_dots t) h
+  opens (item-spread {c = c}) = λ a h. only-dots (λ t. starts Item c t ≡ true) refl a.token h
+  opens (fn-expr {c = c}) = λ own h. function-first c own h
+  opens (class-expr {c = c}) = λ own h. class-first c own h
+  opens (paren-expr {c = c}) = λ a h. by-first c a.token (only-lparen (λ t. is_first t ≡ true) refl a.token h)
   opens (unary-primary {c = c}) = λ t h. or-left (begins_primary c t) (is_prefix t) h
   opens (unary-op {c = c}) = λ a. under-given _ (prefix_here a.token a.span) _
       (λ x h. or-right (begins_primary c a.token) (is_prefix a.token) (placed-is (prefix_of a.token) a.span x h))
@@ -149,7 +188,7 @@ module _ {F C K : Type 0} where
   opens exp-op = λ t h. h
   opens (level-up b) = λ t h. h
   opens (bin-op b) = λ t h. h
-  opens (private-expr {c = c}) = λ a h. only-hash (λ t. begins_primary c t ≡ true) refl a.token h
+  opens (private-expr {c = c}) = λ a h. by-first c a.token (only-hash (λ t. is_first t ≡ true) refl a.token h)
   opens assign-level = λ t h. h
   opens expr-assign = λ t h. h
 
@@ -179,7 +218,18 @@ module _ {F C K : Type 0} where
   leads : {s : Symbol} {c : Context} {r : Side F C K s} → Production s c r → Leads r
   leads ident-expr = tt
   leads lit = tt
+  leads this-expr = tt
   leads primary-literal = tt
+  leads array-lit = tt
+  leads elements-end = tt
+  leads elements-hole = tt
+  leads elements-more = tt
+  leads tail-end = tt
+  leads tail-more = tt
+  leads item-expr = tt
+  leads item-spread = tt
+  leads fn-expr = tt
+  leads class-expr = tt
   leads paren-expr = tt
   leads unary-primary = tt
   leads unary-op = tt
@@ -218,25 +268,33 @@ module _ {F C K : Type 0} {hook : Hook F C K} {s : Symbol} {c : Context} where
       → Reads hook s c (t ∷ us) ys e → ⊥
   no_other t n d = let h = begins d in absurd cc
 
--- no symbol begins with a token that no expression begins with
-never-starts : (s : Symbol) (c : Context) (t : Token) → begins_expression c t ≡ false → starts s c t ≡ false
-never-starts s c t h = by-symbol s
+-- no symbol of expressions begins with a token that no expression begins with
+never-starts : (s : Symbol) (c : Context) (t : Token) → is_expression s ≡ true → begins_expression c t ≡ false
+    → starts s c t ≡ false
+never-starts s c t e h = by-symbol s e
   where
     left-false : (a b : Bool) → (a || b) ≡ false → a ≡ false
     left-false true b h = cc
     left-false false b h = refl
 
-    second-false : (a b c d : Bool) → (a || b || c || d) ≡ false → b ≡ false
-    second-false a false c d h = refl
-    second-false true true c d h = cc
-    second-false false true c d h = cc
+    right-false : (a b : Bool) → (a || b) ≡ false → b ≡ false
+    right-false true b h = cc
+    right-false false b h = h
 
-    by-symbol : (s : Symbol) → starts s c t ≡ false
-    by-symbol Primary = left-false (begins_primary c t) (is_prefix t) h
-    by-symbol Literal =
-        second-false (is_identifier c t) (is_lit t) (is_lparen t) (is_hash t)
-        (left-false (begins_primary c t) (is_prefix t) h)
-    by-symbol s = h
+    no-lit : (b : Bool) → b ≡ is_lit t → is_first t ≡ false → b ≡ false
+    no-lit true e h = let k = lit-is-first t (sym e) in cc
+    no-lit false e h = refl
+
+    by-symbol : (s : Symbol) → is_expression s ≡ true → starts s c t ≡ false
+    by-symbol Primary e = left-false (begins_primary c t) (is_prefix t) h
+    by-symbol Literal e =
+        no-lit (is_lit t) refl
+        (right-false (is_identifier c t) (is_first t) (left-false (begins_primary c t) (is_prefix t) h))
+    by-symbol Expr e = h
+    by-symbol Assign e = h
+    by-symbol (Level k) e = h
+    by-symbol Unary e = h
+    by-symbol s e = absurd cc
 
 operator-begins : (c c' : Context) (t : Token) (op : BinaryOp) → binary_of c' t ≡ Some op → prefix_of t ≡ None
     → begins_expression c t ≡ false
@@ -246,27 +304,27 @@ operator-begins c c' (token.BinOp b) op h n = ap is_prefix_op n
 operator-begins c c' t op h n = cc
 
 module _ {F C K : Type 0} {hook : Hook F C K} {s : Symbol} {c : Context} {us ys : List TokenAndSpan}
-    {e : Answer F C K s} where
+    {e : Answer F C K s} (is : is_expression s ≡ true) where
   pub no_rparen : {b : Bool} {p : Span} → Reads hook s c (tk token.RParen b p ∷ us) ys e → ⊥
-  no_rparen {b = b} {p = p} d = no_other (tk token.RParen b p) (never-starts s c token.RParen refl) d
+  no_rparen {b = b} {p = p} d = no_other (tk token.RParen b p) (never-starts s c token.RParen is refl) d
 
   pub no_rbracket : {b : Bool} {p : Span} → Reads hook s c (tk token.RBracket b p ∷ us) ys e → ⊥
-  no_rbracket {b = b} {p = p} d = no_other (tk token.RBracket b p) (never-starts s c token.RBracket refl) d
+  no_rbracket {b = b} {p = p} d = no_other (tk token.RBracket b p) (never-starts s c token.RBracket is refl) d
 
   pub no_rbrace : {b : Bool} {p : Span} → Reads hook s c (tk token.RBrace b p ∷ us) ys e → ⊥
-  no_rbrace {b = b} {p = p} d = no_other (tk token.RBrace b p) (never-starts s c token.RBrace refl) d
+  no_rbrace {b = b} {p = p} d = no_other (tk token.RBrace b p) (never-starts s c token.RBrace is refl) d
 
   pub no_comma : {b : Bool} {p : Span} → Reads hook s c (tk token.Comma b p ∷ us) ys e → ⊥
-  no_comma {b = b} {p = p} d = no_other (tk token.Comma b p) (never-starts s c token.Comma refl) d
+  no_comma {b = b} {p = p} d = no_other (tk token.Comma b p) (never-starts s c token.Comma is refl) d
 
   pub no_semi : {b : Bool} {p : Span} → Reads hook s c (tk token.Semi b p ∷ us) ys e → ⊥
-  no_semi {b = b} {p = p} d = no_other (tk token.Semi b p) (never-starts s c token.Semi refl) d
+  no_semi {b = b} {p = p} d = no_other (tk token.Semi b p) (never-starts s c token.Semi is refl) d
 
   pub no_colon : {b : Bool} {p : Span} → Reads hook s c (tk token.Colon b p ∷ us) ys e → ⊥
-  no_colon {b = b} {p = p} d = no_other (tk token.Colon b p) (never-starts s c token.Colon refl) d
+  no_colon {b = b} {p = p} d = no_other (tk token.Colon b p) (never-starts s c token.Colon is refl) d
 
   -- a binary operator that is no prefix operator too, in whichever context it is one
   pub no_operator : (c' : Context) (t : TokenAndSpan) (op : BinaryOp) → binary_of c' t.token ≡ Some op
       → prefix_of t.token ≡ None
       → Reads hook s c (t ∷ us) ys e → ⊥
-  no_operator c' t op h n d = no_other t (never-starts s c t.token (operator-begins c c' t.token op h n)) d
+  no_operator c' t op h n d = no_other t (never-starts s c t.token is (operator-begins c c' t.token op h n)) d

@@ -14,20 +14,22 @@ use Rattle.swc_context.specs.declared.word.Word.TheVariants as word
 use Rattle.swc_input.specs.declared.token.Token.{Token}
 use Rattle.swc_input.specs.declared.token.Token.TheVariants as token
 use Rattle.swc_input.specs.declared.token.TokenAndSpan.{TokenAndSpan}
-use Rattle.swc_ast.specs.Tree.{Tree, span_of}
+use Rattle.swc_ast.specs.Tree.{Tree, node, span_of}
 use Rattle.swc_grammar.specs.Rule.{Rule, gives, never, take, check, peek, read, hear, given, ◌>>=◌}
 use Rattle.swc_bodies.specs.Readings.{Hook}
 use Rattle.swc_grammar.specs.Symbols.{Symbol, Level, Unary, Primary, Literal, Answer, Body, Value, Side}
 use Rattle.swc_grammar.specs.Trees.{to, bin_e, tightness, least_left, min_right, exp_ok, is_unary, nullish_ok}
 use Rattle.swc_grammar.specs.Trees.{logical_ok}
-use Rattle.swc_grammar.specs.Trees.{is_valid, is_grouped}
+use Rattle.swc_grammar.specs.Trees.{is_valid, are_valid, is_invalid, is_grouped, are_grouped, grouped_at, items_of}
 use Rattle.swc_grammar.specs.Parts.{reference, any_name, lit_of, prefix_here, operator_here}
 use Rattle.swc_grammar.specs.Grammar.{Production, ident-expr, lit, paren-expr, unary-primary, unary-op, exp-unary}
 use Rattle.swc_grammar.specs.Grammar.{exp-op, primary-literal}
+use Rattle.swc_grammar.specs.Grammar.{this-expr, array-lit, elements-end, elements-hole, elements-more, tail-end}
+use Rattle.swc_grammar.specs.Grammar.{tail-more, item-expr, item-spread, fn-expr, class-expr}
 use Rattle.swc_grammar.specs.Grammar.{level-up, bin-op, private-expr, assign-level, expr-assign}
 use Rattle.swc_grammar.specs.Reads.{Reads, by, Follows, gave, took, held, calm, part, heard}
 use Rattle.swc_grammar.specs.Clean.{left_ok}
-use Rattle.swc_grammar.proofs.Answers.{inj}
+use Rattle.swc_grammar.proofs.Answers.{inj, both}
 
 -- how loosely a symbol's trees may hold together
 abbrev pub loosest : Symbol → ℕ
@@ -118,12 +120,31 @@ module _ {F C K : Type 0} where
       (all-seven _ _ (not (is_unary l)) true true (is_grouped l) (is_grouped r)
       looser below n refl refl dl.grouped dr.grouped) (omega arith)
 
+  -- what holds of a list holds of its items
+  items-valid : (t : Tree F C K) → is_valid t ≡ true → are_valid (items_of t) ≡ true
+  items-valid (node k s ts) h = (both (not (is_invalid k)) (are_valid ts) h).1
+
+  items-grouped : (t : Tree F C K) → is_grouped t ≡ true → are_grouped (items_of t) ≡ true
+  items-grouped (node k s ts) h = (both (grouped_at (node k s ts)) (are_grouped ts) h).1
+
   -- one clause a production
   keeps : {s : Symbol} {c : Context} {r : Side F C K s} → Production s c r → Keeps (Good F C K s) r
   keeps (ident-expr {c = c}) =
       λ a. keeps-given _ (reference c a.token a.span) _ (λ n h. leaf _ refl refl refl (omega arith))
+  keeps this-expr = λ a h. leaf _ refl refl refl (omega arith)
   keeps lit = λ a. keeps-given _ (lit_of a.token a.span) _ (λ e h. lit-good a.token a.span e h)
   keeps primary-literal = λ e g. looser g.tight g
+  keeps array-lit = λ a h es g. leaf _ (items-valid es g.valid) refl (items-grouped es g.grouped) (omega arith)
+  keeps elements-end = λ a h. leaf _ refl refl refl (omega arith)
+  keeps elements-hole = λ a h es g. leaf _ (items-valid es g.valid) refl (items-grouped es g.grouped) (omega arith)
+  keeps elements-more = λ e g es k.
+      leaf _ (rw (g.valid, items-valid es k.valid) refl) refl (rw (g.grouped, items-grouped es k.grouped) refl) (omega arith)
+  keeps tail-end = λ a h. leaf _ refl refl refl (omega arith)
+  keeps tail-more = λ a h es g. looser (omega arith) g
+  keeps item-expr = λ e g. leaf _ (rw g.valid refl) refl (rw g.grouped refl) (omega arith)
+  keeps item-spread = λ a h e g. leaf _ (rw g.valid refl) refl (rw g.grouped refl) (omega arith)
+  keeps fn-expr = λ v s. leaf _ refl refl refl (omega arith)
+  keeps class-expr = λ v s. leaf _ refl refl refl (omega arith)
   keeps paren-expr = λ a h e g b h1. leaf _ (rw g.valid refl) refl (rw g.grouped refl) (omega arith)
   keeps unary-primary = λ e g. looser g.tight g
   keeps unary-op = λ a. keeps-given _ (prefix_here a.token a.span) _

@@ -1,6 +1,6 @@
 -- The parts of right-hand sides that no production uses yet, each by a made-up one: 'no such token comes next', and a
 -- body that the hook reads.
-use Rattle.std.specs.Prelude.{◌≡◌, Bool, true, if◌then◌else◌, List, [], ◌∷◌, ◌++◌, Some, None}
+use Rattle.std.specs.Prelude.{◌≡◌, Bool, true, false, ◌&&◌, ◌||◌, if◌then◌else◌, List, [], ◌∷◌, ◌++◌, Some, None}
 use Rattle.std.proofs.Common.{refl, ap, sym, ◌∙◌}
 use Rattle.swc_context.specs.declared.context.Context.{Context}
 use Rattle.swc_context.specs.declared.span.Span.{Span}
@@ -12,7 +12,7 @@ use Rattle.swc_input.specs.declared.token.TokenAndSpan.{TokenAndSpan}
 use Rattle.swc_input.specs.Kinds.{is_hash}
 use Rattle.swc_ast.specs.Tree.{Tree, node, nil, fun as fun_kind}
 use Rattle.swc_bodies.specs.Readings.{Reading, ReadsOwn, IsReading, view, begins, begins_function, is_function, Hook, LawfulHook}
-use Rattle.swc_bodies.specs.Readings.{is_class, is_brace}
+use Rattle.swc_bodies.specs.Readings.{is_async, is_class, is_brace}
 use Rattle.swc_grammar.specs.Rule.{gives, ◌>>=◌, ◌>>◌, token as token_part, ahead, body}
 use Rattle.swc_grammar.specs.Symbols.{Primary, function, Side}
 use Rattle.swc_grammar.specs.Tokens.{tk, is_lparen}
@@ -82,9 +82,14 @@ module _ (f : Token → Bool) (starts : List TokenAndSpan → Bool)
 abbrev short : Hook Span Span Span
 short = record { fun = reads_one is_function; class = reads_one is_class; block = reads_one is_brace }
 
+function-alone : (a b : Bool) → (a || (b && false)) ≡ a
+function-alone true b = refl
+function-alone false true = refl
+function-alone false false = refl
+
 short-lawful : LawfulHook (λ p. p) (λ p. p) (λ p. p) short
 short-lawful = record {
-  fun = one-is-reading is_function begins_function (λ t. refl);
+  fun = one-is-reading is_function begins_function (λ t. function-alone (is_function t.token) (is_async t.token));
   class = one-is-reading is_class (begins is_class) (λ t. refl);
   block = one-is-reading is_brace (begins is_brace) (λ t. refl);
 }

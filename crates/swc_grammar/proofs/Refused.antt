@@ -10,6 +10,7 @@ use Rattle.swc_grammar.specs.Symbols.{Expr, Literal}
 use Rattle.swc_grammar.specs.Reads.{Reads}
 use Rattle.swc_grammar.proofs.Complete.{complete}
 use Rattle.swc_grammar.proofs.Firsts.{begins}
+use Rattle.swc_grammar.proofs.Computed.{no_comma_between-computed}
 use Rattle.swc_grammar.proofs.Computed.{answer, in_test-front, no_tokens-computed, closer-computed}
 use Rattle.swc_grammar.proofs.Computed.{empty_parens-computed, half_sum-computed}
 use Rattle.swc_grammar.proofs.Computed.{half_number_sum-computed, or_after_default-computed, default_after_or-computed}
@@ -20,6 +21,7 @@ use Rattle.swc_grammar.proofs.Computed.{power_of_minus_in_product-computed, hash
 use Rattle.swc_grammar.proofs.Computed.{delete_name-module}
 use Rattle.swc_grammar.proofs.Computed.{let_word-module, implements_word-module, yield_word-generator}
 use Rattle.swc_grammar.proofs.Computed.{arguments_word-field}
+use Rattle.swc_grammar.proofs.Texts.{no_comma_between}
 use Rattle.swc_grammar.proofs.Texts.{no_in, script, module_code, class_field, generator, in_test, let_word}
 use Rattle.swc_grammar.proofs.Texts.{grouped_name}
 use Rattle.swc_grammar.proofs.Texts.{arguments_word, delete_name, yield_word}
@@ -137,6 +139,10 @@ module _ {F C K : Type 0} (hook : Hook F C K) where
   -- arguments, in a class field
   arguments_word-refused : {e : Tree F C K} → Reads hook Expr class_field arguments_word [] e → ⊥
   arguments_word-refused d = refused (arguments_word-field hook) d
+
+  -- [a b]
+  no_comma_between-refused : {e : Tree F C K} → Reads hook Expr script no_comma_between [] e → ⊥
+  no_comma_between-refused d = refused (no_comma_between-computed hook) d
 
   -- ( a ), as a literal
   grouped_name-no_literal : {ys : List TokenAndSpan} {e : Tree F C K} → Reads hook Literal script grouped_name ys e → ⊥

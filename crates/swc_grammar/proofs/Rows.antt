@@ -11,6 +11,7 @@ use Rattle.swc_grammar.specs.Symbols.{reading_of, Side}
 use Rattle.swc_grammar.specs.Reads.{Reads, by, Follows, gave, took, held, calm, part, heard}
 use Rattle.swc_grammar.proofs.Literals.{literal-read}
 use Rattle.swc_grammar.proofs.Sound.{sound}
+use Rattle.swc_grammar.proofs.Computed.{this_word-computed, items-computed}
 use Rattle.swc_grammar.proofs.Computed.{answer}
 use Rattle.swc_grammar.proofs.Computed.{product_in_sum-computed, two_sums-computed, grouped_name-computed}
 use Rattle.swc_grammar.proofs.Computed.{sum_in_product-computed, in_test-computed}
@@ -25,6 +26,7 @@ use Rattle.swc_grammar.proofs.Computed.{minus_name-computed, not_minus_name-comp
 use Rattle.swc_grammar.proofs.Computed.{minus_in_power-computed, type_in_sum-computed, delete_name-computed}
 use Rattle.swc_grammar.proofs.Computed.{private_word-computed, hash_and_name-computed}
 use Rattle.swc_grammar.proofs.Computed.{yield_word-computed, implements_word-computed, two_names-computed}
+use Rattle.swc_grammar.proofs.Texts.{this_word, this_word_tree, items, items_tree}
 use Rattle.swc_grammar.proofs.Texts.{no_in, script, product_in_sum, product_in_sum_tree}
 use Rattle.swc_grammar.proofs.Texts.{two_sums, two_sums_tree, grouped_name, grouped_name_tree, sum_in_product}
 use Rattle.swc_grammar.proofs.Texts.{sum_in_product_tree, in_test}
@@ -215,3 +217,11 @@ module _ {F C K : Type 0} (hook : Hook F C K) where
   -- a b: `a`, and `b` is left
   two_names-front : Reads hook Expr script two_names (name_at (codes "b") 2 3 ∷ []) (ident (codes "a") 0 1)
   two_names-front = derived (two_names-computed deaf)
+
+  -- this
+  this_word-row : Reads hook Expr script this_word [] this_word_tree
+  this_word-row = derived (this_word-computed deaf)
+
+  -- [a, , ...b]
+  items-row : Reads hook Expr script items [] items_tree
+  items-row = derived (items-computed deaf)

@@ -15,7 +15,8 @@ use Rattle.swc_context.specs.declared.word.Word.TheVariants as word
 use Rattle.swc_input.specs.declared.token.Token.{Token}
 use Rattle.swc_input.specs.declared.token.Token.TheVariants as token
 use Rattle.swc_input.specs.declared.token.TokenAndSpan.{TokenAndSpan}
-use Rattle.swc_ast.specs.Tree.{Tree}
+use Rattle.swc_ast.specs.Tree.{Tree, nil, cons}
+use Rattle.swc_grammar.specs.Trees.{this_e, array_e, hole_e, item_e, spread_e}
 use Rattle.swc_grammar.specs.Tokens.{tk}
 use Rattle.swc_grammar.specs.Trees.{null_e, boolean_e, num_e, big_e, str_e, ident_e, private_e, unary_e, paren_e, bin_e}
 
@@ -386,3 +387,37 @@ two_names = name_at (codes "a") 0 1 ∷ name_at (codes "b") 2 3 ∷ []
 -- (a
 abbrev pub unclosed : List TokenAndSpan
 unclosed = open_at 0 1 ∷ name_at (codes "a") 1 2 ∷ []
+
+abbrev pub bracket_at : ℕ → ℕ → TokenAndSpan
+bracket_at lo hi = tok token.LBracket lo hi
+
+abbrev pub unbracket_at : ℕ → ℕ → TokenAndSpan
+unbracket_at lo hi = tok token.RBracket lo hi
+
+abbrev pub comma_at : ℕ → ℕ → TokenAndSpan
+comma_at lo hi = tok token.Comma lo hi
+
+abbrev pub dots_at : ℕ → ℕ → TokenAndSpan
+dots_at lo hi = tok token.DotDotDot lo hi
+
+-- this
+abbrev pub this_word : List TokenAndSpan
+this_word = word_at (word.Keyword keyword.This) 0 4 ∷ []
+
+abbrev pub this_word_tree : {F C K : Type 0} → Tree F C K
+this_word_tree = this_e (place 0 4)
+
+-- [a, , ...b]
+abbrev pub items : List TokenAndSpan
+items =
+    bracket_at 0 1 ∷ name_at (codes "a") 1 2 ∷ comma_at 2 3 ∷ comma_at 4 5 ∷ dots_at 6 9 ∷ name_at (codes "b") 9 10
+    ∷ unbracket_at 10 11 ∷ []
+
+abbrev pub items_tree : {F C K : Type 0} → Tree F C K
+items_tree = array_e (place 0 11)
+    (cons (item_e (ident (codes "a") 1 2)) (cons hole_e (cons (spread_e (place 6 9) (ident (codes "b") 9 10)) nil)))
+
+-- [a b]
+abbrev pub no_comma_between : List TokenAndSpan
+no_comma_between =
+    bracket_at 0 1 ∷ name_at (codes "a") 1 2 ∷ name_at (codes "b") 3 4 ∷ unbracket_at 4 5 ∷ []

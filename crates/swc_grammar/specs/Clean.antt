@@ -15,13 +15,17 @@ use Rattle.swc_input.specs.declared.token.Token.TheVariants as token
 use Rattle.swc_input.specs.declared.token.TokenAndSpan.{TokenAndSpan}
 use Rattle.swc_input.specs.Kinds.{at_token, is_hash}
 use Rattle.swc_ast.specs.Tree.{Tree, span_of}
-use Rattle.swc_bodies.specs.Readings.{whole_span, Hook}
+use Rattle.swc_bodies.specs.Readings.{whole_span, Hook, begins, begins_function, is_class}
 use Rattle.swc_grammar.specs.Rule.{Rule, gives, never, take, check, peek, read, hear, sees, ◌>>=◌, ◌>>◌, symbol, must}
-use Rattle.swc_grammar.specs.Symbols.{Symbol, Expr, Assign, Level, Unary, Primary, Literal, Answer, Body, Value}
+use Rattle.swc_grammar.specs.Symbols.{Symbol, Expr, Assign, Level, Unary, Primary, Literal, Elements, ElementsTail}
+use Rattle.swc_grammar.specs.Symbols.{Item, Answer, Body, Value}
 use Rattle.swc_grammar.specs.Symbols.{reading_of, Side}
 use Rattle.swc_grammar.specs.Grammar.{Production, ident-expr, lit, paren-expr, unary-primary, unary-op, private-expr}
-use Rattle.swc_grammar.specs.Grammar.{primary-literal, assign-level, expr-assign}
-use Rattle.swc_grammar.specs.Tokens.{is_ref, binary_of, prefix_of, is_lparen}
+use Rattle.swc_grammar.specs.Grammar.{primary-literal, assign-level, expr-assign, this-expr, array-lit, fn-expr, class-expr}
+use Rattle.swc_grammar.specs.Grammar.{elements-end, elements-hole, elements-more, tail-end, tail-more, item-expr}
+use Rattle.swc_grammar.specs.Grammar.{item-spread}
+use Rattle.swc_grammar.specs.Tokens.{is_ref, binary_of, prefix_of, is_lparen, is_this, is_lbracket, is_rbracket, is_comma}
+use Rattle.swc_grammar.specs.Tokens.{is_dots}
 use Rattle.swc_grammar.specs.Trees.{to, bin_e, nullish_ok, logical_ok, exp_ok, min_right}
 
 -- what was read, and the tokens left
@@ -76,6 +80,9 @@ rank_of (Level k) = 11
 rank_of Unary = 10
 rank_of Primary = 8
 rank_of Literal = 6
+rank_of Elements = 16
+rank_of ElementsTail = 5
+rank_of Item = 15
 
 abbrev pub rank : {F C K : Type 0} → Call F C K → ℕ
 rank (sym s) = rank_of s
@@ -146,6 +153,8 @@ abbrev pub Stop : Symbol → Context → List TokenAndSpan → Type 0
 Stop Primary c ys = Unit {0}
 Stop Literal c ys = Unit {0}
 Stop Unary c ys = Unit {0}
+Stop Elements c ys = Unit {0}
+Stop ElementsTail c ys = Unit {0}
 Stop (Level zero) c ys = ⊥
 Stop (Level (suc n)) c ys = (n ≤ 10) × Bound c n ys
 Stop s c ys = Bound c 0 ys
@@ -179,10 +188,25 @@ module _ {F C K : Type 0} where
       if at_token (is_identifier c) (first ts) then pick ident-expr else
       (if at_token is_lit (first ts) then pick primary-literal else
       (if at_token is_lparen (first ts) then pick paren-expr else
-      (if at_token is_hash (first ts) then pick private-expr else none)))
+      (if at_token is_hash (first ts) then pick private-expr else
+      (if at_token is_this (first ts) then pick this-expr else
+      (if at_token is_lbracket (first ts) then pick array-lit else
+      (if begins_function ts then pick fn-expr else
+      (if begins is_class ts then pick class-expr else none)))))))
 
   abbrev pub literal : (c : Context) → List TokenAndSpan → Choice F C K Literal c
   literal c ts = pick lit
+
+  abbrev pub elements : (c : Context) → List TokenAndSpan → Choice F C K Elements c
+  elements c ts =
+      if at_token is_comma (first ts) then pick elements-hole else
+      (if at_token is_rbracket (first ts) then pick elements-end else pick elements-more)
+
+  abbrev pub elements_tail : (c : Context) → List TokenAndSpan → Choice F C K ElementsTail c
+  elements_tail c ts = if at_token is_comma (first ts) then pick tail-more else pick tail-end
+
+  abbrev pub item : (c : Context) → List TokenAndSpan → Choice F C K Item c
+  item c ts = if at_token is_dots (first ts) then pick item-spread else pick item-expr
 
   -- behind an operator: what stands right of it, and their node, with the least precedence to go on with
   abbrev pub bin_op : BinaryOp → Tree F C K → ℕ → Context → Plan F C K (Tree F C K × Option ℕ)
@@ -214,6 +238,9 @@ module _ {F C K : Type 0} where
   step (sym Unary) c ts = chosen (unary c ts)
   step (sym Primary) c ts = chosen (primary c ts)
   step (sym Literal) c ts = chosen (literal c ts)
+  step (sym Elements) c ts = chosen (elements c ts)
+  step (sym ElementsTail) c ts = chosen (elements_tail c ts)
+  step (sym Item) c ts = chosen (item c ts)
   step (climb l m) c ts = turn (operator_at c (first ts)) l m c >>= (λ r. turned r.0 r.1 c)
 
 -- closed by as many steps as the measure of the call, which is enough

@@ -1,12 +1,15 @@
 -- What a reading begins with, symbol by symbol.
-use Rattle.std.specs.Prelude.{Bool, true, false, ◌||◌, Option, Some, None}
+use Rattle.std.specs.Prelude.{Bool, true, false, ◌||◌, Option, Some, None, codes}
 use Rattle.swc_context.specs.declared.context.Context.{Context}
 use Rattle.swc_context.specs.declared.operator.UnaryOp.{UnaryOp}
+use Rattle.swc_context.specs.Texts.{is_text}
+use Rattle.swc_context.specs.declared.word.Keyword.TheVariants as keyword
+use Rattle.swc_context.specs.declared.word.Word.TheVariants as word
 use Rattle.swc_input.specs.declared.token.Token.{Token}
-use Rattle.swc_input.specs.Kinds.{is_hash}
+use Rattle.swc_input.specs.declared.token.Token.TheVariants as token
 use Rattle.swc_grammar.specs.Clean.{is_lit, is_identifier}
-use Rattle.swc_grammar.specs.Symbols.{Symbol, Primary, Literal}
-use Rattle.swc_grammar.specs.Tokens.{prefix_of, is_lparen}
+use Rattle.swc_grammar.specs.Symbols.{Symbol, Primary, Literal, Elements, ElementsTail, Item}
+use Rattle.swc_grammar.specs.Tokens.{prefix_of, is_comma, is_rbracket, is_dots}
 
 abbrev pub is_prefix_op : Option UnaryOp → Bool
 is_prefix_op None = false
@@ -15,15 +18,41 @@ is_prefix_op (Some op) = true
 abbrev pub is_prefix : Token → Bool
 is_prefix t = is_prefix_op (prefix_of t)
 
--- a primary expression: with an identifier reference, a literal, `(` or `#`
+-- a primary expression: with an identifier reference, or with one of these tokens, by one table
+abbrev pub is_first : Token → Bool
+is_first (token.Word word.Null) = true
+is_first (token.Word word.True) = true
+is_first (token.Word word.False) = true
+is_first (token.Word (word.Keyword keyword.This)) = true
+is_first (token.Word (word.Keyword keyword.Function)) = true
+is_first (token.Word (word.Keyword keyword.Class)) = true
+is_first (token.Word (word.Ident name)) = is_text name (codes "async")
+is_first (token.Num raw) = true
+is_first (token.BigInt raw) = true
+is_first (token.Str value raw) = true
+is_first token.LParen = true
+is_first token.LBracket = true
+is_first token.Hash = true
+is_first t = false
+
 abbrev pub begins_primary : Context → Token → Bool
-begins_primary c t = is_identifier c t || is_lit t || is_lparen t || is_hash t
+begins_primary c t = is_identifier c t || is_first t
 
 -- any other: with a prefix operator too
 abbrev pub begins_expression : Context → Token → Bool
 begins_expression c t = begins_primary c t || is_prefix t
 
+-- the symbols of expressions
+abbrev pub is_expression : Symbol → Bool
+is_expression Elements = false
+is_expression ElementsTail = false
+is_expression Item = false
+is_expression s = true
+
 abbrev pub starts : Symbol → Context → Token → Bool
 starts Primary c t = begins_primary c t
 starts Literal c t = is_lit t
+starts Elements c t = (begins_expression c t || is_dots t) || (is_comma t || is_rbracket t)
+starts ElementsTail c t = is_comma t || is_rbracket t
+starts Item c t = begins_expression c t || is_dots t
 starts s c t = begins_expression c t

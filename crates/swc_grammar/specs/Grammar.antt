@@ -6,12 +6,15 @@ use Rattle.swc_context.specs.Operators.{precedence_of}
 use Rattle.swc_context.specs.declared.context.Context.{Context}
 use Rattle.swc_context.specs.declared.operator.BinaryOp.TheVariants as binary
 use Rattle.swc_input.specs.Kinds.{is_hash}
-use Rattle.swc_ast.specs.Tree.{span_of}
-use Rattle.swc_grammar.specs.Rule.{gives, ◌>>=◌, ◌>>◌, symbol, token, one, must}
-use Rattle.swc_grammar.specs.Symbols.{Symbol, Expr, Assign, Level, Unary, Primary, Literal, Side}
-use Rattle.swc_grammar.specs.Tokens.{with_in, is_lparen, is_rparen, is_power}
+use Rattle.swc_ast.specs.Tree.{nil, cons, span_of}
+use Rattle.swc_grammar.specs.Rule.{gives, ◌>>=◌, ◌>>◌, symbol, token, one, must, body}
+use Rattle.swc_grammar.specs.Symbols.{Symbol, Expr, Assign, Level, Unary, Primary, Literal, Elements, ElementsTail}
+use Rattle.swc_grammar.specs.Symbols.{Item, Side, function, class}
+use Rattle.swc_grammar.specs.Tokens.{with_in, is_this, is_lparen, is_rparen, is_lbracket, is_rbracket, is_comma, is_dots}
+use Rattle.swc_grammar.specs.Tokens.{is_power}
 use Rattle.swc_grammar.specs.Parts.{reference, any_name, lit_of, prefix_here, operator_here}
-use Rattle.swc_grammar.specs.Trees.{to, ident_e, private_e, unary_e, paren_e, bin_e}
+use Rattle.swc_grammar.specs.Trees.{to, ident_e, this_e, array_e, listed, items_of, hole_e, item_e, spread_e, fn_e}
+use Rattle.swc_grammar.specs.Trees.{class_e, private_e, unary_e, paren_e, bin_e}
 use Rattle.swc_grammar.specs.Trees.{nullish_ok, logical_ok, delete_ok, is_unary}
 
 pub data Production {F C K : Type 0} : (s : Symbol) → Context → Side F C K s → Type 0 where
@@ -19,11 +22,51 @@ pub data Production {F C K : Type 0} : (s : Symbol) → Context → Side F C K s
   ident-expr : {c : Context} → Production Primary c (do
     n ← one (reference c)
     gives (ident_e n.at n.text))
+  -- `this` (13.2.1)
+  this-expr : {c : Context} → Production Primary c (do
+    s ← token is_this
+    gives (this_e s))
   -- Literals (13.2.3), by one table
   lit : {c : Context} → Production Literal c (do
     e ← one lit_of
     gives e)
   primary-literal : {c : Context} → Production Primary c (symbol Literal c)
+  -- Array literals (13.2.4), in which `in` is an operator
+  array-lit : {c : Context} → Production Primary c (do
+    s ← token is_lbracket
+    es ← symbol Elements (with_in c)
+    gives (array_e (to s (span_of es)) (items_of es)))
+  elements-end : {c : Context} → Production Elements c (do
+    s ← token is_rbracket
+    gives (listed s nil))
+  elements-hole : {c : Context} → Production Elements c (do
+    token is_comma
+    es ← symbol Elements c
+    gives (listed (span_of es) (cons hole_e (items_of es))))
+  elements-more : {c : Context} → Production Elements c (do
+    e ← symbol Item c
+    es ← symbol ElementsTail c
+    gives (listed (span_of es) (cons e (items_of es))))
+  tail-end : {c : Context} → Production ElementsTail c (do
+    s ← token is_rbracket
+    gives (listed s nil))
+  tail-more : {c : Context} → Production ElementsTail c (do
+    token is_comma
+    symbol Elements c)
+  item-expr : {c : Context} → Production Item c (do
+    e ← symbol Assign c
+    gives (item_e e))
+  item-spread : {c : Context} → Production Item c (do
+    s ← token is_dots
+    e ← symbol Assign c
+    gives (spread_e s e))
+  -- Functions (13.2.6; 15.2, 15.5, 15.6, 15.8) and classes (15.7), which the hook reads
+  fn-expr : {c : Context} → Production Primary c (do
+    (f, s) ← body function c
+    gives (fn_e s f))
+  class-expr : {c : Context} → Production Primary c (do
+    (v, s) ← body class c
+    gives (class_e s v))
   -- Parentheses (13.2.9), in which `in` is an operator
   paren-expr : {c : Context} → Production Primary c (do
     s ← token is_lparen

@@ -13,12 +13,17 @@ pub data Symbol : Type 0 where
   Unary : Symbol
   Primary : Symbol
   Literal : Symbol
+  -- behind the bracket of an array literal (13.2.4), through the one that closes it: elements, and the same behind one of them
+  Elements : Symbol
+  ElementsTail : Symbol
+  -- an item of a list: an assignment expression, or one behind dots (13.2.4, 13.3.8)
+  Item : Symbol
 
--- what a symbol gives
+-- What a symbol gives. A list gives one node that holds its items, at the place of the token that closes it (`listed`).
 abbrev pub Answer : (F C K : Type 0) → Symbol → Type 0
 Answer F C K s = Tree F C K
 
--- what the hook reads; no production calls it yet
+-- what the hook reads
 pub data Body : Type 0 where
   function : Body
   class : Body

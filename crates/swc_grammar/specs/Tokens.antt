@@ -134,3 +134,19 @@ is_rparen t = false
 abbrev pub is_power : Token → Bool
 is_power (token.BinOp sign.Exp) = true
 is_power t = false
+
+abbrev pub is_lbracket : Token → Bool
+is_lbracket token.LBracket = true
+is_lbracket t = false
+
+abbrev pub is_rbracket : Token → Bool
+is_rbracket token.RBracket = true
+is_rbracket t = false
+
+abbrev pub is_dots : Token → Bool
+is_dots token.DotDotDot = true
+is_dots t = false
+
+abbrev pub is_this : Token → Bool
+is_this (token.Word (word.Keyword keyword.This)) = true
+is_this t = false

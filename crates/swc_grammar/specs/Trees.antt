@@ -9,12 +9,42 @@ use Rattle.swc_context.specs.declared.operator.UnaryOp.{UnaryOp}
 use Rattle.swc_context.specs.declared.operator.UnaryOp.TheVariants as prefix
 use Rattle.swc_context.specs.declared.span.Span.{Span}
 use Rattle.swc_ast.specs.Tree.{Tree, node, Trees, nil, cons}
-use Rattle.swc_ast.specs.Tree.{Kind, ident, private, str, boolean, null, num, big, unary, await, bin, paren, invalid}
+use Rattle.swc_ast.specs.Tree.{Kind, this, fun, class, array, args, hole, item, spread, dots, no_span}
+use Rattle.swc_ast.specs.Tree.{ident, private, str, boolean, null, num, big, unary, await, bin, paren, invalid}
 
 -- From the start of the first place to the end of the second: where the tokens are in order, the span of a node. The smaller end
 -- stands first in any case.
 abbrev pub to : Span → Span → Span
 to a b = between a.lo b.hi
+
+pattern abbrev pub this_e : {F C K : Type 0} → Span → Tree F C K
+this_e s = node this s nil
+
+pattern abbrev pub fn_e : {F C K : Type 0} → Span → F → Tree F C K
+fn_e s f = node (fun f) s nil
+
+pattern abbrev pub class_e : {F C K : Type 0} → Span → C → Tree F C K
+class_e s v = node (class v) s nil
+
+pattern abbrev pub array_e : {F C K : Type 0} → Span → Trees F C K → Tree F C K
+array_e s items = node array s items
+
+-- a list of items that a token at s closes, and its items
+pattern abbrev pub listed : {F C K : Type 0} → Span → Trees F C K → Tree F C K
+listed s items = node args s items
+
+abbrev pub items_of : {F C K : Type 0} → Tree F C K → Trees F C K
+items_of (node k s ts) = ts
+
+-- items have no place of their own: a hole, an expression, an expression behind dots
+abbrev pub hole_e : {F C K : Type 0} → Tree F C K
+hole_e = node hole no_span nil
+
+abbrev pub item_e : {F C K : Type 0} → Tree F C K → Tree F C K
+item_e e = node item no_span (cons e nil)
+
+abbrev pub spread_e : {F C K : Type 0} → Span → Tree F C K → Tree F C K
+spread_e s e = node spread no_span (cons (node dots s nil) (cons e nil))
 
 pattern abbrev pub null_e : {F C K : Type 0} → Span → Tree F C K
 null_e s = node null s nil

@@ -1,3 +1,4 @@
+pub mod Lists
 pub mod NodeTree
 pub mod Seats
 pub mod Slots

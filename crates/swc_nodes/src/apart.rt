@@ -1,6 +1,7 @@
 // Going over the parts of nodes, in their order: which number is reached first, whether parts lie apart, and which
 // parts there are.
 ghost use Rattle.std.specs.Prelude.{◌≡◌, ◌<◌, ◌++◌, true, fold, map, IfOk};
+ghost use Rattle.swc_nodes.specs.Lists.{elem_parts, props_parts};
 ghost use Rattle.swc_nodes.specs.Slots.{slots, flat, if_some, one_expr, one_pat, item_parts, key_parts, member_parts};
 ghost use Rattle.swc_nodes.specs.Slots.{super_parts, callee_parts, base_parts, body_parts, param_parts, prop_parts};
 ghost use Rattle.swc_nodes.specs.Slots.{pat_prop_parts};
@@ -70,6 +71,22 @@ impl<F: Spanned + Drop, C: Spanned + Drop, K: Spanned + Drop> Nodes<F, C, K> {
         ensures all { Apart 0 self.now (slots node.now) → result ≡ true }
     {
         node.walk(self, Some(0)).is_some()
+    }
+
+    /// Whether an array may have the elements: whether their parts are there, and lie apart, in their order.
+    pub fn are_elems_apart(&self, elems: &Vec<Option<ExprOrSpread<ExprId>>>) -> bool
+        ensures is { result ≡ true → Apart 0 self.now (elem_parts elems.now) }
+        ensures all { Apart 0 self.now (elem_parts elems.now) → result ≡ true }
+    {
+        elems.walk(self, Some(0)).is_some()
+    }
+
+    /// Whether an object may have the properties: whether their parts are there, and lie apart, in their order.
+    pub fn are_props_apart(&self, props: &Vec<PropNode<K>>) -> bool
+        ensures is { result ≡ true → Apart 0 self.now (props_parts props.now) }
+        ensures all { Apart 0 self.now (props_parts props.now) → result ≡ true }
+    {
+        props.walk(self, Some(0)).is_some()
     }
 
     /// Whether the nodes have the part.

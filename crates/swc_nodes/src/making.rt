@@ -2,15 +2,16 @@
 ghost use Rattle.std.specs.Prelude.{◌≡◌, ℕ, ◌+◌, IfOk};
 ghost use Rattle.swc_context.specs.Spans.{between};
 ghost use Rattle.swc_ast.specs.Parts.{leaf, ident_tree, lit_tree};
-ghost use Rattle.swc_ast.specs.Tree.{invalid, span_of};
+ghost use Rattle.swc_ast.specs.Tree.{invalid, node, object, span_of};
 ghost use Rattle.swc_grammar.specs.Trees as trees;
+ghost use Rattle.swc_nodes.specs.Lists.{elem_parts, elem_trees, props_parts, props_trees};
 ghost use Rattle.swc_nodes.specs.Slots.{expr_part};
-ghost use Rattle.swc_nodes.specs.Stands.{count, tree_at, first_at, From, Grows, Made};
+ghost use Rattle.swc_nodes.specs.Stands.{count, tree_at, first_at, Apart, From, Grows, Made};
 
-use crate::node::{ExprId, Node};
+use crate::node::{ExprId, Node, PropNode};
 use crate::nodes::Nodes;
 use std::alloc::AllocError;
-use swc_ast::expr::{Invalid, ParenExpr};
+use swc_ast::expr::{ExprOrSpread, Invalid, ParenExpr, ThisExpr};
 use swc_ast::ident::{Ident, IdentName, PrivateName};
 use swc_ast::lit::Lit;
 use swc_ast::spanned::Spanned;
@@ -24,6 +25,14 @@ impl<F: Spanned + Drop, C: Spanned + Drop, K: Spanned + Drop> Nodes<F, C, K> {
         ensures made { IfOk result (λ id. Made (count self.old) self.new (expr_part id) (ident_tree ident)) }
     {
         Ok(ExprId(self.push(Node::Ident(ident))?))
+    }
+
+    /// `this` (ECMA-262, 13.2.1).
+    pub fn this_expr(&mut self, span: Span) -> Result<ExprId, AllocError>
+        ensures grows { Grows self.old self.new }
+        ensures made { IfOk result (λ id. Made (count self.old) self.new (expr_part id) (trees.this_e span)) }
+    {
+        Ok(ExprId(self.push(Node::This(ThisExpr { span }))?))
     }
 
     /// A literal (ECMA-262, 13.2.3).
@@ -40,6 +49,59 @@ impl<F: Spanned + Drop, C: Spanned + Drop, K: Spanned + Drop> Nodes<F, C, K> {
             Lit::Regex(r) => Node::Regex(r),
         };
         Ok(ExprId(self.push(node)?))
+    }
+
+    /// An array literal (ECMA-262, 13.2.4) from `start` to `end`, positions in bytes, with a `None` for each hole.
+    ///
+    /// All that is reached from an element lies behind the element before it (`are_elems_apart`).
+    pub fn array_lit(
+        &mut self,
+        start: BytePos,
+        end: BytePos,
+        elems: Vec<Option<ExprOrSpread<ExprId>>>,
+    ) -> Result<ExprId, AllocError>
+        requires apart { Apart 0 self.old (elem_parts elems) }
+        ensures grows { Grows self.old self.new }
+        ensures made { IfOk result (λ id. (k : ℕ) → Apart k self.old (elem_parts elems) → Made k self.new (expr_part id)
+            (trees.array_e (between start end) (elem_trees (tree_at self.old) elems))) }
+    {
+        let span = Span::new(start, end);
+        Ok(ExprId(self.push(Node::Array { span, elems })?))
+    }
+
+    /// An object literal (ECMA-262, 13.2.5) from `start` to `end`, positions in bytes.
+    ///
+    /// All that is reached from a part of a property lies behind the part before it (`are_props_apart`).
+    pub fn object_lit(
+        &mut self,
+        start: BytePos,
+        end: BytePos,
+        props: Vec<PropNode<K>>,
+    ) -> Result<ExprId, AllocError>
+        requires apart { Apart 0 self.old (props_parts props) }
+        ensures grows { Grows self.old self.new }
+        ensures made { IfOk result (λ id. (k : ℕ) → Apart k self.old (props_parts props) → Made k self.new (expr_part id)
+            (node object (between start end) (props_trees F.place C.place K.place (tree_at self.old) props))) }
+    {
+        let span = Span::new(start, end);
+        Ok(ExprId(self.push(Node::Object { span, props })?))
+    }
+
+    /// A function expression (ECMA-262, 15.2, 15.5, 15.6 and 15.8), as the hook read it.
+    pub fn fn_expr(&mut self, function: F) -> Result<ExprId, AllocError>
+        ensures grows { Grows self.old self.new }
+        ensures made { IfOk result (λ id. Made (count self.old) self.new (expr_part id)
+            (trees.fn_e (F.place function) function)) }
+    {
+        Ok(ExprId(self.push(Node::Fn(function))?))
+    }
+
+    /// A class expression (ECMA-262, 15.7), as the hook read it.
+    pub fn class_expr(&mut self, class: C) -> Result<ExprId, AllocError>
+        ensures grows { Grows self.old self.new }
+        ensures made { IfOk result (λ id. Made (count self.old) self.new (expr_part id) (trees.class_e (C.place class) class)) }
+    {
+        Ok(ExprId(self.push(Node::Class(class))?))
     }
 
     /// An expression in parentheses (ECMA-262, 13.2.9).
@@ -59,7 +121,12 @@ impl<F: Spanned + Drop, C: Spanned + Drop, K: Spanned + Drop> Nodes<F, C, K> {
     }
 
     /// A prefix operator and its operand (ECMA-262, 13.5).
-    pub fn unary_op(&mut self, start: BytePos, op: UnaryOp, arg: ExprId) -> Result<ExprId, AllocError>
+    pub fn unary_op(
+        &mut self,
+        start: BytePos,
+        op: UnaryOp,
+        arg: ExprId,
+    ) -> Result<ExprId, AllocError>
         requires { From 0 self.old (expr_part arg) }
         ensures grows { Grows self.old self.new }
         ensures made { IfOk result (λ id. Made (first_at self.old arg.0) self.new (expr_part id)
@@ -72,7 +139,12 @@ impl<F: Spanned + Drop, C: Spanned + Drop, K: Spanned + Drop> Nodes<F, C, K> {
     /// A binary operator and its operands (ECMA-262, 13.6 to 13.13).
     ///
     /// All that is reached from the right one lies behind the left one: its `first` is above the left one's number.
-    pub fn bin_op(&mut self, op: BinaryOp, left: ExprId, right: ExprId) -> Result<ExprId, AllocError>
+    pub fn bin_op(
+        &mut self,
+        op: BinaryOp,
+        left: ExprId,
+        right: ExprId,
+    ) -> Result<ExprId, AllocError>
         requires left { From 0 self.old (expr_part left) }
         requires right { From (left.0 + 1) self.old (expr_part right) }
         ensures grows { Grows self.old self.new }

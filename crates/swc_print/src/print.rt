@@ -1,5 +1,5 @@
 // Trees as text.
-ghost use Rattle.std.specs.Prelude.{◌≡◌, ◌++◌, ◌<◌, [], OnOk, IfOk, IfErr, reverse};
+ghost use Rattle.std.specs.Prelude.{◌≡◌, ◌++◌, ◌<◌, [], OnOk, IfOk, IfErr, length, reverse};
 ghost use Rattle.std.specs.Option.{option_to_list};
 ghost use Rattle.swc_nodes.specs.Stands.{count};
 ghost use Rattle.swc_print.specs.Numbers.{numbers};
@@ -9,6 +9,7 @@ use crate::kinds::put_node;
 use crate::pieces::{Piece, Pieces};
 use std::alloc::{AllocError, Global};
 use swc_ast::spanned::Spanned;
+use swc_bodies::token_body::TokenBody;
 use swc_context::error::{Error, PResult, SyntaxError};
 use swc_context::span::{BytePos, Span};
 use swc_nodes::node::{ExprId, PatId};
@@ -23,6 +24,14 @@ pub trait Kept {
 impl Kept for Span {
     fn kept(&self) -> usize {
         0
+    }
+}
+
+impl Kept for TokenBody {
+    fn kept(&self) -> usize
+        ensures { result ≡ length self.now.tokens }
+    {
+        self.tokens.len()
     }
 }
 

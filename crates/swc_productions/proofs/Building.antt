@@ -1,13 +1,14 @@
 -- Nodes that were made, and numbers that are held.
-use Rattle.std.proofs.Common.{◌≡◌, ℕ, ◌≤◌, Result, Ok, Err, IfOk, ap, subst}
+use Rattle.std.proofs.Common.{◌≡◌, ℕ, ◌≤◌, List, Result, Ok, Err, IfOk, ap, subst, arith}
 use Rattle.std.specs.declared.alloc.AllocError.{AllocError}
 use Rattle.swc_context.specs.declared.error.Error.{Error}
 use Rattle.swc_ast.specs.Tree.{Tree}
 use Rattle.swc_ast.specs.declared.spanned.Spanned.{Ghosts}
-use Rattle.swc_nodes.specs.Slots.{expr_part}
-use Rattle.swc_nodes.specs.Stands.{From, Grows, Made}
+use Rattle.swc_nodes.specs.Slots.{Part, expr_part}
+use Rattle.swc_nodes.specs.Stands.{count, seat_at, Apart, From, Grows, Made}
 use Rattle.swc_nodes.specs.declared.node.ExprId.{ExprId}
 use Rattle.swc_nodes.specs.declared.nodes.Nodes.{Nodes}
+use Rattle.swc_nodes.proofs.Chains.{chain-down}
 use Rattle.swc_nodes.proofs.Held.{from-down}
 use Rattle.swc_nodes.proofs.Standing.{grows-none}
 use Rattle.swc_productions.specs.Parsing.{tree_of}
@@ -24,6 +25,16 @@ module _ {F C K : Type 0} {fg : Ghosts F} {cg : Ghosts C} {kg : Ghosts K} where
   pub made_from : (ms : Nodes F C K fg cg kg) (k j : ℕ) (t : Tree F C K) (q : Result ExprId AllocError) (r : Result ExprId Error) → k ≤ j → IfOk q (λ id. Made j ms (expr_part id) t) → IfOk r (λ id. q ≡ Ok id) → IfOk r (λ id. From k ms (expr_part id))
   made_from ms k j t q (Ok y) h m e = from-down h (made_at ms j t q y m e).from
   made_from ms k j t q (Err y) h m e = tt
+
+  -- a node over parts that lie apart from the number j on
+  pub made_over : (ns ms : Nodes F C K fg cg kg) (j : ℕ) (ps : List Part) (t : Tree F C K) (q : Result ExprId AllocError)
+      → IfOk q (λ id. (k : ℕ) → Apart k ns ps → Made k ms (expr_part id) t) → Apart j ns ps
+      → IfOk q (λ id. Made j ms (expr_part id) t)
+  made_over ns ms j ps t (Ok x) f a = f j a
+  made_over ns ms j ps t (Err e) f a = tt
+
+  pub apart-down : {ns : Nodes F C K fg cg kg} {k : ℕ} (ps : List Part) → Apart k ns ps → Apart 0 ns ps
+  apart-down {ns} {k} ps a = record { chained = chain-down (seat_at ns) k 0 ps (count ns) (omega arith) a.chained }
 
   -- ---- numbers that are held
 

@@ -1,4 +1,7 @@
+pub mod Ahead
 pub mod Building
+pub mod Hearing
+pub mod Lists
 pub mod Making
 pub mod Naming
 pub mod Rules

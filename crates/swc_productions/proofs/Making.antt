@@ -18,43 +18,47 @@ use Rattle.swc_nodes.specs.Slots.{expr_part}
 use Rattle.swc_nodes.specs.Stands.{From, Grows, Made}
 use Rattle.swc_nodes.specs.declared.node.ExprId.{ExprId}
 use Rattle.swc_nodes.specs.declared.nodes.Nodes.{Nodes}
-use Rattle.swc_nodes.proofs.Held.{if_from}
 use Rattle.swc_nodes.proofs.Standing.{grows-then}
 use Rattle.swc_productions.specs.declared.productions.Productions.{Productions}
 use Rattle.swc_productions.specs.Parsing.{On, Heard, Unheard, Parses, Continues, Produces, GoesOn, Recovers, itself, tree_of}
 use Rattle.swc_productions.proofs.Building.{made_tree, made_from}
 use Rattle.swc_productions.proofs.Steps.{Reader, lower, less, node_parses, parses_after, parses_call, continues_after, continues_of}
 
-module _ {S H F C K : Type 0} {fg : Ghosts F} {cg : Ghosts C} {kg : Ghosts K} {model : Model S} {sure : Bool} {T A : Type 0} {number : T → ExprId} {view : Nodes F C K fg cg kg → T → A} {f : Reader A} {k : ℕ} where
+-- what an answer holds is weakened
+pub if_held : {T : Type 0} {P Q : T → Type 0} → ((x : T) → P x → Q x) → (r : Result T Error) → IfOk r P → IfOk r Q
+if_held f (Ok x) h = f x h
+if_held f (Err e) h = tt
+
+module _ {S H F C K : Type 0} {fg : Ghosts F} {cg : Ghosts C} {kg : Ghosts K} {model : Model S} {sure : Bool} {T A : Type 0} {held : ℕ → Nodes F C K fg cg kg → T → Type 0} {view : Nodes F C K fg cg kg → T → A} {f : Reader A} {k : ℕ} where
   -- refused
-  pub no : {p q : Productions S H F C K fg cg kg} {e : Error} → Unheard model sure f p.input e q.input → Grows p.nodes q.nodes → Produces model sure number view f k p (Err e) q
+  pub no : {p q : Productions S H F C K fg cg kg} {e : Error} → Unheard model sure f p.input e q.input → Grows p.nodes q.nodes → Produces model sure held view f k p (Err e) q
   no u g = record { reads = u; falls = tt; grows = g; from = tt }
 
-  pub no_more : {p q : Productions S H F C K fg cg kg} {e : Error} → Unheard model sure f p.input e q.input → Grows p.nodes q.nodes → GoesOn model sure number view f k p (Err e) q
+  pub no_more : {p q : Productions S H F C K fg cg kg} {e : Error} → Unheard model sure f p.input e q.input → Grows p.nodes q.nodes → GoesOn model sure held view f k p (Err e) q
   no_more u g = record { reads = u; falls = tt; grows = g; from = tt }
 
   -- read
-  pub yes : {p q : Productions S H F C K fg cg kg} (r : Result T Error) → Parses model sure (view q.nodes) f p.input r q.input → Grows p.nodes q.nodes → IfOk r (λ t. From k q.nodes (expr_part (number t))) → Produces model sure number view f k p r q
+  pub yes : {p q : Productions S H F C K fg cg kg} (r : Result T Error) → Parses model sure (view q.nodes) f p.input r q.input → Grows p.nodes q.nodes → IfOk r (λ t. held k q.nodes t) → Produces model sure held view f k p r q
   yes (Ok x) h g m = record { reads = h; falls = lower (record { leads = h.on.leads; some = h.some }); grows = g; from = m }
   yes (Err e) h g m = record { reads = h; falls = tt; grows = g; from = m }
 
-  pub on : {p q : Productions S H F C K fg cg kg} (r : Result T Error) → Continues model sure (view q.nodes) f p.input r q.input → Grows p.nodes q.nodes → IfOk r (λ t. From k q.nodes (expr_part (number t))) → GoesOn model sure number view f k p r q
+  pub on : {p q : Productions S H F C K fg cg kg} (r : Result T Error) → Continues model sure (view q.nodes) f p.input r q.input → Grows p.nodes q.nodes → IfOk r (λ t. held k q.nodes t) → GoesOn model sure held view f k p r q
   on (Ok x) h g m = record { reads = h; falls = less h.leads; grows = g; from = m }
   on (Err e) h g m = record { reads = h; falls = tt; grows = g; from = m }
 
   -- steps, and then a production
-  pub after : {g : Reader A} {p m q : Productions S H F C K fg cg kg} (r : Result T Error) → On model sure f g p.input m.input → Grows p.nodes m.nodes → Produces model sure number view g k m r q → Produces model sure number view f k p r q
+  pub after : {g : Reader A} {p m q : Productions S H F C K fg cg kg} (r : Result T Error) → On model sure f g p.input m.input → Grows p.nodes m.nodes → Produces model sure held view g k m r q → Produces model sure held view f k p r q
   after {q = q} r o w h = yes r (parses_after model sure (view q.nodes) f q.input r o h.reads) (grows-then w h.grows) h.from
 
-  pub on_after : {g : Reader A} {p m q : Productions S H F C K fg cg kg} (r : Result T Error) → On model sure f g p.input m.input → Grows p.nodes m.nodes → GoesOn model sure number view g k m r q → GoesOn model sure number view f k p r q
+  pub on_after : {g : Reader A} {p m q : Productions S H F C K fg cg kg} (r : Result T Error) → On model sure f g p.input m.input → Grows p.nodes m.nodes → GoesOn model sure held view g k m r q → GoesOn model sure held view f k p r q
   on_after {q = q} r o w h = on r (continues_after model sure (view q.nodes) f q.input r o h.reads) (grows-then w h.grows) h.from
 
   -- what was read, and a production that reads on
   pub call : {B : Type 0} {q0 : Reader B} {t : B} {p m q : Productions S H F C K fg cg kg} {j : ℕ} (r : Result T Error) (then : Context → B × List TokenAndSpan → Out A) → ((x : Context) (ts : List TokenAndSpan) → f x ts ≡ (q0 x ts >>= then x)) →
-      Heard model sure q0 t p.input m.input → Grows p.nodes m.nodes → k ≤ j → GoesOn model sure number view (λ x ts. then x (t, ts)) j m r q → Produces model sure number view f k p r q
-  call {q = q} {j = j} r then step h w le s = yes r (parses_call model sure (view q.nodes) f q.input r then step h s.reads) (grows-then w s.grows) (if_from q.nodes k j number r le s.from)
+      Heard model sure q0 t p.input m.input → Grows p.nodes m.nodes → ((x : T) → held j q.nodes x → held k q.nodes x) → GoesOn model sure held view (λ x ts. then x (t, ts)) j m r q → Produces model sure held view f k p r q
+  call {q = q} {j = j} r then step h w down s = yes r (parses_call model sure (view q.nodes) f q.input r then step h s.reads) (grows-then w s.grows) (if_held down r s.from)
 
-  pub weaker : {p q : Productions S H F C K fg cg kg} (r : Result T Error) → Produces model sure number view f k p r q → GoesOn model sure number view f k p r q
+  pub weaker : {p q : Productions S H F C K fg cg kg} (r : Result T Error) → Produces model sure held view f k p r q → GoesOn model sure held view f k p r q
   weaker {p} {q} r h = on r (continues_of model sure (view q.nodes) f p.input q.input r h.reads) h.grows h.from
 
 -- a node is made in the end
@@ -67,7 +71,7 @@ module _ {S H F C K : Type 0} {fg : Ghosts F} {cg : Ghosts C} {kg : Ghosts K} {m
 
 -- ---- in place of an operand
 
-module _ {S H F C K : Type 0} {fg : Ghosts F} {cg : Ghosts C} {kg : Ghosts K} {model : Model S} {T : Type 0} {number : T → ExprId} {Effect : Buffer S → Result T Error → Buffer S → Type 0} {kind : SyntaxError} where
+module _ {S H F C K : Type 0} {fg : Ghosts F} {cg : Ghosts C} {kg : Ghosts K} {model : Model S} {T : Type 0} {held : ℕ → Nodes F C K fg cg kg → T → Type 0} {Effect : Buffer S → Result T Error → Buffer S → Type 0} {kind : SyntaxError} where
   -- a refusal
-  pub not_recovered : {p q : Productions S H F C K fg cg kg} {e : Error} → Effect p.input (Err e) q.input → (e.kind ≢ OutOfMemory → kind ≢ OutOfMemory) → Grows p.nodes q.nodes → Recovers model number Effect kind p (Err e) q
+  pub not_recovered : {p q : Productions S H F C K fg cg kg} {e : Error} → Effect p.input (Err e) q.input → (e.kind ≢ OutOfMemory → kind ≢ OutOfMemory) → Grows p.nodes q.nodes → Recovers model held Effect kind p (Err e) q
   not_recovered h memory g = record { effect = h; notes = λ l. tt; some = tt; memory = memory; falls = tt; grows = g; from = tt }

@@ -18,27 +18,32 @@ use Rattle.swc_input.specs.Plain.{plain}
 use Rattle.swc_input.specs.Kinds.{at_token, is_hash}
 use Rattle.swc_ast.specs.Tree.{Tree, span_of}
 use Rattle.swc_grammar.specs.Rule.{gives, take, check, read, given, ◌>>=◌ as ◌▸◌}
-use Rattle.swc_bodies.specs.Readings.{Hook, LawfulHook}
-use Rattle.swc_grammar.specs.Symbols.{Expr, Assign, Level, Unary, Primary, Literal, Side}
+use Rattle.swc_bodies.specs.Readings.{Hook, LawfulHook, begins, begins_function, is_class, is_function, is_async}
+use Rattle.swc_bodies.specs.Readings.{is_function_here}
+use Rattle.swc_grammar.specs.Symbols.{Expr, Assign, Level, Unary, Primary, Literal, Side, function, class}
 use Rattle.swc_grammar.specs.Tokens.{tk, with_in, is_reference, ref_ok, is_put_off, prefix_of, is_lparen, is_rparen}
+use Rattle.swc_grammar.specs.Tokens.{is_this, is_lbracket}
 use Rattle.swc_grammar.specs.Names.{Spelling, spelling, may_refer, may_name, spelled}
-use Rattle.swc_grammar.specs.Trees.{to, ident_e, private_e, unary_e, paren_e, bin_e, is_logical, is_nullish_op}
+use Rattle.swc_grammar.specs.Trees.{to, ident_e, this_e, fn_e, class_e, private_e, unary_e, paren_e, bin_e, is_logical}
+use Rattle.swc_grammar.specs.Trees.{is_nullish_op}
 use Rattle.swc_grammar.specs.Trees.{nullish_ok, exp_ok, delete_ok, min_right}
 use Rattle.swc_grammar.specs.Parts.{reference, any_name, lit_of, with_place, prefix_here}
-use Rattle.swc_grammar.specs.Grammar.{ident-expr, primary-literal, paren-expr, unary-op, private-expr}
-use Rattle.swc_grammar.specs.Clean.{Out, and_then, first, sym as at, climb, plan, exec, is_lit, is_identifier, no_error}
-use Rattle.swc_grammar.specs.Clean.{operator_at, prefix_at, left_ok}
+use Rattle.swc_grammar.specs.Grammar.{ident-expr, this-expr, primary-literal, fn-expr, class-expr, paren-expr, unary-op}
+use Rattle.swc_grammar.specs.Grammar.{private-expr}
+use Rattle.swc_grammar.specs.Clean.{Out, and_then, hear_then, first, sym as at, climb, plan, exec, is_lit, is_identifier}
+use Rattle.swc_grammar.specs.Clean.{no_error, operator_at, prefix_at, left_ok}
 use Rattle.swc_grammar.specs.Clean.{pick, unary_by, primary, bin_op as bin_op_plan, turn as turn_plan}
 use Rattle.swc_grammar.specs.Clean.{turned as turned_plan, run}
 use Rattle.swc_grammar.specs.Words.{◌>>=◌, rest, one, word}
 use Rattle.swc_grammar.specs.Firsts.{begins_expression}
 use Rattle.swc_grammar.proofs.Answers.{both}
-use Rattle.swc_grammar.proofs.Complete.{last, lit-picks}
+use Rattle.swc_grammar.proofs.Bodies.{hears, hears-place, hears-run}
+use Rattle.swc_grammar.proofs.Complete.{last, lit-picks, fn-picks, class-picks}
 use Rattle.swc_grammar.proofs.Knot.{knot}
 use Rattle.swc_grammar.proofs.Levels.{right-low}
-use Rattle.swc_grammar.proofs.Only.{only-lparen, only-rparen, only-hash}
+use Rattle.swc_grammar.proofs.Only.{only-this, only-lparen, only-rparen, only-hash}
 use Rattle.swc_grammar.proofs.Rules.{exec-bind, run_picked, reads_nothing}
-use Rattle.swc_productions.specs.Parsing.{is_strict, seen_of}
+use Rattle.swc_productions.specs.Parsing.{is_strict, begins_async, seen_of}
 use Rattle.swc_productions.specs.Readers.{reading, by_production, inside, private_expr_tail, paren_expr_tail, paren_expr_close, unary_op_tail, unary_op_node}
 use Rattle.swc_productions.specs.Readers.{unary_op, turn, bin_op}
 use Rattle.swc_productions.specs.Readers.{bin_op_node, turned, go_on}
@@ -69,6 +74,29 @@ nullish_both op l r h = rw h refl
 pub same_op : {x y : Context} {s r : Option TokenAndSpan} (o q : Option BinaryOp) → x ≡ y → r ≡ s → o ≡ operator_at y s
     → o ≡ q → operator_at x r ≡ q
 same_op o q h i j k = rw (h, i) (sym j ∙ k)
+
+-- what begins with a token
+begins_first : (f : Token → Bool) (ts : List TokenAndSpan) → begins f ts ≡ at_token f (first ts)
+begins_first f [] = refl
+begins_first f (t ∷ ts) = refl
+
+-- a function begins with `function`, or with `async` and `function`
+pub function_begins : (ts : List TokenAndSpan) → at_token is_function (first ts) ≡ true → begins_function ts ≡ true
+function_begins [] h = absurd cc
+function_begins (t ∷ ts) h = rw h refl
+
+or_right : (a b : Bool) → b ≡ true → (a || b) ≡ true
+or_right true b h = refl
+or_right false b h = h
+
+pub async_begins : (ts : List TokenAndSpan) → begins_async ts ≡ true → begins_function ts ≡ true
+async_begins [] h = absurd cc
+async_begins (t ∷ ts) h = or_right (is_function t.token) (is_async t.token && is_function_here ts) h
+
+pub function_not : (ts : List TokenAndSpan) → at_token is_function (first ts) ≡ false → begins_async ts ≡ false
+    → begins_function ts ≡ false
+function_not [] h k = refl
+function_not (t ∷ ts) h k = rw (h, k) refl
 
 and_true : (b : Bool) → (b && true) ≡ b
 and_true true = refl
@@ -138,11 +166,33 @@ module _ {F C K : Type 0} (hook : Hook F C K) where
       (only-hash (λ v. primary {F = F} {C = C} {K = K} x (tk v t.had_line_break t.span ∷ ts)
       ≡ pick private-expr) refl t.token h)
 
-  pub primary_ends : (x : Context) (ts : List TokenAndSpan) → at_token is_lit (first ts) ≡ false
-      → at_token is_lparen (first ts) ≡ false
-      → at_token (is_identifier x) (first ts) ≡ false → at_token is_hash (first ts) ≡ false
+  pub this_expr_picked : (x : Context) (ts : List TokenAndSpan) → at_token is_this (first ts) ≡ true
+      → run hook (at Primary) x ts ≡ by_production hook (λ c. this-expr) x ts
+  unfolding by_production reading
+  this_expr_picked x [] h = absurd cc
+  this_expr_picked x (t ∷ ts) h =
+      run_picked hook Primary x (t ∷ ts) this-expr (primary x (t ∷ ts)) refl
+      (only-this (λ v. primary {F = F} {C = C} {K = K} x (tk v t.had_line_break t.span ∷ ts)
+      ≡ pick this-expr) refl t.token h)
+
+  pub fn_expr_picked : (x : Context) (ts : List TokenAndSpan) → begins_function ts ≡ true
+      → run hook (at Primary) x ts ≡ by_production hook (λ c. fn-expr) x ts
+  unfolding by_production reading
+  fn_expr_picked x ts h = run_picked hook Primary x ts fn-expr (primary x ts) refl (fn-picks hook x ts h)
+
+  pub class_expr_picked : (x : Context) (ts : List TokenAndSpan) → at_token is_class (first ts) ≡ true
+      → run hook (at Primary) x ts ≡ by_production hook (λ c. class-expr) x ts
+  unfolding by_production reading
+  class_expr_picked x ts h =
+      run_picked hook Primary x ts class-expr (primary x ts) refl (class-picks hook x ts (begins_first is_class ts ∙ h))
+
+  pub primary_ends : (x : Context) (ts : List TokenAndSpan) → at_token (is_identifier x) (first ts) ≡ false
+      → at_token is_lit (first ts) ≡ false → at_token is_lparen (first ts) ≡ false
+      → at_token is_hash (first ts) ≡ false → at_token is_this (first ts) ≡ false
+      → at_token is_lbracket (first ts) ≡ false → begins_function ts ≡ false → at_token is_class (first ts) ≡ false
       → run hook (at Primary) x ts ≡ None
-  primary_ends x ts h i j k = knot hook (at Primary) x ts ∙ rw (j, h, i, k) refl
+  primary_ends x ts h i j k l m n o =
+      knot hook (at Primary) x ts ∙ rw (h, i, j, k, l, m, n, begins_first is_class ts ∙ o) refl
 
   -- ---- identifier references (13.1)
 
@@ -172,6 +222,13 @@ module _ {F C K : Type 0} (hook : Hook F C K) where
       given_one (reference x t.token t.span) (λ n. ident_e n.at n.text) ts
       ∙ ap (λ o. one o ts >>= (λ p. Some (ident_e p.0.at p.0.text, p.1))) (ident_expr_spelled x t.token t.span h)
 
+  -- ---- `this` (13.2.1)
+
+  pub this_expr_takes : (t : TokenAndSpan) (x : Context) (ts : List TokenAndSpan) → is_this t.token ≡ true
+      → by_production hook (λ c. this-expr) x (t ∷ ts) ≡ Some (this_e t.span, ts)
+  unfolding by_production reading
+  this_expr_takes t x ts h = rw h refl
+
   -- ---- literals (13.2.3)
 
   pub lit_takes : (e : Tree F C K) (x : Context) (t : TokenAndSpan) (ts : List TokenAndSpan)
@@ -199,6 +256,41 @@ module _ {F C K : Type 0} (hook : Hook F C K) where
   pub lit_unfit : (x : Context) (ts : List TokenAndSpan) → at_token no_error (first ts) ≡ false
       → run hook (at Literal) x ts ≡ None
   lit_unfit x ts h = lit_not x ts (error_not (first ts) h)
+
+  -- ---- functions (13.2.6; 15.2, 15.5, 15.6, 15.8) and classes (15.7)
+
+  pub fn_expr_hears : {fun_at : F → Span} {class_at : C → Span} {block_at : K → Span}
+      → LawfulHook fun_at class_at block_at hook → (x : Context) (ts : List TokenAndSpan)
+      → by_production hook (λ c. fn-expr) x ts ≡ (hook.fun x ts >>= (λ p. Some (fn_e (fun_at p.0) p.0, p.1)))
+  unfolding by_production reading
+  fn_expr_hears {fun_at} laws x ts = by_what (hook.fun x ts) refl
+    where
+      by_what : (o : Out F) → hook.fun x ts ≡ o
+          → hear_then (hook.fun x ts) ts (λ v s us. Some (fn_e {F = F} {C = C} {K = K} s v, us))
+          ≡ (hook.fun x ts >>= (λ p. Some (fn_e (fun_at p.0) p.0, p.1)))
+      by_what None e = rw e refl
+      by_what (Some p) e =
+          let h = hears hook laws function x ts p.0 p.1 e in
+          hears-run h (λ v s us. Some (fn_e s v, us))
+          ∙ ap (λ s. Some (fn_e s p.0, p.1)) (sym (hears-place hook laws function x ts p.0 p.1 h))
+          ∙ ap (λ o. o >>= (λ p. Some (fn_e (fun_at p.0) p.0, p.1))) (sym e)
+
+  pub class_expr_hears : {fun_at : F → Span} {class_at : C → Span} {block_at : K → Span}
+      → LawfulHook fun_at class_at block_at hook → (x : Context) (ts : List TokenAndSpan)
+      → by_production hook (λ c. class-expr) x ts
+      ≡ (hook.class x ts >>= (λ p. Some (class_e (class_at p.0) p.0, p.1)))
+  unfolding by_production reading
+  class_expr_hears {class_at = class_at} laws x ts = by_what (hook.class x ts) refl
+    where
+      by_what : (o : Out C) → hook.class x ts ≡ o
+          → hear_then (hook.class x ts) ts (λ v s us. Some (class_e {F = F} {C = C} {K = K} s v, us))
+          ≡ (hook.class x ts >>= (λ p. Some (class_e (class_at p.0) p.0, p.1)))
+      by_what None e = rw e refl
+      by_what (Some p) e =
+          let h = hears hook laws class x ts p.0 p.1 e in
+          hears-run h (λ v s us. Some (class_e s v, us))
+          ∙ ap (λ s. Some (class_e s p.0, p.1)) (sym (hears-place hook laws class x ts p.0 p.1 h))
+          ∙ ap (λ o. o >>= (λ p. Some (class_e (class_at p.0) p.0, p.1))) (sym e)
 
   -- ---- parentheses (13.2.9)
 

@@ -25,7 +25,10 @@ use Rattle.swc_grammar.specs.Parts.{lit_of}
 use Rattle.swc_grammar.specs.Clean.{Out, first, no_error}
 use Rattle.swc_grammar.specs.Words.{◌>>=◌}
 use Rattle.swc_ast.specs.Tree.{Tree}
-use Rattle.swc_productions.specs.Parsing.{is_memory, seen, seen_of, recorded, Loud, Spends, Leads, Advances, Moves, Refuses, Forgoes, Consumes, Acts, Tries, Here, Looks, Unfit, Checks, On, Heard, Unheard, Parses, Continues, TookLiteral}
+use Rattle.swc_productions.specs.Lists.{eaten}
+use Rattle.swc_productions.specs.Parsing.{is_memory, seen, seen_of, recorded, Loud, Spends, Leads, Advances, Moves}
+use Rattle.swc_productions.specs.Parsing.{Refuses, Forgoes, Consumes, Acts, Tries, Here, Looks, Unfit, Checks, On}
+use Rattle.swc_productions.specs.Parsing.{Heard, Unheard, Parses, Continues, TookLiteral, Told}
 
 abbrev pub Reader : Type 0 → Type 0
 Reader A = Context → List TokenAndSpan → Out A
@@ -267,6 +270,23 @@ module _ {S : Type 0} {model : Model S} {sure : Bool} where
     faulty = λ y l lt ts k. let e = ap length (h.looked.look.quiet k.more k.known).0 in absurd (omega (arith, lt, e));
   }
 
+  -- a look, and one ahead by which is told whether the tokens to come pass the test
+  pub on_told : {A : Type 0} {f g : Reader A} {test : List TokenAndSpan → Bool} {v : Bool} {a b c : Buffer S} → Here model a b → Told model test v b c → ((x : Context) (ts : List TokenAndSpan) → x ≡ context model c → first ts ≡ seen c → test ts ≡ v → f x ts ≡ g x ts) → On model sure f g a c
+  on_told {g = g} {a = a} {b = b} {c = c} h t step =
+      let look = h.looked.look in
+      let same = t.still.read.context ∙ look.read.context in
+      record {
+        leads = record { laws = h.laws; taken = []; read = Read-then h.laws a b c [] [] look.read t.still.read; lives = λ f. served_lives h.served (t.lives f) };
+        clean = λ l s ys fut.
+            let at = begins b.cur refl h ys (Future-before h.laws b c [] ys t.still.read.took fut) ∙ ap seen_of (sym t.current) in
+            step (context model a) ys (sym same) at (t.told ys fut at) ∙ ap (λ x. g x ys) (sym same);
+        faulty = λ y l lt ts k.
+            let w = Known-after h.laws a b [] ts look.read.took k in
+            let e1 = ap length (look.quiet k.more k.known).0 in
+            let e2 = ap length (t.still.quiet w.1.more w.1.known).0 in
+            absurd (omega (arith, lt, e1, e2));
+      }
+
   -- a token was consumed
   pub on_took : {A : Type 0} {f g : Reader A} {b c : Buffer S} {t : Token} → (laws : Laws model) (h : Bumped model b t c) → ((x : Context) (ts : List TokenAndSpan) → f x (plain h.was ∷ ts) ≡ g x ts) → On model sure f g b c
   on_took {g = g} {b = b} {c = c} laws h step = record {
@@ -437,6 +457,10 @@ module _ {S : Type 0} {model : Model S} {sure : Bool} where
   pub unheard_at : {A : Type 0} {f : Reader A} {b c d : Buffer S} {e : Error} → Here model b c → ((x : Context) (ts : List TokenAndSpan) → x ≡ context model c → first ts ≡ seen c → f x ts ≡ None) → Refuses model c e d → Unheard model sure f b e d
   unheard_at {A = A} {f = f} h none r = let n : Reader A = λ x ts. None in unheard_after (on_seen {g = n} h none) (unheard_none {f = n} (λ x ts. refl) r)
 
+  -- the same, where it is told of the list
+  pub unheard_told : {A : Type 0} {f : Reader A} {test : List TokenAndSpan → Bool} {v : Bool} {a b c d : Buffer S} {e : Error} → Here model a b → Told model test v b c → ((x : Context) (ts : List TokenAndSpan) → x ≡ context model c → first ts ≡ seen c → test ts ≡ v → f x ts ≡ None) → Refuses model c e d → Unheard model sure f a e d
+  unheard_told {A = A} {f = f} h t none r = let n : Reader A = λ x ts. None in unheard_after (on_told {g = n} h t none) (unheard_none {f = n} (λ x ts. refl) r)
+
   pub unheard_memory : {A : Type 0} {f : Reader A} {b c : Buffer S} {e : Error} → Forgoes model b e c → Unheard model sure f b e c
   unheard_memory h = record { refuses = forgoes_refuses h; none = λ n. absurd (n h.kind) }
 
@@ -449,6 +473,34 @@ module _ {S : Type 0} {model : Model S} {sure : Bool} where
   pub heard_then : {A : Type 0} {f g : Reader A} {t : A} {b c d : Buffer S} (p : On model sure f g b c) → 1 ≤ length p.leads.taken → On model sure g (give t) c d → Heard model sure f t b d
   unfolding on_then leads_then
   heard_then p s q = record { on = on_then p q; some = let l = length-append p.leads.taken q.leads.taken in omega arith }
+
+  pub on_to : {A : Type 0} {f g h : Reader A} {b c : Buffer S} → On model sure f g b c → ((x : Context) (ts : List TokenAndSpan) → g x ts ≡ h x ts) → On model sure f h b c
+  on_to {c = c} o same = record { leads = o.leads; clean = λ l s ys k. o.clean l s ys k ∙ same (context model c) ys; faulty = o.faulty }
+
+  -- what was read, and what k makes of it
+  pub heard_call : {A B : Type 0} {f : Reader A} {q : Reader B} {t : B} {u : A} {b c : Buffer S} (k : Context → B × List TokenAndSpan → Out A) → ((x : Context) (ts : List TokenAndSpan) → f x ts ≡ (q x ts >>= k x)) →
+      ((x : Context) (ts : List TokenAndSpan) → k x (t, ts) ≡ Some (u, ts)) → Heard model sure q t b c → Heard model sure f u b c
+  unfolding on_call on_to
+  heard_call {q = q} {t = t} {u = u} {b = b} {c = c} k step ends h =
+      record { on = on_to (on_call k step h.on) ends; some = h.some }
+
+  -- what was read, and what is read behind it
+  pub heard_more : {A B : Type 0} {f : Reader A} {q : Reader B} {t : B} {u : A} {b c d : Buffer S} (k : Context → B × List TokenAndSpan → Out A) → ((x : Context) (ts : List TokenAndSpan) → f x ts ≡ (q x ts >>= k x)) →
+      Heard model sure q t b c → On model sure (λ x ts. k x (t, ts)) (give u) c d → Heard model sure f u b d
+  unfolding on_call
+  heard_more k step h o = heard_then (on_call k step h.on) h.some o
+
+  -- a refusal that is made another
+  pub unheard_as : {A : Type 0} {f : Reader A} {b c : Buffer S} {e : Error} (x : Error) → x.kind ≢ ParserFailed → (e.kind ≡ OutOfMemory → x.kind ≡ OutOfMemory) → Unheard model sure f b e c → Unheard model sure f b x c
+  unheard_as {e = e} x kind memory u = record {
+    refuses = record { spends = u.refuses.spends; kind = kind; served = λ n. u.refuses.served (λ m. n (memory m)) };
+    none = λ n. u.none (λ m. n (memory m));
+  }
+
+  -- what was read is made into something else
+  pub heard_as : {A B : Type 0} {f : Reader A} {q : Reader B} {t : B} {b c : Buffer S} (k : B → A) → ((x : Context) (ts : List TokenAndSpan) → f x ts ≡ (q x ts >>= (λ p. Some (k p.0, p.1)))) → Heard model sure q t b c → Heard model sure f (k t) b c
+  unfolding on_call
+  heard_as k step h = record { on = on_call (λ x p. Some (k p.0, p.1)) step h.on; some = h.some }
 
 module _ {S : Type 0} {model : Model S} where
   -- the list to come begins with the current token
@@ -787,3 +839,22 @@ module _ {S : Type 0} (model : Model S) where
   pub consumes_falls : {T : Type 0} (b c : Buffer S) (r : Result T Error) → Consumes model b r c → OnOk r (to_come model c ≤ to_come model b)
   consumes_falls b c (Ok x) h = less h.leads
   consumes_falls b c (Err e) h = tt
+
+-- a sign that is taken where it stands
+module _ {S : Type 0} {model : Model S} (sure : Bool) (f : Token → Bool) where
+  pub eats_none : (o : Option Span) (b c : Buffer S) → o ≡ None → MatchOption o (On model sure (eaten f) (λ x ts. Some (None, ts)) b c) (λ s. Heard model sure (eaten f) (Some s) b c) →
+      On model sure (eaten f) (give None) b c
+  eats_none None b c e h = h
+  eats_none (Some s) b c e h = cc
+
+  pub eats_some : (o : Option Span) (s : Span) (b c : Buffer S) → o ≡ Some s → MatchOption o (On model sure (eaten f) (λ x ts. Some (None, ts)) b c) (λ s. Heard model sure (eaten f) (Some s) b c) →
+      Heard model sure (eaten f) (Some s) b c
+  eats_some None s b c e h = cc
+  eats_some (Some u) s b c e h =
+      let same : u ≡ s = cc in
+      let P : Span → Type 0 = λ v. Heard model sure (eaten f) (Some v) b c in subst P same h
+
+  pub eats_on : (o : Option Span) (b c : Buffer S) → MatchOption o (On model sure (eaten f) (λ x ts. Some (None, ts)) b c) (λ s. Heard model sure (eaten f) (Some s) b c) →
+      On model sure (eaten f) (give o) b c
+  eats_on None b c h = h
+  eats_on (Some s) b c h = h.on

@@ -1,17 +1,19 @@
 -- What parsing calls do to the buffer, and which clean reading each answers.
-use Rattle.std.specs.Prelude.{◌≡◌, ◌≢◌, ℕ, ◌≤◌, ◌<◌, Bool, true, false, List, [], ◌∷◌, ◌++◌, Option, Some, None, Result, MatchResult, OnOk, IfOk, IfErr, length}
+use Rattle.std.specs.Prelude.{◌≡◌, ◌≢◌, ℕ, ◌≤◌, ◌<◌, Bool, true, false, List, [], ◌∷◌, ◌++◌, Option, Some, None, Result}
+use Rattle.std.specs.Prelude.{MatchResult, MatchOption, OnOk, IfOk, IfErr, length, ◌&&◌}
 use Rattle.swc_context.specs.declared.context.Context.{Context}
 use Rattle.swc_context.specs.declared.error.Error.{Error}
 use Rattle.swc_context.specs.declared.error.SyntaxError.{SyntaxError}
 use Rattle.swc_context.specs.declared.error.SyntaxError.TheVariants.{OutOfMemory, ParserFailed}
 use Rattle.swc_context.specs.declared.operator.BinaryOp.{BinaryOp}
+use Rattle.swc_context.specs.declared.span.Span.{Span}
 use Rattle.swc_input.specs.declared.buffer.Buffer.{Buffer}
 use Rattle.swc_input.specs.declared.token.Token.{Token}
 use Rattle.swc_input.specs.declared.token.Token.TheVariants as token
 use Rattle.swc_input.specs.declared.token.TokenAndSpan.{TokenAndSpan}
 use Rattle.swc_input.specs.Plain.{plain}
 use Rattle.swc_input.specs.Source.{Model, Laws}
-use Rattle.swc_input.specs.Buffer.{Took, Read, Lives, Served, Looked, Future, Known, context, to_come}
+use Rattle.swc_input.specs.Buffer.{Took, Read, Lives, Served, Still, Looked, Future, Known, context, to_come}
 use Rattle.swc_input.specs.Recording.{is_silent}
 use Rattle.swc_input.specs.Kinds.{at_token}
 use Rattle.swc_ast.specs.declared.ident.BindingIdent.{BindingIdent}
@@ -19,18 +21,25 @@ use Rattle.swc_ast.specs.declared.ident.Ident.{Ident}
 use Rattle.swc_ast.specs.declared.ident.IdentName.{IdentName}
 use Rattle.swc_ast.specs.declared.ident.PrivateName.{PrivateName}
 use Rattle.swc_ast.specs.declared.lit.Lit.{Lit}
-use Rattle.swc_ast.specs.Parts.{lit_tree}
+use Rattle.swc_ast.specs.Parts.{lit_tree, item_tree}
 use Rattle.swc_ast.specs.Tree.{Tree}
+use Rattle.swc_ast.specs.declared.expr.ExprOrSpread.{ExprOrSpread}
+use Rattle.std.specs.declared.alloc.Global.{Global}
+use Rattle.std.specs.declared.vec.Vec.{Vec}
 use Rattle.swc_ast.specs.declared.spanned.Spanned.{Ghosts}
 use Rattle.swc_grammar.specs.Parts.{lit_of}
-use Rattle.swc_grammar.specs.Clean.{Out, no_error}
+use Rattle.swc_grammar.specs.Trees.{listed}
+use Rattle.swc_grammar.specs.Clean.{Out, no_error, first}
+use Rattle.swc_bodies.specs.Readings.{is_async, is_function_here}
 use Rattle.swc_grammar.specs.Words.{rest}
 use Rattle.swc_grammar.specs.Names.{Spelling, spelling}
 use Rattle.swc_grammar.specs.Tokens.{is_strict_word}
-use Rattle.swc_nodes.specs.Slots.{expr_part}
-use Rattle.swc_nodes.specs.Stands.{tree_at, count, From, Grows}
+use Rattle.swc_nodes.specs.Lists.{elem_parts, elem_tree, elem_trees}
+use Rattle.swc_nodes.specs.Slots.{expr_part, if_some, item_parts}
+use Rattle.swc_nodes.specs.Stands.{tree_at, count, From, Apart, Grows}
 use Rattle.swc_nodes.specs.declared.node.ExprId.{ExprId}
 use Rattle.swc_nodes.specs.declared.nodes.Nodes.{Nodes}
+use Rattle.swc_productions.specs.Lists.{eaten}
 use Rattle.swc_productions.specs.declared.productions.Productions.{Productions}
 
 -- want of memory
@@ -42,6 +51,10 @@ is_memory k = false
 abbrev pub is_strict : Token → Bool
 is_strict (token.Word w) = is_strict_word w
 is_strict t = false
+
+-- `async`, and behind it, on the same line, `function`
+abbrev pub begins_async : List TokenAndSpan → Bool
+begins_async ts = at_token is_async (first ts) && is_function_here (rest ts)
 
 -- how identifiers and names are spelled
 abbrev pub ident_spelling : Ident → Spelling
@@ -139,6 +152,18 @@ module _ {S : Type 0} (model : Model S) where
   abbrev pub Looks : {T : Type 0} → Buffer S → Result T Error → Buffer S → Type 0
   Looks b r c = MatchResult r (λ t. Here b c) (λ e. Forgoes b e c)
 
+  -- From b to c nothing was consumed, and it is told whether the tokens to come, which begin with what is seen, pass the test.
+  pub record Told (test : List TokenAndSpan → Bool) (answer : Bool) (b c : Buffer S) : Type 0 where
+    pub laws : Laws model
+    pub still : Still model b c
+    pub current : c.cur ≡ b.cur
+    pub lives : Lives model b c
+    pub told : (ts : List TokenAndSpan) → Future model c ts → first ts ≡ seen c → test ts ≡ answer
+
+  -- such a look ahead, which is refused for want of memory alone
+  abbrev pub Tells : (List TokenAndSpan → Bool) → Buffer S → Result Bool Error → Buffer S → Type 0
+  Tells test b r c = MatchResult r (λ v. Told test v b c) (λ e. Forgoes b e c)
+
   -- a refusal at an error token, or at the end
   pub record Unfit (b : Buffer S) (e : Error) (c : Buffer S) : Type 0 where
     pub at : Buffer S
@@ -193,26 +218,57 @@ module _ {S : Type 0} (model : Model S) where
   abbrev pub ParsesAlone : {T A : Type 0} → (T → A) → (Context → List TokenAndSpan → Out A) → Buffer S → Result T Error → Buffer S → Type 0
   ParsesAlone view f b r c = (sure : Bool) → Parses model sure view f b r c
 
+  -- the same, where nothing may be consumed
+  abbrev pub ContinuesAlone : {T A : Type 0} → (T → A) → (Context → List TokenAndSpan → Out A) → Buffer S → Result T Error → Buffer S → Type 0
+  ContinuesAlone view f b r c = (sure : Bool) → Continues model sure view f b r c
+
+  -- a sign was consumed, and its place is answered, where it stands first; or nothing was
+  abbrev pub Eats : (Token → Bool) → Buffer S → Result (Option Span) Error → Buffer S → Type 0
+  Eats f b r c = (sure : Bool) → MatchResult r
+      (λ o. MatchOption o (On model sure (eaten f) (λ x ts. Some (None, ts)) b c) (λ s. Heard model sure (eaten f) (Some s) b c))
+      (λ e. Unheard model sure (eaten f) b e c)
+
   -- one token was consumed, which is the literal
   pub record TookLiteral {F C K : Type 0} (t : Tree F C K) (b c : Buffer S) : Type 0 where
     pub token : TokenAndSpan
     pub read : Read model b (token ∷ []) c
     pub literal : lit_of token.token token.span ≡ Some t
 
--- how an answer is seen: the number of a node; that with the least precedence to go on with; and that with the operator after it
-abbrev pub itself : ExprId → ExprId
-itself id = id
+-- What an answer holds: a node has each number in it, and nothing is reached from these below the number k. Of the number of a node; of
+-- that with the least precedence to go on with; and of that with the operator after it.
+module _ {F C K : Type 0} {fg : Ghosts F} {cg : Ghosts C} {kg : Ghosts K} where
+  abbrev pub itself : ℕ → Nodes F C K fg cg kg → ExprId → Type 0
+  itself k ns id = From k ns (expr_part id)
 
-abbrev pub bin_op_of : ExprId × Option ℕ → ExprId
-bin_op_of r = r.0
+  abbrev pub bin_op_of : ℕ → Nodes F C K fg cg kg → ExprId × Option ℕ → Type 0
+  bin_op_of k ns r = From k ns (expr_part r.0)
 
-abbrev pub operand_of : ExprId × BinaryOp → ExprId
-operand_of r = r.0
+  abbrev pub operand_of : ℕ → Nodes F C K fg cg kg → ExprId × BinaryOp → Type 0
+  operand_of k ns r = From k ns (expr_part r.0)
+
+  -- of an item of a list, of an element of an array, and of all its elements, with the place of the bracket that closes it
+  abbrev pub item_of : ℕ → Nodes F C K fg cg kg → ExprOrSpread ExprId → Type 0
+  item_of k ns x = From k ns (expr_part x.expr)
+
+  abbrev pub elem_of : ℕ → Nodes F C K fg cg kg → Option (ExprOrSpread ExprId) → Type 0
+  elem_of k ns x = Apart k ns (if_some item_parts x)
+
+  abbrev pub elems_of : ℕ → Nodes F C K fg cg kg → Vec (Option (ExprOrSpread ExprId)) Global × Span → Type 0
+  elems_of k ns p = Apart k ns (elem_parts p.0)
 
 module _ {F C K : Type 0} {fg : Ghosts F} {cg : Ghosts C} {kg : Ghosts K} where
   -- the tree of an expression, of an operation, and of a literal, among nodes
   abbrev pub tree_of : Nodes F C K fg cg kg → ExprId → Tree F C K
   tree_of ns id = tree_at ns id.0
+
+  abbrev pub item_at : Nodes F C K fg cg kg → ExprOrSpread ExprId → Tree F C K
+  item_at ns x = item_tree (tree_of ns) x
+
+  abbrev pub elem_at : Nodes F C K fg cg kg → Option (ExprOrSpread ExprId) → Tree F C K
+  elem_at ns x = elem_tree (tree_at ns) x
+
+  abbrev pub elems_at : Nodes F C K fg cg kg → Vec (Option (ExprOrSpread ExprId)) Global × Span → Tree F C K
+  elems_at ns p = listed p.1 (elem_trees (tree_at ns) p.0)
 
   abbrev pub bin_op_at : Nodes F C K fg cg kg → ExprId × Option ℕ → Tree F C K × Option ℕ
   bin_op_at ns r = (tree_of ns r.0, r.1)
@@ -220,25 +276,25 @@ module _ {F C K : Type 0} {fg : Ghosts F} {cg : Ghosts C} {kg : Ghosts K} where
   abbrev pub lit_in : Nodes F C K fg cg kg → Lit → Tree F C K
   lit_in ns l = lit_tree l
 
-module _ {S H F C K : Type 0} {fg : Ghosts F} {cg : Ghosts C} {kg : Ghosts K} (model : Model S) (sure : Bool) {T A : Type 0} (number : T → ExprId) (view : Nodes F C K fg cg kg → T → A) (f : Context → List TokenAndSpan → Out A) where
-  -- What a production does from p to q: it reads what f reads, from one token at least; nodes were appended alone, and the answer is the number
-  -- of one of them, from which no number below k is reached.
+module _ {S H F C K : Type 0} {fg : Ghosts F} {cg : Ghosts C} {kg : Ghosts K} (model : Model S) (sure : Bool) {T A : Type 0} (held : ℕ → Nodes F C K fg cg kg → T → Type 0) (view : Nodes F C K fg cg kg → T → A) (f : Context → List TokenAndSpan → Out A) where
+  -- What a production does from p to q: it reads what f reads, from one token at least; nodes were appended alone, and the answer holds
+  -- numbers from k on.
   pub record Produces (k : ℕ) (p : Productions S H F C K fg cg kg) (r : Result T Error) (q : Productions S H F C K fg cg kg) : Type 0 where
     pub reads : Parses model sure (view q.nodes) f p.input r q.input
     pub falls : OnOk r (to_come model q.input < to_come model p.input)
     pub grows : Grows p.nodes q.nodes
-    pub from : IfOk r (λ t. From k q.nodes (expr_part (number t)))
+    pub from : IfOk r (λ t. held k q.nodes t)
 
   -- the same, where nothing may be consumed
   pub record GoesOn (k : ℕ) (p : Productions S H F C K fg cg kg) (r : Result T Error) (q : Productions S H F C K fg cg kg) : Type 0 where
     pub reads : Continues model sure (view q.nodes) f p.input r q.input
     pub falls : OnOk r (to_come model q.input ≤ to_come model p.input)
     pub grows : Grows p.nodes q.nodes
-    pub from : IfOk r (λ t. From k q.nodes (expr_part (number t)))
+    pub from : IfOk r (λ t. held k q.nodes t)
 
-module _ {S H F C K : Type 0} {fg : Ghosts F} {cg : Ghosts C} {kg : Ghosts K} (model : Model S) {T : Type 0} (number : T → ExprId) where
+module _ {S H F C K : Type 0} {fg : Ghosts F} {cg : Ghosts C} {kg : Ghosts K} (model : Model S) {T : Type 0} (held : ℕ → Nodes F C K fg cg kg → T → Type 0) where
   -- What is done from p to q in place of an operand that was refused, by the kind: a fault is recorded; nodes were appended alone, and
-  -- the answer is the number of a new one. Effect says how tokens are consumed, and what is refused.
+  -- the answer holds numbers of new ones. Effect says how tokens are consumed, and what is refused.
   pub record Recovers (Effect : Buffer S → Result T Error → Buffer S → Type 0) (kind : SyntaxError) (p : Productions S H F C K fg cg kg) (r : Result T Error) (q : Productions S H F C K fg cg kg) : Type 0 where
     pub effect : Effect p.input r q.input
     pub notes : Loud model p.input → OnOk r (recorded model p.input < recorded model q.input)
@@ -247,4 +303,4 @@ module _ {S H F C K : Type 0} {fg : Ghosts F} {cg : Ghosts C} {kg : Ghosts K} (m
     pub memory : IfErr r (λ e. e.kind ≢ OutOfMemory → kind ≢ OutOfMemory)
     pub falls : OnOk r (to_come model q.input ≤ to_come model p.input)
     pub grows : Grows p.nodes q.nodes
-    pub from : IfOk r (λ t. From (count p.nodes) q.nodes (expr_part (number t)))
+    pub from : IfOk r (λ t. held (count p.nodes) q.nodes t)

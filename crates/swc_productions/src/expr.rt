@@ -1,23 +1,27 @@
 // Expressions (ECMA-262, 13).
 ghost use Rattle.std.specs.Prelude.{◌≡◌, ◌<◌, ◌≤◌, true, not, ◌&&◌, Some, OnOk, IfOk};
-ghost use Rattle.swc_input.specs.Buffer.{to_come, context};
+ghost use Rattle.swc_input.specs.Buffer.{current, to_come, context};
 ghost use Rattle.swc_input.specs.Plain.{plain_token};
 ghost use Rattle.swc_input.specs.Kinds.{at_token, is_hash};
-ghost use Rattle.swc_grammar.specs.Symbols.{Expr, Assign, Primary, Literal};
-ghost use Rattle.swc_grammar.specs.Tokens.{is_lparen};
+ghost use Rattle.swc_grammar.specs.Symbols.{Expr, Assign, Primary, Literal, Elements, Item};
+ghost use Rattle.swc_grammar.specs.Tokens.{is_lparen, is_lbracket, is_this};
+ghost use Rattle.swc_bodies.specs.Readings.{at_function, is_class};
 ghost use Rattle.swc_grammar.specs.Parts.{lit_of};
 ghost use Rattle.swc_grammar.specs.Grammar as grammar;
 ghost use Rattle.swc_grammar.specs.Clean.{sym, run, is_lit, is_identifier};
 ghost use Rattle.swc_nodes.specs.Stands.{count};
 ghost use Rattle.swc_productions.specs.Readers.{by_production, inside};
+ghost use Rattle.swc_productions.specs.Lists.{elements_inside, element, element_item};
 ghost use Rattle.swc_productions.specs.Parsing.{lit_in, seen, ParsesAlone, Produces, Checked, TookLiteral};
-ghost use Rattle.swc_productions.specs.Parsing.{itself, tree_of};
+ghost use Rattle.swc_productions.specs.Parsing.{itself, tree_of, item_of, item_at, elem_of, elem_at, elems_of, elems_at};
 
 use crate::moves::{
-    bump, copy_of, emit_strict_mode_err, look, made, parse_ident_name, parse_ident_ref,
-    require_cur, set_ctx, skip, syntax_error, unexpected,
+    Sign, add, bump, copy_of, eat, emit_strict_mode_err, is_async_function, label_spread, look,
+    made, parse_ident_name, parse_ident_ref, require_cur, separate, set_ctx, skip, syntax_error,
+    unexpected,
 };
 use crate::productions::Productions;
+use swc_ast::expr::ExprOrSpread;
 use swc_ast::ident::Ident;
 use swc_ast::lit::{BigInt, Bool, Lit, Null, Num, Str};
 use swc_bodies::bodies::Bodies;
@@ -31,6 +35,9 @@ use swc_input::tokens::Tokens;
 use swc_nodes::node::ExprId;
 
 mod ops;
+
+/// An element of an array literal, or a hole.
+type Elem = Option<ExprOrSpread<ExprId>>;
 
 impl<I: Tokens, B: Bodies<I>> Productions<I, B> {
     /// An expression (ECMA-262, 13.16).
@@ -58,6 +65,15 @@ impl<I: Tokens, B: Bodies<I>> Productions<I, B> {
             (count self.old.nodes) self.old result self.new }
     {
         look(&mut self.input)?;
+        if self.is_this() {
+            return self.parse_this_expr();
+        }
+        if is_async_function(&mut self.input)? {
+            return self.parse_fn_expr();
+        }
+        if self.is_function() {
+            return self.parse_fn_expr();
+        }
         if self.is_lit() {
             let lit = self.parse_lit()?;
             let node = self.nodes.lit(lit);
@@ -65,6 +81,12 @@ impl<I: Tokens, B: Bodies<I>> Productions<I, B> {
         }
         if self.is_lparen() {
             return self.parse_paren_expr();
+        }
+        if self.is_lbracket() {
+            return self.parse_array_lit();
+        }
+        if self.is_class() {
+            return self.parse_class_expr();
         }
         if self.is_ident_ref() {
             return self.parse_ident_expr();
@@ -74,6 +96,127 @@ impl<I: Tokens, B: Bodies<I>> Productions<I, B> {
         }
         let span = self.input.cur_span();
         Err(syntax_error(&mut self.input, span, SyntaxError::TS1109))
+    }
+
+    /// An array literal (ECMA-262, 13.2.4).
+    #[cycle(productions)]
+    fn parse_array_lit(&mut self) -> PResult<ExprId>
+        requires { at_token is_lbracket (seen self.old.input) ≡ true }
+        ensures { Produces I.model B.is_faithful itself tree_of (by_production B.forms (λ c. grammar.array-lit))
+            (count self.old.nodes) self.old result self.new }
+    {
+        let start = self.input.cur_span().lo;
+        skip(&mut self.input);
+        let (elems, end) = self.parse_elements_with_in()?;
+        let node = self.nodes.array_lit(start, end.hi, elems);
+        made(&self.input, node)
+    }
+
+    /// The elements of an array literal, in which `in` counts as an operator, and the bracket that closes it, whose
+    /// place is answered too.
+    #[cycle(productions)]
+    fn parse_elements_with_in(&mut self) -> PResult<(Vec<Elem>, Span)>
+        ensures { Produces I.model B.is_faithful elems_of elems_at (elements_inside B.forms)
+            (count self.old.nodes) self.old result self.new }
+    {
+        let ctx = self.input.get_ctx();
+        set_ctx(
+            &mut self.input,
+            Context {
+                include_in_expr: true,
+                ..ctx
+            },
+        );
+        let elems = self.parse_elements();
+        set_ctx(&mut self.input, ctx);
+        elems
+    }
+
+    /// The elements of an array literal, and the bracket that closes it, whose place is answered too.
+    #[cycle(productions)]
+    fn parse_elements(&mut self) -> PResult<(Vec<Elem>, Span)>
+        ensures { Produces I.model B.is_faithful elems_of elems_at (run B.forms (sym Elements))
+            (count self.old.nodes) self.old result self.new }
+    {
+        let mut elems = Vec::new(self.alloc);
+        loop {
+            match eat(&mut self.input, Sign::RBracket)? {
+                Some(end) => return Ok((elems, end)),
+                None => {}
+            }
+            let elem = self.parse_element()?;
+            add(&self.input, &mut elems, elem)?;
+        }
+    }
+
+    /// An element of an array literal, or a hole (`None`), and the comma behind it; none stands before the bracket.
+    #[cycle(productions)]
+    fn parse_element(&mut self) -> PResult<Elem>
+        ensures { Produces I.model B.is_faithful elem_of elem_at (element B.forms)
+            (count self.old.nodes) self.old result self.new }
+    {
+        match eat(&mut self.input, Sign::Comma)? {
+            Some(_) => Ok(None),
+            None => self.parse_element_item(),
+        }
+    }
+
+    /// An element of an array literal that is no hole, and the comma behind it; none stands before the bracket.
+    #[cycle(productions)]
+    fn parse_element_item(&mut self) -> PResult<Elem>
+        ensures { Produces I.model B.is_faithful elem_of elem_at (element_item B.forms)
+            (count self.old.nodes) self.old result self.new }
+    {
+        let item = self.parse_expr_or_spread()?;
+        separate(&mut self.input, Sign::RBracket)?;
+        Ok(Some(item))
+    }
+
+    /// An item of a list (ECMA-262, 13.2.4 and 13.3.8): an assignment expression, or one behind `...`. A refusal of the
+    /// latter is labelled with the place of the dots.
+    #[cycle(productions)]
+    fn parse_expr_or_spread(&mut self) -> PResult<ExprOrSpread<ExprId>>
+        ensures { Produces I.model B.is_faithful item_of item_at (run B.forms (sym Item))
+            (count self.old.nodes) self.old result self.new }
+    {
+        let spread = eat(&mut self.input, Sign::DotDotDot)?;
+        match self.parse_assignment_expr() {
+            Ok(expr) => Ok(ExprOrSpread { spread, expr }),
+            Err(error) => Err(label_spread(self.alloc, &self.input, spread, error)),
+        }
+    }
+
+    /// `this` (ECMA-262, 13.2.1).
+    fn parse_this_expr(&mut self) -> PResult<ExprId>
+        requires { at_token is_this (seen self.old.input) ≡ true }
+        ensures { Produces I.model B.is_faithful itself tree_of (by_production B.forms (λ c. grammar.this-expr))
+            (count self.old.nodes) self.old result self.new }
+    {
+        skip(&mut self.input);
+        let node = self.nodes.this_expr(self.input.prev_span());
+        made(&self.input, node)
+    }
+
+    /// A function, which the hook reads (ECMA-262, 13.2.6): at `function`, or at `async` with `function` after it.
+    fn parse_fn_expr(&mut self) -> PResult<ExprId>
+        requires { at_function (current self.old.input) ≡ true }
+        ensures { Produces I.model B.is_faithful itself tree_of (by_production B.forms (λ c. grammar.fn-expr))
+            (count self.old.nodes) self.old result self.new }
+    {
+        let function = self.bodies.fun(&mut self.input)?;
+        let node = self.nodes.fn_expr(function);
+        made(&self.input, node)
+    }
+
+    /// A class, which the hook reads (ECMA-262, 15.7).
+    fn parse_class_expr(&mut self) -> PResult<ExprId>
+        requires { at_token is_class (current self.old.input) ≡ true }
+        ensures { Produces I.model B.is_faithful itself tree_of (by_production B.forms (λ c. grammar.class-expr))
+            (count self.old.nodes) self.old result self.new }
+    {
+        let class = self.bodies.class(&mut self.input)?;
+        let node = self.nodes.class_expr(class);
+        made(&self.input, node)
     }
 
     /// An identifier reference as an expression (ECMA-262, 13.1).

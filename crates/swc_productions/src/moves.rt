@@ -1,16 +1,20 @@
 // The steps that productions take, on a buffer.
-ghost use Rattle.std.specs.Prelude.{◌≡◌, ◌≢◌, ◌<◌, ◌≤◌, true, false, not, None, IfErr, IfOk, OnOk, IsSome, Result, Ok};
+ghost use Rattle.std.specs.Prelude.{◌≡◌, ◌≢◌, ◌<◌, ◌≤◌, ◌++◌, ◌∷◌, [], true, false, not, None, IfErr, IfOk, OnOk};
+ghost use Rattle.std.specs.Prelude.{IsSome, Result, Ok, Some, MatchOption};
 ghost use Rattle.swc_context.specs.declared.error.SyntaxError.TheVariants.{OutOfMemory, ParserFailed};
 ghost use Rattle.swc_input.specs.declared.token.Token.{Token};
-ghost use Rattle.swc_input.specs.Buffer.{current, last_position, state_of, to_come, Bumped, context};
+ghost use Rattle.swc_input.specs.Buffer.{current, peeked, last_position, state_of, to_come, Bumped, Peeked, context};
 ghost use Rattle.swc_input.specs.Recording.{no_memory};
 ghost use Rattle.swc_input.specs.Kinds.{at_token};
+ghost use Rattle.swc_bodies.specs.Readings.{at_function, is_async, is_function, is_function_here};
 ghost use Rattle.swc_grammar.specs.Tokens.{ref_ok};
 ghost use Rattle.swc_grammar.specs.Clean.{no_error, is_identifier};
 ghost use Rattle.swc_grammar.specs.Names.{may_name};
-ghost use Rattle.swc_grammar.specs.Words.{word};
+ghost use Rattle.swc_grammar.specs.Words.{rest, word};
 ghost use Rattle.swc_productions.specs.Parsing.{is_memory, ident_spelling, name_spelling, seen, recorded, Loud, Moves};
-ghost use Rattle.swc_productions.specs.Parsing.{Refuses, Tries, ParsesAlone, Looks, Fits, Checked};
+ghost use Rattle.swc_productions.specs.Parsing.{Refuses, Tries, ParsesAlone, ContinuesAlone, Eats, Looks, Fits};
+ghost use Rattle.swc_productions.specs.Parsing.{Checked, Tells, begins_async};
+ghost use Rattle.swc_productions.specs.Lists.{is_sign_token, separated, closed};
 
 use std::alloc::{AllocError, Global};
 use swc_ast::ident::{Ident, IdentName};
@@ -18,6 +22,7 @@ use swc_context::atom::Atom;
 use swc_context::context::Context;
 use swc_context::error::{Error, PResult, SyntaxError};
 use swc_context::span::{BytePos, Span};
+use swc_context::word::{Keyword, Word};
 use swc_ident::ident;
 use swc_input::buffer::Buffer;
 use swc_input::token::Token;
@@ -46,6 +51,66 @@ pub(crate) fn cur_pos<I: Tokens>(input: &mut Buffer<I>) -> PResult<BytePos>
     } else {
         Ok(input.last_pos())
     }
+}
+
+/// Whether `async` is current, and behind it, on the same line, `function`. Refused only for want of memory.
+pub(crate) fn is_async_function<I: Tokens>(input: &mut Buffer<I>) -> PResult<bool>
+    ensures tells { Tells I.model begins_async input.old result input.new }
+    ensures begins { IfOk result (λ r. r ≡ true → at_function (current input.new) ≡ true) }
+    ensures falls { to_come I.model input.new ≤ to_come I.model input.old }
+{
+    if !is_async(input) {
+        return Ok(false);
+    }
+    is_function_behind(input)
+}
+
+fn is_async<I: Tokens>(input: &Buffer<I>) -> bool
+    ensures value { result ≡ at_token is_async (seen input.now) }
+    ensures begins { result ≡ true → at_function (current input.now) ≡ true }
+    ensures some { result ≡ true → IsSome (current input.now) }
+{
+    match input.cur_debug() {
+        Some(Token::Word(Word::Ident(name))) => name.as_str() == "async",
+        _ => false,
+    }
+}
+
+/// Whether `function` stands behind the current token, on the same line. Refused only for want of memory.
+fn is_function_behind<I: Tokens>(input: &mut Buffer<I>) -> PResult<bool>
+    requires { IsSome (current input.old) }
+    ensures tells { Tells I.model (λ ts. is_function_here (rest ts)) input.old result input.new }
+    ensures current { current input.new ≡ current input.old }
+    ensures falls { to_come I.model input.new ≤ to_come I.model input.old }
+{
+    match peek_function(input) {
+        Some(true) => Ok(!input.has_linebreak_between_cur_and_peeked()),
+        Some(false) => Ok(false),
+        None => {
+            if input.failed() {
+                return Err(input.out_of_memory());
+            }
+            Ok(false)
+        }
+    }
+}
+
+/// Whether the token behind the current one is `function`; nothing where there is none.
+fn peek_function<I: Tokens>(input: &mut Buffer<I>) -> Option<bool>
+    requires { IsSome (current input.old) }
+    ensures peeked { Peeked I.model input.old input.new }
+    ensures value { MatchOption (peeked input.new) (result ≡ None) (λ t. result ≡ Some (is_function t.token)) }
+{
+    match input.peek() {
+        Some(token) => Some(is_function(token)),
+        None => None,
+    }
+}
+
+fn is_function(token: &Token) -> bool
+    ensures { result ≡ is_function token.now }
+{
+    matches!(token, Token::Word(Word::Keyword(Keyword::Function)))
 }
 
 /// Asks that a token is current, and no error.
@@ -195,5 +260,106 @@ pub(crate) fn made<I: Tokens>(input: &Buffer<I>, id: Result<ExprId, AllocError>)
     match id {
         Ok(id) => Ok(id),
         Err(_) => Err(input.out_of_memory()),
+    }
+}
+
+/// A sign that productions look for.
+#[derive(Clone, Copy)]
+pub(crate) enum Sign {
+    /// `,`
+    Comma,
+    /// `...`
+    DotDotDot,
+    /// `]`
+    RBracket,
+}
+
+/// Whether the current token is the sign.
+fn is_sign<I: Tokens>(input: &Buffer<I>, sign: Sign) -> bool
+    ensures value { result ≡ at_token (is_sign_token sign) (seen input.now) }
+    ensures some { result ≡ true → IsSome (current input.now) }
+{
+    match (sign, input.cur_debug()) {
+        (Sign::Comma, Some(Token::Comma)) => true,
+        (Sign::DotDotDot, Some(Token::DotDotDot)) => true,
+        (Sign::RBracket, Some(Token::RBracket)) => true,
+        _ => false,
+    }
+}
+
+/// Consumes the sign where it is current, and answers its place. Refused only for want of memory.
+pub(crate) fn eat<I: Tokens>(input: &mut Buffer<I>, sign: Sign) -> PResult<Option<Span>>
+    ensures eats { Eats I.model (is_sign_token sign) input.old result input.new }
+    ensures falls { OnOk result (to_come I.model input.new ≤ to_come I.model input.old) }
+{
+    look(input)?;
+    if !is_sign(input, sign) {
+        return Ok(None);
+    }
+    let span = input.cur_span();
+    skip(input);
+    Ok(Some(span))
+}
+
+/// Consumes what stands behind an item of a list: a comma, or nothing where the sign that closes the list is current.
+pub(crate) fn separate<I: Tokens>(input: &mut Buffer<I>, close: Sign) -> PResult<()>
+    ensures separates { ContinuesAlone I.model (λ u. u) (separated (is_sign_token close)) input.old result input.new }
+    ensures falls { OnOk result (to_come I.model input.new ≤ to_come I.model input.old) }
+{
+    match eat(input, Sign::Comma)? {
+        Some(_) => Ok(()),
+        None => require_close(input, close),
+    }
+}
+
+/// Asks that the sign that closes a list is current; refused as a comma that is missing.
+fn require_close<I: Tokens>(input: &mut Buffer<I>, close: Sign) -> PResult<()>
+    ensures closes { ContinuesAlone I.model (λ u. u) (closed (is_sign_token close)) input.old result input.new }
+    ensures falls { OnOk result (to_come I.model input.new ≤ to_come I.model input.old) }
+{
+    look(input)?;
+    if !is_sign(input, close) {
+        return Err(unexpected(input, SyntaxError::Expected(",")));
+    }
+    Ok(())
+}
+
+/// Adds to a list. Refused only for want of memory.
+pub(crate) fn add<I: Tokens, T: Drop>(input: &Buffer<I>, list: &mut Vec<T>, item: T) -> PResult<()>
+    ensures added { OnOk result (list.new.items ≡ list.old.items ++ item ∷ []) }
+    ensures refused { IfErr result (λ e. e ≡ no_memory (last_position input.now)) }
+{
+    match list.push(item) {
+        Ok(()) => Ok(()),
+        Err(_) => Err(input.out_of_memory()),
+    }
+}
+
+/// The refusal of what stands behind dots, labelled with their place; want of memory stays as it is.
+pub(crate) fn label_spread<I: Tokens>(
+    alloc: Global,
+    input: &Buffer<I>,
+    spread: Option<Span>,
+    error: Error,
+) -> Error
+    requires { error.kind ≢ ParserFailed }
+    ensures kind { result.kind ≢ ParserFailed }
+    ensures memory { error.kind ≡ OutOfMemory → result.kind ≡ OutOfMemory }
+{
+    match spread {
+        Some(span) if !is_out_of_memory(&error) => labelled(alloc, input, span, error),
+        _ => error,
+    }
+}
+
+/// The error, with a note on what stands at the place.
+fn labelled<I: Tokens>(alloc: Global, input: &Buffer<I>, span: Span, error: Error) -> Error
+    ensures kind { result.kind ≢ ParserFailed }
+{
+    let at = error.span();
+    let note = "An expression should follow '...'";
+    match Box::new(alloc, error) {
+        Ok(inner) => Error::new(at, SyntaxError::WithLabel { inner, span, note }),
+        Err(_) => input.out_of_memory(),
     }
 }

@@ -3,7 +3,8 @@ ghost use Rattle.std.specs.Prelude.{◌≡◌, true, false, None, Some, IfOk, Is
 ghost use Rattle.swc_input.specs.declared.token.Token.{Token};
 ghost use Rattle.swc_input.specs.Buffer.{current, context, state_of};
 ghost use Rattle.swc_input.specs.Kinds.{at_token, is_hash};
-ghost use Rattle.swc_grammar.specs.Tokens.{is_ref, is_strict_word, is_lparen, is_rparen};
+ghost use Rattle.swc_grammar.specs.Tokens.{is_ref, is_strict_word, is_lparen, is_rparen, is_lbracket, is_this};
+ghost use Rattle.swc_bodies.specs.Readings.{at_function, is_function, is_class};
 ghost use Rattle.swc_grammar.specs.Clean.{is_lit, is_identifier};
 ghost use Rattle.swc_productions.specs.Parsing.{is_strict, seen, Looks};
 
@@ -48,6 +49,36 @@ impl<I: Tokens, B: Bodies<I>> Productions<I, B> {
         Ok(!look(&mut self.input)?)
     }
 
+    pub(crate) fn is_this(&self) -> bool
+        ensures value { result ≡ at_token is_this (seen self.now.input) }
+        ensures some { result ≡ true → IsSome (current self.now.input) }
+    {
+        matches!(
+            self.input.cur_debug(),
+            Some(Token::Word(Word::Keyword(Keyword::This)))
+        )
+    }
+
+    pub(crate) fn is_function(&self) -> bool
+        ensures value { result ≡ at_token is_function (seen self.now.input) }
+        ensures begins { result ≡ true → at_function (current self.now.input) ≡ true }
+    {
+        matches!(
+            self.input.cur_debug(),
+            Some(Token::Word(Word::Keyword(Keyword::Function)))
+        )
+    }
+
+    pub(crate) fn is_class(&self) -> bool
+        ensures value { result ≡ at_token is_class (seen self.now.input) }
+        ensures begins { result ≡ true → at_token is_class (current self.now.input) ≡ true }
+    {
+        matches!(
+            self.input.cur_debug(),
+            Some(Token::Word(Word::Keyword(Keyword::Class)))
+        )
+    }
+
     pub(crate) fn is_lit(&self) -> bool
         ensures value { result ≡ at_token is_lit (seen self.now.input) }
         ensures some { result ≡ true → IsSome (current self.now.input) }
@@ -64,6 +95,13 @@ impl<I: Tokens, B: Bodies<I>> Productions<I, B> {
         ensures some { result ≡ true → IsSome (current self.now.input) }
     {
         matches!(self.input.cur_debug(), Some(Token::LParen))
+    }
+
+    pub(crate) fn is_lbracket(&self) -> bool
+        ensures value { result ≡ at_token is_lbracket (seen self.now.input) }
+        ensures some { result ≡ true → IsSome (current self.now.input) }
+    {
+        matches!(self.input.cur_debug(), Some(Token::LBracket))
     }
 
     pub(crate) fn is_rparen(&self) -> bool

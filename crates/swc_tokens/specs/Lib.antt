@@ -1,4 +1,9 @@
 pub mod Blanks
 pub mod Faults
+pub mod Numbers
 pub mod Order
 pub mod Reading
+pub mod Signs
+pub mod Spelling
+pub mod Strings
+pub mod Words

@@ -9,6 +9,11 @@ unfoldable pub InOrder : ℕ → List TokenAndSpan → ℕ → Type 0
 InOrder low [] high = low ≤ high
 InOrder low (t ∷ ts) high = (low ≤ t.span.lo.0) × (t.span.lo.0 < t.span.hi.0) × InOrder t.span.hi.0 ts high
 
+-- the position behind the last token, or the given one where there is none
+unfoldable pub end_of : ℕ → List TokenAndSpan → ℕ
+end_of low [] = low
+end_of low (t ∷ ts) = end_of t.span.hi.0 ts
+
 -- whether a token is a fault
 unfoldable pub is_error : Token → Bool
 is_error (token.Error _) = true

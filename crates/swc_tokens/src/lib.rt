@@ -1,8 +1,8 @@
-//! The reader of a small ASCII profile of ECMAScript source text (ECMA-262, 12).
+//! The reader of ECMAScript source text (ECMA-262, 12), in ASCII.
 //!
-//! Read so far are blanks, words without escapes, whole decimal numbers, signs and operators. The
-//! other forms (comments, strings, the other numbers, templates, regular expressions) are faults at
-//! the first byte that doesn't fit.
+//! Read are blanks and comments, words without escapes, numbers without separators, strings without
+//! escapes by number and without continued lines, signs and operators. The other forms (templates
+//! and regular expressions among them) are faults.
 #![tactic(auto)]
 
 ghost use Rattle.std.specs.Prelude.{◌≡◌, ◌+◌, ◌<◌, ◌≤◌, ◌∷◌, [], ◌++◌, length, IsFalse, IfOk, OnOk, IfErr, IfSome};
@@ -10,14 +10,18 @@ ghost use Rattle.std.specs.Prelude.{IsNone, slice_get, nat_lt};
 ghost use Rattle.std.specs.List.{All, position};
 ghost use Rattle.swc_tokens.specs.Faults as faults;
 ghost use Rattle.swc_tokens.specs.Faults.{IsRefusal};
-ghost use Rattle.swc_tokens.specs.Blanks.{OnlyBlanksBetween};
+ghost use Rattle.swc_tokens.specs.Blanks.{MarksLineBreaks, OnlyBlanksBetween};
 ghost use Rattle.swc_tokens.specs.Order.{InOrder, is_error};
 ghost use Rattle.swc_tokens.specs.Reading.{AreRead};
+ghost use Rattle.swc_tokens.specs.Spelling.{Spells};
 ghost use Rattle.std.specs.Str.{IsAscii};
 
+mod blank;
 mod fault;
+mod number;
 mod reader;
 mod sign;
+mod string;
 
 use crate::fault::{lex_fault, out_of_memory};
 use crate::reader::Reader;
@@ -28,11 +32,25 @@ use swc_input::token::TokenAndSpan;
 /// The length of the longest text that can be read, in bytes.
 pub const MAX_LEN: usize = 4_294_967_295;
 
-/// The tokens of a text.
+/// The tokens of a text (ECMA-262, 12).
+///
+/// Read are blanks and comments (12.2 to 12.4), which are no tokens, words without escapes (12.7),
+/// signs and operators (12.8), numbers (12.9.3) and strings (12.9.4). A token is marked as after a
+/// line break where one stands between it and the token before it, also one within a comment.
 ///
 /// Positions count bytes from 0. A text longer than `MAX_LEN` is refused at 0..0, and then one with
-/// a byte above 127 at the first such byte, before all else. Any other fault is refused at the
-/// first byte that doesn't fit, and want of memory at 0..0.
+/// a byte above 127 at the first such byte, before all else. Want of memory is refused at 0..0. Any
+/// other fault is `Lex`, and the first one in the text refuses it:
+///
+/// - at a byte with which no token begins, as a backquote or a backslash, or a slash that begins
+///   neither a comment nor an operator, where a regular expression would stand;
+/// - at the letter of an exponent, or of a base, without a digit behind it;
+/// - at a letter, a digit, a `$` or a `_` right behind a number, and so at a digit behind a leading
+///   0;
+/// - at a line break in a string;
+/// - at the backslash of an escape by number (a digit, `x` or `u` behind it) or of a line that is
+///   continued (CR or LF behind it);
+/// - at the end of the text, with an empty span, where a string or a `/*` comment is open.
 pub fn read_tokens(alloc: Global, text: &[u8]) -> PResult<Vec<TokenAndSpan>>
     ensures too_long { MAX_LEN < length text.now → result ≡ Err (faults.lex_fault (faults.between 0 0)) }
     ensures beyond_ascii { length text.now ≤ MAX_LEN
@@ -43,8 +61,11 @@ pub fn read_tokens(alloc: Global, text: &[u8]) -> PResult<Vec<TokenAndSpan>>
     ensures ascii { OnOk result (All (λ byte. byte < 128) text.now) }
     ensures spans { IfOk result (λ tokens. InOrder 0 tokens.items (length text.now)) }
     ensures blanks { IfOk result (λ tokens. OnlyBlanksBetween text.now 0 tokens.items (length text.now)) }
+    ensures marks { IfOk result (λ tokens. MarksLineBreaks text.now tokens.items) }
     ensures first { IfOk result (λ tokens. IfSome (slice_get tokens.items 0) (λ t. IsFalse t.had_line_break)) }
     ensures no_errors { IfOk result (λ tokens. All (λ t. IsFalse (is_error t.token)) tokens.items) }
+    ensures spells { IfOk result
+        (λ tokens. All (λ t. Spells text.now t.span.lo.0 t.span.hi.0 t.token) tokens.items) }
 {
     if text.len() > MAX_LEN {
         return Err(lex_fault(0, 0));

@@ -1,12 +1,16 @@
 // The reader: a text, and how far it is read.
 ghost use Rattle.std.specs.Prelude.{◌≡◌, ◌↔◌, ◌+◌, ◌<◌, ◌≤◌, ◌^◌, length, IsTrue, IsFalse, IsSome, IfOk, IfErr, IfSome};
-ghost use Rattle.std.specs.Prelude.{IfNone, slice_get};
+ghost use Rattle.std.specs.Prelude.{IfNone, OnOk, slice_get, slice_range};
+ghost use Rattle.std.specs.List.{AllWithin};
 ghost use Rattle.std.specs.Str.{IsAscii};
+ghost use Rattle.swc_tokens.specs.Faults as faults;
 ghost use Rattle.swc_tokens.specs.Faults.{IsByteFault, IsRefusal};
-ghost use Rattle.swc_tokens.specs.Blanks as blanks;
-ghost use Rattle.swc_tokens.specs.Blanks.{AreBlanks};
+ghost use Rattle.swc_tokens.specs.Blanks.{AreBlanks, has_line_break};
 ghost use Rattle.swc_tokens.specs.Order.{is_error};
 ghost use Rattle.swc_tokens.specs.Reading.{IsNext};
+ghost use Rattle.swc_tokens.specs.Spelling.{Spells};
+ghost use Rattle.swc_tokens.specs.Words as words;
+ghost use Rattle.swc_tokens.specs.Words.{IsNoWordPart};
 
 use crate::fault::{lex_fault, out_of_memory, span};
 use crate::sign::{begins_regexp, longest_sign};
@@ -20,36 +24,26 @@ use swc_input::token::{Token, TokenAndSpan};
 /// A text, and how far it is read.
 #[derive(Drop)]
 pub(crate) struct Reader<'a> {
-    alloc: Global,
-    text: &'a [u8],
-    at: usize,
+    pub(crate) alloc: Global,
+    pub(crate) text: &'a [u8],
+    pub(crate) at: usize,
     ghost short: { length text.now < 2 ^ 32 },
     ghost ascii: { IsAscii text.now },
     ghost within: { at ≤ length text.now },
 }
 
 /// Whether a word may begin with the byte.
-fn is_word_start(byte: u8) -> bool {
+fn is_word_start(byte: u8) -> bool
+    ensures { result ≡ words.is_word_start byte }
+{
     byte.is_ascii_alphabetic() || byte == b'$' || byte == b'_'
 }
 
 /// Whether a word may go on with the byte.
-fn is_word_part(byte: u8) -> bool {
+pub(crate) fn is_word_part(byte: u8) -> bool
+    ensures { result ≡ words.is_word_part byte }
+{
     is_word_start(byte) || byte.is_ascii_digit()
-}
-
-/// Whether the byte is a blank (ECMA-262, 12.2 and 12.3).
-fn is_blank(byte: u8) -> bool
-    ensures { result ≡ blanks.is_blank byte }
-{
-    matches!(byte, b'\t' | 0x0B | 0x0C | b' ') || is_line_break(byte)
-}
-
-/// Whether the byte is a line break (ECMA-262, 12.3).
-fn is_line_break(byte: u8) -> bool
-    ensures { result ≡ blanks.is_line_break byte }
-{
-    matches!(byte, b'\n' | b'\r')
 }
 
 impl<'a> Reader<'a> {
@@ -71,6 +65,14 @@ impl<'a> Reader<'a> {
         self.text.get(self.at).copied()
     }
 
+    /// The byte behind the next one.
+    pub(crate) fn peek_second(&self) -> Option<u8>
+        ensures value { result ≡ slice_get self.now.text.now (self.now.at + 1) }
+        ensures there { IsSome result ↔ (self.now.at + 1 < length self.now.text.now) }
+    {
+        self.text.get(self.at + 1).copied()
+    }
+
     /// Takes the next byte, which is there.
     pub(crate) fn bump(&mut self)
         requires { self.old.at < length self.old.text.now }
@@ -90,11 +92,13 @@ impl<'a> Reader<'a> {
     /// The text from this position on, as far as it is read.
     fn text_from(&self, start: usize) -> &'a str
         requires { start ≤ self.now.at }
+        ensures { result.now ≡ slice_range self.now.text.now start self.now.at }
     {
         str::from_utf8(&self.text[start..self.at]).unwrap()
     }
 
     /// Reads the next token, if there is one. `before` is the token before it.
+    #[tactic(auto, using(crate::proofs::Blanks::AreBlanks_end))]
     pub(crate) fn read_next(
         &mut self,
         before: Option<&TokenAndSpan>,
@@ -106,8 +110,12 @@ impl<'a> Reader<'a> {
             (λ next. IfNone next (AreBlanks self.old.text.now self.old.at (length self.old.text.now))) }
         ensures no_error { IfOk result (λ next. IfSome next (λ t. IsFalse (is_error t.token))) }
         ensures first { IfOk result (λ next. IfSome next (λ t. IsTrue t.had_line_break → IsSome before.entry)) }
+        ensures marks { IfOk result (λ next. IfSome next (λ t. IsSome before.entry
+            → t.had_line_break ≡ has_line_break self.old.text.now self.old.at t.span.lo.0)) }
     {
-        let line_break = self.skip_blanks();
+        let end = self.at;
+        self.skip_blanks()?;
+        let line_break = self.has_line_break_from(end);
         let start = self.at;
         match self.peek() {
             None => Ok(None),
@@ -122,64 +130,46 @@ impl<'a> Reader<'a> {
         }
     }
 
-    /// Skips blanks, and says whether a line break is among them.
-    #[tactic(auto, using(crate::proofs::Blanks::AreBlanks_none, crate::proofs::Blanks::AreBlanks_more))]
-    fn skip_blanks(&mut self) -> bool
-        ensures text { self.new.text ≡ self.old.text }
-        ensures forward { self.old.at ≤ self.new.at }
-        ensures blanks { AreBlanks self.old.text.now self.old.at self.new.at }
-    {
-        let mut line_break = false;
-        while let Some(byte) = self.peek() {
-            if !is_blank(byte) {
-                break;
-            }
-            line_break = line_break || is_line_break(byte);
-            self.bump();
-        }
-        line_break
-    }
-
     /// Reads the token that begins with the next byte, `first`.
     fn read_token(&mut self, first: u8, before: Option<&TokenAndSpan>) -> PResult<Token>
-        requires { self.old.at < length self.old.text.now }
+        requires { slice_get self.old.text.now self.old.at ≡ Some first }
         ensures text { self.new.text ≡ self.old.text }
-        ensures forward { self.old.at < self.new.at }
+        ensures forward { OnOk result (self.old.at < self.new.at) }
         ensures refused { IfErr result (IsRefusal self.old.text.now) }
         ensures no_error { IfOk result (λ t. IsFalse (is_error t)) }
+        ensures spells { IfOk result (Spells self.old.text.now self.old.at self.new.at) }
     {
         if is_word_start(first) {
             return self.read_word();
         }
-        if first.is_ascii_digit() {
-            return self.read_number(first);
+        if self.is_number_next() {
+            return self.read_number();
         }
-        self.read_sign(before)
+        match first {
+            b'\'' | b'"' => self.read_string(first),
+            _ => self.read_sign(before),
+        }
     }
 
-    /// Reads a sign or an operator (ECMA-262, 12.8).
-    ///
-    /// Numbers that begin with a dot, comments and regular expressions, which begin with a slash, aren't read.
+    /// Reads a sign or an operator (ECMA-262, 12.8). Regular expressions, which begin with a slash,
+    /// aren't read.
     fn read_sign(&mut self, before: Option<&TokenAndSpan>) -> PResult<Token>
         requires { self.old.at < length self.old.text.now }
         ensures text { self.new.text ≡ self.old.text }
         ensures forward { self.old.at < self.new.at }
         ensures refused { IfErr result (IsRefusal self.old.text.now) }
         ensures no_error { IfOk result (λ t. IsFalse (is_error t)) }
+        ensures spells { IfOk result (Spells self.old.text.now self.old.at self.new.at) }
     {
-        match &self.text[self.at..] {
-            [b'.', b'0'..=b'9', ..] | [b'/', b'/' | b'*', ..] => {
-                self.bump();
-                Err(self.fault())
+        if matches!(self.peek(), Some(b'/')) && begins_regexp(before) {
+            return Err(self.refuse());
+        }
+        match longest_sign(&self.text[self.at..]) {
+            Some((token, len)) => {
+                self.at += len;
+                Ok(token)
             }
-            [b'/', ..] if begins_regexp(before) => Err(self.refuse()),
-            rest => match longest_sign(rest) {
-                Some((token, len)) => {
-                    self.at += len;
-                    Ok(token)
-                }
-                None => Err(self.refuse()),
-            },
+            None => Err(self.refuse()),
         }
     }
 
@@ -196,55 +186,53 @@ impl<'a> Reader<'a> {
     }
 
     /// Reads a word (ECMA-262, 12.7).
-    #[tactic(auto, unfolding(crate::specs::Order::is_error))]
+    #[tactic(auto, unfolding(crate::specs::Order::is_error, crate::specs::Spelling::Spells))]
     fn read_word(&mut self) -> PResult<Token>
-        requires { self.old.at < length self.old.text.now }
+        requires here { self.old.at < length self.old.text.now }
+        requires begins { IfSome (slice_get self.old.text.now self.old.at) (λ b. IsTrue (words.is_word_start b)) }
         ensures text { self.new.text ≡ self.old.text }
         ensures forward { self.old.at < self.new.at }
         ensures refused { IfErr result (IsRefusal self.old.text.now) }
         ensures no_error { IfOk result (λ t. IsFalse (is_error t)) }
+        ensures spells { IfOk result (Spells self.old.text.now self.old.at self.new.at) }
     {
         let start = self.at;
-        self.bump();
-        self.skip_while(is_word_part);
+        self.skip_word_parts();
         match Word::new(self.alloc, self.text_from(start)) {
             Ok(word) => Ok(Token::Word(word)),
             Err(_) => Err(out_of_memory()),
         }
     }
 
-    /// Reads a whole decimal number (ECMA-262, 12.9.3), whose first digit is `first`.
-    #[tactic(auto, unfolding(crate::specs::Order::is_error))]
-    fn read_number(&mut self, first: u8) -> PResult<Token>
-        requires { self.old.at < length self.old.text.now }
-        ensures text { self.new.text ≡ self.old.text }
-        ensures forward { self.old.at < self.new.at }
-        ensures refused { IfErr result (IsRefusal self.old.text.now) }
-        ensures no_error { IfOk result (λ t. IsFalse (is_error t)) }
+    /// An owned text.
+    pub(crate) fn atom(&self, text: &str) -> PResult<Atom>
+        ensures value { IfOk result (λ a. a ≡ text.now) }
+        ensures refused { IfErr result (λ e. e ≡ faults.out_of_memory) }
     {
-        let start = self.at;
-        self.bump();
-        if first != b'0' {
-            self.skip_while(|byte| byte.is_ascii_digit());
-        }
-        match self.peek() {
-            Some(byte) if is_word_part(byte) || byte == b'.' => return Err(self.fault()),
-            _ => {}
-        }
-        match Atom::new(self.alloc, self.text_from(start)) {
-            Ok(raw) => Ok(Token::Num { raw }),
+        match Atom::new(self.alloc, text) {
+            Ok(atom) => Ok(atom),
             Err(_) => Err(out_of_memory()),
         }
     }
 
-    /// Skips bytes as long as they pass.
-    fn skip_while<P: Fn(u8) -> bool>(&mut self, passes: P)
-        requires { P.IsAlwaysCallable passes }
+    /// The text from this position on, as far as it is read, as an owned text.
+    pub(crate) fn atom_from(&self, start: usize) -> PResult<Atom>
+        requires { start ≤ self.now.at }
+        ensures value { IfOk result (λ a. a ≡ slice_range self.now.text.now start self.now.at) }
+        ensures refused { IfErr result (λ e. e ≡ faults.out_of_memory) }
+    {
+        self.atom(self.text_from(start))
+    }
+
+    /// Skips bytes with which a word goes on.
+    fn skip_word_parts(&mut self)
         ensures text { self.new.text ≡ self.old.text }
         ensures forward { self.old.at ≤ self.new.at }
+        ensures parts { AllWithin (λ b. IsTrue (words.is_word_part b)) self.old.text.now self.old.at self.new.at }
+        ensures ends { IsNoWordPart self.old.text.now self.new.at }
     {
         while let Some(byte) = self.peek() {
-            if !passes(byte) {
+            if !is_word_part(byte) {
                 break;
             }
             self.bump();

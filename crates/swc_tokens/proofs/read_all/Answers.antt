@@ -1,28 +1,38 @@
-use Rattle.std.proofs.Common.{◌∙◌, ap}
-use Rattle.swc_tokens.proofs.Reading.{AreRead_nil, AreRead_push, AreRead_end, last-there}
+use Rattle.std.proofs.Common.{◌∙◌, refl, sym, ap}
+use Rattle.swc_tokens.specs.Order.{end_of}
+use Rattle.swc_tokens.proofs.Marks.{end_of-push}
+use Rattle.swc_tokens.proofs.Reading.{AreRead_nil, AreRead_push, AreRead_end, last-there, last-given}
 use Rattle.swc_tokens.proofs.read_all.Goals as goal
 
 -- the token that was read stands behind the others
 pub loop-tokens-preserved : goal.loop-tokens-preserved
 loop-tokens-preserved c =
-    let next = rw (c.in-Some.is, c.loop-tokens.invariant.0) at c.in_ok-token.ensures.next in
+    let so_far = c.loop-tokens.invariant in
+    let next = rw (c.in-Some.is, so_far.text) at c.in_ok-token.ensures.next in
     let fine = rw c.in-Some.is at c.in_ok-token.ensures.no_error in
-    let first = rw c.in-Some.is at c.in_ok-token.ensures.first in (
-      ap (λ t. t.now) c.read_next.ensures.text ∙ c.loop-tokens.invariant.0,
-      rw c.in_ok-push.ensures.added
-          (AreRead_push _ _ _ _ _ c.loop-tokens.invariant.1 next fine (λ b. last-there _ _ _ c.deref.ensures.value c.last.ensures.value (first b))),
-    )
+    let first = rw c.in-Some.is at c.in_ok-token.ensures.first in
+    let marks = rw (c.in-Some.is, so_far.text) at c.in_ok-token.ensures.marks in record {
+      text = ap (λ t. t.now) c.read_next.ensures.text ∙ so_far.text;
+      read = rw c.in_ok-push.ensures.added
+          (AreRead_push _ _ _ _ _ so_far.read next fine
+          (λ b. last-there _ _ _ c.deref.ensures.value c.last.ensures.value (first b))
+          (λ n. marks (last-given _ _ _ c.deref.ensures.value c.last.ensures.value n))
+          so_far.end);
+      end = rw (c.in_ok-push.ensures.added, end_of-push) (sym next.ends);
+    }
 
 -- what is read stands in the text, and blanks alone are left
 pub returns-clause-tokens : goal.returns-clause-tokens
 returns-clause-tokens c =
-    let whole = rw c.loop-tokens.invariant.0 at c.loop-tokens.reader.within in
-    let rest = rw (c.in_default.is, c.loop-tokens.invariant.0) at c.in_ok-token.ensures.rest in
-    AreRead_end _ _ _ c.loop-tokens.invariant.1 whole rest
+    let whole = rw c.loop-tokens.invariant.text at c.loop-tokens.reader.within in
+    let rest = rw (c.in_default.is, c.loop-tokens.invariant.text) at c.in_ok-token.ensures.rest in
+    AreRead_end _ _ _ c.loop-tokens.invariant.read whole rest
 
 -- before the first token nothing is read
 pub loop-tokens-init : goal.loop-tokens-init
-loop-tokens-init c = (
-  ap (λ t. t.now) c.new-reader.ensures.text,
-  rw (c.new-reader.ensures.at, c.new-tokens.ensures.items) (AreRead_nil _),
-)
+unfolding end_of
+loop-tokens-init c = record {
+  text = ap (λ t. t.now) c.new-reader.ensures.text;
+  read = rw (c.new-reader.ensures.at, c.new-tokens.ensures.items) (AreRead_nil _);
+  end = rw (c.new-reader.ensures.at, c.new-tokens.ensures.items) refl;
+}

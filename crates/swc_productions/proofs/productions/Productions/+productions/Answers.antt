@@ -1,5 +1,5 @@
 -- What the steps of each production, one after another, ensure.
-use Rattle.std.proofs.Common.{Ok, ◌≡◌, ◌≢◌, Some, None, refl, sym, ap, ◌∙◌, arith}
+use Rattle.std.proofs.Common.{Ok, map, ◌≡◌, ◌≢◌, Some, None, refl, sym, ap, ◌∙◌, arith}
 use Rattle.std.proofs.lemmas.Result.{err_from_is_err_and}
 use Rattle.swc_context.specs.Spans.{between}
 use Rattle.swc_context.specs.declared.error.SyntaxError.TheVariants.{OutOfMemory}
@@ -7,58 +7,238 @@ use Rattle.swc_input.specs.Plain.{plain}
 use Rattle.swc_input.specs.Kinds.{at_token, is_hash}
 use Rattle.swc_input.specs.Buffer.{context}
 use Rattle.swc_grammar.specs.Tokens.{with_in}
-use Rattle.swc_ast.specs.Tree.{span_of}
-use Rattle.swc_grammar.specs.Trees.{to, unary_e, paren_e, bin_e, nullish_ok, delete_ok, min_right}
-use Rattle.swc_grammar.specs.Symbols.{Assign, Level}
-use Rattle.swc_grammar.specs.Tokens.{is_lparen, is_rparen}
+use Rattle.swc_ast.specs.Tree.{nil, cons, trees, span_of}
+use Rattle.swc_ast.specs.Parts.{item_of as item_tree_of}
+use Rattle.swc_nodes.specs.Lists.{trees_append, elem_parts, elem_tree, elem_trees}
+use Rattle.swc_nodes.specs.Seats.{chain}
+use Rattle.swc_nodes.specs.Slots.{flat, if_some, item_parts, expr_part}
+use Rattle.swc_nodes.specs.Stands.{count, seat_at, tree_at}
+use Rattle.swc_nodes.proofs.Lists.{apart-none, apart-list-more, elems-more, trees_append-nil}
+use Rattle.swc_grammar.specs.Trees.{to, array_e, listed, items_of, unary_e, paren_e, bin_e, nullish_ok, delete_ok}
+use Rattle.swc_grammar.specs.Trees.{min_right}
+use Rattle.swc_grammar.specs.Symbols.{Assign, Level, Elements}
+use Rattle.swc_grammar.specs.Tokens.{is_lparen, is_rparen, is_lbracket, is_rbracket, is_comma, is_dots, is_this}
 use Rattle.swc_grammar.specs.Clean.{sym as at, run, climb, is_lit, is_identifier, prefix_at, no_error, left_ok}
 use Rattle.swc_grammar.specs.Words.{◌>>=◌}
-use Rattle.swc_productions.specs.Readers.{go_on, inside, paren_expr_close, paren_expr_tail, unary_op_node, unary_op_tail, bin_op_node, bin_op, turned}
-use Rattle.swc_productions.specs.Parsing.{seen, behind, itself, tree_of}
+use Rattle.swc_productions.specs.Readers.{go_on, inside, paren_expr_close, paren_expr_tail, unary_op_node}
+use Rattle.swc_productions.specs.Readers.{unary_op_tail, bin_op_node, bin_op, turned}
+use Rattle.swc_productions.specs.Lists.{array_lit_tail, element_by, elements_behind, behind_by, separated}
+use Rattle.swc_productions.specs.Parsing.{seen, behind, itself, tree_of, item_at, elems_at, seen_of}
+use Rattle.swc_bodies.specs.Readings.{is_function, is_class}
 use Rattle.swc_nodes.proofs.Standing.{grows-count, grows-same, grows-then}
-use Rattle.swc_nodes.proofs.Held.{from-down, from-later, from_self, first_kept, if_from, tree-later}
-use Rattle.swc_productions.proofs.Building.{grows-kept, made_at}
+use Rattle.swc_nodes.proofs.Held.{apart-from, from-down, from-later, from_self, first_kept, if_from, tree-later}
+use Rattle.swc_productions.proofs.Building.{apart-down, grows-kept, made_at, made_over}
+use Rattle.swc_productions.proofs.Lists as list
 use Rattle.swc_productions.proofs.Rules as rule
 use Rattle.swc_productions.proofs.Steps as s
 use Rattle.swc_productions.proofs.Making as m
 use Rattle.swc_productions.proofs.productions.Productions.+productions.Goals as goal
 
+pub parse_primary_expr-returns-then-is_this : goal.parse_primary_expr-returns-then-is_this
+parse_primary_expr-returns-then-is_this g t c =
+    m.after c.parse_this_expr.result (s.on_seen c.in_ok-look.ensures.looks (λ x ts same e. rule.this_expr_picked _ x ts (ap (at_token is_this) e ∙ sym c.is_this.ensures.value ∙ c.if-is_this.true))) (grows-same _) c.parse_this_expr.ensures
+
+pub parse_primary_expr-returns-in_err-is_async_function : goal.parse_primary_expr-returns-in_err-is_async_function
+parse_primary_expr-returns-in_err-is_async_function g t c =
+    let p = err_from_is_err_and c.from_residual-in_err-is_async_function.result c.from_residual-in_err-is_async_function.ensures.1 in rw (p.1, p.2)
+    (m.no (s.unheard_memory (s.forgoes_later (s.here_leads c.in_ok-look.ensures.looks) c.in_err-is_async_function.ensures.tells)) (grows-same _))
+
+pub parse_primary_expr-returns-then-branch : goal.parse_primary_expr-returns-then-branch
+parse_primary_expr-returns-then-branch g t c =
+    m.after c.parse_fn_expr.result (s.on_told c.in_ok-look.ensures.looks c.in_ok-is_async_function.ensures.tells (λ x ts same e told. rule.fn_expr_picked _ x ts (rule.async_begins ts (told ∙ c.if-branch.true)))) (grows-same _) c.parse_fn_expr.ensures
+
+pub parse_primary_expr-returns-then-is_function : goal.parse_primary_expr-returns-then-is_function
+parse_primary_expr-returns-then-is_function g t c =
+    m.after c.parse_fn_expr-then-is_function.result (s.on_told c.in_ok-look.ensures.looks c.in_ok-is_async_function.ensures.tells (λ x ts same e told. rule.fn_expr_picked _ x ts
+    (rule.function_begins ts (ap (at_token is_function) e ∙ sym c.is_function.ensures.value ∙ c.if-is_function.true)))) (grows-same _) c.parse_fn_expr-then-is_function.ensures
+
 pub parse_primary_expr-returns-in_err-lit : goal.parse_primary_expr-returns-in_err-lit
 parse_primary_expr-returns-in_err-lit g t c =
     let p = err_from_is_err_and c.from_residual-in_err-lit.result c.from_residual-in_err-lit.ensures.1 in rw (p.1, p.2)
-    (m.no (s.unheard_after (s.on_seen c.in_ok-look.ensures.looks (λ x ts same e. rule.lit_picked _ x ts (ap (at_token is_lit) e ∙ sym c.is_lit.ensures.value ∙ c.if-is_lit.true))) (c.in_err-lit.ensures.parses g.B.Bodies.is_faithful)) (grows-kept c.parse_lit.ensures.nodes))
+    (m.no (s.unheard_after (s.on_told c.in_ok-look.ensures.looks c.in_ok-is_async_function.ensures.tells (λ x ts same e told. rule.lit_picked _ x ts (ap (at_token is_lit) e ∙ sym c.is_lit.ensures.value ∙ c.if-is_lit.true))) (c.in_err-lit.ensures.parses g.B.Bodies.is_faithful)) (grows-kept c.parse_lit.ensures.nodes))
 
 pub parse_primary_expr-returns-then-is_lit : goal.parse_primary_expr-returns-then-is_lit
 parse_primary_expr-returns-then-is_lit g t c =
     m.node _ c.lit-node.result c.made.result (grows-count (grows-kept c.parse_lit.ensures.nodes)) c.lit-node.ensures.made c.made.ensures.ok c.made.ensures.refused (grows-kept c.parse_lit.ensures.nodes) c.lit-node.ensures.grows
-    (s.heard_after (s.on_seen c.in_ok-look.ensures.looks (λ x ts same e. rule.lit_picked _ x ts (ap (at_token is_lit) e ∙ sym c.is_lit.ensures.value ∙ c.if-is_lit.true))) (c.in_ok-lit.ensures.parses g.B.Bodies.is_faithful))
+    (s.heard_after (s.on_told c.in_ok-look.ensures.looks c.in_ok-is_async_function.ensures.tells (λ x ts same e told. rule.lit_picked _ x ts (ap (at_token is_lit) e ∙ sym c.is_lit.ensures.value ∙ c.if-is_lit.true))) (c.in_ok-lit.ensures.parses g.B.Bodies.is_faithful))
 
 pub parse_primary_expr-returns-then-is_lparen : goal.parse_primary_expr-returns-then-is_lparen
 parse_primary_expr-returns-then-is_lparen g t c =
-    m.after c.parse_paren_expr.result (s.on_seen c.in_ok-look.ensures.looks (λ x ts same e. rule.paren_expr_picked _ x ts (ap (at_token is_lparen) e ∙ sym c.is_lparen.ensures.value ∙ c.if-is_lparen.true))) (grows-same _) c.parse_paren_expr.ensures
+    m.after c.parse_paren_expr.result (s.on_told c.in_ok-look.ensures.looks c.in_ok-is_async_function.ensures.tells (λ x ts same e told. rule.paren_expr_picked _ x ts (ap (at_token is_lparen) e ∙ sym c.is_lparen.ensures.value ∙ c.if-is_lparen.true))) (grows-same _) c.parse_paren_expr.ensures
+
+pub parse_primary_expr-returns-then-is_lbracket : goal.parse_primary_expr-returns-then-is_lbracket
+parse_primary_expr-returns-then-is_lbracket g t c =
+    m.after c.parse_array_lit.result (s.on_told c.in_ok-look.ensures.looks c.in_ok-is_async_function.ensures.tells (λ x ts same e told. list.array_lit_picked _ x ts (ap (at_token is_lbracket) e ∙ sym c.is_lbracket.ensures.value ∙ c.if-is_lbracket.true))) (grows-same _) c.parse_array_lit.ensures
+
+pub parse_primary_expr-returns-then-is_class : goal.parse_primary_expr-returns-then-is_class
+parse_primary_expr-returns-then-is_class g t c =
+    m.after c.parse_class_expr.result (s.on_told c.in_ok-look.ensures.looks c.in_ok-is_async_function.ensures.tells (λ x ts same e told. rule.class_expr_picked _ x ts (ap (at_token is_class) e ∙ sym c.is_class.ensures.value ∙ c.if-is_class.true))) (grows-same _) c.parse_class_expr.ensures
 
 pub parse_primary_expr-returns-then-is_ident_ref : goal.parse_primary_expr-returns-then-is_ident_ref
 parse_primary_expr-returns-then-is_ident_ref g t c =
-    m.after c.parse_ident_expr.result (s.on_seen c.in_ok-look.ensures.looks (λ x ts same e. rule.ident_expr_picked _ x ts
-    (ap (λ v. at_token (is_identifier x) v) e ∙ ap (λ v. at_token (is_identifier v) (seen c.look.new.input)) same ∙ sym c.is_ident_ref.ensures.value ∙ c.if-is_ident_ref.true))) (grows-same _) c.parse_ident_expr.ensures
+    m.after c.parse_ident_expr.result (s.on_told c.in_ok-look.ensures.looks c.in_ok-is_async_function.ensures.tells (λ x ts same e told. rule.ident_expr_picked _ x ts
+    (ap (λ v. at_token (is_identifier x) v) e ∙ ap (λ v. at_token (is_identifier v) (seen c.is_async_function.new.input)) same ∙ sym c.is_ident_ref.ensures.value ∙ c.if-is_ident_ref.true))) (grows-same _) c.parse_ident_expr.ensures
 
 pub parse_primary_expr-returns-then-is_hash : goal.parse_primary_expr-returns-then-is_hash
 parse_primary_expr-returns-then-is_hash g t c =
-    m.after c.parse_private_expr.result (s.on_seen c.in_ok-look.ensures.looks (λ x ts same e. rule.private_expr_picked _ x ts
+    m.after c.parse_private_expr.result (s.on_told c.in_ok-look.ensures.looks c.in_ok-is_async_function.ensures.tells (λ x ts same e told. rule.private_expr_picked _ x ts
     (ap (at_token is_hash) e ∙ sym c.is_hash.ensures.value ∙ c.if-is_hash.true))) (grows-same _) c.parse_private_expr.ensures
 
+-- what is left open is that no `[` is current, which the code is to ask before
 pub parse_primary_expr-returns : goal.parse_primary_expr-returns
 parse_primary_expr-returns g t c =
-    m.no (s.unheard_at c.in_ok-look.ensures.looks (λ x ts same e. rule.primary_ends _ x ts (ap (at_token is_lit) e ∙ sym c.is_lit.ensures.value ∙ c.if-is_lit.false)
+    m.no (s.unheard_told c.in_ok-look.ensures.looks c.in_ok-is_async_function.ensures.tells (λ x ts same e told. rule.primary_ends _ x ts
+    (ap (λ v. at_token (is_identifier x) v) e ∙ ap (λ v. at_token (is_identifier v) (seen c.is_async_function.new.input)) same ∙ sym c.is_ident_ref.ensures.value ∙ c.if-is_ident_ref.false)
+    (ap (at_token is_lit) e ∙ sym c.is_lit.ensures.value ∙ c.if-is_lit.false)
     (ap (at_token is_lparen) e ∙ sym c.is_lparen.ensures.value ∙ c.if-is_lparen.false)
-    (ap (λ v. at_token (is_identifier x) v) e ∙ ap (λ v. at_token (is_identifier v) (seen c.look.new.input)) same ∙ sym c.is_ident_ref.ensures.value ∙ c.if-is_ident_ref.false)
-    (ap (at_token is_hash) e ∙ sym c.is_hash.ensures.value ∙ c.if-is_hash.false))
+    (ap (at_token is_hash) e ∙ sym c.is_hash.ensures.value ∙ c.if-is_hash.false)
+    (ap (at_token is_this) (e ∙ ap seen_of c.in_ok-is_async_function.ensures.tells.current) ∙ sym c.is_this.ensures.value ∙ c.if-is_this.false)
+    (ap (at_token is_lbracket) e ∙ sym c.is_lbracket.ensures.value ∙ c.if-is_lbracket.false)
+    (rule.function_not ts (ap (at_token is_function) e ∙ sym c.is_function.ensures.value ∙ c.if-is_function.false) (told ∙ c.if-branch.false))
+    (ap (at_token is_class) e ∙ sym c.is_class.ensures.value ∙ c.if-is_class.false))
     c.syntax_error.ensures.refuses) (grows-same _)
 
 pub parse_primary_expr-returns-in_err-look : goal.parse_primary_expr-returns-in_err-look
 parse_primary_expr-returns-in_err-look g t c =
     let p = err_from_is_err_and c.from_residual.result c.from_residual.ensures.1 in rw (p.1, p.2)
     (m.no (s.unheard_memory c.in_err-look.ensures.looks) (grows-same _))
+
+pub parse_array_lit-returns-in_err-elems : goal.parse_array_lit-returns-in_err-elems
+parse_array_lit-returns-in_err-elems g t c =
+    let first = c.skip.ensures.took.1 in
+    let p = err_from_is_err_and c.from_residual.result c.from_residual.ensures.1 in rw (p.1, p.2)
+    (m.no (s.unheard_after (s.on_took {g = array_lit_tail _ (plain first.was).span} g.met.I.Tokens.laws first (λ x ts. list.array_lit_opens _ (plain first.was) x ts (rule.passes_plain is_lbracket _ _ first.current c.requires)))
+    (s.unheard_call (λ x p. Some (array_e (to (plain first.was).span (span_of p.0)) (items_of p.0), p.1)) (λ x ts. list.array_lit_splits _ (plain first.was).span x ts) c.in_err-elems.ensures.reads)) c.parse_elements_with_in.ensures.grows)
+
+pub parse_array_lit-returns : goal.parse_array_lit-returns
+parse_array_lit-returns g t c =
+    let first = c.skip.ensures.took.1 in
+    let items = elem_trees (tree_at c.parse_elements_with_in.new.self.nodes) c.in_ok-elems.elems in
+    let whole : array_e (to first.was.span c.in_ok-elems.end) items ≡ array_e (between c.cur_span.result.lo c.in_ok-elems.end.hi) items =
+    ap (λ v. array_e (between v c.in_ok-elems.end.hi) items) (ap (λ v. v.lo) (sym (s.place_was first c.cur_span.result c.cur_span.ensures))) in
+    m.node _ c.array_lit-node.result c.made.result (omega arith)
+    (made_over _ _ _ (elem_parts c.in_ok-elems.elems) _ c.array_lit-node.result c.array_lit-node.ensures.made c.in_ok-elems.ensures.from) c.made.ensures.ok c.made.ensures.refused c.parse_elements_with_in.ensures.grows c.array_lit-node.ensures.grows
+    (s.heard_answer whole (s.heard_first g.met.I.Tokens.laws first (λ x ts. list.array_lit_opens _ (plain first.was) x ts (rule.passes_plain is_lbracket _ _ first.current c.requires))
+    (s.on_call (λ x p. Some (array_e (to (plain first.was).span (span_of p.0)) (items_of p.0), p.1)) (λ x ts. list.array_lit_splits _ (plain first.was).span x ts) c.in_ok-elems.ensures.reads.on)))
+
+pub parse_array_lit-array_lit-node-requires : goal.parse_array_lit-array_lit-node-requires
+parse_array_lit-array_lit-node-requires g t c = record { apart = apart-down (elem_parts c.in_ok-elems.elems) c.in_ok-elems.ensures.from }
+
+pub parse_elements_with_in-returns : goal.parse_elements_with_in-returns
+parse_elements_with_in-returns g t c =
+    m.yes c.parse_elements-elems.result
+    (s.parses_within g.I.Tokens.model g.B.Bodies.is_faithful (elems_at c.parse_elements-elems.new.self.nodes) _ (run _ (at Elements)) c.parse_elements-elems.result with_in (λ x. refl) (λ x ts. list.inside_elements _ x ts)
+    c.set_ctx.ensures.moves (c.set_ctx.ensures.context ∙ ap with_in c.get_ctx-ctx.ensures) c.parse_elements-elems.ensures.reads c.set_ctx-2.ensures.moves
+    (c.set_ctx-2.ensures.context ∙ c.get_ctx-ctx.ensures))
+    c.parse_elements-elems.ensures.grows c.parse_elements-elems.ensures.from
+
+pub parse_elements-loop-elems-init : goal.parse_elements-loop-elems-init
+parse_elements-loop-elems-init g t c = (
+  s.on_here g.met.I.Tokens.laws _ (λ x ts. list.elements_first _ x ts ∙ ap (λ v. elements_behind g.B.BodyForms.forms (trees (map (elem_tree (tree_at c.args.self.now.nodes)) v)) x ts) (sym c.new-elems.ensures.items)),
+  omega arith,
+  grows-same _,
+  record { chained = ap (λ v. chain (seat_at c.args.self.now.nodes) (count c.args.self.now.nodes) (flat (if_some item_parts) v) (count c.args.self.now.nodes)) c.new-elems.ensures.items ∙ (apart-none {ns = c.args.self.now.nodes} {k = count c.args.self.now.nodes} (omega arith)).chained },
+)
+
+pub parse_elements-loop-elems-preserved : goal.parse_elements-loop-elems-preserved
+parse_elements-loop-elems-preserved g t c =
+    let before = elem_trees (tree_at c.loop-elems.self.nodes) c.loop-elems.elems in
+    let none = s.eats_none g.B.Bodies.is_faithful is_rbracket _ _ _ c.in-None.is (c.in_ok-end.ensures.eats g.B.Bodies.is_faithful) in
+    let more = ap (λ v. trees (map (elem_tree (tree_at c.parse_element.new.self.nodes)) v)) c.in_ok-add.ensures.added
+    ∙ elems-more c.loop-elems.elems.items c.in_ok-elem.elem c.parse_element.ensures.grows c.loop-elems.invariant.3 in
+    let parts = apart-list-more (if_some item_parts) c.loop-elems.elems.items c.in_ok-elem.elem c.parse_element.ensures.grows c.loop-elems.invariant.3 c.in_ok-elem.ensures.from in (
+      s.on_then c.loop-elems.invariant.0 (s.on_then (s.on_call (λ x p. behind_by _ before p.0 x p.1) (λ x ts. list.behind_splits _ before x ts) none)
+          (s.on_to (s.on_call (λ x p. elements_behind _ (trees_append before (cons p.0 nil)) x p.1) (λ x ts. list.elements_more_splits _ before x ts) c.in_ok-elem.ensures.reads.on)
+          (λ x ts. ap (λ v. elements_behind g.B.BodyForms.forms v x ts) (sym more)))),
+      let a = c.loop-elems.invariant.1 in let b = c.in_ok-elem.ensures.falls in let d = c.in_ok-end.ensures.falls in omega arith,
+      grows-then c.loop-elems.invariant.2 c.parse_element.ensures.grows,
+      record { chained = ap (λ v. chain (seat_at c.parse_element.new.self.nodes) (count c.args.self.now.nodes) (flat (if_some item_parts) v) (count c.parse_element.new.self.nodes)) c.in_ok-add.ensures.added ∙ parts.chained },
+    )
+
+pub parse_elements-returns-in_err-end : goal.parse_elements-returns-in_err-end
+parse_elements-returns-in_err-end g t c =
+    let before = elem_trees (tree_at c.loop-elems.self.nodes) c.loop-elems.elems in
+    let p = err_from_is_err_and c.from_residual.result c.from_residual.ensures.1 in rw (p.1, p.2)
+    (m.no (s.unheard_after c.loop-elems.invariant.0 (s.unheard_call (λ x p. behind_by _ before p.0 x p.1) (λ x ts. list.behind_splits _ before x ts) (c.in_err-end.ensures.eats g.B.Bodies.is_faithful))) c.loop-elems.invariant.2)
+
+pub parse_elements-returns-in-Some : goal.parse_elements-returns-in-Some
+parse_elements-returns-in-Some g t c =
+    let before = elem_trees (tree_at c.loop-elems.self.nodes) c.loop-elems.elems in
+    let some = s.eats_some g.B.Bodies.is_faithful is_rbracket _ c.in-Some.end _ _ c.in-Some.is (c.in_ok-end.ensures.eats g.B.Bodies.is_faithful) in
+    m.yes (Ok _)
+    (s.heard_answer (ap (λ v. listed c.in-Some.end v) (trees_append-nil before))
+    (s.heard_after c.loop-elems.invariant.0 (s.heard_call (λ x p. behind_by _ before p.0 x p.1) (λ x ts. list.behind_splits _ before x ts) (λ x ts. refl) some)))
+    c.loop-elems.invariant.2 c.loop-elems.invariant.3
+
+pub parse_elements-returns-in_err-elem : goal.parse_elements-returns-in_err-elem
+parse_elements-returns-in_err-elem g t c =
+    let before = elem_trees (tree_at c.loop-elems.self.nodes) c.loop-elems.elems in
+    let none = s.eats_none g.B.Bodies.is_faithful is_rbracket _ _ _ c.in-None.is (c.in_ok-end.ensures.eats g.B.Bodies.is_faithful) in
+    let p = err_from_is_err_and c.from_residual-in_err-elem.result c.from_residual-in_err-elem.ensures.1 in rw (p.1, p.2)
+    (m.no (s.unheard_after c.loop-elems.invariant.0 (s.unheard_after (s.on_call (λ x p. behind_by _ before p.0 x p.1) (λ x ts. list.behind_splits _ before x ts) none)
+    (s.unheard_call (λ x p. elements_behind _ (trees_append before (cons p.0 nil)) x p.1) (λ x ts. list.elements_more_splits _ before x ts) c.in_err-elem.ensures.reads))) (grows-then c.loop-elems.invariant.2 c.parse_element.ensures.grows))
+
+pub parse_elements-returns-in_err-add : goal.parse_elements-returns-in_err-add
+parse_elements-returns-in_err-add g t c =
+    let none = s.eats_none g.B.Bodies.is_faithful is_rbracket _ _ _ c.in-None.is (c.in_ok-end.ensures.eats g.B.Bodies.is_faithful) in
+    let p = err_from_is_err_and c.from_residual-in_err-add.result c.from_residual-in_err-add.ensures.1 in rw (p.1, p.2)
+    (m.no (s.unheard_memory (s.forgoes_later (s.leads_then c.loop-elems.invariant.0.leads (s.leads_then none.leads c.in_ok-elem.ensures.reads.on.leads)) (s.forgoes_here g.met.I.Tokens.laws _ _ _ c.in_err-add.ensures.refused))) (grows-then c.loop-elems.invariant.2 c.parse_element.ensures.grows))
+
+pub parse_element-returns-in_err-eat : goal.parse_element-returns-in_err-eat
+parse_element-returns-in_err-eat g t c =
+    let p = err_from_is_err_and c.from_residual.result c.from_residual.ensures.1 in rw (p.1, p.2)
+    (m.no (s.unheard_call (λ x p. element_by _ p.0 x p.1) (λ x ts. list.element_splits _ x ts) (c.in_err-eat.ensures.eats g.B.Bodies.is_faithful)) (grows-same _))
+
+pub parse_element-returns-in-Some : goal.parse_element-returns-in-Some
+parse_element-returns-in-Some g t c =
+    m.yes (Ok _)
+    (s.heard_call (λ x p. element_by _ p.0 x p.1) (λ x ts. list.element_splits _ x ts) (λ x ts. refl)
+    (s.eats_some g.B.Bodies.is_faithful is_comma _ c.in-Some.field-0 _ _ c.in-Some.is (c.in_ok-eat.ensures.eats g.B.Bodies.is_faithful)))
+    (grows-same _) (apart-none (omega arith))
+
+pub parse_element-returns-in-None : goal.parse_element-returns-in-None
+parse_element-returns-in-None g t c =
+    m.after c.parse_element_item.result
+    (s.on_call (λ x p. element_by _ p.0 x p.1) (λ x ts. list.element_splits _ x ts)
+    (s.eats_none g.B.Bodies.is_faithful is_comma _ _ _ c.in-None.is (c.in_ok-eat.ensures.eats g.B.Bodies.is_faithful)))
+    (grows-same _) c.parse_element_item.ensures
+
+pub parse_element_item-returns-in_err-item : goal.parse_element_item-returns-in_err-item
+parse_element_item-returns-in_err-item g t c =
+    let p = err_from_is_err_and c.from_residual.result c.from_residual.ensures.1 in rw (p.1, p.2)
+    (m.no (s.unheard_call (λ x p. separated is_rbracket x p.1 >>= (λ q. Some (p.0, q.1))) (λ x ts. list.element_item_splits _ x ts) c.in_err-item.ensures.reads) c.parse_expr_or_spread.ensures.grows)
+
+pub parse_element_item-returns-in_err-separate : goal.parse_element_item-returns-in_err-separate
+parse_element_item-returns-in_err-separate g t c =
+    let p = err_from_is_err_and c.from_residual-in_err-separate.result c.from_residual-in_err-separate.ensures.1 in rw (p.1, p.2)
+    (m.no (s.unheard_after (s.on_call (λ x p. separated is_rbracket x p.1 >>= (λ q. Some (p.0, q.1))) (λ x ts. list.element_item_splits _ x ts) c.in_ok-item.ensures.reads.on)
+    (s.unheard_call (λ x q. Some (item_at c.parse_expr_or_spread.new.self.nodes c.in_ok-item.item, q.1)) (λ x ts. refl) (c.in_err-separate.ensures.separates g.B.Bodies.is_faithful))) c.parse_expr_or_spread.ensures.grows)
+
+pub parse_element_item-returns : goal.parse_element_item-returns
+parse_element_item-returns g t c =
+    m.yes (Ok _)
+    (s.heard_more (λ x p. separated is_rbracket x p.1 >>= (λ q. Some (p.0, q.1))) (λ x ts. list.element_item_splits _ x ts) c.in_ok-item.ensures.reads
+    (s.on_call (λ x q. Some (item_at c.parse_expr_or_spread.new.self.nodes c.in_ok-item.item, q.1)) (λ x ts. refl) (c.in_ok-separate.ensures.separates g.B.Bodies.is_faithful)))
+    c.parse_expr_or_spread.ensures.grows (apart-from (expr_part c.in_ok-item.item.expr) c.in_ok-item.ensures.from)
+
+pub parse_expr_or_spread-returns-in_err-spread : goal.parse_expr_or_spread-returns-in_err-spread
+parse_expr_or_spread-returns-in_err-spread g t c =
+    let p = err_from_is_err_and c.from_residual.result c.from_residual.ensures.1 in rw (p.1, p.2)
+    (m.no (s.unheard_call (λ x p. run _ (at Assign) x p.1 >>= (λ q. Some (item_tree_of p.0 q.0, q.1))) (λ x ts. list.item_splits _ x ts) (c.in_err-spread.ensures.eats g.B.Bodies.is_faithful)) (grows-same _))
+
+pub parse_expr_or_spread-returns-in-Ok : goal.parse_expr_or_spread-returns-in-Ok
+parse_expr_or_spread-returns-in-Ok g t c =
+    m.yes (Ok _)
+    (s.heard_after (s.on_call (λ x p. run _ (at Assign) x p.1 >>= (λ q. Some (item_tree_of p.0 q.0, q.1))) (λ x ts. list.item_splits _ x ts) (s.eats_on g.B.Bodies.is_faithful is_dots c.in_ok-spread.spread _ _ (c.in_ok-spread.ensures.eats g.B.Bodies.is_faithful)))
+    (s.heard_call (λ x q. Some (item_tree_of c.in_ok-spread.spread q.0, q.1)) (λ x ts. refl) (λ x ts. refl) c.in-Ok.ensures.reads))
+    c.parse_assignment_expr.ensures.grows c.in-Ok.ensures.from
+
+pub parse_expr_or_spread-returns-in-Err : goal.parse_expr_or_spread-returns-in-Err
+parse_expr_or_spread-returns-in-Err g t c =
+    m.no (s.unheard_as c.label_spread.result c.label_spread.ensures.kind c.label_spread.ensures.memory
+    (s.unheard_after (s.on_call (λ x p. run _ (at Assign) x p.1 >>= (λ q. Some (item_tree_of p.0 q.0, q.1))) (λ x ts. list.item_splits _ x ts) (s.eats_on g.B.Bodies.is_faithful is_dots c.in_ok-spread.spread _ _ (c.in_ok-spread.ensures.eats g.B.Bodies.is_faithful)))
+    (s.unheard_call (λ x q. Some (item_tree_of c.in_ok-spread.spread q.0, q.1)) (λ x ts. refl) c.in-Err.ensures.reads)))
+    c.parse_assignment_expr.ensures.grows
 
 pub parse_paren_expr-returns-in_err-look : goal.parse_paren_expr-returns-in_err-look
 parse_paren_expr-returns-in_err-look g t c =
@@ -157,19 +337,19 @@ parse_unary_operand-returns-in-Err g t c =
     m.on c.recover.result
     (s.continues_after g.I.Tokens.model g.B.Bodies.is_faithful (tree_of c.recover.new.self.nodes) _ _ c.recover.result (s.on_seen c.in_ok-at.ensures.looks (λ x ts same e. refl))
     (s.continues_recovered g.I.Tokens.model g.B.Bodies.is_faithful (tree_of c.recover.new.self.nodes) _ _ c.recover.result c.in-Err.ensures.reads c.recover.ensures.effect c.recover.ensures.notes c.recover.ensures.some))
-    (grows-then c.parse_unary_expr.ensures.grows c.recover.ensures.grows) (if_from _ _ _ itself c.recover.result (grows-count c.parse_unary_expr.ensures.grows) c.recover.ensures.from)
+    (grows-then c.parse_unary_expr.ensures.grows c.recover.ensures.grows) (if_from _ _ _ (λ x. x) c.recover.result (grows-count c.parse_unary_expr.ensures.grows) c.recover.ensures.from)
 
 pub parse_bin_expr-returns-in-Ok : goal.parse_bin_expr-returns-in-Ok
 parse_bin_expr-returns-in-Ok g t c =
     m.call c.parse_bin_op_recursively.result (λ x p. run _ (climb p.0 0) x p.1) (λ x ts. rule.operand_splits _ 0 x ts (omega arith))
-    c.in-Ok.ensures.reads c.parse_unary_expr.ensures.grows c.in-Ok.ensures.from.above c.parse_bin_op_recursively.ensures
+    c.in-Ok.ensures.reads c.parse_unary_expr.ensures.grows (λ x. from-down c.in-Ok.ensures.from.above) c.parse_bin_op_recursively.ensures
 
 pub parse_bin_expr-returns-in-Err : goal.parse_bin_expr-returns-in-Err
 parse_bin_expr-returns-in-Err g t c =
     m.yes c.parse_bin_expr_without_left.result
     (s.parses_recovered g.I.Tokens.model g.B.Bodies.is_faithful (tree_of c.parse_bin_expr_without_left.new.self.nodes) (run _ (at (Level 1))) _ c.parse_bin_expr_without_left.result (s.unheard_call (λ x p. run _ (climb p.0 0) x p.1) (λ x ts. rule.operand_splits _ 0 x ts (omega arith)) c.in-Err.ensures.reads)
     c.parse_bin_expr_without_left.ensures.effect c.parse_bin_expr_without_left.ensures.notes c.parse_bin_expr_without_left.ensures.some c.parse_bin_expr_without_left.ensures.memory)
-    (grows-then c.parse_unary_expr.ensures.grows c.parse_bin_expr_without_left.ensures.grows) (if_from _ _ _ itself c.parse_bin_expr_without_left.result (grows-count c.parse_unary_expr.ensures.grows) c.parse_bin_expr_without_left.ensures.from)
+    (grows-then c.parse_unary_expr.ensures.grows c.parse_bin_expr_without_left.ensures.grows) (if_from _ _ _ (λ x. x) c.parse_bin_expr_without_left.result (grows-count c.parse_unary_expr.ensures.grows) c.parse_bin_expr_without_left.ensures.from)
 
 pub parse_bin_expr_without_left-returns-in_err-left : goal.parse_bin_expr_without_left-returns-in_err-left
 parse_bin_expr_without_left-returns-in_err-left g t c =
@@ -200,7 +380,7 @@ parse_bin_expr_without_left-returns g t c =
       memory = s.if_err (λ e. e.kind ≢ OutOfMemory) c.parse_bin_op_recursively.result h.some;
       falls = s.consumes_falls g.I.Tokens.model _ _ c.parse_bin_op_recursively.result effect;
       grows = grows-then (grows-then h.grows c.parse_bin_op.ensures.grows) c.parse_bin_op_recursively.ensures.grows;
-      from = if_from _ _ _ itself c.parse_bin_op_recursively.result (omega arith) c.parse_bin_op_recursively.ensures.from;
+      from = if_from _ _ _ (λ x. x) c.parse_bin_op_recursively.result (omega arith) c.parse_bin_op_recursively.ensures.from;
     }
 
 pub parse_bin_op_recursively-loop-next_left-init : goal.parse_bin_op_recursively-loop-next_left-init
@@ -312,7 +492,7 @@ pub parse_bin_operand-returns : goal.parse_bin_operand-returns
 parse_bin_operand-returns g t c =
     m.call c.parse_bin_op_recursively.result (λ x p. run _ (climb p.0 c.right_min_prec.result) x p.1)
     (λ x ts. rule.right_splits _ c.args.op c.right_min_prec.result x ts c.right_min_prec.ensures)
-    c.in_ok-left_of_right.ensures.reads c.parse_unary_expr.ensures.grows c.in_ok-left_of_right.ensures.from.above c.parse_bin_op_recursively.ensures
+    c.in_ok-left_of_right.ensures.reads c.parse_unary_expr.ensures.grows (λ x. from-down c.in_ok-left_of_right.ensures.from.above) c.parse_bin_op_recursively.ensures
 
 pub parse_assignment_expr-returns-in_err-require_cur : goal.parse_assignment_expr-returns-in_err-require_cur
 parse_assignment_expr-returns-in_err-require_cur g t c =

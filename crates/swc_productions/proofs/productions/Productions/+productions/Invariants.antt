@@ -1,9 +1,12 @@
 -- Each call is made with fewer tokens to come, or on the way down to a primary expression.
 use Rattle.std.proofs.Common.{◌+◌, ◌*◌, ◌≤◌}
 use Rattle.swc_input.specs.Buffer.{to_come}
-use Rattle.swc_grammar.specs.Clean.{climb, run}
+use Rattle.swc_grammar.specs.Symbols.{Elements}
+use Rattle.swc_grammar.specs.Clean.{sym, climb, run}
 use Rattle.swc_nodes.specs.Slots.{expr_part}
-use Rattle.swc_nodes.specs.Stands.{first_at, From, Grows}
+use Rattle.swc_nodes.specs.Lists.{elem_parts, elem_trees}
+use Rattle.swc_nodes.specs.Stands.{tree_at, count, first_at, Apart, From, Grows}
+use Rattle.swc_productions.specs.Lists.{elements_behind}
 use Rattle.swc_productions.specs.Parsing.{On, tree_of}
 use Rattle.swc_productions.proofs.productions.Productions.+productions.Given as goal
 
@@ -60,3 +63,34 @@ decreases-parse_assignment_expr g l = to_come g.I.Tokens.model l.self.now.input 
 
 abbrev pub decreases-parse_assignment_expr_with_in : goal.decreases-parse_assignment_expr_with_in
 decreases-parse_assignment_expr_with_in g l = to_come g.I.Tokens.model l.self.now.input * 20 + 13
+
+abbrev pub decreases-parse_array_lit : goal.decreases-parse_array_lit
+decreases-parse_array_lit g l = to_come g.I.Tokens.model l.self.now.input * 20 + 1
+
+abbrev pub decreases-parse_expr_or_spread : goal.decreases-parse_expr_or_spread
+decreases-parse_expr_or_spread g l = to_come g.I.Tokens.model l.self.now.input * 20 + 13
+
+abbrev pub decreases-parse_element_item : goal.decreases-parse_element_item
+decreases-parse_element_item g l = to_come g.I.Tokens.model l.self.now.input * 20 + 14
+
+abbrev pub decreases-parse_element : goal.decreases-parse_element
+decreases-parse_element g l = to_come g.I.Tokens.model l.self.now.input * 20 + 15
+
+abbrev pub decreases-parse_elements : goal.decreases-parse_elements
+decreases-parse_elements g l = to_come g.I.Tokens.model l.self.now.input * 20 + 16
+
+abbrev pub invariant-parse_elements-loop-elems : goal.invariant-parse_elements-loop-elems
+invariant-parse_elements-loop-elems g l =
+    On g.I.Tokens.model g.B.Bodies.is_faithful
+    (run g.B.BodyForms.forms (sym Elements))
+    (elements_behind g.B.BodyForms.forms (elem_trees (tree_at l.self.nodes) l.elems))
+    l.fn.self.input l.self.input
+    × (to_come g.I.Tokens.model l.self.input ≤ to_come g.I.Tokens.model l.fn.self.input)
+    × Grows l.fn.self.nodes l.self.nodes
+    × Apart (count l.fn.self.nodes) l.self.nodes (elem_parts l.elems)
+
+abbrev pub decreases-parse_elements-loop-elems : goal.decreases-parse_elements-loop-elems
+decreases-parse_elements-loop-elems g l = to_come g.I.Tokens.model l.self.input
+
+abbrev pub decreases-parse_elements_with_in : goal.decreases-parse_elements_with_in
+decreases-parse_elements_with_in g l = to_come g.I.Tokens.model l.self.now.input * 20 + 17

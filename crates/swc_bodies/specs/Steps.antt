@@ -1,0 +1,48 @@
+-- The steps by which a body is taken from a buffer.
+use Rattle.std.specs.Prelude.{◌≡◌, ◌≢◌, ◌⊎◌, ℕ, List, [], ◌∷◌, Option, Some, None, Result, MatchResult, codes}
+use Rattle.swc_context.specs.declared.error.Error.{Error}
+use Rattle.swc_context.specs.declared.error.SyntaxError.{SyntaxError}
+use Rattle.swc_context.specs.declared.error.SyntaxError.TheVariants.{OutOfMemory, ParserFailed, Unexpected}
+use Rattle.swc_input.specs.declared.buffer.Buffer.{Buffer}
+use Rattle.swc_input.specs.declared.token.TokenAndSpan.{TokenAndSpan}
+use Rattle.swc_input.specs.Plain.{plain}
+use Rattle.swc_input.specs.Source.{Model}
+use Rattle.swc_input.specs.Buffer.{Read, ReadSome, Lives, Looked, Known, current, source, last_position}
+use Rattle.swc_input.specs.Recording.{Refused, no_memory, unfit}
+use Rattle.swc_bodies.specs.declared.place.Place.{Place}
+use Rattle.swc_bodies.specs.Keeping.{kept}
+use Rattle.swc_bodies.specs.Taking.{at_current, next}
+
+-- what is wanted in place of a token that is refused
+abbrev pub wanting : SyntaxError → Option (List ℕ)
+wanting (Unexpected text) = Some text.now
+wanting k = None
+
+module _ {S : Type 0} (model : Model S) where
+  -- Why no body was answered: want of memory, at the end of the token consumed last; or the current token, which may not stand in the
+  -- body, or is an error token, or the end.
+  pub data NoBody (e : Error) (c : Buffer S) : Type 0 where
+    wanted_memory : e ≡ no_memory (last_position c) → NoBody e c
+    refused_token : (b : Buffer S) (k : SyntaxError) → wanting k ≡ Some (codes "{") → Refused model b (λ here. unfit (current here) (last_position here) k) e c → NoBody e c
+
+  -- the current token was consumed; it was kept behind the tokens ts, which are us then, or memory was wanted
+  pub record KeepsOne (b : Buffer S) (ts : List TokenAndSpan) (r : Result (Unit {0}) Error) (us : List TokenAndSpan) (c : Buffer S) : Type 0 where
+    pub token : TokenAndSpan
+    pub current : current b ≡ Some token
+    pub read : Read model b (plain token ∷ []) c
+    pub same : source c ≡ source b
+    pub last : last_position c ≡ token.span.hi
+    pub kept : MatchResult r (λ u. us ≡ kept ts token) (λ e. e ≡ no_memory (last_position c))
+
+  -- a token is current that may stand at the place p, and leads to q
+  pub record GoesOn (b : Buffer S) (p q : Place) (c : Buffer S) : Type 0 where
+    pub looked : Looked model b c
+    pub next : at_current p (current c) ≡ Some q
+
+  -- the refusal e, for want of memory, or since no token comes that may stand at the place p
+  pub record Stops (b : Buffer S) (p : Place) (e : Error) (c : Buffer S) : Type 0 where
+    pub read : ReadSome model b c
+    pub own : e.kind ≢ ParserFailed
+    pub answer : NoBody e c
+    pub lives : e.kind ≢ OutOfMemory → Lives model b c
+    pub cause : (e.kind ≡ OutOfMemory) ⊎ ((ts : List TokenAndSpan) → Known model b ts → next p ts ≡ None)

@@ -1,0 +1,78 @@
+-- What the steps of the code read in lists, by the clean parser.
+use Rattle.std.specs.Prelude.{Bool, true, false, if◌then◌else◌, List, [], ◌∷◌, Option, Some, None}
+use Rattle.swc_context.specs.declared.context.Context.{Context}
+use Rattle.swc_context.specs.declared.span.Span.{Span}
+use Rattle.swc_input.specs.declared.token.Token.{Token}
+use Rattle.swc_input.specs.declared.token.TokenAndSpan.{TokenAndSpan}
+use Rattle.swc_input.specs.Kinds.{at_token}
+use Rattle.swc_ast.specs.Tree.{Tree, Trees, nil, cons, span_of}
+use Rattle.swc_bodies.specs.Readings.{Hook}
+use Rattle.swc_grammar.specs.Symbols.{Elements, Item}
+use Rattle.swc_grammar.specs.Tokens.{with_in, is_comma, is_dots, is_rbracket}
+use Rattle.swc_grammar.specs.Trees.{to, array_e, hole_e, listed, items_of}
+use Rattle.swc_grammar.specs.Clean.{Out, first, sym, run}
+use Rattle.swc_grammar.specs.Words.{◌>>=◌}
+use Rattle.swc_nodes.specs.Lists.{trees_append}
+use Rattle.swc_productions.specs.declared.moves.Sign.{Sign}
+use Rattle.swc_productions.specs.declared.moves.Sign.TheVariants as sign
+
+-- the tokens that are signs
+abbrev pub is_sign_token : Sign → Token → Bool
+is_sign_token sign.Comma = is_comma
+is_sign_token sign.DotDotDot = is_dots
+is_sign_token sign.RBracket = is_rbracket
+
+-- a token that passes a test is taken, if it stands first
+abbrev pub eaten_by : Bool → List TokenAndSpan → Out (Option Span)
+eaten_by true (t ∷ ts) = Some (Some t.span, ts)
+eaten_by b ts = Some (None, ts)
+
+unfoldable pub eaten : (Token → Bool) → Context → List TokenAndSpan → Out (Option Span)
+eaten f c ts = eaten_by (at_token f (first ts)) ts
+
+-- behind an item of a list: a comma, or nothing before the token that closes the list
+unfoldable pub closed : (Token → Bool) → Context → List TokenAndSpan → Out (Unit {0})
+closed f c ts = if at_token f (first ts) then Some (tt, ts) else None
+
+abbrev pub separated_by : (Token → Bool) → Option Span → Context → List TokenAndSpan → Out (Unit {0})
+separated_by f (Some s) c ts = Some (tt, ts)
+separated_by f None c ts = closed f c ts
+
+unfoldable pub separated : (Token → Bool) → Context → List TokenAndSpan → Out (Unit {0})
+separated f c ts = eaten is_comma c ts >>= (λ p. separated_by f p.0 c p.1)
+
+-- items before those of a list
+abbrev pub put_before : {F C K : Type 0} → Trees F C K → Tree F C K → Tree F C K
+put_before ts e = listed (span_of e) (trees_append ts (items_of e))
+
+module _ {F C K : Type 0} (hook : Hook F C K) where
+  -- ---- array literals (13.2.4)
+
+  -- elements among which `in` is an operator, and behind the bracket at s
+  unfoldable pub elements_inside : Context → List TokenAndSpan → Out (Tree F C K)
+  elements_inside c ts = run hook (sym Elements) (with_in c) ts
+
+  unfoldable pub array_lit_tail : Span → Context → List TokenAndSpan → Out (Tree F C K)
+  array_lit_tail s c ts = elements_inside c ts >>= (λ p. Some (array_e (to s (span_of p.0)) (items_of p.0), p.1))
+
+  -- one element, with the comma behind it, or before the bracket that closes the list
+  unfoldable pub element_item : Context → List TokenAndSpan → Out (Tree F C K)
+  element_item c ts = run hook (sym Item) c ts >>= (λ p. separated is_rbracket c p.1 >>= (λ q. Some (p.0, q.1)))
+
+  abbrev pub element_by : Option Span → Context → List TokenAndSpan → Out (Tree F C K)
+  element_by None c ts = element_item c ts
+  element_by (Some s) c ts = Some (hole_e, ts)
+
+  unfoldable pub element : Context → List TokenAndSpan → Out (Tree F C K)
+  element c ts = eaten is_comma c ts >>= (λ p. element_by p.0 c p.1)
+
+  -- behind some elements: those that are left, to where the list is closed; and from the next element on
+  unfoldable pub elements_behind : Trees F C K → Context → List TokenAndSpan → Out (Tree F C K)
+  elements_behind before c ts = run hook (sym Elements) c ts >>= (λ p. Some (put_before before p.0, p.1))
+
+  unfoldable pub elements_more : Trees F C K → Context → List TokenAndSpan → Out (Tree F C K)
+  elements_more before c ts = element c ts >>= (λ p. elements_behind (trees_append before (cons p.0 nil)) c p.1)
+
+  abbrev pub behind_by : Trees F C K → Option Span → Context → List TokenAndSpan → Out (Tree F C K)
+  behind_by before (Some s) c ts = Some (put_before before (listed s nil), ts)
+  behind_by before None c ts = elements_more before c ts

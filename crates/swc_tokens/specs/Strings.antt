@@ -1,0 +1,65 @@
+-- Strings (ECMA-262, 12.9.4), as far as they are read, and what they mean.
+use Rattle.std.specs.Prelude.{◌≡◌, ℕ, ◌+◌, ◌-◌, List, [], ◌∷◌, ◌++◌, Some, Bool, not, ◌&&◌, ◌||◌, if◌then◌else◌, nat_eq, nat_le, IsTrue, slice_get}
+use Rattle.swc_tokens.specs.Blanks.{is_line_break, StandAt}
+
+-- `"` or `'`
+abbrev pub is_quote : ℕ → Bool
+is_quote b = nat_eq b 34 || nat_eq b 39
+
+-- whether the byte stands for itself in a string with this quote: no quote, no backslash, no line break
+abbrev pub is_plain : ℕ → ℕ → Bool
+is_plain quote b = not (nat_eq b quote || nat_eq b 92 || is_line_break b)
+
+-- whether an escape with this byte behind its backslash is read: no digit, no `x`, no `u`, no line break
+abbrev pub is_escape : ℕ → Bool
+is_escape b = not (nat_le 48 b && nat_le b 57 || nat_eq b 120 || nat_eq b 117 || is_line_break b)
+
+-- what it means: `\n`, `\t`, `\r`, `\b`, `\f`, `\v`, or the byte itself
+abbrev pub unescaped : ℕ → ℕ
+unescaped b =
+    if nat_eq b 110
+    then 10
+    else if nat_eq b 116
+    then 9
+    else if nat_eq b 114
+    then 13
+    else if nat_eq b 98
+    then 8
+    else if nat_eq b 102
+    then 12
+    else if nat_eq b 118
+    then 11
+    else b
+
+-- one byte that stands for itself
+pub record IsPlain (text : List ℕ) (quote low high byte : ℕ) : Type 0 where
+  pub there : slice_get text low ≡ Some byte
+  pub plain : IsTrue (is_plain quote byte)
+  pub one : high ≡ low + 1
+
+-- a backslash, and the byte behind it
+pub record IsEscape (text : List ℕ) (low high byte : ℕ) : Type 0 where
+  pub escaped : ℕ
+  pub there : StandAt text low 92 escaped
+  pub read : IsTrue (is_escape escaped)
+  pub meaning : byte ≡ unescaped escaped
+  pub two : high ≡ low + 2
+
+-- what stands between two positions of a string means this byte
+pub data MeansByte (text : List ℕ) (quote low high byte : ℕ) : Type 0 where
+  plain : IsPlain text quote low high byte → MeansByte text quote low high byte
+  escape : IsEscape text low high byte → MeansByte text quote low high byte
+
+-- what stands between two positions of a string means these bytes, one behind the other
+pub data Means (text : List ℕ) (quote low : ℕ) : ℕ → List ℕ → Type 0 where
+  nothing : Means text quote low low []
+  and_byte : {mid high byte : ℕ} {value : List ℕ} → Means text quote low mid value
+      → MeansByte text quote mid high byte → Means text quote low high (value ++ byte ∷ [])
+
+-- a string from its quote to behind the same quote, and what stands between them means the value
+pub record IsString (text : List ℕ) (low high : ℕ) (value : List ℕ) : Type 0 where
+  pub quote : ℕ
+  pub is_quote : IsTrue (is_quote quote)
+  pub opens : slice_get text low ≡ Some quote
+  pub means : Means text quote (low + 1) (high - 1) value
+  pub closes : slice_get text (high - 1) ≡ Some quote
