@@ -176,8 +176,9 @@ impl<I: Tokens, B: Bodies<I>> Parser<I, B> {
     }
 
     /// A unary expression (ECMA-262, 13.5): so far, any number of `delete`, `void`, `typeof`, `+`,
-    /// `-`, `~` and `!`, and then a primary expression: a literal, an identifier, `#` and a name,
-    /// or an expression in parentheses.
+    /// `-`, `~` and `!`, and then a primary expression: `this`, a literal, an array literal, an
+    /// identifier, `#` and a name, an expression in parentheses, or a function or a class, which the
+    /// hook reads.
     ///
     /// A refused operand of such an operator is recorded, and a node of `Invalid` stands in its
     /// place, at one position, that before the operand. `delete` of an identifier has the fault
@@ -186,8 +187,10 @@ impl<I: Tokens, B: Bodies<I>> Parser<I, B> {
     ///
     /// What begins no primary expression is refused as `TS1109`, at the current token or, at the
     /// end, at the token consumed last; `()` as `EmptyParenExpr`, at the parentheses; what follows
-    /// an expression in parentheses and is no `)` as `Expected`, at the current token, and the end
-    /// there as `Eof`; what follows `#` and is no word as `ExpectedIdent`.
+    /// an expression in parentheses and is no `)`, and what follows an element of an array and is
+    /// neither `,` nor `]`, as `Expected`, at the current token, and the end there as `Eof`; what
+    /// follows `#` and is no word as `ExpectedIdent`. A refusal behind `...` is labelled with the
+    /// place of the dots (`WithLabel`). What the hook refuses is refused.
     pub fn parse_unary_expr(&mut self) -> PResult<Box<ExprOf<B>>>
         ensures promised { Promised I.model B.is_faithful B.forms in_boxes Unary self.old result self.new }
     {
