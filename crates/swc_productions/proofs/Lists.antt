@@ -1,5 +1,5 @@
 -- The clean parser's steps in lists, as the code goes them.
-use Rattle.std.specs.Prelude.{◌≡◌, Bool, true, false, List, [], ◌∷◌, Option, Some, None}
+use Rattle.std.specs.Prelude.{◌≡◌, Bool, true, false, List, [], ◌∷◌, Some, None}
 use Rattle.std.proofs.Common.{refl, sym, ap, ◌∙◌}
 use Rattle.swc_context.specs.declared.context.Context.{Context}
 use Rattle.swc_context.specs.declared.span.Span.{Span}
@@ -11,7 +11,7 @@ use Rattle.swc_ast.specs.Tree.{Tree, Trees, nil, cons, span_of}
 use Rattle.swc_bodies.specs.Readings.{Hook}
 use Rattle.swc_grammar.specs.Symbols.{Assign, Primary, Elements, ElementsTail, Item}
 use Rattle.swc_grammar.specs.Tokens.{tk, with_in, is_comma, is_dots, is_lbracket, is_rbracket}
-use Rattle.swc_grammar.specs.Trees.{to, array_e, hole_e, listed, items_of}
+use Rattle.swc_grammar.specs.Trees.{to, array_e, listed, items_of}
 use Rattle.swc_grammar.specs.Grammar.{array-lit}
 use Rattle.swc_grammar.specs.Clean.{Out, and_then, first, sym as at, exec, pick, primary, step, run}
 use Rattle.swc_grammar.specs.Words.{◌>>=◌}

@@ -15,7 +15,7 @@ use Rattle.swc_ast.specs.declared.spanned.Spanned.{Ghosts}
 use Rattle.swc_grammar.specs.Clean.{Out}
 use Rattle.swc_grammar.specs.Words.{◌>>=◌}
 use Rattle.swc_nodes.specs.Slots.{expr_part}
-use Rattle.swc_nodes.specs.Stands.{From, Grows, Made}
+use Rattle.swc_nodes.specs.Stands.{Grows, Made}
 use Rattle.swc_nodes.specs.declared.node.ExprId.{ExprId}
 use Rattle.swc_nodes.specs.declared.nodes.Nodes.{Nodes}
 use Rattle.swc_nodes.proofs.Standing.{grows-then}

@@ -1,5 +1,5 @@
 -- What the steps of the code read in lists, by the clean parser.
-use Rattle.std.specs.Prelude.{Bool, true, false, if◌then◌else◌, List, [], ◌∷◌, Option, Some, None}
+use Rattle.std.specs.Prelude.{Bool, true, if◌then◌else◌, List, ◌∷◌, Option, Some, None}
 use Rattle.swc_context.specs.declared.context.Context.{Context}
 use Rattle.swc_context.specs.declared.span.Span.{Span}
 use Rattle.swc_input.specs.declared.token.Token.{Token}

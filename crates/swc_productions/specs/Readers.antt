@@ -1,13 +1,13 @@
 -- What the steps of the code read, by the clean parser: right-hand sides of productions, and what is left of them
 -- behind their first parts.
-use Rattle.std.specs.Prelude.{ℕ, List, [], ◌∷◌, Option, Some, None}
+use Rattle.std.specs.Prelude.{ℕ, List, Option, Some, None}
 use Rattle.swc_context.specs.declared.context.Context.{Context}
 use Rattle.swc_context.specs.declared.operator.BinaryOp.{BinaryOp}
 use Rattle.swc_context.specs.declared.operator.UnaryOp.{UnaryOp}
 use Rattle.swc_context.specs.declared.span.Span.{Span}
 use Rattle.swc_input.specs.declared.token.TokenAndSpan.{TokenAndSpan}
 use Rattle.swc_ast.specs.Tree.{Tree, span_of}
-use Rattle.swc_grammar.specs.Rule.{gives, take, check, read, ◌>>=◌, ◌>>◌, symbol, token, one, must}
+use Rattle.swc_grammar.specs.Rule.{gives, check, ◌>>=◌, ◌>>◌, symbol, token, one, must}
 use Rattle.swc_bodies.specs.Readings.{Hook}
 use Rattle.swc_grammar.specs.Symbols.{Symbol, Assign, Unary, Answer, Side}
 use Rattle.swc_grammar.specs.Tokens.{with_in, is_rparen}

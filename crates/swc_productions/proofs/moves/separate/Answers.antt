@@ -1,4 +1,3 @@
-use Rattle.std.proofs.Common.{Some, None, sym, ap, subst}
 use Rattle.std.proofs.lemmas.Result.{err_from_is_err_and}
 use Rattle.swc_grammar.specs.Tokens.{is_comma}
 use Rattle.swc_productions.specs.Lists.{is_sign_token, separated_by}

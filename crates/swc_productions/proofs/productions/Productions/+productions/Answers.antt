@@ -23,7 +23,7 @@ use Rattle.swc_grammar.specs.Words.{◌>>=◌}
 use Rattle.swc_productions.specs.Readers.{go_on, inside, paren_expr_close, paren_expr_tail, unary_op_node}
 use Rattle.swc_productions.specs.Readers.{unary_op_tail, bin_op_node, bin_op, turned}
 use Rattle.swc_productions.specs.Lists.{array_lit_tail, element_by, elements_behind, behind_by, separated}
-use Rattle.swc_productions.specs.Parsing.{seen, behind, itself, tree_of, item_at, elems_at, seen_of}
+use Rattle.swc_productions.specs.Parsing.{seen, behind, tree_of, item_at, elems_at, seen_of}
 use Rattle.swc_bodies.specs.Readings.{is_function, is_class}
 use Rattle.swc_nodes.proofs.Standing.{grows-count, grows-same, grows-then}
 use Rattle.swc_nodes.proofs.Held.{apart-from, from-down, from-later, from_self, first_kept, if_from, tree-later}
