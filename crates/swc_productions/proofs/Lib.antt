@@ -1,6 +1,7 @@
 pub mod Ahead
 pub mod Building
 pub mod Hearing
+pub mod Keys
 pub mod Lists
 pub mod Making
 pub mod Naming

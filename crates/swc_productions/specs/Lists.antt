@@ -8,7 +8,7 @@ use Rattle.swc_input.specs.Kinds.{at_token}
 use Rattle.swc_ast.specs.Tree.{Tree, Trees, nil, cons, span_of}
 use Rattle.swc_bodies.specs.Readings.{Hook}
 use Rattle.swc_grammar.specs.Symbols.{Elements, Item}
-use Rattle.swc_grammar.specs.Tokens.{with_in, is_comma, is_dots, is_rbracket}
+use Rattle.swc_grammar.specs.Tokens.{with_in, is_comma, is_dots, is_lparen, is_rparen, is_lbracket, is_rbracket}
 use Rattle.swc_grammar.specs.Trees.{to, array_e, hole_e, listed, items_of}
 use Rattle.swc_grammar.specs.Clean.{Out, first, sym, run}
 use Rattle.swc_grammar.specs.Words.{◌>>=◌}
@@ -20,6 +20,9 @@ use Rattle.swc_productions.specs.declared.moves.Sign.TheVariants as sign
 abbrev pub is_sign_token : Sign → Token → Bool
 is_sign_token sign.Comma = is_comma
 is_sign_token sign.DotDotDot = is_dots
+is_sign_token sign.LParen = is_lparen
+is_sign_token sign.RParen = is_rparen
+is_sign_token sign.LBracket = is_lbracket
 is_sign_token sign.RBracket = is_rbracket
 
 -- a token that passes a test is taken, if it stands first

@@ -21,9 +21,11 @@ use Rattle.swc_ast.specs.declared.ident.Ident.{Ident}
 use Rattle.swc_ast.specs.declared.ident.IdentName.{IdentName}
 use Rattle.swc_ast.specs.declared.ident.PrivateName.{PrivateName}
 use Rattle.swc_ast.specs.declared.lit.Lit.{Lit}
-use Rattle.swc_ast.specs.Parts.{lit_tree, item_tree}
+use Rattle.swc_ast.specs.Parts.{lit_tree, item_tree, prop_name_tree, function_tree}
 use Rattle.swc_ast.specs.Tree.{Tree}
 use Rattle.swc_ast.specs.declared.expr.ExprOrSpread.{ExprOrSpread}
+use Rattle.swc_ast.specs.declared.function.Function.{Function}
+use Rattle.swc_ast.specs.declared.prop.PropName.{PropName}
 use Rattle.std.specs.declared.alloc.Global.{Global}
 use Rattle.std.specs.declared.vec.Vec.{Vec}
 use Rattle.swc_ast.specs.declared.spanned.Spanned.{Ghosts}
@@ -35,9 +37,10 @@ use Rattle.swc_grammar.specs.Words.{rest}
 use Rattle.swc_grammar.specs.Names.{Spelling, spelling}
 use Rattle.swc_grammar.specs.Tokens.{is_strict_word}
 use Rattle.swc_nodes.specs.Lists.{elem_parts, elem_tree, elem_trees}
-use Rattle.swc_nodes.specs.Slots.{expr_part, if_some, item_parts}
+use Rattle.swc_nodes.specs.Slots.{expr_part, flat, if_some, item_parts, key_parts, param_parts}
 use Rattle.swc_nodes.specs.Stands.{tree_at, count, From, Apart, Grows}
 use Rattle.swc_nodes.specs.declared.node.ExprId.{ExprId}
+use Rattle.swc_nodes.specs.declared.node.PatId.{PatId}
 use Rattle.swc_nodes.specs.declared.nodes.Nodes.{Nodes}
 use Rattle.swc_productions.specs.Lists.{eaten}
 use Rattle.swc_productions.specs.declared.productions.Productions.{Productions}
@@ -256,6 +259,13 @@ module _ {F C K : Type 0} {fg : Ghosts F} {cg : Ghosts C} {kg : Ghosts K} where
   abbrev pub elems_of : ℕ → Nodes F C K fg cg kg → Vec (Option (ExprOrSpread ExprId)) Global × Span → Type 0
   elems_of k ns p = Apart k ns (elem_parts p.0)
 
+  -- of a key, and of a method's function
+  abbrev pub key_of : ℕ → Nodes F C K fg cg kg → PropName ExprId → Type 0
+  key_of k ns x = Apart k ns (key_parts x)
+
+  abbrev pub shell_of : ℕ → Nodes F C K fg cg kg → Function PatId K → Type 0
+  shell_of k ns f = Apart k ns (flat param_parts f.params.items)
+
 module _ {F C K : Type 0} {fg : Ghosts F} {cg : Ghosts C} {kg : Ghosts K} where
   -- the tree of an expression, of an operation, and of a literal, among nodes
   abbrev pub tree_of : Nodes F C K fg cg kg → ExprId → Tree F C K
@@ -269,6 +279,12 @@ module _ {F C K : Type 0} {fg : Ghosts F} {cg : Ghosts C} {kg : Ghosts K} where
 
   abbrev pub elems_at : Nodes F C K fg cg kg → Vec (Option (ExprOrSpread ExprId)) Global × Span → Tree F C K
   elems_at ns p = listed p.1 (elem_trees (tree_at ns) p.0)
+
+  abbrev pub key_at : Nodes F C K fg cg kg → PropName ExprId → Tree F C K
+  key_at ns x = prop_name_tree (tree_of ns) x
+
+  abbrev pub shell_at : Nodes F C K fg cg kg → Function PatId K → Tree F C K
+  shell_at ns f = function_tree kg.place (λ p. tree_at ns p.0) f
 
   abbrev pub bin_op_at : Nodes F C K fg cg kg → ExprId × Option ℕ → Tree F C K × Option ℕ
   bin_op_at ns r = (tree_of ns r.0, r.1)

@@ -4,4 +4,5 @@
 
 mod expr;
 pub mod moves;
+mod object;
 pub mod productions;
