@@ -272,7 +272,7 @@ impl<I: Tokens, B: Bodies<I>> Productions<I, B> {
 
     /// An assignment expression in which `in` counts as an operator.
     #[cycle(productions)]
-    fn parse_assignment_expr_with_in(&mut self) -> PResult<ExprId>
+    pub(crate) fn parse_assignment_expr_with_in(&mut self) -> PResult<ExprId>
         ensures { Produces I.model B.is_faithful itself tree_of (inside B.forms)
             (count self.old.nodes) self.old result self.new }
     {

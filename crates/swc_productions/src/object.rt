@@ -28,6 +28,33 @@ use swc_input::tokens::Tokens;
 use swc_nodes::node::{ExprId, PatId};
 
 impl<I: Tokens, B: Bodies<I>> Productions<I, B> {
+    /// A property's key (ECMA-262, 13.2.5): any word, a string, a number, a big integer, or an expression in brackets.
+    ///
+    /// Another token is refused as `Unexpected`, at that token, and the end as `Eof`; a missing `]` as `Expected`.
+    #[cycle(productions)]
+    pub(crate) fn parse_prop_name(&mut self) -> PResult<PropName<ExprId>>
+        ensures { Produces I.model B.is_faithful key_of key_at (run B.forms (sym Key))
+            (count self.old.nodes) self.old result self.new }
+    {
+        match eat(&mut self.input, Sign::LBracket)? {
+            Some(start) => self.parse_computed_prop_name(start),
+            None => self.parse_plain_prop_name(),
+        }
+    }
+
+    /// What stands behind the bracket of a computed key: an expression in which `in` counts as an operator, and the
+    /// bracket that closes the key.
+    #[cycle(productions)]
+    fn parse_computed_prop_name(&mut self, start: Span) -> PResult<PropName<ExprId>>
+        ensures { Produces I.model B.is_faithful key_of key_at (computed_key B.forms start)
+            (count self.old.nodes) self.old result self.new }
+    {
+        let expr = self.parse_assignment_expr_with_in()?;
+        let end = expect(&mut self.input, Sign::RBracket)?;
+        let span = Span::new(start.lo, end.hi);
+        Ok(PropName::Computed(ComputedPropName { span, expr }))
+    }
+
     /// A key that is no expression in brackets.
     fn parse_plain_prop_name(&mut self) -> PResult<PropName<ExprId>>
         ensures { Produces I.model B.is_faithful key_of key_at plain_key

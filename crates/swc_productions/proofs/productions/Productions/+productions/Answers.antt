@@ -2,6 +2,7 @@
 use Rattle.std.proofs.Common.{Ok, map, ◌≡◌, ◌≢◌, Some, None, refl, sym, ap, ◌∙◌, arith}
 use Rattle.std.proofs.lemmas.Result.{err_from_is_err_and}
 use Rattle.swc_context.specs.Spans.{between}
+use Rattle.swc_context.proofs.Spans.{span_is}
 use Rattle.swc_context.specs.declared.error.SyntaxError.TheVariants.{OutOfMemory}
 use Rattle.swc_input.specs.Plain.{plain}
 use Rattle.swc_input.specs.Kinds.{at_token, is_hash}
@@ -15,19 +16,21 @@ use Rattle.swc_nodes.specs.Slots.{flat, if_some, item_parts, expr_part}
 use Rattle.swc_nodes.specs.Stands.{count, seat_at, tree_at}
 use Rattle.swc_nodes.proofs.Lists.{apart-none, apart-list-more, elems-more, trees_append-nil}
 use Rattle.swc_grammar.specs.Trees.{to, array_e, listed, items_of, unary_e, paren_e, bin_e, nullish_ok, delete_ok}
-use Rattle.swc_grammar.specs.Trees.{min_right}
+use Rattle.swc_grammar.specs.Trees.{min_right, computed_e}
 use Rattle.swc_grammar.specs.Symbols.{Assign, Level, Elements}
 use Rattle.swc_grammar.specs.Tokens.{is_lparen, is_rparen, is_lbracket, is_rbracket, is_comma, is_dots, is_this}
 use Rattle.swc_grammar.specs.Clean.{sym as at, run, climb, is_lit, is_identifier, prefix_at, no_error, left_ok}
 use Rattle.swc_grammar.specs.Words.{◌>>=◌}
 use Rattle.swc_productions.specs.Readers.{go_on, inside, paren_expr_close, paren_expr_tail, unary_op_node}
 use Rattle.swc_productions.specs.Readers.{unary_op_tail, bin_op_node, bin_op, turned}
+use Rattle.swc_productions.specs.Keys.{key_by, key_close}
 use Rattle.swc_productions.specs.Lists.{array_lit_tail, element_by, elements_behind, behind_by, separated}
 use Rattle.swc_productions.specs.Parsing.{seen, behind, itself, tree_of, item_at, elems_at, seen_of}
 use Rattle.swc_bodies.specs.Readings.{is_function, is_class}
 use Rattle.swc_nodes.proofs.Standing.{grows-count, grows-same, grows-then}
 use Rattle.swc_nodes.proofs.Held.{apart-from, from-down, from-later, from_self, first_kept, if_from, tree-later}
 use Rattle.swc_productions.proofs.Building.{apart-down, grows-kept, made_at, made_over}
+use Rattle.swc_productions.proofs.Keys as key
 use Rattle.swc_productions.proofs.Lists as list
 use Rattle.swc_productions.proofs.Rules as rule
 use Rattle.swc_productions.proofs.Steps as s
@@ -510,3 +513,43 @@ parse_assignment_expr_with_in-returns g t c =
     c.set_ctx.ensures.moves (c.set_ctx.ensures.context ∙ ap with_in c.get_ctx-ctx.ensures) c.parse_assignment_expr-expr.ensures.reads c.set_ctx-2.ensures.moves
     (c.set_ctx-2.ensures.context ∙ c.get_ctx-ctx.ensures))
     c.parse_assignment_expr-expr.ensures.grows c.parse_assignment_expr-expr.ensures.from
+
+pub parse_prop_name-returns-in_err-start : goal.parse_prop_name-returns-in_err-start
+parse_prop_name-returns-in_err-start g t c =
+    let p = err_from_is_err_and c.from_residual.result c.from_residual.ensures.1 in rw (p.1, p.2)
+    (m.no (s.unheard_call (λ x p. key_by _ p.0 x p.1) (λ x ts. key.key_splits _ x ts) (c.in_err-start.ensures.eats g.B.Bodies.is_faithful)) (grows-same _))
+
+pub parse_prop_name-returns-in-Some : goal.parse_prop_name-returns-in-Some
+parse_prop_name-returns-in-Some g t c =
+    m.after c.parse_computed_prop_name.result
+    (s.on_call (λ x p. key_by _ p.0 x p.1) (λ x ts. key.key_splits _ x ts)
+    (s.eats_some g.B.Bodies.is_faithful is_lbracket _ c.in-Some.start _ _ c.in-Some.is (c.in_ok-start.ensures.eats g.B.Bodies.is_faithful)).on)
+    (grows-same _) c.parse_computed_prop_name.ensures
+
+pub parse_prop_name-returns-in-None : goal.parse_prop_name-returns-in-None
+parse_prop_name-returns-in-None g t c =
+    m.after c.parse_plain_prop_name.result
+    (s.on_call (λ x p. key_by _ p.0 x p.1) (λ x ts. key.key_splits _ x ts)
+    (s.eats_none g.B.Bodies.is_faithful is_lbracket _ _ _ c.in-None.is (c.in_ok-start.ensures.eats g.B.Bodies.is_faithful)))
+    (grows-same _) c.parse_plain_prop_name.ensures
+
+pub parse_computed_prop_name-returns-in_err-expr : goal.parse_computed_prop_name-returns-in_err-expr
+parse_computed_prop_name-returns-in_err-expr g t c =
+    let p = err_from_is_err_and c.from_residual.result c.from_residual.ensures.1 in rw (p.1, p.2)
+    (m.no (s.unheard_call (λ x p. key_close c.args.start p.0 x p.1) (λ x ts. key.computed_key_splits _ c.args.start x ts) c.in_err-expr.ensures.reads) c.parse_assignment_expr_with_in.ensures.grows)
+
+pub parse_computed_prop_name-returns-in_err-end : goal.parse_computed_prop_name-returns-in_err-end
+parse_computed_prop_name-returns-in_err-end g t c =
+    let e = tree_of c.parse_assignment_expr_with_in.new.self.nodes c.in_ok-expr.expr in
+    let p = err_from_is_err_and c.from_residual-in_err-end.result c.from_residual-in_err-end.ensures.1 in rw (p.1, p.2)
+    (m.no (s.unheard_after (s.on_call (λ x p. key_close c.args.start p.0 x p.1) (λ x ts. key.computed_key_splits _ c.args.start x ts) c.in_ok-expr.ensures.reads.on)
+    (s.unheard_call (λ x q. Some (computed_e (to c.args.start q.0) e, q.1)) (λ x ts. refl) (c.in_err-end.ensures.expects g.B.Bodies.is_faithful))) c.parse_assignment_expr_with_in.ensures.grows)
+
+pub parse_computed_prop_name-returns : goal.parse_computed_prop_name-returns
+parse_computed_prop_name-returns g t c =
+    let e = tree_of c.parse_assignment_expr_with_in.new.self.nodes c.in_ok-expr.expr in
+    let whole = ap (λ v. computed_e v e) (sym (span_is c.new-span.result c.args.start.lo c.in_ok-end.end.hi c.new-span.ensures.lo c.new-span.ensures.hi)) in
+    m.yes (Ok _)
+    (s.heard_answer whole (s.heard_more (λ x p. key_close c.args.start p.0 x p.1) (λ x ts. key.computed_key_splits _ c.args.start x ts) c.in_ok-expr.ensures.reads
+    (s.on_call (λ x q. Some (computed_e (to c.args.start q.0) e, q.1)) (λ x ts. refl) (c.in_ok-end.ensures.expects g.B.Bodies.is_faithful).on)))
+    c.parse_assignment_expr_with_in.ensures.grows (apart-from (expr_part c.in_ok-expr.expr) c.in_ok-expr.ensures.from)

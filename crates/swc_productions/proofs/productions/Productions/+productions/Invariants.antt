@@ -94,3 +94,9 @@ decreases-parse_elements-loop-elems g l = to_come g.I.Tokens.model l.self.input
 
 abbrev pub decreases-parse_elements_with_in : goal.decreases-parse_elements_with_in
 decreases-parse_elements_with_in g l = to_come g.I.Tokens.model l.self.now.input * 20 + 17
+
+abbrev pub decreases-parse_computed_prop_name : goal.decreases-parse_computed_prop_name
+decreases-parse_computed_prop_name g l = to_come g.I.Tokens.model l.self.now.input * 20 + 14
+
+abbrev pub decreases-parse_prop_name : goal.decreases-parse_prop_name
+decreases-parse_prop_name g l = to_come g.I.Tokens.model l.self.now.input * 20 + 15
