@@ -1,9 +1,11 @@
 pub mod Ahead
 pub mod Building
+pub mod Covers
 pub mod Hearing
 pub mod Lists
 pub mod Making
 pub mod Naming
+pub mod Properties
 pub mod Rules
 pub mod Steps
 pub mod Words

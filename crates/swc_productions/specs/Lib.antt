@@ -1,3 +1,4 @@
 pub mod Lists
 pub mod Parsing
+pub mod Properties
 pub mod Readers

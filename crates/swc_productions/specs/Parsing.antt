@@ -21,9 +21,10 @@ use Rattle.swc_ast.specs.declared.ident.Ident.{Ident}
 use Rattle.swc_ast.specs.declared.ident.IdentName.{IdentName}
 use Rattle.swc_ast.specs.declared.ident.PrivateName.{PrivateName}
 use Rattle.swc_ast.specs.declared.lit.Lit.{Lit}
-use Rattle.swc_ast.specs.Parts.{lit_tree, item_tree}
+use Rattle.swc_ast.specs.Parts.{lit_tree, item_tree, prop_name_tree}
 use Rattle.swc_ast.specs.Tree.{Tree}
 use Rattle.swc_ast.specs.declared.expr.ExprOrSpread.{ExprOrSpread}
+use Rattle.swc_ast.specs.declared.prop.PropName.{PropName}
 use Rattle.std.specs.declared.alloc.Global.{Global}
 use Rattle.std.specs.declared.vec.Vec.{Vec}
 use Rattle.swc_ast.specs.declared.spanned.Spanned.{Ghosts}
@@ -34,10 +35,12 @@ use Rattle.swc_bodies.specs.Readings.{is_async, is_function_here}
 use Rattle.swc_grammar.specs.Words.{rest}
 use Rattle.swc_grammar.specs.Names.{Spelling, spelling}
 use Rattle.swc_grammar.specs.Tokens.{is_strict_word}
-use Rattle.swc_nodes.specs.Lists.{elem_parts, elem_tree, elem_trees}
-use Rattle.swc_nodes.specs.Slots.{expr_part, if_some, item_parts}
+use Rattle.swc_nodes.specs.Lists.{elem_parts, elem_tree, elem_trees, props_parts, props_trees}
+use Rattle.swc_nodes.specs.NodeTree.{prop_of as prop_tree}
+use Rattle.swc_nodes.specs.Slots.{expr_part, if_some, item_parts, key_parts, prop_parts}
 use Rattle.swc_nodes.specs.Stands.{tree_at, count, From, Apart, Grows}
 use Rattle.swc_nodes.specs.declared.node.ExprId.{ExprId}
+use Rattle.swc_nodes.specs.declared.node.PropNode.{PropNode}
 use Rattle.swc_nodes.specs.declared.nodes.Nodes.{Nodes}
 use Rattle.swc_productions.specs.Lists.{eaten}
 use Rattle.swc_productions.specs.declared.productions.Productions.{Productions}
@@ -256,6 +259,16 @@ module _ {F C K : Type 0} {fg : Ghosts F} {cg : Ghosts C} {kg : Ghosts K} where
   abbrev pub elems_of : ℕ → Nodes F C K fg cg kg → Vec (Option (ExprOrSpread ExprId)) Global × Span → Type 0
   elems_of k ns p = Apart k ns (elem_parts p.0)
 
+  -- of a key, of a property, and of all properties of an object literal, with the place of the brace that closes it
+  abbrev pub key_of : ℕ → Nodes F C K fg cg kg → PropName ExprId → Type 0
+  key_of k ns key = Apart k ns (key_parts key)
+
+  abbrev pub prop_of : ℕ → Nodes F C K fg cg kg → PropNode K → Type 0
+  prop_of k ns x = Apart k ns (prop_parts x)
+
+  abbrev pub props_of : ℕ → Nodes F C K fg cg kg → Vec (PropNode K) Global × Span → Type 0
+  props_of k ns p = Apart k ns (props_parts p.0)
+
 module _ {F C K : Type 0} {fg : Ghosts F} {cg : Ghosts C} {kg : Ghosts K} where
   -- the tree of an expression, of an operation, and of a literal, among nodes
   abbrev pub tree_of : Nodes F C K fg cg kg → ExprId → Tree F C K
@@ -269,6 +282,15 @@ module _ {F C K : Type 0} {fg : Ghosts F} {cg : Ghosts C} {kg : Ghosts K} where
 
   abbrev pub elems_at : Nodes F C K fg cg kg → Vec (Option (ExprOrSpread ExprId)) Global × Span → Tree F C K
   elems_at ns p = listed p.1 (elem_trees (tree_at ns) p.0)
+
+  abbrev pub key_at : Nodes F C K fg cg kg → PropName ExprId → Tree F C K
+  key_at ns key = prop_name_tree (tree_of ns) key
+
+  abbrev pub prop_at : Nodes F C K fg cg kg → PropNode K → Tree F C K
+  prop_at ns x = prop_tree fg.place cg.place kg.place (tree_at ns) x
+
+  abbrev pub props_at : Nodes F C K fg cg kg → Vec (PropNode K) Global × Span → Tree F C K
+  props_at ns p = listed p.1 (props_trees fg.place cg.place kg.place (tree_at ns) p.0)
 
   abbrev pub bin_op_at : Nodes F C K fg cg kg → ExprId × Option ℕ → Tree F C K × Option ℕ
   bin_op_at ns r = (tree_of ns r.0, r.1)

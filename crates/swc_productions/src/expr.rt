@@ -3,20 +3,25 @@ ghost use Rattle.std.specs.Prelude.{◌≡◌, ◌<◌, ◌≤◌, true, not, �
 ghost use Rattle.swc_input.specs.Buffer.{current, to_come, context};
 ghost use Rattle.swc_input.specs.Plain.{plain_token};
 ghost use Rattle.swc_input.specs.Kinds.{at_token, is_hash};
-ghost use Rattle.swc_grammar.specs.Symbols.{Expr, Assign, Primary, Literal, Elements, Item};
+ghost use Rattle.swc_grammar.specs.Symbols.{Expr, Assign, Primary, Literal, Elements, Item, Props, Prop};
 ghost use Rattle.swc_grammar.specs.Tokens.{is_lparen, is_lbracket, is_this};
-ghost use Rattle.swc_bodies.specs.Readings.{at_function, is_class};
+ghost use Rattle.swc_bodies.specs.Readings.{at_function, is_brace, is_class};
 ghost use Rattle.swc_grammar.specs.Parts.{lit_of};
 ghost use Rattle.swc_grammar.specs.Grammar as grammar;
 ghost use Rattle.swc_grammar.specs.Clean.{sym, run, is_lit, is_identifier};
-ghost use Rattle.swc_nodes.specs.Stands.{count};
+ghost use Rattle.swc_grammar.specs.Trees.{no_cover_in};
+ghost use Rattle.swc_nodes.specs.Lists.{is_cover_prop, has_cover};
+ghost use Rattle.swc_nodes.specs.Slots.{expr_part};
+ghost use Rattle.swc_nodes.specs.Stands.{count, From};
 ghost use Rattle.swc_productions.specs.Readers.{by_production, inside};
 ghost use Rattle.swc_productions.specs.Lists.{elements_inside, element, element_item};
 ghost use Rattle.swc_productions.specs.Parsing.{lit_in, seen, ParsesAlone, Produces, Checked, TookLiteral};
 ghost use Rattle.swc_productions.specs.Parsing.{itself, tree_of, item_of, item_at, elem_of, elem_at, elems_of, elems_at};
+ghost use Rattle.swc_productions.specs.Parsing.{prop_of, prop_at, props_of, props_at};
+ghost use Rattle.swc_productions.specs.Properties.{prop_item, spread_prop_tail};
 
 use crate::moves::{
-    Sign, add, bump, copy_of, eat, emit_strict_mode_err, is_async_function, label_spread, look,
+    Sign, add, bump, copy_of, eat, emit_err, emit_strict_mode_err, is_async_function, label_spread, look,
     made, parse_ident_name, parse_ident_ref, require_cur, separate, set_ctx, skip, syntax_error,
     unexpected,
 };
@@ -24,6 +29,7 @@ use crate::productions::Productions;
 use swc_ast::expr::ExprOrSpread;
 use swc_ast::ident::Ident;
 use swc_ast::lit::{BigInt, Bool, Lit, Null, Num, Str};
+use swc_ast::prop::SpreadElement;
 use swc_bodies::bodies::Bodies;
 use swc_context::context::Context;
 use swc_context::error::{PResult, SyntaxError};
@@ -32,7 +38,8 @@ use swc_context::word::Word;
 use swc_input::buffer::Buffer;
 use swc_input::token::Token;
 use swc_input::tokens::Tokens;
-use swc_nodes::node::ExprId;
+use swc_nodes::node::{ExprId, PropNode};
+use swc_nodes::nodes::NodesOf;
 
 mod ops;
 
@@ -84,6 +91,9 @@ impl<I: Tokens, B: Bodies<I>> Productions<I, B> {
         }
         if self.is_lbracket() {
             return self.parse_array_lit();
+        }
+        if self.is_lbrace() {
+            return self.parse_object_lit();
         }
         if self.is_class() {
             return self.parse_class_expr();
@@ -186,6 +196,80 @@ impl<I: Tokens, B: Bodies<I>> Productions<I, B> {
         }
     }
 
+    /// An object literal (ECMA-262, 13.2.5).
+    #[cycle(productions)]
+    fn parse_object_lit(&mut self) -> PResult<ExprId>
+        requires { at_token is_brace (seen self.old.input) ≡ true }
+        ensures { Produces I.model B.is_faithful itself tree_of (by_production B.forms (λ c. grammar.object-lit))
+            (count self.old.nodes) self.old result self.new }
+    {
+        let start = self.input.cur_span().lo;
+        skip(&mut self.input);
+        let (props, end) = self.parse_props()?;
+        let node = self.nodes.object_lit(start, end.hi, props);
+        made(&self.input, node)
+    }
+
+    /// The properties of an object literal, and the brace that closes it, whose place is answered too.
+    #[cycle(productions)]
+    fn parse_props(&mut self) -> PResult<(Vec<PropNode<B::Block>>, Span)>
+        ensures { Produces I.model B.is_faithful props_of props_at (run B.forms (sym Props))
+            (count self.old.nodes) self.old result self.new }
+    {
+        let mut props = Vec::new(self.alloc);
+        loop {
+            match eat(&mut self.input, Sign::RBrace)? {
+                Some(end) => return Ok((props, end)),
+                None => {}
+            }
+            let prop = self.parse_prop_item()?;
+            add(&self.input, &mut props, prop)?;
+        }
+    }
+
+    /// A property of an object literal, and the comma behind it; none stands before the brace.
+    #[cycle(productions)]
+    fn parse_prop_item(&mut self) -> PResult<PropNode<B::Block>>
+        ensures { Produces I.model B.is_faithful prop_of prop_at (prop_item B.forms)
+            (count self.old.nodes) self.old result self.new }
+    {
+        let prop = self.parse_object_prop()?;
+        separate(&mut self.input, Sign::RBrace)?;
+        Ok(prop)
+    }
+
+    /// A property of an object literal (ECMA-262, 13.2.5).
+    #[cycle(productions)]
+    fn parse_object_prop(&mut self) -> PResult<PropNode<B::Block>>
+        ensures { Produces I.model B.is_faithful prop_of prop_at (run B.forms (sym Prop))
+            (count self.old.nodes) self.old result self.new }
+    {
+        match eat(&mut self.input, Sign::DotDotDot)? {
+            Some(dots) => self.parse_spread_prop(dots),
+            None => Err(unexpected(&mut self.input, SyntaxError::Unexpected("property"))),
+        }
+    }
+
+    /// What stands behind the dots of a property (ECMA-262, 13.2.5): an assignment expression, in which `in` counts as
+    /// an operator. A refusal is labelled with the place of the dots.
+    #[cycle(productions)]
+    fn parse_spread_prop(&mut self, dots: Span) -> PResult<PropNode<B::Block>>
+        ensures { Produces I.model B.is_faithful prop_of prop_at (spread_prop_tail B.forms dots)
+            (count self.old.nodes) self.old result self.new }
+    {
+        match self.parse_assignment_expr_with_in() {
+            Ok(expr) => {
+                let span = Span::new(dots.lo, self.nodes.span(expr).hi);
+                Ok(PropNode::Spread(SpreadElement {
+                    span,
+                    dot3_token: dots,
+                    expr,
+                }))
+            }
+            Err(error) => Err(label_spread(self.alloc, &self.input, Some(dots), error)),
+        }
+    }
+
     /// `this` (ECMA-262, 13.2.1).
     fn parse_this_expr(&mut self) -> PResult<ExprId>
         requires { at_token is_this (seen self.old.input) ≡ true }
@@ -266,7 +350,9 @@ impl<I: Tokens, B: Bodies<I>> Productions<I, B> {
             return Err(unexpected(&mut self.input, SyntaxError::Expected(")")));
         }
         skip(&mut self.input);
-        let node = self.nodes.paren_expr(start, self.input.last_pos(), expr);
+        let end = self.input.last_pos();
+        check_cover_names::<I, B>(&mut self.input, &self.nodes, expr)?;
+        let node = self.nodes.paren_expr(start, end, expr);
         made(&self.input, node)
     }
 
@@ -340,4 +426,43 @@ fn check_strict_word<I: Tokens>(
     }
     let sym = copy_of(input, &ident.sym)?;
     emit_strict_mode_err(input, ident.span, SyntaxError::InvalidIdentInStrict(sym))
+}
+
+/// Records each property `name = value` of an object literal, in their order, at their places. Of any other expression
+/// nothing is recorded.
+fn check_cover_names<I: Tokens, B: Bodies<I>>(
+    input: &mut Buffer<I>,
+    nodes: &NodesOf<B>,
+    expr: ExprId,
+) -> PResult<()>
+    requires { From 0 nodes.now (expr_part expr) }
+    ensures checks { Checked I.model (no_cover_in (tree_of nodes.now expr)) input.old result input.new }
+    ensures falls { OnOk result (to_come I.model input.new ≤ to_come I.model input.old) }
+{
+    match nodes.props(expr) {
+        Some(props) => check_props(input, props),
+        None => Ok(()),
+    }
+}
+
+/// Records each property `name = value` of a list, in their order.
+fn check_props<I: Tokens, K>(input: &mut Buffer<I>, props: &Vec<PropNode<K>>) -> PResult<()>
+    ensures checks { Checked I.model (not (has_cover props.now.items)) input.old result input.new }
+    ensures falls { OnOk result (to_come I.model input.new ≤ to_come I.model input.old) }
+{
+    for prop in props {
+        check_prop(input, prop)?;
+    }
+    Ok(())
+}
+
+/// Records a property if it is `name = value`.
+fn check_prop<I: Tokens, K>(input: &mut Buffer<I>, prop: &PropNode<K>) -> PResult<()>
+    ensures checks { Checked I.model (not (is_cover_prop prop.now)) input.old result input.new }
+    ensures falls { OnOk result (to_come I.model input.new ≤ to_come I.model input.old) }
+{
+    match prop {
+        PropNode::Assign(cover) => emit_err(input, cover.span, SyntaxError::AssignProperty),
+        _ => Ok(()),
+    }
 }

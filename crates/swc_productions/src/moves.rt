@@ -272,6 +272,8 @@ pub(crate) enum Sign {
     DotDotDot,
     /// `]`
     RBracket,
+    /// `}`
+    RBrace,
 }
 
 /// Whether the current token is the sign.
@@ -283,6 +285,7 @@ fn is_sign<I: Tokens>(input: &Buffer<I>, sign: Sign) -> bool
         (Sign::Comma, Some(Token::Comma)) => true,
         (Sign::DotDotDot, Some(Token::DotDotDot)) => true,
         (Sign::RBracket, Some(Token::RBracket)) => true,
+        (Sign::RBrace, Some(Token::RBrace)) => true,
         _ => false,
     }
 }

@@ -4,7 +4,7 @@ ghost use Rattle.swc_input.specs.declared.token.Token.{Token};
 ghost use Rattle.swc_input.specs.Buffer.{current, context, state_of};
 ghost use Rattle.swc_input.specs.Kinds.{at_token, is_hash};
 ghost use Rattle.swc_grammar.specs.Tokens.{is_ref, is_strict_word, is_lparen, is_rparen, is_lbracket, is_this};
-ghost use Rattle.swc_bodies.specs.Readings.{at_function, is_function, is_class};
+ghost use Rattle.swc_bodies.specs.Readings.{at_function, is_brace, is_function, is_class};
 ghost use Rattle.swc_grammar.specs.Clean.{is_lit, is_identifier};
 ghost use Rattle.swc_productions.specs.Parsing.{is_strict, seen, Looks};
 
@@ -102,6 +102,13 @@ impl<I: Tokens, B: Bodies<I>> Productions<I, B> {
         ensures some { result ≡ true → IsSome (current self.now.input) }
     {
         matches!(self.input.cur_debug(), Some(Token::LBracket))
+    }
+
+    pub(crate) fn is_lbrace(&self) -> bool
+        ensures value { result ≡ at_token is_brace (seen self.now.input) }
+        ensures some { result ≡ true → IsSome (current self.now.input) }
+    {
+        matches!(self.input.cur_debug(), Some(Token::LBrace))
     }
 
     pub(crate) fn is_rparen(&self) -> bool

@@ -1,0 +1,181 @@
+-- The clean parser's steps in object literals (13.2.5), as the code goes them.
+use Rattle.std.specs.Prelude.{◌≡◌, Bool, true, false, List, [], ◌∷◌, Option, Some, None}
+use Rattle.std.proofs.Common.{refl, sym, ap, ◌∙◌}
+use Rattle.swc_context.specs.declared.context.Context.{Context}
+use Rattle.swc_context.specs.declared.span.Span.{Span}
+use Rattle.swc_input.specs.declared.token.Token.{Token}
+use Rattle.swc_input.specs.declared.token.Token.TheVariants as token
+use Rattle.swc_input.specs.declared.token.TokenAndSpan.{TokenAndSpan}
+use Rattle.swc_input.specs.Kinds.{at_token}
+use Rattle.swc_ast.specs.Tree.{Tree, Trees, nil, cons, span_of}
+use Rattle.swc_bodies.specs.Readings.{Hook, is_brace}
+use Rattle.swc_grammar.specs.Symbols.{Assign, Primary, Props, PropsTail, Prop}
+use Rattle.swc_grammar.specs.Tokens.{tk, with_in, is_dots, is_rbrace}
+use Rattle.swc_grammar.specs.Trees.{to, object_e, listed, items_of, spread_prop_e}
+use Rattle.swc_grammar.specs.Grammar.{object-lit}
+use Rattle.swc_grammar.specs.Clean.{Out, and_then, first, sym as at, exec, pick, primary, step, run}
+use Rattle.swc_grammar.specs.Words.{◌>>=◌}
+use Rattle.swc_grammar.proofs.Complete.{last}
+use Rattle.swc_grammar.proofs.Knot.{knot}
+use Rattle.swc_grammar.proofs.Only.{only-brace, only-rbrace}
+use Rattle.swc_grammar.proofs.Rules.{run_picked}
+use Rattle.swc_nodes.specs.Lists.{trees_append}
+use Rattle.swc_productions.specs.Readers.{reading, by_production, inside}
+use Rattle.swc_productions.specs.Lists.{eaten, closed, separated, put_before}
+use Rattle.swc_productions.specs.Properties.{object_lit_tail, prop_item, props_behind, props_more, props_by}
+use Rattle.swc_productions.specs.Properties.{spread_prop_tail, prop_plain, prop_by}
+use Rattle.swc_productions.proofs.Lists.{calls, binds, bind_same, twice}
+
+module _ {F C K : Type 0} (hook : Hook F C K) where
+  -- ---- object literals
+
+  pub object_lit_picked : (x : Context) (ts : List TokenAndSpan) → at_token is_brace (first ts) ≡ true
+      → run hook (at Primary) x ts ≡ by_production hook (λ c. object-lit) x ts
+  unfolding by_production reading
+  object_lit_picked x [] h = absurd cc
+  object_lit_picked x (t ∷ ts) h =
+      run_picked hook Primary x (t ∷ ts) object-lit (primary x (t ∷ ts)) refl
+      (only-brace (λ v. primary {F = F} {C = C} {K = K} x (tk v t.had_line_break t.span ∷ ts)
+      ≡ pick object-lit) refl t.token h)
+
+  pub object_lit_opens : (t : TokenAndSpan) (x : Context) (ts : List TokenAndSpan) → is_brace t.token ≡ true
+      → by_production hook (λ c. object-lit) x (t ∷ ts) ≡ object_lit_tail hook t.span x ts
+  unfolding by_production object_lit_tail reading
+  object_lit_opens t x ts h = rw h (calls (run hook (at Props) x ts) _)
+
+  pub object_lit_splits : (s : Span) (x : Context) (ts : List TokenAndSpan)
+      → object_lit_tail hook s x ts
+      ≡ (run hook (at Props) x ts >>= (λ p. Some (object_e (to s (span_of p.0)) (items_of p.0), p.1)))
+  unfolding object_lit_tail
+  object_lit_splits s x ts = refl
+
+  -- the brace closes the list
+  props_close : (x : Context) (t : TokenAndSpan) (ts : List TokenAndSpan) → is_rbrace t.token ≡ true
+      → run hook (at Props) x (t ∷ ts) ≡ Some (listed t.span nil, ts)
+  props_close x t ts h =
+      knot hook (at Props) x (t ∷ ts)
+      ∙ only-rbrace (λ v. exec hook (run hook) (Some 5)
+      (step (at Props) x (tk v t.had_line_break t.span ∷ ts)) (tk v t.had_line_break t.span ∷ ts)
+      ≡ Some (listed t.span nil, ts)) refl t.token h
+
+  -- behind a property
+  tail_token : (x : Context) (v : Token) (b : Bool) (s : Span) (us : List TokenAndSpan)
+      → run hook (at PropsTail) x (tk v b s ∷ us)
+      ≡ (separated is_rbrace x (tk v b s ∷ us) >>= (λ q. run hook (at Props) x q.1))
+  unfolding separated closed eaten
+  tail_token x token.Comma b s us =
+      knot hook (at PropsTail) x (tk token.Comma b s ∷ us) ∙ last hook None (at Props) x us refl
+  tail_token x token.RBrace b s us =
+      knot hook (at PropsTail) x (tk token.RBrace b s ∷ us)
+      ∙ sym (props_close x (tk token.RBrace b s) us refl)
+  tail_token x v b s us = knot hook (at PropsTail) x (tk v b s ∷ us)
+
+  tail_is : (x : Context) (us : List TokenAndSpan)
+      → run hook (at PropsTail) x us ≡ (separated is_rbrace x us >>= (λ q. run hook (at Props) x q.1))
+  unfolding separated closed eaten
+  tail_is x [] = knot hook (at PropsTail) x []
+  tail_is x (t ∷ us) = tail_token x t.token t.had_line_break t.span us
+
+  -- a property, and what stands behind it
+  item_more : (x : Context) (ts : List TokenAndSpan)
+      → and_then (run hook (at Prop) x ts) (λ e us. and_then (run hook (at PropsTail) x us)
+      (λ es vs. Some (put_before (cons e nil) es, vs)))
+      ≡ (prop_item hook x ts >>=
+      (λ p. run hook (at Props) x p.1 >>= (λ q. Some (put_before (cons p.0 nil) q.0, q.1))))
+  unfolding prop_item
+  item_more x ts =
+      calls (run hook (at Prop) x ts) _
+      ∙ bind_same (run hook (at Prop) x ts) _ _ (λ p.
+      calls (run hook (at PropsTail) x p.1) _
+      ∙ ap (λ o. o >>= (λ q. Some (put_before (cons p.0 nil) q.0, q.1))) (tail_is x p.1)
+      ∙ sym (binds (separated is_rbrace x p.1) (λ q. run hook (at Props) x q.1) _)
+      ∙ binds (separated is_rbrace x p.1) (λ q. Some (p.0, q.1)) _)
+      ∙ binds (run hook (at Prop) x ts) _ _
+
+  -- one property, and those that are left
+  props_step : (x : Context) (ts : List TokenAndSpan) → at_token is_rbrace (first ts) ≡ false
+      → run hook (at Props) x ts
+      ≡ (prop_item hook x ts >>=
+      (λ p. run hook (at Props) x p.1 >>= (λ q. Some (put_before (cons p.0 nil) q.0, q.1))))
+  props_step x ts h = knot hook (at Props) x ts ∙ rw h (item_more x ts)
+
+  pub prop_item_splits : (x : Context) (ts : List TokenAndSpan)
+      → prop_item hook x ts
+      ≡ (run hook (at Prop) x ts >>= (λ p. separated is_rbrace x p.1 >>= (λ q. Some (p.0, q.1))))
+  unfolding prop_item
+  prop_item_splits x ts = refl
+
+  pub props_more_splits : (before : Trees F C K) (x : Context) (ts : List TokenAndSpan)
+      → props_more hook before x ts
+      ≡ (prop_item hook x ts >>= (λ p. props_behind hook (trees_append before (cons p.0 nil)) x p.1))
+  unfolding props_more
+  props_more_splits before x ts = refl
+
+  -- from a property on
+  behind_more : (before : Trees F C K) (x : Context) (ts : List TokenAndSpan) → at_token is_rbrace (first ts) ≡ false
+      → props_behind hook before x ts ≡ props_more hook before x ts
+  unfolding props_behind props_more
+  behind_more before x ts h =
+      ap (λ o. o >>= (λ p. Some (put_before before p.0, p.1))) (props_step x ts h)
+      ∙ sym (binds (prop_item hook x ts) _ _)
+      ∙ bind_same (prop_item hook x ts) _ _ (λ p.
+      sym (binds (run hook (at Props) x p.1) _ _)
+      ∙ bind_same (run hook (at Props) x p.1) _ _ (λ q. ap (λ v. Some (v, q.1)) (twice hook before p.0 q.0)))
+
+  behind_token : (before : Trees F C K) (x : Context) (v : Token) (b : Bool) (s : Span) (us : List TokenAndSpan)
+      → props_behind hook before x (tk v b s ∷ us)
+      ≡ (eaten is_rbrace x (tk v b s ∷ us) >>= (λ p. props_by hook before p.0 x p.1))
+  unfolding props_behind eaten
+  behind_token before x token.RBrace b s us =
+      ap (λ o. o >>= (λ p. Some (put_before before p.0, p.1))) (props_close x (tk token.RBrace b s) us refl)
+  behind_token before x v b s us = behind_more before x (tk v b s ∷ us) refl
+
+  pub behind_splits : (before : Trees F C K) (x : Context) (ts : List TokenAndSpan)
+      → props_behind hook before x ts ≡ (eaten is_rbrace x ts >>= (λ p. props_by hook before p.0 x p.1))
+  unfolding eaten
+  behind_splits before x [] = behind_more before x [] refl
+  behind_splits before x (t ∷ ts) = behind_token before x t.token t.had_line_break t.span ts
+
+  -- before the first property
+  first_more : (x : Context) (ts : List TokenAndSpan) → at_token is_rbrace (first ts) ≡ false
+      → run hook (at Props) x ts ≡ props_behind hook nil x ts
+  unfolding props_behind
+  first_more x ts h =
+      props_step x ts h
+      ∙ bind_same (prop_item hook x ts) _ _ (λ p. binds (run hook (at Props) x p.1) _ _)
+      ∙ binds (prop_item hook x ts) _ _
+      ∙ ap (λ o. o >>= (λ p. Some (put_before nil p.0, p.1))) (sym (props_step x ts h))
+
+  first_token : (x : Context) (v : Token) (b : Bool) (s : Span) (us : List TokenAndSpan)
+      → run hook (at Props) x (tk v b s ∷ us) ≡ props_behind hook nil x (tk v b s ∷ us)
+  unfolding props_behind
+  first_token x token.RBrace b s us =
+      let e = props_close x (tk token.RBrace b s) us refl in
+      e ∙ ap (λ o. o >>= (λ p. Some (put_before nil p.0, p.1))) (sym e)
+  first_token x v b s us = first_more x (tk v b s ∷ us) refl
+
+  pub props_first : (x : Context) (ts : List TokenAndSpan)
+      → run hook (at Props) x ts ≡ props_behind hook nil x ts
+  props_first x [] = first_more x [] refl
+  props_first x (t ∷ ts) = first_token x t.token t.had_line_break t.span ts
+
+  -- ---- properties
+
+  pub spread_prop_splits : (s : Span) (x : Context) (ts : List TokenAndSpan)
+      → spread_prop_tail hook s x ts ≡ (inside hook x ts >>= (λ p. Some (spread_prop_e s p.0, p.1)))
+  unfolding spread_prop_tail
+  spread_prop_splits s x ts = refl
+
+  prop_token : (x : Context) (v : Token) (b : Bool) (s : Span) (us : List TokenAndSpan)
+      → run hook (at Prop) x (tk v b s ∷ us)
+      ≡ (eaten is_dots x (tk v b s ∷ us) >>= (λ p. prop_by hook p.0 x p.1))
+  unfolding eaten spread_prop_tail prop_plain inside
+  prop_token x token.DotDotDot b s us =
+      knot hook (at Prop) x (tk token.DotDotDot b s ∷ us) ∙ calls (run hook (at Assign) (with_in x) us) _
+  prop_token x v b s us = refl
+
+  pub prop_splits : (x : Context) (ts : List TokenAndSpan)
+      → run hook (at Prop) x ts ≡ (eaten is_dots x ts >>= (λ p. prop_by hook p.0 x p.1))
+  unfolding eaten prop_plain
+  prop_splits x [] = refl
+  prop_splits x (t ∷ ts) = prop_token x t.token t.had_line_break t.span ts

@@ -1,0 +1,47 @@
+-- What the steps of the code read in object literals (13.2.5), by the clean parser.
+use Rattle.std.specs.Prelude.{if◌then◌else◌, List, Option, Some, None}
+use Rattle.swc_context.specs.declared.context.Context.{Context}
+use Rattle.swc_context.specs.declared.span.Span.{Span}
+use Rattle.swc_input.specs.declared.token.TokenAndSpan.{TokenAndSpan}
+use Rattle.swc_input.specs.Kinds.{at_token}
+use Rattle.swc_ast.specs.Tree.{Tree, Trees, nil, cons, span_of}
+use Rattle.swc_bodies.specs.Readings.{Hook}
+use Rattle.swc_grammar.specs.Symbols.{Props, Prop}
+use Rattle.swc_grammar.specs.Tokens.{is_dots, is_rbrace}
+use Rattle.swc_grammar.specs.Trees.{to, object_e, listed, items_of, spread_prop_e}
+use Rattle.swc_grammar.specs.Clean.{Out, first, sym, run}
+use Rattle.swc_grammar.specs.Words.{◌>>=◌}
+use Rattle.swc_nodes.specs.Lists.{trees_append}
+use Rattle.swc_productions.specs.Readers.{inside}
+use Rattle.swc_productions.specs.Lists.{separated, put_before}
+
+module _ {F C K : Type 0} (hook : Hook F C K) where
+  -- behind the brace at s
+  unfoldable pub object_lit_tail : Span → Context → List TokenAndSpan → Out (Tree F C K)
+  object_lit_tail s c ts = run hook (sym Props) c ts >>= (λ p. Some (object_e (to s (span_of p.0)) (items_of p.0), p.1))
+
+  -- one property, with the comma behind it, or before the brace that closes the list
+  unfoldable pub prop_item : Context → List TokenAndSpan → Out (Tree F C K)
+  prop_item c ts = run hook (sym Prop) c ts >>= (λ p. separated is_rbrace c p.1 >>= (λ q. Some (p.0, q.1)))
+
+  -- behind some properties: those that are left, to where the list is closed; and from the next property on
+  unfoldable pub props_behind : Trees F C K → Context → List TokenAndSpan → Out (Tree F C K)
+  props_behind before c ts = run hook (sym Props) c ts >>= (λ p. Some (put_before before p.0, p.1))
+
+  unfoldable pub props_more : Trees F C K → Context → List TokenAndSpan → Out (Tree F C K)
+  props_more before c ts = prop_item c ts >>= (λ p. props_behind (trees_append before (cons p.0 nil)) c p.1)
+
+  abbrev pub props_by : Trees F C K → Option Span → Context → List TokenAndSpan → Out (Tree F C K)
+  props_by before (Some s) c ts = Some (put_before before (listed s nil), ts)
+  props_by before None c ts = props_more before c ts
+
+  -- behind the dots of a property at s, and from a property on, which the dots begin or not
+  unfoldable pub spread_prop_tail : Span → Context → List TokenAndSpan → Out (Tree F C K)
+  spread_prop_tail s c ts = inside hook c ts >>= (λ p. Some (spread_prop_e s p.0, p.1))
+
+  unfoldable pub prop_plain : Context → List TokenAndSpan → Out (Tree F C K)
+  prop_plain c ts = if at_token is_dots (first ts) then None else run hook (sym Prop) c ts
+
+  abbrev pub prop_by : Option Span → Context → List TokenAndSpan → Out (Tree F C K)
+  prop_by (Some s) c ts = spread_prop_tail s c ts
+  prop_by None c ts = prop_plain c ts
