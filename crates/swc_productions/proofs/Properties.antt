@@ -1,6 +1,7 @@
 -- The clean parser's steps in object literals (13.2.5), as the code goes them.
-use Rattle.std.specs.Prelude.{◌≡◌, Bool, true, false, List, [], ◌∷◌, Option, Some, None}
+use Rattle.std.specs.Prelude.{◌≡◌, Bool, true, false, not, if◌then◌else◌, List, [], ◌∷◌, Option, Some, None}
 use Rattle.std.proofs.Common.{refl, sym, ap, ◌∙◌}
+use Rattle.swc_context.specs.Reserved.{is_reserved_word}
 use Rattle.swc_context.specs.declared.context.Context.{Context}
 use Rattle.swc_context.specs.declared.span.Span.{Span}
 use Rattle.swc_input.specs.declared.token.Token.{Token}
@@ -11,10 +12,13 @@ use Rattle.swc_ast.specs.Tree.{Tree, Trees, nil, cons, span_of}
 use Rattle.swc_bodies.specs.Readings.{Hook, is_brace}
 use Rattle.swc_grammar.specs.Symbols.{Assign, Primary, Props, PropsTail, Prop}
 use Rattle.swc_grammar.specs.Tokens.{tk, with_in, is_dots, is_rbrace}
-use Rattle.swc_grammar.specs.Trees.{to, object_e, listed, items_of, spread_prop_e}
-use Rattle.swc_grammar.specs.Grammar.{object-lit}
-use Rattle.swc_grammar.specs.Clean.{Out, and_then, first, sym as at, exec, pick, primary, step, run}
-use Rattle.swc_grammar.specs.Words.{◌>>=◌}
+use Rattle.swc_grammar.specs.Trees.{to, object_e, listed, items_of, spread_prop_e, short_e}
+use Rattle.swc_grammar.specs.Grammar.{object-lit, prop-short}
+use Rattle.swc_grammar.specs.Names.{Spelling, may_name}
+use Rattle.swc_grammar.specs.Parts.{any_name}
+use Rattle.swc_grammar.specs.Rule.{gives, must, given, ◌>>=◌ as ◌▸◌, ◌>>◌}
+use Rattle.swc_grammar.specs.Clean.{Out, and_then, first, sym as at, exec, pick, plan, primary, step, run}
+use Rattle.swc_grammar.specs.Words.{◌>>=◌, one, word}
 use Rattle.swc_grammar.proofs.Complete.{last}
 use Rattle.swc_grammar.proofs.Knot.{knot}
 use Rattle.swc_grammar.proofs.Only.{only-brace, only-rbrace}
@@ -23,8 +27,21 @@ use Rattle.swc_nodes.specs.Lists.{trees_append}
 use Rattle.swc_productions.specs.Readers.{reading, by_production, inside}
 use Rattle.swc_productions.specs.Lists.{eaten, closed, separated, put_before}
 use Rattle.swc_productions.specs.Properties.{object_lit_tail, prop_item, props_behind, props_more, props_by}
-use Rattle.swc_productions.specs.Properties.{spread_prop_tail, prop_plain, prop_by}
+use Rattle.swc_productions.specs.Properties.{spread_prop_tail, prop_plain, prop_by, open_by, open_name}
+use Rattle.swc_productions.proofs.Steps.{not_true, not_false}
 use Rattle.swc_productions.proofs.Lists.{calls, binds, bind_same, twice}
+
+pub open_name_splits : (x : Context) (ts : List TokenAndSpan) → open_name x ts ≡ (word may_name x ts >>= open_by x)
+unfolding open_name
+open_name_splits x ts = refl
+
+pub open_by_well : (x : Context) (n : Spelling) (ts : List TokenAndSpan) → not (is_reserved_word x n.text) ≡ true
+    → open_by x (n, ts) ≡ Some (n, ts)
+open_by_well x n ts h = rw (not_true (is_reserved_word x n.text) h) refl
+
+pub open_by_ill : (x : Context) (n : Spelling) (ts : List TokenAndSpan) → not (is_reserved_word x n.text) ≡ false
+    → open_by x (n, ts) ≡ None
+open_by_ill x n ts h = rw (not_false (is_reserved_word x n.text) h) refl
 
 module _ {F C K : Type 0} (hook : Hook F C K) where
   -- ---- object literals
@@ -179,3 +196,24 @@ module _ {F C K : Type 0} (hook : Hook F C K) where
   unfolding eaten prop_plain
   prop_splits x [] = refl
   prop_splits x (t ∷ ts) = prop_token x t.token t.had_line_break t.span ts
+
+  -- a name alone
+  short_by : (r : Bool) (n : Spelling) (us : List TokenAndSpan)
+      → (if not r then Some (short_e {F = F} {C = C} {K = K} n.at n.text, us) else None)
+      ≡ ((if r then None else Some (n, us)) >>= (λ p. Some (short_e p.0.at p.0.text, p.1)))
+  short_by true n us = refl
+  short_by false n us = refl
+
+  short_one : (o : Option Spelling) (x : Context) (us : List TokenAndSpan)
+      → exec hook (run hook) None (plan (given o ▸
+      (λ n. must (not (is_reserved_word x n.text)) >> gives (short_e {F = F} {C = C} {K = K} n.at n.text)))) us
+      ≡ ((one o us >>= open_by x) >>= (λ p. Some (short_e p.0.at p.0.text, p.1)))
+  short_one None x us = refl
+  short_one (Some n) x us = short_by (is_reserved_word x n.text) n us
+
+  pub short_splits : (x : Context) (ts : List TokenAndSpan)
+      → by_production hook (λ c. prop-short) x ts
+      ≡ (open_name x ts >>= (λ p. Some (short_e p.0.at p.0.text, p.1)))
+  unfolding by_production reading open_name word
+  short_splits x [] = refl
+  short_splits x (t ∷ ts) = short_one (any_name x t.token t.span) x ts

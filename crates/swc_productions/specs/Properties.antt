@@ -1,5 +1,6 @@
 -- What the steps of the code read in object literals (13.2.5), by the clean parser.
 use Rattle.std.specs.Prelude.{if◌then◌else◌, List, Option, Some, None}
+use Rattle.swc_context.specs.Reserved.{is_reserved_word}
 use Rattle.swc_context.specs.declared.context.Context.{Context}
 use Rattle.swc_context.specs.declared.span.Span.{Span}
 use Rattle.swc_input.specs.declared.token.TokenAndSpan.{TokenAndSpan}
@@ -10,10 +11,18 @@ use Rattle.swc_grammar.specs.Symbols.{Props, Prop}
 use Rattle.swc_grammar.specs.Tokens.{is_dots, is_rbrace}
 use Rattle.swc_grammar.specs.Trees.{to, object_e, listed, items_of, spread_prop_e}
 use Rattle.swc_grammar.specs.Clean.{Out, first, sym, run}
-use Rattle.swc_grammar.specs.Words.{◌>>=◌}
+use Rattle.swc_grammar.specs.Names.{Spelling, may_name}
+use Rattle.swc_grammar.specs.Words.{◌>>=◌, word}
 use Rattle.swc_nodes.specs.Lists.{trees_append}
 use Rattle.swc_productions.specs.Readers.{inside}
 use Rattle.swc_productions.specs.Lists.{separated, put_before}
+
+-- a name that isn't reserved where it stands, and so may stand for its value too
+abbrev pub open_by : Context → Spelling × List TokenAndSpan → Out Spelling
+open_by c p = if is_reserved_word c p.0.text then None else Some p
+
+unfoldable pub open_name : Context → List TokenAndSpan → Out Spelling
+open_name c ts = word may_name c ts >>= open_by c
 
 module _ {F C K : Type 0} (hook : Hook F C K) where
   -- behind the brace at s

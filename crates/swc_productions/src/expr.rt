@@ -1,5 +1,6 @@
 // Expressions (ECMA-262, 13).
 ghost use Rattle.std.specs.Prelude.{◌≡◌, ◌<◌, ◌≤◌, true, not, ◌&&◌, Some, OnOk, IfOk};
+ghost use Rattle.swc_context.specs.Reserved.{is_reserved_word};
 ghost use Rattle.swc_input.specs.Buffer.{current, to_come, context};
 ghost use Rattle.swc_input.specs.Plain.{plain_token};
 ghost use Rattle.swc_input.specs.Kinds.{at_token, is_hash};
@@ -9,7 +10,8 @@ ghost use Rattle.swc_bodies.specs.Readings.{at_function, is_brace, is_class};
 ghost use Rattle.swc_grammar.specs.Parts.{lit_of};
 ghost use Rattle.swc_grammar.specs.Grammar as grammar;
 ghost use Rattle.swc_grammar.specs.Clean.{sym, run, is_lit, is_identifier};
-ghost use Rattle.swc_grammar.specs.Trees.{no_cover_in};
+ghost use Rattle.swc_ast.specs.Tree.{span_of};
+ghost use Rattle.swc_grammar.specs.Trees.{to, no_cover_in};
 ghost use Rattle.swc_nodes.specs.Lists.{is_cover_prop, has_cover};
 ghost use Rattle.swc_nodes.specs.Slots.{expr_part};
 ghost use Rattle.swc_nodes.specs.Stands.{count, From};
@@ -17,8 +19,9 @@ ghost use Rattle.swc_productions.specs.Readers.{by_production, inside};
 ghost use Rattle.swc_productions.specs.Lists.{elements_inside, element, element_item};
 ghost use Rattle.swc_productions.specs.Parsing.{lit_in, seen, ParsesAlone, Produces, Checked, TookLiteral};
 ghost use Rattle.swc_productions.specs.Parsing.{itself, tree_of, item_of, item_at, elem_of, elem_at, elems_of, elems_at};
+ghost use Rattle.swc_productions.specs.Parsing.{ident_spelling};
 ghost use Rattle.swc_productions.specs.Parsing.{prop_of, prop_at, props_of, props_at};
-ghost use Rattle.swc_productions.specs.Properties.{prop_item, spread_prop_tail};
+ghost use Rattle.swc_productions.specs.Properties.{prop_item, spread_prop_tail, open_name};
 
 use crate::moves::{
     Sign, add, bump, copy_of, eat, emit_err, emit_strict_mode_err, is_async_function, label_spread, look,
@@ -27,9 +30,11 @@ use crate::moves::{
 };
 use crate::productions::Productions;
 use swc_ast::expr::ExprOrSpread;
-use swc_ast::ident::Ident;
+use swc_ast::ident::{Ident, IdentName};
 use swc_ast::lit::{BigInt, Bool, Lit, Null, Num, Str};
 use swc_ast::prop::SpreadElement;
+use swc_ast::spanned::Spanned;
+use std::alloc::Global;
 use swc_bodies::bodies::Bodies;
 use swc_context::context::Context;
 use swc_context::error::{PResult, SyntaxError};
@@ -39,7 +44,7 @@ use swc_input::buffer::Buffer;
 use swc_input::token::Token;
 use swc_input::tokens::Tokens;
 use swc_nodes::node::{ExprId, PropNode};
-use swc_nodes::nodes::NodesOf;
+use swc_nodes::nodes::{Nodes, NodesOf};
 
 mod ops;
 
@@ -259,7 +264,7 @@ impl<I: Tokens, B: Bodies<I>> Productions<I, B> {
     {
         match self.parse_assignment_expr_with_in() {
             Ok(expr) => {
-                let span = Span::new(dots.lo, self.nodes.span(expr).hi);
+                let span = span_to(&self.nodes, dots, expr);
                 Ok(PropNode::Spread(SpreadElement {
                     span,
                     dot3_token: dots,
@@ -268,6 +273,16 @@ impl<I: Tokens, B: Bodies<I>> Productions<I, B> {
             }
             Err(error) => Err(label_spread(self.alloc, &self.input, Some(dots), error)),
         }
+    }
+
+    /// A name alone as a property, whose value it names too (ECMA-262, 13.2.5). One that is reserved where it stands is
+    /// recorded, at its place.
+    fn parse_shorthand_prop(&mut self) -> PResult<PropNode<B::Block>>
+        ensures { Produces I.model B.is_faithful prop_of prop_at (by_production B.forms (λ c. grammar.prop-short))
+            (count self.old.nodes) self.old result self.new }
+    {
+        let name = parse_open_name(self.alloc, &mut self.input)?;
+        Ok(PropNode::Shorthand(name))
     }
 
     /// `this` (ECMA-262, 13.2.1).
@@ -465,4 +480,43 @@ fn check_prop<I: Tokens, K>(input: &mut Buffer<I>, prop: &PropNode<K>) -> PResul
         PropNode::Assign(cover) => emit_err(input, cover.span, SyntaxError::AssignProperty),
         _ => Ok(()),
     }
+}
+
+/// A name that stands for its value too (ECMA-262, 13.2.5.1). One that is reserved where it stands is recorded, at its
+/// place.
+fn parse_open_name<I: Tokens>(alloc: Global, input: &mut Buffer<I>) -> PResult<Ident>
+    ensures parses { ParsesAlone I.model ident_spelling open_name input.old result input.new }
+    ensures falls { OnOk result (to_come I.model input.new < to_come I.model input.old) }
+{
+    let name = parse_ident_name(alloc, input)?;
+    check_open_name(input, &name)?;
+    Ok(Ident {
+        span: name.span,
+        sym: name.sym,
+    })
+}
+
+/// Records a name that is reserved where it stands.
+fn check_open_name<I: Tokens>(input: &mut Buffer<I>, name: &IdentName) -> PResult<()>
+    ensures checks { Checked I.model
+        (not (is_reserved_word (context I.model input.old) name.now.sym)) input.old result input.new }
+    ensures falls { OnOk result (to_come I.model input.new ≤ to_come I.model input.old) }
+{
+    if input.get_ctx().is_reserved_word(&name.sym) {
+        let kind = SyntaxError::ReservedWordInObjShorthandOrPat;
+        return emit_err(input, name.span, kind);
+    }
+    Ok(())
+}
+
+/// From a place to the end of an expression.
+fn span_to<F: Spanned + Drop, C: Spanned + Drop, K: Spanned + Drop>(
+    nodes: &Nodes<F, C, K>,
+    start: Span,
+    end: ExprId,
+) -> Span
+    requires { From 0 nodes.now (expr_part end) }
+    ensures { result ≡ to start (span_of (tree_of nodes.now end)) }
+{
+    Span::new(start.lo, nodes.span(end).hi)
 }

@@ -7,7 +7,8 @@ use Rattle.swc_input.specs.Plain.{plain}
 use Rattle.swc_input.specs.Kinds.{at_token, is_hash}
 use Rattle.swc_input.specs.Buffer.{context}
 use Rattle.swc_grammar.specs.Tokens.{with_in}
-use Rattle.swc_ast.specs.Tree.{nil, cons, trees, span_of}
+use Rattle.swc_ast.specs.Tree.{nil, cons, node, spread, trees, span_of}
+use Rattle.swc_ast.specs.Tree.{dots as dots_kind}
 use Rattle.swc_ast.specs.Parts.{item_of as item_tree_of}
 use Rattle.swc_nodes.specs.Lists.{trees_append, elem_parts, elem_tree, elem_trees, props_parts}
 use Rattle.swc_nodes.specs.Seats.{chain}
@@ -338,22 +339,24 @@ parse_prop_item-returns g t c =
     (s.on_call (λ x q. Some (prop_at c.parse_object_prop.new.self.nodes c.in_ok-prop.prop, q.1)) (λ x ts. refl) (c.in_ok-separate.ensures.separates g.B.Bodies.is_faithful)))
     c.parse_object_prop.ensures.grows c.in_ok-prop.ensures.from
 
-pub parse_object_prop-returns-in_err-eat : goal.parse_object_prop-returns-in_err-eat
-parse_object_prop-returns-in_err-eat g t c =
+pub parse_object_prop-returns-in_err-dots : goal.parse_object_prop-returns-in_err-dots
+parse_object_prop-returns-in_err-dots g t c =
     let p = err_from_is_err_and c.from_residual.result c.from_residual.ensures.1 in rw (p.1, p.2)
-    (m.no (s.unheard_call (λ x p. prop_by _ p.0 x p.1) (λ x ts. props.prop_splits _ x ts) (c.in_err-eat.ensures.eats g.B.Bodies.is_faithful)) (grows-same _))
+    (m.no (s.unheard_call (λ x p. prop_by _ p.0 x p.1) (λ x ts. props.prop_splits _ x ts) (c.in_err-dots.ensures.eats g.B.Bodies.is_faithful)) (grows-same _))
 
 pub parse_object_prop-returns-in-Some : goal.parse_object_prop-returns-in-Some
 parse_object_prop-returns-in-Some g t c =
     m.after c.parse_spread_prop.result
     (s.on_call (λ x p. prop_by _ p.0 x p.1) (λ x ts. props.prop_splits _ x ts)
-    (s.eats_some g.B.Bodies.is_faithful is_dots _ c.in-Some.dots _ _ c.in-Some.is (c.in_ok-eat.ensures.eats g.B.Bodies.is_faithful)).on)
+    (s.eats_some g.B.Bodies.is_faithful is_dots _ c.in-Some.dots _ _ c.in-Some.is (c.in_ok-dots.ensures.eats g.B.Bodies.is_faithful)).on)
     (grows-same _) c.parse_spread_prop.ensures
 
 pub parse_spread_prop-returns-in-Ok : goal.parse_spread_prop-returns-in-Ok
 parse_spread_prop-returns-in-Ok g t c =
+    let parts = cons (node dots_kind c.args.dots nil) (cons (tree_of c.parse_assignment_expr_with_in.new.self.nodes c.in-Ok.expr) nil) in
     m.yes (Ok _)
-    (s.heard_call (λ x q. Some (spread_prop_e c.args.dots q.0, q.1)) (λ x ts. props.spread_prop_splits _ c.args.dots x ts) (λ x ts. refl) c.in-Ok.ensures.reads)
+    (s.heard_answer (ap (λ v. node spread v parts) (sym c.span_to-span.ensures))
+    (s.heard_call (λ x q. Some (spread_prop_e c.args.dots q.0, q.1)) (λ x ts. props.spread_prop_splits _ c.args.dots x ts) (λ x ts. refl) c.in-Ok.ensures.reads))
     c.parse_assignment_expr_with_in.ensures.grows (apart-from (expr_part c.in-Ok.expr) c.in-Ok.ensures.from)
 
 pub parse_spread_prop-returns-in-Err : goal.parse_spread_prop-returns-in-Err

@@ -115,7 +115,7 @@ abbrev pub invariant-parse_props-loop-props : goal.invariant-parse_props-loop-pr
 invariant-parse_props-loop-props g l =
     On g.I.Tokens.model g.B.Bodies.is_faithful
     (run g.B.BodyForms.forms (sym Props))
-    (props_behind g.B.BodyForms.forms (props_trees _ _ _ (tree_at l.self.nodes) l.props))
+    (props_behind g.B.BodyForms.forms (props_trees g.B.Fun.Spanned.place g.B.Class.Spanned.place g.B.Block.Spanned.place (tree_at l.self.nodes) l.props))
     l.fn.self.input l.self.input
     × (to_come g.I.Tokens.model l.self.input ≤ to_come g.I.Tokens.model l.fn.self.input)
     × Grows l.fn.self.nodes l.self.nodes
