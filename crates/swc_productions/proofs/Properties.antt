@@ -11,12 +11,12 @@ use Rattle.swc_input.specs.Kinds.{at_token}
 use Rattle.swc_ast.specs.Tree.{Tree, Trees, nil, cons, span_of}
 use Rattle.swc_bodies.specs.Readings.{Hook, is_brace}
 use Rattle.swc_grammar.specs.Symbols.{Assign, Primary, Props, PropsTail, Prop}
-use Rattle.swc_grammar.specs.Tokens.{tk, with_in, is_dots, is_rbrace}
-use Rattle.swc_grammar.specs.Trees.{to, object_e, listed, items_of, spread_prop_e, short_e}
-use Rattle.swc_grammar.specs.Grammar.{object-lit, prop-short}
+use Rattle.swc_grammar.specs.Tokens.{tk, with_in, is_dots, is_equals, is_rbrace}
+use Rattle.swc_grammar.specs.Trees.{to, object_e, listed, items_of, spread_prop_e, short_e, cover_e, ident_e}
+use Rattle.swc_grammar.specs.Grammar.{object-lit, prop-short, prop-cover}
 use Rattle.swc_grammar.specs.Names.{Spelling, may_name}
 use Rattle.swc_grammar.specs.Parts.{any_name}
-use Rattle.swc_grammar.specs.Rule.{gives, must, given, ◌>>=◌ as ◌▸◌, ◌>>◌}
+use Rattle.swc_grammar.specs.Rule.{gives, must, given, symbol, token as token_of, ◌>>=◌ as ◌▸◌, ◌>>◌}
 use Rattle.swc_grammar.specs.Clean.{Out, and_then, first, sym as at, exec, pick, plan, primary, step, run}
 use Rattle.swc_grammar.specs.Words.{◌>>=◌, one, word}
 use Rattle.swc_grammar.proofs.Complete.{last}
@@ -25,9 +25,10 @@ use Rattle.swc_grammar.proofs.Only.{only-brace, only-rbrace}
 use Rattle.swc_grammar.proofs.Rules.{run_picked}
 use Rattle.swc_nodes.specs.Lists.{trees_append}
 use Rattle.swc_productions.specs.Readers.{reading, by_production, inside}
-use Rattle.swc_productions.specs.Lists.{eaten, closed, separated, put_before}
+use Rattle.swc_productions.specs.Lists.{eaten, eaten_by, closed, separated, put_before}
 use Rattle.swc_productions.specs.Properties.{object_lit_tail, prop_item, props_behind, props_more, props_by}
 use Rattle.swc_productions.specs.Properties.{spread_prop_tail, prop_plain, prop_by, open_by, open_name}
+use Rattle.swc_productions.specs.Properties.{cover_tail, cover_by, cover_behind}
 use Rattle.swc_productions.proofs.Steps.{not_true, not_false}
 use Rattle.swc_productions.proofs.Lists.{calls, binds, bind_same, twice}
 
@@ -217,3 +218,53 @@ module _ {F C K : Type 0} (hook : Hook F C K) where
   unfolding by_production reading open_name word
   short_splits x [] = refl
   short_splits x (t ∷ ts) = short_one (any_name x t.token t.span) x ts
+
+  -- a name with `=` and an expression behind it
+  cover_sign : (b : Bool) (n : Spelling) (x : Context) (t : TokenAndSpan) (us : List TokenAndSpan)
+      → (if b then and_then (run hook (at Assign) (with_in x) us)
+      (λ e vs. Some (cover_e (to n.at (span_of e)) (ident_e n.at n.text) e, vs)) else None)
+      ≡ (eaten_by b (t ∷ us) >>= (λ p. cover_by hook n p.0 x p.1))
+  unfolding cover_tail inside
+  cover_sign true n x t us = calls (run hook (at Assign) (with_in x) us) _
+  cover_sign false n x t us = refl
+
+  cover_run : (n : Spelling) (x : Context) (us : List TokenAndSpan)
+      → exec hook (run hook) None (plan (token_of is_equals >> (symbol Assign (with_in x) ▸
+      (λ e. gives (cover_e {F = F} {C = C} {K = K} (to n.at (span_of e)) (ident_e n.at n.text) e))))) us
+      ≡ cover_behind hook n x us
+  unfolding cover_behind eaten
+  cover_run n x [] = refl
+  cover_run n x (t ∷ us) = cover_sign (is_equals t.token) n x t us
+
+  cover_open : (r : Bool) (n : Spelling) (x : Context) (us : List TokenAndSpan)
+      → (if not r then cover_behind hook n x us else None)
+      ≡ ((if r then None else Some (n, us)) >>= (λ p. cover_behind hook p.0 x p.1))
+  cover_open true n x us = refl
+  cover_open false n x us = refl
+
+  cover_one : (o : Option Spelling) (x : Context) (us : List TokenAndSpan)
+      → exec hook (run hook) None (plan (given o ▸ (λ n. must (not (is_reserved_word x n.text)) >> (token_of is_equals >>
+      (symbol Assign (with_in x) ▸
+      (λ e. gives (cover_e {F = F} {C = C} {K = K} (to n.at (span_of e)) (ident_e n.at n.text) e))))))) us
+      ≡ ((one o us >>= open_by x) >>= (λ p. cover_behind hook p.0 x p.1))
+  cover_one None x us = refl
+  cover_one (Some n) x us =
+      ap (λ v. if not (is_reserved_word x n.text) then v else None) (cover_run n x us)
+      ∙ cover_open (is_reserved_word x n.text) n x us
+
+  pub cover_splits : (x : Context) (ts : List TokenAndSpan)
+      → by_production hook (λ c. prop-cover) x ts ≡ (open_name x ts >>= (λ p. cover_behind hook p.0 x p.1))
+  unfolding by_production reading open_name word
+  cover_splits x [] = refl
+  cover_splits x (t ∷ ts) = cover_one (any_name x t.token t.span) x ts
+
+  pub cover_behind_splits : (n : Spelling) (x : Context) (ts : List TokenAndSpan)
+      → cover_behind hook n x ts ≡ (eaten is_equals x ts >>= (λ p. cover_by hook n p.0 x p.1))
+  unfolding cover_behind
+  cover_behind_splits n x ts = refl
+
+  pub cover_tail_splits : (n : Spelling) (x : Context) (ts : List TokenAndSpan)
+      → cover_tail hook n x ts
+      ≡ (inside hook x ts >>= (λ p. Some (cover_e (to n.at (span_of p.0)) (ident_e n.at n.text) p.0, p.1)))
+  unfolding cover_tail
+  cover_tail_splits n x ts = refl

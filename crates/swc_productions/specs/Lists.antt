@@ -8,7 +8,7 @@ use Rattle.swc_input.specs.Kinds.{at_token}
 use Rattle.swc_ast.specs.Tree.{Tree, Trees, nil, cons, span_of}
 use Rattle.swc_bodies.specs.Readings.{Hook}
 use Rattle.swc_grammar.specs.Symbols.{Elements, Item}
-use Rattle.swc_grammar.specs.Tokens.{with_in, is_comma, is_dots, is_rbracket, is_rbrace}
+use Rattle.swc_grammar.specs.Tokens.{with_in, is_comma, is_dots, is_rbracket, is_rbrace, is_equals}
 use Rattle.swc_grammar.specs.Trees.{to, array_e, hole_e, listed, items_of}
 use Rattle.swc_grammar.specs.Clean.{Out, first, sym, run}
 use Rattle.swc_grammar.specs.Words.{◌>>=◌}
@@ -22,6 +22,7 @@ is_sign_token sign.Comma = is_comma
 is_sign_token sign.DotDotDot = is_dots
 is_sign_token sign.RBracket = is_rbracket
 is_sign_token sign.RBrace = is_rbrace
+is_sign_token sign.Assign = is_equals
 
 -- a token that passes a test is taken, if it stands first
 abbrev pub eaten_by : Bool → List TokenAndSpan → Out (Option Span)

@@ -8,14 +8,14 @@ use Rattle.swc_input.specs.Kinds.{at_token}
 use Rattle.swc_ast.specs.Tree.{Tree, Trees, nil, cons, span_of}
 use Rattle.swc_bodies.specs.Readings.{Hook}
 use Rattle.swc_grammar.specs.Symbols.{Props, Prop}
-use Rattle.swc_grammar.specs.Tokens.{is_dots, is_rbrace}
-use Rattle.swc_grammar.specs.Trees.{to, object_e, listed, items_of, spread_prop_e}
+use Rattle.swc_grammar.specs.Tokens.{is_dots, is_equals, is_rbrace}
+use Rattle.swc_grammar.specs.Trees.{to, object_e, listed, items_of, spread_prop_e, cover_e, ident_e}
 use Rattle.swc_grammar.specs.Clean.{Out, first, sym, run}
 use Rattle.swc_grammar.specs.Names.{Spelling, may_name}
 use Rattle.swc_grammar.specs.Words.{◌>>=◌, word}
 use Rattle.swc_nodes.specs.Lists.{trees_append}
 use Rattle.swc_productions.specs.Readers.{inside}
-use Rattle.swc_productions.specs.Lists.{separated, put_before}
+use Rattle.swc_productions.specs.Lists.{eaten, separated, put_before}
 
 -- a name that isn't reserved where it stands, and so may stand for its value too
 abbrev pub open_by : Context → Spelling × List TokenAndSpan → Out Spelling
@@ -54,3 +54,15 @@ module _ {F C K : Type 0} (hook : Hook F C K) where
   abbrev pub prop_by : Option Span → Context → List TokenAndSpan → Out (Tree F C K)
   prop_by (Some s) c ts = spread_prop_tail s c ts
   prop_by None c ts = prop_plain c ts
+
+  -- a name with `=` and an expression behind it: behind the name, and behind the `=`
+  unfoldable pub cover_tail : Spelling → Context → List TokenAndSpan → Out (Tree F C K)
+  cover_tail n c ts =
+      inside hook c ts >>= (λ p. Some (cover_e (to n.at (span_of p.0)) (ident_e n.at n.text) p.0, p.1))
+
+  abbrev pub cover_by : Spelling → Option Span → Context → List TokenAndSpan → Out (Tree F C K)
+  cover_by n (Some s) c ts = cover_tail n c ts
+  cover_by n None c ts = None
+
+  unfoldable pub cover_behind : Spelling → Context → List TokenAndSpan → Out (Tree F C K)
+  cover_behind n c ts = eaten is_equals c ts >>= (λ p. cover_by n p.0 c p.1)

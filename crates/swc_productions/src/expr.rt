@@ -21,7 +21,7 @@ ghost use Rattle.swc_productions.specs.Parsing.{lit_in, seen, ParsesAlone, Produ
 ghost use Rattle.swc_productions.specs.Parsing.{itself, tree_of, item_of, item_at, elem_of, elem_at, elems_of, elems_at};
 ghost use Rattle.swc_productions.specs.Parsing.{ident_spelling};
 ghost use Rattle.swc_productions.specs.Parsing.{prop_of, prop_at, props_of, props_at};
-ghost use Rattle.swc_productions.specs.Properties.{prop_item, spread_prop_tail, open_name};
+ghost use Rattle.swc_productions.specs.Properties.{prop_item, spread_prop_tail, prop_plain, open_name, cover_tail};
 
 use crate::moves::{
     Sign, add, bump, copy_of, eat, emit_err, emit_strict_mode_err, is_async_function, label_spread, look,
@@ -32,7 +32,7 @@ use crate::productions::Productions;
 use swc_ast::expr::ExprOrSpread;
 use swc_ast::ident::{Ident, IdentName};
 use swc_ast::lit::{BigInt, Bool, Lit, Null, Num, Str};
-use swc_ast::prop::SpreadElement;
+use swc_ast::prop::{AssignProp, SpreadElement};
 use swc_ast::spanned::Spanned;
 use std::alloc::Global;
 use swc_bodies::bodies::Bodies;
@@ -251,8 +251,17 @@ impl<I: Tokens, B: Bodies<I>> Productions<I, B> {
     {
         match eat(&mut self.input, Sign::DotDotDot)? {
             Some(dots) => self.parse_spread_prop(dots),
-            None => Err(unexpected(&mut self.input, SyntaxError::Unexpected("property"))),
+            None => self.parse_plain_prop(),
         }
+    }
+
+    /// A property that no dots begin.
+    fn parse_plain_prop(&mut self) -> PResult<PropNode<B::Block>>
+        ensures { Produces I.model B.is_faithful prop_of prop_at (prop_plain B.forms)
+            (count self.old.nodes) self.old result self.new }
+    {
+        look(&mut self.input)?;
+        Err(unexpected(&mut self.input, SyntaxError::Unexpected("property")))
     }
 
     /// What stands behind the dots of a property (ECMA-262, 13.2.5): an assignment expression, in which `in` counts as
@@ -283,6 +292,29 @@ impl<I: Tokens, B: Bodies<I>> Productions<I, B> {
     {
         let name = parse_open_name(self.alloc, &mut self.input)?;
         Ok(PropNode::Shorthand(name))
+    }
+
+    /// A name with `=` and an expression behind it, as a property (ECMA-262, 13.2.5). A name that is reserved where it
+    /// stands is recorded, at its place.
+    fn parse_cover_prop(&mut self) -> PResult<PropNode<B::Block>>
+        ensures { Produces I.model B.is_faithful prop_of prop_at (by_production B.forms (λ c. grammar.prop-cover))
+            (count self.old.nodes) self.old result self.new }
+    {
+        let key = parse_open_name(self.alloc, &mut self.input)?;
+        match eat(&mut self.input, Sign::Assign)? {
+            Some(_) => self.parse_cover_value(key),
+            None => Err(unexpected(&mut self.input, SyntaxError::Expected("="))),
+        }
+    }
+
+    /// What stands behind the `=` of such a property: an assignment expression, in which `in` counts as an operator.
+    fn parse_cover_value(&mut self, key: Ident) -> PResult<PropNode<B::Block>>
+        ensures { Produces I.model B.is_faithful prop_of prop_at (cover_tail B.forms (ident_spelling key))
+            (count self.old.nodes) self.old result self.new }
+    {
+        let value = self.parse_assignment_expr_with_in()?;
+        let span = span_to(&self.nodes, key.span, value);
+        Ok(PropNode::Assign(AssignProp { span, key, value }))
     }
 
     /// `this` (ECMA-262, 13.2.1).

@@ -21,6 +21,7 @@ use swc_ast::ident::{Ident, IdentName};
 use swc_context::atom::Atom;
 use swc_context::context::Context;
 use swc_context::error::{Error, PResult, SyntaxError};
+use swc_context::operator::AssignOp;
 use swc_context::span::{BytePos, Span};
 use swc_context::word::{Keyword, Word};
 use swc_ident::ident;
@@ -274,6 +275,8 @@ pub(crate) enum Sign {
     RBracket,
     /// `}`
     RBrace,
+    /// `=`
+    Assign,
 }
 
 /// Whether the current token is the sign.
@@ -286,6 +289,7 @@ fn is_sign<I: Tokens>(input: &Buffer<I>, sign: Sign) -> bool
         (Sign::DotDotDot, Some(Token::DotDotDot)) => true,
         (Sign::RBracket, Some(Token::RBracket)) => true,
         (Sign::RBrace, Some(Token::RBrace)) => true,
+        (Sign::Assign, Some(Token::AssignOp(AssignOp::Assign))) => true,
         _ => false,
     }
 }

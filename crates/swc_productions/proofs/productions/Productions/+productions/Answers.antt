@@ -351,6 +351,13 @@ parse_object_prop-returns-in-Some g t c =
     (s.eats_some g.B.Bodies.is_faithful is_dots _ c.in-Some.dots _ _ c.in-Some.is (c.in_ok-dots.ensures.eats g.B.Bodies.is_faithful)).on)
     (grows-same _) c.parse_spread_prop.ensures
 
+pub parse_object_prop-returns-in-None : goal.parse_object_prop-returns-in-None
+parse_object_prop-returns-in-None g t c =
+    m.after c.parse_plain_prop.result
+    (s.on_call (λ x p. prop_by _ p.0 x p.1) (λ x ts. props.prop_splits _ x ts)
+    (s.eats_none g.B.Bodies.is_faithful is_dots _ _ _ c.in-None.is (c.in_ok-dots.ensures.eats g.B.Bodies.is_faithful)))
+    (grows-same _) c.parse_plain_prop.ensures
+
 pub parse_spread_prop-returns-in-Ok : goal.parse_spread_prop-returns-in-Ok
 parse_spread_prop-returns-in-Ok g t c =
     let parts = cons (node dots_kind c.args.dots nil) (cons (tree_of c.parse_assignment_expr_with_in.new.self.nodes c.in-Ok.expr) nil) in

@@ -103,13 +103,13 @@ abbrev pub decreases-parse_spread_prop : goal.decreases-parse_spread_prop
 decreases-parse_spread_prop g l = to_come g.I.Tokens.model l.self.now.input * 20 + 14
 
 abbrev pub decreases-parse_object_prop : goal.decreases-parse_object_prop
-decreases-parse_object_prop g l = to_come g.I.Tokens.model l.self.now.input * 20 + 15
+decreases-parse_object_prop g l = to_come g.I.Tokens.model l.self.now.input * 20 + 16
 
 abbrev pub decreases-parse_prop_item : goal.decreases-parse_prop_item
-decreases-parse_prop_item g l = to_come g.I.Tokens.model l.self.now.input * 20 + 16
+decreases-parse_prop_item g l = to_come g.I.Tokens.model l.self.now.input * 20 + 17
 
 abbrev pub decreases-parse_props : goal.decreases-parse_props
-decreases-parse_props g l = to_come g.I.Tokens.model l.self.now.input * 20 + 17
+decreases-parse_props g l = to_come g.I.Tokens.model l.self.now.input * 20 + 18
 
 abbrev pub invariant-parse_props-loop-props : goal.invariant-parse_props-loop-props
 invariant-parse_props-loop-props g l =
