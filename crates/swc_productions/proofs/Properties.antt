@@ -9,26 +9,32 @@ use Rattle.swc_input.specs.declared.token.Token.TheVariants as token
 use Rattle.swc_input.specs.declared.token.TokenAndSpan.{TokenAndSpan}
 use Rattle.swc_input.specs.Kinds.{at_token}
 use Rattle.swc_ast.specs.Tree.{Tree, Trees, nil, cons, span_of}
-use Rattle.swc_bodies.specs.Readings.{Hook, is_brace}
-use Rattle.swc_grammar.specs.Symbols.{Assign, Primary, Props, PropsTail, Prop}
-use Rattle.swc_grammar.specs.Tokens.{tk, with_in, is_dots, is_equals, is_rbrace}
+use Rattle.swc_bodies.specs.Readings.{Hook, is_async, is_brace}
+use Rattle.swc_grammar.specs.Symbols.{Assign, Primary, Props, PropsTail, Prop, Side}
+use Rattle.swc_grammar.specs.Tokens.{tk, with_in, is_dots, is_equals, is_get, is_rbrace, is_star, is_word}
+use Rattle.swc_grammar.specs.Tokens.{ends_prop, follows_key}
 use Rattle.swc_grammar.specs.Trees.{to, object_e, listed, items_of, spread_prop_e, short_e, cover_e, ident_e}
-use Rattle.swc_grammar.specs.Grammar.{object-lit, prop-short, prop-cover}
+use Rattle.swc_grammar.specs.Grammar.{Production, object-lit, prop-spread, prop-short, prop-cover, prop-key}
+use Rattle.swc_grammar.specs.Grammar.{prop-generator, prop-async, prop-async-generator, prop-getter}
 use Rattle.swc_grammar.specs.Names.{Spelling, may_name}
 use Rattle.swc_grammar.specs.Parts.{any_name}
 use Rattle.swc_grammar.specs.Rule.{gives, must, given, symbol, token as token_of, ◌>>=◌ as ◌▸◌, ◌>>◌}
-use Rattle.swc_grammar.specs.Clean.{Out, and_then, first, sym as at, exec, pick, plan, primary, step, run}
+use Rattle.swc_grammar.specs.Clean.{Out, and_then, first, second, sym as at, exec, Choice, none, pick, chosen, plan}
+use Rattle.swc_grammar.specs.Clean.{primary, prop, prop_word, step, run}
 use Rattle.swc_grammar.specs.Words.{◌>>=◌, one, word}
 use Rattle.swc_grammar.proofs.Complete.{last}
 use Rattle.swc_grammar.proofs.Knot.{knot}
 use Rattle.swc_grammar.proofs.Only.{only-brace, only-rbrace}
 use Rattle.swc_grammar.proofs.Rules.{run_picked}
 use Rattle.swc_nodes.specs.Lists.{trees_append}
+use Rattle.swc_productions.specs.declared.moves.PropKind.{PropKind}
+use Rattle.swc_productions.specs.declared.moves.PropKind.TheVariants as kind
 use Rattle.swc_productions.specs.Readers.{reading, by_production, inside}
 use Rattle.swc_productions.specs.Lists.{eaten, eaten_by, closed, separated, put_before}
 use Rattle.swc_productions.specs.Properties.{object_lit_tail, prop_item, props_behind, props_more, props_by}
 use Rattle.swc_productions.specs.Properties.{spread_prop_tail, prop_plain, prop_by, open_by, open_name}
 use Rattle.swc_productions.specs.Properties.{cover_tail, cover_by, cover_behind}
+use Rattle.swc_productions.specs.Properties.{word_kind, prop_kind}
 use Rattle.swc_productions.proofs.Steps.{not_true, not_false}
 use Rattle.swc_productions.proofs.Lists.{calls, binds, bind_same, twice}
 
@@ -43,6 +49,36 @@ open_by_well x n ts h = rw (not_true (is_reserved_word x n.text) h) refl
 pub open_by_ill : (x : Context) (n : Spelling) (ts : List TokenAndSpan) → not (is_reserved_word x n.text) ≡ false
     → open_by x (n, ts) ≡ None
 open_by_ill x n ts h = rw (not_false (is_reserved_word x n.text) h) refl
+
+-- what is made of a choice
+chosen_by : {A B : Type 0} (f : A → B) (b : Bool) {x y : A} {v w : B} → f x ≡ v → f y ≡ w
+    → f (if b then x else y) ≡ (if b then v else w)
+chosen_by f true p q = p
+chosen_by f false p q = q
+
+module _ {F C K : Type 0} {c : Context} where
+  -- which production each kind of property is
+  abbrev kind_choice : PropKind → Choice F C K Prop c
+  kind_choice kind.Spread = pick prop-spread
+  kind_choice kind.Generator = pick prop-generator
+  kind_choice kind.Shorthand = pick prop-short
+  kind_choice kind.Cover = pick prop-cover
+  kind_choice kind.Key = pick prop-key
+  kind_choice kind.Getter = pick prop-getter
+  kind_choice kind.Async = pick prop-async
+  kind_choice kind.AsyncGenerator = pick prop-async-generator
+  kind_choice kind.Unfit = none
+
+  word_choice : (t u : Option TokenAndSpan) → kind_choice (word_kind t u) ≡ prop_word t u
+  word_choice t u =
+      chosen_by kind_choice (at_token ends_prop u) refl (chosen_by kind_choice (at_token is_equals u) refl
+      (chosen_by kind_choice (at_token follows_key u) refl (chosen_by kind_choice (at_token is_get t) refl
+      (chosen_by kind_choice (at_token is_async t) (chosen_by kind_choice (at_token is_star u) refl refl) refl))))
+
+  prop_choice : (ts : List TokenAndSpan) → kind_choice (prop_kind ts) ≡ prop c ts
+  prop_choice ts =
+      chosen_by kind_choice (at_token is_dots (first ts)) refl (chosen_by kind_choice (at_token is_star (first ts)) refl
+      (chosen_by kind_choice (at_token is_word (first ts)) (word_choice (first ts) (second ts)) refl))
 
 module _ {F C K : Type 0} (hook : Hook F C K) where
   -- ---- object literals
@@ -268,3 +304,55 @@ module _ {F C K : Type 0} (hook : Hook F C K) where
       ≡ (inside hook x ts >>= (λ p. Some (cover_e (to n.at (span_of p.0)) (ident_e n.at n.text) p.0, p.1)))
   unfolding cover_tail
   cover_tail_splits n x ts = refl
+
+  -- each property is picked by its kind
+  kind_picked : (x : Context) (ts : List TokenAndSpan) {r : Side F C K Prop} (p : Production Prop x r) (k : PropKind)
+      → kind_choice k ≡ pick p → prop_kind ts ≡ k
+      → run hook (at Prop) x ts ≡ exec hook (run hook) (Some 4) (plan r) ts
+  kind_picked x ts p k e h =
+      run_picked hook Prop x ts p (prop x ts) refl (sym (prop_choice ts) ∙ ap kind_choice h ∙ e)
+
+  pub short_picked : (x : Context) (ts : List TokenAndSpan) → prop_kind ts ≡ kind.Shorthand
+      → run hook (at Prop) x ts ≡ by_production hook (λ c. prop-short) x ts
+  unfolding by_production reading
+  short_picked x [] h = kind_picked x [] prop-short kind.Shorthand refl h
+  short_picked x (t ∷ ts) h = kind_picked x (t ∷ ts) prop-short kind.Shorthand refl h
+
+  pub cover_picked : (x : Context) (ts : List TokenAndSpan) → prop_kind ts ≡ kind.Cover
+      → run hook (at Prop) x ts ≡ by_production hook (λ c. prop-cover) x ts
+  unfolding by_production reading
+  cover_picked x [] h = kind_picked x [] prop-cover kind.Cover refl h
+  cover_picked x (t ∷ ts) h = kind_picked x (t ∷ ts) prop-cover kind.Cover refl h
+
+  pub key_picked : (x : Context) (ts : List TokenAndSpan) → prop_kind ts ≡ kind.Key
+      → run hook (at Prop) x ts ≡ by_production hook (λ c. prop-key) x ts
+  unfolding by_production reading
+  key_picked x ts h = kind_picked x ts prop-key kind.Key refl h
+
+  pub generator_picked : (x : Context) (ts : List TokenAndSpan) → prop_kind ts ≡ kind.Generator
+      → run hook (at Prop) x ts ≡ by_production hook (λ c. prop-generator) x ts
+  unfolding by_production reading
+  generator_picked x [] h = kind_picked x [] prop-generator kind.Generator refl h
+  generator_picked x (t ∷ ts) h = kind_picked x (t ∷ ts) prop-generator kind.Generator refl h
+
+  pub getter_picked : (x : Context) (ts : List TokenAndSpan) → prop_kind ts ≡ kind.Getter
+      → run hook (at Prop) x ts ≡ by_production hook (λ c. prop-getter) x ts
+  unfolding by_production reading
+  getter_picked x [] h = kind_picked x [] prop-getter kind.Getter refl h
+  getter_picked x (t ∷ ts) h = kind_picked x (t ∷ ts) prop-getter kind.Getter refl h
+
+  pub async_picked : (x : Context) (ts : List TokenAndSpan) → prop_kind ts ≡ kind.Async
+      → run hook (at Prop) x ts ≡ by_production hook (λ c. prop-async) x ts
+  unfolding by_production reading
+  async_picked x [] h = kind_picked x [] prop-async kind.Async refl h
+  async_picked x (t ∷ ts) h = kind_picked x (t ∷ ts) prop-async kind.Async refl h
+
+  pub async_generator_picked : (x : Context) (ts : List TokenAndSpan) → prop_kind ts ≡ kind.AsyncGenerator
+      → run hook (at Prop) x ts ≡ by_production hook (λ c. prop-async-generator) x ts
+  unfolding by_production reading
+  async_generator_picked x [] h = kind_picked x [] prop-async-generator kind.AsyncGenerator refl h
+  async_generator_picked x (t ∷ ts) h = kind_picked x (t ∷ ts) prop-async-generator kind.AsyncGenerator refl h
+
+  pub prop_unfit : (x : Context) (ts : List TokenAndSpan) → prop_kind ts ≡ kind.Unfit → run hook (at Prop) x ts ≡ None
+  prop_unfit x ts h = knot hook (at Prop) x ts ∙ ap (λ v. exec hook (run hook) (Some 4) (chosen v) ts)
+      (sym (prop_choice ts) ∙ ap kind_choice h)

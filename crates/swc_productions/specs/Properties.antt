@@ -1,19 +1,21 @@
 -- What the steps of the code read in object literals (13.2.5), by the clean parser.
-use Rattle.std.specs.Prelude.{if◌then◌else◌, List, Option, Some, None}
+use Rattle.std.specs.Prelude.{Bool, if◌then◌else◌, List, Option, Some, None}
 use Rattle.swc_context.specs.Reserved.{is_reserved_word}
 use Rattle.swc_context.specs.declared.context.Context.{Context}
 use Rattle.swc_context.specs.declared.span.Span.{Span}
 use Rattle.swc_input.specs.declared.token.TokenAndSpan.{TokenAndSpan}
 use Rattle.swc_input.specs.Kinds.{at_token}
 use Rattle.swc_ast.specs.Tree.{Tree, Trees, nil, cons, span_of}
-use Rattle.swc_bodies.specs.Readings.{Hook}
+use Rattle.swc_bodies.specs.Readings.{Hook, is_async}
 use Rattle.swc_grammar.specs.Symbols.{Props, Prop}
-use Rattle.swc_grammar.specs.Tokens.{is_dots, is_equals, is_rbrace}
+use Rattle.swc_grammar.specs.Tokens.{is_dots, is_equals, is_get, is_rbrace, is_star, is_word, ends_prop, follows_key}
 use Rattle.swc_grammar.specs.Trees.{to, object_e, listed, items_of, spread_prop_e, cover_e, ident_e}
-use Rattle.swc_grammar.specs.Clean.{Out, first, sym, run}
+use Rattle.swc_grammar.specs.Clean.{Out, first, second, sym, run}
 use Rattle.swc_grammar.specs.Names.{Spelling, may_name}
 use Rattle.swc_grammar.specs.Words.{◌>>=◌, word}
 use Rattle.swc_nodes.specs.Lists.{trees_append}
+use Rattle.swc_productions.specs.declared.moves.PropKind.{PropKind}
+use Rattle.swc_productions.specs.declared.moves.PropKind.TheVariants as kind
 use Rattle.swc_productions.specs.Readers.{inside}
 use Rattle.swc_productions.specs.Lists.{eaten, separated, put_before}
 
@@ -23,6 +25,24 @@ open_by c p = if is_reserved_word c p.0.text then None else Some p
 
 unfoldable pub open_name : Context → List TokenAndSpan → Out Spelling
 open_name c ts = word may_name c ts >>= open_by c
+
+-- what a property is, by the tokens that it begins with; of one that begins with a word, by the word and the token behind it
+abbrev pub async_kind : Bool → PropKind
+async_kind is_generator = if is_generator then kind.AsyncGenerator else kind.Async
+
+abbrev pub word_kind : Option TokenAndSpan → Option TokenAndSpan → PropKind
+word_kind t u =
+    if at_token ends_prop u then kind.Shorthand else
+    (if at_token is_equals u then kind.Cover else
+    (if at_token follows_key u then kind.Key else
+    (if at_token is_get t then kind.Getter else
+    (if at_token is_async t then async_kind (at_token is_star u) else kind.Unfit))))
+
+abbrev pub prop_kind : List TokenAndSpan → PropKind
+prop_kind ts =
+    if at_token is_dots (first ts) then kind.Spread else
+    (if at_token is_star (first ts) then kind.Generator else
+    (if at_token is_word (first ts) then word_kind (first ts) (second ts) else kind.Key))
 
 module _ {F C K : Type 0} (hook : Hook F C K) where
   -- behind the brace at s

@@ -279,6 +279,29 @@ pub(crate) enum Sign {
     Assign,
 }
 
+/// What a property of an object literal is, by the tokens that it begins with (ECMA-262, 13.2.5 and 15.4).
+#[derive(Clone, Copy)]
+pub(crate) enum PropKind {
+    /// Dots, and an expression.
+    Spread,
+    /// `*`, and a method: a generator.
+    Generator,
+    /// A name alone.
+    Shorthand,
+    /// A name with `=` and an expression behind it.
+    Cover,
+    /// A key, and its value or its method's function.
+    Key,
+    /// `get`, and a method.
+    Getter,
+    /// `async`, and a method.
+    Async,
+    /// `async` and `*`, and a method.
+    AsyncGenerator,
+    /// A word, and behind it a token that goes on with none of these.
+    Unfit,
+}
+
 /// Whether the current token is the sign.
 fn is_sign<I: Tokens>(input: &Buffer<I>, sign: Sign) -> bool
     ensures value { result ≡ at_token (is_sign_token sign) (seen input.now) }
