@@ -24,17 +24,17 @@ ghost use Rattle.swc_productions.specs.Parsing.{prop_of, prop_at, props_of, prop
 ghost use Rattle.swc_productions.specs.Properties.{prop_item, spread_prop_tail, prop_plain, open_name, cover_tail};
 
 use crate::moves::{
-    Sign, add, bump, copy_of, eat, emit_err, emit_strict_mode_err, is_async_function, label_spread, look,
-    made, parse_ident_name, parse_ident_ref, require_cur, separate, set_ctx, skip, syntax_error,
-    unexpected,
+    Sign, add, bump, copy_of, eat, emit_err, emit_strict_mode_err, is_async_function, label_spread,
+    look, made, parse_ident_name, parse_ident_ref, require_cur, separate, set_ctx, skip,
+    syntax_error, unexpected,
 };
 use crate::productions::Productions;
+use std::alloc::Global;
 use swc_ast::expr::ExprOrSpread;
 use swc_ast::ident::{Ident, IdentName};
 use swc_ast::lit::{BigInt, Bool, Lit, Null, Num, Str};
 use swc_ast::prop::{AssignProp, SpreadElement};
 use swc_ast::spanned::Spanned;
-use std::alloc::Global;
 use swc_bodies::bodies::Bodies;
 use swc_context::context::Context;
 use swc_context::error::{PResult, SyntaxError};
