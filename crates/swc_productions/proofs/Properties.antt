@@ -356,3 +356,16 @@ module _ {F C K : Type 0} (hook : Hook F C K) where
   pub prop_unfit : (x : Context) (ts : List TokenAndSpan) → prop_kind ts ≡ kind.Unfit → run hook (at Prop) x ts ≡ None
   prop_unfit x ts h = knot hook (at Prop) x ts ∙ ap (λ v. exec hook (run hook) (Some 4) (chosen v) ts)
       (sym (prop_choice ts) ∙ ap kind_choice h)
+
+  -- where no dots stand, as at each other kind
+  pub plain_here : (x : Context) (ts : List TokenAndSpan) → at_token is_dots (first ts) ≡ false
+      → prop_plain hook x ts ≡ run hook (at Prop) x ts
+  unfolding prop_plain
+  plain_here x ts h = rw h refl
+
+no_spread : (b : Bool) (k : PropKind) → ((if b then kind.Spread else k) ≡ kind.Spread → ⊥) → b ≡ false
+no_spread true k n = absurd (n refl)
+no_spread false k n = refl
+
+pub kind_plain : (ts : List TokenAndSpan) → (prop_kind ts ≡ kind.Spread → ⊥) → at_token is_dots (first ts) ≡ false
+kind_plain ts n = no_spread (at_token is_dots (first ts)) _ n
