@@ -155,8 +155,8 @@ module _ {S : Type 0} (model : Model S) where
   abbrev pub Looks : {T : Type 0} → Buffer S → Result T Error → Buffer S → Type 0
   Looks b r c = MatchResult r (λ t. Here b c) (λ e. Forgoes b e c)
 
-  -- From b to c nothing was consumed, and it is told whether the tokens to come, which begin with what is seen, pass the test.
-  pub record Told (test : List TokenAndSpan → Bool) (answer : Bool) (b c : Buffer S) : Type 0 where
+  -- From b to c nothing was consumed, and it is told what the test gives of the tokens to come, which begin with what is seen.
+  pub record Told {V : Type 0} (test : List TokenAndSpan → V) (answer : V) (b c : Buffer S) : Type 0 where
     pub laws : Laws model
     pub still : Still model b c
     pub current : c.cur ≡ b.cur
@@ -164,7 +164,7 @@ module _ {S : Type 0} (model : Model S) where
     pub told : (ts : List TokenAndSpan) → Future model c ts → first ts ≡ seen c → test ts ≡ answer
 
   -- such a look ahead, which is refused for want of memory alone
-  abbrev pub Tells : (List TokenAndSpan → Bool) → Buffer S → Result Bool Error → Buffer S → Type 0
+  abbrev pub Tells : {V : Type 0} → (List TokenAndSpan → V) → Buffer S → Result V Error → Buffer S → Type 0
   Tells test b r c = MatchResult r (λ v. Told test v b c) (λ e. Forgoes b e c)
 
   -- a refusal at an error token, or at the end
