@@ -80,7 +80,8 @@ impl<F: Spanned + Drop, C: Spanned + Drop, K: Spanned + Drop> Nodes<F, C, K> {
     ) -> Result<ExprId, AllocError>
         requires apart { Apart 0 self.old (props_parts props) }
         ensures grows { Grows self.old self.new }
-        ensures made { IfOk result (λ id. (k : ℕ) → Apart k self.old (props_parts props) → Made k self.new (expr_part id)
+        ensures made { IfOk result (λ id. (k : ℕ) → Apart k self.old (props_parts props)
+            → Made k self.new (expr_part id)
             (node object (between start end) (props_trees F.place C.place K.place (tree_at self.old) props))) }
     {
         let span = Span::new(start, end);
@@ -99,7 +100,8 @@ impl<F: Spanned + Drop, C: Spanned + Drop, K: Spanned + Drop> Nodes<F, C, K> {
     /// A class expression (ECMA-262, 15.7), as the hook read it.
     pub fn class_expr(&mut self, class: C) -> Result<ExprId, AllocError>
         ensures grows { Grows self.old self.new }
-        ensures made { IfOk result (λ id. Made (count self.old) self.new (expr_part id) (trees.class_e (C.place class) class)) }
+        ensures made { IfOk result (λ id. Made (count self.old) self.new (expr_part id)
+            (trees.class_e (C.place class) class)) }
     {
         Ok(ExprId(self.push(Node::Class(class))?))
     }

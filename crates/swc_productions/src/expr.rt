@@ -13,7 +13,8 @@ ghost use Rattle.swc_nodes.specs.Stands.{count};
 ghost use Rattle.swc_productions.specs.Readers.{by_production, inside};
 ghost use Rattle.swc_productions.specs.Lists.{elements_inside, element, element_item};
 ghost use Rattle.swc_productions.specs.Parsing.{lit_in, seen, ParsesAlone, Produces, Checked, TookLiteral};
-ghost use Rattle.swc_productions.specs.Parsing.{itself, tree_of, item_of, item_at, elem_of, elem_at, elems_of, elems_at};
+ghost use Rattle.swc_productions.specs.Parsing.{itself, tree_of, item_of, item_at};
+ghost use Rattle.swc_productions.specs.Parsing.{elem_of, elem_at, elems_of, elems_at};
 
 use crate::moves::{
     Sign, add, bump, copy_of, eat, emit_strict_mode_err, is_async_function, label_spread, look,
