@@ -1,4 +1,4 @@
--- The parts of right-hand sides that no production uses yet, each by a made-up one: 'no such token comes next', and a
+-- Parts of right-hand sides, each in a made-up one: 'no such token comes next', which no production uses yet, and a
 -- body that the hook reads.
 use Rattle.std.specs.Prelude.{◌≡◌, Bool, true, false, ◌&&◌, ◌||◌, if◌then◌else◌, List, [], ◌∷◌, ◌++◌, Some, None}
 use Rattle.std.proofs.Common.{refl, ap, sym, ◌∙◌}
