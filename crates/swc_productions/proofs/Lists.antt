@@ -51,7 +51,8 @@ pub closed_here : (f : Token → Bool) (x : Context) (ts : List TokenAndSpan) �
 unfolding closed
 closed_here f x ts h = rw h refl
 
-calls : {A B : Type 0} (o : Out A) (k : A → List TokenAndSpan → Out B) → and_then o k ≡ (o >>= (λ p. k p.0 p.1))
+-- what a call read, and what is run behind it
+pub calls : {A B : Type 0} (o : Out A) (k : A → List TokenAndSpan → Out B) → and_then o k ≡ (o >>= (λ p. k p.0 p.1))
 calls None k = refl
 calls (Some p) k = refl
 

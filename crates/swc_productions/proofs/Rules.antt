@@ -43,6 +43,7 @@ use Rattle.swc_grammar.proofs.Knot.{knot}
 use Rattle.swc_grammar.proofs.Levels.{right-low}
 use Rattle.swc_grammar.proofs.Only.{only-this, only-lparen, only-rparen, only-hash}
 use Rattle.swc_grammar.proofs.Rules.{exec-bind, run_picked, reads_nothing}
+use Rattle.swc_productions.proofs.Lists.{calls}
 use Rattle.swc_productions.specs.Parsing.{is_strict, begins_async, seen_of}
 use Rattle.swc_productions.specs.Readers.{reading, by_production, inside, private_expr_tail, paren_expr_tail, paren_expr_close, unary_op_tail, unary_op_node}
 use Rattle.swc_productions.specs.Readers.{unary_op, turn, bin_op}
@@ -115,11 +116,7 @@ module _ {F C K : Type 0} where
   name_strict x (t ∷ ts) h = rw (strict_not x t.token t.span h) refl
 
 module _ {F C K : Type 0} (hook : Hook F C K) where
-  -- what a call read, and what is run behind it
-  calls : {A B : Type 0} (o : Out A) (k : A → List TokenAndSpan → Out B) → and_then o k ≡ (o >>= (λ p. k p.0 p.1))
-  calls None k = refl
-  calls (Some p) k = refl
-
+  -- what a call read, and what reads as what is run behind it does
   then_calls : {A B : Type 0} (o : Out A) (k : A → List TokenAndSpan → Out B) (f : A → List TokenAndSpan → Out B)
       → ((e : A) (us : List TokenAndSpan) → k e us ≡ f e us) → and_then o k ≡ (o >>= (λ p. f p.0 p.1))
   then_calls None k f h = refl
