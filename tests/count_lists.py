@@ -8,7 +8,9 @@ two and so on are expressions. Prints each row whose counts differ, with the rig
 
 A list is walked from left to right. What matters of its front: the open parentheses and brackets, whether an operand comes next, and
 which operators stand in these (`??` may not stand beside `||` or `&&`) and before the operand (none may stand left of `**`). Between
-brackets an item begins behind the bracket and behind each comma: there dots may stand, a comma (which makes a hole), or the end.
+brackets an item begins behind the bracket and behind each comma: there dots may stand, a comma (which makes a hole), or the end. Between
+braces so does a property: dots, a name, another key, or the end. Behind a name that isn't reserved the property may end, or `=` stand;
+behind each key `:` may. Rows with methods, or with `=` and parentheses, are none: neither is counted.
 """
 import re
 import sys
@@ -32,13 +34,15 @@ Front = namedtuple("Front", "outer family before wants prefixed")
 
 def opened(front, token):
     """The front with an opening parenthesis or bracket more."""
-    close = {"(": ")", "[": "]"}[token]
+    close = {"(": ")", "[": "]", "{": "}"}[token]
     return Front(front.outer + ((close, front.family, front.prefixed),), "", token, True, False)
 
 
 def closed(front):
-    """The front with what closes the last parenthesis or bracket more."""
-    _, family, prefixed = front.outer[-1]
+    """The front with what closes the last parenthesis, bracket or brace more."""
+    close, family, prefixed = front.outer[-1]
+    if close == "]:":
+        return Front(front.outer[:-1], "", "key", True, False)
     return Front(front.outer[:-1], family, "", False, prefixed)
 
 
@@ -47,8 +51,31 @@ def item(front, token):
     return closed(front) if token == "]" else front._replace(before=token)
 
 
+def value(front, token):
+    """The front with a token more behind which the expression of a property begins."""
+    return front._replace(family="", before=token, wants=True, prefixed=False)
+
+
+def prop(front, token):
+    """The front with a token more where a property begins, or behind its key, or None."""
+    if front.before == "{":
+        if token == "[":
+            return Front(front.outer + (("]:", "", False),), "", "", True, False)
+        if token in ("}", "..."):
+            return closed(front) if token == "}" else value(front, token)
+        before = "name" if token == "a" else "key" if token == "1" or token.isalpha() else ""
+        return front._replace(before=before) if before else None
+    if token == ":" or (token == "=" and front.before == "name"):
+        return value(front, token)
+    if token in (",", "}") and front.before == "name":
+        return closed(front) if token == "}" else front._replace(before="{")
+    return None
+
+
 def operand(front, token, mode):
     """The front with a token more where an operand is wanted, or None."""
+    if front.before in ("{", "name", "key"):
+        return prop(front, token)
     if front.before == "#":
         return front._replace(before="", wants=False) if token.isalpha() else None
     if front.before in ("[", ",") and token in ("]", ",", "..."):
@@ -57,7 +84,7 @@ def operand(front, token, mode):
         return front._replace(before=token, prefixed=True)
     if token == "#":
         return front._replace(before=token)
-    if token in ("(", "["):
+    if token in ("(", "[", "{"):
         return opened(front, token)
     reference = token in ("a", *BARRED) and mode not in BARRED.get(token, ())
     if reference and front.before == "delete" and mode == "module":
@@ -68,10 +95,10 @@ def operand(front, token, mode):
 def operator(front, token, mode):
     """The front with a token more where an operand is complete, or None."""
     close = front.outer[-1][0] if front.outer else ""
-    if token == close:
+    if close and token == close[0]:
         return closed(front)
-    if token == "," and close == "]":
-        return front._replace(family="", before=",", wants=True, prefixed=False)
+    if token == "," and close in ("]", "}"):
+        return front._replace(family="", before="{" if close == "}" else ",", wants=True, prefixed=False)
     family = {"??": "??", "||": "||", "&&": "||"}.get(token, front.family)
     mixed = front.family and family != front.family
     if token not in BINARY or mixed or (token == "**" and front.prefixed):

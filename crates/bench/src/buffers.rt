@@ -7,10 +7,10 @@ ghost use Rattle.swc_input.specs.declared.token.Token.TheVariants.{BinOp};
 ghost use Rattle.swc_input.specs.Buffer.{current, token_of};
 ghost use Rattle.swc_input.specs.Kinds.{at_token};
 
-use crate::rows::{Row, Subject, answers, expect, row_of};
 use crate::settings::{setting_of, source_of};
 use crate::shown::{Shown, show, show_faults, show_refusal};
-use crate::tokens::{fault_of, kind_of, last_token};
+use bench_lower::rows::{Row, Subject, answers, expect, row_of};
+use bench_lower::tokens::{fault_of, kind_of, last_token};
 use std::alloc::{AllocError, Global};
 use std::test::Fail;
 use swc_ast::spanned::Spanned;
@@ -61,24 +61,31 @@ cur; keep_class | script | class@0..5 a@6..9 b@7..8 {@9..10 }@10..11 | class; Cl
 
 type Tested = Buffer<TokensInput>;
 
-impl Subject for Buffer<TokensInput> {
+/// A buffer that is called.
+#[derive(Drop)]
+struct Called {
+    buffer: Tested,
+}
+
+impl Subject for Called {
     fn call(&mut self, out: &mut String, call: &str) -> Result<(), Fail> {
+        let buffer = &mut self.buffer;
         match call {
-            "cur" => show_token(out, self.cur())?,
-            "cur_debug" => show_token(out, self.cur_debug())?,
-            "peek" if self.knows_cur() => show_token(out, self.peek())?,
-            "bump" if self.knows_cur() => show_bumped(out, self)?,
-            "next" => show_next(out, self)?,
-            "knows_cur" => self.knows_cur().show(out)?,
-            "has_cur" => show(out, self.has_cur())?,
-            "require_cur" => show(out, self.require_cur())?,
-            "had_line_break_before_cur" => self.had_line_break_before_cur().show(out)?,
-            "has_linebreak_between_cur_and_peeked" if self.knows_cur() => {
-                self.has_linebreak_between_cur_and_peeked().show(out)?
+            "cur" => show_token(out, buffer.cur())?,
+            "cur_debug" => show_token(out, buffer.cur_debug())?,
+            "peek" if buffer.knows_cur() => show_token(out, buffer.peek())?,
+            "bump" if buffer.knows_cur() => show_bumped(out, buffer)?,
+            "next" => show_next(out, buffer)?,
+            "knows_cur" => buffer.knows_cur().show(out)?,
+            "has_cur" => show(out, buffer.has_cur())?,
+            "require_cur" => show(out, buffer.require_cur())?,
+            "had_line_break_before_cur" => buffer.had_line_break_before_cur().show(out)?,
+            "has_linebreak_between_cur_and_peeked" if buffer.knows_cur() => {
+                buffer.has_linebreak_between_cur_and_peeked().show(out)?
             }
-            "failed" => self.failed().show(out)?,
+            "failed" => buffer.failed().show(out)?,
             "store" => ().show(out)?,
-            _ => tell_place(out, self, call)?,
+            _ => tell_place(out, buffer, call)?,
         }
         Ok(())
     }
@@ -277,10 +284,10 @@ fn record(
 }
 
 /// What the calls answer and record.
-fn outcome(alloc: Global, buffer: &mut Tested, calls: &str) -> Result<String, Fail> {
-    let mut out = answers(alloc, buffer, calls)?;
+fn outcome(alloc: Global, called: &mut Called, calls: &str) -> Result<String, Fail> {
+    let mut out = answers(alloc, called, calls)?;
     out.push_str(" | ")?;
-    show_faults(&mut out, &buffer.input().take_errors())?;
+    show_faults(&mut out, &called.buffer.input().take_errors())?;
     Ok(out)
 }
 
@@ -289,7 +296,7 @@ fn found(alloc: Global, row: Row<'_>) -> Result<String, Fail> {
     if row.calls.starts_with("store") {
         buffer.store(Token::Comma);
     }
-    outcome(alloc, &mut buffer, row.calls)
+    outcome(alloc, &mut Called { buffer }, row.calls)
 }
 
 #[test]

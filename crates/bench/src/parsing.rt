@@ -1,10 +1,10 @@
 // Calls of the parser.
 use crate::failing::FailingInput;
-use crate::rows::{Row, Subject, answers, expect, row_of};
 use crate::settings::{setting_of, source_of};
 use crate::shown::{Shown, show, show_faults, show_refusal};
-use crate::tokens::fault_of;
 use crate::trees::show_numbered;
+use bench_lower::rows::{Row, Subject, answers, expect, row_of};
+use bench_lower::tokens::fault_of;
 use std::alloc::{AllocError, Global};
 use std::test::Fail;
 use swc_bodies::none::NoBodies;

@@ -1,5 +1,5 @@
 // Runs of the program: what it is given, and what it writes.
-use crate::rows::{Row, expect, row_of, unescaped};
+use bench_lower::rows::{Row, expect, row_of, unescaped};
 use show::run::run;
 use std::alloc::Global;
 use std::io::{ErrorKind, Read, Write};
@@ -67,7 +67,23 @@ show_expr | expr script | function f() { return {} } | Fn<9>\n | 0
 show_expr | expr script | async function () {} | Fn<6>\n | 0
 show_expr | expr script | class A extends B {} | Class<6>\n | 0
 show_expr | expr script | class { | refused: Eof 7..7\n | 2
-show_expr | expr script | class } | refused: Unexpected 6..7 {\n | 2";
+show_expr | expr script | class } | refused: Unexpected 6..7 {\n | 2
+show_expr | expr script | [{a = 1}] | Array[Object{a = 1}]\n | 0
+show_expr | expr script | ({a = 1}) | Paren(Object{a = 1})\nAssignProperty 2..7\n | 1
+show_expr | expr script | {m(){x}, get [k]() {}} | Object{Method(m, [], <3>), Getter([k], <2>)}\n | 0
+show_expr | expr script | {async *g(){}} | Object{AsyncGeneratorMethod(g, [], <2>)}\n | 0
+show_expr | expr script | {class} | Object{class}\nReservedWordInObjShorthandOrPat 1..6\n | 1
+show_expr | expr script | {1} | refused: Unexpected 2..3 identifier\n | 2
+show_expr | expr script | {m(a){}} | refused: Expected 3..4 )\n | 2
+show_expr | expr script | {async *g(){}, get [k]() {}, a: [b, , ...c], d = 1} | Object{AsyncGeneratorMethod(g, [], <2>), Getter([k], <2>), a: Array[b, -, ...c], d = 1}\n | 0
+show_expr | expr script | {} | Object{}\n | 0
+show_expr | expr script | {a, in: 1, ...b,} | Object{a, in: 1, ...b}\n | 0
+show_expr | expr script | {get, async, get(){}, async(){}, *a(){}, async b(){}} | Object{get, async, Method(get, [], <2>), Method(async, [], <2>), GeneratorMethod(a, [], <2>), AsyncMethod(b, [], <2>)}\n | 0
+show_expr | expr script | {class = 1} | Object{class = 1}\nReservedWordInObjShorthandOrPat 1..6\n | 1
+show_expr | expr script | {a b} | refused: Unexpected 3..4 ... , *,  (, [, :, , ?, = or an identifier\n | 2
+show_expr | expr script | {a: 1 | refused: Eof 5..5\n | 2
+show_expr | expr script | {...} | refused: TS1109 4..5\n | 2
+show_expr | expr script | {get a(){} | refused: Eof 10..10\n | 2";
 
 /// Gives some bytes, and then ends, or fails.
 #[derive(Drop)]

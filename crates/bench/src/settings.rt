@@ -1,6 +1,6 @@
 // The settings in which calls are made.
-use crate::rows::Row;
-use crate::tokens::tokens_of;
+use bench_lower::rows::Row;
+use bench_lower::tokens::tokens_of;
 use std::alloc::Global;
 use std::test::Fail;
 use swc_context::context::{Context, EsVersion, Syntax};

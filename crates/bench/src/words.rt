@@ -1,8 +1,8 @@
 // Words and operators.
-use crate::rows::{Subject, answers, expect, row_of};
 use crate::settings::setting_of;
 use crate::shown::Shown;
-use crate::tokens::last_token;
+use bench_lower::rows::{Subject, answers, expect, row_of};
+use bench_lower::tokens::last_token;
 use std::alloc::{AllocError, Global};
 use std::test::Fail;
 use swc_context::atom::Atom;

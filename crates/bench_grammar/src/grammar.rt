@@ -1,7 +1,7 @@
 // The lists of tokens that the standard's productions derive, with their trees.
 use std::alloc::{AllocError, Global};
 
-/// The productions of ECMA-262, 13.1, 13.2 and 13.5 to 13.13, a line each: a symbol, what it is
+/// The productions of ECMA-262, 13.1, 13.2 and 13.5 to 13.13 but for methods, a line each: a symbol, what it is
 /// made of, and its tree, in which `_` stands for the tree of each symbol in turn. Behind `unless`
 /// stand the modes in which there is no such production. One that makes a symbol of another alone
 /// stands below those of the other.
@@ -31,7 +31,11 @@ Array = [ Elements , ] -> Array[_]
 Array = [ Elements , Elision ] -> Array[_, _]
 Other = this -> this
 Other = 1 -> 1
+Object = { } -> Object{}
+Object = { Properties } -> Object{_}
+Object = { Properties , } -> Object{_}
 Other = Array -> _
+Other = Object -> _
 Other = ( Expression ) -> Paren(_)
 Other = # Name -> #_
 Primary = Reference -> _
@@ -98,6 +102,15 @@ Elements = Elements , Expression -> _, _
 Elements = Elements , Elision Expression -> _, _, _
 Elements = Elements , Spread -> _, _
 Elements = Elements , Elision Spread -> _, _, _
+Key = Name -> _
+Key = 1 -> 1
+Key = [ Expression ] -> [_]
+Property = a -> a
+Property = a = Expression -> a = _
+Property = Key : Expression -> _: _
+Property = Spread -> _
+Properties = Property -> _
+Properties = Properties , Property -> _, _
 RelationNoIn = Shift -> _
 RelationNoIn = RelationNoIn < Shift -> Bin(<, _, _)
 RelationNoIn = RelationNoIn > Shift -> Bin(>, _, _)

@@ -50,6 +50,13 @@ a in [ ] , ... ( ) | without-in | 0 1 1 3 6 18 48
 a ?? || && - [ ] , ... | script | 0 1 2 8 26 91
 a let # - delete this [ ] , ... | module | 0 2 8 23 85 316
 a let # - delete this [ ] , ... | strict | 0 3 11 35 139 543
+a { } , : = | script | 0 1 1 1 1 3 5 9
+a { } , ... | script | 0 1 1 1 2 3 5 9
+a in 1 this { } : , | script | 0 3 1 10 7 47
+a { } [ ] , : ... | script | 0 1 2 3 8 21
+a { } , : = ?? || - | module | 0 1 2 6 16 44
+a in { } : = + | without-in | 0 1 2 4 7 17
+a { } ( ) : in | without-in | 0 1 1 2 1 5
 ";
 
 /// The lists of one token more.

@@ -20,30 +20,38 @@ use Rattle.swc_bodies.specs.Readings.{whole_span, Hook, begins as begins_own, be
 use Rattle.swc_bodies.specs.Readings.{is_function, is_async, is_class}
 use Rattle.swc_grammar.specs.Rule.{Rule, gives, never, take, check, peek, read, hear, sees, given, ◌>>=◌}
 use Rattle.swc_grammar.specs.Tokens.{tk, with_in, binary_of, prefix_of, is_rparen, is_power, is_closer, is_word_apart}
-use Rattle.swc_grammar.specs.Tokens.{is_stop, is_comma, is_dots, is_reference}
+use Rattle.swc_grammar.specs.Tokens.{is_stop, is_comma, is_dots, is_reference, is_rbracket, is_rbrace, is_lparen}
+use Rattle.swc_grammar.specs.Tokens.{is_colon, is_star, is_equals, is_word, is_get, ends_prop, follows_key}
 use Rattle.swc_grammar.specs.Trees.{to, bin_e, nullish_ok, logical_ok, exp_ok, is_unary, min_right}
 use Rattle.swc_grammar.specs.Symbols.{Symbol, Expr, Assign, Level, Unary, Primary, Literal, Elements, ElementsTail}
-use Rattle.swc_grammar.specs.Symbols.{Item, Answer, Body, Value}
+use Rattle.swc_grammar.specs.Symbols.{Item, Props, PropsTail, Prop, Key, AfterKey, Shell, Answer, Body, Value}
 use Rattle.swc_grammar.specs.Symbols.{begins_body, Side}
-use Rattle.swc_grammar.specs.Parts.{reference, any_name, lit_of, prefix_here, operator_here}
+use Rattle.swc_grammar.specs.Parts.{reference, any_name, lit_of, key_lit_of, prefix_here, operator_here}
 use Rattle.swc_grammar.specs.Grammar.{Production, ident-expr, lit, paren-expr, unary-primary, unary-op, exp-unary}
 use Rattle.swc_grammar.specs.Grammar.{exp-op, primary-literal}
 use Rattle.swc_grammar.specs.Grammar.{this-expr, array-lit, elements-end, elements-hole, elements-more, tail-end}
 use Rattle.swc_grammar.specs.Grammar.{tail-more, item-expr, item-spread, fn-expr, class-expr}
+use Rattle.swc_grammar.specs.Grammar.{object-lit, props-end, props-more, props-tail-end, props-tail-more}
+use Rattle.swc_grammar.specs.Grammar.{prop-spread, prop-short, prop-cover, prop-key, prop-generator, prop-async}
+use Rattle.swc_grammar.specs.Grammar.{prop-async-generator, prop-getter, after-value, after-shell, shell-block}
+use Rattle.swc_grammar.specs.Grammar.{key-name, key-literal, key-computed}
 use Rattle.swc_grammar.specs.Grammar.{level-up, bin-op, private-expr, assign-level, expr-assign}
 use Rattle.swc_grammar.specs.Reads.{Hears, Reads, by, Follows, gave, took, held, calm, part, heard, is_stop_for, Stops}
 use Rattle.swc_grammar.specs.Reads.{at-end, at-stop}
 use Rattle.swc_grammar.specs.Clean.{Out, and_then, first, Call, sym, climb, plan, rank_of, rank, allowed, exec}
 use Rattle.swc_grammar.specs.Clean.{operator_at, prefix_at}
 use Rattle.swc_grammar.specs.Clean.{Bound, Stop, left_ok, no_error, Choice, pick, chosen, expr, assign, unary, primary}
-use Rattle.swc_grammar.specs.Clean.{literal, elements, elements_tail, item, is_lit, turn, turned, step, run}
-use Rattle.swc_grammar.specs.Firsts.{starts, begins_primary, begins_expression}
+use Rattle.swc_grammar.specs.Clean.{literal, elements, elements_tail, item, props, props_tail, prop, key, after_key}
+use Rattle.swc_grammar.specs.Clean.{shell, prop_word, is_lit, turn, turned, step, run}
+use Rattle.swc_grammar.specs.Firsts.{starts, begins_primary, begins_expression, begins_key, begins_prop}
 use Rattle.swc_grammar.proofs.Bodies.{hears-run}
 use Rattle.swc_grammar.proofs.Good.{Good, good}
 use Rattle.swc_grammar.proofs.Answers.{both}
 use Rattle.swc_grammar.proofs.Only.{only-lparen, only-rparen, only-hash, only-power, only-this, only-lbracket}
-use Rattle.swc_grammar.proofs.Only.{only-rbracket, only-comma, only-dots, only-class}
-use Rattle.swc_grammar.proofs.Firsts.{Under, under-held, given-held, begins, placed-op, reference-first}
+use Rattle.swc_grammar.proofs.Only.{only-rbracket, only-comma, only-dots, only-class, only-brace, only-rbrace}
+use Rattle.swc_grammar.proofs.Only.{only-colon, only-star, only-equals}
+use Rattle.swc_grammar.proofs.Firsts.{Under, under-held, given-held, begins, placed-op, reference-first, name-first}
+use Rattle.swc_grammar.proofs.Firsts.{async-word, get-word}
 use Rattle.swc_grammar.proofs.Knot.{knot}
 use Rattle.swc_grammar.proofs.Levels.{bound-some, bound-above, min-right-same}
 
@@ -92,6 +100,74 @@ pub stops-bound : {ys : List TokenAndSpan} (s : Symbol) (c : Context) → Stops 
 stops-bound s c at-end = λ op e. absurd cc
 stops-bound s c (at-stop {t = t} h) =
     let n = stop-token c t.token t.had_line_break (stop-any s t h) in λ op e. absurd cc
+
+-- what stands behind a property is no operator
+ends-prop-bound : (c : Context) (ys : List TokenAndSpan) → at_token ends_prop (first ys) ≡ true → Bound c 0 ys
+ends-prop-bound c [] h = absurd cc
+ends-prop-bound c (a ∷ us) h = by-token a.token a.had_line_break a.span h
+  where
+    by-token : (t : Token) (b : Bool) (s : Span) → ends_prop t ≡ true → Bound c 0 (tk t b s ∷ us)
+    by-token token.Comma b s h = λ op k. absurd cc
+    by-token token.RBrace b s h = λ op k. absurd cc
+    by-token t b s h = absurd cc
+
+-- Tests of the token behind the first one of a property: at most one holds.
+equals-apart : (o : Option TokenAndSpan) → at_token is_equals o ≡ true → at_token ends_prop o ≡ false
+equals-apart None h = refl
+equals-apart (Some a) h = only-equals (λ t. ends_prop t ≡ false) refl a.token h
+
+follows-apart : (o : Option TokenAndSpan) → at_token follows_key o ≡ true
+    → (at_token ends_prop o ≡ false) × (at_token is_equals o ≡ false)
+follows-apart None h = absurd cc
+follows-apart (Some a) h = by-token a.token h
+  where
+    by-token : (t : Token) → follows_key t ≡ true → (ends_prop t ≡ false) × (is_equals t ≡ false)
+    by-token token.Colon h = (refl, refl)
+    by-token token.LParen h = (refl, refl)
+    by-token t h = absurd cc
+
+-- a token that begins a key, or `*`
+abbrev begins_method : Token → Bool
+begins_method t = begins_key t || is_star t
+
+method-apart : (o : Option TokenAndSpan) → at_token begins_method o ≡ true
+    → (at_token ends_prop o ≡ false) × (at_token is_equals o ≡ false) × (at_token follows_key o ≡ false)
+method-apart None h = absurd cc
+method-apart (Some a) h = by-token a.token h
+  where
+    by-token : (t : Token) → begins_method t ≡ true
+        → (ends_prop t ≡ false) × (is_equals t ≡ false) × (follows_key t ≡ false)
+    by-token token.Comma h = absurd cc
+    by-token token.RBrace h = absurd cc
+    by-token (token.AssignOp o) h = absurd cc
+    by-token token.Colon h = absurd cc
+    by-token token.LParen h = absurd cc
+    by-token t h = (refl, refl, refl)
+
+key-begins-method : (o : Option TokenAndSpan) → at_token begins_key o ≡ true
+    → (at_token begins_method o ≡ true) × (at_token is_star o ≡ false)
+key-begins-method None h = absurd cc
+key-begins-method (Some a) h = by-token a.token h
+  where
+    by-token : (t : Token) → begins_key t ≡ true → (begins_method t ≡ true) × (is_star t ≡ false)
+    by-token (token.BinOp b) h = absurd cc
+    by-token t h = rw h (refl, refl)
+
+star-begins-method : (o : Option TokenAndSpan) → at_token is_star o ≡ true → at_token begins_method o ≡ true
+star-begins-method None h = absurd cc
+star-begins-method (Some a) h = or-right (begins_key a.token) (is_star a.token) h
+
+-- the words `get` and `async` are two
+not-get : (w : List ℕ) → is_text w (codes "async") ≡ true → is_text w (codes "get") ≡ false
+not-get [] h = absurd cc
+not-get (x ∷ xs) h =
+    let (a, rest) = both _ _ h in
+    let same : x ≡ 97 = eqb-true x 97 a in
+    rw same refl
+
+not-get-token : (t : Token) → is_async t ≡ true → is_get t ≡ false
+not-get-token (token.Word (word.Ident w)) h = not-get w h
+not-get-token t h = absurd cc
 
 -- Of a level the claim holds for climbing on from any precedence below it: so what a level above read needs no second
 -- climbing. And no `**` follows, since the right operand of one before would take it.
@@ -205,6 +281,12 @@ module _ {F C K : Type 0} (hook : Hook F C K) where
   quiet-rparen c a us h =
       only-rparen (λ v. Stop Assign c (tk v a.had_line_break a.span ∷ us)) (λ op k. absurd cc) a.token h
 
+  -- nor with `]`
+  quiet-rbracket : (c : Context) (a : TokenAndSpan) (us : List TokenAndSpan) → is_rbracket a.token ≡ true
+      → Stop Assign c (a ∷ us)
+  quiet-rbracket c a us h =
+      only-rbracket (λ v. Stop Assign c (tk v a.had_line_break a.span ∷ us)) (λ op k. absurd cc) a.token h
+
   -- an item is followed by a comma or a bracket, with which none goes on
   quiet-tail : (c : Context) (a : TokenAndSpan) (us : List TokenAndSpan) → starts ElementsTail c a.token ≡ true
       → Stop Item c (a ∷ us)
@@ -306,6 +388,9 @@ module _ {F C K : Type 0} (hook : Hook F C K) where
   picked-primary {c = c} class-expr (heard {ms = ms} h d) =
       subst (λ v. primary {F = F} {C = C} {K = K} c v ≡ pick class-expr) (sym_path h.list)
       (class-picks c (h.own ++ ms) (class-more h.own ms h.begins))
+  picked-primary {c = c} object-lit (took {a = a} {xs = us} (held h d)) =
+      only-brace (λ v. primary {F = F} {C = C} {K = K} c (tk v a.had_line_break a.span ∷ us)
+      ≡ pick object-lit) refl a.token h
   picked-primary {c = c} paren-expr (took {a = a} {xs = us} (held h d)) =
       only-lparen (λ v. primary {F = F} {C = C} {K = K} c (tk v a.had_line_break a.span ∷ us)
       ≡ pick paren-expr) refl a.token h
@@ -363,6 +448,171 @@ module _ {F C K : Type 0} (hook : Hook F C K) where
       only-dots (λ v. item {F = F} {C = C} {K = K} c (tk v a.had_line_break a.span ∷ us)
       ≡ pick item-spread) refl a.token h
 
+  -- properties, keys and methods
+  not-brace-first : (xs : List TokenAndSpan) → at_token begins_prop (first xs) ≡ true
+      → at_token is_rbrace (first xs) ≡ false
+  not-brace-first [] h = refl
+  not-brace-first (a ∷ us) h = by-token a.token h
+    where
+      by-token : (t : Token) → begins_prop t ≡ true → is_rbrace t ≡ false
+      by-token token.RBrace h = absurd cc
+      by-token t h = refl
+
+  picked-props : {c : Context} {r : Side F C K Props} {xs ys : List TokenAndSpan} {t : Tree F C K}
+      (p : Production Props c r)
+      → Follows hook Props r xs ys t → props c xs ≡ pick p
+  picked-props {c = c} props-end (took {a = a} {xs = us} (held h d)) =
+      only-rbrace (λ v. props {F = F} {C = C} {K = K} c (tk v a.had_line_break a.span ∷ us)
+      ≡ pick props-end) refl a.token h
+  picked-props {c = c} props-more (part {xs = xs} e d) = rw (not-brace-first xs (begins e)) refl
+
+  picked-props-tail : {c : Context} {r : Side F C K PropsTail} {xs ys : List TokenAndSpan} {t : Tree F C K}
+      (p : Production PropsTail c r)
+      → Follows hook PropsTail r xs ys t → props_tail c xs ≡ pick p
+  picked-props-tail {c = c} props-tail-end (took {a = a} {xs = us} (held h d)) =
+      only-rbrace (λ v. props_tail {F = F} {C = C} {K = K} c (tk v a.had_line_break a.span ∷ us)
+      ≡ pick props-tail-end) refl a.token h
+  picked-props-tail {c = c} props-tail-more (took {a = a} {xs = us} (held h d)) =
+      only-comma (λ v. props_tail {F = F} {C = C} {K = K} c (tk v a.had_line_break a.span ∷ us)
+      ≡ pick props-tail-more) refl a.token h
+
+  key-word : (c : Context) (t : Token) (b : Bool) (s : Span) (us : List TokenAndSpan) → is_word t ≡ true
+      → key {F = F} {C = C} {K = K} c (tk t b s ∷ us) ≡ pick key-name
+  key-word c (token.Word w) b s us h = refl
+  key-word c t b s us h = absurd cc
+
+  key-lit-token : (c : Context) (t : Token) (b : Bool) (s : Span) (us : List TokenAndSpan) (e : Tree F C K)
+      → key_lit_of t s ≡ Some e → key {F = F} {C = C} {K = K} c (tk t b s ∷ us) ≡ pick key-literal
+  key-lit-token c (token.Num raw) b s us e h = refl
+  key-lit-token c (token.BigInt raw) b s us e h = refl
+  key-lit-token c (token.Str value raw) b s us e h = refl
+  key-lit-token c t b s us e h = absurd cc
+
+  picked-key : {c : Context} {r : Side F C K Key} {xs ys : List TokenAndSpan} {t : Tree F C K}
+      (p : Production Key c r)
+      → Follows hook Key r xs ys t → key c xs ≡ pick p
+  picked-key {c = c} key-name (took {a = a} {xs = us} d) =
+      let (n, h, k) = given-held (any_name c a.token a.span) _ d in
+      key-word c a.token a.had_line_break a.span us (name-first c a.token a.span n h)
+  picked-key {c = c} key-literal (took {a = a} {xs = us} d) =
+      let (e, h, k) = given-held (key_lit_of a.token a.span) _ d in
+      key-lit-token c a.token a.had_line_break a.span us e h
+  picked-key {c = c} key-computed (took {a = a} {xs = us} (held h d)) =
+      only-lbracket (λ v. key {F = F} {C = C} {K = K} c (tk v a.had_line_break a.span ∷ us)
+      ≡ pick key-computed) refl a.token h
+
+  not-colon-first : (xs : List TokenAndSpan) → at_token is_lparen (first xs) ≡ true
+      → at_token is_colon (first xs) ≡ false
+  not-colon-first [] h = refl
+  not-colon-first (a ∷ us) h = only-lparen (λ t. is_colon t ≡ false) refl a.token h
+
+  picked-after : {c : Context} {r : Side F C K AfterKey} {xs ys : List TokenAndSpan} {t : Tree F C K}
+      (p : Production AfterKey c r)
+      → Follows hook AfterKey r xs ys t → after_key c xs ≡ pick p
+  picked-after {c = c} after-value (took {a = a} {xs = us} (held h d)) =
+      only-colon (λ v. after_key {F = F} {C = C} {K = K} c (tk v a.had_line_break a.span ∷ us)
+      ≡ pick after-value) refl a.token h
+  picked-after after-shell (part {xs = xs} e d) = rw (not-colon-first xs (begins e)) refl
+
+  -- a property that begins with a word, by what stands behind it
+  word-picks : (c : Context) (a : TokenAndSpan) (us : List TokenAndSpan) (x : Choice F C K Prop c)
+      → is_word a.token ≡ true
+      → prop_word {F = F} {C = C} {K = K} {c = c} (Some a) (first us) ≡ x → prop c (a ∷ us) ≡ x
+  word-picks c a us x h e = by-token a.token a.had_line_break a.span h e
+    where
+      by-token : (t : Token) (b : Bool) (s : Span) → is_word t ≡ true
+          → prop_word {F = F} {C = C} {K = K} {c = c} (Some (tk t b s)) (first us) ≡ x
+          → prop c (tk t b s ∷ us) ≡ x
+      by-token (token.Word w) b s h e = e
+      by-token t b s h e = absurd cc
+
+  async-picks : (c : Context) (a : TokenAndSpan) (us : List TokenAndSpan) → is_async a.token ≡ true
+      → at_token begins_key (first us) ≡ true → prop {F = F} {C = C} {K = K} c (a ∷ us) ≡ pick prop-async
+  async-picks c a us h g =
+      let (m, n) = key-begins-method (first us) g in
+      let (x, y, z) = method-apart (first us) m in
+      word-picks c a us (pick prop-async) (async-word a.token h) (rw (x, y, z, not-get-token a.token h, h, n) refl)
+
+  async-star-picks : (c : Context) (a : TokenAndSpan) (us : List TokenAndSpan) → is_async a.token ≡ true
+      → at_token is_star (first us) ≡ true → prop {F = F} {C = C} {K = K} c (a ∷ us) ≡ pick prop-async-generator
+  async-star-picks c a us h g =
+      let (x, y, z) = method-apart (first us) (star-begins-method (first us) g) in
+      word-picks c a us (pick prop-async-generator) (async-word a.token h)
+      (rw (x, y, z, not-get-token a.token h, h, g) refl)
+
+  get-picks : (c : Context) (a : TokenAndSpan) (us : List TokenAndSpan) → is_get a.token ≡ true
+      → at_token begins_key (first us) ≡ true → prop {F = F} {C = C} {K = K} c (a ∷ us) ≡ pick prop-getter
+  get-picks c a us h g =
+      let (x, y, z) = method-apart (first us) (key-begins-method (first us) g).0 in
+      word-picks c a us (pick prop-getter) (get-word a.token h) (rw (x, y, z, h) refl)
+
+  -- what is followed behind a token
+  gave-all : {s : Symbol} {u t : Answer F C K s} {xs ys : List TokenAndSpan}
+      → Follows hook s (gives u) xs ys t → xs ≡ ys
+  gave-all gave = refl
+
+  checked-gave : {s : Symbol} {b : Bool} {u t : Answer F C K s} {xs ys : List TokenAndSpan}
+      → Follows hook s (check b (gives u)) xs ys t → xs ≡ ys
+  checked-gave (held h d) = gave-all d
+
+  next-passes : (p : Token → Bool) {s : Symbol} {r : TokenAndSpan → Side F C K s} {xs ys : List TokenAndSpan}
+      {t : Answer F C K s} → Follows hook s (take (λ a. check (p a.token) (r a))) xs ys t
+      → at_token p (first xs) ≡ true
+  next-passes p (took (held h d)) = h
+
+  checked-next : (p : Token → Bool) {s : Symbol} {b : Bool} {r : TokenAndSpan → Side F C K s}
+      {xs ys : List TokenAndSpan} {t : Answer F C K s}
+      → Follows hook s (check b (take (λ a. check (p a.token) (r a)))) xs ys t → at_token p (first xs) ≡ true
+  checked-next p (held h d) = next-passes p d
+
+  -- a key is a word, or the property is picked by its first token
+  key-picks : {c : Context} {xs ms : List TokenAndSpan} {k : Tree F C K} → Reads hook Key c xs ms k
+      → at_token follows_key (first ms) ≡ true → prop {F = F} {C = C} {K = K} c xs ≡ pick prop-key
+  key-picks {c = c} {ms = ms} (by key-name (took {a = a} {xs = us} d)) g =
+      let (n, h, k) = given-held (any_name c a.token a.span) _ d in
+      let same = gave-all k in
+      let f = subst (λ v. at_token follows_key (first v) ≡ true) (sym_path same) g in
+      let (x, y) = follows-apart (first us) f in
+      word-picks c a us (pick prop-key) (name-first c a.token a.span n h) (rw (x, y, f) refl)
+  key-picks {c = c} (by key-literal (took {a = a} {xs = us} d)) g =
+      let (e, h, k) = given-held (key_lit_of a.token a.span) _ d in
+      by-token a.token a.had_line_break a.span e h
+    where
+      by-token : (t : Token) (b : Bool) (s : Span) (e : Tree F C K) → key_lit_of t s ≡ Some e
+          → prop {F = F} {C = C} {K = K} c (tk t b s ∷ us) ≡ pick prop-key
+      by-token (token.Num raw) b s e h = refl
+      by-token (token.BigInt raw) b s e h = refl
+      by-token (token.Str value raw) b s e h = refl
+      by-token t b s e h = absurd cc
+  key-picks {c = c} (by key-computed (took {a = a} {xs = us} (held h d))) g =
+      only-lbracket (λ v. prop {F = F} {C = C} {K = K} c (tk v a.had_line_break a.span ∷ us) ≡ pick prop-key) refl
+      a.token h
+
+  picked-prop : {c : Context} {r : Side F C K Prop} {xs ys : List TokenAndSpan} {t : Tree F C K}
+      (p : Production Prop c r) → Stop Prop c ys
+      → Follows hook Prop r xs ys t → prop c xs ≡ pick p
+  picked-prop {c = c} prop-spread stop (took {a = a} {xs = us} (held h d)) =
+      only-dots (λ v. prop {F = F} {C = C} {K = K} c (tk v a.had_line_break a.span ∷ us) ≡ pick prop-spread) refl
+      a.token h
+  picked-prop {c = c} prop-generator stop (took {a = a} {xs = us} (held h d)) =
+      only-star (λ v. prop {F = F} {C = C} {K = K} c (tk v a.had_line_break a.span ∷ us) ≡ pick prop-generator) refl
+      a.token h
+  picked-prop {c = c} prop-short stop (took {a = a} {xs = us} d) =
+      let (n, h, k) = given-held (any_name c a.token a.span) _ d in
+      let e = subst (λ v. at_token ends_prop (first v) ≡ true) (sym_path (checked-gave k)) stop in
+      word-picks c a us (pick prop-short) (name-first c a.token a.span n h) (rw e refl)
+  picked-prop {c = c} prop-cover stop (took {a = a} {xs = us} d) =
+      let (n, h, k) = given-held (any_name c a.token a.span) _ d in
+      let e = checked-next is_equals k in
+      word-picks c a us (pick prop-cover) (name-first c a.token a.span n h) (rw (equals-apart (first us) e, e) refl)
+  picked-prop prop-key stop (part e (part e' d)) = key-picks e (begins e')
+  picked-prop {c = c} prop-async stop (took {a = a} {xs = us} (held h (part e d))) =
+      async-picks c a us h (begins e)
+  picked-prop {c = c} prop-async-generator stop (took {a = a} {xs = us} (held h d)) =
+      async-star-picks c a us h (next-passes is_star d)
+  picked-prop {c = c} prop-getter stop (took {a = a} {xs = us} (held h (part e d))) =
+      get-picks c a us h (begins e)
+
   -- where a symbol's reading stops, what a picked production reads stops too
   ready-unary : {c : Context} {r : Side F C K Unary} (ys : List TokenAndSpan) → Production Unary c r
       → Ready (Some 10) ys r
@@ -376,9 +626,10 @@ module _ {F C K : Type 0} (hook : Hook F C K) where
   ready-primary ys this-expr = λ a h. tt
   ready-primary ys primary-literal = (refl, λ e. (tt, tt))
   ready-primary ys array-lit = λ a h. (refl, λ e. (tt, tt))
+  ready-primary ys object-lit = λ a h. (refl, λ e. (tt, tt))
   ready-primary ys fn-expr = λ v s. tt
   ready-primary ys class-expr = λ v s. tt
-  ready-primary ys (paren-expr {c = c}) = λ a h. (refl, λ e. (λ b us. quiet-rparen (with_in c) b us, λ b k. tt))
+  ready-primary ys (paren-expr {c = c}) = λ a h. (refl, λ e. (λ b us h n. quiet-rparen (with_in c) b us h, λ b k n. tt))
   ready-primary ys (private-expr {c = c}) = λ a h b. ready-given _ _ (any_name c b.token b.span) _ (λ n h1. tt)
 
   ready-elements : {c : Context} {r : Side F C K Elements} (ys : List TokenAndSpan) → Production Elements c r
@@ -396,6 +647,40 @@ module _ {F C K : Type 0} (hook : Hook F C K) where
       → Ready (Some 15) ys r
   ready-item ys stop item-expr = (refl, λ e. (stop, tt))
   ready-item ys stop item-spread = λ a h. (refl, λ e. (stop, tt))
+
+  ready-props : {c : Context} {r : Side F C K Props} (ys : List TokenAndSpan) → Production Props c r
+      → Ready (Some 5) ys r
+  ready-props ys props-end = λ a h. tt
+  ready-props ys props-more = (refl, λ p. (λ a us h. h, (refl, λ ps. (tt, tt))))
+
+  ready-props-tail : {c : Context} {r : Side F C K PropsTail} (ys : List TokenAndSpan) → Production PropsTail c r
+      → Ready (Some 2) ys r
+  ready-props-tail ys props-tail-end = λ a h. tt
+  ready-props-tail ys props-tail-more = λ a h. (refl, λ ps. (tt, tt))
+
+  ready-prop : {c : Context} {r : Side F C K Prop} (ys : List TokenAndSpan) → Stop Prop c ys → Production Prop c r
+      → Ready (Some 4) ys r
+  ready-prop ys stop (prop-spread {c = c}) = λ a h. (refl, λ e. (ends-prop-bound (with_in c) ys stop, tt))
+  ready-prop ys stop (prop-short {c = c}) = λ a. ready-given _ _ (any_name c a.token a.span) _ (λ n h r. tt)
+  ready-prop ys stop (prop-cover {c = c}) = λ a. ready-given _ _ (any_name c a.token a.span) _
+      (λ n h r b k. (refl, λ e. (ends-prop-bound (with_in c) ys stop, tt)))
+  ready-prop ys stop (prop-key {c = c}) =
+      (refl, λ k. (λ a us h. tt, (refl, λ x. (ends-prop-bound (with_in c) ys stop, tt))))
+  ready-prop ys stop prop-generator = λ a h. (refl, λ k. (λ b us g. tt, (refl, λ f. (tt, tt))))
+  ready-prop ys stop prop-async = λ a h. (refl, λ k. (λ b us g. tt, (refl, λ f. (tt, tt))))
+  ready-prop ys stop prop-async-generator = λ a h b j. (refl, λ k. (λ d us g. tt, (refl, λ f. (tt, tt))))
+  ready-prop ys stop prop-getter = λ a h. (refl, λ k. (λ b us g. tt, (refl, λ f. (tt, tt))))
+
+  ready-key : {c : Context} {r : Side F C K Key} (ys : List TokenAndSpan) → Production Key c r → Ready (Some 3) ys r
+  ready-key ys (key-name {c = c}) = λ a. ready-given _ _ (any_name c a.token a.span) _ (λ n h. tt)
+  ready-key ys key-literal = λ a. ready-given _ _ (key_lit_of a.token a.span) _ (λ e h. tt)
+  ready-key ys (key-computed {c = c}) =
+      λ a h. (refl, λ e. (λ b us g. quiet-rbracket (with_in c) b us g, λ b g. tt))
+
+  ready-after : {c : Context} {r : Side F C K AfterKey} (ys : List TokenAndSpan) → Stop AfterKey c ys
+      → Production AfterKey c r → Ready (Some 3) ys r
+  ready-after ys stop after-value = λ a h. (refl, λ e. (stop, tt))
+  ready-after ys stop after-shell = (refl, λ f. (tt, tt))
 
   -- a side followed, with the claim of each part
   data Ran : (s : Symbol) → Side F C K s → List TokenAndSpan → List TokenAndSpan → Answer F C K s → Type 0 where
@@ -505,6 +790,24 @@ module _ {F C K : Type 0} (hook : Hook F C K) where
   claim-by {s = Item} {c = c} {xs = xs} {ys = ys} p d = λ stop.
       picks Item c xs p (item c xs) refl (picked-item p (forget d))
       (side-reads (Some 15) d (ready-item {c = c} ys stop p))
+  claim-by {s = Props} {c = c} {xs = xs} {ys = ys} p d = λ stop.
+      picks Props c xs p (props c xs) refl (picked-props p (forget d))
+      (side-reads (Some 5) d (ready-props {c = c} ys p))
+  claim-by {s = PropsTail} {c = c} {xs = xs} {ys = ys} p d = λ stop.
+      picks PropsTail c xs p (props_tail c xs) refl (picked-props-tail p (forget d))
+      (side-reads (Some 2) d (ready-props-tail {c = c} ys p))
+  claim-by {s = Prop} {c = c} {xs = xs} {ys = ys} p d = λ stop.
+      picks Prop c xs p (prop c xs) refl (picked-prop p stop (forget d))
+      (side-reads (Some 4) d (ready-prop {c = c} ys stop p))
+  claim-by {s = Key} {c = c} {xs = xs} {ys = ys} p d = λ stop.
+      picks Key c xs p (key c xs) refl (picked-key p (forget d))
+      (side-reads (Some 3) d (ready-key {c = c} ys p))
+  claim-by {s = AfterKey} {c = c} {xs = xs} {ys = ys} p d = λ stop.
+      picks AfterKey c xs p (after_key c xs) refl (picked-after p (forget d))
+      (side-reads (Some 3) d (ready-after {c = c} ys stop p))
+  claim-by {c = c} {xs = xs} (shell-block {is_async = is_async} {is_generator = is_generator}) d = λ stop.
+      picks (Shell is_async is_generator) c xs shell-block (shell is_async is_generator c xs) refl refl
+      (side-reads (Some 2) d (λ a h b k v s. tt))
   claim-by {c = c} {xs = xs} lit d = λ stop.
       picks Literal c xs lit (literal c xs) refl refl
       (side-reads (Some 6) d (λ a. ready-given _ _ (lit_of a.token a.span) _ (λ e h. tt)))

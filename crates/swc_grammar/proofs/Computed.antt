@@ -9,7 +9,7 @@ use Rattle.swc_ast.specs.Tree.{Tree}
 use Rattle.swc_bodies.specs.Readings.{Hook}
 use Rattle.swc_grammar.specs.Symbols.{Expr}
 use Rattle.swc_grammar.specs.Clean.{Out, sym, run}
-use Rattle.swc_grammar.proofs.Texts.{this_word, this_word_tree, items, items_tree, no_comma_between}
+use Rattle.swc_grammar.proofs.Blocks.{braces}
 use Rattle.swc_grammar.proofs.Texts.{no_in, script, module_code, class_field, generator, word_at, name_at, ident}
 use Rattle.swc_grammar.proofs.Texts.{product_in_sum, product_in_sum_tree}
 use Rattle.swc_grammar.proofs.Texts.{two_sums, two_sums_tree, grouped_name, grouped_name_tree, sum_in_product}
@@ -35,6 +35,11 @@ use Rattle.swc_grammar.proofs.Texts.{lone_minus, closer, empty_parens}
 use Rattle.swc_grammar.proofs.Texts.{half_sum, half_number_sum, or_after_default, default_after_or, default_after_and}
 use Rattle.swc_grammar.proofs.Texts.{async_word, if_word, two_names}
 use Rattle.swc_grammar.proofs.Texts.{unclosed}
+use Rattle.swc_grammar.proofs.Texts.{this_word, this_word_tree, items, items_tree, pair_and_name, pair_and_name_tree}
+use Rattle.swc_grammar.proofs.Texts.{keys, keys_tree, cover_name, cover_name_tree, async_generator}
+use Rattle.swc_grammar.proofs.Texts.{async_generator_tree, method_and_getter, method_and_getter_tree}
+use Rattle.swc_grammar.proofs.Texts.{cover_in_parens, lone_key, names_in_braces, getter_with_value, reserved_name}
+use Rattle.swc_grammar.proofs.Texts.{methods_named_get, methods_named_get_tree}
 
 module _ {F C K : Type 0} (hook : Hook F C K) where
   unfoldable pub answer : Context → List TokenAndSpan → Out (Tree F C K)
@@ -207,6 +212,31 @@ module _ {F C K : Type 0} (hook : Hook F C K) where
   unfolding answer
   implements_word-computed = refl
 
+  -- this
+  pub this_word-computed : answer script this_word ≡ Some (this_word_tree, [])
+  unfolding answer
+  this_word-computed = refl
+
+  -- [a, , ...b]
+  pub items-computed : answer script items ≡ Some (items_tree, [])
+  unfolding answer
+  items-computed = refl
+
+  -- {a: 1, b}
+  pub pair_and_name-computed : answer script pair_and_name ≡ Some (pair_and_name_tree, [])
+  unfolding answer
+  pair_and_name-computed = refl
+
+  -- {'s': a, get: b, ...c,}
+  pub keys-computed : answer script keys ≡ Some (keys_tree, [])
+  unfolding answer
+  keys-computed = refl
+
+  -- {a = 1}
+  pub cover_name-computed : answer script cover_name ≡ Some (cover_name_tree, [])
+  unfolding answer
+  cover_name-computed = refl
+
   -- no tokens
   pub no_tokens-computed : answer script [] ≡ None
   unfolding answer
@@ -287,6 +317,31 @@ module _ {F C K : Type 0} (hook : Hook F C K) where
   unfolding answer
   lone_minus-computed = refl
 
+  -- ({a = 1})
+  pub cover_in_parens-computed : answer script cover_in_parens ≡ None
+  unfolding answer
+  cover_in_parens-computed = refl
+
+  -- {1}
+  pub lone_key-computed : answer script lone_key ≡ None
+  unfolding answer
+  lone_key-computed = refl
+
+  -- {a b}
+  pub names_in_braces-computed : answer script names_in_braces ≡ None
+  unfolding answer
+  names_in_braces-computed = refl
+
+  -- {get a: 1}
+  pub getter_with_value-computed : answer script getter_with_value ≡ None
+  unfolding answer
+  getter_with_value-computed = refl
+
+  -- {class}
+  pub reserved_name-computed : answer script reserved_name ≡ None
+  unfolding answer
+  reserved_name-computed = refl
+
   -- delete a, in a module
   pub delete_name-module : answer module_code delete_name ≡ None
   unfolding answer
@@ -312,17 +367,22 @@ module _ {F C K : Type 0} (hook : Hook F C K) where
   unfolding answer
   arguments_word-field = refl
 
-  -- this
-  pub this_word-computed : answer script this_word ≡ Some (this_word_tree, [])
+-- with methods, over the hook that reads braces
+module _ {F C : Type 0} where
+  -- {async *g(){}}
+  pub async_generator-computed : answer (braces {F = F} {C = C}) script async_generator
+      ≡ Some (async_generator_tree, [])
   unfolding answer
-  this_word-computed = refl
+  async_generator-computed = refl
 
-  -- [a, , ...b]
-  pub items-computed : answer script items ≡ Some (items_tree, [])
+  -- {m(){x}, get [k]() {}}
+  pub method_and_getter-computed : answer (braces {F = F} {C = C}) script method_and_getter
+      ≡ Some (method_and_getter_tree, [])
   unfolding answer
-  items-computed = refl
+  method_and_getter-computed = refl
 
-  -- [a b]
-  pub no_comma_between-computed : answer script no_comma_between ≡ None
+  -- {get(){}, async get(){}}
+  pub methods_named_get-computed : answer (braces {F = F} {C = C}) script methods_named_get
+      ≡ Some (methods_named_get_tree, [])
   unfolding answer
-  no_comma_between-computed = refl
+  methods_named_get-computed = refl

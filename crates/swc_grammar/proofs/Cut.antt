@@ -14,8 +14,12 @@ use Rattle.swc_grammar.specs.Grammar.{Production, ident-expr, lit, paren-expr, u
 use Rattle.swc_grammar.specs.Grammar.{exp-op, primary-literal}
 use Rattle.swc_grammar.specs.Grammar.{this-expr, array-lit, elements-end, elements-hole, elements-more, tail-end}
 use Rattle.swc_grammar.specs.Grammar.{tail-more, item-expr, item-spread, fn-expr, class-expr}
+use Rattle.swc_grammar.specs.Grammar.{object-lit, props-end, props-more, props-tail-end, props-tail-more}
+use Rattle.swc_grammar.specs.Grammar.{prop-spread, prop-short, prop-cover, prop-key, prop-generator, prop-async}
+use Rattle.swc_grammar.specs.Grammar.{prop-async-generator, prop-getter, after-value, after-shell, shell-block}
+use Rattle.swc_grammar.specs.Grammar.{key-name, key-literal, key-computed}
 use Rattle.swc_grammar.specs.Grammar.{level-up, bin-op, private-expr, assign-level, expr-assign}
-use Rattle.swc_grammar.specs.Parts.{reference, any_name, lit_of, prefix_here, operator_here}
+use Rattle.swc_grammar.specs.Parts.{reference, any_name, lit_of, key_lit_of, prefix_here, operator_here}
 use Rattle.swc_grammar.specs.Reads.{Hears, Reads, by, Follows, gave, took, held, calm, part, heard}
 
 cut-calm : {zs xs xs' : List TokenAndSpan} (p : TokenAndSpan → Bool) → Cut zs xs xs' → sees p xs ≡ false
@@ -148,6 +152,25 @@ module _ {F C K : Type 0} where
   blind item-spread = λ a e. tt
   blind fn-expr = λ v s. tt
   blind class-expr = λ v s. tt
+  blind object-lit = λ a ps. tt
+  blind props-end = λ a. tt
+  blind props-more = λ p ps. tt
+  blind props-tail-end = λ a. tt
+  blind props-tail-more = λ a ps. tt
+  blind prop-spread = λ a e. tt
+  blind (prop-short {c = c}) = λ a. blind-given (any_name c a.token a.span) _ (λ n. tt)
+  blind (prop-cover {c = c}) = λ a. blind-given (any_name c a.token a.span) _ (λ n b e. tt)
+  blind prop-key = λ k x. tt
+  blind prop-generator = λ a k f. tt
+  blind prop-async = λ a k f. tt
+  blind prop-async-generator = λ a b k f. tt
+  blind prop-getter = λ a k f. tt
+  blind after-value = λ a e. tt
+  blind after-shell = λ f. tt
+  blind shell-block = λ a b v s. tt
+  blind (key-name {c = c}) = λ a. blind-given (any_name c a.token a.span) _ (λ n. tt)
+  blind key-literal = λ a. blind-given (key_lit_of a.token a.span) _ (λ e. tt)
+  blind key-computed = λ a e b. tt
   blind paren-expr = λ a e b. tt
   blind unary-primary = λ e. tt
   blind unary-op = λ a. blind-given (prefix_here a.token a.span) _ (λ x e. tt)

@@ -18,26 +18,31 @@ use Rattle.swc_ast.specs.Tree.{Tree}
 use Rattle.swc_grammar.specs.Rule.{Rule, gives, never, take, check, peek, read, hear, given, ◌>>=◌}
 use Rattle.swc_bodies.specs.Readings.{Hook, is_function, is_async, is_class, is_function_here, begins as begins_own}
 use Rattle.swc_bodies.specs.Readings.{begins_function}
-use Rattle.swc_grammar.specs.Symbols.{Symbol, Expr, Assign, Level, Unary, Primary, Literal, Elements, ElementsTail, Item, Answer, Body, Value}
+use Rattle.swc_grammar.specs.Symbols.{Symbol, Expr, Assign, Level, Unary, Primary, Literal, Elements, ElementsTail}
+use Rattle.swc_grammar.specs.Symbols.{Item, Props, PropsTail, AfterKey, Answer, Body, Value}
 use Rattle.swc_grammar.specs.Symbols.{begins_body, Side}
 use Rattle.swc_grammar.specs.Names.{Spelling, may_refer}
 use Rattle.swc_grammar.specs.Tokens.{tk, binary_of, prefix_of, is_reference, ref_ok, is_put_off, is_comma, is_rbracket}
-use Rattle.swc_grammar.specs.Tokens.{is_dots}
-use Rattle.swc_grammar.specs.Parts.{reference, lit_of, with_place, prefix_here}
+use Rattle.swc_grammar.specs.Tokens.{is_dots, is_rbrace, is_colon, is_lparen, is_star, is_word, is_get}
+use Rattle.swc_grammar.specs.Parts.{reference, any_name, lit_of, key_lit_of, with_place, prefix_here}
 use Rattle.swc_grammar.specs.Grammar.{Production, ident-expr, lit, paren-expr, unary-primary, unary-op, exp-unary}
 use Rattle.swc_grammar.specs.Grammar.{exp-op, primary-literal}
 use Rattle.swc_grammar.specs.Grammar.{this-expr, array-lit, elements-end, elements-hole, elements-more, tail-end}
 use Rattle.swc_grammar.specs.Grammar.{tail-more, item-expr, item-spread, fn-expr, class-expr}
+use Rattle.swc_grammar.specs.Grammar.{object-lit, props-end, props-more, props-tail-end, props-tail-more}
+use Rattle.swc_grammar.specs.Grammar.{prop-spread, prop-short, prop-cover, prop-key, prop-generator, prop-async}
+use Rattle.swc_grammar.specs.Grammar.{prop-async-generator, prop-getter, after-value, after-shell, shell-block}
+use Rattle.swc_grammar.specs.Grammar.{key-name, key-literal, key-computed}
 use Rattle.swc_grammar.specs.Grammar.{level-up, bin-op, private-expr, assign-level, expr-assign}
 use Rattle.swc_grammar.specs.Reads.{Reads, by, Follows, gave, took, held, calm, part, heard}
 use Rattle.swc_grammar.specs.Clean.{first, is_lit, is_identifier}
 use Rattle.swc_grammar.specs.Firsts.{is_prefix_op, is_prefix, is_expression, is_first, starts, begins_primary}
-use Rattle.swc_grammar.specs.Firsts.{begins_expression}
+use Rattle.swc_grammar.specs.Firsts.{begins_expression, begins_key, begins_prop}
 use Rattle.swc_grammar.proofs.Answers.{both}
 use Rattle.swc_grammar.proofs.Bodies.{body-some}
 use Rattle.swc_grammar.proofs.Cut.{follows-length}
 use Rattle.swc_grammar.proofs.Only.{only-lparen, only-hash, only-this, only-lbracket, only-rbracket, only-comma, only-dots}
-use Rattle.swc_grammar.proofs.Only.{only-class}
+use Rattle.swc_grammar.proofs.Only.{only-class, only-brace, only-rbrace, only-colon, only-star}
 
 -- X holds where the rest of a side, behind the token that it tests, can be followed
 abbrev pub Under : {F C K A : Type 0} → Type 0 → Rule Symbol (Answer F C K) Body (Value F C K) A → Type 0
@@ -132,6 +137,36 @@ reference-first c (token.Word w) s n h =
     (own, or-left (is_identifier c (token.Word w)) (is_first (token.Word w)) own)
 reference-first c t s n h = absurd cc
 
+-- keys and properties
+pub name-first : (c : Context) (t : Token) (s : Span) (n : Spelling) → any_name c t s ≡ Some n → is_word t ≡ true
+name-first c (token.Word w) s n h = refl
+name-first c t s n h = absurd cc
+
+pub word-key : (t : Token) → is_word t ≡ true → begins_key t ≡ true
+word-key (token.Word w) h = refl
+word-key t h = absurd cc
+
+pub key-lit-first : {F C K : Type 0} (t : Token) (s : Span) (e : Tree F C K) → key_lit_of t s ≡ Some e
+    → begins_key t ≡ true
+key-lit-first (token.Num raw) s e h = refl
+key-lit-first (token.BigInt raw) s e h = refl
+key-lit-first (token.Str value raw) s e h = refl
+key-lit-first t s e h = absurd cc
+
+key-prop : (t : Token) → begins_key t ≡ true → begins_prop t ≡ true
+key-prop t h = or-left (begins_key t) (is_dots t || is_star t) h
+
+pub async-word : (t : Token) → is_async t ≡ true → is_word t ≡ true
+async-word (token.Word w) h = refl
+async-word t h = absurd cc
+
+pub get-word : (t : Token) → is_get t ≡ true → is_word t ≡ true
+get-word (token.Word w) h = refl
+get-word t h = absurd cc
+
+word-prop : (t : Token) → is_word t ≡ true → begins_prop t ≡ true
+word-prop t h = key-prop t (word-key t h)
+
 first-own : (P : Token → Bool) (own us : List TokenAndSpan) → suc 0 ≤ length own → at_token P (first own) ≡ true
     → at_token P (first (own ++ us)) ≡ true
 first-own P [] us h k = absurd (omega arith)
@@ -180,6 +215,29 @@ module _ {F C K : Type 0} where
   opens (item-spread {c = c}) = λ a h. only-dots (λ t. starts Item c t ≡ true) refl a.token h
   opens (fn-expr {c = c}) = λ own h. function-first c own h
   opens (class-expr {c = c}) = λ own h. class-first c own h
+  opens (object-lit {c = c}) = λ a h. by-first c a.token (only-brace (λ t. is_first t ≡ true) refl a.token h)
+  opens (props-end {c = c}) = λ a h. only-rbrace (λ t. starts Props c t ≡ true) refl a.token h
+  opens props-more = λ t h. or-left (begins_prop t) (is_rbrace t) h
+  opens (props-tail-end {c = c}) = λ a h. only-rbrace (λ t. starts PropsTail c t ≡ true) refl a.token h
+  opens (props-tail-more {c = c}) = λ a h. only-comma (λ t. starts PropsTail c t ≡ true) refl a.token h
+  opens prop-spread = λ a h. only-dots (λ t. begins_prop t ≡ true) refl a.token h
+  opens (prop-short {c = c}) = λ a. under-given _ (any_name c a.token a.span) _
+      (λ n h r. word-prop a.token (name-first c a.token a.span n h))
+  opens (prop-cover {c = c}) = λ a. under-given _ (any_name c a.token a.span) _
+      (λ n h r. word-prop a.token (name-first c a.token a.span n h))
+  opens prop-key = λ t h. key-prop t h
+  opens prop-generator = λ a h. only-star (λ t. begins_prop t ≡ true) refl a.token h
+  opens prop-async = λ a h. word-prop a.token (async-word a.token h)
+  opens prop-async-generator = λ a h. word-prop a.token (async-word a.token h)
+  opens prop-getter = λ a h. word-prop a.token (get-word a.token h)
+  opens (after-value {c = c}) = λ a h. only-colon (λ t. starts AfterKey c t ≡ true) refl a.token h
+  opens after-shell = λ t h. or-right (is_colon t) (is_lparen t) h
+  opens shell-block = λ a h. h
+  opens (key-name {c = c}) = λ a. under-given _ (any_name c a.token a.span) _
+      (λ n h. word-key a.token (name-first c a.token a.span n h))
+  opens key-literal =
+      λ a. under-given _ (key_lit_of a.token a.span) _ (λ e h. key-lit-first a.token a.span e h)
+  opens key-computed = λ a h. only-lbracket (λ t. begins_key t ≡ true) refl a.token h
   opens (paren-expr {c = c}) = λ a h. by-first c a.token (only-lparen (λ t. is_first t ≡ true) refl a.token h)
   opens (unary-primary {c = c}) = λ t h. or-left (begins_primary c t) (is_prefix t) h
   opens (unary-op {c = c}) = λ a. under-given _ (prefix_here a.token a.span) _
@@ -230,6 +288,25 @@ module _ {F C K : Type 0} where
   leads item-spread = tt
   leads fn-expr = tt
   leads class-expr = tt
+  leads object-lit = tt
+  leads props-end = tt
+  leads props-more = tt
+  leads props-tail-end = tt
+  leads props-tail-more = tt
+  leads prop-spread = tt
+  leads prop-short = tt
+  leads prop-cover = tt
+  leads prop-key = tt
+  leads prop-generator = tt
+  leads prop-async = tt
+  leads prop-async-generator = tt
+  leads prop-getter = tt
+  leads after-value = tt
+  leads after-shell = tt
+  leads shell-block = tt
+  leads key-name = tt
+  leads key-literal = tt
+  leads key-computed = tt
   leads paren-expr = tt
   leads unary-primary = tt
   leads unary-op = tt

@@ -14,18 +14,25 @@ use Rattle.swc_context.specs.declared.word.Word.TheVariants as word
 use Rattle.swc_input.specs.declared.token.Token.{Token}
 use Rattle.swc_input.specs.declared.token.Token.TheVariants as token
 use Rattle.swc_input.specs.declared.token.TokenAndSpan.{TokenAndSpan}
-use Rattle.swc_ast.specs.Tree.{Tree, node, span_of}
+use Rattle.swc_ast.specs.Tree.{Kind, Tree, node, Trees, nil, cons, span_of}
+use Rattle.swc_ast.specs.Tree.{unary as unary_kind, bin as bin_kind}
 use Rattle.swc_grammar.specs.Rule.{Rule, gives, never, take, check, peek, read, hear, given, ◌>>=◌}
 use Rattle.swc_bodies.specs.Readings.{Hook}
-use Rattle.swc_grammar.specs.Symbols.{Symbol, Level, Unary, Primary, Literal, Answer, Body, Value, Side}
+use Rattle.swc_grammar.specs.Symbols.{Symbol, Level, Unary, Primary, Literal, Prop, Key, AfterKey, Answer, Body, Value}
+use Rattle.swc_grammar.specs.Symbols.{Side}
 use Rattle.swc_grammar.specs.Trees.{to, bin_e, tightness, least_left, min_right, exp_ok, is_unary, nullish_ok}
 use Rattle.swc_grammar.specs.Trees.{logical_ok}
 use Rattle.swc_grammar.specs.Trees.{is_valid, are_valid, is_invalid, is_grouped, are_grouped, grouped_at, items_of}
-use Rattle.swc_grammar.specs.Parts.{reference, any_name, lit_of, prefix_here, operator_here}
+use Rattle.swc_grammar.specs.Trees.{at_place, method_e, value_e, prop_of}
+use Rattle.swc_grammar.specs.Parts.{reference, any_name, lit_of, key_lit_of, prefix_here, operator_here}
 use Rattle.swc_grammar.specs.Grammar.{Production, ident-expr, lit, paren-expr, unary-primary, unary-op, exp-unary}
 use Rattle.swc_grammar.specs.Grammar.{exp-op, primary-literal}
 use Rattle.swc_grammar.specs.Grammar.{this-expr, array-lit, elements-end, elements-hole, elements-more, tail-end}
 use Rattle.swc_grammar.specs.Grammar.{tail-more, item-expr, item-spread, fn-expr, class-expr}
+use Rattle.swc_grammar.specs.Grammar.{object-lit, props-end, props-more, props-tail-end, props-tail-more}
+use Rattle.swc_grammar.specs.Grammar.{prop-spread, prop-short, prop-cover, prop-key, prop-generator, prop-async}
+use Rattle.swc_grammar.specs.Grammar.{prop-async-generator, prop-getter, after-value, after-shell, shell-block}
+use Rattle.swc_grammar.specs.Grammar.{key-name, key-literal, key-computed}
 use Rattle.swc_grammar.specs.Grammar.{level-up, bin-op, private-expr, assign-level, expr-assign}
 use Rattle.swc_grammar.specs.Reads.{Reads, by, Follows, gave, took, held, calm, part, heard}
 use Rattle.swc_grammar.specs.Clean.{left_ok}
@@ -127,6 +134,44 @@ module _ {F C K : Type 0} where
   items-grouped : (t : Tree F C K) → is_grouped t ≡ true → are_grouped (items_of t) ≡ true
   items-grouped (node k s ts) h = (both (grouped_at (node k s ts)) (are_grouped ts) h).1
 
+  key-lit-good : (t : Token) (s : Span) (e : Tree F C K) → key_lit_of t s ≡ Some e → Good F C K Key e
+  key-lit-good (token.Num raw) s e h =
+      subst (λ v. Good F C K Key v) (inj _ e h) (leaf _ refl refl refl (omega arith))
+  key-lit-good (token.BigInt raw) s e h =
+      subst (λ v. Good F C K Key v) (inj _ e h) (leaf _ refl refl refl (omega arith))
+  key-lit-good (token.Str value raw) s e h =
+      subst (λ v. Good F C K Key v) (inj _ e h) (leaf _ refl refl refl (omega arith))
+  key-lit-good t s e h = absurd cc
+
+  -- nor does it matter where a node stands
+  moved-at : (k : Kind F C K) (s s' : Span) (ts : Trees F C K) → grouped_at (node k s ts) ≡ grouped_at (node k s' ts)
+  moved-at (bin_kind op) s s' (cons l (cons r nil)) = refl
+  moved-at (bin_kind op) s s' ts = refl
+  moved-at (unary_kind op) s s' (cons e nil) = refl
+  moved-at (unary_kind op) s s' ts = refl
+  moved-at k s s' ts = refl
+
+  moved-grouped : (s : Span) (t : Tree F C K) → is_grouped t ≡ true → is_grouped (at_place s t) ≡ true
+  moved-grouped s (node k s' ts) h =
+      let (own, all) = both (grouped_at (node k s' ts)) (are_grouped ts) h in rw (moved-at k s s' ts, own, all) refl
+
+  moved-valid : (s : Span) (t : Tree F C K) → is_valid t ≡ true → is_valid (at_place s t) ≡ true
+  moved-valid s (node k s' ts) h = h
+
+  -- properties
+  method-good : {s s' : Symbol} (at : Span) (k f : Tree F C K) → Good F C K s k → Good F C K s' f
+      → Good F C K Prop (method_e at k f)
+  method-good at k f g d =
+      leaf _ (rw (g.valid, moved-valid at f d.valid) refl) refl
+      (rw (g.grouped, moved-grouped at f d.grouped) refl) (omega arith)
+
+  prop-good : (k x : Tree F C K) → Good F C K Key k → Good F C K AfterKey x → Good F C K Prop (prop_of k x)
+  prop-good k (value_e s e) g d =
+      let (v, w) = both (is_valid e) true d.valid in
+      let (p, q) = both (is_grouped e) true d.grouped in
+      leaf _ (rw (g.valid, v) refl) refl (rw (g.grouped, p) refl) (omega arith)
+  prop-good k x g d = method-good _ k x g d
+
   -- one clause a production
   keeps : {s : Symbol} {c : Context} {r : Side F C K s} → Production s c r → Keeps (Good F C K s) r
   keeps (ident-expr {c = c}) =
@@ -145,7 +190,33 @@ module _ {F C K : Type 0} where
   keeps item-spread = λ a h e g. leaf _ (rw g.valid refl) refl (rw g.grouped refl) (omega arith)
   keeps fn-expr = λ v s. leaf _ refl refl refl (omega arith)
   keeps class-expr = λ v s. leaf _ refl refl refl (omega arith)
-  keeps paren-expr = λ a h e g b h1. leaf _ (rw g.valid refl) refl (rw g.grouped refl) (omega arith)
+  keeps object-lit = λ a h ps g. leaf _ (items-valid ps g.valid) refl (items-grouped ps g.grouped) (omega arith)
+  keeps props-end = λ a h. leaf _ refl refl refl (omega arith)
+  keeps props-more = λ p g ps k.
+      leaf _ (rw (g.valid, items-valid ps k.valid) refl) refl (rw (g.grouped, items-grouped ps k.grouped) refl)
+      (omega arith)
+  keeps props-tail-end = λ a h. leaf _ refl refl refl (omega arith)
+  keeps props-tail-more = λ a h ps g. looser (omega arith) g
+  keeps prop-spread = λ a h e g. leaf _ (rw g.valid refl) refl (rw g.grouped refl) (omega arith)
+  keeps (prop-short {c = c}) =
+      λ a. keeps-given _ (any_name c a.token a.span) _ (λ n h r. leaf _ refl refl refl (omega arith))
+  keeps (prop-cover {c = c}) = λ a. keeps-given _ (any_name c a.token a.span) _
+      (λ n h r b k e g. leaf _ (rw g.valid refl) refl (rw g.grouped refl) (omega arith))
+  keeps prop-key = λ k g x d. prop-good k x g d
+  keeps prop-generator = λ a h k g f d. method-good _ k f g d
+  keeps prop-async = λ a h k g f d. method-good _ k f g d
+  keeps prop-async-generator = λ a h b j k g f d. method-good _ k f g d
+  keeps prop-getter = λ a h k g f d.
+      leaf _ (rw (g.valid, items-valid f d.valid) refl) refl (rw (g.grouped, items-grouped f d.grouped) refl)
+      (omega arith)
+  keeps after-value = λ a h e g. leaf _ (rw g.valid refl) refl (rw g.grouped refl) (omega arith)
+  keeps after-shell = λ f g. looser (omega arith) g
+  keeps shell-block = λ a h b k v s. leaf _ refl refl refl (omega arith)
+  keeps (key-name {c = c}) =
+      λ a. keeps-given _ (any_name c a.token a.span) _ (λ n h. leaf _ refl refl refl (omega arith))
+  keeps key-literal = λ a. keeps-given _ (key_lit_of a.token a.span) _ (λ e h. key-lit-good a.token a.span e h)
+  keeps key-computed = λ a h e g b k. leaf _ (rw g.valid refl) refl (rw g.grouped refl) (omega arith)
+  keeps paren-expr = λ a h e g b h1 n. leaf _ (rw g.valid refl) refl (rw g.grouped refl) (omega arith)
   keeps unary-primary = λ e g. looser g.tight g
   keeps unary-op = λ a. keeps-given _ (prefix_here a.token a.span) _
       (λ x h e g n. leaf _ (rw g.valid refl) refl (rw (le-leb 12 (tightness e) g.tight, g.grouped) refl) (omega arith))

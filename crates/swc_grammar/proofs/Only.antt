@@ -1,13 +1,15 @@
 -- A token that passes a test is the one that the test is for: what holds of that one holds of it.
 use Rattle.std.specs.Prelude.{◌≡◌, true}
+use Rattle.swc_context.specs.declared.operator.AssignOp.TheVariants as assign
 use Rattle.swc_context.specs.declared.operator.BinOpToken.TheVariants as sign
 use Rattle.swc_context.specs.declared.word.Keyword.TheVariants as keyword
 use Rattle.swc_context.specs.declared.word.Word.TheVariants as word
 use Rattle.swc_input.specs.declared.token.Token.{Token}
 use Rattle.swc_input.specs.declared.token.Token.TheVariants as token
 use Rattle.swc_input.specs.Kinds.{is_hash}
-use Rattle.swc_bodies.specs.Readings.{is_function, is_class}
+use Rattle.swc_bodies.specs.Readings.{is_function, is_class, is_brace}
 use Rattle.swc_grammar.specs.Tokens.{is_lparen, is_rparen, is_lbracket, is_rbracket, is_comma, is_dots, is_this, is_power}
+use Rattle.swc_grammar.specs.Tokens.{is_rbrace, is_colon, is_star, is_equals}
 
 module _ (P : Token → Type 0) where
   pub only-lparen : P token.LParen → (t : Token) → is_lparen t ≡ true → P t
@@ -25,6 +27,26 @@ module _ (P : Token → Type 0) where
   pub only-rbracket : P token.RBracket → (t : Token) → is_rbracket t ≡ true → P t
   only-rbracket p token.RBracket h = p
   only-rbracket p t h = absurd cc
+
+  pub only-brace : P token.LBrace → (t : Token) → is_brace t ≡ true → P t
+  only-brace p token.LBrace h = p
+  only-brace p t h = absurd cc
+
+  pub only-rbrace : P token.RBrace → (t : Token) → is_rbrace t ≡ true → P t
+  only-rbrace p token.RBrace h = p
+  only-rbrace p t h = absurd cc
+
+  pub only-colon : P token.Colon → (t : Token) → is_colon t ≡ true → P t
+  only-colon p token.Colon h = p
+  only-colon p t h = absurd cc
+
+  pub only-star : P (token.BinOp sign.Mul) → (t : Token) → is_star t ≡ true → P t
+  only-star p (token.BinOp sign.Mul) h = p
+  only-star p t h = absurd cc
+
+  pub only-equals : P (token.AssignOp assign.Assign) → (t : Token) → is_equals t ≡ true → P t
+  only-equals p (token.AssignOp assign.Assign) h = p
+  only-equals p t h = absurd cc
 
   pub only-comma : P token.Comma → (t : Token) → is_comma t ≡ true → P t
   only-comma p token.Comma h = p

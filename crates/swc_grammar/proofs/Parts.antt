@@ -1,5 +1,5 @@
--- Parts of right-hand sides, each in a made-up one: 'no such token comes next', which no production uses yet, and a
--- body that the hook reads.
+-- Made-up right-hand sides, of two parts: 'no such token comes next', which no production uses yet, and a body that the
+-- hook reads.
 use Rattle.std.specs.Prelude.{◌≡◌, Bool, true, false, ◌&&◌, ◌||◌, if◌then◌else◌, List, [], ◌∷◌, ◌++◌, Some, None}
 use Rattle.std.proofs.Common.{refl, ap, sym, ◌∙◌}
 use Rattle.swc_context.specs.declared.context.Context.{Context}

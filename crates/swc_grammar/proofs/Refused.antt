@@ -10,7 +10,6 @@ use Rattle.swc_grammar.specs.Symbols.{Expr, Literal}
 use Rattle.swc_grammar.specs.Reads.{Reads}
 use Rattle.swc_grammar.proofs.Complete.{complete}
 use Rattle.swc_grammar.proofs.Firsts.{begins}
-use Rattle.swc_grammar.proofs.Computed.{no_comma_between-computed}
 use Rattle.swc_grammar.proofs.Computed.{answer, in_test-front, no_tokens-computed, closer-computed}
 use Rattle.swc_grammar.proofs.Computed.{empty_parens-computed, half_sum-computed}
 use Rattle.swc_grammar.proofs.Computed.{half_number_sum-computed, or_after_default-computed, default_after_or-computed}
@@ -21,7 +20,8 @@ use Rattle.swc_grammar.proofs.Computed.{power_of_minus_in_product-computed, hash
 use Rattle.swc_grammar.proofs.Computed.{delete_name-module}
 use Rattle.swc_grammar.proofs.Computed.{let_word-module, implements_word-module, yield_word-generator}
 use Rattle.swc_grammar.proofs.Computed.{arguments_word-field}
-use Rattle.swc_grammar.proofs.Texts.{no_comma_between}
+use Rattle.swc_grammar.proofs.Computed.{cover_in_parens-computed, lone_key-computed, names_in_braces-computed}
+use Rattle.swc_grammar.proofs.Computed.{reserved_name-computed, getter_with_value-computed}
 use Rattle.swc_grammar.proofs.Texts.{no_in, script, module_code, class_field, generator, in_test, let_word}
 use Rattle.swc_grammar.proofs.Texts.{grouped_name}
 use Rattle.swc_grammar.proofs.Texts.{arguments_word, delete_name, yield_word}
@@ -30,6 +30,7 @@ use Rattle.swc_grammar.proofs.Texts.{lone_minus, closer, empty_parens}
 use Rattle.swc_grammar.proofs.Texts.{half_sum, half_number_sum, or_after_default, default_after_or, default_after_and}
 use Rattle.swc_grammar.proofs.Texts.{async_word, if_word, two_names}
 use Rattle.swc_grammar.proofs.Texts.{unclosed}
+use Rattle.swc_grammar.proofs.Texts.{cover_in_parens, lone_key, names_in_braces, getter_with_value, reserved_name}
 
 module _ {F C K : Type 0} (hook : Hook F C K) where
   -- what is derived from a whole text is answered for it
@@ -120,6 +121,26 @@ module _ {F C K : Type 0} (hook : Hook F C K) where
   lone_minus-refused : {e : Tree F C K} → Reads hook Expr script lone_minus [] e → ⊥
   lone_minus-refused d = refused (lone_minus-computed hook) d
 
+  -- ({a = 1})
+  cover_in_parens-refused : {e : Tree F C K} → Reads hook Expr script cover_in_parens [] e → ⊥
+  cover_in_parens-refused d = refused (cover_in_parens-computed hook) d
+
+  -- {1}
+  lone_key-refused : {e : Tree F C K} → Reads hook Expr script lone_key [] e → ⊥
+  lone_key-refused d = refused (lone_key-computed hook) d
+
+  -- {a b}
+  names_in_braces-refused : {e : Tree F C K} → Reads hook Expr script names_in_braces [] e → ⊥
+  names_in_braces-refused d = refused (names_in_braces-computed hook) d
+
+  -- {get a: 1}
+  getter_with_value-refused : {e : Tree F C K} → Reads hook Expr script getter_with_value [] e → ⊥
+  getter_with_value-refused d = refused (getter_with_value-computed hook) d
+
+  -- {class}
+  reserved_name-refused : {e : Tree F C K} → Reads hook Expr script reserved_name [] e → ⊥
+  reserved_name-refused d = refused (reserved_name-computed hook) d
+
   -- delete a, in a module
   delete_name-refused : {e : Tree F C K} → Reads hook Expr module_code delete_name [] e → ⊥
   delete_name-refused d = refused (delete_name-module hook) d
@@ -139,10 +160,6 @@ module _ {F C K : Type 0} (hook : Hook F C K) where
   -- arguments, in a class field
   arguments_word-refused : {e : Tree F C K} → Reads hook Expr class_field arguments_word [] e → ⊥
   arguments_word-refused d = refused (arguments_word-field hook) d
-
-  -- [a b]
-  no_comma_between-refused : {e : Tree F C K} → Reads hook Expr script no_comma_between [] e → ⊥
-  no_comma_between-refused d = refused (no_comma_between-computed hook) d
 
   -- ( a ), as a literal
   grouped_name-no_literal : {ys : List TokenAndSpan} {e : Tree F C K} → Reads hook Literal script grouped_name ys e → ⊥

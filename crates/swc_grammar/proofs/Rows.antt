@@ -3,15 +3,16 @@ use Rattle.std.specs.Prelude.{◌≡◌, List, [], ◌∷◌, ◌++◌, Some, No
 use Rattle.std.proofs.Common.{refl}
 use Rattle.swc_context.specs.declared.context.Context.{Context}
 use Rattle.swc_context.specs.declared.word.Word.TheVariants as word
+use Rattle.swc_context.specs.declared.span.Span.{Span}
 use Rattle.swc_input.specs.declared.token.TokenAndSpan.{TokenAndSpan}
 use Rattle.swc_ast.specs.Tree.{Tree, no_span}
 use Rattle.swc_bodies.specs.Readings.{Hook, LawfulHook, no_forms, no_forms_read}
 use Rattle.swc_grammar.specs.Symbols.{Body, function, class, block, Symbol, Expr, Literal, Answer}
 use Rattle.swc_grammar.specs.Symbols.{reading_of, Side}
 use Rattle.swc_grammar.specs.Reads.{Reads, by, Follows, gave, took, held, calm, part, heard}
+use Rattle.swc_grammar.proofs.Blocks.{braces, braces-lawful}
 use Rattle.swc_grammar.proofs.Literals.{literal-read}
 use Rattle.swc_grammar.proofs.Sound.{sound}
-use Rattle.swc_grammar.proofs.Computed.{this_word-computed, items-computed}
 use Rattle.swc_grammar.proofs.Computed.{answer}
 use Rattle.swc_grammar.proofs.Computed.{product_in_sum-computed, two_sums-computed, grouped_name-computed}
 use Rattle.swc_grammar.proofs.Computed.{sum_in_product-computed, in_test-computed}
@@ -26,7 +27,9 @@ use Rattle.swc_grammar.proofs.Computed.{minus_name-computed, not_minus_name-comp
 use Rattle.swc_grammar.proofs.Computed.{minus_in_power-computed, type_in_sum-computed, delete_name-computed}
 use Rattle.swc_grammar.proofs.Computed.{private_word-computed, hash_and_name-computed}
 use Rattle.swc_grammar.proofs.Computed.{yield_word-computed, implements_word-computed, two_names-computed}
-use Rattle.swc_grammar.proofs.Texts.{this_word, this_word_tree, items, items_tree}
+use Rattle.swc_grammar.proofs.Computed.{this_word-computed, items-computed, pair_and_name-computed, keys-computed}
+use Rattle.swc_grammar.proofs.Computed.{cover_name-computed, async_generator-computed, method_and_getter-computed}
+use Rattle.swc_grammar.proofs.Computed.{methods_named_get-computed}
 use Rattle.swc_grammar.proofs.Texts.{no_in, script, product_in_sum, product_in_sum_tree}
 use Rattle.swc_grammar.proofs.Texts.{two_sums, two_sums_tree, grouped_name, grouped_name_tree, sum_in_product}
 use Rattle.swc_grammar.proofs.Texts.{sum_in_product_tree, in_test}
@@ -47,6 +50,10 @@ use Rattle.swc_grammar.proofs.Texts.{delete_name_tree, private_word}
 use Rattle.swc_grammar.proofs.Texts.{private_word_tree, hash_and_name, hash_and_name_tree, yield_word, yield_word_tree}
 use Rattle.swc_grammar.proofs.Texts.{implements_word}
 use Rattle.swc_grammar.proofs.Texts.{implements_word_tree, two_names, name_at, word_at, ident}
+use Rattle.swc_grammar.proofs.Texts.{this_word, this_word_tree, items, items_tree, pair_and_name, pair_and_name_tree}
+use Rattle.swc_grammar.proofs.Texts.{keys, keys_tree, cover_name, cover_name_tree, async_generator}
+use Rattle.swc_grammar.proofs.Texts.{async_generator_tree, method_and_getter, method_and_getter_tree}
+use Rattle.swc_grammar.proofs.Texts.{methods_named_get, methods_named_get_tree}
 
 -- a hook that reads nothing, which is lawful
 abbrev deaf : {F C K : Type 0} → Hook F C K
@@ -214,10 +221,6 @@ module _ {F C K : Type 0} (hook : Hook F C K) where
   implements_word-row : Reads hook Expr script implements_word [] implements_word_tree
   implements_word-row = derived (implements_word-computed deaf)
 
-  -- a b: `a`, and `b` is left
-  two_names-front : Reads hook Expr script two_names (name_at (codes "b") 2 3 ∷ []) (ident (codes "a") 0 1)
-  two_names-front = derived (two_names-computed deaf)
-
   -- this
   this_word-row : Reads hook Expr script this_word [] this_word_tree
   this_word-row = derived (this_word-computed deaf)
@@ -225,3 +228,38 @@ module _ {F C K : Type 0} (hook : Hook F C K) where
   -- [a, , ...b]
   items-row : Reads hook Expr script items [] items_tree
   items-row = derived (items-computed deaf)
+
+  -- {a: 1, b}
+  pair_and_name-row : Reads hook Expr script pair_and_name [] pair_and_name_tree
+  pair_and_name-row = derived (pair_and_name-computed deaf)
+
+  -- {'s': a, get: b, ...c,}
+  keys-row : Reads hook Expr script keys [] keys_tree
+  keys-row = derived (keys-computed deaf)
+
+  -- {a = 1}
+  cover_name-row : Reads hook Expr script cover_name [] cover_name_tree
+  cover_name-row = derived (cover_name-computed deaf)
+
+  -- a b: `a`, and `b` is left
+  two_names-front : Reads hook Expr script two_names (name_at (codes "b") 2 3 ∷ []) (ident (codes "a") 0 1)
+  two_names-front = derived (two_names-computed deaf)
+
+-- with methods, over the hook that reads braces
+module _ {F C : Type 0} where
+  derived-braced : {c : Context} {xs ys : List TokenAndSpan} {e : Tree F C Span} → answer braces c xs ≡ Some (e, ys)
+      → Reads braces Expr c xs ys e
+  unfolding answer
+  derived-braced {c = c} {xs = xs} {ys = ys} {e = e} h = sound braces braces-lawful Expr c xs (e, ys) h
+
+  -- {async *g(){}}
+  async_generator-row : Reads (braces {F = F} {C = C}) Expr script async_generator [] async_generator_tree
+  async_generator-row = derived-braced async_generator-computed
+
+  -- {m(){x}, get [k]() {}}
+  method_and_getter-row : Reads (braces {F = F} {C = C}) Expr script method_and_getter [] method_and_getter_tree
+  method_and_getter-row = derived-braced method_and_getter-computed
+
+  -- {get(){}, async get(){}}
+  methods_named_get-row : Reads (braces {F = F} {C = C}) Expr script methods_named_get [] methods_named_get_tree
+  methods_named_get-row = derived-braced methods_named_get-computed

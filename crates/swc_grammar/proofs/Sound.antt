@@ -22,13 +22,14 @@ use Rattle.swc_grammar.specs.Rule.{gives, never, take, check, peek, read, hear, 
 use Rattle.swc_grammar.specs.Tokens.{binary_of, is_power}
 use Rattle.swc_grammar.specs.Trees.{to, bin_e, nullish_ok, logical_ok, exp_ok, min_right}
 use Rattle.swc_grammar.specs.Symbols.{Symbol, Expr, Assign, Level, Unary, Primary, Literal, Elements, ElementsTail}
-use Rattle.swc_grammar.specs.Symbols.{Item, Answer, Body, Value}
+use Rattle.swc_grammar.specs.Symbols.{Item, Props, PropsTail, Prop, Key, AfterKey, Shell, Answer, Body, Value}
 use Rattle.swc_grammar.specs.Symbols.{reading_of, Side}
 use Rattle.swc_grammar.specs.Grammar.{exp-unary, exp-op, bin-op}
 use Rattle.swc_grammar.specs.Reads.{Hears, Reads, by, Follows, gave, took, held, calm, part, heard}
 use Rattle.swc_grammar.specs.Clean.{first, Call, sym, climb, Ans, Plan, plan, Runs, rank_of, rank, allowed, exec}
 use Rattle.swc_grammar.specs.Clean.{operator_at, Bound, left_ok, Choice, none, pick, chosen, expr, assign, unary}
-use Rattle.swc_grammar.specs.Clean.{primary, literal, elements, elements_tail, item}
+use Rattle.swc_grammar.specs.Clean.{primary, literal, elements, elements_tail, item, props, props_tail, prop, key}
+use Rattle.swc_grammar.specs.Clean.{after_key, shell}
 use Rattle.swc_grammar.specs.Clean.{turn, turned, step, run_at, measure, run}
 use Rattle.swc_grammar.proofs.Answers.{then-ok, only, unless, hear-ok, choose, inj}
 use Rattle.swc_grammar.proofs.Bodies.{before-is, hears}
@@ -198,6 +199,13 @@ module _ {F C K : Type 0} (hook : Hook F C K)
   step-sound (sym Elements) c ts r h = choice-sound (Some 16) (elements c ts) ts r h
   step-sound (sym ElementsTail) c ts r h = choice-sound (Some 5) (elements_tail c ts) ts r h
   step-sound (sym Item) c ts r h = choice-sound (Some 15) (item c ts) ts r h
+  step-sound (sym Props) c ts r h = choice-sound (Some 5) (props c ts) ts r h
+  step-sound (sym PropsTail) c ts r h = choice-sound (Some 2) (props_tail c ts) ts r h
+  step-sound (sym Prop) c ts r h = choice-sound (Some 4) (prop c ts) ts r h
+  step-sound (sym Key) c ts r h = choice-sound (Some 3) (key c ts) ts r h
+  step-sound (sym AfterKey) c ts r h = choice-sound (Some 3) (after_key c ts) ts r h
+  step-sound (sym (Shell is_async is_generator)) c ts r h =
+      choice-sound (Some 2) (shell is_async is_generator c ts) ts r h
   step-sound (climb l m) c ts r h =
       λ small xs d. turn-sound c (Some 1) (operator_at c (first ts)) l m xs ts r small d refl h
 

@@ -2,6 +2,7 @@
 use Rattle.std.specs.Prelude.{ℕ, true, false, List, [], ◌∷◌, codes}
 use Rattle.swc_context.specs.Contexts.{no_flags}
 use Rattle.swc_context.specs.declared.context.Context.{Context}
+use Rattle.swc_context.specs.declared.operator.AssignOp.TheVariants as assign
 use Rattle.swc_context.specs.declared.operator.BinOpToken.{BinOpToken}
 use Rattle.swc_context.specs.declared.operator.BinOpToken.TheVariants as sign
 use Rattle.swc_context.specs.declared.operator.BinaryOp.{BinaryOp}
@@ -16,9 +17,10 @@ use Rattle.swc_input.specs.declared.token.Token.{Token}
 use Rattle.swc_input.specs.declared.token.Token.TheVariants as token
 use Rattle.swc_input.specs.declared.token.TokenAndSpan.{TokenAndSpan}
 use Rattle.swc_ast.specs.Tree.{Tree, nil, cons}
-use Rattle.swc_grammar.specs.Trees.{this_e, array_e, hole_e, item_e, spread_e}
 use Rattle.swc_grammar.specs.Tokens.{tk}
 use Rattle.swc_grammar.specs.Trees.{null_e, boolean_e, num_e, big_e, str_e, ident_e, private_e, unary_e, paren_e, bin_e}
+use Rattle.swc_grammar.specs.Trees.{this_e, array_e, hole_e, item_e, spread_e, object_e, name_e, computed_e}
+use Rattle.swc_grammar.specs.Trees.{spread_prop_e, short_e, cover_e, key_value_e, block_e, function_e, method_e, getter_e}
 
 -- a script, where `in` isn't an operator, and where it is
 abbrev pub no_in : Context
@@ -65,6 +67,30 @@ close_at lo hi = tok token.RParen lo hi
 abbrev pub hash_at : ℕ → ℕ → TokenAndSpan
 hash_at lo hi = tok token.Hash lo hi
 
+abbrev pub brace_at : ℕ → ℕ → TokenAndSpan
+brace_at lo hi = tok token.LBrace lo hi
+
+abbrev pub unbrace_at : ℕ → ℕ → TokenAndSpan
+unbrace_at lo hi = tok token.RBrace lo hi
+
+abbrev pub bracket_at : ℕ → ℕ → TokenAndSpan
+bracket_at lo hi = tok token.LBracket lo hi
+
+abbrev pub unbracket_at : ℕ → ℕ → TokenAndSpan
+unbracket_at lo hi = tok token.RBracket lo hi
+
+abbrev pub comma_at : ℕ → ℕ → TokenAndSpan
+comma_at lo hi = tok token.Comma lo hi
+
+abbrev pub colon_at : ℕ → ℕ → TokenAndSpan
+colon_at lo hi = tok token.Colon lo hi
+
+abbrev pub dots_at : ℕ → ℕ → TokenAndSpan
+dots_at lo hi = tok token.DotDotDot lo hi
+
+abbrev pub equals_at : ℕ → ℕ → TokenAndSpan
+equals_at lo hi = tok (token.AssignOp assign.Assign) lo hi
+
 -- trees from lo to before hi
 abbrev pub ident : {F C K : Type 0} → List ℕ → ℕ → ℕ → Tree F C K
 ident w lo hi = ident_e (place lo hi) w
@@ -83,6 +109,9 @@ bin lo hi op l r = bin_e (place lo hi) op l r
 
 abbrev pub paren : {F C K : Type 0} → ℕ → ℕ → Tree F C K → Tree F C K
 paren lo hi e = paren_e (place lo hi) e
+
+abbrev pub key : {F C K : Type 0} → List ℕ → ℕ → ℕ → Tree F C K
+key w lo hi = name_e (place lo hi) w
 
 -- 5 + 4 * 7
 abbrev pub product_in_sum : List TokenAndSpan
@@ -320,6 +349,117 @@ implements_word = name_at (codes "implements") 0 10 ∷ []
 abbrev pub implements_word_tree : {F C K : Type 0} → Tree F C K
 implements_word_tree = ident (codes "implements") 0 10
 
+-- this
+abbrev pub this_word : List TokenAndSpan
+this_word = word_at (word.Keyword keyword.This) 0 4 ∷ []
+
+abbrev pub this_word_tree : {F C K : Type 0} → Tree F C K
+this_word_tree = this_e (place 0 4)
+
+-- [a, , ...b]
+abbrev pub items : List TokenAndSpan
+items =
+    bracket_at 0 1 ∷ name_at (codes "a") 1 2 ∷ comma_at 2 3 ∷ comma_at 4 5 ∷ dots_at 6 9 ∷ name_at (codes "b") 9 10
+    ∷ unbracket_at 10 11 ∷ []
+
+abbrev pub items_tree : {F C K : Type 0} → Tree F C K
+items_tree = array_e (place 0 11)
+    (cons (item_e (ident (codes "a") 1 2)) (cons hole_e (cons (spread_e (place 6 9) (ident (codes "b") 9 10)) nil)))
+
+-- {a: 1, b}
+abbrev pub pair_and_name : List TokenAndSpan
+pair_and_name =
+    brace_at 0 1 ∷ name_at (codes "a") 1 2 ∷ colon_at 2 3 ∷ num_at (codes "1") 4 5 ∷ comma_at 5 6
+    ∷ name_at (codes "b") 7 8 ∷ unbrace_at 8 9 ∷ []
+
+abbrev pub pair_and_name_tree : {F C K : Type 0} → Tree F C K
+pair_and_name_tree = object_e (place 0 9)
+    (cons (key_value_e (place 1 5) (key (codes "a") 1 2) (num (codes "1") 4 5))
+    (cons (short_e (place 7 8) (codes "b")) nil))
+
+-- {'s': a, get: b, ...c,}
+abbrev pub keys : List TokenAndSpan
+keys =
+    brace_at 0 1 ∷ tok (token.Str (codes "s") (codes "'s'")) 1 4 ∷ colon_at 4 5 ∷ name_at (codes "a") 6 7 ∷ comma_at 7 8
+    ∷ name_at (codes "get") 9 12 ∷ colon_at 12 13 ∷ name_at (codes "b") 14 15 ∷ comma_at 15 16
+    ∷ dots_at 17 20 ∷ name_at (codes "c") 20 21 ∷ comma_at 21 22 ∷ unbrace_at 22 23 ∷ []
+
+abbrev pub keys_tree : {F C K : Type 0} → Tree F C K
+keys_tree = object_e (place 0 23)
+    (cons (key_value_e (place 1 7) (str_e (place 1 4) (codes "s") (codes "'s'")) (ident (codes "a") 6 7))
+    (cons (key_value_e (place 9 15) (key (codes "get") 9 12) (ident (codes "b") 14 15))
+    (cons (spread_prop_e (place 17 20) (ident (codes "c") 20 21)) nil)))
+
+-- {a = 1}
+abbrev pub cover_name : List TokenAndSpan
+cover_name = brace_at 0 1 ∷ name_at (codes "a") 1 2 ∷ equals_at 3 4 ∷ num_at (codes "1") 5 6 ∷ unbrace_at 6 7 ∷ []
+
+abbrev pub cover_name_tree : {F C K : Type 0} → Tree F C K
+cover_name_tree = object_e (place 0 7) (cons (cover_e (place 1 6) (ident (codes "a") 1 2) (num (codes "1") 5 6)) nil)
+
+-- {async *g(){}}
+abbrev pub async_generator : List TokenAndSpan
+async_generator =
+    brace_at 0 1 ∷ name_at (codes "async") 1 6 ∷ sign_at sign.Mul 7 8 ∷ name_at (codes "g") 8 9 ∷ open_at 9 10
+    ∷ close_at 10 11 ∷ brace_at 11 12 ∷ unbrace_at 12 13 ∷ unbrace_at 13 14 ∷ []
+
+abbrev pub async_generator_tree : {F C : Type 0} → Tree F C Span
+async_generator_tree = object_e (place 0 14)
+    (cons (method_e (place 1 13) (key (codes "g") 8 9)
+    (function_e (place 9 13) true true (block_e (place 11 13) (place 11 13)))) nil)
+
+-- {m(){x}, get [k]() {}}
+abbrev pub method_and_getter : List TokenAndSpan
+method_and_getter =
+    brace_at 0 1 ∷ name_at (codes "m") 1 2 ∷ open_at 2 3 ∷ close_at 3 4 ∷ brace_at 4 5 ∷ name_at (codes "x") 5 6
+    ∷ unbrace_at 6 7 ∷ comma_at 7 8 ∷ name_at (codes "get") 9 12 ∷ bracket_at 13 14 ∷ name_at (codes "k") 14 15
+    ∷ unbracket_at 15 16 ∷ open_at 16 17 ∷ close_at 17 18 ∷ brace_at 19 20 ∷ unbrace_at 20 21 ∷ unbrace_at 21 22 ∷ []
+
+abbrev pub method_and_getter_tree : {F C : Type 0} → Tree F C Span
+method_and_getter_tree = object_e (place 0 22)
+    (cons (method_e (place 1 7) (key (codes "m") 1 2)
+    (function_e (place 2 7) false false (block_e (place 4 7) (place 4 7))))
+    (cons (getter_e (place 9 21) (computed_e (place 13 16) (ident (codes "k") 14 15))
+    (function_e (place 16 21) false false (block_e (place 19 21) (place 19 21)))) nil))
+
+-- {get(){}, async get(){}}
+abbrev pub methods_named_get : List TokenAndSpan
+methods_named_get =
+    brace_at 0 1 ∷ name_at (codes "get") 1 4 ∷ open_at 4 5 ∷ close_at 5 6 ∷ brace_at 6 7 ∷ unbrace_at 7 8 ∷ comma_at 8 9
+    ∷ name_at (codes "async") 10 15 ∷ name_at (codes "get") 16 19 ∷ open_at 19 20 ∷ close_at 20 21 ∷ brace_at 21 22
+    ∷ unbrace_at 22 23 ∷ unbrace_at 23 24 ∷ []
+
+abbrev pub methods_named_get_tree : {F C : Type 0} → Tree F C Span
+methods_named_get_tree = object_e (place 0 24)
+    (cons (method_e (place 1 8) (key (codes "get") 1 4)
+    (function_e (place 4 8) false false (block_e (place 6 8) (place 6 8))))
+    (cons (method_e (place 10 23) (key (codes "get") 16 19)
+    (function_e (place 19 23) true false (block_e (place 21 23) (place 21 23)))) nil))
+
+-- {get a: 1}
+abbrev pub getter_with_value : List TokenAndSpan
+getter_with_value =
+    brace_at 0 1 ∷ name_at (codes "get") 1 4 ∷ name_at (codes "a") 5 6 ∷ colon_at 6 7 ∷ num_at (codes "1") 8 9
+    ∷ unbrace_at 9 10 ∷ []
+
+-- ({a = 1})
+abbrev pub cover_in_parens : List TokenAndSpan
+cover_in_parens =
+    open_at 0 1 ∷ brace_at 1 2 ∷ name_at (codes "a") 2 3 ∷ equals_at 4 5 ∷ num_at (codes "1") 6 7 ∷ unbrace_at 7 8
+    ∷ close_at 8 9 ∷ []
+
+-- {1}
+abbrev pub lone_key : List TokenAndSpan
+lone_key = brace_at 0 1 ∷ num_at (codes "1") 1 2 ∷ unbrace_at 2 3 ∷ []
+
+-- {a b}
+abbrev pub names_in_braces : List TokenAndSpan
+names_in_braces = brace_at 0 1 ∷ name_at (codes "a") 1 2 ∷ name_at (codes "b") 3 4 ∷ unbrace_at 4 5 ∷ []
+
+-- {class}
+abbrev pub reserved_name : List TokenAndSpan
+reserved_name = brace_at 0 1 ∷ word_at (word.Keyword keyword.Class) 1 6 ∷ unbrace_at 6 7 ∷ []
+
 -- -a ** b
 abbrev pub power_of_minus : List TokenAndSpan
 power_of_minus = sign_at sign.Sub 0 1 ∷ name_at (codes "a") 1 2 ∷ sign_at sign.Exp 3 5 ∷ name_at (codes "b") 6 7 ∷ []
@@ -387,37 +527,3 @@ two_names = name_at (codes "a") 0 1 ∷ name_at (codes "b") 2 3 ∷ []
 -- (a
 abbrev pub unclosed : List TokenAndSpan
 unclosed = open_at 0 1 ∷ name_at (codes "a") 1 2 ∷ []
-
-abbrev pub bracket_at : ℕ → ℕ → TokenAndSpan
-bracket_at lo hi = tok token.LBracket lo hi
-
-abbrev pub unbracket_at : ℕ → ℕ → TokenAndSpan
-unbracket_at lo hi = tok token.RBracket lo hi
-
-abbrev pub comma_at : ℕ → ℕ → TokenAndSpan
-comma_at lo hi = tok token.Comma lo hi
-
-abbrev pub dots_at : ℕ → ℕ → TokenAndSpan
-dots_at lo hi = tok token.DotDotDot lo hi
-
--- this
-abbrev pub this_word : List TokenAndSpan
-this_word = word_at (word.Keyword keyword.This) 0 4 ∷ []
-
-abbrev pub this_word_tree : {F C K : Type 0} → Tree F C K
-this_word_tree = this_e (place 0 4)
-
--- [a, , ...b]
-abbrev pub items : List TokenAndSpan
-items =
-    bracket_at 0 1 ∷ name_at (codes "a") 1 2 ∷ comma_at 2 3 ∷ comma_at 4 5 ∷ dots_at 6 9 ∷ name_at (codes "b") 9 10
-    ∷ unbracket_at 10 11 ∷ []
-
-abbrev pub items_tree : {F C K : Type 0} → Tree F C K
-items_tree = array_e (place 0 11)
-    (cons (item_e (ident (codes "a") 1 2)) (cons hole_e (cons (spread_e (place 6 9) (ident (codes "b") 9 10)) nil)))
-
--- [a b]
-abbrev pub no_comma_between : List TokenAndSpan
-no_comma_between =
-    bracket_at 0 1 ∷ name_at (codes "a") 1 2 ∷ name_at (codes "b") 3 4 ∷ unbracket_at 4 5 ∷ []

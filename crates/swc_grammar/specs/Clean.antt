@@ -15,17 +15,21 @@ use Rattle.swc_input.specs.declared.token.Token.TheVariants as token
 use Rattle.swc_input.specs.declared.token.TokenAndSpan.{TokenAndSpan}
 use Rattle.swc_input.specs.Kinds.{at_token, is_hash}
 use Rattle.swc_ast.specs.Tree.{Tree, span_of}
-use Rattle.swc_bodies.specs.Readings.{whole_span, Hook, begins, begins_function, is_class}
+use Rattle.swc_bodies.specs.Readings.{whole_span, Hook, begins, begins_function, is_class, is_brace, is_async}
 use Rattle.swc_grammar.specs.Rule.{Rule, gives, never, take, check, peek, read, hear, sees, ◌>>=◌, ◌>>◌, symbol, must}
 use Rattle.swc_grammar.specs.Symbols.{Symbol, Expr, Assign, Level, Unary, Primary, Literal, Elements, ElementsTail}
-use Rattle.swc_grammar.specs.Symbols.{Item, Answer, Body, Value}
+use Rattle.swc_grammar.specs.Symbols.{Item, Props, PropsTail, Prop, Key, AfterKey, Shell, Answer, Body, Value}
 use Rattle.swc_grammar.specs.Symbols.{reading_of, Side}
 use Rattle.swc_grammar.specs.Grammar.{Production, ident-expr, lit, paren-expr, unary-primary, unary-op, private-expr}
 use Rattle.swc_grammar.specs.Grammar.{primary-literal, assign-level, expr-assign, this-expr, array-lit, fn-expr, class-expr}
 use Rattle.swc_grammar.specs.Grammar.{elements-end, elements-hole, elements-more, tail-end, tail-more, item-expr}
-use Rattle.swc_grammar.specs.Grammar.{item-spread}
+use Rattle.swc_grammar.specs.Grammar.{item-spread, object-lit, props-end, props-more, props-tail-end, props-tail-more}
+use Rattle.swc_grammar.specs.Grammar.{prop-spread, prop-short, prop-cover, prop-key, prop-generator, prop-async}
+use Rattle.swc_grammar.specs.Grammar.{prop-async-generator, prop-getter, after-value, after-shell, shell-block}
+use Rattle.swc_grammar.specs.Grammar.{key-name, key-literal, key-computed}
 use Rattle.swc_grammar.specs.Tokens.{is_ref, binary_of, prefix_of, is_lparen, is_this, is_lbracket, is_rbracket, is_comma}
-use Rattle.swc_grammar.specs.Tokens.{is_dots}
+use Rattle.swc_grammar.specs.Tokens.{is_dots, is_rbrace, is_colon, is_star, is_equals, is_word, is_get, with_in}
+use Rattle.swc_grammar.specs.Tokens.{ends_prop, follows_key}
 use Rattle.swc_grammar.specs.Trees.{to, bin_e, nullish_ok, logical_ok, exp_ok, min_right}
 
 -- what was read, and the tokens left
@@ -39,6 +43,10 @@ and_then (Some p) f = f p.0 p.1
 abbrev pub first : List TokenAndSpan → Option TokenAndSpan
 first [] = None
 first (t ∷ ts) = Some t
+
+abbrev pub second : List TokenAndSpan → Option TokenAndSpan
+second [] = None
+second (t ∷ ts) = first ts
 
 -- the tokens that stand before the ones left
 abbrev pub before : List TokenAndSpan → List TokenAndSpan → List TokenAndSpan
@@ -83,6 +91,12 @@ rank_of Literal = 6
 rank_of Elements = 16
 rank_of ElementsTail = 5
 rank_of Item = 15
+rank_of Props = 5
+rank_of PropsTail = 2
+rank_of Prop = 4
+rank_of Key = 3
+rank_of AfterKey = 3
+rank_of (Shell is_async is_generator) = 2
 
 abbrev pub rank : {F C K : Type 0} → Call F C K → ℕ
 rank (sym s) = rank_of s
@@ -155,6 +169,12 @@ Stop Literal c ys = Unit {0}
 Stop Unary c ys = Unit {0}
 Stop Elements c ys = Unit {0}
 Stop ElementsTail c ys = Unit {0}
+Stop Props c ys = Unit {0}
+Stop PropsTail c ys = Unit {0}
+Stop Prop c ys = at_token ends_prop (first ys) ≡ true
+Stop Key c ys = Unit {0}
+Stop AfterKey c ys = Bound (with_in c) 0 ys
+Stop (Shell is_async is_generator) c ys = Unit {0}
 Stop (Level zero) c ys = ⊥
 Stop (Level (suc n)) c ys = (n ≤ 10) × Bound c n ys
 Stop s c ys = Bound c 0 ys
@@ -192,7 +212,8 @@ module _ {F C K : Type 0} where
       (if at_token is_this (first ts) then pick this-expr else
       (if at_token is_lbracket (first ts) then pick array-lit else
       (if begins_function ts then pick fn-expr else
-      (if begins is_class ts then pick class-expr else none)))))))
+      (if begins is_class ts then pick class-expr else
+      (if at_token is_brace (first ts) then pick object-lit else none))))))))
 
   abbrev pub literal : (c : Context) → List TokenAndSpan → Choice F C K Literal c
   literal c ts = pick lit
@@ -207,6 +228,42 @@ module _ {F C K : Type 0} where
 
   abbrev pub item : (c : Context) → List TokenAndSpan → Choice F C K Item c
   item c ts = if at_token is_dots (first ts) then pick item-spread else pick item-expr
+
+  abbrev pub props : (c : Context) → List TokenAndSpan → Choice F C K Props c
+  props c ts = if at_token is_rbrace (first ts) then pick props-end else pick props-more
+
+  abbrev pub props_tail : (c : Context) → List TokenAndSpan → Choice F C K PropsTail c
+  props_tail c ts = if at_token is_comma (first ts) then pick props-tail-more else pick props-tail-end
+
+  abbrev pub async_method : {c : Context} → Option TokenAndSpan → Choice F C K Prop c
+  async_method u = if at_token is_star u then pick prop-async-generator else pick prop-async
+
+  -- a property that begins with a word: first by the token behind it, then by the word
+  abbrev pub prop_word : {c : Context} → Option TokenAndSpan → Option TokenAndSpan → Choice F C K Prop c
+  prop_word t u =
+      if at_token ends_prop u then pick prop-short else
+      (if at_token is_equals u then pick prop-cover else
+      (if at_token follows_key u then pick prop-key else
+      (if at_token is_get t then pick prop-getter else
+      (if at_token is_async t then async_method u else none))))
+
+  abbrev pub prop : (c : Context) → List TokenAndSpan → Choice F C K Prop c
+  prop c ts =
+      if at_token is_dots (first ts) then pick prop-spread else
+      (if at_token is_star (first ts) then pick prop-generator else
+      (if at_token is_word (first ts) then prop_word (first ts) (second ts) else pick prop-key))
+
+  abbrev pub key : (c : Context) → List TokenAndSpan → Choice F C K Key c
+  key c ts =
+      if at_token is_word (first ts) then pick key-name else
+      (if at_token is_lbracket (first ts) then pick key-computed else pick key-literal)
+
+  abbrev pub after_key : (c : Context) → List TokenAndSpan → Choice F C K AfterKey c
+  after_key c ts = if at_token is_colon (first ts) then pick after-value else pick after-shell
+
+  abbrev pub shell : (is_async is_generator : Bool) (c : Context) → List TokenAndSpan
+      → Choice F C K (Shell is_async is_generator) c
+  shell is_async is_generator c ts = pick shell-block
 
   -- behind an operator: what stands right of it, and their node, with the least precedence to go on with
   abbrev pub bin_op : BinaryOp → Tree F C K → ℕ → Context → Plan F C K (Tree F C K × Option ℕ)
@@ -241,6 +298,12 @@ module _ {F C K : Type 0} where
   step (sym Elements) c ts = chosen (elements c ts)
   step (sym ElementsTail) c ts = chosen (elements_tail c ts)
   step (sym Item) c ts = chosen (item c ts)
+  step (sym Props) c ts = chosen (props c ts)
+  step (sym PropsTail) c ts = chosen (props_tail c ts)
+  step (sym Prop) c ts = chosen (prop c ts)
+  step (sym Key) c ts = chosen (key c ts)
+  step (sym AfterKey) c ts = chosen (after_key c ts)
+  step (sym (Shell is_async is_generator)) c ts = chosen (shell is_async is_generator c ts)
   step (climb l m) c ts = turn (operator_at c (first ts)) l m c >>= (λ r. turned r.0 r.1 c)
 
 -- closed by as many steps as the measure of the call, which is enough

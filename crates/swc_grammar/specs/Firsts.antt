@@ -9,7 +9,9 @@ use Rattle.swc_input.specs.declared.token.Token.{Token}
 use Rattle.swc_input.specs.declared.token.Token.TheVariants as token
 use Rattle.swc_grammar.specs.Clean.{is_lit, is_identifier}
 use Rattle.swc_grammar.specs.Symbols.{Symbol, Primary, Literal, Elements, ElementsTail, Item}
-use Rattle.swc_grammar.specs.Tokens.{prefix_of, is_comma, is_rbracket, is_dots}
+use Rattle.swc_grammar.specs.Symbols.{Props, PropsTail, Prop, Key, AfterKey, Shell}
+use Rattle.swc_grammar.specs.Tokens.{prefix_of, is_comma, is_rbracket, is_rbrace, is_dots, is_star, is_lparen}
+use Rattle.swc_grammar.specs.Tokens.{ends_prop, follows_key}
 
 abbrev pub is_prefix_op : Option UnaryOp → Bool
 is_prefix_op None = false
@@ -32,6 +34,7 @@ is_first (token.BigInt raw) = true
 is_first (token.Str value raw) = true
 is_first token.LParen = true
 is_first token.LBracket = true
+is_first token.LBrace = true
 is_first token.Hash = true
 is_first t = false
 
@@ -42,11 +45,29 @@ begins_primary c t = is_identifier c t || is_first t
 abbrev pub begins_expression : Context → Token → Bool
 begins_expression c t = begins_primary c t || is_prefix t
 
+-- a key, and a property, which may also begin with dots or `*`
+abbrev pub begins_key : Token → Bool
+begins_key (token.Word w) = true
+begins_key (token.Num raw) = true
+begins_key (token.BigInt raw) = true
+begins_key (token.Str value raw) = true
+begins_key token.LBracket = true
+begins_key t = false
+
+abbrev pub begins_prop : Token → Bool
+begins_prop t = begins_key t || (is_dots t || is_star t)
+
 -- the symbols of expressions
 abbrev pub is_expression : Symbol → Bool
 is_expression Elements = false
 is_expression ElementsTail = false
 is_expression Item = false
+is_expression Props = false
+is_expression PropsTail = false
+is_expression Prop = false
+is_expression Key = false
+is_expression AfterKey = false
+is_expression (Shell is_async is_generator) = false
 is_expression s = true
 
 abbrev pub starts : Symbol → Context → Token → Bool
@@ -55,4 +76,10 @@ starts Literal c t = is_lit t
 starts Elements c t = (begins_expression c t || is_dots t) || (is_comma t || is_rbracket t)
 starts ElementsTail c t = is_comma t || is_rbracket t
 starts Item c t = begins_expression c t || is_dots t
+starts Props c t = begins_prop t || is_rbrace t
+starts PropsTail c t = ends_prop t
+starts Prop c t = begins_prop t
+starts Key c t = begins_key t
+starts AfterKey c t = follows_key t
+starts (Shell is_async is_generator) c t = is_lparen t
 starts s c t = begins_expression c t

@@ -1,21 +1,24 @@
 -- The written grammar, after ECMA-262, whose sections stand beside it. `Production symbol c side` says that in the
 -- context c the right-hand side is one of the symbol's. What it means that a right-hand side is followed is said in
 -- Reads.
-use Rattle.std.specs.Prelude.{ℕ, suc, not, IsTrue, nat_eq, nat_lt}
+use Rattle.std.specs.Prelude.{ℕ, suc, Bool, true, false, not, IsTrue, nat_eq, nat_lt}
 use Rattle.swc_context.specs.Operators.{precedence_of}
+use Rattle.swc_context.specs.Reserved.{is_reserved_word}
 use Rattle.swc_context.specs.declared.context.Context.{Context}
 use Rattle.swc_context.specs.declared.operator.BinaryOp.TheVariants as binary
 use Rattle.swc_input.specs.Kinds.{is_hash}
 use Rattle.swc_ast.specs.Tree.{nil, cons, span_of}
+use Rattle.swc_bodies.specs.Readings.{is_async, is_brace}
 use Rattle.swc_grammar.specs.Rule.{gives, ◌>>=◌, ◌>>◌, symbol, token, one, must, body}
 use Rattle.swc_grammar.specs.Symbols.{Symbol, Expr, Assign, Level, Unary, Primary, Literal, Elements, ElementsTail}
-use Rattle.swc_grammar.specs.Symbols.{Item, Side, function, class}
+use Rattle.swc_grammar.specs.Symbols.{Item, Props, PropsTail, Prop, Key, AfterKey, Shell, Side, function, class, block}
 use Rattle.swc_grammar.specs.Tokens.{with_in, is_this, is_lparen, is_rparen, is_lbracket, is_rbracket, is_comma, is_dots}
-use Rattle.swc_grammar.specs.Tokens.{is_power}
-use Rattle.swc_grammar.specs.Parts.{reference, any_name, lit_of, prefix_here, operator_here}
+use Rattle.swc_grammar.specs.Tokens.{is_power, is_rbrace, is_colon, is_star, is_equals, is_get, method_block}
+use Rattle.swc_grammar.specs.Parts.{reference, any_name, lit_of, key_lit_of, prefix_here, operator_here}
 use Rattle.swc_grammar.specs.Trees.{to, ident_e, this_e, array_e, listed, items_of, hole_e, item_e, spread_e, fn_e}
-use Rattle.swc_grammar.specs.Trees.{class_e, private_e, unary_e, paren_e, bin_e}
-use Rattle.swc_grammar.specs.Trees.{nullish_ok, logical_ok, delete_ok, is_unary}
+use Rattle.swc_grammar.specs.Trees.{class_e, private_e, unary_e, paren_e, bin_e, object_e, name_e, computed_e}
+use Rattle.swc_grammar.specs.Trees.{spread_prop_e, short_e, cover_e, value_e, block_e, function_e, method_e, getter_e}
+use Rattle.swc_grammar.specs.Trees.{prop_of, nullish_ok, logical_ok, delete_ok, is_unary, no_cover_in}
 
 pub data Production {F C K : Type 0} : (s : Symbol) → Context → Side F C K s → Type 0 where
   -- Identifier references (13.1)
@@ -60,6 +63,86 @@ pub data Production {F C K : Type 0} : (s : Symbol) → Context → Side F C K s
     s ← token is_dots
     e ← symbol Assign c
     gives (spread_e s e))
+  -- Object literals (13.2.5)
+  object-lit : {c : Context} → Production Primary c (do
+    s ← token is_brace
+    ps ← symbol Props c
+    gives (object_e (to s (span_of ps)) (items_of ps)))
+  props-end : {c : Context} → Production Props c (do
+    s ← token is_rbrace
+    gives (listed s nil))
+  props-more : {c : Context} → Production Props c (do
+    p ← symbol Prop c
+    ps ← symbol PropsTail c
+    gives (listed (span_of ps) (cons p (items_of ps))))
+  props-tail-end : {c : Context} → Production PropsTail c (do
+    s ← token is_rbrace
+    gives (listed s nil))
+  props-tail-more : {c : Context} → Production PropsTail c (do
+    token is_comma
+    symbol Props c)
+  prop-spread : {c : Context} → Production Prop c (do
+    s ← token is_dots
+    e ← symbol Assign (with_in c)
+    gives (spread_prop_e s e))
+  prop-short : {c : Context} → Production Prop c (do
+    n ← one (any_name c)
+    must (not (is_reserved_word c n.text))
+    gives (short_e n.at n.text))
+  prop-cover : {c : Context} → Production Prop c (do
+    n ← one (any_name c)
+    must (not (is_reserved_word c n.text))
+    token is_equals
+    e ← symbol Assign (with_in c)
+    gives (cover_e (to n.at (span_of e)) (ident_e n.at n.text) e))
+  prop-key : {c : Context} → Production Prop c (do
+    k ← symbol Key c
+    x ← symbol AfterKey c
+    gives (prop_of k x))
+  -- Methods (15.4), of which setters aren't in it yet, and generators and async ones (15.5, 15.6, 15.8)
+  prop-generator : {c : Context} → Production Prop c (do
+    s ← token is_star
+    k ← symbol Key c
+    f ← symbol (Shell false true) c
+    gives (method_e (to s (span_of f)) k f))
+  prop-async : {c : Context} → Production Prop c (do
+    s ← token is_async
+    k ← symbol Key c
+    f ← symbol (Shell true false) c
+    gives (method_e (to s (span_of f)) k f))
+  prop-async-generator : {c : Context} → Production Prop c (do
+    s ← token is_async
+    token is_star
+    k ← symbol Key c
+    f ← symbol (Shell true true) c
+    gives (method_e (to s (span_of f)) k f))
+  prop-getter : {c : Context} → Production Prop c (do
+    s ← token is_get
+    k ← symbol Key c
+    f ← symbol (Shell false false) c
+    gives (getter_e (to s (span_of f)) k f))
+  after-value : {c : Context} → Production AfterKey c (do
+    token is_colon
+    e ← symbol Assign (with_in c)
+    gives (value_e (span_of e) e))
+  after-shell : {c : Context} → Production AfterKey c (symbol (Shell false false) c)
+  shell-block : {c : Context} {is_async is_generator : Bool} → Production (Shell is_async is_generator) c (do
+    s ← token is_lparen
+    token is_rparen
+    (v, s') ← body block (method_block is_async is_generator c)
+    gives (function_e (to s s') is_async is_generator (block_e s' v)))
+  -- Keys (PropertyName, 13.2.5)
+  key-name : {c : Context} → Production Key c (do
+    n ← one (any_name c)
+    gives (name_e n.at n.text))
+  key-literal : {c : Context} → Production Key c (do
+    e ← one key_lit_of
+    gives e)
+  key-computed : {c : Context} → Production Key c (do
+    s ← token is_lbracket
+    e ← symbol Assign (with_in c)
+    s' ← token is_rbracket
+    gives (computed_e (to s s') e))
   -- Functions (13.2.6; 15.2, 15.5, 15.6, 15.8) and classes (15.7), which the hook reads
   fn-expr : {c : Context} → Production Primary c (do
     (f, s) ← body function c
@@ -72,6 +155,7 @@ pub data Production {F C K : Type 0} : (s : Symbol) → Context → Side F C K s
     s ← token is_lparen
     e ← symbol Assign (with_in c)
     s' ← token is_rparen
+    must (no_cover_in e)
     gives (paren_e (to s s') e))
   -- UnaryExpression (13.5)
   unary-primary : {c : Context} → Production Unary c (symbol Primary c)

@@ -30,6 +30,13 @@ lit_of (tok.BigInt raw) s = Some (big_e s raw)
 lit_of (tok.Str value raw) s = Some (str_e s value raw)
 lit_of t s = None
 
+-- a literal that may be a key (13.2.5)
+abbrev pub key_lit_of : {F C K : Type 0} → Token → Span → Option (Tree F C K)
+key_lit_of (tok.Num raw) s = Some (num_e s raw)
+key_lit_of (tok.BigInt raw) s = Some (big_e s raw)
+key_lit_of (tok.Str value raw) s = Some (str_e s value raw)
+key_lit_of t s = None
+
 -- a prefix operator (13.5), with its place
 abbrev pub with_place : {A : Type 0} → Option A → Span → Option (A × Span)
 with_place None s = None

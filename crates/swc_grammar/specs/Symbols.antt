@@ -18,6 +18,16 @@ pub data Symbol : Type 0 where
   ElementsTail : Symbol
   -- an item of a list: an assignment expression, or one behind dots (13.2.4, 13.3.8)
   Item : Symbol
+  -- behind the brace of an object literal (13.2.5), through the one that closes it: properties, and the same behind
+  -- one of them
+  Props : Symbol
+  PropsTail : Symbol
+  -- a property of an object literal; its key; what stands behind the key, a value or a method's function
+  Prop : Symbol
+  Key : Symbol
+  AfterKey : Symbol
+  -- the parameters and the body of a method (15.4): is it async, and is it a generator
+  Shell : Bool → Bool → Symbol
 
 -- What a symbol gives. A list gives one node that holds its items, at the place of the token that closes it (`listed`).
 abbrev pub Answer : (F C K : Type 0) → Symbol → Type 0

@@ -6,6 +6,7 @@ use Rattle.swc_context.specs.Texts.{is_text, is_one_of}
 use Rattle.swc_context.specs.declared.context.Context.{Context}
 use Rattle.swc_context.specs.declared.operator.BinaryOp.{BinaryOp}
 use Rattle.swc_context.specs.declared.operator.BinaryOp.TheVariants as binary
+use Rattle.swc_context.specs.declared.operator.AssignOp.TheVariants as assign
 use Rattle.swc_context.specs.declared.operator.BinOpToken.TheVariants as sign
 use Rattle.swc_context.specs.declared.operator.UnaryOp.{UnaryOp}
 use Rattle.swc_context.specs.declared.operator.UnaryOp.TheVariants as unary
@@ -24,6 +25,25 @@ tk t b s = record { token = t; had_line_break = b; span = s }
 -- the context in which `in` is an operator
 abbrev pub with_in : Context → Context
 with_in c = record c { include_in_expr = true }
+
+-- The contexts of a method (15.4), async or not and a generator or not: that of its parameters, which no production
+-- reads yet, and that of its body.
+abbrev pub method_scope : Bool → Bool → Context → Context
+method_scope is_async is_generator c = record c {
+  in_async = is_async;
+  in_generator = is_generator;
+  in_class_field = false;
+  inside_non_arrow_function_scope = true;
+  allow_direct_super = true;
+}
+
+abbrev pub method_params : Bool → Bool → Context → Context
+method_params is_async is_generator c =
+    record (method_scope is_async is_generator c) { in_function = false; in_parameters = true }
+
+abbrev pub method_block : Bool → Bool → Context → Context
+method_block is_async is_generator c =
+    record (method_scope is_async is_generator c) { in_function = true; in_parameters = false }
 
 -- An identifier reference (ECMA-262, 13.1): a word that isn't reserved where it stands, or `let`.
 abbrev pub is_reference : Context → Word → Bool
@@ -150,3 +170,36 @@ is_dots t = false
 abbrev pub is_this : Token → Bool
 is_this (token.Word (word.Keyword keyword.This)) = true
 is_this t = false
+
+abbrev pub is_rbrace : Token → Bool
+is_rbrace token.RBrace = true
+is_rbrace t = false
+
+abbrev pub is_colon : Token → Bool
+is_colon token.Colon = true
+is_colon t = false
+
+-- `*`, and `=`
+abbrev pub is_star : Token → Bool
+is_star (token.BinOp sign.Mul) = true
+is_star t = false
+
+abbrev pub is_equals : Token → Bool
+is_equals (token.AssignOp assign.Assign) = true
+is_equals t = false
+
+-- any word, and the word `get`
+abbrev pub is_word : Token → Bool
+is_word (token.Word w) = true
+is_word t = false
+
+abbrev pub is_get : Token → Bool
+is_get (token.Word (word.Ident w)) = is_text w (codes "get")
+is_get t = false
+
+-- what stands behind a property, and behind a key
+abbrev pub ends_prop : Token → Bool
+ends_prop t = is_comma t || is_rbrace t
+
+abbrev pub follows_key : Token → Bool
+follows_key t = is_colon t || is_lparen t

@@ -8,8 +8,10 @@ use Rattle.swc_context.specs.declared.context.Context.{Context}
 use Rattle.swc_context.specs.declared.operator.UnaryOp.{UnaryOp}
 use Rattle.swc_context.specs.declared.operator.UnaryOp.TheVariants as prefix
 use Rattle.swc_context.specs.declared.span.Span.{Span}
-use Rattle.swc_ast.specs.Tree.{Tree, node, Trees, nil, cons}
+use Rattle.swc_ast.specs.Tree.{Tree, node, Trees, nil, cons, span_of}
 use Rattle.swc_ast.specs.Tree.{Kind, this, fun, class, array, args, hole, item, spread, dots, no_span}
+use Rattle.swc_ast.specs.Tree.{object, shorthand, key_value, cover, method, getter, function, block, computed}
+use Rattle.swc_ast.specs.Tree.{name as name_kind}
 use Rattle.swc_ast.specs.Tree.{ident, private, str, boolean, null, num, big, unary, await, bin, paren, invalid}
 
 -- From the start of the first place to the end of the second: where the tokens are in order, the span of a node. The smaller end
@@ -45,6 +47,55 @@ item_e e = node item no_span (cons e nil)
 
 abbrev pub spread_e : {F C K : Type 0} → Span → Tree F C K → Tree F C K
 spread_e s e = node spread no_span (cons (node dots s nil) (cons e nil))
+
+pattern abbrev pub object_e : {F C K : Type 0} → Span → Trees F C K → Tree F C K
+object_e s props = node object s props
+
+-- keys: a name, which may be any word, and an expression in brackets; a literal is its own node
+pattern abbrev pub name_e : {F C K : Type 0} → Span → List ℕ → Tree F C K
+name_e s text = node (name_kind text) s nil
+
+pattern abbrev pub computed_e : {F C K : Type 0} → Span → Tree F C K → Tree F C K
+computed_e s e = node computed s (cons e nil)
+
+-- properties: an expression behind dots; a name alone; a name with `=` and an expression behind it; a key and its value
+abbrev pub spread_prop_e : {F C K : Type 0} → Span → Tree F C K → Tree F C K
+spread_prop_e s e = node spread (to s (span_of e)) (cons (node dots s nil) (cons e nil))
+
+abbrev pub short_e : {F C K : Type 0} → Span → List ℕ → Tree F C K
+short_e s text = node shorthand s (cons (node (ident text) s nil) nil)
+
+pattern abbrev pub cover_e : {F C K : Type 0} → Span → Tree F C K → Tree F C K → Tree F C K
+cover_e s n e = node cover s (cons n (cons e nil))
+
+pattern abbrev pub key_value_e : {F C K : Type 0} → Span → Tree F C K → Tree F C K → Tree F C K
+key_value_e s k e = node key_value s (cons k (cons e nil))
+
+-- the function of a method, which has no parameters so far: its block
+pattern abbrev pub block_e : {F C K : Type 0} → Span → K → Tree F C K
+block_e s v = node (block v) s nil
+
+pattern abbrev pub function_e : {F C K : Type 0} → Span → Bool → Bool → Tree F C K → Tree F C K
+function_e s is_async is_generator b = node (function is_async is_generator) s (cons b nil)
+
+-- the same node at another place
+abbrev pub at_place : {F C K : Type 0} → Span → Tree F C K → Tree F C K
+at_place s (node k at ts) = node k s ts
+
+-- a method: its function spans all of it; a getter, which has the block of its function
+abbrev pub method_e : {F C K : Type 0} → Span → Tree F C K → Tree F C K → Tree F C K
+method_e s k f = node method s (cons k (cons (at_place s f) nil))
+
+abbrev pub getter_e : {F C K : Type 0} → Span → Tree F C K → Tree F C K → Tree F C K
+getter_e s k f = node getter s (cons k (items_of f))
+
+-- what stands behind a key, a value (at its place) or a method's function; and the property of a key and of that
+pattern abbrev pub value_e : {F C K : Type 0} → Span → Tree F C K → Tree F C K
+value_e s e = node item s (cons e nil)
+
+abbrev pub prop_of : {F C K : Type 0} → Tree F C K → Tree F C K → Tree F C K
+prop_of k (value_e s e) = key_value_e (to (span_of k) s) k e
+prop_of k f = method_e (to (span_of k) (span_of f)) k f
 
 pattern abbrev pub null_e : {F C K : Type 0} → Span → Tree F C K
 null_e s = node null s nil
@@ -114,6 +165,20 @@ is_ident t = false
 
 abbrev pub delete_ok : {F C K : Type 0} → Context → UnaryOp → Tree F C K → Bool
 delete_ok c op t = not (c.module && (is_delete op && is_ident t))
+
+-- The early error of cover names (13.2.5.1), as far as it is looked at: what stands directly in parentheses is no
+-- object literal with a property `name = e` of its own.
+abbrev pub is_cover : {F C K : Type 0} → Tree F C K → Bool
+is_cover (node cover s ts) = true
+is_cover t = false
+
+abbrev pub no_cover : {F C K : Type 0} → Trees F C K → Bool
+no_cover nil = true
+no_cover (cons t ts) = not (is_cover t) && no_cover ts
+
+abbrev pub no_cover_in : {F C K : Type 0} → Tree F C K → Bool
+no_cover_in (node object s ts) = no_cover ts
+no_cover_in t = true
 
 -- a node of a prefix operator or of `await`, which `**` doesn't take on its left (13.6)
 abbrev pub is_unary : {F C K : Type 0} → Tree F C K → Bool

@@ -1,4 +1,5 @@
 pub mod Chains
+pub mod Covers
 pub mod Held
 pub mod Lists
 pub mod Standing

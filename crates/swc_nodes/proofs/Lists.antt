@@ -170,7 +170,7 @@ module _ {F C K : Type 0} (at by : ℕ → Tree F C K) where
   elem-same None h = refl
   elem-same (Some x) h = item-same x h
 
-  key-same : (k : PropName ExprId) → SameTrees at by (key_parts k) →
+  pub key-same : (k : PropName ExprId) → SameTrees at by (key_parts k) →
       prop_name_tree (λ e. at e.0) k ≡ prop_name_tree (λ e. by e.0) k
   key-same (prop_name.Ident i) h = refl
   key-same (prop_name.Str s) h = refl

@@ -1,12 +1,13 @@
 // Where a node stands, and what form it has.
-ghost use Rattle.std.specs.Prelude.{◌≡◌, not};
+ghost use Rattle.std.specs.Prelude.{◌≡◌, not, true, MatchOption};
 ghost use Rattle.swc_ast.specs.Tree.{span_of};
 ghost use Rattle.swc_grammar.specs.Clean.{left_ok};
 ghost use Rattle.swc_grammar.specs.Trees as trees;
+ghost use Rattle.swc_nodes.specs.Lists.{has_cover};
 ghost use Rattle.swc_nodes.specs.Slots.{expr_part, pat_part};
 ghost use Rattle.swc_nodes.specs.Stands.{tree_at, From};
 
-use crate::node::{ExprId, Node, PatId};
+use crate::node::{ExprId, Node, PatId, PropNode};
 use crate::nodes::Nodes;
 use swc_ast::spanned::Spanned;
 use swc_context::operator::BinaryOp;
@@ -85,6 +86,18 @@ impl<F: Spanned + Drop, C: Spanned + Drop, K: Spanned + Drop> Nodes<F, C, K> {
         match self.get(id.0) {
             Node::Bin { op, .. } => is_logical_op(*op),
             _ => false,
+        }
+    }
+
+    /// The properties of an object literal; nothing of any other expression.
+    pub fn props(&self, id: ExprId) -> Option<&Vec<PropNode<K>>>
+        requires { From 0 self.now (expr_part id) }
+        ensures { MatchOption result (trees.no_cover_in (tree_at self.now id.0) ≡ true)
+            (λ props. trees.no_cover_in (tree_at self.now id.0) ≡ not (has_cover props.now.items)) }
+    {
+        match self.get(id.0) {
+            Node::Object { props, .. } => Some(props),
+            _ => None,
         }
     }
 

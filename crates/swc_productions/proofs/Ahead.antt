@@ -56,6 +56,9 @@ break_of (Some t) w r e m = let same : t ≡ w = cc in m ∙ ap (λ v. v.had_lin
 some_none : {A P : Type 0} {o : Option A} {a : A} → o ≡ Some a → o ≡ None → P
 some_none e n = absurd cc
 
+pub is_some_none : {A P : Type 0} {o : Option A} → IsSome o → o ≡ None → P
+is_some_none s n = absurd cc
+
 -- what `peek_function` answers
 answer_some : (o : Option TokenAndSpan) (a : Option Bool) (r : Bool) → a ≡ Some r
     → MatchOption o (a ≡ None) (λ t. a ≡ Some (is_function t.token))
@@ -64,7 +67,7 @@ answer_some None a r e m = cc
 answer_some (Some t) a r e m = (t, refl, cc)
 
 module _ {S : Type 0} {model : Model S} (laws : Laws model) where
-  peeked_first : {b c : Buffer S} → Peeked model b c → IsSome (current b)
+  pub peeked_first : {b c : Buffer S} → Peeked model b c → IsSome (current b)
       → (c.next ≡ None → (model.state c.iter).failed ≡ false) → (ts : List TokenAndSpan) → Future model c ts
       → first (rest ts) ≡ seen_of c.next
   peeked_first {b} {c} p some runs ts f =

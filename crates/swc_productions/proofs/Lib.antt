@@ -1,9 +1,14 @@
 pub mod Ahead
 pub mod Building
+pub mod Covers
 pub mod Hearing
+pub mod Keys
 pub mod Lists
 pub mod Making
+pub mod Methods
 pub mod Naming
+pub mod PropKinds
+pub mod Properties
 pub mod Rules
 pub mod Steps
 pub mod Words

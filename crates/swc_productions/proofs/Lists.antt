@@ -57,12 +57,12 @@ calls None k = refl
 calls (Some p) k = refl
 
 -- one after another, however they are grouped
-binds : {A B D : Type 0} (o : Out A) (f : A × List TokenAndSpan → Out B) (k : B × List TokenAndSpan → Out D)
+pub binds : {A B D : Type 0} (o : Out A) (f : A × List TokenAndSpan → Out B) (k : B × List TokenAndSpan → Out D)
     → (o >>= (λ p. f p >>= k)) ≡ ((o >>= f) >>= k)
 binds None f k = refl
 binds (Some p) f k = refl
 
-bind_same : {A B : Type 0} (o : Out A) (f k : A × List TokenAndSpan → Out B)
+pub bind_same : {A B : Type 0} (o : Out A) (f k : A × List TokenAndSpan → Out B)
     → ((p : A × List TokenAndSpan) → f p ≡ k p) → (o >>= f) ≡ (o >>= k)
 bind_same None f k h = refl
 bind_same (Some p) f k h = h p
@@ -175,7 +175,7 @@ module _ {F C K : Type 0} (hook : Hook F C K) where
   elements_more_splits before x ts = refl
 
   -- items before items
-  twice : (before : Trees F C K) (e es : Tree F C K)
+  pub twice : (before : Trees F C K) (e es : Tree F C K)
       → put_before before (put_before (cons e nil) es) ≡ put_before (trees_append before (cons e nil)) es
   twice before e es = ap (λ v. listed (span_of es) v) (sym (trees_append-assoc before (cons e nil) (items_of es)))
 

@@ -18,7 +18,7 @@ use Rattle.swc_input.specs.Plain.{plain}
 use Rattle.swc_input.specs.Kinds.{at_token, is_hash}
 use Rattle.swc_ast.specs.Tree.{Tree, span_of}
 use Rattle.swc_grammar.specs.Rule.{gives, take, check, read, given, ◌>>=◌ as ◌▸◌}
-use Rattle.swc_bodies.specs.Readings.{Hook, LawfulHook, begins, begins_function, is_class, is_function, is_async}
+use Rattle.swc_bodies.specs.Readings.{Hook, LawfulHook, begins, begins_function, is_class, is_function, is_async, is_brace}
 use Rattle.swc_bodies.specs.Readings.{is_function_here}
 use Rattle.swc_grammar.specs.Symbols.{Expr, Assign, Level, Unary, Primary, Literal, Side, function, class}
 use Rattle.swc_grammar.specs.Tokens.{tk, with_in, is_reference, ref_ok, is_put_off, prefix_of, is_lparen, is_rparen}
@@ -26,7 +26,7 @@ use Rattle.swc_grammar.specs.Tokens.{is_this, is_lbracket}
 use Rattle.swc_grammar.specs.Names.{Spelling, spelling, may_refer, may_name, spelled}
 use Rattle.swc_grammar.specs.Trees.{to, ident_e, this_e, fn_e, class_e, private_e, unary_e, paren_e, bin_e, is_logical}
 use Rattle.swc_grammar.specs.Trees.{is_nullish_op}
-use Rattle.swc_grammar.specs.Trees.{nullish_ok, exp_ok, delete_ok, min_right}
+use Rattle.swc_grammar.specs.Trees.{nullish_ok, exp_ok, delete_ok, min_right, no_cover_in}
 use Rattle.swc_grammar.specs.Parts.{reference, any_name, lit_of, with_place, prefix_here}
 use Rattle.swc_grammar.specs.Grammar.{ident-expr, this-expr, primary-literal, fn-expr, class-expr, paren-expr, unary-op}
 use Rattle.swc_grammar.specs.Grammar.{private-expr}
@@ -45,7 +45,7 @@ use Rattle.swc_grammar.proofs.Only.{only-this, only-lparen, only-rparen, only-ha
 use Rattle.swc_grammar.proofs.Rules.{exec-bind, run_picked, reads_nothing}
 use Rattle.swc_productions.proofs.Lists.{calls}
 use Rattle.swc_productions.specs.Parsing.{is_strict, begins_async, seen_of}
-use Rattle.swc_productions.specs.Readers.{reading, by_production, inside, private_expr_tail, paren_expr_tail, paren_expr_close, unary_op_tail, unary_op_node}
+use Rattle.swc_productions.specs.Readers.{reading, by_production, inside, private_expr_tail, paren_expr_tail, paren_expr_close, paren_expr_node, unary_op_tail, unary_op_node}
 use Rattle.swc_productions.specs.Readers.{unary_op, turn, bin_op}
 use Rattle.swc_productions.specs.Readers.{bin_op_node, turned, go_on}
 
@@ -187,9 +187,10 @@ module _ {F C K : Type 0} (hook : Hook F C K) where
       → at_token is_lit (first ts) ≡ false → at_token is_lparen (first ts) ≡ false
       → at_token is_hash (first ts) ≡ false → at_token is_this (first ts) ≡ false
       → at_token is_lbracket (first ts) ≡ false → begins_function ts ≡ false → at_token is_class (first ts) ≡ false
+      → at_token is_brace (first ts) ≡ false
       → run hook (at Primary) x ts ≡ None
-  primary_ends x ts h i j k l m n o =
-      knot hook (at Primary) x ts ∙ rw (h, i, j, k, l, m, n, begins_first is_class ts ∙ o) refl
+  primary_ends x ts h i j k l m n o p =
+      knot hook (at Primary) x ts ∙ rw (h, i, j, k, l, m, n, begins_first is_class ts ∙ o, p) refl
 
   -- ---- identifier references (13.1)
 
@@ -302,9 +303,19 @@ module _ {F C K : Type 0} (hook : Hook F C K) where
   paren_expr_splits s x ts = calls (run hook (at Assign) (with_in x) ts) _
 
   pub paren_expr_closes : (s : Span) (e : Tree F C K) (t : TokenAndSpan) (ts : List TokenAndSpan) → is_rparen t.token ≡ true
-      → paren_expr_close hook s e (t ∷ ts) ≡ Some (paren_e (to s t.span) e, ts)
-  unfolding paren_expr_close reading
+      → paren_expr_close hook s e (t ∷ ts) ≡ paren_expr_node hook s t.span e ts
+  unfolding paren_expr_close paren_expr_node reading
   paren_expr_closes s e t ts h = rw h refl
+
+  pub paren_expr_well : (s s' : Span) (e : Tree F C K) (ts : List TokenAndSpan) → no_cover_in e ≡ true
+      → paren_expr_node hook s s' e ts ≡ Some (paren_e (to s s') e, ts)
+  unfolding paren_expr_node reading
+  paren_expr_well s s' e ts h = rw h refl
+
+  pub paren_expr_ill : (s s' : Span) (e : Tree F C K) (ts : List TokenAndSpan) → no_cover_in e ≡ false
+      → paren_expr_node hook s s' e ts ≡ None
+  unfolding paren_expr_node reading
+  paren_expr_ill s s' e ts h = rw h refl
 
   pub paren_expr_ends : (s : Span) (e : Tree F C K) (ts : List TokenAndSpan) → at_token is_rparen (first ts) ≡ false
       → paren_expr_close hook s e ts ≡ None

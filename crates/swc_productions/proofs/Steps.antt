@@ -271,7 +271,7 @@ module _ {S : Type 0} {model : Model S} {sure : Bool} where
   }
 
   -- a look, and one ahead by which is told whether the tokens to come pass the test
-  pub on_told : {A : Type 0} {f g : Reader A} {test : List TokenAndSpan → Bool} {v : Bool} {a b c : Buffer S} → Here model a b → Told model test v b c → ((x : Context) (ts : List TokenAndSpan) → x ≡ context model c → first ts ≡ seen c → test ts ≡ v → f x ts ≡ g x ts) → On model sure f g a c
+  pub on_told : {A : Type 0} {f g : Reader A} {V : Type 0} {test : List TokenAndSpan → V} {v : V} {a b c : Buffer S} → Here model a b → Told model test v b c → ((x : Context) (ts : List TokenAndSpan) → x ≡ context model c → first ts ≡ seen c → test ts ≡ v → f x ts ≡ g x ts) → On model sure f g a c
   on_told {g = g} {a = a} {b = b} {c = c} h t step =
       let look = h.looked.look in
       let same = t.still.read.context ∙ look.read.context in
@@ -458,7 +458,7 @@ module _ {S : Type 0} {model : Model S} {sure : Bool} where
   unheard_at {A = A} {f = f} h none r = let n : Reader A = λ x ts. None in unheard_after (on_seen {g = n} h none) (unheard_none {f = n} (λ x ts. refl) r)
 
   -- the same, where it is told of the list
-  pub unheard_told : {A : Type 0} {f : Reader A} {test : List TokenAndSpan → Bool} {v : Bool} {a b c d : Buffer S} {e : Error} → Here model a b → Told model test v b c → ((x : Context) (ts : List TokenAndSpan) → x ≡ context model c → first ts ≡ seen c → test ts ≡ v → f x ts ≡ None) → Refuses model c e d → Unheard model sure f a e d
+  pub unheard_told : {A : Type 0} {f : Reader A} {V : Type 0} {test : List TokenAndSpan → V} {v : V} {a b c d : Buffer S} {e : Error} → Here model a b → Told model test v b c → ((x : Context) (ts : List TokenAndSpan) → x ≡ context model c → first ts ≡ seen c → test ts ≡ v → f x ts ≡ None) → Refuses model c e d → Unheard model sure f a e d
   unheard_told {A = A} {f = f} h t none r = let n : Reader A = λ x ts. None in unheard_after (on_told {g = n} h t none) (unheard_none {f = n} (λ x ts. refl) r)
 
   pub unheard_memory : {A : Type 0} {f : Reader A} {b c : Buffer S} {e : Error} → Forgoes model b e c → Unheard model sure f b e c

@@ -1,3 +1,6 @@
+pub mod Keys
 pub mod Lists
+pub mod Methods
 pub mod Parsing
+pub mod Properties
 pub mod Readers

@@ -6,9 +6,10 @@ use Rattle.swc_input.specs.declared.token.Token.{Token}
 use Rattle.swc_input.specs.declared.token.TokenAndSpan.{TokenAndSpan}
 use Rattle.swc_input.specs.Kinds.{at_token}
 use Rattle.swc_ast.specs.Tree.{Tree, Trees, nil, cons, span_of}
-use Rattle.swc_bodies.specs.Readings.{Hook}
+use Rattle.swc_bodies.specs.Readings.{Hook, is_async}
 use Rattle.swc_grammar.specs.Symbols.{Elements, Item}
-use Rattle.swc_grammar.specs.Tokens.{with_in, is_comma, is_dots, is_rbracket}
+use Rattle.swc_grammar.specs.Tokens.{with_in, is_comma, is_dots, is_lparen, is_rparen, is_lbracket, is_rbracket}
+use Rattle.swc_grammar.specs.Tokens.{is_rbrace, is_equals, is_colon, is_star, is_get}
 use Rattle.swc_grammar.specs.Trees.{to, array_e, hole_e, listed, items_of}
 use Rattle.swc_grammar.specs.Clean.{Out, first, sym, run}
 use Rattle.swc_grammar.specs.Words.{◌>>=◌}
@@ -20,7 +21,16 @@ use Rattle.swc_productions.specs.declared.moves.Sign.TheVariants as sign
 abbrev pub is_sign_token : Sign → Token → Bool
 is_sign_token sign.Comma = is_comma
 is_sign_token sign.DotDotDot = is_dots
+is_sign_token sign.LParen = is_lparen
+is_sign_token sign.RParen = is_rparen
+is_sign_token sign.LBracket = is_lbracket
 is_sign_token sign.RBracket = is_rbracket
+is_sign_token sign.RBrace = is_rbrace
+is_sign_token sign.Assign = is_equals
+is_sign_token sign.Colon = is_colon
+is_sign_token sign.Star = is_star
+is_sign_token sign.Async = is_async
+is_sign_token sign.Get = is_get
 
 -- a token that passes a test is taken, if it stands first
 abbrev pub eaten_by : Bool → List TokenAndSpan → Out (Option Span)

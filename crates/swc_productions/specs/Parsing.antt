@@ -21,24 +21,31 @@ use Rattle.swc_ast.specs.declared.ident.Ident.{Ident}
 use Rattle.swc_ast.specs.declared.ident.IdentName.{IdentName}
 use Rattle.swc_ast.specs.declared.ident.PrivateName.{PrivateName}
 use Rattle.swc_ast.specs.declared.lit.Lit.{Lit}
-use Rattle.swc_ast.specs.Parts.{lit_tree, item_tree}
+use Rattle.swc_ast.specs.Parts.{lit_tree, item_tree, prop_name_tree, function_tree}
 use Rattle.swc_ast.specs.Tree.{Tree}
 use Rattle.swc_ast.specs.declared.expr.ExprOrSpread.{ExprOrSpread}
+use Rattle.swc_ast.specs.declared.function.Function.{Function}
+use Rattle.swc_ast.specs.declared.prop.PropName.{PropName}
 use Rattle.std.specs.declared.alloc.Global.{Global}
 use Rattle.std.specs.declared.vec.Vec.{Vec}
 use Rattle.swc_ast.specs.declared.spanned.Spanned.{Ghosts}
 use Rattle.swc_grammar.specs.Parts.{lit_of}
-use Rattle.swc_grammar.specs.Trees.{listed}
+use Rattle.swc_grammar.specs.Trees.{listed, value_e}
 use Rattle.swc_grammar.specs.Clean.{Out, no_error, first}
 use Rattle.swc_bodies.specs.Readings.{is_async, is_function_here}
 use Rattle.swc_grammar.specs.Words.{rest}
 use Rattle.swc_grammar.specs.Names.{Spelling, spelling}
 use Rattle.swc_grammar.specs.Tokens.{is_strict_word}
-use Rattle.swc_nodes.specs.Lists.{elem_parts, elem_tree, elem_trees}
-use Rattle.swc_nodes.specs.Slots.{expr_part, if_some, item_parts}
+use Rattle.swc_nodes.specs.Lists.{elem_parts, elem_tree, elem_trees, props_parts, props_trees}
+use Rattle.swc_nodes.specs.Slots.{expr_part, flat, if_some, item_parts, key_parts, param_parts, prop_parts}
 use Rattle.swc_nodes.specs.Stands.{tree_at, count, From, Apart, Grows}
 use Rattle.swc_nodes.specs.declared.node.ExprId.{ExprId}
+use Rattle.swc_nodes.specs.declared.node.PatId.{PatId}
+use Rattle.swc_nodes.specs.NodeTree.{prop_of as prop_tree}
+use Rattle.swc_nodes.specs.declared.node.PropNode.{PropNode}
 use Rattle.swc_nodes.specs.declared.nodes.Nodes.{Nodes}
+use Rattle.swc_productions.specs.declared.object.AfterKey.{AfterKey}
+use Rattle.swc_productions.specs.declared.object.AfterKey.TheVariants as after
 use Rattle.swc_productions.specs.Lists.{eaten}
 use Rattle.swc_productions.specs.declared.productions.Productions.{Productions}
 
@@ -152,8 +159,8 @@ module _ {S : Type 0} (model : Model S) where
   abbrev pub Looks : {T : Type 0} → Buffer S → Result T Error → Buffer S → Type 0
   Looks b r c = MatchResult r (λ t. Here b c) (λ e. Forgoes b e c)
 
-  -- From b to c nothing was consumed, and it is told whether the tokens to come, which begin with what is seen, pass the test.
-  pub record Told (test : List TokenAndSpan → Bool) (answer : Bool) (b c : Buffer S) : Type 0 where
+  -- From b to c nothing was consumed, and it is told what the test gives of the tokens to come, which begin with what is seen.
+  pub record Told {V : Type 0} (test : List TokenAndSpan → V) (answer : V) (b c : Buffer S) : Type 0 where
     pub laws : Laws model
     pub still : Still model b c
     pub current : c.cur ≡ b.cur
@@ -161,7 +168,7 @@ module _ {S : Type 0} (model : Model S) where
     pub told : (ts : List TokenAndSpan) → Future model c ts → first ts ≡ seen c → test ts ≡ answer
 
   -- such a look ahead, which is refused for want of memory alone
-  abbrev pub Tells : (List TokenAndSpan → Bool) → Buffer S → Result Bool Error → Buffer S → Type 0
+  abbrev pub Tells : {V : Type 0} → (List TokenAndSpan → V) → Buffer S → Result V Error → Buffer S → Type 0
   Tells test b r c = MatchResult r (λ v. Told test v b c) (λ e. Forgoes b e c)
 
   -- a refusal at an error token, or at the end
@@ -256,6 +263,24 @@ module _ {F C K : Type 0} {fg : Ghosts F} {cg : Ghosts C} {kg : Ghosts K} where
   abbrev pub elems_of : ℕ → Nodes F C K fg cg kg → Vec (Option (ExprOrSpread ExprId)) Global × Span → Type 0
   elems_of k ns p = Apart k ns (elem_parts p.0)
 
+  -- of a key, of a method's function, which has no parameters so far, of what stands behind a key, of a property, and of all properties of an object literal, with the place of the
+  -- brace that closes it
+  abbrev pub key_of : ℕ → Nodes F C K fg cg kg → PropName ExprId → Type 0
+  key_of k ns x = Apart k ns (key_parts x)
+
+  abbrev pub shell_of : ℕ → Nodes F C K fg cg kg → Function PatId K → Type 0
+  shell_of k ns f = Apart k ns (flat param_parts f.params.items) × (f.params.items ≡ [])
+
+  abbrev pub after_of : ℕ → Nodes F C K fg cg kg → AfterKey K → Type 0
+  after_of k ns (after.Value s e) = From k ns (expr_part e)
+  after_of k ns (after.Method f) = shell_of k ns f
+
+  abbrev pub prop_of : ℕ → Nodes F C K fg cg kg → PropNode K → Type 0
+  prop_of k ns x = Apart k ns (prop_parts x)
+
+  abbrev pub props_of : ℕ → Nodes F C K fg cg kg → Vec (PropNode K) Global × Span → Type 0
+  props_of k ns p = Apart k ns (props_parts p.0)
+
 module _ {F C K : Type 0} {fg : Ghosts F} {cg : Ghosts C} {kg : Ghosts K} where
   -- the tree of an expression, of an operation, and of a literal, among nodes
   abbrev pub tree_of : Nodes F C K fg cg kg → ExprId → Tree F C K
@@ -269,6 +294,22 @@ module _ {F C K : Type 0} {fg : Ghosts F} {cg : Ghosts C} {kg : Ghosts K} where
 
   abbrev pub elems_at : Nodes F C K fg cg kg → Vec (Option (ExprOrSpread ExprId)) Global × Span → Tree F C K
   elems_at ns p = listed p.1 (elem_trees (tree_at ns) p.0)
+
+  abbrev pub key_at : Nodes F C K fg cg kg → PropName ExprId → Tree F C K
+  key_at ns x = prop_name_tree (tree_of ns) x
+
+  abbrev pub shell_at : Nodes F C K fg cg kg → Function PatId K → Tree F C K
+  shell_at ns f = function_tree kg.place (λ p. tree_at ns p.0) f
+
+  abbrev pub after_at : Nodes F C K fg cg kg → AfterKey K → Tree F C K
+  after_at ns (after.Value s e) = value_e s (tree_of ns e)
+  after_at ns (after.Method f) = shell_at ns f
+
+  abbrev pub prop_at : Nodes F C K fg cg kg → PropNode K → Tree F C K
+  prop_at ns x = prop_tree fg.place cg.place kg.place (tree_at ns) x
+
+  abbrev pub props_at : Nodes F C K fg cg kg → Vec (PropNode K) Global × Span → Tree F C K
+  props_at ns p = listed p.1 (props_trees fg.place cg.place kg.place (tree_at ns) p.0)
 
   abbrev pub bin_op_at : Nodes F C K fg cg kg → ExprId × Option ℕ → Tree F C K × Option ℕ
   bin_op_at ns r = (tree_of ns r.0, r.1)

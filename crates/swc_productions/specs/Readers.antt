@@ -11,7 +11,7 @@ use Rattle.swc_grammar.specs.Rule.{gives, check, ◌>>=◌, ◌>>◌, symbol, to
 use Rattle.swc_bodies.specs.Readings.{Hook}
 use Rattle.swc_grammar.specs.Symbols.{Symbol, Assign, Unary, Answer, Side}
 use Rattle.swc_grammar.specs.Tokens.{with_in, is_rparen}
-use Rattle.swc_grammar.specs.Trees.{to, private_e, unary_e, paren_e, bin_e, delete_ok, nullish_ok}
+use Rattle.swc_grammar.specs.Trees.{to, private_e, unary_e, paren_e, bin_e, delete_ok, nullish_ok, no_cover_in}
 use Rattle.swc_grammar.specs.Parts.{any_name}
 use Rattle.swc_grammar.specs.Grammar.{Production}
 use Rattle.swc_grammar.specs.Clean.{Out, first, sym, climb, Plan, plan, exec, operator_at, run}
@@ -34,11 +34,19 @@ module _ {F C K : Type 0} (hook : Hook F C K) where
   paren_expr_tail s c ts = reading (plan (do
     e ← symbol Assign (with_in c)
     s' ← token is_rparen
+    must (no_cover_in e)
     gives (paren_e (to s s') e))) ts
 
   unfoldable pub paren_expr_close : Span → Tree F C K → List TokenAndSpan → Out (Tree F C K)
   paren_expr_close s e ts = reading (plan (do
     s' ← token is_rparen
+    must (no_cover_in e)
+    gives (paren_e (to s s') e))) ts
+
+  -- behind the closing parenthesis, at s'
+  unfoldable pub paren_expr_node : Span → Span → Tree F C K → List TokenAndSpan → Out (Tree F C K)
+  paren_expr_node s s' e ts = reading (plan (do
+    must (no_cover_in e)
     gives (paren_e (to s s') e))) ts
 
   -- ---- prefix operators (13.5)

@@ -9,22 +9,26 @@ ghost use Rattle.swc_bodies.specs.Readings.{at_function, is_class};
 ghost use Rattle.swc_grammar.specs.Parts.{lit_of};
 ghost use Rattle.swc_grammar.specs.Grammar as grammar;
 ghost use Rattle.swc_grammar.specs.Clean.{sym, run, is_lit, is_identifier};
-ghost use Rattle.swc_nodes.specs.Stands.{count};
+ghost use Rattle.swc_grammar.specs.Trees.{no_cover_in};
+ghost use Rattle.swc_nodes.specs.Lists.{is_cover_prop, has_cover};
+ghost use Rattle.swc_nodes.specs.Slots.{expr_part};
+ghost use Rattle.swc_nodes.specs.Stands.{count, From};
 ghost use Rattle.swc_productions.specs.Readers.{by_production, inside};
 ghost use Rattle.swc_productions.specs.Lists.{elements_inside, element, element_item};
 ghost use Rattle.swc_productions.specs.Parsing.{lit_in, seen, ParsesAlone, Produces, Checked, TookLiteral};
-ghost use Rattle.swc_productions.specs.Parsing.{itself, tree_of, item_of, item_at};
-ghost use Rattle.swc_productions.specs.Parsing.{elem_of, elem_at, elems_of, elems_at};
+ghost use Rattle.swc_productions.specs.Parsing.{itself, tree_of, item_of, item_at, elem_of, elem_at, elems_of};
+ghost use Rattle.swc_productions.specs.Parsing.{elems_at};
 
 use crate::moves::{
-    Sign, add, bump, copy_of, eat, emit_strict_mode_err, is_async_function, label_spread, look,
-    made, parse_ident_name, parse_ident_ref, require_cur, separate, set_ctx, skip, syntax_error,
-    unexpected,
+    Sign, add, bump, copy_of, eat, emit_err, emit_strict_mode_err, is_async_function, label_spread,
+    look, made, parse_ident_name, parse_ident_ref, require_cur, separate, set_ctx, skip,
+    syntax_error, unexpected,
 };
 use crate::productions::Productions;
 use swc_ast::expr::ExprOrSpread;
 use swc_ast::ident::Ident;
 use swc_ast::lit::{BigInt, Bool, Lit, Null, Num, Str};
+use swc_ast::spanned::Spanned;
 use swc_bodies::bodies::Bodies;
 use swc_context::context::Context;
 use swc_context::error::{PResult, SyntaxError};
@@ -33,7 +37,8 @@ use swc_context::word::Word;
 use swc_input::buffer::Buffer;
 use swc_input::token::Token;
 use swc_input::tokens::Tokens;
-use swc_nodes::node::ExprId;
+use swc_nodes::node::{ExprId, PropNode};
+use swc_nodes::nodes::{Nodes, NodesOf};
 
 mod ops;
 
@@ -85,6 +90,9 @@ impl<I: Tokens, B: Bodies<I>> Productions<I, B> {
         }
         if self.is_lbracket() {
             return self.parse_array_lit();
+        }
+        if self.is_lbrace() {
+            return self.parse_object_lit();
         }
         if self.is_class() {
             return self.parse_class_expr();
@@ -267,13 +275,15 @@ impl<I: Tokens, B: Bodies<I>> Productions<I, B> {
             return Err(unexpected(&mut self.input, SyntaxError::Expected(")")));
         }
         skip(&mut self.input);
-        let node = self.nodes.paren_expr(start, self.input.last_pos(), expr);
+        let end = self.input.last_pos();
+        check_cover_names::<I, B>(&mut self.input, &self.nodes, expr)?;
+        let node = self.nodes.paren_expr(start, end, expr);
         made(&self.input, node)
     }
 
     /// An assignment expression in which `in` counts as an operator.
     #[cycle(productions)]
-    fn parse_assignment_expr_with_in(&mut self) -> PResult<ExprId>
+    pub(crate) fn parse_assignment_expr_with_in(&mut self) -> PResult<ExprId>
         ensures { Produces I.model B.is_faithful itself tree_of (inside B.forms)
             (count self.old.nodes) self.old result self.new }
     {
@@ -341,4 +351,43 @@ fn check_strict_word<I: Tokens>(
     }
     let sym = copy_of(input, &ident.sym)?;
     emit_strict_mode_err(input, ident.span, SyntaxError::InvalidIdentInStrict(sym))
+}
+
+/// Records each property `name = value` of an object literal, in their order, at their places. Of any other expression
+/// nothing is recorded.
+fn check_cover_names<I: Tokens, B: Bodies<I>>(
+    input: &mut Buffer<I>,
+    nodes: &NodesOf<B>,
+    expr: ExprId,
+) -> PResult<()>
+    requires { From 0 nodes.now (expr_part expr) }
+    ensures checks { Checked I.model (no_cover_in (tree_of nodes.now expr)) input.old result input.new }
+    ensures falls { OnOk result (to_come I.model input.new ≤ to_come I.model input.old) }
+{
+    match nodes.props(expr) {
+        Some(props) => check_props(input, props),
+        None => Ok(()),
+    }
+}
+
+/// Records each property `name = value` of a list, in their order.
+fn check_props<I: Tokens, K>(input: &mut Buffer<I>, props: &Vec<PropNode<K>>) -> PResult<()>
+    ensures checks { Checked I.model (not (has_cover props.now.items)) input.old result input.new }
+    ensures falls { OnOk result (to_come I.model input.new ≤ to_come I.model input.old) }
+{
+    for prop in props {
+        check_prop(input, prop)?;
+    }
+    Ok(())
+}
+
+/// Records a property if it is `name = value`.
+fn check_prop<I: Tokens, K>(input: &mut Buffer<I>, prop: &PropNode<K>) -> PResult<()>
+    ensures checks { Checked I.model (not (is_cover_prop prop.now)) input.old result input.new }
+    ensures falls { OnOk result (to_come I.model input.new ≤ to_come I.model input.old) }
+{
+    match prop {
+        PropNode::Assign(cover) => emit_err(input, cover.span, SyntaxError::AssignProperty),
+        _ => Ok(()),
+    }
 }

@@ -3,5 +3,7 @@
 #![tactic(auto)]
 
 mod expr;
+mod kinds;
 pub mod moves;
+mod object;
 pub mod productions;

@@ -14,6 +14,7 @@ ghost use Rattle.swc_grammar.specs.Words.{rest, word};
 ghost use Rattle.swc_productions.specs.Parsing.{is_memory, ident_spelling, name_spelling, seen, recorded, Loud, Moves};
 ghost use Rattle.swc_productions.specs.Parsing.{Refuses, Tries, ParsesAlone, ContinuesAlone, Eats, Looks, Fits};
 ghost use Rattle.swc_productions.specs.Parsing.{Checked, Tells, begins_async};
+ghost use Rattle.swc_productions.specs.Keys.{expected};
 ghost use Rattle.swc_productions.specs.Lists.{is_sign_token, separated, closed};
 
 use std::alloc::{AllocError, Global};
@@ -21,6 +22,7 @@ use swc_ast::ident::{Ident, IdentName};
 use swc_context::atom::Atom;
 use swc_context::context::Context;
 use swc_context::error::{Error, PResult, SyntaxError};
+use swc_context::operator::{AssignOp, BinOpToken};
 use swc_context::span::{BytePos, Span};
 use swc_context::word::{Keyword, Word};
 use swc_ident::ident;
@@ -65,7 +67,8 @@ pub(crate) fn is_async_function<I: Tokens>(input: &mut Buffer<I>) -> PResult<boo
     is_function_behind(input)
 }
 
-fn is_async<I: Tokens>(input: &Buffer<I>) -> bool
+/// Whether `async` is current.
+pub(crate) fn is_async<I: Tokens>(input: &Buffer<I>) -> bool
     ensures value { result ≡ at_token is_async (seen input.now) }
     ensures begins { result ≡ true → at_function (current input.now) ≡ true }
     ensures some { result ≡ true → IsSome (current input.now) }
@@ -270,8 +273,26 @@ pub(crate) enum Sign {
     Comma,
     /// `...`
     DotDotDot,
+    /// `(`
+    LParen,
+    /// `)`
+    RParen,
+    /// `[`
+    LBracket,
     /// `]`
     RBracket,
+    /// `}`
+    RBrace,
+    /// `=`
+    Assign,
+    /// `:`
+    Colon,
+    /// `*`
+    Star,
+    /// `async`
+    Async,
+    /// `get`
+    Get,
 }
 
 /// Whether the current token is the sign.
@@ -282,7 +303,16 @@ fn is_sign<I: Tokens>(input: &Buffer<I>, sign: Sign) -> bool
     match (sign, input.cur_debug()) {
         (Sign::Comma, Some(Token::Comma)) => true,
         (Sign::DotDotDot, Some(Token::DotDotDot)) => true,
+        (Sign::LParen, Some(Token::LParen)) => true,
+        (Sign::RParen, Some(Token::RParen)) => true,
+        (Sign::LBracket, Some(Token::LBracket)) => true,
         (Sign::RBracket, Some(Token::RBracket)) => true,
+        (Sign::RBrace, Some(Token::RBrace)) => true,
+        (Sign::Assign, Some(Token::AssignOp(AssignOp::Assign))) => true,
+        (Sign::Colon, Some(Token::Colon)) => true,
+        (Sign::Star, Some(Token::BinOp(BinOpToken::Mul))) => true,
+        (Sign::Async, Some(Token::Word(Word::Ident(name)))) => name.as_str() == "async",
+        (Sign::Get, Some(Token::Word(Word::Ident(name)))) => name.as_str() == "get",
         _ => false,
     }
 }
@@ -299,6 +329,36 @@ pub(crate) fn eat<I: Tokens>(input: &mut Buffer<I>, sign: Sign) -> PResult<Optio
     let span = input.cur_span();
     skip(input);
     Ok(Some(span))
+}
+
+/// How the sign is written.
+fn sign_text(sign: Sign) -> &'static str {
+    match sign {
+        Sign::Comma => ",",
+        Sign::DotDotDot => "...",
+        Sign::LParen => "(",
+        Sign::RParen => ")",
+        Sign::LBracket => "[",
+        Sign::RBracket => "]",
+        Sign::RBrace => "}",
+        Sign::Assign => "=",
+        Sign::Colon => ":",
+        Sign::Star => "*",
+        Sign::Async => "async",
+        Sign::Get => "get",
+    }
+}
+
+/// Consumes the sign, and answers its place. Where another token is current, that is refused as `Expected` with the
+/// sign, at that token, and the end as `Eof`.
+pub(crate) fn expect<I: Tokens>(input: &mut Buffer<I>, sign: Sign) -> PResult<Span>
+    ensures expects { ParsesAlone I.model (λ s. s) (expected (is_sign_token sign)) input.old result input.new }
+    ensures falls { OnOk result (to_come I.model input.new < to_come I.model input.old) }
+{
+    match eat(input, sign)? {
+        Some(span) => Ok(span),
+        None => Err(unexpected(input, SyntaxError::Expected(sign_text(sign)))),
+    }
 }
 
 /// Consumes what stands behind an item of a list: a comma, or nothing where the sign that closes the list is current.

@@ -4,8 +4,10 @@ ghost use Rattle.swc_input.specs.declared.token.Token.{Token};
 ghost use Rattle.swc_input.specs.Buffer.{current, context, state_of};
 ghost use Rattle.swc_input.specs.Kinds.{at_token, is_hash};
 ghost use Rattle.swc_grammar.specs.Tokens.{is_ref, is_strict_word, is_lparen, is_rparen, is_lbracket, is_this};
-ghost use Rattle.swc_bodies.specs.Readings.{at_function, is_function, is_class};
+ghost use Rattle.swc_grammar.specs.Tokens.{is_word};
+ghost use Rattle.swc_bodies.specs.Readings.{at_function, is_function, is_class, is_brace};
 ghost use Rattle.swc_grammar.specs.Clean.{is_lit, is_identifier};
+ghost use Rattle.swc_productions.specs.Keys.{is_key_lit};
 ghost use Rattle.swc_productions.specs.Parsing.{is_strict, seen, Looks};
 
 use crate::moves::look;
@@ -97,11 +99,30 @@ impl<I: Tokens, B: Bodies<I>> Productions<I, B> {
         matches!(self.input.cur_debug(), Some(Token::LParen))
     }
 
+    /// Whether a literal is current that is a key: a string, a number or a big integer.
+    pub(crate) fn is_key_lit(&self) -> bool
+        ensures value { result ≡ at_token is_key_lit (seen self.now.input) }
+        ensures some { result ≡ true → IsSome (current self.now.input) }
+    {
+        matches!(
+            self.input.cur_debug(),
+            Some(Token::Num { .. } | Token::BigInt { .. } | Token::Str { .. })
+        )
+    }
+
     pub(crate) fn is_lbracket(&self) -> bool
         ensures value { result ≡ at_token is_lbracket (seen self.now.input) }
         ensures some { result ≡ true → IsSome (current self.now.input) }
     {
         matches!(self.input.cur_debug(), Some(Token::LBracket))
+    }
+
+    pub(crate) fn is_lbrace(&self) -> bool
+        ensures value { result ≡ at_token is_brace (seen self.now.input) }
+        ensures begins { result ≡ true → at_token is_brace (current self.now.input) ≡ true }
+        ensures some { result ≡ true → IsSome (current self.now.input) }
+    {
+        matches!(self.input.cur_debug(), Some(Token::LBrace))
     }
 
     pub(crate) fn is_rparen(&self) -> bool

@@ -1,37 +1,48 @@
 -- What the steps of each production, one after another, ensure.
-use Rattle.std.proofs.Common.{Ok, map, ◌≡◌, ◌≢◌, Some, None, refl, sym, ap, ◌∙◌, arith}
+use Rattle.std.proofs.Common.{Ok, true, false, map, ◌≡◌, ◌≢◌, Some, None, refl, sym, ap, ◌∙◌, arith}
 use Rattle.std.proofs.lemmas.Result.{err_from_is_err_and}
 use Rattle.swc_context.specs.Spans.{between}
+use Rattle.swc_context.proofs.Spans.{span_is}
 use Rattle.swc_context.specs.declared.error.SyntaxError.TheVariants.{OutOfMemory}
 use Rattle.swc_input.specs.Plain.{plain}
 use Rattle.swc_input.specs.Kinds.{at_token, is_hash}
 use Rattle.swc_input.specs.Buffer.{context}
 use Rattle.swc_grammar.specs.Tokens.{with_in}
-use Rattle.swc_ast.specs.Tree.{nil, cons, trees, span_of}
+use Rattle.swc_ast.specs.Tree.{nil, cons, node, spread, trees, span_of}
+use Rattle.swc_ast.specs.Tree.{dots as dots_kind}
 use Rattle.swc_ast.specs.Parts.{item_of as item_tree_of}
-use Rattle.swc_nodes.specs.Lists.{trees_append, elem_parts, elem_tree, elem_trees}
+use Rattle.swc_nodes.specs.Lists.{trees_append, elem_parts, elem_tree, elem_trees, props_parts}
 use Rattle.swc_nodes.specs.Seats.{chain}
-use Rattle.swc_nodes.specs.Slots.{flat, if_some, item_parts, expr_part}
+use Rattle.swc_nodes.specs.Slots.{flat, if_some, item_parts, prop_parts, expr_part}
 use Rattle.swc_nodes.specs.Stands.{count, seat_at, tree_at}
-use Rattle.swc_nodes.proofs.Lists.{apart-none, apart-list-more, elems-more, trees_append-nil}
+use Rattle.swc_nodes.proofs.Lists.{apart-none, apart-list-more, elems-more, trees_append-nil, props-more}
 use Rattle.swc_grammar.specs.Trees.{to, array_e, listed, items_of, unary_e, paren_e, bin_e, nullish_ok, delete_ok}
-use Rattle.swc_grammar.specs.Trees.{min_right}
+use Rattle.swc_grammar.specs.Trees.{min_right, computed_e, object_e, spread_prop_e, prop_of as prop_tree, cover_e, ident_e, value_e, method_e, getter_e, no_cover_in}
 use Rattle.swc_grammar.specs.Symbols.{Assign, Level, Elements}
-use Rattle.swc_grammar.specs.Tokens.{is_lparen, is_rparen, is_lbracket, is_rbracket, is_comma, is_dots, is_this}
+use Rattle.swc_grammar.specs.Tokens.{is_lparen, is_rparen, is_lbracket, is_rbracket, is_rbrace, is_comma, is_dots, is_this}
+use Rattle.swc_grammar.specs.Tokens.{is_colon, is_equals, is_get, is_star}
 use Rattle.swc_grammar.specs.Clean.{sym as at, run, climb, is_lit, is_identifier, prefix_at, no_error, left_ok}
 use Rattle.swc_grammar.specs.Words.{◌>>=◌}
-use Rattle.swc_productions.specs.Readers.{go_on, inside, paren_expr_close, paren_expr_tail, unary_op_node}
+use Rattle.swc_productions.specs.Readers.{go_on, inside, paren_expr_close, paren_expr_node, paren_expr_tail, unary_op_node}
 use Rattle.swc_productions.specs.Readers.{unary_op_tail, bin_op_node, bin_op, turned}
+use Rattle.swc_productions.specs.Keys.{key_by, key_close}
 use Rattle.swc_productions.specs.Lists.{array_lit_tail, element_by, elements_behind, behind_by, separated}
-use Rattle.swc_productions.specs.Parsing.{seen, behind, tree_of, item_at, elems_at, seen_of}
-use Rattle.swc_bodies.specs.Readings.{is_function, is_class}
+use Rattle.swc_productions.specs.Parsing.{seen, behind, tree_of, item_at, elems_at, seen_of, itself, prop_at, ident_spelling, key_at, shell_at}
+use Rattle.swc_productions.specs.Parsing.{props_at}
+use Rattle.swc_bodies.specs.Readings.{is_async, is_function, is_class, is_brace}
+use Rattle.swc_productions.specs.Properties.{object_lit_tail, props_behind, props_by, prop_by, cover_by, cover_behind}
+use Rattle.swc_productions.specs.Methods.{prop_behind, method_behind, getter_behind, behind_key, after_by, method_close}
+use Rattle.swc_productions.specs.Methods.{method_tail, getter_close, getter_tail, async_generator_tail}
 use Rattle.swc_nodes.proofs.Standing.{grows-count, grows-same, grows-then}
 use Rattle.swc_nodes.proofs.Held.{apart-from, from-down, from-later, from_self, first_kept, if_from, tree-later}
 use Rattle.swc_productions.proofs.Building.{apart-down, grows-kept, made_at, made_over}
+use Rattle.swc_productions.proofs.Keys as key
 use Rattle.swc_productions.proofs.Lists as list
+use Rattle.swc_productions.proofs.Properties as props
 use Rattle.swc_productions.proofs.Rules as rule
 use Rattle.swc_productions.proofs.Steps as s
 use Rattle.swc_productions.proofs.Making as m
+use Rattle.swc_productions.proofs.Methods as method
 use Rattle.swc_productions.proofs.productions.Productions.+productions.Goals as goal
 
 pub parse_primary_expr-returns-then-is_this : goal.parse_primary_expr-returns-then-is_this
@@ -70,6 +81,10 @@ pub parse_primary_expr-returns-then-is_lbracket : goal.parse_primary_expr-return
 parse_primary_expr-returns-then-is_lbracket g t c =
     m.after c.parse_array_lit.result (s.on_told c.in_ok-look.ensures.looks c.in_ok-is_async_function.ensures.tells (λ x ts same e told. list.array_lit_picked _ x ts (ap (at_token is_lbracket) e ∙ sym c.is_lbracket.ensures.value ∙ c.if-is_lbracket.true))) (grows-same _) c.parse_array_lit.ensures
 
+pub parse_primary_expr-returns-then-is_lbrace : goal.parse_primary_expr-returns-then-is_lbrace
+parse_primary_expr-returns-then-is_lbrace g t c =
+    m.after c.parse_object_lit.result (s.on_told c.in_ok-look.ensures.looks c.in_ok-is_async_function.ensures.tells (λ x ts same e told. props.object_lit_picked _ x ts (ap (at_token is_brace) e ∙ sym c.is_lbrace.ensures.value ∙ c.if-is_lbrace.true))) (grows-same _) c.parse_object_lit.ensures
+
 pub parse_primary_expr-returns-then-is_class : goal.parse_primary_expr-returns-then-is_class
 parse_primary_expr-returns-then-is_class g t c =
     m.after c.parse_class_expr.result (s.on_told c.in_ok-look.ensures.looks c.in_ok-is_async_function.ensures.tells (λ x ts same e told. rule.class_expr_picked _ x ts (ap (at_token is_class) e ∙ sym c.is_class.ensures.value ∙ c.if-is_class.true))) (grows-same _) c.parse_class_expr.ensures
@@ -95,7 +110,8 @@ parse_primary_expr-returns g t c =
     (ap (at_token is_this) (e ∙ ap seen_of c.in_ok-is_async_function.ensures.tells.current) ∙ sym c.is_this.ensures.value ∙ c.if-is_this.false)
     (ap (at_token is_lbracket) e ∙ sym c.is_lbracket.ensures.value ∙ c.if-is_lbracket.false)
     (rule.function_not ts (ap (at_token is_function) e ∙ sym c.is_function.ensures.value ∙ c.if-is_function.false) (told ∙ c.if-branch.false))
-    (ap (at_token is_class) e ∙ sym c.is_class.ensures.value ∙ c.if-is_class.false))
+    (ap (at_token is_class) e ∙ sym c.is_class.ensures.value ∙ c.if-is_class.false)
+    (ap (at_token is_brace) e ∙ sym c.is_lbrace.ensures.value ∙ c.if-is_lbrace.false))
     c.syntax_error.ensures.refuses) (grows-same _)
 
 pub parse_primary_expr-returns-in_err-look : goal.parse_primary_expr-returns-in_err-look
@@ -240,6 +256,130 @@ parse_expr_or_spread-returns-in-Err g t c =
     (s.unheard_call (λ x q. Some (item_tree_of c.in_ok-spread.spread q.0, q.1)) (λ x ts. refl) c.in-Err.ensures.reads)))
     c.parse_assignment_expr.ensures.grows
 
+pub parse_object_lit-returns-in_err-props : goal.parse_object_lit-returns-in_err-props
+parse_object_lit-returns-in_err-props g t c =
+    let first = c.skip.ensures.took.1 in
+    let p = err_from_is_err_and c.from_residual.result c.from_residual.ensures.1 in rw (p.1, p.2)
+    (m.no (s.unheard_after (s.on_took {g = object_lit_tail _ (plain first.was).span} g.met.I.Tokens.laws first (λ x ts. props.object_lit_opens _ (plain first.was) x ts (rule.passes_plain is_brace _ _ first.current c.requires)))
+    (s.unheard_call (λ x p. Some (object_e (to (plain first.was).span (span_of p.0)) (items_of p.0), p.1)) (λ x ts. props.object_lit_splits _ (plain first.was).span x ts) c.in_err-props.ensures.reads)) c.parse_props.ensures.grows)
+
+pub parse_object_lit-returns : goal.parse_object_lit-returns
+parse_object_lit-returns g t c =
+    let first = c.skip.ensures.took.1 in
+    let items = items_of (props_at c.parse_props.new.self.nodes (c.in_ok-props.props, c.in_ok-props.end)) in
+    let whole : object_e (to first.was.span c.in_ok-props.end) items ≡ object_e (between c.cur_span.result.lo c.in_ok-props.end.hi) items =
+    ap (λ v. object_e (between v c.in_ok-props.end.hi) items) (ap (λ v. v.lo) (sym (s.place_was first c.cur_span.result c.cur_span.ensures))) in
+    m.node _ c.object_lit-node.result c.made.result (omega arith)
+    (made_over _ _ _ (props_parts c.in_ok-props.props) _ c.object_lit-node.result c.object_lit-node.ensures.made c.in_ok-props.ensures.from) c.made.ensures.ok c.made.ensures.refused c.parse_props.ensures.grows c.object_lit-node.ensures.grows
+    (s.heard_answer whole (s.heard_first g.met.I.Tokens.laws first (λ x ts. props.object_lit_opens _ (plain first.was) x ts (rule.passes_plain is_brace _ _ first.current c.requires))
+    (s.on_call (λ x p. Some (object_e (to (plain first.was).span (span_of p.0)) (items_of p.0), p.1)) (λ x ts. props.object_lit_splits _ (plain first.was).span x ts) c.in_ok-props.ensures.reads.on)))
+
+pub parse_object_lit-object_lit-node-requires : goal.parse_object_lit-object_lit-node-requires
+parse_object_lit-object_lit-node-requires g t c = record { apart = apart-down (props_parts c.in_ok-props.props) c.in_ok-props.ensures.from }
+
+pub parse_props-loop-props-init : goal.parse_props-loop-props-init
+parse_props-loop-props-init g t c = (
+  s.on_here g.met.I.Tokens.laws _ (λ x ts. props.props_first _ x ts ∙ ap (λ v. props_behind g.B.BodyForms.forms (trees (map (prop_at c.args.self.now.nodes) v)) x ts) (sym c.new-props.ensures.items)),
+  omega arith,
+  grows-same _,
+  record { chained = ap (λ v. chain (seat_at c.args.self.now.nodes) (count c.args.self.now.nodes) (flat prop_parts v) (count c.args.self.now.nodes)) c.new-props.ensures.items ∙ (apart-none {ns = c.args.self.now.nodes} {k = count c.args.self.now.nodes} (omega arith)).chained },
+)
+
+pub parse_props-loop-props-preserved : goal.parse_props-loop-props-preserved
+parse_props-loop-props-preserved g t c =
+    let before = trees (map (prop_at c.loop-props.self.nodes) c.loop-props.props.items) in
+    let none = s.eats_none g.B.Bodies.is_faithful is_rbrace _ _ _ c.in-None.is (c.in_ok-end.ensures.eats g.B.Bodies.is_faithful) in
+    let more = ap (λ v. trees (map (prop_at c.parse_prop_item.new.self.nodes) v)) c.in_ok-add.ensures.added
+    ∙ props-more c.loop-props.props.items c.in_ok-prop.prop c.parse_prop_item.ensures.grows c.loop-props.invariant.3 in
+    let parts = apart-list-more prop_parts c.loop-props.props.items c.in_ok-prop.prop c.parse_prop_item.ensures.grows c.loop-props.invariant.3 c.in_ok-prop.ensures.from in (
+      s.on_then c.loop-props.invariant.0 (s.on_then (s.on_call (λ x p. props_by _ before p.0 x p.1) (λ x ts. props.behind_splits _ before x ts) none)
+          (s.on_to (s.on_call (λ x p. props_behind _ (trees_append before (cons p.0 nil)) x p.1) (λ x ts. props.props_more_splits _ before x ts) c.in_ok-prop.ensures.reads.on)
+          (λ x ts. ap (λ v. props_behind g.B.BodyForms.forms v x ts) (sym more)))),
+      let a = c.loop-props.invariant.1 in let b = c.in_ok-prop.ensures.falls in let d = c.in_ok-end.ensures.falls in omega arith,
+      grows-then c.loop-props.invariant.2 c.parse_prop_item.ensures.grows,
+      record { chained = ap (λ v. chain (seat_at c.parse_prop_item.new.self.nodes) (count c.args.self.now.nodes) (flat prop_parts v) (count c.parse_prop_item.new.self.nodes)) c.in_ok-add.ensures.added ∙ parts.chained },
+    )
+
+pub parse_props-returns-in_err-end : goal.parse_props-returns-in_err-end
+parse_props-returns-in_err-end g t c =
+    let before = trees (map (prop_at c.loop-props.self.nodes) c.loop-props.props.items) in
+    let p = err_from_is_err_and c.from_residual.result c.from_residual.ensures.1 in rw (p.1, p.2)
+    (m.no (s.unheard_after c.loop-props.invariant.0 (s.unheard_call (λ x p. props_by _ before p.0 x p.1) (λ x ts. props.behind_splits _ before x ts) (c.in_err-end.ensures.eats g.B.Bodies.is_faithful))) c.loop-props.invariant.2)
+
+pub parse_props-returns-in-Some : goal.parse_props-returns-in-Some
+parse_props-returns-in-Some g t c =
+    let before = trees (map (prop_at c.loop-props.self.nodes) c.loop-props.props.items) in
+    let some = s.eats_some g.B.Bodies.is_faithful is_rbrace _ c.in-Some.end _ _ c.in-Some.is (c.in_ok-end.ensures.eats g.B.Bodies.is_faithful) in
+    m.yes (Ok _)
+    (s.heard_answer (ap (λ v. listed c.in-Some.end v) (trees_append-nil before))
+    (s.heard_after c.loop-props.invariant.0 (s.heard_call (λ x p. props_by _ before p.0 x p.1) (λ x ts. props.behind_splits _ before x ts) (λ x ts. refl) some)))
+    c.loop-props.invariant.2 c.loop-props.invariant.3
+
+pub parse_props-returns-in_err-prop : goal.parse_props-returns-in_err-prop
+parse_props-returns-in_err-prop g t c =
+    let before = trees (map (prop_at c.loop-props.self.nodes) c.loop-props.props.items) in
+    let none = s.eats_none g.B.Bodies.is_faithful is_rbrace _ _ _ c.in-None.is (c.in_ok-end.ensures.eats g.B.Bodies.is_faithful) in
+    let p = err_from_is_err_and c.from_residual-in_err-prop.result c.from_residual-in_err-prop.ensures.1 in rw (p.1, p.2)
+    (m.no (s.unheard_after c.loop-props.invariant.0 (s.unheard_after (s.on_call (λ x p. props_by _ before p.0 x p.1) (λ x ts. props.behind_splits _ before x ts) none)
+    (s.unheard_call (λ x p. props_behind _ (trees_append before (cons p.0 nil)) x p.1) (λ x ts. props.props_more_splits _ before x ts) c.in_err-prop.ensures.reads))) (grows-then c.loop-props.invariant.2 c.parse_prop_item.ensures.grows))
+
+pub parse_props-returns-in_err-add : goal.parse_props-returns-in_err-add
+parse_props-returns-in_err-add g t c =
+    let none = s.eats_none g.B.Bodies.is_faithful is_rbrace _ _ _ c.in-None.is (c.in_ok-end.ensures.eats g.B.Bodies.is_faithful) in
+    let p = err_from_is_err_and c.from_residual-in_err-add.result c.from_residual-in_err-add.ensures.1 in rw (p.1, p.2)
+    (m.no (s.unheard_memory (s.forgoes_later (s.leads_then c.loop-props.invariant.0.leads (s.leads_then none.leads c.in_ok-prop.ensures.reads.on.leads)) (s.forgoes_here g.met.I.Tokens.laws _ _ _ c.in_err-add.ensures.refused))) (grows-then c.loop-props.invariant.2 c.parse_prop_item.ensures.grows))
+
+pub parse_prop_item-returns-in_err-prop : goal.parse_prop_item-returns-in_err-prop
+parse_prop_item-returns-in_err-prop g t c =
+    let p = err_from_is_err_and c.from_residual.result c.from_residual.ensures.1 in rw (p.1, p.2)
+    (m.no (s.unheard_call (λ x p. separated is_rbrace x p.1 >>= (λ q. Some (p.0, q.1))) (λ x ts. props.prop_item_splits _ x ts) c.in_err-prop.ensures.reads) c.parse_object_prop.ensures.grows)
+
+pub parse_prop_item-returns-in_err-separate : goal.parse_prop_item-returns-in_err-separate
+parse_prop_item-returns-in_err-separate g t c =
+    let p = err_from_is_err_and c.from_residual-in_err-separate.result c.from_residual-in_err-separate.ensures.1 in rw (p.1, p.2)
+    (m.no (s.unheard_after (s.on_call (λ x p. separated is_rbrace x p.1 >>= (λ q. Some (p.0, q.1))) (λ x ts. props.prop_item_splits _ x ts) c.in_ok-prop.ensures.reads.on)
+    (s.unheard_call (λ x q. Some (prop_at c.parse_object_prop.new.self.nodes c.in_ok-prop.prop, q.1)) (λ x ts. refl) (c.in_err-separate.ensures.separates g.B.Bodies.is_faithful))) c.parse_object_prop.ensures.grows)
+
+pub parse_prop_item-returns : goal.parse_prop_item-returns
+parse_prop_item-returns g t c =
+    m.yes (Ok _)
+    (s.heard_more (λ x p. separated is_rbrace x p.1 >>= (λ q. Some (p.0, q.1))) (λ x ts. props.prop_item_splits _ x ts) c.in_ok-prop.ensures.reads
+    (s.on_call (λ x q. Some (prop_at c.parse_object_prop.new.self.nodes c.in_ok-prop.prop, q.1)) (λ x ts. refl) (c.in_ok-separate.ensures.separates g.B.Bodies.is_faithful)))
+    c.parse_object_prop.ensures.grows c.in_ok-prop.ensures.from
+
+pub parse_object_prop-returns-in_err-dots : goal.parse_object_prop-returns-in_err-dots
+parse_object_prop-returns-in_err-dots g t c =
+    let p = err_from_is_err_and c.from_residual.result c.from_residual.ensures.1 in rw (p.1, p.2)
+    (m.no (s.unheard_call (λ x p. prop_by _ p.0 x p.1) (λ x ts. props.prop_splits _ x ts) (c.in_err-dots.ensures.eats g.B.Bodies.is_faithful)) (grows-same _))
+
+pub parse_object_prop-returns-in-Some : goal.parse_object_prop-returns-in-Some
+parse_object_prop-returns-in-Some g t c =
+    m.after c.parse_spread_prop.result
+    (s.on_call (λ x p. prop_by _ p.0 x p.1) (λ x ts. props.prop_splits _ x ts)
+    (s.eats_some g.B.Bodies.is_faithful is_dots _ c.in-Some.dots _ _ c.in-Some.is (c.in_ok-dots.ensures.eats g.B.Bodies.is_faithful)).on)
+    (grows-same _) c.parse_spread_prop.ensures
+
+pub parse_object_prop-returns-in-None : goal.parse_object_prop-returns-in-None
+parse_object_prop-returns-in-None g t c =
+    m.after c.parse_plain_prop.result
+    (s.on_call (λ x p. prop_by _ p.0 x p.1) (λ x ts. props.prop_splits _ x ts)
+    (s.eats_none g.B.Bodies.is_faithful is_dots _ _ _ c.in-None.is (c.in_ok-dots.ensures.eats g.B.Bodies.is_faithful)))
+    (grows-same _) c.parse_plain_prop.ensures
+
+pub parse_spread_prop-returns-in_err-expr : goal.parse_spread_prop-returns-in_err-expr
+parse_spread_prop-returns-in_err-expr g t c =
+    let p = err_from_is_err_and c.from_residual.result c.from_residual.ensures.1 in rw (p.1, p.2)
+    (m.no (s.unheard_call (λ x q. Some (spread_prop_e c.args.dots q.0, q.1)) (λ x ts. props.spread_prop_splits _ c.args.dots x ts) c.in_err-expr.ensures.reads)
+    c.parse_assignment_expr_with_in.ensures.grows)
+
+pub parse_spread_prop-returns : goal.parse_spread_prop-returns
+parse_spread_prop-returns g t c =
+    let parts = cons (node dots_kind c.args.dots nil) (cons (tree_of c.parse_assignment_expr_with_in.new.self.nodes c.in_ok-expr.expr) nil) in
+    m.yes (Ok _)
+    (s.heard_answer (ap (λ v. node spread v parts) (sym c.span_to-span.ensures))
+    (s.heard_call (λ x q. Some (spread_prop_e c.args.dots q.0, q.1)) (λ x ts. props.spread_prop_splits _ c.args.dots x ts) (λ x ts. refl) c.in_ok-expr.ensures.reads))
+    c.parse_assignment_expr_with_in.ensures.grows (apart-from (expr_part c.in_ok-expr.expr) c.in_ok-expr.ensures.from)
+
 pub parse_paren_expr-returns-in_err-look : goal.parse_paren_expr-returns-in_err-look
 parse_paren_expr-returns-in_err-look g t c =
     let p = err_from_is_err_and c.from_residual.result c.from_residual.ensures.1 in rw (p.1, p.2)
@@ -270,20 +410,30 @@ parse_paren_expr-returns-then-not-is_rparen g t c =
     (s.on_call (λ x p. paren_expr_close _ (plain c.skip.ensures.took.1.was).span p.0 p.1) (λ x ts. refl) c.in_ok-expr.ensures.reads.on))
     (s.unheard_at c.in_ok-look-2.ensures.looks (λ x ts same e. rule.paren_expr_ends _ (plain c.skip.ensures.took.1.was).span (tree_of c.parse_assignment_expr_with_in.new.self.nodes c.in_ok-expr.expr) ts (ap (at_token is_rparen) e ∙ sym c.is_rparen-2.ensures.value ∙ c.if-not-is_rparen.true)) c.unexpected.ensures.refuses))) c.parse_assignment_expr_with_in.ensures.grows
 
+pub parse_paren_expr-returns-in_err-check_cover_names : goal.parse_paren_expr-returns-in_err-check_cover_names
+parse_paren_expr-returns-in_err-check_cover_names g t c =
+    let p = err_from_is_err_and c.from_residual-in_err-check_cover_names.result c.from_residual-in_err-check_cover_names.ensures.1 in rw (p.1, p.2)
+    (m.no (s.unheard_memory (s.forgoes_later (s.leads_then (s.leads_then (s.leads_then (s.took_leads g.met.I.Tokens.laws c.skip.ensures.took.1) (s.here_leads c.in_ok-look.ensures.looks)) c.in_ok-expr.ensures.reads.on.leads)
+    (s.leads_then (s.here_leads c.in_ok-look-2.ensures.looks) (s.took_leads g.met.I.Tokens.laws c.skip-2.ensures.took.1))) c.in_err-check_cover_names.ensures.checks)) c.parse_assignment_expr_with_in.ensures.grows)
+
 pub parse_paren_expr-returns : goal.parse_paren_expr-returns
 parse_paren_expr-returns g t c =
     let first = c.skip.ensures.took.1 in
     let last = c.skip-2.ensures.took.1 in
-    let whole : paren_e (to first.was.span last.was.span) (tree_of c.parse_assignment_expr_with_in.new.self.nodes c.in_ok-expr.expr) ≡ paren_e (between c.cur_span.result.lo c.last_pos-2.result) (tree_of c.parse_assignment_expr_with_in.new.self.nodes c.in_ok-expr.expr) =
-    ap (λ v. paren_e (between v last.was.span.hi) (tree_of c.parse_assignment_expr_with_in.new.self.nodes c.in_ok-expr.expr)) (ap (λ v. v.lo) (sym (s.place_was first c.cur_span.result c.cur_span.ensures)))
-    ∙ ap (λ v. paren_e (between c.cur_span.result.lo v) (tree_of c.parse_assignment_expr_with_in.new.self.nodes c.in_ok-expr.expr)) (ap (λ v. v.hi) (sym (s.last_was last)) ∙ sym c.last_pos-2.ensures) in
+    let inner = tree_of c.parse_assignment_expr_with_in.new.self.nodes c.in_ok-expr.expr in
+    let whole : paren_e (to first.was.span last.was.span) inner ≡ paren_e (between c.cur_span.result.lo c.last_pos-end.result) inner =
+    ap (λ v. paren_e (between v last.was.span.hi) inner) (ap (λ v. v.lo) (sym (s.place_was first c.cur_span.result c.cur_span.ensures)))
+    ∙ ap (λ v. paren_e (between c.cur_span.result.lo v) inner) (ap (λ v. v.hi) (sym (s.last_was last)) ∙ sym c.last_pos-end.ensures) in
     m.node _ c.paren_expr-node.result c.made.result c.in_ok-expr.ensures.from.above c.paren_expr-node.ensures.made c.made.ensures.ok c.made.ensures.refused c.parse_assignment_expr_with_in.ensures.grows c.paren_expr-node.ensures.grows
     (s.heard_answer whole (s.heard_first g.met.I.Tokens.laws first (λ x ts. rule.paren_expr_opens _ (plain first.was) x ts (rule.passes_plain is_lparen _ _ first.current c.requires))
     (s.on_then (s.on_then (s.on_seen {g = λ x ts. inside _ x ts >>= (λ p. paren_expr_close _ (plain c.skip.ensures.took.1.was).span p.0 p.1)} c.in_ok-look.ensures.looks (λ x ts same e. rule.paren_expr_splits _ (plain c.skip.ensures.took.1.was).span x ts))
     (s.on_call (λ x p. paren_expr_close _ (plain c.skip.ensures.took.1.was).span p.0 p.1) (λ x ts. refl) c.in_ok-expr.ensures.reads.on))
     (s.on_then (s.on_seen c.in_ok-look-2.ensures.looks (λ x ts same e. refl))
-    (s.on_took {g = s.give (paren_e (to first.was.span last.was.span) (tree_of c.parse_assignment_expr_with_in.new.self.nodes c.in_ok-expr.expr))} g.met.I.Tokens.laws last
-    (λ x ts. rule.paren_expr_closes _ (plain c.skip.ensures.took.1.was).span (tree_of c.parse_assignment_expr_with_in.new.self.nodes c.in_ok-expr.expr) (plain last.was) ts (rule.passes_plain is_rparen _ last.was last.current (sym c.is_rparen-2.ensures.value ∙ c.if-not-is_rparen.false))))))))
+    (s.on_then (s.on_took {g = λ x ts. paren_expr_node _ (plain first.was).span (plain last.was).span inner ts} g.met.I.Tokens.laws last
+    (λ x ts. rule.paren_expr_closes _ (plain first.was).span inner (plain last.was) ts (rule.passes_plain is_rparen _ last.was last.current (sym c.is_rparen-2.ensures.value ∙ c.if-not-is_rparen.false))))
+    (s.on_checked {g = s.give (paren_e (to first.was.span last.was.span) inner)} (no_cover_in inner) c.in_ok-check_cover_names.ensures.checks
+    (λ x ts h. rule.paren_expr_well _ (plain first.was).span (plain last.was).span inner ts h)
+    (λ x ts h. rule.paren_expr_ill _ (plain first.was).span (plain last.was).span inner ts h)))))))
 
 pub parse_unary_expr-returns-in-Some : goal.parse_unary_expr-returns-in-Some
 parse_unary_expr-returns-in-Some g t c =
@@ -510,3 +660,291 @@ parse_assignment_expr_with_in-returns g t c =
     c.set_ctx.ensures.moves (c.set_ctx.ensures.context ∙ ap with_in c.get_ctx-ctx.ensures) c.parse_assignment_expr-expr.ensures.reads c.set_ctx-2.ensures.moves
     (c.set_ctx-2.ensures.context ∙ c.get_ctx-ctx.ensures))
     c.parse_assignment_expr-expr.ensures.grows c.parse_assignment_expr-expr.ensures.from
+
+pub parse_prop_name-returns-in_err-start : goal.parse_prop_name-returns-in_err-start
+parse_prop_name-returns-in_err-start g t c =
+    let p = err_from_is_err_and c.from_residual.result c.from_residual.ensures.1 in rw (p.1, p.2)
+    (m.no (s.unheard_call (λ x p. key_by _ p.0 x p.1) (λ x ts. key.key_splits _ x ts) (c.in_err-start.ensures.eats g.B.Bodies.is_faithful)) (grows-same _))
+
+pub parse_prop_name-returns-in-Some : goal.parse_prop_name-returns-in-Some
+parse_prop_name-returns-in-Some g t c =
+    m.after c.parse_computed_prop_name.result
+    (s.on_call (λ x p. key_by _ p.0 x p.1) (λ x ts. key.key_splits _ x ts)
+    (s.eats_some g.B.Bodies.is_faithful is_lbracket _ c.in-Some.start _ _ c.in-Some.is (c.in_ok-start.ensures.eats g.B.Bodies.is_faithful)).on)
+    (grows-same _) c.parse_computed_prop_name.ensures
+
+pub parse_prop_name-returns-in-None : goal.parse_prop_name-returns-in-None
+parse_prop_name-returns-in-None g t c =
+    m.after c.parse_plain_prop_name.result
+    (s.on_call (λ x p. key_by _ p.0 x p.1) (λ x ts. key.key_splits _ x ts)
+    (s.eats_none g.B.Bodies.is_faithful is_lbracket _ _ _ c.in-None.is (c.in_ok-start.ensures.eats g.B.Bodies.is_faithful)))
+    (grows-same _) c.parse_plain_prop_name.ensures
+
+pub parse_computed_prop_name-returns-in_err-expr : goal.parse_computed_prop_name-returns-in_err-expr
+parse_computed_prop_name-returns-in_err-expr g t c =
+    let p = err_from_is_err_and c.from_residual.result c.from_residual.ensures.1 in rw (p.1, p.2)
+    (m.no (s.unheard_call (λ x p. key_close c.args.start p.0 x p.1) (λ x ts. key.computed_key_splits _ c.args.start x ts) c.in_err-expr.ensures.reads) c.parse_assignment_expr_with_in.ensures.grows)
+
+pub parse_computed_prop_name-returns-in_err-end : goal.parse_computed_prop_name-returns-in_err-end
+parse_computed_prop_name-returns-in_err-end g t c =
+    let e = tree_of c.parse_assignment_expr_with_in.new.self.nodes c.in_ok-expr.expr in
+    let p = err_from_is_err_and c.from_residual-in_err-end.result c.from_residual-in_err-end.ensures.1 in rw (p.1, p.2)
+    (m.no (s.unheard_after (s.on_call (λ x p. key_close c.args.start p.0 x p.1) (λ x ts. key.computed_key_splits _ c.args.start x ts) c.in_ok-expr.ensures.reads.on)
+    (s.unheard_call (λ x q. Some (computed_e (to c.args.start q.0) e, q.1)) (λ x ts. refl) (c.in_err-end.ensures.expects g.B.Bodies.is_faithful))) c.parse_assignment_expr_with_in.ensures.grows)
+
+pub parse_computed_prop_name-returns : goal.parse_computed_prop_name-returns
+parse_computed_prop_name-returns g t c =
+    let e = tree_of c.parse_assignment_expr_with_in.new.self.nodes c.in_ok-expr.expr in
+    let whole = ap (λ v. computed_e v e) (sym (span_is c.new-span.result c.args.start.lo c.in_ok-end.end.hi c.new-span.ensures.lo c.new-span.ensures.hi)) in
+    m.yes (Ok _)
+    (s.heard_answer whole (s.heard_more (λ x p. key_close c.args.start p.0 x p.1) (λ x ts. key.computed_key_splits _ c.args.start x ts) c.in_ok-expr.ensures.reads
+    (s.on_call (λ x q. Some (computed_e (to c.args.start q.0) e, q.1)) (λ x ts. refl) (c.in_ok-end.ensures.expects g.B.Bodies.is_faithful).on)))
+    c.parse_assignment_expr_with_in.ensures.grows (apart-from (expr_part c.in_ok-expr.expr) c.in_ok-expr.ensures.from)
+
+pub parse_cover_prop-returns-in_err-key : goal.parse_cover_prop-returns-in_err-key
+parse_cover_prop-returns-in_err-key g t c =
+    let p = err_from_is_err_and c.from_residual.result c.from_residual.ensures.1 in rw (p.1, p.2)
+    (m.no (s.unheard_call (λ x p. cover_behind _ p.0 x p.1) (λ x ts. props.cover_splits _ x ts) (c.in_err-key.ensures.parses g.B.Bodies.is_faithful)) (grows-same _))
+
+pub parse_cover_prop-returns-in_err-eat : goal.parse_cover_prop-returns-in_err-eat
+parse_cover_prop-returns-in_err-eat g t c =
+    let n = ident_spelling c.in_ok-key.key in
+    let p = err_from_is_err_and c.from_residual-in_err-eat.result c.from_residual-in_err-eat.ensures.1 in rw (p.1, p.2)
+    (m.no (s.unheard_after (s.on_call (λ x p. cover_behind _ p.0 x p.1) (λ x ts. props.cover_splits _ x ts) (c.in_ok-key.ensures.parses g.B.Bodies.is_faithful).on)
+    (s.unheard_call (λ x p. cover_by _ n p.0 x p.1) (λ x ts. props.cover_behind_splits _ n x ts) (c.in_err-eat.ensures.eats g.B.Bodies.is_faithful))) (grows-same _))
+
+pub parse_cover_prop-returns-in-Some : goal.parse_cover_prop-returns-in-Some
+parse_cover_prop-returns-in-Some g t c =
+    let n = ident_spelling c.in_ok-key.key in
+    m.after c.parse_cover_value.result
+    (s.on_then (s.on_call (λ x p. cover_behind _ p.0 x p.1) (λ x ts. props.cover_splits _ x ts) (c.in_ok-key.ensures.parses g.B.Bodies.is_faithful).on)
+    (s.on_call (λ x p. cover_by _ n p.0 x p.1) (λ x ts. props.cover_behind_splits _ n x ts)
+    (s.eats_some g.B.Bodies.is_faithful is_equals _ c.in-Some.field-0 _ _ c.in-Some.is (c.in_ok-eat.ensures.eats g.B.Bodies.is_faithful)).on))
+    (grows-same _) c.parse_cover_value.ensures
+
+pub parse_cover_prop-returns-in-None : goal.parse_cover_prop-returns-in-None
+parse_cover_prop-returns-in-None g t c =
+    let n = ident_spelling c.in_ok-key.key in
+    m.no (s.unheard_after (s.on_then (s.on_call (λ x p. cover_behind _ p.0 x p.1) (λ x ts. props.cover_splits _ x ts) (c.in_ok-key.ensures.parses g.B.Bodies.is_faithful).on)
+    (s.on_call (λ x p. cover_by g.B.BodyForms.forms n p.0 x p.1) (λ x ts. props.cover_behind_splits _ n x ts)
+    (s.eats_none g.B.Bodies.is_faithful is_equals _ _ _ c.in-None.is (c.in_ok-eat.ensures.eats g.B.Bodies.is_faithful))))
+    (s.unheard_none (λ x ts. refl) c.unexpected.ensures.refuses)) (grows-same _)
+
+pub parse_cover_value-returns-in_err-value : goal.parse_cover_value-returns-in_err-value
+parse_cover_value-returns-in_err-value g t c =
+    let n = ident_spelling c.args.key in
+    let p = err_from_is_err_and c.from_residual.result c.from_residual.ensures.1 in rw (p.1, p.2)
+    (m.no (s.unheard_call (λ x p. Some (cover_e (to n.at (span_of p.0)) (ident_e n.at n.text) p.0, p.1)) (λ x ts. props.cover_tail_splits _ n x ts) c.in_err-value.ensures.reads)
+    c.parse_assignment_expr_with_in.ensures.grows)
+
+pub parse_cover_value-returns : goal.parse_cover_value-returns
+parse_cover_value-returns g t c =
+    let n = ident_spelling c.args.key in
+    let value = tree_of c.parse_assignment_expr_with_in.new.self.nodes c.in_ok-value.value in
+    m.yes (Ok _)
+    (s.heard_answer (ap (λ v. cover_e v (ident_e n.at n.text) value) (sym c.span_to-span.ensures))
+    (s.heard_call (λ x p. Some (cover_e (to n.at (span_of p.0)) (ident_e n.at n.text) p.0, p.1)) (λ x ts. props.cover_tail_splits _ n x ts) (λ x ts. refl) c.in_ok-value.ensures.reads))
+    c.parse_assignment_expr_with_in.ensures.grows (apart-from (expr_part c.in_ok-value.value) c.in_ok-value.ensures.from)
+
+pub parse_plain_prop-returns-in_err-look : goal.parse_plain_prop-returns-in_err-look
+parse_plain_prop-returns-in_err-look g t c =
+    let p = err_from_is_err_and c.from_residual.result c.from_residual.ensures.1 in rw (p.1, p.2)
+    (m.no (s.unheard_memory c.in_err-look.ensures.looks) (grows-same _))
+
+pub parse_plain_prop-returns-in_err-prop_kind : goal.parse_plain_prop-returns-in_err-prop_kind
+parse_plain_prop-returns-in_err-prop_kind g t c =
+    let p = err_from_is_err_and c.from_residual-in_err-prop_kind.result c.from_residual-in_err-prop_kind.ensures.1 in rw (p.1, p.2)
+    (m.no (s.unheard_memory (s.forgoes_later (s.here_leads c.in_ok-look.ensures.looks) c.in_err-prop_kind.ensures.tells)) (grows-same _))
+
+pub parse_plain_prop-returns-in-Shorthand : goal.parse_plain_prop-returns-in-Shorthand
+parse_plain_prop-returns-in-Shorthand g t c =
+    m.after c.parse_shorthand_prop.result (s.on_told c.in_ok-look.ensures.looks c.in_ok-prop_kind.ensures.tells (λ x ts same e told.
+    props.plain_short _ x ts (told ∙ c.in-Shorthand.is))) (grows-same _) c.parse_shorthand_prop.ensures
+
+pub parse_plain_prop-returns-in-Cover : goal.parse_plain_prop-returns-in-Cover
+parse_plain_prop-returns-in-Cover g t c =
+    m.after c.parse_cover_prop.result (s.on_told c.in_ok-look.ensures.looks c.in_ok-prop_kind.ensures.tells (λ x ts same e told.
+    props.plain_cover _ x ts (told ∙ c.in-Cover.is))) (grows-same _) c.parse_cover_prop.ensures
+
+pub parse_plain_prop-returns-in-Key : goal.parse_plain_prop-returns-in-Key
+parse_plain_prop-returns-in-Key g t c =
+    m.after c.parse_key_prop.result (s.on_told c.in_ok-look.ensures.looks c.in_ok-prop_kind.ensures.tells (λ x ts same e told.
+    props.plain_key _ x ts (told ∙ c.in-Key.is))) (grows-same _) c.parse_key_prop.ensures
+
+pub parse_plain_prop-returns-in-Generator : goal.parse_plain_prop-returns-in-Generator
+parse_plain_prop-returns-in-Generator g t c =
+    m.after c.parse_generator_method.result (s.on_told c.in_ok-look.ensures.looks c.in_ok-prop_kind.ensures.tells (λ x ts same e told.
+    props.plain_generator _ x ts (told ∙ c.in-Generator.is))) (grows-same _) c.parse_generator_method.ensures
+
+pub parse_plain_prop-returns-in-Async : goal.parse_plain_prop-returns-in-Async
+parse_plain_prop-returns-in-Async g t c =
+    m.after c.parse_async_method.result (s.on_told c.in_ok-look.ensures.looks c.in_ok-prop_kind.ensures.tells (λ x ts same e told.
+    props.plain_async _ x ts (told ∙ c.in-Async.is))) (grows-same _) c.parse_async_method.ensures
+
+pub parse_plain_prop-returns-in-AsyncGenerator : goal.parse_plain_prop-returns-in-AsyncGenerator
+parse_plain_prop-returns-in-AsyncGenerator g t c =
+    m.after c.parse_async_generator_method.result (s.on_told c.in_ok-look.ensures.looks c.in_ok-prop_kind.ensures.tells (λ x ts same e told.
+    props.plain_async_generator _ x ts (told ∙ c.in-AsyncGenerator.is))) (grows-same _) c.parse_async_generator_method.ensures
+
+pub parse_plain_prop-returns-in-Getter : goal.parse_plain_prop-returns-in-Getter
+parse_plain_prop-returns-in-Getter g t c =
+    m.after c.parse_getter.result (s.on_told c.in_ok-look.ensures.looks c.in_ok-prop_kind.ensures.tells (λ x ts same e told.
+    props.plain_getter _ x ts (told ∙ c.in-Getter.is))) (grows-same _) c.parse_getter.ensures
+
+pub parse_plain_prop-returns-in-Unfit : goal.parse_plain_prop-returns-in-Unfit
+parse_plain_prop-returns-in-Unfit g t c =
+    m.no (s.unheard_told c.in_ok-look.ensures.looks c.in_ok-prop_kind.ensures.tells (λ x ts same e told.
+    props.plain_unfit _ x ts (told ∙ c.in-Unfit.is)) c.unfit_prop.ensures.refuses) (grows-same _)
+
+pub parse_plain_prop-returns-in-Spread : goal.parse_plain_prop-returns-in-Spread
+parse_plain_prop-returns-in-Spread g t c =
+    m.no (s.unheard_told c.in_ok-look.ensures.looks c.in_ok-prop_kind.ensures.tells (λ x ts same e told.
+    props.plain_spread _ x ts (told ∙ c.in-Spread.is)) c.unexpected.ensures.refuses) (grows-same _)
+
+pub parse_key_prop-returns-in_err-key : goal.parse_key_prop-returns-in_err-key
+parse_key_prop-returns-in_err-key g t c =
+    let p = err_from_is_err_and c.from_residual.result c.from_residual.ensures.1 in rw (p.1, p.2)
+    (m.no (s.unheard_call (λ x p. behind_key _ p.0 x p.1) (λ x ts. method.key_splits _ x ts) c.in_err-key.ensures.reads) c.parse_prop_name.ensures.grows)
+
+pub parse_key_prop-returns-in_err-after : goal.parse_key_prop-returns-in_err-after
+parse_key_prop-returns-in_err-after g t c =
+    let p = err_from_is_err_and c.from_residual-in_err-after.result c.from_residual-in_err-after.ensures.1 in rw (p.1, p.2)
+    (m.no (s.unheard_after (s.on_call (λ x p. behind_key _ p.0 x p.1) (λ x ts. method.key_splits _ x ts) c.in_ok-key.ensures.reads.on)
+    (s.unheard_call (λ x p. Some (prop_tree (key_at c.parse_prop_name.new.self.nodes c.in_ok-key.key) p.0, p.1)) (λ x ts. method.behind_key_splits _ (key_at c.parse_prop_name.new.self.nodes c.in_ok-key.key) x ts) c.in_err-after.ensures.reads)) (grows-then c.parse_prop_name.ensures.grows c.parse_after_key.ensures.grows))
+
+pub parse_key_prop-returns : goal.parse_key_prop-returns
+parse_key_prop-returns g t c =
+    let key = key_at c.parse_prop_name.new.self.nodes c.in_ok-key.key in
+    let made = method.key_prop_made c.in_ok-key.key c.in_ok-after.after c.key_prop.result c.key_prop.ensures c.parse_after_key.ensures.grows c.in_ok-key.ensures.from c.in_ok-after.ensures.from in
+    m.yes (Ok _)
+    (s.heard_answer made.0
+    (s.heard_more (λ x p. behind_key _ p.0 x p.1) (λ x ts. method.key_splits _ x ts) c.in_ok-key.ensures.reads
+    (s.on_call (λ x p. Some (prop_tree key p.0, p.1)) (λ x ts. method.behind_key_splits _ key x ts) c.in_ok-after.ensures.reads.on)))
+    (grows-then c.parse_prop_name.ensures.grows c.parse_after_key.ensures.grows) made.1
+
+pub parse_after_key-returns-in_err-eat : goal.parse_after_key-returns-in_err-eat
+parse_after_key-returns-in_err-eat g t c =
+    let p = err_from_is_err_and c.from_residual.result c.from_residual.ensures.1 in rw (p.1, p.2)
+    (m.no (s.unheard_call (λ x p. after_by _ p.0 x p.1) (λ x ts. method.after_splits _ x ts) (c.in_err-eat.ensures.eats g.B.Bodies.is_faithful)) (grows-same _))
+
+pub parse_after_key-returns-in-Some : goal.parse_after_key-returns-in-Some
+parse_after_key-returns-in-Some g t c =
+    m.after c.parse_key_value.result
+    (s.on_call (λ x p. after_by _ p.0 x p.1) (λ x ts. method.after_splits _ x ts)
+    (s.eats_some g.B.Bodies.is_faithful is_colon _ c.in-Some.field-0 _ _ c.in-Some.is (c.in_ok-eat.ensures.eats g.B.Bodies.is_faithful)).on)
+    (grows-same _) c.parse_key_value.ensures
+
+pub parse_after_key-returns-in-None : goal.parse_after_key-returns-in-None
+parse_after_key-returns-in-None g t c =
+    m.after c.parse_key_method.result
+    (s.on_call (λ x p. after_by g.B.BodyForms.forms p.0 x p.1) (λ x ts. method.after_splits _ x ts)
+    (s.eats_none g.B.Bodies.is_faithful is_colon _ _ _ c.in-None.is (c.in_ok-eat.ensures.eats g.B.Bodies.is_faithful)))
+    (grows-same _) c.parse_key_method.ensures
+
+pub parse_key_value-returns-in_err-value : goal.parse_key_value-returns-in_err-value
+parse_key_value-returns-in_err-value g t c =
+    let p = err_from_is_err_and c.from_residual.result c.from_residual.ensures.1 in rw (p.1, p.2)
+    (m.no (s.unheard_call (λ x p. Some (value_e (span_of p.0) p.0, p.1)) (λ x ts. method.after_colon_splits _ x ts) c.in_err-value.ensures.reads) c.parse_assignment_expr_with_in.ensures.grows)
+
+pub parse_key_value-returns : goal.parse_key_value-returns
+parse_key_value-returns g t c =
+    let value = tree_of c.parse_assignment_expr_with_in.new.self.nodes c.in_ok-value.value in
+    m.yes (Ok _)
+    (s.heard_answer (ap (λ v. value_e v value) (sym c.span-span.ensures))
+    (s.heard_call (λ x p. Some (value_e (span_of p.0) p.0, p.1)) (λ x ts. method.after_colon_splits _ x ts) (λ x ts. refl) c.in_ok-value.ensures.reads))
+    c.parse_assignment_expr_with_in.ensures.grows c.in_ok-value.ensures.from
+
+pub parse_generator_method-returns-in_err-start : goal.parse_generator_method-returns-in_err-start
+parse_generator_method-returns-in_err-start g t c =
+    let p = err_from_is_err_and c.from_residual.result c.from_residual.ensures.1 in rw (p.1, p.2)
+    (m.no (s.unheard_call (λ x p. method_tail _ p.0 false true x p.1) (λ x ts. method.generator_splits _ x ts) (c.in_err-start.ensures.expects g.B.Bodies.is_faithful)) (grows-same _))
+
+pub parse_generator_method-returns : goal.parse_generator_method-returns
+parse_generator_method-returns g t c =
+    m.after c.parse_method.result
+    (s.on_call (λ x p. method_tail _ p.0 false true x p.1) (λ x ts. method.generator_splits _ x ts) (c.in_ok-start.ensures.expects g.B.Bodies.is_faithful).on)
+    (grows-same _) c.parse_method.ensures
+
+pub parse_async_method-returns-in_err-start : goal.parse_async_method-returns-in_err-start
+parse_async_method-returns-in_err-start g t c =
+    let p = err_from_is_err_and c.from_residual.result c.from_residual.ensures.1 in rw (p.1, p.2)
+    (m.no (s.unheard_call (λ x p. method_tail _ p.0 true false x p.1) (λ x ts. method.async_splits _ x ts) (c.in_err-start.ensures.expects g.B.Bodies.is_faithful)) (grows-same _))
+
+pub parse_async_method-returns : goal.parse_async_method-returns
+parse_async_method-returns g t c =
+    m.after c.parse_method.result
+    (s.on_call (λ x p. method_tail _ p.0 true false x p.1) (λ x ts. method.async_splits _ x ts) (c.in_ok-start.ensures.expects g.B.Bodies.is_faithful).on)
+    (grows-same _) c.parse_method.ensures
+
+pub parse_getter-returns-in_err-start : goal.parse_getter-returns-in_err-start
+parse_getter-returns-in_err-start g t c =
+    let p = err_from_is_err_and c.from_residual.result c.from_residual.ensures.1 in rw (p.1, p.2)
+    (m.no (s.unheard_call (λ x p. getter_tail _ p.0 x p.1) (λ x ts. method.getter_splits _ x ts) (c.in_err-start.ensures.expects g.B.Bodies.is_faithful)) (grows-same _))
+
+pub parse_getter-returns : goal.parse_getter-returns
+parse_getter-returns g t c =
+    m.after c.parse_getter_method.result
+    (s.on_call (λ x p. getter_tail _ p.0 x p.1) (λ x ts. method.getter_splits _ x ts) (c.in_ok-start.ensures.expects g.B.Bodies.is_faithful).on)
+    (grows-same _) c.parse_getter_method.ensures
+
+pub parse_async_generator_method-returns-in_err-start : goal.parse_async_generator_method-returns-in_err-start
+parse_async_generator_method-returns-in_err-start g t c =
+    let p = err_from_is_err_and c.from_residual.result c.from_residual.ensures.1 in rw (p.1, p.2)
+    (m.no (s.unheard_call (λ x p. async_generator_tail _ p.0 x p.1) (λ x ts. method.async_generator_splits _ x ts) (c.in_err-start.ensures.expects g.B.Bodies.is_faithful)) (grows-same _))
+
+pub parse_async_generator_method-returns-in_err-expect : goal.parse_async_generator_method-returns-in_err-expect
+parse_async_generator_method-returns-in_err-expect g t c =
+    let p = err_from_is_err_and c.from_residual-in_err-expect.result c.from_residual-in_err-expect.ensures.1 in rw (p.1, p.2)
+    (m.no (s.unheard_after (s.on_call (λ x p. async_generator_tail _ p.0 x p.1) (λ x ts. method.async_generator_splits _ x ts) (c.in_ok-start.ensures.expects g.B.Bodies.is_faithful).on)
+    (s.unheard_call (λ x p. method_tail _ c.in_ok-start.start true true x p.1) (λ x ts. method.async_generator_tail_splits _ c.in_ok-start.start x ts) (c.in_err-expect.ensures.expects g.B.Bodies.is_faithful))) (grows-same _))
+
+pub parse_async_generator_method-returns : goal.parse_async_generator_method-returns
+parse_async_generator_method-returns g t c =
+    m.after c.parse_method.result
+    (s.on_then (s.on_call (λ x p. async_generator_tail _ p.0 x p.1) (λ x ts. method.async_generator_splits _ x ts) (c.in_ok-start.ensures.expects g.B.Bodies.is_faithful).on)
+    (s.on_call (λ x p. method_tail _ c.in_ok-start.start true true x p.1) (λ x ts. method.async_generator_tail_splits _ c.in_ok-start.start x ts) (c.in_ok-expect.ensures.expects g.B.Bodies.is_faithful).on))
+    (grows-same _) c.parse_method.ensures
+
+pub parse_method-returns-in_err-key : goal.parse_method-returns-in_err-key
+parse_method-returns-in_err-key g t c =
+    let p = err_from_is_err_and c.from_residual.result c.from_residual.ensures.1 in rw (p.1, p.2)
+    (m.no (s.unheard_call (λ x p. method_close _ c.args.start c.args.is_async c.args.is_generator p.0 x p.1) (λ x ts. method.method_tail_splits _ c.args.start c.args.is_async c.args.is_generator x ts) c.in_err-key.ensures.reads) c.parse_prop_name.ensures.grows)
+
+pub parse_method-returns-in_err-function : goal.parse_method-returns-in_err-function
+parse_method-returns-in_err-function g t c =
+    let key = key_at c.parse_prop_name.new.self.nodes c.in_ok-key.key in
+    let p = err_from_is_err_and c.from_residual-in_err-function.result c.from_residual-in_err-function.ensures.1 in rw (p.1, p.2)
+    (m.no (s.unheard_after (s.on_call (λ x p. method_close _ c.args.start c.args.is_async c.args.is_generator p.0 x p.1) (λ x ts. method.method_tail_splits _ c.args.start c.args.is_async c.args.is_generator x ts) c.in_ok-key.ensures.reads.on)
+    (s.unheard_call (λ x p. Some (method_e (to c.args.start (span_of p.0)) key p.0, p.1)) (λ x ts. method.method_close_splits _ c.args.start c.args.is_async c.args.is_generator key x ts) c.in_err-function.ensures.reads)) (grows-then c.parse_prop_name.ensures.grows c.parse_shell.ensures.grows))
+
+pub parse_method-returns : goal.parse_method-returns
+parse_method-returns g t c =
+    let key = key_at c.parse_prop_name.new.self.nodes c.in_ok-key.key in
+    let made = method.method_made c.args.start c.in_ok-key.key c.in_ok-function.function c.method_prop.result c.method_prop.ensures c.parse_shell.ensures.grows c.in_ok-key.ensures.from c.in_ok-function.ensures.from in
+    m.yes (Ok _)
+    (s.heard_answer made.0
+    (s.heard_more (λ x p. method_close _ c.args.start c.args.is_async c.args.is_generator p.0 x p.1) (λ x ts. method.method_tail_splits _ c.args.start c.args.is_async c.args.is_generator x ts) c.in_ok-key.ensures.reads
+    (s.on_call (λ x p. Some (method_e (to c.args.start (span_of p.0)) key p.0, p.1)) (λ x ts. method.method_close_splits _ c.args.start c.args.is_async c.args.is_generator key x ts) c.in_ok-function.ensures.reads.on)))
+    (grows-then c.parse_prop_name.ensures.grows c.parse_shell.ensures.grows) made.1
+
+pub parse_getter_method-returns-in_err-key : goal.parse_getter_method-returns-in_err-key
+parse_getter_method-returns-in_err-key g t c =
+    let p = err_from_is_err_and c.from_residual.result c.from_residual.ensures.1 in rw (p.1, p.2)
+    (m.no (s.unheard_call (λ x p. getter_close _ c.args.start p.0 x p.1) (λ x ts. method.getter_tail_splits _ c.args.start x ts) c.in_err-key.ensures.reads) c.parse_prop_name.ensures.grows)
+
+pub parse_getter_method-returns-in_err-function : goal.parse_getter_method-returns-in_err-function
+parse_getter_method-returns-in_err-function g t c =
+    let key = key_at c.parse_prop_name.new.self.nodes c.in_ok-key.key in
+    let p = err_from_is_err_and c.from_residual-in_err-function.result c.from_residual-in_err-function.ensures.1 in rw (p.1, p.2)
+    (m.no (s.unheard_after (s.on_call (λ x p. getter_close _ c.args.start p.0 x p.1) (λ x ts. method.getter_tail_splits _ c.args.start x ts) c.in_ok-key.ensures.reads.on)
+    (s.unheard_call (λ x p. Some (getter_e (to c.args.start (span_of p.0)) key p.0, p.1)) (λ x ts. method.getter_close_splits _ c.args.start key x ts) c.in_err-function.ensures.reads)) (grows-then c.parse_prop_name.ensures.grows c.parse_shell.ensures.grows))
+
+pub parse_getter_method-returns : goal.parse_getter_method-returns
+parse_getter_method-returns g t c =
+    let key = key_at c.parse_prop_name.new.self.nodes c.in_ok-key.key in
+    let made = method.getter_made c.args.start c.in_ok-key.key c.in_ok-function.function c.getter_prop.result c.getter_prop.ensures c.parse_shell.ensures.grows c.in_ok-key.ensures.from c.in_ok-function.ensures.from in
+    m.yes (Ok _)
+    (s.heard_answer made.0
+    (s.heard_more (λ x p. getter_close _ c.args.start p.0 x p.1) (λ x ts. method.getter_tail_splits _ c.args.start x ts) c.in_ok-key.ensures.reads
+    (s.on_call (λ x p. Some (getter_e (to c.args.start (span_of p.0)) key p.0, p.1)) (λ x ts. method.getter_close_splits _ c.args.start key x ts) c.in_ok-function.ensures.reads.on)))
+    (grows-then c.parse_prop_name.ensures.grows c.parse_shell.ensures.grows) made.1

@@ -1,12 +1,13 @@
 -- Each call is made with fewer tokens to come, or on the way down to a primary expression.
 use Rattle.std.proofs.Common.{◌+◌, ◌*◌, ◌≤◌}
 use Rattle.swc_input.specs.Buffer.{to_come}
-use Rattle.swc_grammar.specs.Symbols.{Elements}
+use Rattle.swc_grammar.specs.Symbols.{Elements, Props}
 use Rattle.swc_grammar.specs.Clean.{sym, climb, run}
 use Rattle.swc_nodes.specs.Slots.{expr_part}
-use Rattle.swc_nodes.specs.Lists.{elem_parts, elem_trees}
+use Rattle.swc_nodes.specs.Lists.{elem_parts, elem_trees, props_parts, props_trees}
 use Rattle.swc_nodes.specs.Stands.{tree_at, count, first_at, Apart, From, Grows}
 use Rattle.swc_productions.specs.Lists.{elements_behind}
+use Rattle.swc_productions.specs.Properties.{props_behind}
 use Rattle.swc_productions.specs.Parsing.{On, tree_of}
 use Rattle.swc_productions.proofs.productions.Productions.+productions.Given as goal
 
@@ -94,3 +95,73 @@ decreases-parse_elements-loop-elems g l = to_come g.I.Tokens.model l.self.input
 
 abbrev pub decreases-parse_elements_with_in : goal.decreases-parse_elements_with_in
 decreases-parse_elements_with_in g l = to_come g.I.Tokens.model l.self.now.input * 20 + 17
+
+abbrev pub decreases-parse_computed_prop_name : goal.decreases-parse_computed_prop_name
+decreases-parse_computed_prop_name g l = to_come g.I.Tokens.model l.self.now.input * 20 + 14
+
+abbrev pub decreases-parse_prop_name : goal.decreases-parse_prop_name
+decreases-parse_prop_name g l = to_come g.I.Tokens.model l.self.now.input * 20 + 15
+
+abbrev pub decreases-parse_object_lit : goal.decreases-parse_object_lit
+decreases-parse_object_lit g l = to_come g.I.Tokens.model l.self.now.input * 20 + 1
+
+abbrev pub decreases-parse_spread_prop : goal.decreases-parse_spread_prop
+decreases-parse_spread_prop g l = to_come g.I.Tokens.model l.self.now.input * 20 + 14
+
+abbrev pub decreases-parse_object_prop : goal.decreases-parse_object_prop
+decreases-parse_object_prop g l = to_come g.I.Tokens.model l.self.now.input * 20 + 18
+
+abbrev pub decreases-parse_prop_item : goal.decreases-parse_prop_item
+decreases-parse_prop_item g l = to_come g.I.Tokens.model l.self.now.input * 20 + 19
+
+abbrev pub decreases-parse_props : goal.decreases-parse_props
+decreases-parse_props g l = to_come g.I.Tokens.model l.self.now.input * 20 + 20
+
+abbrev pub invariant-parse_props-loop-props : goal.invariant-parse_props-loop-props
+invariant-parse_props-loop-props g l =
+    On g.I.Tokens.model g.B.Bodies.is_faithful
+    (run g.B.BodyForms.forms (sym Props))
+    (props_behind g.B.BodyForms.forms (props_trees g.B.Fun.Spanned.place g.B.Class.Spanned.place g.B.Block.Spanned.place (tree_at l.self.nodes) l.props))
+    l.fn.self.input l.self.input
+    × (to_come g.I.Tokens.model l.self.input ≤ to_come g.I.Tokens.model l.fn.self.input)
+    × Grows l.fn.self.nodes l.self.nodes
+    × Apart (count l.fn.self.nodes) l.self.nodes (props_parts l.props)
+
+abbrev pub decreases-parse_props-loop-props : goal.decreases-parse_props-loop-props
+decreases-parse_props-loop-props g l = to_come g.I.Tokens.model l.self.input
+
+abbrev pub decreases-parse_key_value : goal.decreases-parse_key_value
+decreases-parse_key_value g l = to_come g.I.Tokens.model l.self.now.input * 20 + 14
+
+abbrev pub decreases-parse_after_key : goal.decreases-parse_after_key
+decreases-parse_after_key g l = to_come g.I.Tokens.model l.self.now.input * 20 + 15
+
+abbrev pub decreases-parse_key_prop : goal.decreases-parse_key_prop
+decreases-parse_key_prop g l = to_come g.I.Tokens.model l.self.now.input * 20 + 16
+
+abbrev pub decreases-parse_cover_value : goal.decreases-parse_cover_value
+decreases-parse_cover_value g l = to_come g.I.Tokens.model l.self.now.input * 20 + 14
+
+abbrev pub decreases-parse_cover_prop : goal.decreases-parse_cover_prop
+decreases-parse_cover_prop g l = to_come g.I.Tokens.model l.self.now.input * 20 + 15
+
+abbrev pub decreases-parse_method : goal.decreases-parse_method
+decreases-parse_method g l = to_come g.I.Tokens.model l.self.now.input * 20 + 16
+
+abbrev pub decreases-parse_generator_method : goal.decreases-parse_generator_method
+decreases-parse_generator_method g l = to_come g.I.Tokens.model l.self.now.input * 20 + 15
+
+abbrev pub decreases-parse_async_method : goal.decreases-parse_async_method
+decreases-parse_async_method g l = to_come g.I.Tokens.model l.self.now.input * 20 + 15
+
+abbrev pub decreases-parse_async_generator_method : goal.decreases-parse_async_generator_method
+decreases-parse_async_generator_method g l = to_come g.I.Tokens.model l.self.now.input * 20 + 15
+
+abbrev pub decreases-parse_getter_method : goal.decreases-parse_getter_method
+decreases-parse_getter_method g l = to_come g.I.Tokens.model l.self.now.input * 20 + 16
+
+abbrev pub decreases-parse_getter : goal.decreases-parse_getter
+decreases-parse_getter g l = to_come g.I.Tokens.model l.self.now.input * 20 + 15
+
+abbrev pub decreases-parse_plain_prop : goal.decreases-parse_plain_prop
+decreases-parse_plain_prop g l = to_come g.I.Tokens.model l.self.now.input * 20 + 17

@@ -13,7 +13,7 @@ use swc_tokens::read_tokens;
 /// The tokens of a row: those that the reader of tokens gives or, where the text has an `@`, tokens
 /// with their places, parted by blanks, as `a@5..6`. `E(Lex)@2..3` is an error token with a fault
 /// of that kind at that place.
-pub(crate) fn tokens_of(alloc: Global, text: &str) -> Result<Vec<TokenAndSpan>, Fail> {
+pub fn tokens_of(alloc: Global, text: &str) -> Result<Vec<TokenAndSpan>, Fail> {
     if !text.contains('@') {
         let text = unescaped(alloc, text)?;
         return Ok(read_tokens(alloc, text.as_bytes())?);
@@ -49,7 +49,7 @@ fn error_token(kind: &str, span: Span) -> Token {
 }
 
 /// The token that ends the text.
-pub(crate) fn last_token(alloc: Global, text: &str) -> Result<Token, Fail> {
+pub fn last_token(alloc: Global, text: &str) -> Result<Token, Fail> {
     let mut tokens = read_tokens(alloc, text.as_bytes())?;
     match tokens.pop() {
         Some(last) => Ok(last.token),
@@ -58,7 +58,7 @@ pub(crate) fn last_token(alloc: Global, text: &str) -> Result<Token, Fail> {
 }
 
 /// The place that is written so, as `5..6`.
-pub(crate) fn span_of(text: &str) -> Option<Span> {
+pub fn span_of(text: &str) -> Option<Span> {
     let (lo, hi) = text.split_once("..")?;
     Some(Span {
         lo: BytePos(lo.parse().ok()?),
@@ -67,7 +67,7 @@ pub(crate) fn span_of(text: &str) -> Option<Span> {
 }
 
 /// The kind of a fault that has the name. `Lex` stands for all that no row names.
-pub(crate) fn kind_of(name: &str) -> SyntaxError
+pub fn kind_of(name: &str) -> SyntaxError
     ensures { result ≢ OutOfMemory }
 {
     match name {
@@ -82,7 +82,7 @@ pub(crate) fn kind_of(name: &str) -> SyntaxError
 }
 
 /// A kind and a place, as `TS1109 5..7`.
-pub(crate) fn fault_of(text: &str) -> Option<(Span, SyntaxError)>
+pub fn fault_of(text: &str) -> Option<(Span, SyntaxError)>
     ensures { IfSome result (λ r. r.1 ≢ OutOfMemory) }
 {
     let (name, place) = text.split_once(' ')?;

@@ -8,15 +8,15 @@ use std::test::Fail;
 /// Calls, and what they answer, are parted by `; `. A `\n` stands for a line break. A bar with
 /// blanks on both sides parts fields, so a lone bar in a field has none.
 #[derive(Clone, Copy)]
-pub(crate) struct Row<'a> {
-    pub(crate) calls: &'a str,
-    pub(crate) setting: &'a str,
-    pub(crate) text: &'a str,
-    pub(crate) answer: &'a str,
+pub struct Row<'a> {
+    pub calls: &'a str,
+    pub setting: &'a str,
+    pub text: &'a str,
+    pub answer: &'a str,
 }
 
 /// The row that the line is.
-pub(crate) fn row_of(line: &str) -> Option<Row<'_>> {
+pub fn row_of(line: &str) -> Option<Row<'_>> {
     let (calls, rest) = line.split_once(" | ")?;
     let (setting, rest) = rest.split_once(" | ")?;
     let (text, answer) = rest.split_once(" | ")?;
@@ -29,7 +29,7 @@ pub(crate) fn row_of(line: &str) -> Option<Row<'_>> {
 }
 
 /// The text with its line breaks, which a row has as `\n`.
-pub(crate) fn unescaped(alloc: Global, text: &str) -> Result<String, AllocError> {
+pub fn unescaped(alloc: Global, text: &str) -> Result<String, AllocError> {
     let mut out = String::new(alloc);
     for (at, line) in text.split("\\n").enumerate() {
         if at > 0 {
@@ -41,17 +41,13 @@ pub(crate) fn unescaped(alloc: Global, text: &str) -> Result<String, AllocError>
 }
 
 /// What the calls of a row are made on.
-pub(crate) trait Subject {
+pub trait Subject {
     /// Makes the call, and writes what it answers.
     fn call(&mut self, out: &mut String, call: &str) -> Result<(), Fail>;
 }
 
 /// What the calls answer.
-pub(crate) fn answers(
-    alloc: Global,
-    subject: &mut impl Subject,
-    calls: &str,
-) -> Result<String, Fail> {
+pub fn answers(alloc: Global, subject: &mut impl Subject, calls: &str) -> Result<String, Fail> {
     let mut out = String::new(alloc);
     for (at, call) in calls.split("; ").enumerate() {
         if at > 0 {
@@ -63,6 +59,6 @@ pub(crate) fn answers(
 }
 
 /// What was found has to be what is wanted.
-pub(crate) fn expect(rt: &impl Abort, line: &str, found: &str, wanted: &str) {
+pub fn expect(rt: &impl Abort, line: &str, found: &str, wanted: &str) {
     assert_eq!(rt; found, wanted, "in: {line}");
 }

@@ -1,0 +1,6 @@
+use Rattle.swc_nodes.proofs.Covers.{object-covers}
+use Rattle.swc_nodes.proofs.Held.{stood-is}
+use Rattle.swc_nodes.proofs.nodes.Nodes.props.Goals as goal
+
+pub returns-in-Object : goal.returns-in-Object
+returns-in-Object g c = object-covers c.in-Object.span c.in-Object.props (stood-is _ c.in-Object.is c.get.ensures)

@@ -1,0 +1,442 @@
+-- The clean parser's steps in object literals (13.2.5), as the code goes them.
+use Rattle.std.specs.Prelude.{◌≡◌, Bool, true, false, not, if◌then◌else◌, List, [], ◌∷◌, Option, Some, None}
+use Rattle.std.proofs.Common.{refl, sym, ap, ◌∙◌}
+use Rattle.swc_context.specs.Reserved.{is_reserved_word}
+use Rattle.swc_context.specs.declared.context.Context.{Context}
+use Rattle.swc_context.specs.declared.span.Span.{Span}
+use Rattle.swc_input.specs.declared.token.Token.{Token}
+use Rattle.swc_input.specs.declared.token.Token.TheVariants as token
+use Rattle.swc_input.specs.declared.token.TokenAndSpan.{TokenAndSpan}
+use Rattle.swc_input.specs.Kinds.{at_token}
+use Rattle.swc_ast.specs.Tree.{Tree, Trees, nil, cons, span_of}
+use Rattle.swc_bodies.specs.Readings.{Hook, is_async, is_brace}
+use Rattle.swc_grammar.specs.Symbols.{Assign, Primary, Props, PropsTail, Prop, Side}
+use Rattle.swc_grammar.specs.Tokens.{tk, with_in, is_dots, is_equals, is_get, is_rbrace, is_star, is_word}
+use Rattle.swc_grammar.specs.Tokens.{ends_prop, follows_key}
+use Rattle.swc_grammar.specs.Trees.{to, object_e, listed, items_of, spread_prop_e, short_e, cover_e, ident_e}
+use Rattle.swc_grammar.specs.Grammar.{Production, object-lit, prop-spread, prop-short, prop-cover, prop-key}
+use Rattle.swc_grammar.specs.Grammar.{prop-generator, prop-async, prop-async-generator, prop-getter}
+use Rattle.swc_grammar.specs.Names.{Spelling, may_name}
+use Rattle.swc_grammar.specs.Parts.{any_name}
+use Rattle.swc_grammar.specs.Rule.{gives, must, given, symbol, token as token_of, ◌>>=◌ as ◌▸◌, ◌>>◌}
+use Rattle.swc_grammar.specs.Clean.{Out, and_then, first, second, sym as at, exec, Choice, none, pick, chosen, plan}
+use Rattle.swc_grammar.specs.Clean.{primary, prop, prop_word, step, run}
+use Rattle.swc_grammar.specs.Words.{◌>>=◌, one, word}
+use Rattle.swc_grammar.proofs.Complete.{last}
+use Rattle.swc_grammar.proofs.Knot.{knot}
+use Rattle.swc_grammar.proofs.Only.{only-brace, only-rbrace}
+use Rattle.swc_grammar.proofs.Rules.{run_picked}
+use Rattle.swc_nodes.specs.Lists.{trees_append}
+use Rattle.swc_productions.specs.declared.kinds.PropKind.{PropKind}
+use Rattle.swc_productions.specs.declared.kinds.PropKind.TheVariants as kind
+use Rattle.swc_productions.specs.Readers.{reading, by_production, inside}
+use Rattle.swc_productions.specs.Lists.{eaten, eaten_by, closed, separated, put_before}
+use Rattle.swc_productions.specs.Properties.{object_lit_tail, prop_item, props_behind, props_more, props_by}
+use Rattle.swc_productions.specs.Properties.{spread_prop_tail, prop_plain, prop_by, open_by, open_name}
+use Rattle.swc_productions.specs.Properties.{cover_tail, cover_by, cover_behind}
+use Rattle.swc_productions.specs.Properties.{word_kind, prop_kind}
+use Rattle.swc_productions.proofs.Steps.{not_true, not_false}
+use Rattle.swc_productions.proofs.Lists.{calls, binds, bind_same, twice}
+
+pub open_name_splits : (x : Context) (ts : List TokenAndSpan) → open_name x ts ≡ (word may_name x ts >>= open_by x)
+unfolding open_name
+open_name_splits x ts = refl
+
+pub open_by_well : (x : Context) (n : Spelling) (ts : List TokenAndSpan) → not (is_reserved_word x n.text) ≡ true
+    → open_by x (n, ts) ≡ Some (n, ts)
+open_by_well x n ts h = rw (not_true (is_reserved_word x n.text) h) refl
+
+pub open_by_ill : (x : Context) (n : Spelling) (ts : List TokenAndSpan) → not (is_reserved_word x n.text) ≡ false
+    → open_by x (n, ts) ≡ None
+open_by_ill x n ts h = rw (not_false (is_reserved_word x n.text) h) refl
+
+-- what is made of a choice
+chosen_by : {A B : Type 0} (f : A → B) (b : Bool) {x y : A} {v w : B} → f x ≡ v → f y ≡ w
+    → f (if b then x else y) ≡ (if b then v else w)
+chosen_by f true p q = p
+chosen_by f false p q = q
+
+module _ {F C K : Type 0} {c : Context} where
+  -- which production each kind of property is
+  abbrev kind_choice : PropKind → Choice F C K Prop c
+  kind_choice kind.Spread = pick prop-spread
+  kind_choice kind.Generator = pick prop-generator
+  kind_choice kind.Shorthand = pick prop-short
+  kind_choice kind.Cover = pick prop-cover
+  kind_choice kind.Key = pick prop-key
+  kind_choice kind.Getter = pick prop-getter
+  kind_choice kind.Async = pick prop-async
+  kind_choice kind.AsyncGenerator = pick prop-async-generator
+  kind_choice kind.Unfit = none
+
+  word_choice : (t u : Option TokenAndSpan) → kind_choice (word_kind t u) ≡ prop_word t u
+  word_choice t u =
+      chosen_by kind_choice (at_token ends_prop u) refl (chosen_by kind_choice (at_token is_equals u) refl
+      (chosen_by kind_choice (at_token follows_key u) refl (chosen_by kind_choice (at_token is_get t) refl
+      (chosen_by kind_choice (at_token is_async t) (chosen_by kind_choice (at_token is_star u) refl refl) refl))))
+
+  prop_choice : (ts : List TokenAndSpan) → kind_choice (prop_kind ts) ≡ prop c ts
+  prop_choice ts =
+      chosen_by kind_choice (at_token is_dots (first ts)) refl (chosen_by kind_choice (at_token is_star (first ts)) refl
+      (chosen_by kind_choice (at_token is_word (first ts)) (word_choice (first ts) (second ts)) refl))
+
+module _ {F C K : Type 0} (hook : Hook F C K) where
+  -- ---- object literals
+
+  pub object_lit_picked : (x : Context) (ts : List TokenAndSpan) → at_token is_brace (first ts) ≡ true
+      → run hook (at Primary) x ts ≡ by_production hook (λ c. object-lit) x ts
+  unfolding by_production reading
+  object_lit_picked x [] h = absurd cc
+  object_lit_picked x (t ∷ ts) h =
+      run_picked hook Primary x (t ∷ ts) object-lit (primary x (t ∷ ts)) refl
+      (only-brace (λ v. primary {F = F} {C = C} {K = K} x (tk v t.had_line_break t.span ∷ ts)
+      ≡ pick object-lit) refl t.token h)
+
+  pub object_lit_opens : (t : TokenAndSpan) (x : Context) (ts : List TokenAndSpan) → is_brace t.token ≡ true
+      → by_production hook (λ c. object-lit) x (t ∷ ts) ≡ object_lit_tail hook t.span x ts
+  unfolding by_production object_lit_tail reading
+  object_lit_opens t x ts h = rw h (calls (run hook (at Props) x ts) _)
+
+  pub object_lit_splits : (s : Span) (x : Context) (ts : List TokenAndSpan)
+      → object_lit_tail hook s x ts
+      ≡ (run hook (at Props) x ts >>= (λ p. Some (object_e (to s (span_of p.0)) (items_of p.0), p.1)))
+  unfolding object_lit_tail
+  object_lit_splits s x ts = refl
+
+  -- the brace closes the list
+  props_close : (x : Context) (t : TokenAndSpan) (ts : List TokenAndSpan) → is_rbrace t.token ≡ true
+      → run hook (at Props) x (t ∷ ts) ≡ Some (listed t.span nil, ts)
+  props_close x t ts h =
+      knot hook (at Props) x (t ∷ ts)
+      ∙ only-rbrace (λ v. exec hook (run hook) (Some 5)
+      (step (at Props) x (tk v t.had_line_break t.span ∷ ts)) (tk v t.had_line_break t.span ∷ ts)
+      ≡ Some (listed t.span nil, ts)) refl t.token h
+
+  -- behind a property
+  tail_token : (x : Context) (v : Token) (b : Bool) (s : Span) (us : List TokenAndSpan)
+      → run hook (at PropsTail) x (tk v b s ∷ us)
+      ≡ (separated is_rbrace x (tk v b s ∷ us) >>= (λ q. run hook (at Props) x q.1))
+  unfolding separated closed eaten
+  tail_token x token.Comma b s us =
+      knot hook (at PropsTail) x (tk token.Comma b s ∷ us) ∙ last hook None (at Props) x us refl
+  tail_token x token.RBrace b s us =
+      knot hook (at PropsTail) x (tk token.RBrace b s ∷ us)
+      ∙ sym (props_close x (tk token.RBrace b s) us refl)
+  tail_token x v b s us = knot hook (at PropsTail) x (tk v b s ∷ us)
+
+  tail_is : (x : Context) (us : List TokenAndSpan)
+      → run hook (at PropsTail) x us ≡ (separated is_rbrace x us >>= (λ q. run hook (at Props) x q.1))
+  unfolding separated closed eaten
+  tail_is x [] = knot hook (at PropsTail) x []
+  tail_is x (t ∷ us) = tail_token x t.token t.had_line_break t.span us
+
+  -- a property, and what stands behind it
+  item_more : (x : Context) (ts : List TokenAndSpan)
+      → and_then (run hook (at Prop) x ts) (λ e us. and_then (run hook (at PropsTail) x us)
+      (λ es vs. Some (put_before (cons e nil) es, vs)))
+      ≡ (prop_item hook x ts >>=
+      (λ p. run hook (at Props) x p.1 >>= (λ q. Some (put_before (cons p.0 nil) q.0, q.1))))
+  unfolding prop_item
+  item_more x ts =
+      calls (run hook (at Prop) x ts) _
+      ∙ bind_same (run hook (at Prop) x ts) _ _ (λ p.
+      calls (run hook (at PropsTail) x p.1) _
+      ∙ ap (λ o. o >>= (λ q. Some (put_before (cons p.0 nil) q.0, q.1))) (tail_is x p.1)
+      ∙ sym (binds (separated is_rbrace x p.1) (λ q. run hook (at Props) x q.1) _)
+      ∙ binds (separated is_rbrace x p.1) (λ q. Some (p.0, q.1)) _)
+      ∙ binds (run hook (at Prop) x ts) _ _
+
+  -- one property, and those that are left
+  props_step : (x : Context) (ts : List TokenAndSpan) → at_token is_rbrace (first ts) ≡ false
+      → run hook (at Props) x ts
+      ≡ (prop_item hook x ts >>=
+      (λ p. run hook (at Props) x p.1 >>= (λ q. Some (put_before (cons p.0 nil) q.0, q.1))))
+  props_step x ts h = knot hook (at Props) x ts ∙ rw h (item_more x ts)
+
+  pub prop_item_splits : (x : Context) (ts : List TokenAndSpan)
+      → prop_item hook x ts
+      ≡ (run hook (at Prop) x ts >>= (λ p. separated is_rbrace x p.1 >>= (λ q. Some (p.0, q.1))))
+  unfolding prop_item
+  prop_item_splits x ts = refl
+
+  pub props_more_splits : (before : Trees F C K) (x : Context) (ts : List TokenAndSpan)
+      → props_more hook before x ts
+      ≡ (prop_item hook x ts >>= (λ p. props_behind hook (trees_append before (cons p.0 nil)) x p.1))
+  unfolding props_more
+  props_more_splits before x ts = refl
+
+  -- from a property on
+  behind_more : (before : Trees F C K) (x : Context) (ts : List TokenAndSpan) → at_token is_rbrace (first ts) ≡ false
+      → props_behind hook before x ts ≡ props_more hook before x ts
+  unfolding props_behind props_more
+  behind_more before x ts h =
+      ap (λ o. o >>= (λ p. Some (put_before before p.0, p.1))) (props_step x ts h)
+      ∙ sym (binds (prop_item hook x ts) _ _)
+      ∙ bind_same (prop_item hook x ts) _ _ (λ p.
+      sym (binds (run hook (at Props) x p.1) _ _)
+      ∙ bind_same (run hook (at Props) x p.1) _ _ (λ q. ap (λ v. Some (v, q.1)) (twice hook before p.0 q.0)))
+
+  behind_token : (before : Trees F C K) (x : Context) (v : Token) (b : Bool) (s : Span) (us : List TokenAndSpan)
+      → props_behind hook before x (tk v b s ∷ us)
+      ≡ (eaten is_rbrace x (tk v b s ∷ us) >>= (λ p. props_by hook before p.0 x p.1))
+  unfolding props_behind eaten
+  behind_token before x token.RBrace b s us =
+      ap (λ o. o >>= (λ p. Some (put_before before p.0, p.1))) (props_close x (tk token.RBrace b s) us refl)
+  behind_token before x v b s us = behind_more before x (tk v b s ∷ us) refl
+
+  pub behind_splits : (before : Trees F C K) (x : Context) (ts : List TokenAndSpan)
+      → props_behind hook before x ts ≡ (eaten is_rbrace x ts >>= (λ p. props_by hook before p.0 x p.1))
+  unfolding eaten
+  behind_splits before x [] = behind_more before x [] refl
+  behind_splits before x (t ∷ ts) = behind_token before x t.token t.had_line_break t.span ts
+
+  -- before the first property
+  first_more : (x : Context) (ts : List TokenAndSpan) → at_token is_rbrace (first ts) ≡ false
+      → run hook (at Props) x ts ≡ props_behind hook nil x ts
+  unfolding props_behind
+  first_more x ts h =
+      props_step x ts h
+      ∙ bind_same (prop_item hook x ts) _ _ (λ p. binds (run hook (at Props) x p.1) _ _)
+      ∙ binds (prop_item hook x ts) _ _
+      ∙ ap (λ o. o >>= (λ p. Some (put_before nil p.0, p.1))) (sym (props_step x ts h))
+
+  first_token : (x : Context) (v : Token) (b : Bool) (s : Span) (us : List TokenAndSpan)
+      → run hook (at Props) x (tk v b s ∷ us) ≡ props_behind hook nil x (tk v b s ∷ us)
+  unfolding props_behind
+  first_token x token.RBrace b s us =
+      let e = props_close x (tk token.RBrace b s) us refl in
+      e ∙ ap (λ o. o >>= (λ p. Some (put_before nil p.0, p.1))) (sym e)
+  first_token x v b s us = first_more x (tk v b s ∷ us) refl
+
+  pub props_first : (x : Context) (ts : List TokenAndSpan)
+      → run hook (at Props) x ts ≡ props_behind hook nil x ts
+  props_first x [] = first_more x [] refl
+  props_first x (t ∷ ts) = first_token x t.token t.had_line_break t.span ts
+
+  -- ---- properties
+
+  pub spread_prop_splits : (s : Span) (x : Context) (ts : List TokenAndSpan)
+      → spread_prop_tail hook s x ts ≡ (inside hook x ts >>= (λ p. Some (spread_prop_e s p.0, p.1)))
+  unfolding spread_prop_tail
+  spread_prop_splits s x ts = refl
+
+  prop_token : (x : Context) (v : Token) (b : Bool) (s : Span) (us : List TokenAndSpan)
+      → run hook (at Prop) x (tk v b s ∷ us)
+      ≡ (eaten is_dots x (tk v b s ∷ us) >>= (λ p. prop_by hook p.0 x p.1))
+  unfolding eaten spread_prop_tail prop_plain inside
+  prop_token x token.DotDotDot b s us =
+      knot hook (at Prop) x (tk token.DotDotDot b s ∷ us) ∙ calls (run hook (at Assign) (with_in x) us) _
+  prop_token x v b s us = refl
+
+  pub prop_splits : (x : Context) (ts : List TokenAndSpan)
+      → run hook (at Prop) x ts ≡ (eaten is_dots x ts >>= (λ p. prop_by hook p.0 x p.1))
+  unfolding eaten prop_plain
+  prop_splits x [] = refl
+  prop_splits x (t ∷ ts) = prop_token x t.token t.had_line_break t.span ts
+
+  -- a name alone
+  short_by : (r : Bool) (n : Spelling) (us : List TokenAndSpan)
+      → (if not r then Some (short_e {F = F} {C = C} {K = K} n.at n.text, us) else None)
+      ≡ ((if r then None else Some (n, us)) >>= (λ p. Some (short_e p.0.at p.0.text, p.1)))
+  short_by true n us = refl
+  short_by false n us = refl
+
+  short_one : (o : Option Spelling) (x : Context) (us : List TokenAndSpan)
+      → exec hook (run hook) None (plan (given o ▸
+      (λ n. must (not (is_reserved_word x n.text)) >> gives (short_e {F = F} {C = C} {K = K} n.at n.text)))) us
+      ≡ ((one o us >>= open_by x) >>= (λ p. Some (short_e p.0.at p.0.text, p.1)))
+  short_one None x us = refl
+  short_one (Some n) x us = short_by (is_reserved_word x n.text) n us
+
+  pub short_splits : (x : Context) (ts : List TokenAndSpan)
+      → by_production hook (λ c. prop-short) x ts
+      ≡ (open_name x ts >>= (λ p. Some (short_e p.0.at p.0.text, p.1)))
+  unfolding by_production reading open_name word
+  short_splits x [] = refl
+  short_splits x (t ∷ ts) = short_one (any_name x t.token t.span) x ts
+
+  -- a name with `=` and an expression behind it
+  cover_sign : (b : Bool) (n : Spelling) (x : Context) (t : TokenAndSpan) (us : List TokenAndSpan)
+      → (if b then and_then (run hook (at Assign) (with_in x) us)
+      (λ e vs. Some (cover_e (to n.at (span_of e)) (ident_e n.at n.text) e, vs)) else None)
+      ≡ (eaten_by b (t ∷ us) >>= (λ p. cover_by hook n p.0 x p.1))
+  unfolding cover_tail inside
+  cover_sign true n x t us = calls (run hook (at Assign) (with_in x) us) _
+  cover_sign false n x t us = refl
+
+  cover_run : (n : Spelling) (x : Context) (us : List TokenAndSpan)
+      → exec hook (run hook) None (plan (token_of is_equals >> (symbol Assign (with_in x) ▸
+      (λ e. gives (cover_e {F = F} {C = C} {K = K} (to n.at (span_of e)) (ident_e n.at n.text) e))))) us
+      ≡ cover_behind hook n x us
+  unfolding cover_behind eaten
+  cover_run n x [] = refl
+  cover_run n x (t ∷ us) = cover_sign (is_equals t.token) n x t us
+
+  cover_open : (r : Bool) (n : Spelling) (x : Context) (us : List TokenAndSpan)
+      → (if not r then cover_behind hook n x us else None)
+      ≡ ((if r then None else Some (n, us)) >>= (λ p. cover_behind hook p.0 x p.1))
+  cover_open true n x us = refl
+  cover_open false n x us = refl
+
+  cover_one : (o : Option Spelling) (x : Context) (us : List TokenAndSpan)
+      → exec hook (run hook) None (plan (given o ▸ (λ n. must (not (is_reserved_word x n.text)) >> (token_of is_equals >>
+      (symbol Assign (with_in x) ▸
+      (λ e. gives (cover_e {F = F} {C = C} {K = K} (to n.at (span_of e)) (ident_e n.at n.text) e))))))) us
+      ≡ ((one o us >>= open_by x) >>= (λ p. cover_behind hook p.0 x p.1))
+  cover_one None x us = refl
+  cover_one (Some n) x us =
+      ap (λ v. if not (is_reserved_word x n.text) then v else None) (cover_run n x us)
+      ∙ cover_open (is_reserved_word x n.text) n x us
+
+  pub cover_splits : (x : Context) (ts : List TokenAndSpan)
+      → by_production hook (λ c. prop-cover) x ts ≡ (open_name x ts >>= (λ p. cover_behind hook p.0 x p.1))
+  unfolding by_production reading open_name word
+  cover_splits x [] = refl
+  cover_splits x (t ∷ ts) = cover_one (any_name x t.token t.span) x ts
+
+  pub cover_behind_splits : (n : Spelling) (x : Context) (ts : List TokenAndSpan)
+      → cover_behind hook n x ts ≡ (eaten is_equals x ts >>= (λ p. cover_by hook n p.0 x p.1))
+  unfolding cover_behind
+  cover_behind_splits n x ts = refl
+
+  pub cover_tail_splits : (n : Spelling) (x : Context) (ts : List TokenAndSpan)
+      → cover_tail hook n x ts
+      ≡ (inside hook x ts >>= (λ p. Some (cover_e (to n.at (span_of p.0)) (ident_e n.at n.text) p.0, p.1)))
+  unfolding cover_tail
+  cover_tail_splits n x ts = refl
+
+  -- each property is picked by its kind
+  kind_picked : (x : Context) (ts : List TokenAndSpan) {r : Side F C K Prop} (p : Production Prop x r) (k : PropKind)
+      → kind_choice k ≡ pick p → prop_kind ts ≡ k
+      → run hook (at Prop) x ts ≡ exec hook (run hook) (Some 4) (plan r) ts
+  kind_picked x ts p k e h =
+      run_picked hook Prop x ts p (prop x ts) refl (sym (prop_choice ts) ∙ ap kind_choice h ∙ e)
+
+  pub short_picked : (x : Context) (ts : List TokenAndSpan) → prop_kind ts ≡ kind.Shorthand
+      → run hook (at Prop) x ts ≡ by_production hook (λ c. prop-short) x ts
+  unfolding by_production reading
+  short_picked x [] h = kind_picked x [] prop-short kind.Shorthand refl h
+  short_picked x (t ∷ ts) h = kind_picked x (t ∷ ts) prop-short kind.Shorthand refl h
+
+  pub cover_picked : (x : Context) (ts : List TokenAndSpan) → prop_kind ts ≡ kind.Cover
+      → run hook (at Prop) x ts ≡ by_production hook (λ c. prop-cover) x ts
+  unfolding by_production reading
+  cover_picked x [] h = kind_picked x [] prop-cover kind.Cover refl h
+  cover_picked x (t ∷ ts) h = kind_picked x (t ∷ ts) prop-cover kind.Cover refl h
+
+  pub key_picked : (x : Context) (ts : List TokenAndSpan) → prop_kind ts ≡ kind.Key
+      → run hook (at Prop) x ts ≡ by_production hook (λ c. prop-key) x ts
+  unfolding by_production reading
+  key_picked x ts h = kind_picked x ts prop-key kind.Key refl h
+
+  pub generator_picked : (x : Context) (ts : List TokenAndSpan) → prop_kind ts ≡ kind.Generator
+      → run hook (at Prop) x ts ≡ by_production hook (λ c. prop-generator) x ts
+  unfolding by_production reading
+  generator_picked x [] h = kind_picked x [] prop-generator kind.Generator refl h
+  generator_picked x (t ∷ ts) h = kind_picked x (t ∷ ts) prop-generator kind.Generator refl h
+
+  pub getter_picked : (x : Context) (ts : List TokenAndSpan) → prop_kind ts ≡ kind.Getter
+      → run hook (at Prop) x ts ≡ by_production hook (λ c. prop-getter) x ts
+  unfolding by_production reading
+  getter_picked x [] h = kind_picked x [] prop-getter kind.Getter refl h
+  getter_picked x (t ∷ ts) h = kind_picked x (t ∷ ts) prop-getter kind.Getter refl h
+
+  pub async_picked : (x : Context) (ts : List TokenAndSpan) → prop_kind ts ≡ kind.Async
+      → run hook (at Prop) x ts ≡ by_production hook (λ c. prop-async) x ts
+  unfolding by_production reading
+  async_picked x [] h = kind_picked x [] prop-async kind.Async refl h
+  async_picked x (t ∷ ts) h = kind_picked x (t ∷ ts) prop-async kind.Async refl h
+
+  pub async_generator_picked : (x : Context) (ts : List TokenAndSpan) → prop_kind ts ≡ kind.AsyncGenerator
+      → run hook (at Prop) x ts ≡ by_production hook (λ c. prop-async-generator) x ts
+  unfolding by_production reading
+  async_generator_picked x [] h = kind_picked x [] prop-async-generator kind.AsyncGenerator refl h
+  async_generator_picked x (t ∷ ts) h = kind_picked x (t ∷ ts) prop-async-generator kind.AsyncGenerator refl h
+
+  pub prop_unfit : (x : Context) (ts : List TokenAndSpan) → prop_kind ts ≡ kind.Unfit → run hook (at Prop) x ts ≡ None
+  prop_unfit x ts h = knot hook (at Prop) x ts ∙ ap (λ v. exec hook (run hook) (Some 4) (chosen v) ts)
+      (sym (prop_choice ts) ∙ ap kind_choice h)
+
+  -- where no dots stand, as at each other kind
+  pub plain_here : (x : Context) (ts : List TokenAndSpan) → at_token is_dots (first ts) ≡ false
+      → prop_plain hook x ts ≡ run hook (at Prop) x ts
+  unfolding prop_plain
+  plain_here x ts h = rw h refl
+
+no_spread : (b : Bool) (k : PropKind) → ((if b then kind.Spread else k) ≡ kind.Spread → ⊥) → b ≡ false
+no_spread true k n = absurd (n refl)
+no_spread false k n = refl
+
+pub kind_plain : (ts : List TokenAndSpan) → (prop_kind ts ≡ kind.Spread → ⊥) → at_token is_dots (first ts) ≡ false
+kind_plain ts n = no_spread (at_token is_dots (first ts)) _ n
+
+-- dots stand at no other kind
+spread_by : (b : Bool) (k : PropKind) → (k ≡ kind.Spread → ⊥) → (if b then kind.Spread else k) ≡ kind.Spread → b ≡ true
+spread_by true k n h = refl
+spread_by false k n h = absurd (n h)
+
+no_word_spread : (t u : Option TokenAndSpan) → word_kind t u ≡ kind.Spread → ⊥
+no_word_spread t u = by_four (at_token ends_prop u) (at_token is_equals u) (at_token follows_key u) (at_token is_get t)
+    (at_token is_async t) (at_token is_star u)
+  where
+    by_four : (a b c d e f : Bool) → (if a then kind.Shorthand else (if b then kind.Cover else (if c then kind.Key else
+        (if d then kind.Getter else (if e then (if f then kind.AsyncGenerator else kind.Async) else kind.Unfit)))))
+        ≡ kind.Spread → ⊥
+    by_four true b c d e f h = cc
+    by_four false true c d e f h = cc
+    by_four false false true d e f h = cc
+    by_four false false false true e f h = cc
+    by_four false false false false true true h = cc
+    by_four false false false false true false h = cc
+    by_four false false false false false f h = cc
+
+no_other_spread : (a b : Bool) (t u : Option TokenAndSpan)
+    → (if a then kind.Generator else (if b then word_kind t u else kind.Key)) ≡ kind.Spread → ⊥
+no_other_spread true b t u h = cc
+no_other_spread false true t u h = no_word_spread t u h
+no_other_spread false false t u h = cc
+
+spread_dots : (ts : List TokenAndSpan) → prop_kind ts ≡ kind.Spread → at_token is_dots (first ts) ≡ true
+spread_dots ts h = spread_by (at_token is_dots (first ts)) _
+    (no_other_spread (at_token is_star (first ts)) (at_token is_word (first ts)) (first ts) (second ts)) h
+
+module _ {F C K : Type 0} (hook : Hook F C K) where
+  -- what no dots begin, by its kind
+  plain_kind : (x : Context) (ts : List TokenAndSpan) (k : PropKind) → prop_kind ts ≡ k → (k ≡ kind.Spread → ⊥)
+      → prop_plain hook x ts ≡ run hook (at Prop) x ts
+  plain_kind x ts k e n = plain_here hook x ts (kind_plain ts (λ q. n (sym e ∙ q)))
+
+  pub plain_short : (x : Context) (ts : List TokenAndSpan) → prop_kind ts ≡ kind.Shorthand
+      → prop_plain hook x ts ≡ by_production hook (λ c. prop-short) x ts
+  plain_short x ts h = plain_kind x ts kind.Shorthand h (λ q. cc) ∙ short_picked hook x ts h
+
+  pub plain_cover : (x : Context) (ts : List TokenAndSpan) → prop_kind ts ≡ kind.Cover
+      → prop_plain hook x ts ≡ by_production hook (λ c. prop-cover) x ts
+  plain_cover x ts h = plain_kind x ts kind.Cover h (λ q. cc) ∙ cover_picked hook x ts h
+
+  pub plain_key : (x : Context) (ts : List TokenAndSpan) → prop_kind ts ≡ kind.Key
+      → prop_plain hook x ts ≡ by_production hook (λ c. prop-key) x ts
+  plain_key x ts h = plain_kind x ts kind.Key h (λ q. cc) ∙ key_picked hook x ts h
+
+  pub plain_generator : (x : Context) (ts : List TokenAndSpan) → prop_kind ts ≡ kind.Generator
+      → prop_plain hook x ts ≡ by_production hook (λ c. prop-generator) x ts
+  plain_generator x ts h = plain_kind x ts kind.Generator h (λ q. cc) ∙ generator_picked hook x ts h
+
+  pub plain_async : (x : Context) (ts : List TokenAndSpan) → prop_kind ts ≡ kind.Async
+      → prop_plain hook x ts ≡ by_production hook (λ c. prop-async) x ts
+  plain_async x ts h = plain_kind x ts kind.Async h (λ q. cc) ∙ async_picked hook x ts h
+
+  pub plain_async_generator : (x : Context) (ts : List TokenAndSpan) → prop_kind ts ≡ kind.AsyncGenerator
+      → prop_plain hook x ts ≡ by_production hook (λ c. prop-async-generator) x ts
+  plain_async_generator x ts h = plain_kind x ts kind.AsyncGenerator h (λ q. cc) ∙ async_generator_picked hook x ts h
+
+  pub plain_getter : (x : Context) (ts : List TokenAndSpan) → prop_kind ts ≡ kind.Getter
+      → prop_plain hook x ts ≡ by_production hook (λ c. prop-getter) x ts
+  plain_getter x ts h = plain_kind x ts kind.Getter h (λ q. cc) ∙ getter_picked hook x ts h
+
+  pub plain_unfit : (x : Context) (ts : List TokenAndSpan) → prop_kind ts ≡ kind.Unfit → prop_plain hook x ts ≡ None
+  plain_unfit x ts h = plain_kind x ts kind.Unfit h (λ q. cc) ∙ prop_unfit hook x ts h
+
+  pub plain_spread : (x : Context) (ts : List TokenAndSpan) → prop_kind ts ≡ kind.Spread → prop_plain hook x ts ≡ None
+  unfolding prop_plain
+  plain_spread x ts h = rw (spread_dots ts h) refl

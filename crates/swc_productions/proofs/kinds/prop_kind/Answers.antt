@@ -1,0 +1,15 @@
+use Rattle.std.proofs.Common.{sym, ◌∙◌}
+use Rattle.swc_productions.proofs.PropKinds as kind
+use Rattle.swc_productions.proofs.kinds.prop_kind.Goals as goal
+
+pub returns-then-not-is_word : goal.returns-then-not-is_word
+returns-then-not-is_word g c = record {
+  tells = kind.tells_sign g.met.I.Tokens.laws _ c.sign_kind.result c.sign_kind.ensures
+      (sym c.is_word.ensures.value ∙ c.if-not-is_word.true);
+}
+
+pub returns : goal.returns
+returns g c = record {
+  tells = kind.tells_by_word g.I.Tokens.model c.args.input.now c.kind_behind.new.input c.is_get-of_get.result c.is_async-of_async.result c.kind_behind.result c.kind_behind.ensures.tells
+      c.is_get-of_get.ensures c.is_async-of_async.ensures.value (sym c.is_word.ensures.value ∙ c.if-not-is_word.false);
+}

@@ -1,0 +1,21 @@
+use Rattle.std.proofs.Common.{refl, sym, ap, ◌∙◌}
+use Rattle.swc_input.specs.Kinds.{at_token}
+use Rattle.swc_bodies.specs.Readings.{is_brace}
+use Rattle.swc_productions.proofs.Hearing as hearing
+use Rattle.swc_productions.proofs.Keys as key
+use Rattle.swc_productions.proofs.Steps as s
+use Rattle.swc_productions.proofs.productions.Productions.parse_block.Goals as goal
+
+pub returns-then-not-is_lbrace-clause-reads : goal.returns-then-not-is_lbrace-clause-reads
+returns-then-not-is_lbrace-clause-reads g c =
+    s.unheard_at c.in_ok-look.ensures.looks
+    (λ x ts same e. key.block_not _ g.met.B.Bodies.lawful x ts
+    (ap (at_token is_brace) e ∙ sym c.is_lbrace.ensures.value ∙ c.if-not-is_lbrace.true)) c.unexpected.ensures.refuses
+
+pub returns-clause-reads : goal.returns-clause-reads
+returns-clause-reads g c =
+    s.parses_after g.I.Tokens.model g.B.Bodies.is_faithful (λ v. v) _ _ c.block.result
+    (s.on_seen {g = g.B.BodyForms.forms.block} c.in_ok-look.ensures.looks (λ x ts same e. refl))
+    (hearing.hook_parses g.I.Tokens.model g.met.I.Tokens.laws _ g.B.Bodies.is_faithful
+    (hearing.token_some is_brace _ (c.is_lbrace.ensures.begins c.if-not-is_lbrace.false)) c.block.result
+    c.block.ensures.hooked c.block.ensures.faithful)

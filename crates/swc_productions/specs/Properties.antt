@@ -1,0 +1,107 @@
+-- What the steps of the code read in object literals (13.2.5), by the clean parser.
+use Rattle.std.specs.Prelude.{Bool, if◌then◌else◌, List, Option, Some, None}
+use Rattle.swc_context.specs.Reserved.{is_reserved_word}
+use Rattle.swc_context.specs.declared.context.Context.{Context}
+use Rattle.swc_context.specs.declared.span.Span.{Span}
+use Rattle.swc_input.specs.declared.token.Token.{Token}
+use Rattle.swc_input.specs.declared.token.TokenAndSpan.{TokenAndSpan}
+use Rattle.swc_input.specs.Kinds.{at_token}
+use Rattle.swc_ast.specs.Tree.{Tree, Trees, nil, cons, span_of}
+use Rattle.swc_bodies.specs.Readings.{Hook, is_async}
+use Rattle.swc_grammar.specs.Symbols.{Props, Prop}
+use Rattle.swc_grammar.specs.Tokens.{is_dots, is_equals, is_get, is_rbrace, is_star, is_word, ends_prop, follows_key}
+use Rattle.swc_grammar.specs.Trees.{to, object_e, listed, items_of, spread_prop_e, cover_e, ident_e}
+use Rattle.swc_grammar.specs.Clean.{Out, first, second, sym, run}
+use Rattle.swc_grammar.specs.Names.{Spelling, may_name}
+use Rattle.swc_grammar.specs.Words.{◌>>=◌, word}
+use Rattle.swc_nodes.specs.Lists.{trees_append}
+use Rattle.swc_productions.specs.declared.kinds.PropKind.{PropKind}
+use Rattle.swc_productions.specs.declared.kinds.PropKind.TheVariants as kind
+use Rattle.swc_productions.specs.Readers.{inside}
+use Rattle.swc_productions.specs.Lists.{eaten, separated, put_before}
+
+-- a name that isn't reserved where it stands, and so may stand for its value too
+abbrev pub open_by : Context → Spelling × List TokenAndSpan → Out Spelling
+open_by c p = if is_reserved_word c p.0.text then None else Some p
+
+unfoldable pub open_name : Context → List TokenAndSpan → Out Spelling
+open_name c ts = word may_name c ts >>= open_by c
+
+-- what a property is, by the tokens that it begins with; of one that begins with a word, by the word and the token behind it
+abbrev pub async_kind : Bool → PropKind
+async_kind is_generator = if is_generator then kind.AsyncGenerator else kind.Async
+
+abbrev pub lone_kind : Bool → Bool → PropKind
+lone_kind of_get of_async = if of_get then kind.Getter else (if of_async then kind.Async else kind.Unfit)
+
+-- by whether the word is `get` or `async`, and by the token behind it
+abbrev pub kind_of : Bool → Bool → Option TokenAndSpan → PropKind
+kind_of of_get of_async u =
+    if at_token ends_prop u then kind.Shorthand else
+    (if at_token is_equals u then kind.Cover else
+    (if at_token follows_key u then kind.Key else
+    (if of_get then kind.Getter else
+    (if of_async then async_kind (at_token is_star u) else kind.Unfit))))
+
+abbrev pub kind_at : Bool → Bool → Token → PropKind
+kind_at of_get of_async t =
+    if ends_prop t then kind.Shorthand else
+    (if is_equals t then kind.Cover else
+    (if follows_key t then kind.Key else
+    (if of_get then kind.Getter else
+    (if of_async then async_kind (is_star t) else kind.Unfit))))
+
+abbrev pub word_kind : Option TokenAndSpan → Option TokenAndSpan → PropKind
+word_kind t u = kind_of (at_token is_get t) (at_token is_async t) u
+
+abbrev pub sign_kind : Option TokenAndSpan → PropKind
+sign_kind t = if at_token is_dots t then kind.Spread else (if at_token is_star t then kind.Generator else kind.Key)
+
+abbrev pub prop_kind : List TokenAndSpan → PropKind
+prop_kind ts =
+    if at_token is_dots (first ts) then kind.Spread else
+    (if at_token is_star (first ts) then kind.Generator else
+    (if at_token is_word (first ts) then word_kind (first ts) (second ts) else kind.Key))
+
+module _ {F C K : Type 0} (hook : Hook F C K) where
+  -- behind the brace at s
+  unfoldable pub object_lit_tail : Span → Context → List TokenAndSpan → Out (Tree F C K)
+  object_lit_tail s c ts = run hook (sym Props) c ts >>= (λ p. Some (object_e (to s (span_of p.0)) (items_of p.0), p.1))
+
+  -- one property, with the comma behind it, or before the brace that closes the list
+  unfoldable pub prop_item : Context → List TokenAndSpan → Out (Tree F C K)
+  prop_item c ts = run hook (sym Prop) c ts >>= (λ p. separated is_rbrace c p.1 >>= (λ q. Some (p.0, q.1)))
+
+  -- behind some properties: those that are left, to where the list is closed; and from the next property on
+  unfoldable pub props_behind : Trees F C K → Context → List TokenAndSpan → Out (Tree F C K)
+  props_behind before c ts = run hook (sym Props) c ts >>= (λ p. Some (put_before before p.0, p.1))
+
+  unfoldable pub props_more : Trees F C K → Context → List TokenAndSpan → Out (Tree F C K)
+  props_more before c ts = prop_item c ts >>= (λ p. props_behind (trees_append before (cons p.0 nil)) c p.1)
+
+  abbrev pub props_by : Trees F C K → Option Span → Context → List TokenAndSpan → Out (Tree F C K)
+  props_by before (Some s) c ts = Some (put_before before (listed s nil), ts)
+  props_by before None c ts = props_more before c ts
+
+  -- behind the dots of a property at s, and from a property on, which the dots begin or not
+  unfoldable pub spread_prop_tail : Span → Context → List TokenAndSpan → Out (Tree F C K)
+  spread_prop_tail s c ts = inside hook c ts >>= (λ p. Some (spread_prop_e s p.0, p.1))
+
+  unfoldable pub prop_plain : Context → List TokenAndSpan → Out (Tree F C K)
+  prop_plain c ts = if at_token is_dots (first ts) then None else run hook (sym Prop) c ts
+
+  abbrev pub prop_by : Option Span → Context → List TokenAndSpan → Out (Tree F C K)
+  prop_by (Some s) c ts = spread_prop_tail s c ts
+  prop_by None c ts = prop_plain c ts
+
+  -- a name with `=` and an expression behind it: behind the name, and behind the `=`
+  unfoldable pub cover_tail : Spelling → Context → List TokenAndSpan → Out (Tree F C K)
+  cover_tail n c ts =
+      inside hook c ts >>= (λ p. Some (cover_e (to n.at (span_of p.0)) (ident_e n.at n.text) p.0, p.1))
+
+  abbrev pub cover_by : Spelling → Option Span → Context → List TokenAndSpan → Out (Tree F C K)
+  cover_by n (Some s) c ts = cover_tail n c ts
+  cover_by n None c ts = None
+
+  unfoldable pub cover_behind : Spelling → Context → List TokenAndSpan → Out (Tree F C K)
+  cover_behind n c ts = eaten is_equals c ts >>= (λ p. cover_by n p.0 c p.1)

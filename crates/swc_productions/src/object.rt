@@ -1,0 +1,558 @@
+// Object literals (ECMA-262, 13.2.5): properties, keys, and the functions of methods (15.4).
+ghost use Rattle.std.specs.Prelude.{◌≡◌, ◌<◌, ◌≤◌, true, false, not, [], Some, OnOk};
+ghost use Rattle.swc_context.specs.Reserved.{is_reserved_word};
+ghost use Rattle.swc_input.specs.Buffer.{to_come, context};
+ghost use Rattle.swc_input.specs.Plain.{plain_token};
+ghost use Rattle.swc_input.specs.Kinds.{at_token};
+ghost use Rattle.swc_ast.specs.Tree.{span_of};
+ghost use Rattle.swc_bodies.specs.Readings.{is_brace};
+ghost use Rattle.swc_grammar.specs.Symbols.{Props, Prop, Key, AfterKey as Behind, Shell};
+ghost use Rattle.swc_grammar.specs.Tokens.{method_scope, method_params, method_block};
+ghost use Rattle.swc_grammar.specs.Parts.{key_lit_of};
+ghost use Rattle.swc_grammar.specs.Grammar as grammar;
+ghost use Rattle.swc_grammar.specs.Trees.{to};
+ghost use Rattle.swc_grammar.specs.Clean.{sym, run};
+ghost use Rattle.swc_nodes.specs.Slots.{expr_part, key_parts};
+ghost use Rattle.swc_nodes.specs.Stands.{count, From};
+ghost use Rattle.swc_productions.specs.Readers.{by_production};
+ghost use Rattle.swc_productions.specs.Properties.{prop_item, spread_prop_tail, prop_plain, open_name, cover_tail};
+ghost use Rattle.swc_productions.specs.Keys.{is_key_lit, plain_key, computed_key, parens, params, method_body};
+ghost use Rattle.swc_productions.specs.Methods.{prop_behind, method_behind, getter_behind, after_colon};
+ghost use Rattle.swc_productions.specs.Methods.{method_tail, getter_tail};
+ghost use Rattle.swc_productions.specs.Parsing.{seen, Refuses, Checked, Parses, ParsesAlone, Produces, itself, tree_of};
+ghost use Rattle.swc_productions.specs.Parsing.{key_of, key_at, shell_of, shell_at, after_of, after_at};
+ghost use Rattle.swc_productions.specs.Parsing.{ident_spelling, prop_of, prop_at, props_of, props_at};
+
+use crate::kinds::{PropKind, is_word, prop_kind};
+use crate::moves::{
+    Sign, add, bump, eat, emit_err, expect, look, made, parse_ident_name, require_cur, separate,
+    set_ctx, skip, unexpected,
+};
+use crate::productions::Productions;
+use std::alloc::Global;
+use swc_ast::function::Function;
+use swc_ast::ident::{Ident, IdentName};
+use swc_ast::lit::{BigInt, Num, Str};
+use swc_ast::prop::{AssignProp, ComputedPropName, PropName, SpreadElement};
+use swc_ast::spanned::Spanned;
+use swc_bodies::bodies::Bodies;
+use swc_context::context::Context;
+use swc_context::error::{Error, PResult, SyntaxError};
+use swc_context::span::Span;
+use swc_input::buffer::Buffer;
+use swc_input::token::Token;
+use swc_input::tokens::Tokens;
+use swc_nodes::node::{ExprId, PatId, PropNode};
+use swc_nodes::nodes::Nodes;
+
+impl<I: Tokens, B: Bodies<I>> Productions<I, B> {
+    /// An object literal (ECMA-262, 13.2.5).
+    #[cycle(productions)]
+    pub(crate) fn parse_object_lit(&mut self) -> PResult<ExprId>
+        requires { at_token is_brace (seen self.old.input) ≡ true }
+        ensures { Produces I.model B.is_faithful itself tree_of (by_production B.forms (λ c. grammar.object-lit))
+            (count self.old.nodes) self.old result self.new }
+    {
+        let start = self.input.cur_span().lo;
+        skip(&mut self.input);
+        let (props, end) = self.parse_props()?;
+        let node = self.nodes.object_lit(start, end.hi, props);
+        made(&self.input, node)
+    }
+
+    /// The properties of an object literal, and the brace that closes it, whose place is answered too.
+    #[cycle(productions)]
+    fn parse_props(&mut self) -> PResult<(Vec<PropNode<B::Block>>, Span)>
+        ensures { Produces I.model B.is_faithful props_of props_at (run B.forms (sym Props))
+            (count self.old.nodes) self.old result self.new }
+    {
+        let mut props = Vec::new(self.alloc);
+        loop {
+            match eat(&mut self.input, Sign::RBrace)? {
+                Some(end) => return Ok((props, end)),
+                None => {}
+            }
+            let prop = self.parse_prop_item()?;
+            add(&self.input, &mut props, prop)?;
+        }
+    }
+
+    /// A property of an object literal, and the comma behind it; none stands before the brace.
+    #[cycle(productions)]
+    fn parse_prop_item(&mut self) -> PResult<PropNode<B::Block>>
+        ensures { Produces I.model B.is_faithful prop_of prop_at (prop_item B.forms)
+            (count self.old.nodes) self.old result self.new }
+    {
+        let prop = self.parse_object_prop()?;
+        separate(&mut self.input, Sign::RBrace)?;
+        Ok(prop)
+    }
+
+    /// A property of an object literal (ECMA-262, 13.2.5).
+    #[cycle(productions)]
+    fn parse_object_prop(&mut self) -> PResult<PropNode<B::Block>>
+        ensures { Produces I.model B.is_faithful prop_of prop_at (run B.forms (sym Prop))
+            (count self.old.nodes) self.old result self.new }
+    {
+        match eat(&mut self.input, Sign::DotDotDot)? {
+            Some(dots) => self.parse_spread_prop(dots),
+            None => self.parse_plain_prop(),
+        }
+    }
+
+    /// A property that no dots begin, by what it is.
+    #[cycle(productions)]
+    fn parse_plain_prop(&mut self) -> PResult<PropNode<B::Block>>
+        ensures { Produces I.model B.is_faithful prop_of prop_at (prop_plain B.forms)
+            (count self.old.nodes) self.old result self.new }
+    {
+        look(&mut self.input)?;
+        match prop_kind(&mut self.input)? {
+            PropKind::Shorthand => self.parse_shorthand_prop(),
+            PropKind::Cover => self.parse_cover_prop(),
+            PropKind::Key => self.parse_key_prop(),
+            PropKind::Generator => self.parse_generator_method(),
+            PropKind::Async => self.parse_async_method(),
+            PropKind::AsyncGenerator => self.parse_async_generator_method(),
+            PropKind::Getter => self.parse_getter(),
+            PropKind::Unfit => Err(unfit_prop(self.alloc, &mut self.input)),
+            PropKind::Spread => Err(unexpected(
+                &mut self.input,
+                SyntaxError::Unexpected("property"),
+            )),
+        }
+    }
+
+    /// What stands behind the dots of a property (ECMA-262, 13.2.5): an assignment expression, in which `in` counts as
+    /// an operator.
+    #[cycle(productions)]
+    fn parse_spread_prop(&mut self, dots: Span) -> PResult<PropNode<B::Block>>
+        ensures { Produces I.model B.is_faithful prop_of prop_at (spread_prop_tail B.forms dots)
+            (count self.old.nodes) self.old result self.new }
+    {
+        let expr = self.parse_assignment_expr_with_in()?;
+        let span = span_to(&self.nodes, dots, expr);
+        Ok(PropNode::Spread(SpreadElement {
+            span,
+            dot3_token: dots,
+            expr,
+        }))
+    }
+
+    /// A name alone as a property, whose value it names too (ECMA-262, 13.2.5). One that is reserved where it stands is
+    /// recorded, at its place.
+    fn parse_shorthand_prop(&mut self) -> PResult<PropNode<B::Block>>
+        ensures { Produces I.model B.is_faithful prop_of prop_at (by_production B.forms (λ c. grammar.prop-short))
+            (count self.old.nodes) self.old result self.new }
+    {
+        let name = parse_open_name(self.alloc, &mut self.input)?;
+        Ok(PropNode::Shorthand(name))
+    }
+
+    /// A name with `=` and an expression behind it, as a property (ECMA-262, 13.2.5). A name that is reserved where it
+    /// stands is recorded, at its place.
+    #[cycle(productions)]
+    fn parse_cover_prop(&mut self) -> PResult<PropNode<B::Block>>
+        ensures { Produces I.model B.is_faithful prop_of prop_at (by_production B.forms (λ c. grammar.prop-cover))
+            (count self.old.nodes) self.old result self.new }
+    {
+        let key = parse_open_name(self.alloc, &mut self.input)?;
+        match eat(&mut self.input, Sign::Assign)? {
+            Some(_) => self.parse_cover_value(key),
+            None => Err(unexpected(&mut self.input, SyntaxError::Expected("="))),
+        }
+    }
+
+    /// What stands behind the `=` of such a property: an assignment expression, in which `in` counts as an operator.
+    #[cycle(productions)]
+    fn parse_cover_value(&mut self, key: Ident) -> PResult<PropNode<B::Block>>
+        ensures { Produces I.model B.is_faithful prop_of prop_at (cover_tail B.forms (ident_spelling key))
+            (count self.old.nodes) self.old result self.new }
+    {
+        let value = self.parse_assignment_expr_with_in()?;
+        let span = span_to(&self.nodes, key.span, value);
+        Ok(PropNode::Assign(AssignProp { span, key, value }))
+    }
+
+    /// A key, and behind it `:` and a value, or the function of a method (ECMA-262, 13.2.5 and 15.4).
+    #[cycle(productions)]
+    fn parse_key_prop(&mut self) -> PResult<PropNode<B::Block>>
+        ensures { Produces I.model B.is_faithful prop_of prop_at (by_production B.forms (λ c. grammar.prop-key))
+            (count self.old.nodes) self.old result self.new }
+    {
+        let key = self.parse_prop_name()?;
+        let after = self.parse_after_key()?;
+        Ok(key_prop(key, after))
+    }
+
+    /// What stands behind a key: `:` and a value, in which `in` counts as an operator, or the function of a method.
+    ///
+    /// Another token is refused as `Unexpected`, at that token, and the end as `Eof`.
+    #[cycle(productions)]
+    fn parse_after_key(&mut self) -> PResult<AfterKey<B::Block>>
+        ensures { Produces I.model B.is_faithful after_of after_at (run B.forms (sym Behind))
+            (count self.old.nodes) self.old result self.new }
+    {
+        match eat(&mut self.input, Sign::Colon)? {
+            Some(_) => self.parse_key_value(),
+            None => self.parse_key_method(),
+        }
+    }
+
+    /// The value behind a key and `:`.
+    #[cycle(productions)]
+    fn parse_key_value(&mut self) -> PResult<AfterKey<B::Block>>
+        ensures { Produces I.model B.is_faithful after_of after_at (after_colon B.forms)
+            (count self.old.nodes) self.old result self.new }
+    {
+        let value = self.parse_assignment_expr_with_in()?;
+        let span = self.nodes.span(value);
+        Ok(AfterKey::Value { span, value })
+    }
+
+    /// The function of a method behind a key.
+    fn parse_key_method(&mut self) -> PResult<AfterKey<B::Block>>
+        ensures { Produces I.model B.is_faithful after_of after_at (run B.forms (sym (Shell false false)))
+            (count self.old.nodes) self.old result self.new }
+    {
+        look(&mut self.input)?;
+        if !self.is_lparen() {
+            return Err(unexpected(&mut self.input, SyntaxError::Unexpected("identifier")));
+        }
+        let function = self.parse_shell(false, false)?;
+        Ok(AfterKey::Method(function))
+    }
+
+    /// A method that is a generator (ECMA-262, 15.5).
+    #[cycle(productions)]
+    fn parse_generator_method(&mut self) -> PResult<PropNode<B::Block>>
+        ensures { Produces I.model B.is_faithful prop_of prop_at (by_production B.forms (λ c. grammar.prop-generator))
+            (count self.old.nodes) self.old result self.new }
+    {
+        let start = expect(&mut self.input, Sign::Star)?;
+        self.parse_method(start, false, true)
+    }
+
+    /// A method that is async (ECMA-262, 15.8).
+    #[cycle(productions)]
+    fn parse_async_method(&mut self) -> PResult<PropNode<B::Block>>
+        ensures { Produces I.model B.is_faithful prop_of prop_at (by_production B.forms (λ c. grammar.prop-async))
+            (count self.old.nodes) self.old result self.new }
+    {
+        let start = expect(&mut self.input, Sign::Async)?;
+        self.parse_method(start, true, false)
+    }
+
+    /// A method that is an async generator (ECMA-262, 15.6).
+    #[cycle(productions)]
+    fn parse_async_generator_method(&mut self) -> PResult<PropNode<B::Block>>
+        ensures { Produces I.model B.is_faithful prop_of prop_at
+            (by_production B.forms (λ c. grammar.prop-async-generator))
+            (count self.old.nodes) self.old result self.new }
+    {
+        let start = expect(&mut self.input, Sign::Async)?;
+        expect(&mut self.input, Sign::Star)?;
+        self.parse_method(start, true, true)
+    }
+
+    /// The key and the function of a method that begins at the place.
+    #[cycle(productions)]
+    fn parse_method(
+        &mut self,
+        start: Span,
+        is_async: bool,
+        is_generator: bool,
+    ) -> PResult<PropNode<B::Block>>
+        ensures { Produces I.model B.is_faithful prop_of prop_at (method_tail B.forms start is_async is_generator)
+            (count self.old.nodes) self.old result self.new }
+    {
+        let key = self.parse_prop_name()?;
+        let function = self.parse_shell(is_async, is_generator)?;
+        Ok(method_prop(start, key, function))
+    }
+
+    /// A getter (ECMA-262, 15.4).
+    #[cycle(productions)]
+    fn parse_getter(&mut self) -> PResult<PropNode<B::Block>>
+        ensures { Produces I.model B.is_faithful prop_of prop_at (by_production B.forms (λ c. grammar.prop-getter))
+            (count self.old.nodes) self.old result self.new }
+    {
+        let start = expect(&mut self.input, Sign::Get)?;
+        self.parse_getter_method(start)
+    }
+
+    /// The key and the function of a getter that begins at the place.
+    #[cycle(productions)]
+    fn parse_getter_method(&mut self, start: Span) -> PResult<PropNode<B::Block>>
+        ensures { Produces I.model B.is_faithful prop_of prop_at (getter_tail B.forms start)
+            (count self.old.nodes) self.old result self.new }
+    {
+        let key = self.parse_prop_name()?;
+        let function = self.parse_shell(false, false)?;
+        Ok(getter_prop(start, key, function))
+    }
+
+    /// A property's key (ECMA-262, 13.2.5): any word, a string, a number, a big integer, or an expression in brackets.
+    ///
+    /// Another token is refused as `Unexpected`, at that token, and the end as `Eof`; a missing `]` as `Expected`.
+    #[cycle(productions)]
+    pub(crate) fn parse_prop_name(&mut self) -> PResult<PropName<ExprId>>
+        ensures { Produces I.model B.is_faithful key_of key_at (run B.forms (sym Key))
+            (count self.old.nodes) self.old result self.new }
+    {
+        match eat(&mut self.input, Sign::LBracket)? {
+            Some(start) => self.parse_computed_prop_name(start),
+            None => self.parse_plain_prop_name(),
+        }
+    }
+
+    /// What stands behind the bracket of a computed key: an expression in which `in` counts as an operator, and the
+    /// bracket that closes the key.
+    #[cycle(productions)]
+    fn parse_computed_prop_name(&mut self, start: Span) -> PResult<PropName<ExprId>>
+        ensures { Produces I.model B.is_faithful key_of key_at (computed_key B.forms start)
+            (count self.old.nodes) self.old result self.new }
+    {
+        let expr = self.parse_assignment_expr_with_in()?;
+        let end = expect(&mut self.input, Sign::RBracket)?;
+        let span = Span::new(start.lo, end.hi);
+        Ok(PropName::Computed(ComputedPropName { span, expr }))
+    }
+
+    /// A key that is no expression in brackets.
+    fn parse_plain_prop_name(&mut self) -> PResult<PropName<ExprId>>
+        ensures { Produces I.model B.is_faithful key_of key_at plain_key
+            (count self.old.nodes) self.old result self.new }
+    {
+        require_cur(&mut self.input)?;
+        if is_word(&self.input) {
+            let name = parse_ident_name(self.alloc, &mut self.input)?;
+            return Ok(PropName::Ident(name));
+        }
+        if !self.is_key_lit() {
+            let expected = "identifier, string literal, numeric literal or [ for the computed key";
+            return Err(unexpected(&mut self.input, SyntaxError::Unexpected(expected)));
+        }
+        let token = bump(&mut self.input);
+        let span = self.input.prev_span();
+        Ok(self.key_lit_of(token, span))
+    }
+
+    /// The key that a literal's token is.
+    fn key_lit_of(&self, token: Token, span: Span) -> PropName<ExprId>
+        requires { is_key_lit token ≡ true }
+        ensures literal { key_lit_of (plain_token token) span ≡ Some (key_at self.now.nodes result) }
+        ensures parts { key_parts result ≡ [] }
+    {
+        match token {
+            Token::Str { value, raw } => PropName::Str(Str { span, value, raw }),
+            Token::Num { raw } => PropName::Num(Num { span, raw }),
+            Token::BigInt { raw } => PropName::BigInt(BigInt { span, raw }),
+            _ => unreachable!(),
+        }
+    }
+
+    /// The function of a method, from `(` on (ECMA-262, 15.4): no parameters so far, and a block, which the hook reads
+    /// in the context of the method's body. It spans what was read, so without the key.
+    ///
+    /// A missing `(`, `)` or `{` is refused as `Expected`, at the current token, and the end as `Eof`; what the hook
+    /// refuses is passed on. The context is that from before, also after a refusal.
+    pub(crate) fn parse_shell(
+        &mut self,
+        is_async: bool,
+        is_generator: bool,
+    ) -> PResult<Function<PatId, B::Block>>
+        ensures { Produces I.model B.is_faithful shell_of shell_at
+            (run B.forms (sym (Shell is_async is_generator)))
+            (count self.old.nodes) self.old result self.new }
+    {
+        let start = parse_params(&mut self.input, is_async, is_generator)?;
+        let body = self.parse_method_block(is_async, is_generator)?;
+        let span = Span::new(start.lo, body.span().hi);
+        let params = Vec::new(self.alloc);
+        Ok(Function {
+            span,
+            params,
+            is_async,
+            is_generator,
+            body,
+        })
+    }
+
+    /// The block of a method, in the context of its body.
+    fn parse_method_block(&mut self, is_async: bool, is_generator: bool) -> PResult<B::Block>
+        ensures reads { Parses I.model B.is_faithful (λ v. v) (method_body B.forms is_async is_generator)
+            self.old.input result self.new.input }
+        ensures nodes { self.new.nodes ≡ self.old.nodes }
+    {
+        let ctx = self.input.get_ctx();
+        set_ctx(&mut self.input, method_block(is_async, is_generator, ctx));
+        let block = self.parse_block();
+        set_ctx(&mut self.input, ctx);
+        block
+    }
+
+    /// A block, which the hook reads.
+    fn parse_block(&mut self) -> PResult<B::Block>
+        ensures reads { Parses I.model B.is_faithful (λ v. v) B.forms.block self.old.input result self.new.input }
+        ensures nodes { self.new.nodes ≡ self.old.nodes }
+    {
+        look(&mut self.input)?;
+        if !self.is_lbrace() {
+            return Err(unexpected(&mut self.input, SyntaxError::Expected("{")));
+        }
+        self.bodies.block(&mut self.input)
+    }
+}
+
+/// The parentheses of a method's parameters, of which there are none so far, in their context. Answers where the first
+/// stands.
+fn parse_params<I: Tokens>(
+    input: &mut Buffer<I>,
+    is_async: bool,
+    is_generator: bool,
+) -> PResult<Span>
+    ensures { ParsesAlone I.model (λ s. s) (params is_async is_generator) input.old result input.new }
+{
+    let ctx = input.get_ctx();
+    set_ctx(input, method_params(is_async, is_generator, ctx));
+    let start = parse_parens(input);
+    set_ctx(input, ctx);
+    start
+}
+
+/// Two parentheses with nothing between them. Answers where the first stands.
+fn parse_parens<I: Tokens>(input: &mut Buffer<I>) -> PResult<Span>
+    ensures { ParsesAlone I.model (λ s. s) parens input.old result input.new }
+{
+    let start = expect(input, Sign::LParen)?;
+    expect(input, Sign::RParen)?;
+    Ok(start)
+}
+
+/// The context of a method, wherever in it.
+fn method_scope(is_async: bool, is_generator: bool, ctx: Context) -> Context
+    ensures { result ≡ method_scope is_async is_generator ctx }
+{
+    Context {
+        in_async: is_async,
+        in_generator: is_generator,
+        in_class_field: false,
+        inside_non_arrow_function_scope: true,
+        allow_direct_super: true,
+        ..ctx
+    }
+}
+
+/// The context of a method's parameters.
+fn method_params(is_async: bool, is_generator: bool, ctx: Context) -> Context
+    ensures { result ≡ method_params is_async is_generator ctx }
+{
+    Context {
+        in_function: false,
+        in_parameters: true,
+        ..method_scope(is_async, is_generator, ctx)
+    }
+}
+
+/// The context of a method's body.
+fn method_block(is_async: bool, is_generator: bool, ctx: Context) -> Context
+    ensures { result ≡ method_block is_async is_generator ctx }
+{
+    Context {
+        in_function: true,
+        in_parameters: false,
+        ..method_scope(is_async, is_generator, ctx)
+    }
+}
+
+/// A name that stands for its value too (ECMA-262, 13.2.5.1). One that is reserved where it stands is recorded, at its
+/// place.
+fn parse_open_name<I: Tokens>(alloc: Global, input: &mut Buffer<I>) -> PResult<Ident>
+    ensures parses { ParsesAlone I.model ident_spelling open_name input.old result input.new }
+    ensures falls { OnOk result (to_come I.model input.new < to_come I.model input.old) }
+{
+    let name = parse_ident_name(alloc, input)?;
+    check_open_name(input, &name)?;
+    Ok(Ident {
+        span: name.span,
+        sym: name.sym,
+    })
+}
+
+/// Records a name that is reserved where it stands.
+fn check_open_name<I: Tokens>(input: &mut Buffer<I>, name: &IdentName) -> PResult<()>
+    ensures checks { Checked I.model
+        (not (is_reserved_word (context I.model input.old) name.now.sym)) input.old result input.new }
+    ensures falls { OnOk result (to_come I.model input.new ≤ to_come I.model input.old) }
+{
+    if input.get_ctx().is_reserved_word(&name.sym) {
+        let kind = SyntaxError::ReservedWordInObjShorthandOrPat;
+        return emit_err(input, name.span, kind);
+    }
+    Ok(())
+}
+
+/// From a place to the end of an expression.
+fn span_to<F: Spanned + Drop, C: Spanned + Drop, K: Spanned + Drop>(
+    nodes: &Nodes<F, C, K>,
+    start: Span,
+    end: ExprId,
+) -> Span
+    requires { From 0 nodes.now (expr_part end) }
+    ensures { result ≡ to start (span_of (tree_of nodes.now end)) }
+{
+    Span::new(start.lo, nodes.span(end).hi)
+}
+
+/// What stands behind a key.
+#[derive(Drop)]
+pub(crate) enum AfterKey<K> {
+    /// A value, and its place.
+    Value { span: Span, value: ExprId },
+    /// The function of a method.
+    Method(Function<PatId, K>),
+}
+
+/// A property of a key and of what stands behind it.
+fn key_prop<K>(key: PropName<ExprId>, after: AfterKey<K>) -> PropNode<K>
+    ensures { result ≡ prop_behind key after }
+{
+    let start = key.span();
+    match after {
+        AfterKey::Value { span: at, value } => {
+            let span = Span::new(start.lo, at.hi);
+            PropNode::KeyValue { span, key, value }
+        }
+        AfterKey::Method(function) => method_prop(start, key, function),
+    }
+}
+
+/// A method that begins at the place: its function spans all of it.
+fn method_prop<K>(start: Span, key: PropName<ExprId>, function: Function<PatId, K>) -> PropNode<K>
+    ensures { result ≡ method_behind start key function }
+{
+    let mut function = function;
+    function.span = Span::new(start.lo, function.span.hi);
+    PropNode::Method { key, function }
+}
+
+/// A getter that begins at the place: of its function it has the block.
+fn getter_prop<K>(start: Span, key: PropName<ExprId>, function: Function<PatId, K>) -> PropNode<K>
+    ensures { result ≡ getter_behind start key function }
+{
+    let span = Span::new(start.lo, function.span.hi);
+    let body = function.body;
+    PropNode::Getter { span, key, body }
+}
+
+/// The refusal of what stands behind a word that is a property's, at the token that doesn't fit.
+fn unfit_prop<I: Tokens>(alloc: Global, input: &mut Buffer<I>) -> Error
+    ensures refuses { Refuses I.model input.old result input.new }
+{
+    let expected = "... , *,  (, [, :, , ?, = or an identifier";
+    match parse_ident_name(alloc, input) {
+        Ok(_) => unexpected(input, SyntaxError::Unexpected(expected)),
+        Err(error) => error,
+    }
+}
