@@ -304,7 +304,7 @@ fn calls_of_the_buffer(rt: HostRuntime) -> Result<(), Fail> {
     for line in CALLS.lines() {
         let row = row_of(line).ok_or(line)?;
         let found = found(rt.alloc(), row)?;
-        expect(&rt, line, &found, row.answer);
+        expect(line, &found, row.answer)?;
     }
     Ok(())
 }

@@ -224,9 +224,9 @@ fn run<I: Tokens>(alloc: Global, source: I, calls: &str, numbers: bool) -> Resul
 fn calls_of_the_parser(rt: HostRuntime) -> Result<(), Fail> {
     for line in CALLS.lines() {
         let row = row_of(line).ok_or(line)?;
-        expect(&rt, line, &found(rt.alloc(), row, false)?, row.answer);
+        expect(line, &found(rt.alloc(), row, false)?, row.answer)?;
         if !row.calls.contains("nodes") {
-            expect(&rt, line, &found(rt.alloc(), row, true)?, row.answer);
+            expect(line, &found(rt.alloc(), row, true)?, row.answer)?;
         }
     }
     Ok(())

@@ -192,7 +192,7 @@ fn runs_of_the_program(rt: HostRuntime) -> Result<(), Fail> {
         let row = row_of(line).ok_or(line)?;
         let wanted = unescaped(rt.alloc(), row.answer)?;
         let (found, length) = ran(rt.alloc(), row)?;
-        expect(&rt, line, &found, &wanted);
+        expect(line, &found, &wanted)?;
         fails_without_room(&rt, rt.alloc(), row, length)?;
     }
     Ok(())

@@ -209,7 +209,7 @@ fn words_and_operators(rt: HostRuntime) -> Result<(), Fail> {
             text: row.text,
         };
         let found = answers(rt.alloc(), &mut said, row.calls)?;
-        expect(&rt, line, &found, row.answer);
+        expect(line, &found, row.answer)?;
     }
     Ok(())
 }

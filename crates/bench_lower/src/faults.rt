@@ -77,7 +77,7 @@ fn printed_faults(rt: HostRuntime) -> Result<(), Fail> {
     for line in FAULTS.lines() {
         let (text, printed) = line.split_once(" | ").ok_or(line)?;
         let wanted = format!(in rt.alloc(); "{printed}; {printed}")?;
-        expect(&rt, line, &found(rt.alloc(), text)?, &wanted);
+        expect(line, &found(rt.alloc(), text)?, &wanted)?;
     }
     Ok(())
 }

@@ -333,7 +333,7 @@ fn texts_with_their_tokens(rt: HostRuntime) -> Result<(), Fail> {
     for line in TOKENS.lines() {
         let (text, wanted) = line.split_once(" | ").ok_or(line)?;
         let bytes = bytes_of(rt.alloc(), text)?;
-        expect(&rt, line, &read(rt.alloc(), &bytes)?, wanted);
+        expect(line, &read(rt.alloc(), &bytes)?, wanted)?;
     }
     Ok(())
 }
@@ -344,7 +344,7 @@ fn each_sign(rt: HostRuntime) -> Result<(), Fail> {
         let (kind, texts) = line.split_once(": ").ok_or(line)?;
         for text in texts.split(' ') {
             let wanted = format!(in rt.alloc(); "{kind} {text} 0..{}", text.len())?;
-            expect(&rt, line, &read(rt.alloc(), text.as_bytes())?, &wanted);
+            expect(line, &read(rt.alloc(), text.as_bytes())?, &wanted)?;
         }
     }
     Ok(())

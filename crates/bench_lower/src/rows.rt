@@ -1,6 +1,5 @@
 // Rows of tables: what is called, in which setting, on which text, and what it has to answer.
 use std::alloc::{AllocError, Global};
-use std::process::Abort;
 use std::test::Fail;
 
 /// A row of a table, as it is written: `calls | setting | text | answer`.
@@ -59,6 +58,9 @@ pub fn answers(alloc: Global, subject: &mut impl Subject, calls: &str) -> Result
 }
 
 /// What was found has to be what is wanted.
-pub fn expect(rt: &impl Abort, line: &str, found: &str, wanted: &str) {
-    assert_eq!(rt; found, wanted, "in: {line}");
+pub fn expect(line: &str, found: &str, wanted: &str) -> Result<(), Fail> {
+    if found == wanted {
+        return Ok(());
+    }
+    Err(Fail::new(format_args!("found {found:?} and not {wanted:?}, in: {line}")))
 }
