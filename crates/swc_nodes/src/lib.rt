@@ -9,4 +9,5 @@ pub mod apart;
 pub mod making;
 pub mod node;
 pub mod nodes;
+pub mod renumbering;
 pub mod shape;

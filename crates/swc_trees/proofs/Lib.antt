@@ -1,7 +1,9 @@
 pub mod Agreed
 pub mod Assembled
 pub mod Leaves
+pub mod Lighter
 pub mod Puts
 pub mod Rebuilt
+pub mod Splits
 pub mod Taken
 pub mod Weights

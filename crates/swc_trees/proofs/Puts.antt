@@ -1,49 +1,106 @@
--- Parts are put in from the first on: each stays as those behind it are appended.
+-- Trees are put in from the first on: each stays as those behind it are appended. A node whose parts are places in a list gets the numbers of those that were put in.
 use Rattle.std.proofs.Common.{◌≡◌, ℕ, suc, ◌+◌, ◌<◌, ◌≤◌, ◌≢◌, true, List, [], ◌∷◌, ◌++◌, map, take, length, get_or, Result, Ok, Err, IfOk, refl, sym, ap, subst, ◌∙◌, arith, append_assoc}
-use Rattle.std.proofs.lemmas.List.{append-nil, map-append, take_more, take_all, get_or-set_other, length-set}
+use Rattle.std.proofs.lemmas.List.{append-nil, map-append, length-append, length-map, length-take-le, take_more, take_all, get_or-set_other, length-set}
 use Rattle.std.proofs.Math.ListN.{set}
+use Rattle.std.proofs.Math.Seq.{get_or-append_seam}
+use Rattle.std.proofs.lemmas.Bool.{le-leb}
 use Rattle.std.specs.Result.{IsErr}
 use Rattle.std.specs.declared.alloc.AllocError.{AllocError}
-use Rattle.swc_ast.specs.Tree.{Tree, nil, cons, trees}
+use Rattle.std.specs.declared.alloc.Global.{Global}
+use Rattle.std.specs.declared.vec.Vec.{Vec}
+use Rattle.swc_context.specs.declared.span.Span.{Span}
+use Rattle.swc_ast.specs.Parts.{no_tree}
+use Rattle.swc_ast.specs.Tree.{Tree}
 use Rattle.swc_ast.specs.declared.spanned.Spanned.{Ghosts}
 use Rattle.swc_nodes.specs.NodeTree.{node_tree}
+use Rattle.swc_nodes.specs.Renumbering.{given, with_given, Renumbered}
 use Rattle.swc_nodes.specs.Seats.{floor, chain}
-use Rattle.swc_nodes.specs.Slots.{Part, View, Form, target_expr, other_expr, target_pat, other_pat, pat, pattern, slots, form, view_ok, flat}
-use Rattle.swc_nodes.specs.Stands.{count, seat_at, tree_at, first_at, Apart, From, Grows, Added, Made}
+use Rattle.swc_nodes.specs.Slots.{Part, View, slots, form, view_ok}
+use Rattle.swc_nodes.specs.Stands.{count, seat_at, tree_at, Apart, From, Grows, Added, Made}
 use Rattle.swc_nodes.specs.declared.node.Node.{Node}
 use Rattle.swc_nodes.specs.declared.nodes.Nodes.{Nodes}
 use Rattle.swc_nodes.proofs.Chains.{both_true, chain-bound, chain-both, chain-down, chain-same, floor-above}
 use Rattle.swc_nodes.proofs.Held.{added-made, apart-from, from-apart, from-down}
 use Rattle.swc_nodes.proofs.Standing.{grows-same, grows-then, grows-count, seat-later}
-use Rattle.std.proofs.lemmas.Bool.{le-leb}
-use Rattle.std.specs.declared.alloc.Global.{Global}
-use Rattle.std.specs.declared.vec.Vec.{Vec}
-use Rattle.swc_trees.proofs.Agreed.{flat-append, agrees-first, agrees-second, agrees-self}
+use Rattle.swc_trees.proofs.Agreed.{agrees-first, agrees-second, agrees-self}
+use Rattle.swc_trees.proofs.Splits.{map-more}
+use Rattle.swc_trees.proofs.Lighter.{weights, parts-lighter}
 use Rattle.swc_trees.proofs.Weights.{weight, weight_of, weight-item}
+use Rattle.swc_trees.specs.Building.{built_tree}
 use Rattle.swc_trees.specs.Moving.{Agrees, IsNode, Put, PutsIn}
+use Rattle.swc_trees.specs.Splitting.{part, built_view, places, numbered, AreAt, Split, SplitsTo}
+use Rattle.swc_trees.specs.declared.built.Built.{Built}
 
-flat-more : {X Y : Type 0} (f : X → List Y) (xs : List X) (x : X) → flat f (xs ++ x ∷ []) ≡ flat f xs ++ f x
-flat-more f xs x = flat-append f xs (x ∷ []) ∙ ap (λ v. flat f xs ++ v) (append-nil (f x))
+-- the number at its place in a list
+given-here : (pre : List ℕ) (i : ℕ) (is : List ℕ) → given (pre ++ i ∷ is) (length pre) ≡ i
+given-here pre i is = get_or-append_seam pre i is (length pre)
 
-map-more : {X Y : Type 0} (f : X → Y) (xs : List X) (i : ℕ) (d : X) → i < length xs → map f (take (i + 1) xs) ≡ map f (take i xs) ++ f (get_or xs i d) ∷ []
-map-more f xs i d h = ap (map f) (take_more xs i d h) ∙ map-append f (take i xs) (get_or xs i d ∷ [])
+-- numbers of the trees of two lists
+numbered-append : (vs ws : List View) (is js : List ℕ) → length is ≡ length vs → numbered (vs ++ ws) (is ++ js) ≡ numbered vs is ++ numbered ws js
+numbered-append [] ws [] js e = refl
+numbered-append [] ws (i ∷ is) js e = absurd (omega arith)
+numbered-append (v ∷ vs) ws [] js e = absurd (omega arith)
+numbered-append (v ∷ vs) ws (i ∷ is) js e = ap (λ w. part v i ∷ w) (numbered-append vs ws is js (omega arith))
 
--- what is read of several values, each of which is what stands there
-pub read-two : {A B R : Type 0} (f : A → B → R) {a u : A} {b v : B} → a ≡ u → b ≡ v → f a b ≡ f u v
-read-two f {u = u} {b = b} d e = ap (λ w. f w b) d ∙ ap (λ w. f u w) e
+-- places, with the numbers at them
+places-given : {F C K : Type 0} (bs : List (Built F C K)) (pre is : List ℕ) → length is ≡ length bs → map (with_given (pre ++ is)) (places (length pre) bs) ≡ numbered (map built_view bs) is
+places-given [] pre [] e = refl
+places-given [] pre (i ∷ is) e = absurd (omega arith)
+places-given (b ∷ bs) pre [] e = absurd (omega arith)
+places-given (b ∷ bs) pre (i ∷ is) e =
+    let l : length (pre ++ i ∷ []) ≡ suc (length pre) = length-append pre (i ∷ []) ∙ omega arith in
+    let a : (pre ++ i ∷ []) ++ is ≡ pre ++ i ∷ is = append_assoc pre (i ∷ []) is in
+    ap (λ v. part (built_view b) v ∷ map (with_given (pre ++ i ∷ is)) (places (suc (length pre)) bs)) (given-here pre i is)
+    ∙ ap (λ v. part (built_view b) i ∷ v) (ap (λ v. map (with_given (pre ++ i ∷ is)) (places v bs)) (sym l) ∙ ap (λ v. map (with_given v) (places (length (pre ++ i ∷ [])) bs)) (sym a) ∙ places-given bs (pre ++ i ∷ []) is (omega arith))
 
-pub read-three : {A B C R : Type 0} (f : A → B → C → R) {a u : A} {b v : B} {c w : C} → a ≡ u → b ≡ v → c ≡ w → f a b c ≡ f u v w
-read-three f {u = u} {v = v} {c = c} d e g = read-two (λ x y. f x y c) d e ∙ ap (λ x. f u v x) g
+module _ {F C K : Type 0} (fun_at : F → Span) (class_at : C → Span) (block_at : K → Span) where
+  abbrev tree : Built F C K → Tree F C K
+  tree = built_tree fun_at class_at block_at
 
-pub read-four : {A B C D R : Type 0} (f : A → B → C → D → R) {a p : A} {b q : B} {c r : C} {d s : D} → a ≡ p → b ≡ q → c ≡ r → d ≡ s → f a b c d ≡ f p q r s
-read-four f {p = p} {q = q} {r = r} {d = d} e g h k = read-three (λ x y z. f x y z d) e g h ∙ ap (λ x. f p q r x) k
+  -- what is given for numbers is what their trees stand for, and so for the places of those
+  are-given : (at : ℕ → Tree F C K) (bs : List (Built F C K)) (pre is : List ℕ) → map at is ≡ map tree bs → AreAt fun_at class_at block_at (λ k. at (given (pre ++ is) k)) (length pre) bs
+  are-given at [] pre is e = tt
+  are-given at (b ∷ bs) pre [] e = cc
+  are-given at (b ∷ bs) pre (i ∷ is) e =
+      let d : at i ≡ tree b = cc in
+      let f : map at is ≡ map tree bs = cc in
+      let l : length (pre ++ i ∷ []) ≡ suc (length pre) = length-append pre (i ∷ []) ∙ omega arith in
+      let a : (pre ++ i ∷ []) ++ is ≡ pre ++ i ∷ is = append_assoc pre (i ∷ []) is in
+      (ap at (given-here pre i is) ∙ d, subst (λ v. AreAt fun_at class_at block_at (λ k. at (given (pre ++ i ∷ is) k)) v bs) l (subst (λ v. AreAt fun_at class_at block_at (λ k. at (given v k)) (length (pre ++ i ∷ [])) bs) a (are-given at bs (pre ++ i ∷ []) is f)))
 
--- an array or object pattern is a pattern
-pattern-pat : (f : Form) → view_ok pattern f ≡ true → view_ok pat f ≡ true
-pattern-pat target_expr h = cc
-pattern-pat other_expr h = cc
-pattern-pat target_pat h = refl
-pattern-pat other_pat h = cc
+  -- what trees stand for, by their places
+  abbrev at_place : List (Built F C K) → ℕ → Tree F C K
+  at_place bs k = get_or (map tree bs) k no_tree
+
+  are-at-place : (pre bs : List (Built F C K)) → AreAt fun_at class_at block_at (at_place (pre ++ bs)) (length pre) bs
+  are-at-place pre [] = tt
+  are-at-place pre (b ∷ bs) =
+      let l : length (pre ++ b ∷ []) ≡ suc (length pre) = length-append pre (b ∷ []) ∙ omega arith in
+      let a : (pre ++ b ∷ []) ++ bs ≡ pre ++ b ∷ bs = append_assoc pre (b ∷ []) bs in
+      let m : map tree (pre ++ b ∷ bs) ≡ map tree pre ++ tree b ∷ map tree bs = map-append tree pre (b ∷ bs) in (
+        ap (λ v. get_or v (length pre) no_tree) m ∙ ap (λ v. get_or (map tree pre ++ tree b ∷ map tree bs) v no_tree) (sym (length-map pre tree)) ∙ get_or-append_seam (map tree pre) (tree b) (map tree bs) no_tree,
+        subst (λ v. AreAt fun_at class_at block_at (at_place (pre ++ b ∷ bs)) v bs) l (subst (λ v. AreAt fun_at class_at block_at (at_place v) (length (pre ++ b ∷ [])) bs) a (are-at-place (pre ++ b ∷ []) bs)),
+      )
+
+  weights-places : (at : ℕ → Tree F C K) (k : ℕ) (bs : List (Built F C K)) → AreAt fun_at class_at block_at at k bs → weights at (places k bs) ≡ weight_of tree bs
+  weights-places at k [] a = refl
+  weights-places at k (b ∷ bs) a = let w = weights-places at (suc k) bs a.1 in let e = ap weight a.0 in omega arith
+
+  -- the trees that were moved out of one weigh less than it
+  pub split-lighter : {v : View} {t : Tree F C K} {old new : List (Built F C K)} {x : Node F C K} → old ≡ [] → SplitsTo fun_at class_at block_at slots (IsNode fun_at class_at block_at v t) old (Ok x) new → weight_of tree new < weight t
+  split-lighter {old = old} {new = new} {x = x} e q =
+      let p = q.split in
+      let l : length old ≡ 0 = ap length e in
+      let n : new ≡ p.own = p.added ∙ ap (λ v. v ++ p.own) e in
+      let s : slots x ≡ places 0 p.own = p.placed ∙ ap (λ v. places v p.own) l in
+      let h : AreAt fun_at class_at block_at (at_place p.own) 0 p.own = are-at-place [] p.own in
+      let m = p.moved (at_place p.own) (subst (λ v. AreAt fun_at class_at block_at (at_place p.own) v p.own) (sym l) h) in
+      let w = weights-places (at_place p.own) 0 p.own h in
+      let a = parts-lighter fun_at class_at block_at (at_place p.own) x in
+      let b = ap (weights (at_place p.own)) s in
+      let c = ap weight m.stands in
+      let d = ap (weight_of tree) n in
+      omega arith
 
 module _ {F C K : Type 0} {fg : Ghosts F} {cg : Ghosts C} {kg : Ghosts K} where
   -- ---- what parts stand for
@@ -69,13 +126,6 @@ module _ {F C K : Type 0} {fg : Ghosts F} {cg : Ghosts C} {kg : Ghosts K} where
   puts-refused (Ok y) e g = cc
   puts-refused (Err y) e g = record { grows = g; put = tt }
 
-  pub puts-one : {Y Z : Type 0} {ps : Y → List Part} {parts : Z → List Part} {same : (ℕ → Tree F C K) → Y → Type 0} {then : (ℕ → Tree F C K) → Z → Type 0} {ns ms : Nodes F C K fg cg kg} {y : Y} {z : Z} →
-      PutsIn ps same ns (Ok y) ms → parts z ≡ ps y → ((at : ℕ → Tree F C K) → same at y → then at z) → PutsIn parts then ns (Ok z) ms
-  puts-one {ns = ns} {ms = ms} p e f = record {
-    grows = p.grows;
-    put = record { apart = subst (λ v. Apart (count ns) ms v) (sym e) p.put.apart; moved = λ at a. f at (p.put.moved at (subst (λ v. Agrees at ms v) e a)) };
-  }
-
   pub puts-two : {X Y Z : Type 0} {ps : X → List Part} {qs : Y → List Part} {parts : Z → List Part} {first : (ℕ → Tree F C K) → X → Type 0} {second : (ℕ → Tree F C K) → Y → Type 0} {then : (ℕ → Tree F C K) → Z → Type 0} {ns ms ks : Nodes F C K fg cg kg} {x : X} {y : Y} {z : Z} →
       PutsIn ps first ns (Ok x) ms → PutsIn qs second ms (Ok y) ks → parts z ≡ ps x ++ qs y → ((at : ℕ → Tree F C K) → first at x → second at y → then at z) → PutsIn parts then ns (Ok z) ks
   puts-two {ps = ps} {qs = qs} {ns = ns} {ms = ms} {ks = ks} {x = x} {y = y} p q e f =
@@ -91,31 +141,6 @@ module _ {F C K : Type 0} {fg : Ghosts F} {cg : Ghosts C} {kg : Ghosts K} where
               f at (p.put.moved at (agrees-before at ms ks (count ns) (ps x) q.grows p.put.apart.chained (agrees-first at ks (ps x) (qs y) b))) (q.put.moved at (agrees-second at ks (ps x) (qs y) b));
         };
       }
-
-  pub puts-three : {W X Y Z : Type 0} {os : W → List Part} {ps : X → List Part} {qs : Y → List Part} {parts : Z → List Part} {first : (ℕ → Tree F C K) → W → Type 0} {second : (ℕ → Tree F C K) → X → Type 0} {third : (ℕ → Tree F C K) → Y → Type 0} {then : (ℕ → Tree F C K) → Z → Type 0} {ns ms ks js : Nodes F C K fg cg kg} {w : W} {x : X} {y : Y} {z : Z} →
-      PutsIn os first ns (Ok w) ms → PutsIn ps second ms (Ok x) ks → PutsIn qs third ks (Ok y) js → parts z ≡ os w ++ (ps x ++ qs y) → ((at : ℕ → Tree F C K) → first at w → second at x → third at y → then at z) → PutsIn parts then ns (Ok z) js
-  puts-three {X} {Y} {os = os} {ps = ps} {qs = qs} {second = second} {third = third} {ms = ms} {js = js} {x = x} {y = y} o p q e f =
-      let more : PutsIn {Y = X × Y} (λ v. ps v.0 ++ qs v.1) (λ at v. second at v.0 × third at v.1) ms (Ok (x, y)) js = puts-two p q refl (λ at i j. (i, j)) in
-      puts-two o more e (λ at i j. f at i j.0 j.1)
-
-  -- the same, where it is answered as a value
-  pub puts-is : {Y : Type 0} {parts : Y → List Part} {same : (ℕ → Tree F C K) → Y → Type 0} {ns ms : Nodes F C K fg cg kg} {r : Result Y AllocError} {y : Y} → PutsIn parts same ns r ms → r ≡ Ok y → PutsIn parts same ns (Ok y) ms
-  puts-is {parts = parts} {same = same} {ns = ns} {ms = ms} p e = subst (λ v. PutsIn parts same ns v ms) e p
-
-  -- the same, of another tree that is equal
-  pub puts-eq : {Y : Type 0} {parts : Y → List Part} {of : (ℕ → Tree F C K) → Y → Tree F C K} {ns ms : Nodes F C K fg cg kg} {r : Result Y AllocError} {s t : Tree F C K} → PutsIn parts (λ at y. of at y ≡ s) ns r ms → s ≡ t → PutsIn parts (λ at y. of at y ≡ t) ns r ms
-  puts-eq {parts = parts} {of = of} {ns = ns} {ms = ms} {r = r} p e = subst (λ w. PutsIn parts (λ at y. of at y ≡ w) ns r ms) e p
-
-  pub puts-tree : {ns ms : Nodes F C K fg cg kg} {r : Result (Node F C K) AllocError} {v : View} {s t : Tree F C K} → PutsIn slots (IsNode fg.place cg.place kg.place v s) ns r ms → s ≡ t → PutsIn slots (IsNode fg.place cg.place kg.place v t) ns r ms
-  puts-tree {ns = ns} {ms = ms} {r = r} {v = v} p e = subst (λ w. PutsIn slots (IsNode fg.place cg.place kg.place v w) ns r ms) e p
-
-  -- an array or object pattern is a pattern
-  pub puts-pattern : {ns ms : Nodes F C K fg cg kg} {r : Result (Node F C K) AllocError} {t : Tree F C K} → PutsIn slots (IsNode fg.place cg.place kg.place pattern t) ns r ms → PutsIn slots (IsNode fg.place cg.place kg.place pat t) ns r ms
-  puts-pattern {r = Ok x} p = record {
-    grows = p.grows;
-    put = record { apart = p.put.apart; moved = λ at a. let n = p.put.moved at a in record { stands = n.stands; view = pattern-pat (form x) n.view } };
-  }
-  puts-pattern {r = Err x} p = record { grows = p.grows; put = tt }
 
   -- ---- a node is appended
 
@@ -137,47 +162,92 @@ module _ {F C K : Type 0} {fg : Ghosts F} {cg : Ghosts C} {kg : Ghosts K} where
         };
       }
 
+  -- the same, where memory may be wanted
+  pub puts-appended : {ns ms ks : Nodes F C K fg cg kg} {v : View} {t : Tree F C K} {x : Node F C K} {r : Result ℕ AllocError} → PutsIn slots (IsNode fg.place cg.place kg.place v t) ns (Ok x) ms → Grows ms ks → IfOk r (λ i. Added ms ks i x) → PutsIn (λ i. numbered (v ∷ []) (i ∷ [])) (λ at i. at i ≡ t) ns r ks
+  puts-appended {r = Ok i} p g d = puts-pushed p g d refl (λ at e. e)
+  puts-appended {r = Err e} p g d = record { grows = grows-then p.grows g; put = tt }
+
   -- what one part stands for
   pub puts-made : {Y : Type 0} {ns ms : Nodes F C K fg cg kg} {r : Result Y AllocError} {t : Tree F C K} (part : Y → Part) → PutsIn (λ y. part y ∷ []) (λ at y. at (part y).at ≡ t) ns r ms → IfOk r (λ y. Made (count ns) ms (part y) t)
   puts-made {ms = ms} {r = Ok y} part p = record { from = from-apart (part y) [] p.put.apart; stands = p.put.moved (tree_at ms) (refl, tt) }
   puts-made {r = Err y} part p = tt
 
-  -- ---- lists, the first item first
+  -- a node whose parts are the places of trees, with the numbers of those
+  pub puts-node : {ns ms : Nodes F C K fg cg kg} {v : View} {t : Tree F C K} {old new : List (Built F C K)} {x z : Node F C K} {ids : Vec ℕ Global} → old ≡ [] →
+      SplitsTo fg.place cg.place kg.place slots (IsNode fg.place cg.place kg.place v t) old (Ok x) new →
+      PutsIn (λ y. numbered (map built_view new) y.items) (λ at y. map at y.items ≡ map (built_tree fg.place cg.place kg.place) new) ns (Ok ids) ms →
+      Renumbered slots (node_tree fg.place cg.place kg.place) ids.items x z → form z ≡ form x → PutsIn slots (IsNode fg.place cg.place kg.place v t) ns (Ok z) ms
+  puts-node {ns = ns} {ms = ms} {v = v} {t = t} {old = old} {new = new} {x = x} {z = z} {ids = ids} e splits q r f =
+      let p = splits.split in
+      let l : length old ≡ 0 = ap length e in
+      let n : new ≡ p.own = p.added ∙ ap (λ w. w ++ p.own) e in
+      let s : slots x ≡ places 0 p.own = p.placed ∙ ap (λ w. places w p.own) l in
+      let stand : map (tree_at ms) ids.items ≡ map (built_tree fg.place cg.place kg.place) new = q.put.moved (tree_at ms) (agrees-self ms (numbered (map built_view new) ids.items)) in
+      let many : length ids.items ≡ length p.own = sym (length-map ids.items (tree_at ms)) ∙ ap length stand ∙ length-map new (built_tree fg.place cg.place kg.place) ∙ ap length n in
+      let parts : slots z ≡ numbered (map built_view new) ids.items = r.placed ∙ ap (map (with_given ids.items)) s ∙ places-given p.own [] ids.items many ∙ ap (λ w. numbered (map built_view w) ids.items) (sym n) in
+      record {
+        grows = q.grows;
+        put = record {
+          apart = subst (λ w. Apart (count ns) ms w) (sym parts) q.put.apart;
+          moved = λ at a.
+              let g = q.put.moved at (subst (λ w. Agrees at ms w) parts a) in
+              let h : AreAt fg.place cg.place kg.place (λ k. at (given ids.items k)) 0 p.own = are-given fg.place cg.place kg.place at p.own [] ids.items (g ∙ ap (map (built_tree fg.place cg.place kg.place)) n) in
+              let m = p.moved (λ k. at (given ids.items k)) (subst (λ w. AreAt fg.place cg.place kg.place (λ k. at (given ids.items k)) w p.own) (sym l) h) in
+              record { stands = r.stands at ∙ m.stands; view = ap (view_ok v) f ∙ m.view };
+        };
+      }
 
-  -- The first items of a list were put in, and those from the number i on are left.
-  pub record Putting {I X : Type 0} (parts : I → List Part) (of : (ℕ → Tree F C K) → I → Tree F C K) (tree : X → Tree F C K) (all left : List X) (i : ℕ) (ns : Nodes F C K fg cg kg) (put : List I) (ms : Nodes F C K fg cg kg) : Type 0 where
-    pub puts : PutsIn (λ ys. flat parts ys) (λ at ys. map (of at) ys ≡ map tree (take i all)) ns (Ok put) ms
+  -- ---- lists, the first tree first
+
+  -- The first trees of a list were put in, and those from the number i on are left.
+  pub record Putting (all left : List (Built F C K)) (i : ℕ) (ns : Nodes F C K fg cg kg) (put : List ℕ) (ms : Nodes F C K fg cg kg) : Type 0 where
+    pub puts : PutsIn (λ ys. numbered (map built_view (take i all)) ys) (λ at ys. map at ys ≡ map (built_tree fg.place cg.place kg.place) (take i all)) ns (Ok put) ms
+    pub counted : length put ≡ i
     pub same_length : length left ≡ length all
-    pub unvisited : (k : ℕ) (d : X) → i ≤ k → get_or left k d ≡ get_or all k d
+    pub unvisited : (k : ℕ) (d : Built F C K) → i ≤ k → get_or left k d ≡ get_or all k d
 
-  module _ {I X : Type 0} (parts : I → List Part) (of : (ℕ → Tree F C K) → I → Tree F C K) (tree : X → Tree F C K) where
-    pub putting-starts : {ns : Nodes F C K fg cg kg} {put : List I} (all left : List X) → left ≡ all → put ≡ [] → Putting parts of tree all left 0 ns put ns
-    putting-starts {ns} {put} all left e f = record {
-      puts = puts-none (ap (flat parts) f) (λ at. ap (map (of at)) f);
-      same_length = ap length e;
-      unvisited = λ k d h. ap (λ v. get_or v k d) e;
-    }
+  pub putting-starts : {ns : Nodes F C K fg cg kg} {put : List ℕ} (all left : List (Built F C K)) → left ≡ all → put ≡ [] → Putting all left 0 ns put ns
+  putting-starts {ns} {put} all left e f = record {
+    puts = puts-none refl (λ at. ap (map at) f);
+    counted = ap length f;
+    same_length = ap length e;
+    unvisited = λ k d h. ap (λ v. get_or v k d) e;
+  }
 
-    -- the item with the number i is still what it was
-    pub putting-weight : {ns ms : Nodes F C K fg cg kg} {put : List I} {all left : List X} {i : ℕ} (x : X) → i < length left → Putting parts of tree all left i ns put ms → weight (tree (get_or left i x)) ≤ weight_of tree all
-    putting-weight {all = all} {i = i} x h p =
-        let l = p.same_length in
-        let w = weight-item tree all i x (omega arith) in
-        let e = ap (λ v. weight (tree v)) (p.unvisited i x (omega arith)) in
-        omega arith
+  -- the tree with the number i is still what it was
+  pub putting-weight : {ns ms : Nodes F C K fg cg kg} {put : List ℕ} {all left : List (Built F C K)} {i : ℕ} (x : Built F C K) → i < length left → Putting all left i ns put ms → weight (built_tree fg.place cg.place kg.place (get_or left i x)) ≤ weight_of (built_tree fg.place cg.place kg.place) all
+  putting-weight {all = all} {i = i} x h p =
+      let l = p.same_length in
+      let w = weight-item (built_tree fg.place cg.place kg.place) all i x (omega arith) in
+      let e = ap (λ v. weight (built_tree fg.place cg.place kg.place v)) (p.unvisited i x (omega arith)) in
+      omega arith
 
-    pub putting-more : {ns ms ks : Nodes F C K fg cg kg} {put more : List I} {all left : List X} {i : ℕ} {y : I} (x z : X) → i < length left → Putting parts of tree all left i ns put ms →
-        PutsIn parts (λ at v. of at v ≡ tree (get_or left i x)) ms (Ok y) ks → more ≡ put ++ y ∷ [] → Putting parts of tree all (set left i z) (i + 1) ns more ks
-    putting-more {put = put} {all = all} {left = left} {i = i} {y = y} x z h p q f =
-        let l = p.same_length in
-        let lt : i < length all = omega arith in
-        record {
-          puts = puts-two p.puts q (ap (flat parts) f ∙ flat-more parts put y)
-              (λ at a b. ap (map (of at)) f ∙ map-append (of at) put (y ∷ []) ∙ ap (λ v. v ++ of at y ∷ []) a ∙ ap (λ v. map tree (take i all) ++ v ∷ []) (b ∙ ap tree (p.unvisited i x (omega arith))) ∙ sym (map-more tree all i x lt));
-          same_length = length-set left i z ∙ l;
-          unvisited = λ k d g. let ne : k ≢ i = omega arith in get_or-set_other left i k z d ne ∙ p.unvisited k d (omega arith);
-        }
+  pub putting-more : {ns ms ks : Nodes F C K fg cg kg} {put more : List ℕ} {all left : List (Built F C K)} {i y : ℕ} (x z : Built F C K) → i < length left → Putting all left i ns put ms →
+      PutsIn (λ v. numbered (built_view (get_or left i x) ∷ []) (v ∷ [])) (λ at v. at v ≡ built_tree fg.place cg.place kg.place (get_or left i x)) ms (Ok y) ks → more ≡ put ++ y ∷ [] → Putting all (set left i z) (i + 1) ns more ks
+  putting-more {put = put} {all = all} {left = left} {i = i} {y = y} x z h p q f =
+      let l = p.same_length in
+      let n = p.counted in
+      let lt : i < length all = omega arith in
+      let same : get_or left i x ≡ get_or all i x = p.unvisited i x (omega arith) in
+      let many : length put ≡ length (map built_view (take i all)) = n ∙ sym (length-map (take i all) built_view ∙ length-take-le i all (omega arith)) in
+      record {
+        puts = puts-two p.puts q
+            (ap (numbered (map built_view (take (i + 1) all))) f ∙ ap (λ v. numbered v (put ++ y ∷ [])) (map-more built_view all i x lt) ∙ numbered-append (map built_view (take i all)) (built_view (get_or all i x) ∷ []) put (y ∷ []) many ∙ ap (λ v. numbered (map built_view (take i all)) put ++ numbered (built_view v ∷ []) (y ∷ [])) (sym same))
+            (λ at a b. ap (map at) f ∙ map-append at put (y ∷ []) ∙ ap (λ v. v ++ at y ∷ []) a ∙ ap (λ v. map (built_tree fg.place cg.place kg.place) (take i all) ++ v ∷ []) (b ∙ ap (built_tree fg.place cg.place kg.place) same) ∙ sym (map-more (built_tree fg.place cg.place kg.place) all i x lt));
+        counted = ap length f ∙ length-append put (y ∷ []) ∙ ap (λ v. v + 1) n;
+        same_length = length-set left i z ∙ l;
+        unvisited = λ k d g. let ne : k ≢ i = omega arith in get_or-set_other left i k z d ne ∙ p.unvisited k d (omega arith);
+      }
 
-    pub putting-ends : {ns ms : Nodes F C K fg cg kg} {all left : List X} {i : ℕ} (v : Vec I Global) → length left ≤ i → Putting parts of tree all left i ns v.items ms →
-        PutsIn (λ y. flat parts y.items) (λ at y. map (of at) y.items ≡ map tree all) ns (Ok v) ms
-    putting-ends {all = all} {i = i} v h p = let l = p.same_length in puts-one p.puts refl (λ at a. a ∙ ap (map tree) (take_all i all (omega arith)))
+  pub putting-ends : {ns ms : Nodes F C K fg cg kg} {all left : List (Built F C K)} {i : ℕ} (v : Vec ℕ Global) → length left ≤ i → Putting all left i ns v.items ms →
+      PutsIn (λ y. numbered (map built_view all) y.items) (λ at y. map at y.items ≡ map (built_tree fg.place cg.place kg.place) all) ns (Ok v) ms
+  putting-ends {ns = ns} {ms = ms} {all = all} {i = i} v h p =
+      let l = p.same_length in
+      let e : take i all ≡ all = take_all i all (omega arith) in
+      record {
+        grows = p.puts.grows;
+        put = record {
+          apart = subst (λ w. Apart (count ns) ms (numbered (map built_view w) v.items)) e p.puts.put.apart;
+          moved = λ at a. p.puts.put.moved at (subst (λ w. Agrees at ms (numbered (map built_view w) v.items)) (sym e) a) ∙ ap (map (built_tree fg.place cg.place kg.place)) e;
+        };
+      }

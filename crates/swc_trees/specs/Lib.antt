@@ -3,3 +3,4 @@ pub mod Building
 pub mod Kinds
 pub mod Moving
 pub mod Refusable
+pub mod Splitting

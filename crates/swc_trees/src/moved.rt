@@ -7,9 +7,10 @@ ghost use Rattle.swc_nodes.specs.Slots.{other_expr, form, slots};
 
 use std::alloc::{AllocError, Global};
 use std::mem;
-use swc_ast::expr::{Expr, Import, ImportPhase, Invalid, MetaPropExpr, MetaPropKind};
+use swc_ast::expr::{AssignTarget, Expr, Import, ImportPhase, Invalid, MetaPropExpr, MetaPropKind};
 use swc_ast::ident::{BindingIdent, Ident, IdentName, PrivateName};
 use swc_ast::lit::{BigInt, Lit, Null, Num, Str};
+use swc_ast::pat::Pat;
 use swc_ast::prop::Prop;
 use swc_ast::spanned::Spanned;
 use swc_context::atom::Atom;
@@ -25,6 +26,20 @@ fn nowhere() -> Span {
 /// What is left of an expression that is moved out.
 pub(crate) fn nothing<F, C, K>() -> Expr<F, C, K> {
     Expr::Invalid(Invalid { span: nowhere() })
+}
+
+/// What is left of a pattern that is moved out.
+pub(crate) fn no_pat<F, C, K>() -> Pat<F, C, K> {
+    Pat::Invalid(Invalid { span: nowhere() })
+}
+
+/// What is left of a target that is moved out.
+pub(crate) fn no_target<F, C, K>(alloc: Global) -> AssignTarget<F, C, K> {
+    let elems = Vec::new(alloc);
+    AssignTarget::Array {
+        span: nowhere(),
+        elems,
+    }
 }
 
 /// What is left of a property that is moved out.

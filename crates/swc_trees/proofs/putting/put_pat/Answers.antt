@@ -1,9 +1,7 @@
-use Rattle.swc_nodes.specs.Slots.{pat_part}
+use Rattle.swc_nodes.specs.Slots.{pat}
 use Rattle.swc_trees.proofs.Puts.{puts-made}
+use Rattle.swc_trees.specs.Splitting.{part}
 use Rattle.swc_trees.proofs.putting.put_pat.Goals as goal
 
-pub returns-clause-grows : goal.returns-clause-grows
-returns-clause-grows g c = c.put_pat_id.ensures.grows
-
-pub returns-clause-made : goal.returns-clause-made
-returns-clause-made g c = puts-made pat_part c.put_pat_id.ensures
+pub returns : goal.returns
+returns g c = record { grows = c.in_ok-put.ensures.grows; made = puts-made (part pat) c.in_ok-put.ensures }

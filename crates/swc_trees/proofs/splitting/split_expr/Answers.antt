@@ -1,0 +1,40 @@
+use Rattle.std.proofs.Common.{◌≡◌, [], ◌∷◌, ◌++◌, map, refl, sym, ap, ◌∙◌, inl, inr, subst, arith, rules}
+use Rattle.swc_ast.proofs.Equations.{array_tree, object_tree, seq_tree, member_expr_tree, super_prop_expr_tree, call_expr_tree, new_tree, opt_chain_tree, tpl_expr_tree, tagged_tree, arrow_tree, simple_target_tree, array_target_tree, object_target_tree, array_pat_tree, object_pat_tree, pat_key_value_tree, key_value_tree, method_tree, getter_tree, setter_tree}
+use Rattle.swc_ast.specs.Parts.{leaf, or_hole, ident_tree, binding_tree, name_tree, private_tree, str_tree, num_tree, big_tree, lit_tree, paren_tree, member_tree, member_prop_tree, super_prop_tree, super_part_tree, chain_tree, chain_call_tree, base_tree, callee_tree, args_tree, item_of, item_tree, item_trees, quasi_tree, tpl_tree, body_tree, prop_name_tree, computed_tree, function_tree, param_tree, simple_tree, rest_tree, cover_tree, spread_tree}
+use Rattle.swc_ast.specs.Tree.{node, cons, nil, this, meta, invalid, unary, update, bin, cond, assign, call, new, tagged, arrow, await, yield, seq, default, array, object, block, key_value, method, getter, setter, binding_prop, shorthand, pat_expr, paren, member, computed, super_prop, super, opt_chain, import, tpl, args, spread, dots, cover, function, rest, param, trees, span_of, no_span}
+use Rattle.swc_ast.specs.TreeOf.{expr_tree, boxed_tree, pat_tree, pat_prop_tree, prop_tree, prop_or_spread_tree, target_tree}
+use Rattle.swc_nodes.specs.NodeTree.{expr_of, pat_of, prop_of, pat_prop_of}
+use Rattle.swc_nodes.specs.Slots.{expr, view_ok, if_some, one_expr, one_pat, item_parts, param_parts, prop_parts, pat_prop_parts}
+use Rattle.swc_trees.specs.Boxed.{Hooked, HookedProp, Short}
+use Rattle.swc_trees.proofs.Leaves.{this_tree, fn_tree, class_tree, meta_tree, private_expr_tree, ident_expr_tree, lit_expr_tree, invalid_tree, unary_tree, update_tree, bin_tree, assign_tree, cond_tree, paren_expr_tree, await_tree, yield_tree, ident_pat_tree, invalid_pat_tree, rest_pat_tree, default_tree, expr_pat_tree, binding_prop_tree, rest_prop_tree, shorthand_tree, cover_prop_tree, spread_item_tree, prop_item_tree}
+use Rattle.swc_trees.proofs.Agreed.{two, headed, three}
+use Rattle.swc_trees.proofs.Splits.{split-none, split-one, split-two, split-three, split-placed, split-is, split-eq, split-tree, split-pattern}
+use Rattle.swc_trees.proofs.Agreed.{read-two, read-three, read-four}
+use Rattle.swc_trees.proofs.splitting.split_expr.Goals as goal
+
+pub returns-in-Update : goal.returns-in-Update
+returns-in-Update g c = split-tree c.split_update.ensures (read-four (λ v0 v1 v2 v3. node (update v1 v2) v0 (cons ((boxed_tree _ _ _ g.F.Spanned.place g.C.Spanned.place g.K.Spanned.place) v3) nil)) c.in-Update.span-is c.in-Update.op-is c.in-Update.prefix-is c.in-Update.arg-is ∙ sym (ap (expr_tree _ _ _ g.F.Spanned.place g.C.Spanned.place g.K.Spanned.place) c.in-Update.is ∙ update_tree _ _ _ g.F.Spanned.place g.C.Spanned.place g.K.Spanned.place c.in-Update.span c.in-Update.op c.in-Update.prefix c.in-Update.arg))
+
+pub returns-in-Yield : goal.returns-in-Yield
+returns-in-Yield g c = split-tree c.split_yield.ensures (read-three (λ v0 v1 v2. node (yield v2) v0 (cons (or_hole (boxed_tree _ _ _ g.F.Spanned.place g.C.Spanned.place g.K.Spanned.place) v1) nil)) c.in-Yield.span-is c.in-Yield.arg-is c.in-Yield.delegate-is ∙ sym (ap (expr_tree _ _ _ g.F.Spanned.place g.C.Spanned.place g.K.Spanned.place) c.in-Yield.is ∙ yield_tree _ _ _ g.F.Spanned.place g.C.Spanned.place g.K.Spanned.place c.in-Yield.span c.in-Yield.arg c.in-Yield.delegate))
+
+pub returns-in-Bin : goal.returns-in-Bin
+returns-in-Bin g c = split-tree c.split_bin.ensures (read-four (λ v0 v1 v2 v3. node (bin v1) v0 (cons ((boxed_tree _ _ _ g.F.Spanned.place g.C.Spanned.place g.K.Spanned.place) v2) (cons ((boxed_tree _ _ _ g.F.Spanned.place g.C.Spanned.place g.K.Spanned.place) v3) nil))) c.in-Bin.span-is c.in-Bin.op-is c.in-Bin.left-is c.in-Bin.right-is ∙ sym (ap (expr_tree _ _ _ g.F.Spanned.place g.C.Spanned.place g.K.Spanned.place) c.in-Bin.is ∙ bin_tree _ _ _ g.F.Spanned.place g.C.Spanned.place g.K.Spanned.place c.in-Bin.span c.in-Bin.op c.in-Bin.left c.in-Bin.right))
+
+pub returns-in-Cond : goal.returns-in-Cond
+returns-in-Cond g c = split-tree c.split_cond.ensures (read-four (λ v0 v1 v2 v3. node cond v0 (cons ((boxed_tree _ _ _ g.F.Spanned.place g.C.Spanned.place g.K.Spanned.place) v1) (cons ((boxed_tree _ _ _ g.F.Spanned.place g.C.Spanned.place g.K.Spanned.place) v2) (cons ((boxed_tree _ _ _ g.F.Spanned.place g.C.Spanned.place g.K.Spanned.place) v3) nil)))) c.in-Cond.span-is c.in-Cond.test-is c.in-Cond.cons-is c.in-Cond.alt-is ∙ sym (ap (expr_tree _ _ _ g.F.Spanned.place g.C.Spanned.place g.K.Spanned.place) c.in-Cond.is ∙ cond_tree _ _ _ g.F.Spanned.place g.C.Spanned.place g.K.Spanned.place c.in-Cond.span c.in-Cond.test c.in-Cond.cons c.in-Cond.alt))
+
+pub returns-in-Assign : goal.returns-in-Assign
+returns-in-Assign g c = split-tree c.split_assign.ensures (read-four (λ v0 v1 v2 v3. node (assign v1) v0 (cons ((target_tree _ _ _ g.F.Spanned.place g.C.Spanned.place g.K.Spanned.place) v2) (cons ((boxed_tree _ _ _ g.F.Spanned.place g.C.Spanned.place g.K.Spanned.place) v3) nil))) c.in-Assign.span-is c.in-Assign.op-is c.in-Assign.left-is c.in-Assign.right-is ∙ sym (ap (expr_tree _ _ _ g.F.Spanned.place g.C.Spanned.place g.K.Spanned.place) c.in-Assign.is ∙ assign_tree _ _ _ g.F.Spanned.place g.C.Spanned.place g.K.Spanned.place c.in-Assign.span c.in-Assign.op c.in-Assign.left c.in-Assign.right))
+
+pub split_short-requires : goal.split_short-requires
+split_short-requires g c = record { no_fn = c.in_default.not-Fn; no_class = c.in_default.not-Class; no_arrow = c.in_default.not-Arrow; no_update = c.in_default.not-Update; no_yield = c.in_default.not-Yield; no_bin = c.in_default.not-Bin; no_cond = c.in_default.not-Cond; no_assign = c.in_default.not-Assign }
+
+pub returns-in_default : goal.returns-in_default
+returns-in_default g c = c.split_short.ensures
+
+pub split_hooked-requires : goal.split_hooked-requires
+split_hooked-requires g c = subst (λ v. Hooked v) (sym c.replace.ensures.value) (record { one_of = c.in-Fn.is })
+
+pub returns-in-Fn : goal.returns-in-Fn
+returns-in-Fn g c = split-tree c.split_hooked.ensures (ap (expr_tree _ _ _ g.F.Spanned.place g.C.Spanned.place g.K.Spanned.place) c.replace.ensures.value)

@@ -1,0 +1,34 @@
+use Rattle.std.proofs.Common.{◌≡◌, [], ◌∷◌, ◌++◌, map, refl, sym, ap, ◌∙◌, inl, inr, subst, arith, rules}
+use Rattle.swc_ast.proofs.Equations.{array_tree, object_tree, seq_tree, member_expr_tree, super_prop_expr_tree, call_expr_tree, new_tree, opt_chain_tree, tpl_expr_tree, tagged_tree, arrow_tree, simple_target_tree, array_target_tree, object_target_tree, array_pat_tree, object_pat_tree, pat_key_value_tree, key_value_tree, method_tree, getter_tree, setter_tree}
+use Rattle.swc_ast.specs.Parts.{leaf, or_hole, ident_tree, binding_tree, name_tree, private_tree, str_tree, num_tree, big_tree, lit_tree, paren_tree, member_tree, member_prop_tree, super_prop_tree, super_part_tree, chain_tree, chain_call_tree, base_tree, callee_tree, args_tree, item_of, item_tree, item_trees, quasi_tree, tpl_tree, body_tree, prop_name_tree, computed_tree, function_tree, param_tree, simple_tree, rest_tree, cover_tree, spread_tree}
+use Rattle.swc_ast.specs.Tree.{node, cons, nil, this, meta, invalid, unary, update, bin, cond, assign, call, new, tagged, arrow, await, yield, seq, default, array, object, block, key_value, method, getter, setter, binding_prop, shorthand, pat_expr, paren, member, computed, super_prop, super, opt_chain, import, tpl, args, spread, dots, cover, function, rest, param, trees, span_of, no_span}
+use Rattle.swc_ast.specs.TreeOf.{expr_tree, boxed_tree, pat_tree, pat_prop_tree, prop_tree, prop_or_spread_tree, target_tree}
+use Rattle.swc_nodes.specs.NodeTree.{expr_of, pat_of, prop_of, pat_prop_of}
+use Rattle.swc_nodes.specs.Slots.{expr, view_ok, if_some, one_expr, one_pat, item_parts, param_parts, prop_parts, pat_prop_parts}
+use Rattle.swc_trees.specs.Boxed.{Hooked, HookedProp, Short}
+use Rattle.swc_trees.proofs.Leaves.{this_tree, fn_tree, class_tree, meta_tree, private_expr_tree, ident_expr_tree, lit_expr_tree, invalid_tree, unary_tree, update_tree, bin_tree, assign_tree, cond_tree, paren_expr_tree, await_tree, yield_tree, ident_pat_tree, invalid_pat_tree, rest_pat_tree, default_tree, expr_pat_tree, binding_prop_tree, rest_prop_tree, shorthand_tree, cover_prop_tree, spread_item_tree, prop_item_tree}
+use Rattle.swc_trees.proofs.Agreed.{two, headed, three}
+use Rattle.swc_trees.proofs.Splits.{split-none, split-one, split-two, split-three, split-placed, split-is, split-eq, split-tree, split-pattern}
+use Rattle.swc_trees.proofs.Agreed.{read-two, read-three, read-four}
+use Rattle.swc_trees.proofs.splitting.split_pat.Goals as goal
+
+pub returns-in_ok-taken_binding-in-Ident : goal.returns-in_ok-taken_binding-in-Ident
+returns-in_ok-taken_binding-in-Ident g c = split-none refl (λ at. record { stands = ap (λ v. binding_tree v) c.in_ok-taken_binding-in-Ident.ensures ∙ (ap (λ v0. binding_tree v0) c.in-Ident.b-is ∙ sym (ap (pat_tree _ _ _ g.F.Spanned.place g.C.Spanned.place g.K.Spanned.place) c.in-Ident.is ∙ ident_pat_tree _ _ _ g.F.Spanned.place g.C.Spanned.place g.K.Spanned.place c.in-Ident.b)); view = refl })
+
+pub returns-in-Array : goal.returns-in-Array
+returns-in-Array g c = split-tree (split-pattern c.split_array_pat.ensures) (read-two (λ v0 v1. node array v0 (trees (map (or_hole (pat_tree _ _ _ g.F.Spanned.place g.C.Spanned.place g.K.Spanned.place)) v1.items))) c.in-Array.span-is c.in-Array.elems-is ∙ sym (ap (pat_tree _ _ _ g.F.Spanned.place g.C.Spanned.place g.K.Spanned.place) c.in-Array.is ∙ array_pat_tree _ _ _ g.F.Spanned.place g.C.Spanned.place g.K.Spanned.place c.in-Array.span c.in-Array.elems))
+
+pub returns-in-Object : goal.returns-in-Object
+returns-in-Object g c = split-tree (split-pattern c.split_object_pat.ensures) (read-two (λ v0 v1. node object v0 (trees (map (pat_prop_tree _ _ _ g.F.Spanned.place g.C.Spanned.place g.K.Spanned.place) v1.items))) c.in-Object.span-is c.in-Object.props-is ∙ sym (ap (pat_tree _ _ _ g.F.Spanned.place g.C.Spanned.place g.K.Spanned.place) c.in-Object.is ∙ object_pat_tree _ _ _ g.F.Spanned.place g.C.Spanned.place g.K.Spanned.place c.in-Object.span c.in-Object.props))
+
+pub returns-in-Rest : goal.returns-in-Rest
+returns-in-Rest g c = split-tree c.split_rest.ensures (ap (λ v0. rest_tree (pat_tree _ _ _ g.F.Spanned.place g.C.Spanned.place g.K.Spanned.place) v0) c.in-Rest.r-is ∙ sym (ap (pat_tree _ _ _ g.F.Spanned.place g.C.Spanned.place g.K.Spanned.place) c.in-Rest.is ∙ rest_pat_tree _ _ _ g.F.Spanned.place g.C.Spanned.place g.K.Spanned.place c.in-Rest.r))
+
+pub returns-in-Assign : goal.returns-in-Assign
+returns-in-Assign g c = split-tree c.split_default.ensures (read-three (λ v0 v1 v2. node default v0 (cons ((pat_tree _ _ _ g.F.Spanned.place g.C.Spanned.place g.K.Spanned.place) v1.value) (cons ((boxed_tree _ _ _ g.F.Spanned.place g.C.Spanned.place g.K.Spanned.place) v2) nil))) c.in-Assign.span-is c.in-Assign.left-is c.in-Assign.right-is ∙ sym (ap (pat_tree _ _ _ g.F.Spanned.place g.C.Spanned.place g.K.Spanned.place) c.in-Assign.is ∙ default_tree _ _ _ g.F.Spanned.place g.C.Spanned.place g.K.Spanned.place c.in-Assign.span c.in-Assign.left c.in-Assign.right))
+
+pub returns-in_ok-place_expr-in-Expr : goal.returns-in_ok-place_expr-in-Expr
+returns-in_ok-place_expr-in-Expr g c = split-one c.in_ok-place_expr-in-Expr.ensures refl (λ at e. record { stands = ap (λ v. node pat_expr (span_of v) (cons v nil)) e ∙ (ap (λ v0. node pat_expr (span_of ((boxed_tree _ _ _ g.F.Spanned.place g.C.Spanned.place g.K.Spanned.place) v0)) (cons ((boxed_tree _ _ _ g.F.Spanned.place g.C.Spanned.place g.K.Spanned.place) v0) nil)) c.in-Expr.e-is ∙ sym (ap (pat_tree _ _ _ g.F.Spanned.place g.C.Spanned.place g.K.Spanned.place) c.in-Expr.is ∙ expr_pat_tree _ _ _ g.F.Spanned.place g.C.Spanned.place g.K.Spanned.place c.in-Expr.e)); view = refl })
+
+pub returns-in-Invalid : goal.returns-in-Invalid
+returns-in-Invalid g c = split-none refl (λ at. record { stands = ap (λ v0. leaf invalid v0.span) c.in-Invalid.i-is ∙ sym (ap (pat_tree _ _ _ g.F.Spanned.place g.C.Spanned.place g.K.Spanned.place) c.in-Invalid.is ∙ invalid_pat_tree _ _ _ g.F.Spanned.place g.C.Spanned.place g.K.Spanned.place c.in-Invalid.i); view = refl })
