@@ -1,6 +1,6 @@
 -- Trees are put in from the first on: each stays as those behind it are appended. A node whose parts are places in a list gets the numbers of those that were put in.
 use Rattle.std.proofs.Common.{◌≡◌, ℕ, suc, ◌+◌, ◌<◌, ◌≤◌, ◌≢◌, true, List, [], ◌∷◌, ◌++◌, map, take, length, get_or, Result, Ok, Err, IfOk, refl, sym, ap, subst, ◌∙◌, arith, append_assoc}
-use Rattle.std.proofs.lemmas.List.{append-nil, map-append, length-append, length-map, length-take-le, take_more, take_all, get_or-set_other, length-set}
+use Rattle.std.proofs.lemmas.List.{map-append, length-append, length-map, length-take-le, take_all, get_or-set_other, length-set}
 use Rattle.std.proofs.Math.ListN.{set}
 use Rattle.std.proofs.Math.Seq.{get_or-append_seam}
 use Rattle.std.proofs.lemmas.Bool.{le-leb}
@@ -14,7 +14,7 @@ use Rattle.swc_ast.specs.Tree.{Tree}
 use Rattle.swc_ast.specs.declared.spanned.Spanned.{Ghosts}
 use Rattle.swc_nodes.specs.NodeTree.{node_tree}
 use Rattle.swc_nodes.specs.Renumbering.{given, with_given, Renumbered}
-use Rattle.swc_nodes.specs.Seats.{floor, chain}
+use Rattle.swc_nodes.specs.Seats.{chain}
 use Rattle.swc_nodes.specs.Slots.{Part, View, slots, form, view_ok}
 use Rattle.swc_nodes.specs.Stands.{count, seat_at, tree_at, Apart, From, Grows, Added, Made}
 use Rattle.swc_nodes.specs.declared.node.Node.{Node}
@@ -27,8 +27,8 @@ use Rattle.swc_trees.proofs.Splits.{map-more}
 use Rattle.swc_trees.proofs.Lighter.{weights, parts-lighter}
 use Rattle.swc_trees.proofs.Weights.{weight, weight_of, weight-item}
 use Rattle.swc_trees.specs.Building.{built_tree}
-use Rattle.swc_trees.specs.Moving.{Agrees, IsNode, Put, PutsIn}
-use Rattle.swc_trees.specs.Splitting.{part, built_view, places, numbered, AreAt, Split, SplitsTo}
+use Rattle.swc_trees.specs.Moving.{Agrees, IsNode, PutsIn}
+use Rattle.swc_trees.specs.Splitting.{part, built_view, places, numbered, AreAt, SplitsTo}
 use Rattle.swc_trees.specs.declared.built.Built.{Built}
 
 -- the number at its place in a list

@@ -1,5 +1,5 @@
 -- Trees are moved onto the end of a list from the first on: the place of each stays as those behind it are moved.
-use Rattle.std.proofs.Common.{◌≡◌, ℕ, suc, ◌+◌, ◌<◌, ◌≤◌, ◌≢◌, List, [], ◌∷◌, ◌++◌, map, take, length, get_or, true, Result, Ok, Err, IfOk, Option, refl, sym, ap, subst, ◌∙◌, arith, append_assoc, rules}
+use Rattle.std.proofs.Common.{◌≡◌, ℕ, suc, ◌+◌, ◌<◌, ◌≤◌, ◌≢◌, List, [], ◌∷◌, ◌++◌, map, take, length, get_or, true, Result, Ok, Err, Option, refl, sym, ap, subst, ◌∙◌, arith, append_assoc, rules}
 use Rattle.std.proofs.lemmas.List.{append-nil, map-append, length-append, take_more, take_all, get_or-set_other, length-set}
 use Rattle.std.proofs.Math.ListN.{set}
 use Rattle.std.specs.Result.{IsErr}
