@@ -21,7 +21,7 @@ use Rattle.swc_bodies.specs.Readings.{is_function, is_async, is_class}
 use Rattle.swc_grammar.specs.Rule.{Rule, gives, never, take, check, peek, read, hear, sees, given, ◌>>=◌}
 use Rattle.swc_grammar.specs.Tokens.{tk, with_in, binary_of, prefix_of, is_rparen, is_power, is_closer, is_word_apart}
 use Rattle.swc_grammar.specs.Tokens.{is_stop, is_comma, is_dots, is_reference, is_rbracket, is_rbrace, is_lparen}
-use Rattle.swc_grammar.specs.Tokens.{is_colon, is_star, is_equals, is_word, is_get, ends_prop, follows_key}
+use Rattle.swc_grammar.specs.Tokens.{is_colon, is_star, is_equals, is_question, is_word, is_get, ends_prop, follows_key}
 use Rattle.swc_grammar.specs.Trees.{to, bin_e, nullish_ok, logical_ok, exp_ok, is_unary, min_right}
 use Rattle.swc_grammar.specs.Symbols.{Symbol, Expr, Assign, Level, Unary, Primary, Literal, Elements, ElementsTail}
 use Rattle.swc_grammar.specs.Symbols.{Item, Props, PropsTail, Prop, Key, AfterKey, Shell, Answer, Body, Value}
@@ -132,17 +132,19 @@ begins_method t = begins_key t || is_star t
 
 method-apart : (o : Option TokenAndSpan) → at_token begins_method o ≡ true
     → (at_token ends_prop o ≡ false) × (at_token is_equals o ≡ false) × (at_token follows_key o ≡ false)
+    × (at_token is_question o ≡ false)
 method-apart None h = absurd cc
 method-apart (Some a) h = by-token a.token h
   where
     by-token : (t : Token) → begins_method t ≡ true
-        → (ends_prop t ≡ false) × (is_equals t ≡ false) × (follows_key t ≡ false)
+        → (ends_prop t ≡ false) × (is_equals t ≡ false) × (follows_key t ≡ false) × (is_question t ≡ false)
     by-token token.Comma h = absurd cc
     by-token token.RBrace h = absurd cc
     by-token (token.AssignOp o) h = absurd cc
     by-token token.Colon h = absurd cc
     by-token token.LParen h = absurd cc
-    by-token t h = (refl, refl, refl)
+    by-token token.QuestionMark h = absurd cc
+    by-token t h = (refl, refl, refl, refl)
 
 key-begins-method : (o : Option TokenAndSpan) → at_token begins_key o ≡ true
     → (at_token begins_method o ≡ true) × (at_token is_star o ≡ false)
@@ -530,21 +532,21 @@ module _ {F C K : Type 0} (hook : Hook F C K) where
       → at_token begins_key (first us) ≡ true → prop {F = F} {C = C} {K = K} c (a ∷ us) ≡ pick prop-async
   async-picks c a us h g =
       let (m, n) = key-begins-method (first us) g in
-      let (x, y, z) = method-apart (first us) m in
-      word-picks c a us (pick prop-async) (async-word a.token h) (rw (x, y, z, not-get-token a.token h, h, n) refl)
+      let (x, y, z, q) = method-apart (first us) m in
+      word-picks c a us (pick prop-async) (async-word a.token h) (rw (x, y, z, q, not-get-token a.token h, h, n) refl)
 
   async-star-picks : (c : Context) (a : TokenAndSpan) (us : List TokenAndSpan) → is_async a.token ≡ true
       → at_token is_star (first us) ≡ true → prop {F = F} {C = C} {K = K} c (a ∷ us) ≡ pick prop-async-generator
   async-star-picks c a us h g =
-      let (x, y, z) = method-apart (first us) (star-begins-method (first us) g) in
+      let (x, y, z, q) = method-apart (first us) (star-begins-method (first us) g) in
       word-picks c a us (pick prop-async-generator) (async-word a.token h)
-      (rw (x, y, z, not-get-token a.token h, h, g) refl)
+      (rw (x, y, z, q, not-get-token a.token h, h, g) refl)
 
   get-picks : (c : Context) (a : TokenAndSpan) (us : List TokenAndSpan) → is_get a.token ≡ true
       → at_token begins_key (first us) ≡ true → prop {F = F} {C = C} {K = K} c (a ∷ us) ≡ pick prop-getter
   get-picks c a us h g =
-      let (x, y, z) = method-apart (first us) (key-begins-method (first us) g).0 in
-      word-picks c a us (pick prop-getter) (get-word a.token h) (rw (x, y, z, h) refl)
+      let (x, y, z, q) = method-apart (first us) (key-begins-method (first us) g).0 in
+      word-picks c a us (pick prop-getter) (get-word a.token h) (rw (x, y, z, q, h) refl)
 
   -- what is followed behind a token
   gave-all : {s : Symbol} {u t : Answer F C K s} {xs ys : List TokenAndSpan}

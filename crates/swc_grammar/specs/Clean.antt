@@ -29,7 +29,7 @@ use Rattle.swc_grammar.specs.Grammar.{prop-async-generator, prop-getter, after-v
 use Rattle.swc_grammar.specs.Grammar.{key-name, key-literal, key-computed}
 use Rattle.swc_grammar.specs.Tokens.{is_ref, binary_of, prefix_of, is_lparen, is_this, is_lbracket, is_rbracket, is_comma}
 use Rattle.swc_grammar.specs.Tokens.{is_dots, is_rbrace, is_colon, is_star, is_equals, is_word, is_get, with_in}
-use Rattle.swc_grammar.specs.Tokens.{ends_prop, follows_key}
+use Rattle.swc_grammar.specs.Tokens.{is_question, ends_prop, follows_key}
 use Rattle.swc_grammar.specs.Trees.{to, bin_e, nullish_ok, logical_ok, exp_ok, min_right}
 
 -- what was read, and the tokens left
@@ -238,14 +238,15 @@ module _ {F C K : Type 0} where
   abbrev pub async_method : {c : Context} → Option TokenAndSpan → Choice F C K Prop c
   async_method u = if at_token is_star u then pick prop-async-generator else pick prop-async
 
-  -- a property that begins with a word: first by the token behind it, then by the word
+  -- A property that begins with a word: first by the token behind it, then by the word. A `?` there is a fault.
   abbrev pub prop_word : {c : Context} → Option TokenAndSpan → Option TokenAndSpan → Choice F C K Prop c
   prop_word t u =
       if at_token ends_prop u then pick prop-short else
       (if at_token is_equals u then pick prop-cover else
       (if at_token follows_key u then pick prop-key else
+      (if at_token is_question u then none else
       (if at_token is_get t then pick prop-getter else
-      (if at_token is_async t then async_method u else none))))
+      (if at_token is_async t then async_method u else none)))))
 
   abbrev pub prop : (c : Context) → List TokenAndSpan → Choice F C K Prop c
   prop c ts =

@@ -188,7 +188,12 @@ abbrev pub is_equals : Token → Bool
 is_equals (token.AssignOp assign.Assign) = true
 is_equals t = false
 
--- any word, and the word `get`
+-- `?`
+abbrev pub is_question : Token → Bool
+is_question token.QuestionMark = true
+is_question t = false
+
+-- any word, and the words `get` and `set`
 abbrev pub is_word : Token → Bool
 is_word (token.Word w) = true
 is_word t = false
@@ -196,6 +201,10 @@ is_word t = false
 abbrev pub is_get : Token → Bool
 is_get (token.Word (word.Ident w)) = is_text w (codes "get")
 is_get t = false
+
+abbrev pub is_set : Token → Bool
+is_set (token.Word (word.Ident w)) = is_text w (codes "set")
+is_set t = false
 
 -- what stands behind a property, and behind a key
 abbrev pub ends_prop : Token → Bool

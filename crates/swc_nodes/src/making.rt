@@ -5,10 +5,10 @@ ghost use Rattle.swc_ast.specs.Parts.{leaf, ident_tree, lit_tree};
 ghost use Rattle.swc_ast.specs.Tree.{invalid, node, object, span_of};
 ghost use Rattle.swc_grammar.specs.Trees as trees;
 ghost use Rattle.swc_nodes.specs.Lists.{elem_parts, elem_trees, props_parts, props_trees};
-ghost use Rattle.swc_nodes.specs.Slots.{expr_part};
+ghost use Rattle.swc_nodes.specs.Slots.{expr_part, pat_part};
 ghost use Rattle.swc_nodes.specs.Stands.{count, tree_at, first_at, Apart, From, Grows, Made};
 
-use crate::node::{ExprId, Node, PropNode};
+use crate::node::{ExprId, Node, PatId, PropNode};
 use crate::nodes::Nodes;
 use std::alloc::AllocError;
 use swc_ast::expr::{ExprOrSpread, Invalid, ParenExpr, ThisExpr};
@@ -181,5 +181,13 @@ impl<F: Spanned + Drop, C: Spanned + Drop, K: Spanned + Drop> Nodes<F, C, K> {
         ensures made { IfOk result (λ id. Made (count self.old) self.new (expr_part id) (leaf invalid span)) }
     {
         Ok(ExprId(self.push(Node::Invalid(Invalid { span }))?))
+    }
+
+    /// What stands in for a pattern that is missing.
+    pub fn invalid_pat(&mut self, span: Span) -> Result<PatId, AllocError>
+        ensures grows { Grows self.old self.new }
+        ensures made { IfOk result (λ id. Made (count self.old) self.new (pat_part id) (leaf invalid span)) }
+    {
+        Ok(PatId(self.push(Node::PatInvalid(Invalid { span }))?))
     }
 }

@@ -1,6 +1,6 @@
 -- The clean parser's steps in keys and in the functions of methods, as the code goes them.
-use Rattle.std.specs.Prelude.{◌≡◌, Bool, true, false, if◌then◌else◌, List, [], ◌∷◌, ◌++◌, Some, None}
-use Rattle.std.specs.Prelude.{Result, Ok, Err}
+use Rattle.std.specs.Prelude.{◌≡◌, Bool, true, false, not, if◌then◌else◌, List, [], ◌∷◌, ◌++◌, Option, Some, None}
+use Rattle.std.specs.Prelude.{Result, Ok, Err, IsSome}
 use Rattle.std.proofs.Common.{refl, sym, ap, ◌∙◌}
 use Rattle.swc_context.specs.declared.context.Context.{Context}
 use Rattle.swc_context.specs.declared.error.Error.{Error}
@@ -9,7 +9,7 @@ use Rattle.swc_input.specs.declared.buffer.Buffer.{Buffer}
 use Rattle.swc_input.specs.declared.token.Token.{Token}
 use Rattle.swc_input.specs.declared.token.Token.TheVariants as token
 use Rattle.swc_input.specs.declared.token.TokenAndSpan.{TokenAndSpan}
-use Rattle.swc_input.specs.Buffer.{context}
+use Rattle.swc_input.specs.Buffer.{context, current}
 use Rattle.swc_input.specs.Kinds.{at_token}
 use Rattle.swc_input.specs.Source.{Model}
 use Rattle.swc_ast.specs.Tree.{Tree}
@@ -26,10 +26,12 @@ use Rattle.swc_grammar.specs.Words.{◌>>=◌, word}
 use Rattle.swc_grammar.proofs.Bodies.{hears, hears-place, hears-run}
 use Rattle.swc_grammar.proofs.Knot.{knot}
 use Rattle.swc_productions.specs.Keys.{expected_by, expected, is_key_lit, plain_key, key_close, computed_key}
-use Rattle.swc_productions.specs.Keys.{key_by, parens, params, method_body, shell_node, shell_tail}
+use Rattle.swc_productions.specs.Keys.{key_by, no_params, parens_close, parens_tail, parens, params, method_body}
+use Rattle.swc_productions.specs.Keys.{shell, shell_node, shell_tail}
 use Rattle.swc_productions.specs.Lists.{eaten_by, eaten}
-use Rattle.swc_productions.specs.Parsing.{Parses}
+use Rattle.swc_productions.specs.Parsing.{Parses, seen, seen_of}
 use Rattle.swc_productions.specs.Readers.{inside}
+use Rattle.swc_productions.proofs.Ahead.{is_some_none}
 use Rattle.swc_productions.proofs.Lists.{binds, bind_same}
 
 -- what a call read, and what is run behind it
@@ -140,25 +142,95 @@ module _ {F C K : Type 0} (hook : Hook F C K) where
 
 -- ---- the functions of methods (15.4)
 
-pub parens_splits : (x : Context) (ts : List TokenAndSpan)
-    → parens x ts ≡ (expected is_lparen x ts >>= (λ p. expected is_rparen x p.1 >>= (λ q. Some (p.0, q.1))))
-unfolding parens
-parens_splits x ts = refl
+pub no_params_here : (x : Context) (ts : List TokenAndSpan) → at_token is_rparen (first ts) ≡ true
+    → no_params x ts ≡ Some (tt, ts)
+unfolding no_params
+no_params_here x [] h = refl
+no_params_here x (t ∷ ts) h = rw h refl
 
-pub params_parens : (is_async is_generator : Bool) (x : Context) (ts : List TokenAndSpan)
-    → params is_async is_generator x ts ≡ parens (method_params is_async is_generator x) ts
+pub no_params_end : (x : Context) (ts : List TokenAndSpan) → first ts ≡ None → no_params x ts ≡ Some (tt, ts)
+unfolding no_params
+no_params_end x [] h = refl
+no_params_end x (t ∷ ts) h = cc
+
+some_seen : (o : Option TokenAndSpan) → IsSome o → IsSome (seen_of o)
+some_seen None h = cc
+some_seen (Some t) h = refl
+
+-- another token is current
+pub no_params_not : {S : Type 0} (b : Buffer S) (x : Context) (ts : List TokenAndSpan) → IsSome (current b)
+    → first ts ≡ seen b → at_token is_rparen (first ts) ≡ false → no_params x ts ≡ None
+unfolding no_params
+no_params_not b x [] some e h = is_some_none (some_seen b.cur some) (sym e)
+no_params_not b x (t ∷ ts) some e h = rw h refl
+
+pub parens_splits : (of_setter : Bool) (x : Context) (ts : List TokenAndSpan)
+    → parens of_setter x ts ≡ (expected is_lparen x ts >>= (λ p. parens_tail of_setter p.0 x p.1))
+unfolding parens
+parens_splits of_setter x ts = refl
+
+pub parens_tail_splits : (of_setter : Bool) (s : Span) (x : Context) (ts : List TokenAndSpan)
+    → parens_tail of_setter s x ts ≡ (no_params x ts >>= (λ p. parens_close of_setter s x p.1))
+unfolding parens_tail
+parens_tail_splits of_setter s x ts = refl
+
+pub parens_well : (of_setter : Bool) (s : Span) (x : Context) (ts : List TokenAndSpan) → not of_setter ≡ true
+    → parens_close of_setter s x ts ≡ (expected is_rparen x ts >>= (λ q. Some (s, q.1)))
+parens_well true s x ts h = cc
+parens_well false s x ts h = refl
+
+pub parens_ill : (of_setter : Bool) (s : Span) (x : Context) (ts : List TokenAndSpan) → not of_setter ≡ false
+    → parens_close of_setter s x ts ≡ None
+parens_ill true s x ts h = refl
+parens_ill false s x ts h = cc
+
+pub params_parens : (of_setter is_async is_generator : Bool) (x : Context) (ts : List TokenAndSpan)
+    → params of_setter is_async is_generator x ts ≡ parens of_setter (method_params is_async is_generator x) ts
 unfolding params
-params_parens is_async is_generator x ts = refl
+params_parens of_setter is_async is_generator x ts = refl
+
+-- a setter's are never read
+pub bind_none : {A B : Type 0} (o : Out A) (f : A × List TokenAndSpan → Out B)
+    → ((p : A × List TokenAndSpan) → f p ≡ None) → (o >>= f) ≡ None
+bind_none None f h = refl
+bind_none (Some p) f h = h p
+
+params_setter : (is_async is_generator : Bool) (x : Context) (ts : List TokenAndSpan)
+    → params true is_async is_generator x ts ≡ None
+unfolding params parens parens_tail
+params_setter is_async is_generator x ts =
+    bind_none (expected is_lparen (method_params is_async is_generator x) ts) _
+    (λ p. bind_none (no_params (method_params is_async is_generator x) p.1) _ (λ q. refl))
+
+-- no parameters, and the parenthesis that closes them
+expected_not : (f : Token → Bool) (x : Context) (t : TokenAndSpan) (us : List TokenAndSpan) → f t.token ≡ false
+    → expected f x (t ∷ us) ≡ None
+unfolding expected eaten
+expected_not f x t us e = rw e refl
+
+by_close : (b : Bool) (s : Span) (x : Context) (t : TokenAndSpan) (us : List TokenAndSpan) → is_rparen t.token ≡ b
+    → parens_tail false s x (t ∷ us) ≡ (expected is_rparen x (t ∷ us) >>= (λ q. Some (s, q.1)))
+unfolding parens_tail no_params
+by_close true s x t us e = rw e refl
+by_close false s x t us e = rw e (sym (ap (λ o. o >>= (λ q. Some (s, q.1))) (expected_not is_rparen x t us e)))
+
+tail_closes : (s : Span) (x : Context) (us : List TokenAndSpan)
+    → parens_tail false s x us ≡ (expected is_rparen x us >>= (λ q. Some (s, q.1)))
+unfolding parens_tail no_params expected eaten
+tail_closes s x [] = refl
+tail_closes s x (t ∷ us) = by_close (is_rparen t.token) s x t us refl
 
 then_parens : {A : Type 0} (x : Context) (ts : List TokenAndSpan) (k : Span → List TokenAndSpan → Out A)
-    → token_then is_lparen ts (λ s us. token_then is_rparen us (λ q vs. k s vs)) ≡ (parens x ts >>= (λ p. k p.0 p.1))
+    → token_then is_lparen ts (λ s us. token_then is_rparen us (λ q vs. k s vs))
+    ≡ (parens false x ts >>= (λ p. k p.0 p.1))
 unfolding parens
 then_parens x ts k =
     then_token is_lparen x ts (λ s us. token_then is_rparen us (λ q vs. k s vs))
     ∙ bind_same (expected is_lparen x ts) _ _ (λ p.
     then_token is_rparen x p.1 (λ q vs. k p.0 vs)
-    ∙ binds (expected is_rparen x p.1) (λ q. Some (p.0, q.1)) (λ r. k r.0 r.1))
-    ∙ binds (expected is_lparen x ts) (λ p. expected is_rparen x p.1 >>= (λ q. Some (p.0, q.1))) (λ r. k r.0 r.1)
+    ∙ binds (expected is_rparen x p.1) (λ q. Some (p.0, q.1)) (λ r. k r.0 r.1)
+    ∙ ap (λ o. o >>= (λ r. k r.0 r.1)) (sym (tail_closes p.0 x p.1)))
+    ∙ binds (expected is_lparen x ts) (λ p. parens_tail false p.0 x p.1) (λ r. k r.0 r.1)
 
 module _ {F C K : Type 0} (hook : Hook F C K) where
   pub method_body_block : (is_async is_generator : Bool) (x : Context) (ts : List TokenAndSpan)
@@ -203,15 +275,18 @@ module _ {F C K : Type 0} (hook : Hook F C K) where
           ∙ ap (λ o. o >>= (λ p. Some (shell_node block_at s is_async is_generator p.0, p.1))) (sym e)
 
   pub shell_splits : {fun_at : F → Span} {class_at : C → Span} {block_at : K → Span}
-      → LawfulHook fun_at class_at block_at hook → (is_async is_generator : Bool) (x : Context) (ts : List TokenAndSpan)
-      → run hook (at (Shell is_async is_generator)) x ts
-      ≡ (params is_async is_generator x ts >>= (λ p. shell_tail block_at hook is_async is_generator p.0 x p.1))
+      → LawfulHook fun_at class_at block_at hook → (of_setter is_async is_generator : Bool) (x : Context)
+      (ts : List TokenAndSpan) → shell hook of_setter is_async is_generator x ts
+      ≡ (params of_setter is_async is_generator x ts >>= (λ p. shell_tail block_at hook is_async is_generator p.0 x p.1))
   unfolding params
-  shell_splits laws is_async is_generator x ts =
+  shell_splits {block_at = block_at} laws true is_async is_generator x ts =
+      ap (λ o. o >>= (λ p. shell_tail block_at hook is_async is_generator p.0 x p.1))
+      (sym (params_setter is_async is_generator x ts))
+  shell_splits laws false is_async is_generator x ts =
       knot hook (at (Shell is_async is_generator)) x ts
       ∙ shell_opens is_async is_generator x ts
       ∙ then_parens (method_params is_async is_generator x) ts (λ s vs. heard_block is_async is_generator x s vs)
-      ∙ bind_same (parens (method_params is_async is_generator x) ts) _ _
+      ∙ bind_same (parens false (method_params is_async is_generator x) ts) _ _
       (λ p. heard_is laws is_async is_generator x p.0 p.1)
 
 no_paren : {A : Type 0} (ts : List TokenAndSpan) (k : Span → List TokenAndSpan → Out A)

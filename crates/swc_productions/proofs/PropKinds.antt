@@ -1,6 +1,6 @@
 -- What a property is, by the token that it begins with and the one behind it.
-use Rattle.std.proofs.Common.{◌≡◌, Bool, true, false, if◌then◌else◌, List, [], ◌∷◌, Option, Some, None}
-use Rattle.std.proofs.Common.{Result, Ok, Err, IsSome, MatchOption, refl, sym, ap, subst, ◌∙◌}
+use Rattle.std.proofs.Common.{◌≡◌, Bool, true, false, List, [], ◌∷◌, Option, Some, None}
+use Rattle.std.proofs.Common.{Result, Ok, Err, IsSome, MatchOption, refl, sym, ap, ◌∙◌}
 use Rattle.swc_context.specs.declared.error.Error.{Error}
 use Rattle.swc_context.specs.declared.span.Span.{Span}
 use Rattle.swc_input.specs.declared.buffer.Buffer.{Buffer}
@@ -9,22 +9,22 @@ use Rattle.swc_input.specs.declared.token.Token.TheVariants as token
 use Rattle.swc_input.specs.declared.token.TokenAndSpan.{TokenAndSpan}
 use Rattle.swc_input.specs.Plain.{plain_token}
 use Rattle.swc_input.specs.Source.{Model, Laws}
-use Rattle.swc_input.specs.Buffer.{Lives, Peeked, current}
+use Rattle.swc_input.specs.Buffer.{Peeked, current}
 use Rattle.swc_input.specs.Kinds.{at_token}
 use Rattle.swc_input.specs.Laws.{Read-same}
-use Rattle.swc_bodies.specs.Readings.{is_async}
 use Rattle.swc_grammar.specs.Clean.{first, second}
-use Rattle.swc_grammar.specs.Tokens.{tk, is_get, is_word}
+use Rattle.swc_grammar.specs.Tokens.{tk, is_word}
 use Rattle.swc_grammar.specs.Words.{rest}
+use Rattle.swc_productions.specs.declared.kinds.Modifier.{Modifier}
 use Rattle.swc_productions.specs.declared.kinds.PropKind.{PropKind}
 use Rattle.swc_productions.specs.Parsing.{seen, seen_of, Told, Tells}
-use Rattle.swc_productions.specs.Properties.{kind_at, kind_of, lone_kind, word_kind, sign_kind, prop_kind}
+use Rattle.swc_productions.specs.Properties.{by_modifier, kind_at, kind_of, modifier_of, word_kind, sign_kind, prop_kind}
 use Rattle.swc_productions.proofs.Ahead.{peeked_first, is_some_none}
 
-pub plain_kind : (of_get of_async : Bool) (t : Token) → kind_at of_get of_async (plain_token t) ≡ kind_at of_get of_async t
-plain_kind of_get of_async (token.Template raw cooked) = refl
-plain_kind of_get of_async (token.Error e) = refl
-plain_kind of_get of_async t = refl
+pub plain_kind : (m : Modifier) (t : Token) → kind_at m (plain_token t) ≡ kind_at m t
+plain_kind m (token.Template raw cooked) = refl
+plain_kind m (token.Error e) = refl
+plain_kind m t = refl
 
 behind_first : (ts : List TokenAndSpan) → second ts ≡ first (rest ts)
 behind_first [] = refl
@@ -47,19 +47,15 @@ word_is (t ∷ ts) h = word_token t.token t.had_line_break t.span ts h
 sign_is : (ts : List TokenAndSpan) → at_token is_word (first ts) ≡ false → prop_kind ts ≡ sign_kind (first ts)
 sign_is ts h = rw h refl
 
-lone_is : (of_get of_async : Bool) → kind_of of_get of_async None ≡ lone_kind of_get of_async
-lone_is of_get true = refl
-lone_is of_get false = refl
+none_next : (o : Option TokenAndSpan) (a : Option PropKind) (n : Modifier) → a ≡ None
+    → MatchOption o (a ≡ None) (λ t. a ≡ Some (kind_at n t.token)) → o ≡ None
+none_next None a n e m = refl
+none_next (Some t) a n e m = cc
 
-none_next : (o : Option TokenAndSpan) (a : Option PropKind) (g h : Bool) → a ≡ None
-    → MatchOption o (a ≡ None) (λ t. a ≡ Some (kind_at g h t.token)) → o ≡ None
-none_next None a g h e m = refl
-none_next (Some t) a g h e m = cc
-
-some_next : (o : Option TokenAndSpan) (a : Option PropKind) (g h : Bool) (k : PropKind) → a ≡ Some k
-    → MatchOption o (a ≡ None) (λ t. a ≡ Some (kind_at g h t.token)) → (IsSome o) × (kind_of g h (seen_of o) ≡ k)
-some_next None a g h k e m = cc
-some_next (Some t) a g h k e m = (refl, plain_kind g h t.token ∙ cc)
+some_next : (o : Option TokenAndSpan) (a : Option PropKind) (n : Modifier) (k : PropKind) → a ≡ Some k
+    → MatchOption o (a ≡ None) (λ t. a ≡ Some (kind_at n t.token)) → (IsSome o) × (kind_of n (seen_of o) ≡ k)
+some_next None a n k e m = cc
+some_next (Some t) a n k e m = (refl, plain_kind n t.token ∙ cc)
 
 module _ {S : Type 0} {model : Model S} (laws : Laws model) where
   -- no word begins it
@@ -74,38 +70,36 @@ module _ {S : Type 0} {model : Model S} (laws : Laws model) where
   }
 
   -- what is behind a word
-  pub tells_some : {b c : Buffer S} {a : Option PropKind} (g h : Bool) (k : PropKind) → a ≡ Some k → Peeked model b c
-      → IsSome (current b) → MatchOption c.next (a ≡ None) (λ t. a ≡ Some (kind_at g h t.token))
-      → Told model (λ ts. kind_of g h (first (rest ts))) k b c
-  tells_some {b} {c} {a} g h k e p some m =
-      let w = some_next c.next a g h k e m in record {
+  pub tells_some : {b c : Buffer S} {a : Option PropKind} (n : Modifier) (k : PropKind) → a ≡ Some k → Peeked model b c
+      → IsSome (current b) → MatchOption c.next (a ≡ None) (λ t. a ≡ Some (kind_at n t.token))
+      → Told model (λ ts. kind_of n (first (rest ts))) k b c
+  tells_some {b} {c} {a} n k e p some m =
+      let w = some_next c.next a n k e m in record {
         laws = laws;
         still = p.look;
         current = p.current;
         lives = p.lives w.0;
-        told = λ ts fut here. ap (λ v. kind_of g h v) (peeked_first laws p some (λ none. is_some_none w.0 none) ts fut) ∙ w.1;
+        told = λ ts fut here. ap (λ v. kind_of n v) (peeked_first laws p some (λ none. is_some_none w.0 none) ts fut) ∙ w.1;
       }
 
-  pub tells_none : {b c : Buffer S} {a : Option PropKind} (g h : Bool) (k : PropKind) → a ≡ None → Peeked model b c
-      → IsSome (current b) → MatchOption c.next (a ≡ None) (λ t. a ≡ Some (kind_at g h t.token))
-      → (model.state c.iter).failed ≡ false → k ≡ lone_kind g h
-      → Told model (λ ts. kind_of g h (first (rest ts))) k b c
-  tells_none {b} {c} {a} g h k e p some m runs same =
-      let none = none_next c.next a g h e m in record {
+  pub tells_none : {b c : Buffer S} {a : Option PropKind} (n : Modifier) (k : PropKind) → a ≡ None → Peeked model b c
+      → IsSome (current b) → MatchOption c.next (a ≡ None) (λ t. a ≡ Some (kind_at n t.token))
+      → (model.state c.iter).failed ≡ false → k ≡ by_modifier n false
+      → Told model (λ ts. kind_of n (first (rest ts))) k b c
+  tells_none {b} {c} {a} n k e p some m runs same =
+      let none = none_next c.next a n e m in record {
         laws = laws;
         still = p.look;
         current = p.current;
         lives = λ f. absurd (true_false (sym f ∙ runs));
         told = λ ts fut here.
-            ap (λ v. kind_of g h v) (peeked_first laws p some (λ n. runs) ts fut ∙ ap seen_of none)
-            ∙ lone_is g h ∙ sym same;
+            ap (λ v. kind_of n v) (peeked_first laws p some (λ n. runs) ts fut ∙ ap seen_of none) ∙ sym same;
       }
 
 module _ {S : Type 0} {model : Model S} where
-  tells_word : {b c : Buffer S} {k : PropKind} (g h : Bool) → Told model (λ ts. kind_of g h (first (rest ts))) k b c
-      → g ≡ at_token is_get (seen b) → h ≡ at_token is_async (seen b) → at_token is_word (seen b) ≡ true
-      → Told model prop_kind k b c
-  tells_word {b} {c} g h t of_get of_async w = record {
+  tells_word : {b c : Buffer S} {k : PropKind} (n : Modifier) → Told model (λ ts. kind_of n (first (rest ts))) k b c
+      → n ≡ modifier_of (seen b) → at_token is_word (seen b) ≡ true → Told model prop_kind k b c
+  tells_word {b} {c} n t by_word w = record {
     laws = t.laws;
     still = t.still;
     current = t.current;
@@ -113,14 +107,12 @@ module _ {S : Type 0} {model : Model S} where
     told = λ ts fut here.
         let same : first ts ≡ seen b = here ∙ ap seen_of t.current in
         word_is ts (ap (at_token is_word) same ∙ w)
-        ∙ ap (λ v. kind_of v (at_token is_async (first ts)) (second ts)) (ap (at_token is_get) same ∙ sym of_get)
-        ∙ ap (λ v. kind_of g v (second ts)) (ap (at_token is_async) same ∙ sym of_async)
-        ∙ ap (λ v. kind_of g h v) (behind_first ts) ∙ t.told ts fut here;
+        ∙ ap (λ v. kind_of v (second ts)) (ap modifier_of same ∙ sym by_word)
+        ∙ ap (λ v. kind_of n v) (behind_first ts) ∙ t.told ts fut here;
   }
 
-pub tells_by_word : {S : Type 0} (model : Model S) (b c : Buffer S) (g h : Bool) (r : Result PropKind Error)
-    → Tells model (λ ts. kind_of g h (first (rest ts))) b r c
-    → g ≡ at_token is_get (seen b) → h ≡ at_token is_async (seen b) → at_token is_word (seen b) ≡ true
-    → Tells model prop_kind b r c
-tells_by_word model b c g h (Ok k) t of_get of_async w = tells_word g h t of_get of_async w
-tells_by_word model b c g h (Err e) t of_get of_async w = t
+pub tells_by_word : {S : Type 0} (model : Model S) (b c : Buffer S) (n : Modifier) (r : Result PropKind Error)
+    → Tells model (λ ts. kind_of n (first (rest ts))) b r c
+    → n ≡ modifier_of (seen b) → at_token is_word (seen b) ≡ true → Tells model prop_kind b r c
+tells_by_word model b c n (Ok k) t by_word w = tells_word n t by_word w
+tells_by_word model b c n (Err e) t by_word w = t

@@ -8,25 +8,29 @@ use Rattle.swc_input.specs.declared.token.Token.{Token}
 use Rattle.swc_input.specs.declared.token.Token.TheVariants as token
 use Rattle.swc_input.specs.declared.token.TokenAndSpan.{TokenAndSpan}
 use Rattle.swc_input.specs.Kinds.{at_token}
-use Rattle.swc_ast.specs.Tree.{Tree, Trees, nil, cons, span_of}
+use Rattle.swc_ast.specs.Tree.{Trees, nil, cons, span_of}
 use Rattle.swc_bodies.specs.Readings.{Hook, is_async, is_brace}
 use Rattle.swc_grammar.specs.Symbols.{Assign, Primary, Props, PropsTail, Prop, Side}
-use Rattle.swc_grammar.specs.Tokens.{tk, with_in, is_dots, is_equals, is_get, is_rbrace, is_star, is_word}
-use Rattle.swc_grammar.specs.Tokens.{ends_prop, follows_key}
+use Rattle.swc_grammar.specs.Tokens.{tk, with_in, is_dots, is_equals, is_get, is_set, is_question, is_rbrace, is_star}
+use Rattle.swc_grammar.specs.Tokens.{is_word, ends_prop, follows_key}
 use Rattle.swc_grammar.specs.Trees.{to, object_e, listed, items_of, spread_prop_e, short_e, cover_e, ident_e}
 use Rattle.swc_grammar.specs.Grammar.{Production, object-lit, prop-spread, prop-short, prop-cover, prop-key}
 use Rattle.swc_grammar.specs.Grammar.{prop-generator, prop-async, prop-async-generator, prop-getter}
 use Rattle.swc_grammar.specs.Names.{Spelling, may_name}
 use Rattle.swc_grammar.specs.Parts.{any_name}
 use Rattle.swc_grammar.specs.Rule.{gives, must, given, symbol, token as token_of, ◌>>=◌ as ◌▸◌, ◌>>◌}
-use Rattle.swc_grammar.specs.Clean.{Out, and_then, first, second, sym as at, exec, Choice, none, pick, chosen, plan}
-use Rattle.swc_grammar.specs.Clean.{primary, prop, prop_word, step, run}
+use Rattle.swc_grammar.specs.Clean.{and_then, first, second, sym as at, exec, Choice, none, pick, chosen, plan}
+use Rattle.swc_grammar.specs.Clean.{primary, prop, prop_word, async_method, step, run}
 use Rattle.swc_grammar.specs.Words.{◌>>=◌, one, word}
 use Rattle.swc_grammar.proofs.Complete.{last}
 use Rattle.swc_grammar.proofs.Knot.{knot}
 use Rattle.swc_grammar.proofs.Only.{only-brace, only-rbrace}
 use Rattle.swc_grammar.proofs.Rules.{run_picked}
 use Rattle.swc_nodes.specs.Lists.{trees_append}
+use Rattle.swc_productions.specs.declared.kinds.MethodKind.{MethodKind}
+use Rattle.swc_productions.specs.declared.kinds.MethodKind.TheVariants as method
+use Rattle.swc_productions.specs.declared.kinds.Modifier.{Modifier}
+use Rattle.swc_productions.specs.declared.kinds.Modifier.TheVariants as modifier
 use Rattle.swc_productions.specs.declared.kinds.PropKind.{PropKind}
 use Rattle.swc_productions.specs.declared.kinds.PropKind.TheVariants as kind
 use Rattle.swc_productions.specs.Readers.{reading, by_production, inside}
@@ -34,7 +38,10 @@ use Rattle.swc_productions.specs.Lists.{eaten, eaten_by, closed, separated, put_
 use Rattle.swc_productions.specs.Properties.{object_lit_tail, prop_item, props_behind, props_more, props_by}
 use Rattle.swc_productions.specs.Properties.{spread_prop_tail, prop_plain, prop_by, open_by, open_name}
 use Rattle.swc_productions.specs.Properties.{cover_tail, cover_by, cover_behind}
-use Rattle.swc_productions.specs.Properties.{word_kind, prop_kind}
+use Rattle.swc_productions.specs.Properties.{modifier_of, by_modifier, word_kind, prop_kind}
+use Rattle.swc_productions.specs.Methods.{modifiers, method_tail}
+use Rattle.swc_productions.proofs.Keys.{bind_none}
+use Rattle.swc_productions.proofs.Methods.{generator_splits, async_splits, async_generator_splits, getter_splits, setter_not}
 use Rattle.swc_productions.proofs.Steps.{not_true, not_false}
 use Rattle.swc_productions.proofs.Lists.{calls, binds, bind_same, twice}
 
@@ -58,22 +65,41 @@ chosen_by f false p q = q
 
 module _ {F C K : Type 0} {c : Context} where
   -- which production each kind of property is
+  abbrev method_choice : MethodKind → Choice F C K Prop c
+  method_choice method.Generator = pick prop-generator
+  method_choice method.Async = pick prop-async
+  method_choice method.AsyncGenerator = pick prop-async-generator
+  method_choice method.Getter = pick prop-getter
+  method_choice method.Setter = none
+
   abbrev kind_choice : PropKind → Choice F C K Prop c
   kind_choice kind.Spread = pick prop-spread
-  kind_choice kind.Generator = pick prop-generator
   kind_choice kind.Shorthand = pick prop-short
   kind_choice kind.Cover = pick prop-cover
   kind_choice kind.Key = pick prop-key
-  kind_choice kind.Getter = pick prop-getter
-  kind_choice kind.Async = pick prop-async
-  kind_choice kind.AsyncGenerator = pick prop-async-generator
+  kind_choice (kind.Method m) = method_choice m
+  kind_choice kind.Questioned = none
   kind_choice kind.Unfit = none
+
+  -- neither a setter nor a word that begins no method is a production
+  other_choice : (b with_star : Bool)
+      → kind_choice (by_modifier (if b then modifier.Set else modifier.Other) with_star) ≡ none
+  other_choice true with_star = refl
+  other_choice false with_star = refl
+
+  modifier_choice : (t u : Option TokenAndSpan)
+      → kind_choice (by_modifier (modifier_of t) (at_token is_star u))
+      ≡ (if at_token is_get t then pick prop-getter else (if at_token is_async t then async_method u else none))
+  modifier_choice t u =
+      chosen_by (λ m. kind_choice (by_modifier m (at_token is_star u))) (at_token is_get t) refl
+      (chosen_by (λ m. kind_choice (by_modifier m (at_token is_star u))) (at_token is_async t)
+      (chosen_by method_choice (at_token is_star u) refl refl) (other_choice (at_token is_set t) (at_token is_star u)))
 
   word_choice : (t u : Option TokenAndSpan) → kind_choice (word_kind t u) ≡ prop_word t u
   word_choice t u =
       chosen_by kind_choice (at_token ends_prop u) refl (chosen_by kind_choice (at_token is_equals u) refl
-      (chosen_by kind_choice (at_token follows_key u) refl (chosen_by kind_choice (at_token is_get t) refl
-      (chosen_by kind_choice (at_token is_async t) (chosen_by kind_choice (at_token is_star u) refl refl) refl))))
+      (chosen_by kind_choice (at_token follows_key u) refl (chosen_by kind_choice (at_token is_question u) refl
+      (modifier_choice t u))))
 
   prop_choice : (ts : List TokenAndSpan) → kind_choice (prop_kind ts) ≡ prop c ts
   prop_choice ts =
@@ -329,33 +355,34 @@ module _ {F C K : Type 0} (hook : Hook F C K) where
   unfolding by_production reading
   key_picked x ts h = kind_picked x ts prop-key kind.Key refl h
 
-  pub generator_picked : (x : Context) (ts : List TokenAndSpan) → prop_kind ts ≡ kind.Generator
+  generator_picked : (x : Context) (ts : List TokenAndSpan) → prop_kind ts ≡ kind.Method method.Generator
       → run hook (at Prop) x ts ≡ by_production hook (λ c. prop-generator) x ts
   unfolding by_production reading
-  generator_picked x [] h = kind_picked x [] prop-generator kind.Generator refl h
-  generator_picked x (t ∷ ts) h = kind_picked x (t ∷ ts) prop-generator kind.Generator refl h
+  generator_picked x [] h = kind_picked x [] prop-generator (kind.Method method.Generator) refl h
+  generator_picked x (t ∷ ts) h = kind_picked x (t ∷ ts) prop-generator (kind.Method method.Generator) refl h
 
-  pub getter_picked : (x : Context) (ts : List TokenAndSpan) → prop_kind ts ≡ kind.Getter
+  getter_picked : (x : Context) (ts : List TokenAndSpan) → prop_kind ts ≡ kind.Method method.Getter
       → run hook (at Prop) x ts ≡ by_production hook (λ c. prop-getter) x ts
   unfolding by_production reading
-  getter_picked x [] h = kind_picked x [] prop-getter kind.Getter refl h
-  getter_picked x (t ∷ ts) h = kind_picked x (t ∷ ts) prop-getter kind.Getter refl h
+  getter_picked x [] h = kind_picked x [] prop-getter (kind.Method method.Getter) refl h
+  getter_picked x (t ∷ ts) h = kind_picked x (t ∷ ts) prop-getter (kind.Method method.Getter) refl h
 
-  pub async_picked : (x : Context) (ts : List TokenAndSpan) → prop_kind ts ≡ kind.Async
+  async_picked : (x : Context) (ts : List TokenAndSpan) → prop_kind ts ≡ kind.Method method.Async
       → run hook (at Prop) x ts ≡ by_production hook (λ c. prop-async) x ts
   unfolding by_production reading
-  async_picked x [] h = kind_picked x [] prop-async kind.Async refl h
-  async_picked x (t ∷ ts) h = kind_picked x (t ∷ ts) prop-async kind.Async refl h
+  async_picked x [] h = kind_picked x [] prop-async (kind.Method method.Async) refl h
+  async_picked x (t ∷ ts) h = kind_picked x (t ∷ ts) prop-async (kind.Method method.Async) refl h
 
-  pub async_generator_picked : (x : Context) (ts : List TokenAndSpan) → prop_kind ts ≡ kind.AsyncGenerator
+  async_generator_picked : (x : Context) (ts : List TokenAndSpan) → prop_kind ts ≡ kind.Method method.AsyncGenerator
       → run hook (at Prop) x ts ≡ by_production hook (λ c. prop-async-generator) x ts
   unfolding by_production reading
-  async_generator_picked x [] h = kind_picked x [] prop-async-generator kind.AsyncGenerator refl h
-  async_generator_picked x (t ∷ ts) h = kind_picked x (t ∷ ts) prop-async-generator kind.AsyncGenerator refl h
+  async_generator_picked x [] h = kind_picked x [] prop-async-generator (kind.Method method.AsyncGenerator) refl h
+  async_generator_picked x (t ∷ ts) h = kind_picked x (t ∷ ts) prop-async-generator (kind.Method method.AsyncGenerator) refl h
 
-  pub prop_unfit : (x : Context) (ts : List TokenAndSpan) → prop_kind ts ≡ kind.Unfit → run hook (at Prop) x ts ≡ None
-  prop_unfit x ts h = knot hook (at Prop) x ts ∙ ap (λ v. exec hook (run hook) (Some 4) (chosen v) ts)
-      (sym (prop_choice ts) ∙ ap kind_choice h)
+  none_picked : (x : Context) (ts : List TokenAndSpan) (k : PropKind) → prop_kind ts ≡ k
+      → kind_choice {F = F} {C = C} {K = K} {c = x} k ≡ none → run hook (at Prop) x ts ≡ None
+  none_picked x ts k h e = knot hook (at Prop) x ts ∙ ap (λ v. exec hook (run hook) (Some 4) (chosen v) ts)
+      (sym (prop_choice ts) ∙ ap kind_choice h ∙ e)
 
   -- where no dots stand, as at each other kind
   pub plain_here : (x : Context) (ts : List TokenAndSpan) → at_token is_dots (first ts) ≡ false
@@ -375,23 +402,28 @@ spread_by : (b : Bool) (k : PropKind) → (k ≡ kind.Spread → ⊥) → (if b 
 spread_by true k n h = refl
 spread_by false k n h = absurd (n h)
 
+no_modifier_spread : (m : Modifier) (with_star : Bool) → by_modifier m with_star ≡ kind.Spread → ⊥
+no_modifier_spread modifier.Get with_star h = cc
+no_modifier_spread modifier.Set with_star h = cc
+no_modifier_spread modifier.Async with_star h = cc
+no_modifier_spread modifier.Other with_star h = cc
+
 no_word_spread : (t u : Option TokenAndSpan) → word_kind t u ≡ kind.Spread → ⊥
-no_word_spread t u = by_four (at_token ends_prop u) (at_token is_equals u) (at_token follows_key u) (at_token is_get t)
-    (at_token is_async t) (at_token is_star u)
+no_word_spread t u = by_four (at_token ends_prop u) (at_token is_equals u) (at_token follows_key u)
+    (at_token is_question u) (by_modifier (modifier_of t) (at_token is_star u))
+    (no_modifier_spread (modifier_of t) (at_token is_star u))
   where
-    by_four : (a b c d e f : Bool) → (if a then kind.Shorthand else (if b then kind.Cover else (if c then kind.Key else
-        (if d then kind.Getter else (if e then (if f then kind.AsyncGenerator else kind.Async) else kind.Unfit)))))
-        ≡ kind.Spread → ⊥
-    by_four true b c d e f h = cc
-    by_four false true c d e f h = cc
-    by_four false false true d e f h = cc
-    by_four false false false true e f h = cc
-    by_four false false false false true true h = cc
-    by_four false false false false true false h = cc
-    by_four false false false false false f h = cc
+    by_four : (a b c d : Bool) (k : PropKind) → (k ≡ kind.Spread → ⊥)
+        → (if a then kind.Shorthand else
+        (if b then kind.Cover else (if c then kind.Key else (if d then kind.Questioned else k)))) ≡ kind.Spread → ⊥
+    by_four true b c d k n h = cc
+    by_four false true c d k n h = cc
+    by_four false false true d k n h = cc
+    by_four false false false true k n h = cc
+    by_four false false false false k n h = n h
 
 no_other_spread : (a b : Bool) (t u : Option TokenAndSpan)
-    → (if a then kind.Generator else (if b then word_kind t u else kind.Key)) ≡ kind.Spread → ⊥
+    → (if a then kind.Method method.Generator else (if b then word_kind t u else kind.Key)) ≡ kind.Spread → ⊥
 no_other_spread true b t u h = cc
 no_other_spread false true t u h = no_word_spread t u h
 no_other_spread false false t u h = cc
@@ -418,24 +450,31 @@ module _ {F C K : Type 0} (hook : Hook F C K) where
       → prop_plain hook x ts ≡ by_production hook (λ c. prop-key) x ts
   plain_key x ts h = plain_kind x ts kind.Key h (λ q. cc) ∙ key_picked hook x ts h
 
-  pub plain_generator : (x : Context) (ts : List TokenAndSpan) → prop_kind ts ≡ kind.Generator
-      → prop_plain hook x ts ≡ by_production hook (λ c. prop-generator) x ts
-  plain_generator x ts h = plain_kind x ts kind.Generator h (λ q. cc) ∙ generator_picked hook x ts h
+  -- a method by its kind; a setter is no production, and never read
+  pub plain_method : (m : MethodKind) (x : Context) (ts : List TokenAndSpan) → prop_kind ts ≡ kind.Method m
+      → prop_plain hook x ts ≡ (modifiers m x ts >>= (λ p. method_tail hook m p.0 x p.1))
+  plain_method method.Generator x ts h =
+      plain_kind x ts (kind.Method method.Generator) h (λ q. cc) ∙ generator_picked hook x ts h
+      ∙ generator_splits hook x ts
+  plain_method method.Async x ts h =
+      plain_kind x ts (kind.Method method.Async) h (λ q. cc) ∙ async_picked hook x ts h ∙ async_splits hook x ts
+  plain_method method.AsyncGenerator x ts h =
+      plain_kind x ts (kind.Method method.AsyncGenerator) h (λ q. cc) ∙ async_generator_picked hook x ts h
+      ∙ async_generator_splits hook x ts
+  plain_method method.Getter x ts h =
+      plain_kind x ts (kind.Method method.Getter) h (λ q. cc) ∙ getter_picked hook x ts h ∙ getter_splits hook x ts
+  plain_method method.Setter x ts h =
+      plain_kind x ts (kind.Method method.Setter) h (λ q. cc)
+      ∙ none_picked hook x ts (kind.Method method.Setter) h refl
+      ∙ sym (bind_none (modifiers method.Setter x ts) _ (λ p. setter_not hook p.0 x p.1))
 
-  pub plain_async : (x : Context) (ts : List TokenAndSpan) → prop_kind ts ≡ kind.Async
-      → prop_plain hook x ts ≡ by_production hook (λ c. prop-async) x ts
-  plain_async x ts h = plain_kind x ts kind.Async h (λ q. cc) ∙ async_picked hook x ts h
-
-  pub plain_async_generator : (x : Context) (ts : List TokenAndSpan) → prop_kind ts ≡ kind.AsyncGenerator
-      → prop_plain hook x ts ≡ by_production hook (λ c. prop-async-generator) x ts
-  plain_async_generator x ts h = plain_kind x ts kind.AsyncGenerator h (λ q. cc) ∙ async_generator_picked hook x ts h
-
-  pub plain_getter : (x : Context) (ts : List TokenAndSpan) → prop_kind ts ≡ kind.Getter
-      → prop_plain hook x ts ≡ by_production hook (λ c. prop-getter) x ts
-  plain_getter x ts h = plain_kind x ts kind.Getter h (λ q. cc) ∙ getter_picked hook x ts h
+  pub plain_questioned : (x : Context) (ts : List TokenAndSpan) → prop_kind ts ≡ kind.Questioned
+      → prop_plain hook x ts ≡ None
+  plain_questioned x ts h =
+      plain_kind x ts kind.Questioned h (λ q. cc) ∙ none_picked hook x ts kind.Questioned h refl
 
   pub plain_unfit : (x : Context) (ts : List TokenAndSpan) → prop_kind ts ≡ kind.Unfit → prop_plain hook x ts ≡ None
-  plain_unfit x ts h = plain_kind x ts kind.Unfit h (λ q. cc) ∙ prop_unfit hook x ts h
+  plain_unfit x ts h = plain_kind x ts kind.Unfit h (λ q. cc) ∙ none_picked hook x ts kind.Unfit h refl
 
   pub plain_spread : (x : Context) (ts : List TokenAndSpan) → prop_kind ts ≡ kind.Spread → prop_plain hook x ts ≡ None
   unfolding prop_plain

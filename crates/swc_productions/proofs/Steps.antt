@@ -29,6 +29,7 @@ use Rattle.swc_productions.specs.Lists.{eaten}
 use Rattle.swc_productions.specs.Parsing.{is_memory, seen, seen_of, recorded, Loud, Spends, Leads, Advances, Moves}
 use Rattle.swc_productions.specs.Parsing.{Refuses, Forgoes, Consumes, Acts, Tries, Here, Looks, Unfit, Checks, On}
 use Rattle.swc_productions.specs.Parsing.{Heard, Unheard, Parses, Continues, TookLiteral, Told}
+use Rattle.swc_productions.specs.Readers.{nothing}
 
 abbrev pub Reader : Type 0 → Type 0
 Reader A = Context → List TokenAndSpan → Out A
@@ -403,6 +404,48 @@ module _ {S : Type 0} {model : Model S} {sure : Bool} where
         clean = λ l s ys fut. let k = lt (loud_after q l) in absurd (omega (arith, s, m, k));
         faulty = λ y l more ts k. u.none n y l ts k;
       }
+
+  -- Where f reads nothing of any list, what is heard is a fault that was recorded: whatever it stands for, and whatever follows.
+  pub heard_none : {A : Type 0} {f : Reader A} {t u : A} {b c : Buffer S} → ((x : Context) (ts : List TokenAndSpan) → f x ts ≡ None) → Heard model sure f t b c → Heard model sure f u b c
+  heard_none {b = b} none h = record {
+    on = record {
+      leads = h.on.leads;
+      clean = λ l s ys fut. let e = sym (none (context model b) (h.on.leads.taken ++ ys)) ∙ h.on.clean l s ys fut in absurd cc;
+      faulty = h.on.faulty;
+    };
+    some = h.some;
+  }
+
+  pub on_nothing : {A B : Type 0} {g : Reader A} {v : B} {b c : Buffer S} → Heard model sure nothing v b c → On model sure nothing g b c
+  on_nothing h = record {
+    leads = h.on.leads;
+    clean = λ l s ys fut. let e = h.on.clean l s ys fut in absurd cc;
+    faulty = λ y l lt ts k. refl;
+  }
+
+  pub heard_nothing : {A B : Type 0} {u : A} {v : B} {b c d : Buffer S} → Heard model sure nothing v b c → Leads model c d → Heard model sure nothing u b d
+  unfolding leads_then
+  heard_nothing {b = b} {c = c} {d = d} h q =
+      let m = more_recorded h.on.leads in
+      let n = more_recorded q in
+      record {
+        on = record {
+          leads = leads_then h.on.leads q;
+          clean = λ l s ys fut.
+              let s1 : recorded model c ≡ recorded model b = omega arith in
+              let e = h.on.clean l s1 (q.taken ++ ys) (Future-before q.laws c d q.taken ys q.read.took fut) in absurd cc;
+          faulty = λ y l lt ts k. refl;
+        };
+        some = let l = length-append h.on.leads.taken q.taken in let s = h.some in omega arith;
+      }
+
+  -- a fault is recorded behind what was consumed
+  pub heard_noted : {A : Type 0} {u : A} {b c d : Buffer S} (p : Leads model b c) → 1 ≤ length p.taken → (q : Leads model c d) → (Loud model c → recorded model c < recorded model d) → Heard model sure nothing u b d
+  unfolding leads_then noted
+  heard_noted p some q lt = record {
+    on = noted (leads_then p q) (λ l. let m = more_recorded p in let k = lt (loud_after p l) in omega arith) (λ ts. refl);
+    some = let l = length-append p.taken q.taken in omega arith;
+  }
 
   pub unheard_doomed : {A : Type 0} {f : Reader A} {b c d : Buffer S} {e x : Error} → Unheard model sure f b e c → (x.kind ≢ OutOfMemory → e.kind ≢ OutOfMemory) → Refuses model c x d → Unheard model sure f b x d
   unheard_doomed u n r = record {
@@ -839,6 +882,16 @@ module _ {S : Type 0} (model : Model S) where
   pub consumes_falls : {T : Type 0} (b c : Buffer S) (r : Result T Error) → Consumes model b r c → OnOk r (to_come model c ≤ to_come model b)
   consumes_falls b c (Ok x) h = less h.leads
   consumes_falls b c (Err e) h = tt
+
+module _ {S : Type 0} (model : Model S) where
+  -- a sign that is taken where it stands, or not
+  pub eats_acts : (f : Token → Bool) (b c : Buffer S) (r : Result (Option Span) Error) →
+      MatchResult r
+      (λ o. MatchOption o (On model true (eaten f) (λ x ts. Some (None, ts)) b c) (λ s. Heard model true (eaten f) (Some s) b c))
+      (λ e. Unheard model true (eaten f) b e c) → Acts model b r c
+  eats_acts f b c (Ok None) h = h.leads
+  eats_acts f b c (Ok (Some s)) h = h.on.leads
+  eats_acts f b c (Err e) h = h.refuses
 
 -- a sign that is taken where it stands
 module _ {S : Type 0} {model : Model S} (sure : Bool) (f : Token → Bool) where

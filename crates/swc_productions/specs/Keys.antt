@@ -1,5 +1,5 @@
 -- What the steps of the code read in keys and in the functions of methods, by the clean parser.
-use Rattle.std.specs.Prelude.{Bool, true, false, List, Option, Some, None}
+use Rattle.std.specs.Prelude.{Bool, true, false, if◌then◌else◌, List, Option, Some, None}
 use Rattle.swc_context.specs.declared.context.Context.{Context}
 use Rattle.swc_context.specs.declared.span.Span.{Span}
 use Rattle.swc_input.specs.declared.token.Token.{Token}
@@ -12,7 +12,8 @@ use Rattle.swc_grammar.specs.Tokens.{is_word, is_lparen, is_rparen, is_rbracket,
 use Rattle.swc_grammar.specs.Trees.{to, name_e, computed_e, function_e, block_e}
 use Rattle.swc_grammar.specs.Parts.{key_lit_of}
 use Rattle.swc_grammar.specs.Names.{may_name}
-use Rattle.swc_grammar.specs.Clean.{Out, first}
+use Rattle.swc_grammar.specs.Symbols.{Shell}
+use Rattle.swc_grammar.specs.Clean.{Out, first, sym, run}
 use Rattle.swc_grammar.specs.Words.{◌>>=◌, rest, one, word}
 use Rattle.swc_productions.specs.Lists.{eaten}
 use Rattle.swc_productions.specs.Readers.{inside}
@@ -65,12 +66,29 @@ module _ {F C K : Type 0} (hook : Hook F C K) where
 
 -- ---- the functions of methods (15.4)
 
--- two parentheses with nothing between them, by the place of the first; and the same where parameters stand
-unfoldable pub parens : Context → List TokenAndSpan → Out Span
-parens c ts = expected is_lparen c ts >>= (λ p. expected is_rparen c p.1 >>= (λ q. Some (p.0, q.1)))
+-- parameters, of which there are none so far: they end before a parenthesis that closes, or at the end
+abbrev pub ends_params : Option TokenAndSpan → Bool
+ends_params None = true
+ends_params (Some t) = is_rparen t.token
 
-unfoldable pub params : Bool → Bool → Context → List TokenAndSpan → Out Span
-params is_async is_generator c ts = parens (method_params is_async is_generator c) ts
+unfoldable pub no_params : Context → List TokenAndSpan → Out (Unit {0})
+no_params c ts = if ends_params (first ts) then Some (tt, ts) else None
+
+-- Two parentheses with nothing between them, by the place of the first, s: behind the parameters, and behind the first.
+-- Those of a setter read nothing: that it has no parameter is a fault.
+abbrev pub parens_close : Bool → Span → Context → List TokenAndSpan → Out Span
+parens_close true s c ts = None
+parens_close false s c ts = expected is_rparen c ts >>= (λ q. Some (s, q.1))
+
+unfoldable pub parens_tail : Bool → Span → Context → List TokenAndSpan → Out Span
+parens_tail of_setter s c ts = no_params c ts >>= (λ p. parens_close of_setter s c p.1)
+
+unfoldable pub parens : Bool → Context → List TokenAndSpan → Out Span
+parens of_setter c ts = expected is_lparen c ts >>= (λ p. parens_tail of_setter p.0 c p.1)
+
+-- the same where parameters stand
+unfoldable pub params : Bool → Bool → Bool → Context → List TokenAndSpan → Out Span
+params of_setter is_async is_generator c ts = parens of_setter (method_params is_async is_generator c) ts
 
 -- the block of a method
 unfoldable pub method_body : {F C K : Type 0} → Hook F C K → Bool → Bool → Context → List TokenAndSpan → Out K
@@ -80,6 +98,11 @@ method_body hook is_async is_generator c ts = hook.block (method_block is_async 
 abbrev pub shell_node : {F C K : Type 0} → (K → Span) → Span → Bool → Bool → K → Tree F C K
 shell_node block_at s is_async is_generator v =
     function_e (to s (block_at v)) is_async is_generator (block_e (block_at v) v)
+
+-- the function of a method; of a setter none is read
+abbrev pub shell : {F C K : Type 0} → Hook F C K → Bool → Bool → Bool → Context → List TokenAndSpan → Out (Tree F C K)
+shell hook of_setter is_async is_generator c ts =
+    if of_setter then None else run hook (sym (Shell is_async is_generator)) c ts
 
 -- behind the parentheses
 abbrev pub shell_tail : {F C K : Type 0} → (K → Span) → Hook F C K → Bool → Bool → Span → Context → List TokenAndSpan

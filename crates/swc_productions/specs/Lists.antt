@@ -9,7 +9,7 @@ use Rattle.swc_ast.specs.Tree.{Tree, Trees, nil, cons, span_of}
 use Rattle.swc_bodies.specs.Readings.{Hook, is_async}
 use Rattle.swc_grammar.specs.Symbols.{Elements, Item}
 use Rattle.swc_grammar.specs.Tokens.{with_in, is_comma, is_dots, is_lparen, is_rparen, is_lbracket, is_rbracket}
-use Rattle.swc_grammar.specs.Tokens.{is_rbrace, is_equals, is_colon, is_star, is_get}
+use Rattle.swc_grammar.specs.Tokens.{is_rbrace, is_equals, is_colon, is_star, is_get, is_set, is_question}
 use Rattle.swc_grammar.specs.Trees.{to, array_e, hole_e, listed, items_of}
 use Rattle.swc_grammar.specs.Clean.{Out, first, sym, run}
 use Rattle.swc_grammar.specs.Words.{◌>>=◌}
@@ -31,6 +31,8 @@ is_sign_token sign.Colon = is_colon
 is_sign_token sign.Star = is_star
 is_sign_token sign.Async = is_async
 is_sign_token sign.Get = is_get
+is_sign_token sign.Set = is_set
+is_sign_token sign.Question = is_question
 
 -- a token that passes a test is taken, if it stands first
 abbrev pub eaten_by : Bool → List TokenAndSpan → Out (Option Span)

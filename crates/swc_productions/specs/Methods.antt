@@ -1,5 +1,5 @@
 -- What the steps of the code read in properties that have a key, methods among them, by the clean parser.
-use Rattle.std.specs.Prelude.{◌++◌, Bool, true, false, List, Option, Some, None}
+use Rattle.std.specs.Prelude.{Bool, true, false, List, Option, Some, None}
 use Rattle.swc_context.specs.declared.context.Context.{Context}
 use Rattle.swc_context.specs.declared.span.Span.{Span}
 use Rattle.swc_input.specs.declared.token.TokenAndSpan.{TokenAndSpan}
@@ -9,7 +9,7 @@ use Rattle.swc_ast.specs.declared.function.Function.{Function}
 use Rattle.swc_ast.specs.declared.prop.PropName.{PropName}
 use Rattle.swc_bodies.specs.Readings.{Hook, is_async}
 use Rattle.swc_grammar.specs.Symbols.{Key, AfterKey as Behind, Shell}
-use Rattle.swc_grammar.specs.Tokens.{is_get, is_star}
+use Rattle.swc_grammar.specs.Tokens.{is_get, is_set, is_star}
 use Rattle.swc_grammar.specs.Trees.{to, value_e, prop_of, method_e, getter_e}
 use Rattle.swc_grammar.specs.Clean.{Out, sym, run}
 use Rattle.swc_grammar.specs.Words.{◌>>=◌}
@@ -18,17 +18,52 @@ use Rattle.swc_nodes.specs.declared.node.ExprId.{ExprId}
 use Rattle.swc_nodes.specs.declared.node.PatId.{PatId}
 use Rattle.swc_nodes.specs.declared.node.PropNode.{PropNode}
 use Rattle.swc_nodes.specs.declared.node.PropNode.TheVariants as prop
+use Rattle.swc_productions.specs.declared.kinds.MethodKind.{MethodKind}
+use Rattle.swc_productions.specs.declared.kinds.MethodKind.TheVariants as kind
 use Rattle.swc_productions.specs.declared.object.AfterKey.{AfterKey}
 use Rattle.swc_productions.specs.declared.object.AfterKey.TheVariants as after
 use Rattle.swc_productions.specs.Readers.{inside}
-use Rattle.swc_productions.specs.Keys.{expected}
+use Rattle.swc_productions.specs.Keys.{expected, shell}
 
--- The node of a key and of what stands behind it; of a method that begins at s, and of a getter.
+-- which kinds of methods are async, generators and setters
+abbrev pub of_async : MethodKind → Bool
+of_async kind.Async = true
+of_async kind.AsyncGenerator = true
+of_async m = false
+
+abbrev pub of_generator : MethodKind → Bool
+of_generator kind.Generator = true
+of_generator kind.AsyncGenerator = true
+of_generator m = false
+
+abbrev pub of_setter : MethodKind → Bool
+of_setter kind.Setter = true
+of_setter m = false
+
+-- The node of a key and of what stands behind it; of a method that begins at s, and of a getter and a setter.
 abbrev pub method_behind : {K : Type 0} → Span → PropName ExprId → Function PatId K → PropNode K
 method_behind s k f = prop.Method k (record f { span = to s f.span })
 
 abbrev pub getter_behind : {K : Type 0} → Span → PropName ExprId → Function PatId K → PropNode K
 getter_behind s k f = prop.Getter (to s f.span) k f.body
+
+abbrev pub setter_behind : {K : Type 0} → Span → PropName ExprId → PatId → Function PatId K → PropNode K
+setter_behind s k p f = prop.Setter (to s f.span) k p f.body
+
+-- the node of a method of a kind, which begins at s; of a setter with its parameter
+abbrev pub setter_node : {K : Type 0} → Span → PropName ExprId → Function PatId K → Option PatId → PropNode K
+setter_node s k f None = method_behind s k f
+setter_node s k f (Some p) = setter_behind s k p f
+
+abbrev pub method_node : {K : Type 0} → MethodKind → Span → PropName ExprId → Function PatId K → Option PatId → PropNode K
+method_node kind.Getter s k f o = getter_behind s k f
+method_node kind.Setter s k f o = setter_node s k f o
+method_node m s k f o = method_behind s k f
+
+-- the tree of a method of a kind, but of a setter, which is never read
+abbrev pub method_tree : {F C K : Type 0} → MethodKind → Span → Tree F C K → Tree F C K → Tree F C K
+method_tree kind.Getter s k f = getter_e (to s (span_of f)) k f
+method_tree m s k f = method_e (to s (span_of f)) k f
 
 abbrev pub prop_behind : {K : Type 0} → PropName ExprId → AfterKey K → PropNode K
 prop_behind k (after.Value s e) = prop.KeyValue (to (prop_name_span k) s) k e
@@ -38,6 +73,17 @@ prop_behind k (after.Method f) = method_behind (prop_name_span k) k f
 abbrev pub after_parts : {K : Type 0} → AfterKey K → List Part
 after_parts (after.Value s e) = one_expr e
 after_parts (after.Method f) = flat param_parts f.params.items
+
+-- what a method of a kind begins with, before its key
+unfoldable pub async_star : Context → List TokenAndSpan → Out Span
+async_star c ts = expected is_async c ts >>= (λ p. expected is_star c p.1 >>= (λ q. Some (p.0, q.1)))
+
+abbrev pub modifiers : MethodKind → Context → List TokenAndSpan → Out Span
+modifiers kind.Generator c ts = expected is_star c ts
+modifiers kind.Async c ts = expected is_async c ts
+modifiers kind.AsyncGenerator c ts = async_star c ts
+modifiers kind.Getter c ts = expected is_get c ts
+modifiers kind.Setter c ts = expected is_set c ts
 
 module _ {F C K : Type 0} (hook : Hook F C K) where
   -- ---- a key, and what stands behind it (13.2.5)
@@ -56,22 +102,13 @@ module _ {F C K : Type 0} (hook : Hook F C K) where
 
   -- ---- methods (15.4)
 
-  -- a method that begins at s, from its key on, and behind the key k; and the same of a getter
-  unfoldable pub method_close : Span → Bool → Bool → Tree F C K → Context → List TokenAndSpan → Out (Tree F C K)
-  method_close s is_async is_generator k c ts =
-      run hook (sym (Shell is_async is_generator)) c ts >>= (λ p. Some (method_e (to s (span_of p.0)) k p.0, p.1))
+  -- the function of a method of a kind
+  abbrev pub method_function : MethodKind → Context → List TokenAndSpan → Out (Tree F C K)
+  method_function m c ts = shell hook (of_setter m) (of_async m) (of_generator m) c ts
 
-  unfoldable pub method_tail : Span → Bool → Bool → Context → List TokenAndSpan → Out (Tree F C K)
-  method_tail s is_async is_generator c ts =
-      run hook (sym Key) c ts >>= (λ p. method_close s is_async is_generator p.0 c p.1)
+  -- a method of a kind that begins at s, from its key on, and behind the key k
+  unfoldable pub method_close : MethodKind → Span → Tree F C K → Context → List TokenAndSpan → Out (Tree F C K)
+  method_close m s k c ts = method_function m c ts >>= (λ p. Some (method_tree m s k p.0, p.1))
 
-  unfoldable pub getter_close : Span → Tree F C K → Context → List TokenAndSpan → Out (Tree F C K)
-  getter_close s k c ts =
-      run hook (sym (Shell false false)) c ts >>= (λ p. Some (getter_e (to s (span_of p.0)) k p.0, p.1))
-
-  unfoldable pub getter_tail : Span → Context → List TokenAndSpan → Out (Tree F C K)
-  getter_tail s c ts = run hook (sym Key) c ts >>= (λ p. getter_close s p.0 c p.1)
-
-  -- behind `async`, which stands at s, where a star is to follow
-  unfoldable pub async_generator_tail : Span → Context → List TokenAndSpan → Out (Tree F C K)
-  async_generator_tail s c ts = expected is_star c ts >>= (λ p. method_tail s true true c p.1)
+  unfoldable pub method_tail : MethodKind → Span → Context → List TokenAndSpan → Out (Tree F C K)
+  method_tail m s c ts = run hook (sym Key) c ts >>= (λ p. method_close m s p.0 c p.1)

@@ -37,7 +37,7 @@ use Rattle.swc_grammar.specs.Words.{rest}
 use Rattle.swc_grammar.specs.Names.{Spelling, spelling}
 use Rattle.swc_grammar.specs.Tokens.{is_strict_word}
 use Rattle.swc_nodes.specs.Lists.{elem_parts, elem_tree, elem_trees, props_parts, props_trees}
-use Rattle.swc_nodes.specs.Slots.{expr_part, flat, if_some, item_parts, key_parts, param_parts, prop_parts}
+use Rattle.swc_nodes.specs.Slots.{expr_part, flat, if_some, item_parts, key_parts, one_pat, param_parts, prop_parts}
 use Rattle.swc_nodes.specs.Stands.{tree_at, count, From, Apart, Grows}
 use Rattle.swc_nodes.specs.declared.node.ExprId.{ExprId}
 use Rattle.swc_nodes.specs.declared.node.PatId.{PatId}
@@ -271,6 +271,10 @@ module _ {F C K : Type 0} {fg : Ghosts F} {cg : Ghosts C} {kg : Ghosts K} where
   abbrev pub shell_of : ℕ → Nodes F C K fg cg kg → Function PatId K → Type 0
   shell_of k ns f = Apart k ns (flat param_parts f.params.items) × (f.params.items ≡ [])
 
+  -- of that function, and of a setter's parameter
+  abbrev pub function_of : ℕ → Nodes F C K fg cg kg → Function PatId K × Option PatId → Type 0
+  function_of k ns p = shell_of k ns p.0 × Apart k ns (if_some one_pat p.1)
+
   abbrev pub after_of : ℕ → Nodes F C K fg cg kg → AfterKey K → Type 0
   after_of k ns (after.Value s e) = From k ns (expr_part e)
   after_of k ns (after.Method f) = shell_of k ns f
@@ -300,6 +304,9 @@ module _ {F C K : Type 0} {fg : Ghosts F} {cg : Ghosts C} {kg : Ghosts K} where
 
   abbrev pub shell_at : Nodes F C K fg cg kg → Function PatId K → Tree F C K
   shell_at ns f = function_tree kg.place (λ p. tree_at ns p.0) f
+
+  abbrev pub function_at : Nodes F C K fg cg kg → Function PatId K × Option PatId → Tree F C K
+  function_at ns p = shell_at ns p.0
 
   abbrev pub after_at : Nodes F C K fg cg kg → AfterKey K → Tree F C K
   after_at ns (after.Value s e) = value_e s (tree_of ns e)

@@ -9,12 +9,17 @@ use Rattle.swc_input.specs.Kinds.{at_token}
 use Rattle.swc_ast.specs.Tree.{Tree, Trees, nil, cons, span_of}
 use Rattle.swc_bodies.specs.Readings.{Hook, is_async}
 use Rattle.swc_grammar.specs.Symbols.{Props, Prop}
-use Rattle.swc_grammar.specs.Tokens.{is_dots, is_equals, is_get, is_rbrace, is_star, is_word, ends_prop, follows_key}
+use Rattle.swc_grammar.specs.Tokens.{is_dots, is_equals, is_get, is_set, is_question, is_rbrace, is_star, is_word}
+use Rattle.swc_grammar.specs.Tokens.{ends_prop, follows_key}
 use Rattle.swc_grammar.specs.Trees.{to, object_e, listed, items_of, spread_prop_e, cover_e, ident_e}
 use Rattle.swc_grammar.specs.Clean.{Out, first, second, sym, run}
 use Rattle.swc_grammar.specs.Names.{Spelling, may_name}
 use Rattle.swc_grammar.specs.Words.{◌>>=◌, word}
 use Rattle.swc_nodes.specs.Lists.{trees_append}
+use Rattle.swc_productions.specs.declared.kinds.MethodKind.{MethodKind}
+use Rattle.swc_productions.specs.declared.kinds.MethodKind.TheVariants as method
+use Rattle.swc_productions.specs.declared.kinds.Modifier.{Modifier}
+use Rattle.swc_productions.specs.declared.kinds.Modifier.TheVariants as modifier
 use Rattle.swc_productions.specs.declared.kinds.PropKind.{PropKind}
 use Rattle.swc_productions.specs.declared.kinds.PropKind.TheVariants as kind
 use Rattle.swc_productions.specs.Readers.{inside}
@@ -28,39 +33,49 @@ unfoldable pub open_name : Context → List TokenAndSpan → Out Spelling
 open_name c ts = word may_name c ts >>= open_by c
 
 -- what a property is, by the tokens that it begins with; of one that begins with a word, by the word and the token behind it
-abbrev pub async_kind : Bool → PropKind
-async_kind is_generator = if is_generator then kind.AsyncGenerator else kind.Async
+abbrev pub modifier_of : Option TokenAndSpan → Modifier
+modifier_of t =
+    if at_token is_get t then modifier.Get else
+    (if at_token is_async t then modifier.Async else
+    (if at_token is_set t then modifier.Set else modifier.Other))
 
-abbrev pub lone_kind : Bool → Bool → PropKind
-lone_kind of_get of_async = if of_get then kind.Getter else (if of_async then kind.Async else kind.Unfit)
+abbrev pub async_kind : Bool → MethodKind
+async_kind with_star = if with_star then method.AsyncGenerator else method.Async
 
--- by whether the word is `get` or `async`, and by the token behind it
-abbrev pub kind_of : Bool → Bool → Option TokenAndSpan → PropKind
-kind_of of_get of_async u =
+-- by what the word is to a key, and by whether a star stands behind it
+abbrev pub by_modifier : Modifier → Bool → PropKind
+by_modifier modifier.Get with_star = kind.Method method.Getter
+by_modifier modifier.Set with_star = kind.Method method.Setter
+by_modifier modifier.Async with_star = kind.Method (async_kind with_star)
+by_modifier modifier.Other with_star = kind.Unfit
+
+-- by what the word is to a key, and by the token behind it
+abbrev pub kind_of : Modifier → Option TokenAndSpan → PropKind
+kind_of m u =
     if at_token ends_prop u then kind.Shorthand else
     (if at_token is_equals u then kind.Cover else
     (if at_token follows_key u then kind.Key else
-    (if of_get then kind.Getter else
-    (if of_async then async_kind (at_token is_star u) else kind.Unfit))))
+    (if at_token is_question u then kind.Questioned else by_modifier m (at_token is_star u))))
 
-abbrev pub kind_at : Bool → Bool → Token → PropKind
-kind_at of_get of_async t =
+abbrev pub kind_at : Modifier → Token → PropKind
+kind_at m t =
     if ends_prop t then kind.Shorthand else
     (if is_equals t then kind.Cover else
     (if follows_key t then kind.Key else
-    (if of_get then kind.Getter else
-    (if of_async then async_kind (is_star t) else kind.Unfit))))
+    (if is_question t then kind.Questioned else by_modifier m (is_star t))))
 
 abbrev pub word_kind : Option TokenAndSpan → Option TokenAndSpan → PropKind
-word_kind t u = kind_of (at_token is_get t) (at_token is_async t) u
+word_kind t u = kind_of (modifier_of t) u
 
 abbrev pub sign_kind : Option TokenAndSpan → PropKind
-sign_kind t = if at_token is_dots t then kind.Spread else (if at_token is_star t then kind.Generator else kind.Key)
+sign_kind t =
+    if at_token is_dots t then kind.Spread else
+    (if at_token is_star t then kind.Method method.Generator else kind.Key)
 
 abbrev pub prop_kind : List TokenAndSpan → PropKind
 prop_kind ts =
     if at_token is_dots (first ts) then kind.Spread else
-    (if at_token is_star (first ts) then kind.Generator else
+    (if at_token is_star (first ts) then kind.Method method.Generator else
     (if at_token is_word (first ts) then word_kind (first ts) (second ts) else kind.Key))
 
 module _ {F C K : Type 0} (hook : Hook F C K) where

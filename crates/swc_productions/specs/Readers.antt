@@ -18,6 +18,10 @@ use Rattle.swc_grammar.specs.Clean.{Out, first, sym, climb, Plan, plan, exec, op
 use Rattle.swc_grammar.specs.Clean.{bin_op as bin_op_plan, turn as turn_plan, turned as turned_plan}
 use Rattle.swc_grammar.specs.Words.{rest}
 
+-- nothing, of any list: what is read where a fault is always recorded
+abbrev pub nothing : {A : Type 0} → Context → List TokenAndSpan → Out A
+nothing c ts = None
+
 module _ {F C K : Type 0} (hook : Hook F C K) where
   unfoldable pub reading : {A : Type 0} → Plan F C K A → List TokenAndSpan → Out A
   reading x ts = exec hook (run hook) None x ts

@@ -68,7 +68,7 @@ pub(crate) fn is_async_function<I: Tokens>(input: &mut Buffer<I>) -> PResult<boo
 }
 
 /// Whether `async` is current.
-pub(crate) fn is_async<I: Tokens>(input: &Buffer<I>) -> bool
+fn is_async<I: Tokens>(input: &Buffer<I>) -> bool
     ensures value { result ≡ at_token is_async (seen input.now) }
     ensures begins { result ≡ true → at_function (current input.now) ≡ true }
     ensures some { result ≡ true → IsSome (current input.now) }
@@ -293,10 +293,14 @@ pub(crate) enum Sign {
     Async,
     /// `get`
     Get,
+    /// `set`
+    Set,
+    /// `?`
+    Question,
 }
 
 /// Whether the current token is the sign.
-fn is_sign<I: Tokens>(input: &Buffer<I>, sign: Sign) -> bool
+pub(crate) fn is_sign<I: Tokens>(input: &Buffer<I>, sign: Sign) -> bool
     ensures value { result ≡ at_token (is_sign_token sign) (seen input.now) }
     ensures some { result ≡ true → IsSome (current input.now) }
 {
@@ -313,6 +317,8 @@ fn is_sign<I: Tokens>(input: &Buffer<I>, sign: Sign) -> bool
         (Sign::Star, Some(Token::BinOp(BinOpToken::Mul))) => true,
         (Sign::Async, Some(Token::Word(Word::Ident(name)))) => name.as_str() == "async",
         (Sign::Get, Some(Token::Word(Word::Ident(name)))) => name.as_str() == "get",
+        (Sign::Set, Some(Token::Word(Word::Ident(name)))) => name.as_str() == "set",
+        (Sign::Question, Some(Token::QuestionMark)) => true,
         _ => false,
     }
 }
@@ -346,6 +352,8 @@ fn sign_text(sign: Sign) -> &'static str {
         Sign::Star => "*",
         Sign::Async => "async",
         Sign::Get => "get",
+        Sign::Set => "set",
+        Sign::Question => "?",
     }
 }
 

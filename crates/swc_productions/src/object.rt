@@ -1,5 +1,6 @@
 // Object literals (ECMA-262, 13.2.5): properties, keys, and the functions of methods (15.4).
-ghost use Rattle.std.specs.Prelude.{◌≡◌, ◌<◌, ◌≤◌, true, false, not, [], Some, OnOk};
+ghost use Rattle.std.specs.Option.{is_some};
+ghost use Rattle.std.specs.Prelude.{◌≡◌, ◌<◌, ◌≤◌, true, false, not, [], Some, OnOk, IfOk};
 ghost use Rattle.swc_context.specs.Reserved.{is_reserved_word};
 ghost use Rattle.swc_input.specs.Buffer.{to_come, context};
 ghost use Rattle.swc_input.specs.Plain.{plain_token};
@@ -12,21 +13,26 @@ ghost use Rattle.swc_grammar.specs.Parts.{key_lit_of};
 ghost use Rattle.swc_grammar.specs.Grammar as grammar;
 ghost use Rattle.swc_grammar.specs.Trees.{to};
 ghost use Rattle.swc_grammar.specs.Clean.{sym, run};
-ghost use Rattle.swc_nodes.specs.Slots.{expr_part, key_parts};
-ghost use Rattle.swc_nodes.specs.Stands.{count, From};
-ghost use Rattle.swc_productions.specs.Readers.{by_production};
+ghost use Rattle.swc_nodes.specs.Slots.{expr_part, pat_part, key_parts};
+ghost use Rattle.swc_nodes.specs.Stands.{count, From, Grows};
+ghost use Rattle.swc_productions.specs.Readers.{by_production, nothing};
 ghost use Rattle.swc_productions.specs.Properties.{prop_item, spread_prop_tail, prop_plain, open_name, cover_tail};
-ghost use Rattle.swc_productions.specs.Keys.{is_key_lit, plain_key, computed_key, parens, params, method_body};
-ghost use Rattle.swc_productions.specs.Methods.{prop_behind, method_behind, getter_behind, after_colon};
-ghost use Rattle.swc_productions.specs.Methods.{method_tail, getter_tail};
-ghost use Rattle.swc_productions.specs.Parsing.{seen, Refuses, Checked, Parses, ParsesAlone, Produces, itself, tree_of};
-ghost use Rattle.swc_productions.specs.Parsing.{key_of, key_at, shell_of, shell_at, after_of, after_at};
+ghost use Rattle.swc_productions.specs.Keys.{is_key_lit, plain_key, computed_key, no_params, parens, params};
+ghost use Rattle.swc_productions.specs.Keys.{method_body, shell};
+ghost use Rattle.swc_productions.specs.Methods.{prop_behind, method_behind, getter_behind, setter_behind, after_colon};
+ghost use Rattle.swc_productions.specs.Methods.{method_node, method_function, method_tail};
+ghost use Rattle.swc_productions.specs.Parsing.{seen, Refuses, Checked, Tries, Acts, Parses, ParsesAlone};
+ghost use Rattle.swc_productions.specs.Parsing.{ContinuesAlone, Produces, itself, tree_of};
+ghost use Rattle.swc_productions.specs.Parsing.{key_of, key_at, shell_of, shell_at, function_of, function_at};
+ghost use Rattle.swc_productions.specs.Parsing.{after_of, after_at};
 ghost use Rattle.swc_productions.specs.Parsing.{ident_spelling, prop_of, prop_at, props_of, props_at};
 
-use crate::kinds::{PropKind, is_word, prop_kind};
+use crate::kinds::{
+    MethodKind, PropKind, is_word, modifier_here, parse_modifiers, prop_kind, questioned_kind,
+};
 use crate::moves::{
-    Sign, add, bump, eat, emit_err, expect, look, made, parse_ident_name, require_cur, separate,
-    set_ctx, skip, unexpected,
+    Sign, add, bump, eat, emit_err, expect, is_sign, look, made, parse_ident_name, require_cur,
+    separate, set_ctx, skip, unexpected,
 };
 use crate::productions::Productions;
 use std::alloc::Global;
@@ -38,7 +44,7 @@ use swc_ast::spanned::Spanned;
 use swc_bodies::bodies::Bodies;
 use swc_context::context::Context;
 use swc_context::error::{Error, PResult, SyntaxError};
-use swc_context::span::Span;
+use swc_context::span::{BytePos, Span};
 use swc_input::buffer::Buffer;
 use swc_input::token::Token;
 use swc_input::tokens::Tokens;
@@ -111,10 +117,11 @@ impl<I: Tokens, B: Bodies<I>> Productions<I, B> {
             PropKind::Shorthand => self.parse_shorthand_prop(),
             PropKind::Cover => self.parse_cover_prop(),
             PropKind::Key => self.parse_key_prop(),
-            PropKind::Generator => self.parse_generator_method(),
-            PropKind::Async => self.parse_async_method(),
-            PropKind::AsyncGenerator => self.parse_async_generator_method(),
-            PropKind::Getter => self.parse_getter(),
+            PropKind::Method(kind) => {
+                let start = parse_modifiers(&mut self.input, kind)?;
+                self.parse_method(kind, start)
+            }
+            PropKind::Questioned => self.parse_questioned_prop(),
             PropKind::Unfit => Err(unfit_prop(self.alloc, &mut self.input)),
             PropKind::Spread => Err(unexpected(
                 &mut self.input,
@@ -219,77 +226,76 @@ impl<I: Tokens, B: Bodies<I>> Productions<I, B> {
         if !self.is_lparen() {
             return Err(unexpected(&mut self.input, SyntaxError::Unexpected("identifier")));
         }
-        let function = self.parse_shell(false, false)?;
+        let function = self.parse_shell(false, false, None)?;
         Ok(AfterKey::Method(function))
     }
 
-    /// A method that is a generator (ECMA-262, 15.5).
+    /// The key and the function of a method of the kind, which begins at the place (ECMA-262, 15.4 to 15.6 and 15.8).
     #[cycle(productions)]
-    fn parse_generator_method(&mut self) -> PResult<PropNode<B::Block>>
-        ensures { Produces I.model B.is_faithful prop_of prop_at (by_production B.forms (λ c. grammar.prop-generator))
+    fn parse_method(&mut self, kind: MethodKind, start: Span) -> PResult<PropNode<B::Block>>
+        ensures { Produces I.model B.is_faithful prop_of prop_at (method_tail B.forms kind start)
             (count self.old.nodes) self.old result self.new }
     {
-        let start = expect(&mut self.input, Sign::Star)?;
-        self.parse_method(start, false, true)
+        let key = self.parse_prop_name()?;
+        let (function, param) = self.parse_method_function(kind, key.span())?;
+        Ok(method_of(kind, start, key, function, param))
     }
 
-    /// A method that is async (ECMA-262, 15.8).
-    #[cycle(productions)]
-    fn parse_async_method(&mut self) -> PResult<PropNode<B::Block>>
-        ensures { Produces I.model B.is_faithful prop_of prop_at (by_production B.forms (λ c. grammar.prop-async))
-            (count self.old.nodes) self.old result self.new }
-    {
-        let start = expect(&mut self.input, Sign::Async)?;
-        self.parse_method(start, true, false)
-    }
-
-    /// A method that is an async generator (ECMA-262, 15.6).
-    #[cycle(productions)]
-    fn parse_async_generator_method(&mut self) -> PResult<PropNode<B::Block>>
-        ensures { Produces I.model B.is_faithful prop_of prop_at
-            (by_production B.forms (λ c. grammar.prop-async-generator))
-            (count self.old.nodes) self.old result self.new }
-    {
-        let start = expect(&mut self.input, Sign::Async)?;
-        expect(&mut self.input, Sign::Star)?;
-        self.parse_method(start, true, true)
-    }
-
-    /// The key and the function of a method that begins at the place.
-    #[cycle(productions)]
-    fn parse_method(
+    /// The function of a method of the kind, whose key is at the place, and the parameter of a setter.
+    fn parse_method_function(
         &mut self,
-        start: Span,
-        is_async: bool,
-        is_generator: bool,
-    ) -> PResult<PropNode<B::Block>>
-        ensures { Produces I.model B.is_faithful prop_of prop_at (method_tail B.forms start is_async is_generator)
+        kind: MethodKind,
+        key: Span,
+    ) -> PResult<(Function<PatId, B::Block>, Option<PatId>)>
+        ensures { Produces I.model B.is_faithful function_of function_at (method_function B.forms kind)
             (count self.old.nodes) self.old result self.new }
     {
-        let key = self.parse_prop_name()?;
-        let function = self.parse_shell(is_async, is_generator)?;
-        Ok(method_prop(start, key, function))
+        if kind.is_setter() {
+            return self.parse_setter_function(key);
+        }
+        let function = self.parse_shell(kind.is_async(), kind.is_generator(), None)?;
+        Ok((function, None))
     }
 
-    /// A getter (ECMA-262, 15.4).
-    #[cycle(productions)]
-    fn parse_getter(&mut self) -> PResult<PropNode<B::Block>>
-        ensures { Produces I.model B.is_faithful prop_of prop_at (by_production B.forms (λ c. grammar.prop-getter))
+    /// The function of a setter whose key is at the place, and what stands in for its parameter.
+    fn parse_setter_function(
+        &mut self,
+        key: Span,
+    ) -> PResult<(Function<PatId, B::Block>, Option<PatId>)>
+        ensures { Produces I.model B.is_faithful function_of function_at nothing
             (count self.old.nodes) self.old result self.new }
     {
-        let start = expect(&mut self.input, Sign::Get)?;
-        self.parse_getter_method(start)
+        let function = self.parse_shell(false, false, Some(key))?;
+        let param = self.setter_param(key)?;
+        Ok((function, Some(param)))
     }
 
-    /// The key and the function of a getter that begins at the place.
+    /// What stands in for the parameter of a setter that has none, which is recorded at the setter's key.
+    fn setter_param(&mut self, key: Span) -> PResult<PatId>
+        ensures tries { Tries I.model self.old.input result self.new.input }
+        ensures grows { Grows self.old.nodes self.new.nodes }
+        ensures from { IfOk result (λ p. From (count self.old.nodes) self.new.nodes (pat_part p)) }
+    {
+        emit_err(&mut self.input, key, SyntaxError::SetterParam)?;
+        match self.nodes.invalid_pat(Span::new(BytePos(0), BytePos(0))) {
+            Ok(param) => Ok(param),
+            Err(_) => Err(self.input.out_of_memory()),
+        }
+    }
+
+    /// A word with `?` behind it, which is recorded, and what follows, as if the `?` weren't there (ECMA-262, 13.2.5).
     #[cycle(productions)]
-    fn parse_getter_method(&mut self, start: Span) -> PResult<PropNode<B::Block>>
-        ensures { Produces I.model B.is_faithful prop_of prop_at (getter_tail B.forms start)
+    fn parse_questioned_prop(&mut self) -> PResult<PropNode<B::Block>>
+        ensures { Produces I.model B.is_faithful prop_of prop_at nothing
             (count self.old.nodes) self.old result self.new }
     {
-        let key = self.parse_prop_name()?;
-        let function = self.parse_shell(false, false)?;
-        Ok(getter_prop(start, key, function))
+        let Questioned { name, kind } = parse_questioned(self.alloc, &mut self.input)?;
+        match kind {
+            PropKind::Shorthand => Ok(PropNode::Shorthand(name)),
+            PropKind::Cover => self.parse_cover_value(name),
+            PropKind::Method(kind) => self.parse_method(kind, name.span),
+            _ => Err(unfit_behind(&mut self.input)),
+        }
     }
 
     /// A property's key (ECMA-262, 13.2.5): any word, a string, a number, a big integer, or an expression in brackets.
@@ -353,7 +359,8 @@ impl<I: Tokens, B: Bodies<I>> Productions<I, B> {
     }
 
     /// The function of a method, from `(` on (ECMA-262, 15.4): no parameters so far, and a block, which the hook reads
-    /// in the context of the method's body. It spans what was read, so without the key.
+    /// in the context of the method's body. It spans what was read, so without the key. Of a setter the key's place is
+    /// given: that it has no parameter is recorded there.
     ///
     /// A missing `(`, `)` or `{` is refused as `Expected`, at the current token, and the end as `Eof`; what the hook
     /// refuses is passed on. The context is that from before, also after a refusal.
@@ -361,12 +368,13 @@ impl<I: Tokens, B: Bodies<I>> Productions<I, B> {
         &mut self,
         is_async: bool,
         is_generator: bool,
+        setter: Option<Span>,
     ) -> PResult<Function<PatId, B::Block>>
         ensures { Produces I.model B.is_faithful shell_of shell_at
-            (run B.forms (sym (Shell is_async is_generator)))
+            (shell B.forms (is_some setter) is_async is_generator)
             (count self.old.nodes) self.old result self.new }
     {
-        let start = parse_params(&mut self.input, is_async, is_generator)?;
+        let start = parse_params(&mut self.input, is_async, is_generator, setter)?;
         let body = self.parse_method_block(is_async, is_generator)?;
         let span = Span::new(start.lo, body.span().hi);
         let params = Vec::new(self.alloc);
@@ -405,29 +413,60 @@ impl<I: Tokens, B: Bodies<I>> Productions<I, B> {
     }
 }
 
-/// The parentheses of a method's parameters, of which there are none so far, in their context. Answers where the first
-/// stands.
+/// The parentheses of a method's parameters, in their context; of a setter the key's place is given. Answers where the
+/// first stands.
 fn parse_params<I: Tokens>(
     input: &mut Buffer<I>,
     is_async: bool,
     is_generator: bool,
+    setter: Option<Span>,
 ) -> PResult<Span>
-    ensures { ParsesAlone I.model (λ s. s) (params is_async is_generator) input.old result input.new }
+    ensures { ParsesAlone I.model (λ s. s) (params (is_some setter) is_async is_generator)
+        input.old result input.new }
 {
     let ctx = input.get_ctx();
     set_ctx(input, method_params(is_async, is_generator, ctx));
-    let start = parse_parens(input);
+    let start = parse_parens(input, setter);
     set_ctx(input, ctx);
     start
 }
 
-/// Two parentheses with nothing between them. Answers where the first stands.
-fn parse_parens<I: Tokens>(input: &mut Buffer<I>) -> PResult<Span>
-    ensures { ParsesAlone I.model (λ s. s) parens input.old result input.new }
+/// Two parentheses with the parameters between them; of a setter the key's place is given, and that it has none is
+/// recorded there. Answers where the first stands.
+fn parse_parens<I: Tokens>(input: &mut Buffer<I>, setter: Option<Span>) -> PResult<Span>
+    ensures { ParsesAlone I.model (λ s. s) (parens (is_some setter)) input.old result input.new }
 {
     let start = expect(input, Sign::LParen)?;
+    parse_formal_params(input)?;
+    check_setter(input, setter)?;
     expect(input, Sign::RParen)?;
     Ok(start)
+}
+
+/// The parameters of a method (ECMA-262, 15.1), of which there are none so far: they end before `)`, which stays, or at
+/// the end. Another token is refused as `Expected`.
+fn parse_formal_params<I: Tokens>(input: &mut Buffer<I>) -> PResult<()>
+    ensures continues { ContinuesAlone I.model (λ u. u) no_params input.old result input.new }
+    ensures falls { OnOk result (to_come I.model input.new ≤ to_come I.model input.old) }
+{
+    if !look(input)? {
+        return Ok(());
+    }
+    if !is_sign(input, Sign::RParen) {
+        return Err(unexpected(input, SyntaxError::Expected(")")));
+    }
+    Ok(())
+}
+
+/// Records, where the place of a setter's key is given, that it has no parameter.
+fn check_setter<I: Tokens>(input: &mut Buffer<I>, setter: Option<Span>) -> PResult<()>
+    ensures checks { Checked I.model (not (is_some setter)) input.old result input.new }
+    ensures falls { OnOk result (to_come I.model input.new ≤ to_come I.model input.old) }
+{
+    match setter {
+        Some(key) => emit_err(input, key, SyntaxError::SetterParam),
+        None => Ok(()),
+    }
 }
 
 /// The context of a method, wherever in it.
@@ -493,6 +532,70 @@ fn check_open_name<I: Tokens>(input: &mut Buffer<I>, name: &IdentName) -> PResul
     Ok(())
 }
 
+/// A word with `?` behind it, and the property that it begins as if the `?` weren't there.
+#[derive(Drop)]
+struct Questioned {
+    name: Ident,
+    kind: PropKind,
+}
+
+/// A word with `?` behind it, which is recorded, and the `=` of a cover name or the `*` of an async generator behind
+/// that. A name that stands for its value too, and is reserved where it stands, is recorded.
+fn parse_questioned<I: Tokens>(alloc: Global, input: &mut Buffer<I>) -> PResult<Questioned>
+    ensures parses { ParsesAlone I.model (λ q. q) nothing input.old result input.new }
+    ensures falls { OnOk result (to_come I.model input.new < to_come I.model input.old) }
+{
+    let modifier = modifier_here(input);
+    let name = parse_questioned_name(alloc, input)?;
+    look(input)?;
+    let kind = questioned_kind(input, modifier);
+    check_questioned(input, kind, &name)?;
+    eat_questioned(input, kind)?;
+    let name = Ident {
+        span: name.span,
+        sym: name.sym,
+    };
+    Ok(Questioned { name, kind })
+}
+
+/// A word and the `?` behind it, which is recorded at its place.
+fn parse_questioned_name<I: Tokens>(alloc: Global, input: &mut Buffer<I>) -> PResult<IdentName>
+    ensures parses { ParsesAlone I.model (λ n. n) nothing input.old result input.new }
+    ensures falls { OnOk result (to_come I.model input.new < to_come I.model input.old) }
+{
+    let name = parse_ident_name(alloc, input)?;
+    let question = expect(input, Sign::Question)?;
+    emit_err(input, question, SyntaxError::TS1162)?;
+    Ok(name)
+}
+
+/// Records a name that stands for its value too, by what it begins, and is reserved where it stands.
+fn check_questioned<I: Tokens>(
+    input: &mut Buffer<I>,
+    kind: PropKind,
+    name: &IdentName,
+) -> PResult<()>
+    ensures tries { Tries I.model input.old result input.new }
+    ensures falls { OnOk result (to_come I.model input.new ≤ to_come I.model input.old) }
+{
+    match kind {
+        PropKind::Shorthand | PropKind::Cover => check_open_name(input, name),
+        _ => Ok(()),
+    }
+}
+
+/// Consumes the `=` of a cover name, and the `*` of an async generator.
+fn eat_questioned<I: Tokens>(input: &mut Buffer<I>, kind: PropKind) -> PResult<Option<Span>>
+    ensures acts { Acts I.model input.old result input.new }
+    ensures falls { OnOk result (to_come I.model input.new ≤ to_come I.model input.old) }
+{
+    match kind {
+        PropKind::Cover => eat(input, Sign::Assign),
+        PropKind::Method(MethodKind::AsyncGenerator) => eat(input, Sign::Star),
+        _ => Ok(None),
+    }
+}
+
 /// From a place to the end of an expression.
 fn span_to<F: Spanned + Drop, C: Spanned + Drop, K: Spanned + Drop>(
     nodes: &Nodes<F, C, K>,
@@ -528,6 +631,23 @@ fn key_prop<K>(key: PropName<ExprId>, after: AfterKey<K>) -> PropNode<K>
     }
 }
 
+/// A method of the kind, which begins at the place; of a setter the parameter is given.
+fn method_of<K>(
+    kind: MethodKind,
+    start: Span,
+    key: PropName<ExprId>,
+    function: Function<PatId, K>,
+    param: Option<PatId>,
+) -> PropNode<K>
+    ensures { result ≡ method_node kind start key function param }
+{
+    match (kind, param) {
+        (MethodKind::Getter, _) => getter_prop(start, key, function),
+        (MethodKind::Setter, Some(param)) => setter_prop(start, key, param, function),
+        _ => method_prop(start, key, function),
+    }
+}
+
 /// A method that begins at the place: its function spans all of it.
 fn method_prop<K>(start: Span, key: PropName<ExprId>, function: Function<PatId, K>) -> PropNode<K>
     ensures { result ≡ method_behind start key function }
@@ -546,13 +666,39 @@ fn getter_prop<K>(start: Span, key: PropName<ExprId>, function: Function<PatId, 
     PropNode::Getter { span, key, body }
 }
 
+/// A setter that begins at the place: of its function it has the block.
+fn setter_prop<K>(
+    start: Span,
+    key: PropName<ExprId>,
+    param: PatId,
+    function: Function<PatId, K>,
+) -> PropNode<K>
+    ensures { result ≡ setter_behind start key param function }
+{
+    let span = Span::new(start.lo, function.span.hi);
+    let body = function.body;
+    PropNode::Setter {
+        span,
+        key,
+        param,
+        body,
+    }
+}
+
 /// The refusal of what stands behind a word that is a property's, at the token that doesn't fit.
 fn unfit_prop<I: Tokens>(alloc: Global, input: &mut Buffer<I>) -> Error
     ensures refuses { Refuses I.model input.old result input.new }
 {
-    let expected = "... , *,  (, [, :, , ?, = or an identifier";
     match parse_ident_name(alloc, input) {
-        Ok(_) => unexpected(input, SyntaxError::Unexpected(expected)),
+        Ok(_) => unfit_behind(input),
         Err(error) => error,
     }
+}
+
+/// The refusal of the current token, which goes on with no property that a word begins.
+fn unfit_behind<I: Tokens>(input: &mut Buffer<I>) -> Error
+    ensures refuses { Refuses I.model input.old result input.new }
+{
+    let expected = "... , *,  (, [, :, , ?, = or an identifier";
+    unexpected(input, SyntaxError::Unexpected(expected))
 }

@@ -10,6 +10,7 @@ returns-then-not-is_word g c = record {
 
 pub returns : goal.returns
 returns g c = record {
-  tells = kind.tells_by_word g.I.Tokens.model c.args.input.now c.kind_behind.new.input c.is_get-of_get.result c.is_async-of_async.result c.kind_behind.result c.kind_behind.ensures.tells
-      c.is_get-of_get.ensures c.is_async-of_async.ensures.value (sym c.is_word.ensures.value ∙ c.if-not-is_word.false);
+  tells = kind.tells_by_word g.I.Tokens.model c.args.input.now c.kind_behind.new.input c.modifier_here-modifier.result
+      c.kind_behind.result c.kind_behind.ensures.tells c.modifier_here-modifier.ensures
+      (sym c.is_word.ensures.value ∙ c.if-not-is_word.false);
 }

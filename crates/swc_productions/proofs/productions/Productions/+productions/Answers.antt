@@ -1,5 +1,5 @@
 -- What the steps of each production, one after another, ensure.
-use Rattle.std.proofs.Common.{Ok, true, false, map, ◌≡◌, ◌≢◌, Some, None, refl, sym, ap, ◌∙◌, arith}
+use Rattle.std.proofs.Common.{Ok, map, ◌≡◌, ◌≢◌, Some, None, refl, sym, ap, ◌∙◌, arith}
 use Rattle.std.proofs.lemmas.Result.{err_from_is_err_and}
 use Rattle.swc_context.specs.Spans.{between}
 use Rattle.swc_context.proofs.Spans.{span_is}
@@ -17,22 +17,21 @@ use Rattle.swc_nodes.specs.Slots.{flat, if_some, item_parts, prop_parts, expr_pa
 use Rattle.swc_nodes.specs.Stands.{count, seat_at, tree_at}
 use Rattle.swc_nodes.proofs.Lists.{apart-none, apart-list-more, elems-more, trees_append-nil, props-more}
 use Rattle.swc_grammar.specs.Trees.{to, array_e, listed, items_of, unary_e, paren_e, bin_e, nullish_ok, delete_ok}
-use Rattle.swc_grammar.specs.Trees.{min_right, computed_e, object_e, spread_prop_e, prop_of as prop_tree, cover_e, ident_e, value_e, method_e, getter_e, no_cover_in}
+use Rattle.swc_grammar.specs.Trees.{min_right, computed_e, object_e, spread_prop_e, prop_of as prop_tree, cover_e, ident_e, value_e, no_cover_in}
 use Rattle.swc_grammar.specs.Symbols.{Assign, Level, Elements}
 use Rattle.swc_grammar.specs.Tokens.{is_lparen, is_rparen, is_lbracket, is_rbracket, is_rbrace, is_comma, is_dots, is_this}
-use Rattle.swc_grammar.specs.Tokens.{is_colon, is_equals, is_get, is_star}
+use Rattle.swc_grammar.specs.Tokens.{is_colon, is_equals}
 use Rattle.swc_grammar.specs.Clean.{sym as at, run, climb, is_lit, is_identifier, prefix_at, no_error, left_ok}
 use Rattle.swc_grammar.specs.Words.{◌>>=◌}
 use Rattle.swc_productions.specs.Readers.{go_on, inside, paren_expr_close, paren_expr_node, paren_expr_tail, unary_op_node}
 use Rattle.swc_productions.specs.Readers.{unary_op_tail, bin_op_node, bin_op, turned}
 use Rattle.swc_productions.specs.Keys.{key_by, key_close}
 use Rattle.swc_productions.specs.Lists.{array_lit_tail, element_by, elements_behind, behind_by, separated}
-use Rattle.swc_productions.specs.Parsing.{seen, behind, tree_of, item_at, elems_at, seen_of, itself, prop_at, ident_spelling, key_at, shell_at}
+use Rattle.swc_productions.specs.Parsing.{seen, behind, tree_of, item_at, elems_at, seen_of, prop_at, ident_spelling, key_at}
 use Rattle.swc_productions.specs.Parsing.{props_at}
-use Rattle.swc_bodies.specs.Readings.{is_async, is_function, is_class, is_brace}
+use Rattle.swc_bodies.specs.Readings.{is_function, is_class, is_brace}
 use Rattle.swc_productions.specs.Properties.{object_lit_tail, props_behind, props_by, prop_by, cover_by, cover_behind}
-use Rattle.swc_productions.specs.Methods.{prop_behind, method_behind, getter_behind, behind_key, after_by, method_close}
-use Rattle.swc_productions.specs.Methods.{method_tail, getter_close, getter_tail, async_generator_tail}
+use Rattle.swc_productions.specs.Methods.{behind_key, after_by, method_tree, method_close, method_tail}
 use Rattle.swc_nodes.proofs.Standing.{grows-count, grows-same, grows-then}
 use Rattle.swc_nodes.proofs.Held.{apart-from, from-down, from-later, from_self, first_kept, if_from, tree-later}
 use Rattle.swc_productions.proofs.Building.{apart-down, grows-kept, made_at, made_over}
@@ -771,25 +770,23 @@ parse_plain_prop-returns-in-Key g t c =
     m.after c.parse_key_prop.result (s.on_told c.in_ok-look.ensures.looks c.in_ok-prop_kind.ensures.tells (λ x ts same e told.
     props.plain_key _ x ts (told ∙ c.in-Key.is))) (grows-same _) c.parse_key_prop.ensures
 
-pub parse_plain_prop-returns-in-Generator : goal.parse_plain_prop-returns-in-Generator
-parse_plain_prop-returns-in-Generator g t c =
-    m.after c.parse_generator_method.result (s.on_told c.in_ok-look.ensures.looks c.in_ok-prop_kind.ensures.tells (λ x ts same e told.
-    props.plain_generator _ x ts (told ∙ c.in-Generator.is))) (grows-same _) c.parse_generator_method.ensures
+pub parse_plain_prop-returns-in_err-start-in-Method : goal.parse_plain_prop-returns-in_err-start-in-Method
+parse_plain_prop-returns-in_err-start-in-Method g t c =
+    let kind = c.in-Method.kind in
+    let p = err_from_is_err_and c.from_residual-in_err-start-in-Method.result c.from_residual-in_err-start-in-Method.ensures.1 in rw (p.1, p.2)
+    (m.no (s.unheard_after (s.on_told c.in_ok-look.ensures.looks c.in_ok-prop_kind.ensures.tells (λ x ts same e told. props.plain_method _ kind x ts (told ∙ c.in-Method.is)))
+    (s.unheard_call (λ x p. method_tail _ kind p.0 x p.1) (λ x ts. refl) (c.in_err-start-in-Method.ensures.parses g.B.Bodies.is_faithful))) (grows-same _))
 
-pub parse_plain_prop-returns-in-Async : goal.parse_plain_prop-returns-in-Async
-parse_plain_prop-returns-in-Async g t c =
-    m.after c.parse_async_method.result (s.on_told c.in_ok-look.ensures.looks c.in_ok-prop_kind.ensures.tells (λ x ts same e told.
-    props.plain_async _ x ts (told ∙ c.in-Async.is))) (grows-same _) c.parse_async_method.ensures
+pub parse_plain_prop-returns-in_ok-start-in-Method : goal.parse_plain_prop-returns-in_ok-start-in-Method
+parse_plain_prop-returns-in_ok-start-in-Method g t c =
+    let kind = c.in-Method.kind in
+    m.after c.parse_method.result (s.on_then (s.on_told c.in_ok-look.ensures.looks c.in_ok-prop_kind.ensures.tells (λ x ts same e told. props.plain_method _ kind x ts (told ∙ c.in-Method.is)))
+    (s.on_call (λ x p. method_tail _ kind p.0 x p.1) (λ x ts. refl) (c.in_ok-start-in-Method.ensures.parses g.B.Bodies.is_faithful).on)) (grows-same _) c.parse_method.ensures
 
-pub parse_plain_prop-returns-in-AsyncGenerator : goal.parse_plain_prop-returns-in-AsyncGenerator
-parse_plain_prop-returns-in-AsyncGenerator g t c =
-    m.after c.parse_async_generator_method.result (s.on_told c.in_ok-look.ensures.looks c.in_ok-prop_kind.ensures.tells (λ x ts same e told.
-    props.plain_async_generator _ x ts (told ∙ c.in-AsyncGenerator.is))) (grows-same _) c.parse_async_generator_method.ensures
-
-pub parse_plain_prop-returns-in-Getter : goal.parse_plain_prop-returns-in-Getter
-parse_plain_prop-returns-in-Getter g t c =
-    m.after c.parse_getter.result (s.on_told c.in_ok-look.ensures.looks c.in_ok-prop_kind.ensures.tells (λ x ts same e told.
-    props.plain_getter _ x ts (told ∙ c.in-Getter.is))) (grows-same _) c.parse_getter.ensures
+pub parse_plain_prop-returns-in-Questioned : goal.parse_plain_prop-returns-in-Questioned
+parse_plain_prop-returns-in-Questioned g t c =
+    m.after c.parse_questioned_prop.result (s.on_told c.in_ok-look.ensures.looks c.in_ok-prop_kind.ensures.tells (λ x ts same e told.
+    props.plain_questioned _ x ts (told ∙ c.in-Questioned.is))) (grows-same _) c.parse_questioned_prop.ensures
 
 pub parse_plain_prop-returns-in-Unfit : goal.parse_plain_prop-returns-in-Unfit
 parse_plain_prop-returns-in-Unfit g t c =
@@ -854,97 +851,47 @@ parse_key_value-returns g t c =
     (s.heard_call (λ x p. Some (value_e (span_of p.0) p.0, p.1)) (λ x ts. method.after_colon_splits _ x ts) (λ x ts. refl) c.in_ok-value.ensures.reads))
     c.parse_assignment_expr_with_in.ensures.grows c.in_ok-value.ensures.from
 
-pub parse_generator_method-returns-in_err-start : goal.parse_generator_method-returns-in_err-start
-parse_generator_method-returns-in_err-start g t c =
-    let p = err_from_is_err_and c.from_residual.result c.from_residual.ensures.1 in rw (p.1, p.2)
-    (m.no (s.unheard_call (λ x p. method_tail _ p.0 false true x p.1) (λ x ts. method.generator_splits _ x ts) (c.in_err-start.ensures.expects g.B.Bodies.is_faithful)) (grows-same _))
-
-pub parse_generator_method-returns : goal.parse_generator_method-returns
-parse_generator_method-returns g t c =
-    m.after c.parse_method.result
-    (s.on_call (λ x p. method_tail _ p.0 false true x p.1) (λ x ts. method.generator_splits _ x ts) (c.in_ok-start.ensures.expects g.B.Bodies.is_faithful).on)
-    (grows-same _) c.parse_method.ensures
-
-pub parse_async_method-returns-in_err-start : goal.parse_async_method-returns-in_err-start
-parse_async_method-returns-in_err-start g t c =
-    let p = err_from_is_err_and c.from_residual.result c.from_residual.ensures.1 in rw (p.1, p.2)
-    (m.no (s.unheard_call (λ x p. method_tail _ p.0 true false x p.1) (λ x ts. method.async_splits _ x ts) (c.in_err-start.ensures.expects g.B.Bodies.is_faithful)) (grows-same _))
-
-pub parse_async_method-returns : goal.parse_async_method-returns
-parse_async_method-returns g t c =
-    m.after c.parse_method.result
-    (s.on_call (λ x p. method_tail _ p.0 true false x p.1) (λ x ts. method.async_splits _ x ts) (c.in_ok-start.ensures.expects g.B.Bodies.is_faithful).on)
-    (grows-same _) c.parse_method.ensures
-
-pub parse_getter-returns-in_err-start : goal.parse_getter-returns-in_err-start
-parse_getter-returns-in_err-start g t c =
-    let p = err_from_is_err_and c.from_residual.result c.from_residual.ensures.1 in rw (p.1, p.2)
-    (m.no (s.unheard_call (λ x p. getter_tail _ p.0 x p.1) (λ x ts. method.getter_splits _ x ts) (c.in_err-start.ensures.expects g.B.Bodies.is_faithful)) (grows-same _))
-
-pub parse_getter-returns : goal.parse_getter-returns
-parse_getter-returns g t c =
-    m.after c.parse_getter_method.result
-    (s.on_call (λ x p. getter_tail _ p.0 x p.1) (λ x ts. method.getter_splits _ x ts) (c.in_ok-start.ensures.expects g.B.Bodies.is_faithful).on)
-    (grows-same _) c.parse_getter_method.ensures
-
-pub parse_async_generator_method-returns-in_err-start : goal.parse_async_generator_method-returns-in_err-start
-parse_async_generator_method-returns-in_err-start g t c =
-    let p = err_from_is_err_and c.from_residual.result c.from_residual.ensures.1 in rw (p.1, p.2)
-    (m.no (s.unheard_call (λ x p. async_generator_tail _ p.0 x p.1) (λ x ts. method.async_generator_splits _ x ts) (c.in_err-start.ensures.expects g.B.Bodies.is_faithful)) (grows-same _))
-
-pub parse_async_generator_method-returns-in_err-expect : goal.parse_async_generator_method-returns-in_err-expect
-parse_async_generator_method-returns-in_err-expect g t c =
-    let p = err_from_is_err_and c.from_residual-in_err-expect.result c.from_residual-in_err-expect.ensures.1 in rw (p.1, p.2)
-    (m.no (s.unheard_after (s.on_call (λ x p. async_generator_tail _ p.0 x p.1) (λ x ts. method.async_generator_splits _ x ts) (c.in_ok-start.ensures.expects g.B.Bodies.is_faithful).on)
-    (s.unheard_call (λ x p. method_tail _ c.in_ok-start.start true true x p.1) (λ x ts. method.async_generator_tail_splits _ c.in_ok-start.start x ts) (c.in_err-expect.ensures.expects g.B.Bodies.is_faithful))) (grows-same _))
-
-pub parse_async_generator_method-returns : goal.parse_async_generator_method-returns
-parse_async_generator_method-returns g t c =
-    m.after c.parse_method.result
-    (s.on_then (s.on_call (λ x p. async_generator_tail _ p.0 x p.1) (λ x ts. method.async_generator_splits _ x ts) (c.in_ok-start.ensures.expects g.B.Bodies.is_faithful).on)
-    (s.on_call (λ x p. method_tail _ c.in_ok-start.start true true x p.1) (λ x ts. method.async_generator_tail_splits _ c.in_ok-start.start x ts) (c.in_ok-expect.ensures.expects g.B.Bodies.is_faithful).on))
-    (grows-same _) c.parse_method.ensures
-
 pub parse_method-returns-in_err-key : goal.parse_method-returns-in_err-key
 parse_method-returns-in_err-key g t c =
     let p = err_from_is_err_and c.from_residual.result c.from_residual.ensures.1 in rw (p.1, p.2)
-    (m.no (s.unheard_call (λ x p. method_close _ c.args.start c.args.is_async c.args.is_generator p.0 x p.1) (λ x ts. method.method_tail_splits _ c.args.start c.args.is_async c.args.is_generator x ts) c.in_err-key.ensures.reads) c.parse_prop_name.ensures.grows)
+    (m.no (s.unheard_call (λ x p. method_close _ c.args.kind c.args.start p.0 x p.1) (λ x ts. method.method_tail_splits _ c.args.kind c.args.start x ts) c.in_err-key.ensures.reads) c.parse_prop_name.ensures.grows)
 
 pub parse_method-returns-in_err-function : goal.parse_method-returns-in_err-function
 parse_method-returns-in_err-function g t c =
     let key = key_at c.parse_prop_name.new.self.nodes c.in_ok-key.key in
     let p = err_from_is_err_and c.from_residual-in_err-function.result c.from_residual-in_err-function.ensures.1 in rw (p.1, p.2)
-    (m.no (s.unheard_after (s.on_call (λ x p. method_close _ c.args.start c.args.is_async c.args.is_generator p.0 x p.1) (λ x ts. method.method_tail_splits _ c.args.start c.args.is_async c.args.is_generator x ts) c.in_ok-key.ensures.reads.on)
-    (s.unheard_call (λ x p. Some (method_e (to c.args.start (span_of p.0)) key p.0, p.1)) (λ x ts. method.method_close_splits _ c.args.start c.args.is_async c.args.is_generator key x ts) c.in_err-function.ensures.reads)) (grows-then c.parse_prop_name.ensures.grows c.parse_shell.ensures.grows))
+    (m.no (s.unheard_after (s.on_call (λ x p. method_close _ c.args.kind c.args.start p.0 x p.1) (λ x ts. method.method_tail_splits _ c.args.kind c.args.start x ts) c.in_ok-key.ensures.reads.on)
+    (s.unheard_call (λ x p. Some (method_tree c.args.kind c.args.start key p.0, p.1)) (λ x ts. method.method_close_splits _ c.args.kind c.args.start key x ts) c.in_err-function.ensures.reads)) (grows-then c.parse_prop_name.ensures.grows c.parse_method_function.ensures.grows))
 
 pub parse_method-returns : goal.parse_method-returns
 parse_method-returns g t c =
     let key = key_at c.parse_prop_name.new.self.nodes c.in_ok-key.key in
-    let made = method.method_made c.args.start c.in_ok-key.key c.in_ok-function.function c.method_prop.result c.method_prop.ensures c.parse_shell.ensures.grows c.in_ok-key.ensures.from c.in_ok-function.ensures.from in
     m.yes (Ok _)
-    (s.heard_answer made.0
-    (s.heard_more (λ x p. method_close _ c.args.start c.args.is_async c.args.is_generator p.0 x p.1) (λ x ts. method.method_tail_splits _ c.args.start c.args.is_async c.args.is_generator x ts) c.in_ok-key.ensures.reads
-    (s.on_call (λ x p. Some (method_e (to c.args.start (span_of p.0)) key p.0, p.1)) (λ x ts. method.method_close_splits _ c.args.start c.args.is_async c.args.is_generator key x ts) c.in_ok-function.ensures.reads.on)))
-    (grows-then c.parse_prop_name.ensures.grows c.parse_shell.ensures.grows) made.1
+    (method.method_heard _ c.args.kind c.args.start c.in_ok-key.key c.in_ok-function.function c.in_ok-function.param c.method_of.result c.method_of.ensures c.parse_method_function.ensures.grows c.in_ok-key.ensures.from c.in_ok-function.ensures.from
+    (s.heard_more (λ x p. method_close _ c.args.kind c.args.start p.0 x p.1) (λ x ts. method.method_tail_splits _ c.args.kind c.args.start x ts) c.in_ok-key.ensures.reads
+    (s.on_call (λ x p. Some (method_tree c.args.kind c.args.start key p.0, p.1)) (λ x ts. method.method_close_splits _ c.args.kind c.args.start key x ts) c.in_ok-function.ensures.reads.on)))
+    (grows-then c.parse_prop_name.ensures.grows c.parse_method_function.ensures.grows)
+    (method.method_apart c.args.kind c.args.start c.in_ok-key.key c.in_ok-function.function c.in_ok-function.param c.method_of.result c.method_of.ensures c.parse_method_function.ensures.grows c.in_ok-key.ensures.from c.in_ok-function.ensures.from)
 
-pub parse_getter_method-returns-in_err-key : goal.parse_getter_method-returns-in_err-key
-parse_getter_method-returns-in_err-key g t c =
+pub parse_questioned_prop-returns-in_err-name : goal.parse_questioned_prop-returns-in_err-name
+parse_questioned_prop-returns-in_err-name g t c =
     let p = err_from_is_err_and c.from_residual.result c.from_residual.ensures.1 in rw (p.1, p.2)
-    (m.no (s.unheard_call (λ x p. getter_close _ c.args.start p.0 x p.1) (λ x ts. method.getter_tail_splits _ c.args.start x ts) c.in_err-key.ensures.reads) c.parse_prop_name.ensures.grows)
+    (m.no (s.unheard_none (λ x ts. refl) (c.in_err-name.ensures.parses g.B.Bodies.is_faithful).refuses) (grows-same _))
 
-pub parse_getter_method-returns-in_err-function : goal.parse_getter_method-returns-in_err-function
-parse_getter_method-returns-in_err-function g t c =
-    let key = key_at c.parse_prop_name.new.self.nodes c.in_ok-key.key in
-    let p = err_from_is_err_and c.from_residual-in_err-function.result c.from_residual-in_err-function.ensures.1 in rw (p.1, p.2)
-    (m.no (s.unheard_after (s.on_call (λ x p. getter_close _ c.args.start p.0 x p.1) (λ x ts. method.getter_tail_splits _ c.args.start x ts) c.in_ok-key.ensures.reads.on)
-    (s.unheard_call (λ x p. Some (getter_e (to c.args.start (span_of p.0)) key p.0, p.1)) (λ x ts. method.getter_close_splits _ c.args.start key x ts) c.in_err-function.ensures.reads)) (grows-then c.parse_prop_name.ensures.grows c.parse_shell.ensures.grows))
-
-pub parse_getter_method-returns : goal.parse_getter_method-returns
-parse_getter_method-returns g t c =
-    let key = key_at c.parse_prop_name.new.self.nodes c.in_ok-key.key in
-    let made = method.getter_made c.args.start c.in_ok-key.key c.in_ok-function.function c.getter_prop.result c.getter_prop.ensures c.parse_shell.ensures.grows c.in_ok-key.ensures.from c.in_ok-function.ensures.from in
+pub parse_questioned_prop-returns-in-Shorthand : goal.parse_questioned_prop-returns-in-Shorthand
+parse_questioned_prop-returns-in-Shorthand g t c =
     m.yes (Ok _)
-    (s.heard_answer made.0
-    (s.heard_more (λ x p. getter_close _ c.args.start p.0 x p.1) (λ x ts. method.getter_tail_splits _ c.args.start x ts) c.in_ok-key.ensures.reads
-    (s.on_call (λ x p. Some (getter_e (to c.args.start (span_of p.0)) key p.0, p.1)) (λ x ts. method.getter_close_splits _ c.args.start key x ts) c.in_ok-function.ensures.reads.on)))
-    (grows-then c.parse_prop_name.ensures.grows c.parse_shell.ensures.grows) made.1
+    (s.heard_nothing (c.in_ok-name.ensures.parses g.B.Bodies.is_faithful) (s.here g.met.I.Tokens.laws _))
+    (grows-same _) (apart-none (omega arith))
+
+pub parse_questioned_prop-returns-in-Cover : goal.parse_questioned_prop-returns-in-Cover
+parse_questioned_prop-returns-in-Cover g t c =
+    m.after c.parse_cover_value.result (s.on_nothing (c.in_ok-name.ensures.parses g.B.Bodies.is_faithful)) (grows-same _) c.parse_cover_value.ensures
+
+pub parse_questioned_prop-returns-in-Method : goal.parse_questioned_prop-returns-in-Method
+parse_questioned_prop-returns-in-Method g t c =
+    m.after c.parse_method.result (s.on_nothing (c.in_ok-name.ensures.parses g.B.Bodies.is_faithful)) (grows-same _) c.parse_method.ensures
+
+pub parse_questioned_prop-returns-in_default : goal.parse_questioned_prop-returns-in_default
+parse_questioned_prop-returns-in_default g t c =
+    m.no (s.unheard_none (λ x ts. refl) (s.refuses_later (c.in_ok-name.ensures.parses g.B.Bodies.is_faithful).on.leads c.unfit_behind.ensures.refuses)) (grows-same _)

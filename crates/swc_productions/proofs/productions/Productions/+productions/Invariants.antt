@@ -148,20 +148,8 @@ decreases-parse_cover_prop g l = to_come g.I.Tokens.model l.self.now.input * 20 
 abbrev pub decreases-parse_method : goal.decreases-parse_method
 decreases-parse_method g l = to_come g.I.Tokens.model l.self.now.input * 20 + 16
 
-abbrev pub decreases-parse_generator_method : goal.decreases-parse_generator_method
-decreases-parse_generator_method g l = to_come g.I.Tokens.model l.self.now.input * 20 + 15
-
-abbrev pub decreases-parse_async_method : goal.decreases-parse_async_method
-decreases-parse_async_method g l = to_come g.I.Tokens.model l.self.now.input * 20 + 15
-
-abbrev pub decreases-parse_async_generator_method : goal.decreases-parse_async_generator_method
-decreases-parse_async_generator_method g l = to_come g.I.Tokens.model l.self.now.input * 20 + 15
-
-abbrev pub decreases-parse_getter_method : goal.decreases-parse_getter_method
-decreases-parse_getter_method g l = to_come g.I.Tokens.model l.self.now.input * 20 + 16
-
-abbrev pub decreases-parse_getter : goal.decreases-parse_getter
-decreases-parse_getter g l = to_come g.I.Tokens.model l.self.now.input * 20 + 15
+abbrev pub decreases-parse_questioned_prop : goal.decreases-parse_questioned_prop
+decreases-parse_questioned_prop g l = to_come g.I.Tokens.model l.self.now.input * 20 + 16
 
 abbrev pub decreases-parse_plain_prop : goal.decreases-parse_plain_prop
 decreases-parse_plain_prop g l = to_come g.I.Tokens.model l.self.now.input * 20 + 17

@@ -1,5 +1,6 @@
 use Rattle.std.proofs.Common.{Ok, Some, [], map, refl, sym, ap, ◌∙◌}
 use Rattle.std.proofs.lemmas.Result.{err_from_is_err_and}
+use Rattle.std.specs.Option.{is_some}
 use Rattle.swc_context.specs.Spans.{between}
 use Rattle.swc_context.proofs.Spans.{span_is}
 use Rattle.swc_ast.specs.Parts.{leaf, param_tree}
@@ -21,7 +22,7 @@ pub returns-in_err-start : goal.returns-in_err-start
 returns-in_err-start g c =
     let p = err_from_is_err_and c.from_residual.result c.from_residual.ensures.1 in rw (p.1, p.2)
     (m.no (s.unheard_call (λ x p. shell_tail g.B.Block.Spanned.place _ c.args.is_async c.args.is_generator p.0 x p.1)
-    (λ x ts. key.shell_splits _ g.met.B.Bodies.lawful c.args.is_async c.args.is_generator x ts)
+    (λ x ts. key.shell_splits _ g.met.B.Bodies.lawful (is_some c.args.setter) c.args.is_async c.args.is_generator x ts)
     (c.in_err-start.ensures g.B.Bodies.is_faithful)) (grows-same _))
 
 pub returns-in_err-body : goal.returns-in_err-body
@@ -29,7 +30,7 @@ returns-in_err-body g c =
     let p = err_from_is_err_and c.from_residual-in_err-body.result c.from_residual-in_err-body.ensures.1 in
     rw (p.1, p.2) (m.no (s.unheard_after
     (s.on_call (λ x p. shell_tail g.B.Block.Spanned.place _ c.args.is_async c.args.is_generator p.0 x p.1)
-    (λ x ts. key.shell_splits _ g.met.B.Bodies.lawful c.args.is_async c.args.is_generator x ts)
+    (λ x ts. key.shell_splits _ g.met.B.Bodies.lawful (is_some c.args.setter) c.args.is_async c.args.is_generator x ts)
     (c.in_ok-start.ensures g.B.Bodies.is_faithful).on)
     (s.unheard_call
     (λ x p. Some (shell_node g.B.Block.Spanned.place c.in_ok-start.start c.args.is_async c.args.is_generator p.0, p.1))
@@ -52,7 +53,7 @@ returns g c =
     m.yes (Ok _)
     (s.heard_answer whole
     (s.heard_more (λ x p. shell_tail place _ c.args.is_async c.args.is_generator p.0 x p.1)
-    (λ x ts. key.shell_splits _ g.met.B.Bodies.lawful c.args.is_async c.args.is_generator x ts)
+    (λ x ts. key.shell_splits _ g.met.B.Bodies.lawful (is_some c.args.setter) c.args.is_async c.args.is_generator x ts)
     (c.in_ok-start.ensures g.B.Bodies.is_faithful)
     (s.on_call (λ x p. Some (shell_node place start c.args.is_async c.args.is_generator p.0, p.1)) (λ x ts. refl)
     c.in_ok-body.ensures.reads.on)))
