@@ -88,7 +88,7 @@ show_expr | expr script | {a?} | Object{a}\nTS1162 2..3\n | 1
 show_expr | expr script | {set a() {}} | Object{Setter(a, Invalid, <2>)}\nSetterParam 5..6\nSetterParam 5..6\n | 1
 show_expr | expr script | {set a(b) {}} | refused: Expected 7..8 )\n | 2
 show_expr | expr script | {set, set(){}, set: 1} | Object{set, Method(set, [], <2>), set: 1}\n | 0
-show_expr | expr script | {set a( | refused: Eof 7..7\n | 2";
+show_expr | expr script | {set a( | refused: Eof 7..7\nSetterParam 5..6\n | 2";
 
 /// Gives some bytes, and then ends, or fails.
 #[derive(Drop)]
