@@ -7,6 +7,8 @@ mod buffers;
 #[cfg(test)]
 mod failing;
 #[cfg(test)]
+mod hooks;
+#[cfg(test)]
 mod parsing;
 #[cfg(test)]
 mod program;

@@ -1,5 +1,6 @@
 // Calls of the parser.
 use crate::failing::FailingInput;
+use crate::hooks::TestBodies;
 use crate::settings::{setting_of, source_of};
 use crate::shown::{Shown, show, show_faults, show_refusal};
 use crate::trees::show_numbered;
@@ -7,7 +8,6 @@ use bench_lower::rows::{Row, Subject, answers, expect, row_of};
 use bench_lower::tokens::fault_of;
 use std::alloc::{AllocError, Global};
 use std::test::Fail;
-use swc_bodies::none::NoBodies;
 use swc_context::error::Error;
 use swc_ecma_parser::parser::Parser;
 use swc_input::tokens::Tokens;
@@ -15,8 +15,10 @@ use swc_input::tokens::Tokens;
 /// What the calls of one parser answer, with places; then the faults that are recorded in the end,
 /// and the place of the first token that is left.
 ///
-/// A `failing` source meets want of memory behind its tokens. Each row that tells nothing of nodes
-/// holds with `parse_expr_id` for `parse_expr`, too.
+/// A `failing` source meets want of memory behind its tokens. The hook consumes one token at each
+/// call, and refuses it. Where a word such as `hook_refuses` says what it does at its first call, it
+/// records `TS1005` at the token of each later one, and answers the token's place. Each row that
+/// tells nothing of nodes holds with `parse_expr_id` for `parse_expr`, too.
 const CALLS: &str =
     r"parse_expr; parse_assignment_expr; parse_bin_expr; parse_unary_expr; at_end; parse_lit; at_end | script | a + b c d * e (f) 7 | Bin(+, a, b) 0..5; c 6..7; Bin(*, d, e) 8..13; Paren(f) 14..17; false; 7 18..19; true | none | end
 parse_bin_expr | script without_in | a in b | a 0..1 | none | 2..4
@@ -89,6 +91,30 @@ parse_expr | script | class * a | Bin(*, Invalid, a) 0..9 | TS1109 6..7 | end
 parse_expr | script | - function f | Unary(-, Invalid) 0..1 | Unexpected 2..10 { | 11..12
 parse_expr | script | [function] | refused: Unexpected 1..9 { | none | 9..10
 parse_expr | script | [...class] | refused: WithLabel 4..9 (Unexpected 4..9 {) | none | 9..10
+parse_expr | script hook_records | - function * ! class + async function | Bin(+, Bin(*, Unary(-, Fn<0>), Unary(!, Class<0>)), Fn<0>) 0..28 | TS1005 2..10, TS1005 15..20, TS1005 23..28 | 29..37
+parse_expr | script hook_records | [...function, ...class, async function] | refused: Expected 30..38 , | TS1005 4..12, TS1005 17..22, TS1005 24..29 | 30..38
+parse_expr | script hook_records | {a: function, [class]: class, ...class} | Object{a: Fn<0>, [Class<0>]: Class<0>, ...Class<0>} 0..39 | TS1005 4..12, TS1005 15..20, TS1005 23..28, TS1005 33..38 | end
+parse_expr | script hook_records | {m() {, get n() {, set q() {, async *p() {} | Object{Method(m, [], <0>), Getter(n, <0>), Setter(q, Invalid, <0>), AsyncGeneratorMethod(p, [], <0>)} 0..43 | TS1005 5..6, TS1005 16..17, SetterParam 23..24, TS1005 27..28, SetterParam 23..24, TS1005 41..42 | end
+parse_expr; parse_binding_ident | generator hook_records | {m() {} yield | Object{Method(m, [], <0>)} 0..7; yield 8..13 | TS1005 5..6, ExpectedIdent 8..13 | end
+parse_expr | script hook_records | class@0..5 E(TS1109)@6..7 | Class<0> 0..5 | TS1109 6..7, TS1005 0..5 | end
+parse_expr | script no_early_errors hook_records | function | Fn<0> 0..8 | none | end
+parse_expr; parse_expr | script hook_records failing | function | refused: OutOfMemory 8..8; refused: ParserFailed 0..8 | none | refused: ParserFailed 0..8
+parse_expr; parse_expr | script hook_refuses | a + async function + class | refused: Unexpected 4..9 {; Bin(+, Fn<0>, Class<0>) 10..26 | TS1005 10..18, TS1005 21..26 | end
+parse_expr | script hook_refuses | class * class | Bin(*, Invalid, Class<0>) 0..13 | TS1109 6..7, TS1005 8..13 | end
+parse_expr | script hook_refuses | [...- class, function] | Array[...Unary(-, Invalid), Fn<0>] 0..22 | Unexpected 6..11 {, TS1005 13..21 | end
+parse_expr | script hook_refuses | [...[...function]] | refused: WithLabel 8..16 (WithLabel 8..16 (Unexpected 8..16 {)) | none | 16..17
+parse_expr; parse_bin_expr | script without_in hook_refuses | {a: class b in c | refused: Unexpected 4..9 {; b 10..11 | none | 12..14
+parse_expr; parse_binding_ident | script hook_refuses | {*m() { yield | refused: Unexpected 6..7 {; yield 8..13 | none | end
+parse_expr; parse_binding_ident | generator hook_refuses | {get m() { yield | refused: Unexpected 9..10 {; yield 11..16 | ExpectedIdent 11..16 | end
+parse_expr_id; count_nodes; parse_expr_id; count_nodes | script hook_refuses | [a, class b + function | refused: Unexpected 4..9 {; 0; Bin(+, b, Fn<0>) 10..22; 3 | TS1005 14..22 | end
+parse_expr; parse_expr | script hook_refuses failing | class | refused: OutOfMemory 5..5; refused: ParserFailed 0..5 | none | refused: ParserFailed 0..5
+parse_expr; parse_expr; at_end | script hook_wants_memory | async function | refused: OutOfMemory 5..5; refused: ParserFailed 0..5; refused: ParserFailed 0..5 | none | refused: ParserFailed 0..5
+parse_expr; parse_expr | script hook_wants_memory | class * a | refused: OutOfMemory 5..5; refused: ParserFailed 0..5 | none | refused: ParserFailed 0..5
+parse_expr; parse_expr | script hook_wants_memory | [* a, - function | refused: OutOfMemory 16..16; refused: ParserFailed 8..16 | TS1109 1..2 | refused: ParserFailed 8..16
+parse_expr; parse_expr | script hook_wants_memory | [...{a: class}] | refused: OutOfMemory 13..13; refused: ParserFailed 8..13 | none | refused: ParserFailed 8..13
+parse_expr; parse_expr | script hook_wants_memory | {m() {} | refused: OutOfMemory 6..6; refused: ParserFailed 5..6 | none | refused: ParserFailed 5..6
+parse_expr; parse_expr | script hook_wants_memory | {get a() {} | refused: OutOfMemory 10..10; refused: ParserFailed 9..10 | none | refused: ParserFailed 9..10
+parse_expr_id; count_nodes; parse_expr_id; count_nodes | script hook_wants_memory | a b + class | a 0..1; 1; refused: OutOfMemory 11..11; 1 | none | refused: ParserFailed 6..11
 parse_ident(true, true) | script | enum | enum 0..4 | InvalidIdentInStrict 0..4 enum | end
 parse_binding_ident | generator | yield | yield 0..5 | ExpectedIdent 0..5 | end
 parse_binding_ident; set_ctx module | generator | yield | yield 0..5; done | ExpectedIdent 0..5, InvalidIdentInStrict 0..5 yield | end
@@ -112,7 +138,7 @@ parse_lit | script | 1 | 1 0..1 | none | end";
 /// A parser, and whether `parse_expr_id` is called for `parse_expr`.
 #[derive(Drop)]
 struct Tested<I: Tokens> {
-    parser: Parser<I, NoBodies>,
+    parser: Parser<I, TestBodies>,
     numbers: bool,
 }
 
@@ -141,7 +167,7 @@ impl<I: Tokens> Subject for Tested<I> {
 
 /// The calls on names.
 fn call_name<I: Tokens>(
-    parser: &mut Parser<I, NoBodies>,
+    parser: &mut Parser<I, TestBodies>,
     out: &mut String,
     call: &str,
 ) -> Result<(), Fail> {
@@ -181,7 +207,7 @@ fn call_input<I: Tokens>(input: &mut I, out: &mut String, call: &str) -> Result<
 /// Writes the place of the first token that is left, which is no `#`.
 fn show_left<I: Tokens>(
     out: &mut String,
-    parser: &mut Parser<I, NoBodies>,
+    parser: &mut Parser<I, TestBodies>,
 ) -> Result<(), AllocError> {
     match parser.at_end() {
         Ok(true) => out.push_str("end"),
@@ -207,17 +233,18 @@ fn outcome<I: Tokens>(alloc: Global, tested: &mut Tested<I>, calls: &str) -> Res
 fn found(alloc: Global, row: Row<'_>, numbers: bool) -> Result<String, Fail> {
     let source = source_of(alloc, row)?;
     if row.setting.ends_with("failing") {
-        run(alloc, FailingInput::new(source), row.calls, numbers)
+        run(alloc, FailingInput::new(source), row, numbers)
     } else {
-        run(alloc, source, row.calls, numbers)
+        run(alloc, source, row, numbers)
     }
 }
 
-/// Runs a parser over the source.
-fn run<I: Tokens>(alloc: Global, source: I, calls: &str, numbers: bool) -> Result<String, Fail> {
-    let parser = Parser::new_from(alloc, source, NoBodies);
+/// Runs a parser over the source, with the hook of the row's setting.
+fn run<I: Tokens>(alloc: Global, source: I, row: Row<'_>, numbers: bool) -> Result<String, Fail> {
+    let hook = TestBodies::of_setting(row.setting);
+    let parser = Parser::new_from(alloc, source, hook);
     let mut tested = Tested { parser, numbers };
-    outcome(alloc, &mut tested, calls)
+    outcome(alloc, &mut tested, row.calls)
 }
 
 #[test]

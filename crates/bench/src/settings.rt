@@ -1,4 +1,5 @@
 // The settings in which calls are made.
+use crate::hooks::TestBodies;
 use bench_lower::rows::Row;
 use bench_lower::tokens::tokens_of;
 use std::alloc::Global;
@@ -43,7 +44,9 @@ fn set(context: &mut Context, word: &str) -> Option<()> {
         "async" => context.in_async = true,
         "without_in" => context.include_in_expr = false,
         "ignore_error" => context.ignore_error = true,
-        _ => return None,
+        _ => {
+            TestBodies::named(word)?;
+        }
     }
     let in_function = context.in_generator || context.in_async;
     context.in_function = in_function;

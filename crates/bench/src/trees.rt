@@ -1,8 +1,8 @@
 // Trees, by number and in boxes.
+use crate::hooks::TestBodies;
 use crate::shown::Shown;
 use std::alloc::AllocError;
 use swc_bodies::bodies::ExprOf;
-use swc_bodies::none::NoBodies;
 use swc_context::span::Span;
 use swc_ecma_parser::parser::Parser;
 use swc_input::tokens::Tokens;
@@ -31,7 +31,7 @@ fn show_id(
 /// Writes what `parse_expr_id` answers.
 pub(crate) fn show_numbered<I: Tokens>(
     out: &mut String,
-    parser: &mut Parser<I, NoBodies>,
+    parser: &mut Parser<I, TestBodies>,
 ) -> Result<(), AllocError> {
     match parser.parse_expr_id() {
         Ok(id) => show_id(out, parser.nodes(), id),
@@ -40,7 +40,7 @@ pub(crate) fn show_numbered<I: Tokens>(
 }
 
 /// A boxed tree is moved into nodes, and shown as they are.
-impl Shown for Box<ExprOf<NoBodies>> {
+impl Shown for Box<ExprOf<TestBodies>> {
     fn show(self, out: &mut String) -> Result<(), AllocError> {
         let alloc = *out.allocator();
         let mut nodes = Nodes::new(alloc);
