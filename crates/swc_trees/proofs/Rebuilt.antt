@@ -19,8 +19,9 @@ use Rattle.swc_nodes.specs.Walking.{part_of}
 use Rattle.swc_nodes.specs.declared.apart.PartId.{PartId}
 use Rattle.swc_nodes.specs.declared.node.Node.{Node}
 use Rattle.swc_nodes.specs.declared.nodes.Nodes.{Nodes}
-use Rattle.swc_nodes.proofs.Standing.{grows-then}
-use Rattle.swc_trees.specs.Building.{Kind, an_expr, a_pat, part_kind, built_kind, built_tree, IsFor, AreFor, Stand, Assembled}
+use Rattle.swc_nodes.proofs.Chains.{floor-under}
+use Rattle.swc_nodes.proofs.Standing.{grows-same, grows-then}
+use Rattle.swc_trees.specs.Building.{Kind, an_expr, a_pat, part_kind, built_kind, built_tree, IsFor, AreFor, Stand, Offers, Assembled}
 use Rattle.swc_trees.specs.Moving.{Agrees, TakesOut}
 use Rattle.swc_trees.specs.declared.built.Built.{Built}
 use Rattle.swc_trees.specs.declared.built.Built.TheVariants as built
@@ -143,3 +144,27 @@ module _ {F C K : Type 0} {fun_at : F → Span} {class_at : C → Span} {block_a
       let all = kinds-long ps bs k in
       let e : length bs ≡ length (n ∷ new) + length a.own = ap length a.split ∙ length-append (n ∷ new) a.own in
       absurd (omega arith)
+
+-- ---- a piece of a node is put together from the trees of its parts, which were taken out
+
+module _ {F C K : Type 0} {fg : Ghosts F} {cg : Ghosts C} {kg : Ghosts K} where
+  pub left-none : {ns : Nodes F C K fg cg kg} (ps : List Part) → Apart 0 ns ps → Left (floor (seat_at ns) (count ns) ps) ns ns
+  left-none {ns} ps a =
+      let u = floor-under (seat_at ns) 0 ps (count ns) a.chained in
+      record { grows = grows-same ns; above = u }
+
+  pub left-piece : {ns ms : Nodes F C K fg cg kg} {ps qs : List Part} → ps ≡ qs → Left (floor (seat_at ns) (count ns) ps) ns ms → Left (floor (seat_at ns) (count ns) qs) ns ms
+  left-piece {ns} {ms} e l = subst (λ v. Left (floor (seat_at ns) (count ns) v) ns ms) e l
+
+  pub piece-offered : {ns ms : Nodes F C K fg cg kg} {ps : List Part} {bs : Vec (Built F C K) Global} (qs : List Part) → ps ≡ qs → TakesOut ps (λ at v. AreFor fg.place cg.place kg.place at ps v.items) ns (Ok bs) ms → Offers qs bs.items
+  piece-offered {ns} {ps = ps} qs e t = record { front = []; ends = (t.moved (tree_at ns) (agrees-self ns ps)).0 ∙ ap (map part_kind) e }
+
+  pub piece-made : {Y : Type 0} {ns ms : Nodes F C K fg cg kg} {ps : List Part} {bs : Vec (Built F C K) Global} (same : (ℕ → Tree F C K) → Y → Type 0) (qs : List Part) (new : List (Built F C K)) (r : Result Y AllocError) → ps ≡ qs →
+      TakesOut ps (λ at v. AreFor fg.place cg.place kg.place at ps v.items) ns (Ok bs) ms → IfOk r (λ y. Assembled fg.place cg.place kg.place qs (λ at. same at y) bs.items new) → IfOk r (λ y. same (tree_at ns) y)
+  piece-made {Y} {ns} {ps = ps} {bs = bs} same qs new r e t h =
+      let are = t.moved (tree_at ns) (agrees-self ns ps) in
+      let kinds : map built_kind bs.items ≡ map part_kind qs = are.0 ∙ ap (map part_kind) e in
+      let of : List Part → List (Tree F C K) = λ vs. map (λ v. tree_at ns v.at) vs in
+      let stand : Stand fg.place cg.place kg.place (tree_at ns) qs bs.items = are.1 ∙ ap of e in
+      if_ok-as (λ y. Assembled fg.place cg.place kg.place qs (λ at. same at y) bs.items new) (λ y. same (tree_at ns) y) r
+      (λ y a. all-made {same = λ at. same at y} qs bs.items new kinds a (tree_at ns) stand) h

@@ -1,6 +1,8 @@
 // Letting go of boxed trees. A crate that is handed one lets it go here, so that this is proved once.
 use swc_ast::expr::Expr;
+use swc_ast::function::Param;
 use swc_ast::pat::Pat;
+use swc_ast::prop::PropOrSpread;
 use swc_ast::spanned::Spanned;
 
 /// Lets go of an expression, and of all that it holds.
@@ -8,3 +10,18 @@ pub fn let_go<F: Spanned + Drop, C: Spanned + Drop, K: Spanned + Drop>(_expr: Bo
 
 /// Lets go of a pattern, and of all that it holds.
 pub fn let_go_pat<F: Spanned + Drop, C: Spanned + Drop, K: Spanned + Drop>(_pat: Pat<F, C, K>) {}
+
+/// Lets go of the properties of an object literal, and of all that they hold.
+pub fn let_go_props<F: Spanned + Drop, C: Spanned + Drop, K: Spanned + Drop>(
+    _props: Vec<PropOrSpread<F, C, K>>,
+) {}
+
+/// Lets go of a property of an object literal, and of all that it holds.
+pub fn let_go_prop<F: Spanned + Drop, C: Spanned + Drop, K: Spanned + Drop>(
+    _prop: PropOrSpread<F, C, K>,
+) {}
+
+/// Lets go of parameters, and of all that they hold.
+pub fn let_go_params<F: Spanned + Drop, C: Spanned + Drop, K: Spanned + Drop>(
+    _params: Vec<Param<Pat<F, C, K>>>,
+) {}

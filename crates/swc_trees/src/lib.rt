@@ -5,6 +5,7 @@ mod assembling;
 mod built;
 mod items;
 pub mod letting_go;
+pub mod making;
 mod moved;
 mod parting;
 pub mod parts;

@@ -1,23 +1,27 @@
 // Moves boxed trees out of the nodes. The last part of a node is taken first, so that all that a
 // node holds leaves it by a plain move.
 ghost use Rattle.std.specs.Prelude.{◌≡◌, ℕ, true, [], ◌∷◌, map, IfOk};
+ghost use Rattle.swc_ast.specs.Parts.{prop_name_tree};
 ghost use Rattle.swc_ast.specs.Tree.{Tree};
 ghost use Rattle.swc_nodes.specs.NodeTree.{node_tree};
-ghost use Rattle.swc_nodes.specs.Slots.{form, view_ok, slots, expr_part, pat_part};
-ghost use Rattle.swc_nodes.specs.Stands.{tree_at, first_at, Apart, From, Left};
+ghost use Rattle.swc_nodes.specs.Seats.{floor};
+ghost use Rattle.swc_nodes.specs.Slots.{form, view_ok, slots, expr_part, pat_part, key_parts, prop_parts};
+ghost use Rattle.swc_nodes.specs.Stands.{count, seat_at, tree_at, first_at, Apart, From, Left};
 ghost use Rattle.swc_nodes.specs.Walking.{part_of};
 ghost use Rattle.swc_trees.specs.Building.{part_kind, built_kind, built_tree, Stand, IsFor, AreFor};
-ghost use Rattle.swc_trees.specs.Moving.{TakesOut, boxed_in, pat_in};
+ghost use Rattle.swc_trees.specs.Moving.{TakesOut, boxed_in, pat_in, prop_or_spread_in, prop_node_as};
 
 use crate::assembling::{assemble_expr, assemble_pat, assemble_pattern, assemble_simple};
 use crate::built::Built;
+use crate::items::Item;
 use crate::refusable::{boxed, push_to, reversed};
 use std::alloc::{AllocError, Global};
 use swc_ast::expr::{AssignTarget, Expr};
 use swc_ast::pat::Pat;
+use swc_ast::prop::{ComputedPropName, PropName, PropOrSpread};
 use swc_ast::spanned::Spanned;
 use swc_nodes::apart::{PartId, parts_of};
-use swc_nodes::node::{ExprId, Node, PatId, TargetNode};
+use swc_nodes::node::{ExprId, Node, PatId, PropNode, TargetNode};
 use swc_nodes::nodes::Nodes;
 
 /// Moves an expression out of the nodes, and lets go of all behind it.
@@ -50,6 +54,45 @@ pub fn take_pat<F: Spanned + Drop, C: Spanned + Drop, K: Spanned + Drop>(
         Built::Pat(pat) => Ok(pat),
         _ => unreachable!(),
     }
+}
+
+/// Moves what a key holds out of the nodes, and lets go of all behind it. Other keys than expressions hold none.
+pub fn take_key<F: Spanned + Drop, C: Spanned + Drop, K: Spanned + Drop>(
+    nodes: &mut Nodes<F, C, K>,
+    alloc: Global,
+    key: PropName<ExprId>,
+) -> Result<PropName<Box<Expr<F, C, K>>>, AllocError>
+    requires { Apart 0 nodes.old (key_parts key) }
+    ensures left { Left (floor (seat_at nodes.old) (count nodes.old) (key_parts key)) nodes.old nodes.new }
+    ensures moved { IfOk result (λ k. prop_name_tree (boxed_in nodes.old) k
+        ≡ prop_name_tree (λ id. tree_at nodes.old id.0) key) }
+{
+    match key {
+        PropName::Ident(name) => Ok(PropName::Ident(name)),
+        PropName::Str(text) => Ok(PropName::Str(text)),
+        PropName::Num(num) => Ok(PropName::Num(num)),
+        PropName::BigInt(num) => Ok(PropName::BigInt(num)),
+        PropName::Computed(ComputedPropName { span, expr }) => {
+            let expr = take_expr(nodes, alloc, expr)?;
+            Ok(PropName::Computed(ComputedPropName { span, expr }))
+        }
+    }
+}
+
+/// Moves a property of an object literal out of the nodes, and lets go of all behind it.
+pub fn take_prop<F: Spanned + Drop, C: Spanned + Drop, K: Spanned + Drop>(
+    nodes: &mut Nodes<F, C, K>,
+    alloc: Global,
+    prop: PropNode<K>,
+) -> Result<PropOrSpread<F, C, K>, AllocError>
+    requires { Apart 0 nodes.old (prop_parts prop) }
+    ensures left { Left (floor (seat_at nodes.old) (count nodes.old) (prop_parts prop)) nodes.old nodes.new }
+    ensures moved { IfOk result
+        (λ p. prop_or_spread_in nodes.old p ≡ prop_node_as nodes.old (tree_at nodes.old) prop) }
+{
+    let parts = parts_of(alloc, &prop)?;
+    let mut built = take_all(nodes, alloc, parts)?;
+    prop.assemble(alloc, &mut built)
 }
 
 /// Takes out a part of a node.
