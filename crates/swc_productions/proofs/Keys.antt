@@ -26,7 +26,7 @@ use Rattle.swc_grammar.specs.Words.{◌>>=◌, word}
 use Rattle.swc_grammar.proofs.Bodies.{hears, hears-place, hears-run}
 use Rattle.swc_grammar.proofs.Knot.{knot}
 use Rattle.swc_productions.specs.Keys.{expected_by, expected, is_key_lit, plain_key, key_close, computed_key}
-use Rattle.swc_productions.specs.Keys.{key_by, no_params, parens_close, parens_tail, parens, params, method_body}
+use Rattle.swc_productions.specs.Keys.{key_by, ends_params, no_params, parens_close, parens_tail, parens, params, method_body}
 use Rattle.swc_productions.specs.Keys.{shell, shell_node, shell_tail}
 use Rattle.swc_productions.specs.Lists.{eaten_by, eaten}
 use Rattle.swc_productions.specs.Parsing.{Parses, seen, seen_of}
@@ -147,6 +147,10 @@ pub no_params_here : (x : Context) (ts : List TokenAndSpan) → at_token is_rpar
 unfolding no_params
 no_params_here x [] h = refl
 no_params_here x (t ∷ ts) h = rw h refl
+
+pub ends_here : (o : Option TokenAndSpan) → at_token is_rparen o ≡ true → ends_params o ≡ true
+ends_here None h = refl
+ends_here (Some t) h = h
 
 pub no_params_end : (x : Context) (ts : List TokenAndSpan) → first ts ≡ None → no_params x ts ≡ Some (tt, ts)
 unfolding no_params

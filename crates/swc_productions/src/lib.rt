@@ -5,5 +5,5 @@
 mod expr;
 mod kinds;
 pub mod moves;
-mod object;
+pub mod object;
 pub mod productions;

@@ -17,11 +17,11 @@ ghost use Rattle.swc_nodes.specs.Slots.{expr_part, pat_part, key_parts};
 ghost use Rattle.swc_nodes.specs.Stands.{count, From, Grows};
 ghost use Rattle.swc_productions.specs.Readers.{by_production, nothing};
 ghost use Rattle.swc_productions.specs.Properties.{prop_item, spread_prop_tail, prop_plain, open_name, cover_tail};
-ghost use Rattle.swc_productions.specs.Keys.{is_key_lit, plain_key, computed_key, no_params, parens, params};
-ghost use Rattle.swc_productions.specs.Keys.{method_body, shell};
+ghost use Rattle.swc_productions.specs.Keys.{is_key_lit, plain_key, computed_key, no_params, ends_params, parens};
+ghost use Rattle.swc_productions.specs.Keys.{params, method_body, shell};
 ghost use Rattle.swc_productions.specs.Methods.{prop_behind, method_behind, getter_behind, setter_behind, after_colon};
 ghost use Rattle.swc_productions.specs.Methods.{method_node, method_function, method_tail};
-ghost use Rattle.swc_productions.specs.Parsing.{seen, Refuses, Checked, Tries, Acts, Parses, ParsesAlone};
+ghost use Rattle.swc_productions.specs.Parsing.{seen, Here, Refuses, Checked, Tries, Acts, Parses, ParsesAlone};
 ghost use Rattle.swc_productions.specs.Parsing.{ContinuesAlone, Produces, itself, tree_of};
 ghost use Rattle.swc_productions.specs.Parsing.{key_of, key_at, shell_of, shell_at, function_of, function_at};
 ghost use Rattle.swc_productions.specs.Parsing.{after_of, after_at};
@@ -96,7 +96,7 @@ impl<I: Tokens, B: Bodies<I>> Productions<I, B> {
 
     /// A property of an object literal (ECMA-262, 13.2.5).
     #[cycle(productions)]
-    fn parse_object_prop(&mut self) -> PResult<PropNode<B::Block>>
+    pub fn parse_object_prop(&mut self) -> PResult<PropNode<B::Block>>
         ensures { Produces I.model B.is_faithful prop_of prop_at (run B.forms (sym Prop))
             (count self.old.nodes) self.old result self.new }
     {
@@ -302,7 +302,7 @@ impl<I: Tokens, B: Bodies<I>> Productions<I, B> {
     ///
     /// Another token is refused as `Unexpected`, at that token, and the end as `Eof`; a missing `]` as `Expected`.
     #[cycle(productions)]
-    pub(crate) fn parse_prop_name(&mut self) -> PResult<PropName<ExprId>>
+    pub fn parse_prop_name(&mut self) -> PResult<PropName<ExprId>>
         ensures { Produces I.model B.is_faithful key_of key_at (run B.forms (sym Key))
             (count self.old.nodes) self.old result self.new }
     {
@@ -445,8 +445,9 @@ fn parse_parens<I: Tokens>(input: &mut Buffer<I>, setter: Option<Span>) -> PResu
 
 /// The parameters of a method (ECMA-262, 15.1), of which there are none so far: they end before `)`, which stays, or at
 /// the end. Another token is refused as `Expected`.
-fn parse_formal_params<I: Tokens>(input: &mut Buffer<I>) -> PResult<()>
+pub fn parse_formal_params<I: Tokens>(input: &mut Buffer<I>) -> PResult<()>
     ensures continues { ContinuesAlone I.model (λ u. u) no_params input.old result input.new }
+    ensures ends { IfOk result (λ u. Here I.model input.old input.new × (ends_params (seen input.new) ≡ true)) }
     ensures falls { OnOk result (to_come I.model input.new ≤ to_come I.model input.old) }
 {
     if !look(input)? {

@@ -2,8 +2,9 @@ use Rattle.std.proofs.Common.{sym, ap, ◌∙◌}
 use Rattle.std.proofs.lemmas.Result.{err_from_is_err_and}
 use Rattle.swc_input.specs.Kinds.{at_token}
 use Rattle.swc_grammar.specs.Tokens.{is_rparen}
-use Rattle.swc_productions.specs.Parsing.{seen_of}
-use Rattle.swc_productions.proofs.Keys.{no_params_end, no_params_here, no_params_not}
+use Rattle.swc_productions.specs.Keys.{ends_params}
+use Rattle.swc_productions.specs.Parsing.{seen, seen_of}
+use Rattle.swc_productions.proofs.Keys.{ends_here, no_params_end, no_params_here, no_params_not}
 use Rattle.swc_productions.proofs.Steps as s
 use Rattle.swc_productions.proofs.object.parse_formal_params.Goals as goal
 
@@ -27,3 +28,11 @@ pub returns-clause-continues : goal.returns-clause-continues
 returns-clause-continues g c = λ sure.
     s.on_seen c.in_ok-look.ensures.looks
     (λ x ts same e. no_params_here x ts (ap (at_token is_rparen) e ∙ sym c.is_sign.ensures.value ∙ c.if-not-is_sign.false))
+
+pub returns-then-not-branch-clause-ends : goal.returns-then-not-branch-clause-ends
+returns-then-not-branch-clause-ends g c =
+    (c.in_ok-look.ensures.looks, ap (λ o. ends_params (seen_of o)) (c.in_ok-look.ensures.end c.if-not-branch.true).0)
+
+pub returns-clause-ends : goal.returns-clause-ends
+returns-clause-ends g c =
+    (c.in_ok-look.ensures.looks, ends_here (seen c.look.new.input) (sym c.is_sign.ensures.value ∙ c.if-not-is_sign.false))
