@@ -1,7 +1,10 @@
 // A hook of the tests' own, which refuses, records a fault or wants memory.
-ghost use Rattle.std.specs.Prelude.{IsSome};
+ghost use Rattle.std.specs.Prelude.{◌≡◌, ◌∷◌, [], IsSome};
+ghost use Rattle.swc_context.specs.declared.span.Span.{Span};
+ghost use Rattle.swc_input.specs.declared.token.TokenAndSpan.{TokenAndSpan};
+ghost use Rattle.swc_input.specs.Plain.{plain};
+ghost use Rattle.swc_input.specs.Buffer.{current, source, Read};
 ghost use Rattle.swc_bodies.specs.Readings.{Hooked, Reading};
-ghost use Rattle.swc_input.specs.Buffer.{current};
 
 use swc_bodies::bodies::{Bodies, BodyForms};
 use swc_context::error::{Error, PResult, SyntaxError};
@@ -70,13 +73,23 @@ impl TestBodies {
     }
 }
 
+/// Consumes the current token, and answers its place.
+fn consume<I: Tokens>(input: &mut Buffer<I>) -> Span
+    requires { IsSome (current input.old) }
+    ensures took { (t : TokenAndSpan) × Read I.model input.old (plain t ∷ []) input.new }
+    ensures same { source input.new ≡ source input.old }
+{
+    let span = input.cur_span();
+    let _ = input.bump();
+    span
+}
+
 /// Consumes the current token, and answers in the manner given.
 fn answer<I: Tokens>(manner: Manner, input: &mut Buffer<I>) -> PResult<Span>
     requires { IsSome (current input.old) }
     ensures { (reads : Reading Span) → Hooked I.model reads input.old result input.new }
 {
-    let span = input.cur_span();
-    let _ = input.bump();
+    let span = consume(input);
     match manner {
         Manner::Refuses => Err(Error::new(span, SyntaxError::Unexpected("{"))),
         Manner::Records => {
