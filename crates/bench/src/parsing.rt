@@ -9,7 +9,9 @@ use bench_lower::tokens::fault_of;
 use std::alloc::{AllocError, Global};
 use std::test::Fail;
 use swc_context::error::Error;
+use swc_context::span::{BytePos, Span};
 use swc_ecma_parser::parser::Parser;
+use swc_ecma_parser::parser::object::ParseObject;
 use swc_input::tokens::Tokens;
 
 /// What the calls of one parser answer, with places; then the faults that are recorded in the end,
@@ -115,6 +117,31 @@ parse_expr; parse_expr | script hook_wants_memory | [...{a: class}] | refused: O
 parse_expr; parse_expr | script hook_wants_memory | {m() {} | refused: OutOfMemory 6..6; refused: ParserFailed 5..6 | none | refused: ParserFailed 5..6
 parse_expr; parse_expr | script hook_wants_memory | {get a() {} | refused: OutOfMemory 10..10; refused: ParserFailed 9..10 | none | refused: ParserFailed 9..10
 parse_expr_id; count_nodes; parse_expr_id; count_nodes | script hook_wants_memory | a b + class | a 0..1; 1; refused: OutOfMemory 11..11; 1 | none | refused: ParserFailed 6..11
+parse_prop_name | script | a | a 0..1 | none | end
+parse_prop_name | script | if | if 0..2 | none | end
+parse_prop_name | script | 1n b | 1n 0..2 | none | 3..4
+parse_prop_name | script without_in | [a in b] c | [Bin(in, a, b) 1..7] 0..8 | none | 9..10
+parse_prop_name | script | + | refused: Unexpected 0..1 identifier, string literal, numeric literal or [ for the computed key | none | 0..1
+parse_prop_name | script |  | refused: Eof 0..0 | none | end
+parse_prop_name | script | [a b | refused: Expected 3..4 ] | none | 3..4
+parse_prop_name; count_nodes; parse_expr_id; count_nodes | script | [a + b] c | [Bin(+, a, b) 1..6] 0..7; 0; c 8..9; 1 | none | end
+parse_prop_name; parse_expr | script failing | [a | refused: OutOfMemory 2..2; refused: ParserFailed 1..2 | none | refused: ParserFailed 1..2
+parse_object_prop | script | a: b, c | KeyValue 0..4 | none | 4..5
+parse_object_prop | script | a | refused: Eof 1..1 | none | end
+parse_object_prop | script | a } | Shorthand 0..1 | none | 2..3
+parse_object_prop | script without_in | a = b in c, | Assign 0..10 | none | 10..11
+parse_object_prop | script | ...a in b | Spread 0..9 | none | end
+parse_object_prop | script hook_records | async *m() { } | Method 0..12 | TS1005 11..12 | 13..14
+parse_object_prop | script hook_records | get a() { } | Getter 0..9 | TS1005 8..9 | 10..11
+parse_object_prop | script hook_records | set a() { } | Setter 0..9 | SetterParam 4..5, TS1005 8..9, SetterParam 4..5 | 10..11
+parse_object_prop | script | if, | Shorthand 0..2 | ReservedWordInObjShorthandOrPat 0..2 | 2..3
+parse_object_prop; parse_object_prop; make_object | script failing | a: | refused: OutOfMemory 2..2; refused: ParserFailed 1..2; refused: ParserFailed 1..2 | none | refused: ParserFailed 1..2
+make_object; parse_expr | script | a | Object{} 0..0; a 0..1 | none | end
+parse_formal_params | script | ) | none | none | 0..1
+parse_formal_params | script |  | none | none | end
+parse_formal_params | script | a ) | refused: Expected 0..1 ) | none | 0..1
+parse_unique_formal_params | script | ) | none | none | 0..1
+parse_formal_params; parse_expr | script failing |  | refused: OutOfMemory 0..0; refused: ParserFailed 0..0 | none | refused: ParserFailed 0..0
 parse_ident(true, true) | script | enum | enum 0..4 | InvalidIdentInStrict 0..4 enum | end
 parse_binding_ident | generator | yield | yield 0..5 | ExpectedIdent 0..5 | end
 parse_binding_ident; set_ctx module | generator | yield | yield 0..5; done | ExpectedIdent 0..5, InvalidIdentInStrict 0..5 yield | end
@@ -159,10 +186,31 @@ impl<I: Tokens> Subject for Tested<I> {
                 parser.clear_nodes();
                 ().show(out)?;
             }
-            _ => call_name(parser, out, call)?,
+            _ => call_part(parser, out, call)?,
         }
         Ok(())
     }
+}
+
+/// The calls on parts of expressions, which answer in boxes.
+fn call_part<I: Tokens>(
+    parser: &mut Parser<I, TestBodies>,
+    out: &mut String,
+    call: &str,
+) -> Result<(), Fail> {
+    match call {
+        "parse_prop_name" => show(out, parser.parse_prop_name())?,
+        "parse_object_prop" => show(out, parser.parse_object_prop())?,
+        "make_object" => {
+            let none = Vec::new(*out.allocator());
+            let start = Span::new(BytePos(0), BytePos(0));
+            show(out, parser.make_object(start, none, None))?;
+        }
+        "parse_formal_params" => show(out, parser.parse_formal_params())?,
+        "parse_unique_formal_params" => show(out, parser.parse_unique_formal_params())?,
+        _ => call_name(parser, out, call)?,
+    }
+    Ok(())
 }
 
 /// The calls on names.

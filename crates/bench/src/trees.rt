@@ -2,13 +2,18 @@
 use crate::hooks::TestBodies;
 use crate::shown::Shown;
 use std::alloc::AllocError;
+use swc_ast::function::Param;
+use swc_ast::lit::Lit;
+use swc_ast::prop::{ComputedPropName, Prop, PropName, PropOrSpread};
+use swc_ast::spanned::Spanned;
 use swc_bodies::bodies::ExprOf;
 use swc_context::span::Span;
-use swc_ecma_parser::parser::Parser;
+use swc_ecma_parser::parser::{Parser, PatOf};
 use swc_input::tokens::Tokens;
 use swc_nodes::node::ExprId;
 use swc_nodes::nodes::Nodes;
 use swc_print::print::PrintNodes;
+use swc_trees::letting_go::{let_go_params, let_go_prop};
 use swc_trees::putting::put_expr;
 
 fn show_id(
@@ -46,5 +51,59 @@ impl Shown for Box<ExprOf<TestBodies>> {
         let mut nodes = Nodes::new(alloc);
         let id = put_expr(&mut nodes, alloc, self)?;
         show_id(out, &nodes, id)
+    }
+}
+
+/// A key, with the tree in its brackets.
+impl Shown for PropName<Box<ExprOf<TestBodies>>> {
+    fn show(self, out: &mut String) -> Result<(), AllocError> {
+        match self {
+            PropName::Ident(name) => name.show(out),
+            PropName::Str(text) => Lit::Str(text).show(out),
+            PropName::Num(number) => Lit::Num(number).show(out),
+            PropName::BigInt(number) => Lit::BigInt(number).show(out),
+            PropName::Computed(ComputedPropName { span, expr }) => {
+                let opened = out.push_str("[");
+                expr.show(out)?;
+                opened?;
+                write!(out, "] {span}")
+            }
+        }
+    }
+}
+
+/// What kind of property it is, and its place.
+impl Shown for PropOrSpread<Span, Span, Span> {
+    fn show(self, out: &mut String) -> Result<(), AllocError> {
+        let kind = match &self {
+            PropOrSpread::Spread(_) => "Spread",
+            PropOrSpread::Prop(prop) => kind_of(prop),
+        };
+        let span = self.span();
+        let_go_prop(self);
+        write!(out, "{kind} {span}")
+    }
+}
+
+fn kind_of(prop: &Prop<Span, Span, Span>) -> &'static str {
+    match prop {
+        Prop::Shorthand(_) => "Shorthand",
+        Prop::KeyValue { .. } => "KeyValue",
+        Prop::Assign(_) => "Assign",
+        Prop::Method { .. } => "Method",
+        Prop::Getter { .. } => "Getter",
+        Prop::Setter { .. } => "Setter",
+    }
+}
+
+/// How many parameters there are.
+impl Shown for Vec<Param<PatOf<TestBodies>>> {
+    fn show(self, out: &mut String) -> Result<(), AllocError> {
+        let count = self.len();
+        let_go_params(self);
+        match count {
+            0 => out.push_str("none"),
+            _ => write!(out, "{count}"),
+        }
     }
 }

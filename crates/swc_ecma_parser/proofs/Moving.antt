@@ -10,10 +10,11 @@ use Rattle.swc_input.specs.Buffer.{last_position}
 use Rattle.swc_input.specs.Recording.{no_memory}
 use Rattle.swc_ast.specs.Tree.{Tree}
 use Rattle.swc_ast.specs.declared.spanned.Spanned.{Ghosts}
-use Rattle.swc_nodes.specs.Slots.{expr_part}
-use Rattle.swc_nodes.specs.Stands.{count, From, Grows, Left, CutTo, SameNodes}
+use Rattle.swc_nodes.specs.Slots.{Part, expr_part}
+use Rattle.swc_nodes.specs.Stands.{count, seat_at, Apart, From, Grows, Left, CutTo, SameNodes}
 use Rattle.swc_nodes.specs.declared.node.ExprId.{ExprId}
 use Rattle.swc_nodes.specs.declared.nodes.Nodes.{Nodes}
+use Rattle.swc_nodes.proofs.Chains.{chain-down}
 use Rattle.swc_nodes.proofs.Standing.{cut_kept}
 use Rattle.swc_productions.specs.Parsing.{tree_of, Heard, Unheard, Parses}
 use Rattle.swc_productions.proofs.Steps.{Reader, spent, unheard_memory}
@@ -29,6 +30,14 @@ module _ {F C K : Type 0} {fg : Ghosts F} {cg : Ghosts C} {kg : Ghosts K} where
       let a = l.above in
       e ∙ sym (take-append-le start ls.nodes.items l.grows.more (omega arith)) ∙ ap (take start) (sym l.grows.appended)
 
+  -- parts that lie apart from some number on
+  pub apart-low : {ns : Nodes F C K fg cg kg} {k : ℕ} (ps : List Part) → Apart k ns ps → Apart 0 ns ps
+  apart-low {ns} {k} ps a = record { chained = chain-down (seat_at ns) k 0 ps (count ns) (omega arith) a.chained }
+
+  -- those of an answer
+  pub apart-taken : {X : Type 0} {ns : Nodes F C K fg cg kg} {x : X} (parts : X → List Part) (k : ℕ) (answer : Result X Error) → answer ≡ Ok x → IfOk answer (λ y. Apart k ns (parts y)) → Apart 0 ns (parts x)
+  apart-taken {ns = ns} {x = x} parts k answer e h = apart-low (parts x) (subst (λ r. IfOk r (λ y. Apart k ns (parts y))) e h)
+
   -- after a refusal alone
   pub kept-leaves : {ns ms : Nodes F C K fg cg kg} (ls : Nodes F C K fg cg kg) (answer : Result ExprId Error) → Grows ns ms → IfOk answer (λ id. From (count ns) ms (expr_part id)) →
       MatchResult answer (λ id. ls ≡ ms) (λ e. CutTo (count ns) ms ls) → MatchResult answer (λ id. Grows ns ls × From (count ns) ls (expr_part id)) (λ e. SameNodes ns ls)
@@ -40,10 +49,10 @@ module _ {S F C K : Type 0} {fg : Ghosts F} {cg : Ghosts C} {kg : Ghosts K} (mod
   kept-parses ms ns s b c (Ok id) h e = subst (λ v. Heard model sure f (tree_of v id) b c) (sym e) h
   kept-parses ms ns s b c (Err x) h e = h
 
-module _ {S F C K T : Type 0} {fg : Ghosts F} {cg : Ghosts C} {kg : Ghosts K} (model : Model S) (sure : Bool) (f : Reader (Tree F C K)) (ns : Nodes F C K fg cg kg) (view : T → Tree F C K) where
-  -- what is answered in boxes stands for what the number stood for, or memory was wanted
-  pub moved-parses : (b c : Buffer S) (answer : Result ExprId Error) (r : Result T Error) → Parses model sure (tree_of ns) f b answer c →
-      MatchResult answer (λ id. MatchResult r (λ e. view e ≡ tree_of ns id) (λ e. e ≡ no_memory (last_position c))) (λ e. r ≡ Err e) → Parses model sure view f b r c
-  moved-parses b c (Ok id) (Ok e) h m = subst (λ t. Heard model sure f t b c) (sym m) h
-  moved-parses b c (Ok id) (Err e) h m = subst (λ x. Unheard model sure f b x c) (sym m) (unheard_memory (record { spends = spent h.on.leads; kind = refl }))
-  moved-parses b c (Err x) r h m = subst (λ v. Parses model sure view f b v c) (sym m) h
+module _ {S F C K X T : Type 0} {fg : Ghosts F} {cg : Ghosts C} {kg : Ghosts K} (model : Model S) (sure : Bool) (f : Reader (Tree F C K)) (ns : Nodes F C K fg cg kg) (by : Nodes F C K fg cg kg → X → Tree F C K) (view : T → Tree F C K) where
+  -- what is answered in boxes stands for what the numbers stood for, or memory was wanted
+  pub moved-parses : (b c : Buffer S) (answer : Result X Error) (r : Result T Error) → Parses model sure (by ns) f b answer c →
+      MatchResult answer (λ x. MatchResult r (λ t. view t ≡ by ns x) (λ e. e ≡ no_memory (last_position c))) (λ e. r ≡ Err e) → Parses model sure view f b r c
+  moved-parses b c (Ok x) (Ok t) h m = subst (λ v. Heard model sure f v b c) (sym m) h
+  moved-parses b c (Ok x) (Err e) h m = subst (λ v. Unheard model sure f b v c) (sym m) (unheard_memory (record { spends = spent h.on.leads; kind = refl }))
+  moved-parses b c (Err e) r h m = subst (λ v. Parses model sure view f b v c) (sym m) h

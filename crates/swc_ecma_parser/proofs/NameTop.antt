@@ -46,7 +46,7 @@ pub binding-is_sound : IsSound (ReadsName Binding) (word_of binding_verdict)
 binding-is_sound = record { sound = λ c ts ys t h. binding-sound (sym (bound c ts) ∙ h); cut = λ c own ys t d. cut-append own ys d }
 
 pub binding-is_complete : IsComplete (ReadsName Binding) Anywhere (word_of binding_verdict)
-binding-is_complete = record { complete = λ c ts ys t d e. bound c ts ∙ binding-complete d; end = tt }
+binding-is_complete = record { complete = λ c ts ys t d e. bound c ts ∙ binding-complete d }
 
 -- ---- references
 
@@ -75,7 +75,7 @@ pub reference-is_sound : IsSound RefersIfFree (word_of reference_verdict)
 reference-is_sound = record { sound = λ c ts ys t h. λ m. reference-sound (sym (free c ts m) ∙ h); cut = cut-free }
 
 pub reference-is_complete : IsComplete (ReadsName Reference) Anywhere (word_of reference_verdict)
-reference-is_complete = record { complete = λ c ts ys t d e. free c ts (first_free d) ∙ reference-complete d; end = tt }
+reference-is_complete = record { complete = λ c ts ys t d e. free c ts (first_free d) ∙ reference-complete d }
 
 -- ---- names of any word, and private names
 
@@ -83,10 +83,10 @@ pub name-is_sound : IsSound (ReadsName Name) (word_of name_of_any)
 name-is_sound = record { sound = λ c ts ys t h. name-sound h; cut = λ c own ys t d. cut-append own ys d }
 
 pub name-is_complete : IsComplete (ReadsName Name) Anywhere (word_of name_of_any)
-name-is_complete = record { complete = λ c ts ys t d e. name-complete d; end = tt }
+name-is_complete = record { complete = λ c ts ys t d e. name-complete d }
 
 pub private-is_sound : IsSound (ReadsName Private) hash_word
 private-is_sound = record { sound = λ c ts ys t h. private-sound h; cut = λ c own ys t d. cut-append own ys d }
 
 pub private-is_complete : IsComplete (ReadsName Private) Anywhere hash_word
-private-is_complete = record { complete = λ c ts ys t d e. private-complete d; end = tt }
+private-is_complete = record { complete = λ c ts ys t d e. private-complete d }

@@ -16,9 +16,8 @@ use Rattle.swc_ast.specs.declared.lit.Lit.{Lit}
 use Rattle.swc_ast.specs.Parts.{lit_tree}
 use Rattle.swc_ast.specs.Tree.{Tree}
 use Rattle.swc_bodies.specs.Readings.{Hook, LawfulHook}
-use Rattle.swc_grammar.specs.Symbols.{Symbol, Expr, Assign, Level, Unary, Literal}
+use Rattle.swc_grammar.specs.Symbols.{Symbol, Expr, Assign, Level, Unary, Key, Prop, Literal}
 use Rattle.swc_grammar.specs.Reads as grammar
-use Rattle.swc_grammar.specs.Reads.{Stops, at-end}
 use Rattle.swc_grammar.specs.Clean.{sym as at, Stop, run}
 use Rattle.swc_grammar.specs.Trees.{is_grouped, is_valid}
 use Rattle.swc_grammar.proofs.Sound as clean
@@ -28,7 +27,7 @@ use Rattle.swc_grammar.proofs.Cut.{cut-append}
 use Rattle.swc_grammar.proofs.Good.{grouped, valid}
 use Rattle.swc_grammar.proofs.Literals.{literal-read}
 use Rattle.swc_productions.specs.Parsing.{recorded, Loud, Consumes, Heard, Parses, TookLiteral}
-use Rattle.swc_ecma_parser.specs.Promise.{Derivation, Anywhere, Unmarred, Derives, Sound, Complete, OneTree}
+use Rattle.swc_ecma_parser.specs.Promise.{Derivation, Anywhere, EndsAt, Unmarred, Derives, Sound, Complete, OneTree}
 use Rattle.swc_ecma_parser.specs.Promise.{Grouped, Valid, PromisedLit}
 use Rattle.swc_productions.proofs.Steps.{Reader, consumes_of}
 
@@ -41,15 +40,14 @@ pub record IsSound {A : Type 0} (derives : Derivation A) (f : Reader A) : Type 0
 pub record Meets {S F C K T : Type 0} (model : Model S) (sure : Bool) (hook : Hook F C K) (view : T → Tree F C K) (s : Symbol) (b : Buffer S) (r : Result T Error) (c : Buffer S) : Type 0 where
   pub reads : Consumes model b r c
   pub sound : Sound model (grammar.Reads hook s) view b r c
-  pub complete : sure ≡ true → Complete model (grammar.Reads hook s) view (Stops s) b r c
-  pub one_tree : sure ≡ true → OneTree model (grammar.Reads hook s) view b r c
+  pub complete : sure ≡ true → Complete model (grammar.Reads hook s) view (EndsAt s) b r c
+  pub one_tree : sure ≡ true → EndsAt s [] → OneTree model (grammar.Reads hook s) view b r c
   pub grouped : Grouped model view b r c
   pub valid : Valid model view b r c
 
--- It reads what is derived, up to where a reading may stop; that is so at the end.
+-- It reads what is derived, up to where a reading may stop.
 pub record IsComplete {A : Type 0} (derives : Derivation A) (stops : List TokenAndSpan → Type 0) (f : Reader A) : Type 0 where
   pub complete : (c : Context) (ts ys : List TokenAndSpan) (t : A) → derives c ts ys t → stops ys → f c ts ≡ Some (t, ys)
-  pub end : stops []
 
 module _ {F C K : Type 0} {fun_at : F → Span} {class_at : C → Span} {block_at : K → Span} (hook : Hook F C K)
     (laws : LawfulHook fun_at class_at block_at hook) where
@@ -57,9 +55,9 @@ module _ {F C K : Type 0} {fun_at : F → Span} {class_at : C → Span} {block_a
   is_sound s = record { sound = λ c ts ys t h. clean.sound hook laws s c ts (t, ys) h; cut = λ c own ys t d. cut-append own ys d }
 
 module _ {F C K : Type 0} (hook : Hook F C K) where
-  is_complete : (s : Symbol) → ((c : Context) (ys : List TokenAndSpan) → Stops s ys → Stop s c ys)
-      → IsComplete (grammar.Reads hook s) (Stops s) (run hook (at s))
-  is_complete s stop = record { complete = λ c ts ys t d e. clean_all.complete hook d (stop c ys e); end = at-end }
+  is_complete : (s : Symbol) → ((c : Context) (ys : List TokenAndSpan) → EndsAt s ys → Stop s c ys)
+      → IsComplete (grammar.Reads hook s) (EndsAt s) (run hook (at s))
+  is_complete s stop = record { complete = λ c ts ys t d e. clean_all.complete hook d (stop c ys e) }
 
 no_more : {A : Type 0} (more : List A) → length more ≡ 0 → more ≡ []
 no_more [] h = refl
@@ -120,24 +118,24 @@ module _ {S T A : Type 0} (model : Model S) (sure : Bool) (derives : Derivation 
   complete y stops is b (Ok x) c h = λ l ts ys t k d e. answered y x b c ts ys t h l k (is.complete (context model b) ts ys t d e)
   complete y stops is b (Err x) c u = λ l ts ys t k d e. memory x.kind (λ n. let f0 = u.none n y l ts k in let f1 = is.complete (context model b) ts ys t d e in cc)
 
-  pub one_tree : sure ≡ true → (stops : List TokenAndSpan → Type 0) → IsComplete derives stops f → (b : Buffer S) (r : Result T Error) (c : Buffer S) → Parses model sure view f b r c → OneTree model derives view b r c
-  one_tree y stops is b (Ok x) c h = λ l ts t k d. λ same end. sym (answered y x b c ts [] t h l k (is.complete (context model b) ts [] t d is.end)).0
-  one_tree y stops is b (Err e) c h = λ l ts t k d. tt
+  pub one_tree : sure ≡ true → (stops : List TokenAndSpan → Type 0) → stops [] → IsComplete derives stops f → (b : Buffer S) (r : Result T Error) (c : Buffer S) → Parses model sure view f b r c → OneTree model derives view b r c
+  one_tree y stops stop is b (Ok x) c h = λ l ts t k d. λ same end. sym (answered y x b c ts [] t h l k (is.complete (context model b) ts [] t d stop)).0
+  one_tree y stops stop is b (Err e) c h = λ l ts t k d. tt
 
 module _ {S F C K T : Type 0} (model : Model S) (sure : Bool) (hook : Hook F C K)
     {fun_at : F → Span} {class_at : C → Span} {block_at : K → Span} (laws : LawfulHook fun_at class_at block_at hook) (view : T → Tree F C K) where
-  meets : (s : Symbol) (f : Reader (Tree F C K)) → IsSound (grammar.Reads hook s) f → IsComplete (grammar.Reads hook s) (Stops s) f →
+  meets : (s : Symbol) (f : Reader (Tree F C K)) → IsSound (grammar.Reads hook s) f → IsComplete (grammar.Reads hook s) (EndsAt s) f →
       (b : Buffer S) (r : Result T Error) (c : Buffer S) → Parses model sure view f b r c → Meets model sure hook view s b r c
   meets s f is_sound is_complete b r c h = record {
     reads = consumes_of model sure view f b c r h;
     sound = sound model sure (grammar.Reads hook s) view f is_sound b r c h;
-    complete = λ y. complete model sure (grammar.Reads hook s) view f y (Stops s) is_complete b r c h;
-    one_tree = λ y. one_tree model sure (grammar.Reads hook s) view f y (Stops s) is_complete b r c h;
+    complete = λ y. complete model sure (grammar.Reads hook s) view f y (EndsAt s) is_complete b r c h;
+    one_tree = λ y stop. one_tree model sure (grammar.Reads hook s) view f y (EndsAt s) stop is_complete b r c h;
     grouped = holds model sure (grammar.Reads hook s) view f is_sound (λ t. is_grouped t ≡ true) (λ x xs ys t d. grouped d) b r c h;
     valid = holds model sure (grammar.Reads hook s) view f is_sound (λ t. is_valid t ≡ true) (λ x xs ys t d. valid d) b r c h;
   }
 
-  meets_at : (s : Symbol) → ((c : Context) (ys : List TokenAndSpan) → Stops s ys → Stop s c ys) → (b : Buffer S) (r : Result T Error) (c : Buffer S)
+  meets_at : (s : Symbol) → ((c : Context) (ys : List TokenAndSpan) → EndsAt s ys → Stop s c ys) → (b : Buffer S) (r : Result T Error) (c : Buffer S)
       → Parses model sure view (run hook (at s)) b r c → Meets model sure hook view s b r c
   meets_at s stop = meets s (run hook (at s)) (is_sound hook laws s) (is_complete hook s stop)
 
@@ -153,6 +151,12 @@ module _ {S F C K T : Type 0} (model : Model S) (sure : Bool) (hook : Hook F C K
 
   pub unary-meets : (b : Buffer S) (r : Result T Error) (c : Buffer S) → Parses model sure view (run hook (at Unary)) b r c → Meets model sure hook view Unary b r c
   unary-meets = meets_at Unary (λ c ys e. tt)
+
+  pub key-meets : (b : Buffer S) (r : Result T Error) (c : Buffer S) → Parses model sure view (run hook (at Key)) b r c → Meets model sure hook view Key b r c
+  key-meets = meets_at Key (λ c ys e. tt)
+
+  pub prop-meets : (b : Buffer S) (r : Result T Error) (c : Buffer S) → Parses model sure view (run hook (at Prop)) b r c → Meets model sure hook view Prop b r c
+  prop-meets = meets_at Prop (λ c ys e. e)
 
 -- a call on a literal
 module _ {S F C K : Type 0} (model : Model S) (hook : Hook F C K) where
@@ -178,5 +182,5 @@ module _ {S F C K : Type 0} (model : Model S) (hook : Hook F C K) where
     reads = consumes_of model true lit_tree (run hook (at Literal)) b c r h;
     sound = literal-sound b r c took;
     complete = complete model true (grammar.Reads hook Literal) lit_tree (run hook (at Literal)) refl Anywhere
-        (record { complete = λ x ts ys t d e. clean_all.complete hook d tt; end = tt }) b r c h;
+        (record { complete = λ x ts ys t d e. clean_all.complete hook d tt }) b r c h;
   }

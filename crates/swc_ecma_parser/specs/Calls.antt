@@ -1,5 +1,5 @@
 -- What the calls of a parser do.
-use Rattle.std.specs.Prelude.{◌≡◌, Bool, true, false, None, IsSome, Result, Ok, Err, IfOk, MatchResult}
+use Rattle.std.specs.Prelude.{◌≡◌, ℕ, List, map, Bool, true, false, None, IsSome, Result, Ok, Err, IfOk, MatchResult}
 use Rattle.std.specs.declared.alloc.Global.{Global}
 use Rattle.std.specs.declared.boxed.Box.{Box}
 use Rattle.swc_context.specs.declared.error.Error.{Error}
@@ -9,13 +9,14 @@ use Rattle.swc_input.specs.declared.buffer.Buffer.{Buffer}
 use Rattle.swc_input.specs.Source.{Model}
 use Rattle.swc_input.specs.Buffer.{ReadSome, current, last_position, previous, state_of}
 use Rattle.swc_input.specs.Recording.{no_memory}
-use Rattle.swc_ast.specs.Tree.{Tree}
-use Rattle.swc_ast.specs.TreeOf.{boxed_tree}
+use Rattle.swc_ast.specs.Tree.{Tree, object, node, trees}
+use Rattle.swc_ast.specs.TreeOf.{boxed_tree, prop_or_spread_tree}
 use Rattle.swc_ast.specs.declared.expr.Expr.{Expr}
+use Rattle.swc_ast.specs.declared.prop.PropOrSpread.{PropOrSpread}
 use Rattle.swc_ast.specs.declared.spanned.Spanned.{Ghosts}
 use Rattle.swc_nodes.specs.declared.nodes.Nodes.{Nodes}
-use Rattle.swc_nodes.specs.declared.node.ExprId.{ExprId}
-use Rattle.swc_productions.specs.Parsing.{is_memory, Looks, tree_of}
+use Rattle.swc_nodes.specs.Stands.{tree_at}
+use Rattle.swc_productions.specs.Parsing.{is_memory, Looks}
 use Rattle.swc_ecma_parser.specs.declared.parser.Parser.{Parser}
 
 -- the buffer that a parser reads from
@@ -59,11 +60,11 @@ module _ {S H F C K T : Type 0} {fg : Ghosts F} {cg : Ghosts C} {kg : Ghosts K} 
     pub nodes : nodes_of q ≡ nodes_of p
     pub fails : has_failed p ≡ false → has_failed q ≡ wants_memory r
 
-module _ {S H F C K : Type 0} {fg : Ghosts F} {cg : Ghosts C} {kg : Ghosts K} where
-  -- the answer in boxes: what the number stands for among the nodes, or memory was wanted
-  abbrev pub MovesOut : Parser S H F C K fg cg kg → Result ExprId Error → Result (Box (Expr F C K) Global) Error → Type 0
-  MovesOut p answer r = MatchResult answer
-      (λ id. MatchResult r (λ e. tree_by fg.place cg.place kg.place e ≡ tree_of (nodes_of p) id) (λ e. e ≡ no_memory (last_position (buffer_of p))))
+module _ {S H F C K X T : Type 0} {fg : Ghosts F} {cg : Ghosts C} {kg : Ghosts K} where
+  -- the answer in boxes: what the numbers stand for among the nodes, or memory was wanted
+  abbrev pub MovesOut : ((ℕ → Tree F C K) → X → Tree F C K) → (T → Tree F C K) → Parser S H F C K fg cg kg → Result X Error → Result T Error → Type 0
+  MovesOut by view p answer r = MatchResult answer
+      (λ x. MatchResult r (λ t. view t ≡ by (tree_at (nodes_of p)) x) (λ e. e ≡ no_memory (last_position (buffer_of p))))
       (λ e. r ≡ Err e)
 
 module _ {S : Type 0} (model : Model S) where
@@ -77,3 +78,10 @@ module _ {S : Type 0} (model : Model S) where
   pub record ReadsAName {T : Type 0} (Names : Buffer S → Result T Error → Buffer S → Type 0) (b : Buffer S) (r : Result T Error) (c : Buffer S) : Type 0 where
     pub names : Names b r c
     pub read : ReadSome model b c
+
+module _ {S F C K : Type 0} (fun_at : F → Span) (class_at : C → Span) (block_at : K → Span) where
+  -- an object literal is made of properties, or memory was wanted; nothing is read or recorded
+  abbrev pub MakesObject : Span → List (PropOrSpread F C K) → Buffer S → Result (Box (Expr F C K) Global) Error → Buffer S → Type 0
+  MakesObject span props b r c = (c ≡ b) × MatchResult r
+      (λ e. tree_by fun_at class_at block_at e ≡ node object span (trees (map (prop_or_spread_tree F C K fun_at class_at block_at) props)))
+      (λ e. e ≡ no_memory (last_position b))

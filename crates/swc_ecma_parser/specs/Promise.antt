@@ -1,5 +1,5 @@
 -- What the calls of a parser promise, by the written grammar alone.
-use Rattle.std.specs.Prelude.{◌≡◌, Bool, true, false, List, [], ◌++◌, Result, Err, IfOk, MatchResult}
+use Rattle.std.specs.Prelude.{◌≡◌, ◌≢◌, Bool, true, false, List, [], ◌++◌, Result, Err, IfOk, IfErr, MatchResult}
 use Rattle.swc_context.specs.declared.context.Context.{Context}
 use Rattle.swc_context.specs.declared.error.Error.{Error}
 use Rattle.swc_context.specs.declared.error.SyntaxError.TheVariants.{OutOfMemory}
@@ -10,23 +10,28 @@ use Rattle.swc_input.specs.Buffer.{Read, ReadSome, Future, Known, context, previ
 use Rattle.swc_input.specs.Kinds.{at_token}
 use Rattle.std.specs.declared.alloc.Global.{Global}
 use Rattle.std.specs.declared.boxed.Box.{Box}
-use Rattle.swc_ast.specs.Parts.{lit_tree}
+use Rattle.std.specs.declared.vec.Vec.{Vec}
+use Rattle.swc_ast.specs.Parts.{lit_tree, prop_name_tree}
 use Rattle.swc_ast.specs.Tree.{Tree}
+use Rattle.swc_ast.specs.TreeOf.{prop_or_spread_tree}
 use Rattle.swc_ast.specs.declared.expr.Expr.{Expr}
 use Rattle.swc_ast.specs.declared.lit.Lit.{Lit}
+use Rattle.swc_ast.specs.declared.prop.PropName.{PropName}
+use Rattle.swc_ast.specs.declared.prop.PropOrSpread.{PropOrSpread}
 use Rattle.swc_ast.specs.declared.spanned.Spanned.{Ghosts}
 use Rattle.swc_bodies.specs.Readings.{Hook}
 use Rattle.swc_grammar.specs.Clean.{first}
-use Rattle.swc_grammar.specs.Symbols.{Symbol, Literal}
+use Rattle.swc_grammar.specs.Symbols.{Symbol, Key, Prop, Literal}
 use Rattle.swc_grammar.specs.Reads.{Reads, Stops}
 use Rattle.swc_grammar.specs.Names.{Spelling, NameKind, Reference, ReadsName}
-use Rattle.swc_grammar.specs.Tokens.{may_be_reference}
+use Rattle.swc_grammar.specs.Tokens.{ends_prop, may_be_reference}
 use Rattle.swc_grammar.specs.Trees.{is_grouped, is_valid}
 use Rattle.swc_nodes.specs.Slots.{expr_part}
 use Rattle.swc_nodes.specs.Stands.{count, From, Grows, SameNodes}
 use Rattle.swc_nodes.specs.declared.node.ExprId.{ExprId}
 use Rattle.swc_nodes.specs.declared.nodes.Nodes.{Nodes}
-use Rattle.swc_productions.specs.Parsing.{Loud, Consumes, tree_of}
+use Rattle.swc_productions.specs.Keys.{ends_params}
+use Rattle.swc_productions.specs.Parsing.{Loud, Acts, Consumes, Here, seen, tree_of}
 use Rattle.swc_ecma_parser.specs.Calls.{buffer_of, nodes_of, tree_by, has_failed, wants_memory, parser_failed}
 use Rattle.swc_ecma_parser.specs.declared.parser.Parser.{Parser}
 
@@ -37,6 +42,13 @@ Derivation A = Context → List TokenAndSpan → List TokenAndSpan → A → Typ
 -- where a reading may stop anywhere
 abbrev pub Anywhere : List TokenAndSpan → Type 0
 Anywhere ys = Unit {0}
+
+-- Where a reading of the symbol may stop: of a key anywhere, of a property before `,` and `}`, and of an expression at the end and before
+-- what can't go on with it.
+abbrev pub EndsAt : Symbol → List TokenAndSpan → Type 0
+EndsAt Key ys = Unit {0}
+EndsAt Prop ys = at_token ends_prop (first ys) ≡ true
+EndsAt s ys = Stops s ys
 
 -- An identifier reference, where a word stands first that isn't reserved, or `let`. The other words are taken too, with faults that
 -- wait where the code is no module's.
@@ -93,6 +105,19 @@ in_boxes {fg = fg} {cg = cg} {kg = kg} = record {
   leaves = λ ns r ms. SameNodes ns ms;
 }
 
+-- a key in boxes, and a property of an object literal
+abbrev pub key_in_boxes : {F C K : Type 0} {fg : Ghosts F} {cg : Ghosts C} {kg : Ghosts K} → Answer (PropName (Box (Expr F C K) Global)) F C K fg cg kg
+key_in_boxes {fg = fg} {cg = cg} {kg = kg} = record {
+  tree = λ ns k. prop_name_tree (tree_by fg.place cg.place kg.place) k;
+  leaves = λ ns r ms. SameNodes ns ms;
+}
+
+abbrev pub prop_in_boxes : {F C K : Type 0} {fg : Ghosts F} {cg : Ghosts C} {kg : Ghosts K} → Answer (PropOrSpread F C K) F C K fg cg kg
+prop_in_boxes {F} {C} {K} {fg = fg} {cg = cg} {kg = kg} = record {
+  tree = λ ns x. prop_or_spread_tree F C K fg.place cg.place kg.place x;
+  leaves = λ ns r ms. SameNodes ns ms;
+}
+
 -- by the number of a new node: nodes were appended alone, or after a refusal none
 abbrev pub by_number : {F C K : Type 0} {fg : Ghosts F} {cg : Ghosts C} {kg : Ghosts K} → Answer ExprId F C K fg cg kg
 by_number = record {
@@ -109,8 +134,8 @@ pub record Promised {S H T F C K : Type 0} {fg : Ghosts F} {cg : Ghosts C} {kg :
   pub reads : has_failed p ≡ false → Consumes model (buffer_of p) r (buffer_of q)
   -- What is answered is what the grammar derives; and where the hook is faithful, what it derives is answered.
   pub sound : has_failed p ≡ false → Sound model (Reads hook s) (answer.tree (nodes_of q)) (buffer_of p) r (buffer_of q)
-  pub complete : has_failed p ≡ false → sure ≡ true → Complete model (Reads hook s) (answer.tree (nodes_of q)) (Stops s) (buffer_of p) r (buffer_of q)
-  pub one_tree : has_failed p ≡ false → sure ≡ true → OneTree model (Reads hook s) (answer.tree (nodes_of q)) (buffer_of p) r (buffer_of q)
+  pub complete : has_failed p ≡ false → sure ≡ true → Complete model (Reads hook s) (answer.tree (nodes_of q)) (EndsAt s) (buffer_of p) r (buffer_of q)
+  pub one_tree : has_failed p ≡ false → sure ≡ true → EndsAt s [] → OneTree model (Reads hook s) (answer.tree (nodes_of q)) (buffer_of p) r (buffer_of q)
   pub grouped : has_failed p ≡ false → Grouped model (answer.tree (nodes_of q)) (buffer_of p) r (buffer_of q)
   pub valid : has_failed p ≡ false → Valid model (answer.tree (nodes_of q)) (buffer_of p) r (buffer_of q)
   -- what becomes of the nodes
@@ -134,3 +159,11 @@ pub record PromisedLit {S F C K : Type 0} (model : Model S) (hook : Hook F C K) 
   pub sound : IfOk r (λ l. Derives model (Reads hook Literal) lit_tree (lit_tree l) b c)
   -- what is derived is answered, with no fault recorded, whatever follows
   pub complete : Complete model (Reads hook Literal) lit_tree Anywhere b r c
+
+-- What a call on parameters does and promises, from b to c, of which there are none so far: they end before `)` or at the end, and
+-- nothing is consumed.
+pub record PromisedParams {S T : Type 0} (model : Model S) (b : Buffer S) (r : Result (Vec T Global) Error) (c : Buffer S) : Type 0 where
+  pub acts : Acts model b r c
+  pub none : IfOk r (λ v. (v.items ≡ []) × Here model b c × (ends_params (seen c) ≡ true))
+  -- over a listed source: where they end at once, nothing but want of memory is refused
+  pub refused : IfErr r (λ e. e.kind ≢ OutOfMemory → Loud model b → (ts : List TokenAndSpan) → Known model b ts → ends_params (first ts) ≡ false)

@@ -13,4 +13,5 @@ pub use swc_tokens as tokens;
 pub use swc_trees as trees;
 
 pub mod parser;
+mod taking;
 pub mod whole;

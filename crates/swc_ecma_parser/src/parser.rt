@@ -2,15 +2,17 @@
 ghost use Rattle.std.specs.Prelude.{◌≡◌, ◌||◌, true, false, [], IfErr, IfOk, OnOk, MatchResult};
 ghost use Rattle.swc_input.specs.Buffer.{last_position, previous, source, state_of, with_source, fresh};
 ghost use Rattle.swc_nodes.specs.Slots.{expr_part};
-ghost use Rattle.swc_nodes.specs.Stands.{count, From, CutTo};
+ghost use Rattle.swc_nodes.specs.Stands.{count, Apart, From, CutTo};
 ghost use Rattle.swc_grammar.specs.Symbols.{Expr, Assign, Level, Unary};
 ghost use Rattle.swc_ecma_parser.specs.Calls.{buffer_of, nodes_of, with_buffer, with_nodes, has_failed, wants_memory};
 ghost use Rattle.swc_ecma_parser.specs.Calls.{parser_failed, Called, SeesEnd, MovesOut};
 ghost use Rattle.swc_ecma_parser.specs.Promise.{Promised, PromisedLit, in_boxes, by_number};
 
+use crate::taking::Take;
 use std::alloc::Global;
 use swc_ast::lit::Lit;
-use swc_bodies::bodies::{Bodies, ExprOf};
+use swc_ast::pat::Pat;
+use swc_bodies::bodies::{Bodies, BodyForms, ExprOf};
 use swc_context::error::{Error, PResult, SyntaxError};
 use swc_input::buffer::Buffer;
 use swc_input::tokens::Tokens;
@@ -18,9 +20,13 @@ use swc_nodes::node::ExprId;
 use swc_nodes::nodes::{Nodes, NodesOf};
 use swc_productions::moves::is_out_of_memory;
 use swc_productions::productions::Productions;
-use swc_trees::taking::take_expr;
 
 mod names;
+pub mod object;
+mod pat;
+
+/// A pattern over a hook's values.
+pub type PatOf<B> = Pat<<B as BodyForms>::Fun, <B as BodyForms>::Class, <B as BodyForms>::Block>;
 
 /// A parser over a source of tokens, with a hook for functions, classes and blocks.
 ///
@@ -226,22 +232,26 @@ impl<I: Tokens, B: Bodies<I>> Parser<I, B> {
         answer
     }
 
-    /// Moves the tree of the answer out of the nodes, and cuts off those that were made for it.
-    fn move_out(&mut self, start: usize, answer: PResult<ExprId>) -> PResult<Box<ExprOf<B>>>
-        requires { IfOk answer (λ id. From start (nodes_of self.old) (expr_part id)) }
-        ensures moved { MovesOut self.old answer result }
+    /// Moves the answer out of the nodes, and cuts off those that were made for it.
+    fn move_out<T: Take<B::Fun, B::Class, B::Block>>(
+        &mut self,
+        start: usize,
+        answer: PResult<T>,
+    ) -> PResult<T::Whole>
+        requires { IfOk answer (λ x. Apart start (nodes_of self.old) (T.parts x)) }
+        ensures moved { MovesOut T.by T.tree self.old answer result }
         ensures nodes { CutTo start (nodes_of self.old) (nodes_of self.new) }
         ensures buffer { buffer_of self.new ≡ buffer_of self.old }
         ensures runs { has_failed self.new ≡ has_failed self.old }
     {
         match answer {
-            Ok(id) => {
+            Ok(numbers) => {
                 let alloc = self.productions.alloc;
                 let made = &mut self.productions.nodes;
-                let tree = take_expr(made, alloc, id);
+                let whole = numbers.take(made, alloc);
                 made.cut(start);
-                match tree {
-                    Ok(tree) => Ok(tree),
+                match whole {
+                    Ok(whole) => Ok(whole),
                     Err(_) => Err(self.productions.input.out_of_memory()),
                 }
             }

@@ -2,6 +2,7 @@ use Rattle.std.proofs.Common.{refl, sym, ◌∙◌}
 use Rattle.std.proofs.lemmas.Result.{err_from_is_err_and}
 use Rattle.swc_grammar.specs.Symbols.{Level}
 use Rattle.swc_grammar.specs.Clean.{sym as at, run}
+use Rattle.swc_productions.specs.Parsing.{tree_of}
 use Rattle.swc_ecma_parser.specs.Calls.{nodes_of, tree_by}
 use Rattle.swc_ecma_parser.proofs.Calling.{promised, promised-again}
 use Rattle.swc_ecma_parser.proofs.Moving.{moved-parses, cut-back}
@@ -21,6 +22,6 @@ returns g c =
       promised = promised c.parse_bin_expr-answer.new.self.input (nodes_of c.move_out-answer.new.self) c.move_out-answer.result c.finish.result c.in_ok-begin.ensures.runs moved.runs
           done.answer (done.buffer ∙ moved.buffer) done.nodes done.fails
           (level-meets g.I.Tokens.model g.B.Bodies.is_faithful g.B.BodyForms.forms g.met.B.Bodies.lawful boxed _ c.move_out-answer.result _
-          (moved-parses g.I.Tokens.model g.B.Bodies.is_faithful (run g.B.BodyForms.forms (at (Level 1))) c.parse_bin_expr-answer.new.self.nodes boxed _ _ c.parse_bin_expr-answer.result c.move_out-answer.result read.reads moved.moved))
+          (moved-parses g.I.Tokens.model g.B.Bodies.is_faithful (run g.B.BodyForms.forms (at (Level 1))) c.parse_bin_expr-answer.new.self.nodes tree_of boxed _ _ c.parse_bin_expr-answer.result c.move_out-answer.result read.reads moved.moved))
           (cut-back (nodes_of c.move_out-answer.new.self) read.grows (rw (sym c.len-start.ensures) moved.nodes));
     }

@@ -1,0 +1,106 @@
+// Keys, and the properties of object literals, as calls of a parser.
+ghost use Rattle.swc_grammar.specs.Symbols.{Key, Prop};
+ghost use Rattle.swc_ecma_parser.specs.Promise.{Promised, key_in_boxes, prop_in_boxes};
+
+use crate::parser::Parser;
+use swc_ast::prop::{PropName, PropOrSpread};
+use swc_bodies::bodies::{Bodies, ExprOf};
+use swc_context::error::{Error, PResult};
+use swc_context::span::Span;
+use swc_input::tokens::Tokens;
+use swc_trees::letting_go::let_go_props;
+use swc_trees::making::object_lit;
+
+/// What object literals and object patterns (ECMA-262, 13.2.5 and 14.3.3) are read as, a property at
+/// a time.
+pub trait ParseObject<Obj> {
+    ghost use Rattle.std.specs.Prelude.{List, Result};
+    ghost use Rattle.swc_context.specs.declared.error.Error.{Error};
+    ghost use Rattle.swc_context.specs.declared.span.Span.{Span};
+
+    /// What stands between the braces.
+    type Prop;
+
+    ghost makes: { Self → Span → List Self.Prop → Result Obj Error → Self → Type 0 };
+
+    ghost reads: { Self → Result Self.Prop Error → Self → Type 0 };
+
+    /// The object of the properties, at the place. The place of a comma behind the last is given too.
+    fn make_object(
+        &mut self,
+        span: Span,
+        props: Vec<Self::Prop>,
+        trailing_comma: Option<Span>,
+    ) -> PResult<Obj>
+        ensures { makes self.old span props.items result self.new };
+
+    /// A property.
+    fn parse_object_prop(&mut self) -> PResult<Self::Prop>
+        ensures { reads self.old result self.new };
+}
+
+impl<I: Tokens, B: Bodies<I>> Parser<I, B> {
+    /// A property's key (ECMA-262, 13.2.5): any word, a string, a number, a big integer, or an
+    /// expression in brackets, in which `in` is an operator.
+    ///
+    /// Another token is refused as `Unexpected`, at that token, and the end as `Eof`, where the token
+    /// consumed last ends; what follows the expression and is no `]` as `Expected`.
+    pub fn parse_prop_name(&mut self) -> PResult<PropName<Box<ExprOf<B>>>>
+        ensures promised { Promised I.model B.is_faithful B.forms key_in_boxes Key self.old result self.new }
+    {
+        self.begin()?;
+        let start = self.productions.nodes.len();
+        let answer = self.productions.parse_prop_name();
+        let answer = self.move_out(start, answer);
+        self.finish(answer)
+    }
+}
+
+impl<I: Tokens, B: Bodies<I>> ParseObject<Box<ExprOf<B>>> for Parser<I, B> {
+    ghost use Rattle.swc_grammar.specs.Symbols.{Prop};
+    ghost use Rattle.swc_ecma_parser.specs.Calls.{Called, MakesObject};
+    ghost use Rattle.swc_ecma_parser.specs.Promise.{Promised, prop_in_boxes};
+
+    type Prop = PropOrSpread<B::Fun, B::Class, B::Block>;
+
+    ghost makes = { λ p span props. Called (MakesObject B.Fun.place B.Class.place B.Block.place span props) p };
+
+    ghost reads = { Promised I.model B.is_faithful B.forms prop_in_boxes Prop };
+
+    /// An object literal of the properties. Nothing is recorded. A comma behind the last matters where the literal is
+    /// read as a pattern, which it isn't yet: so far it is not remembered.
+    fn make_object(
+        &mut self,
+        span: Span,
+        props: Vec<PropOrSpread<B::Fun, B::Class, B::Block>>,
+        _trailing_comma: Option<Span>,
+    ) -> PResult<Box<ExprOf<B>>>
+        ensures { Called (MakesObject B.Fun.place B.Class.place B.Block.place span props.items)
+            self.old result self.new }
+    {
+        match self.begin() {
+            Ok(()) => {
+                let answer = match object_lit(self.productions.alloc, span, props) {
+                    Ok(object) => Ok(object),
+                    Err(_) => Err(self.productions.input.out_of_memory()),
+                };
+                self.finish(answer)
+            }
+            Err(error) => {
+                let_go_props(props);
+                Err(error)
+            }
+        }
+    }
+
+    /// A property of an object literal (ECMA-262, 13.2.5 and 15.4), up to the `,` or `}` behind it, which stays.
+    fn parse_object_prop(&mut self) -> PResult<PropOrSpread<B::Fun, B::Class, B::Block>>
+        ensures { Promised I.model B.is_faithful B.forms prop_in_boxes Prop self.old result self.new }
+    {
+        self.begin()?;
+        let start = self.productions.nodes.len();
+        let answer = self.productions.parse_object_prop();
+        let answer = self.move_out(start, answer);
+        self.finish(answer)
+    }
+}

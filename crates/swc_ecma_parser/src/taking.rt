@@ -1,0 +1,89 @@
+// What calls move out of the nodes.
+ghost use Rattle.std.specs.Prelude.{◌≡◌, IfOk};
+ghost use Rattle.swc_nodes.specs.Seats.{floor};
+ghost use Rattle.swc_nodes.specs.Stands.{count, seat_at, tree_at, Apart, Left};
+
+use std::alloc::{AllocError, Global};
+use swc_ast::expr::Expr;
+use swc_ast::prop::{PropName, PropOrSpread};
+use swc_ast::spanned::Spanned;
+use swc_nodes::node::{ExprId, PropNode};
+use swc_nodes::nodes::Nodes;
+use swc_trees::taking::{take_expr, take_key, take_prop};
+
+/// What holds numbers of nodes, and is moved out of them into boxes.
+pub(crate) trait Take<F: Spanned + Drop, C: Spanned + Drop, K: Spanned + Drop> {
+    ghost use Rattle.std.specs.Prelude.{ℕ, List};
+    ghost use Rattle.swc_ast.specs.Tree.{Tree};
+    ghost use Rattle.swc_nodes.specs.Slots.{Part};
+
+    /// What it is in boxes.
+    type Whole;
+
+    ghost parts: { Self → List Part };
+
+    ghost by: { (ℕ → Tree F C K) → Self → Tree F C K };
+
+    ghost tree: { Self.Whole → Tree F C K };
+
+    /// Moves it out, and lets go of all nodes behind it.
+    fn take(self, nodes: &mut Nodes<F, C, K>, alloc: Global) -> Result<Self::Whole, AllocError>
+        requires { Apart 0 nodes.old (parts self) }
+        ensures left { Left (floor (seat_at nodes.old) (count nodes.old) (parts self)) nodes.old nodes.new }
+        ensures moved { IfOk result (λ y. tree y ≡ by (tree_at nodes.old) self) };
+}
+
+impl<F: Spanned + Drop, C: Spanned + Drop, K: Spanned + Drop> Take<F, C, K> for ExprId {
+    ghost use Rattle.swc_ast.specs.TreeOf.{boxed_tree};
+    ghost use Rattle.swc_nodes.specs.NodeTree.{expr_of};
+    ghost use Rattle.swc_nodes.specs.Slots.{one_expr};
+
+    type Whole = Box<Expr<F, C, K>>;
+
+    ghost parts = { one_expr };
+
+    ghost by = { expr_of F.place C.place K.place };
+
+    ghost tree = { boxed_tree _ _ _ F.place C.place K.place };
+
+    fn take(self, nodes: &mut Nodes<F, C, K>, alloc: Global) -> Result<Self::Whole, AllocError> {
+        take_expr(nodes, alloc, self)
+    }
+}
+
+impl<F: Spanned + Drop, C: Spanned + Drop, K: Spanned + Drop> Take<F, C, K> for PropName<ExprId> {
+    ghost use Rattle.swc_ast.specs.Parts.{prop_name_tree};
+    ghost use Rattle.swc_ast.specs.TreeOf.{boxed_tree};
+    ghost use Rattle.swc_nodes.specs.NodeTree.{expr_of};
+    ghost use Rattle.swc_nodes.specs.Slots.{key_parts};
+
+    type Whole = PropName<Box<Expr<F, C, K>>>;
+
+    ghost parts = { key_parts };
+
+    ghost by = { λ at. prop_name_tree (expr_of F.place C.place K.place at) };
+
+    ghost tree = { prop_name_tree (boxed_tree _ _ _ F.place C.place K.place) };
+
+    fn take(self, nodes: &mut Nodes<F, C, K>, alloc: Global) -> Result<Self::Whole, AllocError> {
+        take_key(nodes, alloc, self)
+    }
+}
+
+impl<F: Spanned + Drop, C: Spanned + Drop, K: Spanned + Drop> Take<F, C, K> for PropNode<K> {
+    ghost use Rattle.swc_ast.specs.TreeOf.{prop_or_spread_tree};
+    ghost use Rattle.swc_nodes.specs.NodeTree.{prop_of};
+    ghost use Rattle.swc_nodes.specs.Slots.{prop_parts};
+
+    type Whole = PropOrSpread<F, C, K>;
+
+    ghost parts = { prop_parts };
+
+    ghost by = { prop_of F.place C.place K.place };
+
+    ghost tree = { prop_or_spread_tree _ _ _ F.place C.place K.place };
+
+    fn take(self, nodes: &mut Nodes<F, C, K>, alloc: Global) -> Result<Self::Whole, AllocError> {
+        take_prop(nodes, alloc, self)
+    }
+}
