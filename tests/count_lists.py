@@ -10,11 +10,12 @@ A list is walked from left to right. What matters of its front: the open parenth
 which operators stand in these (`??` may not stand beside `||` or `&&`) and before the operand (none may stand left of `**`). Between
 brackets an item begins behind the bracket and behind each comma: there dots may stand, a comma (which makes a hole), or the end. Between
 braces so does a property: dots, `*`, a name, another key, or the end. Behind a name that isn't reserved the property may end, or `=` stand;
-behind each key `:` may, or a method's two parentheses and its block, behind `get` and `async` another key, and behind `async` a `*` too:
-behind those a method's key has to come. A setter has a parameter, which none is read of yet, so `set` is a name like others. Of what is
-taken whole, a block, a function or a class, it matters only how many brackets are open, and whether its own brace is: in it, braces alone
-are counted, and before it each opening bracket against any closing one, but where none is open, a brace begins it and nothing closes.
-Rows with `=` and parentheses are none: what a shorthand's value means there isn't counted.
+behind each key `:` may, or a method's two parentheses and its block; behind `get` and `async` another key, and behind `async` a `*` too.
+Behind these a method has to come. A setter has a parameter, and none is read so far, so `set` is a name like others.
+
+A block, a function and a class are taken whole. Of each it matters how many brackets are open. Within its own brace, braces alone are
+counted; before that brace all brackets are, where any that closes may close any that opens. Rows with `=` and parentheses are none: that
+`({a = 1})` is no expression isn't counted.
 """
 import re
 import sys

@@ -1,20 +1,20 @@
 // The lists of tokens that the standard's productions derive, with their trees.
 use std::alloc::{AllocError, Global};
 
-/// The productions of ECMA-262, 13.1, 13.2, 13.5 to 13.13 and 15.4, a line each: a symbol, what it is made of, and its
-/// tree, in which `_` stands for the tree of each symbol in turn, and `$` for the number of tokens of what this
+/// The productions of ECMA-262, 13.1, 13.2, 13.5 to 13.13, and 15.4 to 15.8, a line each: a symbol, what it is made of,
+/// and its tree, in which `_` stands for the tree of each symbol in turn, and `$` for the number of tokens of what this
 /// production makes. One without a tree has no `->`. Behind `unless` stand the modes in which there is no such
-/// production. Behind `within` stands how many tokens stand around the symbol at least: where they don't fit into the
-/// longest list that is asked for, it isn't made. A production that makes a symbol of another alone stands below those
-/// of the other.
+/// production. Behind `within` stands how many more tokens a whole list with it has at least: where that makes it
+/// longer than any that is asked for, it isn't derived. A production that makes a symbol of another alone stands below
+/// those of the other.
 ///
 /// `Whole` is an expression, where `in` is an operator but in the mode `without-in`. The symbols
 /// `..NoIn` stand for those without it. `# Name` is an operand, which the standard has left of `in`
-/// alone. `async` is no operand by itself, and no method has parameters: so there is no setter.
+/// alone. So far `async` is no operand by itself, and no method has parameters, so that there is no setter.
 ///
-/// Blocks, functions and classes are what the hook makes of them, which looks at brackets alone. In a block braces
-/// alone count. Before the block of a function or a class other brackets count too, and whichever closes one closes
-/// it. `Any` is each token but the brackets.
+/// Blocks, functions and classes are as the hook reads them, which looks at brackets alone: within a block at braces,
+/// and before the block of a function or a class at all of them, where any that closes may close any that opens. `Any`
+/// is each token that is no bracket.
 const PRODUCTIONS: &str = "\
 Block = Opened } -> <$>
 Loose = Any
@@ -194,6 +194,9 @@ Whole = Expression -> _ unless without-in
 Whole = ExpressionNoIn -> _ unless script module strict generator async
 ";
 
+/// The tokens that aren't `Any`.
+const BRACKETS: &str = "( ) [ ] { }";
+
 /// A list, or the front of one, and its tree, in which `_` stands for what isn't there yet. A token
 /// by itself has no tree.
 #[derive(Drop)]
@@ -262,9 +265,6 @@ impl Derived {
         })
     }
 }
-
-/// The tokens that aren't `Any`.
-const BRACKETS: &str = "( ) [ ] { }";
 
 /// How a token is written in a list: with a blank behind it, but for `#`, which a name follows at once.
 pub(crate) fn spelled(alloc: Global, token: &str) -> Result<String, AllocError> {

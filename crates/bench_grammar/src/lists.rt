@@ -91,7 +91,8 @@ fn longer(alloc: Global, lists: &[String], tokens: &str) -> Result<Vec<String>, 
 struct Outcome {
     /// Those that it reads whole, each with its tree, in order.
     lines: Vec<String>,
-    /// Those of which it asked for each token. With the others longer ones needn't be tried: it does the same there.
+    /// Those of which it asked for each token. Of the others none is tried with more tokens: the parser would do the
+    /// same with those.
     fronts: Vec<String>,
 }
 
