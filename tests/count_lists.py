@@ -9,8 +9,13 @@ two and so on are expressions. Prints each row whose counts differ, with the rig
 A list is walked from left to right. What matters of its front: the open parentheses and brackets, whether an operand comes next, and
 which operators stand in these (`??` may not stand beside `||` or `&&`) and before the operand (none may stand left of `**`). Between
 brackets an item begins behind the bracket and behind each comma: there dots may stand, a comma (which makes a hole), or the end. Between
-braces so does a property: dots, a name, another key, or the end. Behind a name that isn't reserved the property may end, or `=` stand;
-behind each key `:` may. Rows with methods, or with `=` and parentheses, are none: neither is counted.
+braces so does a property: dots, `*`, a name, another key, or the end. Behind a name that isn't reserved the property may end, or `=` stand;
+behind each key `:` may, or a method's two parentheses and its block; behind `get` and `async` another key, and behind `async` a `*` too.
+Behind these a method has to come. A setter has a parameter, and none is read so far, so `set` is a name like others.
+
+A block, a function and a class are taken whole. Of each it matters how many brackets are open. Within its own brace, braces alone are
+counted; before that brace all brackets are, where any that closes may close any that opens. Rows with `=` and parentheses are none: that
+`({a = 1})` is no expression isn't counted.
 """
 import re
 import sys
@@ -20,16 +25,21 @@ from pathlib import Path
 LISTS = Path(__file__).parent.parent / "crates/bench_grammar/src/lists.rt"
 PREFIX = set("+ - ! ~ void typeof delete".split())
 BINARY = set("?? || && | ^ & == != === !== < > <= >= instanceof in << >> >>> + - * / % **".split())
+# Names that no mode reserves, those that some modes bar as operands, those that some reserve, and where a property is before its value.
+NAMES = {"a", "get", "set"}
 BARRED = {
     "let": {"module"},
     "yield": {"module", "strict", "generator"},
     "implements": {"module", "strict"},
 }
+RESERVED = {**BARRED, "let": {"module", "strict"}}
+PROPERTY = {"{", "name", "key", "get", "async", "*", "method", "params", "shell", "done"}
 
 # outer: of each open parenthesis or bracket, what closes it, the family outside it and whether its operand has a prefix operator. family:
 # `??`, `||` (which is that of `&&` too) or none. before: the token before. wants: an operand comes next. prefixed: that operand, or the last
-# one, has a prefix operator.
-Front = namedtuple("Front", "outer family before wants prefixed")
+# one, has a prefix operator. whole: of what is taken whole, whether its own brace is open, how many brackets are open beside that, and
+# whether it is a method's block, or none.
+Front = namedtuple("Front", "outer family before wants prefixed whole", defaults=(None,))
 
 
 def opened(front, token):
@@ -41,8 +51,8 @@ def opened(front, token):
 def closed(front):
     """The front with what closes the last parenthesis, bracket or brace more."""
     close, family, prefixed = front.outer[-1]
-    if close == "]:":
-        return Front(front.outer[:-1], "", "key", True, False)
+    if close[1:]:
+        return Front(front.outer[:-1], "", close[1:], True, False)
     return Front(front.outer[:-1], family, "", False, prefixed)
 
 
@@ -56,26 +66,79 @@ def value(front, token):
     return front._replace(family="", before=token, wants=True, prefixed=False)
 
 
-def prop(front, token):
-    """The front with a token more where a property begins, or behind its key, or None."""
-    if front.before == "{":
-        if token == "[":
-            return Front(front.outer + (("]:", "", False),), "", "", True, False)
+def within(front, token):
+    """The front with a token more of what is taken whole, or None."""
+    inside, depth, is_block = front.whole
+    if not inside and depth == 0 and token == "{":
+        return front._replace(whole=(True, 0, is_block))
+    if token == "{" or (not inside and token in ("(", "[")):
+        return front._replace(whole=(inside, depth + 1, is_block))
+    if token == "}" or (not inside and token in (")", "]")):
+        if depth > 0:
+            return front._replace(whole=(inside, depth - 1, is_block))
+        if not inside:
+            return None
+        return front._replace(whole=None, before="done" if is_block else "", wants=is_block)
+    return front
+
+
+def key(front, token, close):
+    """The front with a token more where a key begins, behind which stands what `close` names, or None."""
+    if token == "[":
+        return Front(front.outer + (("]" + close, "", False),), "", "", True, False)
+    return front._replace(before=close) if token == "1" or token.isalpha() else None
+
+
+def named(front, token, mode):
+    """The front with a word more as which a property begins."""
+    if token in ("get", "async"):
+        return front._replace(before=token)
+    is_open = token in (*NAMES, *RESERVED) and mode not in RESERVED.get(token, ())
+    return front._replace(before="name" if is_open else "key")
+
+
+def shell(front, token):
+    """The front with a token more of a method's parentheses, or its block's brace, or None."""
+    after = {("method", "("): "params", ("params", ")"): "shell"}.get((front.before, token))
+    if after:
+        return front._replace(before=after)
+    return front._replace(whole=(True, 0, True)) if (front.before, token) == ("shell", "{") else None
+
+
+def prop(front, token, mode):
+    """The front with a token more where a property begins, or in it before its value, or None."""
+    before = front.before
+    if before in ("method", "params", "shell"):
+        return shell(front, token)
+    if token in (",", "}") and before in ("name", "get", "async", "done"):
+        return closed(front) if token == "}" else front._replace(before="{")
+    if before == "done":
+        return None
+    if before == "{":
         if token in ("}", "..."):
             return closed(front) if token == "}" else value(front, token)
-        before = "name" if token == "a" else "key" if token == "1" or token.isalpha() else ""
-        return front._replace(before=before) if before else None
-    if token == ":" or (token == "=" and front.before == "name"):
+        if token == "*":
+            return front._replace(before="*")
+        return named(front, token, mode) if token.isalpha() else key(front, token, "key")
+    if before == "*":
+        return key(front, token, "method")
+    if token == "(":
+        return front._replace(before="params")
+    if token == ":" or (token == "=" and before != "key"):
         return value(front, token)
-    if token in (",", "}") and front.before == "name":
-        return closed(front) if token == "}" else front._replace(before="{")
-    return None
+    if before == "async" and token == "*":
+        return front._replace(before="*")
+    return key(front, token, "method") if before in ("get", "async") else None
 
 
 def operand(front, token, mode):
     """The front with a token more where an operand is wanted, or None."""
-    if front.before in ("{", "name", "key"):
-        return prop(front, token)
+    if front.whole:
+        return within(front, token)
+    if front.before in PROPERTY:
+        return prop(front, token, mode)
+    if front.before == "async function":
+        return front._replace(before="", whole=(False, 0, False)) if token == "function" else None
     if front.before == "#":
         return front._replace(before="", wants=False) if token.isalpha() else None
     if front.before in ("[", ",") and token in ("]", ",", "..."):
@@ -86,7 +149,11 @@ def operand(front, token, mode):
         return front._replace(before=token)
     if token in ("(", "[", "{"):
         return opened(front, token)
-    reference = token in ("a", *BARRED) and mode not in BARRED.get(token, ())
+    if token in ("function", "class"):
+        return front._replace(before="", whole=(False, 0, False))
+    if token == "async":
+        return front._replace(before="async function")
+    reference = token in (*NAMES, *BARRED) and mode not in BARRED.get(token, ())
     if reference and front.before == "delete" and mode == "module":
         return None
     return front._replace(before="", wants=False) if reference or token in ("1", "this") else None

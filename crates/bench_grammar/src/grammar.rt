@@ -1,20 +1,60 @@
 // The lists of tokens that the standard's productions derive, with their trees.
 use std::alloc::{AllocError, Global};
 
-/// The productions of ECMA-262, 13.1, 13.2 and 13.5 to 13.13 but for methods, a line each: a symbol, what it is
-/// made of, and its tree, in which `_` stands for the tree of each symbol in turn. Behind `unless`
-/// stand the modes in which there is no such production. One that makes a symbol of another alone
-/// stands below those of the other.
+/// The productions of ECMA-262, 13.1, 13.2, 13.5 to 13.13, and 15.4 to 15.8, a line each: a symbol, what it is made of,
+/// and its tree, in which `_` stands for the tree of each symbol in turn, and `$` for the number of tokens of what this
+/// production makes. One without a tree has no `->`. Behind `unless` stand the modes in which there is no such
+/// production. Behind `within` stands how many more tokens a whole list with it has at least: where that makes it
+/// longer than any that is asked for, it isn't derived. A production that makes a symbol of another alone stands below
+/// those of the other.
 ///
 /// `Whole` is an expression, where `in` is an operator but in the mode `without-in`. The symbols
 /// `..NoIn` stand for those without it. `# Name` is an operand, which the standard has left of `in`
-/// alone.
+/// alone. So far `async` is no operand by itself, and no method has parameters, so that there is no setter.
+///
+/// Blocks, functions and classes are as the hook reads them, which looks at brackets alone: within a block at braces,
+/// and before the block of a function or a class at all of them, where any that closes may close any that opens. `Any`
+/// is each token that is no bracket.
 const PRODUCTIONS: &str = "\
+Block = Opened } -> <$>
+Loose = Any
+Loose = (
+Loose = )
+Loose = [
+Loose = ]
+Loose = Block
+Opened = { within 2
+Opened = Opened Loose within 2
+Closer = )
+Closer = ]
+Closer = }
+Group = Bracket Closer
+Nested = Group
+Nested = Brace Closer
+Bracket = ( within 4
+Bracket = [ within 4
+Bracket = Bracket Any within 4
+Bracket = Bracket Nested within 4
+Brace = { within 6
+Brace = Brace Any within 6
+Brace = Brace Nested within 6
+Head = function -> Fn within 2
+Head = async function -> Fn within 2
+Head = class -> Class within 2
+Head = Head Any -> _ within 2
+Head = Head Group -> _ within 2
 Reference = a -> a
+Reference = get -> get
+Reference = set -> set
 Reference = let -> let unless module
 Reference = yield -> yield unless module strict generator
 Reference = implements -> implements unless module strict
 Name = a -> a
+Name = async -> async
+Name = get -> get
+Name = set -> set
+Name = function -> function
+Name = class -> class
 Name = in -> in
 Name = delete -> delete
 Name = void -> void
@@ -36,6 +76,7 @@ Object = { Properties } -> Object{_}
 Object = { Properties , } -> Object{_}
 Other = Array -> _
 Other = Object -> _
+Other = Head Block -> _<$>
 Other = ( Expression ) -> Paren(_)
 Other = # Name -> #_
 Primary = Reference -> _
@@ -105,9 +146,21 @@ Elements = Elements , Elision Spread -> _, _, _
 Key = Name -> _
 Key = 1 -> 1
 Key = [ Expression ] -> [_]
-Property = a -> a
-Property = a = Expression -> a = _
+Open = a -> a
+Open = async -> async
+Open = get -> get
+Open = set -> set
+Open = let -> let unless module strict
+Open = yield -> yield unless module strict generator
+Open = implements -> implements unless module strict
+Property = Open -> _
+Property = Open = Expression -> _ = _
 Property = Key : Expression -> _: _
+Property = Key ( ) Block -> Method(_, [], _)
+Property = * Key ( ) Block -> GeneratorMethod(_, [], _)
+Property = async Key ( ) Block -> AsyncMethod(_, [], _)
+Property = async * Key ( ) Block -> AsyncGeneratorMethod(_, [], _)
+Property = get Key ( ) Block -> Getter(_, _)
 Property = Spread -> _
 Properties = Property -> _
 Properties = Properties , Property -> _, _
@@ -140,6 +193,9 @@ ExpressionNoIn = CoalesceNoIn -> _
 Whole = Expression -> _ unless without-in
 Whole = ExpressionNoIn -> _ unless script module strict generator async
 ";
+
+/// The tokens that aren't `Any`.
+const BRACKETS: &str = "( ) [ ] { }";
 
 /// A list, or the front of one, and its tree, in which `_` stands for what isn't there yet. A token
 /// by itself has no tree.
@@ -227,8 +283,49 @@ pub(crate) fn tokens_derived(
     for token in tokens.split(' ') {
         let text = spelled(alloc, token)?;
         found.push(Derived::of_one(alloc, token, 1, text.as_str(), "")?)?;
+        if !BRACKETS.contains(token) {
+            found.push(Derived::of_one(alloc, "Any", 1, text.as_str(), "")?)?;
+        }
     }
     Ok(found)
+}
+
+/// Which lists are asked for: those of a mode, the longest of which has as many tokens.
+#[derive(Clone, Copy)]
+pub(crate) struct Asked<'a> {
+    pub(crate) mode: &'a str,
+    pub(crate) longest: usize,
+}
+
+/// A line of the productions.
+#[derive(Clone, Copy)]
+struct Production {
+    symbol: &'static str,
+    items: &'static str,
+    tree: &'static str,
+    lacking: &'static str,
+    around: usize,
+}
+
+impl Production {
+    fn of_line(line: &'static str) -> Production {
+        let (line, around) = line.split_once(" within ").unwrap_or((line, ""));
+        let (line, lacking) = line.split_once(" unless ").unwrap_or((line, ""));
+        let (symbol, form) = line.split_once(" = ").unwrap_or((line, ""));
+        let (items, tree) = form.split_once(" -> ").unwrap_or((form, ""));
+        Production {
+            symbol,
+            items,
+            tree,
+            lacking,
+            around: around.parse().unwrap_or(0),
+        }
+    }
+
+    /// Whether a list of the length that it makes may stand in one that is asked for.
+    fn fits(&self, length: usize, asked: Asked<'_>) -> bool {
+        !self.lacking.contains(asked.mode) && length.saturating_add(self.around) <= asked.longest
+    }
 }
 
 /// The fronts, each followed by what the item of a production derives, up to this length.
@@ -252,17 +349,18 @@ fn continued(
     Ok(longer)
 }
 
-/// The lists up to this length that are made of the items of a symbol's production.
+/// The lists up to this length that are made of the items of a symbol's production, where a whole one has this length.
 fn made(
     alloc: Global,
     found: &[Derived],
-    symbol: &'static str,
-    (items, tree): (&str, &str),
+    production: Production,
     length: usize,
 ) -> Result<Vec<Derived>, AllocError> {
-    let start = Derived::of_one(alloc, symbol, 0, "", tree)?;
+    let count = format!(in alloc; "{length}")?;
+    let tree = production.tree.replace(alloc, '$', count.as_str())?;
+    let start = Derived::of_one(alloc, production.symbol, 0, "", tree.as_str())?;
     let mut fronts = vec![in alloc; start]?;
-    for item in items.split(' ') {
+    for item in production.items.split(' ') {
         fronts = continued(alloc, &fronts, item, found, length)?;
     }
     Ok(fronts)
@@ -283,24 +381,17 @@ fn of_length(
     Ok(readings)
 }
 
-/// Adds the lists of this length that a line's production derives in the mode.
+/// Adds the lists of this length that a production derives.
 fn add_derived(
     alloc: Global,
     found: &mut Vec<Derived>,
-    line: &'static str,
+    production: Production,
     length: usize,
-    mode: &str,
 ) -> Result<(), AllocError> {
-    let (production, lacking) = line.split_once(" unless ").unwrap_or((line, ""));
-    let (symbol, form) = production.split_once(" = ").unwrap_or((production, ""));
-    let form = form.split_once(" -> ").unwrap_or((form, ""));
-    if lacking.contains(mode) {
-        return Ok(());
-    }
-    let readings = of_length(alloc, made(alloc, found, symbol, form, length)?, length)?;
+    let readings = of_length(alloc, made(alloc, found, production, length)?, length)?;
     if !readings.is_empty() {
         found.push(Derived {
-            symbol,
+            symbol: production.symbol,
             length,
             readings,
         })?;
@@ -308,15 +399,18 @@ fn add_derived(
     Ok(())
 }
 
-/// Adds the lists of this length that the productions derive in the mode, where the shorter ones were found.
+/// Adds the lists of this length that the productions derive, where the shorter ones were found.
 pub(crate) fn add_all_derived(
     alloc: Global,
     found: &mut Vec<Derived>,
     length: usize,
-    mode: &str,
+    asked: Asked<'_>,
 ) -> Result<(), AllocError> {
     for line in PRODUCTIONS.lines() {
-        add_derived(alloc, found, line, length, mode)?;
+        let production = Production::of_line(line);
+        if production.fits(length, asked) {
+            add_derived(alloc, found, production, length)?;
+        }
     }
     Ok(())
 }

@@ -1,7 +1,7 @@
 // Every list of a few tokens: the parser reads it whole exactly if the productions derive it, and
 // answers the one tree that they give it.
-use crate::grammar::{Derived, add_all_derived, expressions, spelled, tokens_derived};
-use crate::parse::{context_of, tree_of};
+use crate::grammar::{Asked, Derived, add_all_derived, expressions, spelled, tokens_derived};
+use crate::parse::{Found, context_of, found_in};
 use std::alloc::{AllocError, Global};
 use std::process::Abort;
 use swc_context::context::Context;
@@ -57,6 +57,21 @@ a { } [ ] , : ... | script | 0 1 2 3 8 21
 a { } , : = ?? || - | module | 0 1 2 6 16 44
 a in { } : = + | without-in | 0 1 2 4 7 17
 a { } ( ) : in | without-in | 0 1 1 2 1 5
+a { } ( ) | script | 0 1 1 2 1 2 1 3 4
+a get { } ( ) | script | 0 2 1 4 1 4 1 6 11
+get { } ( ) [ ] | script | 0 1 2 3 4 6 8 13 22 58
+async * { } ( ) | script | 0 0 1 1 1 2 3 6 14 40
+async get * a { } ( ) , | script | 0 2 1 9 8 47 55 264
+async get set function class * ( ) { } : , a this [ ] | script | 0 4 2 31 82
+function a { } ( ) | script | 0 1 1 3 7 34 161
+async function { } ( ) | script | 0 0 1 2 8 39 193
+class a { } | script | 0 1 1 2 4 13 40 122
+class function ( [ ] { } | module | 0 0 2 2 16 90
+get set { } ( ) : , | module | 0 2 1 4 3 12 13 48
+let yield async implements { } , | script | 0 3 1 4 4 16
+let yield async implements { } , | module | 0 0 1 1 1 1
+let yield async implements { } , | strict | 0 1 1 1 1 1
+let yield async implements { } , | generator | 0 2 1 3 3 9
 ";
 
 /// The lists of one token more.
@@ -71,16 +86,45 @@ fn longer(alloc: Global, lists: &[String], tokens: &str) -> Result<Vec<String>, 
     Ok(longer)
 }
 
-/// The lists that the parser reads, each with its tree, in order.
-fn parsed(alloc: Global, lists: &[String], context: Context) -> Result<Vec<String>, AllocError> {
-    let mut lines = Vec::new(alloc);
-    for list in lists {
-        if let Ok(Some(tree)) = tree_of(alloc, list.as_str(), context) {
-            lines.push(format!(in alloc; "{list}= {tree}")?)?;
+/// What the parser makes of some lists.
+#[derive(Drop)]
+struct Outcome {
+    /// Those that it reads whole, each with its tree, in order.
+    lines: Vec<String>,
+    /// Those of which it asked for each token. Of the others none is tried with more tokens: the parser would do the
+    /// same with those.
+    fronts: Vec<String>,
+}
+
+impl Outcome {
+    /// Adds what the parser makes of a list.
+    fn add(&mut self, list: String, context: Context) -> Result<(), AllocError> {
+        let alloc = *list.allocator();
+        let found = found_in(alloc, list.as_str(), context).unwrap_or(Found {
+            tree: None,
+            saw_all: true,
+        });
+        if let Some(tree) = found.tree {
+            self.lines.push(format!(in alloc; "{list}= {tree}")?)?;
         }
+        if found.saw_all {
+            self.fronts.push(list)?;
+        }
+        Ok(())
     }
-    lines.sort()?;
-    Ok(lines)
+}
+
+/// What the parser makes of the lists.
+fn parsed(alloc: Global, lists: Vec<String>, context: Context) -> Result<Outcome, AllocError> {
+    let mut outcome = Outcome {
+        lines: Vec::new(alloc),
+        fronts: Vec::new(alloc),
+    };
+    for list in lists {
+        outcome.add(list, context)?;
+    }
+    outcome.lines.sort()?;
+    Ok(outcome)
 }
 
 /// What was read has to be what is wanted, and as much of it as was counted.
@@ -92,21 +136,21 @@ fn same(rt: &impl Abort, read: &[String], wanted: &[String], count: usize, mode:
 }
 
 /// On the lists of this length the parser and the productions have to agree, where what the shorter
-/// ones derive was found.
+/// ones derive was found. Answers the lists that longer ones are made of.
 fn agree_on(
     rt: &impl Abort,
     found: &mut Vec<Derived>,
-    lists: &[String],
+    lists: Vec<String>,
     length: usize,
-    mode: &str,
+    asked: Asked<'_>,
     count: usize,
-) -> Result<(), AllocError> {
+) -> Result<Vec<String>, AllocError> {
     let alloc = *found.allocator();
-    add_all_derived(alloc, found, length, mode)?;
+    add_all_derived(alloc, found, length, asked)?;
     let wanted = expressions(alloc, found, length)?;
-    let read = parsed(alloc, lists, context_of(mode))?;
-    same(rt, &read, &wanted, count, mode);
-    Ok(())
+    let Outcome { lines, fronts } = parsed(alloc, lists, context_of(asked.mode))?;
+    same(rt, &lines, &wanted, count, asked.mode);
+    Ok(fronts)
 }
 
 /// On the lists of each length the parser and the productions have to agree.
@@ -117,6 +161,8 @@ fn agree(
     mode: &str,
     counts: &str,
 ) -> Result<(), AllocError> {
+    let longest = counts.matches(' ').count();
+    let asked = Asked { mode, longest };
     let mut found = tokens_derived(alloc, tokens)?;
     let mut lists = vec![in alloc; String::new(alloc)]?;
     for (length, count) in counts.split(' ').enumerate() {
@@ -124,7 +170,7 @@ fn agree(
             lists = longer(alloc, &lists, tokens)?;
         }
         let count = count.parse().unwrap_or(usize::MAX);
-        agree_on(rt, &mut found, &lists, length, mode, count)?;
+        lists = agree_on(rt, &mut found, lists, length, asked, count)?;
     }
     Ok(())
 }

@@ -1,6 +1,6 @@
 // What the parser reads.
 use std::alloc::Global;
-use swc_bodies::none::NoBodies;
+use swc_bodies::token_bodies::TokenBodies;
 use swc_context::context::{Context, EsVersion, Syntax};
 use swc_context::error::PResult;
 use swc_ecma_parser::parser::Parser;
@@ -9,7 +9,7 @@ use swc_input::token::TokenAndSpan;
 use swc_print::print::PrintNodes;
 use swc_tokens::read_tokens;
 
-pub(crate) type ListedParser = Parser<TokensInput, NoBodies>;
+pub(crate) type ListedParser = Parser<TokensInput, TokenBodies>;
 
 /// The context of a mode, which is words.
 pub(crate) fn context_of(mode: &str) -> Context {
@@ -43,18 +43,30 @@ pub(crate) fn parser_over(
         Syntax::default(),
         EsVersion::default(),
     );
-    Parser::new_from(alloc, source, NoBodies)
+    Parser::new_from(alloc, source, TokenBodies::new(alloc))
 }
 
-/// The tree of a text that the parser reads whole, with no fault recorded. None where it records
-/// one, or leaves a token.
-pub(crate) fn tree_of(alloc: Global, text: &str, context: Context) -> PResult<Option<String>> {
+/// What the parser makes of a text.
+#[derive(Drop)]
+pub(crate) struct Found {
+    /// The tree, where all of the text is read, with no fault recorded.
+    pub(crate) tree: Option<String>,
+    /// The parser asked for each token of the text. Where it didn't, it does the same with each longer text that
+    /// begins with this one.
+    pub(crate) saw_all: bool,
+}
+
+/// What the parser makes of the text.
+pub(crate) fn found_in(alloc: Global, text: &str, context: Context) -> PResult<Found> {
     let tokens = read_tokens(alloc, text.as_bytes())?;
     let mut parser = parser_over(alloc, tokens, context);
-    whole_tree(alloc, &mut parser)
+    let tree = whole_tree(alloc, &mut parser).unwrap_or(None);
+    let saw_all = parser.input().next().is_none();
+    Ok(Found { tree, saw_all })
 }
 
-/// The same, of the parser's tokens. A function that owns a parser lets it go at each `?`, so this one borrows it.
+/// The tree of the parser's tokens, if it reads all of them, with no fault recorded. A function that owns a parser
+/// lets it go at each `?`, so this one borrows it.
 fn whole_tree(alloc: Global, parser: &mut ListedParser) -> PResult<Option<String>> {
     let id = parser.parse_expr_id()?;
     let tree = parser.nodes().print_expr(alloc, id)?;
