@@ -104,7 +104,7 @@ impl Outcome {
             tree: None,
             saw_all: true,
         });
-        if let Some(tree) = found.tree {
+        if let Some(tree) = &found.tree {
             self.lines.push(format!(in alloc; "{list}= {tree}")?)?;
         }
         if found.saw_all {
