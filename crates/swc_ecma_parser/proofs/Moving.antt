@@ -3,7 +3,6 @@ use Rattle.std.proofs.Common.{◌≡◌, ℕ, Bool, ◌≤◌, Result, Ok, Err, 
 use Rattle.std.proofs.lemmas.List.{take-append-le}
 use Rattle.swc_context.specs.declared.error.Error.{Error}
 use Rattle.swc_input.specs.declared.buffer.Buffer.{Buffer}
-use Rattle.swc_input.specs.declared.token.TokenAndSpan.{TokenAndSpan}
 use Rattle.std.proofs.Common.{List}
 use Rattle.swc_input.specs.Source.{Model}
 use Rattle.swc_input.specs.Buffer.{last_position}

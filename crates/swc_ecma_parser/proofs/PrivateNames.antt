@@ -19,7 +19,7 @@ use Rattle.swc_input.specs.Buffer.{current, last_position}
 use Rattle.swc_input.specs.Laws.{Known-after}
 use Rattle.swc_input.specs.Recording.{Refused, unfit}
 use Rattle.swc_input.proofs.Ends.{past_end}
-use Rattle.swc_input.proofs.Refusals.{Refused-kind, unfit-kind}
+use Rattle.swc_input.proofs.Refusals.{unfit-kind}
 use Rattle.swc_input.specs.Kinds.{at_token, is_hash}
 use Rattle.swc_grammar.specs.Names.{Spelling, spelling, may_name}
 use Rattle.swc_grammar.specs.Trees.{to}

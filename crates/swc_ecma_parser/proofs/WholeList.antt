@@ -1,5 +1,5 @@
 -- From one expression read, and the end looked for, to the headline.
-use Rattle.std.proofs.Common.{◌≡◌, Bool, true, false, not, ◌||◌, List, [], ◌∷◌, ◌++◌, Option, Some, None, Result, Ok, Err, IfOk, IsSome, MatchResult, refl, sym, ap, subst, ◌∙◌}
+use Rattle.std.proofs.Common.{◌≡◌, Bool, true, false, not, ◌||◌, List, [], ◌∷◌, ◌++◌, Option, Some, None, Result, IfOk, IsSome, MatchResult, refl, sym, ap, subst, ◌∙◌}
 use Rattle.std.proofs.lemmas.List.{append-nil}
 use Rattle.swc_context.specs.declared.context.Context.{Context}
 use Rattle.swc_context.specs.declared.context.EsVersion.{EsVersion}
@@ -21,9 +21,9 @@ use Rattle.swc_bodies.specs.Readings.{Hook}
 use Rattle.swc_grammar.specs.Symbols.{Expr}
 use Rattle.swc_grammar.specs.Reads.{Reads, at-end}
 use Rattle.swc_nodes.specs.declared.node.ExprId.{ExprId}
-use Rattle.swc_productions.specs.Parsing.{Here, Loud, tree_of}
-use Rattle.swc_ecma_parser.specs.Calls.{Called, SeesEnd, buffer_of, has_failed, nodes_of}
-use Rattle.swc_ecma_parser.specs.Promise.{Promised, Unmarred, by_number}
+use Rattle.swc_productions.specs.Parsing.{Loud, tree_of}
+use Rattle.swc_ecma_parser.specs.Calls.{buffer_of, has_failed, nodes_of}
+use Rattle.swc_ecma_parser.specs.Promise.{Unmarred}
 use Rattle.swc_ecma_parser.specs.WholeList.{plain_list, IsHeeded, Headline, Tries, tried, refused, lost}
 use Rattle.swc_ecma_parser.specs.declared.parser.Parser.{Parser}
 
