@@ -36,6 +36,7 @@ use Rattle.swc_grammar.proofs.Texts.{half_sum, half_number_sum, or_after_default
 use Rattle.swc_grammar.proofs.Texts.{async_word, if_word, two_names}
 use Rattle.swc_grammar.proofs.Texts.{unclosed}
 use Rattle.swc_grammar.proofs.Texts.{this_word, this_word_tree, items, items_tree, pair_and_name, pair_and_name_tree}
+use Rattle.swc_grammar.proofs.Texts.{spread_and_comma, spread_and_comma_tree, hole_last, hole_last_tree}
 use Rattle.swc_grammar.proofs.Texts.{keys, keys_tree, cover_name, cover_name_tree, async_generator}
 use Rattle.swc_grammar.proofs.Texts.{async_generator_tree, method_and_getter, method_and_getter_tree}
 use Rattle.swc_grammar.proofs.Texts.{cover_in_parens, lone_key, names_in_braces, getter_with_value, reserved_name}
@@ -221,6 +222,15 @@ module _ {F C K : Type 0} (hook : Hook F C K) where
   pub items-computed : answer script items ≡ Some (items_tree, [])
   unfolding answer
   items-computed = refl
+
+  -- [...a,] has the mark of its comma, and [a,,] none
+  pub spread-and-comma-computed : answer script spread_and_comma ≡ Some (spread_and_comma_tree, [])
+  unfolding answer
+  spread-and-comma-computed = refl
+
+  pub hole-last-computed : answer script hole_last ≡ Some (hole_last_tree, [])
+  unfolding answer
+  hole-last-computed = refl
 
   -- {a: 1, b}
   pub pair_and_name-computed : answer script pair_and_name ≡ Some (pair_and_name_tree, [])

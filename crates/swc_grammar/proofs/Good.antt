@@ -185,7 +185,7 @@ module _ {F C K : Type 0} where
   keeps elements-more = λ e g es k.
       leaf _ (rw (g.valid, items-valid es k.valid) refl) refl (rw (g.grouped, items-grouped es k.grouped) refl) (omega arith)
   keeps tail-end = λ a h. leaf _ refl refl refl (omega arith)
-  keeps tail-more = λ a h es g. looser (omega arith) g
+  keeps tail-more = λ a h es g. leaf _ (items-valid es g.valid) refl (items-grouped es g.grouped) (omega arith)
   keeps item-expr = λ e g. leaf _ (rw g.valid refl) refl (rw g.grouped refl) (omega arith)
   keeps item-spread = λ a h e g. leaf _ (rw g.valid refl) refl (rw g.grouped refl) (omega arith)
   keeps fn-expr = λ v s. leaf _ refl refl refl (omega arith)
@@ -196,7 +196,7 @@ module _ {F C K : Type 0} where
       leaf _ (rw (g.valid, items-valid ps k.valid) refl) refl (rw (g.grouped, items-grouped ps k.grouped) refl)
       (omega arith)
   keeps props-tail-end = λ a h. leaf _ refl refl refl (omega arith)
-  keeps props-tail-more = λ a h ps g. looser (omega arith) g
+  keeps props-tail-more = λ a h ps g. leaf _ (items-valid ps g.valid) refl (items-grouped ps g.grouped) (omega arith)
   keeps prop-spread = λ a h e g. leaf _ (rw g.valid refl) refl (rw g.grouped refl) (omega arith)
   keeps (prop-short {c = c}) =
       λ a. keeps-given _ (any_name c a.token a.span) _ (λ n h r. leaf _ refl refl refl (omega arith))

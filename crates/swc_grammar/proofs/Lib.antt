@@ -12,6 +12,7 @@ pub mod Good
 pub mod Knot
 pub mod Levels
 pub mod Literals
+pub mod Marks
 pub mod Names
 pub mod One
 pub mod Only

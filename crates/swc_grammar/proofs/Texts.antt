@@ -1,5 +1,5 @@
 -- Worked texts: their tokens, and the trees that they are read as.
-use Rattle.std.specs.Prelude.{ℕ, true, false, List, [], ◌∷◌, codes}
+use Rattle.std.specs.Prelude.{ℕ, true, false, List, [], ◌∷◌, Some, None, codes}
 use Rattle.swc_context.specs.Contexts.{no_flags}
 use Rattle.swc_context.specs.declared.context.Context.{Context}
 use Rattle.swc_context.specs.declared.operator.AssignOp.TheVariants as assign
@@ -363,8 +363,22 @@ items =
     ∷ unbracket_at 10 11 ∷ []
 
 abbrev pub items_tree : {F C K : Type 0} → Tree F C K
-items_tree = array_e (place 0 11)
+items_tree = array_e None (place 0 11)
     (cons (item_e (ident (codes "a") 1 2)) (cons hole_e (cons (spread_e (place 6 9) (ident (codes "b") 9 10)) nil)))
+
+-- [...a,]
+abbrev pub spread_and_comma : List TokenAndSpan
+spread_and_comma = bracket_at 0 1 ∷ dots_at 1 4 ∷ name_at (codes "a") 4 5 ∷ comma_at 5 6 ∷ unbracket_at 6 7 ∷ []
+
+abbrev pub spread_and_comma_tree : {F C K : Type 0} → Tree F C K
+spread_and_comma_tree = array_e (Some (place 5 6)) (place 0 7) (cons (spread_e (place 1 4) (ident (codes "a") 4 5)) nil)
+
+-- [a,,]
+abbrev pub hole_last : List TokenAndSpan
+hole_last = bracket_at 0 1 ∷ name_at (codes "a") 1 2 ∷ comma_at 2 3 ∷ comma_at 3 4 ∷ unbracket_at 4 5 ∷ []
+
+abbrev pub hole_last_tree : {F C K : Type 0} → Tree F C K
+hole_last_tree = array_e None (place 0 5) (cons (item_e (ident (codes "a") 1 2)) (cons hole_e nil))
 
 -- {a: 1, b}
 abbrev pub pair_and_name : List TokenAndSpan
@@ -373,7 +387,7 @@ pair_and_name =
     ∷ name_at (codes "b") 7 8 ∷ unbrace_at 8 9 ∷ []
 
 abbrev pub pair_and_name_tree : {F C K : Type 0} → Tree F C K
-pair_and_name_tree = object_e (place 0 9)
+pair_and_name_tree = object_e None (place 0 9)
     (cons (key_value_e (place 1 5) (key (codes "a") 1 2) (num (codes "1") 4 5))
     (cons (short_e (place 7 8) (codes "b")) nil))
 
@@ -385,7 +399,7 @@ keys =
     ∷ dots_at 17 20 ∷ name_at (codes "c") 20 21 ∷ comma_at 21 22 ∷ unbrace_at 22 23 ∷ []
 
 abbrev pub keys_tree : {F C K : Type 0} → Tree F C K
-keys_tree = object_e (place 0 23)
+keys_tree = object_e (Some (place 21 22)) (place 0 23)
     (cons (key_value_e (place 1 7) (str_e (place 1 4) (codes "s") (codes "'s'")) (ident (codes "a") 6 7))
     (cons (key_value_e (place 9 15) (key (codes "get") 9 12) (ident (codes "b") 14 15))
     (cons (spread_prop_e (place 17 20) (ident (codes "c") 20 21)) nil)))
@@ -395,7 +409,7 @@ abbrev pub cover_name : List TokenAndSpan
 cover_name = brace_at 0 1 ∷ name_at (codes "a") 1 2 ∷ equals_at 3 4 ∷ num_at (codes "1") 5 6 ∷ unbrace_at 6 7 ∷ []
 
 abbrev pub cover_name_tree : {F C K : Type 0} → Tree F C K
-cover_name_tree = object_e (place 0 7) (cons (cover_e (place 1 6) (ident (codes "a") 1 2) (num (codes "1") 5 6)) nil)
+cover_name_tree = object_e None (place 0 7) (cons (cover_e (place 1 6) (ident (codes "a") 1 2) (num (codes "1") 5 6)) nil)
 
 -- {async *g(){}}
 abbrev pub async_generator : List TokenAndSpan
@@ -404,7 +418,7 @@ async_generator =
     ∷ close_at 10 11 ∷ brace_at 11 12 ∷ unbrace_at 12 13 ∷ unbrace_at 13 14 ∷ []
 
 abbrev pub async_generator_tree : {F C : Type 0} → Tree F C Span
-async_generator_tree = object_e (place 0 14)
+async_generator_tree = object_e None (place 0 14)
     (cons (method_e (place 1 13) (key (codes "g") 8 9)
     (function_e (place 9 13) true true (block_e (place 11 13) (place 11 13)))) nil)
 
@@ -416,7 +430,7 @@ method_and_getter =
     ∷ unbracket_at 15 16 ∷ open_at 16 17 ∷ close_at 17 18 ∷ brace_at 19 20 ∷ unbrace_at 20 21 ∷ unbrace_at 21 22 ∷ []
 
 abbrev pub method_and_getter_tree : {F C : Type 0} → Tree F C Span
-method_and_getter_tree = object_e (place 0 22)
+method_and_getter_tree = object_e None (place 0 22)
     (cons (method_e (place 1 7) (key (codes "m") 1 2)
     (function_e (place 2 7) false false (block_e (place 4 7) (place 4 7))))
     (cons (getter_e (place 9 21) (computed_e (place 13 16) (ident (codes "k") 14 15))
@@ -430,7 +444,7 @@ methods_named_get =
     ∷ unbrace_at 22 23 ∷ unbrace_at 23 24 ∷ []
 
 abbrev pub methods_named_get_tree : {F C : Type 0} → Tree F C Span
-methods_named_get_tree = object_e (place 0 24)
+methods_named_get_tree = object_e None (place 0 24)
     (cons (method_e (place 1 8) (key (codes "get") 1 4)
     (function_e (place 4 8) false false (block_e (place 6 8) (place 6 8))))
     (cons (method_e (place 10 23) (key (codes "get") 16 19)

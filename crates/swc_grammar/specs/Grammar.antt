@@ -1,13 +1,13 @@
 -- The written grammar, after ECMA-262, whose sections stand beside it. `Production symbol c side` says that in the
 -- context c the right-hand side is one of the symbol's. What it means that a right-hand side is followed is said in
 -- Reads.
-use Rattle.std.specs.Prelude.{ℕ, suc, Bool, true, false, not, IsTrue, nat_eq, nat_lt}
+use Rattle.std.specs.Prelude.{ℕ, suc, Bool, true, false, not, None, IsTrue, nat_eq, nat_lt}
 use Rattle.swc_context.specs.Operators.{precedence_of}
 use Rattle.swc_context.specs.Reserved.{is_reserved_word}
 use Rattle.swc_context.specs.declared.context.Context.{Context}
 use Rattle.swc_context.specs.declared.operator.BinaryOp.TheVariants as binary
 use Rattle.swc_input.specs.Kinds.{is_hash}
-use Rattle.swc_ast.specs.Tree.{nil, cons, span_of}
+use Rattle.swc_ast.specs.Tree.{nil, span_of}
 use Rattle.swc_bodies.specs.Readings.{is_async, is_brace}
 use Rattle.swc_grammar.specs.Rule.{gives, ◌>>=◌, ◌>>◌, symbol, token, one, must, body}
 use Rattle.swc_grammar.specs.Symbols.{Symbol, Expr, Assign, Level, Unary, Primary, Literal, Elements, ElementsTail}
@@ -15,7 +15,8 @@ use Rattle.swc_grammar.specs.Symbols.{Item, Props, PropsTail, Prop, Key, AfterKe
 use Rattle.swc_grammar.specs.Tokens.{with_in, is_this, is_lparen, is_rparen, is_lbracket, is_rbracket, is_comma, is_dots}
 use Rattle.swc_grammar.specs.Tokens.{is_power, is_rbrace, is_colon, is_star, is_equals, is_get, method_block}
 use Rattle.swc_grammar.specs.Parts.{reference, any_name, lit_of, key_lit_of, prefix_here, operator_here}
-use Rattle.swc_grammar.specs.Trees.{to, ident_e, this_e, array_e, listed, items_of, hole_e, item_e, spread_e, fn_e}
+use Rattle.swc_grammar.specs.Trees.{to, ident_e, this_e, array_e, listed, items_of, comma_of, put_first, behind_comma}
+use Rattle.swc_grammar.specs.Trees.{hole_e, item_e, spread_e, fn_e}
 use Rattle.swc_grammar.specs.Trees.{class_e, private_e, unary_e, paren_e, bin_e, object_e, name_e, computed_e}
 use Rattle.swc_grammar.specs.Trees.{spread_prop_e, short_e, cover_e, value_e, block_e, function_e, method_e, getter_e}
 use Rattle.swc_grammar.specs.Trees.{prop_of, nullish_ok, logical_ok, delete_ok, is_unary, no_cover_in}
@@ -38,24 +39,25 @@ pub data Production {F C K : Type 0} : (s : Symbol) → Context → Side F C K s
   array-lit : {c : Context} → Production Primary c (do
     s ← token is_lbracket
     es ← symbol Elements (with_in c)
-    gives (array_e (to s (span_of es)) (items_of es)))
+    gives (array_e (comma_of es) (to s (span_of es)) (items_of es)))
   elements-end : {c : Context} → Production Elements c (do
     s ← token is_rbracket
-    gives (listed s nil))
+    gives (listed None s nil))
   elements-hole : {c : Context} → Production Elements c (do
     token is_comma
     es ← symbol Elements c
-    gives (listed (span_of es) (cons hole_e (items_of es))))
+    gives (put_first hole_e es))
   elements-more : {c : Context} → Production Elements c (do
     e ← symbol Item c
     es ← symbol ElementsTail c
-    gives (listed (span_of es) (cons e (items_of es))))
+    gives (put_first e es))
   tail-end : {c : Context} → Production ElementsTail c (do
     s ← token is_rbracket
-    gives (listed s nil))
+    gives (listed None s nil))
   tail-more : {c : Context} → Production ElementsTail c (do
-    token is_comma
-    symbol Elements c)
+    s ← token is_comma
+    es ← symbol Elements c
+    gives (behind_comma s es))
   item-expr : {c : Context} → Production Item c (do
     e ← symbol Assign c
     gives (item_e e))
@@ -67,20 +69,21 @@ pub data Production {F C K : Type 0} : (s : Symbol) → Context → Side F C K s
   object-lit : {c : Context} → Production Primary c (do
     s ← token is_brace
     ps ← symbol Props c
-    gives (object_e (to s (span_of ps)) (items_of ps)))
+    gives (object_e (comma_of ps) (to s (span_of ps)) (items_of ps)))
   props-end : {c : Context} → Production Props c (do
     s ← token is_rbrace
-    gives (listed s nil))
+    gives (listed None s nil))
   props-more : {c : Context} → Production Props c (do
     p ← symbol Prop c
     ps ← symbol PropsTail c
-    gives (listed (span_of ps) (cons p (items_of ps))))
+    gives (put_first p ps))
   props-tail-end : {c : Context} → Production PropsTail c (do
     s ← token is_rbrace
-    gives (listed s nil))
+    gives (listed None s nil))
   props-tail-more : {c : Context} → Production PropsTail c (do
-    token is_comma
-    symbol Props c)
+    s ← token is_comma
+    ps ← symbol Props c
+    gives (behind_comma s ps))
   prop-spread : {c : Context} → Production Prop c (do
     s ← token is_dots
     e ← symbol Assign (with_in c)

@@ -4,11 +4,13 @@ use Rattle.std.specs.Prelude.{◌≡◌, Bool, true, false, ◌||◌, List, [], 
 use Rattle.swc_context.specs.declared.context.Context.{Context}
 use Rattle.swc_context.specs.declared.span.Span.{Span}
 use Rattle.swc_input.specs.declared.token.TokenAndSpan.{TokenAndSpan}
+use Rattle.swc_ast.specs.Tree.{Tree}
 use Rattle.swc_bodies.specs.Readings.{whole_span, Hook}
 use Rattle.swc_grammar.specs.Rule.{gives, take, check, peek, read, hear, sees}
 use Rattle.swc_grammar.specs.Symbols.{Symbol, Expr, Answer, Body, Value, reading_of, begins_body, Side}
 use Rattle.swc_grammar.specs.Grammar.{Production}
 use Rattle.swc_grammar.specs.Tokens.{is_comma, is_stop}
+use Rattle.swc_grammar.specs.Trees.{unmarked}
 
 module _ {F C K : Type 0} (hook : Hook F C K) where
   -- The hook reads v from the tokens from xs on to before ms: they begin as such a body does, and whatever comes behind
@@ -58,6 +60,12 @@ module _ {F C K : Type 0} (hook : Hook F C K) where
           → (h : Hears b c xs v ms)
           → Follows s (f v (whole_span h.own)) ms ys t
           → Follows s (hear b c f) xs ys t
+
+  -- the same, but for the marks of commas: what a tree in boxes may be answered for
+  pub record ReadsUnmarked (s : Symbol) (c : Context) (xs ys : List TokenAndSpan) (t : Tree F C K) : Type 0 where
+    pub marked : Tree F C K
+    pub read : Reads s c xs ys marked
+    pub same : unmarked marked ≡ t
 
 -- where a symbol's reading may stop, whatever the grammar comes to hold: at the end, or before a hard stop
 abbrev pub is_stop_for : Symbol → TokenAndSpan → Bool

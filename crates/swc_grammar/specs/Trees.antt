@@ -1,5 +1,5 @@
 -- The nodes of trees, as the grammar writes them.
-use Rattle.std.specs.Prelude.{ℕ, Bool, true, false, not, ◌&&◌, ◌||◌, List, nat_le, nat_lt}
+use Rattle.std.specs.Prelude.{ℕ, Bool, true, false, not, ◌&&◌, ◌||◌, List, Option, Some, None, nat_le, nat_lt}
 use Rattle.swc_context.specs.Operators.{precedence_of}
 use Rattle.swc_context.specs.Spans.{between}
 use Rattle.swc_context.specs.declared.operator.BinaryOp.{BinaryOp}
@@ -9,8 +9,9 @@ use Rattle.swc_context.specs.declared.operator.UnaryOp.{UnaryOp}
 use Rattle.swc_context.specs.declared.operator.UnaryOp.TheVariants as prefix
 use Rattle.swc_context.specs.declared.span.Span.{Span}
 use Rattle.swc_ast.specs.Tree.{Tree, node, Trees, nil, cons, span_of}
-use Rattle.swc_ast.specs.Tree.{Kind, this, fun, class, array, args, hole, item, spread, dots, no_span}
-use Rattle.swc_ast.specs.Tree.{object, shorthand, key_value, cover, method, getter, function, block, computed}
+use Rattle.swc_ast.specs.Tree.{Kind, this, fun, class, array_with, args_with, object_with, array, args, object}
+use Rattle.swc_ast.specs.Tree.{hole, item, spread, dots, no_span}
+use Rattle.swc_ast.specs.Tree.{shorthand, key_value, cover, method, getter, function, block, computed}
 use Rattle.swc_ast.specs.Tree.{name as name_kind}
 use Rattle.swc_ast.specs.Tree.{ident, private, str, boolean, null, num, big, unary, await, bin, paren, invalid}
 
@@ -28,15 +29,32 @@ fn_e s f = node (fun f) s nil
 pattern abbrev pub class_e : {F C K : Type 0} → Span → C → Tree F C K
 class_e s v = node (class v) s nil
 
-pattern abbrev pub array_e : {F C K : Type 0} → Span → Trees F C K → Tree F C K
-array_e s items = node array s items
+-- a literal, with the place of a comma behind its last part, or none
+pattern abbrev pub array_e : {F C K : Type 0} → Option Span → Span → Trees F C K → Tree F C K
+array_e comma s items = node (array_with comma) s items
 
--- a list of items that a token at s closes, and its items
-pattern abbrev pub listed : {F C K : Type 0} → Span → Trees F C K → Tree F C K
-listed s items = node args s items
+-- a list of items that a token at s closes, with a comma before it or not; its items, and that comma
+pattern abbrev pub listed : {F C K : Type 0} → Option Span → Span → Trees F C K → Tree F C K
+listed comma s items = node (args_with comma) s items
 
 abbrev pub items_of : {F C K : Type 0} → Tree F C K → Trees F C K
 items_of (node k s ts) = ts
+
+abbrev pub comma_of : {F C K : Type 0} → Tree F C K → Option Span
+comma_of (node (args_with comma) s ts) = comma
+comma_of t = None
+
+-- an item, and then those of a list
+abbrev pub put_first : {F C K : Type 0} → Tree F C K → Tree F C K → Tree F C K
+put_first e es = listed (comma_of es) (span_of es) (cons e (items_of es))
+
+-- Behind a comma at s that stands behind an item: where no item follows, it is the last.
+abbrev pub last_comma : {F C K : Type 0} → Span → Option Span → Trees F C K → Option Span
+last_comma s comma nil = Some s
+last_comma s comma (cons t ts) = comma
+
+abbrev pub behind_comma : {F C K : Type 0} → Span → Tree F C K → Tree F C K
+behind_comma s es = listed (last_comma s (comma_of es) (items_of es)) (span_of es) (items_of es)
 
 -- items have no place of their own: a hole, an expression, an expression behind dots
 abbrev pub hole_e : {F C K : Type 0} → Tree F C K
@@ -48,8 +66,8 @@ item_e e = node item no_span (cons e nil)
 abbrev pub spread_e : {F C K : Type 0} → Span → Tree F C K → Tree F C K
 spread_e s e = node spread no_span (cons (node dots s nil) (cons e nil))
 
-pattern abbrev pub object_e : {F C K : Type 0} → Span → Trees F C K → Tree F C K
-object_e s props = node object s props
+pattern abbrev pub object_e : {F C K : Type 0} → Option Span → Span → Trees F C K → Tree F C K
+object_e comma s props = node (object_with comma) s props
 
 -- keys: a name, which may be any word, and an expression in brackets; a literal is its own node
 pattern abbrev pub name_e : {F C K : Type 0} → Span → List ℕ → Tree F C K
@@ -177,7 +195,7 @@ no_cover nil = true
 no_cover (cons t ts) = not (is_cover t) && no_cover ts
 
 abbrev pub no_cover_in : {F C K : Type 0} → Tree F C K → Bool
-no_cover_in (node object s ts) = no_cover ts
+no_cover_in (object_e comma s ts) = no_cover ts
 no_cover_in t = true
 
 -- a node of a prefix operator or of `await`, which `**` doesn't take on its left (13.6)
@@ -236,3 +254,18 @@ abbrev mutual
   pub are_valid : {F C K : Type 0} → Trees F C K → Bool
   are_valid nil = true
   are_valid (cons t ts) = is_valid t && are_valid ts
+
+-- A tree without the marks of commas, as trees in boxes are.
+abbrev pub unmarked_kind : {F C K : Type 0} → Kind F C K → Kind F C K
+unmarked_kind (args_with comma) = args
+unmarked_kind (array_with comma) = array
+unmarked_kind (object_with comma) = object
+unmarked_kind k = k
+
+abbrev mutual
+  pub unmarked : {F C K : Type 0} → Tree F C K → Tree F C K
+  unmarked (node k s ts) = node (unmarked_kind k) s (all_unmarked ts)
+
+  pub all_unmarked : {F C K : Type 0} → Trees F C K → Trees F C K
+  all_unmarked nil = nil
+  all_unmarked (cons t ts) = cons (unmarked t) (all_unmarked ts)

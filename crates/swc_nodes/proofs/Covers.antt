@@ -1,5 +1,5 @@
 -- The properties of an object literal that are `name = e`, by its node and by its tree.
-use Rattle.std.proofs.Common.{◌≡◌, ℕ, true, false, Bool, not, ◌&&◌, ◌||◌, List, [], ◌∷◌, map, refl, ap, ◌∙◌}
+use Rattle.std.proofs.Common.{◌≡◌, ℕ, true, false, Bool, not, ◌&&◌, ◌||◌, List, [], ◌∷◌, map, Option, refl, ap, ◌∙◌}
 use Rattle.std.specs.declared.alloc.Global.{Global}
 use Rattle.std.specs.declared.vec.Vec.{Vec}
 use Rattle.swc_context.specs.declared.span.Span.{Span}
@@ -35,8 +35,8 @@ module _ {F C K : Type 0} (fun_at : F → Span) (class_at : C → Span) (block_a
       ∙ ap (λ v. not (is_cover_prop p) && v) (covers ps) ∙ neither (is_cover_prop p) (has_cover ps)
 
 module _ {F C K : Type 0} {fg : Ghosts F} {cg : Ghosts C} {kg : Ghosts K} where
-  pub object-covers : {ns : Nodes F C K fg cg kg} {i : ℕ} (s : Span) (props : Vec (PropNode K) Global) →
-      Stood ns i (n.Object s props) → no_cover_in (tree_at ns i) ≡ not (has_cover props.items)
-  object-covers {ns} {i} s props t =
+  pub object-covers : {ns : Nodes F C K fg cg kg} {i : ℕ} (s : Span) (props : Vec (PropNode K) Global)
+      (comma : Option Span) → Stood ns i (n.Object s props comma) → no_cover_in (tree_at ns i) ≡ not (has_cover props.items)
+  object-covers {ns} {i} s props comma t =
       ap (λ v. no_cover_in v.tree) t.stands
       ∙ covers fg.place cg.place kg.place (λ j. (seat_before i ns j).tree) props.items

@@ -5,7 +5,7 @@ use Rattle.swc_context.specs.declared.span.Span.{Span}
 use Rattle.swc_ast.specs.declared.spanned.Spanned.{Ghosts}
 use Rattle.swc_grammar.specs.Clean.{left_ok}
 use Rattle.swc_grammar.specs.Trees.{is_logical_op, is_nullish, logical_ok}
-use Rattle.swc_nodes.specs.NodeTree.{node_tree}
+use Rattle.swc_nodes.specs.NodeTree.{marked_tree}
 use Rattle.swc_nodes.specs.Seats.{floor, chain}
 use Rattle.swc_nodes.specs.Slots.{Part, View, Form, target_expr, other_expr, target_pat, other_pat, expr, pat, slots, form, view_ok, expr_part, one_expr}
 use Rattle.swc_nodes.specs.Stands.{count, seat_at, seat_before, tree_at, first_at, Apart, From, Grows, Added, Made, Stood}
@@ -113,7 +113,7 @@ module _ {F C K : Type 0} {fg : Ghosts F} {cg : Ghosts C} {kg : Ghosts K} where
   -- ---- a node is made
 
   pub added-made : {ns ms : Nodes F C K fg cg kg} {i : ℕ} (v : View) (x : Node F C K) → view_ok v (form x) ≡ true → Apart 0 ns (slots x) → Added ns ms i x →
-      Made (floor (seat_at ns) (count ns) (slots x)) ms (record { at = i; view = v }) (node_tree fg.place cg.place kg.place (λ j. (seat_at ns j).tree) x)
+      Made (floor (seat_at ns) (count ns) (slots x)) ms (record { at = i; view = v }) (marked_tree fg.place cg.place kg.place (λ j. (seat_at ns j).tree) x)
   added-made {ns} {ms} {i} v x k a d =
       let n = d.number in let w = d.counted in
       let first : first_at ms i ≡ floor (seat_at ns) (count ns) (slots x) = ap (λ s. s.first) d.stands ∙ ap (λ m. floor (seat_at ns) m (slots x)) n in

@@ -4,4 +4,5 @@ pub mod Held
 pub mod Lists
 pub mod Renumbered
 pub mod Standing
+pub mod Unmarked
 pub mod Walked

@@ -11,7 +11,7 @@ use Rattle.swc_context.specs.Spans.{between}
 use Rattle.swc_context.specs.declared.span.BytePos.{BytePos}
 use Rattle.swc_context.specs.declared.span.Span.{Span}
 use Rattle.swc_ast.specs.Parts.{leaf, ident_tree, prop_name_tree, item_of, item_tree, param_tree, function_tree}
-use Rattle.swc_ast.specs.Tree.{Tree, node, Trees, nil, cons, trees, array, object, computed, block, spread, dots}
+use Rattle.swc_ast.specs.Tree.{Tree, node, Trees, nil, cons, trees, computed, block, spread, dots}
 use Rattle.swc_ast.specs.Tree.{key_value, cover, method, function, getter, setter, param}
 use Rattle.swc_ast.specs.declared.expr.ExprOrSpread.{ExprOrSpread}
 use Rattle.swc_ast.specs.declared.function.Function.{Function}
@@ -19,8 +19,9 @@ use Rattle.swc_ast.specs.declared.function.Param.{Param}
 use Rattle.swc_ast.specs.declared.prop.PropName.{PropName}
 use Rattle.swc_ast.specs.declared.prop.PropName.TheVariants as prop_name
 use Rattle.swc_ast.specs.declared.spanned.Spanned.{Ghosts}
+use Rattle.swc_grammar.specs.Trees.{array_e, object_e}
 use Rattle.swc_nodes.specs.Lists.{trees_append, elem_parts, elem_tree, elem_trees, props_parts, props_trees}
-use Rattle.swc_nodes.specs.NodeTree.{prop_of, node_tree}
+use Rattle.swc_nodes.specs.NodeTree.{prop_of, marked_tree}
 use Rattle.swc_nodes.specs.Seats.{fits, chain}
 use Rattle.swc_nodes.specs.Slots.{Part, expr, flat, one_expr, one_pat, if_some, item_parts, key_parts, param_parts, prop_parts}
 use Rattle.swc_nodes.specs.Slots.{slots, form, view_ok}
@@ -96,7 +97,7 @@ module _ {F C K : Type 0} {fg : Ghosts F} {cg : Ghosts C} {kg : Ghosts K} where
 
   list-made : {ns ms : Nodes F C K fg cg kg} {i : ℕ} (x : Node F C K) → view_ok expr (form x) ≡ true →
       Apart 0 ns (slots x) → Added ns ms i x → (k : ℕ) → Apart k ns (slots x) →
-      Made k ms (record { at = i; view = expr }) (node_tree fg.place cg.place kg.place (tree_at ns) x)
+      Made k ms (record { at = i; view = expr }) (marked_tree fg.place cg.place kg.place (tree_at ns) x)
   list-made {ns} {ms} {i} x v a d k b =
       let made = added-made expr x v a d in
       record {
@@ -106,24 +107,27 @@ module _ {F C K : Type 0} {fg : Ghosts F} {cg : Ghosts C} {kg : Ghosts K} where
 
   -- an array and an object, from a place to a place
   pub array-made : {ns ms : Nodes F C K fg cg kg} {i : ℕ} (s : Span) (a b : BytePos)
-      (elems : Vec (Option (ExprOrSpread ExprId)) Global) →
-      s.lo.0 ≡ min a.0 b.0 → s.hi.0 ≡ max a.0 b.0 → Apart 0 ns (elem_parts elems) → Added ns ms i (n.Array s elems) →
+      (elems : Vec (Option (ExprOrSpread ExprId)) Global) (comma : Option Span) →
+      s.lo.0 ≡ min a.0 b.0 → s.hi.0 ≡ max a.0 b.0 → Apart 0 ns (elem_parts elems) →
+      Added ns ms i (n.Array s elems comma) →
       (k : ℕ) → Apart k ns (elem_parts elems) →
-      Made k ms (record { at = i; view = expr }) (node array (between a b) (elem_trees (tree_at ns) elems))
-  array-made {ns} {ms} {i} s a b elems lo hi parts d k from =
-      let made = list-made (n.Array s elems) refl parts d k from in
+      Made k ms (record { at = i; view = expr }) (array_e comma (between a b) (elem_trees (tree_at ns) elems))
+  array-made {ns} {ms} {i} s a b elems comma lo hi parts d k from =
+      let made = list-made (n.Array s elems comma) refl parts d k from in
       let trees_now = elem_trees (tree_at ns) elems in
-      record { from = made.from; stands = made.stands ∙ ap (λ v. node array v trees_now) (span_is s a b lo hi) }
+      record { from = made.from; stands = made.stands ∙ ap (λ v. array_e comma v trees_now) (span_is s a b lo hi) }
 
-  pub object-made : {ns ms : Nodes F C K fg cg kg} {i : ℕ} (s : Span) (a b : BytePos) (props : Vec (PropNode K) Global) →
-      s.lo.0 ≡ min a.0 b.0 → s.hi.0 ≡ max a.0 b.0 → Apart 0 ns (props_parts props) → Added ns ms i (n.Object s props) →
+  pub object-made : {ns ms : Nodes F C K fg cg kg} {i : ℕ} (s : Span) (a b : BytePos) (props : Vec (PropNode K) Global)
+      (comma : Option Span) →
+      s.lo.0 ≡ min a.0 b.0 → s.hi.0 ≡ max a.0 b.0 → Apart 0 ns (props_parts props) →
+      Added ns ms i (n.Object s props comma) →
       (k : ℕ) → Apart k ns (props_parts props) →
       Made k ms (record { at = i; view = expr })
-      (node object (between a b) (props_trees fg.place cg.place kg.place (tree_at ns) props))
-  object-made {ns} {ms} {i} s a b props lo hi parts d k from =
-      let made = list-made (n.Object s props) refl parts d k from in
+      (object_e comma (between a b) (props_trees fg.place cg.place kg.place (tree_at ns) props))
+  object-made {ns} {ms} {i} s a b props comma lo hi parts d k from =
+      let made = list-made (n.Object s props comma) refl parts d k from in
       let trees_now = props_trees fg.place cg.place kg.place (tree_at ns) props in
-      record { from = made.from; stands = made.stands ∙ ap (λ v. node object v trees_now) (span_is s a b lo hi) }
+      record { from = made.from; stands = made.stands ∙ ap (λ v. object_e comma v trees_now) (span_is s a b lo hi) }
 
 -- ---- the trees of parts
 

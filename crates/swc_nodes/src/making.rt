@@ -2,7 +2,7 @@
 ghost use Rattle.std.specs.Prelude.{◌≡◌, ℕ, ◌+◌, IfOk};
 ghost use Rattle.swc_context.specs.Spans.{between};
 ghost use Rattle.swc_ast.specs.Parts.{leaf, ident_tree, lit_tree};
-ghost use Rattle.swc_ast.specs.Tree.{invalid, node, object, span_of};
+ghost use Rattle.swc_ast.specs.Tree.{invalid, span_of};
 ghost use Rattle.swc_grammar.specs.Trees as trees;
 ghost use Rattle.swc_nodes.specs.Lists.{elem_parts, elem_trees, props_parts, props_trees};
 ghost use Rattle.swc_nodes.specs.Slots.{expr_part, pat_part};
@@ -53,39 +53,51 @@ impl<F: Spanned + Drop, C: Spanned + Drop, K: Spanned + Drop> Nodes<F, C, K> {
 
     /// An array literal (ECMA-262, 13.2.4) from `start` to `end`, positions in bytes, with a `None` for each hole.
     ///
-    /// All that is reached from an element lies behind the element before it (`are_elems_apart`).
+    /// `trailing_comma` is the place of a comma behind the last element, which is no hole. All that is reached from an
+    /// element lies behind the element before it (`are_elems_apart`).
     pub fn array_lit(
         &mut self,
         start: BytePos,
         end: BytePos,
         elems: Vec<Option<ExprOrSpread<ExprId>>>,
+        trailing_comma: Option<Span>,
     ) -> Result<ExprId, AllocError>
         requires apart { Apart 0 self.old (elem_parts elems) }
         ensures grows { Grows self.old self.new }
         ensures made { IfOk result (λ id. (k : ℕ) → Apart k self.old (elem_parts elems) → Made k self.new (expr_part id)
-            (trees.array_e (between start end) (elem_trees (tree_at self.old) elems))) }
+            (trees.array_e trailing_comma (between start end) (elem_trees (tree_at self.old) elems))) }
     {
         let span = Span::new(start, end);
-        Ok(ExprId(self.push(Node::Array { span, elems })?))
+        Ok(ExprId(self.push(Node::Array {
+            span,
+            elems,
+            trailing_comma,
+        })?))
     }
 
     /// An object literal (ECMA-262, 13.2.5) from `start` to `end`, positions in bytes.
     ///
-    /// All that is reached from a part of a property lies behind the part before it (`are_props_apart`).
+    /// `trailing_comma` is the place of a comma behind the last property. All that is reached from a part of a property
+    /// lies behind the part before it (`are_props_apart`).
     pub fn object_lit(
         &mut self,
         start: BytePos,
         end: BytePos,
         props: Vec<PropNode<K>>,
+        trailing_comma: Option<Span>,
     ) -> Result<ExprId, AllocError>
         requires apart { Apart 0 self.old (props_parts props) }
         ensures grows { Grows self.old self.new }
         ensures made { IfOk result (λ id. (k : ℕ) → Apart k self.old (props_parts props)
             → Made k self.new (expr_part id)
-            (node object (between start end) (props_trees F.place C.place K.place (tree_at self.old) props))) }
+            (trees.object_e trailing_comma (between start end) (props_trees F.place C.place K.place (tree_at self.old) props))) }
     {
         let span = Span::new(start, end);
-        Ok(ExprId(self.push(Node::Object { span, props })?))
+        Ok(ExprId(self.push(Node::Object {
+            span,
+            props,
+            trailing_comma,
+        })?))
     }
 
     /// A function expression (ECMA-262, 15.2, 15.5, 15.6 and 15.8), as the hook read it.

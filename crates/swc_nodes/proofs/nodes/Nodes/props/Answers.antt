@@ -3,4 +3,4 @@ use Rattle.swc_nodes.proofs.Held.{stood-is}
 use Rattle.swc_nodes.proofs.nodes.Nodes.props.Goals as goal
 
 pub returns-in-Object : goal.returns-in-Object
-returns-in-Object g c = object-covers c.in-Object.span c.in-Object.props (stood-is _ c.in-Object.is c.get.ensures)
+returns-in-Object g c = object-covers c.in-Object.span c.in-Object.props c.in-Object.trailing_comma (stood-is _ c.in-Object.is c.get.ensures)
