@@ -5,7 +5,7 @@ use crate::settings::{setting_of, source_of};
 use crate::shown::{Shown, show, show_faults, show_refusal};
 use crate::trees::show_numbered;
 use bench_lower::rows::{Row, Subject, answers, expect, row_of};
-use bench_lower::tokens::fault_of;
+use bench_lower::tokens::{fault_of, span_of};
 use std::alloc::{AllocError, Global};
 use std::test::Fail;
 use swc_context::error::Error;
@@ -137,6 +137,16 @@ parse_object_prop | script hook_records | set a() { } | Setter 0..9 | SetterPara
 parse_object_prop | script | if, | Shorthand 0..2 | ReservedWordInObjShorthandOrPat 0..2 | 2..3
 parse_object_prop; parse_object_prop; make_object | script failing | a: | refused: OutOfMemory 2..2; refused: ParserFailed 1..2; refused: ParserFailed 1..2 | none | refused: ParserFailed 1..2
 make_object; parse_expr | script | a | Object{} 0..0; a 0..1 | none | end
+parse_expr; trailing_comma 0 | script | [...a,] | Array[...a] 0..7; 5..6 | none | end
+parse_expr_id; trailing_comma 0 | script | [...a,] | Array[...a] 0..7; 5..6 | none | end
+parse_expr; trailing_comma 0; trailing_comma 1 | script | [[a, ], ] | Array[Array[a]] 0..9; 6..7; 3..4 | none | end
+parse_expr; trailing_comma 0; trailing_comma 1 | script | [[], , ] | Array[Array[], -] 0..8; none; none | none | end
+parse_expr; trailing_comma 0 | script | {a, b : 1 , } | Object{a, b: 1} 0..13; 10..11 | none | end
+parse_expr; trailing_comma 0 | script | {a} | Object{a} 0..3; none | none | end
+parse_expr; trailing_comma 3; parse_expr; trailing_comma 3 | script | {@3..4 a@5..6 ,@6..7 }@7..8 {@3..4 }@8..9 | Object{a} 3..8; 6..7; Object{} 3..9; none | none | end
+parse_expr; trailing_comma 0; trailing_comma 1 | script | [[a, ], | refused: Eof 7..7; none; 3..4 | none | end
+trailing_comma 0; make_object 4..5; trailing_comma 0; trailing_comma 1 | script |  | none; Object{} 0..0; 4..5; none | none | end
+parse_expr; trailing_comma 0; make_object; trailing_comma 0 | script | [a, ] | Array[a] 0..5; 2..3; Object{} 0..0; none | none | end
 parse_formal_params | script | ) | none | none | 0..1
 parse_formal_params | script |  | none | none | end
 parse_formal_params | script | a ) | refused: Expected 0..1 ) | none | 0..1
@@ -201,16 +211,23 @@ fn call_part<I: Tokens>(
     match call {
         "parse_prop_name" => show(out, parser.parse_prop_name())?,
         "parse_object_prop" => show(out, parser.parse_object_prop())?,
-        "make_object" => {
-            let none = Vec::new(*out.allocator());
-            let start = Span::new(BytePos(0), BytePos(0));
-            show(out, parser.make_object(start, none, None))?;
-        }
+        "make_object" => make_object(parser, out, None)?,
         "parse_formal_params" => show(out, parser.parse_formal_params())?,
         "parse_unique_formal_params" => show(out, parser.parse_unique_formal_params())?,
         _ => call_name(parser, out, call)?,
     }
     Ok(())
+}
+
+/// Makes an object literal of no properties at the start of the text, with a comma at the place, or none.
+fn make_object<I: Tokens>(
+    parser: &mut Parser<I, TestBodies>,
+    out: &mut String,
+    trailing_comma: Option<Span>,
+) -> Result<(), Fail> {
+    let none = Vec::new(*out.allocator());
+    let start = Span::new(BytePos(0), BytePos(0));
+    Ok(show(out, parser.make_object(start, none, trailing_comma))?)
 }
 
 /// The calls on names.
@@ -229,6 +246,23 @@ fn call_name<I: Tokens>(
         "parse_module_export_name" => show(out, parser.parse_module_export_name())?,
         "parse_private_name" => show(out, parser.parse_private_name())?,
         "parse_maybe_private_name" => show(out, parser.parse_maybe_private_name())?,
+        _ => call_at(parser, out, call)?,
+    }
+    Ok(())
+}
+
+/// The calls that are given a place.
+fn call_at<I: Tokens>(
+    parser: &mut Parser<I, TestBodies>,
+    out: &mut String,
+    call: &str,
+) -> Result<(), Fail> {
+    match call.split_once(' ') {
+        Some(("make_object", at)) => make_object(parser, out, span_of(at))?,
+        Some(("trailing_comma", at)) => {
+            let start = at.parse().ok().ok_or("no position")?;
+            parser.trailing_comma(BytePos(start)).show(out)?;
+        }
         _ => call_input(parser.input(), out, call)?,
     }
     Ok(())

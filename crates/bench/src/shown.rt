@@ -93,10 +93,10 @@ impl Shown for BindingIdent {
     }
 }
 
-impl Shown for Option<BindingIdent> {
+impl<T: Shown> Shown for Option<T> {
     fn show(self, out: &mut String) -> Result<(), AllocError> {
         match self {
-            Some(name) => name.show(out),
+            Some(found) => found.show(out),
             None => out.push_str("none"),
         }
     }

@@ -60,7 +60,7 @@ a { } ( ) : in | without-in | 0 1 1 2 1 5
 a { } ( ) | script | 0 1 1 2 1 2 1 3 4
 a get { } ( ) | script | 0 2 1 4 1 4 1 6 11
 a set { } ( ) | script | 0 2 1 4 1 4 1 6 9
-get { } ( ) [ ] | script | 0 1 2 3 4 6 8 13 22 58
+get { } ( ) [ ] | script | 0 1 2 3 4 6 8 13 22 58 218
 async * { } ( ) | script | 0 0 1 1 1 2 3 6 14 40
 async get * a { } ( ) , | script | 0 2 1 9 8 47 55 264
 async get set function class * ( ) { } : , a this [ ] | script | 0 4 2 31 82

@@ -348,11 +348,19 @@ impl<'a> Builder<'a> {
         Ok(match word.kind {
             "Array" => {
                 let elems = self.take_list(word)?;
-                Node::Array { span, elems }
+                Node::Array {
+                    span,
+                    elems,
+                    trailing_comma: None,
+                }
             }
             "Object" => {
                 let props = last_of(&mut self.props, word.count()?)?;
-                Node::Object { span, props }
+                Node::Object {
+                    span,
+                    props,
+                    trailing_comma: None,
+                }
             }
             "Seq" => {
                 let exprs = self.take_list(word)?;

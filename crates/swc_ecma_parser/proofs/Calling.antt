@@ -54,10 +54,10 @@ module _ {S H T F C K : Type 0} {fg : Ghosts F} {cg : Ghosts C} {kg : Ghosts K} 
 
   -- the buffer and the nodes before the parser remembers want of memory
   pub promised : {p q : Parser S H F C K fg cg kg} {f : Bool} (b : Buffer S) (ns : Nodes F C K fg cg kg) (a r : Result T Error) → has_failed p ≡ false → f ≡ has_failed p →
-      r ≡ a → buffer_of q ≡ b → nodes_of q ≡ ns → has_failed q ≡ (f || wants_memory a) → Meets model sure hook (answer.tree ns) s (buffer_of p) a b → answer.leaves (nodes_of p) a ns → Promised model sure hook answer s p r q
+      r ≡ a → buffer_of q ≡ b → nodes_of q ≡ ns → has_failed q ≡ (f || wants_memory a) → Meets model sure (answer.derives hook s) (answer.tree ns) s (buffer_of p) a b → answer.leaves (nodes_of p) a ns → Promised model sure hook answer s p r q
   promised {p} {q} b ns a r runs same e buffer nodes fails done leaves =
       let left : answer.leaves (nodes_of p) r (nodes_of q) = rw (e, nodes) leaves in
-      let meets : Meets model sure hook (answer.tree (nodes_of q)) s (buffer_of p) r (buffer_of q) = rw (e, buffer, nodes) done in
+      let meets : Meets model sure (answer.derives hook s) (answer.tree (nodes_of q)) s (buffer_of p) r (buffer_of q) = rw (e, buffer, nodes) done in
       record {
         again = λ failed. absurd (not_both failed runs);
         reads = λ w. meets.reads;

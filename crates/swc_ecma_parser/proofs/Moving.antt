@@ -1,5 +1,5 @@
 -- The tree of an answer is moved out of the nodes, and the nodes that were made are cut off.
-use Rattle.std.proofs.Common.{◌≡◌, ℕ, Bool, ◌≤◌, Result, Ok, Err, IfOk, MatchResult, take, refl, sym, ap, subst, ◌∙◌, arith}
+use Rattle.std.proofs.Common.{◌≡◌, ℕ, Bool, ◌≤◌, Result, Ok, Err, Some, IfOk, MatchResult, take, refl, sym, ap, subst, ◌∙◌, arith}
 use Rattle.std.proofs.lemmas.List.{take-append-le}
 use Rattle.swc_context.specs.declared.error.Error.{Error}
 use Rattle.swc_input.specs.declared.buffer.Buffer.{Buffer}
@@ -9,6 +9,7 @@ use Rattle.swc_input.specs.Buffer.{last_position}
 use Rattle.swc_input.specs.Recording.{no_memory}
 use Rattle.swc_ast.specs.Tree.{Tree}
 use Rattle.swc_ast.specs.declared.spanned.Spanned.{Ghosts}
+use Rattle.swc_grammar.specs.Trees.{unmarked}
 use Rattle.swc_nodes.specs.Slots.{Part, expr_part}
 use Rattle.swc_nodes.specs.Stands.{count, seat_at, Apart, From, Grows, Left, CutTo, SameNodes}
 use Rattle.swc_nodes.specs.declared.node.ExprId.{ExprId}
@@ -16,7 +17,8 @@ use Rattle.swc_nodes.specs.declared.nodes.Nodes.{Nodes}
 use Rattle.swc_nodes.proofs.Chains.{chain-down}
 use Rattle.swc_nodes.proofs.Standing.{cut_kept}
 use Rattle.swc_productions.specs.Parsing.{tree_of, Heard, Unheard, Parses}
-use Rattle.swc_productions.proofs.Steps.{Reader, spent, unheard_memory}
+use Rattle.swc_productions.proofs.Steps.{Reader, spent, heard_call, unheard_call, unheard_memory}
+use Rattle.swc_ecma_parser.proofs.Top.{bare}
 
 module _ {F C K : Type 0} {fg : Ghosts F} {cg : Ghosts C} {kg : Ghosts K} where
   -- nodes were appended, and cut off again
@@ -48,10 +50,12 @@ module _ {S F C K : Type 0} {fg : Ghosts F} {cg : Ghosts C} {kg : Ghosts K} (mod
   kept-parses ms ns s b c (Ok id) h e = subst (λ v. Heard model sure f (tree_of v id) b c) (sym e) h
   kept-parses ms ns s b c (Err x) h e = h
 
-module _ {S F C K X T : Type 0} {fg : Ghosts F} {cg : Ghosts C} {kg : Ghosts K} (model : Model S) (sure : Bool) (f : Reader (Tree F C K)) (ns : Nodes F C K fg cg kg) (by : Nodes F C K fg cg kg → X → Tree F C K) (view : T → Tree F C K) where
-  -- what is answered in boxes stands for what the numbers stood for, or memory was wanted
-  pub moved-parses : (b c : Buffer S) (answer : Result X Error) (r : Result T Error) → Parses model sure (by ns) f b answer c →
-      MatchResult answer (λ x. MatchResult r (λ t. view t ≡ by ns x) (λ e. e ≡ no_memory (last_position c))) (λ e. r ≡ Err e) → Parses model sure view f b r c
-  moved-parses b c (Ok x) (Ok t) h m = subst (λ v. Heard model sure f v b c) (sym m) h
-  moved-parses b c (Ok x) (Err e) h m = subst (λ v. Unheard model sure f b v c) (sym m) (unheard_memory (record { spends = spent h.on.leads; kind = refl }))
-  moved-parses b c (Err e) r h m = subst (λ v. Parses model sure view f b v c) (sym m) h
+module _ {S F C K X T : Type 0} {fg : Ghosts F} {cg : Ghosts C} {kg : Ghosts K} (model : Model S) (sure : Bool) (f : Reader (Tree F C K)) (ns : Nodes F C K fg cg kg) (by : Nodes F C K fg cg kg → X → Tree F C K) (bare_by : X → Tree F C K) (view : T → Tree F C K) where
+  -- what is answered in boxes stands for what the numbers stood for, without the marks of commas, or memory was wanted
+  pub moved-parses : (b c : Buffer S) (answer : Result X Error) (r : Result T Error) → Parses model sure (by ns) f b answer c → ((x : X) → unmarked (by ns x) ≡ bare_by x) →
+      MatchResult answer (λ x. MatchResult r (λ t. view t ≡ bare_by x) (λ e. e ≡ no_memory (last_position c))) (λ e. r ≡ Err e) → Parses model sure view (bare f) b r c
+  moved-parses b c (Ok x) (Ok t) h same m =
+      subst (λ v. Heard model sure (bare f) v b c) (same x ∙ sym m) (heard_call (λ k p. Some (unmarked p.0, p.1)) (λ k ts. refl) (λ k ts. refl) h)
+  moved-parses b c (Ok x) (Err e) h same m = subst (λ v. Unheard model sure (bare f) b v c) (sym m) (unheard_memory (record { spends = spent h.on.leads; kind = refl }))
+  moved-parses b c (Err e) r h same m =
+      subst (λ v. Parses model sure view (bare f) b v c) (sym m) (unheard_call (λ k p. Some (unmarked p.0, p.1)) (λ k ts. refl) h)

@@ -1,5 +1,5 @@
 -- From what the productions ensure to what callers are promised: the clean readers are the grammar's, both ways.
-use Rattle.std.proofs.Common.{◌≡◌, ◌≢◌, ◌<◌, Bool, true, List, [], ◌∷◌, ◌++◌, Some, Result, Ok, Err, IfOk, length, refl, sym, ap, subst, ◌∙◌, ⊎_elim, arith, length-append}
+use Rattle.std.proofs.Common.{◌≡◌, ◌≢◌, ◌<◌, Bool, true, List, [], ◌∷◌, ◌++◌, Some, None, Result, Ok, Err, IfOk, length, refl, sym, ap, subst, ◌∙◌, ⊎_elim, arith, length-append}
 use Rattle.std.proofs.lemmas.Bool.{cases_lt}
 use Rattle.std.proofs.lemmas.List.{append-nil}
 use Rattle.swc_context.specs.declared.context.Context.{Context}
@@ -18,14 +18,16 @@ use Rattle.swc_ast.specs.Tree.{Tree}
 use Rattle.swc_bodies.specs.Readings.{Hook, LawfulHook}
 use Rattle.swc_grammar.specs.Symbols.{Symbol, Expr, Assign, Level, Unary, Key, Prop, Literal}
 use Rattle.swc_grammar.specs.Reads as grammar
-use Rattle.swc_grammar.specs.Clean.{sym as at, Stop, run}
-use Rattle.swc_grammar.specs.Trees.{is_grouped, is_valid}
+use Rattle.swc_grammar.specs.Clean.{Out, sym as at, Stop, run}
+use Rattle.swc_grammar.specs.Trees.{is_grouped, is_valid, unmarked}
+use Rattle.swc_grammar.specs.Words.{◌>>=◌}
 use Rattle.swc_grammar.proofs.Sound as clean
 use Rattle.swc_grammar.proofs.Complete as clean_all
 use Rattle.swc_grammar.proofs.Complete.{stops-bound}
 use Rattle.swc_grammar.proofs.Cut.{cut-append}
 use Rattle.swc_grammar.proofs.Good.{grouped, valid}
 use Rattle.swc_grammar.proofs.Literals.{literal-read}
+use Rattle.swc_grammar.proofs.Marks.{same-grouped, same-valid}
 use Rattle.swc_productions.specs.Parsing.{recorded, Loud, Consumes, Heard, Parses, TookLiteral}
 use Rattle.swc_ecma_parser.specs.Promise.{Derivation, Anywhere, EndsAt, Unmarred, Derives, Sound, Complete, OneTree}
 use Rattle.swc_ecma_parser.specs.Promise.{Grouped, Valid, PromisedLit}
@@ -37,11 +39,11 @@ pub record IsSound {A : Type 0} (derives : Derivation A) (f : Reader A) : Type 0
   pub cut : (c : Context) (own ys : List TokenAndSpan) (t : A) → derives c (own ++ ys) ys t → derives c own [] t
 
 -- what a reading of a symbol does and answers, from one state of the buffer to another
-pub record Meets {S F C K T : Type 0} (model : Model S) (sure : Bool) (hook : Hook F C K) (view : T → Tree F C K) (s : Symbol) (b : Buffer S) (r : Result T Error) (c : Buffer S) : Type 0 where
+pub record Meets {S F C K T : Type 0} (model : Model S) (sure : Bool) (derives : Derivation (Tree F C K)) (view : T → Tree F C K) (s : Symbol) (b : Buffer S) (r : Result T Error) (c : Buffer S) : Type 0 where
   pub reads : Consumes model b r c
-  pub sound : Sound model (grammar.Reads hook s) view b r c
-  pub complete : sure ≡ true → Complete model (grammar.Reads hook s) view (EndsAt s) b r c
-  pub one_tree : sure ≡ true → EndsAt s [] → OneTree model (grammar.Reads hook s) view b r c
+  pub sound : Sound model derives view b r c
+  pub complete : sure ≡ true → Complete model derives view (EndsAt s) b r c
+  pub one_tree : sure ≡ true → EndsAt s [] → OneTree model derives view b r c
   pub grouped : Grouped model view b r c
   pub valid : Valid model view b r c
 
@@ -49,15 +51,57 @@ pub record Meets {S F C K T : Type 0} (model : Model S) (sure : Bool) (hook : Ho
 pub record IsComplete {A : Type 0} (derives : Derivation A) (stops : List TokenAndSpan → Type 0) (f : Reader A) : Type 0 where
   pub complete : (c : Context) (ts ys : List TokenAndSpan) (t : A) → derives c ts ys t → stops ys → f c ts ≡ Some (t, ys)
 
+parts : {A B : Type 0} (p q : A × B) → Some p ≡ Some q → (p.0 ≡ q.0) × (p.1 ≡ q.1)
+parts p q h = let e : p ≡ q = cc in (ap (λ v. v.0) e, ap (λ v. v.1) e)
+
+-- a reader without the marks of commas
+abbrev pub bare : {F C K : Type 0} → Reader (Tree F C K) → Reader (Tree F C K)
+bare f c ts = f c ts >>= (λ p. Some (unmarked p.0, p.1))
+
+bare_from : {F C K : Type 0} (o : Out (Tree F C K)) (t : Tree F C K) (ys : List TokenAndSpan)
+    → (o >>= (λ p. Some (unmarked p.0, p.1))) ≡ Some (t, ys)
+    → (m : Tree F C K) × (o ≡ Some (m, ys)) × (unmarked m ≡ t)
+bare_from None t ys h = absurd cc
+bare_from (Some p) t ys h = let q = parts (unmarked p.0, p.1) (t, ys) h in (p.0, ap (λ v. Some (p.0, v)) q.1, q.0)
+
 module _ {F C K : Type 0} {fun_at : F → Span} {class_at : C → Span} {block_at : K → Span} (hook : Hook F C K)
     (laws : LawfulHook fun_at class_at block_at hook) where
   is_sound : (s : Symbol) → IsSound (grammar.Reads hook s) (run hook (at s))
   is_sound s = record { sound = λ c ts ys t h. clean.sound hook laws s c ts (t, ys) h; cut = λ c own ys t d. cut-append own ys d }
 
+  is_sound_bare : (s : Symbol) → IsSound (grammar.ReadsUnmarked hook s) (bare (run hook (at s)))
+  is_sound_bare s = record {
+    sound = λ c ts ys t h. let (m, e, same) = bare_from (run hook (at s) c ts) t ys h in
+        record { marked = m; read = clean.sound hook laws s c ts (m, ys) e; same = same };
+    cut = λ c own ys t d. record { marked = d.marked; read = cut-append own ys d.read; same = d.same };
+  }
+
 module _ {F C K : Type 0} (hook : Hook F C K) where
   is_complete : (s : Symbol) → ((c : Context) (ys : List TokenAndSpan) → EndsAt s ys → Stop s c ys)
       → IsComplete (grammar.Reads hook s) (EndsAt s) (run hook (at s))
   is_complete s stop = record { complete = λ c ts ys t d e. clean_all.complete hook d (stop c ys e) }
+
+  is_complete_bare : (s : Symbol) → ((c : Context) (ys : List TokenAndSpan) → EndsAt s ys → Stop s c ys)
+      → IsComplete (grammar.ReadsUnmarked hook s) (EndsAt s) (bare (run hook (at s)))
+  is_complete_bare s stop = record {
+    complete = λ c ts ys t d e.
+        ap (λ o. o >>= (λ p. Some (unmarked p.0, p.1))) (clean_all.complete hook d.read (stop c ys e)) ∙ ap (λ v. Some (v, ys)) d.same;
+  }
+
+-- what holds of each tree that is derived
+record Well {F C K : Type 0} (derives : Derivation (Tree F C K)) : Type 0 where
+  pub grouped : (c : Context) (xs ys : List TokenAndSpan) (t : Tree F C K) → derives c xs ys t → is_grouped t ≡ true
+  pub valid : (c : Context) (xs ys : List TokenAndSpan) (t : Tree F C K) → derives c xs ys t → is_valid t ≡ true
+
+module _ {F C K : Type 0} (hook : Hook F C K) where
+  well : (s : Symbol) → Well (grammar.Reads hook s)
+  well s = record { grouped = λ c xs ys t d. grouped d; valid = λ c xs ys t d. valid d }
+
+  well_bare : (s : Symbol) → Well (grammar.ReadsUnmarked hook s)
+  well_bare s = record {
+    grouped = λ c xs ys t d. ap (λ v. is_grouped v) (sym d.same) ∙ same-grouped d.marked ∙ grouped d.read;
+    valid = λ c xs ys t d. ap (λ v. is_valid v) (sym d.same) ∙ same-valid d.marked ∙ valid d.read;
+  }
 
 no_more : {A : Type 0} (more : List A) → length more ≡ 0 → more ≡ []
 no_more [] h = refl
@@ -81,9 +125,6 @@ as_many {es} {fs} h none =
 memory : (k : SyntaxError) → (k ≢ OutOfMemory → ⊥) → k ≡ OutOfMemory
 memory OutOfMemory h = refl
 memory k h = absurd (h (λ e. cc))
-
-parts : {A B : Type 0} (p q : A × B) → Some p ≡ Some q → (p.0 ≡ q.0) × (p.1 ≡ q.1)
-parts p q h = let e : p ≡ q = cc in (ap (λ v. v.0) e, ap (λ v. v.1) e)
 
 module _ {S T A : Type 0} (model : Model S) (sure : Bool) (derives : Derivation A) (view : T → A) (f : Reader A) where
   derived : IsSound derives f → (t : A) (b c : Buffer S) → Heard model sure f t b c → Loud model b → Unmarred model b c → Derives model derives view t b c
@@ -122,41 +163,50 @@ module _ {S T A : Type 0} (model : Model S) (sure : Bool) (derives : Derivation 
   one_tree y stops stop is b (Ok x) c h = λ l ts t k d. λ same end. sym (answered y x b c ts [] t h l k (is.complete (context model b) ts [] t d stop)).0
   one_tree y stops stop is b (Err e) c h = λ l ts t k d. tt
 
+-- where the reading of a symbol may stop, the clean parser reads all that is derived
+record Stopping (s : Symbol) : Type 0 where
+  pub stop : (c : Context) (ys : List TokenAndSpan) → EndsAt s ys → Stop s c ys
+
+pub expr-stops : Stopping Expr
+expr-stops = record { stop = λ c ys e. stops-bound Expr c e }
+
+pub assign-stops : Stopping Assign
+assign-stops = record { stop = λ c ys e. stops-bound Assign c e }
+
+pub level-stops : Stopping (Level 1)
+level-stops = record { stop = λ c ys e. (omega arith, stops-bound (Level 1) c e) }
+
+pub unary-stops : Stopping Unary
+unary-stops = record { stop = λ c ys e. tt }
+
+pub key-stops : Stopping Key
+key-stops = record { stop = λ c ys e. tt }
+
+pub prop-stops : Stopping Prop
+prop-stops = record { stop = λ c ys e. e }
+
 module _ {S F C K T : Type 0} (model : Model S) (sure : Bool) (hook : Hook F C K)
     {fun_at : F → Span} {class_at : C → Span} {block_at : K → Span} (laws : LawfulHook fun_at class_at block_at hook) (view : T → Tree F C K) where
-  meets : (s : Symbol) (f : Reader (Tree F C K)) → IsSound (grammar.Reads hook s) f → IsComplete (grammar.Reads hook s) (EndsAt s) f →
-      (b : Buffer S) (r : Result T Error) (c : Buffer S) → Parses model sure view f b r c → Meets model sure hook view s b r c
-  meets s f is_sound is_complete b r c h = record {
+  meets : (s : Symbol) (derives : Derivation (Tree F C K)) (f : Reader (Tree F C K)) → IsSound derives f → IsComplete derives (EndsAt s) f → Well derives →
+      (b : Buffer S) (r : Result T Error) (c : Buffer S) → Parses model sure view f b r c → Meets model sure derives view s b r c
+  meets s derives f is_sound is_complete all b r c h = record {
     reads = consumes_of model sure view f b c r h;
-    sound = sound model sure (grammar.Reads hook s) view f is_sound b r c h;
-    complete = λ y. complete model sure (grammar.Reads hook s) view f y (EndsAt s) is_complete b r c h;
-    one_tree = λ y stop. one_tree model sure (grammar.Reads hook s) view f y (EndsAt s) stop is_complete b r c h;
-    grouped = holds model sure (grammar.Reads hook s) view f is_sound (λ t. is_grouped t ≡ true) (λ x xs ys t d. grouped d) b r c h;
-    valid = holds model sure (grammar.Reads hook s) view f is_sound (λ t. is_valid t ≡ true) (λ x xs ys t d. valid d) b r c h;
+    sound = sound model sure derives view f is_sound b r c h;
+    complete = λ y. complete model sure derives view f y (EndsAt s) is_complete b r c h;
+    one_tree = λ y stop. one_tree model sure derives view f y (EndsAt s) stop is_complete b r c h;
+    grouped = holds model sure derives view f is_sound (λ t. is_grouped t ≡ true) all.grouped b r c h;
+    valid = holds model sure derives view f is_sound (λ t. is_valid t ≡ true) all.valid b r c h;
   }
 
-  meets_at : (s : Symbol) → ((c : Context) (ys : List TokenAndSpan) → EndsAt s ys → Stop s c ys) → (b : Buffer S) (r : Result T Error) (c : Buffer S)
-      → Parses model sure view (run hook (at s)) b r c → Meets model sure hook view s b r c
-  meets_at s stop = meets s (run hook (at s)) (is_sound hook laws s) (is_complete hook s stop)
+  -- of a node, and of a tree in boxes
+  pub meets-by-number : {s : Symbol} → Stopping s → (b : Buffer S) (r : Result T Error) (c : Buffer S)
+      → Parses model sure view (run hook (at s)) b r c → Meets model sure (grammar.Reads hook s) view s b r c
+  meets-by-number {s} stops = meets s (grammar.Reads hook s) (run hook (at s)) (is_sound hook laws s) (is_complete hook s stops.stop) (well hook s)
 
-  pub expr-meets : (b : Buffer S) (r : Result T Error) (c : Buffer S) → Parses model sure view (run hook (at Expr)) b r c → Meets model sure hook view Expr b r c
-  expr-meets = meets_at Expr (λ c ys e. stops-bound Expr c e)
-
-  pub assign-meets : (b : Buffer S) (r : Result T Error) (c : Buffer S) → Parses model sure view (run hook (at Assign)) b r c → Meets model sure hook view Assign b r c
-  assign-meets = meets_at Assign (λ c ys e. stops-bound Assign c e)
-
-  pub level-meets : (b : Buffer S) (r : Result T Error) (c : Buffer S) → Parses model sure view (run hook (at (Level 1))) b r c
-      → Meets model sure hook view (Level 1) b r c
-  level-meets = meets_at (Level 1) (λ c ys e. (omega arith, stops-bound (Level 1) c e))
-
-  pub unary-meets : (b : Buffer S) (r : Result T Error) (c : Buffer S) → Parses model sure view (run hook (at Unary)) b r c → Meets model sure hook view Unary b r c
-  unary-meets = meets_at Unary (λ c ys e. tt)
-
-  pub key-meets : (b : Buffer S) (r : Result T Error) (c : Buffer S) → Parses model sure view (run hook (at Key)) b r c → Meets model sure hook view Key b r c
-  key-meets = meets_at Key (λ c ys e. tt)
-
-  pub prop-meets : (b : Buffer S) (r : Result T Error) (c : Buffer S) → Parses model sure view (run hook (at Prop)) b r c → Meets model sure hook view Prop b r c
-  prop-meets = meets_at Prop (λ c ys e. e)
+  pub meets-in-boxes : {s : Symbol} → Stopping s → (b : Buffer S) (r : Result T Error) (c : Buffer S)
+      → Parses model sure view (bare (run hook (at s))) b r c → Meets model sure (grammar.ReadsUnmarked hook s) view s b r c
+  meets-in-boxes {s} stops =
+      meets s (grammar.ReadsUnmarked hook s) (bare (run hook (at s))) (is_sound_bare hook laws s) (is_complete_bare hook s stops.stop) (well_bare hook s)
 
 -- a call on a literal
 module _ {S F C K : Type 0} (model : Model S) (hook : Hook F C K) where

@@ -1,5 +1,5 @@
 -- What the calls of a parser do.
-use Rattle.std.specs.Prelude.{◌≡◌, ℕ, List, map, Bool, true, false, None, IsSome, Result, Ok, Err, IfOk, MatchResult}
+use Rattle.std.specs.Prelude.{◌≡◌, ℕ, List, map, Bool, true, false, None, IsSome, Option, Result, Ok, Err, IfOk, OnOk, MatchResult}
 use Rattle.std.specs.declared.alloc.Global.{Global}
 use Rattle.std.specs.declared.boxed.Box.{Box}
 use Rattle.swc_context.specs.declared.error.Error.{Error}
@@ -14,8 +14,10 @@ use Rattle.swc_ast.specs.TreeOf.{boxed_tree, prop_or_spread_tree}
 use Rattle.swc_ast.specs.declared.expr.Expr.{Expr}
 use Rattle.swc_ast.specs.declared.prop.PropOrSpread.{PropOrSpread}
 use Rattle.swc_ast.specs.declared.spanned.Spanned.{Ghosts}
+use Rattle.swc_nodes.specs.Commas.{Remembers}
+use Rattle.swc_nodes.specs.declared.commas.TrailingCommas.{TrailingCommas}
 use Rattle.swc_nodes.specs.declared.nodes.Nodes.{Nodes}
-use Rattle.swc_nodes.specs.Stands.{tree_at}
+use Rattle.swc_nodes.specs.Stands.{bare_at}
 use Rattle.swc_productions.specs.Parsing.{is_memory, Looks}
 use Rattle.swc_ecma_parser.specs.declared.parser.Parser.{Parser}
 
@@ -32,6 +34,10 @@ nodes_of p = p.productions.nodes
 
 abbrev pub with_nodes : {S H F C K : Type 0} {fg : Ghosts F} {cg : Ghosts C} {kg : Ghosts K} → Nodes F C K fg cg kg → Parser S H F C K fg cg kg → Parser S H F C K fg cg kg
 with_nodes ns p = record p { productions = record p.productions { nodes = ns } }
+
+-- where commas stand behind the last parts of literals, as far as it is remembered
+abbrev pub commas_of : {S H F C K : Type 0} {fg : Ghosts F} {cg : Ghosts C} {kg : Ghosts K} → Parser S H F C K fg cg kg → TrailingCommas
+commas_of p = p.productions.commas
 
 -- the tree that a boxed expression stands for, where the hook's values lie at the places given
 abbrev pub tree_by : {F C K : Type 0} → (F → Span) → (C → Span) → (K → Span) → Box (Expr F C K) Global → Tree F C K
@@ -61,10 +67,10 @@ module _ {S H F C K T : Type 0} {fg : Ghosts F} {cg : Ghosts C} {kg : Ghosts K} 
     pub fails : has_failed p ≡ false → has_failed q ≡ wants_memory r
 
 module _ {S H F C K X T : Type 0} {fg : Ghosts F} {cg : Ghosts C} {kg : Ghosts K} where
-  -- the answer in boxes: what the numbers stand for among the nodes, or memory was wanted
+  -- the answer in boxes: what the numbers stand for among the nodes, without the marks of commas, or memory was wanted
   abbrev pub MovesOut : ((ℕ → Tree F C K) → X → Tree F C K) → (T → Tree F C K) → Parser S H F C K fg cg kg → Result X Error → Result T Error → Type 0
   MovesOut by view p answer r = MatchResult answer
-      (λ x. MatchResult r (λ t. view t ≡ by (tree_at (nodes_of p)) x) (λ e. e ≡ no_memory (last_position (buffer_of p))))
+      (λ x. MatchResult r (λ t. view t ≡ by (bare_at (nodes_of p)) x) (λ e. e ≡ no_memory (last_position (buffer_of p))))
       (λ e. r ≡ Err e)
 
 module _ {S : Type 0} (model : Model S) where
@@ -85,3 +91,9 @@ module _ {S F C K : Type 0} (fun_at : F → Span) (class_at : C → Span) (block
   MakesObject span props b r c = (c ≡ b) × MatchResult r
       (λ e. tree_by fun_at class_at block_at e ≡ node object span (trees (map (prop_or_spread_tree F C K fun_at class_at block_at) props)))
       (λ e. e ≡ no_memory (last_position b))
+
+module _ {S H F C K : Type 0} {fg : Ghosts F} {cg : Ghosts C} {kg : Ghosts K} where
+  -- What a call does that makes an object literal of properties; on Ok the comma behind the last is remembered at the literal's start.
+  pub record Makes (span : Span) (props : List (PropOrSpread F C K)) (comma : Option Span) (p : Parser S H F C K fg cg kg) (r : Result (Box (Expr F C K) Global) Error) (q : Parser S H F C K fg cg kg) : Type 0 where
+    pub called : Called (MakesObject fg.place cg.place kg.place span props) p r q
+    pub remembers : OnOk r (Remembers span.lo.0 comma (commas_of p) (commas_of q))

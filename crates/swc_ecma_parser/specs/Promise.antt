@@ -22,7 +22,7 @@ use Rattle.swc_ast.specs.declared.spanned.Spanned.{Ghosts}
 use Rattle.swc_bodies.specs.Readings.{Hook}
 use Rattle.swc_grammar.specs.Clean.{first}
 use Rattle.swc_grammar.specs.Symbols.{Symbol, Key, Prop, Literal}
-use Rattle.swc_grammar.specs.Reads.{Reads, Stops}
+use Rattle.swc_grammar.specs.Reads.{Reads, ReadsUnmarked, Stops}
 use Rattle.swc_grammar.specs.Names.{Spelling, NameKind, Reference, ReadsName}
 use Rattle.swc_grammar.specs.Tokens.{ends_prop, may_be_reference}
 use Rattle.swc_grammar.specs.Trees.{is_grouped, is_valid}
@@ -93,15 +93,18 @@ module _ {S F C K T : Type 0} (model : Model S) (view : T → Tree F C K) where
   abbrev pub Valid : Buffer S → Result T Error → Buffer S → Type 0
   Valid b r c = Loud model b → IfOk r (λ x. Unmarred model b c → is_valid (view x) ≡ true)
 
--- How a call answers trees: which tree an answer stands for, by the nodes that the parser then has, and what becomes of the nodes.
+-- How a call answers trees: which tree an answer stands for, by the nodes that the parser then has; what derives such trees; and what
+-- becomes of the nodes.
 pub record Answer (T F C K : Type 0) (fg : Ghosts F) (cg : Ghosts C) (kg : Ghosts K) : Type 1 where
   pub tree : Nodes F C K fg cg kg → T → Tree F C K
+  pub derives : Hook F C K → Symbol → Derivation (Tree F C K)
   pub leaves : Nodes F C K fg cg kg → Result T Error → Nodes F C K fg cg kg → Type 0
 
--- in boxes: the nodes are what they were
+-- in boxes, which have no marks of commas: the nodes are what they were
 abbrev pub in_boxes : {F C K : Type 0} {fg : Ghosts F} {cg : Ghosts C} {kg : Ghosts K} → Answer (Box (Expr F C K) Global) F C K fg cg kg
 in_boxes {fg = fg} {cg = cg} {kg = kg} = record {
   tree = λ ns e. tree_by fg.place cg.place kg.place e;
+  derives = λ hook s. ReadsUnmarked hook s;
   leaves = λ ns r ms. SameNodes ns ms;
 }
 
@@ -109,19 +112,22 @@ in_boxes {fg = fg} {cg = cg} {kg = kg} = record {
 abbrev pub key_in_boxes : {F C K : Type 0} {fg : Ghosts F} {cg : Ghosts C} {kg : Ghosts K} → Answer (PropName (Box (Expr F C K) Global)) F C K fg cg kg
 key_in_boxes {fg = fg} {cg = cg} {kg = kg} = record {
   tree = λ ns k. prop_name_tree (tree_by fg.place cg.place kg.place) k;
+  derives = λ hook s. ReadsUnmarked hook s;
   leaves = λ ns r ms. SameNodes ns ms;
 }
 
 abbrev pub prop_in_boxes : {F C K : Type 0} {fg : Ghosts F} {cg : Ghosts C} {kg : Ghosts K} → Answer (PropOrSpread F C K) F C K fg cg kg
 prop_in_boxes {F} {C} {K} {fg = fg} {cg = cg} {kg = kg} = record {
   tree = λ ns x. prop_or_spread_tree F C K fg.place cg.place kg.place x;
+  derives = λ hook s. ReadsUnmarked hook s;
   leaves = λ ns r ms. SameNodes ns ms;
 }
 
--- by the number of a new node: nodes were appended alone, or after a refusal none
+-- by the number of a new node, which has the marks: nodes were appended alone, or after a refusal none
 abbrev pub by_number : {F C K : Type 0} {fg : Ghosts F} {cg : Ghosts C} {kg : Ghosts K} → Answer ExprId F C K fg cg kg
 by_number = record {
   tree = λ ns id. tree_of ns id;
+  derives = λ hook s. Reads hook s;
   leaves = λ ns r ms. MatchResult r (λ id. Grows ns ms × From (count ns) ms (expr_part id)) (λ e. SameNodes ns ms);
 }
 
@@ -133,9 +139,9 @@ pub record Promised {S H T F C K : Type 0} {fg : Ghosts F} {cg : Ghosts C} {kg :
   -- recorded fault was taken out, and no want of memory recorded.
   pub reads : has_failed p ≡ false → Consumes model (buffer_of p) r (buffer_of q)
   -- What is answered is what the grammar derives; and where the hook is faithful, what it derives is answered.
-  pub sound : has_failed p ≡ false → Sound model (Reads hook s) (answer.tree (nodes_of q)) (buffer_of p) r (buffer_of q)
-  pub complete : has_failed p ≡ false → sure ≡ true → Complete model (Reads hook s) (answer.tree (nodes_of q)) (EndsAt s) (buffer_of p) r (buffer_of q)
-  pub one_tree : has_failed p ≡ false → sure ≡ true → EndsAt s [] → OneTree model (Reads hook s) (answer.tree (nodes_of q)) (buffer_of p) r (buffer_of q)
+  pub sound : has_failed p ≡ false → Sound model (answer.derives hook s) (answer.tree (nodes_of q)) (buffer_of p) r (buffer_of q)
+  pub complete : has_failed p ≡ false → sure ≡ true → Complete model (answer.derives hook s) (answer.tree (nodes_of q)) (EndsAt s) (buffer_of p) r (buffer_of q)
+  pub one_tree : has_failed p ≡ false → sure ≡ true → EndsAt s [] → OneTree model (answer.derives hook s) (answer.tree (nodes_of q)) (buffer_of p) r (buffer_of q)
   pub grouped : has_failed p ≡ false → Grouped model (answer.tree (nodes_of q)) (buffer_of p) r (buffer_of q)
   pub valid : has_failed p ≡ false → Valid model (answer.tree (nodes_of q)) (buffer_of p) r (buffer_of q)
   -- what becomes of the nodes

@@ -1,10 +1,11 @@
 // The parser that is called from outside.
-ghost use Rattle.std.specs.Prelude.{◌≡◌, ◌||◌, true, false, [], IfErr, IfOk, OnOk, MatchResult};
+ghost use Rattle.std.specs.Prelude.{◌≡◌, ◌||◌, ℕ, true, false, [], None, IfErr, IfOk, OnOk, MatchResult};
 ghost use Rattle.swc_input.specs.Buffer.{last_position, previous, source, state_of, with_source, fresh};
+ghost use Rattle.swc_nodes.specs.Commas.{comma_at};
 ghost use Rattle.swc_nodes.specs.Slots.{expr_part};
 ghost use Rattle.swc_nodes.specs.Stands.{count, Apart, From, CutTo};
 ghost use Rattle.swc_grammar.specs.Symbols.{Expr, Assign, Level, Unary};
-ghost use Rattle.swc_ecma_parser.specs.Calls.{buffer_of, nodes_of, with_buffer, with_nodes, has_failed, wants_memory};
+ghost use Rattle.swc_ecma_parser.specs.Calls.{buffer_of, nodes_of, commas_of, with_buffer, with_nodes, has_failed, wants_memory};
 ghost use Rattle.swc_ecma_parser.specs.Calls.{parser_failed, Called, SeesEnd, MovesOut};
 ghost use Rattle.swc_ecma_parser.specs.Promise.{Promised, PromisedLit, in_boxes, by_number};
 
@@ -14,8 +15,10 @@ use swc_ast::lit::Lit;
 use swc_ast::pat::Pat;
 use swc_bodies::bodies::{Bodies, BodyForms, ExprOf};
 use swc_context::error::{Error, PResult, SyntaxError};
+use swc_context::span::{BytePos, Span};
 use swc_input::buffer::Buffer;
 use swc_input::tokens::Tokens;
+use swc_nodes::commas::TrailingCommas;
 use swc_nodes::node::ExprId;
 use swc_nodes::nodes::{Nodes, NodesOf};
 use swc_productions::moves::is_out_of_memory;
@@ -54,6 +57,7 @@ impl<I: Tokens, B: Bodies<I>> Parser<I, B> {
         ensures fresh { buffer_of result ≡ fresh input (last_position (buffer_of result)) }
         ensures runs { has_failed result ≡ false }
         ensures nodes { count (nodes_of result) ≡ 0 }
+        ensures commas { (start : ℕ) → comma_at (commas_of result) start ≡ None }
     {
         Parser {
             productions: Productions {
@@ -61,6 +65,7 @@ impl<I: Tokens, B: Bodies<I>> Parser<I, B> {
                 input: Buffer::new(input),
                 bodies,
                 nodes: Nodes::new(alloc),
+                commas: TrailingCommas::new(alloc),
             },
             failed: false,
         }
@@ -113,6 +118,7 @@ impl<I: Tokens, B: Bodies<I>> Parser<I, B> {
             input: _,
             nodes,
             bodies: _,
+            commas: _,
         } = productions;
         nodes
     }
@@ -123,6 +129,16 @@ impl<I: Tokens, B: Bodies<I>> Parser<I, B> {
         ensures rest { self.new ≡ with_nodes (nodes_of self.new) self.old }
     {
         self.productions.nodes.cut(0);
+    }
+
+    /// The place of a comma behind the last element of an array literal, or the last property of an object literal, that
+    /// begins at `start`, a position in bytes: of the one that was read there last, or was made by `make_object`.
+    ///
+    /// A tree in boxes has no place for it. Among nodes it stands in the literal's own.
+    pub fn trailing_comma(&self, start: BytePos) -> Option<Span>
+        ensures { result ≡ comma_at (commas_of self.now) start.0 }
+    {
+        self.productions.commas.get(start)
     }
 
     /// An expression, as `parse_expr` reads it: its number among the nodes, which keeps its tree until they are let go.

@@ -1,7 +1,7 @@
 // What calls move out of the nodes.
 ghost use Rattle.std.specs.Prelude.{◌≡◌, IfOk};
 ghost use Rattle.swc_nodes.specs.Seats.{floor};
-ghost use Rattle.swc_nodes.specs.Stands.{count, seat_at, tree_at, Apart, Left};
+ghost use Rattle.swc_nodes.specs.Stands.{count, seat_at, bare_at, Apart, Left};
 
 use std::alloc::{AllocError, Global};
 use swc_ast::expr::Expr;
@@ -30,7 +30,7 @@ pub(crate) trait Take<F: Spanned + Drop, C: Spanned + Drop, K: Spanned + Drop> {
     fn take(self, nodes: &mut Nodes<F, C, K>, alloc: Global) -> Result<Self::Whole, AllocError>
         requires { Apart 0 nodes.old (parts self) }
         ensures left { Left (floor (seat_at nodes.old) (count nodes.old) (parts self)) nodes.old nodes.new }
-        ensures moved { IfOk result (λ y. tree y ≡ by (tree_at nodes.old) self) };
+        ensures moved { IfOk result (λ y. tree y ≡ by (bare_at nodes.old) self) };
 }
 
 impl<F: Spanned + Drop, C: Spanned + Drop, K: Spanned + Drop> Take<F, C, K> for ExprId {

@@ -70,7 +70,7 @@ module _ {F C K : Type 0} where
     unmarked-args None = refl
     unmarked-args (Some xs) = ap (node args no_span) (unmarked-items xs.items)
 
-    unmarked-key : (k : PropName X) → unmarked (prop_name_tree f k) ≡ prop_name_tree g k
+    pub unmarked-key : (k : PropName X) → unmarked (prop_name_tree f k) ≡ prop_name_tree g k
     unmarked-key (prop_name.Computed c) = ap (λ v. node computed c.span (cons v nil)) (same c.expr)
     unmarked-key k = refl
 

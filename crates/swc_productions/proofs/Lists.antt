@@ -1,5 +1,5 @@
 -- The clean parser's steps in lists, as the code goes them.
-use Rattle.std.specs.Prelude.{◌≡◌, Bool, true, false, List, [], ◌∷◌, Some, None}
+use Rattle.std.specs.Prelude.{◌≡◌, Bool, true, false, List, [], ◌∷◌, Option, Some, None}
 use Rattle.std.proofs.Common.{refl, sym, ap, ◌∙◌}
 use Rattle.swc_context.specs.declared.context.Context.{Context}
 use Rattle.swc_context.specs.declared.span.Span.{Span}
@@ -11,20 +11,19 @@ use Rattle.swc_ast.specs.Tree.{Tree, Trees, nil, cons, span_of}
 use Rattle.swc_bodies.specs.Readings.{Hook}
 use Rattle.swc_grammar.specs.Symbols.{Assign, Primary, Elements, ElementsTail, Item}
 use Rattle.swc_grammar.specs.Tokens.{tk, with_in, is_comma, is_dots, is_lbracket, is_rbracket}
-use Rattle.swc_grammar.specs.Trees.{to, array_e, listed, items_of}
+use Rattle.swc_grammar.specs.Trees.{to, array_e, listed, items_of, comma_of, put_first}
 use Rattle.swc_grammar.specs.Grammar.{array-lit}
 use Rattle.swc_grammar.specs.Clean.{Out, and_then, first, sym as at, exec, pick, primary, step, run}
 use Rattle.swc_grammar.specs.Words.{◌>>=◌}
-use Rattle.swc_grammar.proofs.Complete.{last}
 use Rattle.swc_grammar.proofs.Knot.{knot}
 use Rattle.swc_grammar.proofs.Only.{only-lbracket, only-rbracket}
 use Rattle.swc_grammar.proofs.Rules.{run_picked}
 use Rattle.swc_productions.specs.Readers.{reading, by_production}
-use Rattle.swc_productions.specs.Lists.{eaten, closed, separated, separated_by, put_before, elements_inside, array_lit_tail}
-use Rattle.swc_productions.specs.Lists.{element, element_by, element_item, elements_behind, elements_more, behind_by}
+use Rattle.swc_productions.specs.Lists.{eaten, closed, separated, separated_by, behind, put_before, elements_inside}
+use Rattle.swc_productions.specs.Lists.{array_lit_tail, element, element_by, element_item, elements_behind, elements_more, behind_by}
 use Rattle.swc_ast.specs.Parts.{item_of}
 use Rattle.swc_nodes.specs.Lists.{trees_append}
-use Rattle.swc_nodes.proofs.Lists.{trees_append-assoc}
+use Rattle.swc_nodes.proofs.Lists.{trees_append-assoc, trees_append-nil}
 
 pub eaten_not : (f : Token → Bool) (x : Context) (ts : List TokenAndSpan) → at_token f (first ts) ≡ false
     → eaten f x ts ≡ Some (None, ts)
@@ -67,6 +66,21 @@ pub bind_same : {A B : Type 0} (o : Out A) (f k : A × List TokenAndSpan → Out
 bind_same None f k h = refl
 bind_same (Some p) f k h = h p
 
+module _ {F C K : Type 0} where
+  -- items before items; no comma counts that an item follows
+  pub twice : (before : Trees F C K) (comma : Option Span) (e es : Tree F C K)
+      → put_before before (behind comma (put_first e es)) ≡ put_before (trees_append before (cons e nil)) es
+  twice before None e es =
+      ap (λ v. listed (comma_of es) (span_of es) v) (sym (trees_append-assoc before (cons e nil) (items_of es)))
+  twice before (Some s) e es =
+      ap (λ v. listed (comma_of es) (span_of es) v) (sym (trees_append-assoc before (cons e nil) (items_of es)))
+
+  -- where none follows, the comma behind the last is that of the list
+  pub ended : (before : Trees F C K) (comma : Option Span) (s : Span)
+      → put_before before (behind comma (listed None s nil)) ≡ listed comma s before
+  ended before None s = ap (λ v. listed None s v) (trees_append-nil before)
+  ended before (Some c) s = ap (λ v. listed (Some c) s v) (trees_append-nil before)
+
 module _ {F C K : Type 0} (hook : Hook F C K) where
   -- ---- array literals (13.2.4)
 
@@ -86,7 +100,7 @@ module _ {F C K : Type 0} (hook : Hook F C K) where
 
   pub array_lit_splits : (s : Span) (x : Context) (ts : List TokenAndSpan)
       → array_lit_tail hook s x ts
-      ≡ (elements_inside hook x ts >>= (λ p. Some (array_e (to s (span_of p.0)) (items_of p.0), p.1)))
+      ≡ (elements_inside hook x ts >>= (λ p. Some (array_e (comma_of p.0) (to s (span_of p.0)) (items_of p.0), p.1)))
   unfolding array_lit_tail
   array_lit_splits s x ts = refl
 
@@ -97,51 +111,57 @@ module _ {F C K : Type 0} (hook : Hook F C K) where
 
   -- the bracket closes the list
   pub elements_close : (x : Context) (t : TokenAndSpan) (ts : List TokenAndSpan) → is_rbracket t.token ≡ true
-      → run hook (at Elements) x (t ∷ ts) ≡ Some (listed t.span nil, ts)
+      → run hook (at Elements) x (t ∷ ts) ≡ Some (listed None t.span nil, ts)
   elements_close x t ts h =
       knot hook (at Elements) x (t ∷ ts)
       ∙ only-rbracket (λ v. exec hook (run hook) (Some 16)
       (step (at Elements) x (tk v t.had_line_break t.span ∷ ts)) (tk v t.had_line_break t.span ∷ ts)
-      ≡ Some (listed t.span nil, ts)) refl t.token h
+      ≡ Some (listed None t.span nil, ts)) refl t.token h
 
-  -- behind an item
+  -- behind an item: what is left behind the comma that stands there, or where none does
+  abbrev tail_left : Context → Option Span × List TokenAndSpan → Out (Tree F C K)
+  tail_left x q = run hook (at Elements) x q.1 >>= (λ p. Some (behind q.0 p.0, p.1))
+
   tail_token : (x : Context) (v : Token) (b : Bool) (s : Span) (us : List TokenAndSpan)
       → run hook (at ElementsTail) x (tk v b s ∷ us)
-      ≡ (separated is_rbracket x (tk v b s ∷ us) >>= (λ q. run hook (at Elements) x q.1))
+      ≡ (separated is_rbracket x (tk v b s ∷ us) >>= tail_left x)
   unfolding separated closed eaten
   tail_token x token.Comma b s us =
-      knot hook (at ElementsTail) x (tk token.Comma b s ∷ us) ∙ last hook None (at Elements) x us refl
+      knot hook (at ElementsTail) x (tk token.Comma b s ∷ us) ∙ calls (run hook (at Elements) x us) _
   tail_token x token.RBracket b s us =
       knot hook (at ElementsTail) x (tk token.RBracket b s ∷ us)
-      ∙ sym (elements_close x (tk token.RBracket b s) us refl)
+      ∙ ap (λ o. o >>= (λ p. Some (behind None p.0, p.1))) (sym (elements_close x (tk token.RBracket b s) us refl))
   tail_token x v b s us = knot hook (at ElementsTail) x (tk v b s ∷ us)
 
   tail_is : (x : Context) (us : List TokenAndSpan)
-      → run hook (at ElementsTail) x us ≡ (separated is_rbracket x us >>= (λ q. run hook (at Elements) x q.1))
+      → run hook (at ElementsTail) x us ≡ (separated is_rbracket x us >>= tail_left x)
   unfolding separated closed eaten
   tail_is x [] = knot hook (at ElementsTail) x []
   tail_is x (t ∷ us) = tail_token x t.token t.had_line_break t.span us
 
+  -- behind an element and the comma that stands there, or none: the list from that element on
+  abbrev list_from : Context → (Tree F C K × Option Span) × List TokenAndSpan → Out (Tree F C K)
+  list_from x p = run hook (at Elements) x p.1 >>= (λ q. Some (put_first p.0.0 (behind p.0.1 q.0), q.1))
+
   -- an item, and what stands behind it
   item_more : (x : Context) (ts : List TokenAndSpan)
       → and_then (run hook (at Item) x ts) (λ e us. and_then (run hook (at ElementsTail) x us)
-      (λ es vs. Some (put_before (cons e nil) es, vs)))
-      ≡ (element_item hook x ts >>=
-      (λ p. run hook (at Elements) x p.1 >>= (λ q. Some (put_before (cons p.0 nil) q.0, q.1))))
+      (λ es vs. Some (put_first e es, vs)))
+      ≡ (element_item hook x ts >>= list_from x)
   unfolding element_item
   item_more x ts =
       calls (run hook (at Item) x ts) _
       ∙ bind_same (run hook (at Item) x ts) _ _ (λ p.
       calls (run hook (at ElementsTail) x p.1) _
-      ∙ ap (λ o. o >>= (λ q. Some (put_before (cons p.0 nil) q.0, q.1))) (tail_is x p.1)
-      ∙ sym (binds (separated is_rbracket x p.1) (λ q. run hook (at Elements) x q.1) _)
-      ∙ binds (separated is_rbracket x p.1) (λ q. Some (p.0, q.1)) _)
+      ∙ ap (λ o. o >>= (λ q. Some (put_first p.0 q.0, q.1))) (tail_is x p.1)
+      ∙ sym (binds (separated is_rbracket x p.1) (tail_left x) _)
+      ∙ bind_same (separated is_rbracket x p.1) _ _ (λ q. sym (binds (run hook (at Elements) x q.1) _ _))
+      ∙ binds (separated is_rbracket x p.1) (λ q. Some ((p.0, q.0), q.1)) _)
       ∙ binds (run hook (at Item) x ts) _ _
 
   step_token : (x : Context) (v : Token) (b : Bool) (s : Span) (us : List TokenAndSpan) → is_rbracket v ≡ false
       → run hook (at Elements) x (tk v b s ∷ us)
-      ≡ (element hook x (tk v b s ∷ us) >>=
-      (λ p. run hook (at Elements) x p.1 >>= (λ q. Some (put_before (cons p.0 nil) q.0, q.1))))
+      ≡ (element hook x (tk v b s ∷ us) >>= list_from x)
   unfolding element eaten
   step_token x token.Comma b s us h =
       knot hook (at Elements) x (tk token.Comma b s ∷ us) ∙ calls (run hook (at Elements) x us) _
@@ -151,8 +171,7 @@ module _ {F C K : Type 0} (hook : Hook F C K) where
   -- one element, and those that are left
   pub elements_step : (x : Context) (ts : List TokenAndSpan) → at_token is_rbracket (first ts) ≡ false
       → run hook (at Elements) x ts
-      ≡ (element hook x ts >>=
-      (λ p. run hook (at Elements) x p.1 >>= (λ q. Some (put_before (cons p.0 nil) q.0, q.1))))
+      ≡ (element hook x ts >>= list_from x)
   unfolding element eaten
   elements_step x [] h = knot hook (at Elements) x [] ∙ item_more x []
   elements_step x (t ∷ ts) h = step_token x t.token t.had_line_break t.span ts h
@@ -164,49 +183,50 @@ module _ {F C K : Type 0} (hook : Hook F C K) where
 
   pub element_item_splits : (x : Context) (ts : List TokenAndSpan)
       → element_item hook x ts
-      ≡ (run hook (at Item) x ts >>= (λ p. separated is_rbracket x p.1 >>= (λ q. Some (p.0, q.1))))
+      ≡ (run hook (at Item) x ts >>= (λ p. separated is_rbracket x p.1 >>= (λ q. Some ((p.0, q.0), q.1))))
   unfolding element_item
   element_item_splits x ts = refl
 
   pub elements_more_splits : (before : Trees F C K) (x : Context) (ts : List TokenAndSpan)
       → elements_more hook before x ts
-      ≡ (element hook x ts >>= (λ p. elements_behind hook (trees_append before (cons p.0 nil)) x p.1))
+      ≡ (element hook x ts >>= (λ p. elements_behind hook (trees_append before (cons p.0.0 nil)) p.0.1 x p.1))
   unfolding elements_more
   elements_more_splits before x ts = refl
 
-  -- items before items
-  pub twice : (before : Trees F C K) (e es : Tree F C K)
-      → put_before before (put_before (cons e nil) es) ≡ put_before (trees_append before (cons e nil)) es
-  twice before e es = ap (λ v. listed (span_of es) v) (sym (trees_append-assoc before (cons e nil) (items_of es)))
-
   -- from an element on
-  behind_more : (before : Trees F C K) (x : Context) (ts : List TokenAndSpan) → at_token is_rbracket (first ts) ≡ false
-      → elements_behind hook before x ts ≡ elements_more hook before x ts
+  behind_more : (before : Trees F C K) (comma : Option Span) (x : Context) (ts : List TokenAndSpan)
+      → at_token is_rbracket (first ts) ≡ false
+      → elements_behind hook before comma x ts ≡ elements_more hook before x ts
   unfolding elements_behind elements_more
-  behind_more before x ts h =
-      ap (λ o. o >>= (λ p. Some (put_before before p.0, p.1))) (elements_step x ts h)
+  behind_more before comma x ts h =
+      ap (λ o. o >>= (λ p. Some (put_before before (behind comma p.0), p.1))) (elements_step x ts h)
       ∙ sym (binds (element hook x ts) _ _)
       ∙ bind_same (element hook x ts) _ _ (λ p.
       sym (binds (run hook (at Elements) x p.1) _ _)
-      ∙ bind_same (run hook (at Elements) x p.1) _ _ (λ q. ap (λ v. Some (v, q.1)) (twice before p.0 q.0)))
+      ∙ bind_same (run hook (at Elements) x p.1) _ _ (λ q.
+      ap (λ v. Some (v, q.1)) (twice before comma p.0.0 (behind p.0.1 q.0))))
 
-  behind_token : (before : Trees F C K) (x : Context) (v : Token) (b : Bool) (s : Span) (us : List TokenAndSpan)
-      → elements_behind hook before x (tk v b s ∷ us)
-      ≡ (eaten is_rbracket x (tk v b s ∷ us) >>= (λ p. behind_by hook before p.0 x p.1))
+  behind_token : (before : Trees F C K) (comma : Option Span) (x : Context) (v : Token) (b : Bool) (s : Span)
+      (us : List TokenAndSpan)
+      → elements_behind hook before comma x (tk v b s ∷ us)
+      ≡ (eaten is_rbracket x (tk v b s ∷ us) >>= (λ p. behind_by hook before comma p.0 x p.1))
   unfolding elements_behind eaten
-  behind_token before x token.RBracket b s us =
-      ap (λ o. o >>= (λ p. Some (put_before before p.0, p.1))) (elements_close x (tk token.RBracket b s) us refl)
-  behind_token before x v b s us = behind_more before x (tk v b s ∷ us) refl
+  behind_token before comma x token.RBracket b s us =
+      ap (λ o. o >>= (λ p. Some (put_before before (behind comma p.0), p.1)))
+      (elements_close x (tk token.RBracket b s) us refl)
+      ∙ ap (λ v. Some (v, us)) (ended before comma s)
+  behind_token before comma x v b s us = behind_more before comma x (tk v b s ∷ us) refl
 
-  pub behind_splits : (before : Trees F C K) (x : Context) (ts : List TokenAndSpan)
-      → elements_behind hook before x ts ≡ (eaten is_rbracket x ts >>= (λ p. behind_by hook before p.0 x p.1))
+  pub behind_splits : (before : Trees F C K) (comma : Option Span) (x : Context) (ts : List TokenAndSpan)
+      → elements_behind hook before comma x ts
+      ≡ (eaten is_rbracket x ts >>= (λ p. behind_by hook before comma p.0 x p.1))
   unfolding eaten
-  behind_splits before x [] = behind_more before x [] refl
-  behind_splits before x (t ∷ ts) = behind_token before x t.token t.had_line_break t.span ts
+  behind_splits before comma x [] = behind_more before comma x [] refl
+  behind_splits before comma x (t ∷ ts) = behind_token before comma x t.token t.had_line_break t.span ts
 
   -- before the first element
   first_more : (x : Context) (ts : List TokenAndSpan) → at_token is_rbracket (first ts) ≡ false
-      → run hook (at Elements) x ts ≡ elements_behind hook nil x ts
+      → run hook (at Elements) x ts ≡ elements_behind hook nil None x ts
   unfolding elements_behind
   first_more x ts h =
       elements_step x ts h
@@ -215,7 +235,7 @@ module _ {F C K : Type 0} (hook : Hook F C K) where
       ∙ ap (λ o. o >>= (λ p. Some (put_before nil p.0, p.1))) (sym (elements_step x ts h))
 
   first_token : (x : Context) (v : Token) (b : Bool) (s : Span) (us : List TokenAndSpan)
-      → run hook (at Elements) x (tk v b s ∷ us) ≡ elements_behind hook nil x (tk v b s ∷ us)
+      → run hook (at Elements) x (tk v b s ∷ us) ≡ elements_behind hook nil None x (tk v b s ∷ us)
   unfolding elements_behind
   first_token x token.RBracket b s us =
       let e = elements_close x (tk token.RBracket b s) us refl in
@@ -223,7 +243,7 @@ module _ {F C K : Type 0} (hook : Hook F C K) where
   first_token x v b s us = first_more x (tk v b s ∷ us) refl
 
   pub elements_first : (x : Context) (ts : List TokenAndSpan)
-      → run hook (at Elements) x ts ≡ elements_behind hook nil x ts
+      → run hook (at Elements) x ts ≡ elements_behind hook nil None x ts
   elements_first x [] = first_more x [] refl
   elements_first x (t ∷ ts) = first_token x t.token t.had_line_break t.span ts
 

@@ -8,21 +8,20 @@ use Rattle.swc_input.specs.declared.token.Token.{Token}
 use Rattle.swc_input.specs.declared.token.Token.TheVariants as token
 use Rattle.swc_input.specs.declared.token.TokenAndSpan.{TokenAndSpan}
 use Rattle.swc_input.specs.Kinds.{at_token}
-use Rattle.swc_ast.specs.Tree.{Trees, nil, cons, span_of}
+use Rattle.swc_ast.specs.Tree.{Tree, Trees, nil, cons, span_of}
 use Rattle.swc_bodies.specs.Readings.{Hook, is_async, is_brace}
 use Rattle.swc_grammar.specs.Symbols.{Assign, Primary, Props, PropsTail, Prop, Side}
 use Rattle.swc_grammar.specs.Tokens.{tk, with_in, is_dots, is_equals, is_get, is_set, is_question, is_rbrace, is_star}
 use Rattle.swc_grammar.specs.Tokens.{is_word, ends_prop, follows_key}
-use Rattle.swc_grammar.specs.Trees.{to, object_e, listed, items_of, spread_prop_e, short_e, cover_e, ident_e}
+use Rattle.swc_grammar.specs.Trees.{to, object_e, listed, items_of, comma_of, put_first, spread_prop_e, short_e, cover_e, ident_e}
 use Rattle.swc_grammar.specs.Grammar.{Production, object-lit, prop-spread, prop-short, prop-cover, prop-key}
 use Rattle.swc_grammar.specs.Grammar.{prop-generator, prop-async, prop-async-generator, prop-getter}
 use Rattle.swc_grammar.specs.Names.{Spelling, may_name}
 use Rattle.swc_grammar.specs.Parts.{any_name}
 use Rattle.swc_grammar.specs.Rule.{gives, must, given, symbol, token as token_of, ◌>>=◌ as ◌▸◌, ◌>>◌}
-use Rattle.swc_grammar.specs.Clean.{and_then, first, second, sym as at, exec, Choice, none, pick, chosen, plan}
+use Rattle.swc_grammar.specs.Clean.{Out, and_then, first, second, sym as at, exec, Choice, none, pick, chosen, plan}
 use Rattle.swc_grammar.specs.Clean.{primary, prop, prop_word, async_method, step, run}
 use Rattle.swc_grammar.specs.Words.{◌>>=◌, one, word}
-use Rattle.swc_grammar.proofs.Complete.{last}
 use Rattle.swc_grammar.proofs.Knot.{knot}
 use Rattle.swc_grammar.proofs.Only.{only-brace, only-rbrace}
 use Rattle.swc_grammar.proofs.Rules.{run_picked}
@@ -34,7 +33,7 @@ use Rattle.swc_productions.specs.declared.kinds.Modifier.TheVariants as modifier
 use Rattle.swc_productions.specs.declared.kinds.PropKind.{PropKind}
 use Rattle.swc_productions.specs.declared.kinds.PropKind.TheVariants as kind
 use Rattle.swc_productions.specs.Readers.{reading, by_production, inside}
-use Rattle.swc_productions.specs.Lists.{eaten, eaten_by, closed, separated, put_before}
+use Rattle.swc_productions.specs.Lists.{eaten, eaten_by, closed, separated, behind, put_before}
 use Rattle.swc_productions.specs.Properties.{object_lit_tail, prop_item, props_behind, props_more, props_by}
 use Rattle.swc_productions.specs.Properties.{spread_prop_tail, prop_plain, prop_by, open_by, open_name}
 use Rattle.swc_productions.specs.Properties.{cover_tail, cover_by, cover_behind}
@@ -43,7 +42,7 @@ use Rattle.swc_productions.specs.Methods.{modifiers, method_tail}
 use Rattle.swc_productions.proofs.Keys.{bind_none}
 use Rattle.swc_productions.proofs.Methods.{generator_splits, async_splits, async_generator_splits, getter_splits, setter_not}
 use Rattle.swc_productions.proofs.Steps.{not_true, not_false}
-use Rattle.swc_productions.proofs.Lists.{calls, binds, bind_same, twice}
+use Rattle.swc_productions.proofs.Lists.{calls, binds, bind_same, twice, ended}
 
 pub open_name_splits : (x : Context) (ts : List TokenAndSpan) → open_name x ts ≡ (word may_name x ts >>= open_by x)
 unfolding open_name
@@ -125,100 +124,112 @@ module _ {F C K : Type 0} (hook : Hook F C K) where
 
   pub object_lit_splits : (s : Span) (x : Context) (ts : List TokenAndSpan)
       → object_lit_tail hook s x ts
-      ≡ (run hook (at Props) x ts >>= (λ p. Some (object_e (to s (span_of p.0)) (items_of p.0), p.1)))
+      ≡ (run hook (at Props) x ts >>= (λ p. Some (object_e (comma_of p.0) (to s (span_of p.0)) (items_of p.0), p.1)))
   unfolding object_lit_tail
   object_lit_splits s x ts = refl
 
   -- the brace closes the list
   props_close : (x : Context) (t : TokenAndSpan) (ts : List TokenAndSpan) → is_rbrace t.token ≡ true
-      → run hook (at Props) x (t ∷ ts) ≡ Some (listed t.span nil, ts)
+      → run hook (at Props) x (t ∷ ts) ≡ Some (listed None t.span nil, ts)
   props_close x t ts h =
       knot hook (at Props) x (t ∷ ts)
       ∙ only-rbrace (λ v. exec hook (run hook) (Some 5)
       (step (at Props) x (tk v t.had_line_break t.span ∷ ts)) (tk v t.had_line_break t.span ∷ ts)
-      ≡ Some (listed t.span nil, ts)) refl t.token h
+      ≡ Some (listed None t.span nil, ts)) refl t.token h
 
-  -- behind a property
+  -- behind a property: what is left behind the comma that stands there, or where none does
+  abbrev tail_left : Context → Option Span × List TokenAndSpan → Out (Tree F C K)
+  tail_left x q = run hook (at Props) x q.1 >>= (λ p. Some (behind q.0 p.0, p.1))
+
   tail_token : (x : Context) (v : Token) (b : Bool) (s : Span) (us : List TokenAndSpan)
       → run hook (at PropsTail) x (tk v b s ∷ us)
-      ≡ (separated is_rbrace x (tk v b s ∷ us) >>= (λ q. run hook (at Props) x q.1))
+      ≡ (separated is_rbrace x (tk v b s ∷ us) >>= tail_left x)
   unfolding separated closed eaten
   tail_token x token.Comma b s us =
-      knot hook (at PropsTail) x (tk token.Comma b s ∷ us) ∙ last hook None (at Props) x us refl
+      knot hook (at PropsTail) x (tk token.Comma b s ∷ us) ∙ calls (run hook (at Props) x us) _
   tail_token x token.RBrace b s us =
       knot hook (at PropsTail) x (tk token.RBrace b s ∷ us)
-      ∙ sym (props_close x (tk token.RBrace b s) us refl)
+      ∙ ap (λ o. o >>= (λ p. Some (behind None p.0, p.1))) (sym (props_close x (tk token.RBrace b s) us refl))
   tail_token x v b s us = knot hook (at PropsTail) x (tk v b s ∷ us)
 
   tail_is : (x : Context) (us : List TokenAndSpan)
-      → run hook (at PropsTail) x us ≡ (separated is_rbrace x us >>= (λ q. run hook (at Props) x q.1))
+      → run hook (at PropsTail) x us ≡ (separated is_rbrace x us >>= tail_left x)
   unfolding separated closed eaten
   tail_is x [] = knot hook (at PropsTail) x []
   tail_is x (t ∷ us) = tail_token x t.token t.had_line_break t.span us
 
+  -- behind a property and the comma that stands there, or none: the list from that property on
+  abbrev list_from : Context → (Tree F C K × Option Span) × List TokenAndSpan → Out (Tree F C K)
+  list_from x p = run hook (at Props) x p.1 >>= (λ q. Some (put_first p.0.0 (behind p.0.1 q.0), q.1))
+
   -- a property, and what stands behind it
   item_more : (x : Context) (ts : List TokenAndSpan)
       → and_then (run hook (at Prop) x ts) (λ e us. and_then (run hook (at PropsTail) x us)
-      (λ es vs. Some (put_before (cons e nil) es, vs)))
-      ≡ (prop_item hook x ts >>=
-      (λ p. run hook (at Props) x p.1 >>= (λ q. Some (put_before (cons p.0 nil) q.0, q.1))))
+      (λ es vs. Some (put_first e es, vs)))
+      ≡ (prop_item hook x ts >>= list_from x)
   unfolding prop_item
   item_more x ts =
       calls (run hook (at Prop) x ts) _
       ∙ bind_same (run hook (at Prop) x ts) _ _ (λ p.
       calls (run hook (at PropsTail) x p.1) _
-      ∙ ap (λ o. o >>= (λ q. Some (put_before (cons p.0 nil) q.0, q.1))) (tail_is x p.1)
-      ∙ sym (binds (separated is_rbrace x p.1) (λ q. run hook (at Props) x q.1) _)
-      ∙ binds (separated is_rbrace x p.1) (λ q. Some (p.0, q.1)) _)
+      ∙ ap (λ o. o >>= (λ q. Some (put_first p.0 q.0, q.1))) (tail_is x p.1)
+      ∙ sym (binds (separated is_rbrace x p.1) (tail_left x) _)
+      ∙ bind_same (separated is_rbrace x p.1) _ _ (λ q. sym (binds (run hook (at Props) x q.1) _ _))
+      ∙ binds (separated is_rbrace x p.1) (λ q. Some ((p.0, q.0), q.1)) _)
       ∙ binds (run hook (at Prop) x ts) _ _
 
   -- one property, and those that are left
   props_step : (x : Context) (ts : List TokenAndSpan) → at_token is_rbrace (first ts) ≡ false
       → run hook (at Props) x ts
-      ≡ (prop_item hook x ts >>=
-      (λ p. run hook (at Props) x p.1 >>= (λ q. Some (put_before (cons p.0 nil) q.0, q.1))))
+      ≡ (prop_item hook x ts >>= list_from x)
   props_step x ts h = knot hook (at Props) x ts ∙ rw h (item_more x ts)
 
   pub prop_item_splits : (x : Context) (ts : List TokenAndSpan)
       → prop_item hook x ts
-      ≡ (run hook (at Prop) x ts >>= (λ p. separated is_rbrace x p.1 >>= (λ q. Some (p.0, q.1))))
+      ≡ (run hook (at Prop) x ts >>= (λ p. separated is_rbrace x p.1 >>= (λ q. Some ((p.0, q.0), q.1))))
   unfolding prop_item
   prop_item_splits x ts = refl
 
   pub props_more_splits : (before : Trees F C K) (x : Context) (ts : List TokenAndSpan)
       → props_more hook before x ts
-      ≡ (prop_item hook x ts >>= (λ p. props_behind hook (trees_append before (cons p.0 nil)) x p.1))
+      ≡ (prop_item hook x ts >>= (λ p. props_behind hook (trees_append before (cons p.0.0 nil)) p.0.1 x p.1))
   unfolding props_more
   props_more_splits before x ts = refl
 
   -- from a property on
-  behind_more : (before : Trees F C K) (x : Context) (ts : List TokenAndSpan) → at_token is_rbrace (first ts) ≡ false
-      → props_behind hook before x ts ≡ props_more hook before x ts
+  behind_more : (before : Trees F C K) (comma : Option Span) (x : Context) (ts : List TokenAndSpan)
+      → at_token is_rbrace (first ts) ≡ false
+      → props_behind hook before comma x ts ≡ props_more hook before x ts
   unfolding props_behind props_more
-  behind_more before x ts h =
-      ap (λ o. o >>= (λ p. Some (put_before before p.0, p.1))) (props_step x ts h)
+  behind_more before comma x ts h =
+      ap (λ o. o >>= (λ p. Some (put_before before (behind comma p.0), p.1))) (props_step x ts h)
       ∙ sym (binds (prop_item hook x ts) _ _)
       ∙ bind_same (prop_item hook x ts) _ _ (λ p.
       sym (binds (run hook (at Props) x p.1) _ _)
-      ∙ bind_same (run hook (at Props) x p.1) _ _ (λ q. ap (λ v. Some (v, q.1)) (twice hook before p.0 q.0)))
+      ∙ bind_same (run hook (at Props) x p.1) _ _ (λ q.
+      ap (λ v. Some (v, q.1)) (twice before comma p.0.0 (behind p.0.1 q.0))))
 
-  behind_token : (before : Trees F C K) (x : Context) (v : Token) (b : Bool) (s : Span) (us : List TokenAndSpan)
-      → props_behind hook before x (tk v b s ∷ us)
-      ≡ (eaten is_rbrace x (tk v b s ∷ us) >>= (λ p. props_by hook before p.0 x p.1))
+  behind_token : (before : Trees F C K) (comma : Option Span) (x : Context) (v : Token) (b : Bool) (s : Span)
+      (us : List TokenAndSpan)
+      → props_behind hook before comma x (tk v b s ∷ us)
+      ≡ (eaten is_rbrace x (tk v b s ∷ us) >>= (λ p. props_by hook before comma p.0 x p.1))
   unfolding props_behind eaten
-  behind_token before x token.RBrace b s us =
-      ap (λ o. o >>= (λ p. Some (put_before before p.0, p.1))) (props_close x (tk token.RBrace b s) us refl)
-  behind_token before x v b s us = behind_more before x (tk v b s ∷ us) refl
+  behind_token before comma x token.RBrace b s us =
+      ap (λ o. o >>= (λ p. Some (put_before before (behind comma p.0), p.1)))
+      (props_close x (tk token.RBrace b s) us refl)
+      ∙ ap (λ v. Some (v, us)) (ended before comma s)
+  behind_token before comma x v b s us = behind_more before comma x (tk v b s ∷ us) refl
 
-  pub behind_splits : (before : Trees F C K) (x : Context) (ts : List TokenAndSpan)
-      → props_behind hook before x ts ≡ (eaten is_rbrace x ts >>= (λ p. props_by hook before p.0 x p.1))
+  pub behind_splits : (before : Trees F C K) (comma : Option Span) (x : Context) (ts : List TokenAndSpan)
+      → props_behind hook before comma x ts
+      ≡ (eaten is_rbrace x ts >>= (λ p. props_by hook before comma p.0 x p.1))
   unfolding eaten
-  behind_splits before x [] = behind_more before x [] refl
-  behind_splits before x (t ∷ ts) = behind_token before x t.token t.had_line_break t.span ts
+  behind_splits before comma x [] = behind_more before comma x [] refl
+  behind_splits before comma x (t ∷ ts) = behind_token before comma x t.token t.had_line_break t.span ts
 
   -- before the first property
   first_more : (x : Context) (ts : List TokenAndSpan) → at_token is_rbrace (first ts) ≡ false
-      → run hook (at Props) x ts ≡ props_behind hook nil x ts
+      → run hook (at Props) x ts ≡ props_behind hook nil None x ts
   unfolding props_behind
   first_more x ts h =
       props_step x ts h
@@ -227,7 +238,7 @@ module _ {F C K : Type 0} (hook : Hook F C K) where
       ∙ ap (λ o. o >>= (λ p. Some (put_before nil p.0, p.1))) (sym (props_step x ts h))
 
   first_token : (x : Context) (v : Token) (b : Bool) (s : Span) (us : List TokenAndSpan)
-      → run hook (at Props) x (tk v b s ∷ us) ≡ props_behind hook nil x (tk v b s ∷ us)
+      → run hook (at Props) x (tk v b s ∷ us) ≡ props_behind hook nil None x (tk v b s ∷ us)
   unfolding props_behind
   first_token x token.RBrace b s us =
       let e = props_close x (tk token.RBrace b s) us refl in
@@ -235,7 +246,7 @@ module _ {F C K : Type 0} (hook : Hook F C K) where
   first_token x v b s us = first_more x (tk v b s ∷ us) refl
 
   pub props_first : (x : Context) (ts : List TokenAndSpan)
-      → run hook (at Props) x ts ≡ props_behind hook nil x ts
+      → run hook (at Props) x ts ≡ props_behind hook nil None x ts
   props_first x [] = first_more x [] refl
   props_first x (t ∷ ts) = first_token x t.token t.had_line_break t.span ts
 

@@ -10,7 +10,7 @@ use Rattle.swc_bodies.specs.Readings.{Hook, is_async}
 use Rattle.swc_grammar.specs.Symbols.{Elements, Item}
 use Rattle.swc_grammar.specs.Tokens.{with_in, is_comma, is_dots, is_lparen, is_rparen, is_lbracket, is_rbracket}
 use Rattle.swc_grammar.specs.Tokens.{is_rbrace, is_equals, is_colon, is_star, is_get, is_set, is_question}
-use Rattle.swc_grammar.specs.Trees.{to, array_e, hole_e, listed, items_of}
+use Rattle.swc_grammar.specs.Trees.{to, array_e, hole_e, listed, items_of, comma_of, behind_comma}
 use Rattle.swc_grammar.specs.Clean.{Out, first, sym, run}
 use Rattle.swc_grammar.specs.Words.{◌>>=◌}
 use Rattle.swc_nodes.specs.Lists.{trees_append}
@@ -46,16 +46,21 @@ eaten f c ts = eaten_by (at_token f (first ts)) ts
 unfoldable pub closed : (Token → Bool) → Context → List TokenAndSpan → Out (Unit {0})
 closed f c ts = if at_token f (first ts) then Some (tt, ts) else None
 
-abbrev pub separated_by : (Token → Bool) → Option Span → Context → List TokenAndSpan → Out (Unit {0})
-separated_by f (Some s) c ts = Some (tt, ts)
-separated_by f None c ts = closed f c ts
+abbrev pub separated_by : (Token → Bool) → Option Span → Context → List TokenAndSpan → Out (Option Span)
+separated_by f (Some s) c ts = Some (Some s, ts)
+separated_by f None c ts = closed f c ts >>= (λ p. Some (None, p.1))
 
-unfoldable pub separated : (Token → Bool) → Context → List TokenAndSpan → Out (Unit {0})
+unfoldable pub separated : (Token → Bool) → Context → List TokenAndSpan → Out (Option Span)
 separated f c ts = eaten is_comma c ts >>= (λ p. separated_by f p.0 c p.1)
+
+-- what is left of a list behind an item and a comma, or none
+abbrev pub behind : {F C K : Type 0} → Option Span → Tree F C K → Tree F C K
+behind None e = e
+behind (Some s) e = behind_comma s e
 
 -- items before those of a list
 abbrev pub put_before : {F C K : Type 0} → Trees F C K → Tree F C K → Tree F C K
-put_before ts e = listed (span_of e) (trees_append ts (items_of e))
+put_before ts e = listed (comma_of e) (span_of e) (trees_append ts (items_of e))
 
 module _ {F C K : Type 0} (hook : Hook F C K) where
   -- ---- array literals (13.2.4)
@@ -65,26 +70,29 @@ module _ {F C K : Type 0} (hook : Hook F C K) where
   elements_inside c ts = run hook (sym Elements) (with_in c) ts
 
   unfoldable pub array_lit_tail : Span → Context → List TokenAndSpan → Out (Tree F C K)
-  array_lit_tail s c ts = elements_inside c ts >>= (λ p. Some (array_e (to s (span_of p.0)) (items_of p.0), p.1))
+  array_lit_tail s c ts = elements_inside c ts >>= (λ p. Some (array_e (comma_of p.0) (to s (span_of p.0)) (items_of p.0), p.1))
 
-  -- one element, with the comma behind it, or before the bracket that closes the list
-  unfoldable pub element_item : Context → List TokenAndSpan → Out (Tree F C K)
-  element_item c ts = run hook (sym Item) c ts >>= (λ p. separated is_rbracket c p.1 >>= (λ q. Some (p.0, q.1)))
+  -- one element, and the comma behind it, or before the bracket that closes the list; a hole has none behind it
+  unfoldable pub element_item : Context → List TokenAndSpan → Out (Tree F C K × Option Span)
+  element_item c ts = run hook (sym Item) c ts >>= (λ p. separated is_rbracket c p.1 >>= (λ q. Some ((p.0, q.0), q.1)))
 
-  abbrev pub element_by : Option Span → Context → List TokenAndSpan → Out (Tree F C K)
+  abbrev pub element_by : Option Span → Context → List TokenAndSpan → Out (Tree F C K × Option Span)
   element_by None c ts = element_item c ts
-  element_by (Some s) c ts = Some (hole_e, ts)
+  element_by (Some s) c ts = Some ((hole_e, None), ts)
 
-  unfoldable pub element : Context → List TokenAndSpan → Out (Tree F C K)
+  unfoldable pub element : Context → List TokenAndSpan → Out (Tree F C K × Option Span)
   element c ts = eaten is_comma c ts >>= (λ p. element_by p.0 c p.1)
 
-  -- behind some elements: those that are left, to where the list is closed; and from the next element on
-  unfoldable pub elements_behind : Trees F C K → Context → List TokenAndSpan → Out (Tree F C K)
-  elements_behind before c ts = run hook (sym Elements) c ts >>= (λ p. Some (put_before before p.0, p.1))
+  -- Behind some elements, and the comma behind the last of them: those that are left, to where the list is closed; and from the next
+  -- element on.
+  unfoldable pub elements_behind : Trees F C K → Option Span → Context → List TokenAndSpan → Out (Tree F C K)
+  elements_behind before comma c ts =
+      run hook (sym Elements) c ts >>= (λ p. Some (put_before before (behind comma p.0), p.1))
 
   unfoldable pub elements_more : Trees F C K → Context → List TokenAndSpan → Out (Tree F C K)
-  elements_more before c ts = element c ts >>= (λ p. elements_behind (trees_append before (cons p.0 nil)) c p.1)
+  elements_more before c ts =
+      element c ts >>= (λ p. elements_behind (trees_append before (cons p.0.0 nil)) p.0.1 c p.1)
 
-  abbrev pub behind_by : Trees F C K → Option Span → Context → List TokenAndSpan → Out (Tree F C K)
-  behind_by before (Some s) c ts = Some (put_before before (listed s nil), ts)
-  behind_by before None c ts = elements_more before c ts
+  abbrev pub behind_by : Trees F C K → Option Span → Option Span → Context → List TokenAndSpan → Out (Tree F C K)
+  behind_by before comma (Some s) c ts = Some (listed comma s before, ts)
+  behind_by before comma None c ts = elements_more before c ts

@@ -26,8 +26,6 @@ use Rattle.swc_ast.specs.Tree.{Tree}
 use Rattle.swc_ast.specs.declared.expr.ExprOrSpread.{ExprOrSpread}
 use Rattle.swc_ast.specs.declared.function.Function.{Function}
 use Rattle.swc_ast.specs.declared.prop.PropName.{PropName}
-use Rattle.std.specs.declared.alloc.Global.{Global}
-use Rattle.std.specs.declared.vec.Vec.{Vec}
 use Rattle.swc_ast.specs.declared.spanned.Spanned.{Ghosts}
 use Rattle.swc_grammar.specs.Parts.{lit_of}
 use Rattle.swc_grammar.specs.Trees.{listed, value_e}
@@ -47,6 +45,7 @@ use Rattle.swc_nodes.specs.declared.nodes.Nodes.{Nodes}
 use Rattle.swc_productions.specs.declared.object.AfterKey.{AfterKey}
 use Rattle.swc_productions.specs.declared.object.AfterKey.TheVariants as after
 use Rattle.swc_productions.specs.Lists.{eaten}
+use Rattle.swc_productions.specs.declared.moves.Listed.{Listed}
 use Rattle.swc_productions.specs.declared.productions.Productions.{Productions}
 
 -- want of memory
@@ -253,18 +252,18 @@ module _ {F C K : Type 0} {fg : Ghosts F} {cg : Ghosts C} {kg : Ghosts K} where
   abbrev pub operand_of : ℕ → Nodes F C K fg cg kg → ExprId × BinaryOp → Type 0
   operand_of k ns r = From k ns (expr_part r.0)
 
-  -- of an item of a list, of an element of an array, and of all its elements, with the place of the bracket that closes it
+  -- of an item of a list, of an element of an array, with the place of the comma behind it, and of all its elements
   abbrev pub item_of : ℕ → Nodes F C K fg cg kg → ExprOrSpread ExprId → Type 0
   item_of k ns x = From k ns (expr_part x.expr)
 
-  abbrev pub elem_of : ℕ → Nodes F C K fg cg kg → Option (ExprOrSpread ExprId) → Type 0
-  elem_of k ns x = Apart k ns (if_some item_parts x)
+  abbrev pub elem_of : ℕ → Nodes F C K fg cg kg → Option (ExprOrSpread ExprId) × Option Span → Type 0
+  elem_of k ns p = Apart k ns (if_some item_parts p.0)
 
-  abbrev pub elems_of : ℕ → Nodes F C K fg cg kg → Vec (Option (ExprOrSpread ExprId)) Global × Span → Type 0
-  elems_of k ns p = Apart k ns (elem_parts p.0)
+  abbrev pub elems_of : ℕ → Nodes F C K fg cg kg → Listed (Option (ExprOrSpread ExprId)) → Type 0
+  elems_of k ns l = Apart k ns (elem_parts l.items)
 
-  -- of a key, of a method's function, which has no parameters so far, of what stands behind a key, of a property, and of all properties of an object literal, with the place of the
-  -- brace that closes it
+  -- of a key, of a method's function, which has no parameters so far, of what stands behind a key, of a property, with the place of the
+  -- comma behind it or not, and of all properties of an object literal
   abbrev pub key_of : ℕ → Nodes F C K fg cg kg → PropName ExprId → Type 0
   key_of k ns x = Apart k ns (key_parts x)
 
@@ -282,8 +281,11 @@ module _ {F C K : Type 0} {fg : Ghosts F} {cg : Ghosts C} {kg : Ghosts K} where
   abbrev pub prop_of : ℕ → Nodes F C K fg cg kg → PropNode K → Type 0
   prop_of k ns x = Apart k ns (prop_parts x)
 
-  abbrev pub props_of : ℕ → Nodes F C K fg cg kg → Vec (PropNode K) Global × Span → Type 0
-  props_of k ns p = Apart k ns (props_parts p.0)
+  abbrev pub prop_item_of : ℕ → Nodes F C K fg cg kg → PropNode K × Option Span → Type 0
+  prop_item_of k ns p = prop_of k ns p.0
+
+  abbrev pub props_of : ℕ → Nodes F C K fg cg kg → Listed (PropNode K) → Type 0
+  props_of k ns l = Apart k ns (props_parts l.items)
 
 module _ {F C K : Type 0} {fg : Ghosts F} {cg : Ghosts C} {kg : Ghosts K} where
   -- the tree of an expression, of an operation, and of a literal, among nodes
@@ -293,11 +295,11 @@ module _ {F C K : Type 0} {fg : Ghosts F} {cg : Ghosts C} {kg : Ghosts K} where
   abbrev pub item_at : Nodes F C K fg cg kg → ExprOrSpread ExprId → Tree F C K
   item_at ns x = item_tree (tree_of ns) x
 
-  abbrev pub elem_at : Nodes F C K fg cg kg → Option (ExprOrSpread ExprId) → Tree F C K
-  elem_at ns x = elem_tree (tree_at ns) x
+  abbrev pub elem_at : Nodes F C K fg cg kg → Option (ExprOrSpread ExprId) × Option Span → Tree F C K × Option Span
+  elem_at ns p = (elem_tree (tree_at ns) p.0, p.1)
 
-  abbrev pub elems_at : Nodes F C K fg cg kg → Vec (Option (ExprOrSpread ExprId)) Global × Span → Tree F C K
-  elems_at ns p = listed p.1 (elem_trees (tree_at ns) p.0)
+  abbrev pub elems_at : Nodes F C K fg cg kg → Listed (Option (ExprOrSpread ExprId)) → Tree F C K
+  elems_at ns l = listed l.trailing_comma l.end (elem_trees (tree_at ns) l.items)
 
   abbrev pub key_at : Nodes F C K fg cg kg → PropName ExprId → Tree F C K
   key_at ns x = prop_name_tree (tree_of ns) x
@@ -315,8 +317,11 @@ module _ {F C K : Type 0} {fg : Ghosts F} {cg : Ghosts C} {kg : Ghosts K} where
   abbrev pub prop_at : Nodes F C K fg cg kg → PropNode K → Tree F C K
   prop_at ns x = prop_tree fg.place cg.place kg.place (tree_at ns) x
 
-  abbrev pub props_at : Nodes F C K fg cg kg → Vec (PropNode K) Global × Span → Tree F C K
-  props_at ns p = listed p.1 (props_trees fg.place cg.place kg.place (tree_at ns) p.0)
+  abbrev pub prop_item_at : Nodes F C K fg cg kg → PropNode K × Option Span → Tree F C K × Option Span
+  prop_item_at ns p = (prop_at ns p.0, p.1)
+
+  abbrev pub props_at : Nodes F C K fg cg kg → Listed (PropNode K) → Tree F C K
+  props_at ns l = listed l.trailing_comma l.end (props_trees fg.place cg.place kg.place (tree_at ns) l.items)
 
   abbrev pub bin_op_at : Nodes F C K fg cg kg → ExprId × Option ℕ → Tree F C K × Option ℕ
   bin_op_at ns r = (tree_of ns r.0, r.1)

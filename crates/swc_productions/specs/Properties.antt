@@ -11,7 +11,7 @@ use Rattle.swc_bodies.specs.Readings.{Hook, is_async}
 use Rattle.swc_grammar.specs.Symbols.{Props, Prop}
 use Rattle.swc_grammar.specs.Tokens.{is_dots, is_equals, is_get, is_set, is_question, is_rbrace, is_star, is_word}
 use Rattle.swc_grammar.specs.Tokens.{ends_prop, follows_key}
-use Rattle.swc_grammar.specs.Trees.{to, object_e, listed, items_of, spread_prop_e, cover_e, ident_e}
+use Rattle.swc_grammar.specs.Trees.{to, object_e, listed, items_of, comma_of, spread_prop_e, cover_e, ident_e}
 use Rattle.swc_grammar.specs.Clean.{Out, first, second, sym, run}
 use Rattle.swc_grammar.specs.Names.{Spelling, may_name}
 use Rattle.swc_grammar.specs.Words.{◌>>=◌, word}
@@ -23,7 +23,7 @@ use Rattle.swc_productions.specs.declared.kinds.Modifier.TheVariants as modifier
 use Rattle.swc_productions.specs.declared.kinds.PropKind.{PropKind}
 use Rattle.swc_productions.specs.declared.kinds.PropKind.TheVariants as kind
 use Rattle.swc_productions.specs.Readers.{inside}
-use Rattle.swc_productions.specs.Lists.{eaten, separated, put_before}
+use Rattle.swc_productions.specs.Lists.{eaten, separated, behind, put_before}
 
 -- a name that isn't reserved where it stands, and so may stand for its value too
 abbrev pub open_by : Context → Spelling × List TokenAndSpan → Out Spelling
@@ -81,22 +81,25 @@ prop_kind ts =
 module _ {F C K : Type 0} (hook : Hook F C K) where
   -- behind the brace at s
   unfoldable pub object_lit_tail : Span → Context → List TokenAndSpan → Out (Tree F C K)
-  object_lit_tail s c ts = run hook (sym Props) c ts >>= (λ p. Some (object_e (to s (span_of p.0)) (items_of p.0), p.1))
+  object_lit_tail s c ts = run hook (sym Props) c ts >>= (λ p. Some (object_e (comma_of p.0) (to s (span_of p.0)) (items_of p.0), p.1))
 
-  -- one property, with the comma behind it, or before the brace that closes the list
-  unfoldable pub prop_item : Context → List TokenAndSpan → Out (Tree F C K)
-  prop_item c ts = run hook (sym Prop) c ts >>= (λ p. separated is_rbrace c p.1 >>= (λ q. Some (p.0, q.1)))
+  -- one property, and the comma behind it, or before the brace that closes the list
+  unfoldable pub prop_item : Context → List TokenAndSpan → Out (Tree F C K × Option Span)
+  prop_item c ts = run hook (sym Prop) c ts >>= (λ p. separated is_rbrace c p.1 >>= (λ q. Some ((p.0, q.0), q.1)))
 
-  -- behind some properties: those that are left, to where the list is closed; and from the next property on
-  unfoldable pub props_behind : Trees F C K → Context → List TokenAndSpan → Out (Tree F C K)
-  props_behind before c ts = run hook (sym Props) c ts >>= (λ p. Some (put_before before p.0, p.1))
+  -- Behind some properties, and the comma behind the last of them: those that are left, to where the list is closed; and from the next
+  -- property on.
+  unfoldable pub props_behind : Trees F C K → Option Span → Context → List TokenAndSpan → Out (Tree F C K)
+  props_behind before comma c ts =
+      run hook (sym Props) c ts >>= (λ p. Some (put_before before (behind comma p.0), p.1))
 
   unfoldable pub props_more : Trees F C K → Context → List TokenAndSpan → Out (Tree F C K)
-  props_more before c ts = prop_item c ts >>= (λ p. props_behind (trees_append before (cons p.0 nil)) c p.1)
+  props_more before c ts =
+      prop_item c ts >>= (λ p. props_behind (trees_append before (cons p.0.0 nil)) p.0.1 c p.1)
 
-  abbrev pub props_by : Trees F C K → Option Span → Context → List TokenAndSpan → Out (Tree F C K)
-  props_by before (Some s) c ts = Some (put_before before (listed s nil), ts)
-  props_by before None c ts = props_more before c ts
+  abbrev pub props_by : Trees F C K → Option Span → Option Span → Context → List TokenAndSpan → Out (Tree F C K)
+  props_by before comma (Some s) c ts = Some (listed comma s before, ts)
+  props_by before comma None c ts = props_more before c ts
 
   -- behind the dots of a property at s, and from a property on, which the dots begin or not
   unfoldable pub spread_prop_tail : Span → Context → List TokenAndSpan → Out (Tree F C K)

@@ -20,9 +20,9 @@ ghost use Rattle.swc_productions.specs.Parsing.{itself, tree_of, item_of, item_a
 ghost use Rattle.swc_productions.specs.Parsing.{elems_at};
 
 use crate::moves::{
-    Sign, add, bump, copy_of, eat, emit_err, emit_strict_mode_err, is_async_function, label_spread,
-    look, made, parse_ident_name, parse_ident_ref, require_cur, separate, set_ctx, skip,
-    syntax_error, unexpected,
+    Listed, Sign, add, bump, copy_of, eat, emit_err, emit_strict_mode_err, is_async_function,
+    label_spread, listed, look, made, made_literal, parse_ident_name, parse_ident_ref, require_cur,
+    separate, set_ctx, skip, syntax_error, unexpected,
 };
 use crate::productions::Productions;
 use swc_ast::expr::ExprOrSpread;
@@ -116,15 +116,16 @@ impl<I: Tokens, B: Bodies<I>> Productions<I, B> {
     {
         let start = self.input.cur_span().lo;
         skip(&mut self.input);
-        let (elems, end) = self.parse_elements_with_in()?;
-        let node = self.nodes.array_lit(start, end.hi, elems);
-        made(&self.input, node)
+        let list = self.parse_elements_with_in()?;
+        let end = list.end.hi;
+        let trailing_comma = list.trailing_comma;
+        let node = self.nodes.array_lit(start, end, list.items, trailing_comma);
+        made_literal(&self.input, node, &mut self.commas, start, trailing_comma)
     }
 
-    /// The elements of an array literal, in which `in` counts as an operator, and the bracket that closes it, whose
-    /// place is answered too.
+    /// The elements of an array literal, in which `in` counts as an operator, and the bracket that closes it.
     #[cycle(productions)]
-    fn parse_elements_with_in(&mut self) -> PResult<(Vec<Elem>, Span)>
+    fn parse_elements_with_in(&mut self) -> PResult<Listed<Elem>>
         ensures { Produces I.model B.is_faithful elems_of elems_at (elements_inside B.forms)
             (count self.old.nodes) self.old result self.new }
     {
@@ -141,44 +142,37 @@ impl<I: Tokens, B: Bodies<I>> Productions<I, B> {
         elems
     }
 
-    /// The elements of an array literal, and the bracket that closes it, whose place is answered too.
+    /// The elements of an array literal, and the bracket that closes it.
     #[cycle(productions)]
-    fn parse_elements(&mut self) -> PResult<(Vec<Elem>, Span)>
+    fn parse_elements(&mut self) -> PResult<Listed<Elem>>
         ensures { Produces I.model B.is_faithful elems_of elems_at (run B.forms (sym Elements))
             (count self.old.nodes) self.old result self.new }
     {
-        let mut elems = Vec::new(self.alloc);
-        loop {
-            match eat(&mut self.input, Sign::RBracket)? {
-                Some(end) => return Ok((elems, end)),
-                None => {}
-            }
-            let elem = self.parse_element()?;
-            add(&self.input, &mut elems, elem)?;
-        }
+        listed!(self, Sign::RBracket, parse_element)
     }
 
-    /// An element of an array literal, or a hole (`None`), and the comma behind it; none stands before the bracket.
+    /// An element of an array literal, and the comma behind it, whose place is answered too; none stands before the
+    /// bracket. Or a hole (`None`), which is a comma, and has none behind it.
     #[cycle(productions)]
-    fn parse_element(&mut self) -> PResult<Elem>
+    fn parse_element(&mut self) -> PResult<(Elem, Option<Span>)>
         ensures { Produces I.model B.is_faithful elem_of elem_at (element B.forms)
             (count self.old.nodes) self.old result self.new }
     {
         match eat(&mut self.input, Sign::Comma)? {
-            Some(_) => Ok(None),
+            Some(_) => Ok((None, None)),
             None => self.parse_element_item(),
         }
     }
 
     /// An element of an array literal that is no hole, and the comma behind it; none stands before the bracket.
     #[cycle(productions)]
-    fn parse_element_item(&mut self) -> PResult<Elem>
+    fn parse_element_item(&mut self) -> PResult<(Elem, Option<Span>)>
         ensures { Produces I.model B.is_faithful elem_of elem_at (element_item B.forms)
             (count self.old.nodes) self.old result self.new }
     {
         let item = self.parse_expr_or_spread()?;
-        separate(&mut self.input, Sign::RBracket)?;
-        Ok(Some(item))
+        let comma = separate(&mut self.input, Sign::RBracket)?;
+        Ok((Some(item), comma))
     }
 
     /// An item of a list (ECMA-262, 13.2.4 and 13.3.8): an assignment expression, or one behind `...`. A refusal of the

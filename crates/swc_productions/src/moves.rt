@@ -15,6 +15,7 @@ ghost use Rattle.swc_productions.specs.Parsing.{is_memory, ident_spelling, name_
 ghost use Rattle.swc_productions.specs.Parsing.{Refuses, Tries, ParsesAlone, ContinuesAlone, Eats, Looks, Fits};
 ghost use Rattle.swc_productions.specs.Parsing.{Checked, Tells, begins_async};
 ghost use Rattle.swc_productions.specs.Keys.{expected};
+ghost use Rattle.swc_nodes.specs.Commas.{Remembers};
 ghost use Rattle.swc_productions.specs.Lists.{is_sign_token, separated, closed};
 
 use std::alloc::{AllocError, Global};
@@ -29,6 +30,7 @@ use swc_ident::ident;
 use swc_input::buffer::Buffer;
 use swc_input::token::Token;
 use swc_input::tokens::Tokens;
+use swc_nodes::commas::TrailingCommas;
 use swc_nodes::node::ExprId;
 
 /// Looks at the current token: whether there is one, and not the end. Refused only for want of memory.
@@ -266,6 +268,25 @@ pub(crate) fn made<I: Tokens>(input: &Buffer<I>, id: Result<ExprId, AllocError>)
     }
 }
 
+/// The number of a literal's node, where a comma behind its last part is remembered too, or that there is none. Refused
+/// only for want of memory.
+pub(crate) fn made_literal<I: Tokens>(
+    input: &Buffer<I>,
+    id: Result<ExprId, AllocError>,
+    commas: &mut TrailingCommas,
+    start: BytePos,
+    trailing_comma: Option<Span>,
+) -> PResult<ExprId>
+    ensures ok { IfOk result (λ r. id ≡ Ok r) }
+    ensures refused { IfErr result (λ e. e ≡ no_memory (last_position input.now)) }
+    ensures remembers { OnOk result (Remembers start.0 trailing_comma commas.old commas.new) }
+{
+    match commas.remember(start, trailing_comma) {
+        Ok(()) => made(input, id),
+        Err(_) => Err(input.out_of_memory()),
+    }
+}
+
 /// A sign that productions look for.
 #[derive(Clone, Copy)]
 pub(crate) enum Sign {
@@ -369,14 +390,51 @@ pub(crate) fn expect<I: Tokens>(input: &mut Buffer<I>, sign: Sign) -> PResult<Sp
     }
 }
 
-/// Consumes what stands behind an item of a list: a comma, or nothing where the sign that closes the list is current.
-pub(crate) fn separate<I: Tokens>(input: &mut Buffer<I>, close: Sign) -> PResult<()>
-    ensures separates { ContinuesAlone I.model (λ u. u) (separated (is_sign_token close)) input.old result input.new }
+/// The items of a list, the place of a comma behind the last one, and that of the sign that closes the list.
+#[derive(Drop)]
+pub(crate) struct Listed<T> {
+    pub(crate) items: Vec<T>,
+    pub(crate) trailing_comma: Option<Span>,
+    pub(crate) end: Span,
+}
+
+/// The items of a list, read by one method each, up to the sign that closes the list: the loop of all lists.
+macro_rules! listed {
+    ($productions:ident, $close:expr, $item:ident) => {{
+        let mut items = Vec::new($productions.alloc);
+        let mut trailing_comma = None;
+        loop {
+            match eat(&mut $productions.input, $close)? {
+                Some(end) => {
+                    return Ok(Listed {
+                        items,
+                        trailing_comma,
+                        end,
+                    });
+                }
+                None => {}
+            }
+            let (item, comma) = $productions.$item()?;
+            add(&$productions.input, &mut items, item)?;
+            trailing_comma = comma;
+        }
+    }};
+}
+
+pub(crate) use listed;
+
+/// Consumes what stands behind an item of a list: a comma, whose place is answered, or nothing where the sign that closes
+/// the list is current.
+pub(crate) fn separate<I: Tokens>(input: &mut Buffer<I>, close: Sign) -> PResult<Option<Span>>
+    ensures separates { ContinuesAlone I.model (λ s. s) (separated (is_sign_token close)) input.old result input.new }
     ensures falls { OnOk result (to_come I.model input.new ≤ to_come I.model input.old) }
 {
     match eat(input, Sign::Comma)? {
-        Some(_) => Ok(()),
-        None => require_close(input, close),
+        Some(comma) => Ok(Some(comma)),
+        None => {
+            require_close(input, close)?;
+            Ok(None)
+        }
     }
 }
 

@@ -25,14 +25,15 @@ ghost use Rattle.swc_productions.specs.Parsing.{seen, Here, Refuses, Checked, Tr
 ghost use Rattle.swc_productions.specs.Parsing.{ContinuesAlone, Produces, itself, tree_of};
 ghost use Rattle.swc_productions.specs.Parsing.{key_of, key_at, shell_of, shell_at, function_of, function_at};
 ghost use Rattle.swc_productions.specs.Parsing.{after_of, after_at};
-ghost use Rattle.swc_productions.specs.Parsing.{ident_spelling, prop_of, prop_at, props_of, props_at};
+ghost use Rattle.swc_productions.specs.Parsing.{ident_spelling, prop_of, prop_at, prop_item_of, prop_item_at};
+ghost use Rattle.swc_productions.specs.Parsing.{props_of, props_at};
 
 use crate::kinds::{
     MethodKind, PropKind, is_word, modifier_here, parse_modifiers, prop_kind, questioned_kind,
 };
 use crate::moves::{
-    Sign, add, bump, eat, emit_err, expect, is_sign, look, made, parse_ident_name, require_cur,
-    separate, set_ctx, skip, unexpected,
+    Listed, Sign, add, bump, eat, emit_err, expect, is_sign, listed, look, made_literal,
+    parse_ident_name, require_cur, separate, set_ctx, skip, unexpected,
 };
 use crate::productions::Productions;
 use std::alloc::Global;
@@ -61,37 +62,33 @@ impl<I: Tokens, B: Bodies<I>> Productions<I, B> {
     {
         let start = self.input.cur_span().lo;
         skip(&mut self.input);
-        let (props, end) = self.parse_props()?;
-        let node = self.nodes.object_lit(start, end.hi, props);
-        made(&self.input, node)
+        let list = self.parse_props()?;
+        let end = list.end.hi;
+        let trailing_comma = list.trailing_comma;
+        let node = self
+            .nodes
+            .object_lit(start, end, list.items, trailing_comma);
+        made_literal(&self.input, node, &mut self.commas, start, trailing_comma)
     }
 
-    /// The properties of an object literal, and the brace that closes it, whose place is answered too.
+    /// The properties of an object literal, and the brace that closes it.
     #[cycle(productions)]
-    fn parse_props(&mut self) -> PResult<(Vec<PropNode<B::Block>>, Span)>
+    fn parse_props(&mut self) -> PResult<Listed<PropNode<B::Block>>>
         ensures { Produces I.model B.is_faithful props_of props_at (run B.forms (sym Props))
             (count self.old.nodes) self.old result self.new }
     {
-        let mut props = Vec::new(self.alloc);
-        loop {
-            match eat(&mut self.input, Sign::RBrace)? {
-                Some(end) => return Ok((props, end)),
-                None => {}
-            }
-            let prop = self.parse_prop_item()?;
-            add(&self.input, &mut props, prop)?;
-        }
+        listed!(self, Sign::RBrace, parse_prop_item)
     }
 
-    /// A property of an object literal, and the comma behind it; none stands before the brace.
+    /// A property of an object literal, and the comma behind it, whose place is answered too; none stands before the brace.
     #[cycle(productions)]
-    fn parse_prop_item(&mut self) -> PResult<PropNode<B::Block>>
-        ensures { Produces I.model B.is_faithful prop_of prop_at (prop_item B.forms)
+    fn parse_prop_item(&mut self) -> PResult<(PropNode<B::Block>, Option<Span>)>
+        ensures { Produces I.model B.is_faithful prop_item_of prop_item_at (prop_item B.forms)
             (count self.old.nodes) self.old result self.new }
     {
         let prop = self.parse_object_prop()?;
-        separate(&mut self.input, Sign::RBrace)?;
-        Ok(prop)
+        let comma = separate(&mut self.input, Sign::RBrace)?;
+        Ok((prop, comma))
     }
 
     /// A property of an object literal (ECMA-262, 13.2.5).

@@ -19,6 +19,7 @@ use swc_context::word::{Keyword, Word};
 use swc_input::buffer::Buffer;
 use swc_input::token::Token;
 use swc_input::tokens::Tokens;
+use swc_nodes::commas::TrailingCommas;
 use swc_nodes::nodes::NodesOf;
 
 /// The productions of the grammar, as methods: each reads its symbol from the buffer, from the
@@ -37,6 +38,8 @@ pub struct Productions<I: Tokens, B: Bodies<I>> {
     pub nodes: NodesOf<B>,
     /// Reads functions, classes and blocks.
     pub bodies: B,
+    /// Where commas stand behind the last parts of literals.
+    pub commas: TrailingCommas,
 }
 
 impl<I: Tokens, B: Bodies<I>> Productions<I, B> {

@@ -3,8 +3,11 @@ use Rattle.std.proofs.Common.{◌≡◌, ℕ, List, [], ◌∷◌, ◌++◌, ref
 use Rattle.swc_ast.specs.Tree.{Tree, nil, cons, trees}
 use Rattle.swc_ast.specs.declared.spanned.Spanned.{Ghosts}
 use Rattle.swc_nodes.specs.Slots.{Part, flat}
-use Rattle.swc_nodes.specs.Stands.{tree_at}
+use Rattle.swc_nodes.specs.NodeTree.{node_tree, marked_tree}
+use Rattle.swc_nodes.specs.Stands.{seat_at, tree_at, bare_at, node_seat}
+use Rattle.swc_nodes.specs.declared.node.Node.{Node}
 use Rattle.swc_nodes.specs.declared.nodes.Nodes.{Nodes}
+use Rattle.swc_nodes.proofs.Unmarked.{unmarked-node}
 use Rattle.swc_trees.specs.Moving.{Agrees}
 
 pub two : {F C K : Type 0} {s t u v : Tree F C K} → s ≡ u → t ≡ v → cons s (cons t nil) ≡ cons u (cons v nil)
@@ -39,6 +42,17 @@ module _ {F C K : Type 0} {fg : Ghosts F} {cg : Ghosts C} {kg : Ghosts K} where
   agrees-second at ns [] qs h = h
   agrees-second at ns (p ∷ ps) qs h = agrees-second at ns ps qs h.1
 
-  pub agrees-self : (ns : Nodes F C K fg cg kg) (ps : List Part) → Agrees (tree_at ns) ns ps
+  pub agrees-self : (ns : Nodes F C K fg cg kg) (ps : List Part) → Agrees (bare_at ns) ns ps
   agrees-self ns [] = tt
   agrees-self ns (p ∷ ps) = (refl, agrees-self ns ps)
+
+  -- the trees of seats that are the same, without the marks of commas
+  pub bare-same : (ns ms : Nodes F C K fg cg kg) (i j : ℕ) → seat_at ns i ≡ seat_at ms j → bare_at ns i ≡ bare_at ms j
+  bare-same ns ms i j e = cc
+
+  -- the tree of a node's seat, without the marks of commas: the node's, whose parts have none
+  pub bare-node : (ns ms : Nodes F C K fg cg kg) (i : ℕ) (x : Node F C K) →
+      seat_at ns i ≡ node_seat ms (seat_at ms) i x → bare_at ns i ≡ node_tree fg.place cg.place kg.place (bare_at ms) x
+  bare-node ns ms i x e =
+      let t : tree_at ns i ≡ marked_tree fg.place cg.place kg.place (tree_at ms) x = ap (λ s. s.tree) e in
+      rw (t) (unmarked-node fg.place cg.place kg.place (tree_at ms) x)

@@ -149,8 +149,8 @@ module _ {F C K : Type 0} (fun_at : F → Span) (class_at : C → Span) (block_a
   -- the trees of a node's parts weigh less than its own
   pub parts-lighter : (x : Node F C K) → weights at (slots x) < weight (node_tree fun_at class_at block_at at x)
   parts-lighter (n.This e) = omega arith
-  parts-lighter (n.Array s elems) = let w = weights-flat at (if_some item_parts) (or_hole (item_tree (expr_of fun_at class_at block_at at))) (weights-some at item_parts (item_tree (expr_of fun_at class_at block_at at)) item-lighter) elems.items in omega arith
-  parts-lighter (n.Object s props) = let w = weights-flat at prop_parts (prop_of fun_at class_at block_at at) prop-lighter props.items in omega arith
+  parts-lighter (n.Array s elems comma) = let w = weights-flat at (if_some item_parts) (or_hole (item_tree (expr_of fun_at class_at block_at at))) (weights-some at item_parts (item_tree (expr_of fun_at class_at block_at at)) item-lighter) elems.items in omega arith
+  parts-lighter (n.Object s props comma) = let w = weights-flat at prop_parts (prop_of fun_at class_at block_at at) prop-lighter props.items in omega arith
   parts-lighter (n.Fn f) = omega arith
   parts-lighter (n.Class c) = omega arith
   parts-lighter (n.Unary s op a) = omega arith

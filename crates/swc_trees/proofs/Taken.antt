@@ -15,7 +15,7 @@ use Rattle.swc_nodes.specs.declared.nodes.Nodes.{Nodes}
 use Rattle.swc_nodes.proofs.Chains.{both_true, chain-bound, chain-first, chain-second, chain-same, chain-up, floor-both}
 use Rattle.swc_nodes.proofs.Held.{from-apart}
 use Rattle.swc_nodes.proofs.Standing.{grows-same, grows-then, grows-count, seat-later}
-use Rattle.swc_trees.proofs.Agreed.{flat-append, agrees-first, agrees-second}
+use Rattle.swc_trees.proofs.Agreed.{flat-append, agrees-first, agrees-second, bare-same}
 use Rattle.swc_trees.specs.Moving.{Agrees, TakesOut}
 use Rattle.swc_trees.specs.Refusable.{Pushed, Reversed}
 
@@ -31,7 +31,7 @@ module _ {F C K : Type 0} {fg : Ghosts F} {cg : Ghosts C} {kg : Ghosts K} where
       let b = both_true h in
       let w = chain-bound (seat_at ns) (suc p.at) ps hi b.1 in
       let e : seat_at ns p.at ≡ seat_at ms p.at = seat-later p.at g (omega arith) in
-      (a.0 ∙ ap (λ s. s.tree) e, agrees-later at ns ms (suc p.at) ps hi g le b.1 a.1)
+      (a.0 ∙ bare-same ns ms p.at p.at e, agrees-later at ns ms (suc p.at) ps hi g le b.1 a.1)
 
   -- ---- parts, and then more of them, which are taken first
 

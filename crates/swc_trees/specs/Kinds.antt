@@ -22,8 +22,8 @@ is_choice x = is_call x
 
 -- a literal of parts, a link or an operation with one operand, or one of those
 abbrev pub is_operation : {F C K : Type 0} → Node F C K → Bool
-is_operation (n.Array s elems) = true
-is_operation (n.Object s props) = true
+is_operation (n.Array s elems comma) = true
+is_operation (n.Object s props comma) = true
 is_operation (n.Seq s es) = true
 is_operation (n.Paren p) = true
 is_operation (n.Member m) = true

@@ -16,7 +16,7 @@ use Rattle.swc_ast.specs.declared.prop.PropOrSpread.{PropOrSpread}
 use Rattle.swc_nodes.specs.NodeTree.{node_tree, expr_of, pat_of, target_of, prop_of, pat_prop_of}
 use Rattle.swc_nodes.specs.Seats.{floor}
 use Rattle.swc_nodes.specs.Slots.{Part, View, form, view_ok, slots, prop_parts, pat_prop_parts, target_part}
-use Rattle.swc_nodes.specs.Stands.{count, seat_at, tree_at, Apart, Grows, Left}
+use Rattle.swc_nodes.specs.Stands.{count, seat_at, bare_at, Apart, From, Grows, Left}
 use Rattle.swc_nodes.specs.declared.node.ExprId.{ExprId}
 use Rattle.swc_nodes.specs.declared.node.Node.{Node}
 use Rattle.swc_nodes.specs.declared.node.PatId.{PatId}
@@ -32,10 +32,11 @@ module _ {F C K : Type 0} (fun_at : F → Span) (class_at : C → Span) (block_a
     pub view : view_ok v (form x) ≡ true
 
 module _ {F C K : Type 0} {fg : Ghosts F} {cg : Ghosts C} {kg : Ghosts K} where
-  -- what is given for each part is what it stands for among the nodes
+  -- What is given for each part is what it stands for among the nodes. Trees in boxes have no marks of commas, and what stands for parts
+  -- here has none.
   abbrev pub Agrees : (ℕ → Tree F C K) → Nodes F C K fg cg kg → List Part → Type 0
   Agrees at ns [] = Unit {0}
-  Agrees at ns (p ∷ ps) = (at p.at ≡ tree_at ns p.at) × Agrees at ns ps
+  Agrees at ns (p ∷ ps) = (at p.at ≡ bare_at ns p.at) × Agrees at ns ps
 
   -- Parts were taken out, the last first, and none with a number below the smallest that is reached from them. What is answered is what
   -- `same` says, where the parts stand for what they stood for.
@@ -52,6 +53,11 @@ module _ {F C K : Type 0} {fg : Ghosts F} {cg : Ghosts C} {kg : Ghosts K} where
   pub record PutsIn {Y : Type 0} (parts : Y → List Part) (same : (ℕ → Tree F C K) → Y → Type 0) (ns : Nodes F C K fg cg kg) (r : Result Y AllocError) (ms : Nodes F C K fg cg kg) : Type 0 where
     pub grows : Grows ns ms
     pub put : IfOk r (Put parts same (count ns) ms)
+
+  -- the number stands for the tree, as trees in boxes are, and no number below k is reached from it
+  pub record MadeBare (k : ℕ) (ms : Nodes F C K fg cg kg) (p : Part) (t : Tree F C K) : Type 0 where
+    pub from : From k ms p
+    pub stands : bare_at ms p.at ≡ t
 
   -- the trees of boxes, and of what stands in them, where the hook's values lie as these nodes have it
   abbrev pub boxed_in : Nodes F C K fg cg kg → Box (Expr F C K) Global → Tree F C K

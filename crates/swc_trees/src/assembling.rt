@@ -61,11 +61,11 @@ fn assemble_operation<F: Spanned + Drop, C: Spanned + Drop, K: Spanned + Drop>(
     ensures { AssemblesExpr F.place C.place K.place node built.old.items result built.new.items }
 {
     match node {
-        Node::Array { span, elems } => {
+        Node::Array { span, elems, .. } => {
             let elems = all(alloc, built, elems)?;
             Ok(Expr::Array { span, elems })
         }
-        Node::Object { span, props } => {
+        Node::Object { span, props, .. } => {
             let props = all(alloc, built, props)?;
             Ok(Expr::Object { span, props })
         }

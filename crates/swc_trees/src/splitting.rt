@@ -184,7 +184,11 @@ fn split_array<F: Spanned + Drop, C: Spanned + Drop, K: Spanned + Drop>(
         t.boxed)) elems.old.items))) built.old.items result built.new.items }
 {
     let elems = split_all(alloc, built, elems)?;
-    Ok(Node::Array { span, elems })
+    Ok(Node::Array {
+        span,
+        elems,
+        trailing_comma: None,
+    })
 }
 
 /// An object literal.
@@ -198,7 +202,11 @@ fn split_object<F: Spanned + Drop, C: Spanned + Drop, K: Spanned + Drop>(
         props.old.items))) built.old.items result built.new.items }
 {
     let props = split_all(alloc, built, props)?;
-    Ok(Node::Object { span, props })
+    Ok(Node::Object {
+        span,
+        props,
+        trailing_comma: None,
+    })
 }
 
 /// Expressions in a sequence.

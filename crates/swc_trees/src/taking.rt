@@ -6,7 +6,7 @@ ghost use Rattle.swc_ast.specs.Tree.{Tree};
 ghost use Rattle.swc_nodes.specs.NodeTree.{node_tree};
 ghost use Rattle.swc_nodes.specs.Seats.{floor};
 ghost use Rattle.swc_nodes.specs.Slots.{form, view_ok, slots, expr_part, pat_part, key_parts, prop_parts};
-ghost use Rattle.swc_nodes.specs.Stands.{count, seat_at, tree_at, first_at, Apart, From, Left};
+ghost use Rattle.swc_nodes.specs.Stands.{count, seat_at, bare_at, first_at, Apart, From, Left};
 ghost use Rattle.swc_nodes.specs.Walking.{part_of};
 ghost use Rattle.swc_trees.specs.Building.{part_kind, built_kind, built_tree, Stand, IsFor, AreFor};
 ghost use Rattle.swc_trees.specs.Moving.{TakesOut, boxed_in, pat_in, prop_or_spread_in, prop_node_as};
@@ -32,7 +32,7 @@ pub fn take_expr<F: Spanned + Drop, C: Spanned + Drop, K: Spanned + Drop>(
 ) -> Result<Box<Expr<F, C, K>>, AllocError>
     requires { From 0 nodes.old (expr_part id) }
     ensures left { Left (first_at nodes.old id.0) nodes.old nodes.new }
-    ensures moved { IfOk result (λ e. boxed_in nodes.old e ≡ tree_at nodes.old id.0) }
+    ensures moved { IfOk result (λ e. boxed_in nodes.old e ≡ bare_at nodes.old id.0) }
 {
     match take(nodes, alloc, PartId::Expr(id))? {
         Built::Expr(expr) => Ok(expr),
@@ -48,7 +48,7 @@ pub fn take_pat<F: Spanned + Drop, C: Spanned + Drop, K: Spanned + Drop>(
 ) -> Result<Pat<F, C, K>, AllocError>
     requires { From 0 nodes.old (pat_part id) }
     ensures left { Left (first_at nodes.old id.0) nodes.old nodes.new }
-    ensures moved { IfOk result (λ p. pat_in nodes.old p ≡ tree_at nodes.old id.0) }
+    ensures moved { IfOk result (λ p. pat_in nodes.old p ≡ bare_at nodes.old id.0) }
 {
     match take(nodes, alloc, PartId::Pat(id))? {
         Built::Pat(pat) => Ok(pat),
@@ -65,7 +65,7 @@ pub fn take_key<F: Spanned + Drop, C: Spanned + Drop, K: Spanned + Drop>(
     requires { Apart 0 nodes.old (key_parts key) }
     ensures left { Left (floor (seat_at nodes.old) (count nodes.old) (key_parts key)) nodes.old nodes.new }
     ensures moved { IfOk result (λ k. prop_name_tree (boxed_in nodes.old) k
-        ≡ prop_name_tree (λ id. tree_at nodes.old id.0) key) }
+        ≡ prop_name_tree (λ id. bare_at nodes.old id.0) key) }
 {
     match key {
         PropName::Ident(name) => Ok(PropName::Ident(name)),
@@ -88,7 +88,7 @@ pub fn take_prop<F: Spanned + Drop, C: Spanned + Drop, K: Spanned + Drop>(
     requires { Apart 0 nodes.old (prop_parts prop) }
     ensures left { Left (floor (seat_at nodes.old) (count nodes.old) (prop_parts prop)) nodes.old nodes.new }
     ensures moved { IfOk result
-        (λ p. prop_or_spread_in nodes.old p ≡ prop_node_as nodes.old (tree_at nodes.old) prop) }
+        (λ p. prop_or_spread_in nodes.old p ≡ prop_node_as nodes.old (bare_at nodes.old) prop) }
 {
     let parts = parts_of(alloc, &prop)?;
     let mut built = take_all(nodes, alloc, parts)?;

@@ -1,5 +1,8 @@
 // Keys, and the properties of object literals, as calls of a parser.
+ghost use Rattle.std.specs.Prelude.{◌≡◌, OnOk};
 ghost use Rattle.swc_grammar.specs.Symbols.{Key, Prop};
+ghost use Rattle.swc_nodes.specs.Commas.{Remembers};
+ghost use Rattle.swc_ecma_parser.specs.Calls.{buffer_of, nodes_of, commas_of, has_failed, MakesObject};
 ghost use Rattle.swc_ecma_parser.specs.Promise.{Promised, key_in_boxes, prop_in_boxes};
 
 use crate::parser::Parser;
@@ -14,14 +17,14 @@ use swc_trees::making::object_lit;
 /// What object literals and object patterns (ECMA-262, 13.2.5 and 14.3.3) are read as, a property at
 /// a time.
 pub trait ParseObject<Obj> {
-    ghost use Rattle.std.specs.Prelude.{List, Result};
+    ghost use Rattle.std.specs.Prelude.{List, Option, Result};
     ghost use Rattle.swc_context.specs.declared.error.Error.{Error};
     ghost use Rattle.swc_context.specs.declared.span.Span.{Span};
 
     /// What stands between the braces.
     type Prop;
 
-    ghost makes: { Self → Span → List Self.Prop → Result Obj Error → Self → Type 0 };
+    ghost makes: { Self → Span → List Self.Prop → Option Span → Result Obj Error → Self → Type 0 };
 
     ghost reads: { Self → Result Self.Prop Error → Self → Type 0 };
 
@@ -32,7 +35,7 @@ pub trait ParseObject<Obj> {
         props: Vec<Self::Prop>,
         trailing_comma: Option<Span>,
     ) -> PResult<Obj>
-        ensures { makes self.old span props.items result self.new };
+        ensures { makes self.old span props.items trailing_comma result self.new };
 
     /// A property.
     fn parse_object_prop(&mut self) -> PResult<Self::Prop>
@@ -56,34 +59,58 @@ impl<I: Tokens, B: Bodies<I>> Parser<I, B> {
     }
 }
 
+impl<I: Tokens, B: Bodies<I>> Parser<I, B> {
+    /// An object literal of the properties, whose comma is remembered. Refused only for want of memory.
+    fn make_literal(
+        &mut self,
+        span: Span,
+        props: Vec<PropOrSpread<B::Fun, B::Class, B::Block>>,
+        trailing_comma: Option<Span>,
+    ) -> PResult<Box<ExprOf<B>>>
+        ensures makes { MakesObject B.Fun.place B.Class.place B.Block.place span props.items
+            (buffer_of self.old) result (buffer_of self.new) }
+        ensures remembers { OnOk result
+            (Remembers span.lo.0 trailing_comma (commas_of self.old) (commas_of self.new)) }
+        ensures nodes { nodes_of self.new ≡ nodes_of self.old }
+        ensures runs { has_failed self.new ≡ has_failed self.old }
+    {
+        match self.productions.commas.remember(span.lo, trailing_comma) {
+            Ok(()) => match object_lit(self.productions.alloc, span, props) {
+                Ok(object) => Ok(object),
+                Err(_) => Err(self.productions.input.out_of_memory()),
+            },
+            Err(_) => {
+                let_go_props(props);
+                Err(self.productions.input.out_of_memory())
+            }
+        }
+    }
+}
+
 impl<I: Tokens, B: Bodies<I>> ParseObject<Box<ExprOf<B>>> for Parser<I, B> {
     ghost use Rattle.swc_grammar.specs.Symbols.{Prop};
-    ghost use Rattle.swc_ecma_parser.specs.Calls.{Called, MakesObject};
+    ghost use Rattle.swc_ecma_parser.specs.Calls.{Makes};
     ghost use Rattle.swc_ecma_parser.specs.Promise.{Promised, prop_in_boxes};
 
     type Prop = PropOrSpread<B::Fun, B::Class, B::Block>;
 
-    ghost makes = { λ p span props. Called (MakesObject B.Fun.place B.Class.place B.Block.place span props) p };
+    ghost makes = { λ p span props comma. Makes span props comma p };
 
     ghost reads = { Promised I.model B.is_faithful B.forms prop_in_boxes Prop };
 
-    /// An object literal of the properties. Nothing is recorded. A comma behind the last matters where the literal is
-    /// read as a pattern, which it isn't yet: so far it is not remembered.
+    /// An object literal of the properties. Nothing is recorded. The comma behind the last is remembered at the literal's
+    /// start, or that there is none (`Parser::trailing_comma`): it matters where the literal is read as a pattern.
     fn make_object(
         &mut self,
         span: Span,
         props: Vec<PropOrSpread<B::Fun, B::Class, B::Block>>,
-        _trailing_comma: Option<Span>,
+        trailing_comma: Option<Span>,
     ) -> PResult<Box<ExprOf<B>>>
-        ensures { Called (MakesObject B.Fun.place B.Class.place B.Block.place span props.items)
-            self.old result self.new }
+        ensures { Makes span props.items trailing_comma self.old result self.new }
     {
         match self.begin() {
             Ok(()) => {
-                let answer = match object_lit(self.productions.alloc, span, props) {
-                    Ok(object) => Ok(object),
-                    Err(_) => Err(self.productions.input.out_of_memory()),
-                };
+                let answer = self.make_literal(span, props, trailing_comma);
                 self.finish(answer)
             }
             Err(error) => {

@@ -2,11 +2,12 @@ use Rattle.std.proofs.Common.{refl, sym, ◌∙◌}
 use Rattle.std.proofs.lemmas.Result.{err_from_is_err_and}
 use Rattle.swc_grammar.specs.Symbols.{Expr}
 use Rattle.swc_grammar.specs.Clean.{sym as at, run}
+use Rattle.swc_nodes.specs.Stands.{bare_at}
 use Rattle.swc_productions.specs.Parsing.{tree_of}
 use Rattle.swc_ecma_parser.specs.Calls.{nodes_of, tree_by}
 use Rattle.swc_ecma_parser.proofs.Calling.{promised, promised-again}
 use Rattle.swc_ecma_parser.proofs.Moving.{moved-parses, cut-back}
-use Rattle.swc_ecma_parser.proofs.Top.{expr-meets}
+use Rattle.swc_ecma_parser.proofs.Top.{expr-stops, meets-in-boxes}
 use Rattle.swc_ecma_parser.proofs.parser.Parser.parse_expr.Goals as goal
 
 pub returns-in_err-begin : goal.returns-in_err-begin
@@ -21,7 +22,8 @@ returns g c =
     record {
       promised = promised c.parse_expr-answer.new.self.input (nodes_of c.move_out-answer.new.self) c.move_out-answer.result c.finish.result c.in_ok-begin.ensures.runs moved.runs
           done.answer (done.buffer ∙ moved.buffer) done.nodes done.fails
-          (expr-meets g.I.Tokens.model g.B.Bodies.is_faithful g.B.BodyForms.forms g.met.B.Bodies.lawful boxed _ c.move_out-answer.result _
-          (moved-parses g.I.Tokens.model g.B.Bodies.is_faithful (run g.B.BodyForms.forms (at Expr)) c.parse_expr-answer.new.self.nodes tree_of boxed _ _ c.parse_expr-answer.result c.move_out-answer.result read.reads moved.moved))
+          (meets-in-boxes g.I.Tokens.model g.B.Bodies.is_faithful g.B.BodyForms.forms g.met.B.Bodies.lawful boxed expr-stops _ c.move_out-answer.result _
+          (moved-parses g.I.Tokens.model g.B.Bodies.is_faithful (run g.B.BodyForms.forms (at Expr)) c.parse_expr-answer.new.self.nodes tree_of (λ e. bare_at c.parse_expr-answer.new.self.nodes e.0) boxed _ _ c.parse_expr-answer.result c.move_out-answer.result read.reads
+          (λ e. refl) moved.moved))
           (cut-back (nodes_of c.move_out-answer.new.self) read.grows (rw (sym c.len-start.ensures) moved.nodes));
     }

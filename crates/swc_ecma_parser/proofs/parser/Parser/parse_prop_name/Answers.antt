@@ -3,11 +3,13 @@ use Rattle.std.proofs.lemmas.Result.{err_from_is_err_and}
 use Rattle.swc_grammar.specs.Symbols.{Key}
 use Rattle.swc_grammar.specs.Clean.{sym as at, run}
 use Rattle.swc_ast.specs.Parts.{prop_name_tree}
-use Rattle.swc_productions.specs.Parsing.{key_at}
+use Rattle.swc_nodes.specs.Stands.{bare_at}
+use Rattle.swc_nodes.proofs.Unmarked.{unmarked-key}
+use Rattle.swc_productions.specs.Parsing.{key_at, tree_of}
 use Rattle.swc_ecma_parser.specs.Calls.{nodes_of, tree_by}
 use Rattle.swc_ecma_parser.proofs.Calling.{promised, promised-again}
 use Rattle.swc_ecma_parser.proofs.Moving.{moved-parses, cut-back}
-use Rattle.swc_ecma_parser.proofs.Top.{key-meets}
+use Rattle.swc_ecma_parser.proofs.Top.{key-stops, meets-in-boxes}
 use Rattle.swc_ecma_parser.proofs.parser.Parser.parse_prop_name.Goals as goal
 
 pub returns-in_err-begin : goal.returns-in_err-begin
@@ -22,7 +24,8 @@ returns g c =
     record {
       promised = promised c.parse_prop_name-answer.new.self.input (nodes_of c.move_out-answer.new.self) c.move_out-answer.result c.finish.result c.in_ok-begin.ensures.runs moved.runs
           done.answer (done.buffer ∙ moved.buffer) done.nodes done.fails
-          (key-meets g.I.Tokens.model g.B.Bodies.is_faithful g.B.BodyForms.forms g.met.B.Bodies.lawful (prop_name_tree boxed) _ c.move_out-answer.result _
-          (moved-parses g.I.Tokens.model g.B.Bodies.is_faithful (run g.B.BodyForms.forms (at Key)) c.parse_prop_name-answer.new.self.nodes key_at (prop_name_tree boxed) _ _ c.parse_prop_name-answer.result c.move_out-answer.result read.reads moved.moved))
+          (meets-in-boxes g.I.Tokens.model g.B.Bodies.is_faithful g.B.BodyForms.forms g.met.B.Bodies.lawful (prop_name_tree boxed) key-stops _ c.move_out-answer.result _
+          (moved-parses g.I.Tokens.model g.B.Bodies.is_faithful (run g.B.BodyForms.forms (at Key)) c.parse_prop_name-answer.new.self.nodes key_at (prop_name_tree (λ e. bare_at c.parse_prop_name-answer.new.self.nodes e.0)) (prop_name_tree boxed) _ _ c.parse_prop_name-answer.result c.move_out-answer.result read.reads
+          (λ k. unmarked-key (tree_of c.parse_prop_name-answer.new.self.nodes) (λ e. bare_at c.parse_prop_name-answer.new.self.nodes e.0) (λ e. refl) k) moved.moved))
           (cut-back (nodes_of c.move_out-answer.new.self) read.grows (rw (sym c.len-start.ensures) moved.nodes));
     }

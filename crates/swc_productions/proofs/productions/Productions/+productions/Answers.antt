@@ -15,8 +15,8 @@ use Rattle.swc_nodes.specs.Lists.{trees_append, elem_parts, elem_tree, elem_tree
 use Rattle.swc_nodes.specs.Seats.{chain}
 use Rattle.swc_nodes.specs.Slots.{flat, if_some, item_parts, prop_parts, expr_part}
 use Rattle.swc_nodes.specs.Stands.{count, seat_at, tree_at}
-use Rattle.swc_nodes.proofs.Lists.{apart-none, apart-list-more, elems-more, trees_append-nil, props-more}
-use Rattle.swc_grammar.specs.Trees.{to, array_e, listed, items_of, unary_e, paren_e, bin_e, nullish_ok, delete_ok}
+use Rattle.swc_nodes.proofs.Lists.{apart-none, apart-list-more, elems-more, props-more}
+use Rattle.swc_grammar.specs.Trees.{to, array_e, items_of, comma_of, unary_e, paren_e, bin_e, nullish_ok, delete_ok}
 use Rattle.swc_grammar.specs.Trees.{min_right, computed_e, object_e, spread_prop_e, prop_of as prop_tree, cover_e, ident_e, value_e, no_cover_in}
 use Rattle.swc_grammar.specs.Symbols.{Assign, Level, Elements}
 use Rattle.swc_grammar.specs.Tokens.{is_lparen, is_rparen, is_lbracket, is_rbracket, is_rbrace, is_comma, is_dots, is_this}
@@ -28,7 +28,6 @@ use Rattle.swc_productions.specs.Readers.{unary_op_tail, bin_op_node, bin_op, tu
 use Rattle.swc_productions.specs.Keys.{key_by, key_close}
 use Rattle.swc_productions.specs.Lists.{array_lit_tail, element_by, elements_behind, behind_by, separated}
 use Rattle.swc_productions.specs.Parsing.{seen, behind, tree_of, item_at, elems_at, seen_of, prop_at, ident_spelling, key_at}
-use Rattle.swc_productions.specs.Parsing.{props_at}
 use Rattle.swc_bodies.specs.Readings.{is_function, is_class, is_brace}
 use Rattle.swc_productions.specs.Properties.{object_lit_tail, props_behind, props_by, prop_by, cover_by, cover_behind}
 use Rattle.swc_productions.specs.Methods.{behind_key, after_by, method_tree, method_close, method_tail}
@@ -118,26 +117,26 @@ parse_primary_expr-returns-in_err-look g t c =
     let p = err_from_is_err_and c.from_residual.result c.from_residual.ensures.1 in rw (p.1, p.2)
     (m.no (s.unheard_memory c.in_err-look.ensures.looks) (grows-same _))
 
-pub parse_array_lit-returns-in_err-elems : goal.parse_array_lit-returns-in_err-elems
-parse_array_lit-returns-in_err-elems g t c =
+pub parse_array_lit-returns-in_err-list : goal.parse_array_lit-returns-in_err-list
+parse_array_lit-returns-in_err-list g t c =
     let first = c.skip.ensures.took.1 in
     let p = err_from_is_err_and c.from_residual.result c.from_residual.ensures.1 in rw (p.1, p.2)
     (m.no (s.unheard_after (s.on_took {g = array_lit_tail _ (plain first.was).span} g.met.I.Tokens.laws first (λ x ts. list.array_lit_opens _ (plain first.was) x ts (rule.passes_plain is_lbracket _ _ first.current c.requires)))
-    (s.unheard_call (λ x p. Some (array_e (to (plain first.was).span (span_of p.0)) (items_of p.0), p.1)) (λ x ts. list.array_lit_splits _ (plain first.was).span x ts) c.in_err-elems.ensures.reads)) c.parse_elements_with_in.ensures.grows)
+    (s.unheard_call (λ x p. Some (array_e (comma_of p.0) (to (plain first.was).span (span_of p.0)) (items_of p.0), p.1)) (λ x ts. list.array_lit_splits _ (plain first.was).span x ts) c.in_err-list.ensures.reads)) c.parse_elements_with_in.ensures.grows)
 
 pub parse_array_lit-returns : goal.parse_array_lit-returns
 parse_array_lit-returns g t c =
     let first = c.skip.ensures.took.1 in
-    let items = elem_trees (tree_at c.parse_elements_with_in.new.self.nodes) c.in_ok-elems.elems in
-    let whole : array_e (to first.was.span c.in_ok-elems.end) items ≡ array_e (between c.cur_span.result.lo c.in_ok-elems.end.hi) items =
-    ap (λ v. array_e (between v c.in_ok-elems.end.hi) items) (ap (λ v. v.lo) (sym (s.place_was first c.cur_span.result c.cur_span.ensures))) in
-    m.node _ c.array_lit-node.result c.made.result (omega arith)
-    (made_over _ _ _ (elem_parts c.in_ok-elems.elems) _ c.array_lit-node.result c.array_lit-node.ensures.made c.in_ok-elems.ensures.from) c.made.ensures.ok c.made.ensures.refused c.parse_elements_with_in.ensures.grows c.array_lit-node.ensures.grows
+    let items = elem_trees (tree_at c.parse_elements_with_in.new.self.nodes) c.in_ok-list.list.items in
+    let whole : array_e c.in_ok-list.list.trailing_comma (to first.was.span c.in_ok-list.list.end) items ≡ array_e c.in_ok-list.list.trailing_comma (between c.cur_span.result.lo c.in_ok-list.list.end.hi) items =
+    ap (λ v. array_e c.in_ok-list.list.trailing_comma (between v c.in_ok-list.list.end.hi) items) (ap (λ v. v.lo) (sym (s.place_was first c.cur_span.result c.cur_span.ensures))) in
+    m.node _ c.array_lit-node.result c.made_literal.result (omega arith)
+    (made_over _ _ _ (elem_parts c.in_ok-list.list.items) _ c.array_lit-node.result c.array_lit-node.ensures.made c.in_ok-list.ensures.from) c.made_literal.ensures.ok c.made_literal.ensures.refused c.parse_elements_with_in.ensures.grows c.array_lit-node.ensures.grows
     (s.heard_answer whole (s.heard_first g.met.I.Tokens.laws first (λ x ts. list.array_lit_opens _ (plain first.was) x ts (rule.passes_plain is_lbracket _ _ first.current c.requires))
-    (s.on_call (λ x p. Some (array_e (to (plain first.was).span (span_of p.0)) (items_of p.0), p.1)) (λ x ts. list.array_lit_splits _ (plain first.was).span x ts) c.in_ok-elems.ensures.reads.on)))
+    (s.on_call (λ x p. Some (array_e (comma_of p.0) (to (plain first.was).span (span_of p.0)) (items_of p.0), p.1)) (λ x ts. list.array_lit_splits _ (plain first.was).span x ts) c.in_ok-list.ensures.reads.on)))
 
 pub parse_array_lit-array_lit-node-requires : goal.parse_array_lit-array_lit-node-requires
-parse_array_lit-array_lit-node-requires g t c = record { apart = apart-down (elem_parts c.in_ok-elems.elems) c.in_ok-elems.ensures.from }
+parse_array_lit-array_lit-node-requires g t c = record { apart = apart-down (elem_parts c.in_ok-list.list.items) c.in_ok-list.ensures.from }
 
 pub parse_elements_with_in-returns : goal.parse_elements_with_in-returns
 parse_elements_with_in-returns g t c =
@@ -147,57 +146,60 @@ parse_elements_with_in-returns g t c =
     (c.set_ctx-2.ensures.context ∙ c.get_ctx-ctx.ensures))
     c.parse_elements-elems.ensures.grows c.parse_elements-elems.ensures.from
 
-pub parse_elements-loop-elems-init : goal.parse_elements-loop-elems-init
-parse_elements-loop-elems-init g t c = (
-  s.on_here g.met.I.Tokens.laws _ (λ x ts. list.elements_first _ x ts ∙ ap (λ v. elements_behind g.B.BodyForms.forms (trees (map (elem_tree (tree_at c.args.self.now.nodes)) v)) x ts) (sym c.new-elems.ensures.items)),
+pub parse_elements-loop-items-init : goal.parse_elements-loop-items-init
+parse_elements-loop-items-init g t c = (
+  s.on_here g.met.I.Tokens.laws _ (λ x ts. list.elements_first _ x ts ∙ ap (λ v. elements_behind g.B.BodyForms.forms (trees (map (elem_tree (tree_at c.args.self.now.nodes)) v)) None x ts) (sym c.new-items.ensures.items)),
   omega arith,
   grows-same _,
-  record { chained = ap (λ v. chain (seat_at c.args.self.now.nodes) (count c.args.self.now.nodes) (flat (if_some item_parts) v) (count c.args.self.now.nodes)) c.new-elems.ensures.items ∙ (apart-none {ns = c.args.self.now.nodes} {k = count c.args.self.now.nodes} (omega arith)).chained },
+  record { chained = ap (λ v. chain (seat_at c.args.self.now.nodes) (count c.args.self.now.nodes) (flat (if_some item_parts) v) (count c.args.self.now.nodes)) c.new-items.ensures.items ∙ (apart-none {ns = c.args.self.now.nodes} {k = count c.args.self.now.nodes} (omega arith)).chained },
 )
 
-pub parse_elements-loop-elems-preserved : goal.parse_elements-loop-elems-preserved
-parse_elements-loop-elems-preserved g t c =
-    let before = elem_trees (tree_at c.loop-elems.self.nodes) c.loop-elems.elems in
+pub parse_elements-loop-items-preserved : goal.parse_elements-loop-items-preserved
+parse_elements-loop-items-preserved g t c =
+    let before = elem_trees (tree_at c.loop-items.self.nodes) c.loop-items.items in
+    let comma = c.loop-items.trailing_comma in
     let none = s.eats_none g.B.Bodies.is_faithful is_rbracket _ _ _ c.in-None.is (c.in_ok-end.ensures.eats g.B.Bodies.is_faithful) in
     let more = ap (λ v. trees (map (elem_tree (tree_at c.parse_element.new.self.nodes)) v)) c.in_ok-add.ensures.added
-    ∙ elems-more c.loop-elems.elems.items c.in_ok-elem.elem c.parse_element.ensures.grows c.loop-elems.invariant.3 in
-    let parts = apart-list-more (if_some item_parts) c.loop-elems.elems.items c.in_ok-elem.elem c.parse_element.ensures.grows c.loop-elems.invariant.3 c.in_ok-elem.ensures.from in (
-      s.on_then c.loop-elems.invariant.0 (s.on_then (s.on_call (λ x p. behind_by _ before p.0 x p.1) (λ x ts. list.behind_splits _ before x ts) none)
-          (s.on_to (s.on_call (λ x p. elements_behind _ (trees_append before (cons p.0 nil)) x p.1) (λ x ts. list.elements_more_splits _ before x ts) c.in_ok-elem.ensures.reads.on)
-          (λ x ts. ap (λ v. elements_behind g.B.BodyForms.forms v x ts) (sym more)))),
-      let a = c.loop-elems.invariant.1 in let b = c.in_ok-elem.ensures.falls in let d = c.in_ok-end.ensures.falls in omega arith,
-      grows-then c.loop-elems.invariant.2 c.parse_element.ensures.grows,
+    ∙ elems-more c.loop-items.items.items c.in_ok-item.item c.parse_element.ensures.grows c.loop-items.invariant.3 in
+    let parts = apart-list-more (if_some item_parts) c.loop-items.items.items c.in_ok-item.item c.parse_element.ensures.grows c.loop-items.invariant.3 c.in_ok-item.ensures.from in (
+      s.on_then c.loop-items.invariant.0 (s.on_then (s.on_call (λ x p. behind_by _ before comma p.0 x p.1) (λ x ts. list.behind_splits _ before comma x ts) none)
+          (s.on_to (s.on_call (λ x p. elements_behind _ (trees_append before (cons p.0.0 nil)) p.0.1 x p.1) (λ x ts. list.elements_more_splits _ before x ts) c.in_ok-item.ensures.reads.on)
+          (λ x ts. ap (λ v. elements_behind g.B.BodyForms.forms v c.in_ok-item.comma x ts) (sym more)))),
+      let a = c.loop-items.invariant.1 in let b = c.in_ok-item.ensures.falls in let d = c.in_ok-end.ensures.falls in omega arith,
+      grows-then c.loop-items.invariant.2 c.parse_element.ensures.grows,
       record { chained = ap (λ v. chain (seat_at c.parse_element.new.self.nodes) (count c.args.self.now.nodes) (flat (if_some item_parts) v) (count c.parse_element.new.self.nodes)) c.in_ok-add.ensures.added ∙ parts.chained },
     )
 
 pub parse_elements-returns-in_err-end : goal.parse_elements-returns-in_err-end
 parse_elements-returns-in_err-end g t c =
-    let before = elem_trees (tree_at c.loop-elems.self.nodes) c.loop-elems.elems in
+    let before = elem_trees (tree_at c.loop-items.self.nodes) c.loop-items.items in
+    let comma = c.loop-items.trailing_comma in
     let p = err_from_is_err_and c.from_residual.result c.from_residual.ensures.1 in rw (p.1, p.2)
-    (m.no (s.unheard_after c.loop-elems.invariant.0 (s.unheard_call (λ x p. behind_by _ before p.0 x p.1) (λ x ts. list.behind_splits _ before x ts) (c.in_err-end.ensures.eats g.B.Bodies.is_faithful))) c.loop-elems.invariant.2)
+    (m.no (s.unheard_after c.loop-items.invariant.0 (s.unheard_call (λ x p. behind_by _ before comma p.0 x p.1) (λ x ts. list.behind_splits _ before comma x ts) (c.in_err-end.ensures.eats g.B.Bodies.is_faithful))) c.loop-items.invariant.2)
 
 pub parse_elements-returns-in-Some : goal.parse_elements-returns-in-Some
 parse_elements-returns-in-Some g t c =
-    let before = elem_trees (tree_at c.loop-elems.self.nodes) c.loop-elems.elems in
+    let before = elem_trees (tree_at c.loop-items.self.nodes) c.loop-items.items in
+    let comma = c.loop-items.trailing_comma in
     let some = s.eats_some g.B.Bodies.is_faithful is_rbracket _ c.in-Some.end _ _ c.in-Some.is (c.in_ok-end.ensures.eats g.B.Bodies.is_faithful) in
     m.yes (Ok _)
-    (s.heard_answer (ap (λ v. listed c.in-Some.end v) (trees_append-nil before))
-    (s.heard_after c.loop-elems.invariant.0 (s.heard_call (λ x p. behind_by _ before p.0 x p.1) (λ x ts. list.behind_splits _ before x ts) (λ x ts. refl) some)))
-    c.loop-elems.invariant.2 c.loop-elems.invariant.3
+    (s.heard_after c.loop-items.invariant.0 (s.heard_call (λ x p. behind_by _ before comma p.0 x p.1) (λ x ts. list.behind_splits _ before comma x ts) (λ x ts. refl) some))
+    c.loop-items.invariant.2 c.loop-items.invariant.3
 
-pub parse_elements-returns-in_err-elem : goal.parse_elements-returns-in_err-elem
-parse_elements-returns-in_err-elem g t c =
-    let before = elem_trees (tree_at c.loop-elems.self.nodes) c.loop-elems.elems in
+pub parse_elements-returns-in_err-item : goal.parse_elements-returns-in_err-item
+parse_elements-returns-in_err-item g t c =
+    let before = elem_trees (tree_at c.loop-items.self.nodes) c.loop-items.items in
+    let comma = c.loop-items.trailing_comma in
     let none = s.eats_none g.B.Bodies.is_faithful is_rbracket _ _ _ c.in-None.is (c.in_ok-end.ensures.eats g.B.Bodies.is_faithful) in
-    let p = err_from_is_err_and c.from_residual-in_err-elem.result c.from_residual-in_err-elem.ensures.1 in rw (p.1, p.2)
-    (m.no (s.unheard_after c.loop-elems.invariant.0 (s.unheard_after (s.on_call (λ x p. behind_by _ before p.0 x p.1) (λ x ts. list.behind_splits _ before x ts) none)
-    (s.unheard_call (λ x p. elements_behind _ (trees_append before (cons p.0 nil)) x p.1) (λ x ts. list.elements_more_splits _ before x ts) c.in_err-elem.ensures.reads))) (grows-then c.loop-elems.invariant.2 c.parse_element.ensures.grows))
+    let p = err_from_is_err_and c.from_residual-in_err-item.result c.from_residual-in_err-item.ensures.1 in rw (p.1, p.2)
+    (m.no (s.unheard_after c.loop-items.invariant.0 (s.unheard_after (s.on_call (λ x p. behind_by _ before comma p.0 x p.1) (λ x ts. list.behind_splits _ before comma x ts) none)
+    (s.unheard_call (λ x p. elements_behind _ (trees_append before (cons p.0.0 nil)) p.0.1 x p.1) (λ x ts. list.elements_more_splits _ before x ts) c.in_err-item.ensures.reads))) (grows-then c.loop-items.invariant.2 c.parse_element.ensures.grows))
 
 pub parse_elements-returns-in_err-add : goal.parse_elements-returns-in_err-add
 parse_elements-returns-in_err-add g t c =
     let none = s.eats_none g.B.Bodies.is_faithful is_rbracket _ _ _ c.in-None.is (c.in_ok-end.ensures.eats g.B.Bodies.is_faithful) in
     let p = err_from_is_err_and c.from_residual-in_err-add.result c.from_residual-in_err-add.ensures.1 in rw (p.1, p.2)
-    (m.no (s.unheard_memory (s.forgoes_later (s.leads_then c.loop-elems.invariant.0.leads (s.leads_then none.leads c.in_ok-elem.ensures.reads.on.leads)) (s.forgoes_here g.met.I.Tokens.laws _ _ _ c.in_err-add.ensures.refused))) (grows-then c.loop-elems.invariant.2 c.parse_element.ensures.grows))
+    (m.no (s.unheard_memory (s.forgoes_later (s.leads_then c.loop-items.invariant.0.leads (s.leads_then none.leads c.in_ok-item.ensures.reads.on.leads)) (s.forgoes_here g.met.I.Tokens.laws _ _ _ c.in_err-add.ensures.refused))) (grows-then c.loop-items.invariant.2 c.parse_element.ensures.grows))
 
 pub parse_element-returns-in_err-eat : goal.parse_element-returns-in_err-eat
 parse_element-returns-in_err-eat g t c =
@@ -221,19 +223,19 @@ parse_element-returns-in-None g t c =
 pub parse_element_item-returns-in_err-item : goal.parse_element_item-returns-in_err-item
 parse_element_item-returns-in_err-item g t c =
     let p = err_from_is_err_and c.from_residual.result c.from_residual.ensures.1 in rw (p.1, p.2)
-    (m.no (s.unheard_call (λ x p. separated is_rbracket x p.1 >>= (λ q. Some (p.0, q.1))) (λ x ts. list.element_item_splits _ x ts) c.in_err-item.ensures.reads) c.parse_expr_or_spread.ensures.grows)
+    (m.no (s.unheard_call (λ x p. separated is_rbracket x p.1 >>= (λ q. Some ((p.0, q.0), q.1))) (λ x ts. list.element_item_splits _ x ts) c.in_err-item.ensures.reads) c.parse_expr_or_spread.ensures.grows)
 
-pub parse_element_item-returns-in_err-separate : goal.parse_element_item-returns-in_err-separate
-parse_element_item-returns-in_err-separate g t c =
-    let p = err_from_is_err_and c.from_residual-in_err-separate.result c.from_residual-in_err-separate.ensures.1 in rw (p.1, p.2)
-    (m.no (s.unheard_after (s.on_call (λ x p. separated is_rbracket x p.1 >>= (λ q. Some (p.0, q.1))) (λ x ts. list.element_item_splits _ x ts) c.in_ok-item.ensures.reads.on)
-    (s.unheard_call (λ x q. Some (item_at c.parse_expr_or_spread.new.self.nodes c.in_ok-item.item, q.1)) (λ x ts. refl) (c.in_err-separate.ensures.separates g.B.Bodies.is_faithful))) c.parse_expr_or_spread.ensures.grows)
+pub parse_element_item-returns-in_err-comma : goal.parse_element_item-returns-in_err-comma
+parse_element_item-returns-in_err-comma g t c =
+    let p = err_from_is_err_and c.from_residual-in_err-comma.result c.from_residual-in_err-comma.ensures.1 in rw (p.1, p.2)
+    (m.no (s.unheard_after (s.on_call (λ x p. separated is_rbracket x p.1 >>= (λ q. Some ((p.0, q.0), q.1))) (λ x ts. list.element_item_splits _ x ts) c.in_ok-item.ensures.reads.on)
+    (s.unheard_call (λ x q. Some ((item_at c.parse_expr_or_spread.new.self.nodes c.in_ok-item.item, q.0), q.1)) (λ x ts. refl) (c.in_err-comma.ensures.separates g.B.Bodies.is_faithful))) c.parse_expr_or_spread.ensures.grows)
 
 pub parse_element_item-returns : goal.parse_element_item-returns
 parse_element_item-returns g t c =
     m.yes (Ok _)
-    (s.heard_more (λ x p. separated is_rbracket x p.1 >>= (λ q. Some (p.0, q.1))) (λ x ts. list.element_item_splits _ x ts) c.in_ok-item.ensures.reads
-    (s.on_call (λ x q. Some (item_at c.parse_expr_or_spread.new.self.nodes c.in_ok-item.item, q.1)) (λ x ts. refl) (c.in_ok-separate.ensures.separates g.B.Bodies.is_faithful)))
+    (s.heard_more (λ x p. separated is_rbracket x p.1 >>= (λ q. Some ((p.0, q.0), q.1))) (λ x ts. list.element_item_splits _ x ts) c.in_ok-item.ensures.reads
+    (s.on_call (λ x q. Some ((item_at c.parse_expr_or_spread.new.self.nodes c.in_ok-item.item, q.0), q.1)) (λ x ts. refl) (c.in_ok-comma.ensures.separates g.B.Bodies.is_faithful)))
     c.parse_expr_or_spread.ensures.grows (apart-from (expr_part c.in_ok-item.item.expr) c.in_ok-item.ensures.from)
 
 pub parse_expr_or_spread-returns-in_err-spread : goal.parse_expr_or_spread-returns-in_err-spread
@@ -255,95 +257,98 @@ parse_expr_or_spread-returns-in-Err g t c =
     (s.unheard_call (λ x q. Some (item_tree_of c.in_ok-spread.spread q.0, q.1)) (λ x ts. refl) c.in-Err.ensures.reads)))
     c.parse_assignment_expr.ensures.grows
 
-pub parse_object_lit-returns-in_err-props : goal.parse_object_lit-returns-in_err-props
-parse_object_lit-returns-in_err-props g t c =
+pub parse_object_lit-returns-in_err-list : goal.parse_object_lit-returns-in_err-list
+parse_object_lit-returns-in_err-list g t c =
     let first = c.skip.ensures.took.1 in
     let p = err_from_is_err_and c.from_residual.result c.from_residual.ensures.1 in rw (p.1, p.2)
     (m.no (s.unheard_after (s.on_took {g = object_lit_tail _ (plain first.was).span} g.met.I.Tokens.laws first (λ x ts. props.object_lit_opens _ (plain first.was) x ts (rule.passes_plain is_brace _ _ first.current c.requires)))
-    (s.unheard_call (λ x p. Some (object_e (to (plain first.was).span (span_of p.0)) (items_of p.0), p.1)) (λ x ts. props.object_lit_splits _ (plain first.was).span x ts) c.in_err-props.ensures.reads)) c.parse_props.ensures.grows)
+    (s.unheard_call (λ x p. Some (object_e (comma_of p.0) (to (plain first.was).span (span_of p.0)) (items_of p.0), p.1)) (λ x ts. props.object_lit_splits _ (plain first.was).span x ts) c.in_err-list.ensures.reads)) c.parse_props.ensures.grows)
 
 pub parse_object_lit-returns : goal.parse_object_lit-returns
 parse_object_lit-returns g t c =
     let first = c.skip.ensures.took.1 in
-    let items = items_of (props_at c.parse_props.new.self.nodes (c.in_ok-props.props, c.in_ok-props.end)) in
-    let whole : object_e (to first.was.span c.in_ok-props.end) items ≡ object_e (between c.cur_span.result.lo c.in_ok-props.end.hi) items =
-    ap (λ v. object_e (between v c.in_ok-props.end.hi) items) (ap (λ v. v.lo) (sym (s.place_was first c.cur_span.result c.cur_span.ensures))) in
-    m.node _ c.object_lit-node.result c.made.result (omega arith)
-    (made_over _ _ _ (props_parts c.in_ok-props.props) _ c.object_lit-node.result c.object_lit-node.ensures.made c.in_ok-props.ensures.from) c.made.ensures.ok c.made.ensures.refused c.parse_props.ensures.grows c.object_lit-node.ensures.grows
+    let items = trees (map (prop_at c.parse_props.new.self.nodes) c.in_ok-list.list.items.items) in
+    let whole : object_e c.in_ok-list.list.trailing_comma (to first.was.span c.in_ok-list.list.end) items ≡ object_e c.in_ok-list.list.trailing_comma (between c.cur_span.result.lo c.in_ok-list.list.end.hi) items =
+    ap (λ v. object_e c.in_ok-list.list.trailing_comma (between v c.in_ok-list.list.end.hi) items) (ap (λ v. v.lo) (sym (s.place_was first c.cur_span.result c.cur_span.ensures))) in
+    m.node _ c.object_lit-node.result c.made_literal.result (omega arith)
+    (made_over _ _ _ (props_parts c.in_ok-list.list.items) _ c.object_lit-node.result c.object_lit-node.ensures.made c.in_ok-list.ensures.from) c.made_literal.ensures.ok c.made_literal.ensures.refused c.parse_props.ensures.grows c.object_lit-node.ensures.grows
     (s.heard_answer whole (s.heard_first g.met.I.Tokens.laws first (λ x ts. props.object_lit_opens _ (plain first.was) x ts (rule.passes_plain is_brace _ _ first.current c.requires))
-    (s.on_call (λ x p. Some (object_e (to (plain first.was).span (span_of p.0)) (items_of p.0), p.1)) (λ x ts. props.object_lit_splits _ (plain first.was).span x ts) c.in_ok-props.ensures.reads.on)))
+    (s.on_call (λ x p. Some (object_e (comma_of p.0) (to (plain first.was).span (span_of p.0)) (items_of p.0), p.1)) (λ x ts. props.object_lit_splits _ (plain first.was).span x ts) c.in_ok-list.ensures.reads.on)))
 
 pub parse_object_lit-object_lit-node-requires : goal.parse_object_lit-object_lit-node-requires
-parse_object_lit-object_lit-node-requires g t c = record { apart = apart-down (props_parts c.in_ok-props.props) c.in_ok-props.ensures.from }
+parse_object_lit-object_lit-node-requires g t c = record { apart = apart-down (props_parts c.in_ok-list.list.items) c.in_ok-list.ensures.from }
 
-pub parse_props-loop-props-init : goal.parse_props-loop-props-init
-parse_props-loop-props-init g t c = (
-  s.on_here g.met.I.Tokens.laws _ (λ x ts. props.props_first _ x ts ∙ ap (λ v. props_behind g.B.BodyForms.forms (trees (map (prop_at c.args.self.now.nodes) v)) x ts) (sym c.new-props.ensures.items)),
+pub parse_props-loop-items-init : goal.parse_props-loop-items-init
+parse_props-loop-items-init g t c = (
+  s.on_here g.met.I.Tokens.laws _ (λ x ts. props.props_first _ x ts ∙ ap (λ v. props_behind g.B.BodyForms.forms (trees (map (prop_at c.args.self.now.nodes) v)) None x ts) (sym c.new-items.ensures.items)),
   omega arith,
   grows-same _,
-  record { chained = ap (λ v. chain (seat_at c.args.self.now.nodes) (count c.args.self.now.nodes) (flat prop_parts v) (count c.args.self.now.nodes)) c.new-props.ensures.items ∙ (apart-none {ns = c.args.self.now.nodes} {k = count c.args.self.now.nodes} (omega arith)).chained },
+  record { chained = ap (λ v. chain (seat_at c.args.self.now.nodes) (count c.args.self.now.nodes) (flat prop_parts v) (count c.args.self.now.nodes)) c.new-items.ensures.items ∙ (apart-none {ns = c.args.self.now.nodes} {k = count c.args.self.now.nodes} (omega arith)).chained },
 )
 
-pub parse_props-loop-props-preserved : goal.parse_props-loop-props-preserved
-parse_props-loop-props-preserved g t c =
-    let before = trees (map (prop_at c.loop-props.self.nodes) c.loop-props.props.items) in
+pub parse_props-loop-items-preserved : goal.parse_props-loop-items-preserved
+parse_props-loop-items-preserved g t c =
+    let before = trees (map (prop_at c.loop-items.self.nodes) c.loop-items.items.items) in
+    let comma = c.loop-items.trailing_comma in
     let none = s.eats_none g.B.Bodies.is_faithful is_rbrace _ _ _ c.in-None.is (c.in_ok-end.ensures.eats g.B.Bodies.is_faithful) in
     let more = ap (λ v. trees (map (prop_at c.parse_prop_item.new.self.nodes) v)) c.in_ok-add.ensures.added
-    ∙ props-more c.loop-props.props.items c.in_ok-prop.prop c.parse_prop_item.ensures.grows c.loop-props.invariant.3 in
-    let parts = apart-list-more prop_parts c.loop-props.props.items c.in_ok-prop.prop c.parse_prop_item.ensures.grows c.loop-props.invariant.3 c.in_ok-prop.ensures.from in (
-      s.on_then c.loop-props.invariant.0 (s.on_then (s.on_call (λ x p. props_by _ before p.0 x p.1) (λ x ts. props.behind_splits _ before x ts) none)
-          (s.on_to (s.on_call (λ x p. props_behind _ (trees_append before (cons p.0 nil)) x p.1) (λ x ts. props.props_more_splits _ before x ts) c.in_ok-prop.ensures.reads.on)
-          (λ x ts. ap (λ v. props_behind g.B.BodyForms.forms v x ts) (sym more)))),
-      let a = c.loop-props.invariant.1 in let b = c.in_ok-prop.ensures.falls in let d = c.in_ok-end.ensures.falls in omega arith,
-      grows-then c.loop-props.invariant.2 c.parse_prop_item.ensures.grows,
+    ∙ props-more c.loop-items.items.items c.in_ok-item.item c.parse_prop_item.ensures.grows c.loop-items.invariant.3 in
+    let parts = apart-list-more prop_parts c.loop-items.items.items c.in_ok-item.item c.parse_prop_item.ensures.grows c.loop-items.invariant.3 c.in_ok-item.ensures.from in (
+      s.on_then c.loop-items.invariant.0 (s.on_then (s.on_call (λ x p. props_by _ before comma p.0 x p.1) (λ x ts. props.behind_splits _ before comma x ts) none)
+          (s.on_to (s.on_call (λ x p. props_behind _ (trees_append before (cons p.0.0 nil)) p.0.1 x p.1) (λ x ts. props.props_more_splits _ before x ts) c.in_ok-item.ensures.reads.on)
+          (λ x ts. ap (λ v. props_behind g.B.BodyForms.forms v c.in_ok-item.comma x ts) (sym more)))),
+      let a = c.loop-items.invariant.1 in let b = c.in_ok-item.ensures.falls in let d = c.in_ok-end.ensures.falls in omega arith,
+      grows-then c.loop-items.invariant.2 c.parse_prop_item.ensures.grows,
       record { chained = ap (λ v. chain (seat_at c.parse_prop_item.new.self.nodes) (count c.args.self.now.nodes) (flat prop_parts v) (count c.parse_prop_item.new.self.nodes)) c.in_ok-add.ensures.added ∙ parts.chained },
     )
 
 pub parse_props-returns-in_err-end : goal.parse_props-returns-in_err-end
 parse_props-returns-in_err-end g t c =
-    let before = trees (map (prop_at c.loop-props.self.nodes) c.loop-props.props.items) in
+    let before = trees (map (prop_at c.loop-items.self.nodes) c.loop-items.items.items) in
+    let comma = c.loop-items.trailing_comma in
     let p = err_from_is_err_and c.from_residual.result c.from_residual.ensures.1 in rw (p.1, p.2)
-    (m.no (s.unheard_after c.loop-props.invariant.0 (s.unheard_call (λ x p. props_by _ before p.0 x p.1) (λ x ts. props.behind_splits _ before x ts) (c.in_err-end.ensures.eats g.B.Bodies.is_faithful))) c.loop-props.invariant.2)
+    (m.no (s.unheard_after c.loop-items.invariant.0 (s.unheard_call (λ x p. props_by _ before comma p.0 x p.1) (λ x ts. props.behind_splits _ before comma x ts) (c.in_err-end.ensures.eats g.B.Bodies.is_faithful))) c.loop-items.invariant.2)
 
 pub parse_props-returns-in-Some : goal.parse_props-returns-in-Some
 parse_props-returns-in-Some g t c =
-    let before = trees (map (prop_at c.loop-props.self.nodes) c.loop-props.props.items) in
+    let before = trees (map (prop_at c.loop-items.self.nodes) c.loop-items.items.items) in
+    let comma = c.loop-items.trailing_comma in
     let some = s.eats_some g.B.Bodies.is_faithful is_rbrace _ c.in-Some.end _ _ c.in-Some.is (c.in_ok-end.ensures.eats g.B.Bodies.is_faithful) in
     m.yes (Ok _)
-    (s.heard_answer (ap (λ v. listed c.in-Some.end v) (trees_append-nil before))
-    (s.heard_after c.loop-props.invariant.0 (s.heard_call (λ x p. props_by _ before p.0 x p.1) (λ x ts. props.behind_splits _ before x ts) (λ x ts. refl) some)))
-    c.loop-props.invariant.2 c.loop-props.invariant.3
+    (s.heard_after c.loop-items.invariant.0 (s.heard_call (λ x p. props_by _ before comma p.0 x p.1) (λ x ts. props.behind_splits _ before comma x ts) (λ x ts. refl) some))
+    c.loop-items.invariant.2 c.loop-items.invariant.3
 
-pub parse_props-returns-in_err-prop : goal.parse_props-returns-in_err-prop
-parse_props-returns-in_err-prop g t c =
-    let before = trees (map (prop_at c.loop-props.self.nodes) c.loop-props.props.items) in
+pub parse_props-returns-in_err-item : goal.parse_props-returns-in_err-item
+parse_props-returns-in_err-item g t c =
+    let before = trees (map (prop_at c.loop-items.self.nodes) c.loop-items.items.items) in
+    let comma = c.loop-items.trailing_comma in
     let none = s.eats_none g.B.Bodies.is_faithful is_rbrace _ _ _ c.in-None.is (c.in_ok-end.ensures.eats g.B.Bodies.is_faithful) in
-    let p = err_from_is_err_and c.from_residual-in_err-prop.result c.from_residual-in_err-prop.ensures.1 in rw (p.1, p.2)
-    (m.no (s.unheard_after c.loop-props.invariant.0 (s.unheard_after (s.on_call (λ x p. props_by _ before p.0 x p.1) (λ x ts. props.behind_splits _ before x ts) none)
-    (s.unheard_call (λ x p. props_behind _ (trees_append before (cons p.0 nil)) x p.1) (λ x ts. props.props_more_splits _ before x ts) c.in_err-prop.ensures.reads))) (grows-then c.loop-props.invariant.2 c.parse_prop_item.ensures.grows))
+    let p = err_from_is_err_and c.from_residual-in_err-item.result c.from_residual-in_err-item.ensures.1 in rw (p.1, p.2)
+    (m.no (s.unheard_after c.loop-items.invariant.0 (s.unheard_after (s.on_call (λ x p. props_by _ before comma p.0 x p.1) (λ x ts. props.behind_splits _ before comma x ts) none)
+    (s.unheard_call (λ x p. props_behind _ (trees_append before (cons p.0.0 nil)) p.0.1 x p.1) (λ x ts. props.props_more_splits _ before x ts) c.in_err-item.ensures.reads))) (grows-then c.loop-items.invariant.2 c.parse_prop_item.ensures.grows))
 
 pub parse_props-returns-in_err-add : goal.parse_props-returns-in_err-add
 parse_props-returns-in_err-add g t c =
     let none = s.eats_none g.B.Bodies.is_faithful is_rbrace _ _ _ c.in-None.is (c.in_ok-end.ensures.eats g.B.Bodies.is_faithful) in
     let p = err_from_is_err_and c.from_residual-in_err-add.result c.from_residual-in_err-add.ensures.1 in rw (p.1, p.2)
-    (m.no (s.unheard_memory (s.forgoes_later (s.leads_then c.loop-props.invariant.0.leads (s.leads_then none.leads c.in_ok-prop.ensures.reads.on.leads)) (s.forgoes_here g.met.I.Tokens.laws _ _ _ c.in_err-add.ensures.refused))) (grows-then c.loop-props.invariant.2 c.parse_prop_item.ensures.grows))
+    (m.no (s.unheard_memory (s.forgoes_later (s.leads_then c.loop-items.invariant.0.leads (s.leads_then none.leads c.in_ok-item.ensures.reads.on.leads)) (s.forgoes_here g.met.I.Tokens.laws _ _ _ c.in_err-add.ensures.refused))) (grows-then c.loop-items.invariant.2 c.parse_prop_item.ensures.grows))
 
 pub parse_prop_item-returns-in_err-prop : goal.parse_prop_item-returns-in_err-prop
 parse_prop_item-returns-in_err-prop g t c =
     let p = err_from_is_err_and c.from_residual.result c.from_residual.ensures.1 in rw (p.1, p.2)
-    (m.no (s.unheard_call (λ x p. separated is_rbrace x p.1 >>= (λ q. Some (p.0, q.1))) (λ x ts. props.prop_item_splits _ x ts) c.in_err-prop.ensures.reads) c.parse_object_prop.ensures.grows)
+    (m.no (s.unheard_call (λ x p. separated is_rbrace x p.1 >>= (λ q. Some ((p.0, q.0), q.1))) (λ x ts. props.prop_item_splits _ x ts) c.in_err-prop.ensures.reads) c.parse_object_prop.ensures.grows)
 
-pub parse_prop_item-returns-in_err-separate : goal.parse_prop_item-returns-in_err-separate
-parse_prop_item-returns-in_err-separate g t c =
-    let p = err_from_is_err_and c.from_residual-in_err-separate.result c.from_residual-in_err-separate.ensures.1 in rw (p.1, p.2)
-    (m.no (s.unheard_after (s.on_call (λ x p. separated is_rbrace x p.1 >>= (λ q. Some (p.0, q.1))) (λ x ts. props.prop_item_splits _ x ts) c.in_ok-prop.ensures.reads.on)
-    (s.unheard_call (λ x q. Some (prop_at c.parse_object_prop.new.self.nodes c.in_ok-prop.prop, q.1)) (λ x ts. refl) (c.in_err-separate.ensures.separates g.B.Bodies.is_faithful))) c.parse_object_prop.ensures.grows)
+pub parse_prop_item-returns-in_err-comma : goal.parse_prop_item-returns-in_err-comma
+parse_prop_item-returns-in_err-comma g t c =
+    let p = err_from_is_err_and c.from_residual-in_err-comma.result c.from_residual-in_err-comma.ensures.1 in rw (p.1, p.2)
+    (m.no (s.unheard_after (s.on_call (λ x p. separated is_rbrace x p.1 >>= (λ q. Some ((p.0, q.0), q.1))) (λ x ts. props.prop_item_splits _ x ts) c.in_ok-prop.ensures.reads.on)
+    (s.unheard_call (λ x q. Some ((prop_at c.parse_object_prop.new.self.nodes c.in_ok-prop.prop, q.0), q.1)) (λ x ts. refl) (c.in_err-comma.ensures.separates g.B.Bodies.is_faithful))) c.parse_object_prop.ensures.grows)
 
 pub parse_prop_item-returns : goal.parse_prop_item-returns
 parse_prop_item-returns g t c =
     m.yes (Ok _)
-    (s.heard_more (λ x p. separated is_rbrace x p.1 >>= (λ q. Some (p.0, q.1))) (λ x ts. props.prop_item_splits _ x ts) c.in_ok-prop.ensures.reads
-    (s.on_call (λ x q. Some (prop_at c.parse_object_prop.new.self.nodes c.in_ok-prop.prop, q.1)) (λ x ts. refl) (c.in_ok-separate.ensures.separates g.B.Bodies.is_faithful)))
+    (s.heard_more (λ x p. separated is_rbrace x p.1 >>= (λ q. Some ((p.0, q.0), q.1))) (λ x ts. props.prop_item_splits _ x ts) c.in_ok-prop.ensures.reads
+    (s.on_call (λ x q. Some ((prop_at c.parse_object_prop.new.self.nodes c.in_ok-prop.prop, q.0), q.1)) (λ x ts. refl) (c.in_ok-comma.ensures.separates g.B.Bodies.is_faithful)))
     c.parse_object_prop.ensures.grows c.in_ok-prop.ensures.from
 
 pub parse_object_prop-returns-in_err-dots : goal.parse_object_prop-returns-in_err-dots

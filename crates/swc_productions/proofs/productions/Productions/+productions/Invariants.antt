@@ -80,18 +80,18 @@ decreases-parse_element g l = to_come g.I.Tokens.model l.self.now.input * 20 + 1
 abbrev pub decreases-parse_elements : goal.decreases-parse_elements
 decreases-parse_elements g l = to_come g.I.Tokens.model l.self.now.input * 20 + 16
 
-abbrev pub invariant-parse_elements-loop-elems : goal.invariant-parse_elements-loop-elems
-invariant-parse_elements-loop-elems g l =
+abbrev pub invariant-parse_elements-loop-items : goal.invariant-parse_elements-loop-items
+invariant-parse_elements-loop-items g l =
     On g.I.Tokens.model g.B.Bodies.is_faithful
     (run g.B.BodyForms.forms (sym Elements))
-    (elements_behind g.B.BodyForms.forms (elem_trees (tree_at l.self.nodes) l.elems))
+    (elements_behind g.B.BodyForms.forms (elem_trees (tree_at l.self.nodes) l.items) l.trailing_comma)
     l.fn.self.input l.self.input
     × (to_come g.I.Tokens.model l.self.input ≤ to_come g.I.Tokens.model l.fn.self.input)
     × Grows l.fn.self.nodes l.self.nodes
-    × Apart (count l.fn.self.nodes) l.self.nodes (elem_parts l.elems)
+    × Apart (count l.fn.self.nodes) l.self.nodes (elem_parts l.items)
 
-abbrev pub decreases-parse_elements-loop-elems : goal.decreases-parse_elements-loop-elems
-decreases-parse_elements-loop-elems g l = to_come g.I.Tokens.model l.self.input
+abbrev pub decreases-parse_elements-loop-items : goal.decreases-parse_elements-loop-items
+decreases-parse_elements-loop-items g l = to_come g.I.Tokens.model l.self.input
 
 abbrev pub decreases-parse_elements_with_in : goal.decreases-parse_elements_with_in
 decreases-parse_elements_with_in g l = to_come g.I.Tokens.model l.self.now.input * 20 + 17
@@ -117,18 +117,18 @@ decreases-parse_prop_item g l = to_come g.I.Tokens.model l.self.now.input * 20 +
 abbrev pub decreases-parse_props : goal.decreases-parse_props
 decreases-parse_props g l = to_come g.I.Tokens.model l.self.now.input * 20 + 20
 
-abbrev pub invariant-parse_props-loop-props : goal.invariant-parse_props-loop-props
-invariant-parse_props-loop-props g l =
+abbrev pub invariant-parse_props-loop-items : goal.invariant-parse_props-loop-items
+invariant-parse_props-loop-items g l =
     On g.I.Tokens.model g.B.Bodies.is_faithful
     (run g.B.BodyForms.forms (sym Props))
-    (props_behind g.B.BodyForms.forms (props_trees g.B.Fun.Spanned.place g.B.Class.Spanned.place g.B.Block.Spanned.place (tree_at l.self.nodes) l.props))
+    (props_behind g.B.BodyForms.forms (props_trees g.B.Fun.Spanned.place g.B.Class.Spanned.place g.B.Block.Spanned.place (tree_at l.self.nodes) l.items) l.trailing_comma)
     l.fn.self.input l.self.input
     × (to_come g.I.Tokens.model l.self.input ≤ to_come g.I.Tokens.model l.fn.self.input)
     × Grows l.fn.self.nodes l.self.nodes
-    × Apart (count l.fn.self.nodes) l.self.nodes (props_parts l.props)
+    × Apart (count l.fn.self.nodes) l.self.nodes (props_parts l.items)
 
-abbrev pub decreases-parse_props-loop-props : goal.decreases-parse_props-loop-props
-decreases-parse_props-loop-props g l = to_come g.I.Tokens.model l.self.input
+abbrev pub decreases-parse_props-loop-items : goal.decreases-parse_props-loop-items
+decreases-parse_props-loop-items g l = to_come g.I.Tokens.model l.self.input
 
 abbrev pub decreases-parse_key_value : goal.decreases-parse_key_value
 decreases-parse_key_value g l = to_come g.I.Tokens.model l.self.now.input * 20 + 14

@@ -3,11 +3,14 @@ use Rattle.std.proofs.lemmas.Result.{err_from_is_err_and}
 use Rattle.swc_grammar.specs.Symbols.{Prop}
 use Rattle.swc_grammar.specs.Clean.{sym as at, run}
 use Rattle.swc_ast.specs.TreeOf.{prop_or_spread_tree}
+use Rattle.swc_nodes.specs.NodeTree.{prop_of as prop_tree}
+use Rattle.swc_nodes.specs.Stands.{tree_at, bare_at}
+use Rattle.swc_nodes.proofs.Unmarked.{unmarked-prop}
 use Rattle.swc_productions.specs.Parsing.{prop_at}
 use Rattle.swc_ecma_parser.specs.Calls.{nodes_of, tree_by}
 use Rattle.swc_ecma_parser.proofs.Calling.{promised, promised-again}
 use Rattle.swc_ecma_parser.proofs.Moving.{moved-parses, cut-back}
-use Rattle.swc_ecma_parser.proofs.Top.{prop-meets}
+use Rattle.swc_ecma_parser.proofs.Top.{prop-stops, meets-in-boxes}
 use Rattle.swc_ecma_parser.proofs.parser.object.ParserParseObjectBoxExprOf.parse_object_prop.Goals as goal
 
 pub returns-in_err-begin : goal.returns-in_err-begin
@@ -21,6 +24,7 @@ returns g c =
     let read = c.parse_object_prop-answer.ensures in
     promised c.parse_object_prop-answer.new.self.input (nodes_of c.move_out-answer.new.self) c.move_out-answer.result c.finish.result c.in_ok-begin.ensures.runs moved.runs
     done.answer (done.buffer ∙ moved.buffer) done.nodes done.fails
-    (prop-meets g.I.Tokens.model g.B.Bodies.is_faithful g.B.BodyForms.forms g.met.B.Bodies.lawful (prop_or_spread_tree _ _ _ g.B.Fun.Spanned.place g.B.Class.Spanned.place g.B.Block.Spanned.place) _ c.move_out-answer.result _
-    (moved-parses g.I.Tokens.model g.B.Bodies.is_faithful (run g.B.BodyForms.forms (at Prop)) c.parse_object_prop-answer.new.self.nodes prop_at (prop_or_spread_tree _ _ _ g.B.Fun.Spanned.place g.B.Class.Spanned.place g.B.Block.Spanned.place) _ _ c.parse_object_prop-answer.result c.move_out-answer.result read.reads moved.moved))
+    (meets-in-boxes g.I.Tokens.model g.B.Bodies.is_faithful g.B.BodyForms.forms g.met.B.Bodies.lawful (prop_or_spread_tree _ _ _ g.B.Fun.Spanned.place g.B.Class.Spanned.place g.B.Block.Spanned.place) prop-stops _ c.move_out-answer.result _
+    (moved-parses g.I.Tokens.model g.B.Bodies.is_faithful (run g.B.BodyForms.forms (at Prop)) c.parse_object_prop-answer.new.self.nodes prop_at (prop_tree _ _ _ (bare_at c.parse_object_prop-answer.new.self.nodes)) (prop_or_spread_tree _ _ _ g.B.Fun.Spanned.place g.B.Class.Spanned.place g.B.Block.Spanned.place) _ _ c.parse_object_prop-answer.result c.move_out-answer.result read.reads
+          (λ x. unmarked-prop _ _ _ (tree_at c.parse_object_prop-answer.new.self.nodes) x) moved.moved))
     (cut-back (nodes_of c.move_out-answer.new.self) read.grows (rw (sym c.len-start.ensures) moved.nodes))
