@@ -164,7 +164,7 @@ module _ {S T A : Type 0} (model : Model S) (sure : Bool) (derives : Derivation 
   one_tree y stops stop is b (Err e) c h = λ l ts t k d. tt
 
 -- where the reading of a symbol may stop, the clean parser reads all that is derived
-record Stopping (s : Symbol) : Type 0 where
+pub record Stopping (s : Symbol) : Type 0 where
   pub stop : (c : Context) (ys : List TokenAndSpan) → EndsAt s ys → Stop s c ys
 
 pub expr-stops : Stopping Expr

@@ -296,6 +296,7 @@ impl<I: Tokens, B: Bodies<I>> Parser<I, B> {
         ensures answer { result ≡ answer }
         ensures buffer { buffer_of self.new ≡ buffer_of self.old }
         ensures nodes { nodes_of self.new ≡ nodes_of self.old }
+        ensures commas { commas_of self.new ≡ commas_of self.old }
         ensures fails { has_failed self.new ≡ (has_failed self.old || wants_memory answer) }
     {
         if let Err(error) = &answer {

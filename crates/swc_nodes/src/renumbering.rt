@@ -4,7 +4,7 @@ ghost use Rattle.std.specs.Prelude.{◌≡◌, ◌++◌, ◌∷◌, [], true, ma
 ghost use Rattle.swc_ast.specs.Parts.{or_hole, prop_name_tree, member_prop_tree, super_part_tree, callee_tree};
 ghost use Rattle.swc_ast.specs.Parts.{base_tree, body_tree, param_tree, item_tree, member_tree, tpl_tree};
 ghost use Rattle.swc_ast.specs.Tree.{args, node, no_span, trees};
-ghost use Rattle.swc_nodes.specs.NodeTree.{expr_of, pat_of, target_of, prop_of, pat_prop_of, node_tree};
+ghost use Rattle.swc_nodes.specs.NodeTree.{expr_of, pat_of, target_of, prop_of, pat_prop_of, marked_tree};
 ghost use Rattle.swc_nodes.specs.Renumbering.{given, Renumbered};
 ghost use Rattle.swc_nodes.specs.Slots.{slots, form, flat, if_some, one_expr, one_pat, target_part, item_parts};
 ghost use Rattle.swc_nodes.specs.Slots.{key_parts, member_parts, super_parts, callee_parts, base_parts, body_parts};
@@ -264,10 +264,10 @@ impl<F: Spanned, C: Spanned, K: Spanned> Numbered<F, C, K> for TargetNode {
 impl<F: Spanned, C: Spanned, K: Spanned> Numbered<F, C, K> for Node<F, C, K> {
     ghost parts = { slots };
 
-    ghost of = { node_tree F.place C.place K.place };
+    ghost of = { marked_tree F.place C.place K.place };
 
     fn renumber(&mut self, ids: &Vec<usize>)
-        ensures renumbered { Renumbered slots (node_tree F.place C.place K.place) ids.now.items self.old self.new }
+        ensures renumbered { Renumbered slots (marked_tree F.place C.place K.place) ids.now.items self.old self.new }
         ensures form { form self.new ≡ form self.old }
     {
         match self {
@@ -324,7 +324,7 @@ fn renumber_operation<F: Spanned, C: Spanned, K: Spanned>(
     ids: &Vec<usize>,
 )
     requires { is_operation node.old ≡ true }
-    ensures renumbered { Renumbered slots (node_tree F.place C.place K.place) ids.now.items node.old node.new }
+    ensures renumbered { Renumbered slots (marked_tree F.place C.place K.place) ids.now.items node.old node.new }
     ensures form { form node.new ≡ form node.old }
 {
     match node {
@@ -364,7 +364,7 @@ impl<F: Spanned + Drop, C: Spanned + Drop, K: Spanned + Drop> Node<F, C, K> {
     /// Puts the numbers of the list in place of the places in it that the node's parts are named by; a part that the
     /// list has no number for keeps its own.
     pub fn renumber(&mut self, ids: &Vec<usize>)
-        ensures renumbered { Renumbered slots (node_tree F.place C.place K.place) ids.now.items self.old self.new }
+        ensures renumbered { Renumbered slots (marked_tree F.place C.place K.place) ids.now.items self.old self.new }
         ensures form { form self.new ≡ form self.old }
     {
         <_ as Numbered<F, C, K>>::renumber(self, ids)

@@ -8,7 +8,7 @@ use Rattle.swc_nodes.specs.Stands.{seat_at, tree_at, bare_at, node_seat}
 use Rattle.swc_nodes.specs.declared.node.Node.{Node}
 use Rattle.swc_nodes.specs.declared.nodes.Nodes.{Nodes}
 use Rattle.swc_nodes.proofs.Unmarked.{unmarked-node}
-use Rattle.swc_trees.specs.Moving.{Agrees}
+use Rattle.swc_trees.specs.Moving.{AreGiven}
 
 pub two : {F C K : Type 0} {s t u v : Tree F C K} → s ≡ u → t ≡ v → cons s (cons t nil) ≡ cons u (cons v nil)
 two {t = t} {u = u} e f = ap (λ w. cons w (cons t nil)) e ∙ ap (λ w. cons u (cons w nil)) f
@@ -33,19 +33,20 @@ pub flat-append : {X Y : Type 0} (f : X → List Y) (xs ys : List X) → flat f 
 flat-append f [] ys = refl
 flat-append f (x ∷ xs) ys = ap (λ v. f x ++ v) (flat-append f xs ys) ∙ sym (append_assoc (f x) (flat f xs) (flat f ys))
 
+module _ {F C K : Type 0} where
+  pub agrees-first : (at of : ℕ → Tree F C K) (ps qs : List Part) → AreGiven at of (ps ++ qs) → AreGiven at of ps
+  agrees-first at of [] qs h = tt
+  agrees-first at of (p ∷ ps) qs h = (h.0, agrees-first at of ps qs h.1)
+
+  pub agrees-second : (at of : ℕ → Tree F C K) (ps qs : List Part) → AreGiven at of (ps ++ qs) → AreGiven at of qs
+  agrees-second at of [] qs h = h
+  agrees-second at of (p ∷ ps) qs h = agrees-second at of ps qs h.1
+
+  pub agrees-self : (of : ℕ → Tree F C K) (ps : List Part) → AreGiven of of ps
+  agrees-self of [] = tt
+  agrees-self of (p ∷ ps) = (refl, agrees-self of ps)
+
 module _ {F C K : Type 0} {fg : Ghosts F} {cg : Ghosts C} {kg : Ghosts K} where
-  pub agrees-first : (at : ℕ → Tree F C K) (ns : Nodes F C K fg cg kg) (ps qs : List Part) → Agrees at ns (ps ++ qs) → Agrees at ns ps
-  agrees-first at ns [] qs h = tt
-  agrees-first at ns (p ∷ ps) qs h = (h.0, agrees-first at ns ps qs h.1)
-
-  pub agrees-second : (at : ℕ → Tree F C K) (ns : Nodes F C K fg cg kg) (ps qs : List Part) → Agrees at ns (ps ++ qs) → Agrees at ns qs
-  agrees-second at ns [] qs h = h
-  agrees-second at ns (p ∷ ps) qs h = agrees-second at ns ps qs h.1
-
-  pub agrees-self : (ns : Nodes F C K fg cg kg) (ps : List Part) → Agrees (bare_at ns) ns ps
-  agrees-self ns [] = tt
-  agrees-self ns (p ∷ ps) = (refl, agrees-self ns ps)
-
   -- the trees of seats that are the same, without the marks of commas
   pub bare-same : (ns ms : Nodes F C K fg cg kg) (i j : ℕ) → seat_at ns i ≡ seat_at ms j → bare_at ns i ≡ bare_at ms j
   bare-same ns ms i j e = cc

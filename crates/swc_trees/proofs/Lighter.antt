@@ -31,7 +31,7 @@ use Rattle.swc_nodes.specs.declared.node.PropNode.{PropNode}
 use Rattle.swc_nodes.specs.declared.node.PropNode.TheVariants as prop
 use Rattle.swc_nodes.specs.declared.node.TargetNode.{TargetNode}
 use Rattle.swc_nodes.specs.declared.node.TargetNode.TheVariants as target
-use Rattle.swc_nodes.specs.NodeTree.{expr_of, pat_of, target_of, prop_of, pat_prop_of, node_tree}
+use Rattle.swc_nodes.specs.NodeTree.{expr_of, pat_of, target_of, prop_of, pat_prop_of, marked_tree}
 use Rattle.swc_nodes.specs.Slots.{Part, flat, one_expr, one_pat, target_part, if_some, item_parts, args_parts, key_parts, member_parts, super_parts, callee_parts, base_parts, body_parts, param_parts, prop_parts, pat_prop_parts, slots}
 use Rattle.swc_trees.proofs.Weights.{weight, weight_all, weight_of, weight-item-of, weight-behind}
 
@@ -147,7 +147,7 @@ module _ {F C K : Type 0} (fun_at : F → Span) (class_at : C → Span) (block_a
   -- ---- the nodes
 
   -- the trees of a node's parts weigh less than its own
-  pub parts-lighter : (x : Node F C K) → weights at (slots x) < weight (node_tree fun_at class_at block_at at x)
+  pub parts-lighter : (x : Node F C K) → weights at (slots x) < weight (marked_tree fun_at class_at block_at at x)
   parts-lighter (n.This e) = omega arith
   parts-lighter (n.Array s elems comma) = let w = weights-flat at (if_some item_parts) (or_hole (item_tree (expr_of fun_at class_at block_at at))) (weights-some at item_parts (item_tree (expr_of fun_at class_at block_at at)) item-lighter) elems.items in omega arith
   parts-lighter (n.Object s props comma) = let w = weights-flat at prop_parts (prop_of fun_at class_at block_at at) prop-lighter props.items in omega arith

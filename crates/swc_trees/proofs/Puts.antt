@@ -12,22 +12,22 @@ use Rattle.swc_context.specs.declared.span.Span.{Span}
 use Rattle.swc_ast.specs.Parts.{no_tree}
 use Rattle.swc_ast.specs.Tree.{Tree}
 use Rattle.swc_ast.specs.declared.spanned.Spanned.{Ghosts}
-use Rattle.swc_nodes.specs.NodeTree.{node_tree}
+use Rattle.swc_nodes.specs.NodeTree.{marked_tree}
 use Rattle.swc_nodes.specs.Renumbering.{given, with_given, Renumbered}
 use Rattle.swc_nodes.specs.Seats.{chain}
 use Rattle.swc_nodes.specs.Slots.{Part, View, slots, form, view_ok}
-use Rattle.swc_nodes.specs.Stands.{count, seat_at, bare_at, Apart, From, Grows, Added}
+use Rattle.swc_nodes.specs.Stands.{count, seat_at, tree_at, Apart, From, Grows, Added, Made}
 use Rattle.swc_nodes.specs.declared.node.Node.{Node}
 use Rattle.swc_nodes.specs.declared.nodes.Nodes.{Nodes}
 use Rattle.swc_nodes.proofs.Chains.{both_true, chain-bound, chain-both, chain-down, chain-same, floor-above}
 use Rattle.swc_nodes.proofs.Held.{added-made, apart-from, from-apart, from-down}
 use Rattle.swc_nodes.proofs.Standing.{grows-same, grows-then, grows-count, seat-later}
-use Rattle.swc_trees.proofs.Agreed.{agrees-first, agrees-second, agrees-self, bare-same, bare-node}
+use Rattle.swc_trees.proofs.Agreed.{agrees-first, agrees-second, agrees-self}
 use Rattle.swc_trees.proofs.Splits.{map-more}
 use Rattle.swc_trees.proofs.Lighter.{weights, parts-lighter}
 use Rattle.swc_trees.proofs.Weights.{weight, weight_of, weight-item}
 use Rattle.swc_trees.specs.Building.{built_tree}
-use Rattle.swc_trees.specs.Moving.{Agrees, IsNode, PutsIn, MadeBare}
+use Rattle.swc_trees.specs.Moving.{Agrees, IsNode, PutsIn}
 use Rattle.swc_trees.specs.Splitting.{part, built_view, places, numbered, AreAt, SplitsTo}
 use Rattle.swc_trees.specs.declared.built.Built.{Built}
 
@@ -112,7 +112,7 @@ module _ {F C K : Type 0} {fg : Ghosts F} {cg : Ghosts C} {kg : Ghosts K} where
       let b = both_true h in
       let w : suc p.at ≤ count ms = chain-bound (seat_at ms) (suc p.at) ps (count ms) b.1 in
       let e : seat_at ns p.at ≡ seat_at ms p.at = seat-later p.at g (omega arith) in
-      (a.0 ∙ bare-same ns ms p.at p.at e, agrees-before at ms ns (suc p.at) ps g b.1 a.1)
+      (a.0 ∙ ap (λ s. s.tree) e, agrees-before at ms ns (suc p.at) ps g b.1 a.1)
 
   -- ---- what is answered
 
@@ -138,7 +138,7 @@ module _ {F C K : Type 0} {fg : Ghosts F} {cg : Ghosts C} {kg : Ghosts K} where
           apart = subst (λ v. Apart (count ns) ks v) (sym e) whole;
           moved = λ at a.
               let b = subst (λ v. Agrees at ks v) e a in
-              f at (p.put.moved at (agrees-before at ms ks (count ns) (ps x) q.grows p.put.apart.chained (agrees-first at ks (ps x) (qs y) b))) (q.put.moved at (agrees-second at ks (ps x) (qs y) b));
+              f at (p.put.moved at (agrees-before at ms ks (count ns) (ps x) q.grows p.put.apart.chained (agrees-first at (tree_at ks) (ps x) (qs y) b))) (q.put.moved at (agrees-second at (tree_at ks) (ps x) (qs y) b));
         };
       }
 
@@ -150,7 +150,7 @@ module _ {F C K : Type 0} {fg : Ghosts F} {cg : Ghosts C} {kg : Ghosts K} where
   pub puts-pushed : {Y : Type 0} {ns ms ks : Nodes F C K fg cg kg} {v : View} {t : Tree F C K} {x : Node F C K} {i : ℕ} {parts : Y → List Part} {same : (ℕ → Tree F C K) → Y → Type 0} {y : Y} →
       PutsIn slots (IsNode fg.place cg.place kg.place v t) ns (Ok x) ms → Grows ms ks → Added ms ks i x → parts y ≡ record { at = i; view = v } ∷ [] → ((at : ℕ → Tree F C K) → at i ≡ t → same at y) → PutsIn parts same ns (Ok y) ks
   puts-pushed {ns = ns} {ms = ms} {ks = ks} {v = v} {t = t} {x = x} {i = i} p g d e f =
-      let n = p.put.moved (bare_at ms) (agrees-self ms (slots x)) in
+      let n = p.put.moved (tree_at ms) (agrees-self (tree_at ms) (slots x)) in
       let m = added-made v x n.view (node-apart p) d in
       let h = floor-above (seat_at ms) (count ns) (slots x) (count ms) p.put.apart.chained in
       let from : From (count ns) ks (record { at = i; view = v }) = from-down h m.from in
@@ -158,7 +158,7 @@ module _ {F C K : Type 0} {fg : Ghosts F} {cg : Ghosts C} {kg : Ghosts K} where
         grows = grows-then p.grows g;
         put = record {
           apart = subst (λ w. Apart (count ns) ks w) (sym e) (apart-from (record { at = i; view = v }) from);
-          moved = λ at a. let b = subst (λ w. Agrees at ks w) e a in f at (b.0 ∙ bare-node ks ms i x d.stands ∙ n.stands);
+          moved = λ at a. let b = subst (λ w. Agrees at ks w) e a in f at (b.0 ∙ m.stands ∙ n.stands);
         };
       }
 
@@ -168,22 +168,22 @@ module _ {F C K : Type 0} {fg : Ghosts F} {cg : Ghosts C} {kg : Ghosts K} where
   puts-appended {r = Err e} p g d = record { grows = grows-then p.grows g; put = tt }
 
   -- what one part stands for
-  pub puts-made : {Y : Type 0} {ns ms : Nodes F C K fg cg kg} {r : Result Y AllocError} {t : Tree F C K} (part : Y → Part) → PutsIn (λ y. part y ∷ []) (λ at y. at (part y).at ≡ t) ns r ms → IfOk r (λ y. MadeBare (count ns) ms (part y) t)
-  puts-made {ms = ms} {r = Ok y} part p = record { from = from-apart (part y) [] p.put.apart; stands = p.put.moved (bare_at ms) (refl, tt) }
+  pub puts-made : {Y : Type 0} {ns ms : Nodes F C K fg cg kg} {r : Result Y AllocError} {t : Tree F C K} (part : Y → Part) → PutsIn (λ y. part y ∷ []) (λ at y. at (part y).at ≡ t) ns r ms → IfOk r (λ y. Made (count ns) ms (part y) t)
+  puts-made {ms = ms} {r = Ok y} part p = record { from = from-apart (part y) [] p.put.apart; stands = p.put.moved (tree_at ms) (refl, tt) }
   puts-made {r = Err y} part p = tt
 
   -- a node whose parts are the places of trees, with the numbers of those
   pub puts-node : {ns ms : Nodes F C K fg cg kg} {v : View} {t : Tree F C K} {old new : List (Built F C K)} {x z : Node F C K} {ids : Vec ℕ Global} → old ≡ [] →
       SplitsTo fg.place cg.place kg.place slots (IsNode fg.place cg.place kg.place v t) old (Ok x) new →
       PutsIn (λ y. numbered (map built_view new) y.items) (λ at y. map at y.items ≡ map (built_tree fg.place cg.place kg.place) new) ns (Ok ids) ms →
-      Renumbered slots (node_tree fg.place cg.place kg.place) ids.items x z → form z ≡ form x → PutsIn slots (IsNode fg.place cg.place kg.place v t) ns (Ok z) ms
+      Renumbered slots (marked_tree fg.place cg.place kg.place) ids.items x z → form z ≡ form x → PutsIn slots (IsNode fg.place cg.place kg.place v t) ns (Ok z) ms
   puts-node {ns = ns} {ms = ms} {v = v} {t = t} {old = old} {new = new} {x = x} {z = z} {ids = ids} e splits q r f =
       let p = splits.split in
       let l : length old ≡ 0 = ap length e in
       let n : new ≡ p.own = p.added ∙ ap (λ w. w ++ p.own) e in
       let s : slots x ≡ places 0 p.own = p.placed ∙ ap (λ w. places w p.own) l in
-      let stand : map (bare_at ms) ids.items ≡ map (built_tree fg.place cg.place kg.place) new = q.put.moved (bare_at ms) (agrees-self ms (numbered (map built_view new) ids.items)) in
-      let many : length ids.items ≡ length p.own = sym (length-map ids.items (bare_at ms)) ∙ ap length stand ∙ length-map new (built_tree fg.place cg.place kg.place) ∙ ap length n in
+      let stand : map (tree_at ms) ids.items ≡ map (built_tree fg.place cg.place kg.place) new = q.put.moved (tree_at ms) (agrees-self (tree_at ms) (numbered (map built_view new) ids.items)) in
+      let many : length ids.items ≡ length p.own = sym (length-map ids.items (tree_at ms)) ∙ ap length stand ∙ length-map new (built_tree fg.place cg.place kg.place) ∙ ap length n in
       let parts : slots z ≡ numbered (map built_view new) ids.items = r.placed ∙ ap (map (with_given ids.items)) s ∙ places-given p.own [] ids.items many ∙ ap (λ w. numbered (map built_view w) ids.items) (sym n) in
       record {
         grows = q.grows;

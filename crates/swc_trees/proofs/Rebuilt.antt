@@ -22,7 +22,7 @@ use Rattle.swc_nodes.specs.declared.nodes.Nodes.{Nodes}
 use Rattle.swc_nodes.proofs.Chains.{floor-under}
 use Rattle.swc_nodes.proofs.Standing.{grows-same, grows-then}
 use Rattle.swc_trees.specs.Building.{Kind, an_expr, a_pat, part_kind, built_kind, built_tree, IsFor, AreFor, Stand, Offers, Assembled}
-use Rattle.swc_trees.specs.Moving.{Agrees, TakesOut}
+use Rattle.swc_trees.specs.Moving.{AgreesBare, TakesOut}
 use Rattle.swc_trees.specs.declared.built.Built.{Built}
 use Rattle.swc_trees.specs.declared.built.Built.TheVariants as built
 use Rattle.swc_trees.proofs.Assembled.{kinds-long}
@@ -71,7 +71,7 @@ module _ {F C K : Type 0} {fg : Ghosts F} {cg : Ghosts C} {kg : Ghosts K} where
   pub taken-as : {Y : Type 0} {ns ms : Nodes F C K fg cg kg} {ps : List Part} {r : Result Y AllocError} (same then : (ℕ → Tree F C K) → Y → Type 0) → ((at : ℕ → Tree F C K) (y : Y) → same at y → then at y) → TakesOut ps same ns r ms → TakesOut ps then ns r ms
   taken-as {Y} {ns} {ms} {ps} {r} same then f t = record {
     left = t.left;
-    moved = if_ok-as (λ y. (at : ℕ → Tree F C K) → Agrees at ns ps → same at y) (λ y. (at : ℕ → Tree F C K) → Agrees at ns ps → then at y) r (λ y g at h. f at y (g at h)) t.moved;
+    moved = if_ok-as (λ y. (at : ℕ → Tree F C K) → AgreesBare at ns ps → same at y) (λ y. (at : ℕ → Tree F C K) → AgreesBare at ns ps → then at y) r (λ y g at h. f at y (g at h)) t.moved;
   }
 
   -- the parts by their numbers
@@ -110,9 +110,9 @@ module _ {F C K : Type 0} {fg : Ghosts F} {cg : Ghosts C} {kg : Ghosts K} where
   parts-refused (Err z) d p o e t = record { left = left-parts p o e t.left; moved = tt }
 
   pub parts-kinds : {new now : Nodes F C K fg cg kg} (x : Node F C K) {ps : List Part} {bs : Vec (Built F C K) Global} → ps ≡ slots x → TakesOut ps (λ at v. AreFor fg.place cg.place kg.place at ps v.items) new (Ok bs) now → map built_kind bs.items ≡ map part_kind (slots x)
-  parts-kinds {new = new} x {ps = ps} e t = (t.moved (bare_at new) (agrees-self new ps)).0 ∙ ap (map part_kind) e
+  parts-kinds {new = new} x {ps = ps} e t = (t.moved (bare_at new) (agrees-self (bare_at new) ps)).0 ∙ ap (map part_kind) e
 
-  built-moved : (old : Nodes F C K fg cg kg) (p : Part) (t : Tree F C K) (r : Result (Built F C K) AllocError) → t ≡ bare_at old p.at → IfOk r (λ y. built_kind y ≡ part_kind p) → IfOk r (λ y. built_tree fg.place cg.place kg.place y ≡ t) → IfOk r (λ y. (at : ℕ → Tree F C K) → Agrees at old (p ∷ []) → IsFor fg.place cg.place kg.place at p y)
+  built-moved : (old : Nodes F C K fg cg kg) (p : Part) (t : Tree F C K) (r : Result (Built F C K) AllocError) → t ≡ bare_at old p.at → IfOk r (λ y. built_kind y ≡ part_kind p) → IfOk r (λ y. built_tree fg.place cg.place kg.place y ≡ t) → IfOk r (λ y. (at : ℕ → Tree F C K) → AgreesBare at old (p ∷ []) → IsFor fg.place cg.place kg.place at p y)
   built-moved old p t (Ok y) e k h = λ at a. (k, h ∙ e ∙ sym a.0)
   built-moved old p t (Err y) e k h = tt
 
@@ -121,7 +121,7 @@ module _ {F C K : Type 0} {fg : Ghosts F} {cg : Ghosts C} {kg : Ghosts K} where
       IfOk r (λ y. (at : ℕ → Tree F C K) → Stand fg.place cg.place kg.place at (slots x) bs.items → built_tree fg.place cg.place kg.place y ≡ node_tree fg.place cg.place kg.place at x) → TakesOut (p ∷ []) (λ at y. IsFor fg.place cg.place kg.place at p y) old r now
   popped-built {old} {new} {now} {x} {ps} {bs} {r} p o e t k h =
       let of : List Part → List (Tree F C K) = λ qs. map (λ q. bare_at new q.at) qs in
-      let s : Stand fg.place cg.place kg.place (bare_at new) (slots x) bs.items = (t.moved (bare_at new) (agrees-self new ps)).1 ∙ ap of e in
+      let s : Stand fg.place cg.place kg.place (bare_at new) (slots x) bs.items = (t.moved (bare_at new) (agrees-self (bare_at new) ps)).1 ∙ ap of e in
       let u = node_tree fg.place cg.place kg.place (bare_at new) x in
       record {
         left = left-parts p o e t.left;
@@ -157,12 +157,12 @@ module _ {F C K : Type 0} {fg : Ghosts F} {cg : Ghosts C} {kg : Ghosts K} where
   left-piece {ns} {ms} e l = subst (λ v. Left (floor (seat_at ns) (count ns) v) ns ms) e l
 
   pub piece-offered : {ns ms : Nodes F C K fg cg kg} {ps : List Part} {bs : Vec (Built F C K) Global} (qs : List Part) → ps ≡ qs → TakesOut ps (λ at v. AreFor fg.place cg.place kg.place at ps v.items) ns (Ok bs) ms → Offers qs bs.items
-  piece-offered {ns} {ps = ps} qs e t = record { front = []; ends = (t.moved (bare_at ns) (agrees-self ns ps)).0 ∙ ap (map part_kind) e }
+  piece-offered {ns} {ps = ps} qs e t = record { front = []; ends = (t.moved (bare_at ns) (agrees-self (bare_at ns) ps)).0 ∙ ap (map part_kind) e }
 
   pub piece-made : {Y : Type 0} {ns ms : Nodes F C K fg cg kg} {ps : List Part} {bs : Vec (Built F C K) Global} (same : (ℕ → Tree F C K) → Y → Type 0) (qs : List Part) (new : List (Built F C K)) (r : Result Y AllocError) → ps ≡ qs →
       TakesOut ps (λ at v. AreFor fg.place cg.place kg.place at ps v.items) ns (Ok bs) ms → IfOk r (λ y. Assembled fg.place cg.place kg.place qs (λ at. same at y) bs.items new) → IfOk r (λ y. same (bare_at ns) y)
   piece-made {Y} {ns} {ps = ps} {bs = bs} same qs new r e t h =
-      let are = t.moved (bare_at ns) (agrees-self ns ps) in
+      let are = t.moved (bare_at ns) (agrees-self (bare_at ns) ps) in
       let kinds : map built_kind bs.items ≡ map part_kind qs = are.0 ∙ ap (map part_kind) e in
       let of : List Part → List (Tree F C K) = λ vs. map (λ v. bare_at ns v.at) vs in
       let stand : Stand fg.place cg.place kg.place (bare_at ns) qs bs.items = are.1 ∙ ap of e in

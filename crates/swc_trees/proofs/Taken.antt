@@ -9,14 +9,14 @@ use Rattle.swc_ast.specs.Tree.{Tree}
 use Rattle.swc_ast.specs.declared.spanned.Spanned.{Ghosts}
 use Rattle.swc_nodes.specs.Seats.{floor, chain}
 use Rattle.swc_nodes.specs.Slots.{Part, form, view_ok, flat}
-use Rattle.swc_nodes.specs.Stands.{count, seat_at, first_at, Apart, Grows, Left, Popped}
+use Rattle.swc_nodes.specs.Stands.{count, seat_at, bare_at, first_at, Apart, Grows, Left, Popped}
 use Rattle.swc_nodes.specs.declared.node.Node.{Node}
 use Rattle.swc_nodes.specs.declared.nodes.Nodes.{Nodes}
 use Rattle.swc_nodes.proofs.Chains.{both_true, chain-bound, chain-first, chain-second, chain-same, chain-up, floor-both}
 use Rattle.swc_nodes.proofs.Held.{from-apart}
 use Rattle.swc_nodes.proofs.Standing.{grows-same, grows-then, grows-count, seat-later}
 use Rattle.swc_trees.proofs.Agreed.{flat-append, agrees-first, agrees-second, bare-same}
-use Rattle.swc_trees.specs.Moving.{Agrees, TakesOut}
+use Rattle.swc_trees.specs.Moving.{AgreesBare, TakesOut}
 use Rattle.swc_trees.specs.Refusable.{Pushed, Reversed}
 
 pub if_ok-as : {Y E : Type 0} (P Q : Y → Type 0) (r : Result Y E) → ((y : Y) → P y → Q y) → IfOk r P → IfOk r Q
@@ -25,7 +25,7 @@ if_ok-as P Q (Err e) f h = h
 
 module _ {F C K : Type 0} {fg : Ghosts F} {cg : Ghosts C} {kg : Ghosts K} where
   -- what parts stand for, once more parts were taken
-  agrees-later : (at : ℕ → Tree F C K) (ns ms : Nodes F C K fg cg kg) (lo : ℕ) (ps : List Part) (hi : ℕ) → Grows ms ns → hi ≤ count ms → chain (seat_at ns) lo ps hi ≡ true → Agrees at ns ps → Agrees at ms ps
+  agrees-later : (at : ℕ → Tree F C K) (ns ms : Nodes F C K fg cg kg) (lo : ℕ) (ps : List Part) (hi : ℕ) → Grows ms ns → hi ≤ count ms → chain (seat_at ns) lo ps hi ≡ true → AgreesBare at ns ps → AgreesBare at ms ps
   agrees-later at ns ms lo [] hi g le h a = tt
   agrees-later at ns ms lo (p ∷ ps) hi g le h a =
       let b = both_true h in
@@ -64,8 +64,8 @@ module _ {F C K : Type 0} {fg : Ghosts F} {cg : Ghosts C} {kg : Ghosts K} where
   pub apart-first : {Y : Type 0} {ns ms : Nodes F C K fg cg kg} {same : (ℕ → Tree F C K) → Y → Type 0} {r : Result Y AllocError} (ps qs : List Part) → Apart 0 ns (ps ++ qs) → TakesOut qs same ns r ms → Apart 0 ms ps
   apart-first ps qs a t = apart-left ps qs a t.left
 
-  pub moved-of : {Y : Type 0} {ns ms : Nodes F C K fg cg kg} {same : (ℕ → Tree F C K) → Y → Type 0} {r : Result Y AllocError} {y : Y} {ps : List Part} → r ≡ Ok y → TakesOut ps same ns r ms → (at : ℕ → Tree F C K) → Agrees at ns ps → same at y
-  moved-of {Y} {ns} {ms} {same} {r} {y} {ps} e t = subst (λ v. IfOk v (λ z. (at : ℕ → Tree F C K) → Agrees at ns ps → same at z)) e t.moved
+  pub moved-of : {Y : Type 0} {ns ms : Nodes F C K fg cg kg} {same : (ℕ → Tree F C K) → Y → Type 0} {r : Result Y AllocError} {y : Y} {ps : List Part} → r ≡ Ok y → TakesOut ps same ns r ms → (at : ℕ → Tree F C K) → AgreesBare at ns ps → same at y
+  moved-of {Y} {ns} {ms} {same} {r} {y} {ps} e t = subst (λ v. IfOk v (λ z. (at : ℕ → Tree F C K) → AgreesBare at ns ps → same at z)) e t.moved
 
   -- ---- what is answered
 
@@ -77,8 +77,8 @@ module _ {F C K : Type 0} {fg : Ghosts F} {cg : Ghosts C} {kg : Ghosts K} where
   taken-two {ns = ns} {ms = ms} ps qs a t s d e f = record {
     left = left-both ps qs a t.left s.left;
     moved = λ at h.
-        f at (moved-of d s at (agrees-later at ns ms 0 ps (floor (seat_at ns) (count ns) qs) t.left.grows t.left.above (chain-first (seat_at ns) 0 ps qs (count ns) a.chained) (agrees-first at ns ps qs h)))
-        (moved-of e t at (agrees-second at ns ps qs h));
+        f at (moved-of d s at (agrees-later at ns ms 0 ps (floor (seat_at ns) (count ns) qs) t.left.grows t.left.above (chain-first (seat_at ns) 0 ps qs (count ns) a.chained) (agrees-first at (bare_at ns) ps qs h)))
+        (moved-of e t at (agrees-second at (bare_at ns) ps qs h));
   }
 
   pub refused-two : {X Y Z : Type 0} {ns ms ks : Nodes F C K fg cg kg} {first : (ℕ → Tree F C K) → X → Type 0} {second : (ℕ → Tree F C K) → Y → Type 0} {then : (ℕ → Tree F C K) → Z → Type 0} {q : Result X AllocError} {r : Result Y AllocError} (ps qs : List Part) (w : Result Z AllocError) →

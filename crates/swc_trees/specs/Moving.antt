@@ -13,10 +13,10 @@ use Rattle.swc_ast.specs.declared.pat.ObjectPatProp.{ObjectPatProp}
 use Rattle.swc_ast.specs.declared.pat.Pat.{Pat}
 use Rattle.swc_ast.specs.declared.prop.Prop.{Prop}
 use Rattle.swc_ast.specs.declared.prop.PropOrSpread.{PropOrSpread}
-use Rattle.swc_nodes.specs.NodeTree.{node_tree, expr_of, pat_of, target_of, prop_of, pat_prop_of}
+use Rattle.swc_nodes.specs.NodeTree.{marked_tree, expr_of, pat_of, target_of, prop_of, pat_prop_of}
 use Rattle.swc_nodes.specs.Seats.{floor}
 use Rattle.swc_nodes.specs.Slots.{Part, View, form, view_ok, slots, prop_parts, pat_prop_parts, target_part}
-use Rattle.swc_nodes.specs.Stands.{count, seat_at, bare_at, Apart, From, Grows, Left}
+use Rattle.swc_nodes.specs.Stands.{count, seat_at, tree_at, bare_at, Apart, Grows, Left}
 use Rattle.swc_nodes.specs.declared.node.ExprId.{ExprId}
 use Rattle.swc_nodes.specs.declared.node.Node.{Node}
 use Rattle.swc_nodes.specs.declared.node.PatId.{PatId}
@@ -25,24 +25,30 @@ use Rattle.swc_nodes.specs.declared.node.PropNode.{PropNode}
 use Rattle.swc_nodes.specs.declared.node.TargetNode.{TargetNode}
 use Rattle.swc_nodes.specs.declared.nodes.Nodes.{Nodes}
 
+-- what is given for each part is what it has there
+abbrev pub AreGiven : {F C K : Type 0} → (ℕ → Tree F C K) → (ℕ → Tree F C K) → List Part → Type 0
+AreGiven at of [] = Unit {0}
+AreGiven at of (p ∷ ps) = (at p.at ≡ of p.at) × AreGiven at of ps
+
 module _ {F C K : Type 0} (fun_at : F → Span) (class_at : C → Span) (block_at : K → Span) where
   -- a node that is what the part is to be, and stands for the tree where its parts stand for what is given
   pub record IsNode (v : View) (tree : Tree F C K) (at : ℕ → Tree F C K) (x : Node F C K) : Type 0 where
-    pub stands : node_tree fun_at class_at block_at at x ≡ tree
+    pub stands : marked_tree fun_at class_at block_at at x ≡ tree
     pub view : view_ok v (form x) ≡ true
 
 module _ {F C K : Type 0} {fg : Ghosts F} {cg : Ghosts C} {kg : Ghosts K} where
-  -- What is given for each part is what it stands for among the nodes. Trees in boxes have no marks of commas, and what stands for parts
-  -- here has none.
+  -- what is given for each part is what it stands for among the nodes; and that without the marks of commas, as trees in boxes are
   abbrev pub Agrees : (ℕ → Tree F C K) → Nodes F C K fg cg kg → List Part → Type 0
-  Agrees at ns [] = Unit {0}
-  Agrees at ns (p ∷ ps) = (at p.at ≡ bare_at ns p.at) × Agrees at ns ps
+  Agrees at ns ps = AreGiven at (tree_at ns) ps
+
+  abbrev pub AgreesBare : (ℕ → Tree F C K) → Nodes F C K fg cg kg → List Part → Type 0
+  AgreesBare at ns ps = AreGiven at (bare_at ns) ps
 
   -- Parts were taken out, the last first, and none with a number below the smallest that is reached from them. What is answered is what
-  -- `same` says, where the parts stand for what they stood for.
+  -- `same` says, where the parts stand for what they stood for, without the marks of commas.
   pub record TakesOut {Y : Type 0} (ps : List Part) (same : (ℕ → Tree F C K) → Y → Type 0) (ns : Nodes F C K fg cg kg) (r : Result Y AllocError) (ms : Nodes F C K fg cg kg) : Type 0 where
     pub left : Left (floor (seat_at ns) (count ns) ps) ns ms
-    pub moved : IfOk r (λ y. (at : ℕ → Tree F C K) → Agrees at ns ps → same at y)
+    pub moved : IfOk r (λ y. (at : ℕ → Tree F C K) → AgreesBare at ns ps → same at y)
 
   -- The parts of what is answered lie apart, from the number k on, and it is what `same` says, where its parts stand for what they stand for.
   pub record Put {Y : Type 0} (parts : Y → List Part) (same : (ℕ → Tree F C K) → Y → Type 0) (k : ℕ) (ms : Nodes F C K fg cg kg) (y : Y) : Type 0 where
@@ -53,11 +59,6 @@ module _ {F C K : Type 0} {fg : Ghosts F} {cg : Ghosts C} {kg : Ghosts K} where
   pub record PutsIn {Y : Type 0} (parts : Y → List Part) (same : (ℕ → Tree F C K) → Y → Type 0) (ns : Nodes F C K fg cg kg) (r : Result Y AllocError) (ms : Nodes F C K fg cg kg) : Type 0 where
     pub grows : Grows ns ms
     pub put : IfOk r (Put parts same (count ns) ms)
-
-  -- the number stands for the tree, as trees in boxes are, and no number below k is reached from it
-  pub record MadeBare (k : ℕ) (ms : Nodes F C K fg cg kg) (p : Part) (t : Tree F C K) : Type 0 where
-    pub from : From k ms p
-    pub stands : bare_at ms p.at ≡ t
 
   -- the trees of boxes, and of what stands in them, where the hook's values lie as these nodes have it
   abbrev pub boxed_in : Nodes F C K fg cg kg → Box (Expr F C K) Global → Tree F C K

@@ -2,7 +2,7 @@
 ghost use Rattle.std.specs.Prelude.{◌≡◌, ℕ, [], IfOk};
 ghost use Rattle.swc_ast.specs.Parts.{lit_tree};
 ghost use Rattle.swc_ast.specs.Tree.{Tree};
-ghost use Rattle.swc_nodes.specs.NodeTree.{node_tree};
+ghost use Rattle.swc_nodes.specs.NodeTree.{marked_tree};
 ghost use Rattle.swc_nodes.specs.Slots.{other_expr, form, slots};
 
 use std::alloc::{AllocError, Global};
@@ -158,7 +158,7 @@ pub(crate) fn lit_node<F: Spanned + Drop, C: Spanned + Drop, K: Spanned + Drop>(
 ) -> Node<F, C, K>
     ensures slots { slots result ≡ [] }
     ensures form { form result ≡ other_expr }
-    ensures tree { (at : ℕ → Tree F C K) → node_tree F.place C.place K.place at result ≡ lit_tree lit }
+    ensures tree { (at : ℕ → Tree F C K) → marked_tree F.place C.place K.place at result ≡ lit_tree lit }
 {
     match lit {
         Lit::Str(s) => Node::Str(s),

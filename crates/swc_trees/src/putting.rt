@@ -2,9 +2,9 @@
 // source. What is moved leaves an empty tree behind; no text and no value of the hook is copied.
 ghost use Rattle.std.specs.Prelude.{◌≡◌, [], ◌∷◌, map, IfOk};
 ghost use Rattle.swc_nodes.specs.Slots.{expr_part, pat_part};
-ghost use Rattle.swc_nodes.specs.Stands.{count, Grows};
+ghost use Rattle.swc_nodes.specs.Stands.{count, Grows, Made};
 ghost use Rattle.swc_trees.specs.Building.{built_tree};
-ghost use Rattle.swc_trees.specs.Moving.{PutsIn, MadeBare, boxed_in, pat_in};
+ghost use Rattle.swc_trees.specs.Moving.{PutsIn, boxed_in, pat_in};
 ghost use Rattle.swc_trees.specs.Splitting.{built_view, numbered};
 
 use crate::built::Built;
@@ -23,7 +23,7 @@ pub fn put_expr<F: Spanned + Drop, C: Spanned + Drop, K: Spanned + Drop>(
     expr: Box<Expr<F, C, K>>,
 ) -> Result<ExprId, AllocError>
     ensures grows { Grows nodes.old nodes.new }
-    ensures made { IfOk result (λ id. MadeBare (count nodes.old) nodes.new (expr_part id) (boxed_in nodes.old expr)) }
+    ensures made { IfOk result (λ id. Made (count nodes.old) nodes.new (expr_part id) (boxed_in nodes.old expr)) }
 {
     Ok(ExprId(put(nodes, alloc, &mut Built::Expr(expr))?))
 }
@@ -35,7 +35,7 @@ pub fn put_pat<F: Spanned + Drop, C: Spanned + Drop, K: Spanned + Drop>(
     pat: Pat<F, C, K>,
 ) -> Result<PatId, AllocError>
     ensures grows { Grows nodes.old nodes.new }
-    ensures made { IfOk result (λ id. MadeBare (count nodes.old) nodes.new (pat_part id) (pat_in nodes.old pat)) }
+    ensures made { IfOk result (λ id. Made (count nodes.old) nodes.new (pat_part id) (pat_in nodes.old pat)) }
 {
     Ok(PatId(put(nodes, alloc, &mut Built::Pat(pat))?))
 }

@@ -25,6 +25,6 @@ returns g c =
     promised c.parse_object_prop-answer.new.self.input (nodes_of c.move_out-answer.new.self) c.move_out-answer.result c.finish.result c.in_ok-begin.ensures.runs moved.runs
     done.answer (done.buffer ∙ moved.buffer) done.nodes done.fails
     (meets-in-boxes g.I.Tokens.model g.B.Bodies.is_faithful g.B.BodyForms.forms g.met.B.Bodies.lawful (prop_or_spread_tree _ _ _ g.B.Fun.Spanned.place g.B.Class.Spanned.place g.B.Block.Spanned.place) prop-stops _ c.move_out-answer.result _
-    (moved-parses g.I.Tokens.model g.B.Bodies.is_faithful (run g.B.BodyForms.forms (at Prop)) c.parse_object_prop-answer.new.self.nodes prop_at (prop_tree _ _ _ (bare_at c.parse_object_prop-answer.new.self.nodes)) (prop_or_spread_tree _ _ _ g.B.Fun.Spanned.place g.B.Class.Spanned.place g.B.Block.Spanned.place) _ _ c.parse_object_prop-answer.result c.move_out-answer.result read.reads
-          (λ x. unmarked-prop _ _ _ (tree_at c.parse_object_prop-answer.new.self.nodes) x) moved.moved))
+    (moved-parses g.I.Tokens.model g.B.Bodies.is_faithful (run g.B.BodyForms.forms (at Prop)) c.parse_object_prop-answer.new.self.nodes prop_at (prop_tree g.B.Fun.Spanned.place g.B.Class.Spanned.place g.B.Block.Spanned.place (bare_at c.parse_object_prop-answer.new.self.nodes)) (prop_or_spread_tree _ _ _ g.B.Fun.Spanned.place g.B.Class.Spanned.place g.B.Block.Spanned.place) _ _ c.parse_object_prop-answer.result c.move_out-answer.result read.reads
+    (λ x. unmarked-prop g.B.Fun.Spanned.place g.B.Class.Spanned.place g.B.Block.Spanned.place (tree_at c.parse_object_prop-answer.new.self.nodes) x) moved.moved))
     (cut-back (nodes_of c.move_out-answer.new.self) read.grows (rw (sym c.len-start.ensures) moved.nodes))
