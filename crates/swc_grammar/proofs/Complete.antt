@@ -14,7 +14,7 @@ use Rattle.swc_context.specs.declared.word.Word.TheVariants as word
 use Rattle.swc_input.specs.declared.token.Token.{Token}
 use Rattle.swc_input.specs.declared.token.Token.TheVariants as token
 use Rattle.swc_input.specs.declared.token.TokenAndSpan.{TokenAndSpan}
-use Rattle.swc_input.specs.Kinds.{at_token}
+use Rattle.swc_input.specs.Kinds.{at_token, is_hash}
 use Rattle.swc_ast.specs.Tree.{Tree, span_of}
 use Rattle.swc_bodies.specs.Readings.{whole_span, Hook, begins as begins_own, begins_function, is_function_here}
 use Rattle.swc_bodies.specs.Readings.{is_function, is_async, is_class}
@@ -22,12 +22,17 @@ use Rattle.swc_grammar.specs.Rule.{Rule, gives, never, take, check, peek, read, 
 use Rattle.swc_grammar.specs.Tokens.{tk, with_in, binary_of, prefix_of, is_rparen, is_power, is_closer, is_word_apart}
 use Rattle.swc_grammar.specs.Tokens.{is_stop, is_comma, is_dots, is_reference, is_rbracket, is_rbrace, is_lparen}
 use Rattle.swc_grammar.specs.Tokens.{is_colon, is_star, is_equals, is_question, is_word, is_get, ends_prop, follows_key}
+use Rattle.swc_grammar.specs.Tokens.{is_dot, is_lbracket}
 use Rattle.swc_grammar.specs.Trees.{to, bin_e, nullish_ok, logical_ok, exp_ok, is_unary, min_right}
-use Rattle.swc_grammar.specs.Symbols.{Symbol, Expr, Assign, Level, Unary, Primary, Literal, Elements, ElementsTail}
+use Rattle.swc_grammar.specs.Symbols.{Symbol, Expr, Assign, Level, Unary, Left, Args, ArgsTail, Primary, Literal}
+use Rattle.swc_grammar.specs.Symbols.{Elements, ElementsTail}
 use Rattle.swc_grammar.specs.Symbols.{Item, Props, PropsTail, Prop, Key, AfterKey, Shell, Answer, Body, Value}
 use Rattle.swc_grammar.specs.Symbols.{begins_body, Side}
+use Rattle.swc_grammar.specs.Names.{Spelling}
 use Rattle.swc_grammar.specs.Parts.{reference, any_name, lit_of, key_lit_of, prefix_here, operator_here}
-use Rattle.swc_grammar.specs.Grammar.{Production, ident-expr, lit, paren-expr, unary-primary, unary-op, exp-unary}
+use Rattle.swc_grammar.specs.Grammar.{Production, ident-expr, lit, paren-expr, unary-left, unary-op, exp-unary}
+use Rattle.swc_grammar.specs.Grammar.{left-primary, member-name, member-private, member-computed, call, args-end}
+use Rattle.swc_grammar.specs.Grammar.{args-more, args-tail-end, args-tail-more}
 use Rattle.swc_grammar.specs.Grammar.{exp-op, primary-literal}
 use Rattle.swc_grammar.specs.Grammar.{this-expr, array-lit, elements-end, elements-hole, elements-more, tail-end}
 use Rattle.swc_grammar.specs.Grammar.{tail-more, item-expr, item-spread, fn-expr, class-expr}
@@ -38,12 +43,14 @@ use Rattle.swc_grammar.specs.Grammar.{key-name, key-literal, key-computed}
 use Rattle.swc_grammar.specs.Grammar.{level-up, bin-op, private-expr, assign-level, expr-assign}
 use Rattle.swc_grammar.specs.Reads.{Hears, Reads, by, Follows, gave, took, held, calm, part, heard, is_stop_for, Stops}
 use Rattle.swc_grammar.specs.Reads.{at-end, at-stop}
-use Rattle.swc_grammar.specs.Clean.{Out, and_then, first, Call, sym, climb, plan, rank_of, rank, allowed, exec}
+use Rattle.swc_grammar.specs.Clean.{Out, and_then, first, Call, sym, links, climb, plan, rank_of, rank, allowed, exec}
+use Rattle.swc_grammar.specs.Clean.{no_link, no_more, more, linked, link, call_link, args, args_tail}
 use Rattle.swc_grammar.specs.Clean.{operator_at, prefix_at}
 use Rattle.swc_grammar.specs.Clean.{Bound, Stop, left_ok, no_error, Choice, pick, chosen, expr, assign, unary, primary}
 use Rattle.swc_grammar.specs.Clean.{literal, elements, elements_tail, item, props, props_tail, prop, key, after_key}
 use Rattle.swc_grammar.specs.Clean.{shell, prop_word, is_lit, turn, turned, step, run}
 use Rattle.swc_grammar.specs.Firsts.{starts, begins_primary, begins_expression, begins_key, begins_prop}
+use Rattle.swc_grammar.proofs.Binds.{bind}
 use Rattle.swc_grammar.proofs.Bodies.{hears-run}
 use Rattle.swc_grammar.proofs.Good.{Good, good}
 use Rattle.swc_grammar.proofs.Answers.{both}
@@ -55,7 +62,7 @@ use Rattle.swc_grammar.proofs.Firsts.{async-word, get-word}
 use Rattle.swc_grammar.proofs.Knot.{knot}
 use Rattle.swc_grammar.proofs.Levels.{bound-some, bound-above, min-right-same}
 
--- at the end and before a hard stop no operator is read
+-- at the end and before a hard stop no operator is read, and no link
 stop-token : (c : Context) (t : Token) (b : Bool) → (is_comma t || (is_closer t || is_word_apart t b)) ≡ true
     → binary_of c t ≡ None
 stop-token c (token.Word (word.Keyword keyword.In)) true h = absurd cc
@@ -64,6 +71,22 @@ stop-token c (token.Word (word.Keyword keyword.InstanceOf)) true h = absurd cc
 stop-token c (token.Word (word.Keyword keyword.InstanceOf)) false h = absurd cc
 stop-token c (token.BinOp o) b h = absurd cc
 stop-token c t b h = refl
+
+link-token : (b : Bool) (t : TokenAndSpan)
+    → (is_comma t.token || (is_closer t.token || is_word_apart t.token t.had_line_break)) ≡ true
+    → no_link b (Some t) ≡ true
+link-token b t h = by-token t.token t.had_line_break t.span h
+  where
+    by-token : (u : Token) (d : Bool) (s : Span) → (is_comma u || (is_closer u || is_word_apart u d)) ≡ true
+        → no_link b (Some (tk u d s)) ≡ true
+    by-token token.Dot d s h = absurd cc
+    by-token token.LBracket d s h = absurd cc
+    by-token token.LParen d s h = absurd cc
+    by-token u d s h = not-call b
+      where
+        not-call : (b : Bool) → not (b && false) ≡ true
+        not-call true = refl
+        not-call false = refl
 
 and-false : (a : Bool) → (a && false) ≡ false
 and-false true = refl
@@ -101,14 +124,18 @@ stops-bound s c at-end = λ op e. absurd cc
 stops-bound s c (at-stop {t = t} h) =
     let n = stop-token c t.token t.had_line_break (stop-any s t h) in λ op e. absurd cc
 
--- what stands behind a property is no operator
-ends-prop-bound : (c : Context) (ys : List TokenAndSpan) → at_token ends_prop (first ys) ≡ true → Bound c 0 ys
-ends-prop-bound c [] h = absurd cc
-ends-prop-bound c (a ∷ us) h = by-token a.token a.had_line_break a.span h
+pub stops-link : {ys : List TokenAndSpan} (b : Bool) (s : Symbol) → Stops s ys → no_link b (first ys) ≡ true
+stops-link b s at-end = refl
+stops-link b s (at-stop {t = t} h) = link-token b t (stop-any s t h)
+
+-- what stands behind a property is no operator and no link
+ends-prop-stop : (c : Context) (ys : List TokenAndSpan) → at_token ends_prop (first ys) ≡ true → Stop Assign c ys
+ends-prop-stop c [] h = absurd cc
+ends-prop-stop c (a ∷ us) h = by-token a.token a.had_line_break a.span h
   where
-    by-token : (t : Token) (b : Bool) (s : Span) → ends_prop t ≡ true → Bound c 0 (tk t b s ∷ us)
-    by-token token.Comma b s h = λ op k. absurd cc
-    by-token token.RBrace b s h = λ op k. absurd cc
+    by-token : (t : Token) (b : Bool) (s : Span) → ends_prop t ≡ true → Stop Assign c (tk t b s ∷ us)
+    by-token token.Comma b s h = (refl, λ op k. absurd cc)
+    by-token token.RBrace b s h = (refl, λ op k. absurd cc)
     by-token t b s h = absurd cc
 
 -- Tests of the token behind the first one of a property: at most one holds.
@@ -171,13 +198,15 @@ not-get-token : (t : Token) → is_async t ≡ true → is_get t ≡ false
 not-get-token (token.Word (word.Ident w)) h = not-get w h
 not-get-token t h = absurd cc
 
--- Of a level the claim holds for climbing on from any precedence below it: so what a level above read needs no second
--- climbing. And no `**` follows, since the right operand of one before would take it.
+-- Of a left-hand side the claim is that links are read on from there. Of a level it holds for climbing on from any
+-- precedence below it: so what a level above read needs no second climbing. And no link follows, since the last operand
+-- would take it, and no `**`, since the right operand of one before would.
 abbrev Claim : {F C K : Type 0} (hook : Hook F C K) (s : Symbol)
     → Context → List TokenAndSpan → List TokenAndSpan → Answer F C K s → Type 0
 Claim hook (Level zero) c xs ys t = Unit {0}
-Claim hook (Level (suc n)) c xs ys t = n ≤ 10 → Bound c (min (suc n) 10) ys → (m : ℕ) → m ≤ n
-    → run hook (sym (Level (suc m))) c xs ≡ run hook (climb t m) c ys
+Claim hook (Level (suc n)) c xs ys t = n ≤ 10 → no_link true (first ys) ≡ true → Bound c (min (suc n) 10) ys
+    → (m : ℕ) → m ≤ n → run hook (sym (Level (suc m))) c xs ≡ run hook (climb t m) c ys
+Claim hook (Left b) c xs ys t = run hook (sym (Left b)) c xs ≡ run hook (links b t) c ys
 Claim hook s c xs ys t = Stop s c ys → run hook (sym s) c xs ≡ Some (t, ys)
 
 starting : (Q : List TokenAndSpan → Type 0) (P : Token → Bool) (xs : List TokenAndSpan) → at_token P (first xs) ≡ true
@@ -233,6 +262,48 @@ module _ {F C K : Type 0} (hook : Hook F C K) where
       → exec hook (run hook) g (read k c (λ v. gives v)) ts ≡ run hook k c ts
   last g k c ts h = rw h (then-some (run hook k c ts))
 
+  -- links
+  no-link-here : (b d e x : Bool) → (not d && (not e && not (b && x))) ≡ true
+      → (d ≡ false) × (e ≡ false) × ((b && x) ≡ false)
+  no-link-here b true e x h = absurd cc
+  no-link-here b false true x h = absurd cc
+  no-link-here true false false true h = absurd cc
+  no-link-here true false false false h = (refl, refl, refl)
+  no-link-here false false false x h = (refl, refl, refl)
+
+  no-call-here : {c : Context} (b : Bool) (t : TokenAndSpan) → (b && is_lparen t.token) ≡ false
+      → call_link {F = F} {C = C} {K = K} b {c = c} (Some t) ≡ no_more
+  no-call-here true t h = rw h refl
+  no-call-here false t h = refl
+
+  no-call-at-end : {c : Context} (b : Bool) → call_link {F = F} {C = C} {K = K} b {c = c} None ≡ no_more
+  no-call-at-end true = refl
+  no-call-at-end false = refl
+
+  links-stop : (b : Bool) (c : Context) (ys : List TokenAndSpan) → no_link b (first ys) ≡ true
+      → link {F = F} {C = C} {K = K} b c ys ≡ no_more
+  links-stop b c [] h = no-call-at-end b
+  links-stop b c (t ∷ us) h =
+      let (x, y, z) = no-link-here b (is_dot t.token) (is_lbracket t.token) (is_lparen t.token) h in
+      rw (x, y) (no-call-here b t z)
+
+  links-end : (b : Bool) (t : Tree F C K) (c : Context) (ys : List TokenAndSpan) → no_link b (first ys) ≡ true
+      → run hook (links b t) c ys ≡ Some (t, ys)
+  links-end b t c ys h =
+      knot hook (links b t) c ys ∙ ap (λ v. exec hook (run hook) (Some 1) (linked v t) ys) (links-stop b c ys h)
+
+  links-take : {b : Bool} {c : Context} (l : Tree F C K) (a : TokenAndSpan) (us ys : List TokenAndSpan)
+      {f : Tree F C K → TokenAndSpan → Side F C K (Left b)}
+      (p : Production (Left b) c (read (Left b) c (λ e. take (λ u. f e u)))) {t : Tree F C K}
+      → link b c (a ∷ us) ≡ more p
+      → exec hook (run hook) None (plan (f l a)) us ≡ Some (t, ys)
+      → run hook (links b l) c (a ∷ us) ≡ run hook (links b t) c ys
+  links-take {b = b} {c = c} l a us ys {f = f} p {t = t} h e =
+      knot hook (links b l) c (a ∷ us)
+      ∙ ap (λ v. exec hook (run hook) (Some 1) (linked v l) (a ∷ us)) h
+      ∙ bind hook (run hook) (plan (f l a)) (λ u. read (links b u) c (λ v. gives v)) us
+      ∙ rw e (last None (links b t) c ys refl)
+
   -- climbing
   turn-ends : (o : Option BinaryOp) (l : Tree F C K) (m : ℕ) (c : Context) (ts : List TokenAndSpan) → left_ok l ≡ true
       → ((op : BinaryOp) → o ≡ Some op → precedence_of op ≤ m)
@@ -273,30 +344,40 @@ module _ {F C K : Type 0} (hook : Hook F C K) where
   settle : (s : Symbol) (c : Context) (xs ys : List TokenAndSpan) (t : Answer F C K s) → Good F C K s t
       → Claim hook s c xs ys t → Stop s c ys → run hook (sym s) c xs ≡ Some (t, ys)
   settle (Level zero) c xs ys t g h stop = absurd stop
-  settle (Level (suc n)) c xs ys t g h (le, b) =
-      h le (bound-above c n (min (suc n) 10) ys (omega arith) b) n (omega arith) ∙ climb-ends t n c ys g.left b
+  settle (Level (suc n)) c xs ys t g h (le, end, b) =
+      h le end (bound-above c n (min (suc n) 10) ys (omega arith) b) n (omega arith) ∙ climb-ends t n c ys g.left b
+  settle (Left b) c xs ys t g h stop = h ∙ links-end b t c ys stop
   settle s c xs ys t g h stop = h stop
 
   -- no reading goes on with `)`
   quiet-rparen : (c : Context) (a : TokenAndSpan) (us : List TokenAndSpan) → is_rparen a.token ≡ true
       → Stop Assign c (a ∷ us)
   quiet-rparen c a us h =
-      only-rparen (λ v. Stop Assign c (tk v a.had_line_break a.span ∷ us)) (λ op k. absurd cc) a.token h
+      only-rparen (λ v. Stop Assign c (tk v a.had_line_break a.span ∷ us)) (refl, λ op k. absurd cc) a.token h
 
   -- nor with `]`
   quiet-rbracket : (c : Context) (a : TokenAndSpan) (us : List TokenAndSpan) → is_rbracket a.token ≡ true
       → Stop Assign c (a ∷ us)
   quiet-rbracket c a us h =
-      only-rbracket (λ v. Stop Assign c (tk v a.had_line_break a.span ∷ us)) (λ op k. absurd cc) a.token h
+      only-rbracket (λ v. Stop Assign c (tk v a.had_line_break a.span ∷ us)) (refl, λ op k. absurd cc) a.token h
 
-  -- an item is followed by a comma or a bracket, with which none goes on
+  -- an item is followed by a comma or what closes its list, with which none goes on
   quiet-tail : (c : Context) (a : TokenAndSpan) (us : List TokenAndSpan) → starts ElementsTail c a.token ≡ true
       → Stop Item c (a ∷ us)
   quiet-tail c a us h = by-token a.token a.had_line_break a.span h
     where
       by-token : (t : Token) (b : Bool) (s : Span) → starts ElementsTail c t ≡ true → Stop Item c (tk t b s ∷ us)
-      by-token token.Comma b s h = λ op k. absurd cc
-      by-token token.RBracket b s h = λ op k. absurd cc
+      by-token token.Comma b s h = (refl, λ op k. absurd cc)
+      by-token token.RBracket b s h = (refl, λ op k. absurd cc)
+      by-token t b s h = absurd cc
+
+  quiet-args : (c : Context) (a : TokenAndSpan) (us : List TokenAndSpan) → starts ArgsTail c a.token ≡ true
+      → Stop Item c (a ∷ us)
+  quiet-args c a us h = by-token a.token a.had_line_break a.span h
+    where
+      by-token : (t : Token) (b : Bool) (s : Span) → starts ArgsTail c t ≡ true → Stop Item c (tk t b s ∷ us)
+      by-token token.Comma b s h = (refl, λ op k. absurd cc)
+      by-token token.RParen b s h = (refl, λ op k. absurd cc)
       by-token t b s h = absurd cc
 
   -- Which production is picked, where it is followed.
@@ -349,7 +430,35 @@ module _ {F C K : Type 0} (hook : Hook F C K) where
   picked-unary unary-op (took {a = a} d) =
       let (x, h, k) = given-held (prefix_here a.token a.span) _ d in rw
       (placed-op (prefix_of a.token) a.span x.0 x.1 h) refl
-  picked-unary {c = c} unary-primary (part {xs = xs} e d) = rw (no-prefix-first c xs (begins e)) refl
+  picked-unary {c = c} unary-left (part {xs = xs} e d) = rw (no-prefix-first c xs (begins e)) refl
+
+  -- arguments
+  not-closed : (c : Context) (xs : List TokenAndSpan) → at_token (starts Item c) (first xs) ≡ true
+      → at_token is_rparen (first xs) ≡ false
+  not-closed c [] h = refl
+  not-closed c (a ∷ us) h = by-token a.token h
+    where
+      by-token : (t : Token) → starts Item c t ≡ true → is_rparen t ≡ false
+      by-token token.RParen h = absurd cc
+      by-token t h = refl
+
+  picked-args : {c : Context} {r : Side F C K Args} {xs ys : List TokenAndSpan} {t : Tree F C K}
+      (p : Production Args c r)
+      → Follows hook Args r xs ys t → args c xs ≡ pick p
+  picked-args {c = c} args-end (took {a = a} {xs = us} (held h d)) =
+      only-rparen (λ v. args {F = F} {C = C} {K = K} c (tk v a.had_line_break a.span ∷ us)
+      ≡ pick args-end) refl a.token h
+  picked-args {c = c} args-more (part {xs = xs} e d) = rw (not-closed c xs (begins e)) refl
+
+  picked-args-tail : {c : Context} {r : Side F C K ArgsTail} {xs ys : List TokenAndSpan} {t : Tree F C K}
+      (p : Production ArgsTail c r)
+      → Follows hook ArgsTail r xs ys t → args_tail c xs ≡ pick p
+  picked-args-tail {c = c} args-tail-end (took {a = a} {xs = us} (held h d)) =
+      only-rparen (λ v. args_tail {F = F} {C = C} {K = K} c (tk v a.had_line_break a.span ∷ us)
+      ≡ pick args-tail-end) refl a.token h
+  picked-args-tail {c = c} args-tail-more (took {a = a} {xs = us} (held h d)) =
+      only-comma (λ v. args_tail {F = F} {C = C} {K = K} c (tk v a.had_line_break a.span ∷ us)
+      ≡ pick args-tail-more) refl a.token h
 
   -- functions and classes, by the tokens that stand first
   fn-token : (c : Context) (t : Token) (b : Bool) (s : Span) (us : List TokenAndSpan)
@@ -616,11 +725,20 @@ module _ {F C K : Type 0} (hook : Hook F C K) where
       get-picks c a us h (begins e)
 
   -- where a symbol's reading stops, what a picked production reads stops too
-  ready-unary : {c : Context} {r : Side F C K Unary} (ys : List TokenAndSpan) → Production Unary c r
+  ready-unary : {c : Context} {r : Side F C K Unary} (ys : List TokenAndSpan) → Stop Unary c ys → Production Unary c r
       → Ready (Some 10) ys r
-  ready-unary ys unary-op =
-      λ a. ready-given _ _ (prefix_here a.token a.span) _ (λ x h. (refl, λ e. (λ n. tt, λ n. tt)))
-  ready-unary ys unary-primary = (refl, λ e. (tt, tt))
+  ready-unary ys stop unary-op =
+      λ a. ready-given _ _ (prefix_here a.token a.span) _ (λ x h. (refl, λ e. (λ n. stop, λ n. tt)))
+  ready-unary ys stop unary-left = (refl, λ e. (stop, tt))
+
+  ready-args : {c : Context} {r : Side F C K Args} (ys : List TokenAndSpan) → Production Args c r → Ready (Some 16) ys r
+  ready-args ys args-end = λ a h. tt
+  ready-args ys (args-more {c = c}) = (refl, λ e. (λ a us h. quiet-args c a us h, (refl, λ es. (tt, tt))))
+
+  ready-args-tail : {c : Context} {r : Side F C K ArgsTail} (ys : List TokenAndSpan) → Production ArgsTail c r
+      → Ready (Some 5) ys r
+  ready-args-tail ys args-tail-end = λ a h. tt
+  ready-args-tail ys args-tail-more = λ a h. (refl, λ es. (tt, tt))
 
   ready-primary : {c : Context} {r : Side F C K Primary} (ys : List TokenAndSpan) → Production Primary c r
       → Ready (Some 8) ys r
@@ -662,12 +780,12 @@ module _ {F C K : Type 0} (hook : Hook F C K) where
 
   ready-prop : {c : Context} {r : Side F C K Prop} (ys : List TokenAndSpan) → Stop Prop c ys → Production Prop c r
       → Ready (Some 4) ys r
-  ready-prop ys stop (prop-spread {c = c}) = λ a h. (refl, λ e. (ends-prop-bound (with_in c) ys stop, tt))
+  ready-prop ys stop (prop-spread {c = c}) = λ a h. (refl, λ e. (ends-prop-stop (with_in c) ys stop, tt))
   ready-prop ys stop (prop-short {c = c}) = λ a. ready-given _ _ (any_name c a.token a.span) _ (λ n h r. tt)
   ready-prop ys stop (prop-cover {c = c}) = λ a. ready-given _ _ (any_name c a.token a.span) _
-      (λ n h r b k. (refl, λ e. (ends-prop-bound (with_in c) ys stop, tt)))
+      (λ n h r b k. (refl, λ e. (ends-prop-stop (with_in c) ys stop, tt)))
   ready-prop ys stop (prop-key {c = c}) =
-      (refl, λ k. (λ a us h. tt, (refl, λ x. (ends-prop-bound (with_in c) ys stop, tt))))
+      (refl, λ k. (λ a us h. tt, (refl, λ x. (ends-prop-stop (with_in c) ys stop, tt))))
   ready-prop ys stop prop-generator = λ a h. (refl, λ k. (λ b us g. tt, (refl, λ f. (tt, tt))))
   ready-prop ys stop prop-async = λ a h. (refl, λ k. (λ b us g. tt, (refl, λ f. (tt, tt))))
   ready-prop ys stop prop-async-generator = λ a h b j. (refl, λ k. (λ d us g. tt, (refl, λ f. (tt, tt))))
@@ -743,7 +861,30 @@ module _ {F C K : Type 0} (hook : Hook F C K) where
   side-reads g (ran-heard {f = f} {v = v} h d) q =
       hears-run h (λ v at us. exec hook (run hook) None (plan (f v at)) us) ∙ side-reads None d (q v _)
 
+  -- behind a `.` a name is no `#`
+  word-no-hash : (t : Token) → is_word t ≡ true → is_hash t ≡ false
+  word-no-hash (token.Word w) h = refl
+  word-no-hash t h = absurd cc
+
+  name-next : (c : Context) {s : Symbol} {k : TokenAndSpan → Spelling → Side F C K s} {xs ys : List TokenAndSpan}
+      {t : Answer F C K s}
+      → Follows hook s (take (λ a. given (any_name c a.token a.span) >>= k a)) xs ys t
+      → at_token is_hash (first xs) ≡ false
+  name-next c (took {a = a} d) =
+      let (n, h, e) = given-held (any_name c a.token a.span) _ d in
+      word-no-hash a.token (name-first c a.token a.span n h)
+
   -- operators
+  operator-link : (c : Context) (a : TokenAndSpan) (op : BinaryOp) → binary_of c a.token ≡ Some op
+      → no_link true (Some a) ≡ true
+  operator-link c a op h = by-token a.token a.had_line_break a.span h
+    where
+      by-token : (t : Token) (b : Bool) (s : Span) → binary_of c t ≡ Some op → no_link true (Some (tk t b s)) ≡ true
+      by-token token.Dot b s h = absurd cc
+      by-token token.LBracket b s h = absurd cc
+      by-token token.LParen b s h = absurd cc
+      by-token t b s h = refl
+
   left-free : (op : BinaryOp) (l : Tree F C K) → precedence_of op ≤ 10 → exp_ok op l ≡ true
   left-free binary.Exp l h = absurd (omega arith)
   left-free op l h = refl
@@ -754,12 +895,12 @@ module _ {F C K : Type 0} (hook : Hook F C K) where
       → Good F C K (Level (suc (suc n))) r
       → Claim hook (Level (suc n)) c xs (a ∷ ms) l → Claim hook (Level (suc (suc n))) c ms ys r
       → Claim hook (Level (suc n)) c xs ys (bin_e (to (span_of l) (span_of r)) op l r)
-  op-reads n op c a l r xs ms ys top o p k g w left right = λ le b m lt.
+  op-reads n op c a l r xs ms ys top o p k g w left right = λ le end b m lt.
       let right-at : min_right op ≡ suc n = min-right-same op (omega arith) ∙ p in
       let e : run hook (sym (Level (suc (min_right op)))) c ms ≡ Some (r, ys) =
       rw right-at (settle (Level (suc (suc n))) c ms ys r w right
-      (top, bound-above c (min (suc n) 10) (suc n) ys (omega arith) b)) in
-      left le (bound-some c (min (suc n) 10) (a ∷ ms) op o (omega arith)) m lt
+      (top, end, bound-above c (min (suc n) 10) (suc n) ys (omega arith) b)) in
+      left le (operator-link c a op o) (bound-some c (min (suc n) 10) (a ∷ ms) op o (omega arith)) m lt
       ∙ climb-takes op m c a l r ms ys o (omega arith) (left-free op l (omega arith)) k g e
 
   power-op : (c : Context) (a : TokenAndSpan) → is_power a.token ≡ true → binary_of c a.token ≡ Some binary.Exp
@@ -769,10 +910,10 @@ module _ {F C K : Type 0} (hook : Hook F C K) where
       → is_power a.token ≡ true → not (is_unary l) ≡ true → Good F C K (Level 11) r
       → Claim hook Unary c xs (a ∷ ms) l → Claim hook (Level 11) c ms ys r
       → Claim hook (Level 11) c xs ys (bin_e (to (span_of l) (span_of r)) binary.Exp l r)
-  exp-reads c a l r xs ms ys y x w left right = λ le b m lt.
-      operand-climbs m c xs (a ∷ ms) l (omega arith) (left tt)
+  exp-reads c a l r xs ms ys y x w left right = λ le end b m lt.
+      operand-climbs m c xs (a ∷ ms) l (omega arith) (left (operator-link c a binary.Exp (power-op c a y)))
       ∙ climb-takes binary.Exp m c a l r ms ys (power-op c a y) (omega arith) x refl refl
-      (settle (Level 11) c ms ys r w right (omega arith, b))
+      (settle (Level 11) c ms ys r w right (omega arith, end, b))
 
   -- one clause a production
   claim-by : {s : Symbol} {c : Context} {r : Side F C K s} {xs ys : List TokenAndSpan} {t : Answer F C K s}
@@ -782,7 +923,33 @@ module _ {F C K : Type 0} (hook : Hook F C K) where
       (side-reads (Some 8) d (ready-primary {c = c} ys p))
   claim-by {s = Unary} {c = c} {xs = xs} {ys = ys} p d = λ stop.
       picks Unary c xs p (unary c xs) refl (picked-unary p (forget d))
-      (side-reads (Some 10) d (ready-unary {c = c} ys p))
+      (side-reads (Some 10) d (ready-unary {c = c} ys stop p))
+  claim-by {c = c} (left-primary {b = b}) (ran-part {e = e} {xs = xs} {ms = ms} l h d) =
+      gave-ran (λ u us. Claim hook (Left b) c xs us u) d
+      (knot hook (sym (Left b)) c xs ∙ rw (h tt) (last (Some 9) (links b e) c ms refl))
+  claim-by {c = c} {ys = ys} member-name (ran-part {e = l} e k (ran-took {a = a} {xs = us} (ran-held h d))) =
+      k ∙ links-take l a us ys member-name (rw (h, name-next c (forget d)) refl)
+      (rw h (side-reads None d (λ b. ready-given _ _ (any_name c b.token b.span) _ (λ n j. tt))))
+  claim-by {c = c} {ys = ys} member-private (ran-part {e = l} e k (ran-took {a = a} {xs = us} (ran-held h d))) =
+      k ∙ links-take l a us ys member-private (rw (h, next-passes is_hash (forget d)) refl)
+      (rw h (side-reads None d (λ b j. λ g. ready-given _ _ (any_name c g.token g.span) _ (λ n i o. tt))))
+  claim-by {c = c} {ys = ys} (member-computed {b = b})
+      (ran-part {e = l} e k (ran-took {a = a} {xs = us} (ran-held h d))) =
+      k ∙ links-take l a us ys member-computed
+      (only-lbracket (λ v. link {F = F} {C = C} {K = K} b c (tk v a.had_line_break a.span ∷ us)
+      ≡ more member-computed) refl a.token h)
+      (rw h (side-reads None d (refl, λ i. (λ g vs j. quiet-rbracket (with_in c) g vs j, λ g j. tt))))
+  claim-by {c = c} {ys = ys} call (ran-part {e = l} e k (ran-took {a = a} {xs = us} (ran-held h d))) =
+      k ∙ links-take l a us ys call
+      (only-lparen (λ v. link {F = F} {C = C} {K = K} true c (tk v a.had_line_break a.span ∷ us)
+      ≡ more call) refl a.token h)
+      (rw h (side-reads None d (refl, λ es. (tt, tt))))
+  claim-by {s = Args} {c = c} {xs = xs} {ys = ys} p d = λ stop.
+      picks Args c xs p (args c xs) refl (picked-args p (forget d))
+      (side-reads (Some 16) d (ready-args {c = c} ys p))
+  claim-by {s = ArgsTail} {c = c} {xs = xs} {ys = ys} p d = λ stop.
+      picks ArgsTail c xs p (args_tail c xs) refl (picked-args-tail p (forget d))
+      (side-reads (Some 5) d (ready-args-tail {c = c} ys p))
   claim-by {s = Elements} {c = c} {xs = xs} {ys = ys} p d = λ stop.
       picks Elements c xs p (elements c xs) refl (picked-elements p (forget d))
       (side-reads (Some 16) d (ready-elements {c = c} ys p))
@@ -815,7 +982,7 @@ module _ {F C K : Type 0} (hook : Hook F C K) where
       (side-reads (Some 6) d (λ a. ready-given _ _ (lit_of a.token a.span) _ (λ e h. tt)))
   claim-by {c = c} exp-unary (ran-part {e = e} {xs = xs} {ms = ms} l h d) =
       gave-ran (λ u us. Claim hook (Level 11) c xs us u) d
-      (λ le b m lt. operand-climbs m c xs ms e (omega arith) (h tt))
+      (λ le end b m lt. operand-climbs m c xs ms e (omega arith) (h end))
   claim-by {c = c} exp-op (ran-part {e = l} {xs = xs} dl left (ran-took {a = a} {xs = us} d)) =
       let (x, d1) = must-ran d in
       let (n, d2) = must-ran d1 in
@@ -824,8 +991,8 @@ module _ {F C K : Type 0} (hook : Hook F C K) where
   claim-by (level-up {k = zero} b) d = tt
   claim-by {c = c} {ys = ys} {t = t} (level-up {k = suc k} b) (ran-part {e = e} {xs = xs} {ms = ms} l h d) =
       gave-ran (λ u us. Claim hook (Level (suc k)) c xs us u) d
-      (λ le q m lt. let top = ltb-true (suc k) 11 b in
-      h (omega arith) (bound-above c (min (suc k) 10) (min (suc (suc k)) 10) ms (omega arith) q) m (omega arith))
+      (λ le end q m lt. let top = ltb-true (suc k) 11 b in
+      h (omega arith) end (bound-above c (min (suc k) 10) (min (suc (suc k)) 10) ms (omega arith) q) m (omega arith))
   claim-by (bin-op {k = zero} b) d = tt
   claim-by {c = c} (bin-op {k = suc n} b) (ran-part {e = l} {xs = xs} dl left (ran-took {a = a} {xs = us} d)) =
       let (op, o, d1) = given-ran (operator_here c a.token a.span) _ d in
@@ -838,7 +1005,7 @@ module _ {F C K : Type 0} (hook : Hook F C K) where
       (op-reads n op c a l r xs us ms (omega arith) o (eqb-true (precedence_of op) (suc n) p) k g (good dr) left right)
   claim-by {c = c} {xs = xs} {ys = ys} assign-level d = λ stop.
       picks Assign c xs assign-level (assign c xs) refl (picked-assign assign-level (forget d))
-      (side-reads (Some 13) d (refl, λ e. ((omega arith, stop), tt)))
+      (side-reads (Some 13) d (refl, λ e. ((omega arith, stop.0, stop.1), tt)))
   claim-by {c = c} {xs = xs} {ys = ys} expr-assign d = λ stop.
       picks Expr c xs expr-assign (expr c xs) refl refl (side-reads (Some 14) d (refl, λ e. (stop, tt)))
 

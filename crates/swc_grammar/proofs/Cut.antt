@@ -10,7 +10,9 @@ use Rattle.swc_grammar.specs.Cut.{Cut, here, there}
 use Rattle.swc_grammar.specs.Rule.{Rule, gives, never, take, check, peek, read, hear, sees, given, ◌>>=◌}
 use Rattle.swc_bodies.specs.Readings.{Hook}
 use Rattle.swc_grammar.specs.Symbols.{Symbol, Answer, Body, Value, Side}
-use Rattle.swc_grammar.specs.Grammar.{Production, ident-expr, lit, paren-expr, unary-primary, unary-op, exp-unary}
+use Rattle.swc_grammar.specs.Grammar.{Production, ident-expr, lit, paren-expr, unary-left, unary-op, exp-unary}
+use Rattle.swc_grammar.specs.Grammar.{left-primary, member-name, member-private, member-computed, call, args-end}
+use Rattle.swc_grammar.specs.Grammar.{args-more, args-tail-end, args-tail-more}
 use Rattle.swc_grammar.specs.Grammar.{exp-op, primary-literal}
 use Rattle.swc_grammar.specs.Grammar.{this-expr, array-lit, elements-end, elements-hole, elements-more, tail-end}
 use Rattle.swc_grammar.specs.Grammar.{tail-more, item-expr, item-spread, fn-expr, class-expr}
@@ -172,7 +174,16 @@ module _ {F C K : Type 0} where
   blind key-literal = λ a. blind-given (key_lit_of a.token a.span) _ (λ e. tt)
   blind key-computed = λ a e b. tt
   blind paren-expr = λ a e b. tt
-  blind unary-primary = λ e. tt
+  blind left-primary = λ e. tt
+  blind (member-name {c = c}) = λ l a b. blind-given (any_name c b.token b.span) _ (λ n. tt)
+  blind (member-private {c = c}) = λ l a b d. blind-given (any_name c d.token d.span) _ (λ n. tt)
+  blind member-computed = λ l a e b. tt
+  blind call = λ l a es. tt
+  blind args-end = λ a. tt
+  blind args-more = λ e es. tt
+  blind args-tail-end = λ a. tt
+  blind args-tail-more = λ a es. tt
+  blind unary-left = λ e. tt
   blind unary-op = λ a. blind-given (prefix_here a.token a.span) _ (λ x e. tt)
   blind exp-unary = λ e. tt
   blind exp-op = λ l a r. tt

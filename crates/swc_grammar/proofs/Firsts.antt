@@ -18,14 +18,17 @@ use Rattle.swc_ast.specs.Tree.{Tree}
 use Rattle.swc_grammar.specs.Rule.{Rule, gives, never, take, check, peek, read, hear, given, ◌>>=◌}
 use Rattle.swc_bodies.specs.Readings.{Hook, is_function, is_async, is_class, is_function_here, begins as begins_own}
 use Rattle.swc_bodies.specs.Readings.{begins_function}
-use Rattle.swc_grammar.specs.Symbols.{Symbol, Expr, Assign, Level, Unary, Primary, Literal, Elements, ElementsTail}
+use Rattle.swc_grammar.specs.Symbols.{Symbol, Expr, Assign, Level, Unary, Left, Args, ArgsTail, Primary, Literal}
+use Rattle.swc_grammar.specs.Symbols.{Elements, ElementsTail}
 use Rattle.swc_grammar.specs.Symbols.{Item, Props, PropsTail, AfterKey, Answer, Body, Value}
 use Rattle.swc_grammar.specs.Symbols.{begins_body, Side}
 use Rattle.swc_grammar.specs.Names.{Spelling, may_refer}
 use Rattle.swc_grammar.specs.Tokens.{tk, binary_of, prefix_of, is_reference, ref_ok, is_put_off, is_comma, is_rbracket}
-use Rattle.swc_grammar.specs.Tokens.{is_dots, is_rbrace, is_colon, is_lparen, is_star, is_word, is_get}
+use Rattle.swc_grammar.specs.Tokens.{is_dots, is_rbrace, is_colon, is_lparen, is_rparen, is_star, is_word, is_get}
 use Rattle.swc_grammar.specs.Parts.{reference, any_name, lit_of, key_lit_of, with_place, prefix_here}
-use Rattle.swc_grammar.specs.Grammar.{Production, ident-expr, lit, paren-expr, unary-primary, unary-op, exp-unary}
+use Rattle.swc_grammar.specs.Grammar.{Production, ident-expr, lit, paren-expr, unary-left, unary-op, exp-unary}
+use Rattle.swc_grammar.specs.Grammar.{left-primary, member-name, member-private, member-computed, call, args-end}
+use Rattle.swc_grammar.specs.Grammar.{args-more, args-tail-end, args-tail-more}
 use Rattle.swc_grammar.specs.Grammar.{exp-op, primary-literal}
 use Rattle.swc_grammar.specs.Grammar.{this-expr, array-lit, elements-end, elements-hole, elements-more, tail-end}
 use Rattle.swc_grammar.specs.Grammar.{tail-more, item-expr, item-spread, fn-expr, class-expr}
@@ -42,7 +45,7 @@ use Rattle.swc_grammar.proofs.Answers.{both}
 use Rattle.swc_grammar.proofs.Bodies.{body-some}
 use Rattle.swc_grammar.proofs.Cut.{follows-length}
 use Rattle.swc_grammar.proofs.Only.{only-lparen, only-hash, only-this, only-lbracket, only-rbracket, only-comma, only-dots}
-use Rattle.swc_grammar.proofs.Only.{only-class, only-brace, only-rbrace, only-colon, only-star}
+use Rattle.swc_grammar.proofs.Only.{only-class, only-brace, only-rbrace, only-colon, only-star, only-rparen}
 
 -- X holds where the rest of a side, behind the token that it tests, can be followed
 abbrev pub Under : {F C K A : Type 0} → Type 0 → Rule Symbol (Answer F C K) Body (Value F C K) A → Type 0
@@ -239,7 +242,16 @@ module _ {F C K : Type 0} where
       λ a. under-given _ (key_lit_of a.token a.span) _ (λ e h. key-lit-first a.token a.span e h)
   opens key-computed = λ a h. only-lbracket (λ t. begins_key t ≡ true) refl a.token h
   opens (paren-expr {c = c}) = λ a h. by-first c a.token (only-lparen (λ t. is_first t ≡ true) refl a.token h)
-  opens (unary-primary {c = c}) = λ t h. or-left (begins_primary c t) (is_prefix t) h
+  opens left-primary = λ t h. h
+  opens member-name = λ t h. h
+  opens member-private = λ t h. h
+  opens member-computed = λ t h. h
+  opens call = λ t h. h
+  opens (args-end {c = c}) = λ a h. only-rparen (λ t. starts Args c t ≡ true) refl a.token h
+  opens (args-more {c = c}) = λ t h. or-left (begins_expression c t || is_dots t) (is_rparen t) h
+  opens (args-tail-end {c = c}) = λ a h. only-rparen (λ t. starts ArgsTail c t ≡ true) refl a.token h
+  opens (args-tail-more {c = c}) = λ a h. only-comma (λ t. starts ArgsTail c t ≡ true) refl a.token h
+  opens (unary-left {c = c}) = λ t h. or-left (begins_primary c t) (is_prefix t) h
   opens (unary-op {c = c}) = λ a. under-given _ (prefix_here a.token a.span) _
       (λ x h. or-right (begins_primary c a.token) (is_prefix a.token) (placed-is (prefix_of a.token) a.span x h))
   opens exp-unary = λ t h. h
@@ -308,7 +320,16 @@ module _ {F C K : Type 0} where
   leads key-literal = tt
   leads key-computed = tt
   leads paren-expr = tt
-  leads unary-primary = tt
+  leads left-primary = tt
+  leads member-name = tt
+  leads member-private = tt
+  leads member-computed = tt
+  leads call = tt
+  leads args-end = tt
+  leads args-more = tt
+  leads args-tail-end = tt
+  leads args-tail-more = tt
+  leads unary-left = tt
   leads unary-op = tt
   leads exp-unary = tt
   leads exp-op = tt
@@ -363,6 +384,7 @@ never-starts s c t e h = by-symbol s e
     no-lit false e h = refl
 
     by-symbol : (s : Symbol) → is_expression s ≡ true → starts s c t ≡ false
+    by-symbol (Left b) e = left-false (begins_primary c t) (is_prefix t) h
     by-symbol Primary e = left-false (begins_primary c t) (is_prefix t) h
     by-symbol Literal e =
         no-lit (is_lit t) refl

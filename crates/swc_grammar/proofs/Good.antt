@@ -18,14 +18,16 @@ use Rattle.swc_ast.specs.Tree.{Kind, Tree, node, Trees, nil, cons, span_of}
 use Rattle.swc_ast.specs.Tree.{unary as unary_kind, bin as bin_kind}
 use Rattle.swc_grammar.specs.Rule.{Rule, gives, never, take, check, peek, read, hear, given, ◌>>=◌}
 use Rattle.swc_bodies.specs.Readings.{Hook}
-use Rattle.swc_grammar.specs.Symbols.{Symbol, Level, Unary, Primary, Literal, Prop, Key, AfterKey, Answer, Body, Value}
-use Rattle.swc_grammar.specs.Symbols.{Side}
+use Rattle.swc_grammar.specs.Symbols.{Symbol, Level, Unary, Left, Primary, Literal, Prop, Key, AfterKey, Answer, Body}
+use Rattle.swc_grammar.specs.Symbols.{Value, Side}
 use Rattle.swc_grammar.specs.Trees.{to, bin_e, tightness, least_left, min_right, exp_ok, is_unary, nullish_ok}
 use Rattle.swc_grammar.specs.Trees.{logical_ok}
 use Rattle.swc_grammar.specs.Trees.{is_valid, are_valid, is_invalid, is_grouped, are_grouped, grouped_at, items_of}
 use Rattle.swc_grammar.specs.Trees.{at_place, method_e, value_e, prop_of}
 use Rattle.swc_grammar.specs.Parts.{reference, any_name, lit_of, key_lit_of, prefix_here, operator_here}
-use Rattle.swc_grammar.specs.Grammar.{Production, ident-expr, lit, paren-expr, unary-primary, unary-op, exp-unary}
+use Rattle.swc_grammar.specs.Grammar.{Production, ident-expr, lit, paren-expr, unary-left, unary-op, exp-unary}
+use Rattle.swc_grammar.specs.Grammar.{left-primary, member-name, member-private, member-computed, call, args-end}
+use Rattle.swc_grammar.specs.Grammar.{args-more, args-tail-end, args-tail-more}
 use Rattle.swc_grammar.specs.Grammar.{exp-op, primary-literal}
 use Rattle.swc_grammar.specs.Grammar.{this-expr, array-lit, elements-end, elements-hole, elements-more, tail-end}
 use Rattle.swc_grammar.specs.Grammar.{tail-more, item-expr, item-spread, fn-expr, class-expr}
@@ -42,6 +44,7 @@ use Rattle.swc_grammar.proofs.Answers.{inj, both}
 abbrev pub loosest : Symbol → ℕ
 loosest (Level k) = k
 loosest Unary = 12
+loosest (Left b) = 12
 loosest Primary = 12
 loosest Literal = 12
 loosest s = 0
@@ -217,7 +220,23 @@ module _ {F C K : Type 0} where
   keeps key-literal = λ a. keeps-given _ (key_lit_of a.token a.span) _ (λ e h. key-lit-good a.token a.span e h)
   keeps key-computed = λ a h e g b k. leaf _ (rw g.valid refl) refl (rw g.grouped refl) (omega arith)
   keeps paren-expr = λ a h e g b h1 n. leaf _ (rw g.valid refl) refl (rw g.grouped refl) (omega arith)
-  keeps unary-primary = λ e g. looser g.tight g
+  keeps left-primary = λ e g. looser g.tight g
+  keeps (member-name {c = c}) = λ l g a h b. keeps-given _ (any_name c b.token b.span) _
+      (λ n k. leaf _ (rw g.valid refl) refl (rw g.grouped refl) (omega arith))
+  keeps (member-private {c = c}) = λ l g a h b k d. keeps-given _ (any_name c d.token d.span) _
+      (λ n j o. leaf _ (rw g.valid refl) refl (rw g.grouped refl) (omega arith))
+  keeps member-computed = λ l g a h e d b k.
+      leaf _ (rw (g.valid, d.valid) refl) refl (rw (g.grouped, d.grouped) refl) (omega arith)
+  keeps call = λ l g a h es k.
+      leaf _ (rw (g.valid, items-valid es k.valid) refl) refl (rw (g.grouped, items-grouped es k.grouped) refl)
+      (omega arith)
+  keeps args-end = λ a h. leaf _ refl refl refl (omega arith)
+  keeps args-more = λ e g es k.
+      leaf _ (rw (g.valid, items-valid es k.valid) refl) refl (rw (g.grouped, items-grouped es k.grouped) refl)
+      (omega arith)
+  keeps args-tail-end = λ a h. leaf _ refl refl refl (omega arith)
+  keeps args-tail-more = λ a h es g. leaf _ (items-valid es g.valid) refl (items-grouped es g.grouped) (omega arith)
+  keeps unary-left = λ e g. looser g.tight g
   keeps unary-op = λ a. keeps-given _ (prefix_here a.token a.span) _
       (λ x h e g n. leaf _ (rw g.valid refl) refl (rw (le-leb 12 (tightness e) g.tight, g.grouped) refl) (omega arith))
   keeps exp-unary = λ e g. looser (let t = g.tight in omega arith) g

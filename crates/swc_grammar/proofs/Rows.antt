@@ -30,6 +30,9 @@ use Rattle.swc_grammar.proofs.Computed.{yield_word-computed, implements_word-com
 use Rattle.swc_grammar.proofs.Computed.{this_word-computed, items-computed, pair_and_name-computed, keys-computed}
 use Rattle.swc_grammar.proofs.Computed.{cover_name-computed, async_generator-computed, method_and_getter-computed}
 use Rattle.swc_grammar.proofs.Computed.{methods_named_get-computed}
+use Rattle.swc_grammar.proofs.Computed.{member_of_name-computed, member_by_keyword-computed, private_member-computed}
+use Rattle.swc_grammar.proofs.Computed.{computed_member-computed, call_of_member-computed, empty_call-computed}
+use Rattle.swc_grammar.proofs.Computed.{call_of_group-computed, in_in_links-computed}
 use Rattle.swc_grammar.proofs.Texts.{no_in, script, product_in_sum, product_in_sum_tree}
 use Rattle.swc_grammar.proofs.Texts.{two_sums, two_sums_tree, grouped_name, grouped_name_tree, sum_in_product}
 use Rattle.swc_grammar.proofs.Texts.{sum_in_product_tree, in_test}
@@ -54,6 +57,10 @@ use Rattle.swc_grammar.proofs.Texts.{this_word, this_word_tree, items, items_tre
 use Rattle.swc_grammar.proofs.Texts.{keys, keys_tree, cover_name, cover_name_tree, async_generator}
 use Rattle.swc_grammar.proofs.Texts.{async_generator_tree, method_and_getter, method_and_getter_tree}
 use Rattle.swc_grammar.proofs.Texts.{methods_named_get, methods_named_get_tree}
+use Rattle.swc_grammar.proofs.Texts.{member_of_name, member_of_name_tree, member_by_keyword, member_by_keyword_tree}
+use Rattle.swc_grammar.proofs.Texts.{private_member, private_member_tree, computed_member, computed_member_tree}
+use Rattle.swc_grammar.proofs.Texts.{call_of_member, call_of_member_tree, empty_call, empty_call_tree, call_of_group}
+use Rattle.swc_grammar.proofs.Texts.{call_of_group_tree, in_in_links, in_in_links_tree}
 
 -- a hook that reads nothing, which is lawful
 abbrev deaf : {F C K : Type 0} → Hook F C K
@@ -240,6 +247,38 @@ module _ {F C K : Type 0} (hook : Hook F C K) where
   -- {a = 1}
   cover_name-row : Reads hook Expr script cover_name [] cover_name_tree
   cover_name-row = derived (cover_name-computed deaf)
+
+  -- a.b
+  member_of_name-row : Reads hook Expr script member_of_name [] member_of_name_tree
+  member_of_name-row = derived (member_of_name-computed deaf)
+
+  -- a.if
+  member_by_keyword-row : Reads hook Expr script member_by_keyword [] member_by_keyword_tree
+  member_by_keyword-row = derived (member_by_keyword-computed deaf)
+
+  -- a.#b
+  private_member-row : Reads hook Expr script private_member [] private_member_tree
+  private_member-row = derived (private_member-computed deaf)
+
+  -- a[b]
+  computed_member-row : Reads hook Expr script computed_member [] computed_member_tree
+  computed_member-row = derived (computed_member-computed deaf)
+
+  -- a.b(c, ...d,)[e]
+  call_of_member-row : Reads hook Expr script call_of_member [] call_of_member_tree
+  call_of_member-row = derived (call_of_member-computed deaf)
+
+  -- f()
+  empty_call-row : Reads hook Expr script empty_call [] empty_call_tree
+  empty_call-row = derived (empty_call-computed deaf)
+
+  -- (a)(b)
+  call_of_group-row : Reads hook Expr script call_of_group [] call_of_group_tree
+  call_of_group-row = derived (call_of_group-computed deaf)
+
+  -- a[b in c](d in e), where `in` isn't an operator outside the brackets and parentheses
+  in_in_links-row : Reads hook Expr no_in in_in_links [] in_in_links_tree
+  in_in_links-row = derived (in_in_links-computed deaf)
 
   -- a b: `a`, and `b` is left
   two_names-front : Reads hook Expr script two_names (name_at (codes "b") 2 3 ∷ []) (ident (codes "a") 0 1)

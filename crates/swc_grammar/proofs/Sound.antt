@@ -1,8 +1,9 @@
--- What the clean parser reads, the grammar derives, over a lawful hook. A choice picks a production, so this is said
--- once for all choices; only the operators, which are read by precedence and not by level, have a proof of their own.
+-- What the clean parser reads, the grammar derives, over a lawful hook. A choice picks a production, and so does a
+-- link, so this is said once for all choices and once for all links; only the operators, which are read by precedence
+-- and not by level, have a proof of their own.
 use Rattle.std.specs.Prelude.{◌≡◌, ℕ, zero, suc, ◌≤◌, Bool, true, false, if◌then◌else◌, List, [], ◌∷◌, Option, Some}
 use Rattle.std.specs.Prelude.{None, IsTrue, nat_eq, nat_le}
-use Rattle.std.proofs.Common.{refl, subst, ap, arith}
+use Rattle.std.proofs.Common.{refl, sym as sym_path, subst, ap, ◌∙◌, arith}
 use Rattle.std.proofs.lemmas.Bool.{leb-true, leb-false, lt-ltb, eq-eqb}
 use Rattle.swc_context.specs.Operators.{precedence_of, operator_of}
 use Rattle.swc_context.specs.declared.context.Context.{Context}
@@ -21,27 +22,30 @@ use Rattle.swc_bodies.specs.Readings.{whole_span, Hook, LawfulHook}
 use Rattle.swc_grammar.specs.Rule.{gives, never, take, check, peek, read, hear, sees, given, ◌>>=◌}
 use Rattle.swc_grammar.specs.Tokens.{binary_of, is_power}
 use Rattle.swc_grammar.specs.Trees.{to, bin_e, nullish_ok, logical_ok, exp_ok, min_right}
-use Rattle.swc_grammar.specs.Symbols.{Symbol, Expr, Assign, Level, Unary, Primary, Literal, Elements, ElementsTail}
+use Rattle.swc_grammar.specs.Symbols.{Symbol, Expr, Assign, Level, Unary, Left, Args, ArgsTail, Primary, Literal}
+use Rattle.swc_grammar.specs.Symbols.{Elements, ElementsTail}
 use Rattle.swc_grammar.specs.Symbols.{Item, Props, PropsTail, Prop, Key, AfterKey, Shell, Answer, Body, Value}
 use Rattle.swc_grammar.specs.Symbols.{reading_of, Side}
-use Rattle.swc_grammar.specs.Grammar.{exp-unary, exp-op, bin-op}
+use Rattle.swc_grammar.specs.Grammar.{exp-unary, exp-op, bin-op, left-primary}
 use Rattle.swc_grammar.specs.Reads.{Hears, Reads, by, Follows, gave, took, held, calm, part, heard}
-use Rattle.swc_grammar.specs.Clean.{first, Call, sym, climb, Ans, Plan, plan, Runs, rank_of, rank, allowed, exec}
+use Rattle.swc_grammar.specs.Clean.{first, Call, sym, links, climb, Ans, Plan, plan, Runs, rank_of, rank, allowed, exec}
+use Rattle.swc_grammar.specs.Clean.{Link, no_more, more, linked, link, args, args_tail}
 use Rattle.swc_grammar.specs.Clean.{operator_at, Bound, left_ok, Choice, none, pick, chosen, expr, assign, unary}
 use Rattle.swc_grammar.specs.Clean.{primary, literal, elements, elements_tail, item, props, props_tail, prop, key}
 use Rattle.swc_grammar.specs.Clean.{after_key, shell}
 use Rattle.swc_grammar.specs.Clean.{turn, turned, step, run_at, measure, run}
 use Rattle.swc_grammar.proofs.Answers.{then-ok, only, unless, hear-ok, choose, inj}
+use Rattle.swc_grammar.proofs.Binds.{bind}
 use Rattle.swc_grammar.proofs.Bodies.{before-is, hears}
 use Rattle.swc_grammar.proofs.Levels.{lift, min-right-same, below-exp, right-low, bound-none, bound-some, bound-above}
 
 -- What stands on the left of the operators above the precedence m: an operand by itself, or a node, behind which no
 -- operator is read that its own level has to take, and no `**`.
-pub data Left {F C K : Type 0} (hook : Hook F C K) (c : Context) (m : ℕ) (xs ts : List TokenAndSpan)
+pub data OnLeft {F C K : Type 0} (hook : Hook F C K) (c : Context) (m : ℕ) (xs ts : List TokenAndSpan)
     (l : Tree F C K) : Type 0 where
-  alone : Reads hook Unary c xs ts l → Left hook c m xs ts l
+  alone : Reads hook Unary c xs ts l → OnLeft hook c m xs ts l
   node : (h : ℕ) → suc m ≤ h → h ≤ 11 → Reads hook (Level h) c xs ts l → Bound c h ts → Bound c 10 ts
-      → Left hook c m xs ts l
+      → OnLeft hook c m xs ts l
 
 -- what the answers of calls mean
 abbrev pub Means : {F C K : Type 0} (hook : Hook F C K) (k : Call F C K)
@@ -49,8 +53,11 @@ abbrev pub Means : {F C K : Type 0} (hook : Hook F C K) (k : Call F C K)
 Means hook (sym (Level zero)) c ts r = Reads hook (Level zero) c ts r.1 r.0
 Means hook (sym (Level (suc m))) c ts r = Reads hook (Level (suc m)) c ts r.1 r.0 × Bound c m r.1
 Means hook (sym s) c ts r = Reads hook s c ts r.1 r.0
+Means hook (links b l) c ts r =
+    (xs : List TokenAndSpan) → Reads hook (Left b) c xs ts l → Reads hook (Left b) c xs r.1 r.0
 Means hook (climb l m) c ts r =
-    m ≤ 10 → (xs : List TokenAndSpan) → Left hook c m xs ts l → Reads hook (Level (suc m)) c xs r.1 r.0 × Bound c m r.1
+    m ≤ 10 → (xs : List TokenAndSpan) → OnLeft hook c m xs ts l
+    → Reads hook (Level (suc m)) c xs r.1 r.0 × Bound c m r.1
 
 reads-of : {F C K : Type 0} (hook : Hook F C K) (s : Symbol) (c : Context) (ts : List TokenAndSpan)
     (r : Answer F C K s × List TokenAndSpan) → Means hook (sym s) c ts r → Reads hook s c ts r.1 r.0
@@ -121,6 +128,17 @@ module _ {F C K : Type 0} (hook : Hook F C K)
       let (q, a, b) = then-ok (p k c ts) (λ e us. exec hook p g (f e) us) h1 in
       (q, ih k c ts q a, b)
 
+  -- a link, and what stands behind it
+  link-sound : {b : Bool} {c : Context} (g : Option ℕ) (x : Link F C K b c) (l : Tree F C K) (xs ts : List TokenAndSpan)
+      (r : Tree F C K × List TokenAndSpan)
+      → Reads hook (Left b) c xs ts l → exec hook p g (linked x l) ts ≡ Some r → Reads hook (Left b) c xs r.1 r.0
+  link-sound {b = b} {c = c} g no_more l xs ts r d h =
+      subst (λ v. Reads hook (Left b) c xs v.1 v.0) (inj (l, ts) r h) d
+  link-sound g (more q) l xs [] r d h = cc
+  link-sound {b = b} {c = c} g (more {f = f} q) l xs (t ∷ ts) r d h =
+      let (u, a, k) = then-ok (exec hook p None (plan (f l t)) ts) _ (sym_path (bind hook p (plan (f l t)) _ ts) ∙ h) in
+      last-sound None (links b u.0) c u.1 r k xs (by q (part d (took (side-sound None (f l t) ts u a))))
+
   given-follows : {s : Symbol} {A : Type 0} (o : Option A) (k : A → Side F C K s) (x : A) {xs ys : List TokenAndSpan}
       {t : Answer F C K s} → o ≡ Some x → Follows hook s (k x) xs ys t → Follows hook s (given o >>= k) xs ys t
   given-follows o k x h d = rw h d
@@ -129,7 +147,7 @@ module _ {F C K : Type 0} (hook : Hook F C K)
   node-sound : (c : Context) (op : BinaryOp) (l e : Tree F C K) (m : ℕ) (t : TokenAndSpan)
       (xs ts ys : List TokenAndSpan)
       → binary_of c t.token ≡ Some op → exp_ok op l ≡ true → nullish_ok op l e ≡ true → logical_ok op l ≡ true
-      → Left hook c m xs (t ∷ ts) l → Reads hook (Level (suc (min_right op))) c ts ys e
+      → OnLeft hook c m xs (t ∷ ts) l → Reads hook (Level (suc (min_right op))) c ts ys e
       → Reads hook (Level (precedence_of op)) c xs ys (bin_e (to (span_of l) (span_of e)) op l e)
   node-sound c binary.Exp l e m t xs ts ys at x n g (alone d) right =
       by exp-op (part d (took (held (power-token c t.token at) (held x (part right gave)))))
@@ -144,24 +162,25 @@ module _ {F C K : Type 0} (hook : Hook F C K)
       (part (left d small) (took (given-follows (binary_of c t.token) _ op at
       (held level (part above (held n (held g gave)))))))
     where
-      left : Left hook c m xs (t ∷ ts) l → precedence_of op ≤ 10 → Reads hook (Level (precedence_of op)) c xs (t ∷ ts) l
+      left : OnLeft hook c m xs (t ∷ ts) l → precedence_of op ≤ 10
+          → Reads hook (Level (precedence_of op)) c xs (t ∷ ts) l
       left (alone d) small = lift (precedence_of op) 11 (omega arith) (omega arith) (by exp-unary (part d gave))
       left (node h low top d bound ten) small = lift (precedence_of op) h (bound op at) top d
 
   stopped-sound : (c : Context) (g : Option ℕ) (l : Tree F C K) (m : ℕ) (xs ts : List TokenAndSpan)
       (r : Tree F C K × List TokenAndSpan)
-      → m ≤ 10 → Left hook c m xs ts l → Bound c m ts → exec hook p g (check (left_ok l) (gives l)) ts ≡ Some r
+      → m ≤ 10 → OnLeft hook c m xs ts l → Bound c m ts → exec hook p g (check (left_ok l) (gives l)) ts ≡ Some r
       → Reads hook (Level (suc m)) c xs r.1 r.0 × Bound c m r.1
   stopped-sound c g l m xs ts r small d b h =
       subst (λ v. Reads hook (Level (suc m)) c xs v.1 v.0 × Bound c m v.1) (inj (l, ts) r (only (left_ok l) h).1)
       (lowered d, b)
     where
-      lowered : Left hook c m xs ts l → Reads hook (Level (suc m)) c xs ts l
+      lowered : OnLeft hook c m xs ts l → Reads hook (Level (suc m)) c xs ts l
       lowered (alone d) = lift (suc m) 11 (omega arith) (omega arith) (by exp-unary (part d gave))
       lowered (node h low top d bound ten) = lift (suc m) h low top d
 
   turn-sound : (c : Context) (g : Option ℕ) (o : Option BinaryOp) (l : Tree F C K) (m : ℕ) (xs ts : List TokenAndSpan)
-      (r : Tree F C K × List TokenAndSpan) → m ≤ 10 → Left hook c m xs ts l → operator_at c (first ts) ≡ o
+      (r : Tree F C K × List TokenAndSpan) → m ≤ 10 → OnLeft hook c m xs ts l → operator_at c (first ts) ≡ o
       → exec hook p g (turn o l m c >>= (λ q. turned q.0 q.1 c)) ts ≡ Some r
       → Reads hook (Level (suc m)) c xs r.1 r.0 × Bound c m r.1
   turn-sound c g None l m xs ts r small d at h = stopped-sound c g l m xs ts r small d (bound-none c m ts at) h
@@ -194,6 +213,11 @@ module _ {F C K : Type 0} (hook : Hook F C K)
       let (q, a, b) = call-sound (Some 11) (sym Unary) c (λ e. read (climb e m) c (λ v. gives v)) ts r h1 in
       last-sound (Some 11) (climb q.0 m) c q.1 r b (leb-true m 10 y) ts (alone a)
   step-sound (sym Unary) c ts r h = choice-sound (Some 10) (unary c ts) ts r h
+  step-sound (sym (Left b)) c ts r h =
+      let (q, a, k) = call-sound (Some 9) (sym Primary) c (λ e. read (links b e) c (λ v. gives v)) ts r h in
+      last-sound (Some 9) (links b q.0) c q.1 r k ts (by left-primary (part a gave))
+  step-sound (sym Args) c ts r h = choice-sound (Some 16) (args c ts) ts r h
+  step-sound (sym ArgsTail) c ts r h = choice-sound (Some 5) (args_tail c ts) ts r h
   step-sound (sym Primary) c ts r h = choice-sound (Some 8) (primary c ts) ts r h
   step-sound (sym Literal) c ts r h = choice-sound (Some 6) (literal c ts) ts r h
   step-sound (sym Elements) c ts r h = choice-sound (Some 16) (elements c ts) ts r h
@@ -206,6 +230,7 @@ module _ {F C K : Type 0} (hook : Hook F C K)
   step-sound (sym AfterKey) c ts r h = choice-sound (Some 3) (after_key c ts) ts r h
   step-sound (sym (Shell is_async is_generator)) c ts r h =
       choice-sound (Some 2) (shell is_async is_generator c ts) ts r h
+  step-sound (links b l) c ts r h = λ xs d. link-sound (Some 1) (link b c ts) l xs ts r d h
   step-sound (climb l m) c ts r h =
       λ small xs d. turn-sound c (Some 1) (operator_at c (first ts)) l m xs ts r small d refl h
 

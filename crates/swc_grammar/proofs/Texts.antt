@@ -21,6 +21,7 @@ use Rattle.swc_grammar.specs.Tokens.{tk}
 use Rattle.swc_grammar.specs.Trees.{null_e, boolean_e, num_e, big_e, str_e, ident_e, private_e, unary_e, paren_e, bin_e}
 use Rattle.swc_grammar.specs.Trees.{this_e, array_e, hole_e, item_e, spread_e, object_e, name_e, computed_e}
 use Rattle.swc_grammar.specs.Trees.{spread_prop_e, short_e, cover_e, key_value_e, block_e, function_e, method_e, getter_e}
+use Rattle.swc_grammar.specs.Trees.{member_e, call_e}
 
 -- a script, where `in` isn't an operator, and where it is
 abbrev pub no_in : Context
@@ -79,6 +80,9 @@ bracket_at lo hi = tok token.LBracket lo hi
 abbrev pub unbracket_at : ℕ → ℕ → TokenAndSpan
 unbracket_at lo hi = tok token.RBracket lo hi
 
+abbrev pub dot_at : ℕ → ℕ → TokenAndSpan
+dot_at lo hi = tok token.Dot lo hi
+
 abbrev pub comma_at : ℕ → ℕ → TokenAndSpan
 comma_at lo hi = tok token.Comma lo hi
 
@@ -109,6 +113,9 @@ bin lo hi op l r = bin_e (place lo hi) op l r
 
 abbrev pub paren : {F C K : Type 0} → ℕ → ℕ → Tree F C K → Tree F C K
 paren lo hi e = paren_e (place lo hi) e
+
+abbrev pub member : {F C K : Type 0} → ℕ → ℕ → Tree F C K → Tree F C K → Tree F C K
+member lo hi obj prop = member_e (place lo hi) obj prop
 
 abbrev pub key : {F C K : Type 0} → List ℕ → ℕ → ℕ → Tree F C K
 key w lo hi = name_e (place lo hi) w
@@ -473,6 +480,111 @@ names_in_braces = brace_at 0 1 ∷ name_at (codes "a") 1 2 ∷ name_at (codes "b
 -- {class}
 abbrev pub reserved_name : List TokenAndSpan
 reserved_name = brace_at 0 1 ∷ word_at (word.Keyword keyword.Class) 1 6 ∷ unbrace_at 6 7 ∷ []
+
+-- a.b
+abbrev pub member_of_name : List TokenAndSpan
+member_of_name = name_at (codes "a") 0 1 ∷ dot_at 1 2 ∷ name_at (codes "b") 2 3 ∷ []
+
+abbrev pub member_of_name_tree : {F C K : Type 0} → Tree F C K
+member_of_name_tree = member 0 3 (ident (codes "a") 0 1) (key (codes "b") 2 3)
+
+-- a.if
+abbrev pub member_by_keyword : List TokenAndSpan
+member_by_keyword = name_at (codes "a") 0 1 ∷ dot_at 1 2 ∷ word_at (word.Keyword keyword.If) 2 4 ∷ []
+
+abbrev pub member_by_keyword_tree : {F C K : Type 0} → Tree F C K
+member_by_keyword_tree = member 0 4 (ident (codes "a") 0 1) (key (codes "if") 2 4)
+
+-- a.#b
+abbrev pub private_member : List TokenAndSpan
+private_member = name_at (codes "a") 0 1 ∷ dot_at 1 2 ∷ hash_at 2 3 ∷ name_at (codes "b") 3 4 ∷ []
+
+abbrev pub private_member_tree : {F C K : Type 0} → Tree F C K
+private_member_tree = member 0 4 (ident (codes "a") 0 1) (private (codes "b") 2 4)
+
+-- a[b]
+abbrev pub computed_member : List TokenAndSpan
+computed_member = name_at (codes "a") 0 1 ∷ bracket_at 1 2 ∷ name_at (codes "b") 2 3 ∷ unbracket_at 3 4 ∷ []
+
+abbrev pub computed_member_tree : {F C K : Type 0} → Tree F C K
+computed_member_tree = member 0 4 (ident (codes "a") 0 1) (computed_e (place 1 4) (ident (codes "b") 2 3))
+
+-- a.b(c, ...d,)[e]
+abbrev pub call_of_member : List TokenAndSpan
+call_of_member =
+    name_at (codes "a") 0 1 ∷ dot_at 1 2 ∷ name_at (codes "b") 2 3 ∷ open_at 3 4 ∷ name_at (codes "c") 4 5
+    ∷ comma_at 5 6 ∷ dots_at 7 10 ∷ name_at (codes "d") 10 11 ∷ comma_at 11 12 ∷ close_at 12 13 ∷ bracket_at 13 14
+    ∷ name_at (codes "e") 14 15 ∷ unbracket_at 15 16 ∷ []
+
+abbrev pub call_of_member_tree : {F C K : Type 0} → Tree F C K
+call_of_member_tree = member 0 16
+    (call_e (place 0 13) member_of_name_tree
+    (cons (item_e (ident (codes "c") 4 5)) (cons (spread_e (place 7 10) (ident (codes "d") 10 11)) nil)))
+    (computed_e (place 13 16) (ident (codes "e") 14 15))
+
+-- f()
+abbrev pub empty_call : List TokenAndSpan
+empty_call = name_at (codes "f") 0 1 ∷ open_at 1 2 ∷ close_at 2 3 ∷ []
+
+abbrev pub empty_call_tree : {F C K : Type 0} → Tree F C K
+empty_call_tree = call_e (place 0 3) (ident (codes "f") 0 1) nil
+
+-- (a)(b)
+abbrev pub call_of_group : List TokenAndSpan
+call_of_group =
+    open_at 0 1 ∷ name_at (codes "a") 1 2 ∷ close_at 2 3 ∷ open_at 3 4 ∷ name_at (codes "b") 4 5 ∷ close_at 5 6 ∷ []
+
+abbrev pub call_of_group_tree : {F C K : Type 0} → Tree F C K
+call_of_group_tree =
+    call_e (place 0 6) (paren 0 3 (ident (codes "a") 1 2)) (cons (item_e (ident (codes "b") 4 5)) nil)
+
+-- a[b in c](d in e)
+abbrev pub in_in_links : List TokenAndSpan
+in_in_links =
+    name_at (codes "a") 0 1 ∷ bracket_at 1 2 ∷ name_at (codes "b") 2 3 ∷ word_at (word.Keyword keyword.In) 4 6
+    ∷ name_at (codes "c") 7 8 ∷ unbracket_at 8 9 ∷ open_at 9 10 ∷ name_at (codes "d") 10 11
+    ∷ word_at (word.Keyword keyword.In) 12 14 ∷ name_at (codes "e") 15 16 ∷ close_at 16 17 ∷ []
+
+abbrev pub in_in_links_tree : {F C K : Type 0} → Tree F C K
+in_in_links_tree = call_e (place 0 17)
+    (member 0 9 (ident (codes "a") 0 1)
+    (computed_e (place 1 9) (bin 2 8 binary.In (ident (codes "b") 2 3) (ident (codes "c") 7 8))))
+    (cons (item_e (bin 10 16 binary.In (ident (codes "d") 10 11) (ident (codes "e") 15 16))) nil)
+
+-- -a.b ** c
+abbrev pub power_of_minus_member : List TokenAndSpan
+power_of_minus_member =
+    sign_at sign.Sub 0 1 ∷ name_at (codes "a") 1 2 ∷ dot_at 2 3 ∷ name_at (codes "b") 3 4 ∷ sign_at sign.Exp 5 7
+    ∷ name_at (codes "c") 8 9 ∷ []
+
+-- a.
+abbrev pub half_member : List TokenAndSpan
+half_member = name_at (codes "a") 0 1 ∷ dot_at 1 2 ∷ []
+
+-- a.1, which is `a` and `.1`
+abbrev pub name_and_fraction : List TokenAndSpan
+name_and_fraction = name_at (codes "a") 0 1 ∷ num_at (codes ".1") 1 3 ∷ []
+
+-- a. 1
+abbrev pub member_by_number : List TokenAndSpan
+member_by_number = name_at (codes "a") 0 1 ∷ dot_at 1 2 ∷ num_at (codes "1") 3 4 ∷ []
+
+-- a[
+abbrev pub open_bracket : List TokenAndSpan
+open_bracket = name_at (codes "a") 0 1 ∷ bracket_at 1 2 ∷ []
+
+-- f(,)
+abbrev pub lone_comma : List TokenAndSpan
+lone_comma = name_at (codes "f") 0 1 ∷ open_at 1 2 ∷ comma_at 2 3 ∷ close_at 3 4 ∷ []
+
+-- f(a b)
+abbrev pub names_in_call : List TokenAndSpan
+names_in_call =
+    name_at (codes "f") 0 1 ∷ open_at 1 2 ∷ name_at (codes "a") 2 3 ∷ name_at (codes "b") 4 5 ∷ close_at 5 6 ∷ []
+
+-- a.# b
+abbrev pub member_apart : List TokenAndSpan
+member_apart = name_at (codes "a") 0 1 ∷ dot_at 1 2 ∷ hash_at 2 3 ∷ name_at (codes "b") 4 5 ∷ []
 
 -- -a ** b
 abbrev pub power_of_minus : List TokenAndSpan

@@ -2,7 +2,7 @@
 -- nothing where the code refuses or records a fault. By what stands first it picks one of the grammar's productions,
 -- whose right-hand side is then run as it stands, so what is read is derived by construction. It is a private measure
 -- of the code: what is promised to callers speaks of the grammar.
-use Rattle.std.specs.Prelude.{ℕ, zero, suc, ◌+◌, ◌-◌, ◌*◌, ◌≤◌, Bool, true, false, if◌then◌else◌}
+use Rattle.std.specs.Prelude.{ℕ, zero, suc, ◌+◌, ◌-◌, ◌*◌, ◌≤◌, Bool, true, false, not, ◌&&◌, if◌then◌else◌}
 use Rattle.std.specs.Prelude.{List, [], ◌∷◌, Option, Some, None, ◌≡◌, length, take as front, nat_le, nat_lt}
 use Rattle.swc_context.specs.Operators.{precedence_of}
 use Rattle.swc_context.specs.declared.context.Context.{Context}
@@ -17,10 +17,13 @@ use Rattle.swc_input.specs.Kinds.{at_token, is_hash}
 use Rattle.swc_ast.specs.Tree.{Tree, span_of}
 use Rattle.swc_bodies.specs.Readings.{whole_span, Hook, begins, begins_function, is_class, is_brace, is_async}
 use Rattle.swc_grammar.specs.Rule.{Rule, gives, never, take, check, peek, read, hear, sees, ◌>>=◌, ◌>>◌, symbol, must}
-use Rattle.swc_grammar.specs.Symbols.{Symbol, Expr, Assign, Level, Unary, Primary, Literal, Elements, ElementsTail}
+use Rattle.swc_grammar.specs.Symbols.{Symbol, Expr, Assign, Level, Unary, Left, Args, ArgsTail, Primary, Literal}
+use Rattle.swc_grammar.specs.Symbols.{Elements, ElementsTail}
 use Rattle.swc_grammar.specs.Symbols.{Item, Props, PropsTail, Prop, Key, AfterKey, Shell, Answer, Body, Value}
 use Rattle.swc_grammar.specs.Symbols.{reading_of, Side}
-use Rattle.swc_grammar.specs.Grammar.{Production, ident-expr, lit, paren-expr, unary-primary, unary-op, private-expr}
+use Rattle.swc_grammar.specs.Grammar.{Production, ident-expr, lit, paren-expr, unary-left, unary-op, private-expr}
+use Rattle.swc_grammar.specs.Grammar.{member-name, member-private, member-computed, call, args-end, args-more}
+use Rattle.swc_grammar.specs.Grammar.{args-tail-end, args-tail-more}
 use Rattle.swc_grammar.specs.Grammar.{primary-literal, assign-level, expr-assign, this-expr, array-lit, fn-expr, class-expr}
 use Rattle.swc_grammar.specs.Grammar.{elements-end, elements-hole, elements-more, tail-end, tail-more, item-expr}
 use Rattle.swc_grammar.specs.Grammar.{item-spread, object-lit, props-end, props-more, props-tail-end, props-tail-more}
@@ -29,7 +32,7 @@ use Rattle.swc_grammar.specs.Grammar.{prop-async-generator, prop-getter, after-v
 use Rattle.swc_grammar.specs.Grammar.{key-name, key-literal, key-computed}
 use Rattle.swc_grammar.specs.Tokens.{is_ref, binary_of, prefix_of, is_lparen, is_this, is_lbracket, is_rbracket, is_comma}
 use Rattle.swc_grammar.specs.Tokens.{is_dots, is_rbrace, is_colon, is_star, is_equals, is_word, is_get, with_in}
-use Rattle.swc_grammar.specs.Tokens.{is_question, ends_prop, follows_key}
+use Rattle.swc_grammar.specs.Tokens.{is_question, is_dot, is_rparen, ends_prop, follows_key}
 use Rattle.swc_grammar.specs.Trees.{to, bin_e, nullish_ok, logical_ok, exp_ok, min_right}
 
 -- what was read, and the tokens left
@@ -57,14 +60,17 @@ abbrev pub hear_then : {V A : Type 0} → Out V → List TokenAndSpan → (V →
 hear_then None ts f = None
 hear_then (Some p) ts f = if nat_lt (length p.1) (length ts) then f p.0 (whole_span (before ts p.1)) p.1 else None
 
--- Where the recursion goes on: at a symbol; and behind an operand, at the operators above the precedence m.
+-- Where the recursion goes on: at a symbol; behind a left-hand side that was read so far, at its links, with calls or
+-- without; and behind an operand, at the operators above the precedence m.
 pub data Call (F C K : Type 0) : Type 0 where
   sym : Symbol → Call F C K
+  links : Bool → Tree F C K → Call F C K
   climb : Tree F C K → ℕ → Call F C K
 
 -- what a call gives
 abbrev pub Ans : (F C K : Type 0) → Call F C K → Type 0
 Ans F C K (sym s) = Answer F C K s
+Ans F C K (links b l) = Tree F C K
 Ans F C K (climb l m) = Tree F C K
 
 -- what is run: a right-hand side, with calls in place of symbols
@@ -86,6 +92,9 @@ rank_of Expr = 14
 rank_of Assign = 13
 rank_of (Level k) = 11
 rank_of Unary = 10
+rank_of (Left b) = 9
+rank_of Args = 16
+rank_of ArgsTail = 5
 rank_of Primary = 8
 rank_of Literal = 6
 rank_of Elements = 16
@@ -100,6 +109,7 @@ rank_of (Shell is_async is_generator) = 2
 
 abbrev pub rank : {F C K : Type 0} → Call F C K → ℕ
 rank (sym s) = rank_of s
+rank (links b l) = 1
 rank (climb l m) = 1
 
 abbrev pub measure : {F C K : Type 0} → Call F C K → List TokenAndSpan → ℕ
@@ -157,6 +167,11 @@ prefix_at (Some t) = prefix_of t.token
 abbrev pub Bound : Context → ℕ → List TokenAndSpan → Type 0
 Bound c m ys = (op : BinaryOp) → operator_at c (first ys) ≡ Some op → precedence_of op ≤ m
 
+-- no link of a left-hand side comes next: `.`, `[`, and `(` where it may hold calls
+abbrev pub no_link : Bool → Option TokenAndSpan → Bool
+no_link b None = true
+no_link b (Some t) = not (is_dot t.token) && (not (is_lbracket t.token) && not (b && is_lparen t.token))
+
 -- a node of `||` or `&&` has none of `??` on its left
 abbrev pub left_ok : {F C K : Type 0} → Tree F C K → Bool
 left_ok (bin_e s op l r) = logical_ok op l
@@ -166,23 +181,32 @@ left_ok t = true
 abbrev pub Stop : Symbol → Context → List TokenAndSpan → Type 0
 Stop Primary c ys = Unit {0}
 Stop Literal c ys = Unit {0}
-Stop Unary c ys = Unit {0}
+Stop Unary c ys = no_link true (first ys) ≡ true
+Stop (Left b) c ys = no_link b (first ys) ≡ true
+Stop Args c ys = Unit {0}
+Stop ArgsTail c ys = Unit {0}
 Stop Elements c ys = Unit {0}
 Stop ElementsTail c ys = Unit {0}
 Stop Props c ys = Unit {0}
 Stop PropsTail c ys = Unit {0}
 Stop Prop c ys = at_token ends_prop (first ys) ≡ true
 Stop Key c ys = Unit {0}
-Stop AfterKey c ys = Bound (with_in c) 0 ys
+Stop AfterKey c ys = (no_link true (first ys) ≡ true) × Bound (with_in c) 0 ys
 Stop (Shell is_async is_generator) c ys = Unit {0}
 Stop (Level zero) c ys = ⊥
-Stop (Level (suc n)) c ys = (n ≤ 10) × Bound c n ys
-Stop s c ys = Bound c 0 ys
+Stop (Level (suc n)) c ys = (n ≤ 10) × (no_link true (first ys) ≡ true) × Bound c n ys
+Stop s c ys = (no_link true (first ys) ≡ true) × Bound c 0 ys
 
 -- a choice: none of a symbol's productions, or one
 pub data Choice (F C K : Type 0) (s : Symbol) (c : Context) : Type 0 where
   none : Choice F C K s c
   pick : {r : Side F C K s} → Production s c r → Choice F C K s c
+
+-- what a left-hand side goes on with: no link, or one, which a token begins
+pub data Link (F C K : Type 0) (b : Bool) (c : Context) : Type 0 where
+  no_more : Link F C K b c
+  more : {f : Tree F C K → TokenAndSpan → Side F C K (Left b)}
+      → Production (Left b) c (read (Left b) c (λ l. take (λ t. f l t))) → Link F C K b c
 
 module _ {F C K : Type 0} where
   abbrev pub chosen : {s : Symbol} {c : Context} → Choice F C K s c → Plan F C K (Answer F C K s)
@@ -197,11 +221,35 @@ module _ {F C K : Type 0} where
   assign c ts = if at_token no_error (first ts) then pick assign-level else none
 
   abbrev pub unary_by : {c : Context} → Option UnaryOp → Choice F C K Unary c
-  unary_by None = pick unary-primary
+  unary_by None = pick unary-left
   unary_by (Some op) = pick unary-op
 
   abbrev pub unary : (c : Context) → List TokenAndSpan → Choice F C K Unary c
   unary c ts = unary_by (prefix_at (first ts))
+
+  -- a left-hand side with what it goes on with
+  abbrev pub linked : {b : Bool} {c : Context} → Link F C K b c → Tree F C K → Plan F C K (Tree F C K)
+  linked no_more l = gives l
+  linked {b = b} {c = c} (more {f = f} p) l = take (λ t. plan (f l t) >>= (λ e. symbol (links b e) c))
+
+  -- The link that comes next, by its first token, and behind a `.` by the second.
+  abbrev pub dot_link : {b : Bool} {c : Context} → Option TokenAndSpan → Link F C K b c
+  dot_link u = if at_token is_hash u then more member-private else more member-name
+
+  abbrev pub call_link : (b : Bool) {c : Context} → Option TokenAndSpan → Link F C K b c
+  call_link true t = if at_token is_lparen t then more call else no_more
+  call_link false t = no_more
+
+  abbrev pub link : (b : Bool) (c : Context) → List TokenAndSpan → Link F C K b c
+  link b c ts =
+      if at_token is_dot (first ts) then dot_link (second ts) else
+      (if at_token is_lbracket (first ts) then more member-computed else call_link b (first ts))
+
+  abbrev pub args : (c : Context) → List TokenAndSpan → Choice F C K Args c
+  args c ts = if at_token is_rparen (first ts) then pick args-end else pick args-more
+
+  abbrev pub args_tail : (c : Context) → List TokenAndSpan → Choice F C K ArgsTail c
+  args_tail c ts = if at_token is_comma (first ts) then pick args-tail-more else pick args-tail-end
 
   abbrev pub primary : (c : Context) → List TokenAndSpan → Choice F C K Primary c
   primary c ts =
@@ -294,6 +342,9 @@ module _ {F C K : Type 0} where
   step (sym (Level zero)) c ts = never
   step (sym (Level (suc m))) c ts = must (nat_le m 10) >> symbol (sym Unary) c >>= (λ e. symbol (climb e m) c)
   step (sym Unary) c ts = chosen (unary c ts)
+  step (sym (Left b)) c ts = symbol (sym Primary) c >>= (λ e. symbol (links b e) c)
+  step (sym Args) c ts = chosen (args c ts)
+  step (sym ArgsTail) c ts = chosen (args_tail c ts)
   step (sym Primary) c ts = chosen (primary c ts)
   step (sym Literal) c ts = chosen (literal c ts)
   step (sym Elements) c ts = chosen (elements c ts)
@@ -305,6 +356,7 @@ module _ {F C K : Type 0} where
   step (sym Key) c ts = chosen (key c ts)
   step (sym AfterKey) c ts = chosen (after_key c ts)
   step (sym (Shell is_async is_generator)) c ts = chosen (shell is_async is_generator c ts)
+  step (links b l) c ts = linked (link b c ts) l
   step (climb l m) c ts = turn (operator_at c (first ts)) l m c >>= (λ r. turned r.0 r.1 c)
 
 -- closed by as many steps as the measure of the call, which is enough

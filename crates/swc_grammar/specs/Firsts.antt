@@ -8,10 +8,10 @@ use Rattle.swc_context.specs.declared.word.Word.TheVariants as word
 use Rattle.swc_input.specs.declared.token.Token.{Token}
 use Rattle.swc_input.specs.declared.token.Token.TheVariants as token
 use Rattle.swc_grammar.specs.Clean.{is_lit, is_identifier}
-use Rattle.swc_grammar.specs.Symbols.{Symbol, Primary, Literal, Elements, ElementsTail, Item}
+use Rattle.swc_grammar.specs.Symbols.{Symbol, Left, Args, ArgsTail, Primary, Literal, Elements, ElementsTail, Item}
 use Rattle.swc_grammar.specs.Symbols.{Props, PropsTail, Prop, Key, AfterKey, Shell}
 use Rattle.swc_grammar.specs.Tokens.{prefix_of, is_comma, is_rbracket, is_rbrace, is_dots, is_star, is_lparen}
-use Rattle.swc_grammar.specs.Tokens.{ends_prop, follows_key}
+use Rattle.swc_grammar.specs.Tokens.{is_rparen, ends_prop, follows_key}
 
 abbrev pub is_prefix_op : Option UnaryOp → Bool
 is_prefix_op None = false
@@ -59,6 +59,8 @@ begins_prop t = begins_key t || (is_dots t || is_star t)
 
 -- the symbols of expressions
 abbrev pub is_expression : Symbol → Bool
+is_expression Args = false
+is_expression ArgsTail = false
 is_expression Elements = false
 is_expression ElementsTail = false
 is_expression Item = false
@@ -71,6 +73,9 @@ is_expression (Shell is_async is_generator) = false
 is_expression s = true
 
 abbrev pub starts : Symbol → Context → Token → Bool
+starts (Left b) c t = begins_primary c t
+starts Args c t = (begins_expression c t || is_dots t) || is_rparen t
+starts ArgsTail c t = is_comma t || is_rparen t
 starts Primary c t = begins_primary c t
 starts Literal c t = is_lit t
 starts Elements c t = (begins_expression c t || is_dots t) || (is_comma t || is_rbracket t)

@@ -10,16 +10,19 @@ use Rattle.swc_input.specs.Kinds.{is_hash}
 use Rattle.swc_ast.specs.Tree.{nil, span_of}
 use Rattle.swc_bodies.specs.Readings.{is_async, is_brace}
 use Rattle.swc_grammar.specs.Rule.{gives, ◌>>=◌, ◌>>◌, symbol, token, one, must, body}
-use Rattle.swc_grammar.specs.Symbols.{Symbol, Expr, Assign, Level, Unary, Primary, Literal, Elements, ElementsTail}
+use Rattle.swc_grammar.specs.Symbols.{Symbol, Expr, Assign, Level, Unary, Left, Args, ArgsTail, Primary, Literal}
+use Rattle.swc_grammar.specs.Symbols.{Elements, ElementsTail}
 use Rattle.swc_grammar.specs.Symbols.{Item, Props, PropsTail, Prop, Key, AfterKey, Shell, Side, function, class, block}
+use Rattle.swc_grammar.specs.Names.{is_joined}
 use Rattle.swc_grammar.specs.Tokens.{with_in, is_this, is_lparen, is_rparen, is_lbracket, is_rbracket, is_comma, is_dots}
+use Rattle.swc_grammar.specs.Tokens.{is_dot}
 use Rattle.swc_grammar.specs.Tokens.{is_power, is_rbrace, is_colon, is_star, is_equals, is_get, method_block}
 use Rattle.swc_grammar.specs.Parts.{reference, any_name, lit_of, key_lit_of, prefix_here, operator_here}
 use Rattle.swc_grammar.specs.Trees.{to, ident_e, this_e, array_e, listed, items_of, comma_of, put_first, behind_comma}
 use Rattle.swc_grammar.specs.Trees.{hole_e, item_e, spread_e, fn_e}
 use Rattle.swc_grammar.specs.Trees.{class_e, private_e, unary_e, paren_e, bin_e, object_e, name_e, computed_e}
 use Rattle.swc_grammar.specs.Trees.{spread_prop_e, short_e, cover_e, value_e, block_e, function_e, method_e, getter_e}
-use Rattle.swc_grammar.specs.Trees.{prop_of, nullish_ok, logical_ok, delete_ok, is_unary, no_cover_in}
+use Rattle.swc_grammar.specs.Trees.{prop_of, member_e, call_e, nullish_ok, logical_ok, delete_ok, is_unary, no_cover_in}
 
 pub data Production {F C K : Type 0} : (s : Symbol) → Context → Side F C K s → Type 0 where
   -- Identifier references (13.1)
@@ -160,8 +163,49 @@ pub data Production {F C K : Type 0} : (s : Symbol) → Context → Side F C K s
     s' ← token is_rparen
     must (no_cover_in e)
     gives (paren_e (to s s') e))
+  -- Left-hand sides (13.3), with calls among their links or without: a primary expression, and members (13.3.2), by a
+  -- name, by `#` and a name that begins where it ends, and in brackets, in which `in` is an operator
+  left-primary : {c : Context} {b : Bool} → Production (Left b) c (symbol Primary c)
+  member-name : {c : Context} {b : Bool} → Production (Left b) c (do
+    l ← symbol (Left b) c
+    token is_dot
+    n ← one (any_name c)
+    gives (member_e (to (span_of l) n.at) l (name_e n.at n.text)))
+  member-private : {c : Context} {b : Bool} → Production (Left b) c (do
+    l ← symbol (Left b) c
+    token is_dot
+    s ← token is_hash
+    n ← one (any_name c)
+    must (is_joined s n.at)
+    gives (member_e (to (span_of l) n.at) l (private_e (to s n.at) n.text)))
+  member-computed : {c : Context} {b : Bool} → Production (Left b) c (do
+    l ← symbol (Left b) c
+    s ← token is_lbracket
+    e ← symbol Assign (with_in c)
+    s' ← token is_rbracket
+    gives (member_e (to (span_of l) s') l (computed_e (to s s') e)))
+  -- Calls (13.3.6), and arguments (13.3.8), in which `in` is an operator
+  call : {c : Context} → Production (Left true) c (do
+    l ← symbol (Left true) c
+    token is_lparen
+    es ← symbol Args (with_in c)
+    gives (call_e (to (span_of l) (span_of es)) l (items_of es)))
+  args-end : {c : Context} → Production Args c (do
+    s ← token is_rparen
+    gives (listed None s nil))
+  args-more : {c : Context} → Production Args c (do
+    e ← symbol Item c
+    es ← symbol ArgsTail c
+    gives (put_first e es))
+  args-tail-end : {c : Context} → Production ArgsTail c (do
+    s ← token is_rparen
+    gives (listed None s nil))
+  args-tail-more : {c : Context} → Production ArgsTail c (do
+    s ← token is_comma
+    es ← symbol Args c
+    gives (behind_comma s es))
   -- UnaryExpression (13.5)
-  unary-primary : {c : Context} → Production Unary c (symbol Primary c)
+  unary-left : {c : Context} → Production Unary c (symbol (Left true) c)
   unary-op : {c : Context} → Production Unary c (do
     (op, s) ← one prefix_here
     e ← symbol Unary c

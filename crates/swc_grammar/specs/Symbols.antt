@@ -11,6 +11,12 @@ pub data Symbol : Type 0 where
   Assign : Symbol
   Level : ℕ → Symbol
   Unary : Symbol
+  -- a left-hand side (13.3): may calls be among its links, or members alone
+  Left : Bool → Symbol
+  -- behind the parenthesis of arguments (13.3.8), through the one that closes them: items, and the same behind one of
+  -- them
+  Args : Symbol
+  ArgsTail : Symbol
   Primary : Symbol
   Literal : Symbol
   -- behind the bracket of an array literal (13.2.4), through the one that closes it: elements, and the same behind one of them

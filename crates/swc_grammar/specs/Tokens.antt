@@ -163,6 +163,10 @@ abbrev pub is_rbracket : Token → Bool
 is_rbracket token.RBracket = true
 is_rbracket t = false
 
+abbrev pub is_dot : Token → Bool
+is_dot token.Dot = true
+is_dot t = false
+
 abbrev pub is_dots : Token → Bool
 is_dots token.DotDotDot = true
 is_dots t = false

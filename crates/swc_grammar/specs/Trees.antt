@@ -11,7 +11,7 @@ use Rattle.swc_context.specs.declared.span.Span.{Span}
 use Rattle.swc_ast.specs.Tree.{Tree, node, Trees, nil, cons, span_of}
 use Rattle.swc_ast.specs.Tree.{Kind, this, fun, class, array_with, args_with, object_with, array, args, object}
 use Rattle.swc_ast.specs.Tree.{hole, item, spread, dots, no_span}
-use Rattle.swc_ast.specs.Tree.{shorthand, key_value, cover, method, getter, function, block, computed}
+use Rattle.swc_ast.specs.Tree.{shorthand, key_value, cover, method, getter, function, block, computed, member, call}
 use Rattle.swc_ast.specs.Tree.{name as name_kind}
 use Rattle.swc_ast.specs.Tree.{ident, private, str, boolean, null, num, big, unary, await, bin, paren, invalid}
 
@@ -141,6 +141,14 @@ unary_e s op e = node (unary op) s (cons e nil)
 
 pattern abbrev pub paren_e : {F C K : Type 0} → Span → Tree F C K → Tree F C K
 paren_e s e = node paren s (cons e nil)
+
+-- a member, of an object and what names it there: a name, a private name, or an expression in brackets; and a call, of a
+-- callee and its arguments
+pattern abbrev pub member_e : {F C K : Type 0} → Span → Tree F C K → Tree F C K → Tree F C K
+member_e s obj prop = node member s (cons obj (cons prop nil))
+
+pattern abbrev pub call_e : {F C K : Type 0} → Span → Tree F C K → Trees F C K → Tree F C K
+call_e s callee items = node call s (cons callee items)
 
 pattern abbrev pub bin_e : {F C K : Type 0} → Span → BinaryOp → Tree F C K → Tree F C K → Tree F C K
 bin_e s op l r = node (bin op) s (cons l (cons r nil))
