@@ -1,6 +1,5 @@
 -- The tree of an answer is moved out of the nodes, and the nodes that were made are cut off.
-use Rattle.std.proofs.Common.{◌≡◌, ℕ, Bool, ◌≤◌, Result, Ok, Err, Some, IfOk, MatchResult, take, refl, sym, ap, subst, ◌∙◌, arith}
-use Rattle.std.proofs.lemmas.List.{take-append-le}
+use Rattle.std.proofs.Common.{◌≡◌, ℕ, Bool, Result, Ok, Err, Some, IfOk, MatchResult, refl, sym, subst, ◌∙◌, arith}
 use Rattle.swc_context.specs.declared.error.Error.{Error}
 use Rattle.swc_input.specs.declared.buffer.Buffer.{Buffer}
 use Rattle.std.proofs.Common.{List}
@@ -11,7 +10,7 @@ use Rattle.swc_ast.specs.Tree.{Tree}
 use Rattle.swc_ast.specs.declared.spanned.Spanned.{Ghosts}
 use Rattle.swc_grammar.specs.Trees.{unmarked}
 use Rattle.swc_nodes.specs.Slots.{Part, expr_part}
-use Rattle.swc_nodes.specs.Stands.{count, seat_at, Apart, From, Grows, Left, CutTo, SameNodes}
+use Rattle.swc_nodes.specs.Stands.{count, seat_at, Apart, From, Grows, CutTo, SameNodes}
 use Rattle.swc_nodes.specs.declared.node.ExprId.{ExprId}
 use Rattle.swc_nodes.specs.declared.nodes.Nodes.{Nodes}
 use Rattle.swc_nodes.proofs.Chains.{chain-down}
@@ -24,12 +23,6 @@ module _ {F C K : Type 0} {fg : Ghosts F} {cg : Ghosts C} {kg : Ghosts K} where
   -- nodes were appended, and cut off again
   pub cut-back : {ns ms : Nodes F C K fg cg kg} (ls : Nodes F C K fg cg kg) → Grows ns ms → CutTo (count ns) ms ls → SameNodes ns ls
   cut-back ls g e = e ∙ cut_kept g
-
-  -- nodes were taken from the end, and more of them cut off
-  pub cut-taken : {ms ls : Nodes F C K fg cg kg} {k : ℕ} (xs : Nodes F C K fg cg kg) (start : ℕ) → Left k ms ls → start ≤ k → CutTo start ls xs → CutTo start ms xs
-  cut-taken {ms} {ls} {k} xs start l h e =
-      let a = l.above in
-      e ∙ sym (take-append-le start ls.nodes.items l.grows.more (omega arith)) ∙ ap (take start) (sym l.grows.appended)
 
   -- parts that lie apart from some number on
   pub apart-low : {ns : Nodes F C K fg cg kg} {k : ℕ} (ps : List Part) → Apart k ns ps → Apart 0 ns ps

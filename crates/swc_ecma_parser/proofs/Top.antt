@@ -1,7 +1,6 @@
 -- From what the productions ensure to what callers are promised: the clean readers are the grammar's, both ways.
 use Rattle.std.proofs.Common.{◌≡◌, ◌≢◌, ◌<◌, Bool, true, List, [], ◌∷◌, ◌++◌, Some, None, Result, Ok, Err, IfOk, length, refl, sym, ap, subst, ◌∙◌, ⊎_elim, arith, length-append}
 use Rattle.std.proofs.lemmas.Bool.{cases_lt}
-use Rattle.std.proofs.lemmas.List.{append-nil}
 use Rattle.swc_context.specs.declared.context.Context.{Context}
 use Rattle.swc_context.specs.declared.error.Error.{Error}
 use Rattle.swc_context.specs.declared.error.SyntaxError.{SyntaxError}
@@ -31,6 +30,7 @@ use Rattle.swc_grammar.proofs.Marks.{same-grouped, same-valid}
 use Rattle.swc_productions.specs.Parsing.{recorded, Loud, Consumes, Heard, Parses, TookLiteral}
 use Rattle.swc_ecma_parser.specs.Promise.{Derivation, Anywhere, EndsAt, Unmarred, Derives, Sound, Complete, OneTree}
 use Rattle.swc_ecma_parser.specs.Promise.{Grouped, Valid, PromisedLit}
+use Rattle.swc_productions.proofs.Hearing.{same_faults}
 use Rattle.swc_productions.proofs.Steps.{Reader, consumes_of}
 
 -- What a clean reader reads is derived, and then also from its own tokens alone.
@@ -102,18 +102,6 @@ module _ {F C K : Type 0} (hook : Hook F C K) where
     grouped = λ c xs ys t d. ap (λ v. is_grouped v) (sym d.same) ∙ same-grouped d.marked ∙ grouped d.read;
     valid = λ c xs ys t d. ap (λ v. is_valid v) (sym d.same) ∙ same-valid d.marked ∙ valid d.read;
   }
-
-no_more : {A : Type 0} (more : List A) → length more ≡ 0 → more ≡ []
-no_more [] h = refl
-no_more (x ∷ xs) h = cc
-
--- faults are added at the end, so none was where there are as many
-same_faults : {es fs : List Error} → Keeps es fs → length fs ≡ length es → fs ≡ es
-same_faults {es} {fs} h e =
-    let a = ap length h.added in
-    let l = length-append es h.more in
-    let none : length h.more ≡ 0 = omega arith in
-    h.added ∙ ap (λ v. es ++ v) (no_more h.more none) ∙ append-nil es
 
 as_many : {es fs : List Error} → Keeps es fs → (length es < length fs → ⊥) → length fs ≡ length es
 as_many {es} {fs} h none =
