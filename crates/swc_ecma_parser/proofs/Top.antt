@@ -22,7 +22,7 @@ use Rattle.swc_grammar.specs.Trees.{is_grouped, is_valid, unmarked}
 use Rattle.swc_grammar.specs.Words.{◌>>=◌}
 use Rattle.swc_grammar.proofs.Sound as clean
 use Rattle.swc_grammar.proofs.Complete as clean_all
-use Rattle.swc_grammar.proofs.Complete.{stops-bound}
+use Rattle.swc_grammar.proofs.Complete.{stops-bound, stops-link}
 use Rattle.swc_grammar.proofs.Cut.{cut-append}
 use Rattle.swc_grammar.proofs.Good.{grouped, valid}
 use Rattle.swc_grammar.proofs.Literals.{literal-read}
@@ -156,16 +156,16 @@ pub record Stopping (s : Symbol) : Type 0 where
   pub stop : (c : Context) (ys : List TokenAndSpan) → EndsAt s ys → Stop s c ys
 
 pub expr-stops : Stopping Expr
-expr-stops = record { stop = λ c ys e. stops-bound Expr c e }
+expr-stops = record { stop = λ c ys e. (stops-link true Expr e, stops-bound Expr c e) }
 
 pub assign-stops : Stopping Assign
-assign-stops = record { stop = λ c ys e. stops-bound Assign c e }
+assign-stops = record { stop = λ c ys e. (stops-link true Assign e, stops-bound Assign c e) }
 
 pub level-stops : Stopping (Level 1)
-level-stops = record { stop = λ c ys e. (omega arith, stops-bound (Level 1) c e) }
+level-stops = record { stop = λ c ys e. (omega arith, stops-link true (Level 1) e, stops-bound (Level 1) c e) }
 
 pub unary-stops : Stopping Unary
-unary-stops = record { stop = λ c ys e. tt }
+unary-stops = record { stop = λ c ys e. stops-link true Unary e }
 
 pub key-stops : Stopping Key
 key-stops = record { stop = λ c ys e. tt }

@@ -1,17 +1,17 @@
 // Makes the nodes of productions, and says where they stand.
-ghost use Rattle.std.specs.Prelude.{◌≡◌, ℕ, ◌+◌, IfOk};
+ghost use Rattle.std.specs.Prelude.{◌≡◌, ℕ, ◌+◌, ◌++◌, IfOk};
 ghost use Rattle.swc_context.specs.Spans.{between};
-ghost use Rattle.swc_ast.specs.Parts.{leaf, ident_tree, lit_tree};
+ghost use Rattle.swc_ast.specs.Parts.{leaf, ident_tree, lit_tree, item_trees, member_prop_tree};
 ghost use Rattle.swc_ast.specs.Tree.{invalid, span_of};
 ghost use Rattle.swc_grammar.specs.Trees as trees;
 ghost use Rattle.swc_nodes.specs.Lists.{elem_parts, elem_trees, props_parts, props_trees};
-ghost use Rattle.swc_nodes.specs.Slots.{expr_part, pat_part};
+ghost use Rattle.swc_nodes.specs.Slots.{expr_part, pat_part, one_expr, member_parts, args_parts};
 ghost use Rattle.swc_nodes.specs.Stands.{count, tree_at, first_at, Apart, From, Grows, Made};
 
 use crate::node::{ExprId, Node, PatId, PropNode};
 use crate::nodes::Nodes;
 use std::alloc::AllocError;
-use swc_ast::expr::{ExprOrSpread, Invalid, ParenExpr, ThisExpr};
+use swc_ast::expr::{Callee, ExprOrSpread, Invalid, MemberExpr, MemberProp, ParenExpr, ThisExpr};
 use swc_ast::ident::{Ident, IdentName, PrivateName};
 use swc_ast::lit::Lit;
 use swc_ast::spanned::Spanned;
@@ -132,6 +132,49 @@ impl<F: Spanned + Drop, C: Spanned + Drop, K: Spanned + Drop> Nodes<F, C, K> {
     {
         let span = Span::new(start, end);
         Ok(ExprId(self.push(Node::Paren(ParenExpr { span, expr }))?))
+    }
+
+    /// A member of `obj` (ECMA-262, 13.3.2), to `end`, a position in bytes.
+    ///
+    /// All that is reached from an expression in brackets lies behind `obj`.
+    pub fn member_expr(
+        &mut self,
+        obj: ExprId,
+        prop: MemberProp<ExprId>,
+        end: BytePos,
+    ) -> Result<ExprId, AllocError>
+        requires from { From 0 self.old (expr_part obj) }
+        requires apart { Apart 0 self.old (one_expr obj ++ member_parts prop) }
+        ensures grows { Grows self.old self.new }
+        ensures made { IfOk result (λ id. (k : ℕ) → Apart k self.old (one_expr obj ++ member_parts prop)
+            → Made k self.new (expr_part id)
+            (trees.member_e (between (span_of (tree_at self.old obj.0)).lo end) (tree_at self.old obj.0)
+            (member_prop_tree (λ e. tree_at self.old e.0) prop))) }
+    {
+        let span = Span::new(self.span(obj).lo, end);
+        Ok(ExprId(self.push(Node::Member(MemberExpr { span, obj, prop }))?))
+    }
+
+    /// A call of `callee` (ECMA-262, 13.3.6), to `end`, a position in bytes.
+    ///
+    /// All that is reached from an argument lies behind the one before it, and behind `callee`.
+    pub fn call_expr(
+        &mut self,
+        callee: ExprId,
+        args: Vec<ExprOrSpread<ExprId>>,
+        end: BytePos,
+    ) -> Result<ExprId, AllocError>
+        requires from { From 0 self.old (expr_part callee) }
+        requires apart { Apart 0 self.old (one_expr callee ++ args_parts args) }
+        ensures grows { Grows self.old self.new }
+        ensures made { IfOk result (λ id. (k : ℕ) → Apart k self.old (one_expr callee ++ args_parts args)
+            → Made k self.new (expr_part id)
+            (trees.call_e (between (span_of (tree_at self.old callee.0)).lo end) (tree_at self.old callee.0)
+            (item_trees (λ e. tree_at self.old e.0) args.items))) }
+    {
+        let span = Span::new(self.span(callee).lo, end);
+        let callee = Callee::Expr(callee);
+        Ok(ExprId(self.push(Node::Call { span, callee, args })?))
     }
 
     /// A prefix operator and its operand (ECMA-262, 13.5).

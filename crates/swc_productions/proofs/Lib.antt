@@ -3,10 +3,12 @@ pub mod Building
 pub mod Covers
 pub mod Hearing
 pub mod Keys
+pub mod Links
 pub mod Lists
 pub mod Making
 pub mod Methods
 pub mod Naming
+pub mod PrivateNames
 pub mod PropKinds
 pub mod Properties
 pub mod Rules

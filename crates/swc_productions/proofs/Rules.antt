@@ -20,7 +20,7 @@ use Rattle.swc_ast.specs.Tree.{Tree, span_of}
 use Rattle.swc_grammar.specs.Rule.{gives, take, check, read, given, ◌>>=◌ as ◌▸◌}
 use Rattle.swc_bodies.specs.Readings.{Hook, LawfulHook, begins, begins_function, is_class, is_function, is_async, is_brace}
 use Rattle.swc_bodies.specs.Readings.{is_function_here}
-use Rattle.swc_grammar.specs.Symbols.{Expr, Assign, Level, Unary, Primary, Literal, Side, function, class}
+use Rattle.swc_grammar.specs.Symbols.{Expr, Assign, Level, Unary, Left, Primary, Literal, Side, function, class}
 use Rattle.swc_grammar.specs.Tokens.{tk, with_in, is_reference, ref_ok, is_put_off, prefix_of, is_lparen, is_rparen}
 use Rattle.swc_grammar.specs.Tokens.{is_this, is_lbracket}
 use Rattle.swc_grammar.specs.Names.{Spelling, spelling, may_refer, may_name, spelled}
@@ -335,9 +335,9 @@ module _ {F C K : Type 0} (hook : Hook F C K) where
       (λ p. read Unary x (λ e. check (delete_ok x p.0 e) (gives (unary_e (to p.1 (span_of e)) p.0 e)))) ts
       (ap (λ o. with_place o t.span) h)
 
-  pub unary_primary : (x : Context) (ts : List TokenAndSpan) → prefix_at (first ts) ≡ None
-      → run hook (at Unary) x ts ≡ run hook (at Primary) x ts
-  unary_primary x ts h = knot hook (at Unary) x ts ∙ rw h (last hook (Some 10) (at Primary) x ts refl)
+  pub unary_left : (x : Context) (ts : List TokenAndSpan) → prefix_at (first ts) ≡ None
+      → run hook (at Unary) x ts ≡ run hook (at (Left true)) x ts
+  unary_left x ts h = knot hook (at Unary) x ts ∙ rw h (last hook (Some 10) (at (Left true)) x ts refl)
 
   pub unary_op_opens : (op : UnaryOp) (t : TokenAndSpan) (x : Context) (ts : List TokenAndSpan)
       → unary_op hook op x (t ∷ ts) ≡ unary_op_tail hook t.span op x ts

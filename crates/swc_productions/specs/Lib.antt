@@ -1,4 +1,5 @@
 pub mod Keys
+pub mod Links
 pub mod Lists
 pub mod Methods
 pub mod Parsing

@@ -6,6 +6,7 @@ use Rattle.swc_context.specs.declared.error.Error.{Error}
 use Rattle.swc_context.specs.declared.error.SyntaxError.{SyntaxError}
 use Rattle.swc_context.specs.declared.error.SyntaxError.TheVariants.{OutOfMemory, ParserFailed}
 use Rattle.swc_context.specs.declared.operator.BinaryOp.{BinaryOp}
+use Rattle.swc_context.specs.declared.span.BytePos.{BytePos}
 use Rattle.swc_context.specs.declared.span.Span.{Span}
 use Rattle.swc_input.specs.declared.buffer.Buffer.{Buffer}
 use Rattle.swc_input.specs.declared.token.Token.{Token}
@@ -21,9 +22,10 @@ use Rattle.swc_ast.specs.declared.ident.Ident.{Ident}
 use Rattle.swc_ast.specs.declared.ident.IdentName.{IdentName}
 use Rattle.swc_ast.specs.declared.ident.PrivateName.{PrivateName}
 use Rattle.swc_ast.specs.declared.lit.Lit.{Lit}
-use Rattle.swc_ast.specs.Parts.{lit_tree, item_tree, prop_name_tree, function_tree}
+use Rattle.swc_ast.specs.Parts.{lit_tree, item_tree, item_trees, prop_name_tree, member_prop_tree, function_tree}
 use Rattle.swc_ast.specs.Tree.{Tree}
 use Rattle.swc_ast.specs.declared.expr.ExprOrSpread.{ExprOrSpread}
+use Rattle.swc_ast.specs.declared.expr.MemberProp.{MemberProp}
 use Rattle.swc_ast.specs.declared.function.Function.{Function}
 use Rattle.swc_ast.specs.declared.prop.PropName.{PropName}
 use Rattle.swc_ast.specs.declared.spanned.Spanned.{Ghosts}
@@ -35,7 +37,8 @@ use Rattle.swc_grammar.specs.Words.{rest}
 use Rattle.swc_grammar.specs.Names.{Spelling, spelling}
 use Rattle.swc_grammar.specs.Tokens.{is_strict_word}
 use Rattle.swc_nodes.specs.Lists.{elem_parts, elem_tree, elem_trees, props_parts, props_trees}
-use Rattle.swc_nodes.specs.Slots.{expr_part, flat, if_some, item_parts, key_parts, one_pat, param_parts, prop_parts}
+use Rattle.swc_nodes.specs.Slots.{expr_part, flat, if_some, item_parts, args_parts, key_parts, member_parts, one_pat}
+use Rattle.swc_nodes.specs.Slots.{param_parts, prop_parts}
 use Rattle.swc_nodes.specs.Stands.{tree_at, count, From, Apart, Grows}
 use Rattle.swc_nodes.specs.declared.node.ExprId.{ExprId}
 use Rattle.swc_nodes.specs.declared.node.PatId.{PatId}
@@ -262,6 +265,21 @@ module _ {F C K : Type 0} {fg : Ghosts F} {cg : Ghosts C} {kg : Ghosts K} where
   abbrev pub elems_of : ℕ → Nodes F C K fg cg kg → Listed (Option (ExprOrSpread ExprId)) → Type 0
   elems_of k ns l = Apart k ns (elem_parts l.items)
 
+  -- of an argument, with the place of the comma behind it or not, of all arguments, of what names a member, with where
+  -- that ends, and of a link, or none
+  abbrev pub arg_item_of : ℕ → Nodes F C K fg cg kg → ExprOrSpread ExprId × Option Span → Type 0
+  arg_item_of k ns p = Apart k ns (item_parts p.0)
+
+  abbrev pub args_of : ℕ → Nodes F C K fg cg kg → Listed (ExprOrSpread ExprId) → Type 0
+  args_of k ns l = Apart k ns (args_parts l.items)
+
+  abbrev pub member_name_of : ℕ → Nodes F C K fg cg kg → MemberProp ExprId × BytePos → Type 0
+  member_name_of k ns p = Apart k ns (member_parts p.0)
+
+  abbrev pub subscript_of : ℕ → Nodes F C K fg cg kg → Option ExprId → Type 0
+  subscript_of k ns None = Unit {0}
+  subscript_of k ns (Some id) = From k ns (expr_part id)
+
   -- of a key, of a method's function, which has no parameters so far, of what stands behind a key, of a property, with the place of the
   -- comma behind it or not, and of all properties of an object literal
   abbrev pub key_of : ℕ → Nodes F C K fg cg kg → PropName ExprId → Type 0
@@ -300,6 +318,19 @@ module _ {F C K : Type 0} {fg : Ghosts F} {cg : Ghosts C} {kg : Ghosts K} where
 
   abbrev pub elems_at : Nodes F C K fg cg kg → Listed (Option (ExprOrSpread ExprId)) → Tree F C K
   elems_at ns l = listed l.trailing_comma l.end (elem_trees (tree_at ns) l.items)
+
+  abbrev pub arg_item_at : Nodes F C K fg cg kg → ExprOrSpread ExprId × Option Span → Tree F C K × Option Span
+  arg_item_at ns p = (item_at ns p.0, p.1)
+
+  abbrev pub args_at : Nodes F C K fg cg kg → Listed (ExprOrSpread ExprId) → Tree F C K
+  args_at ns l = listed l.trailing_comma l.end (item_trees (tree_of ns) l.items.items)
+
+  abbrev pub member_name_at : Nodes F C K fg cg kg → MemberProp ExprId × BytePos → Tree F C K × BytePos
+  member_name_at ns p = (member_prop_tree (tree_of ns) p.0, p.1)
+
+  abbrev pub subscript_at : Nodes F C K fg cg kg → Option ExprId → Option (Tree F C K)
+  subscript_at ns None = None
+  subscript_at ns (Some id) = Some (tree_of ns id)
 
   abbrev pub key_at : Nodes F C K fg cg kg → PropName ExprId → Tree F C K
   key_at ns x = prop_name_tree (tree_of ns) x

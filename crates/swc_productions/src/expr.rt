@@ -1,38 +1,43 @@
 // Expressions (ECMA-262, 13).
-ghost use Rattle.std.specs.Prelude.{◌≡◌, ◌<◌, ◌≤◌, true, not, ◌&&◌, Some, OnOk, IfOk};
+ghost use Rattle.std.specs.Prelude.{◌≡◌, ◌<◌, ◌≤◌, true, not, ◌&&◌, Some, OnOk, IfOk, IsSome};
 ghost use Rattle.swc_input.specs.Buffer.{current, to_come, context};
 ghost use Rattle.swc_input.specs.Plain.{plain_token};
 ghost use Rattle.swc_input.specs.Kinds.{at_token, is_hash};
-ghost use Rattle.swc_grammar.specs.Symbols.{Expr, Assign, Primary, Literal, Elements, Item};
+ghost use Rattle.swc_grammar.specs.Symbols.{Expr, Assign, Left, Args, Primary, Literal, Elements, Item};
 ghost use Rattle.swc_grammar.specs.Tokens.{is_lparen, is_lbracket, is_this};
 ghost use Rattle.swc_bodies.specs.Readings.{at_function, is_class};
 ghost use Rattle.swc_grammar.specs.Parts.{lit_of};
 ghost use Rattle.swc_grammar.specs.Grammar as grammar;
-ghost use Rattle.swc_grammar.specs.Clean.{sym, run, is_lit, is_identifier};
+ghost use Rattle.swc_grammar.specs.Clean.{sym, links, run, is_lit, is_identifier};
 ghost use Rattle.swc_grammar.specs.Trees.{no_cover_in};
 ghost use Rattle.swc_nodes.specs.Lists.{is_cover_prop, has_cover};
 ghost use Rattle.swc_nodes.specs.Slots.{expr_part};
-ghost use Rattle.swc_nodes.specs.Stands.{count, From};
+ghost use Rattle.swc_nodes.specs.Stands.{count, first_at, From};
 ghost use Rattle.swc_productions.specs.Readers.{by_production, inside};
 ghost use Rattle.swc_productions.specs.Lists.{elements_inside, element, element_item};
-ghost use Rattle.swc_productions.specs.Parsing.{lit_in, seen, ParsesAlone, Produces, Checked, TookLiteral};
+ghost use Rattle.swc_productions.specs.Links.{link_at, member_name, dot_tail, computed_tail, call_tail, args_inside};
+ghost use Rattle.swc_productions.specs.Links.{arg_item, link_of, subscript};
+ghost use Rattle.swc_productions.specs.Parsing.{lit_in, seen, ParsesAlone, Produces, GoesOn, Checked, TookLiteral};
 ghost use Rattle.swc_productions.specs.Parsing.{itself, tree_of, item_of, item_at, elem_of, elem_at, elems_of};
-ghost use Rattle.swc_productions.specs.Parsing.{elems_at};
+ghost use Rattle.swc_productions.specs.Parsing.{elems_at, arg_item_of, arg_item_at, args_of, args_at};
+ghost use Rattle.swc_productions.specs.Parsing.{member_name_of, member_name_at, subscript_of, subscript_at};
 
 use crate::moves::{
-    Listed, Sign, add, bump, copy_of, eat, emit_err, emit_strict_mode_err, is_async_function,
-    label_spread, listed, look, made, made_literal, parse_ident_name, parse_ident_ref, require_cur,
-    separate, set_ctx, skip, syntax_error, unexpected,
+    Listed, Sign, add, bump, copy_of, eat, emit_err, emit_strict_mode_err, expect,
+    is_async_function, label_spread, listed, look, made, made_literal, parse_ident_name,
+    parse_ident_ref, parse_private_name, require_cur, separate, set_ctx, skip, syntax_error,
+    unexpected,
 };
 use crate::productions::Productions;
-use swc_ast::expr::ExprOrSpread;
+use swc_ast::expr::{ExprOrSpread, MemberProp};
 use swc_ast::ident::Ident;
 use swc_ast::lit::{BigInt, Bool, Lit, Null, Num, Str};
+use swc_ast::prop::ComputedPropName;
 use swc_ast::spanned::Spanned;
 use swc_bodies::bodies::Bodies;
 use swc_context::context::Context;
 use swc_context::error::{PResult, SyntaxError};
-use swc_context::span::Span;
+use swc_context::span::{BytePos, Span};
 use swc_context::word::Word;
 use swc_input::buffer::Buffer;
 use swc_input::token::Token;
@@ -44,6 +49,17 @@ mod ops;
 
 /// An element of an array literal, or a hole.
 type Elem = Option<ExprOrSpread<ExprId>>;
+
+/// A link of a left-hand side (ECMA-262, 13.3), by the token that begins it.
+#[derive(Clone, Copy)]
+pub(crate) enum Link {
+    /// `.`: a member, by its name.
+    Name,
+    /// `[`: a member, by an expression.
+    Computed,
+    /// `(`: a call.
+    Call,
+}
 
 impl<I: Tokens, B: Bodies<I>> Productions<I, B> {
     /// An expression (ECMA-262, 13.16).
@@ -294,6 +310,163 @@ impl<I: Tokens, B: Bodies<I>> Productions<I, B> {
         expr
     }
 
+    /// A left-hand side, with calls among its links (ECMA-262, 13.3).
+    #[cycle(productions)]
+    pub(crate) fn parse_lhs_expr(&mut self) -> PResult<ExprId>
+        ensures { Produces I.model B.is_faithful itself tree_of (run B.forms (sym (Left true)))
+            (count self.old.nodes) self.old result self.new }
+    {
+        let callee = self.parse_primary_expr()?;
+        self.parse_subscripts(callee, false)
+    }
+
+    /// Reads on after `obj`, through all links; with `no_call`, a parenthesis is none.
+    #[cycle(productions)]
+    fn parse_subscripts(&mut self, mut obj: ExprId, no_call: bool) -> PResult<ExprId>
+        requires from { From 0 self.old.nodes (expr_part obj) }
+        ensures { GoesOn I.model B.is_faithful itself tree_of
+            (run B.forms (links (not no_call) (tree_of self.old.nodes obj)))
+            (first_at self.old.nodes obj.0) self.old result self.new }
+    {
+        loop {
+            match self.parse_subscript(obj, no_call)? {
+                Some(link) => obj = link,
+                None => return Ok(obj),
+            }
+        }
+    }
+
+    /// One link behind `obj`: the node of both; or nothing, where none is current.
+    #[cycle(productions)]
+    fn parse_subscript(&mut self, obj: ExprId, no_call: bool) -> PResult<Option<ExprId>>
+        requires from { From 0 self.old.nodes (expr_part obj) }
+        ensures step { GoesOn I.model B.is_faithful subscript_of subscript_at
+            (subscript B.forms (not no_call) (tree_of self.old.nodes obj))
+            (first_at self.old.nodes obj.0) self.old result self.new }
+        ensures more { IfOk result (λ r. IsSome r → to_come I.model self.new.input < to_come I.model self.old.input) }
+    {
+        look(&mut self.input)?;
+        let link = match cur_link(&self.input, no_call) {
+            Some(link) => link,
+            None => return Ok(None),
+        };
+        let node = self.parse_link(obj, link)?;
+        Ok(Some(node))
+    }
+
+    /// The link that the current token begins, behind `obj`.
+    #[cycle(productions)]
+    fn parse_link(&mut self, obj: ExprId, link: Link) -> PResult<ExprId>
+        requires from { From 0 self.old.nodes (expr_part obj) }
+        requires token { IsSome (current self.old.input) }
+        ensures { Produces I.model B.is_faithful itself tree_of
+            (link_of B.forms link (tree_of self.old.nodes obj))
+            (first_at self.old.nodes obj.0) self.old result self.new }
+    {
+        let start = self.input.cur_span();
+        skip(&mut self.input);
+        match link {
+            Link::Name => self.parse_dot_member(obj),
+            Link::Computed => self.parse_computed_member(obj, start),
+            Link::Call => self.parse_call(obj),
+        }
+    }
+
+    /// A member of `obj` (ECMA-262, 13.3.2), behind the `.`.
+    fn parse_dot_member(&mut self, obj: ExprId) -> PResult<ExprId>
+        requires from { From 0 self.old.nodes (expr_part obj) }
+        ensures { Produces I.model B.is_faithful itself tree_of (dot_tail (tree_of self.old.nodes obj))
+            (first_at self.old.nodes obj.0) self.old result self.new }
+    {
+        let (prop, end) = self.parse_member_name()?;
+        let node = self.nodes.member_expr(obj, prop, end);
+        made(&self.input, node)
+    }
+
+    /// What names a member behind a `.`, any word or a private name, and where it ends, in bytes.
+    fn parse_member_name(&mut self) -> PResult<(MemberProp<ExprId>, BytePos)>
+        ensures { Produces I.model B.is_faithful member_name_of member_name_at member_name
+            (count self.old.nodes) self.old result self.new }
+    {
+        look(&mut self.input)?;
+        if self.is_hash() {
+            let (name, end) = parse_private_name(self.alloc, &mut self.input)?;
+            return Ok((MemberProp::PrivateName(name), end));
+        }
+        let name = parse_ident_name(self.alloc, &mut self.input)?;
+        let end = name.span.hi;
+        Ok((MemberProp::Ident(name), end))
+    }
+
+    /// A member of `obj` (ECMA-262, 13.3.2), behind the bracket at `start`: an expression in which `in` counts as an
+    /// operator, and the bracket that closes it.
+    #[cycle(productions)]
+    fn parse_computed_member(&mut self, obj: ExprId, start: Span) -> PResult<ExprId>
+        requires from { From 0 self.old.nodes (expr_part obj) }
+        ensures { Produces I.model B.is_faithful itself tree_of
+            (computed_tail B.forms start (tree_of self.old.nodes obj))
+            (first_at self.old.nodes obj.0) self.old result self.new }
+    {
+        let expr = self.parse_assignment_expr_with_in()?;
+        let end = expect(&mut self.input, Sign::RBracket)?;
+        let span = Span::new(start.lo, end.hi);
+        let prop = MemberProp::Computed(ComputedPropName { span, expr });
+        let node = self.nodes.member_expr(obj, prop, end.hi);
+        made(&self.input, node)
+    }
+
+    /// A call of `callee` (ECMA-262, 13.3.6), behind the parenthesis.
+    #[cycle(productions)]
+    fn parse_call(&mut self, callee: ExprId) -> PResult<ExprId>
+        requires from { From 0 self.old.nodes (expr_part callee) }
+        ensures { Produces I.model B.is_faithful itself tree_of (call_tail B.forms (tree_of self.old.nodes callee))
+            (first_at self.old.nodes callee.0) self.old result self.new }
+    {
+        let list = self.parse_args()?;
+        let end = list.end.hi;
+        let node = self.nodes.call_expr(callee, list.items, end);
+        made(&self.input, node)
+    }
+
+    /// Arguments (ECMA-262, 13.3.8), in which `in` counts as an operator, and the parenthesis that closes them.
+    #[cycle(productions)]
+    fn parse_args(&mut self) -> PResult<Listed<ExprOrSpread<ExprId>>>
+        ensures { Produces I.model B.is_faithful args_of args_at (args_inside B.forms)
+            (count self.old.nodes) self.old result self.new }
+    {
+        let ctx = self.input.get_ctx();
+        set_ctx(
+            &mut self.input,
+            Context {
+                include_in_expr: true,
+                ..ctx
+            },
+        );
+        let args = self.parse_arg_list();
+        set_ctx(&mut self.input, ctx);
+        args
+    }
+
+    /// Arguments, and the parenthesis that closes them.
+    #[cycle(productions)]
+    fn parse_arg_list(&mut self) -> PResult<Listed<ExprOrSpread<ExprId>>>
+        ensures { Produces I.model B.is_faithful args_of args_at (run B.forms (sym Args))
+            (count self.old.nodes) self.old result self.new }
+    {
+        listed!(self, Sign::RParen, parse_arg_item)
+    }
+
+    /// An argument, and the comma behind it, whose place is answered too; none stands before the parenthesis.
+    #[cycle(productions)]
+    fn parse_arg_item(&mut self) -> PResult<(ExprOrSpread<ExprId>, Option<Span>)>
+        ensures { Produces I.model B.is_faithful arg_item_of arg_item_at (arg_item B.forms)
+            (count self.old.nodes) self.old result self.new }
+    {
+        let item = self.parse_expr_or_spread()?;
+        let comma = separate(&mut self.input, Sign::RParen)?;
+        Ok((item, comma))
+    }
+
     /// The literal that a token is.
     fn lit_of(&self, token: Token, span: Span) -> Lit
         requires { is_lit token ≡ true }
@@ -327,6 +500,19 @@ impl<I: Tokens, B: Bodies<I>> Productions<I, B> {
         let token = bump(&mut self.input);
         let span = self.input.prev_span();
         Ok(self.lit_of(token, span))
+    }
+}
+
+/// The link that the current token begins; with `no_call`, a parenthesis begins none.
+fn cur_link<I: Tokens>(input: &Buffer<I>, no_call: bool) -> Option<Link>
+    ensures value { result ≡ link_at (not no_call) (seen input.now) }
+    ensures some { IsSome result → IsSome (current input.now) }
+{
+    match input.cur_debug()? {
+        Token::Dot => Some(Link::Name),
+        Token::LBracket => Some(Link::Computed),
+        Token::LParen if !no_call => Some(Link::Call),
+        _ => None,
     }
 }
 

@@ -11,15 +11,17 @@ ghost use Rattle.swc_grammar.specs.Tokens.{ref_ok};
 ghost use Rattle.swc_grammar.specs.Clean.{no_error, is_identifier};
 ghost use Rattle.swc_grammar.specs.Names.{may_name};
 ghost use Rattle.swc_grammar.specs.Words.{rest, word};
-ghost use Rattle.swc_productions.specs.Parsing.{is_memory, ident_spelling, name_spelling, seen, recorded, Loud, Moves};
+ghost use Rattle.swc_productions.specs.Parsing.{is_memory, ident_spelling, name_spelling, private_spelling};
+ghost use Rattle.swc_productions.specs.Parsing.{seen, recorded, Loud, Moves};
 ghost use Rattle.swc_productions.specs.Parsing.{Refuses, Tries, ParsesAlone, ContinuesAlone, Eats, Looks, Fits};
 ghost use Rattle.swc_productions.specs.Parsing.{Checked, Tells, begins_async};
 ghost use Rattle.swc_productions.specs.Keys.{expected};
 ghost use Rattle.swc_nodes.specs.Commas.{Remembers};
+ghost use Rattle.swc_productions.specs.Links.{hash_name};
 ghost use Rattle.swc_productions.specs.Lists.{is_sign_token, separated, closed};
 
 use std::alloc::{AllocError, Global};
-use swc_ast::ident::{Ident, IdentName};
+use swc_ast::ident::{Ident, IdentName, PrivateName};
 use swc_context::atom::Atom;
 use swc_context::context::Context;
 use swc_context::error::{Error, PResult, SyntaxError};
@@ -238,6 +240,19 @@ pub(crate) fn parse_ident_name<I: Tokens>(
     ensures falls { OnOk result (to_come I.model input.new < to_come I.model input.old) }
 {
     ident::parse_ident_name(alloc, input)
+}
+
+/// A private name, and where it ends, in bytes.
+pub(crate) fn parse_private_name<I: Tokens>(
+    alloc: Global,
+    input: &mut Buffer<I>,
+) -> PResult<(PrivateName, BytePos)>
+    ensures parses { ParsesAlone I.model (λ p. (private_spelling p.0, p.1)) hash_name input.old result input.new }
+    ensures falls { OnOk result (to_come I.model input.new < to_come I.model input.old) }
+{
+    let name = ident::parse_private_name(alloc, input)?;
+    let end = input.last_pos();
+    Ok((name, end))
 }
 
 /// A copy of the text. Refused only for want of memory.

@@ -165,7 +165,7 @@ impl<I: Tokens, B: Bodies<I>> Productions<I, B> {
         self.parse_bin_op_recursively(left_of_right, right_min_prec(op))
     }
 
-    /// A unary expression (ECMA-262, 13.5): so far, a primary expression with any number of prefix
+    /// A unary expression (ECMA-262, 13.5): so far, a left-hand side with any number of prefix
     /// operators before it, but for `++`, `--` and `await`.
     #[cycle(productions)]
     pub fn parse_unary_expr(&mut self) -> PResult<ExprId>
@@ -175,7 +175,7 @@ impl<I: Tokens, B: Bodies<I>> Productions<I, B> {
         look(&mut self.input)?;
         match cur_prefix_op(&self.input) {
             Some(op) => self.parse_unary_op(op),
-            None => self.parse_primary_expr(),
+            None => self.parse_lhs_expr(),
         }
     }
 

@@ -1,5 +1,5 @@
 -- What the steps of each production, one after another, ensure.
-use Rattle.std.proofs.Common.{Ok, map, ◌≡◌, ◌≢◌, Some, None, refl, sym, ap, ◌∙◌, arith}
+use Rattle.std.proofs.Common.{Ok, map, ◌≡◌, ◌≢◌, ◌++◌, true, not, Some, None, refl, sym, ap, subst, ◌∙◌, arith}
 use Rattle.std.proofs.lemmas.Result.{err_from_is_err_and}
 use Rattle.swc_context.specs.Spans.{between}
 use Rattle.swc_context.proofs.Spans.{span_is}
@@ -10,31 +10,36 @@ use Rattle.swc_input.specs.Buffer.{context}
 use Rattle.swc_grammar.specs.Tokens.{with_in}
 use Rattle.swc_ast.specs.Tree.{nil, cons, node, spread, trees, span_of}
 use Rattle.swc_ast.specs.Tree.{dots as dots_kind}
-use Rattle.swc_ast.specs.Parts.{item_of as item_tree_of}
+use Rattle.swc_ast.specs.Parts.{item_of as item_tree_of, item_trees}
 use Rattle.swc_nodes.specs.Lists.{trees_append, elem_parts, elem_tree, elem_trees, props_parts}
 use Rattle.swc_nodes.specs.Seats.{chain}
-use Rattle.swc_nodes.specs.Slots.{flat, if_some, item_parts, prop_parts, expr_part}
-use Rattle.swc_nodes.specs.Stands.{count, seat_at, tree_at}
+use Rattle.swc_nodes.specs.Slots.{flat, if_some, item_parts, args_parts, prop_parts, one_expr, expr_part}
+use Rattle.swc_nodes.specs.Stands.{count, seat_at, tree_at, first_at}
 use Rattle.swc_nodes.proofs.Lists.{apart-none, apart-list-more, elems-more, props-more}
 use Rattle.swc_grammar.specs.Trees.{to, array_e, items_of, comma_of, unary_e, paren_e, bin_e, nullish_ok, delete_ok}
 use Rattle.swc_grammar.specs.Trees.{min_right, computed_e, object_e, spread_prop_e, prop_of as prop_tree, cover_e, ident_e, value_e, no_cover_in}
-use Rattle.swc_grammar.specs.Symbols.{Assign, Level, Elements}
+use Rattle.swc_grammar.specs.Trees.{member_e, call_e}
+use Rattle.swc_grammar.specs.Symbols.{Assign, Level, Args, Elements}
 use Rattle.swc_grammar.specs.Tokens.{is_lparen, is_rparen, is_lbracket, is_rbracket, is_rbrace, is_comma, is_dots, is_this}
 use Rattle.swc_grammar.specs.Tokens.{is_colon, is_equals}
-use Rattle.swc_grammar.specs.Clean.{sym as at, run, climb, is_lit, is_identifier, prefix_at, no_error, left_ok}
+use Rattle.swc_grammar.specs.Clean.{sym as at, run, links, climb, is_lit, is_identifier, prefix_at, no_error, left_ok}
 use Rattle.swc_grammar.specs.Words.{◌>>=◌}
 use Rattle.swc_productions.specs.Readers.{go_on, inside, paren_expr_close, paren_expr_node, paren_expr_tail, unary_op_node}
 use Rattle.swc_productions.specs.Readers.{unary_op_tail, bin_op_node, bin_op, turned}
 use Rattle.swc_productions.specs.Keys.{key_by, key_close}
+use Rattle.swc_productions.specs.Links.{link_at, dot_tail, computed_close, computed_tail, call_tail, args_behind, args_by}
+use Rattle.swc_productions.specs.Links.{link_tail, link_of, link_on}
 use Rattle.swc_productions.specs.Lists.{array_lit_tail, element_by, elements_behind, behind_by, separated}
 use Rattle.swc_productions.specs.Parsing.{seen, behind, tree_of, item_at, elems_at, seen_of, prop_at, ident_spelling, key_at}
+use Rattle.swc_productions.specs.Parsing.{args_at, subscript_of, subscript_at}
 use Rattle.swc_bodies.specs.Readings.{is_function, is_class, is_brace}
 use Rattle.swc_productions.specs.Properties.{object_lit_tail, props_behind, props_by, prop_by, cover_by, cover_behind}
 use Rattle.swc_productions.specs.Methods.{behind_key, after_by, method_tree, method_close, method_tail}
 use Rattle.swc_nodes.proofs.Standing.{grows-count, grows-same, grows-then}
 use Rattle.swc_nodes.proofs.Held.{apart-from, from-down, from-later, from_self, first_kept, if_from, tree-later}
-use Rattle.swc_productions.proofs.Building.{apart-down, grows-kept, made_at, made_over}
+use Rattle.swc_productions.proofs.Building.{apart-down, apart_behind, grows-kept, made_at, made_over}
 use Rattle.swc_productions.proofs.Keys as key
+use Rattle.swc_productions.proofs.Links as link
 use Rattle.swc_productions.proofs.Lists as list
 use Rattle.swc_productions.proofs.Properties as props
 use Rattle.swc_productions.proofs.Rules as rule
@@ -439,13 +444,252 @@ parse_paren_expr-returns g t c =
     (λ x ts h. rule.paren_expr_well _ (plain first.was).span (plain last.was).span inner ts h)
     (λ x ts h. rule.paren_expr_ill _ (plain first.was).span (plain last.was).span inner ts h)))))))
 
+pub parse_lhs_expr-returns-in_err-callee : goal.parse_lhs_expr-returns-in_err-callee
+parse_lhs_expr-returns-in_err-callee g t c =
+    let p = err_from_is_err_and c.from_residual.result c.from_residual.ensures.1 in rw (p.1, p.2)
+    (m.no (s.unheard_call (λ x p. run _ (links true p.0) x p.1) (λ x ts. link.left_splits _ true x ts) c.in_err-callee.ensures.reads) c.parse_primary_expr.ensures.grows)
+
+pub parse_lhs_expr-returns : goal.parse_lhs_expr-returns
+parse_lhs_expr-returns g t c =
+    m.call c.parse_subscripts.result (λ x p. run _ (links true p.0) x p.1) (λ x ts. link.left_splits _ true x ts)
+    c.in_ok-callee.ensures.reads c.parse_primary_expr.ensures.grows (λ x. from-down c.in_ok-callee.ensures.from.above) c.parse_subscripts.ensures
+
+pub parse_subscripts-loop-link-init : goal.parse_subscripts-loop-link-init
+parse_subscripts-loop-link-init g t c = (s.on_here g.met.I.Tokens.laws _ (λ x ts. refl), omega arith, grows-same _, from_self c.requires.from)
+
+pub parse_subscripts-loop-link-preserved : goal.parse_subscripts-loop-link-preserved
+parse_subscripts-loop-link-preserved g t c =
+    let b = not c.args.no_call in
+    let l = tree_of c.loop-link.self.nodes c.loop-link.obj in
+    let ms = c.parse_subscript.new.self.nodes in (
+      s.on_then c.loop-link.invariant.0 (s.on_to (s.on_call (λ x p. link_on _ b l p.0 x p.1) (λ x ts. link.links_splits _ b l x ts) c.in_ok-link.ensures.step.reads)
+          (λ x ts. ap (λ o. link_on g.B.BodyForms.forms b l (subscript_at ms o) x ts) c.in-Some.is)),
+      let a = c.loop-link.invariant.1 in let d = c.in_ok-link.ensures.step.falls in omega arith,
+      grows-then c.loop-link.invariant.2 c.parse_subscript.ensures.step.grows,
+      from-down c.loop-link.invariant.3.above (subst (λ o. subscript_of (first_at c.loop-link.self.nodes c.loop-link.obj.0) ms o) c.in-Some.is c.in_ok-link.ensures.step.from),
+    )
+
+pub parse_subscripts-returns-in_err-link : goal.parse_subscripts-returns-in_err-link
+parse_subscripts-returns-in_err-link g t c =
+    let b = not c.args.no_call in
+    let l = tree_of c.loop-link.self.nodes c.loop-link.obj in
+    let p = err_from_is_err_and c.from_residual.result c.from_residual.ensures.1 in rw (p.1, p.2)
+    (m.no_more (s.unheard_after c.loop-link.invariant.0 (s.unheard_call (λ x p. link_on _ b l p.0 x p.1) (λ x ts. link.links_splits _ b l x ts) c.in_err-link.ensures.step.reads)) (grows-then c.loop-link.invariant.2 c.parse_subscript.ensures.step.grows))
+
+pub parse_subscripts-returns-in-None : goal.parse_subscripts-returns-in-None
+parse_subscripts-returns-in-None g t c =
+    let b = not c.args.no_call in
+    let l = tree_of c.loop-link.self.nodes c.loop-link.obj in
+    let ms = c.parse_subscript.new.self.nodes in
+    let grows = c.parse_subscript.ensures.step.grows in
+    m.on (Ok _)
+    (s.on_answer (sym (tree-later grows c.loop-link.invariant.3))
+    (s.on_then c.loop-link.invariant.0 (s.on_to (s.on_call (λ x p. link_on _ b l p.0 x p.1) (λ x ts. link.links_splits _ b l x ts) c.in_ok-link.ensures.step.reads)
+    (λ x ts. ap (λ o. link_on g.B.BodyForms.forms b l (subscript_at ms o) x ts) c.in-None.is))))
+    (grows-then c.loop-link.invariant.2 grows) (from-later grows c.loop-link.invariant.3)
+
+pub parse_subscript-returns-in_err-look-clause-step : goal.parse_subscript-returns-in_err-look-clause-step
+parse_subscript-returns-in_err-look-clause-step g t c =
+    let p = err_from_is_err_and c.from_residual.result c.from_residual.ensures.1 in rw (p.1, p.2)
+    (m.no_more (s.unheard_memory c.in_err-look.ensures.looks) (grows-same _))
+
+pub parse_subscript-returns-in-None-clause-step : goal.parse_subscript-returns-in-None-clause-step
+parse_subscript-returns-in-None-clause-step g t c =
+    let b = not c.args.no_call in
+    let l = tree_of c.args.self.now.nodes c.args.obj in
+    m.on (Ok _)
+    (s.on_seen c.in_ok-look.ensures.looks (λ x ts same e. link.subscript_ends _ b l x ts (ap (link_at b) e ∙ sym c.cur_link.ensures.value ∙ c.in-None.is)))
+    (grows-same _) tt
+
+pub parse_subscript-returns-in_err-node-clause-step : goal.parse_subscript-returns-in_err-node-clause-step
+parse_subscript-returns-in_err-node-clause-step g t c =
+    let b = not c.args.no_call in
+    let l = tree_of c.args.self.now.nodes c.args.obj in
+    let p = err_from_is_err_and c.from_residual-in_err-node.result c.from_residual-in_err-node.ensures.1 in rw (p.1, p.2)
+    (m.no_more (s.unheard_after (s.on_seen {g = λ x ts. link_of _ c.in-Some.link l x ts >>= (λ p. Some (Some p.0, p.1))} c.in_ok-look.ensures.looks
+    (λ x ts same e. link.subscript_takes _ b c.in-Some.link l x ts (ap (link_at b) e ∙ sym c.cur_link.ensures.value ∙ c.in-Some.is)))
+    (s.unheard_call (λ x p. Some (Some p.0, p.1)) (λ x ts. refl) c.in_err-node.ensures.reads)) c.parse_link.ensures.grows)
+
+pub parse_subscript-returns-clause-step : goal.parse_subscript-returns-clause-step
+parse_subscript-returns-clause-step g t c =
+    let b = not c.args.no_call in
+    let l = tree_of c.args.self.now.nodes c.args.obj in
+    m.on (Ok _)
+    (s.on_then (s.on_seen {g = λ x ts. link_of _ c.in-Some.link l x ts >>= (λ p. Some (Some p.0, p.1))} c.in_ok-look.ensures.looks
+    (λ x ts same e. link.subscript_takes _ b c.in-Some.link l x ts (ap (link_at b) e ∙ sym c.cur_link.ensures.value ∙ c.in-Some.is)))
+    (s.on_call (λ x p. Some (Some p.0, p.1)) (λ x ts. refl) c.in_ok-node.ensures.reads.on))
+    c.parse_link.ensures.grows c.in_ok-node.ensures.from
+
+pub parse_link-returns-in-Name : goal.parse_link-returns-in-Name
+parse_link-returns-in-Name g t c =
+    let first = c.skip.ensures.took.1 in
+    let l = tree_of c.args.self.now.nodes c.args.obj in
+    m.after c.parse_dot_member.result (s.on_took {g = dot_tail l} g.met.I.Tokens.laws first
+    (λ x ts. link.link_opens _ c.args.link l (plain first.was) x ts ∙ ap (λ k. link_tail g.B.BodyForms.forms k (plain first.was).span l x ts) c.in-Name.is)) (grows-same _) c.parse_dot_member.ensures
+
+pub parse_link-returns-in-Computed : goal.parse_link-returns-in-Computed
+parse_link-returns-in-Computed g t c =
+    let first = c.skip.ensures.took.1 in
+    let l = tree_of c.args.self.now.nodes c.args.obj in
+    m.after c.parse_computed_member.result (s.on_took {g = computed_tail _ c.cur_span-start.result l} g.met.I.Tokens.laws first
+    (λ x ts. link.link_opens _ c.args.link l (plain first.was) x ts ∙ ap (λ k. link_tail g.B.BodyForms.forms k (plain first.was).span l x ts) c.in-Computed.is
+    ∙ ap (λ v. computed_tail g.B.BodyForms.forms v l x ts) (sym (s.place_was first c.cur_span-start.result c.cur_span-start.ensures)))) (grows-same _) c.parse_computed_member.ensures
+
+pub parse_link-returns-in-Call : goal.parse_link-returns-in-Call
+parse_link-returns-in-Call g t c =
+    let first = c.skip.ensures.took.1 in
+    let l = tree_of c.args.self.now.nodes c.args.obj in
+    m.after c.parse_call.result (s.on_took {g = call_tail _ l} g.met.I.Tokens.laws first
+    (λ x ts. link.link_opens _ c.args.link l (plain first.was) x ts ∙ ap (λ k. link_tail g.B.BodyForms.forms k (plain first.was).span l x ts) c.in-Call.is)) (grows-same _) c.parse_call.ensures
+
+pub parse_computed_member-returns-in_err-expr : goal.parse_computed_member-returns-in_err-expr
+parse_computed_member-returns-in_err-expr g t c =
+    let l = tree_of c.args.self.now.nodes c.args.obj in
+    let p = err_from_is_err_and c.from_residual.result c.from_residual.ensures.1 in rw (p.1, p.2)
+    (m.no (s.unheard_call (λ x p. computed_close c.args.start l p.0 x p.1) (λ x ts. link.computed_splits _ c.args.start l x ts) c.in_err-expr.ensures.reads) c.parse_assignment_expr_with_in.ensures.grows)
+
+pub parse_computed_member-returns-in_err-end : goal.parse_computed_member-returns-in_err-end
+parse_computed_member-returns-in_err-end g t c =
+    let l = tree_of c.args.self.now.nodes c.args.obj in
+    let e = tree_of c.parse_assignment_expr_with_in.new.self.nodes c.in_ok-expr.expr in
+    let p = err_from_is_err_and c.from_residual-in_err-end.result c.from_residual-in_err-end.ensures.1 in rw (p.1, p.2)
+    (m.no (s.unheard_after (s.on_call (λ x p. computed_close c.args.start l p.0 x p.1) (λ x ts. link.computed_splits _ c.args.start l x ts) c.in_ok-expr.ensures.reads.on)
+    (s.unheard_call (λ x q. Some (member_e (to (span_of l) q.0) l (computed_e (to c.args.start q.0) e), q.1)) (λ x ts. refl) (c.in_err-end.ensures.expects g.B.Bodies.is_faithful))) c.parse_assignment_expr_with_in.ensures.grows)
+
+pub parse_computed_member-member_expr-node-requires-clause-from : goal.parse_computed_member-member_expr-node-requires-clause-from
+parse_computed_member-member_expr-node-requires-clause-from g t c = from-later c.parse_assignment_expr_with_in.ensures.grows c.requires.from
+
+pub parse_computed_member-member_expr-node-requires-clause-apart : goal.parse_computed_member-member_expr-node-requires-clause-apart
+parse_computed_member-member_expr-node-requires-clause-apart g t c =
+    apart-down (one_expr c.args.obj ++ one_expr c.in_ok-expr.expr)
+    (apart_behind c.parse_assignment_expr_with_in.ensures.grows c.requires.from (apart-from (expr_part c.in_ok-expr.expr) c.in_ok-expr.ensures.from))
+
+pub parse_computed_member-returns : goal.parse_computed_member-returns
+parse_computed_member-returns g t c =
+    let l = tree_of c.args.self.now.nodes c.args.obj in
+    let e = tree_of c.parse_assignment_expr_with_in.new.self.nodes c.in_ok-expr.expr in
+    let now = tree_of c.parse_assignment_expr_with_in.new.self.nodes c.args.obj in
+    let end = c.in_ok-end.end in
+    let whole = ap (λ v. member_e (to (span_of v) end) v (computed_e (to c.args.start end) e)) (sym (tree-later c.parse_assignment_expr_with_in.ensures.grows c.requires.from))
+    ∙ ap (λ v. member_e (to (span_of now) end) now (computed_e v e)) (sym (span_is c.new-span.result c.args.start.lo end.hi c.new-span.ensures.lo c.new-span.ensures.hi)) in
+    m.node _ c.member_expr-node.result c.made.result (omega arith)
+    (made_over _ _ _ (one_expr c.args.obj ++ one_expr c.in_ok-expr.expr) _ c.member_expr-node.result c.member_expr-node.ensures.made
+    (apart_behind c.parse_assignment_expr_with_in.ensures.grows c.requires.from (apart-from (expr_part c.in_ok-expr.expr) c.in_ok-expr.ensures.from)))
+    c.made.ensures.ok c.made.ensures.refused c.parse_assignment_expr_with_in.ensures.grows c.member_expr-node.ensures.grows
+    (s.heard_answer whole (s.heard_more (λ x p. computed_close c.args.start l p.0 x p.1) (λ x ts. link.computed_splits _ c.args.start l x ts) c.in_ok-expr.ensures.reads
+    (s.on_call (λ x q. Some (member_e (to (span_of l) q.0) l (computed_e (to c.args.start q.0) e), q.1)) (λ x ts. refl) (c.in_ok-end.ensures.expects g.B.Bodies.is_faithful).on)))
+
+pub parse_call-returns-in_err-list : goal.parse_call-returns-in_err-list
+parse_call-returns-in_err-list g t c =
+    let l = tree_of c.args.self.now.nodes c.args.callee in
+    let p = err_from_is_err_and c.from_residual.result c.from_residual.ensures.1 in rw (p.1, p.2)
+    (m.no (s.unheard_call (λ x p. Some (call_e (to (span_of l) (span_of p.0)) l (items_of p.0), p.1)) (λ x ts. link.call_splits _ l x ts) c.in_err-list.ensures.reads) c.parse_args.ensures.grows)
+
+pub parse_call-call_expr-node-requires-clause-from : goal.parse_call-call_expr-node-requires-clause-from
+parse_call-call_expr-node-requires-clause-from g t c = from-later c.parse_args.ensures.grows c.requires.from
+
+pub parse_call-call_expr-node-requires-clause-apart : goal.parse_call-call_expr-node-requires-clause-apart
+parse_call-call_expr-node-requires-clause-apart g t c =
+    apart-down (one_expr c.args.callee ++ args_parts c.in_ok-list.list.items) (apart_behind c.parse_args.ensures.grows c.requires.from c.in_ok-list.ensures.from)
+
+pub parse_call-returns : goal.parse_call-returns
+parse_call-returns g t c =
+    let l = tree_of c.args.self.now.nodes c.args.callee in
+    let items = item_trees (tree_of c.parse_args.new.self.nodes) c.in_ok-list.list.items.items in
+    let whole = ap (λ v. call_e (to (span_of v) c.in_ok-list.list.end) v items) (sym (tree-later c.parse_args.ensures.grows c.requires.from)) in
+    m.node _ c.call_expr-node.result c.made.result (omega arith)
+    (made_over _ _ _ (one_expr c.args.callee ++ args_parts c.in_ok-list.list.items) _ c.call_expr-node.result c.call_expr-node.ensures.made
+    (apart_behind c.parse_args.ensures.grows c.requires.from c.in_ok-list.ensures.from)) c.made.ensures.ok c.made.ensures.refused c.parse_args.ensures.grows c.call_expr-node.ensures.grows
+    (s.heard_answer whole (s.heard_call (λ x p. Some (call_e (to (span_of l) (span_of p.0)) l (items_of p.0), p.1)) (λ x ts. link.call_splits _ l x ts) (λ x ts. refl) c.in_ok-list.ensures.reads))
+
+pub parse_args-returns : goal.parse_args-returns
+parse_args-returns g t c =
+    m.yes c.parse_arg_list-args.result
+    (s.parses_within g.I.Tokens.model g.B.Bodies.is_faithful (args_at c.parse_arg_list-args.new.self.nodes) _ (run _ (at Args)) c.parse_arg_list-args.result with_in (λ x. refl) (λ x ts. link.inside_args _ x ts)
+    c.set_ctx.ensures.moves (c.set_ctx.ensures.context ∙ ap with_in c.get_ctx-ctx.ensures) c.parse_arg_list-args.ensures.reads c.set_ctx-2.ensures.moves
+    (c.set_ctx-2.ensures.context ∙ c.get_ctx-ctx.ensures))
+    c.parse_arg_list-args.ensures.grows c.parse_arg_list-args.ensures.from
+
+pub parse_arg_list-loop-items-init : goal.parse_arg_list-loop-items-init
+parse_arg_list-loop-items-init g t c = (
+  s.on_here g.met.I.Tokens.laws _ (λ x ts. link.args_first _ x ts ∙ ap (λ v. args_behind g.B.BodyForms.forms (item_trees (tree_of c.args.self.now.nodes) v) None x ts) (sym c.new-items.ensures.items)),
+  omega arith,
+  grows-same _,
+  record { chained = ap (λ v. chain (seat_at c.args.self.now.nodes) (count c.args.self.now.nodes) (flat item_parts v) (count c.args.self.now.nodes)) c.new-items.ensures.items ∙ (apart-none {ns = c.args.self.now.nodes} {k = count c.args.self.now.nodes} (omega arith)).chained },
+)
+
+pub parse_arg_list-loop-items-preserved : goal.parse_arg_list-loop-items-preserved
+parse_arg_list-loop-items-preserved g t c =
+    let before = item_trees (tree_of c.loop-items.self.nodes) c.loop-items.items.items in
+    let comma = c.loop-items.trailing_comma in
+    let none = s.eats_none g.B.Bodies.is_faithful is_rparen _ _ _ c.in-None.is (c.in_ok-end.ensures.eats g.B.Bodies.is_faithful) in
+    let more = ap (λ v. item_trees (tree_of c.parse_arg_item.new.self.nodes) v) c.in_ok-add.ensures.added
+    ∙ link.items-more c.loop-items.items.items c.in_ok-item.item c.parse_arg_item.ensures.grows c.loop-items.invariant.3 in
+    let parts = apart-list-more item_parts c.loop-items.items.items c.in_ok-item.item c.parse_arg_item.ensures.grows c.loop-items.invariant.3 c.in_ok-item.ensures.from in (
+      s.on_then c.loop-items.invariant.0 (s.on_then (s.on_call (λ x p. args_by _ before comma p.0 x p.1) (λ x ts. link.behind_splits _ before comma x ts) none)
+          (s.on_to (s.on_call (λ x p. args_behind _ (trees_append before (cons p.0.0 nil)) p.0.1 x p.1) (λ x ts. link.args_more_splits _ before x ts) c.in_ok-item.ensures.reads.on)
+          (λ x ts. ap (λ v. args_behind g.B.BodyForms.forms v c.in_ok-item.comma x ts) (sym more)))),
+      let a = c.loop-items.invariant.1 in let b = c.in_ok-item.ensures.falls in let d = c.in_ok-end.ensures.falls in omega arith,
+      grows-then c.loop-items.invariant.2 c.parse_arg_item.ensures.grows,
+      record { chained = ap (λ v. chain (seat_at c.parse_arg_item.new.self.nodes) (count c.args.self.now.nodes) (flat item_parts v) (count c.parse_arg_item.new.self.nodes)) c.in_ok-add.ensures.added ∙ parts.chained },
+    )
+
+pub parse_arg_list-returns-in_err-end : goal.parse_arg_list-returns-in_err-end
+parse_arg_list-returns-in_err-end g t c =
+    let before = item_trees (tree_of c.loop-items.self.nodes) c.loop-items.items.items in
+    let comma = c.loop-items.trailing_comma in
+    let p = err_from_is_err_and c.from_residual.result c.from_residual.ensures.1 in rw (p.1, p.2)
+    (m.no (s.unheard_after c.loop-items.invariant.0 (s.unheard_call (λ x p. args_by _ before comma p.0 x p.1) (λ x ts. link.behind_splits _ before comma x ts) (c.in_err-end.ensures.eats g.B.Bodies.is_faithful))) c.loop-items.invariant.2)
+
+pub parse_arg_list-returns-in-Some : goal.parse_arg_list-returns-in-Some
+parse_arg_list-returns-in-Some g t c =
+    let before = item_trees (tree_of c.loop-items.self.nodes) c.loop-items.items.items in
+    let comma = c.loop-items.trailing_comma in
+    let some = s.eats_some g.B.Bodies.is_faithful is_rparen _ c.in-Some.end _ _ c.in-Some.is (c.in_ok-end.ensures.eats g.B.Bodies.is_faithful) in
+    m.yes (Ok _)
+    (s.heard_after c.loop-items.invariant.0 (s.heard_call (λ x p. args_by _ before comma p.0 x p.1) (λ x ts. link.behind_splits _ before comma x ts) (λ x ts. refl) some))
+    c.loop-items.invariant.2 c.loop-items.invariant.3
+
+pub parse_arg_list-returns-in_err-item : goal.parse_arg_list-returns-in_err-item
+parse_arg_list-returns-in_err-item g t c =
+    let before = item_trees (tree_of c.loop-items.self.nodes) c.loop-items.items.items in
+    let comma = c.loop-items.trailing_comma in
+    let none = s.eats_none g.B.Bodies.is_faithful is_rparen _ _ _ c.in-None.is (c.in_ok-end.ensures.eats g.B.Bodies.is_faithful) in
+    let p = err_from_is_err_and c.from_residual-in_err-item.result c.from_residual-in_err-item.ensures.1 in rw (p.1, p.2)
+    (m.no (s.unheard_after c.loop-items.invariant.0 (s.unheard_after (s.on_call (λ x p. args_by _ before comma p.0 x p.1) (λ x ts. link.behind_splits _ before comma x ts) none)
+    (s.unheard_call (λ x p. args_behind _ (trees_append before (cons p.0.0 nil)) p.0.1 x p.1) (λ x ts. link.args_more_splits _ before x ts) c.in_err-item.ensures.reads))) (grows-then c.loop-items.invariant.2 c.parse_arg_item.ensures.grows))
+
+pub parse_arg_list-returns-in_err-add : goal.parse_arg_list-returns-in_err-add
+parse_arg_list-returns-in_err-add g t c =
+    let none = s.eats_none g.B.Bodies.is_faithful is_rparen _ _ _ c.in-None.is (c.in_ok-end.ensures.eats g.B.Bodies.is_faithful) in
+    let p = err_from_is_err_and c.from_residual-in_err-add.result c.from_residual-in_err-add.ensures.1 in rw (p.1, p.2)
+    (m.no (s.unheard_memory (s.forgoes_later (s.leads_then c.loop-items.invariant.0.leads (s.leads_then none.leads c.in_ok-item.ensures.reads.on.leads)) (s.forgoes_here g.met.I.Tokens.laws _ _ _ c.in_err-add.ensures.refused))) (grows-then c.loop-items.invariant.2 c.parse_arg_item.ensures.grows))
+
+pub parse_arg_item-returns-in_err-item : goal.parse_arg_item-returns-in_err-item
+parse_arg_item-returns-in_err-item g t c =
+    let p = err_from_is_err_and c.from_residual.result c.from_residual.ensures.1 in rw (p.1, p.2)
+    (m.no (s.unheard_call (λ x p. separated is_rparen x p.1 >>= (λ q. Some ((p.0, q.0), q.1))) (λ x ts. link.arg_item_splits _ x ts) c.in_err-item.ensures.reads) c.parse_expr_or_spread.ensures.grows)
+
+pub parse_arg_item-returns-in_err-comma : goal.parse_arg_item-returns-in_err-comma
+parse_arg_item-returns-in_err-comma g t c =
+    let p = err_from_is_err_and c.from_residual-in_err-comma.result c.from_residual-in_err-comma.ensures.1 in rw (p.1, p.2)
+    (m.no (s.unheard_after (s.on_call (λ x p. separated is_rparen x p.1 >>= (λ q. Some ((p.0, q.0), q.1))) (λ x ts. link.arg_item_splits _ x ts) c.in_ok-item.ensures.reads.on)
+    (s.unheard_call (λ x q. Some ((item_at c.parse_expr_or_spread.new.self.nodes c.in_ok-item.item, q.0), q.1)) (λ x ts. refl) (c.in_err-comma.ensures.separates g.B.Bodies.is_faithful))) c.parse_expr_or_spread.ensures.grows)
+
+pub parse_arg_item-returns : goal.parse_arg_item-returns
+parse_arg_item-returns g t c =
+    m.yes (Ok _)
+    (s.heard_more (λ x p. separated is_rparen x p.1 >>= (λ q. Some ((p.0, q.0), q.1))) (λ x ts. link.arg_item_splits _ x ts) c.in_ok-item.ensures.reads
+    (s.on_call (λ x q. Some ((item_at c.parse_expr_or_spread.new.self.nodes c.in_ok-item.item, q.0), q.1)) (λ x ts. refl) (c.in_ok-comma.ensures.separates g.B.Bodies.is_faithful)))
+    c.parse_expr_or_spread.ensures.grows (apart-from (expr_part c.in_ok-item.item.expr) c.in_ok-item.ensures.from)
+
 pub parse_unary_expr-returns-in-Some : goal.parse_unary_expr-returns-in-Some
 parse_unary_expr-returns-in-Some g t c =
     m.after c.parse_unary_op.result (s.on_seen c.in_ok-look.ensures.looks (λ x ts same e. rule.unary_op_picked _ c.in-Some.op x ts (ap prefix_at e ∙ sym c.cur_prefix_op.ensures.value ∙ c.in-Some.is))) (grows-same _) c.parse_unary_op.ensures
 
 pub parse_unary_expr-returns-in-None : goal.parse_unary_expr-returns-in-None
 parse_unary_expr-returns-in-None g t c =
-    m.after c.parse_primary_expr.result (s.on_seen c.in_ok-look.ensures.looks (λ x ts same e. rule.unary_primary _ x ts (ap prefix_at e ∙ sym c.cur_prefix_op.ensures.value ∙ c.in-None.is))) (grows-same _) c.parse_primary_expr.ensures
+    m.after c.parse_lhs_expr.result (s.on_seen c.in_ok-look.ensures.looks (λ x ts same e. rule.unary_left _ x ts (ap prefix_at e ∙ sym c.cur_prefix_op.ensures.value ∙ c.in-None.is))) (grows-same _) c.parse_lhs_expr.ensures
 
 pub parse_unary_expr-returns-in_err-look : goal.parse_unary_expr-returns-in_err-look
 parse_unary_expr-returns-in_err-look g t c =

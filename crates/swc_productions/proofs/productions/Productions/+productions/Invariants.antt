@@ -1,11 +1,13 @@
 -- Each call is made with fewer tokens to come, or on the way down to a primary expression.
-use Rattle.std.proofs.Common.{◌+◌, ◌*◌, ◌≤◌}
+use Rattle.std.proofs.Common.{◌+◌, ◌*◌, ◌≤◌, not}
 use Rattle.swc_input.specs.Buffer.{to_come}
-use Rattle.swc_grammar.specs.Symbols.{Elements, Props}
-use Rattle.swc_grammar.specs.Clean.{sym, climb, run}
-use Rattle.swc_nodes.specs.Slots.{expr_part}
+use Rattle.swc_ast.specs.Parts.{item_trees}
+use Rattle.swc_grammar.specs.Symbols.{Args, Elements, Props}
+use Rattle.swc_grammar.specs.Clean.{sym, links, climb, run}
+use Rattle.swc_nodes.specs.Slots.{expr_part, args_parts}
 use Rattle.swc_nodes.specs.Lists.{elem_parts, elem_trees, props_parts, props_trees}
 use Rattle.swc_nodes.specs.Stands.{tree_at, count, first_at, Apart, From, Grows}
+use Rattle.swc_productions.specs.Links.{args_behind}
 use Rattle.swc_productions.specs.Lists.{elements_behind}
 use Rattle.swc_productions.specs.Properties.{props_behind}
 use Rattle.swc_productions.specs.Parsing.{On, tree_of}
@@ -16,6 +18,59 @@ decreases-parse_paren_expr g l = to_come g.I.Tokens.model l.self.now.input * 20 
 
 abbrev pub decreases-parse_primary_expr : goal.decreases-parse_primary_expr
 decreases-parse_primary_expr g l = to_come g.I.Tokens.model l.self.now.input * 20 + 2
+
+abbrev pub decreases-parse_lhs_expr : goal.decreases-parse_lhs_expr
+decreases-parse_lhs_expr g l = to_come g.I.Tokens.model l.self.now.input * 20 + 3
+
+abbrev pub decreases-parse_subscripts : goal.decreases-parse_subscripts
+decreases-parse_subscripts g l = to_come g.I.Tokens.model l.self.now.input * 20 + 3
+
+abbrev pub invariant-parse_subscripts-loop-link : goal.invariant-parse_subscripts-loop-link
+invariant-parse_subscripts-loop-link g l =
+    On g.I.Tokens.model g.B.Bodies.is_faithful
+    (run g.B.BodyForms.forms (links (not l.fn.no_call) (tree_of l.fn.self.nodes l.fn.obj)))
+    (run g.B.BodyForms.forms (links (not l.fn.no_call) (tree_of l.self.nodes l.obj)))
+    l.fn.self.input l.self.input
+    × (to_come g.I.Tokens.model l.self.input ≤ to_come g.I.Tokens.model l.fn.self.input)
+    × Grows l.fn.self.nodes l.self.nodes
+    × From (first_at l.fn.self.nodes l.fn.obj.0) l.self.nodes (expr_part l.obj)
+
+abbrev pub decreases-parse_subscripts-loop-link : goal.decreases-parse_subscripts-loop-link
+decreases-parse_subscripts-loop-link g l = to_come g.I.Tokens.model l.self.input
+
+abbrev pub decreases-parse_subscript : goal.decreases-parse_subscript
+decreases-parse_subscript g l = to_come g.I.Tokens.model l.self.now.input * 20 + 2
+
+abbrev pub decreases-parse_link : goal.decreases-parse_link
+decreases-parse_link g l = to_come g.I.Tokens.model l.self.now.input * 20 + 1
+
+abbrev pub decreases-parse_computed_member : goal.decreases-parse_computed_member
+decreases-parse_computed_member g l = to_come g.I.Tokens.model l.self.now.input * 20 + 14
+
+abbrev pub decreases-parse_call : goal.decreases-parse_call
+decreases-parse_call g l = to_come g.I.Tokens.model l.self.now.input * 20 + 17
+
+abbrev pub decreases-parse_args : goal.decreases-parse_args
+decreases-parse_args g l = to_come g.I.Tokens.model l.self.now.input * 20 + 16
+
+abbrev pub decreases-parse_arg_list : goal.decreases-parse_arg_list
+decreases-parse_arg_list g l = to_come g.I.Tokens.model l.self.now.input * 20 + 15
+
+abbrev pub invariant-parse_arg_list-loop-items : goal.invariant-parse_arg_list-loop-items
+invariant-parse_arg_list-loop-items g l =
+    On g.I.Tokens.model g.B.Bodies.is_faithful
+    (run g.B.BodyForms.forms (sym Args))
+    (args_behind g.B.BodyForms.forms (item_trees (tree_of l.self.nodes) l.items.items) l.trailing_comma)
+    l.fn.self.input l.self.input
+    × (to_come g.I.Tokens.model l.self.input ≤ to_come g.I.Tokens.model l.fn.self.input)
+    × Grows l.fn.self.nodes l.self.nodes
+    × Apart (count l.fn.self.nodes) l.self.nodes (args_parts l.items)
+
+abbrev pub decreases-parse_arg_list-loop-items : goal.decreases-parse_arg_list-loop-items
+decreases-parse_arg_list-loop-items g l = to_come g.I.Tokens.model l.self.input
+
+abbrev pub decreases-parse_arg_item : goal.decreases-parse_arg_item
+decreases-parse_arg_item g l = to_come g.I.Tokens.model l.self.now.input * 20 + 14
 
 abbrev pub decreases-parse_unary_op : goal.decreases-parse_unary_op
 decreases-parse_unary_op g l = to_come g.I.Tokens.model l.self.now.input * 20 + 3
