@@ -1,5 +1,5 @@
 -- What a call of a hook that reads nothing ensures: it refuses, or it records a fault.
-use Rattle.std.proofs.Common.{◌≡◌, ◌≢◌, true, false, List, [], ◌∷◌, ◌++◌, Ok, Err, length}
+use Rattle.std.proofs.Common.{◌≡◌, ◌≢◌, ◌<◌, true, false, List, [], ◌∷◌, ◌++◌, Ok, Err, length}
 use Rattle.std.proofs.Common.{refl, sym, ap, subst, ◌∙◌, arith, length-append}
 use Rattle.swc_context.specs.declared.error.Error.{Error}
 use Rattle.swc_context.specs.declared.error.SyntaxError.TheVariants as kind
@@ -7,15 +7,15 @@ use Rattle.swc_input.specs.declared.buffer.Buffer.{Buffer}
 use Rattle.swc_input.specs.declared.token.TokenAndSpan.{TokenAndSpan}
 use Rattle.swc_input.specs.Plain.{plain}
 use Rattle.swc_input.specs.Source.{Model, Laws}
-use Rattle.swc_input.specs.Buffer.{Read, Lives, current, source, last_position}
+use Rattle.swc_input.specs.Buffer.{Read, Lives, current, source, last_position, to_come}
 use Rattle.swc_input.specs.Recording.{Recorded, is_silent, no_memory, error_here, error_list}
 use Rattle.swc_input.specs.Laws.{Read-then}
 use Rattle.swc_bodies.specs.Readings.{Hooked, Reading}
 
 module _ {S : Type 0} (model : Model S) where
-  -- one token was consumed
+  -- one token was consumed, and fewer are to come
   abbrev TookOne : Buffer S → Buffer S → Type 0
-  TookOne b c = (t : TokenAndSpan) × Read model b (plain t ∷ []) c
+  TookOne b c = (t : TokenAndSpan) × Read model b (plain t ∷ []) c × (to_come model c < to_come model b)
 
   same-lives : (b c : Buffer S) → source c ≡ source b → Lives model b c
   same-lives b c same f = subst (λ s. (model.state s).failed ≡ true) same f
@@ -26,6 +26,7 @@ module _ {S : Type 0} (model : Model S) where
     taken = plain took.0 ∷ [];
     some = omega arith;
     read = took.1;
+    less = took.2;
     clean = λ loud quiet. tt;
     refused = own;
     lives = λ ne. same-lives b c same;
@@ -37,6 +38,7 @@ module _ {S : Type 0} (model : Model S) where
     taken = plain took.0 ∷ xs;
     some = omega arith;
     read = Read-then laws b c d (plain took.0 ∷ []) xs took.1 more;
+    less = let l = took.2 in let m = more.lower in omega arith;
     clean = λ loud quiet. tt;
     refused = λ own. let k = sym (ap (λ x. x.kind) memory) ∙ own in cc;
     lives = λ ne. absurd (ne (ap (λ x. x.kind) memory));
@@ -73,6 +75,7 @@ module _ {S : Type 0} (model : Model S) where
     taken = plain took.0 ∷ more.0;
     some = omega arith;
     read = Read-then laws b c d (plain took.0 ∷ []) more.0 took.1 more.1;
+    less = let l = took.2 in let m = more.1.lower in omega arith;
     clean = λ loud quiet.
         let aloud = ap (λ s. is_silent (model.state s)) same ∙ loud in
         absurd (longer c d e (recorded aloud) (quiet ∙ ap (λ s. (model.state s).errors) (sym same)));

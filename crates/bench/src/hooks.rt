@@ -1,9 +1,9 @@
 // A hook of the tests' own, which refuses, records a fault or wants memory.
-ghost use Rattle.std.specs.Prelude.{◌≡◌, ◌∷◌, [], IsSome};
+ghost use Rattle.std.specs.Prelude.{◌≡◌, ◌<◌, ◌∷◌, [], IsSome};
 ghost use Rattle.swc_context.specs.declared.span.Span.{Span};
 ghost use Rattle.swc_input.specs.declared.token.TokenAndSpan.{TokenAndSpan};
 ghost use Rattle.swc_input.specs.Plain.{plain};
-ghost use Rattle.swc_input.specs.Buffer.{current, source, Read};
+ghost use Rattle.swc_input.specs.Buffer.{current, source, to_come, Read};
 ghost use Rattle.swc_bodies.specs.Readings.{Hooked, Reading};
 
 use swc_bodies::bodies::{Bodies, BodyForms};
@@ -76,7 +76,8 @@ impl TestBodies {
 /// Consumes the current token, and answers its place.
 fn consume<I: Tokens>(input: &mut Buffer<I>) -> Span
     requires { IsSome (current input.old) }
-    ensures took { (t : TokenAndSpan) × Read I.model input.old (plain t ∷ []) input.new }
+    ensures took { (t : TokenAndSpan) × Read I.model input.old (plain t ∷ []) input.new
+        × (to_come I.model input.new < to_come I.model input.old) }
     ensures same { source input.new ≡ source input.old }
 {
     let span = input.cur_span();

@@ -17,6 +17,8 @@ mod settings;
 #[cfg(test)]
 mod shown;
 #[cfg(test)]
+mod slashes;
+#[cfg(test)]
 mod trees;
 #[cfg(test)]
 mod words;

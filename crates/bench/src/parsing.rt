@@ -3,6 +3,7 @@ use crate::failing::FailingInput;
 use crate::hooks::TestBodies;
 use crate::settings::{setting_of, source_of};
 use crate::shown::{Shown, show, show_faults, show_refusal};
+use crate::slashes::slashes_of;
 use crate::trees::show_numbered;
 use bench_lower::rows::{Row, Subject, answers, expect, row_of};
 use bench_lower::tokens::{fault_of, span_of};
@@ -17,12 +18,13 @@ use swc_input::tokens::Tokens;
 /// What the calls of one parser answer, with places; then the faults that are recorded in the end,
 /// and the place of the first token that is left.
 ///
-/// A `failing` source meets want of memory behind its tokens. The hook consumes one token at each
-/// call, and refuses it. Where a word such as `hook_refuses` says what it does at its first call, it
-/// records `TS1005` at the token of each later one, and answers the token's place. Each row that
-/// tells nothing of nodes holds with `parse_expr_id` for `parse_expr`, too.
+/// A `failing` source meets want of memory behind its tokens. One of `slashes` gives each slash by
+/// itself, and a regular expression on the hint. The hook consumes one token at each call, and
+/// refuses it. Where a word such as `hook_refuses` says what it does at its first call, it records
+/// `TS1005` at the token of each later one, and answers the token's place. Each row that tells
+/// nothing of nodes holds with `parse_expr_id` for `parse_expr`, too.
 const CALLS: &str =
-    r"parse_expr; parse_assignment_expr; parse_bin_expr; parse_unary_expr; at_end; parse_lit; at_end | script | a + b c d * e (f) 7 | Bin(+, a, b) 0..5; c 6..7; Bin(*, d, e) 8..13; Paren(f) 14..17; false; 7 18..19; true | none | end
+    r"parse_expr; parse_assignment_expr; parse_bin_expr; parse_unary_expr; at_end; parse_lit; at_end | script | a + b c d * e {f} 7 | Bin(+, a, b) 0..5; c 6..7; Bin(*, d, e) 8..13; Object{f} 14..17; false; 7 18..19; true | none | end
 parse_bin_expr | script without_in | a in b | a 0..1 | none | 2..4
 parse_bin_expr; parse_bin_expr | script without_in | a in b | a 0..1; refused: TS1109 2..4 | none | 2..4
 parse_expr | script | -a ** b | refused: UnaryInExp 3..5 | none | 6..7
@@ -42,7 +44,7 @@ parse_expr | module ignore_error | let | let 0..3 | none | end
 add_error TS1102 1..2; parse_expr; parse_expr; parse_lit; at_end; parse_expr; parse_lit; at_end | script without_in failing | a + (b * | done; refused: OutOfMemory 8..8; refused: ParserFailed 7..8; refused: ParserFailed 7..8; refused: ParserFailed 7..8; refused: ParserFailed 7..8; refused: ParserFailed 7..8; refused: ParserFailed 7..8 | TS1102 1..2 | refused: ParserFailed 7..8
 add_error TS1102 1..2; parse_expr; parse_expr; parse_lit; at_end; parse_expr; parse_lit; at_end | script without_in failing | a ** - ! | done; refused: OutOfMemory 8..8; refused: ParserFailed 7..8; refused: ParserFailed 7..8; refused: ParserFailed 7..8; refused: ParserFailed 7..8; refused: ParserFailed 7..8; refused: ParserFailed 7..8 | TS1102 1..2 | refused: ParserFailed 7..8
 add_error TS1102 1..2; parse_expr; parse_expr; parse_lit; at_end; parse_expr; parse_lit; at_end | script without_in failing | ( -    # | done; refused: OutOfMemory 8..8; refused: ParserFailed 7..8; refused: ParserFailed 7..8; refused: ParserFailed 7..8; refused: ParserFailed 7..8; refused: ParserFailed 7..8; refused: ParserFailed 7..8 | TS1102 1..2 | refused: ParserFailed 7..8
-parse_expr_id; count_nodes; parse_expr; count_nodes; parse_expr_id; count_nodes; clear_nodes; count_nodes | script | a + b c (d | Bin(+, a, b) 0..5; 3; c 6..7; 3; refused: Eof 10..10; 3; done; 0 | none | end
+parse_expr_id; count_nodes; parse_expr; count_nodes; parse_expr_id; count_nodes; clear_nodes; count_nodes | script | a + b c {d | Bin(+, a, b) 0..5; 3; c 6..7; 3; refused: Eof 10..10; 3; done; 0 | none | end
 parse_expr | script | this | this 0..4 | none | end
 parse_expr | script | this + this | Bin(+, this, this) 0..11 | none | end
 parse_expr | module | delete this | Unary(delete, this) 0..11 | none | end
@@ -117,6 +119,118 @@ parse_expr; parse_expr | script hook_wants_memory | [...{a: class}] | refused: O
 parse_expr; parse_expr | script hook_wants_memory | {m() {} | refused: OutOfMemory 6..6; refused: ParserFailed 5..6 | none | refused: ParserFailed 5..6
 parse_expr; parse_expr | script hook_wants_memory | {get a() {} | refused: OutOfMemory 10..10; refused: ParserFailed 9..10 | none | refused: ParserFailed 9..10
 parse_expr_id; count_nodes; parse_expr_id; count_nodes | script hook_wants_memory | a b + class | a 0..1; 1; refused: OutOfMemory 11..11; 1 | none | refused: ParserFailed 6..11
+parse_expr | script | a . b | Member(a, .b) 0..5 | none | end
+parse_expr | script | a.#b | Member(a, .#b) 0..4 | none | end
+parse_expr | script | a\n[b] | Member(a, [b]) 0..5 | none | end
+parse_expr | script | f\n(a, ) | Call(f, [a]) 0..7 | none | end
+parse_expr | script | f(...a, b) c | Call(f, [...a, b]) 0..10 | none | 11..12
+parse_expr | script | a.b(c)[d] | Member(Call(Member(a, .b), [c]), [d]) 0..9 | none | end
+parse_unary_expr | script | -a.b(c) d | Unary(-, Call(Member(a, .b), [c])) 0..7 | none | 8..9
+parse_unary_expr | script | a.+ | refused: ExpectedIdent 2..3 | none | 2..3
+parse_expr | script | a.b + c(d) | Bin(+, Member(a, .b), Call(c, [d])) 0..10 | none | end
+parse_expr | script | [a.b, ...f(a)] | Array[Member(a, .b), ...Call(f, [a])] 0..14 | none | end
+parse_expr | script | a@4..5 .@2..3 b@0..1 | Member(a, .b) 1..4 | none | end
+parse_expr_id; count_nodes | script | a.b(c) | Call(Member(a, .b), [c]) 0..6; 4 | none | end
+parse_expr_id; count_nodes; parse_expr_id; count_nodes | script | a(b c | refused: Expected 4..5 ,; 0; c 4..5; 1 | none | end
+parse_bin_expr | script without_in | a[b in c] in d | Member(a, [Bin(in, b, c)]) 0..9 | none | 10..12
+parse_bin_expr | script without_in | f(...a in b) in c | Call(f, [...Bin(in, a, b)]) 0..12 | none | 13..15
+parse_expr; parse_bin_expr | script without_in | a[b c in d | refused: Expected 4..5 ]; c 4..5 | none | 6..8
+parse_expr; parse_bin_expr | script without_in | f(a b in c | refused: Expected 4..5 ,; b 4..5 | none | 6..8
+parse_expr | script | f(+) | Call(f, [Unary(+, Invalid)]) 0..4 | TS1109 3..4 | end
+parse_expr | script | a[* b] | Member(a, [Bin(*, Invalid, b)]) 0..6 | TS1109 2..3 | end
+parse_expr | script | f(...[...]) | refused: WithLabel 9..10 (WithLabel 9..10 (TS1109 9..10)) | none | 9..10
+parse_expr | script | a[ | refused: Eof 2..2 | none | end
+parse_expr | script | a[b | refused: Eof 3..3 | none | end
+parse_expr | script | a.# | refused: Eof 3..3 | none | end
+parse_expr | script | f(a | refused: Eof 3..3 | none | end
+parse_expr | script | f(a, | refused: Eof 4..4 | none | end
+parse_expr | script | a@0..1 .@1..2 E(Lex)@2..3 b@4..5 | refused: Lex 2..3 | none | 4..5
+parse_expr | script | f@0..1 (@1..2 a@2..3 E(Lex)@4..5 b@6..7 | refused: Lex 4..5 | none | 6..7
+parse_expr | script | a/@0..1 | refused: TS1109 0..1 | none | end
+parse_expr | script | a/@0..1 /x/@0..3 | /x/ 0..3 | none | end
+parse_expr | script | a/=@0..2 /=x/@0..4 | /=x/ 0..4 | none | end
+parse_expr | script | a/@0..1 /x/@1..3 | /x/ 0..3 | none | end
+parse_expr | script | a/@0..1 a@2..3 | refused: TS1109 0..1 | none | 2..3
+parse_expr | script | a/@0..1 E(Lex)@2..3 b@4..5 | refused: Lex 2..3 | none | 4..5
+parse_expr | script slashes | /a/g | /a/g 0..4 | none | end
+parse_expr | script slashes | /=/.test(b) | Call(Member(/=/, .test), [b]) 0..11 | none | end
+parse_expr | script slashes | [/=/, a] | Array[/=/, a] 0..8 | none | end
+parse_expr | script slashes | f(/a/, ...[/b/gi]) | Call(f, [/a/, ...Array[/b/gi]]) 0..18 | none | end
+parse_expr | script slashes | {a: /b/} | Object{a: /b/} 0..8 | none | end
+parse_expr | script slashes | new /a/.b(/c/) | New(Member(/a/, .b), [/c/]) 0..14 | none | end
+parse_expr | script slashes | b / c | Bin(/, b, c) 0..5 | none | end
+parse_expr | script slashes | a / b / c | Bin(/, Bin(/, a, b), c) 0..9 | none | end
+parse_expr | script slashes | a\n/b/g | Bin(/, Bin(/, a, b), g) 0..6 | none | end
+parse_expr | script slashes | a / /b/ / c | Bin(/, Bin(/, a, /b/), c) 0..11 | none | end
+parse_expr | script slashes | (/a/) / /b/ | Bin(/, Paren(/a/), /b/) 0..11 | none | end
+parse_unary_expr; parse_expr | script slashes | /a/ /b/ | /a/ 0..3; /b/ 4..7 | none | end
+parse_expr | script slashes | /a/gg | /a/gg 0..5 | DuplicatedRegExpFlags 0..5 g | end
+parse_expr | script slashes | * /a/ | Bin(*, Invalid, /a/) 0..5 | TS1109 0..1 | end
+parse_expr | script slashes | - /a/ ** b | refused: UnaryInExp 6..8 | none | 9..10
+parse_expr | script slashes | / | refused: TS1109 0..1 | none | end
+parse_expr | script slashes | / a | refused: TS1109 0..1 | none | 2..3
+parse_expr | script | `\u` | refused: Lex 1..2 | none | 3..4
+parse_expr | script | f`\u` | Tagged(f, Tpl(`\u`)) 0..5 | none | end
+parse_expr | script | `a${b}` | Tpl(`a`, b, ``) 0..7 | none | end
+parse_expr | script | a?.b | OptChain(true, Member(a, .b)) 0..4 | none | end
+parse_expr | script | a?.b c | OptChain(true, Member(a, .b)) 0..4 | none | 5..6
+parse_expr | script | a ? b | a 0..1 | none | 2..3
+parse_expr | script | new a.b(c).d | Member(New(Member(a, .b), [c]), .d) 0..12 | none | end
+parse_expr | script | new a b | New(a, -) 0..5 | none | 6..7
+parse_unary_expr | script | new a ** b | New(a, -) 0..5 | none | 6..8
+parse_expr; at_end | script | new a?.b.c() d | refused: OptChainCannotFollowConstructorCall 4..10; false | none | 10..11
+parse_expr; parse_expr | script failing | a | refused: OutOfMemory 1..1; refused: ParserFailed 0..1 | none | refused: ParserFailed 0..1
+parse_expr; parse_expr | script failing | a. | refused: OutOfMemory 2..2; refused: ParserFailed 1..2 | none | refused: ParserFailed 1..2
+parse_expr; parse_expr | script failing | a.# | refused: OutOfMemory 3..3; refused: ParserFailed 2..3 | none | refused: ParserFailed 2..3
+parse_expr; parse_expr | script failing | a[b | refused: OutOfMemory 3..3; refused: ParserFailed 2..3 | none | refused: ParserFailed 2..3
+parse_expr; parse_expr | script failing | f( | refused: OutOfMemory 2..2; refused: ParserFailed 1..2 | none | refused: ParserFailed 1..2
+parse_expr; parse_expr | script failing | f(a, | refused: OutOfMemory 4..4; refused: ParserFailed 3..4 | none | refused: ParserFailed 3..4
+parse_expr | script hook_records | class (function)[class] | Member(Call(Class<0>, [Fn<0>]), [Class<0>]) 0..23 | TS1005 0..5, TS1005 7..15, TS1005 17..22 | end
+parse_expr; parse_bin_expr | script without_in hook_refuses | f(class b in c | refused: Unexpected 2..7 {; b 8..9 | none | 10..12
+parse_expr; parse_bin_expr | script without_in hook_refuses | a[class b in c | refused: Unexpected 2..7 {; b 8..9 | none | 10..12
+parse_expr; parse_expr | script hook_wants_memory | f(class | refused: OutOfMemory 7..7; refused: ParserFailed 2..7 | none | refused: ParserFailed 2..7
+found_module_item; parse_expr; found_module_item | module | import.meta | false; import.meta 0..11; true | none | end
+parse_expr; found_module_item; parse_expr; found_module_item | script | import.x a | refused: Unexpected 9..10 meta; true; a 9..10; true | none | end
+parse_expr; found_module_item | script | import(a) | Call(import, [a]) 0..9; false | none | end
+parse_args(false) | script | (a) | a 1..2 | none | end
+parse_args(false) | script | () b | none | none | 3..4
+parse_args(false) | script without_in | (a in b, ...c, ) in d | Bin(in, a, b) 1..7, ...c 12..13 | none | 17..19
+parse_args(false); count_nodes; parse_expr_id; count_nodes | script | (a(b)) c | Call(a, [b]) 1..5; 0; c 7..8; 1 | none | end
+parse_args(false); parse_args(false) | script | (a b) | refused: Expected 3..4 ,; refused: Expected 3..4 ( | none | 3..4
+parse_args(false) | script | (, | refused: TS1109 1..2 | none | 1..2
+parse_args(false) | script | a | refused: Expected 0..1 ( | none | 0..1
+parse_args(false) | script |  | refused: Eof 0..0 | none | end
+parse_args(false) | script | (...) | refused: WithLabel 4..5 (TS1109 4..5) | none | 4..5
+parse_args(false) | script | (+) | Unary(+, Invalid) 1..1 | TS1109 2..3 | end
+parse_args(false); parse_args(false) | script failing | (a, | refused: OutOfMemory 3..3; refused: ParserFailed 2..3 | none | refused: ParserFailed 2..3
+parse_args(true) | script | (a, ...b) c | a 1..2, ...b 7..8 | none | 10..11
+parse_args(true) | script | (a,) | refused: TrailingCommaInsideImport 0..3 | none | 3..4
+parse_args(true) | script attributes | (a, b,) | a 1..2, b 4..5 | none | end
+parse_args(true) | script |  | refused: Eof 0..0 | none | end
+parse_expr; at_end | script method | super.x | SuperProp(.x) 0..7; true | none | end
+parse_expr | script super_anywhere | super.x | SuperProp(.x) 0..7 | none | end
+parse_expr | script method without_in | super[a in b](c).d | Member(Call(SuperProp([Bin(in, a, b)]), [c]), .d) 0..18 | none | end
+parse_expr | script method | new super.x(a) | New(SuperProp(.x), [a]) 0..14 | none | end
+parse_expr | script method | super.#x | refused: InvalidSuperCall 7..8 | none | end
+parse_expr | script | super.#x | refused: InvalidSuper 7..8 | none | end
+parse_expr | script | super[a] b | refused: InvalidSuper 7..8 | none | 9..10
+parse_expr | script method | super?.x | refused: InvalidSuper 7..8 | none | end
+parse_expr | script method | super?.[x] | refused: InvalidSuper 9..10 | none | end
+parse_expr | script method | new super?.x | refused: InvalidSuperCall 11..12 | none | end
+parse_expr | script method | super?.(a) | refused: SuperCallOptional 9..10 | none | end
+parse_expr | script method | super a | refused: InvalidSuper 6..7 | none | 6..7
+parse_expr | script method | new super(a) | refused: InvalidSuperCall 9..10 | none | 9..10
+parse_expr | script attributes | import(a,) | Call(import, [a]) 0..10 | none | end
+parse_expr; found_module_item | script | import(a,) b | refused: TrailingCommaInsideImport 6..9; false | none | 9..10
+parse_tpl(false) | script | `x` | Tpl(`x`) 0..3 | none | end
+parse_tpl(true) | script | `a${b}` c | Tpl(`a`, b, ``) 0..7 | none | 8..9
+parse_tpl(false) | script without_in | `${a in b}${c}` in d | Tpl(``, Bin(in, a, b), ``, c, ``) 0..15 | none | 16..18
+parse_tpl(false) | script | `\u` | refused: Lex 1..2 | none | 3..4
+parse_tpl(true) | script | `\u` | Tpl(`\u`) 0..4 | none | end
+parse_tpl(false); count_nodes; parse_expr_id; count_nodes | script | `${a + b}` c | Tpl(``, Bin(+, a, b), ``) 0..10; 0; c 11..12; 1 | none | end
+parse_tpl(false) | script | a | refused: Expected 0..1 ` | none | 0..1
+parse_tpl(true) | script |  | refused: Eof 0..0 | none | end
+parse_tpl(false); parse_tpl(true) | script failing |  | refused: OutOfMemory 0..0; refused: ParserFailed 0..0 | none | refused: ParserFailed 0..0
 parse_prop_name | script | a | a 0..1 | none | end
 parse_prop_name | script | if | if 0..2 | none | end
 parse_prop_name | script | 1n b | 1n 0..2 | none | 3..4
@@ -209,9 +323,14 @@ fn call_part<I: Tokens>(
     call: &str,
 ) -> Result<(), Fail> {
     match call {
+        "parse_args(false)" => show(out, parser.parse_args(false))?,
+        "parse_args(true)" => show(out, parser.parse_args(true))?,
+        "parse_tpl(false)" => show(out, parser.parse_tpl(false))?,
+        "parse_tpl(true)" => show(out, parser.parse_tpl(true))?,
         "parse_prop_name" => show(out, parser.parse_prop_name())?,
         "parse_object_prop" => show(out, parser.parse_object_prop())?,
         "make_object" => make_object(parser, out, None)?,
+        "found_module_item" => parser.found_module_item().show(out)?,
         "parse_formal_params" => show(out, parser.parse_formal_params())?,
         "parse_unique_formal_params" => show(out, parser.parse_unique_formal_params())?,
         _ => call_name(parser, out, call)?,
@@ -313,6 +432,9 @@ fn outcome<I: Tokens>(alloc: Global, tested: &mut Tested<I>, calls: &str) -> Res
 }
 
 fn found(alloc: Global, row: Row<'_>, numbers: bool) -> Result<String, Fail> {
+    if row.setting.ends_with("slashes") {
+        return run(alloc, slashes_of(alloc, row)?, row, numbers);
+    }
     let source = source_of(alloc, row)?;
     if row.setting.ends_with("failing") {
         run(alloc, FailingInput::new(source), row, numbers)

@@ -88,7 +88,125 @@ show_expr | expr script | {a?} | Object{a}\nTS1162 2..3\n | 1
 show_expr | expr script | {set a() {}} | Object{Setter(a, Invalid, <2>)}\nSetterParam 5..6\nSetterParam 5..6\n | 1
 show_expr | expr script | {set a(b) {}} | refused: Expected 7..8 )\n | 2
 show_expr | expr script | {set, set(){}, set: 1} | Object{set, Method(set, [], <2>), set: 1}\n | 0
-show_expr | expr script | {set a( | refused: Eof 7..7\nSetterParam 5..6\n | 2";
+show_expr | expr script | {set a( | refused: Eof 7..7\nSetterParam 5..6\n | 2
+show_expr | expr script | a.b.c | Member(Member(a, .b), .c)\n | 0
+show_expr | expr script | a.#b | Member(a, .#b)\n | 0
+show_expr | expr script | a.# b | refused: SpaceBetweenHashAndIdent 2..3\n | 2
+show_expr | expr script | a.if | Member(a, .if)\n | 0
+show_expr | expr script | a. | refused: Eof 2..2\n | 2
+show_expr | expr script | a.) | refused: ExpectedIdent 2..3\n | 2
+show_expr | expr script | a.+ b | Bin(+, Invalid, b)\nTS1109 2..3\n | 1
+show_expr | expr script | a.1 | a\nunread\n | 0
+show_expr | expr script | a[b] | Member(a, [b])\n | 0
+show_expr | expr script | a[b c] | refused: Expected 4..5 ]\n | 2
+show_expr | expr script | a[b, c] | refused: Expected 3..4 ]\n | 2
+show_expr | expr script | a[] | refused: TS1109 2..3\n | 2
+show_expr | expr script | f() | Call(f, [])\n | 0
+show_expr | expr script | f(...a, b) | Call(f, [...a, b])\n | 0
+show_expr | expr script | f(a,) | Call(f, [a])\n | 0
+show_expr | expr script | f(,) | refused: TS1109 2..3\n | 2
+show_expr | expr script | f(a, , b) | refused: TS1109 5..6\n | 2
+show_expr | expr script | f(a b) | refused: Expected 4..5 ,\n | 2
+show_expr | expr script | f( | refused: Eof 2..2\n | 2
+show_expr | expr script | f(...) | refused: WithLabel 5..6 (TS1109 5..6)\n | 2
+show_expr | expr script | f({a = 1}) | Call(f, [Object{a = 1}])\n | 0
+show_expr | expr script | ({a = 1}).b | Member(Paren(Object{a = 1}), .b)\nAssignProperty 2..7\n | 1
+show_expr | expr script | a(b)(c).d | Member(Call(Call(a, [b]), [c]), .d)\n | 0
+show_expr | expr script | class {}.a[function () {}()] | Member(Member(Class<3>, .a), [Call(Fn<5>, [])])\n | 0
+show_expr | expr script | -a.b ** c | refused: UnaryInExp 5..7\n | 2
+show_expr | expr script | (-a).b ** c\n(d) | Bin(**, Member(Paren(Unary(-, a)), .b), Call(c, [d]))\n | 0
+show_expr | expr module | delete a.b | Unary(delete, Member(a, .b))\n | 0
+show_expr | expr module | a.let(let) | Call(Member(a, .let), [let])\nInvalidIdentInStrict 6..9 let\nInvalidIdentInStrict 6..9 let\n | 1
+show_expr | expr script | a?.b | OptChain(true, Member(a, .b))\n | 0
+show_expr | expr script | a?.b.c | OptChain(false, Member(OptChain(true, Member(a, .b)), .c))\n | 0
+show_expr | expr script | a?.(b)[c] | OptChain(false, Member(OptChain(true, Call(a, [b])), [c]))\n | 0
+show_expr | expr script | a?.#b | OptChain(true, Member(a, .#b))\n | 0
+show_expr | expr script | a?.[b]() | OptChain(false, Call(OptChain(true, Member(a, [b])), []))\n | 0
+show_expr | expr script | a?.b?.c | OptChain(true, Member(OptChain(true, Member(a, .b)), .c))\n | 0
+show_expr | expr script | (a?.b).c | Member(Paren(OptChain(true, Member(a, .b))), .c)\n | 0
+show_expr | expr script | a ? . b | OptChain(true, Member(a, .b))\n | 0
+show_expr | expr script | a?.5 | a\nunread\n | 0
+show_expr | expr script | a ? b | a\nunread\n | 0
+show_expr | expr script | a? | a\nunread\n | 0
+show_expr | expr script | a?. | refused: Eof 3..3\n | 2
+show_expr | expr script | a?.) | refused: ExpectedIdent 3..4\n | 2
+show_expr | expr script | new a | New(a, -)\n | 0
+show_expr | expr script | new a() | New(a, [])\n | 0
+show_expr | expr script | new a(1) | New(a, [1])\n | 0
+show_expr | expr script | new a.b | New(Member(a, .b), -)\n | 0
+show_expr | expr script | new a.b() | New(Member(a, .b), [])\n | 0
+show_expr | expr script | new a[b](c) | New(Member(a, [b]), [c])\n | 0
+show_expr | expr script | new a()() | Call(New(a, []), [])\n | 0
+show_expr | expr script | new a().b | Member(New(a, []), .b)\n | 0
+show_expr | expr script | new new a(1)(2).b | Member(New(New(a, [1]), [2]), .b)\n | 0
+show_expr | expr script | new new a | New(New(a, -), -)\n | 0
+show_expr | expr script | new new a() | New(New(a, []), -)\n | 0
+show_expr | expr script | new (a())() | New(Paren(Call(a, [])), [])\n | 0
+show_expr | expr script | new a()?.b | OptChain(true, Member(New(a, []), .b))\n | 0
+show_expr | expr script | new (a?.b)() | New(Paren(OptChain(true, Member(a, .b))), [])\n | 0
+show_expr | expr script | new a?.b | refused: OptChainCannotFollowConstructorCall 4..8\n | 2
+show_expr | expr script | new a?.b.c() | refused: OptChainCannotFollowConstructorCall 4..10\n | 2
+show_expr | expr script | new | refused: TS1109 0..3\n | 2
+show_expr | expr script | new a( | refused: Eof 6..6\n | 2
+show_expr | expr script | new a(,) | refused: TS1109 6..7\n | 2
+show_expr | expr script | -new a ** b | refused: UnaryInExp 7..9\n | 2
+show_expr | expr script | new.target | new.target\nInvalidNewTarget 0..10\n | 1
+show_expr | expr generator | new.target | new.target\n | 0
+show_expr | expr generator | new.target.a() | Call(Member(new.target, .a), [])\n | 0
+show_expr | expr generator | new new.target | New(new.target, -)\n | 0
+show_expr | expr script | new.foo | refused: Unexpected 4..7 target\n | 2
+show_expr | expr script | new. | refused: Eof 4..4\n | 2
+show_expr | expr script | `x` | Tpl(`x`)\n | 0
+show_expr | expr script | `` | Tpl(``)\n | 0
+show_expr | expr script | `a${b}c${d}` | Tpl(`a`, b, `c`, d, ``)\n | 0
+show_expr | expr script | `${a}${b}` | Tpl(``, a, ``, b, ``)\n | 0
+show_expr | expr script | `a${`b${c}`}` | Tpl(`a`, Tpl(`b`, c, ``), ``)\n | 0
+show_expr | expr script | `${{a: 1}.a}` | Tpl(``, Member(Object{a: 1}, .a), ``)\n | 0
+show_expr | expr script | `${a in b}` | Tpl(``, Bin(in, a, b), ``)\n | 0
+show_expr | expr script | `${a b}` | refused: Expected 5..6 }\n | 2
+show_expr | expr script | `${}` | refused: TS1109 3..4\n | 2
+show_expr | expr script | a`x` | Tagged(a, Tpl(`x`))\n | 0
+show_expr | expr script | a`x`.b`${c}` | Tagged(Member(Tagged(a, Tpl(`x`)), .b), Tpl(``, c, ``))\n | 0
+show_expr | expr script | new a`x`(b) | New(Tagged(a, Tpl(`x`)), [b])\n | 0
+show_expr | expr script | a?.b`x` | Tagged(OptChain(true, Member(a, .b)), Tpl(`x`))\nTaggedTplInOptChain 0..7\n | 1
+show_expr | expr script | new a.b(c)?.d[`x${e}y`] | OptChain(false, Member(OptChain(true, Member(New(Member(a, .b), [c]), .d)), [Tpl(`x`, e, `y`)]))\n | 0
+show_expr | expr script | super.x | refused: InvalidSuper 6..7\n | 2
+show_expr | expr script | super(a, ...b) | Call(super, [a, ...b])\n | 0
+show_expr | expr script | super().a`x` | Tagged(Member(Call(super, []), .a), Tpl(`x`))\n | 0
+show_expr | expr script | super | refused: InvalidSuper 0..5\n | 2
+show_expr | expr script | super`x` | refused: InvalidSuper 5..6\n | 2
+show_expr | expr script | new super | refused: InvalidSuperCall 4..9\n | 2
+show_expr | expr script | import(a, b, c) | Call(import, [a, b, c])\n | 0
+show_expr | expr script | import(a).b(c) | Call(Member(Call(import, [a]), .b), [c])\n | 0
+show_expr | expr script | import(a,) | refused: TrailingCommaInsideImport 6..9\n | 2
+show_expr | expr script | import.source(a).b | Member(Call(import.source, [a]), .b)\n | 0
+show_expr | expr script | import.source(a,) | refused: TrailingCommaInsideImport 13..16\n | 2
+show_expr | expr script | import.source.meta | refused: Expected 13..14 (\n | 2
+show_expr | expr script | import.meta | import.meta\nImportMetaInScript 0..11\n | 1
+show_expr | expr module | import.meta | import.meta\n | 0
+show_expr | expr module | new import.meta.a() | New(Member(import.meta, .a), [])\n | 0
+show_expr | expr script | import x | refused: Expected 7..8 (\n | 2
+show_expr | expr script | import.x | refused: Eof 8..8\n | 2
+show_expr | expr script | import.x y | refused: Unexpected 9..10 meta\n | 2
+show_expr | expr script | import?.(a) | refused: Expected 6..7 (\n | 2
+show_expr | expr script | import | refused: Eof 6..6\n | 2
+show_expr | expr script | new import(a) | refused: InvalidImport 10..11\n | 2
+show_expr | expr script | new import.source(a) | refused: InvalidImport 17..18\n | 2
+show_expr | expr script | new import x | refused: Expected 11..12 (\n | 2
+show_expr | expr script | new import | refused: Eof 10..10\n | 2
+show_expr | expr script | `\u` | refused: Lex 1..2\n | 2
+show_expr | expr script | a`\u` | Tagged(a, Tpl(`\u`))\n | 0
+show_expr | expr script | /a/ | /a/\n | 0
+show_expr | expr script | /a/gg | /a/gg\nDuplicatedRegExpFlags 0..5 g\n | 1
+show_expr | expr script | /a/gigi | /a/gigi\nDuplicatedRegExpFlags 0..7 g\n | 1
+show_expr | expr script | /a/x | /a/x\nUnknownRegExpFlags 0..4\n | 1
+show_expr | expr script | /a/xx | /a/xx\nUnknownRegExpFlags 0..5\n | 1
+show_expr | expr script | /a/xgg | /a/xgg\nUnknownRegExpFlags 0..6\nDuplicatedRegExpFlags 0..6 g\n | 1
+show_expr | expr script | /a/dgimsuvy | /a/dgimsuvy\n | 0
+show_expr | expr script | /a/g.test(b) | Call(Member(/a/g, .test), [b])\n | 0
+show_expr | expr script | a / b / c | Bin(/, Bin(/, a, b), c)\n | 0
+show_expr | expr script | a + /b/ / c | Bin(+, a, Bin(/, /b/, c))\n | 0
+show_expr | expr script | [/=]/, /[/]/] | Array[/=]/, /[/]/]\n | 0";
 
 /// Gives some bytes, and then ends, or fails.
 #[derive(Drop)]

@@ -24,6 +24,8 @@ pub(crate) fn setting_of(words: &str) -> Option<(Context, Syntax)> {
     for word in words.split(' ') {
         match word {
             "no_early_errors" => syntax.early_errors = false,
+            "attributes" => syntax.import_attributes = true,
+            "super_anywhere" => syntax.allow_super_outside_method = true,
             _ => set(&mut context, word)?,
         }
     }
@@ -33,7 +35,7 @@ pub(crate) fn setting_of(words: &str) -> Option<(Context, Syntax)> {
 /// Changes what the word says.
 fn set(context: &mut Context, word: &str) -> Option<()> {
     match word {
-        "script" | "failing" => {}
+        "script" | "failing" | "slashes" => {}
         "strict" => context.strict = true,
         "module" => {
             context.module = true;
@@ -43,6 +45,7 @@ fn set(context: &mut Context, word: &str) -> Option<()> {
         "generator" => context.in_generator = true,
         "async" => context.in_async = true,
         "without_in" => context.include_in_expr = false,
+        "method" => context.allow_direct_super = true,
         "ignore_error" => context.ignore_error = true,
         _ => {
             TestBodies::named(word)?;

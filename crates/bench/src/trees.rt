@@ -1,7 +1,8 @@
 // Trees, by number and in boxes.
 use crate::hooks::TestBodies;
 use crate::shown::Shown;
-use std::alloc::AllocError;
+use std::alloc::{AllocError, Global};
+use swc_ast::expr::{ExprOrSpread, Tpl};
 use swc_ast::function::Param;
 use swc_ast::lit::Lit;
 use swc_ast::prop::{ComputedPropName, Prop, PropName, PropOrSpread};
@@ -10,10 +11,10 @@ use swc_bodies::bodies::ExprOf;
 use swc_context::span::Span;
 use swc_ecma_parser::parser::{Parser, PatOf};
 use swc_input::tokens::Tokens;
-use swc_nodes::node::ExprId;
+use swc_nodes::node::{ExprId, Node};
 use swc_nodes::nodes::Nodes;
 use swc_print::print::PrintNodes;
-use swc_trees::letting_go::{let_go_params, let_go_prop};
+use swc_trees::letting_go::{let_go_args, let_go_exprs, let_go_params, let_go_prop};
 use swc_trees::putting::put_expr;
 
 fn show_id(
@@ -106,4 +107,74 @@ impl Shown for Vec<Param<PatOf<TestBodies>>> {
             _ => write!(out, "{count}"),
         }
     }
+}
+
+/// Each argument, with its dots and the place of its expression.
+impl Shown for Vec<ExprOrSpread<Box<ExprOf<TestBodies>>>> {
+    fn show(mut self, out: &mut String) -> Result<(), AllocError> {
+        let mut shown = match self.len() {
+            0 => out.push_str("none"),
+            _ => Ok(()),
+        };
+        self.reverse();
+        let mut before = "";
+        while let Some(ExprOrSpread { spread, expr }) = self.pop() {
+            let dots = if spread.is_some() { "..." } else { "" };
+            let begun = write!(out, "{before}{dots}");
+            let written = expr.show(out);
+            shown = shown.and(begun).and(written);
+            before = ", ";
+        }
+        let_go_args(self);
+        shown
+    }
+}
+
+/// A template's expressions are moved into nodes, and it is shown as theirs.
+impl Shown for Tpl<Box<ExprOf<TestBodies>>> {
+    fn show(self, out: &mut String) -> Result<(), AllocError> {
+        let alloc = *out.allocator();
+        let mut nodes = Nodes::new(alloc);
+        let Tpl {
+            span,
+            exprs,
+            quasis,
+        } = self;
+        let exprs = put_exprs(&mut nodes, alloc, exprs)?;
+        let node = Node::Tpl(Tpl {
+            span,
+            exprs,
+            quasis,
+        });
+        if !nodes.is_apart(&node) {
+            return out.push_str("no template");
+        }
+        let id = ExprId(nodes.push(node)?);
+        show_id(out, &nodes, id)
+    }
+}
+
+/// Moves expressions into nodes, in their order.
+fn put_exprs(
+    nodes: &mut Nodes<Span, Span, Span>,
+    alloc: Global,
+    mut exprs: Vec<Box<ExprOf<TestBodies>>>,
+) -> Result<Vec<ExprId>, AllocError> {
+    let mut ids = Ok(Vec::new(alloc));
+    exprs.reverse();
+    while let Some(expr) = exprs.pop() {
+        let id = put_expr(nodes, alloc, expr);
+        ids = with_id(ids, id);
+    }
+    let_go_exprs(exprs);
+    ids
+}
+
+fn with_id(
+    ids: Result<Vec<ExprId>, AllocError>,
+    id: Result<ExprId, AllocError>,
+) -> Result<Vec<ExprId>, AllocError> {
+    let mut ids = ids?;
+    ids.push(id?)?;
+    Ok(ids)
 }

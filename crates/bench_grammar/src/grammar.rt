@@ -1,16 +1,21 @@
 // The lists of tokens that the standard's productions derive, with their trees.
 use std::alloc::{AllocError, Global};
 
-/// The productions of ECMA-262, 13.1, 13.2, 13.5 to 13.13, and 15.4 to 15.8, a line each: a symbol, what it is made of,
-/// and its tree, in which `_` stands for the tree of each symbol in turn, and `$` for the number of tokens of what this
-/// production makes. One without a tree has no `->`. Behind `unless` stand the modes in which there is no such
+/// The productions of ECMA-262, 13.1 to 13.3, 13.5 to 13.13, and 15.4 to 15.8, a line each: a symbol, what it is made
+/// of, and its tree, in which `_` stands for the tree of each symbol in turn, and `$` for the number of tokens of what
+/// this production makes. One without a tree has no `->`. Behind `unless` stand the modes in which there is no such
 /// production. Behind `within` stands how many more tokens a whole list with it has at least: where that makes it
 /// longer than any that is asked for, it isn't derived. A production that makes a symbol of another alone stands below
 /// those of the other.
 ///
 /// `Whole` is an expression, where `in` is an operator but in the mode `without-in`. The symbols
 /// `..NoIn` stand for those without it. `# Name` is an operand, which the standard has left of `in`
-/// alone. So far `async` is no operand by itself, and no method has parameters, so that there is no setter.
+/// alone. So far `async` and `await` are no operands by themselves, and no method has parameters,
+/// so that there is no setter.
+///
+/// The texts of templates are empty, and what stands between their expressions is one token; so is a template without
+/// an expression. No list has braces, functions or classes beside them: what ends a template ends with a backquote,
+/// and behind a brace that one would begin another template.
 ///
 /// Blocks, functions and classes are as the hook reads them, which looks at brackets alone: within a block at braces,
 /// and before the block of a function or a class at all of them, where any that closes may close any that opens. `Any`
@@ -46,6 +51,9 @@ Head = Head Group -> _ within 2
 Reference = a -> a
 Reference = get -> get
 Reference = set -> set
+Reference = target -> target
+Reference = meta -> meta
+Reference = source -> source
 Reference = let -> let unless module
 Reference = yield -> yield unless module strict generator
 Reference = implements -> implements unless module strict
@@ -53,6 +61,12 @@ Name = a -> a
 Name = async -> async
 Name = get -> get
 Name = set -> set
+Name = target -> target
+Name = meta -> meta
+Name = source -> source
+Name = new -> new
+Name = super -> super
+Name = import -> import
 Name = function -> function
 Name = class -> class
 Name = in -> in
@@ -79,8 +93,49 @@ Other = Object -> _
 Other = Head Block -> _<$>
 Other = ( Expression ) -> Paren(_)
 Other = # Name -> #_
+Template = `` -> Tpl(``)
+Template = `${ Substitutions }` -> Tpl(``, _, ``)
+Other = Template -> _
 Primary = Reference -> _
 Primary = Other -> _
+Arguments = ( ) -> []
+Arguments = ( List ) -> [_]
+Arguments = ( List , ) -> [_]
+Link = Member [ Expression ] -> Member(_, [_])
+Link = Member . Name -> Member(_, ._)
+Link = Member . # Name -> Member(_, .#_)
+Link = Member Template -> Tagged(_, _)
+Link = new Member Arguments -> New(_, _)
+Link = new . target -> new.target unless script module strict without-in
+Link = import . meta -> import.meta unless script strict generator async without-in
+Imported = ( ) -> []
+Imported = ( List ) -> [_]
+Call = super Arguments -> Call(super, _)
+Call = import Imported -> Call(import, _)
+Call = import . source Imported -> Call(import.source, _)
+Call = Member Arguments -> Call(_, _)
+Call = Call Arguments -> Call(_, _)
+Call = Call [ Expression ] -> Member(_, [_])
+Call = Call . Name -> Member(_, ._)
+Call = Call . # Name -> Member(_, .#_)
+Call = Call Template -> Tagged(_, _)
+Member = Primary -> _
+Member = Link -> _
+New = new Member -> New(_, -)
+New = new New -> New(_, -)
+Optional = Chained ? . Name -> OptChain(true, Member(_, ._))
+Optional = Chained ? . # Name -> OptChain(true, Member(_, .#_))
+Optional = Chained ? . [ Expression ] -> OptChain(true, Member(_, [_]))
+Optional = Chained ? . Arguments -> OptChain(true, Call(_, _))
+Optional = Optional . Name -> OptChain(false, Member(_, ._))
+Optional = Optional . # Name -> OptChain(false, Member(_, .#_))
+Optional = Optional [ Expression ] -> OptChain(false, Member(_, [_]))
+Optional = Optional Arguments -> OptChain(false, Call(_, _))
+Chained = Member -> _
+Chained = Call -> _
+Chained = Optional -> _
+LeftHandSide = Chained -> _
+LeftHandSide = New -> _
 Prefixed = + Unary -> Unary(+, _)
 Prefixed = - Unary -> Unary(-, _)
 Prefixed = ~ Unary -> Unary(~, _)
@@ -89,11 +144,15 @@ Prefixed = void Unary -> Unary(void, _)
 Prefixed = typeof Unary -> Unary(typeof, _)
 Prefixed = delete Prefixed -> Unary(delete, _)
 Prefixed = delete Other -> Unary(delete, _)
+Prefixed = delete Link -> Unary(delete, _)
+Prefixed = delete Call -> Unary(delete, _)
+Prefixed = delete New -> Unary(delete, _)
+Prefixed = delete Optional -> Unary(delete, _)
 Prefixed = delete Reference -> Unary(delete, _) unless module
-Unary = Primary -> _
+Unary = LeftHandSide -> _
 Unary = Prefixed -> _
 Power = Unary -> _
-Power = Primary ** Power -> Bin(**, _, _)
+Power = LeftHandSide ** Power -> Bin(**, _, _)
 Product = Power -> _
 Product = Product * Power -> Bin(*, _, _)
 Product = Product / Power -> Bin(/, _, _)
@@ -135,6 +194,8 @@ Expression = Coalesce -> _
 Elision = , -> -
 Elision = Elision , -> _, -
 Spread = ... Expression -> ..._
+Substitutions = Expression -> _
+Substitutions = Substitutions }${ Expression -> _, ``, _
 Elements = Expression -> _
 Elements = Elision Expression -> _, _
 Elements = Spread -> _
@@ -143,6 +204,10 @@ Elements = Elements , Expression -> _, _
 Elements = Elements , Elision Expression -> _, _, _
 Elements = Elements , Spread -> _, _
 Elements = Elements , Elision Spread -> _, _, _
+List = Expression -> _
+List = Spread -> _
+List = List , Expression -> _, _
+List = List , Spread -> _, _
 Key = Name -> _
 Key = 1 -> 1
 Key = [ Expression ] -> [_]
@@ -150,6 +215,7 @@ Open = a -> a
 Open = async -> async
 Open = get -> get
 Open = set -> set
+Open = target -> target
 Open = let -> let unless module strict
 Open = yield -> yield unless module strict generator
 Open = implements -> implements unless module strict

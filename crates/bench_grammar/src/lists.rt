@@ -10,69 +10,108 @@ use swc_context::context::Context;
 ///
 /// These numbers were counted apart, by tests/count_lists.py.
 const LISTS: &str = "\
-a 1 + * ?? || && ( ) in - ! delete ** # let yield implements | script | 0 5 26 309 2442
-a 1 + * ?? || && ( ) in - ! delete ** # let yield implements | module | 0 2 13 86 631
-a 1 + * ?? || && ( ) in - ! delete ** # let yield implements | strict | 0 3 18 147 1146
-a 1 + * ?? || && ( ) in - ! delete ** # let yield implements | generator | 0 4 22 220 1734
-a 1 + * ?? || && ( ) in - ! delete ** # let yield implements | async | 0 5 26 309 2442
-a - delete ** # let yield implements ( ) | script | 0 4 13 62 249 1074
-a - delete ** # let yield implements ( ) | module | 0 1 6 15 55 189
-a - delete ** # let yield implements ( ) | strict | 0 2 9 28 113 408
-a - delete ** # let yield implements ( ) | generator | 0 3 11 43 175 683
-a - delete ** # let yield implements ( ) | async | 0 4 13 62 249 1074
-a + - ! * ** ?? && ( ) | script | 0 1 3 16 66 305
-a + - ! * ** ?? && ( ) | module | 0 1 3 16 66 305
-a + - ! * ** ?? && ( ) | strict | 0 1 3 16 66 305
-a + - ! * ** ?? && ( ) | generator | 0 1 3 16 66 305
-a + - ! * ** ?? && ( ) | async | 0 1 3 16 66 305
-a - delete ** # ( ) | script | 0 1 4 11 36 111 350
-a - delete ** # ( ) | module | 0 1 3 9 28 84 259
-a - delete ** # ( ) | strict | 0 1 4 11 36 111 350
-a - delete ** # ( ) | generator | 0 1 4 11 36 111 350
-a - delete ** # ( ) | async | 0 1 4 11 36 111 350
-a 1 + * ?? || && ( ) in | script | 0 2 2 28 54 410
-a 1 + * ?? || && ( ) in | without-in | 0 2 2 24 46 302
-a ?? || ( ) | script | 0 1 0 3 0 9 0 31
-a ?? && ( ) | script | 0 1 0 3 0 9 0 31
-a * in ( ) | script | 0 1 0 3 0 11 0 45
-a * in ( ) | without-in | 0 1 0 2 0 6 0 22
-a * ** ( ) | script | 0 1 0 3 0 11 0 45
-a - ** ( ) | script | 0 1 1 4 6 19 36 103
+a 1 + * ?? || && ( ) in - ! delete ** # let yield implements | script | 0 5 26 314 2493
+a 1 + * ?? || && ( ) in - ! delete ** # let yield implements | module | 0 2 13 88 649
+a 1 + * ?? || && ( ) in - ! delete ** # let yield implements | strict | 0 3 18 150 1173
+a 1 + * ?? || && ( ) in - ! delete ** # let yield implements | generator | 0 4 22 224 1772
+a 1 + * ?? || && ( ) in - ! delete ** # let yield implements | async | 0 5 26 314 2493
+a - delete ** # let yield implements ( ) | script | 0 4 13 66 278 1280
+a - delete ** # let yield implements ( ) | module | 0 1 6 16 63 223
+a - delete ** # let yield implements ( ) | strict | 0 2 9 30 126 484
+a - delete ** # let yield implements ( ) | generator | 0 3 11 46 195 816
+a - delete ** # let yield implements ( ) | async | 0 4 13 66 278 1280
+a + - ! * ** ?? && ( ) | script | 0 1 3 17 70 335
+a + - ! * ** ?? && ( ) | module | 0 1 3 17 70 335
+a + - ! * ** ?? && ( ) | strict | 0 1 3 17 70 335
+a + - ! * ** ?? && ( ) | generator | 0 1 3 17 70 335
+a + - ! * ** ?? && ( ) | async | 0 1 3 17 70 335
+a - delete ** # ( ) | script | 0 1 4 12 41 134 454
+a - delete ** # ( ) | module | 0 1 3 10 33 106 353
+a - delete ** # ( ) | strict | 0 1 4 12 41 134 454
+a - delete ** # ( ) | generator | 0 1 4 12 41 134 454
+a - delete ** # ( ) | async | 0 1 4 12 41 134 454
+a 1 + * ?? || && ( ) in | script | 0 2 2 30 60 474
+a 1 + * ?? || && ( ) in | without-in | 0 2 2 26 52 358
+a ?? || ( ) | script | 0 1 0 4 1 16 12 70
+a ?? && ( ) | script | 0 1 0 4 1 16 12 70
+a * in ( ) | script | 0 1 0 4 1 18 12 90
+a * in ( ) | without-in | 0 1 0 3 1 11 10 49
+a * ** ( ) | script | 0 1 0 4 1 18 12 90
+a - ** ( ) | script | 0 1 1 5 8 29 63 198
 a * + << < == & ^ | && | script | 0 1 1 10 19 109
-a + - * / % ** << >> >>> ( ) | script | 0 1 2 14 46 237
+a + - * % ** << >> >>> ( ) | script | 0 1 2 14 45 232
 a < > <= >= instanceof in == != === !== | script | 0 1 0 10 0 100
 a < in == & ^ | ?? && || | without-in | 0 1 0 8 0 60
 a ~ ! void typeof delete + - ** | script | 0 1 7 52 378 2753
-a [ ] , ... | script | 0 1 1 2 5 12 31 83 227
-a this [ ] , ... | script | 0 2 1 3 8 21 61
-a in * + ** [ ] , ( ) | script | 0 1 2 9 27 107
-a in [ ] , ... ( ) | without-in | 0 1 1 3 6 18 48
-a ?? || && - [ ] , ... | script | 0 1 2 8 26 91
-a let # - delete this [ ] , ... | module | 0 2 8 23 85 316
-a let # - delete this [ ] , ... | strict | 0 3 11 35 139 543
+a [ ] , ... | script | 0 1 1 2 6 14 37 104 290
+a this [ ] , ... | script | 0 2 1 3 12 25 78
+a in * + ** [ ] , ( ) | script | 0 1 2 10 31 132
+a in [ ] , ... ( ) | without-in | 0 1 1 4 9 30 92
+a ?? || && - [ ] , ... | script | 0 1 2 8 27 95
+a let # - delete this [ ] , ... | module | 0 2 8 23 89 350
+a let # - delete this [ ] , ... | strict | 0 3 11 35 148 609
 a { } , : = | script | 0 1 1 1 1 3 5 9
 a { } , ... | script | 0 1 1 1 2 3 5 9
 a in 1 this { } : , | script | 0 3 1 10 7 47
-a { } [ ] , : ... | script | 0 1 2 3 8 21
+a { } [ ] , : ... | script | 0 1 2 3 9 25
 a { } , : = ?? || - | module | 0 1 2 6 16 44
 a in { } : = + | without-in | 0 1 2 4 7 17
-a { } ( ) : in | without-in | 0 1 1 2 1 5
-a { } ( ) | script | 0 1 1 2 1 2 1 3 4
-a get { } ( ) | script | 0 2 1 4 1 4 1 6 11
-a set { } ( ) | script | 0 2 1 4 1 4 1 6 9
-get { } ( ) [ ] | script | 0 1 2 3 4 6 8 13 22 58 218
-async * { } ( ) | script | 0 0 1 1 1 2 3 6 14 40
-async get * a { } ( ) , | script | 0 2 1 9 8 47 55 264
-async get set function class * ( ) { } : , a this [ ] | script | 0 4 2 31 82
-function a { } ( ) | script | 0 1 1 3 7 34 161
-async function { } ( ) | script | 0 0 1 2 8 39 193
+a { } ( ) : in | without-in | 0 1 1 3 3 11
+a { } ( ) | script | 0 1 1 3 3 8 13 29 60
+a get { } ( ) | script | 0 2 1 6 6 16 37 70 196
+a set { } ( ) | script | 0 2 1 6 6 16 37 70 194
+get { } ( ) [ ] | script | 0 1 2 4 8 20 48 125
+async * { } ( ) | script | 0 0 1 1 2 3 7 13 32 77
+async get * a { } ( ) , | script | 0 2 1 11 13 72 142 569
+async get set function class * ( ) { } : , a this [ ] | script | 0 4 2 35 116
+function a { } ( ) | script | 0 1 1 4 9 41 181
+async function { } ( ) | script | 0 0 1 2 9 41 204
 class a { } | script | 0 1 1 2 4 13 40 122
 class function ( [ ] { } | module | 0 0 2 2 16 90
-get set { } ( ) : , | module | 0 2 1 4 3 12 13 48
+get set { } ( ) : , | module | 0 2 1 6 8 28 63 185
 let yield async implements { } , | script | 0 3 1 4 4 16
 let yield async implements { } , | module | 0 0 1 1 1 1
 let yield async implements { } , | strict | 0 1 1 1 1 1
 let yield async implements { } , | generator | 0 2 1 3 3 9
+";
+
+/// The same of left-hand sides: links, `new`, `super`, `import` and templates.
+const LEFT_HAND_SIDES: &str = "\
+a . # [ ] ( ) | script | 0 1 2 4 11 26 72 191
+a . [ ] ( ) , ... | script | 0 1 1 5 10 36 103
+a in . [ ] ( ) + | without-in | 0 1 2 8 20 74
+a let - delete ** . # ( ) | module | 0 1 4 15 61 219
+a let yield . ( ) | strict | 0 2 0 10 4 50
+a let yield . ( ) | generator | 0 2 0 10 4 50
+function class a . { } ( ) | script | 0 1 1 8 26 200
+a { } . : ( ) , | script | 0 1 1 4 5 17 30 91
+a let - delete . [ ] ( ) | module | 0 1 2 11 34 137
+a ?? || . ( ) , | script | 0 1 0 5 1 26 16
+a new ( ) . , | script | 0 1 1 5 7 26 50
+a new [ ] ( ) ... | script | 0 1 2 5 13 35
+a new - ** ( ) # | script | 0 1 4 11 36 116
+a new . target ( ) | generator | 0 2 2 13 19 80 171
+a new . target ( ) | script | 0 2 2 12 18 74 160
+a new { } ( ) : | script | 0 1 2 5 9 22 49
+a class new . { } ( ) | script | 0 1 2 9 26 145
+a ? . # ( ) [ ] | script | 0 1 2 4 12 30 86
+a new ? . ( ) | script | 0 1 1 5 9 26 64 164
+a ? ?? . , [ ] ( ) | script | 0 1 1 6 12 48
+a in ? . [ ] ( ) | without-in | 0 1 1 5 9 34
+a let delete new ? . `` | module | 0 2 5 19 59 157
+a let delete new ? . `` | strict | 0 3 9 30 90 237
+a `` `${ }` }${ | script | 0 2 2 4 10 26 72
+a in `${ }` }${ [ ] | without-in | 0 1 1 2 4 11
+a new `` `${ }` . ( ) | script | 0 2 4 16 50 176
+a ? . `` `${ }` }${ | script | 0 2 2 6 16 40
+a super ( ) . new | script | 0 1 1 7 9 41 77
+import ( ) , a ... | script | 0 1 0 3 2 9 16 44
+import . source ( ) a | script | 0 2 0 11 6 56 87 310
+import . meta new ( ) | module | 0 1 1 8 10 47 87 303
+import . meta ( ) a | script | 0 2 0 11 6 55 85
+super import ( ) ? . | script | 0 0 0 2 0 8 8 34
+import new [ ] ( ) , | script | 0 0 1 3 6 18 47 136
+super import ( ) `` - ** | script | 0 1 2 9 25 86 282
 ";
 
 /// The lists of one token more.
@@ -176,12 +215,22 @@ fn agree(
     Ok(())
 }
 
-#[test]
-fn reads_what_the_productions_derive(rt: HostRuntime) -> Result<(), AllocError> {
-    for line in LISTS.lines() {
+/// On the rows of a table the parser and the productions have to agree.
+fn agree_in(rt: &impl Abort, alloc: Global, rows: &'static str) -> Result<(), AllocError> {
+    for line in rows.lines() {
         let (front, counts) = line.rsplit_once(" | ").unwrap_or((line, ""));
         let (tokens, mode) = front.rsplit_once(" | ").unwrap_or((front, ""));
-        agree(&rt, rt.alloc(), tokens, mode, counts)?;
+        agree(rt, alloc, tokens, mode, counts)?;
     }
     Ok(())
+}
+
+#[test]
+fn reads_what_the_productions_derive(rt: HostRuntime) -> Result<(), AllocError> {
+    agree_in(&rt, rt.alloc(), LISTS)
+}
+
+#[test]
+fn reads_left_hand_sides(rt: HostRuntime) -> Result<(), AllocError> {
+    agree_in(&rt, rt.alloc(), LEFT_HAND_SIDES)
 }

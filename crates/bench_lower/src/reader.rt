@@ -31,15 +31,8 @@ null/b | word null 0..4, binary / 4..5, name b 5..6
 ++/b | sign ++ 0..2, binary / 2..3, name b 3..4
 --/b | sign -- 0..2, binary / 2..3, name b 3..4
 a/=b/c | name a 0..1, assign /= 1..3, name b 3..4, binary / 4..5, name c 5..6
-/b/ | refused: Lex 0..1
-/= | refused: Lex 0..1
-typeof /b/ | refused: Lex 7..8
-a = /b/ | refused: Lex 4..5
-(/b/) | refused: Lex 1..2
-a * /=b/ | refused: Lex 4..5
 a \u0061 | refused: Lex 2..3
 a\0 | refused: Lex 1..2
-x`a` | refused: Lex 1..2
  \v\f\ta | name a 4..5
 a\rb\nc | name a 0..1, ^name b 2..3, ^name c 4..5
 a//b | name a 0..1
@@ -61,7 +54,7 @@ a/*\n*//*b*/c | name a 0..1, ^name c 11..12
 /* b */ | none
 /* * / */a | name a 9..10
 /*a*/b/*c*/ | name b 5..6
-a/*b*/c*/d | refused: Lex 8..9
+a/*b*/c*/d | refused: Lex 10..10
 a/*//*/b | name a 0..1, name b 7..8
 /*'*/a' | refused: Lex 7..7
 1/*a*//b | number 1 0..1, binary / 6..7, name b 7..8
@@ -70,8 +63,6 @@ a/*//*/b | name a 0..1, name b 7..8
 /** | refused: Lex 3..3
 a/*/b | refused: Lex 5..5
 a /* b * / | refused: Lex 10..10
-/*a*/ /b/ | refused: Lex 6..7
-a = //\n/b/ | refused: Lex 7..8
 1.5 | number 1.5 0..3
 12. | number 12. 0..3
  .5 | number .5 1..3
@@ -189,6 +180,111 @@ f("a") | name f 0..1, sign ( 1..2, string "a" [a] 2..5, sign ) 5..6
 'a' é | refused: Lex 4..5
 a \80 | refused: Lex 2..3"#;
 
+/// Texts with templates and regular expressions, and their tokens, as above. A text of a template is
+/// shown as it is written and with what it means, each in brackets, or with the fault of its first
+/// bad escape; a regular expression with its flags.
+const TEMPLATES_AND_REGEXPS: &str =
+    r#"x`a` | name x 0..1, sign ` 1..2, template [a] [a] 2..3, sign ` 3..4
+`` | sign ` 0..1, template [] [] 1..1, sign ` 1..2
+`x${e}y` | sign ` 0..1, template [x] [x] 1..2, sign ${ 2..4, name e 4..5, sign } 5..6, template [y] [y] 6..7, sign ` 7..8
+`${e}` | sign ` 0..1, template [] [] 1..1, sign ${ 1..3, name e 3..4, sign } 4..5, template [] [] 5..5, sign ` 5..6
+`${}${}` | sign ` 0..1, template [] [] 1..1, sign ${ 1..3, sign } 3..4, template [] [] 4..4, sign ${ 4..6, sign } 6..7, template [] [] 7..7, sign ` 7..8
+`a${`b${c}d`}e` | sign ` 0..1, template [a] [a] 1..2, sign ${ 2..4, sign ` 4..5, template [b] [b] 5..6, sign ${ 6..8, name c 8..9, sign } 9..10, template [d] [d] 10..11, sign ` 11..12, sign } 12..13, template [e] [e] 13..14, sign ` 14..15
+`${{a}}}` | sign ` 0..1, template [] [] 1..1, sign ${ 1..3, sign { 3..4, name a 4..5, sign } 5..6, sign } 6..7, template [}] [}] 7..8, sign ` 8..9
+`${{{}}}` | sign ` 0..1, template [] [] 1..1, sign ${ 1..3, sign { 3..4, sign { 4..5, sign } 5..6, sign } 6..7, sign } 7..8, template [] [] 8..8, sign ` 8..9
+`${{`}`}}` | sign ` 0..1, template [] [] 1..1, sign ${ 1..3, sign { 3..4, sign ` 4..5, template [}] [}] 5..6, sign ` 6..7, sign } 7..8, sign } 8..9, template [] [] 9..9, sign ` 9..10
+{`a`}b | sign { 0..1, sign ` 1..2, template [a] [a] 2..3, sign ` 3..4, sign } 4..5, name b 5..6
+{`${a}`} | sign { 0..1, sign ` 1..2, template [] [] 2..2, sign ${ 2..4, name a 4..5, sign } 5..6, template [] [] 6..6, sign ` 6..7, sign } 7..8
+}`a` | sign } 0..1, sign ` 1..2, template [a] [a] 2..3, sign ` 3..4
+`a``b` | sign ` 0..1, template [a] [a] 1..2, sign ` 2..3, sign ` 3..4, template [b] [b] 4..5, sign ` 5..6
+`$a{}$` | sign ` 0..1, template [$a{}$] [$a{}$] 1..6, sign ` 6..7
+`$${a}` | sign ` 0..1, template [$] [$] 1..2, sign ${ 2..4, name a 4..5, sign } 5..6, template [] [] 6..6, sign ` 6..7
+`//a/*` | sign ` 0..1, template [//a/*] [//a/*] 1..6, sign ` 6..7
+` a ` | sign ` 0..1, template [ a ] [ a ] 1..4, sign ` 4..5
+`'"` | sign ` 0..1, template ['"] ['"] 1..3, sign ` 3..4
+`a\nb`\nc | sign ` 0..1, template [a<10>b] [a<10>b] 1..4, sign ` 4..5, ^name c 6..7
+`\n${\na\n}\n` | sign ` 0..1, template [<10>] [<10>] 1..2, sign ${ 2..4, ^name a 5..6, ^sign } 7..8, template [<10>] [<10>] 8..9, sign ` 9..10
+a\n`b` | name a 0..1, ^sign ` 2..3, template [b] [b] 3..4, sign ` 4..5
+\n`b` | sign ` 1..2, template [b] [b] 2..3, sign ` 3..4
+`${/*\n*/a}` | sign ` 0..1, template [] [] 1..1, sign ${ 1..3, ^name a 8..9, sign } 9..10, template [] [] 10..10, sign ` 10..11
+`\5cn\5ct\5cr\5cb\5cf\5cv` | sign ` 0..1, template [\n\t\r\b\f\v] [<10><9><13><8><12><11>] 1..13, sign ` 13..14
+`\`\${a\5c\5c` | sign ` 0..1, template [\`\${a\\] [`${a\] 1..9, sign ` 9..10
+`$\{a` | sign ` 0..1, template [$\{a] [${a] 1..5, sign ` 5..6
+`\5cN\'\"` | sign ` 0..1, template [\N\'\"] [N'"] 1..7, sign ` 7..8
+`\5c0` | sign ` 0..1, template [\0] (Lex 1..2) 1..3, sign ` 3..4
+`a\5cx41b\5cu` | sign ` 0..1, template [a\x41b\u] (Lex 2..3) 1..9, sign ` 9..10
+`\5cu0041` | sign ` 0..1, template [\u0041] (Lex 1..2) 1..7, sign ` 7..8
+`\5c9\5cn` | sign ` 0..1, template [\9\n] (Lex 1..2) 1..5, sign ` 5..6
+`\5cn\5c9` | sign ` 0..1, template [\n\9] (Lex 3..4) 1..5, sign ` 5..6
+`a\5c\nb` | sign ` 0..1, template [a\<10>b] (Lex 2..3) 1..5, sign ` 5..6
+`\5c7${a}b` | sign ` 0..1, template [\7] (Lex 1..2) 1..3, sign ${ 3..5, name a 5..6, sign } 6..7, template [b] [b] 7..8, sign ` 8..9
+`a\rb` | refused: Lex 2..3
+`\r\n` | refused: Lex 1..2
+`a\5c\r` | refused: Lex 3..4
+`\5c0\r` | refused: Lex 3..4
+` | refused: Lex 1..1
+`a | refused: Lex 2..2
+`a\5c | refused: Lex 3..3
+`a\` | refused: Lex 4..4
+`$ | refused: Lex 2..2
+`${ | refused: Lex 3..3
+`${a | refused: Lex 4..4
+`${a \n | refused: Lex 6..6
+`${a} | refused: Lex 5..5
+`${a}b | refused: Lex 6..6
+`${{} | refused: Lex 5..5
+`${`a` | refused: Lex 6..6
+`${`a`} | refused: Lex 7..7
+``` | refused: Lex 3..3
+`${\5c}` | refused: Lex 3..4
+`${'a}` | refused: Lex 7..7
+/b/ | regexp [b] [] 0..3
+/= | refused: Lex 2..2
+typeof /b/ | keyword typeof 0..6, regexp [b] [] 7..10
+return/b/ | keyword return 0..6, regexp [b] [] 6..9
+in/b/ | keyword in 0..2, regexp [b] [] 2..5
+a = /b/ | name a 0..1, assign = 2..3, regexp [b] [] 4..7
+(/b/) | sign ( 0..1, regexp [b] [] 1..4, sign ) 4..5
+a * /=b/ | name a 0..1, binary * 2..3, regexp [=b] [] 4..8
+/*a*/ /b/ | regexp [b] [] 6..9
+a = //\n/b/ | name a 0..1, assign = 2..3, ^regexp [b] [] 7..10
+`${/}/}` | sign ` 0..1, template [] [] 1..1, sign ${ 1..3, regexp [}] [] 3..6, sign } 6..7, template [] [] 7..7, sign ` 7..8
+`${a}/b/` | sign ` 0..1, template [] [] 1..1, sign ${ 1..3, name a 3..4, sign } 4..5, template [/b/] [/b/] 5..8, sign ` 8..9
+`a`/b | sign ` 0..1, template [a] [a] 1..2, sign ` 2..3, binary / 3..4, name b 4..5
+`a`/=b | sign ` 0..1, template [a] [a] 1..2, sign ` 2..3, assign /= 3..5, name b 5..6
+/b/g_1$ | regexp [b] [g_1$] 0..7
+/b/ g | regexp [b] [] 0..3, name g 4..5
+/b/g/c | regexp [b] [g] 0..4, binary / 4..5, name c 5..6
+/b/ /=c | regexp [b] [] 0..3, assign /= 4..6, name c 6..7
+/b/g, /c/ | regexp [b] [g] 0..4, sign , 4..5, regexp [c] [] 6..9
+/[/]/ | regexp [[/]] [] 0..5
+/[a/]b]c/ | regexp [[a/]b]c] [] 0..9
+/[[/]/ | regexp [[[/]] [] 0..6
+/]/ | regexp []] [] 0..3
+/\// | regexp [\/] [] 0..4
+/\5c\5c/ | regexp [\\] [] 0..4
+/[\]/]/ | regexp [[\]/]] [] 0..7
+/\[/ | regexp [\[] [] 0..4
+/a\5cnb/ | regexp [a\nb] [] 0..6
+/'`"{/ | regexp ['`"{] [] 0..6
+/ \t/ | regexp [ <9>] [] 0..4
+true/b | word true 0..4, binary / 4..5, name b 5..6
+false/b | word false 0..5, binary / 5..6, name b 6..7
+a\n/b/g | name a 0..1, ^binary / 2..3, name b 3..4, binary / 4..5, name g 5..6
+a/b/c | name a 0..1, binary / 1..2, name b 2..3, binary / 3..4, name c 4..5
+/ | refused: Lex 1..1
+/b | refused: Lex 2..2
+/b\5c/ | refused: Lex 4..4
+/b\5c | refused: Lex 3..3
+/[/ | refused: Lex 3..3
+/[b/c | refused: Lex 5..5
+/b\n/ | refused: Lex 2..3
+/b\r/ | refused: Lex 2..3
+/\5c\n/ | refused: Lex 2..3
+/\5c\r/ | refused: Lex 2..3
+/[\n]/ | refused: Lex 2..3
+/b/\5cu | refused: Lex 3..4"#;
+
 /// Texts that are one token each, by its kind.
 const SIGNS: &str = "\
 sign: => # @ . ... ! ( ) [ ] { } ; , : ? ++ -- ~
@@ -247,6 +343,8 @@ fn kind_and_text(token: &Token) -> (&'static str, &str) {
         Token::Num { raw } => ("number", raw.as_str()),
         Token::BigInt { raw } => ("big", raw.as_str()),
         Token::Str { raw, .. } => ("string", raw.as_str()),
+        Token::Template { .. } => ("template", ""),
+        Token::Regex(_, _) => ("regexp", ""),
         Token::BinOp(operator) => ("binary", BinaryOp::from(*operator).as_str()),
         Token::AssignOp(operator) => ("assign", operator.as_str()),
         sign => ("sign", sign_text(sign)),
@@ -270,6 +368,8 @@ fn sign_text(token: &Token) -> &'static str {
         Token::RBrace => "}",
         Token::Semi => ";",
         Token::Comma => ",",
+        Token::BackQuote => "`",
+        Token::DollarLBrace => "${",
         Token::Colon => ":",
         Token::QuestionMark => "?",
         Token::PlusPlus => "++",
@@ -279,7 +379,7 @@ fn sign_text(token: &Token) -> &'static str {
     }
 }
 
-/// Writes a string's value in brackets, and what isn't printed in it by its number.
+/// Writes a text in brackets, and what isn't printed in it by its number.
 fn show_value(out: &mut String, value: &str) -> Result<(), AllocError> {
     out.push_str(" [")?;
     for byte in value.bytes() {
@@ -291,13 +391,33 @@ fn show_value(out: &mut String, value: &str) -> Result<(), AllocError> {
     out.push_str("]")
 }
 
+/// Writes the texts of a token that aren't how it is written as a whole.
+fn show_texts(out: &mut String, token: &Token) -> Result<(), AllocError> {
+    match token {
+        Token::Str { value, .. } => show_value(out, value.as_str()),
+        Token::Template { raw, cooked } => {
+            show_value(out, raw.as_str())?;
+            match cooked {
+                Ok(value) => show_value(out, value.as_str()),
+                Err(fault) => write!(out, " ({fault})"),
+            }
+        }
+        Token::Regex(body, flags) => {
+            show_value(out, body.as_str())?;
+            show_value(out, flags.as_str())
+        }
+        _ => Ok(()),
+    }
+}
+
 /// Writes a token, with its kind and its place.
 fn show_token(out: &mut String, found: &TokenAndSpan) -> Result<(), AllocError> {
     let (kind, text) = kind_and_text(&found.token);
-    write!(out, "{kind} {text}")?;
-    if let Token::Str { value, .. } = &found.token {
-        show_value(out, value.as_str())?;
+    out.push_str(kind)?;
+    if !text.is_empty() {
+        write!(out, " {text}")?;
     }
+    show_texts(out, &found.token)?;
     write!(out, " {}", found.span)
 }
 
@@ -330,7 +450,7 @@ fn read(alloc: Global, bytes: &[u8]) -> Result<String, AllocError> {
 
 #[test]
 fn texts_with_their_tokens(rt: HostRuntime) -> Result<(), Fail> {
-    for line in TOKENS.lines() {
+    for line in TOKENS.lines().chain(TEMPLATES_AND_REGEXPS.lines()) {
         let (text, wanted) = line.split_once(" | ").ok_or(line)?;
         let bytes = bytes_of(rt.alloc(), text)?;
         expect(line, &read(rt.alloc(), &bytes)?, wanted)?;
@@ -344,6 +464,32 @@ fn each_sign(rt: HostRuntime) -> Result<(), Fail> {
         let (kind, texts) = line.split_once(": ").ok_or(line)?;
         for text in texts.split(' ') {
             let wanted = format!(in rt.alloc(); "{kind} {text} 0..{}", text.len())?;
+            expect(line, &read(rt.alloc(), text.as_bytes())?, &wanted)?;
+        }
+    }
+    Ok(())
+}
+
+/// What is read of `/=b/`, from a place on, behind a sign.
+fn slash_behind(alloc: Global, sign: &str) -> Result<String, AllocError> {
+    let at = sign.len();
+    let (two, three, four) = (at + 2, at + 3, at + 4);
+    if matches!(sign, ")" | "]" | "}" | "++" | "--") {
+        return format!(in alloc;
+            "assign /= {at}..{two}, name b {two}..{three}, binary / {three}..{four}"
+        );
+    }
+    format!(in alloc; "regexp [=b] [] {at}..{four}")
+}
+
+#[test]
+fn slashes_behind_signs(rt: HostRuntime) -> Result<(), Fail> {
+    for line in SIGNS.lines() {
+        let (kind, texts) = line.split_once(": ").ok_or(line)?;
+        for sign in texts.split(' ') {
+            let text = format!(in rt.alloc(); "{sign}/=b/")?;
+            let behind = slash_behind(rt.alloc(), sign)?;
+            let wanted = format!(in rt.alloc(); "{kind} {sign} 0..{}, {behind}", sign.len())?;
             expect(line, &read(rt.alloc(), text.as_bytes())?, &wanted)?;
         }
     }

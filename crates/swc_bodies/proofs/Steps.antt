@@ -1,6 +1,6 @@
 -- How a body is taken from a buffer, a step at a time.
 use Rattle.std.specs.Prelude.{codes}
-use Rattle.std.proofs.Common.{◌≡◌, ◌≢◌, ◌≤◌, ◌⊎◌, inl, inr, Bool, true, false, List, [], ◌∷◌, ◌++◌, Option, Some, None, Ok, Err, IsSome, length, map, min, max, refl, sym, ap, ◌∙◌, subst, arith, length-append, append_assoc}
+use Rattle.std.proofs.Common.{◌≡◌, ◌≢◌, ◌<◌, ◌≤◌, ◌⊎◌, inl, inr, Bool, true, false, List, [], ◌∷◌, ◌++◌, Option, Some, None, Ok, Err, IsSome, length, map, min, max, refl, sym, ap, ◌∙◌, subst, arith, length-append, append_assoc}
 use Rattle.swc_context.specs.declared.context.Context.{Context}
 use Rattle.swc_context.specs.declared.error.Error.{Error}
 use Rattle.swc_context.specs.declared.error.SyntaxError.{SyntaxError}
@@ -15,7 +15,7 @@ use Rattle.swc_input.specs.declared.token.Token.TheVariants as token
 use Rattle.swc_input.specs.declared.token.TokenAndSpan.{TokenAndSpan}
 use Rattle.swc_input.specs.Plain.{plain, plain_token}
 use Rattle.swc_input.specs.Source.{Model, Laws, given_one}
-use Rattle.swc_input.specs.Buffer.{Read, Lives, Looked, Known, Future, current, source, last_position}
+use Rattle.swc_input.specs.Buffer.{Read, Lives, Looked, Known, Future, current, source, last_position, to_come}
 use Rattle.swc_input.specs.Kinds.{at_token}
 use Rattle.swc_input.specs.Recording.{Refused, refusal, unfit, no_memory}
 use Rattle.swc_input.specs.Laws.{Read-then, Read-late, Read-same, Refused-read, Known-after, Future-current, Future-end, Known-Future, Looked-lives}
@@ -104,6 +104,7 @@ pub record SoFar {S : Type 0} (model : Model S) (b : Buffer S) (first : Place) (
   pub all : List TokenAndSpan
   pub some : 1 ≤ length all
   pub read : Read model b all i
+  pub less : to_come model i < to_come model b
   pub lives : Lives model b i
   -- over a listed source nothing was recorded
   pub quiet : (m : List TokenAndSpan) → (model.state (source b)).known ≡ Some m → (model.state (source i)).errors ≡ (model.state (source b)).errors
@@ -113,12 +114,13 @@ pub record SoFar {S : Type 0} (model : Model S) (b : Buffer S) (first : Place) (
 module _ {S : Type 0} {model : Model S} (laws : Laws model) where
   -- the first token was taken and kept
   pub started : (b : Buffer S) (first : Place) (from : BytePos) (t : TokenAndSpan) (c : Buffer S) (items : List TokenAndSpan) →
-      current b ≡ Some t → from ≡ t.span.lo → Read model b (plain t ∷ []) c → source c ≡ source b → last_position c ≡ t.span.hi → items ≡ kept [] t →
+      current b ≡ Some t → from ≡ t.span.lo → Read model b (plain t ∷ []) c → to_come model c < to_come model b → source c ≡ source b → last_position c ≡ t.span.hi → items ≡ kept [] t →
       SoFar model b first from c first items
-  started b first from t c items at lo read same last is = record {
+  started b first from t c items at lo read less same last is = record {
     all = plain t ∷ [];
     some = omega arith;
     read = read;
+    less = less;
     lives = λ f. subst (λ s. (model.state s).failed ≡ true) same f;
     quiet = λ m known. ap (λ s. (model.state s).errors) same;
     reads = λ begins begun-so ctx other.
@@ -134,6 +136,7 @@ module _ {S : Type 0} {model : Model S} (laws : Laws model) where
     all = s.all ++ plain t ∷ [];
     some = let a = s.some in let l = length-append s.all (plain t ∷ []) in omega arith;
     read = Read-then laws b i k s.all (plain t ∷ []) s.read (Read-late laws i j k (plain t ∷ []) g.looked.look.read read);
+    less = let a = s.less in let l = g.looked.look.read.lower in let m = read.lower in omega arith;
     lives = λ f.
         let here : (model.state (source j)).failed ≡ true = subst (λ x. (model.state x).failed ≡ true) same f in
         s.lives (g.looked.lives (goes-some i p q j g) here);
@@ -157,6 +160,7 @@ module _ {S : Type 0} {model : Model S} (laws : Laws model) where
     taken = s.all ++ xs;
     some = let a = s.some in let l = length-append s.all xs in omega arith;
     read = Read-then laws b i c s.all xs s.read read;
+    less = let a = s.less in let l = read.lower in omega arith;
     clean = λ loud same. tt;
     refused = own;
     lives = λ ne f. s.lives (lives ne f);
@@ -197,6 +201,7 @@ module _ {S : Type 0} {model : Model S} (laws : Laws model) where
     taken = s.all;
     some = s.some;
     read = s.read;
+    less = s.less;
     clean = λ loud same rest future.
         s.reads begins so (model.state (source b)).context rest ∙ ap (λ q. taken_on from rest q (map plain items) (last_position i)) end
         ∙ taken-end from rest (map plain items) (last_position i) ∙ ap (λ w. read w rest) (sym is);

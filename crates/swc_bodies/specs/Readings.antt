@@ -1,5 +1,5 @@
 -- What a hook reads: the bodies that the parser doesn't look into.
-use Rattle.std.specs.Prelude.{◌≡◌, ◌≢◌, ◌≤◌, Bool, true, false, not, ◌&&◌, ◌||◌, List, [], ◌∷◌, ◌++◌, Option, Some, None, Result, IfOk, IfErr, MatchResult, codes, length, refl}
+use Rattle.std.specs.Prelude.{◌≡◌, ◌≢◌, ◌<◌, ◌≤◌, Bool, true, false, not, ◌&&◌, ◌||◌, List, [], ◌∷◌, ◌++◌, Option, Some, None, Result, IfOk, IfErr, MatchResult, codes, length, refl}
 use Rattle.swc_context.specs.Spans.{between}
 use Rattle.swc_context.specs.Texts.{is_text}
 use Rattle.swc_context.specs.declared.context.Context.{Context}
@@ -13,7 +13,7 @@ use Rattle.swc_input.specs.declared.token.Token.{Token}
 use Rattle.swc_input.specs.declared.token.Token.TheVariants as token
 use Rattle.swc_input.specs.declared.token.TokenAndSpan.{TokenAndSpan}
 use Rattle.swc_input.specs.Source.{Model}
-use Rattle.swc_input.specs.Buffer.{Read, Lives, Future, Known, source}
+use Rattle.swc_input.specs.Buffer.{Read, Lives, Future, Known, source, to_come}
 use Rattle.swc_input.specs.Recording.{is_silent}
 
 abbrev pub is_function : Token → Bool
@@ -107,12 +107,14 @@ abbrev pub Loud : {S : Type 0} → Model S → Buffer S → Type 0
 Loud model b = is_silent (model.state (source b)) ≡ false
 
 module _ {S V : Type 0} (model : Model S) where
-  -- A call of a hook, from b to c, that answered r: it took a token at least. Where faults are recorded, and it answers a value and
-  -- records none, the value is what the reading gives, whatever comes after. Where the source fails, want of memory is refused.
+  -- A call of a hook, from b to c, that answered r: it took a token at least, and fewer are to come. Where faults are recorded, and it
+  -- answers a value and records none, the value is what the reading gives, whatever comes after. Where the source fails, want of memory
+  -- is refused.
   pub record Hooked (reads : Reading V) (b : Buffer S) (r : Result V Error) (c : Buffer S) : Type 0 where
     pub taken : List TokenAndSpan
     pub some : 1 ≤ length taken
     pub read : Read model b taken c
+    pub less : to_come model c < to_come model b
     pub clean : Loud model b → (model.state (source c)).errors ≡ (model.state (source b)).errors → IfOk r (λ v. (rest : List TokenAndSpan)
         → Future model c rest → reads (model.state (source b)).context (taken ++ rest) ≡ Some (v, rest))
     pub refused : IfErr r (λ e. e.kind ≢ ParserFailed)

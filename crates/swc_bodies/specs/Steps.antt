@@ -1,5 +1,5 @@
 -- The steps by which a body is taken from a buffer.
-use Rattle.std.specs.Prelude.{◌≡◌, ◌≢◌, ◌⊎◌, ℕ, List, [], ◌∷◌, Option, Some, None, Result, MatchResult, codes}
+use Rattle.std.specs.Prelude.{◌≡◌, ◌≢◌, ◌⊎◌, ℕ, ◌<◌, List, [], ◌∷◌, Option, Some, None, Result, MatchResult, codes}
 use Rattle.swc_context.specs.declared.error.Error.{Error}
 use Rattle.swc_context.specs.declared.error.SyntaxError.{SyntaxError}
 use Rattle.swc_context.specs.declared.error.SyntaxError.TheVariants.{OutOfMemory, ParserFailed, Unexpected}
@@ -7,7 +7,7 @@ use Rattle.swc_input.specs.declared.buffer.Buffer.{Buffer}
 use Rattle.swc_input.specs.declared.token.TokenAndSpan.{TokenAndSpan}
 use Rattle.swc_input.specs.Plain.{plain}
 use Rattle.swc_input.specs.Source.{Model}
-use Rattle.swc_input.specs.Buffer.{Read, ReadSome, Lives, Looked, Known, current, source, last_position}
+use Rattle.swc_input.specs.Buffer.{Read, ReadSome, Lives, Looked, Known, current, source, last_position, to_come}
 use Rattle.swc_input.specs.Recording.{Refused, no_memory, unfit}
 use Rattle.swc_bodies.specs.declared.place.Place.{Place}
 use Rattle.swc_bodies.specs.Keeping.{kept}
@@ -30,6 +30,7 @@ module _ {S : Type 0} (model : Model S) where
     pub token : TokenAndSpan
     pub current : current b ≡ Some token
     pub read : Read model b (plain token ∷ []) c
+    pub less : to_come model c < to_come model b
     pub same : source c ≡ source b
     pub last : last_position c ≡ token.span.hi
     pub kept : MatchResult r (λ u. us ≡ kept ts token) (λ e. e ≡ no_memory (last_position c))

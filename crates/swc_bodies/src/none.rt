@@ -1,9 +1,9 @@
 // The hook that reads nothing.
-ghost use Rattle.std.specs.Prelude.{◌≡◌, ◌≢◌, ◌≤◌, ◌∷◌, [], List, IsSome, length};
+ghost use Rattle.std.specs.Prelude.{◌≡◌, ◌≢◌, ◌<◌, ◌≤◌, ◌∷◌, [], List, IsSome, length};
 ghost use Rattle.swc_context.specs.declared.error.SyntaxError.TheVariants.{ParserFailed};
 ghost use Rattle.swc_input.specs.declared.token.TokenAndSpan.{TokenAndSpan};
 ghost use Rattle.swc_input.specs.Plain.{plain};
-ghost use Rattle.swc_input.specs.Buffer.{current, Read, Lives};
+ghost use Rattle.swc_input.specs.Buffer.{current, to_come, Read, Lives};
 
 use crate::bodies::{Bodies, BodyForms};
 use swc_context::error::{Error, PResult, SyntaxError};
@@ -32,6 +32,7 @@ impl BodyForms for NoBodies {
 fn refuse_body<I: Tokens>(input: &mut Buffer<I>) -> Error
     requires { IsSome (current input.old) }
     ensures read { (t : TokenAndSpan) × (current input.old ≡ Some t) × Read I.model input.old (plain t ∷ []) input.new }
+    ensures falls { to_come I.model input.new < to_come I.model input.old }
     ensures refused { result.kind ≢ ParserFailed }
     ensures lives { Lives I.model input.old input.new }
 {

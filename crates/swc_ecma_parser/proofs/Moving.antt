@@ -1,23 +1,32 @@
 -- The tree of an answer is moved out of the nodes, and the nodes that were made are cut off.
-use Rattle.std.proofs.Common.{◌≡◌, ℕ, Bool, Result, Ok, Err, Some, IfOk, MatchResult, refl, sym, subst, ◌∙◌, arith}
+use Rattle.std.proofs.Common.{◌≡◌, ℕ, Bool, List, [], ◌∷◌, Option, None, Result, Ok, Err, Some, IfOk, MatchResult, refl, sym, ap, subst, ◌∙◌, arith}
 use Rattle.swc_context.specs.declared.error.Error.{Error}
 use Rattle.swc_input.specs.declared.buffer.Buffer.{Buffer}
-use Rattle.std.proofs.Common.{List}
+use Rattle.swc_context.specs.declared.span.Span.{Span}
 use Rattle.swc_input.specs.Source.{Model}
 use Rattle.swc_input.specs.Buffer.{last_position}
 use Rattle.swc_input.specs.Recording.{no_memory}
-use Rattle.swc_ast.specs.Tree.{Tree}
+use Rattle.swc_ast.specs.Parts.{item_of, item_trees, args_tree, tpl_tree}
+use Rattle.swc_ast.specs.Tree.{Tree, node, args, no_span}
+use Rattle.swc_ast.specs.declared.expr.ExprOrSpread.{ExprOrSpread}
+use Rattle.swc_ast.specs.declared.expr.Tpl.{Tpl}
 use Rattle.swc_ast.specs.declared.spanned.Spanned.{Ghosts}
-use Rattle.swc_grammar.specs.Trees.{unmarked}
+use Rattle.swc_grammar.specs.Trees.{unmarked, all_unmarked}
+use Rattle.swc_grammar.specs.Words.{◌>>=◌}
 use Rattle.swc_nodes.specs.Slots.{Part, expr_part}
-use Rattle.swc_nodes.specs.Stands.{count, seat_at, Apart, From, Grows, CutTo, SameNodes}
+use Rattle.swc_nodes.specs.Stands.{count, seat_at, tree_at, bare_at, Apart, From, Grows, CutTo, SameNodes}
 use Rattle.swc_nodes.specs.declared.node.ExprId.{ExprId}
+use Rattle.swc_nodes.specs.declared.node.Node.TheVariants as n
 use Rattle.swc_nodes.specs.declared.nodes.Nodes.{Nodes}
 use Rattle.swc_nodes.proofs.Chains.{chain-down}
 use Rattle.swc_nodes.proofs.Standing.{cut_kept}
-use Rattle.swc_productions.specs.Parsing.{tree_of, Heard, Unheard, Parses}
+use Rattle.swc_nodes.proofs.Unmarked.{unmarked-node}
+use Rattle.swc_productions.specs.declared.moves.Listed.{Listed}
+use Rattle.swc_productions.specs.Parsing.{tree_of, args_at, Heard, Unheard, Parses}
+use Rattle.swc_productions.specs.Pieces.{tpl_at}
 use Rattle.swc_productions.proofs.Steps.{Reader, spent, heard_call, unheard_call, unheard_memory}
-use Rattle.swc_ecma_parser.proofs.Top.{bare}
+use Rattle.swc_ecma_parser.specs.Promise.{only_items}
+use Rattle.swc_ecma_parser.proofs.Top.{bare, bare_items}
 
 module _ {F C K : Type 0} {fg : Ghosts F} {cg : Ghosts C} {kg : Ghosts K} where
   -- nodes were appended, and cut off again
@@ -44,11 +53,38 @@ module _ {S F C K : Type 0} {fg : Ghosts F} {cg : Ghosts C} {kg : Ghosts K} (mod
   kept-parses ms ns s b c (Err x) h e = h
 
 module _ {S F C K X T : Type 0} {fg : Ghosts F} {cg : Ghosts C} {kg : Ghosts K} (model : Model S) (sure : Bool) (f : Reader (Tree F C K)) (ns : Nodes F C K fg cg kg) (by : Nodes F C K fg cg kg → X → Tree F C K) (bare_by : X → Tree F C K) (view : T → Tree F C K) where
-  -- what is answered in boxes stands for what the numbers stood for, without the marks of commas, or memory was wanted
+  -- what is answered in boxes stands for what the numbers stood for, as `strip` leaves it, or memory was wanted
+  moved-by : (strip : Tree F C K → Tree F C K) (b c : Buffer S) (answer : Result X Error) (r : Result T Error) → Parses model sure (by ns) f b answer c → ((x : X) → strip (by ns x) ≡ bare_by x) →
+      MatchResult answer (λ x. MatchResult r (λ t. view t ≡ bare_by x) (λ e. e ≡ no_memory (last_position c))) (λ e. r ≡ Err e) → Parses model sure view (λ k ts. f k ts >>= (λ p. Some (strip p.0, p.1))) b r c
+  moved-by strip b c (Ok x) (Ok t) h same m =
+      subst (λ v. Heard model sure (λ k ts. f k ts >>= (λ p. Some (strip p.0, p.1))) v b c) (same x ∙ sym m) (heard_call (λ k p. Some (strip p.0, p.1)) (λ k ts. refl) (λ k ts. refl) h)
+  moved-by strip b c (Ok x) (Err e) h same m =
+      subst (λ v. Unheard model sure (λ k ts. f k ts >>= (λ p. Some (strip p.0, p.1))) b v c) (sym m) (unheard_memory (record { spends = spent h.on.leads; kind = refl }))
+  moved-by strip b c (Err e) r h same m =
+      subst (λ v. Parses model sure view (λ k ts. f k ts >>= (λ p. Some (strip p.0, p.1))) b v c) (sym m) (unheard_call (λ k p. Some (strip p.0, p.1)) (λ k ts. refl) h)
+
+  -- without the marks of commas, and of a list its items alone
   pub moved-parses : (b c : Buffer S) (answer : Result X Error) (r : Result T Error) → Parses model sure (by ns) f b answer c → ((x : X) → unmarked (by ns x) ≡ bare_by x) →
       MatchResult answer (λ x. MatchResult r (λ t. view t ≡ bare_by x) (λ e. e ≡ no_memory (last_position c))) (λ e. r ≡ Err e) → Parses model sure view (bare f) b r c
-  moved-parses b c (Ok x) (Ok t) h same m =
-      subst (λ v. Heard model sure (bare f) v b c) (same x ∙ sym m) (heard_call (λ k p. Some (unmarked p.0, p.1)) (λ k ts. refl) (λ k ts. refl) h)
-  moved-parses b c (Ok x) (Err e) h same m = subst (λ v. Unheard model sure (bare f) b v c) (sym m) (unheard_memory (record { spends = spent h.on.leads; kind = refl }))
-  moved-parses b c (Err e) r h same m =
-      subst (λ v. Parses model sure view (bare f) b v c) (sym m) (unheard_call (λ k p. Some (unmarked p.0, p.1)) (λ k ts. refl) h)
+  moved-parses = moved-by unmarked
+
+  pub moved-items : (b c : Buffer S) (answer : Result X Error) (r : Result T Error) → Parses model sure (by ns) f b answer c → ((x : X) → only_items (unmarked (by ns x)) ≡ bare_by x) →
+      MatchResult answer (λ x. MatchResult r (λ t. view t ≡ bare_by x) (λ e. e ≡ no_memory (last_position c))) (λ e. r ≡ Err e) → Parses model sure view (bare_items f) b r c
+  moved-items = moved-by (λ v. only_items (unmarked v))
+
+module _ {F C K : Type 0} where
+  item-bare : (o : Option Span) (t : Tree F C K) → unmarked (item_of o t) ≡ item_of o (unmarked t)
+  item-bare None t = refl
+  item-bare (Some s) t = refl
+
+  items-bare : (at : ℕ → Tree F C K) (xs : List (ExprOrSpread ExprId)) → all_unmarked (item_trees (λ e. at e.0) xs) ≡ item_trees (λ e. unmarked (at e.0)) xs
+  items-bare at [] = refl
+  items-bare at (x ∷ xs) = rw (item-bare x.spread (at x.expr.0), items-bare at xs) refl
+
+module _ {F C K : Type 0} {fg : Ghosts F} {cg : Ghosts C} {kg : Ghosts K} (ns : Nodes F C K fg cg kg) where
+  -- the arguments that were read, and a template, without the marks of commas
+  pub args-bare : (l : Listed (ExprOrSpread ExprId)) → only_items (unmarked (args_at ns l)) ≡ args_tree (λ e. bare_at ns e.0) l.items
+  args-bare l = ap (λ v. node args no_span v) (items-bare (tree_at ns) l.items.items)
+
+  pub tpl-bare : (t : Tpl ExprId) → unmarked (tpl_at ns t) ≡ tpl_tree (λ e. bare_at ns e.0) t
+  tpl-bare t = unmarked-node fg.place cg.place kg.place (tree_at ns) (n.Tpl t)

@@ -1,7 +1,6 @@
 -- From what the productions ensure to what callers are promised: the clean readers are the grammar's, both ways.
-use Rattle.std.proofs.Common.{◌≡◌, ◌≢◌, ◌<◌, Bool, true, List, [], ◌∷◌, ◌++◌, Some, None, Result, Ok, Err, IfOk, length, refl, sym, ap, subst, ◌∙◌, ⊎_elim, arith, length-append}
+use Rattle.std.proofs.Common.{◌≡◌, ◌≢◌, ◌<◌, Bool, true, false, ◌&&◌, not, List, [], ◌∷◌, ◌++◌, Some, None, Result, Ok, Err, IfOk, length, refl, sym, ap, subst, ◌∙◌, ⊎_elim, arith, length-append}
 use Rattle.std.proofs.lemmas.Bool.{cases_lt}
-use Rattle.swc_context.specs.declared.context.Context.{Context}
 use Rattle.swc_context.specs.declared.error.Error.{Error}
 use Rattle.swc_context.specs.declared.error.SyntaxError.{SyntaxError}
 use Rattle.swc_context.specs.declared.error.SyntaxError.TheVariants.{OutOfMemory}
@@ -9,34 +8,35 @@ use Rattle.swc_context.specs.declared.span.Span.{Span}
 use Rattle.swc_input.specs.declared.buffer.Buffer.{Buffer}
 use Rattle.swc_input.specs.declared.token.TokenAndSpan.{TokenAndSpan}
 use Rattle.swc_input.specs.Source.{Model, Keeps}
-use Rattle.swc_input.specs.Buffer.{Future, Known, context}
+use Rattle.swc_input.specs.Buffer.{Future, Known}
 use Rattle.swc_input.specs.Laws.{Known-after, Known-Future, Future-some}
 use Rattle.swc_ast.specs.declared.lit.Lit.{Lit}
 use Rattle.swc_ast.specs.Parts.{lit_tree}
-use Rattle.swc_ast.specs.Tree.{Tree}
+use Rattle.swc_ast.specs.Tree.{Tree, node}
 use Rattle.swc_bodies.specs.Readings.{Hook, LawfulHook}
-use Rattle.swc_grammar.specs.Symbols.{Symbol, Expr, Assign, Level, Unary, Key, Prop, Literal}
+use Rattle.swc_grammar.specs.Scope.{Scope}
+use Rattle.swc_grammar.specs.Symbols.{Symbol, Expr, Assign, Level, Unary, Key, Prop, Literal, Arguments, Template}
 use Rattle.swc_grammar.specs.Reads as grammar
 use Rattle.swc_grammar.specs.Clean.{Out, sym as at, Stop, run}
-use Rattle.swc_grammar.specs.Trees.{is_grouped, is_valid, unmarked}
+use Rattle.swc_grammar.specs.Trees.{is_grouped, are_grouped, grouped_at, is_valid, are_valid, is_invalid, unmarked}
 use Rattle.swc_grammar.specs.Words.{◌>>=◌}
 use Rattle.swc_grammar.proofs.Sound as clean
 use Rattle.swc_grammar.proofs.Complete as clean_all
-use Rattle.swc_grammar.proofs.Complete.{stops-bound}
+use Rattle.swc_grammar.proofs.Complete.{stops-bound, stops-link}
 use Rattle.swc_grammar.proofs.Cut.{cut-append}
 use Rattle.swc_grammar.proofs.Good.{grouped, valid}
 use Rattle.swc_grammar.proofs.Literals.{literal-read}
 use Rattle.swc_grammar.proofs.Marks.{same-grouped, same-valid}
-use Rattle.swc_productions.specs.Parsing.{recorded, Loud, Consumes, Heard, Parses, TookLiteral}
+use Rattle.swc_productions.specs.Parsing.{scope, recorded, Loud, Consumes, Heard, Parses, TookLiteral}
 use Rattle.swc_ecma_parser.specs.Promise.{Derivation, Anywhere, EndsAt, Unmarred, Derives, Sound, Complete, OneTree}
-use Rattle.swc_ecma_parser.specs.Promise.{Grouped, Valid, PromisedLit}
+use Rattle.swc_ecma_parser.specs.Promise.{Grouped, Valid, PromisedLit, only_items, ReadsItems}
 use Rattle.swc_productions.proofs.Hearing.{same_faults}
 use Rattle.swc_productions.proofs.Steps.{Reader, consumes_of}
 
 -- What a clean reader reads is derived, and then also from its own tokens alone.
 pub record IsSound {A : Type 0} (derives : Derivation A) (f : Reader A) : Type 0 where
-  pub sound : (c : Context) (ts ys : List TokenAndSpan) (t : A) → f c ts ≡ Some (t, ys) → derives c ts ys t
-  pub cut : (c : Context) (own ys : List TokenAndSpan) (t : A) → derives c (own ++ ys) ys t → derives c own [] t
+  pub sound : (c : Scope) (ts ys : List TokenAndSpan) (t : A) → f c ts ≡ Some (t, ys) → derives c ts ys t
+  pub cut : (c : Scope) (own ys : List TokenAndSpan) (t : A) → derives c (own ++ ys) ys t → derives c own [] t
 
 -- what a reading of a symbol does and answers, from one state of the buffer to another
 pub record Meets {S F C K T : Type 0} (model : Model S) (sure : Bool) (derives : Derivation (Tree F C K)) (view : T → Tree F C K) (s : Symbol) (b : Buffer S) (r : Result T Error) (c : Buffer S) : Type 0 where
@@ -49,7 +49,7 @@ pub record Meets {S F C K T : Type 0} (model : Model S) (sure : Bool) (derives :
 
 -- It reads what is derived, up to where a reading may stop.
 pub record IsComplete {A : Type 0} (derives : Derivation A) (stops : List TokenAndSpan → Type 0) (f : Reader A) : Type 0 where
-  pub complete : (c : Context) (ts ys : List TokenAndSpan) (t : A) → derives c ts ys t → stops ys → f c ts ≡ Some (t, ys)
+  pub complete : (c : Scope) (ts ys : List TokenAndSpan) (t : A) → derives c ts ys t → stops ys → f c ts ≡ Some (t, ys)
 
 parts : {A B : Type 0} (p q : A × B) → Some p ≡ Some q → (p.0 ≡ q.0) × (p.1 ≡ q.1)
 parts p q h = let e : p ≡ q = cc in (ap (λ v. v.0) e, ap (λ v. v.1) e)
@@ -58,11 +58,15 @@ parts p q h = let e : p ≡ q = cc in (ap (λ v. v.0) e, ap (λ v. v.1) e)
 abbrev pub bare : {F C K : Type 0} → Reader (Tree F C K) → Reader (Tree F C K)
 bare f c ts = f c ts >>= (λ p. Some (unmarked p.0, p.1))
 
-bare_from : {F C K : Type 0} (o : Out (Tree F C K)) (t : Tree F C K) (ys : List TokenAndSpan)
-    → (o >>= (λ p. Some (unmarked p.0, p.1))) ≡ Some (t, ys)
-    → (m : Tree F C K) × (o ≡ Some (m, ys)) × (unmarked m ≡ t)
-bare_from None t ys h = absurd cc
-bare_from (Some p) t ys h = let q = parts (unmarked p.0, p.1) (t, ys) h in (p.0, ap (λ v. Some (p.0, v)) q.1, q.0)
+-- a reader of a list, of its items alone
+abbrev pub bare_items : {F C K : Type 0} → Reader (Tree F C K) → Reader (Tree F C K)
+bare_items f c ts = f c ts >>= (λ p. Some (only_items (unmarked p.0), p.1))
+
+stripped_from : {F C K : Type 0} (strip : Tree F C K → Tree F C K) (o : Out (Tree F C K)) (t : Tree F C K) (ys : List TokenAndSpan)
+    → (o >>= (λ p. Some (strip p.0, p.1))) ≡ Some (t, ys)
+    → (m : Tree F C K) × (o ≡ Some (m, ys)) × (strip m ≡ t)
+stripped_from strip None t ys h = absurd cc
+stripped_from strip (Some p) t ys h = let q = parts (strip p.0, p.1) (t, ys) h in (p.0, ap (λ v. Some (p.0, v)) q.1, q.0)
 
 module _ {F C K : Type 0} {fun_at : F → Span} {class_at : C → Span} {block_at : K → Span} (hook : Hook F C K)
     (laws : LawfulHook fun_at class_at block_at hook) where
@@ -71,27 +75,52 @@ module _ {F C K : Type 0} {fun_at : F → Span} {class_at : C → Span} {block_a
 
   is_sound_bare : (s : Symbol) → IsSound (grammar.ReadsUnmarked hook s) (bare (run hook (at s)))
   is_sound_bare s = record {
-    sound = λ c ts ys t h. let (m, e, same) = bare_from (run hook (at s) c ts) t ys h in
+    sound = λ c ts ys t h. let (m, e, same) = stripped_from unmarked (run hook (at s) c ts) t ys h in
+        record { marked = m; read = clean.sound hook laws s c ts (m, ys) e; same = same };
+    cut = λ c own ys t d. record { marked = d.marked; read = cut-append own ys d.read; same = d.same };
+  }
+
+  is_sound_items : (s : Symbol) → IsSound (ReadsItems hook s) (bare_items (run hook (at s)))
+  is_sound_items s = record {
+    sound = λ c ts ys t h. let (m, e, same) = stripped_from (λ v. only_items (unmarked v)) (run hook (at s) c ts) t ys h in
         record { marked = m; read = clean.sound hook laws s c ts (m, ys) e; same = same };
     cut = λ c own ys t d. record { marked = d.marked; read = cut-append own ys d.read; same = d.same };
   }
 
 module _ {F C K : Type 0} (hook : Hook F C K) where
-  is_complete : (s : Symbol) → ((c : Context) (ys : List TokenAndSpan) → EndsAt s ys → Stop s c ys)
+  is_complete : (s : Symbol) → ((c : Scope) (ys : List TokenAndSpan) → EndsAt s ys → Stop s c ys)
       → IsComplete (grammar.Reads hook s) (EndsAt s) (run hook (at s))
   is_complete s stop = record { complete = λ c ts ys t d e. clean_all.complete hook d (stop c ys e) }
 
-  is_complete_bare : (s : Symbol) → ((c : Context) (ys : List TokenAndSpan) → EndsAt s ys → Stop s c ys)
+  is_complete_bare : (s : Symbol) → ((c : Scope) (ys : List TokenAndSpan) → EndsAt s ys → Stop s c ys)
       → IsComplete (grammar.ReadsUnmarked hook s) (EndsAt s) (bare (run hook (at s)))
   is_complete_bare s stop = record {
     complete = λ c ts ys t d e.
         ap (λ o. o >>= (λ p. Some (unmarked p.0, p.1))) (clean_all.complete hook d.read (stop c ys e)) ∙ ap (λ v. Some (v, ys)) d.same;
   }
 
+  is_complete_items : (s : Symbol) → ((c : Scope) (ys : List TokenAndSpan) → EndsAt s ys → Stop s c ys)
+      → IsComplete (ReadsItems hook s) (EndsAt s) (bare_items (run hook (at s)))
+  is_complete_items s stop = record {
+    complete = λ c ts ys t d e.
+        ap (λ o. o >>= (λ p. Some (only_items (unmarked p.0), p.1))) (clean_all.complete hook d.read (stop c ys e)) ∙ ap (λ v. Some (v, ys)) d.same;
+  }
+
 -- what holds of each tree that is derived
 record Well {F C K : Type 0} (derives : Derivation (Tree F C K)) : Type 0 where
-  pub grouped : (c : Context) (xs ys : List TokenAndSpan) (t : Tree F C K) → derives c xs ys t → is_grouped t ≡ true
-  pub valid : (c : Context) (xs ys : List TokenAndSpan) (t : Tree F C K) → derives c xs ys t → is_valid t ≡ true
+  pub grouped : (c : Scope) (xs ys : List TokenAndSpan) (t : Tree F C K) → derives c xs ys t → is_grouped t ≡ true
+  pub valid : (c : Scope) (xs ys : List TokenAndSpan) (t : Tree F C K) → derives c xs ys t → is_valid t ≡ true
+
+right_of : (a b : Bool) → (a && b) ≡ true → b ≡ true
+right_of true b h = h
+right_of false b h = cc
+
+module _ {F C K : Type 0} where
+  items_grouped : (t : Tree F C K) → is_grouped t ≡ true → is_grouped (only_items t) ≡ true
+  items_grouped (node k s ts) h = right_of (grouped_at (node k s ts)) (are_grouped ts) h
+
+  items_valid : (t : Tree F C K) → is_valid t ≡ true → is_valid (only_items t) ≡ true
+  items_valid (node k s ts) h = right_of (not (is_invalid k)) (are_valid ts) h
 
 module _ {F C K : Type 0} (hook : Hook F C K) where
   well : (s : Symbol) → Well (grammar.Reads hook s)
@@ -101,6 +130,12 @@ module _ {F C K : Type 0} (hook : Hook F C K) where
   well_bare s = record {
     grouped = λ c xs ys t d. ap (λ v. is_grouped v) (sym d.same) ∙ same-grouped d.marked ∙ grouped d.read;
     valid = λ c xs ys t d. ap (λ v. is_valid v) (sym d.same) ∙ same-valid d.marked ∙ valid d.read;
+  }
+
+  well_items : (s : Symbol) → Well (ReadsItems hook s)
+  well_items s = record {
+    grouped = λ c xs ys t d. ap (λ v. is_grouped v) (sym d.same) ∙ items_grouped (unmarked d.marked) (same-grouped d.marked ∙ grouped d.read);
+    valid = λ c xs ys t d. ap (λ v. is_valid v) (sym d.same) ∙ items_valid (unmarked d.marked) (same-valid d.marked ∙ valid d.read);
   }
 
 as_many : {es fs : List Error} → Keeps es fs → (length es < length fs → ⊥) → length fs ≡ length es
@@ -118,57 +153,63 @@ module _ {S T A : Type 0} (model : Model S) (sure : Bool) (derives : Derivation 
   derived : IsSound derives f → (t : A) (b c : Buffer S) → Heard model sure f t b c → Loud model b → Unmarred model b c → Derives model derives view t b c
   derived is t b c h l same =
       let counted = ap length same in
-      let front = λ (ys : List TokenAndSpan) (fut : Future model c ys). is.sound (context model b) (h.on.leads.taken ++ ys) ys t (h.on.clean l counted ys fut) in
+      let front = λ (ys : List TokenAndSpan) (fut : Future model c ys). is.sound (scope model b) (h.on.leads.taken ++ ys) ys t (h.on.clean l counted ys fut) in
       let some = Future-some h.on.leads.laws c in
-      record { consumed = h.on.leads.taken; read = h.on.leads.read; front = front; whole = is.cut (context model b) h.on.leads.taken some.0 t (front some.0 some.1) }
+      record { consumed = h.on.leads.taken; read = h.on.leads.read; front = front; whole = is.cut (scope model b) h.on.leads.taken some.0 t (front some.0 some.1) }
 
   pub sound : IsSound derives f → (b : Buffer S) (r : Result T Error) (c : Buffer S) → Parses model sure view f b r c → Sound model derives view b r c
   sound is b (Ok x) c h = λ l same. derived is (view x) b c h l same
   sound is b (Err e) c h = λ l. tt
 
   -- what holds of all that is derived holds of the answer
-  pub holds : IsSound derives f → (P : A → Type 0) → ((c : Context) (xs ys : List TokenAndSpan) (t : A) → derives c xs ys t → P t) → (b : Buffer S) (r : Result T Error) (c : Buffer S) → Parses model sure view f b r c →
+  pub holds : IsSound derives f → (P : A → Type 0) → ((c : Scope) (xs ys : List TokenAndSpan) (t : A) → derives c xs ys t → P t) → (b : Buffer S) (r : Result T Error) (c : Buffer S) → Parses model sure view f b r c →
       Loud model b → IfOk r (λ x. Unmarred model b c → P (view x))
-  holds is P all b (Ok x) c h = λ l same. let d = derived is (view x) b c h l same in all (context model b) d.consumed [] (view x) d.whole
+  holds is P all b (Ok x) c h = λ l same. let d = derived is (view x) b c h l same in all (scope model b) d.consumed [] (view x) d.whole
   holds is P all b (Err e) c h = λ l. tt
 
   -- of a listed source: what f reads is answered
-  answered : sure ≡ true → (x : T) (b c : Buffer S) (ts ys : List TokenAndSpan) (t : A) → Heard model sure f (view x) b c → Loud model b → Known model b ts → f (context model b) ts ≡ Some (t, ys) →
+  answered : sure ≡ true → (x : T) (b c : Buffer S) (ts ys : List TokenAndSpan) (t : A) → Heard model sure f (view x) b c → Loud model b → Known model b ts → f (scope model b) ts ≡ Some (t, ys) →
       (view x ≡ t) × Known model c ys × Unmarred model b c
   answered y x b c ts ys t h l k e =
       let laws = h.on.leads.laws in
       let w = Known-after laws b c h.on.leads.taken ts h.on.leads.read.took k in
       let counted : recorded model c ≡ recorded model b = as_many h.on.leads.read.errors (λ lt. let f0 = h.on.faulty y l lt ts k in cc) in
       let got = h.on.clean l counted w.0 (Known-Future laws c w.0 w.1) in
-      let q = parts (view x, w.0) (t, ys) (sym got ∙ ap (λ v. f (context model b) v) (sym w.2) ∙ e) in
+      let q = parts (view x, w.0) (t, ys) (sym got ∙ ap (λ v. f (scope model b) v) (sym w.2) ∙ e) in
       (q.0, subst (λ v. Known model c v) q.1 w.1, same_faults h.on.leads.read.errors counted)
 
   pub complete : sure ≡ true → (stops : List TokenAndSpan → Type 0) → IsComplete derives stops f → (b : Buffer S) (r : Result T Error) (c : Buffer S) → Parses model sure view f b r c → Complete model derives view stops b r c
-  complete y stops is b (Ok x) c h = λ l ts ys t k d e. answered y x b c ts ys t h l k (is.complete (context model b) ts ys t d e)
-  complete y stops is b (Err x) c u = λ l ts ys t k d e. memory x.kind (λ n. let f0 = u.none n y l ts k in let f1 = is.complete (context model b) ts ys t d e in cc)
+  complete y stops is b (Ok x) c h = λ l ts ys t k d e. answered y x b c ts ys t h l k (is.complete (scope model b) ts ys t d e)
+  complete y stops is b (Err x) c u = λ l ts ys t k d e. memory x.kind (λ n. let f0 = u.none n y l ts k in let f1 = is.complete (scope model b) ts ys t d e in cc)
 
   pub one_tree : sure ≡ true → (stops : List TokenAndSpan → Type 0) → stops [] → IsComplete derives stops f → (b : Buffer S) (r : Result T Error) (c : Buffer S) → Parses model sure view f b r c → OneTree model derives view b r c
-  one_tree y stops stop is b (Ok x) c h = λ l ts t k d. λ same end. sym (answered y x b c ts [] t h l k (is.complete (context model b) ts [] t d stop)).0
+  one_tree y stops stop is b (Ok x) c h = λ l ts t k d. λ same end. sym (answered y x b c ts [] t h l k (is.complete (scope model b) ts [] t d stop)).0
   one_tree y stops stop is b (Err e) c h = λ l ts t k d. tt
 
 -- where the reading of a symbol may stop, the clean parser reads all that is derived
 pub record Stopping (s : Symbol) : Type 0 where
-  pub stop : (c : Context) (ys : List TokenAndSpan) → EndsAt s ys → Stop s c ys
+  pub stop : (c : Scope) (ys : List TokenAndSpan) → EndsAt s ys → Stop s c ys
 
 pub expr-stops : Stopping Expr
-expr-stops = record { stop = λ c ys e. stops-bound Expr c e }
+expr-stops = record { stop = λ c ys e. (stops-link true Expr e, stops-bound Expr c e) }
 
 pub assign-stops : Stopping Assign
-assign-stops = record { stop = λ c ys e. stops-bound Assign c e }
+assign-stops = record { stop = λ c ys e. (stops-link true Assign e, stops-bound Assign c e) }
 
 pub level-stops : Stopping (Level 1)
-level-stops = record { stop = λ c ys e. (omega arith, stops-bound (Level 1) c e) }
+level-stops = record { stop = λ c ys e. (omega arith, stops-link true (Level 1) e, stops-bound (Level 1) c e) }
 
 pub unary-stops : Stopping Unary
-unary-stops = record { stop = λ c ys e. tt }
+unary-stops = record { stop = λ c ys e. stops-link true Unary e }
 
 pub key-stops : Stopping Key
 key-stops = record { stop = λ c ys e. tt }
+
+pub args-stops : {i : Bool} → Stopping (Arguments i)
+args-stops = record { stop = λ c ys e. tt }
+
+pub tpl-stops : {is_tagged : Bool} → Stopping (Template is_tagged)
+tpl-stops = record { stop = λ c ys e. tt }
 
 pub prop-stops : Stopping Prop
 prop-stops = record { stop = λ c ys e. e }
@@ -195,6 +236,12 @@ module _ {S F C K T : Type 0} (model : Model S) (sure : Bool) (hook : Hook F C K
       → Parses model sure view (bare (run hook (at s))) b r c → Meets model sure (grammar.ReadsUnmarked hook s) view s b r c
   meets-in-boxes {s} stops =
       meets s (grammar.ReadsUnmarked hook s) (bare (run hook (at s))) (is_sound_bare hook laws s) (is_complete_bare hook s stops.stop) (well_bare hook s)
+
+  -- of the items of a list in boxes
+  pub meets-items : {s : Symbol} → Stopping s → (b : Buffer S) (r : Result T Error) (c : Buffer S)
+      → Parses model sure view (bare_items (run hook (at s))) b r c → Meets model sure (ReadsItems hook s) view s b r c
+  meets-items {s} stops =
+      meets s (ReadsItems hook s) (bare_items (run hook (at s))) (is_sound_items hook laws s) (is_complete_items hook s stops.stop) (well_items hook s)
 
 -- a call on a literal
 module _ {S F C K : Type 0} (model : Model S) (hook : Hook F C K) where

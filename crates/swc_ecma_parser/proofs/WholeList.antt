@@ -11,17 +11,18 @@ use Rattle.swc_input.specs.declared.buffer.Buffer.{Buffer}
 use Rattle.swc_input.specs.declared.listed.TokensInput.{TokensInput}
 use Rattle.swc_input.specs.declared.token.TokenAndSpan.{TokenAndSpan}
 use Rattle.swc_input.specs.Source.{Model, Laws, given_one}
-use Rattle.swc_input.specs.Buffer.{Known, Looked, context, current, fresh, held, source}
+use Rattle.swc_input.specs.Buffer.{Known, Looked, current, fresh, held, source}
 use Rattle.swc_input.specs.Listed.{listed_state, listed_model, listed_laws, new_state}
 use Rattle.swc_input.specs.Laws.{Known-after, Known-Future, Future-end}
 use Rattle.swc_input.specs.Recording.{is_silent}
 use Rattle.swc_ast.specs.Tree.{Tree}
 use Rattle.swc_ast.specs.declared.spanned.Spanned.{Ghosts}
 use Rattle.swc_bodies.specs.Readings.{Hook}
+use Rattle.swc_grammar.specs.Scope.{Scope}
 use Rattle.swc_grammar.specs.Symbols.{Expr}
 use Rattle.swc_grammar.specs.Reads.{Reads, at-end}
 use Rattle.swc_nodes.specs.declared.node.ExprId.{ExprId}
-use Rattle.swc_productions.specs.Parsing.{Loud, tree_of}
+use Rattle.swc_productions.specs.Parsing.{scope_of, scope, Loud, tree_of}
 use Rattle.swc_ecma_parser.specs.Calls.{buffer_of, has_failed, nodes_of}
 use Rattle.swc_ecma_parser.specs.Promise.{Unmarred}
 use Rattle.swc_ecma_parser.specs.WholeList.{plain_list, IsHeeded, Headline, Tries, tried, refused, lost}
@@ -64,7 +65,7 @@ module _ {S : Type 0} {model : Model S} (laws : Laws model) where
 module _ {S H F C K : Type 0} {fg : Ghosts F} {cg : Ghosts C} {kg : Ghosts K} {model : Model S} {sure : Bool} {hook : Hook F C K} (laws : Laws model) where
   whole-sound : {p q : Parser S H F C K fg cg kg} {r : Result (ExprId × Bool) Error} (ts : List TokenAndSpan) → Tries model sure hook p r q → has_failed p ≡ false
       → Known model (buffer_of p) ts → Loud model (buffer_of p) → (model.state (source (buffer_of p))).errors ≡ []
-      → IfOk r (λ x. x.1 ≡ false → (model.state (source (buffer_of q))).errors ≡ [] → Reads hook Expr (context model (buffer_of p)) ts [] (tree_of (nodes_of q) x.0))
+      → IfOk r (λ x. x.1 ≡ false → (model.state (source (buffer_of q))).errors ≡ [] → Reads hook Expr (scope model (buffer_of p)) ts [] (tree_of (nodes_of q) x.0))
   whole-sound {p} ts (tried {id = id} {v = v} {q = q} {r = r} h c) runs k loud clean = λ all none.
       let sees = c.effect (h.fails runs) in
       let d0 = h.reads runs in
@@ -75,13 +76,13 @@ module _ {S H F C K : Type 0} {fg : Ghosts F} {cg : Ghosts C} {kg : Ghosts K} {m
       let end = sees.end (was_not v all) in
       let rest = none_left laws x.0 sees.looks.looked x.1 end.0 end.1 in
       let whole : ts ≡ d.consumed = x.2 ∙ ap (λ l. d.consumed ++ l) rest ∙ append-nil d.consumed in
-      let P : List TokenAndSpan → Type 0 = λ l. Reads hook Expr (context model (buffer_of p)) l [] (tree_of (nodes_of r) id) in
+      let P : List TokenAndSpan → Type 0 = λ l. Reads hook Expr (scope model (buffer_of p)) l [] (tree_of (nodes_of r) id) in
       subst P (sym whole) (rw (c.nodes) d.whole)
   whole-sound ts (refused h) runs k loud clean = tt
   whole-sound ts (lost h c) runs k loud clean = tt
 
   whole-complete : {p q : Parser S H F C K fg cg kg} {r : Result (ExprId × Bool) Error} (ts : List TokenAndSpan) (t : Tree F C K) → Tries model sure hook p r q → has_failed p ≡ false
-      → Known model (buffer_of p) ts → Loud model (buffer_of p) → (model.state (source (buffer_of p))).errors ≡ [] → sure ≡ true → Reads hook Expr (context model (buffer_of p)) ts [] t
+      → Known model (buffer_of p) ts → Loud model (buffer_of p) → (model.state (source (buffer_of p))).errors ≡ [] → sure ≡ true → Reads hook Expr (scope model (buffer_of p)) ts [] t
       → MatchResult r (λ x. (tree_of (nodes_of q) x.0 ≡ t) × (x.1 ≡ false) × ((model.state (source (buffer_of q))).errors ≡ [])) (λ e. e.kind ≡ OutOfMemory)
   whole-complete {p} ts t (tried {id = id} {v = true} {q = q} {r = r} h c) runs k loud clean y d =
       let sees = c.effect (h.fails runs) in
@@ -106,15 +107,15 @@ module _ {H F C K : Type 0} {fg : Ghosts F} {cg : Ghosts C} {kg : Ghosts K} {sur
   -- by a new parser
   pub headline : {p q : Parser TokensInput H F C K fg cg kg} {r : Result (ExprId × Bool) Error} (input : TokensInput) (at : BytePos) (ts : List TokenAndSpan) (c : Context) (x : Syntax) (v : EsVersion)
       → listed_state input ≡ new_state ts c x v → buffer_of p ≡ fresh input at → has_failed p ≡ false → IsHeeded c x → Tries listed_model sure hook p r q
-      → Headline sure hook c (plain_list ts) r (nodes_of q) (listed_state (source (buffer_of q))).errors
+      → Headline sure hook c x (plain_list ts) r (nodes_of q) (listed_state (source (buffer_of q))).errors
   headline {p} {q} {r} input at ts c x v is new runs heeded t =
       let known : Known listed_model (buffer_of p) (plain_list ts) = rw (new) (fresh-known input at ts c x v is) in
       let loud : Loud listed_model (buffer_of p) = rw (new) (fresh-loud input at ts c x v is heeded) in
       let clean : (listed_state (source (buffer_of p))).errors ≡ [] = ap (λ b. (listed_state (source b)).errors) new ∙ ap (λ s. s.errors) is in
-      let same : context listed_model (buffer_of p) ≡ c = ap (λ b. context listed_model b) new ∙ ap (λ s. s.context) is in
-      let S : Context → Type 0 = λ k. IfOk r (λ y. y.1 ≡ false → (listed_state (source (buffer_of q))).errors ≡ [] → Reads hook Expr k (plain_list ts) [] (tree_of (nodes_of q) y.0)) in
+      let same : scope listed_model (buffer_of p) ≡ scope_of c x = ap (λ b. scope listed_model b) new ∙ ap (λ s. scope_of s.context s.syntax) is in
+      let S : Scope → Type 0 = λ k. IfOk r (λ y. y.1 ≡ false → (listed_state (source (buffer_of q))).errors ≡ [] → Reads hook Expr k (plain_list ts) [] (tree_of (nodes_of q) y.0)) in
       record {
         sound = subst S same (whole-sound listed_laws (plain_list ts) t runs known loud clean);
         complete = λ y e d. whole-complete listed_laws (plain_list ts) e t runs known loud clean y
-            (let D : Context → Type 0 = λ k. Reads hook Expr k (plain_list ts) [] e in subst D (sym same) d);
+            (let D : Scope → Type 0 = λ k. Reads hook Expr k (plain_list ts) [] e in subst D (sym same) d);
       }

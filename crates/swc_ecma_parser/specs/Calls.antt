@@ -39,6 +39,10 @@ with_nodes ns p = record p { productions = record p.productions { nodes = ns } }
 abbrev pub commas_of : {S H F C K : Type 0} {fg : Ghosts F} {cg : Ghosts C} {kg : Ghosts K} → Parser S H F C K fg cg kg → TrailingCommas
 commas_of p = p.productions.commas
 
+-- whether `import` and a `.` were read
+abbrev pub found_import : {S H F C K : Type 0} {fg : Ghosts F} {cg : Ghosts C} {kg : Ghosts K} → Parser S H F C K fg cg kg → Bool
+found_import p = p.productions.found_module_item
+
 -- the tree that a boxed expression stands for, where the hook's values lie at the places given
 abbrev pub tree_by : {F C K : Type 0} → (F → Span) → (C → Span) → (K → Span) → Box (Expr F C K) Global → Tree F C K
 tree_by {F} {C} {K} fun class block e = boxed_tree F C K fun class block e

@@ -1,59 +1,63 @@
 -- What the calls of a parser promise, by the written grammar alone.
 use Rattle.std.specs.Prelude.{◌≡◌, ◌≢◌, Bool, true, false, List, [], ◌++◌, Result, Err, IfOk, IfErr, MatchResult}
-use Rattle.swc_context.specs.declared.context.Context.{Context}
 use Rattle.swc_context.specs.declared.error.Error.{Error}
 use Rattle.swc_context.specs.declared.error.SyntaxError.TheVariants.{OutOfMemory}
 use Rattle.swc_input.specs.declared.buffer.Buffer.{Buffer}
 use Rattle.swc_input.specs.declared.token.TokenAndSpan.{TokenAndSpan}
 use Rattle.swc_input.specs.Source.{Model}
-use Rattle.swc_input.specs.Buffer.{Read, ReadSome, Future, Known, context, previous}
+use Rattle.swc_input.specs.Buffer.{Read, ReadSome, Future, Known, previous}
 use Rattle.swc_input.specs.Kinds.{at_token}
 use Rattle.std.specs.declared.alloc.Global.{Global}
 use Rattle.std.specs.declared.boxed.Box.{Box}
 use Rattle.std.specs.declared.vec.Vec.{Vec}
-use Rattle.swc_ast.specs.Parts.{lit_tree, prop_name_tree}
-use Rattle.swc_ast.specs.Tree.{Tree}
+use Rattle.swc_ast.specs.Parts.{lit_tree, prop_name_tree, args_tree, tpl_tree}
+use Rattle.swc_ast.specs.Tree.{Tree, node, args, no_span}
 use Rattle.swc_ast.specs.TreeOf.{prop_or_spread_tree}
 use Rattle.swc_ast.specs.declared.expr.Expr.{Expr}
+use Rattle.swc_ast.specs.declared.expr.ExprOrSpread.{ExprOrSpread}
+use Rattle.swc_ast.specs.declared.expr.Tpl.{Tpl}
 use Rattle.swc_ast.specs.declared.lit.Lit.{Lit}
 use Rattle.swc_ast.specs.declared.prop.PropName.{PropName}
 use Rattle.swc_ast.specs.declared.prop.PropOrSpread.{PropOrSpread}
 use Rattle.swc_ast.specs.declared.spanned.Spanned.{Ghosts}
 use Rattle.swc_bodies.specs.Readings.{Hook}
+use Rattle.swc_grammar.specs.Scope.{Scope}
 use Rattle.swc_grammar.specs.Clean.{first}
-use Rattle.swc_grammar.specs.Symbols.{Symbol, Key, Prop, Literal}
+use Rattle.swc_grammar.specs.Symbols.{Symbol, Key, Prop, Literal, Arguments, Template}
 use Rattle.swc_grammar.specs.Reads.{Reads, ReadsUnmarked, Stops}
 use Rattle.swc_grammar.specs.Names.{Spelling, NameKind, Reference, ReadsName}
 use Rattle.swc_grammar.specs.Tokens.{ends_prop, may_be_reference}
-use Rattle.swc_grammar.specs.Trees.{is_grouped, is_valid}
+use Rattle.swc_grammar.specs.Trees.{is_grouped, is_valid, items_of, unmarked}
 use Rattle.swc_nodes.specs.Slots.{expr_part}
 use Rattle.swc_nodes.specs.Stands.{count, From, Grows, SameNodes}
 use Rattle.swc_nodes.specs.declared.node.ExprId.{ExprId}
 use Rattle.swc_nodes.specs.declared.nodes.Nodes.{Nodes}
 use Rattle.swc_productions.specs.Keys.{ends_params}
-use Rattle.swc_productions.specs.Parsing.{Loud, Acts, Consumes, Here, seen, tree_of}
+use Rattle.swc_productions.specs.Parsing.{scope, Loud, Acts, Consumes, Here, seen, tree_of}
 use Rattle.swc_ecma_parser.specs.Calls.{buffer_of, nodes_of, tree_by, has_failed, wants_memory, parser_failed}
 use Rattle.swc_ecma_parser.specs.declared.parser.Parser.{Parser}
 
--- a derivation of A: in the context, from the tokens from the first list on to before the second
+-- a derivation of A: in the scope, from the tokens from the first list on to before the second
 abbrev pub Derivation : Type 0 → Type 1
-Derivation A = Context → List TokenAndSpan → List TokenAndSpan → A → Type 0
+Derivation A = Scope → List TokenAndSpan → List TokenAndSpan → A → Type 0
 
 -- where a reading may stop anywhere
 abbrev pub Anywhere : List TokenAndSpan → Type 0
 Anywhere ys = Unit {0}
 
--- Where a reading of the symbol may stop: of a key anywhere, of a property before `,` and `}`, and of an expression at the end and before
--- what can't go on with it.
+-- Where a reading of the symbol may stop: of a key, of arguments and of a template anywhere, of a property before `,` and `}`, and of an
+-- expression at the end and before what can't go on with it.
 abbrev pub EndsAt : Symbol → List TokenAndSpan → Type 0
 EndsAt Key ys = Unit {0}
+EndsAt (Arguments i) ys = Unit {0}
+EndsAt (Template is_tagged) ys = Unit {0}
 EndsAt Prop ys = at_token ends_prop (first ys) ≡ true
 EndsAt s ys = Stops s ys
 
 -- An identifier reference, where a word stands first that isn't reserved, or `let`. The other words are taken too, with faults that
 -- wait where the code is no module's.
 abbrev pub RefersIfFree : Derivation Spelling
-RefersIfFree c xs ys n = at_token (may_be_reference c) (first xs) ≡ true → ReadsName Reference c xs ys n
+RefersIfFree c xs ys n = at_token (may_be_reference c.context) (first xs) ≡ true → ReadsName Reference c xs ys n
 
 module _ {S : Type 0} (model : Model S) where
   -- no fault was recorded between b and c
@@ -65,8 +69,8 @@ module _ {S T A : Type 0} (model : Model S) (derives : Derivation A) (view : T �
   pub record Derives (t : A) (b c : Buffer S) : Type 0 where
     pub consumed : List TokenAndSpan
     pub read : Read model b consumed c
-    pub front : (ys : List TokenAndSpan) → Future model c ys → derives (context model b) (consumed ++ ys) ys t
-    pub whole : derives (context model b) consumed [] t
+    pub front : (ys : List TokenAndSpan) → Future model c ys → derives (scope model b) (consumed ++ ys) ys t
+    pub whole : derives (scope model b) consumed [] t
 
   -- What is answered with no fault recorded is derived from the tokens consumed. Faults have to be recorded at all.
   abbrev pub Sound : Buffer S → Result T Error → Buffer S → Type 0
@@ -75,12 +79,12 @@ module _ {S T A : Type 0} (model : Model S) (derives : Derivation A) (view : T �
   -- Over a listed source: what is derived from the tokens to come, up to where a reading may stop, is answered, with no fault
   -- recorded, and what follows it is left; or the answer is want of memory.
   abbrev pub Complete : (List TokenAndSpan → Type 0) → Buffer S → Result T Error → Buffer S → Type 0
-  Complete stops b r c = Loud model b → (ts ys : List TokenAndSpan) (t : A) → Known model b ts → derives (context model b) ts ys t → stops ys →
+  Complete stops b r c = Loud model b → (ts ys : List TokenAndSpan) (t : A) → Known model b ts → derives (scope model b) ts ys t → stops ys →
       MatchResult r (λ x. (view x ≡ t) × Known model c ys × Unmarred model b c) (λ e. e.kind ≡ OutOfMemory)
 
   -- Over a listed source: where all tokens to come were read with no fault recorded, nothing is derived from them but the answer.
   abbrev pub OneTree : Buffer S → Result T Error → Buffer S → Type 0
-  OneTree b r c = Loud model b → (ts : List TokenAndSpan) (t : A) → Known model b ts → derives (context model b) ts [] t →
+  OneTree b r c = Loud model b → (ts : List TokenAndSpan) (t : A) → Known model b ts → derives (scope model b) ts [] t →
       IfOk r (λ x. Unmarred model b c → Known model c [] → t ≡ view x)
 
 module _ {S F C K T : Type 0} (model : Model S) (view : T → Tree F C K) where
@@ -119,6 +123,30 @@ key_in_boxes {fg = fg} {cg = cg} {kg = kg} = record {
 abbrev pub prop_in_boxes : {F C K : Type 0} {fg : Ghosts F} {cg : Ghosts C} {kg : Ghosts K} → Answer (PropOrSpread F C K) F C K fg cg kg
 prop_in_boxes {F} {C} {K} {fg = fg} {cg = cg} {kg = kg} = record {
   tree = λ ns x. prop_or_spread_tree F C K fg.place cg.place kg.place x;
+  derives = λ hook s. ReadsUnmarked hook s;
+  leaves = λ ns r ms. SameNodes ns ms;
+}
+
+-- a list of items, without the token that closes it, and without the marks of commas
+abbrev pub only_items : {F C K : Type 0} → Tree F C K → Tree F C K
+only_items t = node args no_span (items_of t)
+
+pub record ReadsItems {F C K : Type 0} (hook : Hook F C K) (s : Symbol) (c : Scope) (xs ys : List TokenAndSpan) (t : Tree F C K) : Type 0 where
+  pub marked : Tree F C K
+  pub read : Reads hook s c xs ys marked
+  pub same : only_items (unmarked marked) ≡ t
+
+-- arguments in boxes, and a template
+abbrev pub args_in_boxes : {F C K : Type 0} {fg : Ghosts F} {cg : Ghosts C} {kg : Ghosts K} → Answer (Vec (ExprOrSpread (Box (Expr F C K) Global)) Global) F C K fg cg kg
+args_in_boxes {fg = fg} {cg = cg} {kg = kg} = record {
+  tree = λ ns xs. args_tree (tree_by fg.place cg.place kg.place) xs;
+  derives = λ hook s. ReadsItems hook s;
+  leaves = λ ns r ms. SameNodes ns ms;
+}
+
+abbrev pub tpl_in_boxes : {F C K : Type 0} {fg : Ghosts F} {cg : Ghosts C} {kg : Ghosts K} → Answer (Tpl (Box (Expr F C K) Global)) F C K fg cg kg
+tpl_in_boxes {fg = fg} {cg = cg} {kg = kg} = record {
+  tree = λ ns t. tpl_tree (tree_by fg.place cg.place kg.place) t;
   derives = λ hook s. ReadsUnmarked hook s;
   leaves = λ ns r ms. SameNodes ns ms;
 }

@@ -5,7 +5,8 @@ ghost use Rattle.swc_nodes.specs.Commas.{comma_at};
 ghost use Rattle.swc_nodes.specs.Slots.{expr_part};
 ghost use Rattle.swc_nodes.specs.Stands.{count, Apart, From, CutTo};
 ghost use Rattle.swc_grammar.specs.Symbols.{Expr, Assign, Level, Unary};
-ghost use Rattle.swc_ecma_parser.specs.Calls.{buffer_of, nodes_of, commas_of, with_buffer, with_nodes, has_failed, wants_memory};
+ghost use Rattle.swc_ecma_parser.specs.Calls.{buffer_of, nodes_of, commas_of, with_buffer, with_nodes, has_failed};
+ghost use Rattle.swc_ecma_parser.specs.Calls.{wants_memory, found_import};
 ghost use Rattle.swc_ecma_parser.specs.Calls.{parser_failed, Called, SeesEnd, MovesOut};
 ghost use Rattle.swc_ecma_parser.specs.Promise.{Promised, PromisedLit, in_boxes, by_number};
 
@@ -27,6 +28,7 @@ use swc_productions::productions::Productions;
 mod names;
 pub mod object;
 mod pat;
+mod pieces;
 
 /// A pattern over a hook's values.
 pub type PatOf<B> = Pat<<B as BodyForms>::Fun, <B as BodyForms>::Class, <B as BodyForms>::Block>;
@@ -58,6 +60,7 @@ impl<I: Tokens, B: Bodies<I>> Parser<I, B> {
         ensures runs { has_failed result ≡ false }
         ensures nodes { count (nodes_of result) ≡ 0 }
         ensures commas { (start : ℕ) → comma_at (commas_of result) start ≡ None }
+        ensures module_item { found_import result ≡ false }
     {
         Parser {
             productions: Productions {
@@ -66,6 +69,7 @@ impl<I: Tokens, B: Bodies<I>> Parser<I, B> {
                 bodies,
                 nodes: Nodes::new(alloc),
                 commas: TrailingCommas::new(alloc),
+                found_module_item: false,
             },
             failed: false,
         }
@@ -98,6 +102,14 @@ impl<I: Tokens, B: Bodies<I>> Parser<I, B> {
         self.finish(answer)
     }
 
+    /// Whether `import` and a `.` were read, as in `import.meta`, by any call so far, also by one that was refused. It
+    /// isn't promised that it is so by what was read.
+    pub fn found_module_item(&self) -> bool
+        ensures { result ≡ found_import self.now }
+    {
+        self.productions.found_module_item
+    }
+
     /// The nodes of what `parse_expr_id` read.
     pub fn nodes(&self) -> &NodesOf<B>
         ensures { result.now ≡ nodes_of self.now }
@@ -119,6 +131,7 @@ impl<I: Tokens, B: Bodies<I>> Parser<I, B> {
             nodes,
             bodies: _,
             commas: _,
+            found_module_item: _,
         } = productions;
         nodes
     }
@@ -131,8 +144,8 @@ impl<I: Tokens, B: Bodies<I>> Parser<I, B> {
         self.productions.nodes.cut(0);
     }
 
-    /// The place of a comma behind the last element of an array literal, or the last property of an object literal, that
-    /// begins at `start`, a position in bytes: of the one that was read there last, or was made by `make_object`.
+    /// The place of a comma behind the last element of an array literal, or the last property of an object literal,
+    /// that begins at `start`, a position in bytes: of the one that was read there last, or was made by `make_object`.
     ///
     /// A tree in boxes has no place for it. Among nodes it stands in the literal's own.
     pub fn trailing_comma(&self, start: BytePos) -> Option<Span>
@@ -198,9 +211,10 @@ impl<I: Tokens, B: Bodies<I>> Parser<I, B> {
     }
 
     /// A unary expression (ECMA-262, 13.5): so far, any number of `delete`, `void`, `typeof`, `+`,
-    /// `-`, `~` and `!`, and then a primary expression: `this`, a literal, an array literal, an
-    /// identifier, `#` and a name, an expression in parentheses, or a function or a class, which the
-    /// hook reads.
+    /// `-`, `~` and `!`, and then a left-hand side (13.3): a primary expression, `new`, `super` or
+    /// `import`, with its links. A primary expression (13.2) is `this`, a literal, a regular
+    /// expression, a template, an array or object literal, an identifier, `#` and a name, an
+    /// assignment expression in parentheses, or a function or a class, which the hook reads.
     ///
     /// A refused operand of such an operator is recorded, and a node of `Invalid` stands in its
     /// place, at one position, that before the operand. `delete` of an identifier has the fault

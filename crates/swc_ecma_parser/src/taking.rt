@@ -4,12 +4,13 @@ ghost use Rattle.swc_nodes.specs.Seats.{floor};
 ghost use Rattle.swc_nodes.specs.Stands.{count, seat_at, bare_at, Apart, Left};
 
 use std::alloc::{AllocError, Global};
-use swc_ast::expr::Expr;
+use swc_ast::expr::{Expr, ExprOrSpread, Tpl};
 use swc_ast::prop::{PropName, PropOrSpread};
 use swc_ast::spanned::Spanned;
 use swc_nodes::node::{ExprId, PropNode};
 use swc_nodes::nodes::Nodes;
-use swc_trees::taking::{take_expr, take_key, take_prop};
+use swc_productions::moves::Listed;
+use swc_trees::taking::{take_args, take_expr, take_key, take_prop, take_tpl};
 
 /// What holds numbers of nodes, and is moved out of them into boxes.
 pub(crate) trait Take<F: Spanned + Drop, C: Spanned + Drop, K: Spanned + Drop> {
@@ -85,5 +86,44 @@ impl<F: Spanned + Drop, C: Spanned + Drop, K: Spanned + Drop> Take<F, C, K> for 
 
     fn take(self, nodes: &mut Nodes<F, C, K>, alloc: Global) -> Result<Self::Whole, AllocError> {
         take_prop(nodes, alloc, self)
+    }
+}
+
+impl<F: Spanned + Drop, C: Spanned + Drop, K: Spanned + Drop> Take<F, C, K>
+    for Listed<ExprOrSpread<ExprId>> {
+    ghost use Rattle.swc_ast.specs.Parts.{args_tree};
+    ghost use Rattle.swc_ast.specs.TreeOf.{boxed_tree};
+    ghost use Rattle.swc_nodes.specs.NodeTree.{expr_of};
+    ghost use Rattle.swc_nodes.specs.Slots.{args_parts};
+
+    type Whole = Vec<ExprOrSpread<Box<Expr<F, C, K>>>>;
+
+    ghost parts = { λ l. args_parts l.items };
+
+    ghost by = { λ at l. args_tree (expr_of F.place C.place K.place at) l.items };
+
+    ghost tree = { args_tree (boxed_tree _ _ _ F.place C.place K.place) };
+
+    fn take(self, nodes: &mut Nodes<F, C, K>, alloc: Global) -> Result<Self::Whole, AllocError> {
+        take_args(nodes, alloc, self.items)
+    }
+}
+
+impl<F: Spanned + Drop, C: Spanned + Drop, K: Spanned + Drop> Take<F, C, K> for Tpl<ExprId> {
+    ghost use Rattle.swc_ast.specs.Parts.{tpl_tree};
+    ghost use Rattle.swc_ast.specs.TreeOf.{boxed_tree};
+    ghost use Rattle.swc_nodes.specs.Lists.{exprs_parts};
+    ghost use Rattle.swc_nodes.specs.NodeTree.{expr_of};
+
+    type Whole = Tpl<Box<Expr<F, C, K>>>;
+
+    ghost parts = { λ t. exprs_parts t.exprs };
+
+    ghost by = { λ at. tpl_tree (expr_of F.place C.place K.place at) };
+
+    ghost tree = { tpl_tree (boxed_tree _ _ _ F.place C.place K.place) };
+
+    fn take(self, nodes: &mut Nodes<F, C, K>, alloc: Global) -> Result<Self::Whole, AllocError> {
+        take_tpl(nodes, alloc, self)
     }
 }

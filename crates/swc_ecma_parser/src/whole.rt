@@ -43,7 +43,8 @@ pub fn parse_whole_expr<B: Bodies<TokensInput>>(
 ) -> Whole<B>
     ensures stands { IfOk result.read (λ r. From 0 result.nodes (expr_part r.0)) }
     ensures headline { IsHeeded ctx syntax
-        → Headline B.is_faithful B.forms ctx (plain_list tokens.items) result.read result.nodes result.recorded.items }
+        → Headline B.is_faithful B.forms ctx syntax (plain_list tokens.items)
+        result.read result.nodes result.recorded.items }
 {
     let source = TokensInput::new(alloc, tokens, ctx, syntax, target);
     let mut parser = Parser::new_from(alloc, source, bodies);

@@ -5,29 +5,43 @@ use Rattle.swc_context.specs.Texts.{is_text}
 use Rattle.std.proofs.Common.{refl, sym as sym_path, ap, subst, ◌∙◌, arith}
 use Rattle.std.proofs.lemmas.Bool.{eqb-true, ltb-true, le-leb, lt-leb}
 use Rattle.swc_context.specs.Operators.{precedence_of}
-use Rattle.swc_context.specs.declared.context.Context.{Context}
 use Rattle.swc_context.specs.declared.operator.BinaryOp.{BinaryOp}
 use Rattle.swc_context.specs.declared.operator.BinaryOp.TheVariants as binary
+use Rattle.swc_context.specs.declared.operator.AssignOp.TheVariants as assign
+use Rattle.swc_context.specs.declared.operator.BinOpToken.TheVariants as sign
 use Rattle.swc_context.specs.declared.span.Span.{Span}
 use Rattle.swc_context.specs.declared.word.Keyword.TheVariants as keyword
 use Rattle.swc_context.specs.declared.word.Word.TheVariants as word
 use Rattle.swc_input.specs.declared.token.Token.{Token}
 use Rattle.swc_input.specs.declared.token.Token.TheVariants as token
 use Rattle.swc_input.specs.declared.token.TokenAndSpan.{TokenAndSpan}
-use Rattle.swc_input.specs.Kinds.{at_token}
+use Rattle.swc_input.specs.Kinds.{at_token, is_hash}
 use Rattle.swc_ast.specs.Tree.{Tree, span_of}
 use Rattle.swc_bodies.specs.Readings.{whole_span, Hook, begins as begins_own, begins_function, is_function_here}
 use Rattle.swc_bodies.specs.Readings.{is_function, is_async, is_class}
+use Rattle.swc_grammar.specs.Scope.{Scope}
 use Rattle.swc_grammar.specs.Rule.{Rule, gives, never, take, check, peek, read, hear, sees, given, ◌>>=◌}
 use Rattle.swc_grammar.specs.Tokens.{tk, with_in, binary_of, prefix_of, is_rparen, is_power, is_closer, is_word_apart}
 use Rattle.swc_grammar.specs.Tokens.{is_stop, is_comma, is_dots, is_reference, is_rbracket, is_rbrace, is_lparen}
 use Rattle.swc_grammar.specs.Tokens.{is_colon, is_star, is_equals, is_question, is_word, is_get, ends_prop, follows_key}
+use Rattle.swc_grammar.specs.Tokens.{is_dot, is_lbracket, is_backquote, is_dollar_brace, is_slash, is_new}
+use Rattle.swc_grammar.specs.Tokens.{is_super, is_import, is_meta, is_source}
+use Rattle.swc_grammar.specs.Trees.{new_e, is_chain, items_of}
 use Rattle.swc_grammar.specs.Trees.{to, bin_e, nullish_ok, logical_ok, exp_ok, is_unary, min_right}
-use Rattle.swc_grammar.specs.Symbols.{Symbol, Expr, Assign, Level, Unary, Primary, Literal, Elements, ElementsTail}
+use Rattle.swc_grammar.specs.Symbols.{Symbol, Expr, Assign, Level, Unary, Lhs, Left, Arguments, Args, ArgsTail, Primary}
+use Rattle.swc_grammar.specs.Symbols.{Literal, Template, Parts, Base}
+use Rattle.swc_grammar.specs.Symbols.{Elements, ElementsTail}
 use Rattle.swc_grammar.specs.Symbols.{Item, Props, PropsTail, Prop, Key, AfterKey, Shell, Answer, Body, Value}
 use Rattle.swc_grammar.specs.Symbols.{begins_body, Side}
-use Rattle.swc_grammar.specs.Parts.{reference, any_name, lit_of, key_lit_of, prefix_here, operator_here}
-use Rattle.swc_grammar.specs.Grammar.{Production, ident-expr, lit, paren-expr, unary-primary, unary-op, exp-unary}
+use Rattle.swc_grammar.specs.Names.{Spelling}
+use Rattle.swc_grammar.specs.Parts.{reference, any_name, lit_of, regex_of, text_of, key_lit_of, prefix_here}
+use Rattle.swc_grammar.specs.Parts.{operator_here}
+use Rattle.swc_grammar.specs.Grammar.{Production, ident-expr, lit, paren-expr, unary-left, unary-op, exp-unary}
+use Rattle.swc_grammar.specs.Grammar.{base-primary, super-name, super-computed, super-call, import-meta, import-call}
+use Rattle.swc_grammar.specs.Grammar.{import-source, left-base, member-name, member-private, member-computed, call, args-end}
+use Rattle.swc_grammar.specs.Grammar.{args-more, args-tail-end, args-tail-more, lhs-left, new-bare, left-new, new-target}
+use Rattle.swc_grammar.specs.Grammar.{chain-name, chain-private, chain-computed, chain-call, tagged-tpl, arguments}
+use Rattle.swc_grammar.specs.Grammar.{primary-template, template, parts-end, parts-more, regex-alone, regex-slash}
 use Rattle.swc_grammar.specs.Grammar.{exp-op, primary-literal}
 use Rattle.swc_grammar.specs.Grammar.{this-expr, array-lit, elements-end, elements-hole, elements-more, tail-end}
 use Rattle.swc_grammar.specs.Grammar.{tail-more, item-expr, item-spread, fn-expr, class-expr}
@@ -38,32 +52,53 @@ use Rattle.swc_grammar.specs.Grammar.{key-name, key-literal, key-computed}
 use Rattle.swc_grammar.specs.Grammar.{level-up, bin-op, private-expr, assign-level, expr-assign}
 use Rattle.swc_grammar.specs.Reads.{Hears, Reads, by, Follows, gave, took, held, calm, part, heard, is_stop_for, Stops}
 use Rattle.swc_grammar.specs.Reads.{at-end, at-stop}
-use Rattle.swc_grammar.specs.Clean.{Out, and_then, first, Call, sym, climb, plan, rank_of, rank, allowed, exec}
+use Rattle.swc_grammar.specs.Clean.{Out, and_then, first, Call, sym, links, climb, plan, rank_of, rank, allowed, exec}
+use Rattle.swc_grammar.specs.Clean.{constructs, no_link, no_more, more, linked, link, call_link, chain_link, call_args, args}
+use Rattle.swc_grammar.specs.Clean.{args_tail, tpl, parts, base, super_base, import_base, import_dot, begins_new, second}
 use Rattle.swc_grammar.specs.Clean.{operator_at, prefix_at}
 use Rattle.swc_grammar.specs.Clean.{Bound, Stop, left_ok, no_error, Choice, pick, chosen, expr, assign, unary, primary}
 use Rattle.swc_grammar.specs.Clean.{literal, elements, elements_tail, item, props, props_tail, prop, key, after_key}
 use Rattle.swc_grammar.specs.Clean.{shell, prop_word, is_lit, turn, turned, step, run}
-use Rattle.swc_grammar.specs.Firsts.{starts, begins_primary, begins_expression, begins_key, begins_prop}
+use Rattle.swc_grammar.specs.Firsts.{starts, begins_primary, begins_left, begins_expression, begins_key}
+use Rattle.swc_grammar.specs.Firsts.{begins_prop}
+use Rattle.swc_grammar.proofs.Binds.{bind}
 use Rattle.swc_grammar.proofs.Bodies.{hears-run}
 use Rattle.swc_grammar.proofs.Good.{Good, good}
 use Rattle.swc_grammar.proofs.Answers.{both}
 use Rattle.swc_grammar.proofs.Only.{only-lparen, only-rparen, only-hash, only-power, only-this, only-lbracket}
 use Rattle.swc_grammar.proofs.Only.{only-rbracket, only-comma, only-dots, only-class, only-brace, only-rbrace}
-use Rattle.swc_grammar.proofs.Only.{only-colon, only-star, only-equals}
+use Rattle.swc_grammar.proofs.Only.{only-super, only-import}
+use Rattle.swc_grammar.proofs.Only.{only-colon, only-star, only-equals, only-backquote, only-dollar-brace, only-question}
 use Rattle.swc_grammar.proofs.Firsts.{Under, under-held, given-held, begins, placed-op, reference-first, name-first}
 use Rattle.swc_grammar.proofs.Firsts.{async-word, get-word}
 use Rattle.swc_grammar.proofs.Knot.{knot}
 use Rattle.swc_grammar.proofs.Levels.{bound-some, bound-above, min-right-same}
 
--- at the end and before a hard stop no operator is read
-stop-token : (c : Context) (t : Token) (b : Bool) → (is_comma t || (is_closer t || is_word_apart t b)) ≡ true
-    → binary_of c t ≡ None
+-- at the end and before a hard stop no operator is read, and no link
+stop-token : (c : Scope) (t : Token) (b : Bool) → (is_comma t || (is_closer t || is_word_apart t b)) ≡ true
+    → binary_of c.context t ≡ None
 stop-token c (token.Word (word.Keyword keyword.In)) true h = absurd cc
 stop-token c (token.Word (word.Keyword keyword.In)) false h = absurd cc
 stop-token c (token.Word (word.Keyword keyword.InstanceOf)) true h = absurd cc
 stop-token c (token.Word (word.Keyword keyword.InstanceOf)) false h = absurd cc
 stop-token c (token.BinOp o) b h = absurd cc
 stop-token c t b h = refl
+
+link-token : (b : Bool) (t : TokenAndSpan) (us : List TokenAndSpan)
+    → (is_comma t.token || (is_closer t.token || is_word_apart t.token t.had_line_break)) ≡ true
+    → no_link b (t ∷ us) ≡ true
+link-token b t us h = by-token b t.token t.had_line_break t.span h
+  where
+    by-token : (b : Bool) (u : Token) (d : Bool) (s : Span)
+        → (is_comma u || (is_closer u || is_word_apart u d)) ≡ true
+        → no_link b (tk u d s ∷ us) ≡ true
+    by-token b token.Dot d s h = absurd cc
+    by-token b token.LBracket d s h = absurd cc
+    by-token b token.BackQuote d s h = absurd cc
+    by-token b token.QuestionMark d s h = absurd cc
+    by-token b token.LParen d s h = absurd cc
+    by-token true u d s h = refl
+    by-token false u d s h = refl
 
 and-false : (a : Bool) → (a && false) ≡ false
 and-false true = refl
@@ -96,19 +131,23 @@ stop-any : (s : Symbol) (t : TokenAndSpan) → is_stop_for s t ≡ true → (is_
 stop-any Expr t h = or-right (is_comma t.token) (is_stop t) h
 stop-any s t h = h
 
-pub stops-bound : {ys : List TokenAndSpan} (s : Symbol) (c : Context) → Stops s ys → Bound c 0 ys
+pub stops-bound : {ys : List TokenAndSpan} (s : Symbol) (c : Scope) → Stops s ys → Bound c 0 ys
 stops-bound s c at-end = λ op e. absurd cc
 stops-bound s c (at-stop {t = t} h) =
     let n = stop-token c t.token t.had_line_break (stop-any s t h) in λ op e. absurd cc
 
--- what stands behind a property is no operator
-ends-prop-bound : (c : Context) (ys : List TokenAndSpan) → at_token ends_prop (first ys) ≡ true → Bound c 0 ys
-ends-prop-bound c [] h = absurd cc
-ends-prop-bound c (a ∷ us) h = by-token a.token a.had_line_break a.span h
+pub stops-link : {ys : List TokenAndSpan} (b : Bool) (s : Symbol) → Stops s ys → no_link b ys ≡ true
+stops-link b s at-end = refl
+stops-link b s (at-stop {t = t} {ts = ts} h) = link-token b t ts (stop-any s t h)
+
+-- what stands behind a property is no operator and no link
+ends-prop-stop : (c : Scope) (ys : List TokenAndSpan) → at_token ends_prop (first ys) ≡ true → Stop Assign c ys
+ends-prop-stop c [] h = absurd cc
+ends-prop-stop c (a ∷ us) h = by-token a.token a.had_line_break a.span h
   where
-    by-token : (t : Token) (b : Bool) (s : Span) → ends_prop t ≡ true → Bound c 0 (tk t b s ∷ us)
-    by-token token.Comma b s h = λ op k. absurd cc
-    by-token token.RBrace b s h = λ op k. absurd cc
+    by-token : (t : Token) (b : Bool) (s : Span) → ends_prop t ≡ true → Stop Assign c (tk t b s ∷ us)
+    by-token token.Comma b s h = (refl, λ op k. absurd cc)
+    by-token token.RBrace b s h = (refl, λ op k. absurd cc)
     by-token t b s h = absurd cc
 
 -- Tests of the token behind the first one of a property: at most one holds.
@@ -159,6 +198,24 @@ star-begins-method : (o : Option TokenAndSpan) → at_token is_star o ≡ true �
 star-begins-method None h = absurd cc
 star-begins-method (Some a) h = or-right (begins_key a.token) (is_star a.token) h
 
+-- the words `meta` and `source` are two, and `super` and `import` aren't `new`
+no-source-text : (w : List ℕ) → is_text w (codes "meta") ≡ true → is_text w (codes "source") ≡ false
+no-source-text [] h = absurd cc
+no-source-text (x ∷ xs) h =
+    let (a, rest) = both _ _ h in
+    let same : x ≡ 109 = eqb-true x 109 a in
+    rw same refl
+
+no-source : (t : Token) → is_meta t ≡ true → is_source t ≡ false
+no-source (token.Word (word.Ident w)) h = no-source-text w h
+no-source t h = absurd cc
+
+super-no-new : (t : Token) → is_super t ≡ true → is_new t ≡ false
+super-no-new t h = only-super (λ v. is_new v ≡ false) refl t h
+
+import-no-new : (t : Token) → is_import t ≡ true → is_new t ≡ false
+import-no-new t h = only-import (λ v. is_new v ≡ false) refl t h
+
 -- the words `get` and `async` are two
 not-get : (w : List ℕ) → is_text w (codes "async") ≡ true → is_text w (codes "get") ≡ false
 not-get [] h = absurd cc
@@ -171,13 +228,15 @@ not-get-token : (t : Token) → is_async t ≡ true → is_get t ≡ false
 not-get-token (token.Word (word.Ident w)) h = not-get w h
 not-get-token t h = absurd cc
 
--- Of a level the claim holds for climbing on from any precedence below it: so what a level above read needs no second
--- climbing. And no `**` follows, since the right operand of one before would take it.
+-- Of a left-hand side the claim is that links are read on from there. Of a level it holds for climbing on from any
+-- precedence below it: so what a level above read needs no second climbing. And no link follows, since the last operand
+-- would take it, and no `**`, since the right operand of one before would.
 abbrev Claim : {F C K : Type 0} (hook : Hook F C K) (s : Symbol)
-    → Context → List TokenAndSpan → List TokenAndSpan → Answer F C K s → Type 0
+    → Scope → List TokenAndSpan → List TokenAndSpan → Answer F C K s → Type 0
 Claim hook (Level zero) c xs ys t = Unit {0}
-Claim hook (Level (suc n)) c xs ys t = n ≤ 10 → Bound c (min (suc n) 10) ys → (m : ℕ) → m ≤ n
-    → run hook (sym (Level (suc m))) c xs ≡ run hook (climb t m) c ys
+Claim hook (Level (suc n)) c xs ys t = n ≤ 10 → no_link true ys ≡ true → Bound c (min (suc n) 10) ys
+    → (m : ℕ) → m ≤ n → run hook (sym (Level (suc m))) c xs ≡ run hook (climb t m) c ys
+Claim hook (Left b) c xs ys t = run hook (sym (Lhs b)) c xs ≡ run hook (links b t) c ys
 Claim hook s c xs ys t = Stop s c ys → run hook (sym s) c xs ≡ Some (t, ys)
 
 starting : (Q : List TokenAndSpan → Type 0) (P : Token → Bool) (xs : List TokenAndSpan) → at_token P (first xs) ≡ true
@@ -229,23 +288,89 @@ module _ {F C K : Type 0} (hook : Hook F C K) where
   then-some (Some p) = refl
 
   -- a call that stands last
-  pub last : (g : Option ℕ) (k : Call F C K) (c : Context) (ts : List TokenAndSpan) → allowed g (rank k) ≡ true
+  pub last : (g : Option ℕ) (k : Call F C K) (c : Scope) (ts : List TokenAndSpan) → allowed g (rank k) ≡ true
       → exec hook (run hook) g (read k c (λ v. gives v)) ts ≡ run hook k c ts
   last g k c ts h = rw h (then-some (run hook k c ts))
 
+  -- links
+  no-link-here : (d e q x y : Bool) → (not d && (not e && (not q && (not x && not y)))) ≡ true
+      → (d ≡ false) × (e ≡ false) × (q ≡ false) × (x ≡ false) × (y ≡ false)
+  no-link-here true e q x y h = absurd cc
+  no-link-here false true q x y h = absurd cc
+  no-link-here false false true x y h = absurd cc
+  no-link-here false false false true y h = absurd cc
+  no-link-here false false false false true h = absurd cc
+  no-link-here false false false false false h = (refl, refl, refl, refl, refl)
+
+  no-links : (b : Bool) (t : TokenAndSpan) (us : List TokenAndSpan) → no_link b (t ∷ us) ≡ true
+      → (is_dot t.token ≡ false) × (is_lbracket t.token ≡ false) × (is_backquote t.token ≡ false)
+      × ((is_question t.token && at_token is_dot (first us)) ≡ false) × ((b && is_lparen t.token) ≡ false)
+  no-links b t us h =
+      no-link-here (is_dot t.token) (is_lbracket t.token) (is_backquote t.token)
+      (is_question t.token && at_token is_dot (first us)) (b && is_lparen t.token) h
+
+  -- where no link with calls comes next, no other does, and no parenthesis
+  any-link : (b : Bool) (ys : List TokenAndSpan) → no_link true ys ≡ true → no_link b ys ≡ true
+  any-link true ys h = h
+  any-link false [] h = refl
+  any-link false (t ∷ us) h = let (x, y, z, q, p) = no-links true t us h in rw (x, y, z, q) refl
+
+  no-paren : (ys : List TokenAndSpan) → no_link true ys ≡ true → at_token is_lparen (first ys) ≡ false
+  no-paren [] h = refl
+  no-paren (t ∷ us) h = let (x, y, z, q, p) = no-links true t us h in p
+
+  no-call-here : {c : Scope} (b : Bool) (t : TokenAndSpan) → (b && is_lparen t.token) ≡ false
+      → call_link {F = F} {C = C} {K = K} b {c = c} (Some t) ≡ no_more
+  no-call-here true t h = rw h refl
+  no-call-here false t h = refl
+
+  no-call-at-end : {c : Scope} (b : Bool) → call_link {F = F} {C = C} {K = K} b {c = c} None ≡ no_more
+  no-call-at-end true = refl
+  no-call-at-end false = refl
+
+  links-stop : (b : Bool) (c : Scope) (ys : List TokenAndSpan) → no_link b ys ≡ true
+      → link {F = F} {C = C} {K = K} b c ys ≡ no_more
+  links-stop b c [] h = no-call-at-end b
+  links-stop b c (t ∷ us) h = let (x, y, z, q, p) = no-links b t us h in rw (x, y, z, q) (no-call-here b t p)
+
+  links-end : (b : Bool) (t : Tree F C K) (c : Scope) (ys : List TokenAndSpan) → no_link b ys ≡ true
+      → run hook (links b t) c ys ≡ Some (t, ys)
+  links-end b t c ys h =
+      knot hook (links b t) c ys ∙ ap (λ v. exec hook (run hook) (Some 1) (linked v t) ys) (links-stop b c ys h)
+
+  links-take : {b : Bool} {c : Scope} (l : Tree F C K) (a : TokenAndSpan) (us ys : List TokenAndSpan)
+      {f : Tree F C K → TokenAndSpan → Side F C K (Left b)}
+      (p : Production (Left b) c (read (Left b) c (λ e. take (λ u. f e u)))) {t : Tree F C K}
+      → link b c (a ∷ us) ≡ more p
+      → exec hook (run hook) None (plan (f l a)) us ≡ Some (t, ys)
+      → run hook (links b l) c (a ∷ us) ≡ run hook (links b t) c ys
+  links-take {b = b} {c = c} l a us ys {f = f} p {t = t} h e =
+      knot hook (links b l) c (a ∷ us)
+      ∙ ap (λ v. exec hook (run hook) (Some 1) (linked v l) (a ∷ us)) h
+      ∙ bind hook (run hook) (plan (f l a)) (λ u. read (links b u) c (λ v. gives v)) us
+      ∙ rw e (last None (links b t) c ys refl)
+
+  -- `new`, and what it constructs
+  new-begins : (b : Bool) (c : Scope) (a : TokenAndSpan) (us ms : List TokenAndSpan) (l : Tree F C K)
+      → is_new a.token ≡ true → at_token is_dot (first us) ≡ false → not (is_chain l) ≡ true
+      → run hook (sym (Lhs false)) c us ≡ Some (l, ms)
+      → run hook (sym (Lhs b)) c (a ∷ us) ≡ run hook (constructs b a.span l) c ms
+  new-begins b c a us ms l h d n e =
+      knot hook (sym (Lhs b)) c (a ∷ us) ∙ rw (h, d, e, n) (last None (constructs b a.span l) c ms refl)
+
   -- climbing
-  turn-ends : (o : Option BinaryOp) (l : Tree F C K) (m : ℕ) (c : Context) (ts : List TokenAndSpan) → left_ok l ≡ true
+  turn-ends : (o : Option BinaryOp) (l : Tree F C K) (m : ℕ) (c : Scope) (ts : List TokenAndSpan) → left_ok l ≡ true
       → ((op : BinaryOp) → o ≡ Some op → precedence_of op ≤ m)
       → exec hook (run hook) (Some 1) (turn o l m c >>= (λ q. turned q.0 q.1 c)) ts ≡ Some (l, ts)
   turn-ends None l m c ts w b = rw w refl
   turn-ends (Some op) l m c ts w b = rw (le-leb (precedence_of op) m (b op refl), w) refl
 
-  climb-ends : (t : Tree F C K) (m : ℕ) (c : Context) (ts : List TokenAndSpan) → left_ok t ≡ true → Bound c m ts
+  climb-ends : (t : Tree F C K) (m : ℕ) (c : Scope) (ts : List TokenAndSpan) → left_ok t ≡ true → Bound c m ts
       → run hook (climb t m) c ts ≡ Some (t, ts)
-  climb-ends t m c ts w b = knot hook (climb t m) c ts ∙ turn-ends (operator_at c (first ts)) t m c ts w b
+  climb-ends t m c ts w b = knot hook (climb t m) c ts ∙ turn-ends (operator_at c.context (first ts)) t m c ts w b
 
-  climb-takes : (op : BinaryOp) (m : ℕ) (c : Context) (t : TokenAndSpan) (l r : Tree F C K) (ms ys : List TokenAndSpan)
-      → binary_of c t.token ≡ Some op → m < precedence_of op → exp_ok op l ≡ true → nullish_ok op l r ≡ true
+  climb-takes : (op : BinaryOp) (m : ℕ) (c : Scope) (t : TokenAndSpan) (l r : Tree F C K) (ms ys : List TokenAndSpan)
+      → binary_of c.context t.token ≡ Some op → m < precedence_of op → exp_ok op l ≡ true → nullish_ok op l r ≡ true
       → logical_ok op l ≡ true
       → run hook (sym (Level (suc (min_right op)))) c ms ≡ Some (r, ys)
       → run hook (climb l m) c (t ∷ ms) ≡ run hook (climb (bin_e (to (span_of l) (span_of r)) op l r) m) c ys
@@ -254,14 +379,14 @@ module _ {F C K : Type 0} (hook : Hook F C K) where
       ∙ rw (o, lt-leb (precedence_of op) m lt, x, e, n, g)
       (last None (climb (bin_e (to (span_of l) (span_of r)) op l r) m) c ys refl)
 
-  operand-climbs : (m : ℕ) (c : Context) (xs ys : List TokenAndSpan) (t : Tree F C K) → m ≤ 10
+  operand-climbs : (m : ℕ) (c : Scope) (xs ys : List TokenAndSpan) (t : Tree F C K) → m ≤ 10
       → run hook (sym Unary) c xs ≡ Some (t, ys)
       → run hook (sym (Level (suc m))) c xs ≡ run hook (climb t m) c ys
   operand-climbs m c xs ys t le e =
-      knot hook (sym (Level (suc m))) c xs ∙ rw (le-leb m 10 le, e) (last (Some 11) (climb t m) c ys refl)
+      knot hook (sym (Level (suc m))) c xs ∙ rw (le-leb m 10 le, e) (last (Some 12) (climb t m) c ys refl)
 
   -- a choice
-  pub picks : (s : Symbol) (c : Context) (xs : List TokenAndSpan) {r : Side F C K s} (p : Production s c r)
+  pub picks : (s : Symbol) (c : Scope) (xs : List TokenAndSpan) {r : Side F C K s} (p : Production s c r)
       (x : Choice F C K s c)
       {o : Out (Answer F C K s)} → step (sym s) c xs ≡ chosen x → x ≡ pick p
       → exec hook (run hook) (Some (rank_of s)) (plan r) xs ≡ o → run hook (sym s) c xs ≡ o
@@ -270,37 +395,53 @@ module _ {F C K : Type 0} (hook : Hook F C K) where
       ∙ ap (λ v. exec hook (run hook) (Some (rank_of s)) (chosen v) xs) h ∙ d
 
   -- the claim, where the reading stops
-  settle : (s : Symbol) (c : Context) (xs ys : List TokenAndSpan) (t : Answer F C K s) → Good F C K s t
+  settle : (s : Symbol) (c : Scope) (xs ys : List TokenAndSpan) (t : Answer F C K s) → Good F C K s t
       → Claim hook s c xs ys t → Stop s c ys → run hook (sym s) c xs ≡ Some (t, ys)
   settle (Level zero) c xs ys t g h stop = absurd stop
-  settle (Level (suc n)) c xs ys t g h (le, b) =
-      h le (bound-above c n (min (suc n) 10) ys (omega arith) b) n (omega arith) ∙ climb-ends t n c ys g.left b
+  settle (Level (suc n)) c xs ys t g h (le, end, b) =
+      h le end (bound-above c n (min (suc n) 10) ys (omega arith) b) n (omega arith) ∙ climb-ends t n c ys g.left b
+  settle (Left b) c xs ys t g h stop = absurd stop
   settle s c xs ys t g h stop = h stop
 
   -- no reading goes on with `)`
-  quiet-rparen : (c : Context) (a : TokenAndSpan) (us : List TokenAndSpan) → is_rparen a.token ≡ true
+  quiet-rparen : (c : Scope) (a : TokenAndSpan) (us : List TokenAndSpan) → is_rparen a.token ≡ true
       → Stop Assign c (a ∷ us)
   quiet-rparen c a us h =
-      only-rparen (λ v. Stop Assign c (tk v a.had_line_break a.span ∷ us)) (λ op k. absurd cc) a.token h
+      only-rparen (λ v. Stop Assign c (tk v a.had_line_break a.span ∷ us)) (refl, λ op k. absurd cc) a.token h
 
   -- nor with `]`
-  quiet-rbracket : (c : Context) (a : TokenAndSpan) (us : List TokenAndSpan) → is_rbracket a.token ≡ true
-      → Stop Assign c (a ∷ us)
+  quiet-rbracket : (c : Scope) (a : TokenAndSpan) (us : List TokenAndSpan) → is_rbracket a.token ≡ true
+      → Stop Expr c (a ∷ us)
   quiet-rbracket c a us h =
-      only-rbracket (λ v. Stop Assign c (tk v a.had_line_break a.span ∷ us)) (λ op k. absurd cc) a.token h
+      only-rbracket (λ v. Stop Expr c (tk v a.had_line_break a.span ∷ us)) (refl, λ op k. absurd cc) a.token h
 
-  -- an item is followed by a comma or a bracket, with which none goes on
-  quiet-tail : (c : Context) (a : TokenAndSpan) (us : List TokenAndSpan) → starts ElementsTail c a.token ≡ true
+  -- nor with `}`
+  quiet-rbrace : (c : Scope) (a : TokenAndSpan) (us : List TokenAndSpan) → is_rbrace a.token ≡ true
+      → Stop Expr c (a ∷ us)
+  quiet-rbrace c a us h =
+      only-rbrace (λ v. Stop Expr c (tk v a.had_line_break a.span ∷ us)) (refl, λ op k. absurd cc) a.token h
+
+  -- an item is followed by a comma or what closes its list, with which none goes on
+  quiet-tail : (c : Scope) (a : TokenAndSpan) (us : List TokenAndSpan) → starts ElementsTail c a.token ≡ true
       → Stop Item c (a ∷ us)
   quiet-tail c a us h = by-token a.token a.had_line_break a.span h
     where
       by-token : (t : Token) (b : Bool) (s : Span) → starts ElementsTail c t ≡ true → Stop Item c (tk t b s ∷ us)
-      by-token token.Comma b s h = λ op k. absurd cc
-      by-token token.RBracket b s h = λ op k. absurd cc
+      by-token token.Comma b s h = (refl, λ op k. absurd cc)
+      by-token token.RBracket b s h = (refl, λ op k. absurd cc)
+      by-token t b s h = absurd cc
+
+  quiet-args : (i : Bool) (c : Scope) (a : TokenAndSpan) (us : List TokenAndSpan)
+      → starts (ArgsTail i) c a.token ≡ true → Stop Item c (a ∷ us)
+  quiet-args i c a us h = by-token a.token a.had_line_break a.span h
+    where
+      by-token : (t : Token) (b : Bool) (s : Span) → starts (ArgsTail i) c t ≡ true → Stop Item c (tk t b s ∷ us)
+      by-token token.Comma b s h = (refl, λ op k. absurd cc)
+      by-token token.RParen b s h = (refl, λ op k. absurd cc)
       by-token t b s h = absurd cc
 
   -- Which production is picked, where it is followed.
-  no-error-first : (c : Context) (xs : List TokenAndSpan) → at_token (begins_expression c) (first xs) ≡ true
+  no-error-first : (c : Scope) (xs : List TokenAndSpan) → at_token (begins_expression c) (first xs) ≡ true
       → at_token no_error (first xs) ≡ true
   no-error-first c [] h = absurd cc
   no-error-first c (a ∷ us) h = by-token a.token h
@@ -309,21 +450,61 @@ module _ {F C K : Type 0} (hook : Hook F C K) where
       by-token (token.Error e) h = absurd cc
       by-token t h = refl
 
-  no-prefix-first : (c : Context) (xs : List TokenAndSpan) → at_token (begins_primary c) (first xs) ≡ true
+  no-prefix-first : (c : Scope) (xs : List TokenAndSpan) → at_token (begins_left c) (first xs) ≡ true
       → prefix_at (first xs) ≡ None
   no-prefix-first c [] h = refl
   no-prefix-first c (a ∷ us) h = by-token a.token h
     where
-      by-token : (t : Token) → begins_primary c t ≡ true → prefix_of t ≡ None
+      by-token : (t : Token) → begins_left c t ≡ true → prefix_of t ≡ None
       by-token (token.Word (word.Keyword keyword.Delete)) h = absurd cc
       by-token (token.Word (word.Keyword keyword.Void)) h = absurd cc
       by-token (token.Word (word.Keyword keyword.TypeOf)) h = absurd cc
-      by-token (token.BinOp b) h = absurd cc
+      by-token (token.BinOp sign.Add) h = absurd cc
+      by-token (token.BinOp sign.Sub) h = absurd cc
       by-token token.Tilde h = absurd cc
       by-token token.Bang h = absurd cc
       by-token t h = refl
 
-  lit-token : (c : Context) (t : Token) (b : Bool) (s : Span) (us : List TokenAndSpan) → is_lit t ≡ true
+  -- a left-hand side begins with no `.`, and a primary expression not with `new`
+  no-dot-first : (c : Scope) (xs : List TokenAndSpan) → at_token (begins_left c) (first xs) ≡ true
+      → at_token is_dot (first xs) ≡ false
+  no-dot-first c [] h = refl
+  no-dot-first c (a ∷ us) h = by-token a.token h
+    where
+      by-token : (t : Token) → begins_left c t ≡ true → is_dot t ≡ false
+      by-token token.Dot h = absurd cc
+      by-token t h = refl
+
+  no-new-first : (c : Scope) (xs : List TokenAndSpan) → at_token (begins_primary c) (first xs) ≡ true
+      → at_token is_new (first xs) ≡ false
+  no-new-first c [] h = refl
+  no-new-first c (a ∷ us) h = by-token a.token h
+    where
+      by-token : (t : Token) → begins_primary c t ≡ true → is_new t ≡ false
+      by-token (token.Word (word.Keyword keyword.New)) h = absurd cc
+      by-token t h = refl
+
+  -- regular expressions
+  regex-picks : (c : Scope) (t : Token) (b : Bool) (s : Span) (us : List TokenAndSpan) (e : Tree F C K)
+      → regex_of t s ≡ Some e → primary {F = F} {C = C} {K = K} c (tk t b s ∷ us) ≡ pick regex-alone
+  regex-picks c (token.Regex exp flags) b s us e h = refl
+  regex-picks c t b s us e h = absurd cc
+
+  slash-picks : (c : Scope) (t : Token) (b : Bool) (s : Span) (us : List TokenAndSpan) → is_slash t ≡ true
+      → primary {F = F} {C = C} {K = K} c (tk t b s ∷ us) ≡ pick regex-slash
+  slash-picks c (token.BinOp sign.Div) b s us h = refl
+  slash-picks c (token.AssignOp assign.DivAssign) b s us h = refl
+  slash-picks c t b s us h = absurd cc
+
+  -- templates
+  template-picks : (c : Scope) (xs : List TokenAndSpan) → at_token is_backquote (first xs) ≡ true
+      → primary {F = F} {C = C} {K = K} c xs ≡ pick primary-template
+  template-picks c [] h = absurd cc
+  template-picks c (a ∷ us) h =
+      only-backquote (λ v. primary {F = F} {C = C} {K = K} c (tk v a.had_line_break a.span ∷ us)
+      ≡ pick primary-template) refl a.token h
+
+  lit-token : (c : Scope) (t : Token) (b : Bool) (s : Span) (us : List TokenAndSpan) → is_lit t ≡ true
       → primary {F = F} {C = C} {K = K} c (tk t b s ∷ us) ≡ pick primary-literal
   lit-token c (token.Word word.Null) b s us h = refl
   lit-token c (token.Word word.True) b s us h = refl
@@ -333,51 +514,152 @@ module _ {F C K : Type 0} (hook : Hook F C K) where
   lit-token c (token.Str value raw) b s us h = refl
   lit-token c t b s us h = absurd cc
 
-  pub lit-picks : (c : Context) (xs : List TokenAndSpan) → at_token is_lit (first xs) ≡ true
+  pub lit-picks : (c : Scope) (xs : List TokenAndSpan) → at_token is_lit (first xs) ≡ true
       → primary {F = F} {C = C} {K = K} c xs ≡ pick primary-literal
   lit-picks c [] h = absurd cc
   lit-picks c (a ∷ us) h = lit-token c a.token a.had_line_break a.span us h
 
-  picked-assign : {c : Context} {r : Side F C K Assign} {xs ys : List TokenAndSpan} {t : Tree F C K}
+  picked-assign : {c : Scope} {r : Side F C K Assign} {xs ys : List TokenAndSpan} {t : Tree F C K}
       (p : Production Assign c r)
       → Follows hook Assign r xs ys t → assign c xs ≡ pick p
   picked-assign {c = c} assign-level (part {xs = xs} e d) = rw (no-error-first c xs (begins e)) refl
 
-  picked-unary : {c : Context} {r : Side F C K Unary} {xs ys : List TokenAndSpan} {t : Tree F C K}
+  picked-unary : {c : Scope} {r : Side F C K Unary} {xs ys : List TokenAndSpan} {t : Tree F C K}
       (p : Production Unary c r)
       → Follows hook Unary r xs ys t → unary c xs ≡ pick p
   picked-unary unary-op (took {a = a} d) =
       let (x, h, k) = given-held (prefix_here a.token a.span) _ d in rw
       (placed-op (prefix_of a.token) a.span x.0 x.1 h) refl
-  picked-unary {c = c} unary-primary (part {xs = xs} e d) = rw (no-prefix-first c xs (begins e)) refl
+  picked-unary {c = c} unary-left (part {xs = xs} e d) = rw (no-prefix-first c xs (begins e)) refl
+
+  -- arguments
+  not-closed : (c : Scope) (xs : List TokenAndSpan) → at_token (starts Item c) (first xs) ≡ true
+      → at_token is_rparen (first xs) ≡ false
+  not-closed c [] h = refl
+  not-closed c (a ∷ us) h = by-token a.token h
+    where
+      by-token : (t : Token) → starts Item c t ≡ true → is_rparen t ≡ false
+      by-token token.RParen h = absurd cc
+      by-token t h = refl
+
+  picked-args : {c : Scope} {i : Bool} {r : Side F C K (Args i)} {xs ys : List TokenAndSpan} {t : Tree F C K}
+      (p : Production (Args i) c r)
+      → Follows hook (Args i) r xs ys t → args i c xs ≡ pick p
+  picked-args {c = c} {i = i} args-end (took {a = a} {xs = us} (held h d)) =
+      only-rparen (λ v. args {F = F} {C = C} {K = K} i c (tk v a.had_line_break a.span ∷ us)
+      ≡ pick args-end) refl a.token h
+  picked-args {c = c} args-more (part {xs = xs} e d) = rw (not-closed c xs (begins e)) refl
+
+  picked-args-tail : {c : Scope} {i : Bool} {r : Side F C K (ArgsTail i)} {xs ys : List TokenAndSpan}
+      {t : Tree F C K} (p : Production (ArgsTail i) c r)
+      → Follows hook (ArgsTail i) r xs ys t → args_tail i c xs ≡ pick p
+  picked-args-tail {c = c} {i = i} args-tail-end (took {a = a} {xs = us} (held h d)) =
+      only-rparen (λ v. args_tail {F = F} {C = C} {K = K} i c (tk v a.had_line_break a.span ∷ us)
+      ≡ pick args-tail-end) refl a.token h
+  picked-args-tail {c = c} {i = i} args-tail-more (took {a = a} {xs = us} (held h d)) =
+      only-comma (λ v. args_tail {F = F} {C = C} {K = K} i c (tk v a.had_line_break a.span ∷ us)
+      ≡ pick args-tail-more) refl a.token h
+
+  -- bases
+  base-token : (b : Bool) (c : Scope) (t : Token) (l : Bool) (s : Span) (us : List TokenAndSpan)
+      → begins_primary c t ≡ true → base {F = F} {C = C} {K = K} b c (tk t l s ∷ us) ≡ pick base-primary
+  base-token b c (token.Word (word.Keyword keyword.New)) l s us h = absurd cc
+  base-token b c (token.Word (word.Keyword keyword.Super)) l s us h = absurd cc
+  base-token b c (token.Word (word.Keyword keyword.Import)) l s us h = absurd cc
+  base-token b c t l s us h = refl
+
+  primary-picks : (b : Bool) (c : Scope) (xs : List TokenAndSpan) → at_token (begins_primary c) (first xs) ≡ true
+      → base {F = F} {C = C} {K = K} b c xs ≡ pick base-primary
+  primary-picks b c [] h = refl
+  primary-picks b c (a ∷ us) h = base-token b c a.token a.had_line_break a.span us h
+
+  super-picks : (b : Bool) (c : Scope) (a : TokenAndSpan) (us : List TokenAndSpan) → is_super a.token ≡ true
+      → base {F = F} {C = C} {K = K} b c (a ∷ us) ≡ super_base b (first us)
+  super-picks b c a us h =
+      only-super (λ v. base {F = F} {C = C} {K = K} b c (tk v a.had_line_break a.span ∷ us)
+      ≡ super_base b (first us)) refl a.token h
+
+  import-picks : (b : Bool) (c : Scope) (a : TokenAndSpan) (us : List TokenAndSpan) → is_import a.token ≡ true
+      → base {F = F} {C = C} {K = K} b c (a ∷ us) ≡ import_base b (first us) (second us)
+  import-picks b c a us h =
+      only-import (λ v. base {F = F} {C = C} {K = K} b c (tk v a.had_line_break a.span ∷ us)
+      ≡ import_base b (first us) (second us)) refl a.token h
+
+  meta-picks : (b : Bool) (c : Scope) (t : TokenAndSpan) → is_meta t.token ≡ true
+      → import_dot {F = F} {C = C} {K = K} b {c = c} (Some t) ≡ pick import-meta
+  meta-picks true c t h = rw (no-source t.token h) refl
+  meta-picks false c t h = refl
+
+  picked-base : {b : Bool} {c : Scope} {r : Side F C K (Base b)} {xs ys : List TokenAndSpan} {t : Tree F C K}
+      (p : Production (Base b) c r) → Follows hook (Base b) r xs ys t → base b c xs ≡ pick p
+  picked-base {b = b} {c = c} base-primary (part {xs = xs} e d) = primary-picks b c xs (begins e)
+  picked-base new-target (took (held h d)) = rw h refl
+  picked-base {b = b} {c = c} super-name (took {a = a} (held h (took {a = e} {xs = us} (held i d)))) =
+      super-picks b c a (e ∷ us) h ∙ rw i refl
+  picked-base {b = b} {c = c} super-computed (took {a = a} (held h (took {a = e} {xs = us} (held i d)))) =
+      super-picks b c a (e ∷ us) h
+      ∙ only-lbracket (λ v. super_base {F = F} {C = C} {K = K} b {c = c} (Some (tk v e.had_line_break e.span))
+      ≡ pick super-computed) refl e.token i
+  picked-base {c = c} super-call (took {a = a} (held h (took {a = e} {xs = us} (held i d)))) =
+      super-picks true c a (e ∷ us) h
+      ∙ only-lparen (λ v. super_base {F = F} {C = C} {K = K} true {c = c} (Some (tk v e.had_line_break e.span))
+      ≡ pick super-call) refl e.token i
+  picked-base {b = b} {c = c} import-meta
+      (took {a = a} (held h (took {a = e} (held i (took {a = g} {xs = us} (held j d)))))) =
+      import-picks b c a (e ∷ (g ∷ us)) h ∙ rw i (meta-picks b c g j)
+  picked-base {c = c} import-call (took {a = a} (held h (took {a = e} {xs = us} (held i d)))) =
+      import-picks true c a (e ∷ us) h
+      ∙ only-lparen (λ v. import_base {F = F} {C = C} {K = K} true {c = c} (Some (tk v e.had_line_break e.span))
+      (first us) ≡ pick import-call) refl e.token i
+  picked-base {c = c} import-source
+      (took {a = a} (held h (took {a = e} (held i (took {a = g} {xs = us} (held j d)))))) =
+      import-picks true c a (e ∷ (g ∷ us)) h ∙ rw (i, j) refl
+
+  -- a base is not `new` with what it constructs
+  base-no-new : {b : Bool} {c : Scope} {xs ys : List TokenAndSpan} {t : Tree F C K} → Reads hook (Base b) c xs ys t
+      → begins_new xs ≡ false
+  base-no-new {c = c} (by base-primary (part {xs = xs} e d)) = rw (no-new-first c xs (begins e)) refl
+  base-no-new (by new-target (took (held h (took (held i d))))) = rw (h, i) refl
+  base-no-new (by super-name (took {a = a} (held h d))) = rw (super-no-new a.token h) refl
+  base-no-new (by super-computed (took {a = a} (held h d))) = rw (super-no-new a.token h) refl
+  base-no-new (by super-call (took {a = a} (held h d))) = rw (super-no-new a.token h) refl
+  base-no-new (by import-meta (took {a = a} (held h d))) = rw (import-no-new a.token h) refl
+  base-no-new (by import-call (took {a = a} (held h d))) = rw (import-no-new a.token h) refl
+  base-no-new (by import-source (took {a = a} (held h d))) = rw (import-no-new a.token h) refl
 
   -- functions and classes, by the tokens that stand first
-  fn-token : (c : Context) (t : Token) (b : Bool) (s : Span) (us : List TokenAndSpan)
+  fn-token : (c : Scope) (t : Token) (b : Bool) (s : Span) (us : List TokenAndSpan)
       → begins_function (tk t b s ∷ us) ≡ true → primary {F = F} {C = C} {K = K} c (tk t b s ∷ us) ≡ pick fn-expr
   fn-token c (token.Word (word.Keyword keyword.Function)) b s us h = refl
   fn-token c (token.Word (word.Ident w)) b s us h =
       let (async, here) = both (is_text w (codes "async")) (is_function_here us) h in
-      rw (async, here, and-false (is_reference c (word.Ident w))) refl
+      rw (async, here, and-false (is_reference c.context (word.Ident w))) refl
   fn-token c t b s us h = absurd cc
 
-  pub fn-picks : (c : Context) (xs : List TokenAndSpan) → begins_function xs ≡ true
+  pub fn-picks : (c : Scope) (xs : List TokenAndSpan) → begins_function xs ≡ true
       → primary {F = F} {C = C} {K = K} c xs ≡ pick fn-expr
   fn-picks c [] h = absurd cc
   fn-picks c (a ∷ us) h = fn-token c a.token a.had_line_break a.span us h
 
-  pub class-picks : (c : Context) (xs : List TokenAndSpan) → begins_own is_class xs ≡ true
+  pub class-picks : (c : Scope) (xs : List TokenAndSpan) → begins_own is_class xs ≡ true
       → primary {F = F} {C = C} {K = K} c xs ≡ pick class-expr
   class-picks c [] h = absurd cc
   class-picks c (a ∷ us) h =
       only-class (λ v. primary {F = F} {C = C} {K = K} c (tk v a.had_line_break a.span ∷ us) ≡ pick class-expr) refl
       a.token h
 
-  picked-primary : {c : Context} {r : Side F C K Primary} {xs ys : List TokenAndSpan} {t : Tree F C K}
+  picked-primary : {c : Scope} {r : Side F C K Primary} {xs ys : List TokenAndSpan} {t : Tree F C K}
       (p : Production Primary c r)
       → Follows hook Primary r xs ys t → primary c xs ≡ pick p
   picked-primary {c = c} ident-expr (took {a = a} d) =
       let (n, h, k) = given-held (reference c a.token a.span) _ d in rw (reference-first c a.token a.span n h).0 refl
   picked-primary {c = c} primary-literal (part {xs = xs} e d) = lit-picks c xs (begins e)
+  picked-primary {c = c} regex-alone (took {a = a} {xs = us} d) =
+      let (e, h, k) = given-held (regex_of a.token a.span) _ d in
+      regex-picks c a.token a.had_line_break a.span us e h
+  picked-primary {c = c} regex-slash (took {a = a} {xs = us} (held h d)) =
+      slash-picks c a.token a.had_line_break a.span us h
+  picked-primary {c = c} primary-template (part {xs = xs} e d) = template-picks c xs (begins e)
   picked-primary {c = c} this-expr (took {a = a} {xs = us} (held h d)) =
       only-this (λ v. primary {F = F} {C = C} {K = K} c (tk v a.had_line_break a.span ∷ us)
       ≡ pick this-expr) refl a.token h
@@ -401,7 +683,7 @@ module _ {F C K : Type 0} (hook : Hook F C K) where
       ≡ pick private-expr) refl a.token h
 
   -- lists and items
-  not-listed : (c : Context) (xs : List TokenAndSpan) → at_token (starts Item c) (first xs) ≡ true
+  not-listed : (c : Scope) (xs : List TokenAndSpan) → at_token (starts Item c) (first xs) ≡ true
       → elements {F = F} {C = C} {K = K} c xs ≡ pick elements-more
   not-listed c [] h = absurd cc
   not-listed c (a ∷ us) h = by-token a.token a.had_line_break a.span h
@@ -412,7 +694,7 @@ module _ {F C K : Type 0} (hook : Hook F C K) where
       by-token token.RBracket b s h = absurd cc
       by-token t b s h = refl
 
-  no-dots-first : (c : Context) (xs : List TokenAndSpan) → at_token (begins_expression c) (first xs) ≡ true
+  no-dots-first : (c : Scope) (xs : List TokenAndSpan) → at_token (begins_expression c) (first xs) ≡ true
       → at_token is_dots (first xs) ≡ false
   no-dots-first c [] h = refl
   no-dots-first c (a ∷ us) h = by-token a.token h
@@ -421,7 +703,7 @@ module _ {F C K : Type 0} (hook : Hook F C K) where
       by-token token.DotDotDot h = absurd cc
       by-token t h = refl
 
-  picked-elements : {c : Context} {r : Side F C K Elements} {xs ys : List TokenAndSpan} {t : Tree F C K}
+  picked-elements : {c : Scope} {r : Side F C K Elements} {xs ys : List TokenAndSpan} {t : Tree F C K}
       (p : Production Elements c r)
       → Follows hook Elements r xs ys t → elements c xs ≡ pick p
   picked-elements {c = c} elements-end (took {a = a} {xs = us} (held h d)) =
@@ -432,7 +714,7 @@ module _ {F C K : Type 0} (hook : Hook F C K) where
       ≡ pick elements-hole) refl a.token h
   picked-elements {c = c} elements-more (part {xs = xs} e d) = not-listed c xs (begins e)
 
-  picked-tail : {c : Context} {r : Side F C K ElementsTail} {xs ys : List TokenAndSpan} {t : Tree F C K}
+  picked-tail : {c : Scope} {r : Side F C K ElementsTail} {xs ys : List TokenAndSpan} {t : Tree F C K}
       (p : Production ElementsTail c r)
       → Follows hook ElementsTail r xs ys t → elements_tail c xs ≡ pick p
   picked-tail {c = c} tail-end (took {a = a} {xs = us} (held h d)) =
@@ -442,7 +724,7 @@ module _ {F C K : Type 0} (hook : Hook F C K) where
       only-comma (λ v. elements_tail {F = F} {C = C} {K = K} c (tk v a.had_line_break a.span ∷ us)
       ≡ pick tail-more) refl a.token h
 
-  picked-item : {c : Context} {r : Side F C K Item} {xs ys : List TokenAndSpan} {t : Tree F C K}
+  picked-item : {c : Scope} {r : Side F C K Item} {xs ys : List TokenAndSpan} {t : Tree F C K}
       (p : Production Item c r)
       → Follows hook Item r xs ys t → item c xs ≡ pick p
   picked-item {c = c} item-expr (part {xs = xs} e d) = rw (no-dots-first c xs (begins e)) refl
@@ -460,7 +742,7 @@ module _ {F C K : Type 0} (hook : Hook F C K) where
       by-token token.RBrace h = absurd cc
       by-token t h = refl
 
-  picked-props : {c : Context} {r : Side F C K Props} {xs ys : List TokenAndSpan} {t : Tree F C K}
+  picked-props : {c : Scope} {r : Side F C K Props} {xs ys : List TokenAndSpan} {t : Tree F C K}
       (p : Production Props c r)
       → Follows hook Props r xs ys t → props c xs ≡ pick p
   picked-props {c = c} props-end (took {a = a} {xs = us} (held h d)) =
@@ -468,7 +750,7 @@ module _ {F C K : Type 0} (hook : Hook F C K) where
       ≡ pick props-end) refl a.token h
   picked-props {c = c} props-more (part {xs = xs} e d) = rw (not-brace-first xs (begins e)) refl
 
-  picked-props-tail : {c : Context} {r : Side F C K PropsTail} {xs ys : List TokenAndSpan} {t : Tree F C K}
+  picked-props-tail : {c : Scope} {r : Side F C K PropsTail} {xs ys : List TokenAndSpan} {t : Tree F C K}
       (p : Production PropsTail c r)
       → Follows hook PropsTail r xs ys t → props_tail c xs ≡ pick p
   picked-props-tail {c = c} props-tail-end (took {a = a} {xs = us} (held h d)) =
@@ -478,19 +760,19 @@ module _ {F C K : Type 0} (hook : Hook F C K) where
       only-comma (λ v. props_tail {F = F} {C = C} {K = K} c (tk v a.had_line_break a.span ∷ us)
       ≡ pick props-tail-more) refl a.token h
 
-  key-word : (c : Context) (t : Token) (b : Bool) (s : Span) (us : List TokenAndSpan) → is_word t ≡ true
+  key-word : (c : Scope) (t : Token) (b : Bool) (s : Span) (us : List TokenAndSpan) → is_word t ≡ true
       → key {F = F} {C = C} {K = K} c (tk t b s ∷ us) ≡ pick key-name
   key-word c (token.Word w) b s us h = refl
   key-word c t b s us h = absurd cc
 
-  key-lit-token : (c : Context) (t : Token) (b : Bool) (s : Span) (us : List TokenAndSpan) (e : Tree F C K)
+  key-lit-token : (c : Scope) (t : Token) (b : Bool) (s : Span) (us : List TokenAndSpan) (e : Tree F C K)
       → key_lit_of t s ≡ Some e → key {F = F} {C = C} {K = K} c (tk t b s ∷ us) ≡ pick key-literal
   key-lit-token c (token.Num raw) b s us e h = refl
   key-lit-token c (token.BigInt raw) b s us e h = refl
   key-lit-token c (token.Str value raw) b s us e h = refl
   key-lit-token c t b s us e h = absurd cc
 
-  picked-key : {c : Context} {r : Side F C K Key} {xs ys : List TokenAndSpan} {t : Tree F C K}
+  picked-key : {c : Scope} {r : Side F C K Key} {xs ys : List TokenAndSpan} {t : Tree F C K}
       (p : Production Key c r)
       → Follows hook Key r xs ys t → key c xs ≡ pick p
   picked-key {c = c} key-name (took {a = a} {xs = us} d) =
@@ -508,7 +790,7 @@ module _ {F C K : Type 0} (hook : Hook F C K) where
   not-colon-first [] h = refl
   not-colon-first (a ∷ us) h = only-lparen (λ t. is_colon t ≡ false) refl a.token h
 
-  picked-after : {c : Context} {r : Side F C K AfterKey} {xs ys : List TokenAndSpan} {t : Tree F C K}
+  picked-after : {c : Scope} {r : Side F C K AfterKey} {xs ys : List TokenAndSpan} {t : Tree F C K}
       (p : Production AfterKey c r)
       → Follows hook AfterKey r xs ys t → after_key c xs ≡ pick p
   picked-after {c = c} after-value (took {a = a} {xs = us} (held h d)) =
@@ -517,7 +799,7 @@ module _ {F C K : Type 0} (hook : Hook F C K) where
   picked-after after-shell (part {xs = xs} e d) = rw (not-colon-first xs (begins e)) refl
 
   -- a property that begins with a word, by what stands behind it
-  word-picks : (c : Context) (a : TokenAndSpan) (us : List TokenAndSpan) (x : Choice F C K Prop c)
+  word-picks : (c : Scope) (a : TokenAndSpan) (us : List TokenAndSpan) (x : Choice F C K Prop c)
       → is_word a.token ≡ true
       → prop_word {F = F} {C = C} {K = K} {c = c} (Some a) (first us) ≡ x → prop c (a ∷ us) ≡ x
   word-picks c a us x h e = by-token a.token a.had_line_break a.span h e
@@ -528,21 +810,21 @@ module _ {F C K : Type 0} (hook : Hook F C K) where
       by-token (token.Word w) b s h e = e
       by-token t b s h e = absurd cc
 
-  async-picks : (c : Context) (a : TokenAndSpan) (us : List TokenAndSpan) → is_async a.token ≡ true
+  async-picks : (c : Scope) (a : TokenAndSpan) (us : List TokenAndSpan) → is_async a.token ≡ true
       → at_token begins_key (first us) ≡ true → prop {F = F} {C = C} {K = K} c (a ∷ us) ≡ pick prop-async
   async-picks c a us h g =
       let (m, n) = key-begins-method (first us) g in
       let (x, y, z, q) = method-apart (first us) m in
       word-picks c a us (pick prop-async) (async-word a.token h) (rw (x, y, z, q, not-get-token a.token h, h, n) refl)
 
-  async-star-picks : (c : Context) (a : TokenAndSpan) (us : List TokenAndSpan) → is_async a.token ≡ true
+  async-star-picks : (c : Scope) (a : TokenAndSpan) (us : List TokenAndSpan) → is_async a.token ≡ true
       → at_token is_star (first us) ≡ true → prop {F = F} {C = C} {K = K} c (a ∷ us) ≡ pick prop-async-generator
   async-star-picks c a us h g =
       let (x, y, z, q) = method-apart (first us) (star-begins-method (first us) g) in
       word-picks c a us (pick prop-async-generator) (async-word a.token h)
       (rw (x, y, z, q, not-get-token a.token h, h, g) refl)
 
-  get-picks : (c : Context) (a : TokenAndSpan) (us : List TokenAndSpan) → is_get a.token ≡ true
+  get-picks : (c : Scope) (a : TokenAndSpan) (us : List TokenAndSpan) → is_get a.token ≡ true
       → at_token begins_key (first us) ≡ true → prop {F = F} {C = C} {K = K} c (a ∷ us) ≡ pick prop-getter
   get-picks c a us h g =
       let (x, y, z, q) = method-apart (first us) (key-begins-method (first us) g).0 in
@@ -568,7 +850,7 @@ module _ {F C K : Type 0} (hook : Hook F C K) where
   checked-next p (held h d) = next-passes p d
 
   -- a key is a word, or the property is picked by its first token
-  key-picks : {c : Context} {xs ms : List TokenAndSpan} {k : Tree F C K} → Reads hook Key c xs ms k
+  key-picks : {c : Scope} {xs ms : List TokenAndSpan} {k : Tree F C K} → Reads hook Key c xs ms k
       → at_token follows_key (first ms) ≡ true → prop {F = F} {C = C} {K = K} c xs ≡ pick prop-key
   key-picks {c = c} {ms = ms} (by key-name (took {a = a} {xs = us} d)) g =
       let (n, h, k) = given-held (any_name c a.token a.span) _ d in
@@ -590,7 +872,7 @@ module _ {F C K : Type 0} (hook : Hook F C K) where
       only-lbracket (λ v. prop {F = F} {C = C} {K = K} c (tk v a.had_line_break a.span ∷ us) ≡ pick prop-key) refl
       a.token h
 
-  picked-prop : {c : Context} {r : Side F C K Prop} {xs ys : List TokenAndSpan} {t : Tree F C K}
+  picked-prop : {c : Scope} {r : Side F C K Prop} {xs ys : List TokenAndSpan} {t : Tree F C K}
       (p : Production Prop c r) → Stop Prop c ys
       → Follows hook Prop r xs ys t → prop c xs ≡ pick p
   picked-prop {c = c} prop-spread stop (took {a = a} {xs = us} (held h d)) =
@@ -616,15 +898,40 @@ module _ {F C K : Type 0} (hook : Hook F C K) where
       get-picks c a us h (begins e)
 
   -- where a symbol's reading stops, what a picked production reads stops too
-  ready-unary : {c : Context} {r : Side F C K Unary} (ys : List TokenAndSpan) → Production Unary c r
-      → Ready (Some 10) ys r
-  ready-unary ys unary-op =
-      λ a. ready-given _ _ (prefix_here a.token a.span) _ (λ x h. (refl, λ e. (λ n. tt, λ n. tt)))
-  ready-unary ys unary-primary = (refl, λ e. (tt, tt))
+  ready-unary : {c : Scope} {r : Side F C K Unary} (ys : List TokenAndSpan) → Stop Unary c ys → Production Unary c r
+      → Ready (Some 11) ys r
+  ready-unary ys stop unary-op =
+      λ a. ready-given _ _ (prefix_here a.token a.span) _ (λ x h. (refl, λ e. (λ n. stop, λ n. tt)))
+  ready-unary ys stop unary-left = (refl, λ e. (stop, tt))
 
-  ready-primary : {c : Context} {r : Side F C K Primary} (ys : List TokenAndSpan) → Production Primary c r
+  ready-base : {b : Bool} {c : Scope} {r : Side F C K (Base b)} (ys : List TokenAndSpan) → Production (Base b) c r
+      → Ready (Some 9) ys r
+  ready-base ys base-primary = (refl, λ e. (tt, tt))
+  ready-base ys new-target = λ a h b k d j n. tt
+  ready-base ys (super-name {c = c}) = λ a h b k d. ready-given _ _ (any_name c d.token d.span) _ (λ n j o. tt)
+  ready-base ys (super-computed {c = c}) =
+      λ a h b k. (refl, λ e. (λ d us j o. quiet-rbracket (with_in c) d us j, λ d j o. tt))
+  ready-base ys super-call = λ a h b k. (refl, λ es. (tt, tt))
+  ready-base ys import-meta = λ a h b k d j n. tt
+  ready-base ys import-call = λ a h b k. (refl, λ es. (tt, tt))
+  ready-base ys import-source = λ a h b k d j g m. (refl, λ es. (tt, tt))
+
+  ready-args : {c : Scope} {i : Bool} {r : Side F C K (Args i)} (ys : List TokenAndSpan) → Production (Args i) c r
+      → Ready (Some 17) ys r
+  ready-args ys args-end = λ a h. tt
+  ready-args ys (args-more {c = c} {i = i}) = (refl, λ e. (λ a us h. quiet-args i c a us h, (refl, λ es. (tt, tt))))
+
+  ready-args-tail : {c : Scope} {i : Bool} {r : Side F C K (ArgsTail i)} (ys : List TokenAndSpan)
+      → Production (ArgsTail i) c r → Ready (Some 5) ys r
+  ready-args-tail ys args-tail-end = λ a h. tt
+  ready-args-tail ys args-tail-more = λ a h. (refl, λ es. (λ n. tt, λ n. tt))
+
+  ready-primary : {c : Scope} {r : Side F C K Primary} (ys : List TokenAndSpan) → Production Primary c r
       → Ready (Some 8) ys r
   ready-primary ys (ident-expr {c = c}) = λ a. ready-given _ _ (reference c a.token a.span) _ (λ n h. tt)
+  ready-primary ys regex-alone = λ a. ready-given _ _ (regex_of a.token a.span) _ (λ e h. tt)
+  ready-primary ys regex-slash = λ a h b. ready-given _ _ (regex_of b.token b.span) _ (λ e k. tt)
+  ready-primary ys primary-template = (refl, λ e. (tt, tt))
   ready-primary ys this-expr = λ a h. tt
   ready-primary ys primary-literal = (refl, λ e. (tt, tt))
   ready-primary ys array-lit = λ a h. (refl, λ e. (tt, tt))
@@ -634,52 +941,60 @@ module _ {F C K : Type 0} (hook : Hook F C K) where
   ready-primary ys (paren-expr {c = c}) = λ a h. (refl, λ e. (λ b us h n. quiet-rparen (with_in c) b us h, λ b k n. tt))
   ready-primary ys (private-expr {c = c}) = λ a h b. ready-given _ _ (any_name c b.token b.span) _ (λ n h1. tt)
 
-  ready-elements : {c : Context} {r : Side F C K Elements} (ys : List TokenAndSpan) → Production Elements c r
-      → Ready (Some 16) ys r
+  ready-parts : {c : Scope} {is_tagged : Bool} {r : Side F C K (Parts is_tagged)} (ys : List TokenAndSpan)
+      → Production (Parts is_tagged) c r → Ready (Some 6) ys r
+  ready-parts ys (parts-end {is_tagged = is_tagged}) =
+      λ a. ready-given _ _ (text_of is_tagged true a.token a.span) _ (λ t h b k. tt)
+  ready-parts ys (parts-more {c = c} {is_tagged = is_tagged}) =
+      λ a. ready-given _ _ (text_of is_tagged false a.token a.span) _
+      (λ t h b k. (refl, λ e. (λ d us j. quiet-rbrace (with_in c) d us j, λ d j. (refl, λ ps. (tt, tt)))))
+
+  ready-elements : {c : Scope} {r : Side F C K Elements} (ys : List TokenAndSpan) → Production Elements c r
+      → Ready (Some 17) ys r
   ready-elements ys elements-end = λ a h. tt
   ready-elements ys elements-hole = λ a h. (refl, λ e. (tt, tt))
   ready-elements ys (elements-more {c = c}) = (refl, λ e. (λ a us h. quiet-tail c a us h, (refl, λ es. (tt, tt))))
 
-  ready-tail : {c : Context} {r : Side F C K ElementsTail} (ys : List TokenAndSpan) → Production ElementsTail c r
+  ready-tail : {c : Scope} {r : Side F C K ElementsTail} (ys : List TokenAndSpan) → Production ElementsTail c r
       → Ready (Some 5) ys r
   ready-tail ys tail-end = λ a h. tt
   ready-tail ys tail-more = λ a h. (refl, λ e. (tt, tt))
 
-  ready-item : {c : Context} {r : Side F C K Item} (ys : List TokenAndSpan) → Stop Item c ys → Production Item c r
-      → Ready (Some 15) ys r
+  ready-item : {c : Scope} {r : Side F C K Item} (ys : List TokenAndSpan) → Stop Item c ys → Production Item c r
+      → Ready (Some 16) ys r
   ready-item ys stop item-expr = (refl, λ e. (stop, tt))
   ready-item ys stop item-spread = λ a h. (refl, λ e. (stop, tt))
 
-  ready-props : {c : Context} {r : Side F C K Props} (ys : List TokenAndSpan) → Production Props c r
+  ready-props : {c : Scope} {r : Side F C K Props} (ys : List TokenAndSpan) → Production Props c r
       → Ready (Some 5) ys r
   ready-props ys props-end = λ a h. tt
   ready-props ys props-more = (refl, λ p. (λ a us h. h, (refl, λ ps. (tt, tt))))
 
-  ready-props-tail : {c : Context} {r : Side F C K PropsTail} (ys : List TokenAndSpan) → Production PropsTail c r
+  ready-props-tail : {c : Scope} {r : Side F C K PropsTail} (ys : List TokenAndSpan) → Production PropsTail c r
       → Ready (Some 2) ys r
   ready-props-tail ys props-tail-end = λ a h. tt
   ready-props-tail ys props-tail-more = λ a h. (refl, λ ps. (tt, tt))
 
-  ready-prop : {c : Context} {r : Side F C K Prop} (ys : List TokenAndSpan) → Stop Prop c ys → Production Prop c r
+  ready-prop : {c : Scope} {r : Side F C K Prop} (ys : List TokenAndSpan) → Stop Prop c ys → Production Prop c r
       → Ready (Some 4) ys r
-  ready-prop ys stop (prop-spread {c = c}) = λ a h. (refl, λ e. (ends-prop-bound (with_in c) ys stop, tt))
+  ready-prop ys stop (prop-spread {c = c}) = λ a h. (refl, λ e. (ends-prop-stop (with_in c) ys stop, tt))
   ready-prop ys stop (prop-short {c = c}) = λ a. ready-given _ _ (any_name c a.token a.span) _ (λ n h r. tt)
   ready-prop ys stop (prop-cover {c = c}) = λ a. ready-given _ _ (any_name c a.token a.span) _
-      (λ n h r b k. (refl, λ e. (ends-prop-bound (with_in c) ys stop, tt)))
+      (λ n h r b k. (refl, λ e. (ends-prop-stop (with_in c) ys stop, tt)))
   ready-prop ys stop (prop-key {c = c}) =
-      (refl, λ k. (λ a us h. tt, (refl, λ x. (ends-prop-bound (with_in c) ys stop, tt))))
+      (refl, λ k. (λ a us h. tt, (refl, λ x. (ends-prop-stop (with_in c) ys stop, tt))))
   ready-prop ys stop prop-generator = λ a h. (refl, λ k. (λ b us g. tt, (refl, λ f. (tt, tt))))
   ready-prop ys stop prop-async = λ a h. (refl, λ k. (λ b us g. tt, (refl, λ f. (tt, tt))))
   ready-prop ys stop prop-async-generator = λ a h b j. (refl, λ k. (λ d us g. tt, (refl, λ f. (tt, tt))))
   ready-prop ys stop prop-getter = λ a h. (refl, λ k. (λ b us g. tt, (refl, λ f. (tt, tt))))
 
-  ready-key : {c : Context} {r : Side F C K Key} (ys : List TokenAndSpan) → Production Key c r → Ready (Some 3) ys r
+  ready-key : {c : Scope} {r : Side F C K Key} (ys : List TokenAndSpan) → Production Key c r → Ready (Some 3) ys r
   ready-key ys (key-name {c = c}) = λ a. ready-given _ _ (any_name c a.token a.span) _ (λ n h. tt)
   ready-key ys key-literal = λ a. ready-given _ _ (key_lit_of a.token a.span) _ (λ e h. tt)
   ready-key ys (key-computed {c = c}) =
       λ a h. (refl, λ e. (λ b us g. quiet-rbracket (with_in c) b us g, λ b g. tt))
 
-  ready-after : {c : Context} {r : Side F C K AfterKey} (ys : List TokenAndSpan) → Stop AfterKey c ys
+  ready-after : {c : Scope} {r : Side F C K AfterKey} (ys : List TokenAndSpan) → Stop AfterKey c ys
       → Production AfterKey c r → Ready (Some 3) ys r
   ready-after ys stop after-value = λ a h. (refl, λ e. (stop, tt))
   ready-after ys stop after-shell = (refl, λ f. (tt, tt))
@@ -694,11 +1009,11 @@ module _ {F C K : Type 0} (hook : Hook F C K) where
     ran-calm : {s : Symbol} {p : TokenAndSpan → Bool} {r : Side F C K s} {xs ys : List TokenAndSpan}
         {t : Answer F C K s}
         → sees p xs ≡ false → Ran s r xs ys t → Ran s (peek p r) xs ys t
-    ran-part : {s s' : Symbol} {c : Context} {f : Answer F C K s' → Side F C K s} {e : Answer F C K s'}
+    ran-part : {s s' : Symbol} {c : Scope} {f : Answer F C K s' → Side F C K s} {e : Answer F C K s'}
         {xs ms ys : List TokenAndSpan}
         {t : Answer F C K s} → Reads hook s' c xs ms e → Claim hook s' c xs ms e → Ran s (f e) ms ys t
         → Ran s (read s' c f) xs ys t
-    ran-heard : {s : Symbol} {b : Body} {c : Context} {f : Value F C K b → Span → Side F C K s} {v : Value F C K b}
+    ran-heard : {s : Symbol} {b : Body} {c : Scope} {f : Value F C K b → Span → Side F C K s} {v : Value F C K b}
         {xs ms ys : List TokenAndSpan} {t : Answer F C K s}
         → (h : Hears hook b c xs v ms) → Ran s (f v (whole_span h.own)) ms ys t → Ran s (hear b c f) xs ys t
 
@@ -721,7 +1036,7 @@ module _ {F C K : Type 0} (hook : Hook F C K) where
       → Ran s (check b r) xs ys t → (b ≡ true) × Ran s r xs ys t
   must-ran (ran-held h d) = (h, d)
 
-  part-ran : {s s' : Symbol} {c : Context} {f : Answer F C K s' → Side F C K s} {xs ys : List TokenAndSpan}
+  part-ran : {s s' : Symbol} {c : Scope} {f : Answer F C K s' → Side F C K s} {xs ys : List TokenAndSpan}
       {t : Answer F C K s} → Ran s (read s' c f) xs ys t
       → (e : Answer F C K s') × (ms : List TokenAndSpan) × Reads hook s' c xs ms e × Claim hook s' c xs ms e
       × Ran s (f e) ms ys t
@@ -743,55 +1058,194 @@ module _ {F C K : Type 0} (hook : Hook F C K) where
   side-reads g (ran-heard {f = f} {v = v} h d) q =
       hears-run h (λ v at us. exec hook (run hook) None (plan (f v at)) us) ∙ side-reads None d (q v _)
 
+  -- behind a `.` a name is no `#`
+  word-alone : (t : Token) → is_word t ≡ true
+      → (is_hash t ≡ false) × (is_lbracket t ≡ false) × (is_lparen t ≡ false)
+  word-alone (token.Word w) h = (refl, refl, refl)
+  word-alone t h = absurd cc
+
+  name-next : (c : Scope) {s : Symbol} {k : TokenAndSpan → Spelling → Side F C K s} {xs ys : List TokenAndSpan}
+      {t : Answer F C K s}
+      → Follows hook s (take (λ a. given (any_name c a.token a.span) >>= k a)) xs ys t
+      → (at_token is_hash (first xs) ≡ false) × (at_token is_lbracket (first xs) ≡ false)
+      × (at_token is_lparen (first xs) ≡ false)
+  name-next c (took {a = a} d) =
+      let (n, h, e) = given-held (any_name c a.token a.span) _ d in
+      word-alone a.token (name-first c a.token a.span n h)
+
+  hash-alone : (o : Option TokenAndSpan) → at_token is_hash o ≡ true
+      → (at_token is_lbracket o ≡ false) × (at_token is_lparen o ≡ false)
+  hash-alone None h = absurd cc
+  hash-alone (Some a) h = only-hash (λ v. (is_lbracket v ≡ false) × (is_lparen v ≡ false)) (refl, refl) a.token h
+
+  lparen-alone : (o : Option TokenAndSpan) → at_token is_lparen o ≡ true → at_token is_lbracket o ≡ false
+  lparen-alone None h = refl
+  lparen-alone (Some a) h = only-lparen (λ v. is_lbracket v ≡ false) refl a.token h
+
+  dollar-alone : (o : Option TokenAndSpan) → at_token is_dollar_brace o ≡ true → at_token is_backquote o ≡ false
+  dollar-alone None h = refl
+  dollar-alone (Some a) h = only-dollar-brace (λ v. is_backquote v ≡ false) refl a.token h
+
+  -- `?` and `.`, and what stands behind them
+  chained : (b : Bool) (c : Scope) (a d : TokenAndSpan) (us : List TokenAndSpan) → is_question a.token ≡ true
+      → is_dot d.token ≡ true
+      → link {F = F} {C = C} {K = K} b c (a ∷ (d ∷ us)) ≡ chain_link (first us)
+  chained b c a d us h k =
+      only-question (λ v. link {F = F} {C = C} {K = K} b c (tk v a.had_line_break a.span ∷ (d ∷ us))
+      ≡ chain_link (first us)) (rw k refl) a.token h
+
+  picked-parts : {c : Scope} {is_tagged : Bool} {r : Side F C K (Parts is_tagged)} {xs ys : List TokenAndSpan}
+      {t : Tree F C K} (p : Production (Parts is_tagged) c r)
+      → Follows hook (Parts is_tagged) r xs ys t → parts is_tagged c xs ≡ pick p
+  picked-parts (parts-end {is_tagged = is_tagged}) (took {a = a} d) =
+      let (t, h, k) = given-held (text_of is_tagged true a.token a.span) _ d in rw (next-passes is_backquote k) refl
+  picked-parts (parts-more {is_tagged = is_tagged}) (took {a = a} {xs = us} d) =
+      let (t, h, k) = given-held (text_of is_tagged false a.token a.span) _ d in
+      rw (dollar-alone (first us) (next-passes is_dollar_brace k)) refl
+
   -- operators
+  operator-link : (c : Scope) (a : TokenAndSpan) (us : List TokenAndSpan) (op : BinaryOp)
+      → binary_of c.context a.token ≡ Some op → no_link true (a ∷ us) ≡ true
+  operator-link c a us op h = by-token a.token a.had_line_break a.span h
+    where
+      by-token : (t : Token) (b : Bool) (s : Span) → binary_of c.context t ≡ Some op
+          → no_link true (tk t b s ∷ us) ≡ true
+      by-token token.BackQuote b s h = absurd cc
+      by-token token.QuestionMark b s h = absurd cc
+      by-token token.Dot b s h = absurd cc
+      by-token token.LBracket b s h = absurd cc
+      by-token token.LParen b s h = absurd cc
+      by-token t b s h = refl
+
   left-free : (op : BinaryOp) (l : Tree F C K) → precedence_of op ≤ 10 → exp_ok op l ≡ true
   left-free binary.Exp l h = absurd (omega arith)
   left-free op l h = refl
 
-  op-reads : (n : ℕ) (op : BinaryOp) (c : Context) (a : TokenAndSpan) (l r : Tree F C K) (xs ms ys : List TokenAndSpan)
+  op-reads : (n : ℕ) (op : BinaryOp) (c : Scope) (a : TokenAndSpan) (l r : Tree F C K) (xs ms ys : List TokenAndSpan)
       → suc n ≤ 10
-      → binary_of c a.token ≡ Some op → precedence_of op ≡ suc n → nullish_ok op l r ≡ true → logical_ok op l ≡ true
+      → binary_of c.context a.token ≡ Some op → precedence_of op ≡ suc n → nullish_ok op l r ≡ true
+      → logical_ok op l ≡ true
       → Good F C K (Level (suc (suc n))) r
       → Claim hook (Level (suc n)) c xs (a ∷ ms) l → Claim hook (Level (suc (suc n))) c ms ys r
       → Claim hook (Level (suc n)) c xs ys (bin_e (to (span_of l) (span_of r)) op l r)
-  op-reads n op c a l r xs ms ys top o p k g w left right = λ le b m lt.
+  op-reads n op c a l r xs ms ys top o p k g w left right = λ le end b m lt.
       let right-at : min_right op ≡ suc n = min-right-same op (omega arith) ∙ p in
       let e : run hook (sym (Level (suc (min_right op)))) c ms ≡ Some (r, ys) =
       rw right-at (settle (Level (suc (suc n))) c ms ys r w right
-      (top, bound-above c (min (suc n) 10) (suc n) ys (omega arith) b)) in
-      left le (bound-some c (min (suc n) 10) (a ∷ ms) op o (omega arith)) m lt
+      (top, end, bound-above c (min (suc n) 10) (suc n) ys (omega arith) b)) in
+      left le (operator-link c a ms op o) (bound-some c (min (suc n) 10) (a ∷ ms) op o (omega arith)) m lt
       ∙ climb-takes op m c a l r ms ys o (omega arith) (left-free op l (omega arith)) k g e
 
-  power-op : (c : Context) (a : TokenAndSpan) → is_power a.token ≡ true → binary_of c a.token ≡ Some binary.Exp
-  power-op c a h = only-power (λ v. binary_of c v ≡ Some binary.Exp) refl a.token h
+  power-op : (c : Scope) (a : TokenAndSpan) → is_power a.token ≡ true → binary_of c.context a.token ≡ Some binary.Exp
+  power-op c a h = only-power (λ v. binary_of c.context v ≡ Some binary.Exp) refl a.token h
 
-  exp-reads : (c : Context) (a : TokenAndSpan) (l r : Tree F C K) (xs ms ys : List TokenAndSpan)
+  exp-reads : (c : Scope) (a : TokenAndSpan) (l r : Tree F C K) (xs ms ys : List TokenAndSpan)
       → is_power a.token ≡ true → not (is_unary l) ≡ true → Good F C K (Level 11) r
       → Claim hook Unary c xs (a ∷ ms) l → Claim hook (Level 11) c ms ys r
       → Claim hook (Level 11) c xs ys (bin_e (to (span_of l) (span_of r)) binary.Exp l r)
-  exp-reads c a l r xs ms ys y x w left right = λ le b m lt.
-      operand-climbs m c xs (a ∷ ms) l (omega arith) (left tt)
+  exp-reads c a l r xs ms ys y x w left right = λ le end b m lt.
+      operand-climbs m c xs (a ∷ ms) l (omega arith) (left (operator-link c a ms binary.Exp (power-op c a y)))
       ∙ climb-takes binary.Exp m c a l r ms ys (power-op c a y) (omega arith) x refl refl
-      (settle (Level 11) c ms ys r w right (omega arith, b))
+      (settle (Level 11) c ms ys r w right (omega arith, end, b))
 
   -- one clause a production
-  claim-by : {s : Symbol} {c : Context} {r : Side F C K s} {xs ys : List TokenAndSpan} {t : Answer F C K s}
+  claim-by : {s : Symbol} {c : Scope} {r : Side F C K s} {xs ys : List TokenAndSpan} {t : Answer F C K s}
       → Production s c r → Ran s r xs ys t → Claim hook s c xs ys t
   claim-by {s = Primary} {c = c} {xs = xs} {ys = ys} p d = λ stop.
       picks Primary c xs p (primary c xs) refl (picked-primary p (forget d))
       (side-reads (Some 8) d (ready-primary {c = c} ys p))
   claim-by {s = Unary} {c = c} {xs = xs} {ys = ys} p d = λ stop.
       picks Unary c xs p (unary c xs) refl (picked-unary p (forget d))
-      (side-reads (Some 10) d (ready-unary {c = c} ys p))
+      (side-reads (Some 11) d (ready-unary {c = c} ys stop p))
+  claim-by {c = c} (lhs-left {b = b}) (ran-part {e = e} {xs = xs} {ms = ms} l h d) =
+      gave-ran (λ u us. Claim hook (Lhs b) c xs us u) d (λ stop. h ∙ links-end b e c ms (any-link b ms stop))
+  claim-by {c = c} (new-bare {b = b})
+      (ran-took {a = a} {xs = us} (ran-held h (ran-part {e = l} {ms = ms} dl k (ran-held n d)))) =
+      gave-ran (λ u vs. Claim hook (Lhs b) c (a ∷ us) vs u) d
+      (λ stop. new-begins b c a us ms l h (no-dot-first c us (begins dl)) n (k stop)
+      ∙ knot hook (constructs b a.span l) c ms ∙ rw (no-paren ms stop) refl)
+  claim-by {c = c} (left-base {b = b}) (ran-part {e = e} {xs = xs} {ms = ms} l h d) =
+      gave-ran (λ u us. Claim hook (Left b) c xs us u) d
+      (knot hook (sym (Lhs b)) c xs ∙ rw (base-no-new l, h tt) (last (Some 10) (links b e) c ms refl))
+  claim-by {c = c} (left-new {b = b})
+      (ran-took {a = a} {xs = us} (ran-held h (ran-part {e = l} dl k (ran-held n
+      (ran-took {a = o} {xs = vs} (ran-held i (ran-part {e = es} {ms = ms} de m d))))))) =
+      gave-ran (λ u ws. Claim hook (Left b) c (a ∷ us) ws u) d
+      (new-begins b c a us (o ∷ vs) l h (no-dot-first c us (begins dl)) n
+      (k ∙ links-end false l c (o ∷ vs) (only-lparen (λ v. no_link false (tk v o.had_line_break o.span ∷ vs) ≡ true) refl o.token i))
+      ∙ knot hook (constructs b a.span l) c (o ∷ vs)
+      ∙ rw (i, m tt) (last None (links b (new_e (to a.span (span_of es)) l (items_of es))) c ms refl))
+  claim-by {s = Base b} {c = c} {xs = xs} {ys = ys} p d = λ stop.
+      picks (Base b) c xs p (base b c xs) refl (picked-base p (forget d)) (side-reads (Some 9) d (ready-base {c = c} ys p))
+  claim-by {c = c} {ys = ys} member-name (ran-part {e = l} e k (ran-took {a = a} {xs = us} (ran-held h d))) =
+      k ∙ links-take l a us ys member-name (rw (h, (name-next c (forget d)).0) refl)
+      (rw h (side-reads None d (λ b. ready-given _ _ (any_name c b.token b.span) _ (λ n j. tt))))
+  claim-by {c = c} {ys = ys} member-private (ran-part {e = l} e k (ran-took {a = a} {xs = us} (ran-held h d))) =
+      k ∙ links-take l a us ys member-private (rw (h, next-passes is_hash (forget d)) refl)
+      (rw h (side-reads None d (λ b j. λ g. ready-given _ _ (any_name c g.token g.span) _ (λ n i o. tt))))
+  claim-by {c = c} {ys = ys} (member-computed {b = b})
+      (ran-part {e = l} e k (ran-took {a = a} {xs = us} (ran-held h d))) =
+      k ∙ links-take l a us ys member-computed
+      (only-lbracket (λ v. link {F = F} {C = C} {K = K} b c (tk v a.had_line_break a.span ∷ us)
+      ≡ more member-computed) refl a.token h)
+      (rw h (side-reads None d (refl, λ i. (λ g vs j. quiet-rbracket (with_in c) g vs j, λ g j. tt))))
+  claim-by {c = c} {ys = ys} call (ran-part {e = l} e k (ran-took {a = a} {xs = us} (ran-held h d))) =
+      k ∙ links-take l a us ys call
+      (only-lparen (λ v. link {F = F} {C = C} {K = K} true c (tk v a.had_line_break a.span ∷ us)
+      ≡ more call) refl a.token h)
+      (rw h (side-reads None d (refl, λ es. (tt, tt))))
+  claim-by {c = c} {ys = ys} (chain-name {b = b})
+      (ran-part {e = l} e k (ran-took {a = a} (ran-held h (ran-took {a = g} {xs = us} (ran-held i d))))) =
+      let (x, y, z) = name-next c (forget d) in
+      k ∙ links-take l a (g ∷ us) ys chain-name (chained b c a g us h i ∙ rw (y, z, x) refl)
+      (rw (h, i) (side-reads None d (λ o. ready-given _ _ (any_name c o.token o.span) _ (λ n j. tt))))
+  claim-by {c = c} {ys = ys} (chain-private {b = b})
+      (ran-part {e = l} e k (ran-took {a = a} (ran-held h (ran-took {a = g} {xs = us} (ran-held i d))))) =
+      let x = next-passes is_hash (forget d) in
+      let (y, z) = hash-alone (first us) x in
+      k ∙ links-take l a (g ∷ us) ys chain-private (chained b c a g us h i ∙ rw (y, z, x) refl)
+      (rw (h, i) (side-reads None d (λ q j. λ o. ready-given _ _ (any_name c o.token o.span) _ (λ n m w. tt))))
+  claim-by {c = c} {ys = ys} (chain-computed {b = b})
+      (ran-part {e = l} e k (ran-took {a = a} (ran-held h (ran-took {a = g} {xs = us} (ran-held i d))))) =
+      let x = next-passes is_lbracket (forget d) in
+      k ∙ links-take l a (g ∷ us) ys chain-computed (chained b c a g us h i ∙ rw x refl)
+      (rw (h, i) (side-reads None d (λ q j. (refl, λ o. (λ m vs w. quiet-rbracket (with_in c) m vs w, λ m w. tt)))))
+  claim-by {c = c} {ys = ys} (chain-call {b = b})
+      (ran-part {e = l} e k (ran-took {a = a} (ran-held h (ran-took {a = g} {xs = us} (ran-held i d))))) =
+      let x = next-passes is_lparen (forget d) in
+      let y = lparen-alone (first us) x in
+      k ∙ links-take l a (g ∷ us) ys chain-call (chained b c a g us h i ∙ rw (y, x) refl)
+      (rw (h, i) (side-reads None d (λ q j. (refl, λ es. (tt, tt)))))
+  claim-by {c = c} {ys = ys} (tagged-tpl {b = b})
+      (ran-part {e = l} e k (ran-took {a = a} {xs = us} (ran-held h d))) =
+      k ∙ links-take l a us ys tagged-tpl
+      (only-backquote (λ v. link {F = F} {C = C} {K = K} b c (tk v a.had_line_break a.span ∷ us)
+      ≡ more tagged-tpl) refl a.token h)
+      (rw h (side-reads None d (refl, λ ps. (λ n. tt, λ n. tt))))
+  claim-by {c = c} {xs = xs} (arguments {i = i}) d = λ stop.
+      picks (Arguments i) c xs arguments (call_args i c xs) refl refl
+      (side-reads (Some 9) d (λ a h. (refl, λ es. (tt, tt))))
+  claim-by {c = c} {xs = xs} (template {is_tagged = is_tagged}) d = λ stop.
+      picks (Template is_tagged) c xs template (tpl is_tagged c xs) refl refl
+      (side-reads (Some 6) d (λ a h. (refl, λ ps. (tt, tt))))
+  claim-by {s = Parts is_tagged} {c = c} {xs = xs} {ys = ys} p d = λ stop.
+      picks (Parts is_tagged) c xs p (parts is_tagged c xs) refl (picked-parts p (forget d))
+      (side-reads (Some 6) d (ready-parts {c = c} ys p))
+  claim-by {s = Args i} {c = c} {xs = xs} {ys = ys} p d = λ stop.
+      picks (Args i) c xs p (args i c xs) refl (picked-args p (forget d))
+      (side-reads (Some 17) d (ready-args {c = c} ys p))
+  claim-by {s = ArgsTail i} {c = c} {xs = xs} {ys = ys} p d = λ stop.
+      picks (ArgsTail i) c xs p (args_tail i c xs) refl (picked-args-tail p (forget d))
+      (side-reads (Some 5) d (ready-args-tail {c = c} ys p))
   claim-by {s = Elements} {c = c} {xs = xs} {ys = ys} p d = λ stop.
       picks Elements c xs p (elements c xs) refl (picked-elements p (forget d))
-      (side-reads (Some 16) d (ready-elements {c = c} ys p))
+      (side-reads (Some 17) d (ready-elements {c = c} ys p))
   claim-by {s = ElementsTail} {c = c} {xs = xs} {ys = ys} p d = λ stop.
       picks ElementsTail c xs p (elements_tail c xs) refl (picked-tail p (forget d))
       (side-reads (Some 5) d (ready-tail {c = c} ys p))
   claim-by {s = Item} {c = c} {xs = xs} {ys = ys} p d = λ stop.
       picks Item c xs p (item c xs) refl (picked-item p (forget d))
-      (side-reads (Some 15) d (ready-item {c = c} ys stop p))
+      (side-reads (Some 16) d (ready-item {c = c} ys stop p))
   claim-by {s = Props} {c = c} {xs = xs} {ys = ys} p d = λ stop.
       picks Props c xs p (props c xs) refl (picked-props p (forget d))
       (side-reads (Some 5) d (ready-props {c = c} ys p))
@@ -815,7 +1269,7 @@ module _ {F C K : Type 0} (hook : Hook F C K) where
       (side-reads (Some 6) d (λ a. ready-given _ _ (lit_of a.token a.span) _ (λ e h. tt)))
   claim-by {c = c} exp-unary (ran-part {e = e} {xs = xs} {ms = ms} l h d) =
       gave-ran (λ u us. Claim hook (Level 11) c xs us u) d
-      (λ le b m lt. operand-climbs m c xs ms e (omega arith) (h tt))
+      (λ le end b m lt. operand-climbs m c xs ms e (omega arith) (h end))
   claim-by {c = c} exp-op (ran-part {e = l} {xs = xs} dl left (ran-took {a = a} {xs = us} d)) =
       let (x, d1) = must-ran d in
       let (n, d2) = must-ran d1 in
@@ -824,8 +1278,8 @@ module _ {F C K : Type 0} (hook : Hook F C K) where
   claim-by (level-up {k = zero} b) d = tt
   claim-by {c = c} {ys = ys} {t = t} (level-up {k = suc k} b) (ran-part {e = e} {xs = xs} {ms = ms} l h d) =
       gave-ran (λ u us. Claim hook (Level (suc k)) c xs us u) d
-      (λ le q m lt. let top = ltb-true (suc k) 11 b in
-      h (omega arith) (bound-above c (min (suc k) 10) (min (suc (suc k)) 10) ms (omega arith) q) m (omega arith))
+      (λ le end q m lt. let top = ltb-true (suc k) 11 b in
+      h (omega arith) end (bound-above c (min (suc k) 10) (min (suc (suc k)) 10) ms (omega arith) q) m (omega arith))
   claim-by (bin-op {k = zero} b) d = tt
   claim-by {c = c} (bin-op {k = suc n} b) (ran-part {e = l} {xs = xs} dl left (ran-took {a = a} {xs = us} d)) =
       let (op, o, d1) = given-ran (operator_here c a.token a.span) _ d in
@@ -838,12 +1292,12 @@ module _ {F C K : Type 0} (hook : Hook F C K) where
       (op-reads n op c a l r xs us ms (omega arith) o (eqb-true (precedence_of op) (suc n) p) k g (good dr) left right)
   claim-by {c = c} {xs = xs} {ys = ys} assign-level d = λ stop.
       picks Assign c xs assign-level (assign c xs) refl (picked-assign assign-level (forget d))
-      (side-reads (Some 13) d (refl, λ e. ((omega arith, stop), tt)))
+      (side-reads (Some 14) d (refl, λ e. ((omega arith, stop.0, stop.1), tt)))
   claim-by {c = c} {xs = xs} {ys = ys} expr-assign d = λ stop.
-      picks Expr c xs expr-assign (expr c xs) refl refl (side-reads (Some 14) d (refl, λ e. (stop, tt)))
+      picks Expr c xs expr-assign (expr c xs) refl refl (side-reads (Some 15) d (refl, λ e. (stop, tt)))
 
   mutual
-    claim : {s : Symbol} {c : Context} {xs ys : List TokenAndSpan} {t : Answer F C K s} → Reads hook s c xs ys t
+    claim : {s : Symbol} {c : Scope} {xs ys : List TokenAndSpan} {t : Answer F C K s} → Reads hook s c xs ys t
         → Claim hook s c xs ys t
     claim (by p d) = claim-by p (ran d)
 
@@ -857,7 +1311,7 @@ module _ {F C K : Type 0} (hook : Hook F C K) where
     ran (heard h d) = ran-heard h (ran d)
 
   -- what the grammar derives is read, where nothing goes on
-  pub complete : {s : Symbol} {c : Context} {xs ys : List TokenAndSpan} {t : Answer F C K s} → Reads hook s c xs ys t
+  pub complete : {s : Symbol} {c : Scope} {xs ys : List TokenAndSpan} {t : Answer F C K s} → Reads hook s c xs ys t
       → Stop s c ys
       → run hook (sym s) c xs ≡ Some (t, ys)
   complete {s = s} {c = c} {xs = xs} {ys = ys} {t = t} d stop = settle s c xs ys t (good d) (claim d) stop

@@ -1,13 +1,13 @@
 -- What the clean parser reads from the worked texts, with places, and which it refuses, by computation.
-use Rattle.std.specs.Prelude.{◌≡◌, List, [], ◌∷◌, Some, None, codes}
+use Rattle.std.specs.Prelude.{◌≡◌, List, [], ◌∷◌, Some, None, false, codes, drop}
 use Rattle.std.proofs.Common.{refl}
-use Rattle.swc_context.specs.declared.context.Context.{Context}
 use Rattle.swc_context.specs.declared.word.Keyword.TheVariants as keyword
 use Rattle.swc_context.specs.declared.word.Word.TheVariants as word
 use Rattle.swc_input.specs.declared.token.TokenAndSpan.{TokenAndSpan}
 use Rattle.swc_ast.specs.Tree.{Tree}
 use Rattle.swc_bodies.specs.Readings.{Hook}
-use Rattle.swc_grammar.specs.Symbols.{Expr}
+use Rattle.swc_grammar.specs.Scope.{Scope}
+use Rattle.swc_grammar.specs.Symbols.{Expr, Lhs}
 use Rattle.swc_grammar.specs.Clean.{Out, sym, run}
 use Rattle.swc_grammar.proofs.Blocks.{braces}
 use Rattle.swc_grammar.proofs.Texts.{no_in, script, module_code, class_field, generator, word_at, name_at, ident}
@@ -41,9 +41,21 @@ use Rattle.swc_grammar.proofs.Texts.{keys, keys_tree, cover_name, cover_name_tre
 use Rattle.swc_grammar.proofs.Texts.{async_generator_tree, method_and_getter, method_and_getter_tree}
 use Rattle.swc_grammar.proofs.Texts.{cover_in_parens, lone_key, names_in_braces, getter_with_value, reserved_name}
 use Rattle.swc_grammar.proofs.Texts.{methods_named_get, methods_named_get_tree}
+use Rattle.swc_grammar.proofs.Texts.{member_of_name, member_of_name_tree, member_by_keyword, member_by_keyword_tree}
+use Rattle.swc_grammar.proofs.Texts.{private_member, private_member_tree, computed_member, computed_member_tree}
+use Rattle.swc_grammar.proofs.Texts.{call_of_member, call_of_member_tree, empty_call, empty_call_tree, call_of_group}
+use Rattle.swc_grammar.proofs.Texts.{call_of_group_tree, in_in_links, in_in_links_tree, power_of_minus_member}
+use Rattle.swc_grammar.proofs.Texts.{half_member, member_by_number, open_bracket, lone_comma, names_in_call}
+use Rattle.swc_grammar.proofs.Texts.{member_apart, name_and_fraction}
+use Rattle.swc_grammar.proofs.Texts.{num_at, method, lenient, either_code, chain_of_members}
+use Rattle.swc_grammar.proofs.Texts.{import_of_source, import_with_comma, meta_of_import, new_of_chain}
+use Rattle.swc_grammar.proofs.Texts.{new_of_import, new_of_member, new_of_new, super_member, tagged_chain}
+use Rattle.swc_grammar.proofs.Texts.{template_of_name, chain_of_members_tree, import_of_source_tree}
+use Rattle.swc_grammar.proofs.Texts.{import_with_comma_tree, meta_of_import_tree, new_of_member_tree}
+use Rattle.swc_grammar.proofs.Texts.{new_of_new_tree, super_member_tree, template_of_name_tree}
 
 module _ {F C K : Type 0} (hook : Hook F C K) where
-  unfoldable pub answer : Context → List TokenAndSpan → Out (Tree F C K)
+  unfoldable pub answer : Scope → List TokenAndSpan → Out (Tree F C K)
   unfolding run
   answer c ts = run hook (sym Expr) c ts
 
@@ -247,6 +259,93 @@ module _ {F C K : Type 0} (hook : Hook F C K) where
   unfolding answer
   cover_name-computed = refl
 
+  -- a.b
+  pub member_of_name-computed : answer script member_of_name ≡ Some (member_of_name_tree, [])
+  unfolding answer
+  member_of_name-computed = refl
+
+  -- a.if
+  pub member_by_keyword-computed : answer script member_by_keyword ≡ Some (member_by_keyword_tree, [])
+  unfolding answer
+  member_by_keyword-computed = refl
+
+  -- a.#b
+  pub private_member-computed : answer script private_member ≡ Some (private_member_tree, [])
+  unfolding answer
+  private_member-computed = refl
+
+  -- a[b]
+  pub computed_member-computed : answer script computed_member ≡ Some (computed_member_tree, [])
+  unfolding answer
+  computed_member-computed = refl
+
+  -- a.b(c, ...d,)[e]
+  pub call_of_member-computed : answer script call_of_member ≡ Some (call_of_member_tree, [])
+  unfolding answer
+  call_of_member-computed = refl
+
+  -- f()
+  pub empty_call-computed : answer script empty_call ≡ Some (empty_call_tree, [])
+  unfolding answer
+  empty_call-computed = refl
+
+  -- (a)(b)
+  pub call_of_group-computed : answer script call_of_group ≡ Some (call_of_group_tree, [])
+  unfolding answer
+  call_of_group-computed = refl
+
+  -- a[b in c](d in e), where `in` isn't an operator outside the brackets and parentheses
+  pub in_in_links-computed : answer no_in in_in_links ≡ Some (in_in_links_tree, [])
+  unfolding answer
+  in_in_links-computed = refl
+
+  -- a.b(c, ...d,)[e], with members alone: a.b, and the arguments are left
+  pub call_of_member-members : run hook (sym (Lhs false)) script call_of_member
+      ≡ Some (member_of_name_tree, drop 3 call_of_member)
+  unfolding run
+  call_of_member-members = refl
+
+  -- -a.b ** c
+  pub power_of_minus_member-computed : answer script power_of_minus_member ≡ None
+  unfolding answer
+  power_of_minus_member-computed = refl
+
+  -- a.
+  pub half_member-computed : answer script half_member ≡ None
+  unfolding answer
+  half_member-computed = refl
+
+  -- a. 1
+  pub member_by_number-computed : answer script member_by_number ≡ None
+  unfolding answer
+  member_by_number-computed = refl
+
+  -- a[
+  pub open_bracket-computed : answer script open_bracket ≡ None
+  unfolding answer
+  open_bracket-computed = refl
+
+  -- f(,)
+  pub lone_comma-computed : answer script lone_comma ≡ None
+  unfolding answer
+  lone_comma-computed = refl
+
+  -- f(a b)
+  pub names_in_call-computed : answer script names_in_call ≡ None
+  unfolding answer
+  names_in_call-computed = refl
+
+  -- a.# b
+  pub member_apart-computed : answer script member_apart ≡ None
+  unfolding answer
+  member_apart-computed = refl
+
+  -- a.1: `.1` is left
+  pub name_and_fraction-computed : answer script name_and_fraction
+      ≡ Some (ident (codes "a") 0 1, num_at (codes ".1") 1 3 ∷ [])
+  unfolding answer
+  name_and_fraction-computed = refl
+
   -- no tokens
   pub no_tokens-computed : answer script [] ≡ None
   unfolding answer
@@ -376,6 +475,81 @@ module _ {F C K : Type 0} (hook : Hook F C K) where
   pub arguments_word-field : answer class_field arguments_word ≡ None
   unfolding answer
   arguments_word-field = refl
+
+  -- a?.b.c
+  pub chain_of_members-computed : answer script chain_of_members ≡ Some (chain_of_members_tree, [])
+  unfolding answer
+  chain_of_members-computed = refl
+
+  -- new a.b(1)
+  pub new_of_member-computed : answer script new_of_member ≡ Some (new_of_member_tree, [])
+  unfolding answer
+  new_of_member-computed = refl
+
+  -- new new a(b)
+  pub new_of_new-computed : answer script new_of_new ≡ Some (new_of_new_tree, [])
+  unfolding answer
+  new_of_new-computed = refl
+
+  -- `x${e}`
+  pub template_of_name-computed : answer script template_of_name ≡ Some (template_of_name_tree, [])
+  unfolding answer
+  template_of_name-computed = refl
+
+  -- super.x, in a method
+  pub super_member-computed : answer method super_member ≡ Some (super_member_tree, [])
+  unfolding answer
+  super_member-computed = refl
+
+  -- import.source(a).b
+  pub import_of_source-computed : answer script import_of_source ≡ Some (import_of_source_tree, [])
+  unfolding answer
+  import_of_source-computed = refl
+
+  -- import.meta, in what may be a module
+  pub meta_of_import-computed : answer either_code meta_of_import ≡ Some (meta_of_import_tree, [])
+  unfolding answer
+  meta_of_import-computed = refl
+
+  -- super.x, where it may stand anywhere
+  pub super_member-lenient : answer lenient super_member ≡ Some (super_member_tree, [])
+  unfolding answer
+  super_member-lenient = refl
+
+  -- import(a,), where import attributes are read
+  pub import_with_comma-lenient : answer lenient import_with_comma ≡ Some (import_with_comma_tree, [])
+  unfolding answer
+  import_with_comma-lenient = refl
+
+  -- new a?.b, in a script
+  pub new_of_chain-script : answer script new_of_chain ≡ None
+  unfolding answer
+  new_of_chain-script = refl
+
+  -- a?.b``, in a script
+  pub tagged_chain-script : answer script tagged_chain ≡ None
+  unfolding answer
+  tagged_chain-script = refl
+
+  -- super.x, in a script
+  pub super_member-script : answer script super_member ≡ None
+  unfolding answer
+  super_member-script = refl
+
+  -- import(a,), in a script
+  pub import_with_comma-script : answer script import_with_comma ≡ None
+  unfolding answer
+  import_with_comma-script = refl
+
+  -- import.meta, in a script
+  pub meta_of_import-script : answer script meta_of_import ≡ None
+  unfolding answer
+  meta_of_import-script = refl
+
+  -- new import(a), in a script
+  pub new_of_import-script : answer script new_of_import ≡ None
+  unfolding answer
+  new_of_import-script = refl
 
 -- with methods, over the hook that reads braces
 module _ {F C : Type 0} where

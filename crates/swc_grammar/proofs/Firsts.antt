@@ -4,8 +4,8 @@ use Rattle.std.specs.Prelude.{Option, Some, None, if◌then◌else◌, codes}
 use Rattle.std.proofs.Common.{refl, sym, ap, subst, arith}
 use Rattle.std.proofs.lemmas.List.{length-append}
 use Rattle.swc_context.specs.Texts.{is_text}
-use Rattle.swc_context.specs.declared.context.Context.{Context}
-use Rattle.swc_context.specs.declared.operator.BinaryOp.{BinaryOp}
+use Rattle.swc_context.specs.declared.operator.AssignOp.TheVariants as assign
+use Rattle.swc_context.specs.declared.operator.BinOpToken.TheVariants as sign
 use Rattle.swc_context.specs.declared.operator.UnaryOp.{UnaryOp}
 use Rattle.swc_context.specs.declared.span.Span.{Span}
 use Rattle.swc_context.specs.declared.word.Keyword.TheVariants as keyword
@@ -15,17 +15,25 @@ use Rattle.swc_input.specs.declared.token.Token.TheVariants as token
 use Rattle.swc_input.specs.declared.token.TokenAndSpan.{TokenAndSpan}
 use Rattle.swc_input.specs.Kinds.{at_token}
 use Rattle.swc_ast.specs.Tree.{Tree}
+use Rattle.swc_grammar.specs.Scope.{Scope}
 use Rattle.swc_grammar.specs.Rule.{Rule, gives, never, take, check, peek, read, hear, given, ◌>>=◌}
 use Rattle.swc_bodies.specs.Readings.{Hook, is_function, is_async, is_class, is_function_here, begins as begins_own}
 use Rattle.swc_bodies.specs.Readings.{begins_function}
-use Rattle.swc_grammar.specs.Symbols.{Symbol, Expr, Assign, Level, Unary, Primary, Literal, Elements, ElementsTail}
+use Rattle.swc_grammar.specs.Symbols.{Symbol, Expr, Assign, Level, Unary, Left, Args, ArgsTail, Primary, Literal}
+use Rattle.swc_grammar.specs.Symbols.{Elements, ElementsTail}
 use Rattle.swc_grammar.specs.Symbols.{Item, Props, PropsTail, AfterKey, Answer, Body, Value}
 use Rattle.swc_grammar.specs.Symbols.{begins_body, Side}
 use Rattle.swc_grammar.specs.Names.{Spelling, may_refer}
 use Rattle.swc_grammar.specs.Tokens.{tk, binary_of, prefix_of, is_reference, ref_ok, is_put_off, is_comma, is_rbracket}
-use Rattle.swc_grammar.specs.Tokens.{is_dots, is_rbrace, is_colon, is_lparen, is_star, is_word, is_get}
-use Rattle.swc_grammar.specs.Parts.{reference, any_name, lit_of, key_lit_of, with_place, prefix_here}
-use Rattle.swc_grammar.specs.Grammar.{Production, ident-expr, lit, paren-expr, unary-primary, unary-op, exp-unary}
+use Rattle.swc_grammar.specs.Tokens.{is_dots, is_rbrace, is_colon, is_lparen, is_rparen, is_star, is_word, is_get}
+use Rattle.swc_grammar.specs.Tokens.{is_new, is_super, is_import, is_slash}
+use Rattle.swc_grammar.specs.Parts.{reference, any_name, lit_of, regex_of, text_of, key_lit_of, with_place, prefix_here}
+use Rattle.swc_grammar.specs.Grammar.{Production, ident-expr, lit, paren-expr, unary-left, unary-op, exp-unary}
+use Rattle.swc_grammar.specs.Grammar.{base-primary, super-name, super-computed, super-call, import-meta, import-call}
+use Rattle.swc_grammar.specs.Grammar.{import-source, left-base, member-name, member-private, member-computed, call, args-end}
+use Rattle.swc_grammar.specs.Grammar.{args-more, args-tail-end, args-tail-more, lhs-left, new-bare, left-new, new-target}
+use Rattle.swc_grammar.specs.Grammar.{chain-name, chain-private, chain-computed, chain-call, tagged-tpl, arguments}
+use Rattle.swc_grammar.specs.Grammar.{primary-template, template, parts-end, parts-more, regex-alone, regex-slash}
 use Rattle.swc_grammar.specs.Grammar.{exp-op, primary-literal}
 use Rattle.swc_grammar.specs.Grammar.{this-expr, array-lit, elements-end, elements-hole, elements-more, tail-end}
 use Rattle.swc_grammar.specs.Grammar.{tail-more, item-expr, item-spread, fn-expr, class-expr}
@@ -36,13 +44,14 @@ use Rattle.swc_grammar.specs.Grammar.{key-name, key-literal, key-computed}
 use Rattle.swc_grammar.specs.Grammar.{level-up, bin-op, private-expr, assign-level, expr-assign}
 use Rattle.swc_grammar.specs.Reads.{Reads, by, Follows, gave, took, held, calm, part, heard}
 use Rattle.swc_grammar.specs.Clean.{first, is_lit, is_identifier}
-use Rattle.swc_grammar.specs.Firsts.{is_prefix_op, is_prefix, is_expression, is_first, starts, begins_primary}
-use Rattle.swc_grammar.specs.Firsts.{begins_expression, begins_key, begins_prop}
+use Rattle.swc_grammar.specs.Firsts.{is_prefix_op, is_prefix, is_first, starts, begins_primary, begins_left}
+use Rattle.swc_grammar.specs.Firsts.{is_left_word, begins_expression, begins_key, begins_prop, is_text_token}
 use Rattle.swc_grammar.proofs.Answers.{both}
 use Rattle.swc_grammar.proofs.Bodies.{body-some}
 use Rattle.swc_grammar.proofs.Cut.{follows-length}
 use Rattle.swc_grammar.proofs.Only.{only-lparen, only-hash, only-this, only-lbracket, only-rbracket, only-comma, only-dots}
-use Rattle.swc_grammar.proofs.Only.{only-class, only-brace, only-rbrace, only-colon, only-star}
+use Rattle.swc_grammar.proofs.Only.{only-new, only-super, only-import}
+use Rattle.swc_grammar.proofs.Only.{only-class, only-brace, only-rbrace, only-colon, only-star, only-rparen, only-backquote}
 
 -- X holds where the rest of a side, behind the token that it tests, can be followed
 abbrev pub Under : {F C K A : Type 0} → Type 0 → Rule Symbol (Answer F C K) Body (Value F C K) A → Type 0
@@ -78,8 +87,8 @@ lit-first (token.Str value raw) s e h = refl
 lit-first t s e h = absurd cc
 
 -- a token with which a primary expression begins, in any context
-by-first : (c : Context) (t : Token) → is_first t ≡ true → begins_primary c t ≡ true
-by-first c t h = or-right (is_identifier c t) (is_first t) h
+by-first : (c : Scope) (t : Token) → is_first t ≡ true → begins_primary c t ≡ true
+by-first c t h = or-right (is_identifier c.context t) (is_first t) h
 
 pub lit-is-first : (t : Token) → is_lit t ≡ true → is_first t ≡ true
 lit-is-first (token.Word word.Null) h = refl
@@ -90,18 +99,33 @@ lit-is-first (token.BigInt raw) h = refl
 lit-is-first (token.Str value raw) h = refl
 lit-is-first t h = absurd cc
 
+pub regex-first : {F C K : Type 0} (t : Token) (s : Span) (e : Tree F C K) → regex_of t s ≡ Some e → is_first t ≡ true
+regex-first (token.Regex exp flags) s e h = refl
+regex-first t s e h = absurd cc
+
+slash-first : (t : Token) → is_slash t ≡ true → is_first t ≡ true
+slash-first (token.BinOp sign.Div) h = refl
+slash-first (token.AssignOp assign.DivAssign) h = refl
+slash-first t h = absurd cc
+
+-- a text of a template
+pub text-first : {F C K : Type 0} (is_tagged is_last : Bool) (t : Token) (s : Span) (e : Tree F C K)
+    → text_of is_tagged is_last t s ≡ Some e → is_text_token t ≡ true
+text-first is_tagged is_last (token.Template raw cooked) s e h = refl
+text-first is_tagged is_last t s e h = absurd cc
+
 -- a function begins with `function` or `async`, a class with `class`
 is-first-of-function : (t : Token) (b : Bool) → (is_function t || (is_async t && b)) ≡ true → is_first t ≡ true
 is-first-of-function (token.Word (word.Keyword keyword.Function)) b h = refl
 is-first-of-function (token.Word (word.Ident w)) b h = (both (is_text w (codes "async")) b h).0
 is-first-of-function t b h = absurd cc
 
-function-first : (c : Context) (own : List TokenAndSpan) → begins_function own ≡ true
+function-first : (c : Scope) (own : List TokenAndSpan) → begins_function own ≡ true
     → at_token (begins_primary c) (first own) ≡ true
 function-first c [] h = absurd cc
 function-first c (t ∷ ts) h = by-first c t.token (is-first-of-function t.token (is_function_here ts) h)
 
-class-first : (c : Context) (own : List TokenAndSpan) → begins_own is_class own ≡ true
+class-first : (c : Scope) (own : List TokenAndSpan) → begins_own is_class own ≡ true
     → at_token (begins_primary c) (first own) ≡ true
 class-first c [] h = absurd cc
 class-first c (t ∷ ts) h = by-first c t.token (only-class (λ v. is_first v ≡ true) refl t.token h)
@@ -110,12 +134,12 @@ passed : {A : Type 0} (b : Bool) (a x : A) → (if b then Some a else None) ≡ 
 passed true a x h = refl
 passed false a x h = absurd cc
 
-pub placed-op : (o : Option UnaryOp) (s : Span) (op : UnaryOp) (s' : Span) → with_place o s ≡ Some (op, s')
+pub placed-op : {A : Type 0} (o : Option A) (s : Span) (op : A) (s' : Span) → with_place o s ≡ Some (op, s')
     → o ≡ Some op
 placed-op None s op s' h = absurd cc
-placed-op (Some op') s op s' h =
-    let x : UnaryOp × Span = (op', s) in
-    let y : UnaryOp × Span = (op, s') in
+placed-op {A = A} (Some op') s op s' h =
+    let x : A × Span = (op', s) in
+    let y : A × Span = (op, s') in
     let same : x ≡ y = cc in
     ap (λ v. Some v.0) same
 
@@ -128,17 +152,18 @@ at-every : (Q P : Token → Bool) (o : Option TokenAndSpan) → ((t : Token) →
 at-every Q P None f h = absurd cc
 at-every Q P (Some t) f h = f t.token h
 
-pub reference-first : (c : Context) (t : Token) (s : Span) (n : Spelling) → reference c t s ≡ Some n
-    → (is_identifier c t ≡ true) × (begins_primary c t ≡ true)
+pub reference-first : (c : Scope) (t : Token) (s : Span) (n : Spelling) → reference c t s ≡ Some n
+    → (is_identifier c.context t ≡ true) × (begins_primary c t ≡ true)
 reference-first c (token.Word w) s n h =
-    let (a, b) = both (may_refer c w) (not (is_put_off w)) (passed (may_refer c w && not (is_put_off w)) _ n h) in
-    let (d, e) = both (is_reference c w) (ref_ok c w) a in
-    let own : is_identifier c (token.Word w) ≡ true = rw (d, b) refl in
-    (own, or-left (is_identifier c (token.Word w)) (is_first (token.Word w)) own)
+    let k = passed (may_refer c.context w && not (is_put_off w)) _ n h in
+    let (a, b) = both (may_refer c.context w) (not (is_put_off w)) k in
+    let (d, e) = both (is_reference c.context w) (ref_ok c.context w) a in
+    let own : is_identifier c.context (token.Word w) ≡ true = rw (d, b) refl in
+    (own, or-left (is_identifier c.context (token.Word w)) (is_first (token.Word w)) own)
 reference-first c t s n h = absurd cc
 
 -- keys and properties
-pub name-first : (c : Context) (t : Token) (s : Span) (n : Spelling) → any_name c t s ≡ Some n → is_word t ≡ true
+pub name-first : (c : Scope) (t : Token) (s : Span) (n : Spelling) → any_name c t s ≡ Some n → is_word t ≡ true
 name-first c (token.Word w) s n h = refl
 name-first c t s n h = absurd cc
 
@@ -172,6 +197,17 @@ first-own : (P : Token → Bool) (own us : List TokenAndSpan) → suc 0 ≤ leng
 first-own P [] us h k = absurd (omega arith)
 first-own P (t ∷ ts) us h k = k
 
+-- the words that begin left-hand sides
+new-first : (c : Scope) (t : Token) → is_new t ≡ true → begins_left c t ≡ true
+new-first c t h = or-right (begins_primary c t) (is_left_word t) (only-new (λ v. is_left_word v ≡ true) refl t h)
+
+super-first : (c : Scope) (t : Token) → is_super t ≡ true → begins_left c t ≡ true
+super-first c t h = or-right (begins_primary c t) (is_left_word t) (only-super (λ v. is_left_word v ≡ true) refl t h)
+
+import-first : (c : Scope) (t : Token) → is_import t ≡ true → begins_left c t ≡ true
+import-first c t h =
+    or-right (begins_primary c t) (is_left_word t) (only-import (λ v. is_left_word v ≡ true) refl t h)
+
 module _ {F C K : Type 0} where
   pub under-given : {A D : Type 0} (X : Type 0) (o : Option A) (k : A → Rule Symbol (Answer F C K) Body (Value F C K) D)
       → ((x : A) → o ≡ Some x → Under X (k x)) → Under X (given o >>= k)
@@ -198,7 +234,7 @@ module _ {F C K : Type 0} where
   under-held (heard e d) h = h
 
   -- one clause a production
-  opens : {s : Symbol} {c : Context} {r : Side F C K s} → Production s c r → Opens (starts s c) r
+  opens : {s : Symbol} {c : Scope} {r : Side F C K s} → Production s c r → Opens (starts s c) r
   opens (ident-expr {c = c}) =
       λ a. under-given _ (reference c a.token a.span) _ (λ n h. (reference-first c a.token a.span n h).1)
   opens lit = λ a. under-given _ (lit_of a.token a.span) _ (λ e h. lit-first a.token a.span e h)
@@ -239,9 +275,44 @@ module _ {F C K : Type 0} where
       λ a. under-given _ (key_lit_of a.token a.span) _ (λ e h. key-lit-first a.token a.span e h)
   opens key-computed = λ a h. only-lbracket (λ t. begins_key t ≡ true) refl a.token h
   opens (paren-expr {c = c}) = λ a h. by-first c a.token (only-lparen (λ t. is_first t ≡ true) refl a.token h)
-  opens (unary-primary {c = c}) = λ t h. or-left (begins_primary c t) (is_prefix t) h
+  opens (regex-alone {c = c}) =
+      λ a. under-given _ (regex_of a.token a.span) _ (λ e h. by-first c a.token (regex-first a.token a.span e h))
+  opens (regex-slash {c = c}) = λ a h. by-first c a.token (slash-first a.token h)
+  opens (primary-template {c = c}) = λ t h. by-first c t (only-backquote (λ v. is_first v ≡ true) refl t h)
+  opens template = λ a h. h
+  opens (parts-end {is_tagged = is_tagged}) = λ a. under-given _ (text_of is_tagged true a.token a.span) _
+      (λ t h. text-first is_tagged true a.token a.span t h)
+  opens (parts-more {is_tagged = is_tagged}) = λ a. under-given _ (text_of is_tagged false a.token a.span) _
+      (λ t h. text-first is_tagged false a.token a.span t h)
+  opens lhs-left = λ t h. h
+  opens (new-bare {c = c}) = λ a h. new-first c a.token h
+  opens left-base = λ t h. h
+  opens (left-new {c = c}) = λ a h. new-first c a.token h
+  opens (base-primary {c = c}) = λ t h. or-left (begins_primary c t) (is_left_word t) h
+  opens (new-target {c = c}) = λ a h. new-first c a.token h
+  opens (super-name {c = c}) = λ a h. super-first c a.token h
+  opens (super-computed {c = c}) = λ a h. super-first c a.token h
+  opens (super-call {c = c}) = λ a h. super-first c a.token h
+  opens (import-meta {c = c}) = λ a h. import-first c a.token h
+  opens (import-call {c = c}) = λ a h. import-first c a.token h
+  opens (import-source {c = c}) = λ a h. import-first c a.token h
+  opens member-name = λ t h. h
+  opens member-private = λ t h. h
+  opens member-computed = λ t h. h
+  opens call = λ t h. h
+  opens chain-name = λ t h. h
+  opens chain-private = λ t h. h
+  opens chain-computed = λ t h. h
+  opens chain-call = λ t h. h
+  opens tagged-tpl = λ t h. h
+  opens arguments = λ a h. h
+  opens (args-end {c = c} {i = i}) = λ a h. only-rparen (λ t. starts (Args i) c t ≡ true) refl a.token h
+  opens (args-more {c = c}) = λ t h. or-left (begins_expression c t || is_dots t) (is_rparen t) h
+  opens (args-tail-end {c = c} {i = i}) = λ a h. only-rparen (λ t. starts (ArgsTail i) c t ≡ true) refl a.token h
+  opens (args-tail-more {c = c} {i = i}) = λ a h. only-comma (λ t. starts (ArgsTail i) c t ≡ true) refl a.token h
+  opens (unary-left {c = c}) = λ t h. or-left (begins_left c t) (is_prefix t) h
   opens (unary-op {c = c}) = λ a. under-given _ (prefix_here a.token a.span) _
-      (λ x h. or-right (begins_primary c a.token) (is_prefix a.token) (placed-is (prefix_of a.token) a.span x h))
+      (λ x h. or-right (begins_left c a.token) (is_prefix a.token) (placed-is (prefix_of a.token) a.span x h))
   opens exp-unary = λ t h. h
   opens exp-op = λ t h. h
   opens (level-up b) = λ t h. h
@@ -251,7 +322,7 @@ module _ {F C K : Type 0} where
   opens expr-assign = λ t h. h
 
   mutual
-    pub begins : {hook : Hook F C K} {s : Symbol} {c : Context} {xs ys : List TokenAndSpan} {t : Answer F C K s}
+    pub begins : {hook : Hook F C K} {s : Symbol} {c : Scope} {xs ys : List TokenAndSpan} {t : Answer F C K s}
         → Reads hook s c xs ys t → at_token (starts s c) (first xs) ≡ true
     begins (by {s = s} {c = c} p d) = begins-side d (starts s c) (opens p)
 
@@ -273,7 +344,7 @@ module _ {F C K : Type 0} where
   Leads (peek p r) = Leads r
   Leads x = Unit {0}
 
-  leads : {s : Symbol} {c : Context} {r : Side F C K s} → Production s c r → Leads r
+  leads : {s : Symbol} {c : Scope} {r : Side F C K s} → Production s c r → Leads r
   leads ident-expr = tt
   leads lit = tt
   leads this-expr = tt
@@ -308,7 +379,39 @@ module _ {F C K : Type 0} where
   leads key-literal = tt
   leads key-computed = tt
   leads paren-expr = tt
-  leads unary-primary = tt
+  leads regex-alone = tt
+  leads regex-slash = tt
+  leads primary-template = tt
+  leads template = tt
+  leads parts-end = tt
+  leads parts-more = tt
+  leads lhs-left = tt
+  leads new-bare = tt
+  leads left-base = tt
+  leads left-new = tt
+  leads base-primary = tt
+  leads new-target = tt
+  leads super-name = tt
+  leads super-computed = tt
+  leads super-call = tt
+  leads import-meta = tt
+  leads import-call = tt
+  leads import-source = tt
+  leads member-name = tt
+  leads member-private = tt
+  leads member-computed = tt
+  leads call = tt
+  leads chain-name = tt
+  leads chain-private = tt
+  leads chain-computed = tt
+  leads chain-call = tt
+  leads tagged-tpl = tt
+  leads arguments = tt
+  leads args-end = tt
+  leads args-more = tt
+  leads args-tail-end = tt
+  leads args-tail-more = tt
+  leads unary-left = tt
   leads unary-op = tt
   leads exp-unary = tt
   leads exp-op = tt
@@ -319,7 +422,7 @@ module _ {F C K : Type 0} where
   leads expr-assign = tt
 
   mutual
-    pub takes : {hook : Hook F C K} {s : Symbol} {c : Context} {xs ys : List TokenAndSpan} {t : Answer F C K s}
+    pub takes : {hook : Hook F C K} {s : Symbol} {c : Scope} {xs ys : List TokenAndSpan} {t : Answer F C K s}
         → Reads hook s c xs ys t → suc (length ys) ≤ length xs
     takes (by p d) = takes-side d (leads p)
 
@@ -335,73 +438,3 @@ module _ {F C K : Type 0} where
         let n = length-append h.own ms in
         let k = follows-length d in
         subst (λ v. suc (length ys) ≤ length v) (sym h.list) (omega arith)
-
--- where none begins: at the end, and at a token with which the symbol doesn't begin
-module _ {F C K : Type 0} {hook : Hook F C K} {s : Symbol} {c : Context} where
-  pub no_end : {ys : List TokenAndSpan} {e : Answer F C K s} → Reads hook s c [] ys e → ⊥
-  no_end d = let h = begins d in absurd cc
-
-  pub no_other : {us ys : List TokenAndSpan} {e : Answer F C K s} (t : TokenAndSpan) → starts s c t.token ≡ false
-      → Reads hook s c (t ∷ us) ys e → ⊥
-  no_other t n d = let h = begins d in absurd cc
-
--- no symbol of expressions begins with a token that no expression begins with
-never-starts : (s : Symbol) (c : Context) (t : Token) → is_expression s ≡ true → begins_expression c t ≡ false
-    → starts s c t ≡ false
-never-starts s c t e h = by-symbol s e
-  where
-    left-false : (a b : Bool) → (a || b) ≡ false → a ≡ false
-    left-false true b h = cc
-    left-false false b h = refl
-
-    right-false : (a b : Bool) → (a || b) ≡ false → b ≡ false
-    right-false true b h = cc
-    right-false false b h = h
-
-    no-lit : (b : Bool) → b ≡ is_lit t → is_first t ≡ false → b ≡ false
-    no-lit true e h = let k = lit-is-first t (sym e) in cc
-    no-lit false e h = refl
-
-    by-symbol : (s : Symbol) → is_expression s ≡ true → starts s c t ≡ false
-    by-symbol Primary e = left-false (begins_primary c t) (is_prefix t) h
-    by-symbol Literal e =
-        no-lit (is_lit t) refl
-        (right-false (is_identifier c t) (is_first t) (left-false (begins_primary c t) (is_prefix t) h))
-    by-symbol Expr e = h
-    by-symbol Assign e = h
-    by-symbol (Level k) e = h
-    by-symbol Unary e = h
-    by-symbol s e = absurd cc
-
-operator-begins : (c c' : Context) (t : Token) (op : BinaryOp) → binary_of c' t ≡ Some op → prefix_of t ≡ None
-    → begins_expression c t ≡ false
-operator-begins c c' (token.Word (word.Keyword keyword.In)) op h n = refl
-operator-begins c c' (token.Word (word.Keyword keyword.InstanceOf)) op h n = refl
-operator-begins c c' (token.BinOp b) op h n = ap is_prefix_op n
-operator-begins c c' t op h n = cc
-
-module _ {F C K : Type 0} {hook : Hook F C K} {s : Symbol} {c : Context} {us ys : List TokenAndSpan}
-    {e : Answer F C K s} (is : is_expression s ≡ true) where
-  pub no_rparen : {b : Bool} {p : Span} → Reads hook s c (tk token.RParen b p ∷ us) ys e → ⊥
-  no_rparen {b = b} {p = p} d = no_other (tk token.RParen b p) (never-starts s c token.RParen is refl) d
-
-  pub no_rbracket : {b : Bool} {p : Span} → Reads hook s c (tk token.RBracket b p ∷ us) ys e → ⊥
-  no_rbracket {b = b} {p = p} d = no_other (tk token.RBracket b p) (never-starts s c token.RBracket is refl) d
-
-  pub no_rbrace : {b : Bool} {p : Span} → Reads hook s c (tk token.RBrace b p ∷ us) ys e → ⊥
-  no_rbrace {b = b} {p = p} d = no_other (tk token.RBrace b p) (never-starts s c token.RBrace is refl) d
-
-  pub no_comma : {b : Bool} {p : Span} → Reads hook s c (tk token.Comma b p ∷ us) ys e → ⊥
-  no_comma {b = b} {p = p} d = no_other (tk token.Comma b p) (never-starts s c token.Comma is refl) d
-
-  pub no_semi : {b : Bool} {p : Span} → Reads hook s c (tk token.Semi b p ∷ us) ys e → ⊥
-  no_semi {b = b} {p = p} d = no_other (tk token.Semi b p) (never-starts s c token.Semi is refl) d
-
-  pub no_colon : {b : Bool} {p : Span} → Reads hook s c (tk token.Colon b p ∷ us) ys e → ⊥
-  no_colon {b = b} {p = p} d = no_other (tk token.Colon b p) (never-starts s c token.Colon is refl) d
-
-  -- a binary operator that is no prefix operator too, in whichever context it is one
-  pub no_operator : (c' : Context) (t : TokenAndSpan) (op : BinaryOp) → binary_of c' t.token ≡ Some op
-      → prefix_of t.token ≡ None
-      → Reads hook s c (t ∷ us) ys e → ⊥
-  no_operator c' t op h n d = no_other t (never-starts s c t.token is (operator-begins c c' t.token op h n)) d

@@ -1,12 +1,11 @@
 -- What holds of every tree that the grammar derives: it has no `Invalid` in it, its operators group as the levels say,
 -- and no `??` stands on the left of `||` or `&&`. One clause a production says that its node keeps this; the induction
 -- is done once.
-use Rattle.std.specs.Prelude.{◌≡◌, ℕ, suc, ◌≤◌, Bool, true, not, ◌&&◌, List, Option, Some, None, IsTrue, nat_le, nat_lt}
+use Rattle.std.specs.Prelude.{◌≡◌, ℕ, suc, ◌≤◌, Bool, true, false, not, ◌&&◌, ◌||◌, if◌then◌else◌, List, Option, Some, None, IsTrue, nat_le, nat_lt}
 use Rattle.std.specs.Prelude.{nat_eq}
 use Rattle.std.proofs.Common.{refl, subst, arith}
 use Rattle.std.proofs.lemmas.Bool.{eqb-true, ltb-true, le-leb, lt-ltb}
 use Rattle.swc_context.specs.Operators.{precedence_of}
-use Rattle.swc_context.specs.declared.context.Context.{Context}
 use Rattle.swc_context.specs.declared.operator.BinaryOp.{BinaryOp}
 use Rattle.swc_context.specs.declared.operator.BinaryOp.TheVariants as binary
 use Rattle.swc_context.specs.declared.span.Span.{Span}
@@ -15,17 +14,28 @@ use Rattle.swc_input.specs.declared.token.Token.{Token}
 use Rattle.swc_input.specs.declared.token.Token.TheVariants as token
 use Rattle.swc_input.specs.declared.token.TokenAndSpan.{TokenAndSpan}
 use Rattle.swc_ast.specs.Tree.{Kind, Tree, node, Trees, nil, cons, span_of}
-use Rattle.swc_ast.specs.Tree.{unary as unary_kind, bin as bin_kind}
+use Rattle.swc_ast.specs.Tree.{unary as unary_kind, bin as bin_kind, update as update_kind, cond as cond_kind}
+use Rattle.swc_ast.specs.Tree.{await as await_kind, assign as assign_kind}
+use Rattle.swc_grammar.specs.Scope.{Scope}
 use Rattle.swc_grammar.specs.Rule.{Rule, gives, never, take, check, peek, read, hear, given, ◌>>=◌}
 use Rattle.swc_bodies.specs.Readings.{Hook}
-use Rattle.swc_grammar.specs.Symbols.{Symbol, Level, Unary, Primary, Literal, Prop, Key, AfterKey, Answer, Body, Value}
-use Rattle.swc_grammar.specs.Symbols.{Side}
+use Rattle.swc_grammar.specs.Symbols.{Symbol, Level, Unary, Lhs, Left, Base, Primary, Literal, Template, Parts, Prop, Key, AfterKey}
+use Rattle.swc_grammar.specs.Symbols.{Answer, Body}
+use Rattle.swc_grammar.specs.Symbols.{Value, Side}
 use Rattle.swc_grammar.specs.Trees.{to, bin_e, tightness, least_left, min_right, exp_ok, is_unary, nullish_ok}
 use Rattle.swc_grammar.specs.Trees.{logical_ok}
 use Rattle.swc_grammar.specs.Trees.{is_valid, are_valid, is_invalid, is_grouped, are_grouped, grouped_at, items_of}
-use Rattle.swc_grammar.specs.Trees.{at_place, method_e, value_e, prop_of}
-use Rattle.swc_grammar.specs.Parts.{reference, any_name, lit_of, key_lit_of, prefix_here, operator_here}
-use Rattle.swc_grammar.specs.Grammar.{Production, ident-expr, lit, paren-expr, unary-primary, unary-op, exp-unary}
+use Rattle.swc_grammar.specs.Trees.{at_place, method_e, value_e, prop_of, regex_e, text_e, trees_append, texts_of, exprs_of}
+use Rattle.swc_grammar.specs.Trees.{is_chain, chain_e, link_e, member_e, call_e, name_e, private_e, computed_e}
+use Rattle.swc_grammar.specs.Parts.{reference, any_name, lit_of, regex_of, flags_ok, cooked_of, text_by}
+use Rattle.swc_grammar.specs.Parts.{text_of, key_lit_of}
+use Rattle.swc_grammar.specs.Parts.{prefix_here, operator_here}
+use Rattle.swc_grammar.specs.Grammar.{Production, ident-expr, lit, paren-expr, unary-left, unary-op, exp-unary}
+use Rattle.swc_grammar.specs.Grammar.{base-primary, super-name, super-computed, super-call, import-meta, import-call}
+use Rattle.swc_grammar.specs.Grammar.{import-source, left-base, member-name, member-private, member-computed, call, args-end}
+use Rattle.swc_grammar.specs.Grammar.{args-more, args-tail-end, args-tail-more, lhs-left, new-bare, left-new, new-target}
+use Rattle.swc_grammar.specs.Grammar.{chain-name, chain-private, chain-computed, chain-call, tagged-tpl, arguments}
+use Rattle.swc_grammar.specs.Grammar.{primary-template, template, parts-end, parts-more, regex-alone, regex-slash}
 use Rattle.swc_grammar.specs.Grammar.{exp-op, primary-literal}
 use Rattle.swc_grammar.specs.Grammar.{this-expr, array-lit, elements-end, elements-hole, elements-more, tail-end}
 use Rattle.swc_grammar.specs.Grammar.{tail-more, item-expr, item-spread, fn-expr, class-expr}
@@ -36,14 +46,18 @@ use Rattle.swc_grammar.specs.Grammar.{key-name, key-literal, key-computed}
 use Rattle.swc_grammar.specs.Grammar.{level-up, bin-op, private-expr, assign-level, expr-assign}
 use Rattle.swc_grammar.specs.Reads.{Reads, by, Follows, gave, took, held, calm, part, heard}
 use Rattle.swc_grammar.specs.Clean.{left_ok}
-use Rattle.swc_grammar.proofs.Answers.{inj, both}
+use Rattle.swc_grammar.proofs.Answers.{inj, both, only}
 
 -- how loosely a symbol's trees may hold together
 abbrev pub loosest : Symbol → ℕ
 loosest (Level k) = k
 loosest Unary = 12
+loosest (Lhs b) = 12
+loosest (Left b) = 12
+loosest (Base b) = 12
 loosest Primary = 12
 loosest Literal = 12
+loosest (Template is_tagged) = 12
 loosest s = 0
 
 -- what holds of each tree of a symbol
@@ -149,6 +163,14 @@ module _ {F C K : Type 0} where
   moved-at (bin_kind op) s s' ts = refl
   moved-at (unary_kind op) s s' (cons e nil) = refl
   moved-at (unary_kind op) s s' ts = refl
+  moved-at (update_kind op is_prefix) s s' (cons e nil) = refl
+  moved-at (update_kind op is_prefix) s s' ts = refl
+  moved-at await_kind s s' (cons e nil) = refl
+  moved-at await_kind s s' ts = refl
+  moved-at cond_kind s s' (cons e (cons d (cons a nil))) = refl
+  moved-at cond_kind s s' ts = refl
+  moved-at (assign_kind op) s s' (cons l (cons r nil)) = refl
+  moved-at (assign_kind op) s s' ts = refl
   moved-at k s s' ts = refl
 
   moved-grouped : (s : Span) (t : Tree F C K) → is_grouped t ≡ true → is_grouped (at_place s t) ≡ true
@@ -172,8 +194,96 @@ module _ {F C K : Type 0} where
       leaf _ (rw (g.valid, v) refl) refl (rw (g.grouped, p) refl) (omega arith)
   prop-good k x g d = method-good _ k x g d
 
+  -- regular expressions, and texts of templates
+  regex-is : (t : Token) (s : Span) (e : Tree F C K) → regex_of t s ≡ Some e
+      → (exp : List ℕ) × (flags : List ℕ) × (regex_e s exp flags ≡ e)
+  regex-is (token.Regex exp flags) s e h = (exp, flags, inj (regex_e s exp flags) e (only (flags_ok flags) h).1)
+  regex-is t s e h = absurd cc
+
+  regex-good : (t : Token) (s : Span) (e : Tree F C K) → regex_of t s ≡ Some e → Good F C K Primary e
+  regex-good t s e h = let (exp, flags, p) = regex-is t s e h in
+      subst (λ v. Good F C K Primary v) p (leaf (regex_e s exp flags) refl refl refl (omega arith))
+
+  regex-moved : (t : Token) (s s' : Span) (e : Tree F C K) → regex_of t s ≡ Some e → Good F C K Primary (at_place s' e)
+  regex-moved t s s' e h = let (exp, flags, p) = regex-is t s e h in
+      subst (λ v. Good F C K Primary (at_place s' v)) p (leaf (regex_e s' exp flags) refl refl refl (omega arith))
+
+  text-good : (is_tagged is_last : Bool) (t : Token) (s : Span) (e : Tree F C K)
+      → text_of is_tagged is_last t s ≡ Some e → Good F C K (Parts is_tagged) e
+  text-good is_tagged is_last (token.Template raw cooked) s e h = by-cooked (cooked_of is_tagged cooked) h
+    where
+      by-cooked : (o : Option (Option (List ℕ))) → text_by is_last s raw o ≡ Some e → Good F C K (Parts is_tagged) e
+      by-cooked None h = absurd cc
+      by-cooked (Some o) h =
+          subst (λ v. Good F C K (Parts is_tagged) v) (inj (text_e s is_last o raw) e h)
+          (leaf (text_e s is_last o raw) refl refl refl (omega arith))
+  text-good is_tagged is_last t s e h = absurd cc
+
+  -- what holds of both lists of a template holds of its parts
+  append-valid : (ts us : Trees F C K) → are_valid ts ≡ true → are_valid us ≡ true
+      → are_valid (trees_append ts us) ≡ true
+  append-valid nil us h k = k
+  append-valid (cons t ts) us h k =
+      let (x, y) = both (is_valid t) (are_valid ts) h in rw (x, append-valid ts us y k) refl
+
+  append-grouped : (ts us : Trees F C K) → are_grouped ts ≡ true → are_grouped us ≡ true
+      → are_grouped (trees_append ts us) ≡ true
+  append-grouped nil us h k = k
+  append-grouped (cons t ts) us h k =
+      let (x, y) = both (is_grouped t) (are_grouped ts) h in rw (x, append-grouped ts us y k) refl
+
+  texts-valid : (ps : Tree F C K) → is_valid ps ≡ true → are_valid (texts_of ps) ≡ true
+  texts-valid (node k s nil) h = refl
+  texts-valid (node k s (cons t ts)) h = items-valid t (both (is_valid t) (are_valid ts) (items-valid (node k s (cons t ts)) h)).0
+
+  exprs-valid : (ps : Tree F C K) → is_valid ps ≡ true → are_valid (exprs_of ps) ≡ true
+  exprs-valid (node k s nil) h = refl
+  exprs-valid (node k s (cons t nil)) h = refl
+  exprs-valid (node k s (cons t (cons u ts))) h =
+      items-valid u (both (is_valid u) (are_valid ts) (both (is_valid t) (are_valid (cons u ts)) (items-valid (node k s (cons t (cons u ts))) h)).1).0
+
+  texts-grouped : (ps : Tree F C K) → is_grouped ps ≡ true → are_grouped (texts_of ps) ≡ true
+  texts-grouped (node k s nil) h = refl
+  texts-grouped (node k s (cons t ts)) h = items-grouped t (both (is_grouped t) (are_grouped ts) (items-grouped (node k s (cons t ts)) h)).0
+
+  exprs-grouped : (ps : Tree F C K) → is_grouped ps ≡ true → are_grouped (exprs_of ps) ≡ true
+  exprs-grouped (node k s nil) h = refl
+  exprs-grouped (node k s (cons t nil)) h = refl
+  exprs-grouped (node k s (cons t (cons u ts))) h =
+      items-grouped u (both (is_grouped u) (are_grouped ts) (both (is_grouped t) (are_grouped (cons u ts)) (items-grouped (node k s (cons t (cons u ts))) h)).1).0
+
+  parts-valid : (ps : Tree F C K) → is_valid ps ≡ true → are_valid (trees_append (texts_of ps) (exprs_of ps)) ≡ true
+  parts-valid ps h = append-valid (texts_of ps) (exprs_of ps) (texts-valid ps h) (exprs-valid ps h)
+
+  parts-grouped : (ps : Tree F C K) → is_grouped ps ≡ true
+      → are_grouped (trees_append (texts_of ps) (exprs_of ps)) ≡ true
+  parts-grouped ps h = append-grouped (texts_of ps) (exprs_of ps) (texts-grouped ps h) (exprs-grouped ps h)
+
+  -- a link, as one of an optional chain or not
+  link-good : {b : Bool} (is_optional : Bool) (l t : Tree F C K) → Good F C K (Left b) t
+      → Good F C K (Left b) (link_e is_optional l t)
+  link-good {b = b} is_optional l t g = by-chain (is_optional || is_chain l)
+    where
+      by-chain : (o : Bool) → Good F C K (Left b) (if o then chain_e is_optional t else t)
+      by-chain false = g
+      by-chain true = leaf (chain_e is_optional t) (rw g.valid refl) refl (rw g.grouped refl) (omega arith)
+
+  member-good : {b : Bool} (is_optional : Bool) (s : Span) (l prop : Tree F C K) → Good F C K (Left b) l
+      → is_valid prop ≡ true → is_grouped prop ≡ true
+      → Good F C K (Left b) (link_e is_optional l (member_e s l prop))
+  member-good is_optional s l prop g v w =
+      link-good is_optional l (member_e s l prop)
+      (leaf (member_e s l prop) (rw (g.valid, v) refl) refl (rw (g.grouped, w) refl) (omega arith))
+
+  call-good : {b : Bool} {s' : Symbol} (is_optional : Bool) (s : Span) (l es : Tree F C K) → Good F C K (Left b) l
+      → Good F C K s' es → Good F C K (Left b) (link_e is_optional l (call_e s l (items_of es)))
+  call-good is_optional s l es g k =
+      link-good is_optional l (call_e s l (items_of es))
+      (leaf (call_e s l (items_of es)) (rw (g.valid, items-valid es k.valid) refl) refl
+      (rw (g.grouped, items-grouped es k.grouped) refl) (omega arith))
+
   -- one clause a production
-  keeps : {s : Symbol} {c : Context} {r : Side F C K s} → Production s c r → Keeps (Good F C K s) r
+  keeps : {s : Symbol} {c : Scope} {r : Side F C K s} → Production s c r → Keeps (Good F C K s) r
   keeps (ident-expr {c = c}) =
       λ a. keeps-given _ (reference c a.token a.span) _ (λ n h. leaf _ refl refl refl (omega arith))
   keeps this-expr = λ a h. leaf _ refl refl refl (omega arith)
@@ -217,7 +327,58 @@ module _ {F C K : Type 0} where
   keeps key-literal = λ a. keeps-given _ (key_lit_of a.token a.span) _ (λ e h. key-lit-good a.token a.span e h)
   keeps key-computed = λ a h e g b k. leaf _ (rw g.valid refl) refl (rw g.grouped refl) (omega arith)
   keeps paren-expr = λ a h e g b h1 n. leaf _ (rw g.valid refl) refl (rw g.grouped refl) (omega arith)
-  keeps unary-primary = λ e g. looser g.tight g
+  keeps regex-alone = λ a. keeps-given _ (regex_of a.token a.span) _ (λ e h. regex-good a.token a.span e h)
+  keeps regex-slash = λ a h b. keeps-given _ (regex_of b.token b.span) _ (λ e k. regex-moved b.token b.span _ e k)
+  keeps primary-template = λ e g. looser g.tight g
+  keeps template = λ a h ps g. leaf _ (parts-valid ps g.valid) refl (parts-grouped ps g.grouped) (omega arith)
+  keeps (parts-end {is_tagged = is_tagged}) = λ a. keeps-given _ (text_of is_tagged true a.token a.span) _
+      (λ t h b k. let g = text-good is_tagged true a.token a.span t h in
+      leaf _ (rw g.valid refl) refl (rw g.grouped refl) (omega arith))
+  keeps (parts-more {is_tagged = is_tagged}) = λ a. keeps-given _ (text_of is_tagged false a.token a.span) _
+      (λ t h b k e d j i ps w. let g = text-good is_tagged false a.token a.span t h in
+      leaf _ (rw (g.valid, texts-valid ps w.valid, d.valid, exprs-valid ps w.valid) refl) refl
+      (rw (g.grouped, texts-grouped ps w.grouped, d.grouped, exprs-grouped ps w.grouped) refl) (omega arith))
+  keeps lhs-left = λ e g. looser g.tight g
+  keeps new-bare = λ a h l g n. leaf _ (rw g.valid refl) refl (rw g.grouped refl) (omega arith)
+  keeps left-base = λ e g. looser g.tight g
+  keeps left-new = λ a h l g n b k es d.
+      leaf _ (rw (g.valid, items-valid es d.valid) refl) refl (rw (g.grouped, items-grouped es d.grouped) refl)
+      (omega arith)
+  keeps base-primary = λ e g. looser g.tight g
+  keeps new-target = λ a h b k d j n. leaf _ refl refl refl (omega arith)
+  keeps (super-name {c = c}) = λ a h b k d. keeps-given _ (any_name c d.token d.span) _
+      (λ n j o. leaf _ refl refl refl (omega arith))
+  keeps super-computed = λ a h b k e g d j o. leaf _ (rw g.valid refl) refl (rw g.grouped refl) (omega arith)
+  keeps super-call = λ a h b k es g. leaf _ (items-valid es g.valid) refl (items-grouped es g.grouped) (omega arith)
+  keeps import-meta = λ a h b k d j n. leaf _ refl refl refl (omega arith)
+  keeps import-call = λ a h b k es g. leaf _ (items-valid es g.valid) refl (items-grouped es g.grouped) (omega arith)
+  keeps import-source = λ a h b k d j i m es g.
+      leaf _ (items-valid es g.valid) refl (items-grouped es g.grouped) (omega arith)
+  keeps (member-name {c = c}) = λ l g a h b. keeps-given _ (any_name c b.token b.span) _
+      (λ n k. member-good false _ l (name_e n.at n.text) g refl refl)
+  keeps (member-private {c = c}) = λ l g a h b k d. keeps-given _ (any_name c d.token d.span) _
+      (λ n j o. member-good false _ l (private_e (to b.span n.at) n.text) g refl refl)
+  keeps member-computed = λ l g a h e d b k. member-good false _ l (computed_e (to a.span b.span) e) g
+      (rw d.valid refl) (rw d.grouped refl)
+  keeps call = λ l g a h es k. call-good false _ l es g k
+  keeps (chain-name {c = c}) = λ l g a h b k d. keeps-given _ (any_name c d.token d.span) _
+      (λ n j. member-good true _ l (name_e n.at n.text) g refl refl)
+  keeps (chain-private {c = c}) = λ l g a h b k d j i. keeps-given _ (any_name c i.token i.span) _
+      (λ n m o. member-good true _ l (private_e (to d.span n.at) n.text) g refl refl)
+  keeps chain-computed = λ l g a h b k d j e w i m. member-good true _ l (computed_e (to d.span i.span) e) g
+      (rw w.valid refl) (rw w.grouped refl)
+  keeps chain-call = λ l g a h b k d j es w. call-good true _ l es g w
+  keeps tagged-tpl = λ l g a h ps w n.
+      leaf _ (rw (g.valid, parts-valid ps w.valid) refl) refl (rw (g.grouped, parts-grouped ps w.grouped) refl)
+      (omega arith)
+  keeps arguments = λ a h es g. looser (omega arith) g
+  keeps args-end = λ a h. leaf _ refl refl refl (omega arith)
+  keeps args-more = λ e g es k.
+      leaf _ (rw (g.valid, items-valid es k.valid) refl) refl (rw (g.grouped, items-grouped es k.grouped) refl)
+      (omega arith)
+  keeps args-tail-end = λ a h. leaf _ refl refl refl (omega arith)
+  keeps args-tail-more = λ a h es g n. leaf _ (items-valid es g.valid) refl (items-grouped es g.grouped) (omega arith)
+  keeps unary-left = λ e g. looser g.tight g
   keeps unary-op = λ a. keeps-given _ (prefix_here a.token a.span) _
       (λ x h e g n. leaf _ (rw g.valid refl) refl (rw (le-leb 12 (tightness e) g.tight, g.grouped) refl) (omega arith))
   keeps exp-unary = λ e g. looser (let t = g.tight in omega arith) g
@@ -231,7 +392,7 @@ module _ {F C K : Type 0} where
   keeps expr-assign = λ e g. looser (omega arith) g
 
   mutual
-    pub good : {hook : Hook F C K} {s : Symbol} {c : Context} {xs ys : List TokenAndSpan} {t : Answer F C K s}
+    pub good : {hook : Hook F C K} {s : Symbol} {c : Scope} {xs ys : List TokenAndSpan} {t : Answer F C K s}
         → Reads hook s c xs ys t → Good F C K s t
     good (by p d) = good-side d (keeps p)
 
@@ -244,10 +405,10 @@ module _ {F C K : Type 0} where
     good-side (part {e = t} e d) k = good-side d (k t (good e))
     good-side (heard {v = v} h d) k = good-side d (k v _)
 
-  pub grouped : {hook : Hook F C K} {s : Symbol} {c : Context} {xs ys : List TokenAndSpan} {t : Answer F C K s}
+  pub grouped : {hook : Hook F C K} {s : Symbol} {c : Scope} {xs ys : List TokenAndSpan} {t : Answer F C K s}
       → Reads hook s c xs ys t → is_grouped t ≡ true
   grouped d = (good d).grouped
 
-  pub valid : {hook : Hook F C K} {s : Symbol} {c : Context} {xs ys : List TokenAndSpan} {t : Answer F C K s}
+  pub valid : {hook : Hook F C K} {s : Symbol} {c : Scope} {xs ys : List TokenAndSpan} {t : Answer F C K s}
       → Reads hook s c xs ys t → is_valid t ≡ true
   valid d = (good d).valid

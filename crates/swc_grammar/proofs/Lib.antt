@@ -2,6 +2,7 @@ mod Parts
 mod Refused
 mod Rows
 pub mod Answers
+pub mod Binds
 pub mod Blocks
 pub mod Bodies
 pub mod Complete

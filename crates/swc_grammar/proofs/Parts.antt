@@ -13,6 +13,7 @@ use Rattle.swc_input.specs.Kinds.{is_hash}
 use Rattle.swc_ast.specs.Tree.{Tree, node, nil, fun as fun_kind}
 use Rattle.swc_bodies.specs.Readings.{Reading, ReadsOwn, IsReading, view, begins, begins_function, is_function, Hook, LawfulHook}
 use Rattle.swc_bodies.specs.Readings.{is_async, is_class, is_brace}
+use Rattle.swc_grammar.specs.Scope.{Scope}
 use Rattle.swc_grammar.specs.Rule.{gives, ◌>>=◌, ◌>>◌, token as token_part, ahead, body}
 use Rattle.swc_grammar.specs.Symbols.{Primary, function, Side}
 use Rattle.swc_grammar.specs.Tokens.{tk, is_lparen}
@@ -95,12 +96,12 @@ short-lawful = record {
 }
 
 -- a function, at its place
-abbrev function_side : Context → Side Span Span Span Primary
+abbrev function_side : Scope → Side Span Span Span Primary
 function_side c = do
   (v, s) ← body function c
   gives (node (fun_kind v) s nil)
 
-module _ (c : Context) (b : Bool) (s : Span) (ts : List TokenAndSpan) where
+module _ (c : Scope) (b : Bool) (s : Span) (ts : List TokenAndSpan) where
   -- it is followed where the hook reads it, and by what it reads
   function-heard : Follows short Primary (function_side c) (tk (token.Word (word.Keyword keyword.Function)) b s ∷ ts) ts
       (node (fun_kind (to s s)) (to s s) nil)

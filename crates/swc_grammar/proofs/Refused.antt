@@ -1,11 +1,11 @@
 -- Texts that the grammar derives no tree from, read to their end: what it derives, the clean parser reads, and it reads
 -- none of these whole.
 use Rattle.std.specs.Prelude.{◌≡◌, List, [], ◌∷◌, Some, None}
-use Rattle.std.proofs.Common.{ap}
-use Rattle.swc_context.specs.declared.context.Context.{Context}
+use Rattle.std.proofs.Common.{refl, ap}
 use Rattle.swc_input.specs.declared.token.TokenAndSpan.{TokenAndSpan}
 use Rattle.swc_ast.specs.Tree.{Tree}
 use Rattle.swc_bodies.specs.Readings.{Hook}
+use Rattle.swc_grammar.specs.Scope.{Scope}
 use Rattle.swc_grammar.specs.Symbols.{Expr, Literal}
 use Rattle.swc_grammar.specs.Reads.{Reads}
 use Rattle.swc_grammar.proofs.Complete.{complete}
@@ -22,6 +22,14 @@ use Rattle.swc_grammar.proofs.Computed.{let_word-module, implements_word-module,
 use Rattle.swc_grammar.proofs.Computed.{arguments_word-field}
 use Rattle.swc_grammar.proofs.Computed.{cover_in_parens-computed, lone_key-computed, names_in_braces-computed}
 use Rattle.swc_grammar.proofs.Computed.{reserved_name-computed, getter_with_value-computed}
+use Rattle.swc_grammar.proofs.Computed.{power_of_minus_member-computed, half_member-computed, member_by_number-computed}
+use Rattle.swc_grammar.proofs.Computed.{open_bracket-computed, lone_comma-computed, names_in_call-computed}
+use Rattle.swc_grammar.proofs.Computed.{member_apart-computed, name_and_fraction-computed}
+use Rattle.swc_grammar.proofs.Computed.{new_of_chain-script, tagged_chain-script, super_member-script}
+use Rattle.swc_grammar.proofs.Computed.{import_with_comma-script, meta_of_import-script}
+use Rattle.swc_grammar.proofs.Computed.{new_of_import-script}
+use Rattle.swc_grammar.proofs.Texts.{new_of_chain, tagged_chain, super_member, import_with_comma}
+use Rattle.swc_grammar.proofs.Texts.{meta_of_import, new_of_import}
 use Rattle.swc_grammar.proofs.Texts.{no_in, script, module_code, class_field, generator, in_test, let_word}
 use Rattle.swc_grammar.proofs.Texts.{grouped_name}
 use Rattle.swc_grammar.proofs.Texts.{arguments_word, delete_name, yield_word}
@@ -31,19 +39,21 @@ use Rattle.swc_grammar.proofs.Texts.{half_sum, half_number_sum, or_after_default
 use Rattle.swc_grammar.proofs.Texts.{async_word, if_word, two_names}
 use Rattle.swc_grammar.proofs.Texts.{unclosed}
 use Rattle.swc_grammar.proofs.Texts.{cover_in_parens, lone_key, names_in_braces, getter_with_value, reserved_name}
+use Rattle.swc_grammar.proofs.Texts.{power_of_minus_member, half_member, member_by_number, open_bracket, lone_comma}
+use Rattle.swc_grammar.proofs.Texts.{names_in_call, member_apart, name_and_fraction}
 
 module _ {F C K : Type 0} (hook : Hook F C K) where
   -- what is derived from a whole text is answered for it
-  whole : {c : Context} {xs : List TokenAndSpan} {e : Tree F C K} → Reads hook Expr c xs [] e
+  whole : {c : Scope} {xs : List TokenAndSpan} {e : Tree F C K} → Reads hook Expr c xs [] e
       → answer hook c xs ≡ Some (e, [])
   unfolding answer
-  whole d = complete hook d (λ op h. cc)
+  whole d = complete hook d (refl, λ op h. cc)
 
-  refused : {c : Context} {xs : List TokenAndSpan} {e : Tree F C K} → answer hook c xs ≡ None
+  refused : {c : Scope} {xs : List TokenAndSpan} {e : Tree F C K} → answer hook c xs ≡ None
       → Reads hook Expr c xs [] e → ⊥
   refused h d = let k = whole d in absurd cc
 
-  unread : {c : Context} {t : TokenAndSpan} {xs ts : List TokenAndSpan} {e e' : Tree F C K}
+  unread : {c : Scope} {t : TokenAndSpan} {xs ts : List TokenAndSpan} {e e' : Tree F C K}
       → answer hook c xs ≡ Some (e', t ∷ ts) → Reads hook Expr c xs [] e → ⊥
   unread {t = t} {ts = ts} {e = e} {e' = e'} h d =
       let k = whole d in
@@ -141,6 +151,38 @@ module _ {F C K : Type 0} (hook : Hook F C K) where
   reserved_name-refused : {e : Tree F C K} → Reads hook Expr script reserved_name [] e → ⊥
   reserved_name-refused d = refused (reserved_name-computed hook) d
 
+  -- -a.b ** c
+  power_of_minus_member-refused : {e : Tree F C K} → Reads hook Expr script power_of_minus_member [] e → ⊥
+  power_of_minus_member-refused d = refused (power_of_minus_member-computed hook) d
+
+  -- a.
+  half_member-refused : {e : Tree F C K} → Reads hook Expr script half_member [] e → ⊥
+  half_member-refused d = refused (half_member-computed hook) d
+
+  -- a. 1
+  member_by_number-refused : {e : Tree F C K} → Reads hook Expr script member_by_number [] e → ⊥
+  member_by_number-refused d = refused (member_by_number-computed hook) d
+
+  -- a[
+  open_bracket-refused : {e : Tree F C K} → Reads hook Expr script open_bracket [] e → ⊥
+  open_bracket-refused d = refused (open_bracket-computed hook) d
+
+  -- f(,)
+  lone_comma-refused : {e : Tree F C K} → Reads hook Expr script lone_comma [] e → ⊥
+  lone_comma-refused d = refused (lone_comma-computed hook) d
+
+  -- f(a b)
+  names_in_call-refused : {e : Tree F C K} → Reads hook Expr script names_in_call [] e → ⊥
+  names_in_call-refused d = refused (names_in_call-computed hook) d
+
+  -- a.# b
+  member_apart-refused : {e : Tree F C K} → Reads hook Expr script member_apart [] e → ⊥
+  member_apart-refused d = refused (member_apart-computed hook) d
+
+  -- a.1, which is `a` and `.1`
+  name_and_fraction-refused : {e : Tree F C K} → Reads hook Expr script name_and_fraction [] e → ⊥
+  name_and_fraction-refused d = unread (name_and_fraction-computed hook) d
+
   -- delete a, in a module
   delete_name-refused : {e : Tree F C K} → Reads hook Expr module_code delete_name [] e → ⊥
   delete_name-refused d = refused (delete_name-module hook) d
@@ -160,6 +202,30 @@ module _ {F C K : Type 0} (hook : Hook F C K) where
   -- arguments, in a class field
   arguments_word-refused : {e : Tree F C K} → Reads hook Expr class_field arguments_word [] e → ⊥
   arguments_word-refused d = refused (arguments_word-field hook) d
+
+  -- new a?.b
+  new_of_chain-refused : {e : Tree F C K} → Reads hook Expr script new_of_chain [] e → ⊥
+  new_of_chain-refused d = refused (new_of_chain-script hook) d
+
+  -- a?.b``
+  tagged_chain-refused : {e : Tree F C K} → Reads hook Expr script tagged_chain [] e → ⊥
+  tagged_chain-refused d = refused (tagged_chain-script hook) d
+
+  -- super.x
+  super_member-refused : {e : Tree F C K} → Reads hook Expr script super_member [] e → ⊥
+  super_member-refused d = refused (super_member-script hook) d
+
+  -- import(a,)
+  import_with_comma-refused : {e : Tree F C K} → Reads hook Expr script import_with_comma [] e → ⊥
+  import_with_comma-refused d = refused (import_with_comma-script hook) d
+
+  -- import.meta
+  meta_of_import-refused : {e : Tree F C K} → Reads hook Expr script meta_of_import [] e → ⊥
+  meta_of_import-refused d = refused (meta_of_import-script hook) d
+
+  -- new import(a)
+  new_of_import-refused : {e : Tree F C K} → Reads hook Expr script new_of_import [] e → ⊥
+  new_of_import-refused d = refused (new_of_import-script hook) d
 
   -- ( a ), as a literal
   grouped_name-no_literal : {ys : List TokenAndSpan} {e : Tree F C K} → Reads hook Literal script grouped_name ys e → ⊥

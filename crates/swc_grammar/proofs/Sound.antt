@@ -1,11 +1,11 @@
--- What the clean parser reads, the grammar derives, over a lawful hook. A choice picks a production, so this is said
--- once for all choices; only the operators, which are read by precedence and not by level, have a proof of their own.
-use Rattle.std.specs.Prelude.{◌≡◌, ℕ, zero, suc, ◌≤◌, Bool, true, false, if◌then◌else◌, List, [], ◌∷◌, Option, Some}
+-- What the clean parser reads, the grammar derives, over a lawful hook. A choice picks a production, and so does a
+-- link, so this is said once for all choices and once for all links; only the operators, which are read by precedence
+-- and not by level, have a proof of their own.
+use Rattle.std.specs.Prelude.{◌≡◌, ℕ, zero, suc, ◌≤◌, Bool, true, false, not, if◌then◌else◌, List, [], ◌∷◌, Option, Some}
 use Rattle.std.specs.Prelude.{None, IsTrue, nat_eq, nat_le}
-use Rattle.std.proofs.Common.{refl, subst, ap, arith}
+use Rattle.std.proofs.Common.{refl, sym as sym_path, subst, ap, ◌∙◌, arith}
 use Rattle.std.proofs.lemmas.Bool.{leb-true, leb-false, lt-ltb, eq-eqb}
 use Rattle.swc_context.specs.Operators.{precedence_of, operator_of}
-use Rattle.swc_context.specs.declared.context.Context.{Context}
 use Rattle.swc_context.specs.declared.operator.BinOpToken.{BinOpToken}
 use Rattle.swc_context.specs.declared.operator.BinOpToken.TheVariants as sign
 use Rattle.swc_context.specs.declared.operator.BinaryOp.{BinaryOp}
@@ -16,46 +16,73 @@ use Rattle.swc_context.specs.declared.word.Word.TheVariants as word
 use Rattle.swc_input.specs.declared.token.Token.{Token}
 use Rattle.swc_input.specs.declared.token.Token.TheVariants as token
 use Rattle.swc_input.specs.declared.token.TokenAndSpan.{TokenAndSpan}
+use Rattle.swc_input.specs.Kinds.{at_token}
 use Rattle.swc_ast.specs.Tree.{Tree, span_of}
 use Rattle.swc_bodies.specs.Readings.{whole_span, Hook, LawfulHook}
+use Rattle.swc_grammar.specs.Scope.{Scope}
 use Rattle.swc_grammar.specs.Rule.{gives, never, take, check, peek, read, hear, sees, given, ◌>>=◌}
-use Rattle.swc_grammar.specs.Tokens.{binary_of, is_power}
+use Rattle.swc_grammar.specs.Tokens.{with_in, binary_of, is_power, is_lparen, is_new}
+use Rattle.swc_grammar.specs.Trees.{new_e, bare_new_e, is_chain, items_of}
 use Rattle.swc_grammar.specs.Trees.{to, bin_e, nullish_ok, logical_ok, exp_ok, min_right}
-use Rattle.swc_grammar.specs.Symbols.{Symbol, Expr, Assign, Level, Unary, Primary, Literal, Elements, ElementsTail}
+use Rattle.swc_grammar.specs.Symbols.{Symbol, Expr, Assign, Level, Unary, Lhs, Left, Arguments, Args, ArgsTail, Primary}
+use Rattle.swc_grammar.specs.Symbols.{Literal, Template, Parts, Base}
+use Rattle.swc_grammar.specs.Symbols.{Elements, ElementsTail}
 use Rattle.swc_grammar.specs.Symbols.{Item, Props, PropsTail, Prop, Key, AfterKey, Shell, Answer, Body, Value}
 use Rattle.swc_grammar.specs.Symbols.{reading_of, Side}
-use Rattle.swc_grammar.specs.Grammar.{exp-unary, exp-op, bin-op}
+use Rattle.swc_grammar.specs.Grammar.{exp-unary, exp-op, bin-op, lhs-left, left-base, new-bare, left-new}
 use Rattle.swc_grammar.specs.Reads.{Hears, Reads, by, Follows, gave, took, held, calm, part, heard}
-use Rattle.swc_grammar.specs.Clean.{first, Call, sym, climb, Ans, Plan, plan, Runs, rank_of, rank, allowed, exec}
+use Rattle.swc_grammar.specs.Clean.{first, Call, sym, links, climb, Ans, Plan, plan, Runs, rank_of, rank, allowed, exec}
+use Rattle.swc_grammar.specs.Clean.{constructs, Link, no_more, more, linked, link, base, constructed, constructed_with}
+use Rattle.swc_grammar.specs.Clean.{begins_new, lhs, call_args, args, args_tail, tpl, parts}
 use Rattle.swc_grammar.specs.Clean.{operator_at, Bound, left_ok, Choice, none, pick, chosen, expr, assign, unary}
 use Rattle.swc_grammar.specs.Clean.{primary, literal, elements, elements_tail, item, props, props_tail, prop, key}
 use Rattle.swc_grammar.specs.Clean.{after_key, shell}
 use Rattle.swc_grammar.specs.Clean.{turn, turned, step, run_at, measure, run}
-use Rattle.swc_grammar.proofs.Answers.{then-ok, only, unless, hear-ok, choose, inj}
+use Rattle.swc_grammar.proofs.Answers.{then-ok, only, unless, hear-ok, choose, inj, both}
+use Rattle.swc_grammar.proofs.Binds.{bind}
 use Rattle.swc_grammar.proofs.Bodies.{before-is, hears}
 use Rattle.swc_grammar.proofs.Levels.{lift, min-right-same, below-exp, right-low, bound-none, bound-some, bound-above}
 
 -- What stands on the left of the operators above the precedence m: an operand by itself, or a node, behind which no
 -- operator is read that its own level has to take, and no `**`.
-pub data Left {F C K : Type 0} (hook : Hook F C K) (c : Context) (m : ℕ) (xs ts : List TokenAndSpan)
+pub data OnLeft {F C K : Type 0} (hook : Hook F C K) (c : Scope) (m : ℕ) (xs ts : List TokenAndSpan)
     (l : Tree F C K) : Type 0 where
-  alone : Reads hook Unary c xs ts l → Left hook c m xs ts l
+  alone : Reads hook Unary c xs ts l → OnLeft hook c m xs ts l
   node : (h : ℕ) → suc m ≤ h → h ≤ 11 → Reads hook (Level h) c xs ts l → Bound c h ts → Bound c 10 ts
-      → Left hook c m xs ts l
+      → OnLeft hook c m xs ts l
+
+-- What is read as a left-hand side: one with links, or `new` without arguments, behind which none stand.
+pub data Sided {F C K : Type 0} (hook : Hook F C K) (b : Bool) (c : Scope) (xs ts : List TokenAndSpan)
+    (l : Tree F C K) : Type 0 where
+  linked-side : Reads hook (Left b) c xs ts l → Sided hook b c xs ts l
+  bare-side : at_token is_lparen (first ts) ≡ false → Reads hook (Lhs b) c xs ts l → Sided hook b c xs ts l
+
+pub side-read : {F C K : Type 0} (hook : Hook F C K) {b : Bool} {c : Scope} {xs ts : List TokenAndSpan}
+    {l : Tree F C K} → Sided hook b c xs ts l → Reads hook (Lhs b) c xs ts l
+side-read hook (linked-side d) = by lhs-left (part d gave)
+side-read hook (bare-side n d) = d
 
 -- what the answers of calls mean
 abbrev pub Means : {F C K : Type 0} (hook : Hook F C K) (k : Call F C K)
-    → Context → List TokenAndSpan → Ans F C K k × List TokenAndSpan → Type 0
+    → Scope → List TokenAndSpan → Ans F C K k × List TokenAndSpan → Type 0
 Means hook (sym (Level zero)) c ts r = Reads hook (Level zero) c ts r.1 r.0
 Means hook (sym (Level (suc m))) c ts r = Reads hook (Level (suc m)) c ts r.1 r.0 × Bound c m r.1
+Means hook (sym (Lhs b)) c ts r = Sided hook b c ts r.1 r.0
 Means hook (sym s) c ts r = Reads hook s c ts r.1 r.0
+Means hook (constructs b s l) c ts r =
+    (a : TokenAndSpan) (xs : List TokenAndSpan) → is_new a.token ≡ true → a.span ≡ s → not (is_chain l) ≡ true
+    → Sided hook false c xs ts l → Sided hook b c (a ∷ xs) r.1 r.0
+Means hook (links b l) c ts r =
+    (xs : List TokenAndSpan) → Reads hook (Left b) c xs ts l → Reads hook (Left b) c xs r.1 r.0
 Means hook (climb l m) c ts r =
-    m ≤ 10 → (xs : List TokenAndSpan) → Left hook c m xs ts l → Reads hook (Level (suc m)) c xs r.1 r.0 × Bound c m r.1
+    m ≤ 10 → (xs : List TokenAndSpan) → OnLeft hook c m xs ts l
+    → Reads hook (Level (suc m)) c xs r.1 r.0 × Bound c m r.1
 
-reads-of : {F C K : Type 0} (hook : Hook F C K) (s : Symbol) (c : Context) (ts : List TokenAndSpan)
+reads-of : {F C K : Type 0} (hook : Hook F C K) (s : Symbol) (c : Scope) (ts : List TokenAndSpan)
     (r : Answer F C K s × List TokenAndSpan) → Means hook (sym s) c ts r → Reads hook s c ts r.1 r.0
 reads-of hook (Level zero) c ts r m = m
 reads-of hook (Level (suc k)) c ts r m = m.0
+reads-of hook (Lhs b) c ts r m = side-read hook m
 reads-of hook s c ts r m = m
 
 -- the token of `**`
@@ -67,16 +94,16 @@ power-sign : (b : BinOpToken) → Some (operator_of b) ≡ Some binary.Exp → i
 power-sign sign.Exp h = refl
 power-sign b h = absurd cc
 
-power-token : (c : Context) (t : Token) → binary_of c t ≡ Some binary.Exp → is_power t ≡ true
-power-token c (token.Word (word.Keyword keyword.In)) h = absurd (in-no-exp c.include_in_expr h)
+power-token : (c : Scope) (t : Token) → binary_of c.context t ≡ Some binary.Exp → is_power t ≡ true
+power-token c (token.Word (word.Keyword keyword.In)) h = absurd (in-no-exp c.context.include_in_expr h)
 power-token c (token.BinOp b) h = power-sign b h
 power-token c t h = absurd cc
 
 module _ {F C K : Type 0} (hook : Hook F C K)
-    (hear-sound : (b : Body) (c : Context) (ts : List TokenAndSpan) (v : Value F C K b) (us : List TokenAndSpan)
-    → reading_of hook b c ts ≡ Some (v, us) → Hears hook b c ts v us)
+    (hear-sound : (b : Body) (c : Scope) (ts : List TokenAndSpan) (v : Value F C K b) (us : List TokenAndSpan)
+    → reading_of hook b c.context ts ≡ Some (v, us) → Hears hook b c ts v us)
     (p : Runs F C K)
-    (ih : (k : Call F C K) (c : Context) (ts : List TokenAndSpan) (r : Ans F C K k × List TokenAndSpan)
+    (ih : (k : Call F C K) (c : Scope) (ts : List TokenAndSpan) (r : Ans F C K k × List TokenAndSpan)
     → p k c ts ≡ Some r → Means hook k c ts r) where
   -- a right-hand side that is run is followed
   side-sound : {s : Symbol} (g : Option ℕ) (x : Side F C K s) (ts : List TokenAndSpan)
@@ -93,18 +120,19 @@ module _ {F C K : Type 0} (hook : Hook F C K)
       let (q, a, b) = then-ok (p (sym s) c ts) (λ e us. exec hook p g (plan (f e)) us) h1 in
       part (reads-of hook s c ts q (ih (sym s) c ts q a)) (side-sound g (f q.0) q.1 r b)
   side-sound {s = s} g (hear b c f) ts r h =
-      let (q, a, lt, k) = hear-ok (reading_of hook b c ts) ts (λ v at us. exec hook p None (plan (f v at)) us) h in
+      let (q, a, lt, k) =
+      hear-ok (reading_of hook b c.context ts) ts (λ v at us. exec hook p None (plan (f v at)) us) h in
       let w = hear-sound b c ts q.0 q.1 a in
       let same = ap whole_span (before-is w.own ts q.1 w.list) in
       heard w (subst (λ at. Follows hook s (f q.0 at) q.1 r.1 r.0) same (side-sound None (f q.0 _) q.1 r k))
 
-  choice-sound : {s : Symbol} {c : Context} (g : Option ℕ) (x : Choice F C K s c) (ts : List TokenAndSpan)
+  choice-sound : {s : Symbol} {c : Scope} (g : Option ℕ) (x : Choice F C K s c) (ts : List TokenAndSpan)
       (r : Answer F C K s × List TokenAndSpan) → exec hook p g (chosen x) ts ≡ Some r → Reads hook s c ts r.1 r.0
   choice-sound g none ts r h = cc
   choice-sound g (pick {r = x} q) ts r h = by q (side-sound g x ts r h)
 
   -- a call that stands last, and one with something behind it
-  last-sound : (g : Option ℕ) (k : Call F C K) (c : Context) (ts : List TokenAndSpan)
+  last-sound : (g : Option ℕ) (k : Call F C K) (c : Scope) (ts : List TokenAndSpan)
       (r : Ans F C K k × List TokenAndSpan)
       → exec hook p g (read k c (λ v. gives v)) ts ≡ Some r → Means hook k c ts r
   last-sound g k c ts r h =
@@ -112,7 +140,7 @@ module _ {F C K : Type 0} (hook : Hook F C K)
       let (q, a, b) = then-ok (p k c ts) (λ e us. exec hook p g (gives e) us) h1 in
       subst (λ v. Means hook k c ts v) (inj q r b) (ih k c ts q a)
 
-  call-sound : {B : Type 0} (g : Option ℕ) (k : Call F C K) (c : Context) (f : Ans F C K k → Plan F C K B)
+  call-sound : {B : Type 0} (g : Option ℕ) (k : Call F C K) (c : Scope) (f : Ans F C K k → Plan F C K B)
       (ts : List TokenAndSpan)
       (r : B × List TokenAndSpan) → exec hook p g (read k c f) ts ≡ Some r
       → (q : Ans F C K k × List TokenAndSpan) × Means hook k c ts q × (exec hook p g (f q.0) q.1 ≡ Some r)
@@ -121,15 +149,81 @@ module _ {F C K : Type 0} (hook : Hook F C K)
       let (q, a, b) = then-ok (p k c ts) (λ e us. exec hook p g (f e) us) h1 in
       (q, ih k c ts q a, b)
 
+  -- a link, and what stands behind it
+  link-sound : {b : Bool} {c : Scope} (g : Option ℕ) (x : Link F C K b c) (l : Tree F C K) (xs ts : List TokenAndSpan)
+      (r : Tree F C K × List TokenAndSpan)
+      → Reads hook (Left b) c xs ts l → exec hook p g (linked x l) ts ≡ Some r → Reads hook (Left b) c xs r.1 r.0
+  link-sound {b = b} {c = c} g no_more l xs ts r d h =
+      subst (λ v. Reads hook (Left b) c xs v.1 v.0) (inj (l, ts) r h) d
+  link-sound g (more q) l xs [] r d h = cc
+  link-sound {b = b} {c = c} g (more {f = f} q) l xs (t ∷ ts) r d h =
+      let (u, a, k) = then-ok (exec hook p None (plan (f l t)) ts) _ (sym_path (bind hook p (plan (f l t)) _ ts) ∙ h) in
+      last-sound None (links b u.0) c u.1 r k xs (by q (part d (took (side-sound None (f l t) ts u a))))
+
+  -- what a left-hand side begins with, and its links
+  base-sound : (b : Bool) (c : Scope) (ts : List TokenAndSpan) (r : Tree F C K × List TokenAndSpan)
+      → exec hook p (Some 10) (read (sym (Base b)) c (λ e. read (links b e) c (λ v. gives v))) ts ≡ Some r
+      → Reads hook (Left b) c ts r.1 r.0
+  base-sound b c ts r h =
+      let (q, e, k) = call-sound (Some 10) (sym (Base b)) c (λ e. read (links b e) c (λ v. gives v)) ts r h in
+      last-sound (Some 10) (links b q.0) c q.1 r k ts (by left-base (part e gave))
+
+  -- behind `new` and what it constructs
+  constructs-sound : (g : Option ℕ) (b : Bool) (c : Scope) (a : TokenAndSpan) (s : Span) (l : Tree F C K)
+      (xs ts : List TokenAndSpan) (r : Tree F C K × List TokenAndSpan) → is_new a.token ≡ true → a.span ≡ s
+      → not (is_chain l) ≡ true → Sided hook false c xs ts l
+      → exec hook p g (step (constructs b s l) c ts) ts ≡ Some r → Sided hook b c (a ∷ xs) r.1 r.0
+  constructs-sound g b c a s l xs ts r y at n d h = choose (at_token is_lparen (first ts)) _ _
+      (λ v. exec hook p g v ts ≡ Some r) h
+      (λ z k. with-args ts z d k)
+      (λ z k. without z k)
+    where
+      without : at_token is_lparen (first ts) ≡ false
+          → exec hook p g (gives (bare_new_e (to s (span_of l)) l)) ts ≡ Some r → Sided hook b c (a ∷ xs) r.1 r.0
+      without z k = subst (λ v. Sided hook b c (a ∷ xs) v.1 v.0) (inj (bare_new_e (to s (span_of l)) l, ts) r k)
+          (subst (λ v. Sided hook b c (a ∷ xs) ts (bare_new_e (to v (span_of l)) l)) at
+          (bare-side z (by new-bare (took (held y (part (side-read hook d) (held n gave)))))))
+
+      linked-only : (us : List TokenAndSpan) → at_token is_lparen (first us) ≡ true → Sided hook false c xs us l
+          → Reads hook (Left false) c xs us l
+      linked-only us z (linked-side e) = e
+      linked-only us z (bare-side w e) = cc
+
+      with-args : (us : List TokenAndSpan) → at_token is_lparen (first us) ≡ true → Sided hook false c xs us l
+          → exec hook p g (constructed_with b s l c) us ≡ Some r → Sided hook b c (a ∷ xs) r.1 r.0
+      with-args [] z d k = cc
+      with-args (t ∷ us) z d k =
+          let (q, e, k1) = call-sound None (sym (Args false)) (with_in c)
+          (λ es. read (links b (new_e (to s (span_of es)) l (items_of es))) c (λ v. gives v)) us r k in
+          linked-side (last-sound None (links b (new_e (to s (span_of q.0)) l (items_of q.0))) c q.1 r k1 (a ∷ xs)
+          (subst (λ v. Reads hook (Left b) c (a ∷ xs) q.1 (new_e (to v (span_of q.0)) l (items_of q.0))) at
+          (by left-new (took (held y (part (linked-only (t ∷ us) z d) (held n (took (held z (part e gave))))))))))
+
+  lhs-sound : (b : Bool) (c : Scope) (ts : List TokenAndSpan) (r : Tree F C K × List TokenAndSpan)
+      → exec hook p (Some 10) (lhs b c ts) ts ≡ Some r → Sided hook b c ts r.1 r.0
+  lhs-sound b c ts r h = choose (begins_new ts) _ _ (λ v. exec hook p (Some 10) v ts ≡ Some r) h
+      (λ z k. constructed-sound ts z k)
+      (λ z k. linked-side (base-sound b c ts r k))
+    where
+      constructed-sound : (us : List TokenAndSpan) → begins_new us ≡ true
+          → exec hook p (Some 10) (constructed b c) us ≡ Some r → Sided hook b c us r.1 r.0
+      constructed-sound [] z k = cc
+      constructed-sound (t ∷ us) z k =
+          let (y, w) = both (is_new t.token) _ z in
+          let (q, e, k1) = call-sound None (sym (Lhs false)) c
+          (λ l. check (not (is_chain l)) (read (constructs b t.span l) c (λ v. gives v))) us r k in
+          let (n, k2) = only (not (is_chain q.0)) k1 in
+          last-sound None (constructs b t.span q.0) c q.1 r k2 t us y refl n e
+
   given-follows : {s : Symbol} {A : Type 0} (o : Option A) (k : A → Side F C K s) (x : A) {xs ys : List TokenAndSpan}
       {t : Answer F C K s} → o ≡ Some x → Follows hook s (k x) xs ys t → Follows hook s (given o >>= k) xs ys t
   given-follows o k x h d = rw h d
 
   -- one operator, and its node at its own level
-  node-sound : (c : Context) (op : BinaryOp) (l e : Tree F C K) (m : ℕ) (t : TokenAndSpan)
+  node-sound : (c : Scope) (op : BinaryOp) (l e : Tree F C K) (m : ℕ) (t : TokenAndSpan)
       (xs ts ys : List TokenAndSpan)
-      → binary_of c t.token ≡ Some op → exp_ok op l ≡ true → nullish_ok op l e ≡ true → logical_ok op l ≡ true
-      → Left hook c m xs (t ∷ ts) l → Reads hook (Level (suc (min_right op))) c ts ys e
+      → binary_of c.context t.token ≡ Some op → exp_ok op l ≡ true → nullish_ok op l e ≡ true → logical_ok op l ≡ true
+      → OnLeft hook c m xs (t ∷ ts) l → Reads hook (Level (suc (min_right op))) c ts ys e
       → Reads hook (Level (precedence_of op)) c xs ys (bin_e (to (span_of l) (span_of e)) op l e)
   node-sound c binary.Exp l e m t xs ts ys at x n g (alone d) right =
       by exp-op (part d (took (held (power-token c t.token at) (held x (part right gave)))))
@@ -141,27 +235,28 @@ module _ {F C K : Type 0} (hook : Hook F C K)
       let level : IsTrue (nat_eq (precedence_of op) (precedence_of op)) = eq-eqb (precedence_of op)
       (precedence_of op) refl in
       by (bin-op (lt-ltb (precedence_of op) 11 (omega arith)))
-      (part (left d small) (took (given-follows (binary_of c t.token) _ op at
+      (part (left d small) (took (given-follows (binary_of c.context t.token) _ op at
       (held level (part above (held n (held g gave)))))))
     where
-      left : Left hook c m xs (t ∷ ts) l → precedence_of op ≤ 10 → Reads hook (Level (precedence_of op)) c xs (t ∷ ts) l
+      left : OnLeft hook c m xs (t ∷ ts) l → precedence_of op ≤ 10
+          → Reads hook (Level (precedence_of op)) c xs (t ∷ ts) l
       left (alone d) small = lift (precedence_of op) 11 (omega arith) (omega arith) (by exp-unary (part d gave))
       left (node h low top d bound ten) small = lift (precedence_of op) h (bound op at) top d
 
-  stopped-sound : (c : Context) (g : Option ℕ) (l : Tree F C K) (m : ℕ) (xs ts : List TokenAndSpan)
+  stopped-sound : (c : Scope) (g : Option ℕ) (l : Tree F C K) (m : ℕ) (xs ts : List TokenAndSpan)
       (r : Tree F C K × List TokenAndSpan)
-      → m ≤ 10 → Left hook c m xs ts l → Bound c m ts → exec hook p g (check (left_ok l) (gives l)) ts ≡ Some r
+      → m ≤ 10 → OnLeft hook c m xs ts l → Bound c m ts → exec hook p g (check (left_ok l) (gives l)) ts ≡ Some r
       → Reads hook (Level (suc m)) c xs r.1 r.0 × Bound c m r.1
   stopped-sound c g l m xs ts r small d b h =
       subst (λ v. Reads hook (Level (suc m)) c xs v.1 v.0 × Bound c m v.1) (inj (l, ts) r (only (left_ok l) h).1)
       (lowered d, b)
     where
-      lowered : Left hook c m xs ts l → Reads hook (Level (suc m)) c xs ts l
+      lowered : OnLeft hook c m xs ts l → Reads hook (Level (suc m)) c xs ts l
       lowered (alone d) = lift (suc m) 11 (omega arith) (omega arith) (by exp-unary (part d gave))
       lowered (node h low top d bound ten) = lift (suc m) h low top d
 
-  turn-sound : (c : Context) (g : Option ℕ) (o : Option BinaryOp) (l : Tree F C K) (m : ℕ) (xs ts : List TokenAndSpan)
-      (r : Tree F C K × List TokenAndSpan) → m ≤ 10 → Left hook c m xs ts l → operator_at c (first ts) ≡ o
+  turn-sound : (c : Scope) (g : Option ℕ) (o : Option BinaryOp) (l : Tree F C K) (m : ℕ) (xs ts : List TokenAndSpan)
+      (r : Tree F C K × List TokenAndSpan) → m ≤ 10 → OnLeft hook c m xs ts l → operator_at c.context (first ts) ≡ o
       → exec hook p g (turn o l m c >>= (λ q. turned q.0 q.1 c)) ts ≡ Some r
       → Reads hook (Level (suc m)) c xs r.1 r.0 × Bound c m r.1
   turn-sound c g None l m xs ts r small d at h = stopped-sound c g l m xs ts r small d (bound-none c m ts at) h
@@ -184,21 +279,29 @@ module _ {F C K : Type 0} (hook : Hook F C K)
       last-sound None (climb (bin_e (to (span_of l) (span_of q.0)) op l q.0) m) c q.1 r h5 small xs
       (node (precedence_of op) above (below-exp op) whole own below))
 
-  step-sound : (k : Call F C K) (c : Context) (ts : List TokenAndSpan) (r : Ans F C K k × List TokenAndSpan)
+  step-sound : (k : Call F C K) (c : Scope) (ts : List TokenAndSpan) (r : Ans F C K k × List TokenAndSpan)
       → exec hook p (Some (rank k)) (step k c ts) ts ≡ Some r → Means hook k c ts r
-  step-sound (sym Expr) c ts r h = choice-sound (Some 14) (expr c ts) ts r h
-  step-sound (sym Assign) c ts r h = choice-sound (Some 13) (assign c ts) ts r h
+  step-sound (sym Expr) c ts r h = choice-sound (Some 15) (expr c ts) ts r h
+  step-sound (sym Assign) c ts r h = choice-sound (Some 14) (assign c ts) ts r h
   step-sound (sym (Level zero)) c ts r h = cc
   step-sound (sym (Level (suc m))) c ts r h =
       let (y, h1) = only (nat_le m 10) h in
-      let (q, a, b) = call-sound (Some 11) (sym Unary) c (λ e. read (climb e m) c (λ v. gives v)) ts r h1 in
-      last-sound (Some 11) (climb q.0 m) c q.1 r b (leb-true m 10 y) ts (alone a)
-  step-sound (sym Unary) c ts r h = choice-sound (Some 10) (unary c ts) ts r h
+      let (q, a, b) = call-sound (Some 12) (sym Unary) c (λ e. read (climb e m) c (λ v. gives v)) ts r h1 in
+      last-sound (Some 12) (climb q.0 m) c q.1 r b (leb-true m 10 y) ts (alone a)
+  step-sound (sym Unary) c ts r h = choice-sound (Some 11) (unary c ts) ts r h
+  step-sound (sym (Lhs b)) c ts r h = lhs-sound b c ts r h
+  step-sound (sym (Left b)) c ts r h = cc
+  step-sound (sym (Base b)) c ts r h = choice-sound (Some 9) (base b c ts) ts r h
+  step-sound (sym (Arguments i)) c ts r h = choice-sound (Some 9) (call_args i c ts) ts r h
+  step-sound (sym (Args i)) c ts r h = choice-sound (Some 17) (args i c ts) ts r h
+  step-sound (sym (ArgsTail i)) c ts r h = choice-sound (Some 5) (args_tail i c ts) ts r h
   step-sound (sym Primary) c ts r h = choice-sound (Some 8) (primary c ts) ts r h
   step-sound (sym Literal) c ts r h = choice-sound (Some 6) (literal c ts) ts r h
-  step-sound (sym Elements) c ts r h = choice-sound (Some 16) (elements c ts) ts r h
+  step-sound (sym (Template is_tagged)) c ts r h = choice-sound (Some 6) (tpl is_tagged c ts) ts r h
+  step-sound (sym (Parts is_tagged)) c ts r h = choice-sound (Some 6) (parts is_tagged c ts) ts r h
+  step-sound (sym Elements) c ts r h = choice-sound (Some 17) (elements c ts) ts r h
   step-sound (sym ElementsTail) c ts r h = choice-sound (Some 5) (elements_tail c ts) ts r h
-  step-sound (sym Item) c ts r h = choice-sound (Some 15) (item c ts) ts r h
+  step-sound (sym Item) c ts r h = choice-sound (Some 16) (item c ts) ts r h
   step-sound (sym Props) c ts r h = choice-sound (Some 5) (props c ts) ts r h
   step-sound (sym PropsTail) c ts r h = choice-sound (Some 2) (props_tail c ts) ts r h
   step-sound (sym Prop) c ts r h = choice-sound (Some 4) (prop c ts) ts r h
@@ -206,23 +309,25 @@ module _ {F C K : Type 0} (hook : Hook F C K)
   step-sound (sym AfterKey) c ts r h = choice-sound (Some 3) (after_key c ts) ts r h
   step-sound (sym (Shell is_async is_generator)) c ts r h =
       choice-sound (Some 2) (shell is_async is_generator c ts) ts r h
+  step-sound (constructs b s l) c ts r h = λ a xs y at n d. constructs-sound (Some 1) b c a s l xs ts r y at n d h
+  step-sound (links b l) c ts r h = λ xs d. link-sound (Some 1) (link b c ts) l xs ts r d h
   step-sound (climb l m) c ts r h =
-      λ small xs d. turn-sound c (Some 1) (operator_at c (first ts)) l m xs ts r small d refl h
+      λ small xs d. turn-sound c (Some 1) (operator_at c.context (first ts)) l m xs ts r small d refl h
 
 module _ {F C K : Type 0} {fun_at : F → Span} {class_at : C → Span} {block_at : K → Span} (hook : Hook F C K)
     (laws : LawfulHook fun_at class_at block_at hook) where
   -- the recursion closed
-  run_at-sound : (n : ℕ) (k : Call F C K) (c : Context) (ts : List TokenAndSpan) (r : Ans F C K k × List TokenAndSpan)
+  run_at-sound : (n : ℕ) (k : Call F C K) (c : Scope) (ts : List TokenAndSpan) (r : Ans F C K k × List TokenAndSpan)
       → run_at hook n k c ts ≡ Some r → Means hook k c ts r
   run_at-sound zero k c ts r h = cc
   run_at-sound (suc n) k c ts r h = step-sound hook (hears hook laws) (run_at hook n) (run_at-sound n) k c ts r h
 
-  pub run-sound : (k : Call F C K) (c : Context) (ts : List TokenAndSpan) (r : Ans F C K k × List TokenAndSpan)
+  pub run-sound : (k : Call F C K) (c : Scope) (ts : List TokenAndSpan) (r : Ans F C K k × List TokenAndSpan)
       → run hook k c ts ≡ Some r → Means hook k c ts r
   unfolding run
   run-sound k c ts r h = run_at-sound (suc (measure k ts)) k c ts r h
 
   -- what is read at a symbol, the grammar derives
-  pub sound : (s : Symbol) (c : Context) (ts : List TokenAndSpan) (r : Answer F C K s × List TokenAndSpan)
+  pub sound : (s : Symbol) (c : Scope) (ts : List TokenAndSpan) (r : Answer F C K s × List TokenAndSpan)
       → run hook (sym s) c ts ≡ Some r → Reads hook s c ts r.1 r.0
   sound s c ts r h = reads-of hook s c ts r (run-sound (sym s) c ts r h)

@@ -1,7 +1,6 @@
 -- Worked texts: their tokens, and the trees that they are read as.
-use Rattle.std.specs.Prelude.{ℕ, true, false, List, [], ◌∷◌, Some, None, codes}
+use Rattle.std.specs.Prelude.{ℕ, true, false, List, [], ◌∷◌, Some, None, Ok, codes}
 use Rattle.swc_context.specs.Contexts.{no_flags}
-use Rattle.swc_context.specs.declared.context.Context.{Context}
 use Rattle.swc_context.specs.declared.operator.AssignOp.TheVariants as assign
 use Rattle.swc_context.specs.declared.operator.BinOpToken.{BinOpToken}
 use Rattle.swc_context.specs.declared.operator.BinOpToken.TheVariants as sign
@@ -16,28 +15,49 @@ use Rattle.swc_context.specs.declared.word.Word.TheVariants as word
 use Rattle.swc_input.specs.declared.token.Token.{Token}
 use Rattle.swc_input.specs.declared.token.Token.TheVariants as token
 use Rattle.swc_input.specs.declared.token.TokenAndSpan.{TokenAndSpan}
-use Rattle.swc_ast.specs.Tree.{Tree, nil, cons}
-use Rattle.swc_grammar.specs.Tokens.{tk}
+use Rattle.swc_ast.specs.Tree.{Tree, node, nil, cons, tpl}
+use Rattle.swc_ast.specs.declared.expr.ImportPhase.TheVariants as phase
+use Rattle.swc_ast.specs.declared.expr.MetaPropKind.TheVariants as kind
+use Rattle.swc_grammar.specs.Scope.{Scope, in_context}
+use Rattle.swc_grammar.specs.Tokens.{tk, with_in}
 use Rattle.swc_grammar.specs.Trees.{null_e, boolean_e, num_e, big_e, str_e, ident_e, private_e, unary_e, paren_e, bin_e}
 use Rattle.swc_grammar.specs.Trees.{this_e, array_e, hole_e, item_e, spread_e, object_e, name_e, computed_e}
 use Rattle.swc_grammar.specs.Trees.{spread_prop_e, short_e, cover_e, key_value_e, block_e, function_e, method_e, getter_e}
+use Rattle.swc_grammar.specs.Trees.{member_e, call_e, chain_e, new_e, bare_new_e, text_e, super_prop_e, import_e, meta_e}
 
 -- a script, where `in` isn't an operator, and where it is
-abbrev pub no_in : Context
-no_in = no_flags
+abbrev pub no_in : Scope
+no_in = record {
+  context = no_flags;
+  syntax = record { early_errors = true; import_attributes = false; allow_super_outside_method = false };
+}
 
-abbrev pub script : Context
-script = record no_in { include_in_expr = true }
+abbrev pub script : Scope
+script = with_in no_in
 
 -- a module; a class field and a generator of a script
-abbrev pub module_code : Context
-module_code = record script { «module» = true; strict = true }
+abbrev pub module_code : Scope
+module_code = in_context (λ c. record c { «module» = true; strict = true }) script
 
-abbrev pub class_field : Context
-class_field = record script { in_class = true; in_class_field = true }
+abbrev pub class_field : Scope
+class_field = in_context (λ c. record c { in_class = true; in_class_field = true }) script
 
-abbrev pub generator : Context
-generator = record script { in_generator = true; in_function = true; inside_non_arrow_function_scope = true }
+abbrev pub generator : Scope
+generator =
+    in_context (λ c. record c { in_generator = true; in_function = true; inside_non_arrow_function_scope = true })
+    script
+
+-- code of a method; and where `super` may stand anywhere, and import attributes are read; a script that may be a module
+abbrev pub method : Scope
+method = in_context (λ c. record c { allow_direct_super = true }) script
+
+abbrev pub lenient : Scope
+lenient = record script {
+  syntax = record { early_errors = true; import_attributes = true; allow_super_outside_method = true };
+}
+
+abbrev pub either_code : Scope
+either_code = in_context (λ c. record c { can_be_module = true }) script
 
 abbrev pub place : ℕ → ℕ → Span
 place lo hi = record { lo = record { 0 = lo }; hi = record { 0 = hi } }
@@ -79,6 +99,19 @@ bracket_at lo hi = tok token.LBracket lo hi
 abbrev pub unbracket_at : ℕ → ℕ → TokenAndSpan
 unbracket_at lo hi = tok token.RBracket lo hi
 
+abbrev pub dot_at : ℕ → ℕ → TokenAndSpan
+dot_at lo hi = tok token.Dot lo hi
+
+abbrev pub question_at : ℕ → ℕ → TokenAndSpan
+question_at lo hi = tok token.QuestionMark lo hi
+
+abbrev pub backquote_at : ℕ → ℕ → TokenAndSpan
+backquote_at lo hi = tok token.BackQuote lo hi
+
+-- a text of a template, without escapes
+abbrev pub text_at : List ℕ → ℕ → ℕ → TokenAndSpan
+text_at w lo hi = tok (token.Template w (Ok w)) lo hi
+
 abbrev pub comma_at : ℕ → ℕ → TokenAndSpan
 comma_at lo hi = tok token.Comma lo hi
 
@@ -109,6 +142,9 @@ bin lo hi op l r = bin_e (place lo hi) op l r
 
 abbrev pub paren : {F C K : Type 0} → ℕ → ℕ → Tree F C K → Tree F C K
 paren lo hi e = paren_e (place lo hi) e
+
+abbrev pub member : {F C K : Type 0} → ℕ → ℕ → Tree F C K → Tree F C K → Tree F C K
+member lo hi obj prop = member_e (place lo hi) obj prop
 
 abbrev pub key : {F C K : Type 0} → List ℕ → ℕ → ℕ → Tree F C K
 key w lo hi = name_e (place lo hi) w
@@ -473,6 +509,209 @@ names_in_braces = brace_at 0 1 ∷ name_at (codes "a") 1 2 ∷ name_at (codes "b
 -- {class}
 abbrev pub reserved_name : List TokenAndSpan
 reserved_name = brace_at 0 1 ∷ word_at (word.Keyword keyword.Class) 1 6 ∷ unbrace_at 6 7 ∷ []
+
+-- a.b
+abbrev pub member_of_name : List TokenAndSpan
+member_of_name = name_at (codes "a") 0 1 ∷ dot_at 1 2 ∷ name_at (codes "b") 2 3 ∷ []
+
+abbrev pub member_of_name_tree : {F C K : Type 0} → Tree F C K
+member_of_name_tree = member 0 3 (ident (codes "a") 0 1) (key (codes "b") 2 3)
+
+-- a.if
+abbrev pub member_by_keyword : List TokenAndSpan
+member_by_keyword = name_at (codes "a") 0 1 ∷ dot_at 1 2 ∷ word_at (word.Keyword keyword.If) 2 4 ∷ []
+
+abbrev pub member_by_keyword_tree : {F C K : Type 0} → Tree F C K
+member_by_keyword_tree = member 0 4 (ident (codes "a") 0 1) (key (codes "if") 2 4)
+
+-- a.#b
+abbrev pub private_member : List TokenAndSpan
+private_member = name_at (codes "a") 0 1 ∷ dot_at 1 2 ∷ hash_at 2 3 ∷ name_at (codes "b") 3 4 ∷ []
+
+abbrev pub private_member_tree : {F C K : Type 0} → Tree F C K
+private_member_tree = member 0 4 (ident (codes "a") 0 1) (private (codes "b") 2 4)
+
+-- a[b]
+abbrev pub computed_member : List TokenAndSpan
+computed_member = name_at (codes "a") 0 1 ∷ bracket_at 1 2 ∷ name_at (codes "b") 2 3 ∷ unbracket_at 3 4 ∷ []
+
+abbrev pub computed_member_tree : {F C K : Type 0} → Tree F C K
+computed_member_tree = member 0 4 (ident (codes "a") 0 1) (computed_e (place 1 4) (ident (codes "b") 2 3))
+
+-- a.b(c, ...d,)[e]
+abbrev pub call_of_member : List TokenAndSpan
+call_of_member =
+    name_at (codes "a") 0 1 ∷ dot_at 1 2 ∷ name_at (codes "b") 2 3 ∷ open_at 3 4 ∷ name_at (codes "c") 4 5
+    ∷ comma_at 5 6 ∷ dots_at 7 10 ∷ name_at (codes "d") 10 11 ∷ comma_at 11 12 ∷ close_at 12 13 ∷ bracket_at 13 14
+    ∷ name_at (codes "e") 14 15 ∷ unbracket_at 15 16 ∷ []
+
+abbrev pub call_of_member_tree : {F C K : Type 0} → Tree F C K
+call_of_member_tree = member 0 16
+    (call_e (place 0 13) member_of_name_tree
+    (cons (item_e (ident (codes "c") 4 5)) (cons (spread_e (place 7 10) (ident (codes "d") 10 11)) nil)))
+    (computed_e (place 13 16) (ident (codes "e") 14 15))
+
+-- f()
+abbrev pub empty_call : List TokenAndSpan
+empty_call = name_at (codes "f") 0 1 ∷ open_at 1 2 ∷ close_at 2 3 ∷ []
+
+abbrev pub empty_call_tree : {F C K : Type 0} → Tree F C K
+empty_call_tree = call_e (place 0 3) (ident (codes "f") 0 1) nil
+
+-- (a)(b)
+abbrev pub call_of_group : List TokenAndSpan
+call_of_group =
+    open_at 0 1 ∷ name_at (codes "a") 1 2 ∷ close_at 2 3 ∷ open_at 3 4 ∷ name_at (codes "b") 4 5 ∷ close_at 5 6 ∷ []
+
+abbrev pub call_of_group_tree : {F C K : Type 0} → Tree F C K
+call_of_group_tree =
+    call_e (place 0 6) (paren 0 3 (ident (codes "a") 1 2)) (cons (item_e (ident (codes "b") 4 5)) nil)
+
+-- a?.b.c
+abbrev pub chain_of_members : List TokenAndSpan
+chain_of_members =
+    name_at (codes "a") 0 1 ∷ question_at 1 2 ∷ dot_at 2 3 ∷ name_at (codes "b") 3 4 ∷ dot_at 4 5
+    ∷ name_at (codes "c") 5 6 ∷ []
+
+abbrev pub chain_of_members_tree : {F C K : Type 0} → Tree F C K
+chain_of_members_tree =
+    chain_e false (member_e (place 0 6)
+    (chain_e true (member_e (place 0 4) (ident (codes "a") 0 1) (name_e (place 3 4) (codes "b"))))
+    (name_e (place 5 6) (codes "c")))
+
+-- new a.b(1)
+abbrev pub new_of_member : List TokenAndSpan
+new_of_member =
+    word_at (word.Keyword keyword.New) 0 3 ∷ name_at (codes "a") 4 5 ∷ dot_at 5 6 ∷ name_at (codes "b") 6 7
+    ∷ open_at 7 8 ∷ num_at (codes "1") 8 9 ∷ close_at 9 10 ∷ []
+
+abbrev pub new_of_member_tree : {F C K : Type 0} → Tree F C K
+new_of_member_tree =
+    new_e (place 0 10) (member_e (place 4 7) (ident (codes "a") 4 5) (name_e (place 6 7) (codes "b")))
+    (cons (item_e (num_e (place 8 9) (codes "1"))) nil)
+
+-- new new a(b)
+abbrev pub new_of_new : List TokenAndSpan
+new_of_new =
+    word_at (word.Keyword keyword.New) 0 3 ∷ word_at (word.Keyword keyword.New) 4 7 ∷ name_at (codes "a") 8 9
+    ∷ open_at 9 10 ∷ name_at (codes "b") 10 11 ∷ close_at 11 12 ∷ []
+
+abbrev pub new_of_new_tree : {F C K : Type 0} → Tree F C K
+new_of_new_tree =
+    bare_new_e (place 0 12) (new_e (place 4 12) (ident (codes "a") 8 9) (cons (item_e (ident (codes "b") 10 11)) nil))
+
+-- new a?.b
+abbrev pub new_of_chain : List TokenAndSpan
+new_of_chain =
+    word_at (word.Keyword keyword.New) 0 3 ∷ name_at (codes "a") 4 5 ∷ question_at 5 6 ∷ dot_at 6 7
+    ∷ name_at (codes "b") 7 8 ∷ []
+
+-- `x${e}`
+abbrev pub template_of_name : List TokenAndSpan
+template_of_name =
+    backquote_at 0 1 ∷ text_at (codes "x") 1 2 ∷ tok token.DollarLBrace 2 4 ∷ name_at (codes "e") 4 5
+    ∷ unbrace_at 5 6 ∷ text_at [] 6 6 ∷ backquote_at 6 7 ∷ []
+
+abbrev pub template_of_name_tree : {F C K : Type 0} → Tree F C K
+template_of_name_tree =
+    node tpl (place 0 7) (cons (text_e (place 1 2) false (Some (codes "x")) (codes "x"))
+    (cons (text_e (place 6 6) true (Some []) []) (cons (ident (codes "e") 4 5) nil)))
+
+-- a?.b``
+abbrev pub tagged_chain : List TokenAndSpan
+tagged_chain =
+    name_at (codes "a") 0 1 ∷ question_at 1 2 ∷ dot_at 2 3 ∷ name_at (codes "b") 3 4 ∷ backquote_at 4 5
+    ∷ text_at [] 5 5 ∷ backquote_at 5 6 ∷ []
+
+-- super.x
+abbrev pub super_member : List TokenAndSpan
+super_member = word_at (word.Keyword keyword.Super) 0 5 ∷ dot_at 5 6 ∷ name_at (codes "x") 6 7 ∷ []
+
+abbrev pub super_member_tree : {F C K : Type 0} → Tree F C K
+super_member_tree = super_prop_e (place 0 7) (place 0 5) (name_e (place 6 7) (codes "x"))
+
+-- import(a,)
+abbrev pub import_with_comma : List TokenAndSpan
+import_with_comma =
+    word_at (word.Keyword keyword.Import) 0 6 ∷ open_at 6 7 ∷ name_at (codes "a") 7 8 ∷ comma_at 8 9 ∷ close_at 9 10
+    ∷ []
+
+abbrev pub import_with_comma_tree : {F C K : Type 0} → Tree F C K
+import_with_comma_tree =
+    call_e (place 0 10) (import_e (place 0 6) phase.Evaluation) (cons (item_e (ident (codes "a") 7 8)) nil)
+
+-- import.source(a).b
+abbrev pub import_of_source : List TokenAndSpan
+import_of_source =
+    word_at (word.Keyword keyword.Import) 0 6 ∷ dot_at 6 7 ∷ name_at (codes "source") 7 13 ∷ open_at 13 14
+    ∷ name_at (codes "a") 14 15 ∷ close_at 15 16 ∷ dot_at 16 17 ∷ name_at (codes "b") 17 18 ∷ []
+
+abbrev pub import_of_source_tree : {F C K : Type 0} → Tree F C K
+import_of_source_tree =
+    member_e (place 0 18)
+    (call_e (place 0 16) (import_e (place 0 13) phase.Source) (cons (item_e (ident (codes "a") 14 15)) nil))
+    (name_e (place 17 18) (codes "b"))
+
+-- import.meta
+abbrev pub meta_of_import : List TokenAndSpan
+meta_of_import = word_at (word.Keyword keyword.Import) 0 6 ∷ dot_at 6 7 ∷ name_at (codes "meta") 7 11 ∷ []
+
+abbrev pub meta_of_import_tree : {F C K : Type 0} → Tree F C K
+meta_of_import_tree = meta_e (place 0 11) kind.ImportMeta
+
+-- new import(a)
+abbrev pub new_of_import : List TokenAndSpan
+new_of_import =
+    word_at (word.Keyword keyword.New) 0 3 ∷ word_at (word.Keyword keyword.Import) 4 10 ∷ open_at 10 11
+    ∷ name_at (codes "a") 11 12 ∷ close_at 12 13 ∷ []
+
+-- a[b in c](d in e)
+abbrev pub in_in_links : List TokenAndSpan
+in_in_links =
+    name_at (codes "a") 0 1 ∷ bracket_at 1 2 ∷ name_at (codes "b") 2 3 ∷ word_at (word.Keyword keyword.In) 4 6
+    ∷ name_at (codes "c") 7 8 ∷ unbracket_at 8 9 ∷ open_at 9 10 ∷ name_at (codes "d") 10 11
+    ∷ word_at (word.Keyword keyword.In) 12 14 ∷ name_at (codes "e") 15 16 ∷ close_at 16 17 ∷ []
+
+abbrev pub in_in_links_tree : {F C K : Type 0} → Tree F C K
+in_in_links_tree = call_e (place 0 17)
+    (member 0 9 (ident (codes "a") 0 1)
+    (computed_e (place 1 9) (bin 2 8 binary.In (ident (codes "b") 2 3) (ident (codes "c") 7 8))))
+    (cons (item_e (bin 10 16 binary.In (ident (codes "d") 10 11) (ident (codes "e") 15 16))) nil)
+
+-- -a.b ** c
+abbrev pub power_of_minus_member : List TokenAndSpan
+power_of_minus_member =
+    sign_at sign.Sub 0 1 ∷ name_at (codes "a") 1 2 ∷ dot_at 2 3 ∷ name_at (codes "b") 3 4 ∷ sign_at sign.Exp 5 7
+    ∷ name_at (codes "c") 8 9 ∷ []
+
+-- a.
+abbrev pub half_member : List TokenAndSpan
+half_member = name_at (codes "a") 0 1 ∷ dot_at 1 2 ∷ []
+
+-- a.1, which is `a` and `.1`
+abbrev pub name_and_fraction : List TokenAndSpan
+name_and_fraction = name_at (codes "a") 0 1 ∷ num_at (codes ".1") 1 3 ∷ []
+
+-- a. 1
+abbrev pub member_by_number : List TokenAndSpan
+member_by_number = name_at (codes "a") 0 1 ∷ dot_at 1 2 ∷ num_at (codes "1") 3 4 ∷ []
+
+-- a[
+abbrev pub open_bracket : List TokenAndSpan
+open_bracket = name_at (codes "a") 0 1 ∷ bracket_at 1 2 ∷ []
+
+-- f(,)
+abbrev pub lone_comma : List TokenAndSpan
+lone_comma = name_at (codes "f") 0 1 ∷ open_at 1 2 ∷ comma_at 2 3 ∷ close_at 3 4 ∷ []
+
+-- f(a b)
+abbrev pub names_in_call : List TokenAndSpan
+names_in_call =
+    name_at (codes "f") 0 1 ∷ open_at 1 2 ∷ name_at (codes "a") 2 3 ∷ name_at (codes "b") 4 5 ∷ close_at 5 6 ∷ []
+
+-- a.# b
+abbrev pub member_apart : List TokenAndSpan
+member_apart = name_at (codes "a") 0 1 ∷ dot_at 1 2 ∷ hash_at 2 3 ∷ name_at (codes "b") 4 5 ∷ []
 
 -- -a ** b
 abbrev pub power_of_minus : List TokenAndSpan

@@ -2,7 +2,7 @@
 -- nothing where the code refuses or records a fault. By what stands first it picks one of the grammar's productions,
 -- whose right-hand side is then run as it stands, so what is read is derived by construction. It is a private measure
 -- of the code: what is promised to callers speaks of the grammar.
-use Rattle.std.specs.Prelude.{ℕ, zero, suc, ◌+◌, ◌-◌, ◌*◌, ◌≤◌, Bool, true, false, if◌then◌else◌}
+use Rattle.std.specs.Prelude.{ℕ, zero, suc, ◌+◌, ◌-◌, ◌*◌, ◌≤◌, Bool, true, false, not, ◌&&◌, if◌then◌else◌}
 use Rattle.std.specs.Prelude.{List, [], ◌∷◌, Option, Some, None, ◌≡◌, length, take as front, nat_le, nat_lt}
 use Rattle.swc_context.specs.Operators.{precedence_of}
 use Rattle.swc_context.specs.declared.context.Context.{Context}
@@ -16,12 +16,21 @@ use Rattle.swc_input.specs.declared.token.TokenAndSpan.{TokenAndSpan}
 use Rattle.swc_input.specs.Kinds.{at_token, is_hash}
 use Rattle.swc_ast.specs.Tree.{Tree, span_of}
 use Rattle.swc_bodies.specs.Readings.{whole_span, Hook, begins, begins_function, is_class, is_brace, is_async}
+use Rattle.swc_grammar.specs.Scope.{Scope}
 use Rattle.swc_grammar.specs.Rule.{Rule, gives, never, take, check, peek, read, hear, sees, ◌>>=◌, ◌>>◌, symbol, must}
-use Rattle.swc_grammar.specs.Symbols.{Symbol, Expr, Assign, Level, Unary, Primary, Literal, Elements, ElementsTail}
+use Rattle.swc_grammar.specs.Symbols.{Symbol, Expr, Assign, Level, Unary, Lhs, Left, Arguments, Args, ArgsTail, Primary}
+use Rattle.swc_grammar.specs.Symbols.{Literal, Template, Parts, Base}
+use Rattle.swc_grammar.specs.Symbols.{Elements, ElementsTail}
 use Rattle.swc_grammar.specs.Symbols.{Item, Props, PropsTail, Prop, Key, AfterKey, Shell, Answer, Body, Value}
 use Rattle.swc_grammar.specs.Symbols.{reading_of, Side}
-use Rattle.swc_grammar.specs.Grammar.{Production, ident-expr, lit, paren-expr, unary-primary, unary-op, private-expr}
-use Rattle.swc_grammar.specs.Grammar.{primary-literal, assign-level, expr-assign, this-expr, array-lit, fn-expr, class-expr}
+use Rattle.swc_grammar.specs.Grammar.{Production, expr-assign, assign-level, ident-expr, lit, paren-expr}
+use Rattle.swc_grammar.specs.Grammar.{unary-left, unary-op, private-expr}
+use Rattle.swc_grammar.specs.Grammar.{member-name, member-private, member-computed, call, args-end, args-more}
+use Rattle.swc_grammar.specs.Grammar.{args-tail-end, args-tail-more, new-target, chain-name, chain-private}
+use Rattle.swc_grammar.specs.Grammar.{chain-computed, chain-call, tagged-tpl, arguments, primary-template, template, parts-end}
+use Rattle.swc_grammar.specs.Grammar.{parts-more, regex-alone, regex-slash, base-primary, super-name, super-computed}
+use Rattle.swc_grammar.specs.Grammar.{super-call, import-meta, import-call, import-source}
+use Rattle.swc_grammar.specs.Grammar.{primary-literal, this-expr, array-lit, fn-expr, class-expr}
 use Rattle.swc_grammar.specs.Grammar.{elements-end, elements-hole, elements-more, tail-end, tail-more, item-expr}
 use Rattle.swc_grammar.specs.Grammar.{item-spread, object-lit, props-end, props-more, props-tail-end, props-tail-more}
 use Rattle.swc_grammar.specs.Grammar.{prop-spread, prop-short, prop-cover, prop-key, prop-generator, prop-async}
@@ -29,8 +38,10 @@ use Rattle.swc_grammar.specs.Grammar.{prop-async-generator, prop-getter, after-v
 use Rattle.swc_grammar.specs.Grammar.{key-name, key-literal, key-computed}
 use Rattle.swc_grammar.specs.Tokens.{is_ref, binary_of, prefix_of, is_lparen, is_this, is_lbracket, is_rbracket, is_comma}
 use Rattle.swc_grammar.specs.Tokens.{is_dots, is_rbrace, is_colon, is_star, is_equals, is_word, is_get, with_in}
-use Rattle.swc_grammar.specs.Tokens.{is_question, ends_prop, follows_key}
-use Rattle.swc_grammar.specs.Trees.{to, bin_e, nullish_ok, logical_ok, exp_ok, min_right}
+use Rattle.swc_grammar.specs.Tokens.{is_super, is_import, is_source}
+use Rattle.swc_grammar.specs.Tokens.{is_question, is_dot, is_rparen, is_new, is_backquote, is_slash, is_regex, ends_prop, follows_key}
+use Rattle.swc_grammar.specs.Trees.{to, bin_e, new_e, bare_new_e, is_chain, items_of, nullish_ok, logical_ok, exp_ok}
+use Rattle.swc_grammar.specs.Trees.{min_right}
 
 -- what was read, and the tokens left
 abbrev pub Out : Type 0 → Type 0
@@ -48,6 +59,10 @@ abbrev pub second : List TokenAndSpan → Option TokenAndSpan
 second [] = None
 second (t ∷ ts) = first ts
 
+abbrev pub third : List TokenAndSpan → Option TokenAndSpan
+third [] = None
+third (t ∷ ts) = second ts
+
 -- the tokens that stand before the ones left
 abbrev pub before : List TokenAndSpan → List TokenAndSpan → List TokenAndSpan
 before ts us = front (length ts - length us) ts
@@ -57,14 +72,20 @@ abbrev pub hear_then : {V A : Type 0} → Out V → List TokenAndSpan → (V →
 hear_then None ts f = None
 hear_then (Some p) ts f = if nat_lt (length p.1) (length ts) then f p.0 (whole_span (before ts p.1)) p.1 else None
 
--- Where the recursion goes on: at a symbol; and behind an operand, at the operators above the precedence m.
+-- Where the recursion goes on: at a symbol; behind a left-hand side that was read so far, at its links, with calls or
+-- without; behind `new`, at its place, and what is constructed, at the arguments, or none; and behind an operand, at the
+-- operators above the precedence m.
 pub data Call (F C K : Type 0) : Type 0 where
   sym : Symbol → Call F C K
+  links : Bool → Tree F C K → Call F C K
+  constructs : Bool → Span → Tree F C K → Call F C K
   climb : Tree F C K → ℕ → Call F C K
 
 -- what a call gives
 abbrev pub Ans : (F C K : Type 0) → Call F C K → Type 0
 Ans F C K (sym s) = Answer F C K s
+Ans F C K (links b l) = Tree F C K
+Ans F C K (constructs b s l) = Tree F C K
 Ans F C K (climb l m) = Tree F C K
 
 -- what is run: a right-hand side, with calls in place of symbols
@@ -82,15 +103,23 @@ plan (hear b c f) = hear b c (λ v s. plan (f v s))
 
 -- Which calls may stand first in which, before a token: those of a lower rank. So the recursion ends.
 abbrev pub rank_of : Symbol → ℕ
-rank_of Expr = 14
-rank_of Assign = 13
-rank_of (Level k) = 11
-rank_of Unary = 10
+rank_of Expr = 15
+rank_of Assign = 14
+rank_of (Level k) = 12
+rank_of Unary = 11
+rank_of (Lhs b) = 10
+rank_of (Left b) = 9
+rank_of (Base b) = 9
+rank_of (Arguments i) = 9
+rank_of (Args i) = 17
+rank_of (ArgsTail i) = 5
 rank_of Primary = 8
 rank_of Literal = 6
-rank_of Elements = 16
+rank_of (Template is_tagged) = 6
+rank_of (Parts is_tagged) = 6
+rank_of Elements = 17
 rank_of ElementsTail = 5
-rank_of Item = 15
+rank_of Item = 16
 rank_of Props = 5
 rank_of PropsTail = 2
 rank_of Prop = 4
@@ -100,6 +129,8 @@ rank_of (Shell is_async is_generator) = 2
 
 abbrev pub rank : {F C K : Type 0} → Call F C K → ℕ
 rank (sym s) = rank_of s
+rank (links b l) = 1
+rank (constructs b s l) = 1
 rank (climb l m) = 1
 
 abbrev pub measure : {F C K : Type 0} → Call F C K → List TokenAndSpan → ℕ
@@ -111,7 +142,7 @@ allowed None n = true
 allowed (Some m) n = nat_lt n m
 
 abbrev pub Runs : (F C K : Type 0) → Type 0
-Runs F C K = (k : Call F C K) → Context → List TokenAndSpan → Out (Ans F C K k)
+Runs F C K = (k : Call F C K) → Scope → List TokenAndSpan → Out (Ans F C K k)
 
 -- a right-hand side run, from what the calls read; g is the rank below which a call may stand first
 abbrev pub exec : {F C K A : Type 0} → Hook F C K → Runs F C K → Option ℕ → Plan F C K A → List TokenAndSpan → Out A
@@ -123,7 +154,8 @@ exec hook run g (check b r) ts = if b then exec hook run g r ts else None
 exec hook run g (peek p r) ts = if sees p ts then None else exec hook run g r ts
 exec hook run g (read k c f) ts =
     if allowed g (rank k) then and_then (run k c ts) (λ e us. exec hook run g (f e) us) else None
-exec hook run g (hear b c f) ts = hear_then (reading_of hook b c ts) ts (λ v s us. exec hook run None (f v s) us)
+exec hook run g (hear b c f) ts =
+    hear_then (reading_of hook b c.context ts) ts (λ v s us. exec hook run None (f v s) us)
 
 -- Tests of what stands first.
 abbrev pub is_lit : Token → Bool
@@ -154,8 +186,22 @@ prefix_at None = None
 prefix_at (Some t) = prefix_of t.token
 
 -- no operator is read at ys that binds tighter than the precedence m
-abbrev pub Bound : Context → ℕ → List TokenAndSpan → Type 0
-Bound c m ys = (op : BinaryOp) → operator_at c (first ys) ≡ Some op → precedence_of op ≤ m
+abbrev pub Bound : Scope → ℕ → List TokenAndSpan → Type 0
+Bound c m ys = (op : BinaryOp) → operator_at c.context (first ys) ≡ Some op → precedence_of op ≤ m
+
+-- no link of a left-hand side comes next: `.`, `[`, a backquote, `?` and then `.`, and `(` where it may hold calls
+abbrev pub no_link_at : Bool → Option TokenAndSpan → Option TokenAndSpan → Bool
+no_link_at b None u = true
+no_link_at b (Some t) u =
+    not (is_dot t.token) && (not (is_lbracket t.token) && (not (is_backquote t.token)
+    && (not (is_question t.token && at_token is_dot u) && not (b && is_lparen t.token))))
+
+abbrev pub no_link : Bool → List TokenAndSpan → Bool
+no_link b ts = no_link_at b (first ts) (second ts)
+
+-- `new`, but for `new.target`
+abbrev pub begins_new : List TokenAndSpan → Bool
+begins_new ts = at_token is_new (first ts) && not (at_token is_dot (second ts))
 
 -- a node of `||` or `&&` has none of `??` on its left
 abbrev pub left_ok : {F C K : Type 0} → Tree F C K → Bool
@@ -163,49 +209,142 @@ left_ok (bin_e s op l r) = logical_ok op l
 left_ok t = true
 
 -- where a symbol's reading stops for the clean parser: nothing goes on that it would take too
-abbrev pub Stop : Symbol → Context → List TokenAndSpan → Type 0
+abbrev pub Stop : Symbol → Scope → List TokenAndSpan → Type 0
 Stop Primary c ys = Unit {0}
 Stop Literal c ys = Unit {0}
-Stop Unary c ys = Unit {0}
+Stop (Template is_tagged) c ys = Unit {0}
+Stop (Parts is_tagged) c ys = Unit {0}
+Stop Unary c ys = no_link true ys ≡ true
+Stop (Lhs b) c ys = no_link true ys ≡ true
+Stop (Left b) c ys = ⊥
+Stop (Base b) c ys = Unit {0}
+Stop (Arguments i) c ys = Unit {0}
+Stop (Args i) c ys = Unit {0}
+Stop (ArgsTail i) c ys = Unit {0}
 Stop Elements c ys = Unit {0}
 Stop ElementsTail c ys = Unit {0}
 Stop Props c ys = Unit {0}
 Stop PropsTail c ys = Unit {0}
 Stop Prop c ys = at_token ends_prop (first ys) ≡ true
 Stop Key c ys = Unit {0}
-Stop AfterKey c ys = Bound (with_in c) 0 ys
+Stop AfterKey c ys = (no_link true ys ≡ true) × Bound (with_in c) 0 ys
 Stop (Shell is_async is_generator) c ys = Unit {0}
 Stop (Level zero) c ys = ⊥
-Stop (Level (suc n)) c ys = (n ≤ 10) × Bound c n ys
-Stop s c ys = Bound c 0 ys
+Stop (Level (suc n)) c ys = (n ≤ 10) × (no_link true ys ≡ true) × Bound c n ys
+Stop s c ys = (no_link true ys ≡ true) × Bound c 0 ys
 
 -- a choice: none of a symbol's productions, or one
-pub data Choice (F C K : Type 0) (s : Symbol) (c : Context) : Type 0 where
+pub data Choice (F C K : Type 0) (s : Symbol) (c : Scope) : Type 0 where
   none : Choice F C K s c
   pick : {r : Side F C K s} → Production s c r → Choice F C K s c
 
+-- what a left-hand side goes on with: no link, or one, which a token begins
+pub data Link (F C K : Type 0) (b : Bool) (c : Scope) : Type 0 where
+  no_more : Link F C K b c
+  more : {f : Tree F C K → TokenAndSpan → Side F C K (Left b)}
+      → Production (Left b) c (read (Left b) c (λ l. take (λ t. f l t))) → Link F C K b c
+
 module _ {F C K : Type 0} where
-  abbrev pub chosen : {s : Symbol} {c : Context} → Choice F C K s c → Plan F C K (Answer F C K s)
+  abbrev pub chosen : {s : Symbol} {c : Scope} → Choice F C K s c → Plan F C K (Answer F C K s)
   chosen none = never
   chosen (pick {r = r} p) = plan r
 
   -- The choices.
-  abbrev pub expr : (c : Context) → List TokenAndSpan → Choice F C K Expr c
+  abbrev pub expr : (c : Scope) → List TokenAndSpan → Choice F C K Expr c
   expr c ts = pick expr-assign
 
-  abbrev pub assign : (c : Context) → List TokenAndSpan → Choice F C K Assign c
+  abbrev pub assign : (c : Scope) → List TokenAndSpan → Choice F C K Assign c
   assign c ts = if at_token no_error (first ts) then pick assign-level else none
 
-  abbrev pub unary_by : {c : Context} → Option UnaryOp → Choice F C K Unary c
-  unary_by None = pick unary-primary
+  abbrev pub unary_by : {c : Scope} → Option UnaryOp → Choice F C K Unary c
+  unary_by None = pick unary-left
   unary_by (Some op) = pick unary-op
 
-  abbrev pub unary : (c : Context) → List TokenAndSpan → Choice F C K Unary c
+  abbrev pub unary : (c : Scope) → List TokenAndSpan → Choice F C K Unary c
   unary c ts = unary_by (prefix_at (first ts))
 
-  abbrev pub primary : (c : Context) → List TokenAndSpan → Choice F C K Primary c
+  -- a left-hand side with what it goes on with
+  abbrev pub linked : {b : Bool} {c : Scope} → Link F C K b c → Tree F C K → Plan F C K (Tree F C K)
+  linked no_more l = gives l
+  linked {b = b} {c = c} (more {f = f} p) l = take (λ t. plan (f l t) >>= (λ e. symbol (links b e) c))
+
+  -- The link that comes next, by its first token; behind a `.` by the next one, and behind `?` and `.` too.
+  abbrev pub dot_link : {b : Bool} {c : Scope} → Option TokenAndSpan → Link F C K b c
+  dot_link u = if at_token is_hash u then more member-private else more member-name
+
+  abbrev pub chain_link : {b : Bool} {c : Scope} → Option TokenAndSpan → Link F C K b c
+  chain_link u =
+      if at_token is_lbracket u then more chain-computed else
+      (if at_token is_lparen u then more chain-call else
+      (if at_token is_hash u then more chain-private else more chain-name))
+
+  abbrev pub call_link : (b : Bool) {c : Scope} → Option TokenAndSpan → Link F C K b c
+  call_link true t = if at_token is_lparen t then more call else no_more
+  call_link false t = no_more
+
+  abbrev pub link : (b : Bool) (c : Scope) → List TokenAndSpan → Link F C K b c
+  link b c ts =
+      if at_token is_dot (first ts) then dot_link (second ts) else
+      (if at_token is_lbracket (first ts) then more member-computed else
+      (if at_token is_backquote (first ts) then more tagged-tpl else
+      (if at_token is_question (first ts) && at_token is_dot (second ts) then chain_link (third ts) else
+      call_link b (first ts))))
+
+  -- What a left-hand side with links begins with: where that is `super` or `import`, by the token behind it, and behind a
+  -- `.` by the next one. And `new`, but for `new.target`: what it constructs, and its arguments, or none.
+  abbrev pub super_call : (b : Bool) {c : Scope} → Choice F C K (Base b) c
+  super_call true = pick super-call
+  super_call false = none
+
+  abbrev pub super_base : (b : Bool) {c : Scope} → Option TokenAndSpan → Choice F C K (Base b) c
+  super_base b u =
+      if at_token is_dot u then pick super-name else
+      (if at_token is_lbracket u then pick super-computed else super_call b)
+
+  abbrev pub import_call : (b : Bool) {c : Scope} → Choice F C K (Base b) c
+  import_call true = pick import-call
+  import_call false = none
+
+  abbrev pub import_dot : (b : Bool) {c : Scope} → Option TokenAndSpan → Choice F C K (Base b) c
+  import_dot true v = if at_token is_source v then pick import-source else pick import-meta
+  import_dot false v = pick import-meta
+
+  abbrev pub import_base : (b : Bool) {c : Scope} → Option TokenAndSpan → Option TokenAndSpan
+      → Choice F C K (Base b) c
+  import_base b u v = if at_token is_dot u then import_dot b v else import_call b
+
+  abbrev pub base : (b : Bool) (c : Scope) → List TokenAndSpan → Choice F C K (Base b) c
+  base b c ts =
+      if at_token is_new (first ts) then pick new-target else
+      (if at_token is_super (first ts) then super_base b (second ts) else
+      (if at_token is_import (first ts) then import_base b (second ts) (third ts) else pick base-primary))
+
+  abbrev pub constructed : Bool → Scope → Plan F C K (Tree F C K)
+  constructed b c = take (λ t. do
+    l ← symbol (sym (Lhs false)) c
+    must (not (is_chain l))
+    symbol (constructs b t.span l) c)
+
+  abbrev pub constructed_with : Bool → Span → Tree F C K → Scope → Plan F C K (Tree F C K)
+  constructed_with b s l c = take (λ t. do
+    es ← symbol (sym (Args false)) (with_in c)
+    symbol (links b (new_e (to s (span_of es)) l (items_of es))) c)
+
+  abbrev pub lhs : (b : Bool) (c : Scope) → List TokenAndSpan → Plan F C K (Tree F C K)
+  lhs b c ts = if begins_new ts then constructed b c else (symbol (sym (Base b)) c >>= (λ e. symbol (links b e) c))
+
+  abbrev pub call_args : (i : Bool) (c : Scope) → List TokenAndSpan → Choice F C K (Arguments i) c
+  call_args i c ts = pick arguments
+
+  abbrev pub args : (i : Bool) (c : Scope) → List TokenAndSpan → Choice F C K (Args i) c
+  args i c ts = if at_token is_rparen (first ts) then pick args-end else pick args-more
+
+  abbrev pub args_tail : (i : Bool) (c : Scope) → List TokenAndSpan → Choice F C K (ArgsTail i) c
+  args_tail i c ts = if at_token is_comma (first ts) then pick args-tail-more else pick args-tail-end
+
+  abbrev pub primary : (c : Scope) → List TokenAndSpan → Choice F C K Primary c
   primary c ts =
-      if at_token (is_identifier c) (first ts) then pick ident-expr else
+      if at_token (is_identifier c.context) (first ts) then pick ident-expr else
       (if at_token is_lit (first ts) then pick primary-literal else
       (if at_token is_lparen (first ts) then pick paren-expr else
       (if at_token is_hash (first ts) then pick private-expr else
@@ -213,33 +352,42 @@ module _ {F C K : Type 0} where
       (if at_token is_lbracket (first ts) then pick array-lit else
       (if begins_function ts then pick fn-expr else
       (if begins is_class ts then pick class-expr else
-      (if at_token is_brace (first ts) then pick object-lit else none))))))))
+      (if at_token is_brace (first ts) then pick object-lit else
+      (if at_token is_backquote (first ts) then pick primary-template else
+      (if at_token is_slash (first ts) then pick regex-slash else
+      (if at_token is_regex (first ts) then pick regex-alone else none)))))))))))
 
-  abbrev pub literal : (c : Context) → List TokenAndSpan → Choice F C K Literal c
+  abbrev pub tpl : (is_tagged : Bool) (c : Scope) → List TokenAndSpan → Choice F C K (Template is_tagged) c
+  tpl is_tagged c ts = pick template
+
+  abbrev pub parts : (is_tagged : Bool) (c : Scope) → List TokenAndSpan → Choice F C K (Parts is_tagged) c
+  parts is_tagged c ts = if at_token is_backquote (second ts) then pick parts-end else pick parts-more
+
+  abbrev pub literal : (c : Scope) → List TokenAndSpan → Choice F C K Literal c
   literal c ts = pick lit
 
-  abbrev pub elements : (c : Context) → List TokenAndSpan → Choice F C K Elements c
+  abbrev pub elements : (c : Scope) → List TokenAndSpan → Choice F C K Elements c
   elements c ts =
       if at_token is_comma (first ts) then pick elements-hole else
       (if at_token is_rbracket (first ts) then pick elements-end else pick elements-more)
 
-  abbrev pub elements_tail : (c : Context) → List TokenAndSpan → Choice F C K ElementsTail c
+  abbrev pub elements_tail : (c : Scope) → List TokenAndSpan → Choice F C K ElementsTail c
   elements_tail c ts = if at_token is_comma (first ts) then pick tail-more else pick tail-end
 
-  abbrev pub item : (c : Context) → List TokenAndSpan → Choice F C K Item c
+  abbrev pub item : (c : Scope) → List TokenAndSpan → Choice F C K Item c
   item c ts = if at_token is_dots (first ts) then pick item-spread else pick item-expr
 
-  abbrev pub props : (c : Context) → List TokenAndSpan → Choice F C K Props c
+  abbrev pub props : (c : Scope) → List TokenAndSpan → Choice F C K Props c
   props c ts = if at_token is_rbrace (first ts) then pick props-end else pick props-more
 
-  abbrev pub props_tail : (c : Context) → List TokenAndSpan → Choice F C K PropsTail c
+  abbrev pub props_tail : (c : Scope) → List TokenAndSpan → Choice F C K PropsTail c
   props_tail c ts = if at_token is_comma (first ts) then pick props-tail-more else pick props-tail-end
 
-  abbrev pub async_method : {c : Context} → Option TokenAndSpan → Choice F C K Prop c
+  abbrev pub async_method : {c : Scope} → Option TokenAndSpan → Choice F C K Prop c
   async_method u = if at_token is_star u then pick prop-async-generator else pick prop-async
 
   -- A property that begins with a word: first by the token behind it, then by the word. A `?` there is a fault.
-  abbrev pub prop_word : {c : Context} → Option TokenAndSpan → Option TokenAndSpan → Choice F C K Prop c
+  abbrev pub prop_word : {c : Scope} → Option TokenAndSpan → Option TokenAndSpan → Choice F C K Prop c
   prop_word t u =
       if at_token ends_prop u then pick prop-short else
       (if at_token is_equals u then pick prop-cover else
@@ -248,26 +396,26 @@ module _ {F C K : Type 0} where
       (if at_token is_get t then pick prop-getter else
       (if at_token is_async t then async_method u else none)))))
 
-  abbrev pub prop : (c : Context) → List TokenAndSpan → Choice F C K Prop c
+  abbrev pub prop : (c : Scope) → List TokenAndSpan → Choice F C K Prop c
   prop c ts =
       if at_token is_dots (first ts) then pick prop-spread else
       (if at_token is_star (first ts) then pick prop-generator else
       (if at_token is_word (first ts) then prop_word (first ts) (second ts) else pick prop-key))
 
-  abbrev pub key : (c : Context) → List TokenAndSpan → Choice F C K Key c
+  abbrev pub key : (c : Scope) → List TokenAndSpan → Choice F C K Key c
   key c ts =
       if at_token is_word (first ts) then pick key-name else
       (if at_token is_lbracket (first ts) then pick key-computed else pick key-literal)
 
-  abbrev pub after_key : (c : Context) → List TokenAndSpan → Choice F C K AfterKey c
+  abbrev pub after_key : (c : Scope) → List TokenAndSpan → Choice F C K AfterKey c
   after_key c ts = if at_token is_colon (first ts) then pick after-value else pick after-shell
 
-  abbrev pub shell : (is_async is_generator : Bool) (c : Context) → List TokenAndSpan
+  abbrev pub shell : (is_async is_generator : Bool) (c : Scope) → List TokenAndSpan
       → Choice F C K (Shell is_async is_generator) c
   shell is_async is_generator c ts = pick shell-block
 
   -- behind an operator: what stands right of it, and their node, with the least precedence to go on with
-  abbrev pub bin_op : BinaryOp → Tree F C K → ℕ → Context → Plan F C K (Tree F C K × Option ℕ)
+  abbrev pub bin_op : BinaryOp → Tree F C K → ℕ → Scope → Plan F C K (Tree F C K × Option ℕ)
   bin_op op l m c = do
     must (exp_ok op l)
     r ← symbol (sym (Level (suc (min_right op)))) c
@@ -275,27 +423,35 @@ module _ {F C K : Type 0} where
     gives (bin_e (to (span_of l) (span_of r)) op l r, Some m)
 
   -- one operator above the precedence m with what stands right of it, or none
-  abbrev pub turn : Option BinaryOp → Tree F C K → ℕ → Context → Plan F C K (Tree F C K × Option ℕ)
+  abbrev pub turn : Option BinaryOp → Tree F C K → ℕ → Scope → Plan F C K (Tree F C K × Option ℕ)
   turn None l m c = gives (l, None)
   turn (Some op) l m c = if nat_le (precedence_of op) m then gives (l, None) else take (λ t. bin_op op l m c)
 
   -- after a turn
-  abbrev pub go_on : Tree F C K → Option ℕ → Context → Plan F C K (Tree F C K)
+  abbrev pub go_on : Tree F C K → Option ℕ → Scope → Plan F C K (Tree F C K)
   go_on t None c = gives t
   go_on t (Some m) c = symbol (climb t m) c
 
-  abbrev pub turned : Tree F C K → Option ℕ → Context → Plan F C K (Tree F C K)
+  abbrev pub turned : Tree F C K → Option ℕ → Scope → Plan F C K (Tree F C K)
   turned t o c = check (left_ok t) (go_on t o c)
 
   -- what is run at each call
-  abbrev pub step : (k : Call F C K) → Context → List TokenAndSpan → Plan F C K (Ans F C K k)
+  abbrev pub step : (k : Call F C K) → Scope → List TokenAndSpan → Plan F C K (Ans F C K k)
   step (sym Expr) c ts = chosen (expr c ts)
   step (sym Assign) c ts = chosen (assign c ts)
   step (sym (Level zero)) c ts = never
   step (sym (Level (suc m))) c ts = must (nat_le m 10) >> symbol (sym Unary) c >>= (λ e. symbol (climb e m) c)
   step (sym Unary) c ts = chosen (unary c ts)
+  step (sym (Lhs b)) c ts = lhs b c ts
+  step (sym (Left b)) c ts = never
+  step (sym (Base b)) c ts = chosen (base b c ts)
+  step (sym (Arguments i)) c ts = chosen (call_args i c ts)
+  step (sym (Args i)) c ts = chosen (args i c ts)
+  step (sym (ArgsTail i)) c ts = chosen (args_tail i c ts)
   step (sym Primary) c ts = chosen (primary c ts)
   step (sym Literal) c ts = chosen (literal c ts)
+  step (sym (Template is_tagged)) c ts = chosen (tpl is_tagged c ts)
+  step (sym (Parts is_tagged)) c ts = chosen (parts is_tagged c ts)
   step (sym Elements) c ts = chosen (elements c ts)
   step (sym ElementsTail) c ts = chosen (elements_tail c ts)
   step (sym Item) c ts = chosen (item c ts)
@@ -305,7 +461,10 @@ module _ {F C K : Type 0} where
   step (sym Key) c ts = chosen (key c ts)
   step (sym AfterKey) c ts = chosen (after_key c ts)
   step (sym (Shell is_async is_generator)) c ts = chosen (shell is_async is_generator c ts)
-  step (climb l m) c ts = turn (operator_at c (first ts)) l m c >>= (λ r. turned r.0 r.1 c)
+  step (links b l) c ts = linked (link b c ts) l
+  step (constructs b s l) c ts =
+      if at_token is_lparen (first ts) then constructed_with b s l c else gives (bare_new_e (to s (span_of l)) l)
+  step (climb l m) c ts = turn (operator_at c.context (first ts)) l m c >>= (λ r. turned r.0 r.1 c)
 
 -- closed by as many steps as the measure of the call, which is enough
 abbrev pub run_at : {F C K : Type 0} → Hook F C K → ℕ → Runs F C K

@@ -1,17 +1,20 @@
 -- What a reading begins with, symbol by symbol.
 use Rattle.std.specs.Prelude.{Bool, true, false, ◌||◌, Option, Some, None, codes}
-use Rattle.swc_context.specs.declared.context.Context.{Context}
+use Rattle.swc_context.specs.declared.operator.AssignOp.TheVariants as assign
+use Rattle.swc_context.specs.declared.operator.BinOpToken.TheVariants as sign
 use Rattle.swc_context.specs.declared.operator.UnaryOp.{UnaryOp}
 use Rattle.swc_context.specs.Texts.{is_text}
 use Rattle.swc_context.specs.declared.word.Keyword.TheVariants as keyword
 use Rattle.swc_context.specs.declared.word.Word.TheVariants as word
 use Rattle.swc_input.specs.declared.token.Token.{Token}
 use Rattle.swc_input.specs.declared.token.Token.TheVariants as token
+use Rattle.swc_grammar.specs.Scope.{Scope}
 use Rattle.swc_grammar.specs.Clean.{is_lit, is_identifier}
-use Rattle.swc_grammar.specs.Symbols.{Symbol, Primary, Literal, Elements, ElementsTail, Item}
+use Rattle.swc_grammar.specs.Symbols.{Symbol, Lhs, Left, Base, Arguments, Template, Parts}
+use Rattle.swc_grammar.specs.Symbols.{Args, ArgsTail, Primary, Literal, Elements, ElementsTail, Item}
 use Rattle.swc_grammar.specs.Symbols.{Props, PropsTail, Prop, Key, AfterKey, Shell}
 use Rattle.swc_grammar.specs.Tokens.{prefix_of, is_comma, is_rbracket, is_rbrace, is_dots, is_star, is_lparen}
-use Rattle.swc_grammar.specs.Tokens.{ends_prop, follows_key}
+use Rattle.swc_grammar.specs.Tokens.{is_backquote, is_rparen, ends_prop, follows_key}
 
 abbrev pub is_prefix_op : Option UnaryOp → Bool
 is_prefix_op None = false
@@ -32,18 +35,36 @@ is_first (token.Word (word.Ident name)) = is_text name (codes "async")
 is_first (token.Num raw) = true
 is_first (token.BigInt raw) = true
 is_first (token.Str value raw) = true
+is_first (token.Regex exp flags) = true
+is_first (token.BinOp sign.Div) = true
+is_first (token.AssignOp assign.DivAssign) = true
+is_first token.BackQuote = true
 is_first token.LParen = true
 is_first token.LBracket = true
 is_first token.LBrace = true
 is_first token.Hash = true
 is_first t = false
 
-abbrev pub begins_primary : Context → Token → Bool
-begins_primary c t = is_identifier c t || is_first t
+abbrev pub begins_primary : Scope → Token → Bool
+begins_primary c t = is_identifier c.context t || is_first t
 
--- any other: with a prefix operator too
-abbrev pub begins_expression : Context → Token → Bool
-begins_expression c t = begins_primary c t || is_prefix t
+-- a left-hand side: with `new`, `super` and `import` too; any other: with a prefix operator too
+abbrev pub is_left_word : Token → Bool
+is_left_word (token.Word (word.Keyword keyword.New)) = true
+is_left_word (token.Word (word.Keyword keyword.Super)) = true
+is_left_word (token.Word (word.Keyword keyword.Import)) = true
+is_left_word t = false
+
+abbrev pub begins_left : Scope → Token → Bool
+begins_left c t = begins_primary c t || is_left_word t
+
+abbrev pub begins_expression : Scope → Token → Bool
+begins_expression c t = begins_left c t || is_prefix t
+
+-- a text of a template
+abbrev pub is_text_token : Token → Bool
+is_text_token (token.Template raw cooked) = true
+is_text_token t = false
 
 -- a key, and a property, which may also begin with dots or `*`
 abbrev pub begins_key : Token → Bool
@@ -57,22 +78,17 @@ begins_key t = false
 abbrev pub begins_prop : Token → Bool
 begins_prop t = begins_key t || (is_dots t || is_star t)
 
--- the symbols of expressions
-abbrev pub is_expression : Symbol → Bool
-is_expression Elements = false
-is_expression ElementsTail = false
-is_expression Item = false
-is_expression Props = false
-is_expression PropsTail = false
-is_expression Prop = false
-is_expression Key = false
-is_expression AfterKey = false
-is_expression (Shell is_async is_generator) = false
-is_expression s = true
-
-abbrev pub starts : Symbol → Context → Token → Bool
+abbrev pub starts : Symbol → Scope → Token → Bool
+starts (Lhs b) c t = begins_left c t
+starts (Left b) c t = begins_left c t
+starts (Base b) c t = begins_left c t
+starts (Arguments i) c t = is_lparen t
+starts (Args i) c t = (begins_expression c t || is_dots t) || is_rparen t
+starts (ArgsTail i) c t = is_comma t || is_rparen t
 starts Primary c t = begins_primary c t
 starts Literal c t = is_lit t
+starts (Template is_tagged) c t = is_backquote t
+starts (Parts is_tagged) c t = is_text_token t
 starts Elements c t = (begins_expression c t || is_dots t) || (is_comma t || is_rbracket t)
 starts ElementsTail c t = is_comma t || is_rbracket t
 starts Item c t = begins_expression c t || is_dots t

@@ -1,183 +1,362 @@
 -- The written grammar, after ECMA-262, whose sections stand beside it. `Production symbol c side` says that in the
--- context c the right-hand side is one of the symbol's. What it means that a right-hand side is followed is said in
+-- scope c the right-hand side is one of the symbol's. What it means that a right-hand side is followed is said in
 -- Reads.
-use Rattle.std.specs.Prelude.{ℕ, suc, Bool, true, false, not, None, IsTrue, nat_eq, nat_lt}
+use Rattle.std.specs.Prelude.{ℕ, suc, Bool, true, false, not, ◌||◌, None, IsTrue, nat_eq, nat_lt}
 use Rattle.swc_context.specs.Operators.{precedence_of}
 use Rattle.swc_context.specs.Reserved.{is_reserved_word}
-use Rattle.swc_context.specs.declared.context.Context.{Context}
 use Rattle.swc_context.specs.declared.operator.BinaryOp.TheVariants as binary
 use Rattle.swc_input.specs.Kinds.{is_hash}
-use Rattle.swc_ast.specs.Tree.{nil, span_of}
+use Rattle.swc_ast.specs.Tree.{nil, cons, span_of}
+use Rattle.swc_ast.specs.declared.expr.ImportPhase.TheVariants as phase
+use Rattle.swc_ast.specs.declared.expr.MetaPropKind.TheVariants as kind
 use Rattle.swc_bodies.specs.Readings.{is_async, is_brace}
+use Rattle.swc_grammar.specs.Scope.{Scope, in_context}
 use Rattle.swc_grammar.specs.Rule.{gives, ◌>>=◌, ◌>>◌, symbol, token, one, must, body}
-use Rattle.swc_grammar.specs.Symbols.{Symbol, Expr, Assign, Level, Unary, Primary, Literal, Elements, ElementsTail}
+use Rattle.swc_grammar.specs.Symbols.{Symbol, Expr, Assign, Level, Unary, Lhs, Left, Arguments, Args, ArgsTail, Primary}
+use Rattle.swc_grammar.specs.Symbols.{Literal, Template, Parts, Base}
+use Rattle.swc_grammar.specs.Symbols.{Elements, ElementsTail}
 use Rattle.swc_grammar.specs.Symbols.{Item, Props, PropsTail, Prop, Key, AfterKey, Shell, Side, function, class, block}
+use Rattle.swc_grammar.specs.Names.{is_joined}
 use Rattle.swc_grammar.specs.Tokens.{with_in, is_this, is_lparen, is_rparen, is_lbracket, is_rbracket, is_comma, is_dots}
+use Rattle.swc_grammar.specs.Tokens.{is_dot, is_question, is_backquote, is_dollar_brace, is_slash, is_new, is_target, new_target_ok}
+use Rattle.swc_grammar.specs.Tokens.{is_super, is_import, is_meta, is_source, super_ok, import_comma_ok}
 use Rattle.swc_grammar.specs.Tokens.{is_power, is_rbrace, is_colon, is_star, is_equals, is_get, method_block}
-use Rattle.swc_grammar.specs.Parts.{reference, any_name, lit_of, key_lit_of, prefix_here, operator_here}
+use Rattle.swc_grammar.specs.Parts.{reference, any_name, lit_of, regex_of, text_of, key_lit_of, prefix_here, operator_here}
 use Rattle.swc_grammar.specs.Trees.{to, ident_e, this_e, array_e, listed, items_of, comma_of, put_first, behind_comma}
 use Rattle.swc_grammar.specs.Trees.{hole_e, item_e, spread_e, fn_e}
 use Rattle.swc_grammar.specs.Trees.{class_e, private_e, unary_e, paren_e, bin_e, object_e, name_e, computed_e}
 use Rattle.swc_grammar.specs.Trees.{spread_prop_e, short_e, cover_e, value_e, block_e, function_e, method_e, getter_e}
-use Rattle.swc_grammar.specs.Trees.{prop_of, nullish_ok, logical_ok, delete_ok, is_unary, no_cover_in}
+use Rattle.swc_grammar.specs.Trees.{at_place, parts_e, put_part, tpl_e, tagged_e, new_e, bare_new_e, meta_e, link_e, is_chain}
+use Rattle.swc_grammar.specs.Trees.{super_e, import_e, super_prop_e, comma_ok}
+use Rattle.swc_grammar.specs.Trees.{prop_of, member_e, call_e, nullish_ok, logical_ok, delete_ok, is_unary, no_cover_in}
 
-pub data Production {F C K : Type 0} : (s : Symbol) → Context → Side F C K s → Type 0 where
+pub data Production {F C K : Type 0} : (s : Symbol) → Scope → Side F C K s → Type 0 where
   -- Identifier references (13.1)
-  ident-expr : {c : Context} → Production Primary c (do
+  ident-expr : {c : Scope} → Production Primary c (do
     n ← one (reference c)
     gives (ident_e n.at n.text))
   -- `this` (13.2.1)
-  this-expr : {c : Context} → Production Primary c (do
+  this-expr : {c : Scope} → Production Primary c (do
     s ← token is_this
     gives (this_e s))
   -- Literals (13.2.3), by one table
-  lit : {c : Context} → Production Literal c (do
+  lit : {c : Scope} → Production Literal c (do
     e ← one lit_of
     gives e)
-  primary-literal : {c : Context} → Production Primary c (symbol Literal c)
+  primary-literal : {c : Scope} → Production Primary c (symbol Literal c)
+  -- Regular expressions (13.2.7), as a token alone, or behind the slash at which a lexer found it
+  regex-alone : {c : Scope} → Production Primary c (do
+    e ← one regex_of
+    gives e)
+  regex-slash : {c : Scope} → Production Primary c (do
+    s ← token is_slash
+    e ← one regex_of
+    gives (at_place (to s (span_of e)) e))
+  -- Template literals (13.2.8), in whose expressions `in` is an operator
+  primary-template : {c : Scope} → Production Primary c (symbol (Template false) c)
+  template : {c : Scope} {is_tagged : Bool} → Production (Template is_tagged) c (do
+    s ← token is_backquote
+    ps ← symbol (Parts is_tagged) c
+    gives (tpl_e (to s (span_of ps)) ps))
+  parts-end : {c : Scope} {is_tagged : Bool} → Production (Parts is_tagged) c (do
+    t ← one (text_of is_tagged true)
+    s ← token is_backquote
+    gives (parts_e s (cons t nil) nil))
+  parts-more : {c : Scope} {is_tagged : Bool} → Production (Parts is_tagged) c (do
+    t ← one (text_of is_tagged false)
+    token is_dollar_brace
+    e ← symbol Expr (with_in c)
+    token is_rbrace
+    ps ← symbol (Parts is_tagged) c
+    gives (put_part t e ps))
   -- Array literals (13.2.4), in which `in` is an operator
-  array-lit : {c : Context} → Production Primary c (do
+  array-lit : {c : Scope} → Production Primary c (do
     s ← token is_lbracket
     es ← symbol Elements (with_in c)
     gives (array_e (comma_of es) (to s (span_of es)) (items_of es)))
-  elements-end : {c : Context} → Production Elements c (do
+  elements-end : {c : Scope} → Production Elements c (do
     s ← token is_rbracket
     gives (listed None s nil))
-  elements-hole : {c : Context} → Production Elements c (do
+  elements-hole : {c : Scope} → Production Elements c (do
     token is_comma
     es ← symbol Elements c
     gives (put_first hole_e es))
-  elements-more : {c : Context} → Production Elements c (do
+  elements-more : {c : Scope} → Production Elements c (do
     e ← symbol Item c
     es ← symbol ElementsTail c
     gives (put_first e es))
-  tail-end : {c : Context} → Production ElementsTail c (do
+  tail-end : {c : Scope} → Production ElementsTail c (do
     s ← token is_rbracket
     gives (listed None s nil))
-  tail-more : {c : Context} → Production ElementsTail c (do
+  tail-more : {c : Scope} → Production ElementsTail c (do
     s ← token is_comma
     es ← symbol Elements c
     gives (behind_comma s es))
-  item-expr : {c : Context} → Production Item c (do
+  item-expr : {c : Scope} → Production Item c (do
     e ← symbol Assign c
     gives (item_e e))
-  item-spread : {c : Context} → Production Item c (do
+  item-spread : {c : Scope} → Production Item c (do
     s ← token is_dots
     e ← symbol Assign c
     gives (spread_e s e))
   -- Object literals (13.2.5)
-  object-lit : {c : Context} → Production Primary c (do
+  object-lit : {c : Scope} → Production Primary c (do
     s ← token is_brace
     ps ← symbol Props c
     gives (object_e (comma_of ps) (to s (span_of ps)) (items_of ps)))
-  props-end : {c : Context} → Production Props c (do
+  props-end : {c : Scope} → Production Props c (do
     s ← token is_rbrace
     gives (listed None s nil))
-  props-more : {c : Context} → Production Props c (do
+  props-more : {c : Scope} → Production Props c (do
     p ← symbol Prop c
     ps ← symbol PropsTail c
     gives (put_first p ps))
-  props-tail-end : {c : Context} → Production PropsTail c (do
+  props-tail-end : {c : Scope} → Production PropsTail c (do
     s ← token is_rbrace
     gives (listed None s nil))
-  props-tail-more : {c : Context} → Production PropsTail c (do
+  props-tail-more : {c : Scope} → Production PropsTail c (do
     s ← token is_comma
     ps ← symbol Props c
     gives (behind_comma s ps))
-  prop-spread : {c : Context} → Production Prop c (do
+  prop-spread : {c : Scope} → Production Prop c (do
     s ← token is_dots
     e ← symbol Assign (with_in c)
     gives (spread_prop_e s e))
-  prop-short : {c : Context} → Production Prop c (do
+  prop-short : {c : Scope} → Production Prop c (do
     n ← one (any_name c)
-    must (not (is_reserved_word c n.text))
+    must (not (is_reserved_word c.context n.text))
     gives (short_e n.at n.text))
-  prop-cover : {c : Context} → Production Prop c (do
+  prop-cover : {c : Scope} → Production Prop c (do
     n ← one (any_name c)
-    must (not (is_reserved_word c n.text))
+    must (not (is_reserved_word c.context n.text))
     token is_equals
     e ← symbol Assign (with_in c)
     gives (cover_e (to n.at (span_of e)) (ident_e n.at n.text) e))
-  prop-key : {c : Context} → Production Prop c (do
+  prop-key : {c : Scope} → Production Prop c (do
     k ← symbol Key c
     x ← symbol AfterKey c
     gives (prop_of k x))
   -- Methods (15.4), of which setters aren't in it yet, and generators and async ones (15.5, 15.6, 15.8)
-  prop-generator : {c : Context} → Production Prop c (do
+  prop-generator : {c : Scope} → Production Prop c (do
     s ← token is_star
     k ← symbol Key c
     f ← symbol (Shell false true) c
     gives (method_e (to s (span_of f)) k f))
-  prop-async : {c : Context} → Production Prop c (do
+  prop-async : {c : Scope} → Production Prop c (do
     s ← token is_async
     k ← symbol Key c
     f ← symbol (Shell true false) c
     gives (method_e (to s (span_of f)) k f))
-  prop-async-generator : {c : Context} → Production Prop c (do
+  prop-async-generator : {c : Scope} → Production Prop c (do
     s ← token is_async
     token is_star
     k ← symbol Key c
     f ← symbol (Shell true true) c
     gives (method_e (to s (span_of f)) k f))
-  prop-getter : {c : Context} → Production Prop c (do
+  prop-getter : {c : Scope} → Production Prop c (do
     s ← token is_get
     k ← symbol Key c
     f ← symbol (Shell false false) c
     gives (getter_e (to s (span_of f)) k f))
-  after-value : {c : Context} → Production AfterKey c (do
+  after-value : {c : Scope} → Production AfterKey c (do
     token is_colon
     e ← symbol Assign (with_in c)
     gives (value_e (span_of e) e))
-  after-shell : {c : Context} → Production AfterKey c (symbol (Shell false false) c)
-  shell-block : {c : Context} {is_async is_generator : Bool} → Production (Shell is_async is_generator) c (do
+  after-shell : {c : Scope} → Production AfterKey c (symbol (Shell false false) c)
+  shell-block : {c : Scope} {is_async is_generator : Bool} → Production (Shell is_async is_generator) c (do
     s ← token is_lparen
     token is_rparen
-    (v, s') ← body block (method_block is_async is_generator c)
+    (v, s') ← body block (in_context (method_block is_async is_generator) c)
     gives (function_e (to s s') is_async is_generator (block_e s' v)))
   -- Keys (PropertyName, 13.2.5)
-  key-name : {c : Context} → Production Key c (do
+  key-name : {c : Scope} → Production Key c (do
     n ← one (any_name c)
     gives (name_e n.at n.text))
-  key-literal : {c : Context} → Production Key c (do
+  key-literal : {c : Scope} → Production Key c (do
     e ← one key_lit_of
     gives e)
-  key-computed : {c : Context} → Production Key c (do
+  key-computed : {c : Scope} → Production Key c (do
     s ← token is_lbracket
     e ← symbol Assign (with_in c)
     s' ← token is_rbracket
     gives (computed_e (to s s') e))
   -- Functions (13.2.6; 15.2, 15.5, 15.6, 15.8) and classes (15.7), which the hook reads
-  fn-expr : {c : Context} → Production Primary c (do
+  fn-expr : {c : Scope} → Production Primary c (do
     (f, s) ← body function c
     gives (fn_e s f))
-  class-expr : {c : Context} → Production Primary c (do
+  class-expr : {c : Scope} → Production Primary c (do
     (v, s) ← body class c
     gives (class_e s v))
   -- Parentheses (13.2.9), in which `in` is an operator
-  paren-expr : {c : Context} → Production Primary c (do
+  paren-expr : {c : Scope} → Production Primary c (do
     s ← token is_lparen
     e ← symbol Assign (with_in c)
     s' ← token is_rparen
     must (no_cover_in e)
     gives (paren_e (to s s') e))
+  -- Left-hand sides (13.3): with links, or `new` without arguments (NewExpression, 13.3.5), behind which no link is read.
+  -- What is constructed is no optional chain.
+  lhs-left : {c : Scope} {b : Bool} → Production (Lhs b) c (symbol (Left b) c)
+  new-bare : {c : Scope} {b : Bool} → Production (Lhs b) c (do
+    s ← token is_new
+    l ← symbol (Lhs false) c
+    must (not (is_chain l))
+    gives (bare_new_e (to s (span_of l)) l))
+  -- Left-hand sides with links, with calls among these or without. They begin with a base, or with `new` and its
+  -- arguments (MemberExpression, 13.3.5).
+  left-base : {c : Scope} {b : Bool} → Production (Left b) c (symbol (Base b) c)
+  left-new : {c : Scope} {b : Bool} → Production (Left b) c (do
+    s ← token is_new
+    l ← symbol (Left false) c
+    must (not (is_chain l))
+    token is_lparen
+    es ← symbol (Args false) (with_in c)
+    gives (new_e (to s (span_of es)) l (items_of es)))
+  -- Bases: primary expressions; `new.target` and `import.meta` (13.3.12); a property of `super` (13.3.7), by a name or in
+  -- brackets, in which `in` is an operator
+  base-primary : {c : Scope} {b : Bool} → Production (Base b) c (symbol Primary c)
+  new-target : {c : Scope} {b : Bool} → Production (Base b) c (do
+    s ← token is_new
+    token is_dot
+    s' ← token is_target
+    must (new_target_ok c.context)
+    gives (meta_e (to s s') kind.NewTarget))
+  super-name : {c : Scope} {b : Bool} → Production (Base b) c (do
+    s ← token is_super
+    token is_dot
+    n ← one (any_name c)
+    must (super_ok c)
+    gives (super_prop_e (to s n.at) s (name_e n.at n.text)))
+  super-computed : {c : Scope} {b : Bool} → Production (Base b) c (do
+    s ← token is_super
+    s' ← token is_lbracket
+    e ← symbol Expr (with_in c)
+    s'' ← token is_rbracket
+    must (super_ok c)
+    gives (super_prop_e (to s s'') s (computed_e (to s' s'') e)))
+  import-meta : {c : Scope} {b : Bool} → Production (Base b) c (do
+    s ← token is_import
+    token is_dot
+    s' ← token is_meta
+    must c.context.can_be_module
+    gives (meta_e (to s s') kind.ImportMeta))
+  -- and calls: of `super` (13.3.7), of `import` (13.3.10), and of `import.source` (source phase imports, a proposal)
+  super-call : {c : Scope} → Production (Base true) c (do
+    s ← token is_super
+    token is_lparen
+    es ← symbol (Args false) (with_in c)
+    gives (call_e (to s (span_of es)) (super_e s) (items_of es)))
+  import-call : {c : Scope} → Production (Base true) c (do
+    s ← token is_import
+    token is_lparen
+    es ← symbol (Args true) (with_in c)
+    gives (call_e (to s (span_of es)) (import_e s phase.Evaluation) (items_of es)))
+  import-source : {c : Scope} → Production (Base true) c (do
+    s ← token is_import
+    token is_dot
+    s' ← token is_source
+    token is_lparen
+    es ← symbol (Args true) (with_in c)
+    gives (call_e (to s (span_of es)) (import_e (to s s') phase.Source) (items_of es)))
+  -- Members (13.3.2), by a name, by `#` and a name that begins where it ends, and in brackets, in which `in` is an operator
+  member-name : {c : Scope} {b : Bool} → Production (Left b) c (do
+    l ← symbol (Left b) c
+    token is_dot
+    n ← one (any_name c)
+    gives (link_e false l (member_e (to (span_of l) n.at) l (name_e n.at n.text))))
+  member-private : {c : Scope} {b : Bool} → Production (Left b) c (do
+    l ← symbol (Left b) c
+    token is_dot
+    s ← token is_hash
+    n ← one (any_name c)
+    must (is_joined s n.at)
+    gives (link_e false l (member_e (to (span_of l) n.at) l (private_e (to s n.at) n.text))))
+  member-computed : {c : Scope} {b : Bool} → Production (Left b) c (do
+    l ← symbol (Left b) c
+    s ← token is_lbracket
+    e ← symbol Expr (with_in c)
+    s' ← token is_rbracket
+    gives (link_e false l (member_e (to (span_of l) s') l (computed_e (to s s') e))))
+  -- Calls (13.3.6), and arguments (13.3.8), in which `in` is an operator
+  call : {c : Scope} → Production (Left true) c (do
+    l ← symbol (Left true) c
+    token is_lparen
+    es ← symbol (Args false) (with_in c)
+    gives (link_e false l (call_e (to (span_of l) (span_of es)) l (items_of es))))
+  -- Optional chains (13.3.9): `?` and `.`, which are two tokens, before a name, a private name, brackets or arguments
+  chain-name : {c : Scope} {b : Bool} → Production (Left b) c (do
+    l ← symbol (Left b) c
+    token is_question
+    token is_dot
+    n ← one (any_name c)
+    gives (link_e true l (member_e (to (span_of l) n.at) l (name_e n.at n.text))))
+  chain-private : {c : Scope} {b : Bool} → Production (Left b) c (do
+    l ← symbol (Left b) c
+    token is_question
+    token is_dot
+    s ← token is_hash
+    n ← one (any_name c)
+    must (is_joined s n.at)
+    gives (link_e true l (member_e (to (span_of l) n.at) l (private_e (to s n.at) n.text))))
+  chain-computed : {c : Scope} {b : Bool} → Production (Left b) c (do
+    l ← symbol (Left b) c
+    token is_question
+    token is_dot
+    s ← token is_lbracket
+    e ← symbol Expr (with_in c)
+    s' ← token is_rbracket
+    gives (link_e true l (member_e (to (span_of l) s') l (computed_e (to s s') e))))
+  chain-call : {c : Scope} {b : Bool} → Production (Left b) c (do
+    l ← symbol (Left b) c
+    token is_question
+    token is_dot
+    token is_lparen
+    es ← symbol (Args false) (with_in c)
+    gives (link_e true l (call_e (to (span_of l) (span_of es)) l (items_of es))))
+  -- Tagged templates (13.3.11), of which the tag is no optional chain
+  tagged-tpl : {c : Scope} {b : Bool} → Production (Left b) c (do
+    l ← symbol (Left b) c
+    s ← token is_backquote
+    ps ← symbol (Parts true) c
+    must (not (is_chain l))
+    gives (tagged_e (to (span_of l) (span_of ps)) l (tpl_e (to s (span_of ps)) ps)))
+  arguments : {c : Scope} {i : Bool} → Production (Arguments i) c (do
+    token is_lparen
+    es ← symbol (Args i) (with_in c)
+    gives es)
+  args-end : {c : Scope} {i : Bool} → Production (Args i) c (do
+    s ← token is_rparen
+    gives (listed None s nil))
+  args-more : {c : Scope} {i : Bool} → Production (Args i) c (do
+    e ← symbol Item c
+    es ← symbol (ArgsTail i) c
+    gives (put_first e es))
+  args-tail-end : {c : Scope} {i : Bool} → Production (ArgsTail i) c (do
+    s ← token is_rparen
+    gives (listed None s nil))
+  args-tail-more : {c : Scope} {i : Bool} → Production (ArgsTail i) c (do
+    s ← token is_comma
+    es ← symbol (Args i) c
+    must (comma_ok (not i || import_comma_ok c) es)
+    gives (behind_comma s es))
   -- UnaryExpression (13.5)
-  unary-primary : {c : Context} → Production Unary c (symbol Primary c)
-  unary-op : {c : Context} → Production Unary c (do
+  unary-left : {c : Scope} → Production Unary c (symbol (Lhs true) c)
+  unary-op : {c : Scope} → Production Unary c (do
     (op, s) ← one prefix_here
     e ← symbol Unary c
-    must (delete_ok c op e)
+    must (delete_ok c.context op e)
     gives (unary_e (to s (span_of e)) op e))
   -- ExponentiationExpression (13.6): it groups to the right, and no prefix operator stands on its left
-  exp-unary : {c : Context} → Production (Level 11) c (symbol Unary c)
-  exp-op : {c : Context} → Production (Level 11) c (do
+  exp-unary : {c : Scope} → Production (Level 11) c (symbol Unary c)
+  exp-op : {c : Scope} → Production (Level 11) c (do
     l ← symbol Unary c
     token is_power
     must (not (is_unary l))
     r ← symbol (Level 11) c
     gives (bin_e (to (span_of l) (span_of r)) binary.Exp l r))
   -- Binary operators (13.7 to 13.13): level k is that of the operators of precedence k. They group to the left.
-  level-up : {c : Context} {k : ℕ} → IsTrue (nat_lt k 11) → Production (Level k) c (symbol (Level (suc k)) c)
-  bin-op : {c : Context} {k : ℕ} → IsTrue (nat_lt k 11) → Production (Level k) c (do
+  level-up : {c : Scope} {k : ℕ} → IsTrue (nat_lt k 11) → Production (Level k) c (symbol (Level (suc k)) c)
+  bin-op : {c : Scope} {k : ℕ} → IsTrue (nat_lt k 11) → Production (Level k) c (do
     l ← symbol (Level k) c
     op ← one (operator_here c)
     must (nat_eq (precedence_of op) k)
@@ -186,11 +365,11 @@ pub data Production {F C K : Type 0} : (s : Symbol) → Context → Side F C K s
     must (logical_ok op l)
     gives (bin_e (to (span_of l) (span_of r)) op l r))
   -- `#` and a name, which the standard has on the left of `in` alone (13.10)
-  private-expr : {c : Context} → Production Primary c (do
+  private-expr : {c : Scope} → Production Primary c (do
     s ← token is_hash
     n ← one (any_name c)
     gives (private_e (to s n.at) n.text))
   -- AssignmentExpression (13.15)
-  assign-level : {c : Context} → Production Assign c (symbol (Level 1) c)
+  assign-level : {c : Scope} → Production Assign c (symbol (Level 1) c)
   -- Expression (13.16)
-  expr-assign : {c : Context} → Production Expr c (symbol Assign c)
+  expr-assign : {c : Scope} → Production Expr c (symbol Assign c)

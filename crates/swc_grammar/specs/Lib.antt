@@ -6,6 +6,7 @@ pub mod Names
 pub mod Parts
 pub mod Reads
 pub mod Rule
+pub mod Scope
 pub mod Symbols
 pub mod Tokens
 pub mod Trees

@@ -11,8 +11,22 @@ pub data Symbol : Type 0 where
   Assign : Symbol
   Level : ℕ → Symbol
   Unary : Symbol
+  -- a left-hand side (13.3), which may be `new` without arguments; and one with links: may calls be among them, or
+  -- members alone
+  Lhs : Bool → Symbol
+  Left : Bool → Symbol
+  -- what a left-hand side with links begins with (13.3): may it be a call, of `super` or `import`, or not
+  Base : Bool → Symbol
+  -- arguments (13.3.8), those of `import` (13.3.10) or others
+  Arguments : Bool → Symbol
+  -- behind the parenthesis of such arguments, through the one that closes them: items, and the same behind one of them
+  Args : Bool → Symbol
+  ArgsTail : Bool → Symbol
   Primary : Symbol
   Literal : Symbol
+  -- a template (13.2.8), with a tag or without; and what stands behind its backquote, through the one that closes it
+  Template : Bool → Symbol
+  Parts : Bool → Symbol
   -- behind the bracket of an array literal (13.2.4), through the one that closes it: elements, and the same behind one of them
   Elements : Symbol
   ElementsTail : Symbol

@@ -6,10 +6,13 @@ use Rattle.swc_context.specs.Texts.{is_text, is_one_of}
 use Rattle.swc_context.specs.declared.context.Context.{Context}
 use Rattle.swc_context.specs.declared.operator.BinaryOp.{BinaryOp}
 use Rattle.swc_context.specs.declared.operator.BinaryOp.TheVariants as binary
+use Rattle.swc_context.specs.declared.operator.AssignOp.{AssignOp}
 use Rattle.swc_context.specs.declared.operator.AssignOp.TheVariants as assign
 use Rattle.swc_context.specs.declared.operator.BinOpToken.TheVariants as sign
 use Rattle.swc_context.specs.declared.operator.UnaryOp.{UnaryOp}
 use Rattle.swc_context.specs.declared.operator.UnaryOp.TheVariants as unary
+use Rattle.swc_context.specs.declared.operator.UpdateOp.{UpdateOp}
+use Rattle.swc_context.specs.declared.operator.UpdateOp.TheVariants as update
 use Rattle.swc_context.specs.declared.span.Span.{Span}
 use Rattle.swc_context.specs.declared.word.Keyword.TheVariants as keyword
 use Rattle.swc_context.specs.declared.word.Word.{Word}
@@ -17,14 +20,18 @@ use Rattle.swc_context.specs.declared.word.Word.TheVariants as word
 use Rattle.swc_input.specs.declared.token.Token.{Token}
 use Rattle.swc_input.specs.declared.token.Token.TheVariants as token
 use Rattle.swc_input.specs.declared.token.TokenAndSpan.{TokenAndSpan}
+use Rattle.swc_grammar.specs.Scope.{Scope, in_context}
 
 -- a token, whether a line break stands before it, and its place
 abbrev pub tk : Token → Bool → Span → TokenAndSpan
 tk t b s = record { token = t; had_line_break = b; span = s }
 
--- the context in which `in` is an operator
-abbrev pub with_in : Context → Context
-with_in c = record c { include_in_expr = true }
+-- the context in which `in` is an operator, and the same of where code stands
+abbrev pub include_in : Context → Context
+include_in c = record c { include_in_expr = true }
+
+abbrev pub with_in : Scope → Scope
+with_in c = in_context include_in c
 
 -- The contexts of a method (15.4), async or not and a generator or not: that of its parameters, which no production
 -- reads yet, and that of its body.
@@ -117,6 +124,25 @@ prefix_of token.Tilde = Some unary.Tilde
 prefix_of token.Bang = Some unary.Bang
 prefix_of t = None
 
+-- The operators `++` and `--` (13.4), and those that write (13.15).
+abbrev pub update_of : Token → Option UpdateOp
+update_of token.PlusPlus = Some update.PlusPlus
+update_of token.MinusMinus = Some update.MinusMinus
+update_of t = None
+
+abbrev pub is_update : Token → Bool
+is_update token.PlusPlus = true
+is_update token.MinusMinus = true
+is_update t = false
+
+abbrev pub assign_of : Token → Option AssignOp
+assign_of (token.AssignOp op) = Some op
+assign_of t = None
+
+abbrev pub is_assign : Token → Bool
+is_assign (token.AssignOp op) = true
+is_assign t = false
+
 -- Hard stops: what no expression goes on with. A word with a line break before it is one, unless it is an operator.
 abbrev pub is_word_stop : Word → Bool
 is_word_stop (word.Keyword keyword.In) = false
@@ -163,6 +189,32 @@ abbrev pub is_rbracket : Token → Bool
 is_rbracket token.RBracket = true
 is_rbracket t = false
 
+abbrev pub is_dot : Token → Bool
+is_dot token.Dot = true
+is_dot t = false
+
+-- a backquote, and `${`
+abbrev pub is_backquote : Token → Bool
+is_backquote token.BackQuote = true
+is_backquote t = false
+
+abbrev pub is_dollar_brace : Token → Bool
+is_dollar_brace token.DollarLBrace = true
+is_dollar_brace t = false
+
+-- `/` and `/=`, with which a regular expression begins; a whole one; and both
+abbrev pub is_slash : Token → Bool
+is_slash (token.BinOp sign.Div) = true
+is_slash (token.AssignOp assign.DivAssign) = true
+is_slash t = false
+
+abbrev pub is_regex : Token → Bool
+is_regex (token.Regex exp flags) = true
+is_regex t = false
+
+abbrev pub begins_regex : Token → Bool
+begins_regex t = is_slash t || is_regex t
+
 abbrev pub is_dots : Token → Bool
 is_dots token.DotDotDot = true
 is_dots t = false
@@ -170,6 +222,30 @@ is_dots t = false
 abbrev pub is_this : Token → Bool
 is_this (token.Word (word.Keyword keyword.This)) = true
 is_this t = false
+
+abbrev pub is_new : Token → Bool
+is_new (token.Word (word.Keyword keyword.New)) = true
+is_new t = false
+
+abbrev pub is_super : Token → Bool
+is_super (token.Word (word.Keyword keyword.Super)) = true
+is_super t = false
+
+abbrev pub is_import : Token → Bool
+is_import (token.Word (word.Keyword keyword.Import)) = true
+is_import t = false
+
+-- where a property of `super` may stand: in code of a method (13.3.7), or anywhere, by an option of the syntax
+abbrev pub super_ok : Scope → Bool
+super_ok c = c.context.allow_direct_super || c.syntax.allow_super_outside_method
+
+-- whether a comma may stand behind the last argument of `import` (13.3.10): where import attributes are read
+abbrev pub import_comma_ok : Scope → Bool
+import_comma_ok c = c.syntax.import_attributes
+
+-- where `new.target` may stand: in code of a function that is no arrow, or in a class (13.3.1.1)
+abbrev pub new_target_ok : Context → Bool
+new_target_ok c = c.inside_non_arrow_function_scope || (c.in_parameters || c.in_class)
 
 abbrev pub is_rbrace : Token → Bool
 is_rbrace token.RBrace = true
@@ -193,10 +269,97 @@ abbrev pub is_question : Token → Bool
 is_question token.QuestionMark = true
 is_question t = false
 
--- any word, and the words `get` and `set`
+-- the words `await` and `yield`
+abbrev pub is_await : Token → Bool
+is_await (token.Word (word.Keyword keyword.Await)) = true
+is_await t = false
+
+abbrev pub is_yield : Token → Bool
+is_yield (token.Word (word.Keyword keyword.Yield)) = true
+is_yield t = false
+
+-- Where `await` may be an operator (15.8): in async code, or in none of a function; but not in parameters outside a
+-- function. Where it may be an identifier (13.1): outside async code and modules.
+abbrev pub await_ok : Context → Bool
+await_ok c = (c.in_async || not c.in_function) && not (c.in_parameters && not c.in_function)
+
+abbrev pub await_ident_ok : Context → Bool
+await_ident_ok c = not (c.in_async || c.module)
+
+-- Behind `await`: where a statement may end, and before what closes or parts a list. At the end one may end, too.
+abbrev pub ends_operand : Token → Bool
+ends_operand token.Semi = true
+ends_operand token.RBrace = true
+ends_operand token.RParen = true
+ends_operand token.RBracket = true
+ends_operand token.Comma = true
+ends_operand t = false
+
+abbrev pub ends_await : TokenAndSpan → Bool
+ends_await t = t.had_line_break || ends_operand t.token
+
+-- Where `yield` is an operator (15.5): in a generator, but not in parameters outside a function.
+abbrev pub yield_ok : Context → Bool
+yield_ok c = not (c.in_parameters && not c.in_function)
+
+-- What may begin its operand, on the same line: `*`, or a token with which an expression begins.
+abbrev pub begins_yielded_word : Word → Bool
+begins_yielded_word (word.Keyword keyword.Let) = true
+begins_yielded_word (word.Keyword keyword.This) = true
+begins_yielded_word (word.Keyword keyword.Function) = true
+begins_yielded_word (word.Keyword keyword.Class) = true
+begins_yielded_word (word.Keyword keyword.New) = true
+begins_yielded_word (word.Keyword keyword.Super) = true
+begins_yielded_word (word.Keyword keyword.Import) = true
+begins_yielded_word (word.Keyword keyword.Await) = true
+begins_yielded_word (word.Keyword keyword.Yield) = true
+begins_yielded_word (word.Keyword keyword.TypeOf) = true
+begins_yielded_word (word.Keyword keyword.Void) = true
+begins_yielded_word (word.Keyword keyword.Delete) = true
+begins_yielded_word (word.Keyword k) = false
+begins_yielded_word w = true
+
+abbrev pub begins_yielded : Token → Bool
+begins_yielded (token.Word w) = begins_yielded_word w
+begins_yielded token.LParen = true
+begins_yielded token.LBracket = true
+begins_yielded token.LBrace = true
+begins_yielded (token.BinOp sign.Add) = true
+begins_yielded (token.BinOp sign.Sub) = true
+begins_yielded (token.BinOp sign.Mul) = true
+begins_yielded (token.BinOp sign.Div) = true
+begins_yielded (token.AssignOp assign.DivAssign) = true
+begins_yielded token.Tilde = true
+begins_yielded token.Bang = true
+begins_yielded token.PlusPlus = true
+begins_yielded token.MinusMinus = true
+begins_yielded token.BackQuote = true
+begins_yielded token.Hash = true
+begins_yielded (token.Num raw) = true
+begins_yielded (token.BigInt raw) = true
+begins_yielded (token.Str value raw) = true
+begins_yielded (token.Regex exp flags) = true
+begins_yielded t = false
+
+abbrev pub goes_on_yield : TokenAndSpan → Bool
+goes_on_yield t = not t.had_line_break && begins_yielded t.token
+
+-- any word, and the words `target`, `meta`, `source`, `get` and `set`
 abbrev pub is_word : Token → Bool
 is_word (token.Word w) = true
 is_word t = false
+
+abbrev pub is_target : Token → Bool
+is_target (token.Word (word.Ident w)) = is_text w (codes "target")
+is_target t = false
+
+abbrev pub is_meta : Token → Bool
+is_meta (token.Word (word.Ident w)) = is_text w (codes "meta")
+is_meta t = false
+
+abbrev pub is_source : Token → Bool
+is_source (token.Word (word.Ident w)) = is_text w (codes "source")
+is_source t = false
 
 abbrev pub is_get : Token → Bool
 is_get (token.Word (word.Ident w)) = is_text w (codes "get")

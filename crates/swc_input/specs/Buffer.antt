@@ -1,5 +1,5 @@
 -- What a call of a buffer does, and which tokens may still come.
-use Rattle.std.specs.Prelude.{◌≡◌, ◌≢◌, ℕ, ◌+◌, ◌≤◌, true, false, List, [], ◌∷◌, ◌++◌, Option, Some, None, IsSome, length, min}
+use Rattle.std.specs.Prelude.{◌≡◌, ◌≢◌, ℕ, ◌+◌, ◌<◌, ◌≤◌, true, false, List, [], ◌∷◌, ◌++◌, Option, Some, None, IsSome, length, min}
 use Rattle.swc_context.specs.declared.context.Context.{Context}
 use Rattle.swc_context.specs.declared.operator.BinOpToken.TheVariants.{Lt}
 use Rattle.swc_context.specs.declared.span.BytePos.{BytePos}
@@ -89,13 +89,13 @@ module _ {S : Type 0} (model : Model S) where
     pub known : (model.state b.iter).known ≡ Some more
 
 module _ {S : Type 0} (model : Model S) where
-  -- the tokens xs were consumed, the context is what it was, and no recorded fault was taken out
+  -- the tokens xs were consumed, the context is what it was, no recorded fault was taken out, and no more tokens are to come
   pub record Read (b : Buffer S) (xs : List TokenAndSpan) (c : Buffer S) : Type 0 where
     pub took : Took model b xs c
     pub context : (model.state c.iter).context ≡ (model.state b.iter).context
     pub errors : Keeps (model.state b.iter).errors (model.state c.iter).errors
     pub waiting : Keeps (model.state b.iter).waiting (model.state c.iter).waiting
-    pub lower : to_come model c + length xs ≤ to_come model b
+    pub lower : to_come model c ≤ to_come model b
 
   -- the tokens of some list were consumed
   abbrev pub ReadSome : Buffer S → Buffer S → Type 0
@@ -129,10 +129,11 @@ module _ {S : Type 0} (model : Model S) where
     pub lives : IsSome c.next → Lives b c
     pub end : c.next ≡ None → (model.state c.iter).failed ≡ false → (model.state c.iter).ended ≡ true
 
-  -- the current token was consumed, and it was t
+  -- the current token was consumed, and it was t, so fewer are to come
   pub record Bumped (b : Buffer S) (t : Token) (c : Buffer S) : Type 0 where
     pub was : TokenAndSpan
     pub current : b.cur ≡ Some was
     pub token : t ≡ was.token
     pub read : Read b (plain was ∷ []) c
     pub now : c ≡ record b { cur = None; prev_span = was.span }
+    pub less : to_come model c < to_come model b

@@ -1,6 +1,6 @@
 -- How calls of a buffer follow one another, and what may come after them.
 use Rattle.std.specs.Prelude.{◌≡◌, ◌≢◌, true, List, [], ◌∷◌, ◌++◌, Option, Some, None, IsSome}
-use Rattle.std.proofs.Common.{refl, ap, sym, ◌∙◌, append_assoc, arith, length-append, subst}
+use Rattle.std.proofs.Common.{refl, ap, sym, ◌∙◌, append_assoc, arith, subst}
 use Rattle.std.proofs.lemmas.List.{append-nil}
 use Rattle.std.proofs.lemmas.List.Elements.{All-append, All-nil}
 use Rattle.swc_context.specs.declared.error.Error.{Error}
@@ -79,7 +79,7 @@ module _ {S : Type 0} {model : Model S} (laws : Laws model) where
     context = q.context ∙ p.context;
     errors = Keeps-then (model.state b.iter).errors (model.state c.iter).errors (model.state d.iter).errors p.errors q.errors;
     waiting = Keeps-then (model.state b.iter).waiting (model.state c.iter).waiting (model.state d.iter).waiting p.waiting q.waiting;
-    lower = let l = p.lower in let m = q.lower in let n = length-append xs ys in omega arith;
+    lower = let l = p.lower in let m = q.lower in omega arith;
   }
 
   -- a call that consumed nothing, after one that consumed xs, and before it

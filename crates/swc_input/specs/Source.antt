@@ -5,6 +5,7 @@ use Rattle.swc_context.specs.declared.context.EsVersion.{EsVersion}
 use Rattle.swc_context.specs.declared.context.Syntax.{Syntax}
 use Rattle.swc_context.specs.declared.error.Error.{Error}
 use Rattle.swc_context.specs.declared.error.SyntaxError.TheVariants.{OutOfMemory}
+use Rattle.swc_context.specs.declared.span.BytePos.{BytePos}
 use Rattle.swc_input.specs.declared.token.TokenAndSpan.{TokenAndSpan}
 use Rattle.swc_input.specs.Plain.{plain}
 
@@ -57,9 +58,15 @@ with_module_error e s = record s {
 abbrev pub HeldBack : Context → Source → Type 0
 HeldBack c s = (s.context.module ≡ false) × (c.module ≡ true) × (s.waiting ≢ [])
 
--- a token may come once more, and nothing else changed
-abbrev pub Hinted : Source → Source → Type 0
-Hinted s t = (b : ℕ) × (t ≡ record s { bound = b }) × (b ≤ s.bound + 1)
+-- how many tokens more a hint may bring: the slash at which a regular expression begins may come once more; a hint that none
+-- begins brings none
+abbrev pub hint_brings : Option BytePos → ℕ
+hint_brings None = 0
+hint_brings (Some start) = 1
+
+-- the hint was given, and nothing changed but how many tokens may come
+abbrev pub Hinted : Option BytePos → Source → Source → Type 0
+Hinted start s t = (b : ℕ) × (t ≡ record s { bound = b }) × (b ≤ s.bound + hint_brings start)
 
 -- in a module no fault waits; a listed source never fails, and gives all its tokens before its end
 pub record IsLawful (s : Source) : Type 0 where

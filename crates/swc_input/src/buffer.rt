@@ -1,5 +1,6 @@
 // The parser's buffer: the current token, and the one after it.
-ghost use Rattle.std.specs.Prelude.{◌≡◌, true, false, [], ◌∷◌, Some, MatchOption, IsSome, ⊤, IsTrue, ◌↔◌, OnOk, OnErr};
+ghost use Rattle.std.specs.Prelude.{◌≡◌, ◌<◌, true, false, [], ◌∷◌, Some, MatchOption, IsSome, ⊤, IsTrue, ◌↔◌};
+ghost use Rattle.std.specs.Prelude.{OnOk, OnErr};
 ghost use Rattle.std.specs.Option.{option_copied};
 ghost use Rattle.std.specs.Borrow.{sem, follows, follows_so};
 ghost use mathlib.Core.Option.{none};
@@ -8,7 +9,8 @@ ghost use Rattle.swc_input.specs.declared.token.Token.TheVariants.{BinOp};
 ghost use Rattle.swc_input.specs.declared.token.TokenAndSpan.{TokenAndSpan};
 ghost use Rattle.swc_input.specs.Plain.{plain};
 ghost use Rattle.swc_input.specs.Source.{HeldBack, Hinted, with_context};
-ghost use Rattle.swc_input.specs.Buffer.{current, peeked, previous, last_position, source, held, token_of, state_of};
+ghost use Rattle.swc_input.specs.Buffer.{current, peeked, previous, last_position, source, held, token_of};
+ghost use Rattle.swc_input.specs.Buffer.{state_of, to_come};
 ghost use Rattle.swc_input.specs.Buffer.{with_current, with_source, cut, stored, fresh};
 ghost use Rattle.swc_input.specs.Buffer.{Took, Read, Looked, Peeked, Bumped};
 ghost use Rattle.swc_input.specs.contracts.buffer.Buffer.{the_row};
@@ -216,6 +218,7 @@ impl<I: Tokens> Buffer<I> {
     pub fn eat(&mut self, expected: &Token) -> bool
         ensures eaten { result ≡ true → (x : TokenAndSpan) × (⟦<Token as PartialEq>⟧.eq expected.now x.token ≡ true)
             × Read I.model self.old (plain x ∷ []) self.new × (previous self.new ≡ x.span) }
+        ensures falls { result ≡ true → to_come I.model self.new < to_come I.model self.old }
         ensures stays { result ≡ false → Looked I.model self.old self.new
             × MatchOption (current self.new) ⊤ (λ t. ⟦<Token as PartialEq>⟧.eq expected.now t.token ≡ false) }
     {
@@ -294,11 +297,11 @@ impl<I: Tokens> Buffer<I> {
         self.iter.target()
     }
 
-    /// Hints to a lexer that a regular expression begins at the slash that it gave last.
+    /// Hints to a lexer that a regular expression begins at the slash that it gave last; see `Tokens::set_next_regexp`.
     pub fn set_next_regexp(&mut self, start: Option<BytePos>)
         ensures took { Took I.model self.old [] self.new }
         ensures rest { self.new ≡ with_source (source self.new) self.old }
-        ensures state { Hinted (state_of I.model self.old) (state_of I.model self.new) }
+        ensures state { Hinted start (state_of I.model self.old) (state_of I.model self.new) }
     {
         self.iter.set_next_regexp(start);
     }

@@ -17,7 +17,7 @@ use swc_context::error::{Error, PResult, SyntaxError};
 use swc_context::span::Span;
 
 /// The error of a token, as it counts: want of memory and a failed parser are the parser's alone.
-fn counted_error(error: Error) -> Error
+pub fn counted_error(error: Error) -> Error
     ensures { result ≡ counted error }
 {
     let span = error.span();

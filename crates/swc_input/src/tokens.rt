@@ -49,11 +49,11 @@ pub trait Tokens: Iterator<Item = TokenAndSpan> {
         ensures gave { model.gives self.old [] self.new }
         ensures state { model.state self.new ≡ model.state self.old };
 
-    /// Hints to a lexer that a regular expression begins at the slash that it gave last. The slash
-    /// may then come once more.
+    /// Hints to a lexer that a regular expression begins at the slash that it gave last, which may then come once
+    /// more, as part of a regular expression; or, by `None`, that none begins: that brings no token.
     fn set_next_regexp(&mut self, start: Option<BytePos>)
         ensures gave { model.gives self.old [] self.new }
-        ensures state { Hinted (model.state self.old) (model.state self.new) };
+        ensures state { Hinted start (model.state self.old) (model.state self.new) };
 
     /// A lexer's stack of contexts.
     fn token_context(&self) -> &TokenContexts;

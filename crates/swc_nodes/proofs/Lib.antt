@@ -3,6 +3,8 @@ pub mod Covers
 pub mod Held
 pub mod Lists
 pub mod Renumbered
+pub mod Sequences
 pub mod Standing
+pub mod Targets
 pub mod Unmarked
 pub mod Walked

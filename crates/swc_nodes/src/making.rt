@@ -1,21 +1,30 @@
 // Makes the nodes of productions, and says where they stand.
-ghost use Rattle.std.specs.Prelude.{◌≡◌, ℕ, ◌+◌, IfOk};
+ghost use Rattle.std.specs.Prelude.{◌≡◌, ℕ, ◌+◌, ◌≤◌, true, false, ◌++◌, length, map, IfOk};
 ghost use Rattle.swc_context.specs.Spans.{between};
-ghost use Rattle.swc_ast.specs.Parts.{leaf, ident_tree, lit_tree};
-ghost use Rattle.swc_ast.specs.Tree.{invalid, span_of};
+ghost use Rattle.swc_ast.specs.Parts.{leaf, ident_tree, lit_tree, item_trees, member_prop_tree, base_tree};
+ghost use Rattle.swc_ast.specs.Parts.{callee_tree, super_part_tree};
+ghost use Rattle.swc_ast.specs.Spans.{chain_base_span};
+ghost use Rattle.swc_ast.specs.Tree.{node, nil, cons, invalid, super, super_prop, tpl, span_of};
 ghost use Rattle.swc_grammar.specs.Trees as trees;
-ghost use Rattle.swc_nodes.specs.Lists.{elem_parts, elem_trees, props_parts, props_trees};
-ghost use Rattle.swc_nodes.specs.Slots.{expr_part, pat_part};
+ghost use Rattle.swc_nodes.specs.Lists.{elem_parts, elem_trees, props_parts, props_trees, exprs_parts, expr_trees};
+ghost use Rattle.swc_nodes.specs.Lists.{tpl_trees};
+ghost use Rattle.swc_nodes.specs.Slots.{expr_part, pat_part, one_expr, member_parts, args_parts, base_parts};
+ghost use Rattle.swc_nodes.specs.Slots.{callee_parts, super_parts, target_part};
+ghost use Rattle.swc_nodes.specs.declared.node.TargetNode.TheVariants as target;
 ghost use Rattle.swc_nodes.specs.Stands.{count, tree_at, first_at, Apart, From, Grows, Made};
 
-use crate::node::{ExprId, Node, PatId, PropNode};
+use crate::node::{ExprId, Node, PatId, PropNode, TargetNode};
 use crate::nodes::Nodes;
-use std::alloc::AllocError;
-use swc_ast::expr::{ExprOrSpread, Invalid, ParenExpr, ThisExpr};
+use std::alloc::{AllocError, Global};
+use swc_ast::expr::{
+    Callee, ExprOrSpread, Invalid, MemberExpr, MemberProp, MetaPropExpr, MetaPropKind, OptCall,
+    OptChainBase, OptChainExpr, ParenExpr, Super, SuperProp, SuperPropExpr, ThisExpr, Tpl,
+    TplElement,
+};
 use swc_ast::ident::{Ident, IdentName, PrivateName};
 use swc_ast::lit::Lit;
 use swc_ast::spanned::Spanned;
-use swc_context::operator::{BinaryOp, UnaryOp};
+use swc_context::operator::{AssignOp, BinaryOp, UnaryOp, UpdateOp};
 use swc_context::span::{BytePos, Span};
 
 impl<F: Spanned + Drop, C: Spanned + Drop, K: Spanned + Drop> Nodes<F, C, K> {
@@ -90,7 +99,8 @@ impl<F: Spanned + Drop, C: Spanned + Drop, K: Spanned + Drop> Nodes<F, C, K> {
         ensures grows { Grows self.old self.new }
         ensures made { IfOk result (λ id. (k : ℕ) → Apart k self.old (props_parts props)
             → Made k self.new (expr_part id)
-            (trees.object_e trailing_comma (between start end) (props_trees F.place C.place K.place (tree_at self.old) props))) }
+            (trees.object_e trailing_comma (between start end)
+            (props_trees F.place C.place K.place (tree_at self.old) props))) }
     {
         let span = Span::new(start, end);
         Ok(ExprId(self.push(Node::Object {
@@ -132,6 +142,277 @@ impl<F: Spanned + Drop, C: Spanned + Drop, K: Spanned + Drop> Nodes<F, C, K> {
     {
         let span = Span::new(start, end);
         Ok(ExprId(self.push(Node::Paren(ParenExpr { span, expr }))?))
+    }
+
+    /// A member of `obj` (ECMA-262, 13.3.2), to `end`, a position in bytes.
+    ///
+    /// Where it is `optional`, behind `?.`, or `obj` is of an optional chain, it is of one (13.3.9). All that is
+    /// reached from an expression in brackets lies behind `obj`.
+    pub fn member_expr(
+        &mut self,
+        obj: ExprId,
+        prop: MemberProp<ExprId>,
+        end: BytePos,
+        optional: bool,
+    ) -> Result<ExprId, AllocError>
+        requires from { From 0 self.old (expr_part obj) }
+        requires apart { Apart 0 self.old (one_expr obj ++ member_parts prop) }
+        ensures grows { Grows self.old self.new }
+        ensures made { IfOk result (λ id. (k : ℕ) → Apart k self.old (one_expr obj ++ member_parts prop)
+            → Made k self.new (expr_part id) (trees.link_e optional (tree_at self.old obj.0)
+            (trees.member_e (between (span_of (tree_at self.old obj.0)).lo end) (tree_at self.old obj.0)
+            (member_prop_tree (λ e. tree_at self.old e.0) prop)))) }
+    {
+        let span = Span::new(self.span(obj).lo, end);
+        if optional || self.is_opt_chain(obj) {
+            let member = MemberExpr { span, obj, prop };
+            return self.opt_chain(span, optional, OptChainBase::Member(member));
+        }
+        Ok(ExprId(self.push(Node::Member(MemberExpr { span, obj, prop }))?))
+    }
+
+    /// A call of `callee` (ECMA-262, 13.3.6), to `end`, a position in bytes.
+    ///
+    /// Where it is `optional`, behind `?.`, or `callee` is of an optional chain, it is of one (13.3.9). All that is
+    /// reached from an argument lies behind the one before it, and behind `callee`.
+    pub fn call_expr(
+        &mut self,
+        callee: ExprId,
+        args: Vec<ExprOrSpread<ExprId>>,
+        end: BytePos,
+        optional: bool,
+    ) -> Result<ExprId, AllocError>
+        requires from { From 0 self.old (expr_part callee) }
+        requires apart { Apart 0 self.old (one_expr callee ++ args_parts args) }
+        ensures grows { Grows self.old self.new }
+        ensures made { IfOk result (λ id. (k : ℕ) → Apart k self.old (one_expr callee ++ args_parts args)
+            → Made k self.new (expr_part id) (trees.link_e optional (tree_at self.old callee.0)
+            (trees.call_e (between (span_of (tree_at self.old callee.0)).lo end) (tree_at self.old callee.0)
+            (item_trees (λ e. tree_at self.old e.0) args.items)))) }
+    {
+        let span = Span::new(self.span(callee).lo, end);
+        if optional || self.is_opt_chain(callee) {
+            let call = OptCall { span, callee, args };
+            return self.opt_chain(span, optional, OptChainBase::Call(call));
+        }
+        let callee = Callee::Expr(callee);
+        Ok(ExprId(self.push(Node::Call { span, callee, args })?))
+    }
+
+    /// A node of an optional chain (ECMA-262, 13.3.9), at the place of the member or call in it.
+    fn opt_chain(
+        &mut self,
+        span: Span,
+        optional: bool,
+        base: OptChainBase<ExprId>,
+    ) -> Result<ExprId, AllocError>
+        requires place { span ≡ chain_base_span base }
+        requires apart { Apart 0 self.old (base_parts base) }
+        ensures grows { Grows self.old self.new }
+        ensures made { IfOk result (λ id. (k : ℕ) → Apart k self.old (base_parts base)
+            → Made k self.new (expr_part id)
+            (trees.chain_e optional (base_tree (λ e. tree_at self.old e.0) base))) }
+    {
+        let base = Box::new(self.allocator(), base)?;
+        let chain = OptChainExpr {
+            span,
+            optional,
+            base,
+        };
+        Ok(ExprId(self.push(Node::OptChain(chain))?))
+    }
+
+    /// A call of what may be `super` or `import` (ECMA-262, 13.3.7 and 13.3.10), from `start` to `end`, positions in
+    /// bytes.
+    ///
+    /// All that is reached from an argument lies behind the one before it, and behind an expression that is called.
+    pub fn callee_call(
+        &mut self,
+        start: BytePos,
+        callee: Callee<ExprId>,
+        args: Vec<ExprOrSpread<ExprId>>,
+        end: BytePos,
+    ) -> Result<ExprId, AllocError>
+        requires apart { Apart 0 self.old (callee_parts callee ++ args_parts args) }
+        ensures grows { Grows self.old self.new }
+        ensures made { IfOk result (λ id. (k : ℕ) → Apart k self.old (callee_parts callee ++ args_parts args)
+            → Made k self.new (expr_part id)
+            (trees.call_e (between start end) (callee_tree (λ e. tree_at self.old e.0) callee)
+            (item_trees (λ e. tree_at self.old e.0) args.items))) }
+    {
+        let span = Span::new(start, end);
+        Ok(ExprId(self.push(Node::Call { span, callee, args })?))
+    }
+
+    /// A property of `super` (ECMA-262, 13.3.7), to `end`, a position in bytes.
+    ///
+    /// An expression in brackets is one of the nodes (`has_expr` tells).
+    pub fn super_prop_expr(
+        &mut self,
+        obj: Super,
+        prop: SuperProp<ExprId>,
+        end: BytePos,
+    ) -> Result<ExprId, AllocError>
+        requires apart { Apart 0 self.old (super_parts prop) }
+        ensures grows { Grows self.old self.new }
+        ensures made { IfOk result (λ id. (k : ℕ) → Apart k self.old (super_parts prop)
+            → Made k self.new (expr_part id)
+            (node super_prop (between obj.span.lo end) (cons (leaf super obj.span)
+            (cons (super_part_tree (λ e. tree_at self.old e.0) prop) nil)))) }
+    {
+        let span = Span::new(obj.span.lo, end);
+        Ok(ExprId(self.push(Node::SuperProp(SuperPropExpr { span, obj, prop }))?))
+    }
+
+    /// `new` with arguments (ECMA-262, 13.3.5), from `start` to `end`, positions in bytes.
+    ///
+    /// All that is reached from an argument lies behind the one before it, and behind `callee`.
+    pub fn new_expr(
+        &mut self,
+        start: BytePos,
+        callee: ExprId,
+        args: Vec<ExprOrSpread<ExprId>>,
+        end: BytePos,
+    ) -> Result<ExprId, AllocError>
+        requires apart { Apart 0 self.old (one_expr callee ++ args_parts args) }
+        ensures grows { Grows self.old self.new }
+        ensures made { IfOk result (λ id. (k : ℕ) → Apart k self.old (one_expr callee ++ args_parts args)
+            → Made k self.new (expr_part id)
+            (trees.new_e (between start end) (tree_at self.old callee.0)
+            (item_trees (λ e. tree_at self.old e.0) args.items))) }
+    {
+        let span = Span::new(start, end);
+        let args = Some(args);
+        Ok(ExprId(self.push(Node::New { span, callee, args })?))
+    }
+
+    /// `new` without arguments (ECMA-262, 13.3.5), from `start`, a position in bytes, to the end of `callee`.
+    pub fn bare_new_expr(&mut self, start: BytePos, callee: ExprId) -> Result<ExprId, AllocError>
+        requires { From 0 self.old (expr_part callee) }
+        ensures grows { Grows self.old self.new }
+        ensures made { IfOk result (λ id. Made (first_at self.old callee.0) self.new (expr_part id)
+            (trees.bare_new_e (between start (span_of (tree_at self.old callee.0)).hi) (tree_at self.old callee.0))) }
+    {
+        let span = Span::new(start, self.span(callee).hi);
+        let args = None;
+        Ok(ExprId(self.push(Node::New { span, callee, args })?))
+    }
+
+    /// `new.target` or `import.meta` (ECMA-262, 13.3.12).
+    pub fn meta_prop(&mut self, span: Span, kind: MetaPropKind) -> Result<ExprId, AllocError>
+        ensures grows { Grows self.old self.new }
+        ensures made { IfOk result (λ id. Made (count self.old) self.new (expr_part id) (trees.meta_e span kind)) }
+    {
+        Ok(ExprId(self.push(Node::MetaProp(MetaPropExpr { span, kind }))?))
+    }
+
+    /// A template (ECMA-262, 13.2.8) from `start` to `end`, positions in bytes: its texts, and the expressions between
+    /// them.
+    ///
+    /// All that is reached from an expression lies behind the one before it.
+    pub fn tpl(
+        &mut self,
+        start: BytePos,
+        end: BytePos,
+        quasis: Vec<TplElement>,
+        exprs: Vec<ExprId>,
+    ) -> Result<ExprId, AllocError>
+        requires apart { Apart 0 self.old (exprs_parts exprs) }
+        ensures grows { Grows self.old self.new }
+        ensures made { IfOk result (λ id. (k : ℕ) → Apart k self.old (exprs_parts exprs)
+            → Made k self.new (expr_part id)
+            (node tpl (between start end) (tpl_trees (tree_at self.old) quasis exprs))) }
+    {
+        let span = Span::new(start, end);
+        Ok(ExprId(self.push(Node::Tpl(Tpl {
+            span,
+            exprs,
+            quasis,
+        }))?))
+    }
+
+    /// A template with a tag (ECMA-262, 13.3.11): the template goes from `start` to `end`, positions in bytes.
+    ///
+    /// All that is reached from an expression lies behind the one before it, and behind `tag`.
+    pub fn tagged_tpl(
+        &mut self,
+        tag: ExprId,
+        start: BytePos,
+        end: BytePos,
+        quasis: Vec<TplElement>,
+        exprs: Vec<ExprId>,
+    ) -> Result<ExprId, AllocError>
+        requires from { From 0 self.old (expr_part tag) }
+        requires apart { Apart 0 self.old (one_expr tag ++ exprs_parts exprs) }
+        ensures grows { Grows self.old self.new }
+        ensures made { IfOk result (λ id. (k : ℕ) → Apart k self.old (one_expr tag ++ exprs_parts exprs)
+            → Made k self.new (expr_part id)
+            (trees.tagged_e (between (span_of (tree_at self.old tag.0)).lo end) (tree_at self.old tag.0)
+            (node tpl (between start end) (tpl_trees (tree_at self.old) quasis exprs)))) }
+    {
+        let span = Span::new(self.span(tag).lo, end);
+        let tpl = Tpl {
+            span: Span::new(start, end),
+            exprs,
+            quasis,
+        };
+        let tpl = Box::new(self.allocator(), tpl)?;
+        Ok(ExprId(self.push(Node::TaggedTpl { span, tag, tpl })?))
+    }
+
+    /// `++` or `--` and its operand, which stands behind it (ECMA-262, 13.4); from `start`, a position in bytes.
+    pub fn update_prefix(
+        &mut self,
+        start: BytePos,
+        op: UpdateOp,
+        arg: ExprId,
+    ) -> Result<ExprId, AllocError>
+        requires { From 0 self.old (expr_part arg) }
+        ensures grows { Grows self.old self.new }
+        ensures made { IfOk result (λ id. Made (first_at self.old arg.0) self.new (expr_part id)
+            (trees.update_e (between start (span_of (tree_at self.old arg.0)).hi) op true (tree_at self.old arg.0))) }
+    {
+        let span = Span::new(start, self.span(arg).hi);
+        let prefix = true;
+        Ok(ExprId(self.push(Node::Update {
+            span,
+            op,
+            prefix,
+            arg,
+        })?))
+    }
+
+    /// `++` or `--` and its operand, which stands before it (ECMA-262, 13.4); to `end`, a position in bytes.
+    pub fn update_postfix(
+        &mut self,
+        op: UpdateOp,
+        arg: ExprId,
+        end: BytePos,
+    ) -> Result<ExprId, AllocError>
+        requires { From 0 self.old (expr_part arg) }
+        ensures grows { Grows self.old self.new }
+        ensures made { IfOk result (λ id. Made (first_at self.old arg.0) self.new (expr_part id)
+            (trees.update_e (between (span_of (tree_at self.old arg.0)).lo end) op false (tree_at self.old arg.0))) }
+    {
+        let span = Span::new(self.span(arg).lo, end);
+        let prefix = false;
+        Ok(ExprId(self.push(Node::Update {
+            span,
+            op,
+            prefix,
+            arg,
+        })?))
+    }
+
+    /// `await` and its operand (ECMA-262, 15.8), from `start`, a position in bytes.
+    pub fn await_expr(&mut self, start: BytePos, arg: ExprId) -> Result<ExprId, AllocError>
+        requires { From 0 self.old (expr_part arg) }
+        ensures grows { Grows self.old self.new }
+        ensures made { IfOk result (λ id. Made (first_at self.old arg.0) self.new (expr_part id)
+            (trees.await_e (between start (span_of (tree_at self.old arg.0)).hi) (tree_at self.old arg.0))) }
+    {
+        let span = Span::new(start, self.span(arg).hi);
+        Ok(ExprId(self.push(Node::Await { span, arg })?))
     }
 
     /// A prefix operator and its operand (ECMA-262, 13.5).
@@ -176,6 +457,126 @@ impl<F: Spanned + Drop, C: Spanned + Drop, K: Spanned + Drop> Nodes<F, C, K> {
         })?))
     }
 
+    /// A conditional (ECMA-262, 13.14): what it tests, what it is where that holds, and what else.
+    ///
+    /// All that is reached from one of them lies behind the one before it.
+    pub fn cond_expr(
+        &mut self,
+        test: ExprId,
+        cons: ExprId,
+        alt: ExprId,
+    ) -> Result<ExprId, AllocError>
+        requires test { From 0 self.old (expr_part test) }
+        requires then { From (test.0 + 1) self.old (expr_part cons) }
+        requires other { From (cons.0 + 1) self.old (expr_part alt) }
+        ensures grows { Grows self.old self.new }
+        ensures made { IfOk result
+            (λ id. Made (first_at self.old test.0) self.new (expr_part id)
+            (trees.cond_e (trees.to (span_of (tree_at self.old test.0)) (span_of (tree_at self.old alt.0)))
+            (tree_at self.old test.0) (tree_at self.old cons.0) (tree_at self.old alt.0))) }
+    {
+        let span = Span::new(self.span(test).lo, self.span(alt).hi);
+        Ok(ExprId(self.push(Node::Cond {
+            span,
+            test,
+            cons,
+            alt,
+        })?))
+    }
+
+    /// An assignment (ECMA-262, 13.15) of `value` to what may be assigned to as it stands (`has_target`).
+    ///
+    /// All that is reached from `value` lies behind `left`.
+    pub fn assign_expr(
+        &mut self,
+        op: AssignOp,
+        left: ExprId,
+        value: ExprId,
+    ) -> Result<ExprId, AllocError>
+        requires left { From 0 self.old (target_part (target.Simple left)) }
+        requires right { From (left.0 + 1) self.old (expr_part value) }
+        ensures grows { Grows self.old self.new }
+        ensures made { IfOk result
+            (λ id. Made (first_at self.old left.0) self.new (expr_part id)
+            (trees.assign_e (trees.to (span_of (tree_at self.old left.0)) (span_of (tree_at self.old value.0))) op
+            (tree_at self.old left.0) (tree_at self.old value.0))) }
+    {
+        let span = Span::new(self.span(left).lo, self.span(value).hi);
+        Ok(ExprId(self.push(Node::Assign {
+            span,
+            op,
+            left: TargetNode::Simple(left),
+            right: value,
+        })?))
+    }
+
+    /// `yield` without an operand (ECMA-262, 15.5).
+    pub fn yield_alone(&mut self, span: Span) -> Result<ExprId, AllocError>
+        ensures grows { Grows self.old self.new }
+        ensures made { IfOk result (λ id. Made (count self.old) self.new (expr_part id)
+            (trees.yield_e span false trees.hole_e)) }
+    {
+        let (arg, delegate) = (None, false);
+        Ok(ExprId(self.push(Node::Yield {
+            span,
+            arg,
+            delegate,
+        })?))
+    }
+
+    /// `yield`, with a `*` behind it where it is to `delegate`, and its operand (ECMA-262, 15.5); from `start`, a position
+    /// in bytes.
+    pub fn yield_expr(
+        &mut self,
+        start: BytePos,
+        delegate: bool,
+        arg: ExprId,
+    ) -> Result<ExprId, AllocError>
+        requires { From 0 self.old (expr_part arg) }
+        ensures grows { Grows self.old self.new }
+        ensures made { IfOk result (λ id. Made (first_at self.old arg.0) self.new (expr_part id)
+            (trees.yield_e (between start (span_of (tree_at self.old arg.0)).hi) delegate (tree_at self.old arg.0))) }
+    {
+        let span = Span::new(start, self.span(arg).hi);
+        let arg = Some(arg);
+        Ok(ExprId(self.push(Node::Yield {
+            span,
+            arg,
+            delegate,
+        })?))
+    }
+
+    /// Expressions with commas between them (ECMA-262, 13.16), of which there is one at least; one alone is itself.
+    ///
+    /// All that is reached from an expression lies behind the one before it.
+    pub fn seq_expr(&mut self, exprs: Vec<ExprId>) -> Result<ExprId, AllocError>
+        requires some { 1 ≤ length exprs.items }
+        requires apart { Apart 0 self.old (exprs_parts exprs) }
+        ensures grows { Grows self.old self.new }
+        ensures made { IfOk result (λ id. (k : ℕ) → Apart k self.old (exprs_parts exprs)
+            → Made k self.new (expr_part id) (trees.seq_of (expr_trees (tree_at self.old) exprs))) }
+    {
+        let (first, last) = (exprs[0], exprs[exprs.len() - 1]);
+        if exprs.len() == 1 {
+            return Ok(first);
+        }
+        let span = Span::new(self.span(first).lo, self.span(last).hi);
+        Ok(ExprId(self.push(Node::Seq { span, exprs })?))
+    }
+
+    /// Expressions in parentheses as a list has them: what its items hold, one alone or a sequence.
+    pub fn seq_of_items(&mut self, items: Vec<ExprOrSpread<ExprId>>) -> Result<ExprId, AllocError>
+        requires some { 1 ≤ length items.items }
+        requires apart { Apart 0 self.old (args_parts items) }
+        ensures grows { Grows self.old self.new }
+        ensures made { IfOk result (λ id. (k : ℕ) → Apart k self.old (args_parts items)
+            → Made k self.new (expr_part id)
+            (trees.seq_of (trees.held_exprs (item_trees (λ e. tree_at self.old e.0) items.items)))) }
+    {
+        let exprs = held_exprs(self.allocator(), &items)?;
+        self.seq_expr(exprs)
+    }
+
     /// `#` and a name (ECMA-262, 13.10.1), from the `#` on.
     pub fn private_expr(&mut self, start: BytePos, name: IdentName) -> Result<ExprId, AllocError>
         ensures grows { Grows self.old self.new }
@@ -202,4 +603,15 @@ impl<F: Spanned + Drop, C: Spanned + Drop, K: Spanned + Drop> Nodes<F, C, K> {
     {
         Ok(PatId(self.push(Node::PatInvalid(Invalid { span }))?))
     }
+}
+
+/// The expressions that items hold, in their order.
+fn held_exprs(alloc: Global, items: &Vec<ExprOrSpread<ExprId>>) -> Result<Vec<ExprId>, AllocError>
+    ensures { IfOk result (λ exprs. exprs.items ≡ map (λ item. item.expr) items.now.items) }
+{
+    let mut exprs = Vec::new(alloc);
+    for item in items {
+        exprs.push(item.expr)?;
+    }
+    Ok(exprs)
 }

@@ -52,6 +52,11 @@ impl<F: Spanned + Drop, C: Spanned + Drop, K: Spanned + Drop> Nodes<F, C, K> {
         self.nodes.is_empty()
     }
 
+    /// What the nodes take their memory from.
+    pub(crate) fn allocator(&self) -> Global {
+        *self.nodes.allocator()
+    }
+
     /// Whether an expression has the number.
     pub fn has_expr(&self, id: ExprId) -> bool
         ensures has { result ≡ true → From 0 self.now (expr_part id) }

@@ -1,10 +1,12 @@
 // Where a node stands, and what form it has.
 ghost use Rattle.std.specs.Prelude.{◌≡◌, not, true, MatchOption};
+ghost use Rattle.swc_ast.specs.Targets as targets;
 ghost use Rattle.swc_ast.specs.Tree.{span_of};
 ghost use Rattle.swc_grammar.specs.Clean.{left_ok};
 ghost use Rattle.swc_grammar.specs.Trees as trees;
 ghost use Rattle.swc_nodes.specs.Lists.{has_cover};
-ghost use Rattle.swc_nodes.specs.Slots.{expr_part, pat_part};
+ghost use Rattle.swc_nodes.specs.Slots.{expr_part, pat_part, target_part};
+ghost use Rattle.swc_nodes.specs.declared.node.TargetNode.TheVariants as target;
 ghost use Rattle.swc_nodes.specs.Stands.{tree_at, From};
 
 use crate::node::{ExprId, Node, PatId, PropNode};
@@ -76,6 +78,61 @@ impl<F: Spanned + Drop, C: Spanned + Drop, K: Spanned + Drop> Nodes<F, C, K> {
         ensures { result ≡ trees.is_unary (tree_at self.now id.0) }
     {
         matches!(self.get(id.0), Node::Unary { .. } | Node::Await { .. })
+    }
+
+    /// Whether the expression is a member or a call of an optional chain (ECMA-262, 13.3.9).
+    pub fn is_opt_chain(&self, id: ExprId) -> bool
+        requires { From 0 self.now (expr_part id) }
+        ensures { result ≡ trees.is_chain (tree_at self.now id.0) }
+    {
+        matches!(self.get(id.0), Node::OptChain(_))
+    }
+
+    /// Whether the expression is an operation, which no operator that writes follows: one of a binary operator, of a
+    /// prefix operator, or of `++` or `--`.
+    pub fn is_operation(&self, id: ExprId) -> bool
+        requires { From 0 self.now (expr_part id) }
+        ensures { result ≡ trees.is_operation (tree_at self.now id.0) }
+    {
+        matches!(
+            self.get(id.0),
+            Node::Bin { .. } | Node::Unary { .. } | Node::Update { .. }
+        )
+    }
+
+    /// Whether the expression may stand left of an operator that writes, and is no pattern (ECMA-262, 8.6.4); in strict
+    /// code or not. That may what `is_valid_simple_assignment_target` of swc_ast says of trees in boxes.
+    pub fn is_simple_target(&self, id: ExprId, strict: bool) -> bool
+        requires { From 0 self.now (expr_part id) }
+        ensures { result ≡ targets.is_target strict (tree_at self.now id.0) }
+    {
+        let mut expr = id;
+        loop {
+            expr = match self.get(expr.0) {
+                Node::Ident(ident) => return !(strict && ident.sym.is_reserved_in_strict_bind()),
+                Node::Paren(paren) => paren.expr,
+                Node::Member(member) if self.is_member(member.obj) => member.obj,
+                Node::Member(member) => return !self.is_opt_chain(member.obj),
+                Node::SuperProp(_) => return true,
+                _ => return false,
+            };
+        }
+    }
+
+    /// Whether the expression is an array or an object literal, which may be assigned to as a pattern, and not as it stands.
+    pub fn is_array_or_object(&self, id: ExprId) -> bool
+        requires { From 0 self.now (expr_part id) }
+        ensures { result ≡ true → From 0 self.now (target_part (target.Simple id)) → ⊥ }
+    {
+        matches!(self.get(id.0), Node::Array { .. } | Node::Object { .. })
+    }
+
+    /// Whether the expression is a member, of no optional chain.
+    pub fn is_member(&self, id: ExprId) -> bool
+        requires { From 0 self.now (expr_part id) }
+        ensures { result ≡ targets.is_member (tree_at self.now id.0) }
+    {
+        matches!(self.get(id.0), Node::Member(_))
     }
 
     /// Whether the expression is one of `||` or `&&`.

@@ -8,7 +8,7 @@ use Rattle.swc_input.specs.declared.token.TokenAndSpan.{TokenAndSpan}
 use Rattle.swc_input.specs.Plain.{plain, plain_token}
 use Rattle.swc_input.specs.Source.{Model, Laws, given_one}
 use Rattle.swc_input.specs.Buffer.{Still, Peeked, Future, current, held}
-use Rattle.swc_input.specs.Laws.{Read-then, Future-before, Known-after}
+use Rattle.swc_input.specs.Laws.{Read-same, Read-then, Future-before, Known-after}
 use Rattle.swc_bodies.specs.Readings.{is_function, is_function_here}
 use Rattle.swc_grammar.specs.Clean.{first}
 use Rattle.swc_grammar.specs.Words.{rest}
@@ -113,3 +113,53 @@ module _ {S : Type 0} {model : Model S} (laws : Laws model) where
       → Told model (λ ts. is_function_here (rest ts)) (not r) b d
   tells_function {c = c} {a = a} e p q some m r break =
       let k = answer_some c.next a true e m in function_behind p q some k.0 k.1 k.2 r break
+
+-- what a look behind the current token answers, by a test of the token there
+pub behind_some : {V : Type 0} (f : Option TokenAndSpan → V)
+    → ((t : TokenAndSpan) → f (Some (plain t)) ≡ f (Some t)) → (o : Option TokenAndSpan) (a : Option V) (v : V)
+    → a ≡ Some v → MatchOption o (a ≡ None) (λ t. a ≡ Some (f (Some t))) → (IsSome o) × (f (seen_of o) ≡ v)
+behind_some f same None a v e m = cc
+behind_some f same (Some t) a v e m = (refl, same t ∙ cc)
+
+pub behind_none : {V : Type 0} (f : Option TokenAndSpan → V) (o : Option TokenAndSpan) (a : Option V) → a ≡ None
+    → MatchOption o (a ≡ None) (λ t. a ≡ Some (f (Some t))) → o ≡ None
+behind_none f None a e m = refl
+behind_none f (Some t) a e m = cc
+
+true_false : {P : Type 0} → true ≡ false → P
+true_false e = absurd cc
+
+module _ {S : Type 0} {model : Model S} (laws : Laws model) where
+  -- told by the current token
+  pub told_here : {V : Type 0} {test : List TokenAndSpan → V} (b : Buffer S) (v : V)
+      → ((ts : List TokenAndSpan) → first ts ≡ seen_of b.cur → test ts ≡ v) → Told model test v b b
+  told_here b v h = record {
+    laws = laws;
+    still = record { read = Read-same laws b; previous = refl; quiet = λ m k. (refl, refl) };
+    current = refl;
+    lives = λ f. f;
+    told = λ ts fut here. h ts here;
+  }
+
+  -- by the one behind it, or that there is none
+  pub told_behind : {V : Type 0} (f : Option TokenAndSpan → V) {b c : Buffer S} (v : V) → Peeked model b c
+      → IsSome (current b) → IsSome c.next → f (seen_of c.next) ≡ v
+      → Told model (λ ts. f (first (rest ts))) v b c
+  told_behind f v p some next e = record {
+    laws = laws;
+    still = p.look;
+    current = p.current;
+    lives = p.lives next;
+    told = λ ts fut here. ap f (peeked_first laws p some (λ none. is_some_none next none) ts fut) ∙ e;
+  }
+
+  pub told_alone : {V : Type 0} (f : Option TokenAndSpan → V) {b c : Buffer S} (v : V) → Peeked model b c
+      → IsSome (current b) → c.next ≡ None → (model.state c.iter).failed ≡ false → f None ≡ v
+      → Told model (λ ts. f (first (rest ts))) v b c
+  told_alone f v p some none runs e = record {
+    laws = laws;
+    still = p.look;
+    current = p.current;
+    lives = λ g. absurd (true_false (sym g ∙ runs));
+    told = λ ts fut here. ap f (peeked_first laws p some (λ n. runs) ts fut ∙ ap seen_of none) ∙ e;
+  }

@@ -1,15 +1,16 @@
 -- Nodes that were made, and numbers that are held.
-use Rattle.std.proofs.Common.{◌≡◌, ℕ, ◌≤◌, List, Result, Ok, Err, IfOk, ap, subst, arith}
+use Rattle.std.proofs.Common.{◌≡◌, ℕ, ◌≤◌, ◌∷◌, ◌++◌, List, Result, Ok, Err, IfOk, ap, subst, arith}
 use Rattle.std.specs.declared.alloc.AllocError.{AllocError}
 use Rattle.swc_context.specs.declared.error.Error.{Error}
 use Rattle.swc_ast.specs.Tree.{Tree}
 use Rattle.swc_ast.specs.declared.spanned.Spanned.{Ghosts}
-use Rattle.swc_nodes.specs.Slots.{Part, expr_part}
-use Rattle.swc_nodes.specs.Stands.{count, seat_at, Apart, From, Grows, Made}
+use Rattle.swc_nodes.specs.Slots.{Part, expr_part, one_expr}
+use Rattle.swc_nodes.specs.Stands.{count, seat_at, first_at, Apart, From, Grows, Made}
 use Rattle.swc_nodes.specs.declared.node.ExprId.{ExprId}
 use Rattle.swc_nodes.specs.declared.nodes.Nodes.{Nodes}
-use Rattle.swc_nodes.proofs.Chains.{chain-down}
-use Rattle.swc_nodes.proofs.Held.{from-down}
+use Rattle.swc_nodes.proofs.Chains.{both_true, fitting, chain-cons, chain-down}
+use Rattle.swc_nodes.proofs.Held.{apart-from, from-down, from_self}
+use Rattle.swc_nodes.proofs.Lists.{apart-more}
 use Rattle.swc_nodes.proofs.Standing.{grows-none}
 use Rattle.swc_productions.specs.Parsing.{tree_of}
 
@@ -35,6 +36,25 @@ module _ {F C K : Type 0} {fg : Ghosts F} {cg : Ghosts C} {kg : Ghosts K} where
 
   pub apart-down : {ns : Nodes F C K fg cg kg} {k : ℕ} (ps : List Part) → Apart k ns ps → Apart 0 ns ps
   apart-down {ns} {k} ps a = record { chained = chain-down (seat_at ns) k 0 ps (count ns) (omega arith) a.chained }
+
+  pub apart-lower : {ns : Nodes F C K fg cg kg} {k j : ℕ} (ps : List Part) → k ≤ j → Apart j ns ps → Apart k ns ps
+  apart-lower {ns} {k} {j} ps h a = record { chained = chain-down (seat_at ns) j k ps (count ns) h a.chained }
+
+  -- parts are reached from the number that the first of them begins with
+  pub apart-first : {ns : Nodes F C K fg cg kg} {k : ℕ} (p : Part) (ps : List Part) → Apart k ns (p ∷ ps)
+      → Apart (first_at ns p.at) ns (p ∷ ps)
+  apart-first {ns} {k} p ps a =
+      let b = both_true a.chained in
+      let f = fitting (seat_at ns) k p b.0 in
+      record {
+        chained = chain-cons (seat_at ns) (first_at ns p.at) p ps (count ns)
+            (record { above = omega arith; first = f.first; view = f.view }) b.1;
+      }
+
+  -- an expression, and parts that were read behind it
+  pub apart_behind : {ns ms : Nodes F C K fg cg kg} {k : ℕ} {e : ExprId} {ps : List Part} → Grows ns ms
+      → From k ns (expr_part e) → Apart (count ns) ms ps → Apart (first_at ns e.0) ms (one_expr e ++ ps)
+  apart_behind {e = e} g f a = apart-more g (apart-from (expr_part e) (from_self f)) a
 
   -- ---- numbers that are held
 

@@ -13,7 +13,7 @@ use Rattle.swc_input.specs.Laws.{held_some}
 use Rattle.swc_input.specs.Kinds.{at_token}
 use Rattle.swc_bodies.specs.Readings.{Reading, Hooked, Faithful, at_function}
 use Rattle.swc_grammar.specs.Clean.{Out}
-use Rattle.swc_productions.specs.Parsing.{Loud, recorded, Parses}
+use Rattle.swc_productions.specs.Parsing.{Loud, recorded, by_hook, Parses}
 
 no_more : {A : Type 0} (more : List A) → length more ≡ 0 → more ≡ []
 no_more [] h = refl
@@ -54,14 +54,14 @@ module _ {S V : Type 0} (model : Model S) (laws : Laws model) (reads : Reading V
 
   -- called where a token is current, it reads what its reading gives
   pub hook_parses : {c : Buffer S} → IsSome (current b) → (r : Result V Error) → Hooked model reads b r c
-      → (sure ≡ true → Faithful model reads b r c) → Parses model sure (λ v. v) reads b r c
+      → (sure ≡ true → Faithful model reads b r c) → Parses model sure (λ v. v) (by_hook reads) b r c
   hook_parses {c = c} here (Ok v) h f = record {
     on = record {
       leads = record { laws = laws; taken = h.taken; read = h.read; lives = h.lives };
       clean = λ l s ys fut. h.clean l (same_faults h.read.errors s) ys fut;
       faulty = λ y l lt ts k. none_faulty c v (f y) l lt ts k;
     };
-    some = h.some;
+    onward = record { some = h.some; less = h.less };
   }
   hook_parses {c = c} here (Err x) h f = record {
     refuses = record {

@@ -1,7 +1,6 @@
 -- The clean parser's steps in properties that have a key, methods among them, as the code goes them.
 use Rattle.std.specs.Prelude.{◌≡◌, ℕ, ◌++◌, Bool, true, false, List, [], ◌∷◌, Option, Some, None}
 use Rattle.std.proofs.Common.{refl, sym, ap, subst, ◌∙◌}
-use Rattle.swc_context.specs.declared.context.Context.{Context}
 use Rattle.swc_context.specs.declared.span.Span.{Span}
 use Rattle.swc_input.specs.declared.token.Token.{Token}
 use Rattle.swc_input.specs.declared.token.Token.TheVariants as token
@@ -16,6 +15,7 @@ use Rattle.swc_ast.specs.declared.prop.PropName.{PropName}
 use Rattle.swc_ast.specs.declared.prop.PropName.TheVariants as prop_name
 use Rattle.swc_ast.specs.declared.spanned.Spanned.{Ghosts}
 use Rattle.swc_bodies.specs.Readings.{Hook, is_async}
+use Rattle.swc_grammar.specs.Scope.{Scope}
 use Rattle.swc_grammar.specs.Symbols.{Assign, Key, AfterKey as Behind, Shell}
 use Rattle.swc_grammar.specs.Tokens.{tk, with_in, is_colon, is_get, is_star}
 use Rattle.swc_grammar.specs.Trees.{to, value_e, prop_of, method_e, getter_e}
@@ -52,7 +52,7 @@ use Rattle.swc_productions.proofs.Steps.{heard_answer, heard_none}
 module _ {F C K : Type 0} (hook : Hook F C K) where
   -- ---- a key, and what stands behind it (13.2.5)
 
-  pub key_splits : (x : Context) (ts : List TokenAndSpan)
+  pub key_splits : (x : Scope) (ts : List TokenAndSpan)
       → by_production hook (λ c. prop-key) x ts ≡ (run hook (at Key) x ts >>= (λ p. behind_key hook p.0 x p.1))
   unfolding by_production reading behind_key
   key_splits x ts =
@@ -60,12 +60,12 @@ module _ {F C K : Type 0} (hook : Hook F C K) where
       (λ k us. run hook (at Behind) x us >>= (λ p. Some (prop_of k p.0, p.1)))
       (λ k us. calls (run hook (at Behind) x us) _)
 
-  pub behind_key_splits : (k : Tree F C K) (x : Context) (ts : List TokenAndSpan)
+  pub behind_key_splits : (k : Tree F C K) (x : Scope) (ts : List TokenAndSpan)
       → behind_key hook k x ts ≡ (run hook (at Behind) x ts >>= (λ p. Some (prop_of k p.0, p.1)))
   unfolding behind_key
   behind_key_splits k x ts = refl
 
-  after_token : (x : Context) (v : Token) (b : Bool) (s : Span) (us : List TokenAndSpan)
+  after_token : (x : Scope) (v : Token) (b : Bool) (s : Span) (us : List TokenAndSpan)
       → run hook (at Behind) x (tk v b s ∷ us)
       ≡ (eaten is_colon x (tk v b s ∷ us) >>= (λ p. after_by hook p.0 x p.1))
   unfolding eaten after_colon inside
@@ -74,13 +74,13 @@ module _ {F C K : Type 0} (hook : Hook F C K) where
   after_token x v b s us =
       knot hook (at Behind) x (tk v b s ∷ us) ∙ last hook (Some 3) (at (Shell false false)) x (tk v b s ∷ us) refl
 
-  pub after_splits : (x : Context) (ts : List TokenAndSpan)
+  pub after_splits : (x : Scope) (ts : List TokenAndSpan)
       → run hook (at Behind) x ts ≡ (eaten is_colon x ts >>= (λ p. after_by hook p.0 x p.1))
   unfolding eaten
   after_splits x [] = knot hook (at Behind) x [] ∙ last hook (Some 3) (at (Shell false false)) x [] refl
   after_splits x (t ∷ ts) = after_token x t.token t.had_line_break t.span ts
 
-  pub after_colon_splits : (x : Context) (ts : List TokenAndSpan)
+  pub after_colon_splits : (x : Scope) (ts : List TokenAndSpan)
       → after_colon hook x ts ≡ (inside hook x ts >>= (λ p. Some (value_e (span_of p.0) p.0, p.1)))
   unfolding after_colon
   after_colon_splits x ts = refl
@@ -88,7 +88,7 @@ module _ {F C K : Type 0} (hook : Hook F C K) where
   -- ---- methods (15.4)
 
   -- a key, and behind it the function of a method of a kind that is read
-  method_is : (m : MethodKind) → of_setter m ≡ false → (s : Span) (x : Context) (us : List TokenAndSpan)
+  method_is : (m : MethodKind) → of_setter m ≡ false → (s : Span) (x : Scope) (us : List TokenAndSpan)
       → and_then (run hook (at Key) x us)
       (λ k vs. and_then (run hook (at (Shell (of_async m) (of_generator m))) x vs)
       (λ f ws. Some (method_tree m s k f, ws)))
@@ -101,34 +101,34 @@ module _ {F C K : Type 0} (hook : Hook F C K) where
       (λ k vs. calls (run hook (at (Shell (of_async m) (of_generator m))) x vs) _))
 
   -- a sign, and what is read behind it
-  behind_sign : {A : Type 0} (f : Token → Bool) (x : Context) (ts : List TokenAndSpan)
+  behind_sign : {A : Type 0} (f : Token → Bool) (x : Scope) (ts : List TokenAndSpan)
       (k h : Span → List TokenAndSpan → Out A) → ((s : Span) (us : List TokenAndSpan) → k s us ≡ h s us)
       → token_then f ts k ≡ (expected f x ts >>= (λ p. h p.0 p.1))
   behind_sign f x ts k h same =
       then_token f x ts k ∙ bind_same (expected f x ts) _ _ (λ p. same p.0 p.1)
 
-  pub generator_splits : (x : Context) (ts : List TokenAndSpan)
+  pub generator_splits : (x : Scope) (ts : List TokenAndSpan)
       → by_production hook (λ c. prop-generator) x ts
       ≡ (modifiers kind.Generator x ts >>= (λ p. method_tail hook kind.Generator p.0 x p.1))
   unfolding by_production reading
   generator_splits x [] = behind_sign is_star x [] _ _ (λ s us. method_is kind.Generator refl s x us)
   generator_splits x (t ∷ ts) = behind_sign is_star x (t ∷ ts) _ _ (λ s us. method_is kind.Generator refl s x us)
 
-  pub async_splits : (x : Context) (ts : List TokenAndSpan)
+  pub async_splits : (x : Scope) (ts : List TokenAndSpan)
       → by_production hook (λ c. prop-async) x ts
       ≡ (modifiers kind.Async x ts >>= (λ p. method_tail hook kind.Async p.0 x p.1))
   unfolding by_production reading
   async_splits x [] = behind_sign is_async x [] _ _ (λ s us. method_is kind.Async refl s x us)
   async_splits x (t ∷ ts) = behind_sign is_async x (t ∷ ts) _ _ (λ s us. method_is kind.Async refl s x us)
 
-  star_is : (s : Span) (x : Context) (us : List TokenAndSpan)
+  star_is : (s : Span) (x : Scope) (us : List TokenAndSpan)
       → token_then is_star us (λ s' vs. and_then (run hook (at Key) x vs)
       (λ k ws. and_then (run hook (at (Shell true true)) x ws) (λ f zs. Some (method_e (to s (span_of f)) k f, zs))))
       ≡ (expected is_star x us >>= (λ q. method_tail hook kind.AsyncGenerator s x q.1))
   star_is s x us = behind_sign is_star x us _ _ (λ s' vs. method_is kind.AsyncGenerator refl s x vs)
 
   -- `async` and the star are one reading
-  async_star_then : (x : Context) (ts : List TokenAndSpan)
+  async_star_then : (x : Scope) (ts : List TokenAndSpan)
       → (expected is_async x ts
       >>= (λ p. expected is_star x p.1 >>= (λ q. method_tail hook kind.AsyncGenerator p.0 x q.1)))
       ≡ (async_star x ts >>= (λ r. method_tail hook kind.AsyncGenerator r.0 x r.1))
@@ -139,7 +139,7 @@ module _ {F C K : Type 0} (hook : Hook F C K) where
       ∙ binds (expected is_async x ts) (λ p. expected is_star x p.1 >>= (λ q. Some (p.0, q.1)))
       (λ r. method_tail hook kind.AsyncGenerator r.0 x r.1)
 
-  pub async_generator_splits : (x : Context) (ts : List TokenAndSpan)
+  pub async_generator_splits : (x : Scope) (ts : List TokenAndSpan)
       → by_production hook (λ c. prop-async-generator) x ts
       ≡ (modifiers kind.AsyncGenerator x ts >>= (λ p. method_tail hook kind.AsyncGenerator p.0 x p.1))
   unfolding by_production reading
@@ -149,7 +149,7 @@ module _ {F C K : Type 0} (hook : Hook F C K) where
   async_generator_splits x (t ∷ (u ∷ ts)) =
       behind_sign is_async x (t ∷ (u ∷ ts)) _ _ (λ s us. star_is s x us) ∙ async_star_then x (t ∷ (u ∷ ts))
 
-  pub getter_splits : (x : Context) (ts : List TokenAndSpan)
+  pub getter_splits : (x : Scope) (ts : List TokenAndSpan)
       → by_production hook (λ c. prop-getter) x ts
       ≡ (modifiers kind.Getter x ts >>= (λ p. method_tail hook kind.Getter p.0 x p.1))
   unfolding by_production reading
@@ -157,31 +157,31 @@ module _ {F C K : Type 0} (hook : Hook F C K) where
   getter_splits x (t ∷ ts) = behind_sign is_get x (t ∷ ts) _ _ (λ s us. method_is kind.Getter refl s x us)
 
   -- the function of a method, of a setter and of others
-  pub function_setter : (m : MethodKind) (x : Context) (ts : List TokenAndSpan) → of_setter m ≡ true
+  pub function_setter : (m : MethodKind) (x : Scope) (ts : List TokenAndSpan) → of_setter m ≡ true
       → method_function hook m x ts ≡ None
   function_setter m x ts h = rw h refl
 
-  pub function_other : (m : MethodKind) (is_async is_generator : Bool) (x : Context) (ts : List TokenAndSpan)
+  pub function_other : (m : MethodKind) (is_async is_generator : Bool) (x : Scope) (ts : List TokenAndSpan)
       → of_setter m ≡ false → is_async ≡ of_async m → is_generator ≡ of_generator m
       → method_function hook m x ts ≡ run hook (at (Shell is_async is_generator)) x ts
   function_other m is_async is_generator x ts h a b = rw (h, a, b) refl
 
   -- a setter is never read
-  pub setter_not : (s : Span) (x : Context) (ts : List TokenAndSpan) → method_tail hook kind.Setter s x ts ≡ None
+  pub setter_not : (s : Span) (x : Scope) (ts : List TokenAndSpan) → method_tail hook kind.Setter s x ts ≡ None
   unfolding method_tail method_close
   setter_not s x ts = bind_none (run hook (at Key) x ts) _ (λ p. refl)
 
-  pub method_tail_splits : (m : MethodKind) (s : Span) (x : Context) (ts : List TokenAndSpan)
+  pub method_tail_splits : (m : MethodKind) (s : Span) (x : Scope) (ts : List TokenAndSpan)
       → method_tail hook m s x ts ≡ (run hook (at Key) x ts >>= (λ p. method_close hook m s p.0 x p.1))
   unfolding method_tail
   method_tail_splits m s x ts = refl
 
-  pub method_close_splits : (m : MethodKind) (s : Span) (k : Tree F C K) (x : Context) (ts : List TokenAndSpan)
+  pub method_close_splits : (m : MethodKind) (s : Span) (k : Tree F C K) (x : Scope) (ts : List TokenAndSpan)
       → method_close hook m s k x ts ≡ (method_function hook m x ts >>= (λ p. Some (method_tree m s k p.0, p.1)))
   unfolding method_close
   method_close_splits m s k x ts = refl
 
-pub async_star_splits : (x : Context) (ts : List TokenAndSpan)
+pub async_star_splits : (x : Scope) (ts : List TokenAndSpan)
     → async_star x ts ≡ (expected is_async x ts >>= (λ p. expected is_star x p.1 >>= (λ q. Some (p.0, q.1))))
 unfolding async_star
 async_star_splits x ts = refl

@@ -21,14 +21,15 @@ use Rattle.swc_input.specs.Buffer.{Read, Lives, Looked, current, source, to_come
 use Rattle.swc_input.specs.Laws.{held_some, Looked-served, Read-same, Recorded-read}
 use Rattle.swc_input.specs.Recording.{is_fit, is_silent, error_list, error_here, Recorded, Refused}
 use Rattle.swc_input.specs.Kinds.{at_token}
+use Rattle.swc_grammar.specs.Scope.{Scope}
 use Rattle.swc_grammar.specs.Names.{Spelling, spelling, spelled}
 use Rattle.swc_grammar.specs.Tokens.{is_reference, is_put_off, ref_ok}
 use Rattle.swc_grammar.specs.Clean.{Out, first, is_identifier, no_error}
 use Rattle.swc_grammar.specs.Words.{rest, one, word_by, word}
 use Rattle.swc_ident.specs.Naming.{Judges, fault_at, place_here, Notes, none-noted, now-silent, now-recorded, later-ignored, later-noted, Passed, Spoken, Named, Unnamed, no_memory, not_fit, no_word, refused_word, Names}
 use Rattle.swc_ident.specs.Verdicts.{Fault, Verdict, now, in_modules, is_word, taken, taken_with, unless, name_of_any, ident_verdict, reference_verdict, binding_verdict, binding_faults, and_then}
-use Rattle.swc_productions.specs.Parsing.{seen, seen_of, recorded, Leads, Here, On, Heard, Unheard, Parses}
-use Rattle.swc_productions.proofs.Steps.{Reader, here, parses_after, on_took, leads_then, refuses_later, refused, required, on_seen, on_then, heard_after, heard_first, unheard_after, unheard_at, unheard_memory, unheard_unfit, lower, on_looked, looked_again}
+use Rattle.swc_productions.specs.Parsing.{seen, seen_of, scope, recorded, Leads, Here, On, Heard, Unheard, Parses}
+use Rattle.swc_productions.proofs.Steps.{Reader, here, read_scope, parses_after, on_took, leads_then, refuses_later, refused, required, on_seen, on_then, heard_after, heard_first, unheard_after, unheard_at, unheard_memory, unheard_unfit, lower, on_looked, looked_again}
 use Rattle.swc_productions.proofs.Words.{none_counts, is_taken, is_clean, reference-table}
 
 -- a call never refuses a word as the parser's own failure
@@ -41,7 +42,7 @@ word_of judge = word (λ c w. is_clean c (judge c w))
 
 -- a word that was read
 abbrev told : Judges → Word → Spelling → Reader Spelling
-told judge w n x ts = if is_clean x (judge x w) then Some (n, ts) else None
+told judge w n x ts = if is_clean x.context (judge x.context w) then Some (n, ts) else None
 
 or_false : (a b : Bool) → (a || b) ≡ false → a ≡ false
 or_false true b h = cc
@@ -67,17 +68,17 @@ none_spelled : (ok : Word → Bool) (t : Token) (s : Span) (us : List TokenAndSp
 none_spelled ok (token.Word w) s us h = cc
 none_spelled ok t s us h = refl
 
-none_seen : (ok : Context → Word → Bool) (c : Context) (o : Option TokenAndSpan) (us : List TokenAndSpan) → at_token is_word o ≡ false → word_by ok c (seen_of o) us ≡ None
+none_seen : (ok : Context → Word → Bool) (c : Scope) (o : Option TokenAndSpan) (us : List TokenAndSpan) → at_token is_word o ≡ false → word_by ok c (seen_of o) us ≡ None
 none_seen ok c None us h = refl
-none_seen ok c (Some t) us h = none_spelled (ok c) t.token t.span us h
+none_seen ok c (Some t) us h = none_spelled (ok c.context) t.token t.span us h
 
 error_spelled : (ok : Word → Bool) (t : Token) (s : Span) (us : List TokenAndSpan) → no_error t ≡ false → one (spelled ok t s) us ≡ None
 error_spelled ok (token.Error e) s us h = refl
 error_spelled ok t s us h = cc
 
-error_first : (ok : Context → Word → Bool) (c : Context) (o : Option TokenAndSpan) (us : List TokenAndSpan) → at_token no_error o ≡ false → word_by ok c o us ≡ None
+error_first : (ok : Context → Word → Bool) (c : Scope) (o : Option TokenAndSpan) (us : List TokenAndSpan) → at_token no_error o ≡ false → word_by ok c o us ≡ None
 error_first ok c None us h = refl
-error_first ok c (Some t) us h = error_spelled (ok c) t.token t.span us h
+error_first ok c (Some t) us h = error_spelled (ok c.context) t.token t.span us h
 
 is_there : (o : Option TokenAndSpan) → o ≢ None → IsSome o
 is_there None h = absurd (h refl)
@@ -88,12 +89,13 @@ fit_some None h e = cc
 fit_some (Some t) h e = cc
 
 -- a word is read so
-takes_word : (judge : Judges) (x : Context) (w : Word) (t : Token) (s at : Span) (text : List ℕ) (ts : List TokenAndSpan) → token.Word w ≡ t → at ≡ s → text ≡ word_text w →
-    one (spelled (λ v. is_clean x (judge x v)) (plain_token t) s) ts ≡ told judge w (spelling text at) x ts
+takes_word : (judge : Judges) (x : Scope) (w : Word) (t : Token) (s at : Span) (text : List ℕ) (ts : List TokenAndSpan) → token.Word w ≡ t → at ≡ s → text ≡ word_text w →
+    one (spelled (λ v. is_clean x.context (judge x.context v)) (plain_token t) s) ts
+    ≡ told judge w (spelling text at) x ts
 takes_word judge x w t s at text ts e p q =
-    ap (λ v. one (spelled (λ v. is_clean x (judge x v)) (plain_token v) s) ts) (sym e)
-    ∙ ap (λ v. one (if is_clean x (judge x w) then Some v else None) ts) (ap (λ v. spelling v s) (sym q) ∙ ap (λ v. spelling text v) (sym p))
-    ∙ passed (is_clean x (judge x w)) (spelling text at) ts
+    ap (λ v. one (spelled (λ v. is_clean x.context (judge x.context v)) (plain_token v) s) ts) (sym e)
+    ∙ ap (λ v. one (if is_clean x.context (judge x.context w) then Some v else None) ts) (ap (λ v. spelling v s) (sym q) ∙ ap (λ v. spelling text v) (sym p))
+    ∙ passed (is_clean x.context (judge x.context w)) (spelling text at) ts
 
 -- the context of the call is that of the fault
 clean_is : (judge : Judges) (x c : Context) (w : Word) → x ≡ c → (judge c w).refusal ≡ None → is_clean x (judge x w) ≡ none_counts x.module (judge c w).faults
@@ -153,11 +155,11 @@ ref_word : (x : Context) (t : Token) (s : Span) (ts : List TokenAndSpan) → is_
 ref_word x (token.Word w) s ts h = ap (λ b. one (if b then Some (spelling (word_text w) s) else None) ts) (sym (reference-table x w (first_of_both (is_reference x w) (not (is_put_off w)) h)))
 ref_word x t s ts h = cc
 
-ref_at : (x : Context) (o : Option TokenAndSpan) (ts : List TokenAndSpan) → at_token (is_identifier x) o ≡ true → word_by ref_ok x o ts ≡ word_by (λ c w. is_clean c (reference_verdict c w)) x o ts
+ref_at : (x : Scope) (o : Option TokenAndSpan) (ts : List TokenAndSpan) → at_token (is_identifier x.context) o ≡ true → word_by ref_ok x o ts ≡ word_by (λ c w. is_clean c (reference_verdict c w)) x o ts
 ref_at x None ts h = cc
-ref_at x (Some t) ts h = ref_word x t.token t.span ts h
+ref_at x (Some t) ts h = ref_word x.context t.token t.span ts h
 
-pub ref_same : (x : Context) (ts : List TokenAndSpan) → at_token (is_identifier x) (first ts) ≡ true → word ref_ok x ts ≡ word_of reference_verdict x ts
+pub ref_same : (x : Scope) (ts : List TokenAndSpan) → at_token (is_identifier x.context) (first ts) ≡ true → word ref_ok x ts ≡ word_of reference_verdict x ts
 unfolding word
 ref_same x ts h = ref_at x (first ts) (rest ts) h
 
@@ -186,12 +188,12 @@ module _ {S : Type 0} {model : Model S} {sure : Bool} where
   on_waiting : {A : Type 0} {f : Reader A} {b c : Buffer S} → Laws model → Read model b [] c → Lives model b c → recorded model c ≡ recorded model b → On model sure f f b c
   on_waiting {f = f} laws r lives same = record {
     leads = record { laws = laws; taken = []; read = r; lives = lives };
-    clean = λ e s ys fut. ap (λ x. f x ys) (sym r.context);
+    clean = λ e s ys fut. ap (λ x. f x ys) (sym (read_scope laws r));
     faulty = λ y e lt ts k. absurd (omega (arith, lt, same));
   }
 
   -- where a fault was recorded, f reads nothing
-  on_fault : {A : Type 0} {f g : Reader A} {b c : Buffer S} → Leads model b c → recorded model b < recorded model c → ((ts : List TokenAndSpan) → f (context model b) ts ≡ None) → On model sure f g b c
+  on_fault : {A : Type 0} {f g : Reader A} {b c : Buffer S} → Leads model b c → recorded model b < recorded model c → ((ts : List TokenAndSpan) → f (scope model b) ts ≡ None) → On model sure f g b c
   on_fault p more none = record {
     leads = p;
     clean = λ e s ys fut. absurd (omega (arith, s, more));
@@ -240,8 +242,8 @@ module _ {S : Type 0} {model : Model S} where
 module _ {S : Type 0} {model : Model S} {sure : Bool} where
   -- The faults were noted: where none counts g goes on, and else f reads nothing.
   pub on_notes : {A : Type 0} {f g : Reader A} {at : Span} {fs : List Fault} {b c : Buffer S} → Laws model → Notes model at fs b c →
-      ((ts : List TokenAndSpan) → none_counts (context model b).module fs ≡ true → f (context model b) ts ≡ g (context model b) ts) →
-      ((ts : List TokenAndSpan) → none_counts (context model b).module fs ≡ false → f (context model b) ts ≡ None) → On model sure f g b c
+      ((ts : List TokenAndSpan) → none_counts (context model b).module fs ≡ true → f (scope model b) ts ≡ g (scope model b) ts) →
+      ((ts : List TokenAndSpan) → none_counts (context model b).module fs ≡ false → f (scope model b) ts ≡ None) → On model sure f g b c
   on_notes {b = b} laws none-noted same none = record {
     leads = record { laws = laws; taken = []; read = Read-same laws b; lives = λ f. f };
     clean = λ l s ys fut. same ys refl;
@@ -267,11 +269,11 @@ module _ {S : Type 0} {model : Model S} {sure : Bool} where
             on_fault (leads_then p q) (omega (arith, added, sum, n, late)) (λ ts. none ts (ap (λ v. not v && none_counts v gs) e)))
         | false ↦ (λ e.
             let n = ap (λ v. length (recorded_in v (fault_at at k ∷ []))) e in
-            let on : Context → Type 0 = λ x. (ts : List TokenAndSpan) → none_counts x.module gs ≡ true → f x ts ≡ g x ts in
-            let off : Context → Type 0 = λ x. (ts : List TokenAndSpan) → none_counts x.module gs ≡ false → f x ts ≡ None in
+            let on : Scope → Type 0 = λ x. (ts : List TokenAndSpan) → none_counts x.context.module gs ≡ true → f x ts ≡ g x ts in
+            let off : Scope → Type 0 = λ x. (ts : List TokenAndSpan) → none_counts x.context.module gs ≡ false → f x ts ≡ None in
             let counts_same : none_counts (context model b).module (in_modules k ∷ gs) ≡ none_counts (context model b).module gs = ap (λ v. not v && none_counts (context model b).module gs) e in
             on_then (on_waiting {f = f} laws r lives (omega (arith, added, sum, n)))
-            (on_notes laws m (subst on (sym r.context) (λ ts h. same ts (counts_same ∙ h))) (subst off (sym r.context) (λ ts h. none ts (counts_same ∙ h)))))
+            (on_notes laws m (subst on (sym (read_scope laws r)) (λ ts h. same ts (counts_same ∙ h))) (subst off (sym (read_scope laws r)) (λ ts h. none ts (counts_same ∙ h)))))
       ] refl
 
   -- ---- words
@@ -326,9 +328,9 @@ module _ {S : Type 0} (model : Model S) (sure : Bool) where
       Parses model sure view (word ref_ok) b r c
   parses_ref view b c r laws h p =
       parses_after model sure view (word ref_ok) {b = b} {c = b} c r
-      (on_seen (here_same laws (at_some (is_identifier (context model b)) (current b) h)) (λ x ts same e. ref_same x ts (ap (λ v. at_token (is_identifier v) (first ts)) same ∙ ap (at_token (is_identifier (context model b))) e ∙ h))) p
+      (on_seen (here_same laws (at_some (is_identifier (context model b)) (current b) h)) (λ x ts same e. ref_same x ts (ap (λ v. at_token (is_identifier v.context) (first ts)) same ∙ ap (at_token (is_identifier (context model b))) e ∙ h))) p
 
   -- what is read leaves fewer tokens
   pub parses_lower : {T A : Type 0} (view : T → A) (f : Reader A) (b c : Buffer S) (r : Result T Error) → Parses model sure view f b r c → OnOk r (to_come model c < to_come model b)
-  parses_lower view f b c (Ok t) h = lower (record { leads = h.on.leads; some = h.some })
+  parses_lower view f b c (Ok t) h = lower (record { leads = h.on.leads; onward = h.onward })
   parses_lower view f b c (Err e) h = tt

@@ -2,7 +2,6 @@
 use Rattle.std.specs.Prelude.{◌≡◌, Bool, true, false, not, if◌then◌else◌, List, [], ◌∷◌, Option, Some, None}
 use Rattle.std.proofs.Common.{refl, sym, ap, ◌∙◌}
 use Rattle.swc_context.specs.Reserved.{is_reserved_word}
-use Rattle.swc_context.specs.declared.context.Context.{Context}
 use Rattle.swc_context.specs.declared.span.Span.{Span}
 use Rattle.swc_input.specs.declared.token.Token.{Token}
 use Rattle.swc_input.specs.declared.token.Token.TheVariants as token
@@ -10,6 +9,7 @@ use Rattle.swc_input.specs.declared.token.TokenAndSpan.{TokenAndSpan}
 use Rattle.swc_input.specs.Kinds.{at_token}
 use Rattle.swc_ast.specs.Tree.{Tree, Trees, nil, cons, span_of}
 use Rattle.swc_bodies.specs.Readings.{Hook, is_async, is_brace}
+use Rattle.swc_grammar.specs.Scope.{Scope}
 use Rattle.swc_grammar.specs.Symbols.{Assign, Primary, Props, PropsTail, Prop, Side}
 use Rattle.swc_grammar.specs.Tokens.{tk, with_in, is_dots, is_equals, is_get, is_set, is_question, is_rbrace, is_star}
 use Rattle.swc_grammar.specs.Tokens.{is_word, ends_prop, follows_key}
@@ -25,7 +25,7 @@ use Rattle.swc_grammar.specs.Words.{◌>>=◌, one, word}
 use Rattle.swc_grammar.proofs.Knot.{knot}
 use Rattle.swc_grammar.proofs.Only.{only-brace, only-rbrace}
 use Rattle.swc_grammar.proofs.Rules.{run_picked}
-use Rattle.swc_nodes.specs.Lists.{trees_append}
+use Rattle.swc_grammar.specs.Trees.{trees_append}
 use Rattle.swc_productions.specs.declared.kinds.MethodKind.{MethodKind}
 use Rattle.swc_productions.specs.declared.kinds.MethodKind.TheVariants as method
 use Rattle.swc_productions.specs.declared.kinds.Modifier.{Modifier}
@@ -35,8 +35,8 @@ use Rattle.swc_productions.specs.declared.kinds.PropKind.TheVariants as kind
 use Rattle.swc_productions.specs.Readers.{reading, by_production, inside}
 use Rattle.swc_productions.specs.Lists.{eaten, eaten_by, closed, separated, behind, put_before}
 use Rattle.swc_productions.specs.Properties.{object_lit_tail, prop_item, props_behind, props_more, props_by}
-use Rattle.swc_productions.specs.Properties.{spread_prop_tail, prop_plain, prop_by, open_by, open_name}
-use Rattle.swc_productions.specs.Properties.{cover_tail, cover_by, cover_behind}
+use Rattle.swc_productions.specs.Properties.{spread_prop_tail, open_by, open_name, cover_name, cover_node, cover_tail}
+use Rattle.swc_productions.specs.Keys.{expected, expected_by}
 use Rattle.swc_productions.specs.Properties.{modifier_of, by_modifier, word_kind, prop_kind}
 use Rattle.swc_productions.specs.Methods.{modifiers, method_tail}
 use Rattle.swc_productions.proofs.Keys.{bind_none}
@@ -44,17 +44,22 @@ use Rattle.swc_productions.proofs.Methods.{generator_splits, async_splits, async
 use Rattle.swc_productions.proofs.Steps.{not_true, not_false}
 use Rattle.swc_productions.proofs.Lists.{calls, binds, bind_same, twice, ended}
 
-pub open_name_splits : (x : Context) (ts : List TokenAndSpan) → open_name x ts ≡ (word may_name x ts >>= open_by x)
+pub open_name_splits : (x : Scope) (ts : List TokenAndSpan) → open_name x ts ≡ (word may_name x ts >>= open_by x)
 unfolding open_name
 open_name_splits x ts = refl
 
-pub open_by_well : (x : Context) (n : Spelling) (ts : List TokenAndSpan) → not (is_reserved_word x n.text) ≡ true
-    → open_by x (n, ts) ≡ Some (n, ts)
-open_by_well x n ts h = rw (not_true (is_reserved_word x n.text) h) refl
+pub cover_name_splits : (x : Scope) (ts : List TokenAndSpan)
+    → cover_name x ts ≡ (open_name x ts >>= (λ p. expected is_equals x p.1 >>= (λ q. Some (p.0, q.1))))
+unfolding cover_name
+cover_name_splits x ts = refl
 
-pub open_by_ill : (x : Context) (n : Spelling) (ts : List TokenAndSpan) → not (is_reserved_word x n.text) ≡ false
+pub open_by_well : (x : Scope) (n : Spelling) (ts : List TokenAndSpan) → not (is_reserved_word x.context n.text) ≡ true
+    → open_by x (n, ts) ≡ Some (n, ts)
+open_by_well x n ts h = rw (not_true (is_reserved_word x.context n.text) h) refl
+
+pub open_by_ill : (x : Scope) (n : Spelling) (ts : List TokenAndSpan) → not (is_reserved_word x.context n.text) ≡ false
     → open_by x (n, ts) ≡ None
-open_by_ill x n ts h = rw (not_false (is_reserved_word x n.text) h) refl
+open_by_ill x n ts h = rw (not_false (is_reserved_word x.context n.text) h) refl
 
 -- what is made of a choice
 chosen_by : {A B : Type 0} (f : A → B) (b : Bool) {x y : A} {v w : B} → f x ≡ v → f y ≡ w
@@ -62,7 +67,7 @@ chosen_by : {A B : Type 0} (f : A → B) (b : Bool) {x y : A} {v w : B} → f x 
 chosen_by f true p q = p
 chosen_by f false p q = q
 
-module _ {F C K : Type 0} {c : Context} where
+module _ {F C K : Type 0} {c : Scope} where
   -- which production each kind of property is
   abbrev method_choice : MethodKind → Choice F C K Prop c
   method_choice method.Generator = pick prop-generator
@@ -108,7 +113,7 @@ module _ {F C K : Type 0} {c : Context} where
 module _ {F C K : Type 0} (hook : Hook F C K) where
   -- ---- object literals
 
-  pub object_lit_picked : (x : Context) (ts : List TokenAndSpan) → at_token is_brace (first ts) ≡ true
+  pub object_lit_picked : (x : Scope) (ts : List TokenAndSpan) → at_token is_brace (first ts) ≡ true
       → run hook (at Primary) x ts ≡ by_production hook (λ c. object-lit) x ts
   unfolding by_production reading
   object_lit_picked x [] h = absurd cc
@@ -117,19 +122,19 @@ module _ {F C K : Type 0} (hook : Hook F C K) where
       (only-brace (λ v. primary {F = F} {C = C} {K = K} x (tk v t.had_line_break t.span ∷ ts)
       ≡ pick object-lit) refl t.token h)
 
-  pub object_lit_opens : (t : TokenAndSpan) (x : Context) (ts : List TokenAndSpan) → is_brace t.token ≡ true
+  pub object_lit_opens : (t : TokenAndSpan) (x : Scope) (ts : List TokenAndSpan) → is_brace t.token ≡ true
       → by_production hook (λ c. object-lit) x (t ∷ ts) ≡ object_lit_tail hook t.span x ts
   unfolding by_production object_lit_tail reading
   object_lit_opens t x ts h = rw h (calls (run hook (at Props) x ts) _)
 
-  pub object_lit_splits : (s : Span) (x : Context) (ts : List TokenAndSpan)
+  pub object_lit_splits : (s : Span) (x : Scope) (ts : List TokenAndSpan)
       → object_lit_tail hook s x ts
       ≡ (run hook (at Props) x ts >>= (λ p. Some (object_e (comma_of p.0) (to s (span_of p.0)) (items_of p.0), p.1)))
   unfolding object_lit_tail
   object_lit_splits s x ts = refl
 
   -- the brace closes the list
-  props_close : (x : Context) (t : TokenAndSpan) (ts : List TokenAndSpan) → is_rbrace t.token ≡ true
+  props_close : (x : Scope) (t : TokenAndSpan) (ts : List TokenAndSpan) → is_rbrace t.token ≡ true
       → run hook (at Props) x (t ∷ ts) ≡ Some (listed None t.span nil, ts)
   props_close x t ts h =
       knot hook (at Props) x (t ∷ ts)
@@ -138,10 +143,10 @@ module _ {F C K : Type 0} (hook : Hook F C K) where
       ≡ Some (listed None t.span nil, ts)) refl t.token h
 
   -- behind a property: what is left behind the comma that stands there, or where none does
-  abbrev tail_left : Context → Option Span × List TokenAndSpan → Out (Tree F C K)
+  abbrev tail_left : Scope → Option Span × List TokenAndSpan → Out (Tree F C K)
   tail_left x q = run hook (at Props) x q.1 >>= (λ p. Some (behind q.0 p.0, p.1))
 
-  tail_token : (x : Context) (v : Token) (b : Bool) (s : Span) (us : List TokenAndSpan)
+  tail_token : (x : Scope) (v : Token) (b : Bool) (s : Span) (us : List TokenAndSpan)
       → run hook (at PropsTail) x (tk v b s ∷ us)
       ≡ (separated is_rbrace x (tk v b s ∷ us) >>= tail_left x)
   unfolding separated closed eaten
@@ -152,18 +157,18 @@ module _ {F C K : Type 0} (hook : Hook F C K) where
       ∙ ap (λ o. o >>= (λ p. Some (behind None p.0, p.1))) (sym (props_close x (tk token.RBrace b s) us refl))
   tail_token x v b s us = knot hook (at PropsTail) x (tk v b s ∷ us)
 
-  tail_is : (x : Context) (us : List TokenAndSpan)
+  tail_is : (x : Scope) (us : List TokenAndSpan)
       → run hook (at PropsTail) x us ≡ (separated is_rbrace x us >>= tail_left x)
   unfolding separated closed eaten
   tail_is x [] = knot hook (at PropsTail) x []
   tail_is x (t ∷ us) = tail_token x t.token t.had_line_break t.span us
 
   -- behind a property and the comma that stands there, or none: the list from that property on
-  abbrev list_from : Context → (Tree F C K × Option Span) × List TokenAndSpan → Out (Tree F C K)
+  abbrev list_from : Scope → (Tree F C K × Option Span) × List TokenAndSpan → Out (Tree F C K)
   list_from x p = run hook (at Props) x p.1 >>= (λ q. Some (put_first p.0.0 (behind p.0.1 q.0), q.1))
 
   -- a property, and what stands behind it
-  item_more : (x : Context) (ts : List TokenAndSpan)
+  item_more : (x : Scope) (ts : List TokenAndSpan)
       → and_then (run hook (at Prop) x ts) (λ e us. and_then (run hook (at PropsTail) x us)
       (λ es vs. Some (put_first e es, vs)))
       ≡ (prop_item hook x ts >>= list_from x)
@@ -179,25 +184,25 @@ module _ {F C K : Type 0} (hook : Hook F C K) where
       ∙ binds (run hook (at Prop) x ts) _ _
 
   -- one property, and those that are left
-  props_step : (x : Context) (ts : List TokenAndSpan) → at_token is_rbrace (first ts) ≡ false
+  props_step : (x : Scope) (ts : List TokenAndSpan) → at_token is_rbrace (first ts) ≡ false
       → run hook (at Props) x ts
       ≡ (prop_item hook x ts >>= list_from x)
   props_step x ts h = knot hook (at Props) x ts ∙ rw h (item_more x ts)
 
-  pub prop_item_splits : (x : Context) (ts : List TokenAndSpan)
+  pub prop_item_splits : (x : Scope) (ts : List TokenAndSpan)
       → prop_item hook x ts
       ≡ (run hook (at Prop) x ts >>= (λ p. separated is_rbrace x p.1 >>= (λ q. Some ((p.0, q.0), q.1))))
   unfolding prop_item
   prop_item_splits x ts = refl
 
-  pub props_more_splits : (before : Trees F C K) (x : Context) (ts : List TokenAndSpan)
+  pub props_more_splits : (before : Trees F C K) (x : Scope) (ts : List TokenAndSpan)
       → props_more hook before x ts
       ≡ (prop_item hook x ts >>= (λ p. props_behind hook (trees_append before (cons p.0.0 nil)) p.0.1 x p.1))
   unfolding props_more
   props_more_splits before x ts = refl
 
   -- from a property on
-  behind_more : (before : Trees F C K) (comma : Option Span) (x : Context) (ts : List TokenAndSpan)
+  behind_more : (before : Trees F C K) (comma : Option Span) (x : Scope) (ts : List TokenAndSpan)
       → at_token is_rbrace (first ts) ≡ false
       → props_behind hook before comma x ts ≡ props_more hook before x ts
   unfolding props_behind props_more
@@ -209,7 +214,7 @@ module _ {F C K : Type 0} (hook : Hook F C K) where
       ∙ bind_same (run hook (at Props) x p.1) _ _ (λ q.
       ap (λ v. Some (v, q.1)) (twice before comma p.0.0 (behind p.0.1 q.0))))
 
-  behind_token : (before : Trees F C K) (comma : Option Span) (x : Context) (v : Token) (b : Bool) (s : Span)
+  behind_token : (before : Trees F C K) (comma : Option Span) (x : Scope) (v : Token) (b : Bool) (s : Span)
       (us : List TokenAndSpan)
       → props_behind hook before comma x (tk v b s ∷ us)
       ≡ (eaten is_rbrace x (tk v b s ∷ us) >>= (λ p. props_by hook before comma p.0 x p.1))
@@ -220,7 +225,7 @@ module _ {F C K : Type 0} (hook : Hook F C K) where
       ∙ ap (λ v. Some (v, us)) (ended before comma s)
   behind_token before comma x v b s us = behind_more before comma x (tk v b s ∷ us) refl
 
-  pub behind_splits : (before : Trees F C K) (comma : Option Span) (x : Context) (ts : List TokenAndSpan)
+  pub behind_splits : (before : Trees F C K) (comma : Option Span) (x : Scope) (ts : List TokenAndSpan)
       → props_behind hook before comma x ts
       ≡ (eaten is_rbrace x ts >>= (λ p. props_by hook before comma p.0 x p.1))
   unfolding eaten
@@ -228,7 +233,7 @@ module _ {F C K : Type 0} (hook : Hook F C K) where
   behind_splits before comma x (t ∷ ts) = behind_token before comma x t.token t.had_line_break t.span ts
 
   -- before the first property
-  first_more : (x : Context) (ts : List TokenAndSpan) → at_token is_rbrace (first ts) ≡ false
+  first_more : (x : Scope) (ts : List TokenAndSpan) → at_token is_rbrace (first ts) ≡ false
       → run hook (at Props) x ts ≡ props_behind hook nil None x ts
   unfolding props_behind
   first_more x ts h =
@@ -237,7 +242,7 @@ module _ {F C K : Type 0} (hook : Hook F C K) where
       ∙ binds (prop_item hook x ts) _ _
       ∙ ap (λ o. o >>= (λ p. Some (put_before nil p.0, p.1))) (sym (props_step x ts h))
 
-  first_token : (x : Context) (v : Token) (b : Bool) (s : Span) (us : List TokenAndSpan)
+  first_token : (x : Scope) (v : Token) (b : Bool) (s : Span) (us : List TokenAndSpan)
       → run hook (at Props) x (tk v b s ∷ us) ≡ props_behind hook nil None x (tk v b s ∷ us)
   unfolding props_behind
   first_token x token.RBrace b s us =
@@ -245,31 +250,17 @@ module _ {F C K : Type 0} (hook : Hook F C K) where
       e ∙ ap (λ o. o >>= (λ p. Some (put_before nil p.0, p.1))) (sym e)
   first_token x v b s us = first_more x (tk v b s ∷ us) refl
 
-  pub props_first : (x : Context) (ts : List TokenAndSpan)
+  pub props_first : (x : Scope) (ts : List TokenAndSpan)
       → run hook (at Props) x ts ≡ props_behind hook nil None x ts
   props_first x [] = first_more x [] refl
   props_first x (t ∷ ts) = first_token x t.token t.had_line_break t.span ts
 
   -- ---- properties
 
-  pub spread_prop_splits : (s : Span) (x : Context) (ts : List TokenAndSpan)
+  pub spread_prop_splits : (s : Span) (x : Scope) (ts : List TokenAndSpan)
       → spread_prop_tail hook s x ts ≡ (inside hook x ts >>= (λ p. Some (spread_prop_e s p.0, p.1)))
   unfolding spread_prop_tail
   spread_prop_splits s x ts = refl
-
-  prop_token : (x : Context) (v : Token) (b : Bool) (s : Span) (us : List TokenAndSpan)
-      → run hook (at Prop) x (tk v b s ∷ us)
-      ≡ (eaten is_dots x (tk v b s ∷ us) >>= (λ p. prop_by hook p.0 x p.1))
-  unfolding eaten spread_prop_tail prop_plain inside
-  prop_token x token.DotDotDot b s us =
-      knot hook (at Prop) x (tk token.DotDotDot b s ∷ us) ∙ calls (run hook (at Assign) (with_in x) us) _
-  prop_token x v b s us = refl
-
-  pub prop_splits : (x : Context) (ts : List TokenAndSpan)
-      → run hook (at Prop) x ts ≡ (eaten is_dots x ts >>= (λ p. prop_by hook p.0 x p.1))
-  unfolding eaten prop_plain
-  prop_splits x [] = refl
-  prop_splits x (t ∷ ts) = prop_token x t.token t.had_line_break t.span ts
 
   -- a name alone
   short_by : (r : Bool) (n : Spelling) (us : List TokenAndSpan)
@@ -278,14 +269,14 @@ module _ {F C K : Type 0} (hook : Hook F C K) where
   short_by true n us = refl
   short_by false n us = refl
 
-  short_one : (o : Option Spelling) (x : Context) (us : List TokenAndSpan)
+  short_one : (o : Option Spelling) (x : Scope) (us : List TokenAndSpan)
       → exec hook (run hook) None (plan (given o ▸
-      (λ n. must (not (is_reserved_word x n.text)) >> gives (short_e {F = F} {C = C} {K = K} n.at n.text)))) us
+      (λ n. must (not (is_reserved_word x.context n.text)) >> gives (short_e {F = F} {C = C} {K = K} n.at n.text)))) us
       ≡ ((one o us >>= open_by x) >>= (λ p. Some (short_e p.0.at p.0.text, p.1)))
   short_one None x us = refl
-  short_one (Some n) x us = short_by (is_reserved_word x n.text) n us
+  short_one (Some n) x us = short_by (is_reserved_word x.context n.text) n us
 
-  pub short_splits : (x : Context) (ts : List TokenAndSpan)
+  pub short_splits : (x : Scope) (ts : List TokenAndSpan)
       → by_production hook (λ c. prop-short) x ts
       ≡ (open_name x ts >>= (λ p. Some (short_e p.0.at p.0.text, p.1)))
   unfolding by_production reading open_name word
@@ -293,120 +284,112 @@ module _ {F C K : Type 0} (hook : Hook F C K) where
   short_splits x (t ∷ ts) = short_one (any_name x t.token t.span) x ts
 
   -- a name with `=` and an expression behind it
-  cover_sign : (b : Bool) (n : Spelling) (x : Context) (t : TokenAndSpan) (us : List TokenAndSpan)
+  cover_sign : (b : Bool) (n : Spelling) (x : Scope) (t : TokenAndSpan) (us : List TokenAndSpan)
       → (if b then and_then (run hook (at Assign) (with_in x) us)
       (λ e vs. Some (cover_e (to n.at (span_of e)) (ident_e n.at n.text) e, vs)) else None)
-      ≡ (eaten_by b (t ∷ us) >>= (λ p. cover_by hook n p.0 x p.1))
+      ≡ ((eaten_by b (t ∷ us) >>= (λ p. expected_by p.0 p.1)) >>= (λ q. cover_tail hook n x q.1))
   unfolding cover_tail inside
   cover_sign true n x t us = calls (run hook (at Assign) (with_in x) us) _
   cover_sign false n x t us = refl
 
-  cover_run : (n : Spelling) (x : Context) (us : List TokenAndSpan)
+  cover_run : (n : Spelling) (x : Scope) (us : List TokenAndSpan)
       → exec hook (run hook) None (plan (token_of is_equals >> (symbol Assign (with_in x) ▸
       (λ e. gives (cover_e {F = F} {C = C} {K = K} (to n.at (span_of e)) (ident_e n.at n.text) e))))) us
-      ≡ cover_behind hook n x us
-  unfolding cover_behind eaten
+      ≡ (expected is_equals x us >>= (λ q. cover_tail hook n x q.1))
+  unfolding expected eaten
   cover_run n x [] = refl
   cover_run n x (t ∷ us) = cover_sign (is_equals t.token) n x t us
 
-  cover_open : (r : Bool) (n : Spelling) (x : Context) (us : List TokenAndSpan)
-      → (if not r then cover_behind hook n x us else None)
-      ≡ ((if r then None else Some (n, us)) >>= (λ p. cover_behind hook p.0 x p.1))
+  cover_open : (r : Bool) (n : Spelling) (x : Scope) (us : List TokenAndSpan)
+      → (if not r then (expected is_equals x us >>= (λ q. cover_tail hook n x q.1)) else None)
+      ≡ ((if r then None else Some (n, us)) >>= (λ p. expected is_equals x p.1 >>= (λ q. cover_tail hook p.0 x q.1)))
   cover_open true n x us = refl
   cover_open false n x us = refl
 
-  cover_one : (o : Option Spelling) (x : Context) (us : List TokenAndSpan)
-      → exec hook (run hook) None (plan (given o ▸ (λ n. must (not (is_reserved_word x n.text)) >> (token_of is_equals >>
+  cover_one : (o : Option Spelling) (x : Scope) (us : List TokenAndSpan)
+      → exec hook (run hook) None (plan (given o ▸ (λ n. must (not (is_reserved_word x.context n.text)) >> (token_of is_equals >>
       (symbol Assign (with_in x) ▸
       (λ e. gives (cover_e {F = F} {C = C} {K = K} (to n.at (span_of e)) (ident_e n.at n.text) e))))))) us
-      ≡ ((one o us >>= open_by x) >>= (λ p. cover_behind hook p.0 x p.1))
+      ≡ ((one o us >>= open_by x) >>= (λ p. expected is_equals x p.1 >>= (λ q. cover_tail hook p.0 x q.1)))
   cover_one None x us = refl
   cover_one (Some n) x us =
-      ap (λ v. if not (is_reserved_word x n.text) then v else None) (cover_run n x us)
-      ∙ cover_open (is_reserved_word x n.text) n x us
+      ap (λ v. if not (is_reserved_word x.context n.text) then v else None) (cover_run n x us)
+      ∙ cover_open (is_reserved_word x.context n.text) n x us
 
-  pub cover_splits : (x : Context) (ts : List TokenAndSpan)
-      → by_production hook (λ c. prop-cover) x ts ≡ (open_name x ts >>= (λ p. cover_behind hook p.0 x p.1))
+  cover_opens : (x : Scope) (ts : List TokenAndSpan)
+      → by_production hook (λ c. prop-cover) x ts
+      ≡ (open_name x ts >>= (λ p. expected is_equals x p.1 >>= (λ q. cover_tail hook p.0 x q.1)))
   unfolding by_production reading open_name word
-  cover_splits x [] = refl
-  cover_splits x (t ∷ ts) = cover_one (any_name x t.token t.span) x ts
+  cover_opens x [] = refl
+  cover_opens x (t ∷ ts) = cover_one (any_name x t.token t.span) x ts
 
-  pub cover_behind_splits : (n : Spelling) (x : Context) (ts : List TokenAndSpan)
-      → cover_behind hook n x ts ≡ (eaten is_equals x ts >>= (λ p. cover_by hook n p.0 x p.1))
-  unfolding cover_behind
-  cover_behind_splits n x ts = refl
+  pub cover_splits : (x : Scope) (ts : List TokenAndSpan)
+      → by_production hook (λ c. prop-cover) x ts ≡ (cover_name x ts >>= (λ p. cover_tail hook p.0 x p.1))
+  unfolding cover_name
+  cover_splits x ts =
+      cover_opens x ts
+      ∙ bind_same (open_name x ts) _ _ (λ p. binds (expected is_equals x p.1) (λ q. Some (p.0, q.1))
+      (λ r. cover_tail hook r.0 x r.1))
+      ∙ binds (open_name x ts) _ _
 
-  pub cover_tail_splits : (n : Spelling) (x : Context) (ts : List TokenAndSpan)
+  pub cover_tail_splits : (n : Spelling) (x : Scope) (ts : List TokenAndSpan)
       → cover_tail hook n x ts
-      ≡ (inside hook x ts >>= (λ p. Some (cover_e (to n.at (span_of p.0)) (ident_e n.at n.text) p.0, p.1)))
+      ≡ (inside hook x ts >>= (λ p. Some (cover_node n p.0, p.1)))
   unfolding cover_tail
   cover_tail_splits n x ts = refl
 
   -- each property is picked by its kind
-  kind_picked : (x : Context) (ts : List TokenAndSpan) {r : Side F C K Prop} (p : Production Prop x r) (k : PropKind)
+  kind_picked : (x : Scope) (ts : List TokenAndSpan) {r : Side F C K Prop} (p : Production Prop x r) (k : PropKind)
       → kind_choice k ≡ pick p → prop_kind ts ≡ k
       → run hook (at Prop) x ts ≡ exec hook (run hook) (Some 4) (plan r) ts
   kind_picked x ts p k e h =
       run_picked hook Prop x ts p (prop x ts) refl (sym (prop_choice ts) ∙ ap kind_choice h ∙ e)
 
-  pub short_picked : (x : Context) (ts : List TokenAndSpan) → prop_kind ts ≡ kind.Shorthand
+  pub short_picked : (x : Scope) (ts : List TokenAndSpan) → prop_kind ts ≡ kind.Shorthand
       → run hook (at Prop) x ts ≡ by_production hook (λ c. prop-short) x ts
   unfolding by_production reading
   short_picked x [] h = kind_picked x [] prop-short kind.Shorthand refl h
   short_picked x (t ∷ ts) h = kind_picked x (t ∷ ts) prop-short kind.Shorthand refl h
 
-  pub cover_picked : (x : Context) (ts : List TokenAndSpan) → prop_kind ts ≡ kind.Cover
+  pub cover_picked : (x : Scope) (ts : List TokenAndSpan) → prop_kind ts ≡ kind.Cover
       → run hook (at Prop) x ts ≡ by_production hook (λ c. prop-cover) x ts
   unfolding by_production reading
   cover_picked x [] h = kind_picked x [] prop-cover kind.Cover refl h
   cover_picked x (t ∷ ts) h = kind_picked x (t ∷ ts) prop-cover kind.Cover refl h
 
-  pub key_picked : (x : Context) (ts : List TokenAndSpan) → prop_kind ts ≡ kind.Key
+  pub key_picked : (x : Scope) (ts : List TokenAndSpan) → prop_kind ts ≡ kind.Key
       → run hook (at Prop) x ts ≡ by_production hook (λ c. prop-key) x ts
   unfolding by_production reading
   key_picked x ts h = kind_picked x ts prop-key kind.Key refl h
 
-  generator_picked : (x : Context) (ts : List TokenAndSpan) → prop_kind ts ≡ kind.Method method.Generator
+  generator_picked : (x : Scope) (ts : List TokenAndSpan) → prop_kind ts ≡ kind.Method method.Generator
       → run hook (at Prop) x ts ≡ by_production hook (λ c. prop-generator) x ts
   unfolding by_production reading
   generator_picked x [] h = kind_picked x [] prop-generator (kind.Method method.Generator) refl h
   generator_picked x (t ∷ ts) h = kind_picked x (t ∷ ts) prop-generator (kind.Method method.Generator) refl h
 
-  getter_picked : (x : Context) (ts : List TokenAndSpan) → prop_kind ts ≡ kind.Method method.Getter
+  getter_picked : (x : Scope) (ts : List TokenAndSpan) → prop_kind ts ≡ kind.Method method.Getter
       → run hook (at Prop) x ts ≡ by_production hook (λ c. prop-getter) x ts
   unfolding by_production reading
   getter_picked x [] h = kind_picked x [] prop-getter (kind.Method method.Getter) refl h
   getter_picked x (t ∷ ts) h = kind_picked x (t ∷ ts) prop-getter (kind.Method method.Getter) refl h
 
-  async_picked : (x : Context) (ts : List TokenAndSpan) → prop_kind ts ≡ kind.Method method.Async
+  async_picked : (x : Scope) (ts : List TokenAndSpan) → prop_kind ts ≡ kind.Method method.Async
       → run hook (at Prop) x ts ≡ by_production hook (λ c. prop-async) x ts
   unfolding by_production reading
   async_picked x [] h = kind_picked x [] prop-async (kind.Method method.Async) refl h
   async_picked x (t ∷ ts) h = kind_picked x (t ∷ ts) prop-async (kind.Method method.Async) refl h
 
-  async_generator_picked : (x : Context) (ts : List TokenAndSpan) → prop_kind ts ≡ kind.Method method.AsyncGenerator
+  async_generator_picked : (x : Scope) (ts : List TokenAndSpan) → prop_kind ts ≡ kind.Method method.AsyncGenerator
       → run hook (at Prop) x ts ≡ by_production hook (λ c. prop-async-generator) x ts
   unfolding by_production reading
   async_generator_picked x [] h = kind_picked x [] prop-async-generator (kind.Method method.AsyncGenerator) refl h
   async_generator_picked x (t ∷ ts) h = kind_picked x (t ∷ ts) prop-async-generator (kind.Method method.AsyncGenerator) refl h
 
-  none_picked : (x : Context) (ts : List TokenAndSpan) (k : PropKind) → prop_kind ts ≡ k
+  none_picked : (x : Scope) (ts : List TokenAndSpan) (k : PropKind) → prop_kind ts ≡ k
       → kind_choice {F = F} {C = C} {K = K} {c = x} k ≡ none → run hook (at Prop) x ts ≡ None
   none_picked x ts k h e = knot hook (at Prop) x ts ∙ ap (λ v. exec hook (run hook) (Some 4) (chosen v) ts)
       (sym (prop_choice ts) ∙ ap kind_choice h ∙ e)
-
-  -- where no dots stand, as at each other kind
-  pub plain_here : (x : Context) (ts : List TokenAndSpan) → at_token is_dots (first ts) ≡ false
-      → prop_plain hook x ts ≡ run hook (at Prop) x ts
-  unfolding prop_plain
-  plain_here x ts h = rw h refl
-
-no_spread : (b : Bool) (k : PropKind) → ((if b then kind.Spread else k) ≡ kind.Spread → ⊥) → b ≡ false
-no_spread true k n = absurd (n refl)
-no_spread false k n = refl
-
-pub kind_plain : (ts : List TokenAndSpan) → (prop_kind ts ≡ kind.Spread → ⊥) → at_token is_dots (first ts) ≡ false
-kind_plain ts n = no_spread (at_token is_dots (first ts)) _ n
 
 -- dots stand at no other kind
 spread_by : (b : Bool) (k : PropKind) → (k ≡ kind.Spread → ⊥) → (if b then kind.Spread else k) ≡ kind.Spread → b ≡ true
@@ -444,49 +427,36 @@ spread_dots ts h = spread_by (at_token is_dots (first ts)) _
     (no_other_spread (at_token is_star (first ts)) (at_token is_word (first ts)) (first ts) (second ts)) h
 
 module _ {F C K : Type 0} (hook : Hook F C K) where
-  -- what no dots begin, by its kind
-  plain_kind : (x : Context) (ts : List TokenAndSpan) (k : PropKind) → prop_kind ts ≡ k → (k ≡ kind.Spread → ⊥)
-      → prop_plain hook x ts ≡ run hook (at Prop) x ts
-  plain_kind x ts k e n = plain_here hook x ts (kind_plain ts (λ q. n (sym e ∙ q)))
+  -- dots, and what is read behind them
+  spread_token : (x : Scope) (v : Token) (b : Bool) (s : Span) (us : List TokenAndSpan) → is_dots v ≡ true
+      → run hook (at Prop) x (tk v b s ∷ us) ≡ spread_prop_tail hook s x us
+  unfolding spread_prop_tail inside
+  spread_token x token.DotDotDot b s us h =
+      knot hook (at Prop) x (tk token.DotDotDot b s ∷ us) ∙ calls (run hook (at Assign) (with_in x) us) _
+  spread_token x v b s us h = absurd cc
 
-  pub plain_short : (x : Context) (ts : List TokenAndSpan) → prop_kind ts ≡ kind.Shorthand
-      → prop_plain hook x ts ≡ by_production hook (λ c. prop-short) x ts
-  plain_short x ts h = plain_kind x ts kind.Shorthand h (λ q. cc) ∙ short_picked hook x ts h
-
-  pub plain_cover : (x : Context) (ts : List TokenAndSpan) → prop_kind ts ≡ kind.Cover
-      → prop_plain hook x ts ≡ by_production hook (λ c. prop-cover) x ts
-  plain_cover x ts h = plain_kind x ts kind.Cover h (λ q. cc) ∙ cover_picked hook x ts h
-
-  pub plain_key : (x : Context) (ts : List TokenAndSpan) → prop_kind ts ≡ kind.Key
-      → prop_plain hook x ts ≡ by_production hook (λ c. prop-key) x ts
-  plain_key x ts h = plain_kind x ts kind.Key h (λ q. cc) ∙ key_picked hook x ts h
+  pub spread_picked : (x : Scope) (ts : List TokenAndSpan) → prop_kind ts ≡ kind.Spread
+      → run hook (at Prop) x ts ≡ (expected is_dots x ts >>= (λ p. spread_prop_tail hook p.0 x p.1))
+  unfolding expected eaten
+  spread_picked x [] h = let d = spread_dots [] h in absurd cc
+  spread_picked x (t ∷ ts) h =
+      let d = spread_dots (t ∷ ts) h in
+      spread_token x t.token t.had_line_break t.span ts d ∙ rw d refl
 
   -- a method by its kind; a setter is no production, and never read
-  pub plain_method : (m : MethodKind) (x : Context) (ts : List TokenAndSpan) → prop_kind ts ≡ kind.Method m
-      → prop_plain hook x ts ≡ (modifiers m x ts >>= (λ p. method_tail hook m p.0 x p.1))
-  plain_method method.Generator x ts h =
-      plain_kind x ts (kind.Method method.Generator) h (λ q. cc) ∙ generator_picked hook x ts h
-      ∙ generator_splits hook x ts
-  plain_method method.Async x ts h =
-      plain_kind x ts (kind.Method method.Async) h (λ q. cc) ∙ async_picked hook x ts h ∙ async_splits hook x ts
-  plain_method method.AsyncGenerator x ts h =
-      plain_kind x ts (kind.Method method.AsyncGenerator) h (λ q. cc) ∙ async_generator_picked hook x ts h
-      ∙ async_generator_splits hook x ts
-  plain_method method.Getter x ts h =
-      plain_kind x ts (kind.Method method.Getter) h (λ q. cc) ∙ getter_picked hook x ts h ∙ getter_splits hook x ts
-  plain_method method.Setter x ts h =
-      plain_kind x ts (kind.Method method.Setter) h (λ q. cc)
-      ∙ none_picked hook x ts (kind.Method method.Setter) h refl
+  pub method_picked : (m : MethodKind) (x : Scope) (ts : List TokenAndSpan) → prop_kind ts ≡ kind.Method m
+      → run hook (at Prop) x ts ≡ (modifiers m x ts >>= (λ p. method_tail hook m p.0 x p.1))
+  method_picked method.Generator x ts h = generator_picked hook x ts h ∙ generator_splits hook x ts
+  method_picked method.Async x ts h = async_picked hook x ts h ∙ async_splits hook x ts
+  method_picked method.AsyncGenerator x ts h = async_generator_picked hook x ts h ∙ async_generator_splits hook x ts
+  method_picked method.Getter x ts h = getter_picked hook x ts h ∙ getter_splits hook x ts
+  method_picked method.Setter x ts h =
+      none_picked hook x ts (kind.Method method.Setter) h refl
       ∙ sym (bind_none (modifiers method.Setter x ts) _ (λ p. setter_not hook p.0 x p.1))
 
-  pub plain_questioned : (x : Context) (ts : List TokenAndSpan) → prop_kind ts ≡ kind.Questioned
-      → prop_plain hook x ts ≡ None
-  plain_questioned x ts h =
-      plain_kind x ts kind.Questioned h (λ q. cc) ∙ none_picked hook x ts kind.Questioned h refl
+  pub questioned_none : (x : Scope) (ts : List TokenAndSpan) → prop_kind ts ≡ kind.Questioned
+      → run hook (at Prop) x ts ≡ None
+  questioned_none x ts h = none_picked hook x ts kind.Questioned h refl
 
-  pub plain_unfit : (x : Context) (ts : List TokenAndSpan) → prop_kind ts ≡ kind.Unfit → prop_plain hook x ts ≡ None
-  plain_unfit x ts h = plain_kind x ts kind.Unfit h (λ q. cc) ∙ none_picked hook x ts kind.Unfit h refl
-
-  pub plain_spread : (x : Context) (ts : List TokenAndSpan) → prop_kind ts ≡ kind.Spread → prop_plain hook x ts ≡ None
-  unfolding prop_plain
-  plain_spread x ts h = rw (spread_dots ts h) refl
+  pub unfit_none : (x : Scope) (ts : List TokenAndSpan) → prop_kind ts ≡ kind.Unfit → run hook (at Prop) x ts ≡ None
+  unfit_none x ts h = none_picked hook x ts kind.Unfit h refl

@@ -17,10 +17,12 @@ use Rattle.swc_input.specs.declared.token.TokenAndSpan.{TokenAndSpan}
 use Rattle.swc_input.specs.Plain.{plain}
 use Rattle.swc_input.specs.Kinds.{at_token, is_hash}
 use Rattle.swc_ast.specs.Tree.{Tree, span_of}
+use Rattle.swc_grammar.specs.Scope.{Scope}
 use Rattle.swc_grammar.specs.Rule.{gives, take, check, read, given, ◌>>=◌ as ◌▸◌}
 use Rattle.swc_bodies.specs.Readings.{Hook, LawfulHook, begins, begins_function, is_class, is_function, is_async, is_brace}
 use Rattle.swc_bodies.specs.Readings.{is_function_here}
-use Rattle.swc_grammar.specs.Symbols.{Expr, Assign, Level, Unary, Primary, Literal, Side, function, class}
+use Rattle.swc_grammar.specs.Symbols.{Assign, Level, Unary, Lhs, Primary, Literal, Template, Side, function, class}
+use Rattle.swc_grammar.specs.Tokens.{is_backquote, is_slash, is_regex, begins_regex}
 use Rattle.swc_grammar.specs.Tokens.{tk, with_in, is_reference, ref_ok, is_put_off, prefix_of, is_lparen, is_rparen}
 use Rattle.swc_grammar.specs.Tokens.{is_this, is_lbracket}
 use Rattle.swc_grammar.specs.Names.{Spelling, spelling, may_refer, may_name, spelled}
@@ -29,7 +31,7 @@ use Rattle.swc_grammar.specs.Trees.{is_nullish_op}
 use Rattle.swc_grammar.specs.Trees.{nullish_ok, exp_ok, delete_ok, min_right, no_cover_in}
 use Rattle.swc_grammar.specs.Parts.{reference, any_name, lit_of, with_place, prefix_here}
 use Rattle.swc_grammar.specs.Grammar.{ident-expr, this-expr, primary-literal, fn-expr, class-expr, paren-expr, unary-op}
-use Rattle.swc_grammar.specs.Grammar.{private-expr}
+use Rattle.swc_grammar.specs.Grammar.{private-expr, primary-template}
 use Rattle.swc_grammar.specs.Clean.{Out, and_then, hear_then, first, sym as at, climb, plan, exec, is_lit, is_identifier}
 use Rattle.swc_grammar.specs.Clean.{no_error, operator_at, prefix_at, left_ok}
 use Rattle.swc_grammar.specs.Clean.{pick, unary_by, primary, bin_op as bin_op_plan, turn as turn_plan}
@@ -41,11 +43,12 @@ use Rattle.swc_grammar.proofs.Bodies.{hears, hears-place, hears-run}
 use Rattle.swc_grammar.proofs.Complete.{last, lit-picks, fn-picks, class-picks}
 use Rattle.swc_grammar.proofs.Knot.{knot}
 use Rattle.swc_grammar.proofs.Levels.{right-low}
-use Rattle.swc_grammar.proofs.Only.{only-this, only-lparen, only-rparen, only-hash}
+use Rattle.swc_grammar.proofs.Only.{only-this, only-lparen, only-rparen, only-hash, only-backquote}
 use Rattle.swc_grammar.proofs.Rules.{exec-bind, run_picked, reads_nothing}
 use Rattle.swc_productions.proofs.Lists.{calls}
 use Rattle.swc_productions.specs.Parsing.{is_strict, begins_async, seen_of}
-use Rattle.swc_productions.specs.Readers.{reading, by_production, inside, private_expr_tail, paren_expr_tail, paren_expr_close, paren_expr_node, unary_op_tail, unary_op_node}
+use Rattle.swc_productions.specs.Readers.{reading, by_production, inside, private_expr_tail, unary_op_tail, unary_op_node}
+use Rattle.swc_productions.specs.Readers.{paren_expr_tail, paren_expr_close, paren_expr_node}
 use Rattle.swc_productions.specs.Readers.{unary_op, turn, bin_op}
 use Rattle.swc_productions.specs.Readers.{bin_op_node, turned, go_on}
 
@@ -72,8 +75,8 @@ pub nullish_both : {F C K : Type 0} (op : BinaryOp) (l r : Tree F C K) → is_nu
 nullish_both op l r h = rw h refl
 
 -- the operator at the first token is that of the current token
-pub same_op : {x y : Context} {s r : Option TokenAndSpan} (o q : Option BinaryOp) → x ≡ y → r ≡ s → o ≡ operator_at y s
-    → o ≡ q → operator_at x r ≡ q
+pub same_op : {x y : Scope} {s r : Option TokenAndSpan} (o q : Option BinaryOp) → x ≡ y → r ≡ s
+    → o ≡ operator_at y.context s → o ≡ q → operator_at x.context r ≡ q
 same_op o q h i j k = rw (h, i) (sym j ∙ k)
 
 -- what begins with a token
@@ -109,11 +112,21 @@ strict_not c (token.Word w) s h = rw h refl
 strict_not c t s h = refl
 
 module _ {F C K : Type 0} where
-  pub name_strict : (x : Context) (ts : List TokenAndSpan) → x.module && at_token is_strict (first ts) ≡ true
+  pub name_strict : (x : Scope) (ts : List TokenAndSpan) → x.context.module && at_token is_strict (first ts) ≡ true
       → (word ref_ok x ts >>= (λ p. Some (ident_e {F = F} {C = C} {K = K} p.0.at p.0.text, p.1))) ≡ None
   unfolding word
   name_strict x [] h = refl
-  name_strict x (t ∷ ts) h = rw (strict_not x t.token t.span h) refl
+  name_strict x (t ∷ ts) h = rw (strict_not x.context t.token t.span h) refl
+
+-- neither a slash nor a whole regular expression
+neither : (a b : Bool) → (a || b) ≡ false → (a ≡ false) × (b ≡ false)
+neither true b h = absurd cc
+neither false b h = (refl, h)
+
+no_regex : (o : Option TokenAndSpan) → at_token begins_regex o ≡ false
+    → (at_token is_slash o ≡ false) × (at_token is_regex o ≡ false)
+no_regex None h = (refl, refl)
+no_regex (Some t) h = neither (is_slash t.token) (is_regex t.token) h
 
 module _ {F C K : Type 0} (hook : Hook F C K) where
   -- what a call read, and what reads as what is run behind it does
@@ -133,19 +146,19 @@ module _ {F C K : Type 0} (hook : Hook F C K) where
 
   -- ---- primary expressions (13.2): each is picked by its first token
 
-  pub ident_expr_picked : (x : Context) (ts : List TokenAndSpan) → at_token (is_identifier x) (first ts) ≡ true
+  pub ident_expr_picked : (x : Scope) (ts : List TokenAndSpan) → at_token (is_identifier x.context) (first ts) ≡ true
       → run hook (at Primary) x ts ≡ by_production hook (λ c. ident-expr) x ts
   unfolding by_production reading
   ident_expr_picked x [] h = absurd cc
   ident_expr_picked x (t ∷ ts) h = run_picked hook Primary x (t ∷ ts) ident-expr (primary x (t ∷ ts)) refl (rw h refl)
 
-  pub lit_picked : (x : Context) (ts : List TokenAndSpan) → at_token is_lit (first ts) ≡ true
+  pub lit_picked : (x : Scope) (ts : List TokenAndSpan) → at_token is_lit (first ts) ≡ true
       → run hook (at Primary) x ts ≡ run hook (at Literal) x ts
   lit_picked x ts h =
       run_picked hook Primary x ts primary-literal (primary x ts) refl (lit-picks hook x ts h)
       ∙ last hook (Some 8) (at Literal) x ts refl
 
-  pub paren_expr_picked : (x : Context) (ts : List TokenAndSpan) → at_token is_lparen (first ts) ≡ true
+  pub paren_expr_picked : (x : Scope) (ts : List TokenAndSpan) → at_token is_lparen (first ts) ≡ true
       → run hook (at Primary) x ts ≡ by_production hook (λ c. paren-expr) x ts
   unfolding by_production reading
   paren_expr_picked x [] h = absurd cc
@@ -154,7 +167,7 @@ module _ {F C K : Type 0} (hook : Hook F C K) where
       (only-lparen (λ v. primary {F = F} {C = C} {K = K} x (tk v t.had_line_break t.span ∷ ts)
       ≡ pick paren-expr) refl t.token h)
 
-  pub private_expr_picked : (x : Context) (ts : List TokenAndSpan) → at_token is_hash (first ts) ≡ true
+  pub private_expr_picked : (x : Scope) (ts : List TokenAndSpan) → at_token is_hash (first ts) ≡ true
       → run hook (at Primary) x ts ≡ by_production hook (λ c. private-expr) x ts
   unfolding by_production reading
   private_expr_picked x [] h = absurd cc
@@ -163,7 +176,7 @@ module _ {F C K : Type 0} (hook : Hook F C K) where
       (only-hash (λ v. primary {F = F} {C = C} {K = K} x (tk v t.had_line_break t.span ∷ ts)
       ≡ pick private-expr) refl t.token h)
 
-  pub this_expr_picked : (x : Context) (ts : List TokenAndSpan) → at_token is_this (first ts) ≡ true
+  pub this_expr_picked : (x : Scope) (ts : List TokenAndSpan) → at_token is_this (first ts) ≡ true
       → run hook (at Primary) x ts ≡ by_production hook (λ c. this-expr) x ts
   unfolding by_production reading
   this_expr_picked x [] h = absurd cc
@@ -172,25 +185,37 @@ module _ {F C K : Type 0} (hook : Hook F C K) where
       (only-this (λ v. primary {F = F} {C = C} {K = K} x (tk v t.had_line_break t.span ∷ ts)
       ≡ pick this-expr) refl t.token h)
 
-  pub fn_expr_picked : (x : Context) (ts : List TokenAndSpan) → begins_function ts ≡ true
+  pub template_picked : (x : Scope) (ts : List TokenAndSpan) → at_token is_backquote (first ts) ≡ true
+      → run hook (at Primary) x ts ≡ run hook (at (Template false)) x ts
+  template_picked x [] h = absurd cc
+  template_picked x (t ∷ ts) h =
+      run_picked hook Primary x (t ∷ ts) primary-template (primary x (t ∷ ts)) refl
+      (only-backquote (λ v. primary {F = F} {C = C} {K = K} x (tk v t.had_line_break t.span ∷ ts)
+      ≡ pick primary-template) refl t.token h)
+      ∙ last hook (Some 8) (at (Template false)) x (t ∷ ts) refl
+
+  pub fn_expr_picked : (x : Scope) (ts : List TokenAndSpan) → begins_function ts ≡ true
       → run hook (at Primary) x ts ≡ by_production hook (λ c. fn-expr) x ts
   unfolding by_production reading
   fn_expr_picked x ts h = run_picked hook Primary x ts fn-expr (primary x ts) refl (fn-picks hook x ts h)
 
-  pub class_expr_picked : (x : Context) (ts : List TokenAndSpan) → at_token is_class (first ts) ≡ true
+  pub class_expr_picked : (x : Scope) (ts : List TokenAndSpan) → at_token is_class (first ts) ≡ true
       → run hook (at Primary) x ts ≡ by_production hook (λ c. class-expr) x ts
   unfolding by_production reading
   class_expr_picked x ts h =
       run_picked hook Primary x ts class-expr (primary x ts) refl (class-picks hook x ts (begins_first is_class ts ∙ h))
 
-  pub primary_ends : (x : Context) (ts : List TokenAndSpan) → at_token (is_identifier x) (first ts) ≡ false
+  pub primary_ends : (x : Scope) (ts : List TokenAndSpan) → at_token (is_identifier x.context) (first ts) ≡ false
       → at_token is_lit (first ts) ≡ false → at_token is_lparen (first ts) ≡ false
       → at_token is_hash (first ts) ≡ false → at_token is_this (first ts) ≡ false
       → at_token is_lbracket (first ts) ≡ false → begins_function ts ≡ false → at_token is_class (first ts) ≡ false
-      → at_token is_brace (first ts) ≡ false
+      → at_token is_brace (first ts) ≡ false → at_token is_backquote (first ts) ≡ false
+      → at_token begins_regex (first ts) ≡ false
       → run hook (at Primary) x ts ≡ None
-  primary_ends x ts h i j k l m n o p =
-      knot hook (at Primary) x ts ∙ rw (h, i, j, k, l, m, n, begins_first is_class ts ∙ o, p) refl
+  primary_ends x ts h i j k l m n o p q r =
+      let (slash, whole) = no_regex (first ts) r in
+      knot hook (at Primary) x ts
+      ∙ rw (h, i, j, k, l, m, n, begins_first is_class ts ∙ o, p, q, slash, whole) refl
 
   -- ---- identifier references (13.1)
 
@@ -204,15 +229,15 @@ module _ {F C K : Type 0} (hook : Hook F C K) where
   same_test a b n h = ap (λ v. if v then Some n else None) h
 
   -- an identifier that is an expression passes the tests that are left
-  ident_expr_spelled : (c : Context) (t : Token) (s : Span) → is_identifier c t ≡ true
-      → reference c t s ≡ spelled (ref_ok c) t s
+  ident_expr_spelled : (c : Scope) (t : Token) (s : Span) → is_identifier c.context t ≡ true
+      → reference c t s ≡ spelled (ref_ok c.context) t s
   ident_expr_spelled c (token.Word w) s h =
-      let (a, b) = both (is_reference c w) (not (is_put_off w)) h in
-      same_test (may_refer c w && not (is_put_off w)) (ref_ok c w) (spelling (word_text w) s)
-      (rw (a, b) (and_true (ref_ok c w)))
+      let (a, b) = both (is_reference c.context w) (not (is_put_off w)) h in
+      same_test (may_refer c.context w && not (is_put_off w)) (ref_ok c.context w) (spelling (word_text w) s)
+      (rw (a, b) (and_true (ref_ok c.context w)))
   ident_expr_spelled c t s h = absurd cc
 
-  pub ident_expr_named : (x : Context) (ts : List TokenAndSpan) → at_token (is_identifier x) (first ts) ≡ true
+  pub ident_expr_named : (x : Scope) (ts : List TokenAndSpan) → at_token (is_identifier x.context) (first ts) ≡ true
       → by_production hook (λ c. ident-expr) x ts ≡ (word ref_ok x ts >>= (λ p. Some (ident_e p.0.at p.0.text, p.1)))
   unfolding by_production reading word
   ident_expr_named x [] h = absurd cc
@@ -222,14 +247,14 @@ module _ {F C K : Type 0} (hook : Hook F C K) where
 
   -- ---- `this` (13.2.1)
 
-  pub this_expr_takes : (t : TokenAndSpan) (x : Context) (ts : List TokenAndSpan) → is_this t.token ≡ true
+  pub this_expr_takes : (t : TokenAndSpan) (x : Scope) (ts : List TokenAndSpan) → is_this t.token ≡ true
       → by_production hook (λ c. this-expr) x (t ∷ ts) ≡ Some (this_e t.span, ts)
   unfolding by_production reading
   this_expr_takes t x ts h = rw h refl
 
   -- ---- literals (13.2.3)
 
-  pub lit_takes : (e : Tree F C K) (x : Context) (t : TokenAndSpan) (ts : List TokenAndSpan)
+  pub lit_takes : (e : Tree F C K) (x : Scope) (t : TokenAndSpan) (ts : List TokenAndSpan)
       → lit_of t.token t.span ≡ Some e
       → run hook (at Literal) x (t ∷ ts) ≡ Some (e, ts)
   lit_takes e x t ts h =
@@ -244,28 +269,28 @@ module _ {F C K : Type 0} (hook : Hook F C K) where
   lit_no (token.Str value raw) s h = cc
   lit_no t s h = refl
 
-  pub lit_not : (x : Context) (ts : List TokenAndSpan) → at_token is_lit (first ts) ≡ false
+  pub lit_not : (x : Scope) (ts : List TokenAndSpan) → at_token is_lit (first ts) ≡ false
       → run hook (at Literal) x ts ≡ None
   lit_not x [] h = knot hook (at Literal) x []
   lit_not x (t ∷ ts) h =
       knot hook (at Literal) x (t ∷ ts)
       ∙ given_not (lit_of t.token t.span) (λ v. gives v) ts (lit_no t.token t.span h)
 
-  pub lit_unfit : (x : Context) (ts : List TokenAndSpan) → at_token no_error (first ts) ≡ false
+  pub lit_unfit : (x : Scope) (ts : List TokenAndSpan) → at_token no_error (first ts) ≡ false
       → run hook (at Literal) x ts ≡ None
   lit_unfit x ts h = lit_not x ts (error_not (first ts) h)
 
   -- ---- functions (13.2.6; 15.2, 15.5, 15.6, 15.8) and classes (15.7)
 
   pub fn_expr_hears : {fun_at : F → Span} {class_at : C → Span} {block_at : K → Span}
-      → LawfulHook fun_at class_at block_at hook → (x : Context) (ts : List TokenAndSpan)
-      → by_production hook (λ c. fn-expr) x ts ≡ (hook.fun x ts >>= (λ p. Some (fn_e (fun_at p.0) p.0, p.1)))
+      → LawfulHook fun_at class_at block_at hook → (x : Scope) (ts : List TokenAndSpan)
+      → by_production hook (λ c. fn-expr) x ts ≡ (hook.fun x.context ts >>= (λ p. Some (fn_e (fun_at p.0) p.0, p.1)))
   unfolding by_production reading
-  fn_expr_hears {fun_at} laws x ts = by_what (hook.fun x ts) refl
+  fn_expr_hears {fun_at} laws x ts = by_what (hook.fun x.context ts) refl
     where
-      by_what : (o : Out F) → hook.fun x ts ≡ o
-          → hear_then (hook.fun x ts) ts (λ v s us. Some (fn_e {F = F} {C = C} {K = K} s v, us))
-          ≡ (hook.fun x ts >>= (λ p. Some (fn_e (fun_at p.0) p.0, p.1)))
+      by_what : (o : Out F) → hook.fun x.context ts ≡ o
+          → hear_then (hook.fun x.context ts) ts (λ v s us. Some (fn_e {F = F} {C = C} {K = K} s v, us))
+          ≡ (hook.fun x.context ts >>= (λ p. Some (fn_e (fun_at p.0) p.0, p.1)))
       by_what None e = rw e refl
       by_what (Some p) e =
           let h = hears hook laws function x ts p.0 p.1 e in
@@ -274,15 +299,15 @@ module _ {F C K : Type 0} (hook : Hook F C K) where
           ∙ ap (λ o. o >>= (λ p. Some (fn_e (fun_at p.0) p.0, p.1))) (sym e)
 
   pub class_expr_hears : {fun_at : F → Span} {class_at : C → Span} {block_at : K → Span}
-      → LawfulHook fun_at class_at block_at hook → (x : Context) (ts : List TokenAndSpan)
+      → LawfulHook fun_at class_at block_at hook → (x : Scope) (ts : List TokenAndSpan)
       → by_production hook (λ c. class-expr) x ts
-      ≡ (hook.class x ts >>= (λ p. Some (class_e (class_at p.0) p.0, p.1)))
+      ≡ (hook.class x.context ts >>= (λ p. Some (class_e (class_at p.0) p.0, p.1)))
   unfolding by_production reading
-  class_expr_hears {class_at = class_at} laws x ts = by_what (hook.class x ts) refl
+  class_expr_hears {class_at = class_at} laws x ts = by_what (hook.class x.context ts) refl
     where
-      by_what : (o : Out C) → hook.class x ts ≡ o
-          → hear_then (hook.class x ts) ts (λ v s us. Some (class_e {F = F} {C = C} {K = K} s v, us))
-          ≡ (hook.class x ts >>= (λ p. Some (class_e (class_at p.0) p.0, p.1)))
+      by_what : (o : Out C) → hook.class x.context ts ≡ o
+          → hear_then (hook.class x.context ts) ts (λ v s us. Some (class_e {F = F} {C = C} {K = K} s v, us))
+          ≡ (hook.class x.context ts >>= (λ p. Some (class_e (class_at p.0) p.0, p.1)))
       by_what None e = rw e refl
       by_what (Some p) e =
           let h = hears hook laws class x ts p.0 p.1 e in
@@ -292,12 +317,12 @@ module _ {F C K : Type 0} (hook : Hook F C K) where
 
   -- ---- parentheses (13.2.9)
 
-  pub paren_expr_opens : (t : TokenAndSpan) (x : Context) (ts : List TokenAndSpan) → is_lparen t.token ≡ true
+  pub paren_expr_opens : (t : TokenAndSpan) (x : Scope) (ts : List TokenAndSpan) → is_lparen t.token ≡ true
       → by_production hook (λ c. paren-expr) x (t ∷ ts) ≡ paren_expr_tail hook t.span x ts
   unfolding by_production paren_expr_tail reading
   paren_expr_opens t x ts h = rw h refl
 
-  pub paren_expr_splits : (s : Span) (x : Context) (ts : List TokenAndSpan)
+  pub paren_expr_splits : (s : Span) (x : Scope) (ts : List TokenAndSpan)
       → paren_expr_tail hook s x ts ≡ (inside hook x ts >>= (λ p. paren_expr_close hook s p.0 p.1))
   unfolding paren_expr_tail inside paren_expr_close reading
   paren_expr_splits s x ts = calls (run hook (at Assign) (with_in x) ts) _
@@ -325,60 +350,60 @@ module _ {F C K : Type 0} (hook : Hook F C K) where
 
   -- ---- prefix operators (13.5)
 
-  pub unary_op_picked : (op : UnaryOp) (x : Context) (ts : List TokenAndSpan) → prefix_at (first ts) ≡ Some op
+  pub unary_op_picked : (op : UnaryOp) (x : Scope) (ts : List TokenAndSpan) → prefix_at (first ts) ≡ Some op
       → run hook (at Unary) x ts ≡ unary_op hook op x ts
   unfolding unary_op unary_op_tail reading
   unary_op_picked op x [] h = cc
   unary_op_picked op x (t ∷ ts) h =
       run_picked hook Unary x (t ∷ ts) unary-op (unary_by (prefix_of t.token)) refl (ap unary_by h)
       ∙ given_is (prefix_here t.token t.span) (op, t.span)
-      (λ p. read Unary x (λ e. check (delete_ok x p.0 e) (gives (unary_e (to p.1 (span_of e)) p.0 e)))) ts
+      (λ p. read Unary x (λ e. check (delete_ok x.context p.0 e) (gives (unary_e (to p.1 (span_of e)) p.0 e)))) ts
       (ap (λ o. with_place o t.span) h)
 
-  pub unary_primary : (x : Context) (ts : List TokenAndSpan) → prefix_at (first ts) ≡ None
-      → run hook (at Unary) x ts ≡ run hook (at Primary) x ts
-  unary_primary x ts h = knot hook (at Unary) x ts ∙ rw h (last hook (Some 10) (at Primary) x ts refl)
+  pub unary_left : (x : Scope) (ts : List TokenAndSpan) → prefix_at (first ts) ≡ None
+      → run hook (at Unary) x ts ≡ run hook (at (Lhs true)) x ts
+  unary_left x ts h = knot hook (at Unary) x ts ∙ rw h (last hook (Some 11) (at (Lhs true)) x ts refl)
 
-  pub unary_op_opens : (op : UnaryOp) (t : TokenAndSpan) (x : Context) (ts : List TokenAndSpan)
+  pub unary_op_opens : (op : UnaryOp) (t : TokenAndSpan) (x : Scope) (ts : List TokenAndSpan)
       → unary_op hook op x (t ∷ ts) ≡ unary_op_tail hook t.span op x ts
   unfolding unary_op
   unary_op_opens op t x ts = refl
 
-  pub unary_op_splits : (s : Span) (op : UnaryOp) (x : Context) (ts : List TokenAndSpan)
+  pub unary_op_splits : (s : Span) (op : UnaryOp) (x : Scope) (ts : List TokenAndSpan)
       → unary_op_tail hook s op x ts ≡ (run hook (at Unary) x ts >>= (λ p. unary_op_node hook s op x p.0 p.1))
   unfolding unary_op_tail unary_op_node reading
   unary_op_splits s op x ts = calls (run hook (at Unary) x ts) _
 
-  pub unary_op_well : (s : Span) (op : UnaryOp) (x : Context) (t : Tree F C K) (ts : List TokenAndSpan)
-      → delete_ok x op t ≡ true
+  pub unary_op_well : (s : Span) (op : UnaryOp) (x : Scope) (t : Tree F C K) (ts : List TokenAndSpan)
+      → delete_ok x.context op t ≡ true
       → unary_op_node hook s op x t ts ≡ Some (unary_e (to s (span_of t)) op t, ts)
   unfolding unary_op_node reading
   unary_op_well s op x t ts h = rw h refl
 
-  pub unary_op_ill : (s : Span) (op : UnaryOp) (x : Context) (t : Tree F C K) (ts : List TokenAndSpan)
-      → delete_ok x op t ≡ false
+  pub unary_op_ill : (s : Span) (op : UnaryOp) (x : Scope) (t : Tree F C K) (ts : List TokenAndSpan)
+      → delete_ok x.context op t ≡ false
       → unary_op_node hook s op x t ts ≡ None
   unfolding unary_op_node reading
   unary_op_ill s op x t ts h = rw h refl
 
   -- ---- binary operators (13.6 to 13.13)
 
-  pub operand_splits : (m : ℕ) (x : Context) (ts : List TokenAndSpan) → m ≤ 10
+  pub operand_splits : (m : ℕ) (x : Scope) (ts : List TokenAndSpan) → m ≤ 10
       → run hook (at (Level (suc m))) x ts ≡ (run hook (at Unary) x ts >>= (λ p. run hook (climb p.0 m) x p.1))
   operand_splits m x ts le =
       knot hook (at (Level (suc m))) x ts ∙ rw (le-leb m 10 le)
       (then_calls (run hook (at Unary) x ts) _ (λ e us. run hook (climb e m) x us)
-      (λ e us. last hook (Some 11) (climb e m) x us refl))
+      (λ e us. last hook (Some 12) (climb e m) x us refl))
 
   -- what stands right of an operator
-  pub right_splits : (op : BinaryOp) (m : ℕ) (x : Context) (ts : List TokenAndSpan) → m ≡ min_right op
+  pub right_splits : (op : BinaryOp) (m : ℕ) (x : Scope) (ts : List TokenAndSpan) → m ≡ min_right op
       → run hook (at (Level (suc (min_right op)))) x ts
       ≡ (run hook (at Unary) x ts >>= (λ p. run hook (climb p.0 m) x p.1))
   right_splits op m x ts e =
       let low = right-low op in
       ap (λ v. run hook (at (Level (suc v))) x ts) (sym e) ∙ operand_splits m x ts (let l = low.1 in omega arith)
 
-  turn_by : (b : Bool) (op : BinaryOp) (l : Tree F C K) (m : ℕ) (x : Context) (ts : List TokenAndSpan)
+  turn_by : (b : Bool) (op : BinaryOp) (l : Tree F C K) (m : ℕ) (x : Scope) (ts : List TokenAndSpan)
       → exec hook (run hook) (Some 1)
       ((if b then gives (l, None) else take (λ t. bin_op_plan op l m x)) ▸ (λ r. turned_plan r.0 r.1 x)) ts
       ≡ (exec hook (run hook) None (if b then gives (l, None) else take (λ t. bin_op_plan op l m x)) ts
@@ -390,54 +415,55 @@ module _ {F C K : Type 0} (hook : Hook F C K) where
       ∙ calls (exec hook (run hook) None (bin_op_plan op l m x) ts)
       (λ r us. exec hook (run hook) None (turned_plan r.0 r.1 x) us)
 
-  turn_at : (o : Option BinaryOp) (l : Tree F C K) (m : ℕ) (x : Context) (ts : List TokenAndSpan)
+  turn_at : (o : Option BinaryOp) (l : Tree F C K) (m : ℕ) (x : Scope) (ts : List TokenAndSpan)
       → exec hook (run hook) (Some 1) (turn_plan o l m x ▸ (λ r. turned_plan r.0 r.1 x)) ts
       ≡ (exec hook (run hook) None (turn_plan o l m x) ts >>=
       (λ p. exec hook (run hook) None (turned_plan p.0.0 p.0.1 x) p.1))
   turn_at None l m x ts = refl
   turn_at (Some op) l m x ts = turn_by (nat_le (precedence_of op) m) op l m x ts
 
-  pub climb_splits : (l : Tree F C K) (m : ℕ) (x : Context) (ts : List TokenAndSpan)
+  pub climb_splits : (l : Tree F C K) (m : ℕ) (x : Scope) (ts : List TokenAndSpan)
       → run hook (climb l m) x ts ≡ (turn hook l m x ts >>= (λ p. turned hook p.0.0 p.0.1 x p.1))
   unfolding turn turned reading
-  climb_splits l m x ts = knot hook (climb l m) x ts ∙ turn_at (operator_at x (first ts)) l m x ts
+  climb_splits l m x ts = knot hook (climb l m) x ts ∙ turn_at (operator_at x.context (first ts)) l m x ts
 
-  pub turned_well : (t : Tree F C K) (o : Option ℕ) (x : Context) (ts : List TokenAndSpan) → left_ok t ≡ true
+  pub turned_well : (t : Tree F C K) (o : Option ℕ) (x : Scope) (ts : List TokenAndSpan) → left_ok t ≡ true
       → turned hook t o x ts ≡ go_on hook t o x ts
   unfolding turned reading
   turned_well t None x ts h = rw h refl
   turned_well t (Some m) x ts h = rw h (last hook None (climb t m) x ts refl)
 
-  pub turned_ill : (t : Tree F C K) (o : Option ℕ) (x : Context) (ts : List TokenAndSpan) → left_ok t ≡ false
+  pub turned_ill : (t : Tree F C K) (o : Option ℕ) (x : Scope) (ts : List TokenAndSpan) → left_ok t ≡ false
       → turned hook t o x ts ≡ None
   unfolding turned reading
   turned_ill t o x ts h = rw h refl
 
-  pub turn_ends : (l : Tree F C K) (m : ℕ) (x : Context) (ts : List TokenAndSpan) → operator_at x (first ts) ≡ None
+  pub turn_ends : (l : Tree F C K) (m : ℕ) (x : Scope) (ts : List TokenAndSpan)
+      → operator_at x.context (first ts) ≡ None
       → turn hook l m x ts ≡ Some ((l, None), ts)
   unfolding turn reading
   turn_ends l m x ts h = rw h refl
 
-  pub turn_low : (l : Tree F C K) (m : ℕ) (op : BinaryOp) (x : Context) (ts : List TokenAndSpan)
-      → operator_at x (first ts) ≡ Some op → precedence_of op ≤ m → turn hook l m x ts ≡ Some ((l, None), ts)
+  pub turn_low : (l : Tree F C K) (m : ℕ) (op : BinaryOp) (x : Scope) (ts : List TokenAndSpan)
+      → operator_at x.context (first ts) ≡ Some op → precedence_of op ≤ m → turn hook l m x ts ≡ Some ((l, None), ts)
   unfolding turn reading
   turn_low l m op x ts h le = rw (h, le-leb (precedence_of op) m le) refl
 
-  pub turn_takes : (l : Tree F C K) (m : ℕ) (op : BinaryOp) (x : Context) (ts : List TokenAndSpan)
-      → operator_at x (first ts) ≡ Some op → m < precedence_of op
+  pub turn_takes : (l : Tree F C K) (m : ℕ) (op : BinaryOp) (x : Scope) (ts : List TokenAndSpan)
+      → operator_at x.context (first ts) ≡ Some op → m < precedence_of op
       → turn hook l m x ts ≡ bin_op hook op l m x (rest ts)
   unfolding turn bin_op reading
   turn_takes l m op x [] h lt = cc
   turn_takes l m op x (t ∷ ts) h lt = rw (h, lt-leb (precedence_of op) m lt) refl
 
-  pub bin_op_splits : (op : BinaryOp) (l : Tree F C K) (m : ℕ) (x : Context) (ts : List TokenAndSpan)
+  pub bin_op_splits : (op : BinaryOp) (l : Tree F C K) (m : ℕ) (x : Scope) (ts : List TokenAndSpan)
       → exp_ok op l ≡ true
       → bin_op hook op l m x ts
       ≡ (run hook (at (Level (suc (min_right op)))) x ts >>= (λ p. bin_op_node hook op l m p.0 p.1))
   unfolding bin_op bin_op_node reading
   bin_op_splits op l m x ts h = rw h (calls (run hook (at (Level (suc (min_right op)))) x ts) _)
 
-  pub bin_op_ends : (op : BinaryOp) (l : Tree F C K) (m : ℕ) (x : Context) (ts : List TokenAndSpan)
+  pub bin_op_ends : (op : BinaryOp) (l : Tree F C K) (m : ℕ) (x : Scope) (ts : List TokenAndSpan)
       → exp_ok op l ≡ false
       → bin_op hook op l m x ts ≡ None
   unfolding bin_op reading
@@ -455,12 +481,12 @@ module _ {F C K : Type 0} (hook : Hook F C K) where
 
   -- ---- `#` and a name (13.10)
 
-  pub private_expr_opens : (t : TokenAndSpan) (x : Context) (ts : List TokenAndSpan) → is_hash t.token ≡ true
+  pub private_expr_opens : (t : TokenAndSpan) (x : Scope) (ts : List TokenAndSpan) → is_hash t.token ≡ true
       → by_production hook (λ c. private-expr) x (t ∷ ts) ≡ private_expr_tail hook t.span x ts
   unfolding by_production private_expr_tail reading
   private_expr_opens t x ts h = rw h refl
 
-  pub private_expr_splits : (s : Span) (x : Context) (ts : List TokenAndSpan)
+  pub private_expr_splits : (s : Span) (x : Scope) (ts : List TokenAndSpan)
       → private_expr_tail hook s x ts ≡ (word may_name x ts >>= (λ p. Some (private_e (to s p.0.at) p.0.text, p.1)))
   unfolding private_expr_tail reading word
   private_expr_splits s x [] = refl
@@ -468,31 +494,26 @@ module _ {F C K : Type 0} (hook : Hook F C K) where
 
   -- ---- assignment expressions (13.15)
 
-  pub assign_good : (x : Context) (ts : List TokenAndSpan) → at_token no_error (first ts) ≡ true
+  pub assign_good : (x : Scope) (ts : List TokenAndSpan) → at_token no_error (first ts) ≡ true
       → run hook (at Assign) x ts ≡ run hook (at (Level 1)) x ts
-  assign_good x ts h = knot hook (at Assign) x ts ∙ rw h (last hook (Some 13) (at (Level 1)) x ts refl)
+  assign_good x ts h = knot hook (at Assign) x ts ∙ rw h (last hook (Some 14) (at (Level 1)) x ts refl)
 
-  pub assign_bad : (x : Context) (ts : List TokenAndSpan) → at_token no_error (first ts) ≡ false
+  pub assign_bad : (x : Scope) (ts : List TokenAndSpan) → at_token no_error (first ts) ≡ false
       → run hook (at Assign) x ts ≡ None
   assign_bad x ts h = knot hook (at Assign) x ts ∙ rw h refl
 
-  pub inside_assign : (x : Context) (ts : List TokenAndSpan) → inside hook x ts ≡ run hook (at Assign) (with_in x) ts
+  pub inside_assign : (x : Scope) (ts : List TokenAndSpan) → inside hook x ts ≡ run hook (at Assign) (with_in x) ts
   unfolding inside
   inside_assign x ts = refl
 
-  -- ---- expressions (13.16)
-
-  pub expr_assign : (x : Context) (ts : List TokenAndSpan) → run hook (at Expr) x ts ≡ run hook (at Assign) x ts
-  expr_assign x ts = knot hook (at Expr) x ts ∙ last hook (Some 14) (at Assign) x ts refl
-
 -- `()`: the code refuses it by itself, and nothing is read there, since no expression begins with `)`
-rparen_none : (x : Context) (ts : List TokenAndSpan) → at_token is_rparen (first ts) ≡ true
+rparen_none : (x : Scope) (ts : List TokenAndSpan) → at_token is_rparen (first ts) ≡ true
     → at_token (begins_expression x) (first ts) ≡ false
 rparen_none x [] h = absurd cc
 rparen_none x (t ∷ ts) h = only-rparen (λ v. begins_expression x v ≡ false) refl t.token h
 
 pub paren_expr_empty : {F C K : Type 0} {fun_at : F → Span} {class_at : C → Span} {block_at : K → Span} (hook : Hook F C K)
-    → LawfulHook fun_at class_at block_at hook → (s : Span) (x : Context) (ts : List TokenAndSpan)
+    → LawfulHook fun_at class_at block_at hook → (s : Span) (x : Scope) (ts : List TokenAndSpan)
     → at_token is_rparen (first ts) ≡ true
     → paren_expr_tail hook s x ts ≡ None
 paren_expr_empty hook laws s x ts h =

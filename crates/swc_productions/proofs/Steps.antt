@@ -5,6 +5,7 @@ use Rattle.std.proofs.lemmas.List.{append-nil}
 use Rattle.std.specs.Result.{is_err}
 use Rattle.std.specs.declared.alloc.AllocError.{AllocError}
 use Rattle.swc_context.specs.declared.context.Context.{Context}
+use Rattle.swc_context.specs.declared.context.Syntax.{Syntax}
 use Rattle.swc_context.specs.declared.error.Error.{Error}
 use Rattle.swc_context.specs.declared.error.SyntaxError.{SyntaxError}
 use Rattle.swc_context.specs.declared.span.BytePos.{BytePos}
@@ -21,18 +22,19 @@ use Rattle.swc_input.specs.Laws.{held_some, held-before, Looked-served, Looked-s
 use Rattle.swc_input.specs.Recording.{Refused, Seen, refusal, error_here, error_in, is_some, is_fit, unfit, no_memory}
 use Rattle.swc_input.proofs.Refusals.{Refused-kind, unfit-kind}
 use Rattle.swc_input.specs.Kinds.{at_token}
+use Rattle.swc_grammar.specs.Scope.{Scope, in_context}
 use Rattle.swc_grammar.specs.Parts.{lit_of}
 use Rattle.swc_grammar.specs.Clean.{Out, first, no_error}
 use Rattle.swc_grammar.specs.Words.{◌>>=◌}
 use Rattle.swc_ast.specs.Tree.{Tree}
 use Rattle.swc_productions.specs.Lists.{eaten}
-use Rattle.swc_productions.specs.Parsing.{is_memory, seen, seen_of, recorded, Loud, Spends, Leads, Advances, Moves}
+use Rattle.swc_productions.specs.Parsing.{is_memory, seen, seen_of, scope_of, scope, recorded, Loud, Spends, Leads, Onward, Advances, Moves}
 use Rattle.swc_productions.specs.Parsing.{Refuses, Forgoes, Consumes, Acts, Tries, Here, Looks, Unfit, Checks, On}
 use Rattle.swc_productions.specs.Parsing.{Heard, Unheard, Parses, Continues, TookLiteral, Told}
 use Rattle.swc_productions.specs.Readers.{nothing}
 
 abbrev pub Reader : Type 0 → Type 0
-Reader A = Context → List TokenAndSpan → Out A
+Reader A = Scope → List TokenAndSpan → Out A
 
 abbrev pub give : {A : Type 0} → A → Reader A
 give t x ts = Some (t, ts)
@@ -138,8 +140,25 @@ module _ {S : Type 0} (model : Model S) where
   strict_lives b c e true silent noted f = ap (λ z. (model.state z.iter).failed) (sym (silent refl)) ∙ f
   strict_lives b c e false silent noted f = ap (λ s. s.failed) (sym (noted refl)) ∙ f
 
+scope_is : {c d : Context} {x y : Syntax} → c ≡ d → x ≡ y → scope_of c x ≡ scope_of d y
+scope_is e k = rw (e, k) refl
+
 module _ {S : Type 0} {model : Model S} where
   -- ---- what is consumed, and what is kept
+
+  -- the options of the syntax are kept, whatever was consumed
+  kept_syntax : {b c : Buffer S} {xs : List TokenAndSpan} → Laws model → Took model b xs c
+      → (model.state c.iter).syntax ≡ (model.state b.iter).syntax
+  kept_syntax {b} {c} laws took = (laws.gave b.iter c.iter took.given took.gave).syntax
+
+  -- where code stands is what it was, and where the context was set another
+  pub read_scope : {b c : Buffer S} {xs : List TokenAndSpan} → Laws model → Read model b xs c
+      → scope model c ≡ scope model b
+  read_scope laws read = scope_is read.context (kept_syntax laws read.took)
+
+  moved_scope : {b c : Buffer S} (w : Context → Context) → Moves model b c → context model c ≡ w (context model b)
+      → scope model c ≡ in_context w (scope model b)
+  moved_scope w m to = scope_is to (kept_syntax m.laws m.took)
 
   -- nothing was done
   pub here : (laws : Laws model) (b : Buffer S) → Leads model b b
@@ -186,9 +205,19 @@ module _ {S : Type 0} {model : Model S} where
   pub leads_refused : {b c : Buffer S} {e : Error} → Refuses model b e c → e.kind ≢ OutOfMemory → Leads model b c
   leads_refused r n = record { laws = r.spends.laws; taken = r.spends.taken; read = r.spends.read; lives = served_lives (r.served n) }
 
-  pub longer : {b c d : Buffer S} (p : Leads model b c) (q : Leads model c d) → 1 ≤ length p.taken → 1 ≤ length (leads_then p q).taken
+  -- tokens were consumed, and then more, or before it; and one token was
+  pub onward_then : {b c d : Buffer S} {xs : List TokenAndSpan} → Onward model b xs c → (q : Leads model c d) → Onward model b (xs ++ q.taken) d
+  onward_then {xs = xs} s q = record { some = let l = length-append xs q.taken in let m = s.some in omega arith; less = let l = q.read.lower in let m = s.less in omega arith }
+
+  pub onward_later : {b c d : Buffer S} {ys : List TokenAndSpan} (p : Spends model b c) → Onward model c ys d → Onward model b (p.taken ++ ys) d
+  onward_later {ys = ys} p s = record { some = let l = length-append p.taken ys in let m = s.some in omega arith; less = let l = p.read.lower in let m = s.less in omega arith }
+
+  pub onward_one : {b c : Buffer S} {k : Token} (h : Bumped model b k c) → Onward model b (plain h.was ∷ []) c
+  onward_one h = record { some = omega arith; less = h.less }
+
+  pub longer : {b c d : Buffer S} (p : Leads model b c) (q : Leads model c d) → Onward model b p.taken c → Onward model b (leads_then p q).taken d
   unfolding leads_then
-  longer p q s = let l = length-append p.taken q.taken in omega arith
+  longer p q s = onward_then s q
 
   pub refuses_later : {b c d : Buffer S} {e : Error} → Leads model b c → Refuses model c e d → Refuses model b e d
   refuses_later p q = record { spends = spends_then (spent p) q.spends; kind = q.kind; served = λ n. served_later p (q.served n) }
@@ -208,10 +237,10 @@ module _ {S : Type 0} {model : Model S} where
   forgoes_on laws b e h = record { spends = spent (here laws b); kind = h }
 
   pub less : {b c : Buffer S} → Leads model b c → to_come model c ≤ to_come model b
-  less p = let l = p.read.lower in omega arith
+  less p = p.read.lower
 
   pub lower : {b c : Buffer S} → Advances model b c → to_come model c < to_come model b
-  lower p = let l = p.leads.read.lower in let s = p.some in omega arith
+  lower p = p.onward.less
 
   seen_served : {b c d : Buffer S} (e : Buffer S → Error) (r : Error) → Looked model b c → Lives model c d → Laws model →
       r ≡ refusal (current c) (model.state (source c)).failed (last_position c) (e c) → r.kind ≢ OutOfMemory → Served model b d
@@ -252,35 +281,35 @@ module _ {S : Type 0} {model : Model S} where
   begins {c = c} (Some t) e h ys f = ap first (Future-current model c t ys e f).1
 
 module _ {S : Type 0} {model : Model S} {sure : Bool} where
-  pub on_here : {A : Type 0} {f g : Reader A} (laws : Laws model) (b : Buffer S) → ((x : Context) (ts : List TokenAndSpan) → f x ts ≡ g x ts) → On model sure f g b b
+  pub on_here : {A : Type 0} {f g : Reader A} (laws : Laws model) (b : Buffer S) → ((x : Scope) (ts : List TokenAndSpan) → f x ts ≡ g x ts) → On model sure f g b b
   unfolding here
-  on_here laws b step = record { leads = here laws b; clean = λ l s ys f. step (context model b) ys; faulty = λ y l lt ts k. absurd (omega (arith, lt)) }
+  on_here laws b step = record { leads = here laws b; clean = λ l s ys f. step (scope model b) ys; faulty = λ y l lt ts k. absurd (omega (arith, lt)) }
 
-  pub on_by : {A : Type 0} {f g h : Reader A} {b c : Buffer S} → ((x : Context) (ts : List TokenAndSpan) → f x ts ≡ g x ts) → On model sure g h b c → On model sure f h b c
+  pub on_by : {A : Type 0} {f g h : Reader A} {b c : Buffer S} → ((x : Scope) (ts : List TokenAndSpan) → f x ts ≡ g x ts) → On model sure g h b c → On model sure f h b c
   on_by {b = b} step o = record {
     leads = o.leads;
-    clean = λ l s ys f. step (context model b) (o.leads.taken ++ ys) ∙ o.clean l s ys f;
-    faulty = λ y l lt ts k. step (context model b) ts ∙ o.faulty y l lt ts k;
+    clean = λ l s ys f. step (scope model b) (o.leads.taken ++ ys) ∙ o.clean l s ys f;
+    faulty = λ y l lt ts k. step (scope model b) ts ∙ o.faulty y l lt ts k;
   }
 
   -- a look: f is g where the list to come begins with what is seen
-  pub on_seen : {A : Type 0} {f g : Reader A} {b c : Buffer S} → Here model b c → ((x : Context) (ts : List TokenAndSpan) → x ≡ context model c → first ts ≡ seen c → f x ts ≡ g x ts) → On model sure f g b c
+  pub on_seen : {A : Type 0} {f g : Reader A} {b c : Buffer S} → Here model b c → ((x : Scope) (ts : List TokenAndSpan) → x ≡ scope model c → first ts ≡ seen c → f x ts ≡ g x ts) → On model sure f g b c
   on_seen {g = g} {b = b} {c = c} h step = record {
     leads = record { laws = h.laws; taken = []; read = h.looked.look.read; lives = served_lives h.served };
-    clean = λ l s ys f. step (context model b) ys (sym h.looked.look.read.context) (begins c.cur refl h ys f) ∙ ap (λ x. g x ys) (sym h.looked.look.read.context);
+    clean = λ l s ys f. step (scope model b) ys (sym (read_scope h.laws h.looked.look.read)) (begins c.cur refl h ys f) ∙ ap (λ x. g x ys) (sym (read_scope h.laws h.looked.look.read));
     faulty = λ y l lt ts k. let e = ap length (h.looked.look.quiet k.more k.known).0 in absurd (omega (arith, lt, e));
   }
 
   -- a look, and one ahead by which is told whether the tokens to come pass the test
-  pub on_told : {A : Type 0} {f g : Reader A} {V : Type 0} {test : List TokenAndSpan → V} {v : V} {a b c : Buffer S} → Here model a b → Told model test v b c → ((x : Context) (ts : List TokenAndSpan) → x ≡ context model c → first ts ≡ seen c → test ts ≡ v → f x ts ≡ g x ts) → On model sure f g a c
+  pub on_told : {A : Type 0} {f g : Reader A} {V : Type 0} {test : List TokenAndSpan → V} {v : V} {a b c : Buffer S} → Here model a b → Told model test v b c → ((x : Scope) (ts : List TokenAndSpan) → x ≡ scope model c → first ts ≡ seen c → test ts ≡ v → f x ts ≡ g x ts) → On model sure f g a c
   on_told {g = g} {a = a} {b = b} {c = c} h t step =
       let look = h.looked.look in
-      let same = t.still.read.context ∙ look.read.context in
+      let same = read_scope t.laws t.still.read ∙ read_scope h.laws look.read in
       record {
         leads = record { laws = h.laws; taken = []; read = Read-then h.laws a b c [] [] look.read t.still.read; lives = λ f. served_lives h.served (t.lives f) };
         clean = λ l s ys fut.
             let at = begins b.cur refl h ys (Future-before h.laws b c [] ys t.still.read.took fut) ∙ ap seen_of (sym t.current) in
-            step (context model a) ys (sym same) at (t.told ys fut at) ∙ ap (λ x. g x ys) (sym same);
+            step (scope model a) ys (sym same) at (t.told ys fut at) ∙ ap (λ x. g x ys) (sym same);
         faulty = λ y l lt ts k.
             let w = Known-after h.laws a b [] ts look.read.took k in
             let e1 = ap length (look.quiet k.more k.known).0 in
@@ -289,10 +318,10 @@ module _ {S : Type 0} {model : Model S} {sure : Bool} where
       }
 
   -- a token was consumed
-  pub on_took : {A : Type 0} {f g : Reader A} {b c : Buffer S} {t : Token} → (laws : Laws model) (h : Bumped model b t c) → ((x : Context) (ts : List TokenAndSpan) → f x (plain h.was ∷ ts) ≡ g x ts) → On model sure f g b c
+  pub on_took : {A : Type 0} {f g : Reader A} {b c : Buffer S} {t : Token} → (laws : Laws model) (h : Bumped model b t c) → ((x : Scope) (ts : List TokenAndSpan) → f x (plain h.was ∷ ts) ≡ g x ts) → On model sure f g b c
   on_took {g = g} {b = b} {c = c} laws h step = record {
     leads = record { laws = laws; taken = plain h.was ∷ []; read = h.read; lives = (took_leads laws h).lives };
-    clean = λ l s ys f. step (context model b) ys ∙ ap (λ x. g x ys) (sym h.read.context);
+    clean = λ l s ys f. step (scope model b) ys ∙ ap (λ x. g x ys) (sym (read_scope laws h.read));
     faulty = λ y l lt ts k. let e = ap (λ z. recorded model z) h.now in absurd (omega (arith, lt, e));
   }
 
@@ -308,7 +337,7 @@ module _ {S : Type 0} {model : Model S} {sure : Bool} where
         clean = λ l s ys fut.
             let s1 : recorded model c ≡ recorded model b = omega arith in
             let s2 : recorded model d ≡ recorded model c = omega arith in
-            ap (λ v. f (context model b) v) (append_assoc p.leads.taken q.leads.taken ys)
+            ap (λ v. f (scope model b) v) (append_assoc p.leads.taken q.leads.taken ys)
             ∙ p.clean l s1 (q.leads.taken ++ ys) (Future-before laws c d q.leads.taken ys q.leads.read.took fut)
             ∙ q.clean (loud_after p.leads l) s2 ys fut;
         faulty = λ y l lt ts k. ⊎_elim
@@ -317,35 +346,35 @@ module _ {S : Type 0} {model : Model S} {sure : Bool} where
             let s1 : recorded model c ≡ recorded model b = omega arith in
             let lt2 : recorded model c < recorded model d = omega arith in
             let w = Known-after laws b c p.leads.taken ts p.leads.read.took k in
-            ap (λ v. f (context model b) v) w.2 ∙ p.clean l s1 w.0 (Known-Future laws c w.0 w.1) ∙ q.faulty y (loud_after p.leads l) lt2 w.0 w.1)
+            ap (λ v. f (scope model b) v) w.2 ∙ p.clean l s1 w.0 (Known-Future laws c w.0 w.1) ∙ q.faulty y (loud_after p.leads l) lt2 w.0 w.1)
             (cases_lt (recorded model b) (recorded model c));
       }
 
   -- q is called, and k goes on
-  pub on_call : {A B : Type 0} {f : Reader A} {q : Reader B} {t : B} {b c : Buffer S} (k : Context → B × List TokenAndSpan → Out A) → ((x : Context) (ts : List TokenAndSpan) → f x ts ≡ (q x ts >>= k x)) →
+  pub on_call : {A B : Type 0} {f : Reader A} {q : Reader B} {t : B} {b c : Buffer S} (k : Scope → B × List TokenAndSpan → Out A) → ((x : Scope) (ts : List TokenAndSpan) → f x ts ≡ (q x ts >>= k x)) →
       On model sure q (give t) b c → On model sure f (λ x ts. k x (t, ts)) b c
   on_call {t = t} {b = b} {c = c} k step o = record {
     leads = o.leads;
-    clean = λ l s ys f. step (context model b) (o.leads.taken ++ ys) ∙ ap (λ v. v >>= k (context model b)) (o.clean l s ys f) ∙ ap (λ x. k x (t, ys)) (sym o.leads.read.context);
-    faulty = λ y l lt ts h. step (context model b) ts ∙ ap (λ v. v >>= k (context model b)) (o.faulty y l lt ts h);
+    clean = λ l s ys f. step (scope model b) (o.leads.taken ++ ys) ∙ ap (λ v. v >>= k (scope model b)) (o.clean l s ys f) ∙ ap (λ x. k x (t, ys)) (sym (read_scope o.leads.laws o.leads.read));
+    faulty = λ y l lt ts h. step (scope model b) ts ∙ ap (λ v. v >>= k (scope model b)) (o.faulty y l lt ts h);
   }
 
   -- all is well, or a fault was recorded and f reads nothing
-  passed : {A : Type 0} {f g : Reader A} {b c : Buffer S} (p : Leads model b c) → p.taken ≡ [] → recorded model c ≡ recorded model b → ((ts : List TokenAndSpan) → f (context model b) ts ≡ g (context model b) ts) → On model sure f g b c
+  passed : {A : Type 0} {f g : Reader A} {b c : Buffer S} (p : Leads model b c) → p.taken ≡ [] → recorded model c ≡ recorded model b → ((ts : List TokenAndSpan) → f (scope model b) ts ≡ g (scope model b) ts) → On model sure f g b c
   passed {f = f} {g = g} {b = b} p none same step = record {
     leads = p;
-    clean = λ l s ys fut. ap (λ v. f (context model b) (v ++ ys)) none ∙ step ys ∙ ap (λ x. g x ys) (sym p.read.context);
+    clean = λ l s ys fut. ap (λ v. f (scope model b) (v ++ ys)) none ∙ step ys ∙ ap (λ x. g x ys) (sym (read_scope p.laws p.read));
     faulty = λ y l lt ts k. absurd (omega (arith, lt, same));
   }
 
-  noted : {A : Type 0} {f g : Reader A} {b c : Buffer S} → Leads model b c → (Loud model b → recorded model b < recorded model c) → ((ts : List TokenAndSpan) → f (context model b) ts ≡ None) → On model sure f g b c
+  noted : {A : Type 0} {f g : Reader A} {b c : Buffer S} → Leads model b c → (Loud model b → recorded model b < recorded model c) → ((ts : List TokenAndSpan) → f (scope model b) ts ≡ None) → On model sure f g b c
   noted {b = b} p lt none = record {
     leads = p;
     clean = λ l s ys f. let m = lt l in absurd (omega (arith, s, m));
     faulty = λ y l m ts k. none ts;
   }
 
-  noted_seen : {A : Type 0} {f g : Reader A} {b c : Buffer S} → Leads model b c → (Loud model b → recorded model b < recorded model c) → ((ts : List TokenAndSpan) → Known model b ts → f (context model b) ts ≡ None) → On model sure f g b c
+  noted_seen : {A : Type 0} {f g : Reader A} {b c : Buffer S} → Leads model b c → (Loud model b → recorded model b < recorded model c) → ((ts : List TokenAndSpan) → Known model b ts → f (scope model b) ts ≡ None) → On model sure f g b c
   noted_seen {b = b} p lt none = record {
     leads = p;
     clean = λ l s ys f. let m = lt l in absurd (omega (arith, s, m));
@@ -353,19 +382,19 @@ module _ {S : Type 0} {model : Model S} {sure : Bool} where
   }
 
   pub on_checked_in : {A : Type 0} {f g : Reader A} {b c : Buffer S} (well : Bool) → Checks model well b c →
-      ((ts : List TokenAndSpan) → well ≡ true → f (context model b) ts ≡ g (context model b) ts) → ((ts : List TokenAndSpan) → well ≡ false → f (context model b) ts ≡ None) → On model sure f g b c
+      ((ts : List TokenAndSpan) → well ≡ true → f (scope model b) ts ≡ g (scope model b) ts) → ((ts : List TokenAndSpan) → well ≡ false → f (scope model b) ts ≡ None) → On model sure f g b c
   on_checked_in true h goes fails = let p = h.passes refl in passed h.leads p.0 p.1 (λ ts. goes ts refl)
   on_checked_in false h goes fails = noted h.leads (h.notes refl) (λ ts. fails ts refl)
 
   pub on_checked : {A : Type 0} {f g : Reader A} {b c : Buffer S} (well : Bool) → Checks model well b c →
-      ((x : Context) (ts : List TokenAndSpan) → well ≡ true → f x ts ≡ g x ts) → ((x : Context) (ts : List TokenAndSpan) → well ≡ false → f x ts ≡ None) → On model sure f g b c
-  on_checked {b = b} well h goes fails = on_checked_in well h (λ ts. goes (context model b) ts) (λ ts. fails (context model b) ts)
+      ((x : Scope) (ts : List TokenAndSpan) → well ≡ true → f x ts ≡ g x ts) → ((x : Scope) (ts : List TokenAndSpan) → well ≡ false → f x ts ≡ None) → On model sure f g b c
+  on_checked {b = b} well h goes fails = on_checked_in well h (λ ts. goes (scope model b) ts) (λ ts. fails (scope model b) ts)
 
   -- a look that finds a token
   pub on_looked : {A : Type 0} {f : Reader A} {b c : Buffer S} → Laws model → Looked model b c → IsSome (current c) → On model sure f f b c
   on_looked {f = f} {b = b} laws h some = record {
     leads = record { laws = laws; taken = []; read = h.look.read; lives = h.lives some };
-    clean = λ l s ys fut. ap (λ x. f x ys) (sym h.look.read.context);
+    clean = λ l s ys fut. ap (λ x. f x ys) (sym (read_scope laws h.look.read));
     faulty = λ y l lt ts k. let e = ap length (h.look.quiet k.more k.known).0 in absurd (omega (arith, lt, e));
   }
 
@@ -406,14 +435,14 @@ module _ {S : Type 0} {model : Model S} {sure : Bool} where
       }
 
   -- Where f reads nothing of any list, what is heard is a fault that was recorded: whatever it stands for, and whatever follows.
-  pub heard_none : {A : Type 0} {f : Reader A} {t u : A} {b c : Buffer S} → ((x : Context) (ts : List TokenAndSpan) → f x ts ≡ None) → Heard model sure f t b c → Heard model sure f u b c
+  pub heard_none : {A : Type 0} {f : Reader A} {t u : A} {b c : Buffer S} → ((x : Scope) (ts : List TokenAndSpan) → f x ts ≡ None) → Heard model sure f t b c → Heard model sure f u b c
   heard_none {b = b} none h = record {
     on = record {
       leads = h.on.leads;
-      clean = λ l s ys fut. let e = sym (none (context model b) (h.on.leads.taken ++ ys)) ∙ h.on.clean l s ys fut in absurd cc;
+      clean = λ l s ys fut. let e = sym (none (scope model b) (h.on.leads.taken ++ ys)) ∙ h.on.clean l s ys fut in absurd cc;
       faulty = h.on.faulty;
     };
-    some = h.some;
+    onward = h.onward;
   }
 
   pub on_nothing : {A B : Type 0} {g : Reader A} {v : B} {b c : Buffer S} → Heard model sure nothing v b c → On model sure nothing g b c
@@ -436,15 +465,15 @@ module _ {S : Type 0} {model : Model S} {sure : Bool} where
               let e = h.on.clean l s1 (q.taken ++ ys) (Future-before q.laws c d q.taken ys q.read.took fut) in absurd cc;
           faulty = λ y l lt ts k. refl;
         };
-        some = let l = length-append h.on.leads.taken q.taken in let s = h.some in omega arith;
+        onward = onward_then h.onward q;
       }
 
   -- a fault is recorded behind what was consumed
-  pub heard_noted : {A : Type 0} {u : A} {b c d : Buffer S} (p : Leads model b c) → 1 ≤ length p.taken → (q : Leads model c d) → (Loud model c → recorded model c < recorded model d) → Heard model sure nothing u b d
+  pub heard_noted : {A : Type 0} {u : A} {b c d : Buffer S} (p : Leads model b c) → Onward model b p.taken c → (q : Leads model c d) → (Loud model c → recorded model c < recorded model d) → Heard model sure nothing u b d
   unfolding leads_then noted
-  heard_noted p some q lt = record {
+  heard_noted p onward q lt = record {
     on = noted (leads_then p q) (λ l. let m = more_recorded p in let k = lt (loud_after p l) in omega arith) (λ ts. refl);
-    some = let l = length-append p.taken q.taken in omega arith;
+    onward = onward_then onward q;
   }
 
   pub unheard_doomed : {A : Type 0} {f : Reader A} {b c d : Buffer S} {e x : Error} → Unheard model sure f b e c → (x.kind ≢ OutOfMemory → e.kind ≢ OutOfMemory) → Refuses model c x d → Unheard model sure f b x d
@@ -459,9 +488,9 @@ module _ {S : Type 0} {model : Model S} {sure : Bool} where
 
   -- ---- refusals
 
-  pub unheard_call : {A B : Type 0} {f : Reader A} {q : Reader B} {b c : Buffer S} {e : Error} (k : Context → B × List TokenAndSpan → Out A) → ((x : Context) (ts : List TokenAndSpan) → f x ts ≡ (q x ts >>= k x)) →
+  pub unheard_call : {A B : Type 0} {f : Reader A} {q : Reader B} {b c : Buffer S} {e : Error} (k : Scope → B × List TokenAndSpan → Out A) → ((x : Scope) (ts : List TokenAndSpan) → f x ts ≡ (q x ts >>= k x)) →
       Unheard model sure q b e c → Unheard model sure f b e c
-  unheard_call {b = b} k step u = record { refuses = u.refuses; none = λ n y l ts h. step (context model b) ts ∙ ap (λ v. v >>= k (context model b)) (u.none n y l ts h) }
+  unheard_call {b = b} k step u = record { refuses = u.refuses; none = λ n y l ts h. step (scope model b) ts ∙ ap (λ v. v >>= k (scope model b)) (u.none n y l ts h) }
 
   pub unheard_after : {A : Type 0} {f g : Reader A} {b c d : Buffer S} {e : Error} → On model sure f g b c → Unheard model sure g c e d → Unheard model sure f b e d
   unheard_after {f = f} {b = b} {c = c} p u = record {
@@ -473,7 +502,7 @@ module _ {S : Type 0} {model : Model S} {sure : Bool} where
         let s : recorded model c ≡ recorded model b = omega arith in
         let laws = p.leads.laws in
         let w = Known-after laws b c p.leads.taken ts p.leads.read.took k in
-        ap (λ v. f (context model b) v) w.2 ∙ p.clean l s w.0 (Known-Future laws c w.0 w.1) ∙ u.none n y (loud_after p.leads l) w.0 w.1)
+        ap (λ v. f (scope model b) v) w.2 ∙ p.clean l s w.0 (Known-Future laws c w.0 w.1) ∙ u.none n y (loud_after p.leads l) w.0 w.1)
         (cases_lt (recorded model b) (recorded model c));
   }
 
@@ -489,19 +518,19 @@ module _ {S : Type 0} {model : Model S} {sure : Bool} where
         };
         none = λ n y loud ts k.
             let w = Known-after laws b c [] ts l.look.read.took k in
-            ap (λ v. f (context model b) v) w.2 ∙ ap (λ x. f x w.0) (sym l.look.read.context) ∙ u.none n y (loud_spent here loud) w.0 w.1;
+            ap (λ v. f (scope model b) v) w.2 ∙ ap (λ x. f x w.0) (sym (read_scope laws l.look.read)) ∙ u.none n y (loud_spent here loud) w.0 w.1;
       }
 
   -- f reads nothing of any list
-  pub unheard_none : {A : Type 0} {f : Reader A} {b c : Buffer S} {e : Error} → ((x : Context) (ts : List TokenAndSpan) → f x ts ≡ None) → Refuses model b e c → Unheard model sure f b e c
-  unheard_none {b = b} none r = record { refuses = r; none = λ n y l ts k. none (context model b) ts }
+  pub unheard_none : {A : Type 0} {f : Reader A} {b c : Buffer S} {e : Error} → ((x : Scope) (ts : List TokenAndSpan) → f x ts ≡ None) → Refuses model b e c → Unheard model sure f b e c
+  unheard_none {b = b} none r = record { refuses = r; none = λ n y l ts k. none (scope model b) ts }
 
   -- f reads nothing of a list that begins with what is seen
-  pub unheard_at : {A : Type 0} {f : Reader A} {b c d : Buffer S} {e : Error} → Here model b c → ((x : Context) (ts : List TokenAndSpan) → x ≡ context model c → first ts ≡ seen c → f x ts ≡ None) → Refuses model c e d → Unheard model sure f b e d
+  pub unheard_at : {A : Type 0} {f : Reader A} {b c d : Buffer S} {e : Error} → Here model b c → ((x : Scope) (ts : List TokenAndSpan) → x ≡ scope model c → first ts ≡ seen c → f x ts ≡ None) → Refuses model c e d → Unheard model sure f b e d
   unheard_at {A = A} {f = f} h none r = let n : Reader A = λ x ts. None in unheard_after (on_seen {g = n} h none) (unheard_none {f = n} (λ x ts. refl) r)
 
   -- the same, where it is told of the list
-  pub unheard_told : {A : Type 0} {f : Reader A} {V : Type 0} {test : List TokenAndSpan → V} {v : V} {a b c d : Buffer S} {e : Error} → Here model a b → Told model test v b c → ((x : Context) (ts : List TokenAndSpan) → x ≡ context model c → first ts ≡ seen c → test ts ≡ v → f x ts ≡ None) → Refuses model c e d → Unheard model sure f a e d
+  pub unheard_told : {A : Type 0} {f : Reader A} {V : Type 0} {test : List TokenAndSpan → V} {v : V} {a b c d : Buffer S} {e : Error} → Here model a b → Told model test v b c → ((x : Scope) (ts : List TokenAndSpan) → x ≡ scope model c → first ts ≡ seen c → test ts ≡ v → f x ts ≡ None) → Refuses model c e d → Unheard model sure f a e d
   unheard_told {A = A} {f = f} h t none r = let n : Reader A = λ x ts. None in unheard_after (on_told {g = n} h t none) (unheard_none {f = n} (λ x ts. refl) r)
 
   pub unheard_memory : {A : Type 0} {f : Reader A} {b c : Buffer S} {e : Error} → Forgoes model b e c → Unheard model sure f b e c
@@ -510,28 +539,28 @@ module _ {S : Type 0} {model : Model S} {sure : Bool} where
   -- ---- answers
 
   pub heard_after : {A : Type 0} {f g : Reader A} {t : A} {b c d : Buffer S} → On model sure f g b c → Heard model sure g t c d → Heard model sure f t b d
-  unfolding on_then leads_then
-  heard_after p h = record { on = on_then p h.on; some = let l = length-append p.leads.taken h.on.leads.taken in let s = h.some in omega arith }
+  unfolding on_then leads_then spent
+  heard_after p h = record { on = on_then p h.on; onward = onward_later (spent p.leads) h.onward }
 
-  pub heard_then : {A : Type 0} {f g : Reader A} {t : A} {b c d : Buffer S} (p : On model sure f g b c) → 1 ≤ length p.leads.taken → On model sure g (give t) c d → Heard model sure f t b d
+  pub heard_then : {A : Type 0} {f g : Reader A} {t : A} {b c d : Buffer S} (p : On model sure f g b c) → Onward model b p.leads.taken c → On model sure g (give t) c d → Heard model sure f t b d
   unfolding on_then leads_then
-  heard_then p s q = record { on = on_then p q; some = let l = length-append p.leads.taken q.leads.taken in omega arith }
+  heard_then p s q = record { on = on_then p q; onward = onward_then s q.leads }
 
-  pub on_to : {A : Type 0} {f g h : Reader A} {b c : Buffer S} → On model sure f g b c → ((x : Context) (ts : List TokenAndSpan) → g x ts ≡ h x ts) → On model sure f h b c
-  on_to {c = c} o same = record { leads = o.leads; clean = λ l s ys k. o.clean l s ys k ∙ same (context model c) ys; faulty = o.faulty }
+  pub on_to : {A : Type 0} {f g h : Reader A} {b c : Buffer S} → On model sure f g b c → ((x : Scope) (ts : List TokenAndSpan) → g x ts ≡ h x ts) → On model sure f h b c
+  on_to {c = c} o same = record { leads = o.leads; clean = λ l s ys k. o.clean l s ys k ∙ same (scope model c) ys; faulty = o.faulty }
 
   -- what was read, and what k makes of it
-  pub heard_call : {A B : Type 0} {f : Reader A} {q : Reader B} {t : B} {u : A} {b c : Buffer S} (k : Context → B × List TokenAndSpan → Out A) → ((x : Context) (ts : List TokenAndSpan) → f x ts ≡ (q x ts >>= k x)) →
-      ((x : Context) (ts : List TokenAndSpan) → k x (t, ts) ≡ Some (u, ts)) → Heard model sure q t b c → Heard model sure f u b c
+  pub heard_call : {A B : Type 0} {f : Reader A} {q : Reader B} {t : B} {u : A} {b c : Buffer S} (k : Scope → B × List TokenAndSpan → Out A) → ((x : Scope) (ts : List TokenAndSpan) → f x ts ≡ (q x ts >>= k x)) →
+      ((x : Scope) (ts : List TokenAndSpan) → k x (t, ts) ≡ Some (u, ts)) → Heard model sure q t b c → Heard model sure f u b c
   unfolding on_call on_to
   heard_call {q = q} {t = t} {u = u} {b = b} {c = c} k step ends h =
-      record { on = on_to (on_call k step h.on) ends; some = h.some }
+      record { on = on_to (on_call k step h.on) ends; onward = h.onward }
 
   -- what was read, and what is read behind it
-  pub heard_more : {A B : Type 0} {f : Reader A} {q : Reader B} {t : B} {u : A} {b c d : Buffer S} (k : Context → B × List TokenAndSpan → Out A) → ((x : Context) (ts : List TokenAndSpan) → f x ts ≡ (q x ts >>= k x)) →
+  pub heard_more : {A B : Type 0} {f : Reader A} {q : Reader B} {t : B} {u : A} {b c d : Buffer S} (k : Scope → B × List TokenAndSpan → Out A) → ((x : Scope) (ts : List TokenAndSpan) → f x ts ≡ (q x ts >>= k x)) →
       Heard model sure q t b c → On model sure (λ x ts. k x (t, ts)) (give u) c d → Heard model sure f u b d
   unfolding on_call
-  heard_more k step h o = heard_then (on_call k step h.on) h.some o
+  heard_more k step h o = heard_then (on_call k step h.on) h.onward o
 
   -- a refusal that is made another
   pub unheard_as : {A : Type 0} {f : Reader A} {b c : Buffer S} {e : Error} (x : Error) → x.kind ≢ ParserFailed → (e.kind ≡ OutOfMemory → x.kind ≡ OutOfMemory) → Unheard model sure f b e c → Unheard model sure f b x c
@@ -541,9 +570,9 @@ module _ {S : Type 0} {model : Model S} {sure : Bool} where
   }
 
   -- what was read is made into something else
-  pub heard_as : {A B : Type 0} {f : Reader A} {q : Reader B} {t : B} {b c : Buffer S} (k : B → A) → ((x : Context) (ts : List TokenAndSpan) → f x ts ≡ (q x ts >>= (λ p. Some (k p.0, p.1)))) → Heard model sure q t b c → Heard model sure f (k t) b c
+  pub heard_as : {A B : Type 0} {f : Reader A} {q : Reader B} {t : B} {b c : Buffer S} (k : B → A) → ((x : Scope) (ts : List TokenAndSpan) → f x ts ≡ (q x ts >>= (λ p. Some (k p.0, p.1)))) → Heard model sure q t b c → Heard model sure f (k t) b c
   unfolding on_call
-  heard_as k step h = record { on = on_call (λ x p. Some (k p.0, p.1)) step h.on; some = h.some }
+  heard_as k step h = record { on = on_call (λ x p. Some (k p.0, p.1)) step h.on; onward = h.onward }
 
 module _ {S : Type 0} {model : Model S} where
   -- the list to come begins with the current token
@@ -552,14 +581,14 @@ module _ {S : Type 0} {model : Model S} where
 
 module _ {S : Type 0} {model : Model S} {sure : Bool} where
   -- q is called, and what it read is all; but for a fault that is recorded where f reads nothing of what is seen
-  pub heard_unless : {A B : Type 0} {f : Reader A} {q : Reader B} {n : B} {t : A} {b c d : Buffer S} (bad : Bool) (k : Context → B × List TokenAndSpan → Out A) → ((x : Context) (ts : List TokenAndSpan) → f x ts ≡ (q x ts >>= k x)) →
-      ((x : Context) (ts : List TokenAndSpan) → k x (n, ts) ≡ Some (t, ts)) → IsSome (current b) → Heard model sure q n b c → Checks model (not bad) c d →
-      (bad ≡ true → (ts : List TokenAndSpan) → first ts ≡ seen b → f (context model b) ts ≡ None) → Heard model sure f t b d
+  pub heard_unless : {A B : Type 0} {f : Reader A} {q : Reader B} {n : B} {t : A} {b c d : Buffer S} (bad : Bool) (k : Scope → B × List TokenAndSpan → Out A) → ((x : Scope) (ts : List TokenAndSpan) → f x ts ≡ (q x ts >>= k x)) →
+      ((x : Scope) (ts : List TokenAndSpan) → k x (n, ts) ≡ Some (t, ts)) → IsSome (current b) → Heard model sure q n b c → Checks model (not bad) c d →
+      (bad ≡ true → (ts : List TokenAndSpan) → first ts ≡ seen b → f (scope model b) ts ≡ None) → Heard model sure f t b d
   unfolding leads_then on_call noted_seen
-  heard_unless {t = t} {b = b} false k step ends some h checks none = heard_then (on_call k step h.on) h.some (on_checked {g = give t} true checks (λ x ts w. ends x ts) (λ x ts w. cc))
+  heard_unless {t = t} {b = b} false k step ends some h checks none = heard_then (on_call k step h.on) h.onward (on_checked {g = give t} true checks (λ x ts w. ends x ts) (λ x ts w. cc))
   heard_unless {b = b} true k step ends some h checks none = record {
     on = noted_seen (leads_then h.on.leads checks.leads) (λ l. let m = more_recorded h.on.leads in let k = checks.notes refl (loud_after h.on.leads l) in omega arith) (λ ts known. none refl ts (known_first h.on.leads.laws b some ts known));
-    some = let l = length-append h.on.leads.taken checks.leads.taken in let s = h.some in omega arith;
+    onward = onward_then h.onward checks.leads;
   }
 
 module _ {S : Type 0} {model : Model S} where
@@ -600,7 +629,7 @@ module _ {S : Type 0} {model : Model S} where
 
 module _ {S : Type 0} {model : Model S} {sure : Bool} where
   -- f reads nothing at an error token, nor at the end
-  pub unheard_unfit : {A : Type 0} {f : Reader A} {b c : Buffer S} {e : Error} → Laws model → ((x : Context) (ts : List TokenAndSpan) → at_token no_error (first ts) ≡ false → f x ts ≡ None) → Unfit model b e c → Unheard model sure f b e c
+  pub unheard_unfit : {A : Type 0} {f : Reader A} {b c : Buffer S} {e : Error} → Laws model → ((x : Scope) (ts : List TokenAndSpan) → at_token no_error (first ts) ≡ false → f x ts ≡ None) → Unfit model b e c → Unheard model sure f b e c
   unheard_unfit {b = b} laws step u = record {
     refuses = record {
       spends = spends_then (record { laws = laws; taken = []; read = u.looked.look.read }) u.refuses.spends;
@@ -612,13 +641,13 @@ module _ {S : Type 0} {model : Model S} {sure : Bool} where
         let runs = (laws.lawful u.at.iter).sure w.1.more w.1.known in
         let here : Here model b u.at = record { laws = laws; looked = u.looked; served = record { before = λ f. absurd (let e : true ≡ false = sym f ∙ runs in cc) }; end = λ e. u.end e runs } in
         let first_is = begins u.at.cur refl here w.0 (Known-Future laws u.at w.0 w.1) in
-        step (context model b) ts (ap (λ v. at_token no_error (first v)) w.2 ∙ ap (at_token no_error) first_is ∙ u.unfit);
+        step (scope model b) ts (ap (λ v. at_token no_error (first v)) w.2 ∙ ap (at_token no_error) first_is ∙ u.unfit);
   }
 
   -- one token is all of it
-  pub heard_took : {A : Type 0} {f : Reader A} {t : A} {b c : Buffer S} {k : Token} (laws : Laws model) (h : Bumped model b k c) → ((x : Context) (ts : List TokenAndSpan) → f x (plain h.was ∷ ts) ≡ Some (t, ts)) → Heard model sure f t b c
+  pub heard_took : {A : Type 0} {f : Reader A} {t : A} {b c : Buffer S} {k : Token} (laws : Laws model) (h : Bumped model b k c) → ((x : Scope) (ts : List TokenAndSpan) → f x (plain h.was ∷ ts) ≡ Some (t, ts)) → Heard model sure f t b c
   unfolding on_took
-  heard_took {t = t} laws h step = record { on = on_took {g = give t} laws h step; some = omega arith }
+  heard_took {t = t} laws h step = record { on = on_took {g = give t} laws h step; onward = onward_one h }
 
 module _ {S : Type 0} {model : Model S} where
   -- what is said of a token that was consumed, and of its place
@@ -633,9 +662,17 @@ module _ {S : Type 0} {model : Model S} where
 
 module _ {S : Type 0} {model : Model S} {sure : Bool} where
   -- a token, and what follows it
-  pub heard_first : {A : Type 0} {f g : Reader A} {t : A} {b c d : Buffer S} {k : Token} (laws : Laws model) (h : Bumped model b k c) → ((x : Context) (ts : List TokenAndSpan) → f x (plain h.was ∷ ts) ≡ g x ts) → On model sure g (give t) c d → Heard model sure f t b d
+  pub heard_first : {A : Type 0} {f g : Reader A} {t : A} {b c d : Buffer S} {k : Token} (laws : Laws model) (h : Bumped model b k c) → ((x : Scope) (ts : List TokenAndSpan) → f x (plain h.was ∷ ts) ≡ g x ts) → On model sure g (give t) c d → Heard model sure f t b d
   unfolding on_took
-  heard_first laws h step o = heard_then (on_took laws h step) (omega arith) o
+  heard_first laws h step o = heard_then (on_took laws h step) (onward_one h) o
+
+  -- tokens were consumed, where nothing is read, whatever they are
+  pub on_none : {A : Type 0} {f g : Reader A} {b c : Buffer S} → ((x : Scope) (ts : List TokenAndSpan) → f x ts ≡ None) → ((x : Scope) (ts : List TokenAndSpan) → g x ts ≡ None) → Leads model b c → On model sure f g b c
+  on_none {b = b} {c = c} none never p = record {
+    leads = p;
+    clean = λ l s ys fut. none (scope model b) (p.taken ++ ys) ∙ sym (never (scope model c) ys);
+    faulty = λ y l lt ts k. none (scope model b) ts;
+  }
 
   pub on_answer : {A : Type 0} {f : Reader A} {t u : A} {b c : Buffer S} → t ≡ u → On model sure f (give t) b c → On model sure f (give u) b c
   on_answer {A = A} {f = f} {b = b} {c = c} e o = let P : A → Type 0 = λ v. On model sure f (give v) b c in subst P e o
@@ -653,6 +690,15 @@ module _ {S : Type 0} {model : Model S} where
 
   pub here_leads : {b c : Buffer S} → Here model b c → Leads model b c
   here_leads h = record { laws = h.laws; taken = []; read = h.looked.look.read; lives = served_lives h.served }
+
+  -- the same, and a look ahead
+  pub told_leads : {V : Type 0} {test : List TokenAndSpan → V} {v : V} {b c d : Buffer S} → Here model b c → Told model test v c d → Leads model b d
+  told_leads h t = leads_then (here_leads h) (record { laws = t.laws; taken = []; read = t.still.read; lives = t.lives })
+
+  -- what was consumed, and a call that may consume nothing
+  pub acts_later : {T : Type 0} {b c : Buffer S} (d : Buffer S) (r : Result T Error) → Leads model b c → Acts model c r d → Acts model b r d
+  acts_later d (Ok x) p h = leads_then p h
+  acts_later d (Err e) p u = refuses_later p u
 
   -- ---- faults that are recorded unless all is well
 
@@ -712,8 +758,14 @@ module _ {S : Type 0} {model : Model S} where
       context = back;
       errors = Keeps-then _ _ _ (moved_kept m) (Keeps-then _ _ _ p.read.errors (moved_kept n));
       waiting = Keeps-then _ _ _ (moved_waiting m) (Keeps-then _ _ _ p.read.waiting (moved_waiting n));
-      lower = let a = m.stays in let l = p.read.lower in let z = n.stays in let k = length-append p.taken [] in omega arith;
+      lower = let a = m.stays in let l = p.read.lower in let z = n.stays in omega arith;
     };
+  }
+
+  onward_within : {b c d e : Buffer S} {xs : List TokenAndSpan} → Moves model b c → Onward model c xs d → Moves model d e → Onward model b (xs ++ []) e
+  onward_within {xs = xs} m s n = record {
+    some = let k = length-append xs [] in let l = s.some in omega arith;
+    less = let a = m.stays in let l = s.less in let z = n.stays in omega arith;
   }
 
   pub within : {b c d e : Buffer S} → Moves model b c → Leads model c d → Moves model d e → context model e ≡ context model b → Leads model b e
@@ -730,7 +782,7 @@ module _ {S : Type 0} {model : Model S} where
 
 module _ {S : Type 0} {model : Model S} {sure : Bool} where
   -- f reads what q reads with the context changed by w
-  pub on_within : {A : Type 0} {f q : Reader A} {t : A} {b c d e : Buffer S} (w : Context → Context) → ((x : Context) → (w x).ignore_error ≡ x.ignore_error) → ((x : Context) (ts : List TokenAndSpan) → f x ts ≡ q (w x) ts) →
+  pub on_within : {A : Type 0} {f q : Reader A} {t : A} {b c d e : Buffer S} (w : Context → Context) → ((x : Context) → (w x).ignore_error ≡ x.ignore_error) → ((x : Scope) (ts : List TokenAndSpan) → f x ts ≡ q (in_context w x) ts) →
       Moves model b c → context model c ≡ w (context model b) → On model sure q (give t) c d → Moves model d e → context model e ≡ context model b → On model sure f (give t) b e
   unfolding within within_spent spent
   on_within {f = f} {q = q} {t = t} {b = b} {c = c} {d = d} {e = e} w quiet step m to o n back =
@@ -741,15 +793,15 @@ module _ {S : Type 0} {model : Model S} {sure : Bool} where
         leads = within m o.leads n back;
         clean = λ l s ys fut.
             let s1 : recorded model d ≡ recorded model c = omega arith in
-            ap (λ v. f (context model b) v) (append_assoc o.leads.taken [] ys) ∙ step (context model b) (o.leads.taken ++ ys)
-            ∙ ap (λ x. q x (o.leads.taken ++ ys)) (sym to) ∙ o.clean (loud l) s1 ys (Future-before m.laws d e [] ys n.took fut);
+            ap (λ v. f (scope model b) v) (append_assoc o.leads.taken [] ys) ∙ step (scope model b) (o.leads.taken ++ ys)
+            ∙ ap (λ x. q x (o.leads.taken ++ ys)) (sym (moved_scope w m to)) ∙ o.clean (loud l) s1 ys (Future-before m.laws d e [] ys n.took fut);
         faulty = λ y l lt ts k.
             let lt1 : recorded model c < recorded model d = omega arith in
             let v = Known-after m.laws b c [] ts m.took k in
-            ap (λ x. f (context model b) x) v.2 ∙ step (context model b) v.0 ∙ ap (λ x. q x v.0) (sym to) ∙ o.faulty y (loud l) lt1 v.0 v.1;
+            ap (λ x. f (scope model b) x) v.2 ∙ step (scope model b) v.0 ∙ ap (λ x. q x v.0) (sym (moved_scope w m to)) ∙ o.faulty y (loud l) lt1 v.0 v.1;
       }
 
-  unheard_within : {A : Type 0} {f q : Reader A} {b c d e : Buffer S} {x : Error} (w : Context → Context) → ((x : Context) → (w x).ignore_error ≡ x.ignore_error) → ((x : Context) (ts : List TokenAndSpan) → f x ts ≡ q (w x) ts) →
+  unheard_within : {A : Type 0} {f q : Reader A} {b c d e : Buffer S} {x : Error} (w : Context → Context) → ((x : Context) → (w x).ignore_error ≡ x.ignore_error) → ((x : Scope) (ts : List TokenAndSpan) → f x ts ≡ q (in_context w x) ts) →
       Moves model b c → context model c ≡ w (context model b) → Unheard model sure q c x d → Moves model d e → context model e ≡ context model b → Unheard model sure f b x e
   unheard_within {f = f} {q = q} {b = b} {c = c} w quiet step m to u n back = record {
     refuses = record {
@@ -759,7 +811,7 @@ module _ {S : Type 0} {model : Model S} {sure : Bool} where
     };
     none = λ z y l ts k.
         let v = Known-after m.laws b c [] ts m.took k in
-        ap (λ x. f (context model b) x) v.2 ∙ step (context model b) v.0 ∙ ap (λ x. q x v.0) (sym to) ∙ u.none z y (loud_within m (ap (λ x. x.ignore_error) to ∙ quiet (context model b)) l) v.0 v.1;
+        ap (λ x. f (scope model b) x) v.2 ∙ step (scope model b) v.0 ∙ ap (λ x. q x v.0) (sym (moved_scope w m to)) ∙ u.none z y (loud_within m (ap (λ x. x.ignore_error) to ∙ quiet (context model b)) l) v.0 v.1;
   }
 
 module _ {S : Type 0} (model : Model S) (sure : Bool) {T A : Type 0} (view : T → A) (f : Reader A) where
@@ -772,26 +824,31 @@ module _ {S : Type 0} (model : Model S) (sure : Bool) {T A : Type 0} (view : T �
   continues_after d (Err e) p h = unheard_after p h
 
   -- once something was consumed, what may consume nothing reads
-  pub parses_then : {g : Reader A} {b c : Buffer S} (d : Buffer S) (r : Result T Error) (p : On model sure f g b c) → 1 ≤ length p.leads.taken → Continues model sure view g c r d → Parses model sure view f b r d
+  pub parses_then : {g : Reader A} {b c : Buffer S} (d : Buffer S) (r : Result T Error) (p : On model sure f g b c) → Onward model b p.leads.taken c → Continues model sure view g c r d → Parses model sure view f b r d
   parses_then d (Ok x) p s h = heard_then p s h
   parses_then d (Err e) p s h = unheard_after p h
 
-  pub parses_within : (q : Reader A) {b c d e : Buffer S} (r : Result T Error) (w : Context → Context) → ((x : Context) → (w x).ignore_error ≡ x.ignore_error) → ((x : Context) (ts : List TokenAndSpan) → f x ts ≡ q (w x) ts) →
+  -- once a token was consumed
+  pub parses_first : {g : Reader A} {b c : Buffer S} {k : Token} (laws : Laws model) (h : Bumped model b k c) → ((x : Scope) (ts : List TokenAndSpan) → f x (plain h.was ∷ ts) ≡ g x ts) → (d : Buffer S) (r : Result T Error) → Continues model sure view g c r d → Parses model sure view f b r d
+  parses_first laws h step d (Ok x) o = heard_first laws h step o
+  parses_first laws h step d (Err e) u = unheard_after (on_took laws h step) u
+
+  pub parses_within : (q : Reader A) {b c d e : Buffer S} (r : Result T Error) (w : Context → Context) → ((x : Context) → (w x).ignore_error ≡ x.ignore_error) → ((x : Scope) (ts : List TokenAndSpan) → f x ts ≡ q (in_context w x) ts) →
       Moves model b c → context model c ≡ w (context model b) → Parses model sure view q c r d → Moves model d e → context model e ≡ context model b → Parses model sure view f b r e
   unfolding on_within within within_spent spent
-  parses_within q (Ok x) w quiet step m to h n back = record { on = on_within w quiet step m to h.on n back; some = let l = length-append h.on.leads.taken [] in let s = h.some in omega arith }
+  parses_within q (Ok x) w quiet step m to h n back = record { on = on_within w quiet step m to h.on n back; onward = onward_within m h.onward n }
   parses_within q (Err x) w quiet step m to u n back = unheard_within w quiet step m to u n back
 
   -- what callers outside the productions are told
   pub consumes_of : (b c : Buffer S) (r : Result T Error) → Parses model sure view f b r c → Consumes model b r c
-  consumes_of b c (Ok x) h = record { leads = h.on.leads; some = h.some }
+  consumes_of b c (Ok x) h = record { leads = h.on.leads; onward = h.onward }
   consumes_of b c (Err e) u = u.refuses
 
 module _ {S : Type 0} (model : Model S) (sure : Bool) {T A : Type 0} (view : T → A) (f : Reader A) where
   -- what was read so far, one token at least, and what may consume nothing
-  pub consumes_then : {b c d : Buffer S} (p : Leads model b c) (q : Leads model c d) → 1 ≤ length q.taken → (e : Buffer S) (r : Result T Error) → Continues model sure view f d r e → Consumes model b r e
-  unfolding leads_then
-  consumes_then p q s e (Ok x) h = record { leads = leads_then (leads_then p q) h.leads; some = let k = length-append p.taken q.taken in let m = length-append (p.taken ++ q.taken) h.leads.taken in omega arith }
+  pub consumes_then : {b c d : Buffer S} (p : Leads model b c) (q : Leads model c d) → Onward model c q.taken d → (e : Buffer S) (r : Result T Error) → Continues model sure view f d r e → Consumes model b r e
+  unfolding leads_then spent
+  consumes_then p q s e (Ok x) h = record { leads = leads_then (leads_then p q) h.leads; onward = onward_then (onward_later (spent p) s) h.leads }
   consumes_then p q s e (Err x) u = refuses_later (leads_then p q) u.refuses
 
   pub notes_then : (b : Buffer S) {c d : Buffer S} → recorded model b < recorded model c → Leads model c d → (e : Buffer S) (r : Result T Error) → Continues model sure view f d r e → OnOk r (recorded model b < recorded model e)
@@ -821,7 +878,7 @@ module _ {S : Type 0} (model : Model S) (sure : Bool) {T A : Type 0} (view : T �
   pub parses_recovered : {b c : Buffer S} {e : Error} (d : Buffer S) (r : Result T Error) → Unheard model sure f b e c → Consumes model c r d →
       (Loud model c → OnOk r (recorded model c < recorded model d)) → OnOk r (e.kind ≢ OutOfMemory) → IfErr r (λ x. x.kind ≢ OutOfMemory → e.kind ≢ OutOfMemory) → Parses model sure view f b r d
   unfolding on_doomed leads_refused leads_then
-  parses_recovered d (Ok x) u t lt some memory = record { on = on_doomed u some t.leads lt; some = let l = length-append u.refuses.spends.taken t.leads.taken in let s = t.some in omega arith }
+  parses_recovered d (Ok x) u t lt some memory = record { on = on_doomed u some t.leads lt; onward = onward_later u.refuses.spends t.onward }
   parses_recovered d (Err y) u t lt some memory = unheard_doomed u memory t
 
 pub acts_of : {S T : Type 0} (model : Model S) (b c : Buffer S) (r : Result T Error) → Tries model b r c → Acts model b r c
@@ -863,11 +920,22 @@ module _ {S : Type 0} (model : Model S) (sure : Bool) where
   node_parses {A = A} view {f = f} {b = b} {c = c} at (Ok x) t same fails h = let P : A → Type 0 = λ v. Heard model sure f v b c in subst P (sym same) h
   node_parses view {c = c} at (Err x) t same fails h = unheard_memory (forgoes_later h.on.leads (forgoes_here h.on.leads.laws c at x fails))
 
+  -- the same, where nothing is read perhaps
+  pub node_continues : {T A : Type 0} (view : T → A) {f : Reader A} {b c : Buffer S} (at : BytePos) (r : Result T Error) (t : A) → IfOk r (λ x. view x ≡ t) → IfErr r (λ x. x ≡ no_memory at) → On model sure f (give t) b c → Continues model sure view f b r c
+  node_continues view at (Ok x) t same fails h = on_answer (sym same) h
+  node_continues view {c = c} at (Err x) t same fails h = unheard_memory (forgoes_later h.leads (forgoes_here h.leads.laws c at x fails))
+
   -- q is called, and what it read is gone on from
-  pub parses_call : {T A B : Type 0} (view : T → A) (f : Reader A) {q : Reader B} {t : B} {b c : Buffer S} (d : Buffer S) (r : Result T Error) (k : Context → B × List TokenAndSpan → Out A) → ((x : Context) (ts : List TokenAndSpan) → f x ts ≡ (q x ts >>= k x)) →
+  pub parses_call : {T A B : Type 0} (view : T → A) (f : Reader A) {q : Reader B} {t : B} {b c : Buffer S} (d : Buffer S) (r : Result T Error) (k : Scope → B × List TokenAndSpan → Out A) → ((x : Scope) (ts : List TokenAndSpan) → f x ts ≡ (q x ts >>= k x)) →
       Heard model sure q t b c → Continues model sure view (λ x ts. k x (t, ts)) c r d → Parses model sure view f b r d
   unfolding on_call
-  parses_call view f d r k step h s = parses_then model sure view f d r (on_call k step h.on) h.some s
+  parses_call view f d r k step h s = parses_then model sure view f d r (on_call k step h.on) h.onward s
+
+module _ {S : Type 0} (model : Model S) (sure : Bool) {T A : Type 0} (view : T → A) (f : Reader A) where
+  -- what may consume nothing, and is refused for want of memory alone, after a call like that
+  pub tries_then : {b c : Buffer S} (d : Buffer S) (r : Result T Error) → Leads model b c → Continues model sure view f c r d → IfErr r (λ e. e.kind ≡ OutOfMemory) → Tries model b r d
+  tries_then d (Ok x) p h memory = leads_then p h.leads
+  tries_then d (Err e) p u memory = forgoes_later p (record { spends = u.refuses.spends; kind = memory })
 
 module _ {S : Type 0} (model : Model S) where
   -- after a look, a call that records, and lowers the bound

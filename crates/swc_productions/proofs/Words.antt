@@ -36,7 +36,7 @@ is_clean c v = clean_by c.module v
 
 -- ---- texts
 
-is_same : (w t : List ℕ) → is_text w t ≡ true → w ≡ t
+pub is_same : (w t : List ℕ) → is_text w t ≡ true → w ≡ t
 is_same w t h = same_text w t (sym h)
 
 -- none of the texts is t, so what is one of them is another

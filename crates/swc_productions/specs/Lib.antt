@@ -1,6 +1,12 @@
+pub mod Bases
+pub mod Begins
 pub mod Keys
+pub mod Links
 pub mod Lists
 pub mod Methods
 pub mod Parsing
+pub mod Pieces
 pub mod Properties
 pub mod Readers
+pub mod Regexes
+pub mod Templates

@@ -1,6 +1,5 @@
 -- What the steps of the code read in properties that have a key, methods among them, by the clean parser.
 use Rattle.std.specs.Prelude.{Bool, true, false, List, Option, Some, None}
-use Rattle.swc_context.specs.declared.context.Context.{Context}
 use Rattle.swc_context.specs.declared.span.Span.{Span}
 use Rattle.swc_input.specs.declared.token.TokenAndSpan.{TokenAndSpan}
 use Rattle.swc_ast.specs.Spans.{prop_name_span}
@@ -8,6 +7,7 @@ use Rattle.swc_ast.specs.Tree.{Tree, span_of}
 use Rattle.swc_ast.specs.declared.function.Function.{Function}
 use Rattle.swc_ast.specs.declared.prop.PropName.{PropName}
 use Rattle.swc_bodies.specs.Readings.{Hook, is_async}
+use Rattle.swc_grammar.specs.Scope.{Scope}
 use Rattle.swc_grammar.specs.Symbols.{Key, AfterKey as Behind, Shell}
 use Rattle.swc_grammar.specs.Tokens.{is_get, is_set, is_star}
 use Rattle.swc_grammar.specs.Trees.{to, value_e, prop_of, method_e, getter_e}
@@ -75,10 +75,10 @@ after_parts (after.Value s e) = one_expr e
 after_parts (after.Method f) = flat param_parts f.params.items
 
 -- what a method of a kind begins with, before its key
-unfoldable pub async_star : Context → List TokenAndSpan → Out Span
+unfoldable pub async_star : Scope → List TokenAndSpan → Out Span
 async_star c ts = expected is_async c ts >>= (λ p. expected is_star c p.1 >>= (λ q. Some (p.0, q.1)))
 
-abbrev pub modifiers : MethodKind → Context → List TokenAndSpan → Out Span
+abbrev pub modifiers : MethodKind → Scope → List TokenAndSpan → Out Span
 modifiers kind.Generator c ts = expected is_star c ts
 modifiers kind.Async c ts = expected is_async c ts
 modifiers kind.AsyncGenerator c ts = async_star c ts
@@ -89,26 +89,26 @@ module _ {F C K : Type 0} (hook : Hook F C K) where
   -- ---- a key, and what stands behind it (13.2.5)
 
   -- behind the colon: the value
-  unfoldable pub after_colon : Context → List TokenAndSpan → Out (Tree F C K)
+  unfoldable pub after_colon : Scope → List TokenAndSpan → Out (Tree F C K)
   after_colon c ts = inside hook c ts >>= (λ p. Some (value_e (span_of p.0) p.0, p.1))
 
-  abbrev pub after_by : Option Span → Context → List TokenAndSpan → Out (Tree F C K)
+  abbrev pub after_by : Option Span → Scope → List TokenAndSpan → Out (Tree F C K)
   after_by (Some s) c ts = after_colon c ts
   after_by None c ts = run hook (sym (Shell false false)) c ts
 
   -- behind the key k
-  unfoldable pub behind_key : Tree F C K → Context → List TokenAndSpan → Out (Tree F C K)
+  unfoldable pub behind_key : Tree F C K → Scope → List TokenAndSpan → Out (Tree F C K)
   behind_key k c ts = run hook (sym Behind) c ts >>= (λ p. Some (prop_of k p.0, p.1))
 
   -- ---- methods (15.4)
 
   -- the function of a method of a kind
-  abbrev pub method_function : MethodKind → Context → List TokenAndSpan → Out (Tree F C K)
+  abbrev pub method_function : MethodKind → Scope → List TokenAndSpan → Out (Tree F C K)
   method_function m c ts = shell hook (of_setter m) (of_async m) (of_generator m) c ts
 
   -- a method of a kind that begins at s, from its key on, and behind the key k
-  unfoldable pub method_close : MethodKind → Span → Tree F C K → Context → List TokenAndSpan → Out (Tree F C K)
+  unfoldable pub method_close : MethodKind → Span → Tree F C K → Scope → List TokenAndSpan → Out (Tree F C K)
   method_close m s k c ts = method_function m c ts >>= (λ p. Some (method_tree m s k p.0, p.1))
 
-  unfoldable pub method_tail : MethodKind → Span → Context → List TokenAndSpan → Out (Tree F C K)
+  unfoldable pub method_tail : MethodKind → Span → Scope → List TokenAndSpan → Out (Tree F C K)
   method_tail m s c ts = run hook (sym Key) c ts >>= (λ p. method_close m s p.0 c p.1)

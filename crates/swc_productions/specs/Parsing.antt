@@ -2,10 +2,12 @@
 use Rattle.std.specs.Prelude.{◌≡◌, ◌≢◌, ℕ, ◌≤◌, ◌<◌, Bool, true, false, List, [], ◌∷◌, ◌++◌, Option, Some, None, Result}
 use Rattle.std.specs.Prelude.{MatchResult, MatchOption, OnOk, IfOk, IfErr, length, ◌&&◌}
 use Rattle.swc_context.specs.declared.context.Context.{Context}
+use Rattle.swc_context.specs.declared.context.Syntax.{Syntax}
 use Rattle.swc_context.specs.declared.error.Error.{Error}
 use Rattle.swc_context.specs.declared.error.SyntaxError.{SyntaxError}
 use Rattle.swc_context.specs.declared.error.SyntaxError.TheVariants.{OutOfMemory, ParserFailed}
 use Rattle.swc_context.specs.declared.operator.BinaryOp.{BinaryOp}
+use Rattle.swc_context.specs.declared.span.BytePos.{BytePos}
 use Rattle.swc_context.specs.declared.span.Span.{Span}
 use Rattle.swc_input.specs.declared.buffer.Buffer.{Buffer}
 use Rattle.swc_input.specs.declared.token.Token.{Token}
@@ -21,21 +23,24 @@ use Rattle.swc_ast.specs.declared.ident.Ident.{Ident}
 use Rattle.swc_ast.specs.declared.ident.IdentName.{IdentName}
 use Rattle.swc_ast.specs.declared.ident.PrivateName.{PrivateName}
 use Rattle.swc_ast.specs.declared.lit.Lit.{Lit}
-use Rattle.swc_ast.specs.Parts.{lit_tree, item_tree, prop_name_tree, function_tree}
+use Rattle.swc_ast.specs.Parts.{lit_tree, item_tree, item_trees, prop_name_tree, member_prop_tree, function_tree}
 use Rattle.swc_ast.specs.Tree.{Tree}
 use Rattle.swc_ast.specs.declared.expr.ExprOrSpread.{ExprOrSpread}
+use Rattle.swc_ast.specs.declared.expr.MemberProp.{MemberProp}
 use Rattle.swc_ast.specs.declared.function.Function.{Function}
 use Rattle.swc_ast.specs.declared.prop.PropName.{PropName}
 use Rattle.swc_ast.specs.declared.spanned.Spanned.{Ghosts}
+use Rattle.swc_grammar.specs.Scope.{Scope}
 use Rattle.swc_grammar.specs.Parts.{lit_of}
 use Rattle.swc_grammar.specs.Trees.{listed, value_e}
 use Rattle.swc_grammar.specs.Clean.{Out, no_error, first}
-use Rattle.swc_bodies.specs.Readings.{is_async, is_function_here}
+use Rattle.swc_bodies.specs.Readings.{Reading, is_async, is_function_here}
 use Rattle.swc_grammar.specs.Words.{rest}
 use Rattle.swc_grammar.specs.Names.{Spelling, spelling}
 use Rattle.swc_grammar.specs.Tokens.{is_strict_word}
 use Rattle.swc_nodes.specs.Lists.{elem_parts, elem_tree, elem_trees, props_parts, props_trees}
-use Rattle.swc_nodes.specs.Slots.{expr_part, flat, if_some, item_parts, key_parts, one_pat, param_parts, prop_parts}
+use Rattle.swc_nodes.specs.Slots.{expr_part, flat, if_some, item_parts, args_parts, key_parts, member_parts, one_pat}
+use Rattle.swc_nodes.specs.Slots.{param_parts, prop_parts}
 use Rattle.swc_nodes.specs.Stands.{tree_at, count, From, Apart, Grows}
 use Rattle.swc_nodes.specs.declared.node.ExprId.{ExprId}
 use Rattle.swc_nodes.specs.declared.node.PatId.{PatId}
@@ -76,7 +81,7 @@ abbrev pub binding_spelling : BindingIdent → Spelling
 binding_spelling b = spelling b.id.sym b.id.span
 
 -- what f reads behind the first token
-abbrev pub behind : {A : Type 0} → (Context → List TokenAndSpan → Out A) → Context → List TokenAndSpan → Out A
+abbrev pub behind : {A : Type 0} → (Scope → List TokenAndSpan → Out A) → Scope → List TokenAndSpan → Out A
 behind f c ts = f c (rest ts)
 
 -- the current token, as contracts compare it
@@ -87,7 +92,19 @@ seen_of (Some t) = Some (plain t)
 abbrev pub seen : {S : Type 0} → Buffer S → Option TokenAndSpan
 seen b = seen_of b.cur
 
+-- where code stands, by its context and the syntax
+abbrev pub scope_of : Context → Syntax → Scope
+scope_of c x = record { context = c; syntax = x }
+
+-- what a hook reads, of the context alone
+abbrev pub by_hook : {V : Type 0} → Reading V → Scope → List TokenAndSpan → Out V
+by_hook reads c ts = reads c.context ts
+
 module _ {S : Type 0} (model : Model S) where
+  -- where code stands at a buffer
+  abbrev pub scope : Buffer S → Scope
+  scope b = scope_of (context model b) (model.state b.iter).syntax
+
   -- how many faults were recorded
   abbrev pub recorded : Buffer S → ℕ
   recorded b = length (model.state b.iter).errors
@@ -110,10 +127,15 @@ module _ {S : Type 0} (model : Model S) where
     pub read : Read model b taken c
     pub lives : Lives model b c
 
-  -- the same, where one token at least was consumed
+  -- from b to c the tokens xs were consumed, one at least, and fewer are to come
+  pub record Onward (b : Buffer S) (xs : List TokenAndSpan) (c : Buffer S) : Type 0 where
+    pub some : 1 ≤ length xs
+    pub less : to_come model c < to_come model b
+
+  -- the same, where one token at least was consumed, so that fewer are to come
   pub record Advances (b c : Buffer S) : Type 0 where
     pub leads : Leads b c
-    pub some : 1 ≤ length leads.taken
+    pub onward : Onward b leads.taken c
 
   -- the context was set to another of the same kind of text: nothing was consumed, and no fault recorded or set waiting
   pub record Moves (b c : Buffer S) : Type 0 where
@@ -196,36 +218,36 @@ module _ {S : Type 0} (model : Model S) where
 module _ {S : Type 0} (model : Model S) (sure : Bool) where
   -- From b to c: what f reads at b is what g reads at c, where no fault was recorded; where one was, the source is listed and the hook
   -- is faithful, f reads nothing.
-  pub record On {A : Type 0} (f g : Context → List TokenAndSpan → Out A) (b c : Buffer S) : Type 0 where
+  pub record On {A : Type 0} (f g : Scope → List TokenAndSpan → Out A) (b c : Buffer S) : Type 0 where
     pub leads : Leads model b c
-    pub clean : Loud model b → recorded model c ≡ recorded model b → (ys : List TokenAndSpan) → Future model c ys → f (context model b) (leads.taken ++ ys) ≡ g (context model c) ys
-    pub faulty : sure ≡ true → Loud model b → recorded model b < recorded model c → (ts : List TokenAndSpan) → Known model b ts → f (context model b) ts ≡ None
+    pub clean : Loud model b → recorded model c ≡ recorded model b → (ys : List TokenAndSpan) → Future model c ys → f (scope model b) (leads.taken ++ ys) ≡ g (scope model c) ys
+    pub faulty : sure ≡ true → Loud model b → recorded model b < recorded model c → (ts : List TokenAndSpan) → Known model b ts → f (scope model b) ts ≡ None
 
-  -- t is what f reads, from one token at least
-  pub record Heard {A : Type 0} (f : Context → List TokenAndSpan → Out A) (t : A) (b c : Buffer S) : Type 0 where
+  -- t is what f reads, from one token at least, and fewer are to come
+  pub record Heard {A : Type 0} (f : Scope → List TokenAndSpan → Out A) (t : A) (b c : Buffer S) : Type 0 where
     pub on : On f (λ x ts. Some (t, ts)) b c
-    pub some : 1 ≤ length on.leads.taken
+    pub onward : Onward model b on.leads.taken c
 
   -- a refusal where f reads nothing, but for want of memory
-  pub record Unheard {A : Type 0} (f : Context → List TokenAndSpan → Out A) (b : Buffer S) (e : Error) (c : Buffer S) : Type 0 where
+  pub record Unheard {A : Type 0} (f : Scope → List TokenAndSpan → Out A) (b : Buffer S) (e : Error) (c : Buffer S) : Type 0 where
     pub refuses : Refuses model b e c
-    pub none : e.kind ≢ OutOfMemory → sure ≡ true → Loud model b → (ts : List TokenAndSpan) → Known model b ts → f (context model b) ts ≡ None
+    pub none : e.kind ≢ OutOfMemory → sure ≡ true → Loud model b → (ts : List TokenAndSpan) → Known model b ts → f (scope model b) ts ≡ None
 
   -- a call that reads what f reads
-  abbrev pub Parses : {T A : Type 0} → (T → A) → (Context → List TokenAndSpan → Out A) → Buffer S → Result T Error → Buffer S → Type 0
+  abbrev pub Parses : {T A : Type 0} → (T → A) → (Scope → List TokenAndSpan → Out A) → Buffer S → Result T Error → Buffer S → Type 0
   Parses view f b r c = MatchResult r (λ t. Heard f (view t) b c) (λ e. Unheard f b e c)
 
   -- the same, where nothing may be consumed
-  abbrev pub Continues : {T A : Type 0} → (T → A) → (Context → List TokenAndSpan → Out A) → Buffer S → Result T Error → Buffer S → Type 0
+  abbrev pub Continues : {T A : Type 0} → (T → A) → (Scope → List TokenAndSpan → Out A) → Buffer S → Result T Error → Buffer S → Type 0
   Continues view f b r c = MatchResult r (λ t. On f (λ x ts. Some (view t, ts)) b c) (λ e. Unheard f b e c)
 
 module _ {S : Type 0} (model : Model S) where
   -- a call that reads what f reads, and calls no hook
-  abbrev pub ParsesAlone : {T A : Type 0} → (T → A) → (Context → List TokenAndSpan → Out A) → Buffer S → Result T Error → Buffer S → Type 0
+  abbrev pub ParsesAlone : {T A : Type 0} → (T → A) → (Scope → List TokenAndSpan → Out A) → Buffer S → Result T Error → Buffer S → Type 0
   ParsesAlone view f b r c = (sure : Bool) → Parses model sure view f b r c
 
   -- the same, where nothing may be consumed
-  abbrev pub ContinuesAlone : {T A : Type 0} → (T → A) → (Context → List TokenAndSpan → Out A) → Buffer S → Result T Error → Buffer S → Type 0
+  abbrev pub ContinuesAlone : {T A : Type 0} → (T → A) → (Scope → List TokenAndSpan → Out A) → Buffer S → Result T Error → Buffer S → Type 0
   ContinuesAlone view f b r c = (sure : Bool) → Continues model sure view f b r c
 
   -- a sign was consumed, and its place is answered, where it stands first; or nothing was
@@ -261,6 +283,17 @@ module _ {F C K : Type 0} {fg : Ghosts F} {cg : Ghosts C} {kg : Ghosts K} where
 
   abbrev pub elems_of : ℕ → Nodes F C K fg cg kg → Listed (Option (ExprOrSpread ExprId)) → Type 0
   elems_of k ns l = Apart k ns (elem_parts l.items)
+
+  -- of an argument, with the place of the comma behind it or not, of all arguments, and of what names a member, with
+  -- where that ends
+  abbrev pub arg_item_of : ℕ → Nodes F C K fg cg kg → ExprOrSpread ExprId × Option Span → Type 0
+  arg_item_of k ns p = Apart k ns (item_parts p.0)
+
+  abbrev pub args_of : ℕ → Nodes F C K fg cg kg → Listed (ExprOrSpread ExprId) → Type 0
+  args_of k ns l = Apart k ns (args_parts l.items)
+
+  abbrev pub member_name_of : ℕ → Nodes F C K fg cg kg → MemberProp ExprId × BytePos → Type 0
+  member_name_of k ns p = Apart k ns (member_parts p.0)
 
   -- of a key, of a method's function, which has no parameters so far, of what stands behind a key, of a property, with the place of the
   -- comma behind it or not, and of all properties of an object literal
@@ -301,6 +334,15 @@ module _ {F C K : Type 0} {fg : Ghosts F} {cg : Ghosts C} {kg : Ghosts K} where
   abbrev pub elems_at : Nodes F C K fg cg kg → Listed (Option (ExprOrSpread ExprId)) → Tree F C K
   elems_at ns l = listed l.trailing_comma l.end (elem_trees (tree_at ns) l.items)
 
+  abbrev pub arg_item_at : Nodes F C K fg cg kg → ExprOrSpread ExprId × Option Span → Tree F C K × Option Span
+  arg_item_at ns p = (item_at ns p.0, p.1)
+
+  abbrev pub args_at : Nodes F C K fg cg kg → Listed (ExprOrSpread ExprId) → Tree F C K
+  args_at ns l = listed l.trailing_comma l.end (item_trees (tree_of ns) l.items.items)
+
+  abbrev pub member_name_at : Nodes F C K fg cg kg → MemberProp ExprId × BytePos → Tree F C K × BytePos
+  member_name_at ns p = (member_prop_tree (tree_of ns) p.0, p.1)
+
   abbrev pub key_at : Nodes F C K fg cg kg → PropName ExprId → Tree F C K
   key_at ns x = prop_name_tree (tree_of ns) x
 
@@ -329,7 +371,7 @@ module _ {F C K : Type 0} {fg : Ghosts F} {cg : Ghosts C} {kg : Ghosts K} where
   abbrev pub lit_in : Nodes F C K fg cg kg → Lit → Tree F C K
   lit_in ns l = lit_tree l
 
-module _ {S H F C K : Type 0} {fg : Ghosts F} {cg : Ghosts C} {kg : Ghosts K} (model : Model S) (sure : Bool) {T A : Type 0} (held : ℕ → Nodes F C K fg cg kg → T → Type 0) (view : Nodes F C K fg cg kg → T → A) (f : Context → List TokenAndSpan → Out A) where
+module _ {S H F C K : Type 0} {fg : Ghosts F} {cg : Ghosts C} {kg : Ghosts K} (model : Model S) (sure : Bool) {T A : Type 0} (held : ℕ → Nodes F C K fg cg kg → T → Type 0) (view : Nodes F C K fg cg kg → T → A) (f : Scope → List TokenAndSpan → Out A) where
   -- What a production does from p to q: it reads what f reads, from one token at least; nodes were appended alone, and the answer holds
   -- numbers from k on.
   pub record Produces (k : ℕ) (p : Productions S H F C K fg cg kg) (r : Result T Error) (q : Productions S H F C K fg cg kg) : Type 0 where

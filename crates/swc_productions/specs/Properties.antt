@@ -1,13 +1,13 @@
 -- What the steps of the code read in object literals (13.2.5), by the clean parser.
 use Rattle.std.specs.Prelude.{Bool, if◌then◌else◌, List, Option, Some, None}
 use Rattle.swc_context.specs.Reserved.{is_reserved_word}
-use Rattle.swc_context.specs.declared.context.Context.{Context}
 use Rattle.swc_context.specs.declared.span.Span.{Span}
 use Rattle.swc_input.specs.declared.token.Token.{Token}
 use Rattle.swc_input.specs.declared.token.TokenAndSpan.{TokenAndSpan}
 use Rattle.swc_input.specs.Kinds.{at_token}
 use Rattle.swc_ast.specs.Tree.{Tree, Trees, nil, cons, span_of}
 use Rattle.swc_bodies.specs.Readings.{Hook, is_async}
+use Rattle.swc_grammar.specs.Scope.{Scope}
 use Rattle.swc_grammar.specs.Symbols.{Props, Prop}
 use Rattle.swc_grammar.specs.Tokens.{is_dots, is_equals, is_get, is_set, is_question, is_rbrace, is_star, is_word}
 use Rattle.swc_grammar.specs.Tokens.{ends_prop, follows_key}
@@ -15,22 +15,27 @@ use Rattle.swc_grammar.specs.Trees.{to, object_e, listed, items_of, comma_of, sp
 use Rattle.swc_grammar.specs.Clean.{Out, first, second, sym, run}
 use Rattle.swc_grammar.specs.Names.{Spelling, may_name}
 use Rattle.swc_grammar.specs.Words.{◌>>=◌, word}
-use Rattle.swc_nodes.specs.Lists.{trees_append}
+use Rattle.swc_grammar.specs.Trees.{trees_append}
 use Rattle.swc_productions.specs.declared.kinds.MethodKind.{MethodKind}
 use Rattle.swc_productions.specs.declared.kinds.MethodKind.TheVariants as method
 use Rattle.swc_productions.specs.declared.kinds.Modifier.{Modifier}
 use Rattle.swc_productions.specs.declared.kinds.Modifier.TheVariants as modifier
 use Rattle.swc_productions.specs.declared.kinds.PropKind.{PropKind}
 use Rattle.swc_productions.specs.declared.kinds.PropKind.TheVariants as kind
+use Rattle.swc_productions.specs.Keys.{expected}
 use Rattle.swc_productions.specs.Readers.{inside}
-use Rattle.swc_productions.specs.Lists.{eaten, separated, behind, put_before}
+use Rattle.swc_productions.specs.Lists.{separated, behind, put_before}
 
 -- a name that isn't reserved where it stands, and so may stand for its value too
-abbrev pub open_by : Context → Spelling × List TokenAndSpan → Out Spelling
-open_by c p = if is_reserved_word c p.0.text then None else Some p
+abbrev pub open_by : Scope → Spelling × List TokenAndSpan → Out Spelling
+open_by c p = if is_reserved_word c.context p.0.text then None else Some p
 
-unfoldable pub open_name : Context → List TokenAndSpan → Out Spelling
+unfoldable pub open_name : Scope → List TokenAndSpan → Out Spelling
 open_name c ts = word may_name c ts >>= open_by c
+
+-- such a name, and the `=` behind it
+unfoldable pub cover_name : Scope → List TokenAndSpan → Out Spelling
+cover_name c ts = open_name c ts >>= (λ p. expected is_equals c p.1 >>= (λ q. Some (p.0, q.1)))
 
 -- what a property is, by the tokens that it begins with; of one that begins with a word, by the word and the token behind it
 abbrev pub modifier_of : Option TokenAndSpan → Modifier
@@ -78,48 +83,37 @@ prop_kind ts =
     (if at_token is_star (first ts) then kind.Method method.Generator else
     (if at_token is_word (first ts) then word_kind (first ts) (second ts) else kind.Key))
 
+-- the property of a name and its value
+abbrev pub cover_node : {F C K : Type 0} → Spelling → Tree F C K → Tree F C K
+cover_node n v = cover_e (to n.at (span_of v)) (ident_e n.at n.text) v
+
 module _ {F C K : Type 0} (hook : Hook F C K) where
   -- behind the brace at s
-  unfoldable pub object_lit_tail : Span → Context → List TokenAndSpan → Out (Tree F C K)
+  unfoldable pub object_lit_tail : Span → Scope → List TokenAndSpan → Out (Tree F C K)
   object_lit_tail s c ts = run hook (sym Props) c ts >>= (λ p. Some (object_e (comma_of p.0) (to s (span_of p.0)) (items_of p.0), p.1))
 
   -- one property, and the comma behind it, or before the brace that closes the list
-  unfoldable pub prop_item : Context → List TokenAndSpan → Out (Tree F C K × Option Span)
+  unfoldable pub prop_item : Scope → List TokenAndSpan → Out (Tree F C K × Option Span)
   prop_item c ts = run hook (sym Prop) c ts >>= (λ p. separated is_rbrace c p.1 >>= (λ q. Some ((p.0, q.0), q.1)))
 
   -- Behind some properties, and the comma behind the last of them: those that are left, to where the list is closed; and from the next
   -- property on.
-  unfoldable pub props_behind : Trees F C K → Option Span → Context → List TokenAndSpan → Out (Tree F C K)
+  unfoldable pub props_behind : Trees F C K → Option Span → Scope → List TokenAndSpan → Out (Tree F C K)
   props_behind before comma c ts =
       run hook (sym Props) c ts >>= (λ p. Some (put_before before (behind comma p.0), p.1))
 
-  unfoldable pub props_more : Trees F C K → Context → List TokenAndSpan → Out (Tree F C K)
+  unfoldable pub props_more : Trees F C K → Scope → List TokenAndSpan → Out (Tree F C K)
   props_more before c ts =
       prop_item c ts >>= (λ p. props_behind (trees_append before (cons p.0.0 nil)) p.0.1 c p.1)
 
-  abbrev pub props_by : Trees F C K → Option Span → Option Span → Context → List TokenAndSpan → Out (Tree F C K)
+  abbrev pub props_by : Trees F C K → Option Span → Option Span → Scope → List TokenAndSpan → Out (Tree F C K)
   props_by before comma (Some s) c ts = Some (listed comma s before, ts)
   props_by before comma None c ts = props_more before c ts
 
-  -- behind the dots of a property at s, and from a property on, which the dots begin or not
-  unfoldable pub spread_prop_tail : Span → Context → List TokenAndSpan → Out (Tree F C K)
+  -- behind the dots of a property at s
+  unfoldable pub spread_prop_tail : Span → Scope → List TokenAndSpan → Out (Tree F C K)
   spread_prop_tail s c ts = inside hook c ts >>= (λ p. Some (spread_prop_e s p.0, p.1))
 
-  unfoldable pub prop_plain : Context → List TokenAndSpan → Out (Tree F C K)
-  prop_plain c ts = if at_token is_dots (first ts) then None else run hook (sym Prop) c ts
-
-  abbrev pub prop_by : Option Span → Context → List TokenAndSpan → Out (Tree F C K)
-  prop_by (Some s) c ts = spread_prop_tail s c ts
-  prop_by None c ts = prop_plain c ts
-
-  -- a name with `=` and an expression behind it: behind the name, and behind the `=`
-  unfoldable pub cover_tail : Spelling → Context → List TokenAndSpan → Out (Tree F C K)
-  cover_tail n c ts =
-      inside hook c ts >>= (λ p. Some (cover_e (to n.at (span_of p.0)) (ident_e n.at n.text) p.0, p.1))
-
-  abbrev pub cover_by : Spelling → Option Span → Context → List TokenAndSpan → Out (Tree F C K)
-  cover_by n (Some s) c ts = cover_tail n c ts
-  cover_by n None c ts = None
-
-  unfoldable pub cover_behind : Spelling → Context → List TokenAndSpan → Out (Tree F C K)
-  cover_behind n c ts = eaten is_equals c ts >>= (λ p. cover_by n p.0 c p.1)
+  -- a name with `=` and an expression behind it: behind the `=`
+  unfoldable pub cover_tail : Spelling → Scope → List TokenAndSpan → Out (Tree F C K)
+  cover_tail n c ts = inside hook c ts >>= (λ p. Some (cover_node n p.0, p.1))

@@ -1,38 +1,49 @@
 // Expressions (ECMA-262, 13).
-ghost use Rattle.std.specs.Prelude.{◌≡◌, ◌<◌, ◌≤◌, true, not, ◌&&◌, Some, OnOk, IfOk};
-ghost use Rattle.swc_input.specs.Buffer.{current, to_come, context};
+ghost use Rattle.std.specs.Prelude.{◌≡◌, ◌<◌, ◌≤◌, ◌++◌, true, false, not, ◌&&◌, None, Some, OnOk, IfOk, IfErr};
+ghost use Rattle.std.specs.Prelude.{IsSome};
+ghost use Rattle.std.specs.Prelude.{MatchOption};
+ghost use Rattle.swc_input.specs.Buffer.{current, peeked, to_come, context, Peeked};
 ghost use Rattle.swc_input.specs.Plain.{plain_token};
 ghost use Rattle.swc_input.specs.Kinds.{at_token, is_hash};
-ghost use Rattle.swc_grammar.specs.Symbols.{Expr, Assign, Primary, Literal, Elements, Item};
-ghost use Rattle.swc_grammar.specs.Tokens.{is_lparen, is_lbracket, is_this};
+ghost use Rattle.swc_grammar.specs.Symbols.{Expr, Assign, Lhs, Primary, Literal, Elements, Item};
+ghost use Rattle.swc_grammar.specs.Tokens.{is_lparen, is_lbracket, is_this, is_new, new_target_ok, begins_regex};
 ghost use Rattle.swc_bodies.specs.Readings.{at_function, is_class};
 ghost use Rattle.swc_grammar.specs.Parts.{lit_of};
 ghost use Rattle.swc_grammar.specs.Grammar as grammar;
-ghost use Rattle.swc_grammar.specs.Clean.{sym, run, is_lit, is_identifier};
-ghost use Rattle.swc_grammar.specs.Trees.{no_cover_in};
+ghost use Rattle.swc_grammar.specs.Clean.{sym, links, run, first, is_lit, is_identifier};
+ghost use Rattle.swc_grammar.specs.Trees.{no_cover_in, is_chain};
+ghost use Rattle.swc_grammar.specs.Words.{rest};
 ghost use Rattle.swc_nodes.specs.Lists.{is_cover_prop, has_cover};
-ghost use Rattle.swc_nodes.specs.Slots.{expr_part};
-ghost use Rattle.swc_nodes.specs.Stands.{count, From};
+ghost use Rattle.swc_nodes.specs.Slots.{expr_part, one_expr, args_parts};
+ghost use Rattle.swc_nodes.specs.Stands.{count, first_at, Apart, From};
 ghost use Rattle.swc_productions.specs.Readers.{by_production, inside};
-ghost use Rattle.swc_productions.specs.Lists.{elements_inside, element, element_item};
-ghost use Rattle.swc_productions.specs.Parsing.{lit_in, seen, ParsesAlone, Produces, Checked, TookLiteral};
+ghost use Rattle.swc_productions.specs.Lists.{element};
+ghost use Rattle.swc_productions.specs.Links.{link_at, link_here, chain_at, chain_head, head_of, link_head};
+ghost use Rattle.swc_productions.specs.Links.{member_name, dot_tail, computed_close, call_node, link_tail};
+ghost use Rattle.swc_productions.specs.Links.{new_lhs, target_tail, construct_tail, new_node};
+ghost use Rattle.swc_productions.specs.Parsing.{lit_in, seen, ParsesAlone, ContinuesAlone, Produces, GoesOn, Checked};
+ghost use Rattle.swc_productions.specs.Parsing.{Refuses, Tells, TookLiteral};
+ghost use Rattle.swc_productions.specs.Regexes.{regex_expr};
 ghost use Rattle.swc_productions.specs.Parsing.{itself, tree_of, item_of, item_at, elem_of, elem_at, elems_of};
-ghost use Rattle.swc_productions.specs.Parsing.{elems_at};
+ghost use Rattle.swc_productions.specs.Parsing.{elems_at, args_at, member_name_of, member_name_at};
 
 use crate::moves::{
-    Listed, Sign, add, bump, copy_of, eat, emit_err, emit_strict_mode_err, is_async_function,
-    label_spread, listed, look, made, made_literal, parse_ident_name, parse_ident_ref, require_cur,
-    separate, set_ctx, skip, syntax_error, unexpected,
+    Listed, Sign, add, bump, copy_of, eat, emit_err, emit_strict_mode_err, expect, expect_or,
+    is_async_function, is_sign, label_spread, listed, look, made, made_literal, parse_ident_name,
+    parse_ident_ref, parse_private_name, require_cur, separate, set_ctx, skip, syntax_error,
+    unexpected,
 };
 use crate::productions::Productions;
-use swc_ast::expr::ExprOrSpread;
+use crate::regex::{check_flags, parse_regex_text};
+use swc_ast::expr::{ExprOrSpread, MemberProp, MetaPropKind};
 use swc_ast::ident::Ident;
 use swc_ast::lit::{BigInt, Bool, Lit, Null, Num, Str};
+use swc_ast::prop::ComputedPropName;
 use swc_ast::spanned::Spanned;
 use swc_bodies::bodies::Bodies;
 use swc_context::context::Context;
 use swc_context::error::{PResult, SyntaxError};
-use swc_context::span::Span;
+use swc_context::span::{BytePos, Span};
 use swc_context::word::Word;
 use swc_input::buffer::Buffer;
 use swc_input::token::Token;
@@ -40,10 +51,42 @@ use swc_input::tokens::Tokens;
 use swc_nodes::node::{ExprId, PropNode};
 use swc_nodes::nodes::{Nodes, NodesOf};
 
+mod args;
+mod base;
 mod ops;
+mod pieces;
+mod tpl;
 
 /// An element of an array literal, or a hole.
 type Elem = Option<ExprOrSpread<ExprId>>;
+
+/// A link of a left-hand side (ECMA-262, 13.3), by the token that begins it.
+#[derive(Clone, Copy)]
+pub(crate) enum Link {
+    /// `.`: a member, by its name.
+    Name,
+    /// `[`: a member, by an expression.
+    Computed,
+    /// `(`: a call.
+    Call,
+    /// `?` and then `.`: a link of an optional chain.
+    Chain,
+    /// A backquote: a template, with a tag.
+    Template,
+}
+
+/// The first tokens of a link, behind which it is read on. It is `optional` where they begin with `?.`.
+#[derive(Clone, Copy)]
+pub(crate) enum LinkHead {
+    /// `.` or `?.`: a member, by its name.
+    Name { optional: bool },
+    /// `[` or `?.[`, with the bracket at `start`: a member, by an expression.
+    Computed { start: Span, optional: bool },
+    /// `(` or `?.(`: a call.
+    Call { optional: bool },
+    /// A backquote at `start`: a template, with a tag.
+    Template { start: Span },
+}
 
 impl<I: Tokens, B: Bodies<I>> Productions<I, B> {
     /// An expression (ECMA-262, 13.16).
@@ -103,11 +146,18 @@ impl<I: Tokens, B: Bodies<I>> Productions<I, B> {
         if self.is_hash() {
             return self.parse_private_expr();
         }
+        if self.is_backquote() {
+            return self.parse_tpl(false);
+        }
+        if self.is_regex_start() {
+            return self.parse_regex();
+        }
         let span = self.input.cur_span();
         Err(syntax_error(&mut self.input, span, SyntaxError::TS1109))
     }
 
-    /// An array literal (ECMA-262, 13.2.4).
+    /// An array literal (ECMA-262, 13.2.4): elements among which `in` counts as an operator. The context is that from
+    /// before, also after a refusal.
     #[cycle(productions)]
     fn parse_array_lit(&mut self) -> PResult<ExprId>
         requires { at_token is_lbracket (seen self.old.input) ≡ true }
@@ -116,19 +166,6 @@ impl<I: Tokens, B: Bodies<I>> Productions<I, B> {
     {
         let start = self.input.cur_span().lo;
         skip(&mut self.input);
-        let list = self.parse_elements_with_in()?;
-        let end = list.end.hi;
-        let trailing_comma = list.trailing_comma;
-        let node = self.nodes.array_lit(start, end, list.items, trailing_comma);
-        made_literal(&self.input, node, &mut self.commas, start, trailing_comma)
-    }
-
-    /// The elements of an array literal, in which `in` counts as an operator, and the bracket that closes it.
-    #[cycle(productions)]
-    fn parse_elements_with_in(&mut self) -> PResult<Listed<Elem>>
-        ensures { Produces I.model B.is_faithful elems_of elems_at (elements_inside B.forms)
-            (count self.old.nodes) self.old result self.new }
-    {
         let ctx = self.input.get_ctx();
         set_ctx(
             &mut self.input,
@@ -139,7 +176,11 @@ impl<I: Tokens, B: Bodies<I>> Productions<I, B> {
         );
         let elems = self.parse_elements();
         set_ctx(&mut self.input, ctx);
-        elems
+        let list = elems?;
+        let end = list.end.hi;
+        let trailing_comma = list.trailing_comma;
+        let node = self.nodes.array_lit(start, end, list.items, trailing_comma);
+        made_literal(&self.input, node, &mut self.commas, start, trailing_comma)
     }
 
     /// The elements of an array literal, and the bracket that closes it.
@@ -148,7 +189,7 @@ impl<I: Tokens, B: Bodies<I>> Productions<I, B> {
         ensures { Produces I.model B.is_faithful elems_of elems_at (run B.forms (sym Elements))
             (count self.old.nodes) self.old result self.new }
     {
-        listed!(self, Sign::RBracket, parse_element)
+        listed!(self, Sign::RBracket, parse_element())
     }
 
     /// An element of an array literal, and the comma behind it, whose place is answered too; none stands before the
@@ -160,19 +201,12 @@ impl<I: Tokens, B: Bodies<I>> Productions<I, B> {
     {
         match eat(&mut self.input, Sign::Comma)? {
             Some(_) => Ok((None, None)),
-            None => self.parse_element_item(),
+            None => {
+                let item = self.parse_expr_or_spread()?;
+                let comma = separate(&mut self.input, Sign::RBracket)?;
+                Ok((Some(item), comma))
+            }
         }
-    }
-
-    /// An element of an array literal that is no hole, and the comma behind it; none stands before the bracket.
-    #[cycle(productions)]
-    fn parse_element_item(&mut self) -> PResult<(Elem, Option<Span>)>
-        ensures { Produces I.model B.is_faithful elem_of elem_at (element_item B.forms)
-            (count self.old.nodes) self.old result self.new }
-    {
-        let item = self.parse_expr_or_spread()?;
-        let comma = separate(&mut self.input, Sign::RBracket)?;
-        Ok((Some(item), comma))
     }
 
     /// An item of a list (ECMA-262, 13.2.4 and 13.3.8): an assignment expression, or one behind `...`. A refusal of the
@@ -294,6 +328,202 @@ impl<I: Tokens, B: Bodies<I>> Productions<I, B> {
         expr
     }
 
+    /// A left-hand side (ECMA-262, 13.3); with `no_call`, a parenthesis is no link of it, but that of `new`.
+    #[cycle(productions)]
+    pub(crate) fn parse_lhs_expr(&mut self, no_call: bool) -> PResult<ExprId>
+        ensures { Produces I.model B.is_faithful itself tree_of (run B.forms (sym (Lhs (not no_call))))
+            (count self.old.nodes) self.old result self.new }
+    {
+        look(&mut self.input)?;
+        if self.is_new() {
+            return self.parse_new_expr(no_call);
+        }
+        let base = self.parse_base(no_call)?;
+        self.parse_subscripts(base, no_call)
+    }
+
+    /// `new` (ECMA-262, 13.3.5), or `new.target` (13.3.12), and its links.
+    #[cycle(productions)]
+    fn parse_new_expr(&mut self, no_call: bool) -> PResult<ExprId>
+        requires { at_token is_new (seen self.old.input) ≡ true }
+        ensures { Produces I.model B.is_faithful itself tree_of (new_lhs B.forms (not no_call))
+            (count self.old.nodes) self.old result self.new }
+    {
+        let start = self.input.cur_span();
+        skip(&mut self.input);
+        match eat(&mut self.input, Sign::Dot)? {
+            Some(_) => {
+                let target = self.parse_new_target(start)?;
+                self.parse_subscripts(target, no_call)
+            }
+            None => self.parse_constructor(start, no_call),
+        }
+    }
+
+    /// `new.target` (ECMA-262, 13.3.12), behind the `.`; `new` is at `start`. Where there is none, that is recorded
+    /// at the whole.
+    fn parse_new_target(&mut self, start: Span) -> PResult<ExprId>
+        ensures { Produces I.model B.is_faithful itself tree_of (target_tail start)
+            (count self.old.nodes) self.old result self.new }
+    {
+        let end = expect_or(
+            &mut self.input,
+            Sign::Target,
+            SyntaxError::Unexpected("target"),
+        )?;
+        let span = Span::new(start.lo, end.hi);
+        check_new_target(&mut self.input, span)?;
+        let node = self.nodes.meta_prop(span, MetaPropKind::NewTarget);
+        made(&self.input, node)
+    }
+
+    /// What `new` at `start` constructs (ECMA-262, 13.3.5), which is no optional chain, and its arguments, and links
+    /// behind these; or no arguments.
+    #[cycle(productions)]
+    fn parse_constructor(&mut self, start: Span, no_call: bool) -> PResult<ExprId>
+        ensures { Produces I.model B.is_faithful itself tree_of (construct_tail B.forms (not no_call) start)
+            (count self.old.nodes) self.old result self.new }
+    {
+        let callee = self.parse_lhs_expr(true)?;
+        refuse_opt_chain::<I, B>(&mut self.input, &self.nodes, callee)?;
+        match eat(&mut self.input, Sign::LParen)? {
+            Some(_) => {
+                let list = self.parse_args(false)?;
+                let base = self.new_expr(start, callee, list)?;
+                self.parse_subscripts(base, no_call)
+            }
+            None => {
+                let node = self.nodes.bare_new_expr(start.lo, callee);
+                made(&self.input, node)
+            }
+        }
+    }
+
+    /// The node of `new` at `start` (ECMA-262, 13.3.5) with its arguments. Refused only for want of memory.
+    fn new_expr(
+        &mut self,
+        start: Span,
+        callee: ExprId,
+        list: Listed<ExprOrSpread<ExprId>>,
+    ) -> PResult<ExprId>
+        requires { Apart 0 self.old.nodes (one_expr callee ++ args_parts list.items) }
+        ensures { GoesOn I.model B.is_faithful itself tree_of
+            (new_node start (tree_of self.old.nodes callee) (args_at self.old.nodes list))
+            (first_at self.old.nodes callee.0) self.old result self.new }
+    {
+        let end = list.end.hi;
+        let node = self.nodes.new_expr(start.lo, callee, list.items, end);
+        made(&self.input, node)
+    }
+
+    /// Reads on after `obj`, through all links; with `no_call`, a parenthesis is none.
+    #[cycle(productions)]
+    fn parse_subscripts(&mut self, mut obj: ExprId, no_call: bool) -> PResult<ExprId>
+        requires from { From 0 self.old.nodes (expr_part obj) }
+        ensures { GoesOn I.model B.is_faithful itself tree_of
+            (run B.forms (links (not no_call) (tree_of self.old.nodes obj)))
+            (first_at self.old.nodes obj.0) self.old result self.new }
+    {
+        loop {
+            let head = match parse_link_head(&mut self.input, no_call)? {
+                Some(head) => head,
+                None => return Ok(obj),
+            };
+            obj = self.parse_link(obj, head)?;
+        }
+    }
+
+    /// A link of `obj`, behind its first tokens: a member by its name, or by an expression in which `in` counts as an
+    /// operator, in brackets (ECMA-262, 13.3.2); a call (13.3.6); or a template with the tag `obj` (13.3.11).
+    #[cycle(productions)]
+    fn parse_link(&mut self, obj: ExprId, head: LinkHead) -> PResult<ExprId>
+        requires from { From 0 self.old.nodes (expr_part obj) }
+        ensures { Produces I.model B.is_faithful itself tree_of
+            (link_tail B.forms head (tree_of self.old.nodes obj))
+            (first_at self.old.nodes obj.0) self.old result self.new }
+    {
+        match head {
+            LinkHead::Name { optional } => self.parse_dot_member(obj, optional),
+            LinkHead::Computed { start, optional } => {
+                let expr = self.parse_assignment_expr_with_in()?;
+                self.computed_member(obj, start, expr, optional)
+            }
+            LinkHead::Call { optional } => {
+                let list = self.parse_args(false)?;
+                self.call_expr(obj, list, optional)
+            }
+            LinkHead::Template { start } => {
+                let parts = self.parse_tpl_elements(true)?;
+                self.tagged_tpl(obj, start, parts)
+            }
+        }
+    }
+
+    /// A member of `obj` (ECMA-262, 13.3.2), behind the `.`; `optional`, where `?` stands before it.
+    fn parse_dot_member(&mut self, obj: ExprId, optional: bool) -> PResult<ExprId>
+        requires from { From 0 self.old.nodes (expr_part obj) }
+        ensures { Produces I.model B.is_faithful itself tree_of (dot_tail optional (tree_of self.old.nodes obj))
+            (first_at self.old.nodes obj.0) self.old result self.new }
+    {
+        let (prop, end) = self.parse_member_name()?;
+        let node = self.nodes.member_expr(obj, prop, end, optional);
+        made(&self.input, node)
+    }
+
+    /// What names a member behind a `.`, any word or a private name, and where it ends, in bytes.
+    fn parse_member_name(&mut self) -> PResult<(MemberProp<ExprId>, BytePos)>
+        ensures { Produces I.model B.is_faithful member_name_of member_name_at member_name
+            (count self.old.nodes) self.old result self.new }
+    {
+        look(&mut self.input)?;
+        if self.is_hash() {
+            let (name, end) = parse_private_name(self.alloc, &mut self.input)?;
+            return Ok((MemberProp::PrivateName(name), end));
+        }
+        let name = parse_ident_name(self.alloc, &mut self.input)?;
+        let end = name.span.hi;
+        Ok((MemberProp::Ident(name), end))
+    }
+
+    /// A member of `obj` (ECMA-262, 13.3.2), behind the bracket at `start` and the expression `expr`: the bracket that
+    /// closes it; `optional`, where `?.` stands before these.
+    fn computed_member(
+        &mut self,
+        obj: ExprId,
+        start: Span,
+        expr: ExprId,
+        optional: bool,
+    ) -> PResult<ExprId>
+        requires { Apart 0 self.old.nodes (one_expr obj ++ one_expr expr) }
+        ensures { Produces I.model B.is_faithful itself tree_of
+            (computed_close optional start (tree_of self.old.nodes obj) (tree_of self.old.nodes expr))
+            (first_at self.old.nodes obj.0) self.old result self.new }
+    {
+        let end = expect(&mut self.input, Sign::RBracket)?;
+        let span = Span::new(start.lo, end.hi);
+        let prop = MemberProp::Computed(ComputedPropName { span, expr });
+        let node = self.nodes.member_expr(obj, prop, end.hi, optional);
+        made(&self.input, node)
+    }
+
+    /// The node of a call (ECMA-262, 13.3.6), with its arguments; `optional`, where `?.` stands before these. Refused
+    /// only for want of memory.
+    fn call_expr(
+        &mut self,
+        callee: ExprId,
+        list: Listed<ExprOrSpread<ExprId>>,
+        optional: bool,
+    ) -> PResult<ExprId>
+        requires { Apart 0 self.old.nodes (one_expr callee ++ args_parts list.items) }
+        ensures { GoesOn I.model B.is_faithful itself tree_of
+            (call_node optional (tree_of self.old.nodes callee) (args_at self.old.nodes list))
+            (first_at self.old.nodes callee.0) self.old result self.new }
+    {
+        let end = list.end.hi;
+        let node = self.nodes.call_expr(callee, list.items, end, optional);
+        made(&self.input, node)
+    }
+
     /// The literal that a token is.
     fn lit_of(&self, token: Token, span: Span) -> Lit
         requires { is_lit token ≡ true }
@@ -328,6 +558,173 @@ impl<I: Tokens, B: Bodies<I>> Productions<I, B> {
         let span = self.input.prev_span();
         Ok(self.lit_of(token, span))
     }
+
+    /// A regular expression (ECMA-262, 13.2.7), at the slash with which it begins, or at a whole one. Where a slash is
+    /// current, a lexer is told that a regular expression begins there. Flags that no regular expression has are
+    /// recorded, and one that stands twice.
+    pub(crate) fn parse_regex(&mut self) -> PResult<ExprId>
+        requires { at_token begins_regex (seen self.old.input) ≡ true }
+        ensures { Produces I.model B.is_faithful itself tree_of regex_expr
+            (count self.old.nodes) self.old result self.new }
+    {
+        let regex = parse_regex_text(&mut self.input)?;
+        check_flags(&mut self.input, &regex)?;
+        let node = self.nodes.lit(Lit::Regex(regex));
+        made(&self.input, node)
+    }
+}
+
+/// Consumes the first tokens of the link that comes next, and answers what they begin; or nothing, where none comes next.
+/// With `no_call`, a parenthesis begins none.
+fn parse_link_head<I: Tokens>(input: &mut Buffer<I>, no_call: bool) -> PResult<Option<LinkHead>>
+    ensures heads { ContinuesAlone I.model (λ h. h) (link_head (not no_call)) input.old result input.new }
+    ensures falls { OnOk result (to_come I.model input.new ≤ to_come I.model input.old) }
+    ensures more { IfOk result (λ r. IsSome r → to_come I.model input.new < to_come I.model input.old) }
+{
+    look(input)?;
+    let link = match next_link(input, no_call)? {
+        Some(link) => link,
+        None => return Ok(None),
+    };
+    let head = open_link(input, link)?;
+    Ok(Some(head))
+}
+
+/// Consumes the first tokens of the link that the current token begins.
+fn open_link<I: Tokens>(input: &mut Buffer<I>, link: Link) -> PResult<LinkHead>
+    requires { IsSome (current input.old) }
+    ensures heads { ParsesAlone I.model (λ h. h) (head_of link) input.old result input.new }
+    ensures falls { OnOk result (to_come I.model input.new < to_come I.model input.old) }
+{
+    let start = input.cur_span();
+    skip(input);
+    match link {
+        Link::Name => Ok(LinkHead::Name { optional: false }),
+        Link::Computed => Ok(LinkHead::Computed {
+            start,
+            optional: false,
+        }),
+        Link::Call => Ok(LinkHead::Call { optional: false }),
+        Link::Chain => open_chain(input),
+        Link::Template => Ok(LinkHead::Template { start }),
+    }
+}
+
+/// Consumes the first tokens of a link of an optional chain (ECMA-262, 13.3.9), behind its `?`: the `.`, and the bracket
+/// or the parenthesis behind it. Where neither is there, a name has to be.
+fn open_chain<I: Tokens>(input: &mut Buffer<I>) -> PResult<LinkHead>
+    ensures heads { ParsesAlone I.model (λ h. h) chain_head input.old result input.new }
+    ensures falls { OnOk result (to_come I.model input.new < to_come I.model input.old) }
+{
+    expect(input, Sign::Dot)?;
+    match eat(input, Sign::LBracket)? {
+        Some(start) => {
+            return Ok(LinkHead::Computed {
+                start,
+                optional: true,
+            });
+        }
+        None => {}
+    }
+    match eat(input, Sign::LParen)? {
+        Some(_) => Ok(LinkHead::Call { optional: true }),
+        None => Ok(LinkHead::Name { optional: true }),
+    }
+}
+
+/// The link that comes next; with `no_call`, a parenthesis begins none. Refused only for want of memory.
+fn next_link<I: Tokens>(input: &mut Buffer<I>, no_call: bool) -> PResult<Option<Link>>
+    ensures tells { Tells I.model (link_here (not no_call)) input.old result input.new }
+    ensures some { IfOk result (λ r. IsSome r → IsSome (current input.new)) }
+    ensures falls { to_come I.model input.new ≤ to_come I.model input.old }
+{
+    if is_sign(input, Sign::Question) {
+        return chain_behind(input);
+    }
+    Ok(cur_link(input, no_call))
+}
+
+/// The link that the current token begins, which is no `?`; with `no_call`, a parenthesis begins none.
+fn cur_link<I: Tokens>(input: &Buffer<I>, no_call: bool) -> Option<Link>
+    ensures value { result ≡ link_at (not no_call) (seen input.now) None }
+    ensures some { IsSome result → IsSome (current input.now) }
+{
+    match input.cur_debug()? {
+        Token::Dot => Some(Link::Name),
+        Token::LBracket => Some(Link::Computed),
+        Token::BackQuote => Some(Link::Template),
+        Token::LParen if !no_call => Some(Link::Call),
+        _ => None,
+    }
+}
+
+/// The link of an optional chain that `?` begins, where a `.` stands behind it. Refused only for want of memory.
+fn chain_behind<I: Tokens>(input: &mut Buffer<I>) -> PResult<Option<Link>>
+    requires { IsSome (current input.old) }
+    ensures tells { Tells I.model (λ ts. chain_at (first (rest ts))) input.old result input.new }
+    ensures current { current input.new ≡ current input.old }
+    ensures falls { to_come I.model input.new ≤ to_come I.model input.old }
+{
+    match peek_chain(input) {
+        Some(link) => Ok(link),
+        None => {
+            if input.failed() {
+                return Err(input.out_of_memory());
+            }
+            Ok(None)
+        }
+    }
+}
+
+/// The same; nothing where no token is behind it.
+fn peek_chain<I: Tokens>(input: &mut Buffer<I>) -> Option<Option<Link>>
+    requires { IsSome (current input.old) }
+    ensures peeked { Peeked I.model input.old input.new }
+    ensures value { MatchOption (peeked input.new) (result ≡ None) (λ t. result ≡ Some (chain_at (Some t))) }
+{
+    match input.peek() {
+        Some(Token::Dot) => Some(Some(Link::Chain)),
+        Some(_) => Some(None),
+        None => None,
+    }
+}
+
+/// Records that there is no `new.target` to give, as in code of no function and no class (ECMA-262, 13.3.1.1).
+fn check_new_target<I: Tokens>(input: &mut Buffer<I>, span: Span) -> PResult<()>
+    ensures checks { Checked I.model (new_target_ok (context I.model input.old)) input.old result input.new }
+    ensures falls { OnOk result (to_come I.model input.new ≤ to_come I.model input.old) }
+{
+    let ctx = input.get_ctx();
+    if may_be_new_target(ctx) {
+        return Ok(());
+    }
+    emit_err(input, span, SyntaxError::InvalidNewTarget)
+}
+
+/// Whether `new.target` may stand in the context.
+fn may_be_new_target(ctx: Context) -> bool
+    ensures { result ≡ new_target_ok ctx }
+{
+    ctx.inside_non_arrow_function_scope || ctx.in_parameters || ctx.in_class
+}
+
+/// Refuses an optional chain as what `new` constructs.
+fn refuse_opt_chain<I: Tokens, B: Bodies<I>>(
+    input: &mut Buffer<I>,
+    nodes: &NodesOf<B>,
+    callee: ExprId,
+) -> PResult<()>
+    requires { From 0 nodes.now (expr_part callee) }
+    ensures passes { OnOk result ((input.new ≡ input.old) × (is_chain (tree_of nodes.now callee) ≡ false)) }
+    ensures refuses { IfErr result
+        (λ e. Refuses I.model input.old e input.new × (is_chain (tree_of nodes.now callee) ≡ true)) }
+{
+    if nodes.is_opt_chain(callee) {
+        let span = nodes.span(callee);
+        let kind = SyntaxError::OptChainCannotFollowConstructorCall;
+        return Err(syntax_error(input, span, kind));
+    }
+    Ok(())
 }
 
 /// Records, for modules, an identifier that is a word of strict code.

@@ -7,3 +7,4 @@ mod kinds;
 pub mod moves;
 pub mod object;
 pub mod productions;
+mod regex;

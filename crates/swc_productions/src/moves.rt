@@ -4,6 +4,7 @@ ghost use Rattle.std.specs.Prelude.{IsSome, Result, Ok, Some, MatchOption};
 ghost use Rattle.swc_context.specs.declared.error.SyntaxError.TheVariants.{OutOfMemory, ParserFailed};
 ghost use Rattle.swc_input.specs.declared.token.Token.{Token};
 ghost use Rattle.swc_input.specs.Buffer.{current, peeked, last_position, state_of, to_come, Bumped, Peeked, context};
+ghost use Rattle.swc_input.specs.Buffer.{Still, Lives};
 ghost use Rattle.swc_input.specs.Recording.{no_memory};
 ghost use Rattle.swc_input.specs.Kinds.{at_token};
 ghost use Rattle.swc_bodies.specs.Readings.{at_function, is_async, is_function, is_function_here};
@@ -11,15 +12,18 @@ ghost use Rattle.swc_grammar.specs.Tokens.{ref_ok};
 ghost use Rattle.swc_grammar.specs.Clean.{no_error, is_identifier};
 ghost use Rattle.swc_grammar.specs.Names.{may_name};
 ghost use Rattle.swc_grammar.specs.Words.{rest, word};
-ghost use Rattle.swc_productions.specs.Parsing.{is_memory, ident_spelling, name_spelling, seen, recorded, Loud, Moves};
+ghost use Rattle.swc_productions.specs.Parsing.{is_memory, ident_spelling, name_spelling, private_spelling};
+ghost use Rattle.swc_productions.specs.Parsing.{seen, recorded, Loud, Moves};
 ghost use Rattle.swc_productions.specs.Parsing.{Refuses, Tries, ParsesAlone, ContinuesAlone, Eats, Looks, Fits};
 ghost use Rattle.swc_productions.specs.Parsing.{Checked, Tells, begins_async};
 ghost use Rattle.swc_productions.specs.Keys.{expected};
 ghost use Rattle.swc_nodes.specs.Commas.{Remembers};
-ghost use Rattle.swc_productions.specs.Lists.{is_sign_token, separated, closed};
+ghost use Rattle.swc_productions.specs.Links.{hash_name};
+ghost use Rattle.swc_productions.specs.Regexes.{SkipsSlash};
+ghost use Rattle.swc_productions.specs.Lists.{is_named, is_sign_token, separated, closed};
 
 use std::alloc::{AllocError, Global};
-use swc_ast::ident::{Ident, IdentName};
+use swc_ast::ident::{Ident, IdentName, PrivateName};
 use swc_context::atom::Atom;
 use swc_context::context::Context;
 use swc_context::error::{Error, PResult, SyntaxError};
@@ -145,6 +149,28 @@ pub(crate) fn skip<I: Tokens>(input: &mut Buffer<I>)
     let _ = bump(input);
 }
 
+/// Consumes the slash that is current, with the hint to a lexer that a regular expression begins there. What comes then
+/// isn't known from before: the slash may be given once more, within the regular expression.
+pub(crate) fn skip_slash<I: Tokens>(input: &mut Buffer<I>)
+    requires { IsSome (current input.old) }
+    ensures skips { SkipsSlash I.model input.old input.new }
+    ensures falls { to_come I.model input.new ≤ to_come I.model input.old }
+{
+    let start = input.cur_span().lo;
+    skip(input);
+    input.set_next_regexp(Some(start));
+}
+
+/// Tells a lexer that no regular expression begins any more. Nothing that is seen changes.
+pub(crate) fn end_hint<I: Tokens>(input: &mut Buffer<I>)
+    ensures still { Still I.model input.old input.new }
+    ensures current { current input.new ≡ current input.old }
+    ensures lives { Lives I.model input.old input.new }
+    ensures falls { to_come I.model input.new ≤ to_come I.model input.old }
+{
+    input.set_next_regexp(None);
+}
+
 /// A refusal at the place, unless an error token is current.
 pub(crate) fn syntax_error<I: Tokens>(input: &mut Buffer<I>, span: Span, kind: SyntaxError) -> Error
     requires { kind ≢ ParserFailed }
@@ -240,6 +266,19 @@ pub(crate) fn parse_ident_name<I: Tokens>(
     ident::parse_ident_name(alloc, input)
 }
 
+/// A private name, and where it ends, in bytes.
+pub(crate) fn parse_private_name<I: Tokens>(
+    alloc: Global,
+    input: &mut Buffer<I>,
+) -> PResult<(PrivateName, BytePos)>
+    ensures parses { ParsesAlone I.model (λ p. (private_spelling p.0, p.1)) hash_name input.old result input.new }
+    ensures falls { OnOk result (to_come I.model input.new < to_come I.model input.old) }
+{
+    let name = ident::parse_private_name(alloc, input)?;
+    let end = input.last_pos();
+    Ok((name, end))
+}
+
 /// A copy of the text. Refused only for want of memory.
 pub(crate) fn copy_of<I: Tokens>(input: &Buffer<I>, text: &Atom) -> PResult<Atom>
     ensures refused { IfErr result (λ e. e ≡ no_memory (last_position input.now)) }
@@ -268,8 +307,8 @@ pub(crate) fn made<I: Tokens>(input: &Buffer<I>, id: Result<ExprId, AllocError>)
     }
 }
 
-/// The number of a literal's node, where a comma behind its last part is remembered too, or that there is none. Refused
-/// only for want of memory.
+/// The number of a literal's node. A comma behind its last part is remembered too, or that there is none. Refused only
+/// for want of memory.
 pub(crate) fn made_literal<I: Tokens>(
     input: &Buffer<I>,
     id: Result<ExprId, AllocError>,
@@ -318,6 +357,22 @@ pub(crate) enum Sign {
     Set,
     /// `?`
     Question,
+    /// `.`
+    Dot,
+    /// `target`
+    Target,
+    /// `super`
+    Super,
+    /// `import`
+    Import,
+    /// `meta`
+    Meta,
+    /// `source`
+    Source,
+    /// A backquote.
+    BackQuote,
+    /// `${`
+    DollarLBrace,
 }
 
 /// Whether the current token is the sign.
@@ -325,21 +380,48 @@ pub(crate) fn is_sign<I: Tokens>(input: &Buffer<I>, sign: Sign) -> bool
     ensures value { result ≡ at_token (is_sign_token sign) (seen input.now) }
     ensures some { result ≡ true → IsSome (current input.now) }
 {
-    match (sign, input.cur_debug()) {
-        (Sign::Comma, Some(Token::Comma)) => true,
-        (Sign::DotDotDot, Some(Token::DotDotDot)) => true,
-        (Sign::LParen, Some(Token::LParen)) => true,
-        (Sign::RParen, Some(Token::RParen)) => true,
-        (Sign::LBracket, Some(Token::LBracket)) => true,
-        (Sign::RBracket, Some(Token::RBracket)) => true,
-        (Sign::RBrace, Some(Token::RBrace)) => true,
-        (Sign::Assign, Some(Token::AssignOp(AssignOp::Assign))) => true,
-        (Sign::Colon, Some(Token::Colon)) => true,
-        (Sign::Star, Some(Token::BinOp(BinOpToken::Mul))) => true,
-        (Sign::Async, Some(Token::Word(Word::Ident(name)))) => name.as_str() == "async",
-        (Sign::Get, Some(Token::Word(Word::Ident(name)))) => name.as_str() == "get",
-        (Sign::Set, Some(Token::Word(Word::Ident(name)))) => name.as_str() == "set",
-        (Sign::Question, Some(Token::QuestionMark)) => true,
+    match input.cur_debug() {
+        Some(token) => spells(sign, token),
+        None => false,
+    }
+}
+
+/// Whether the token is the sign.
+fn spells(sign: Sign, token: &Token) -> bool
+    ensures { result ≡ is_sign_token sign token.now }
+{
+    match sign {
+        Sign::Comma => matches!(token, Token::Comma),
+        Sign::DotDotDot => matches!(token, Token::DotDotDot),
+        Sign::LParen => matches!(token, Token::LParen),
+        Sign::RParen => matches!(token, Token::RParen),
+        Sign::LBracket => matches!(token, Token::LBracket),
+        Sign::RBracket => matches!(token, Token::RBracket),
+        Sign::RBrace => matches!(token, Token::RBrace),
+        Sign::Assign => matches!(token, Token::AssignOp(AssignOp::Assign)),
+        Sign::Colon => matches!(token, Token::Colon),
+        Sign::Star => matches!(token, Token::BinOp(BinOpToken::Mul)),
+        Sign::Async => is_name(token, "async"),
+        Sign::Get => is_name(token, "get"),
+        Sign::Set => is_name(token, "set"),
+        Sign::Question => matches!(token, Token::QuestionMark),
+        Sign::Dot => matches!(token, Token::Dot),
+        Sign::Target => is_name(token, "target"),
+        Sign::Super => matches!(token, Token::Word(Word::Keyword(Keyword::Super))),
+        Sign::Import => matches!(token, Token::Word(Word::Keyword(Keyword::Import))),
+        Sign::Meta => is_name(token, "meta"),
+        Sign::Source => is_name(token, "source"),
+        Sign::BackQuote => matches!(token, Token::BackQuote),
+        Sign::DollarLBrace => matches!(token, Token::DollarLBrace),
+    }
+}
+
+/// Whether the token is the word, which is no keyword.
+fn is_name(token: &Token, name: &str) -> bool
+    ensures { result ≡ is_named name.now token.now }
+{
+    match token {
+        Token::Word(Word::Ident(word)) => word.as_str() == name,
         _ => false,
     }
 }
@@ -348,6 +430,7 @@ pub(crate) fn is_sign<I: Tokens>(input: &Buffer<I>, sign: Sign) -> bool
 pub(crate) fn eat<I: Tokens>(input: &mut Buffer<I>, sign: Sign) -> PResult<Option<Span>>
     ensures eats { Eats I.model (is_sign_token sign) input.old result input.new }
     ensures falls { OnOk result (to_come I.model input.new ≤ to_come I.model input.old) }
+    ensures ate { IfOk result (λ r. IsSome r → to_come I.model input.new < to_come I.model input.old) }
 {
     look(input)?;
     if !is_sign(input, sign) {
@@ -375,6 +458,14 @@ fn sign_text(sign: Sign) -> &'static str {
         Sign::Get => "get",
         Sign::Set => "set",
         Sign::Question => "?",
+        Sign::Dot => ".",
+        Sign::Target => "target",
+        Sign::Super => "super",
+        Sign::Import => "import",
+        Sign::Meta => "meta",
+        Sign::Source => "source",
+        Sign::BackQuote => "`",
+        Sign::DollarLBrace => "${",
     }
 }
 
@@ -384,23 +475,37 @@ pub(crate) fn expect<I: Tokens>(input: &mut Buffer<I>, sign: Sign) -> PResult<Sp
     ensures expects { ParsesAlone I.model (λ s. s) (expected (is_sign_token sign)) input.old result input.new }
     ensures falls { OnOk result (to_come I.model input.new < to_come I.model input.old) }
 {
+    expect_or(input, sign, SyntaxError::Expected(sign_text(sign)))
+}
+
+/// Consumes the sign, and answers its place. Where another token is current, that is refused by the kind, at that
+/// token, and the end as `Eof`.
+pub(crate) fn expect_or<I: Tokens>(
+    input: &mut Buffer<I>,
+    sign: Sign,
+    kind: SyntaxError,
+) -> PResult<Span>
+    requires { kind ≢ ParserFailed }
+    ensures expects { ParsesAlone I.model (λ s. s) (expected (is_sign_token sign)) input.old result input.new }
+    ensures falls { OnOk result (to_come I.model input.new < to_come I.model input.old) }
+{
     match eat(input, sign)? {
         Some(span) => Ok(span),
-        None => Err(unexpected(input, SyntaxError::Expected(sign_text(sign)))),
+        None => Err(unexpected(input, kind)),
     }
 }
 
 /// The items of a list, the place of a comma behind the last one, and that of the sign that closes the list.
 #[derive(Drop)]
-pub(crate) struct Listed<T> {
-    pub(crate) items: Vec<T>,
-    pub(crate) trailing_comma: Option<Span>,
-    pub(crate) end: Span,
+pub struct Listed<T> {
+    pub items: Vec<T>,
+    pub trailing_comma: Option<Span>,
+    pub end: Span,
 }
 
-/// The items of a list, read by one method each, up to the sign that closes the list: the loop of all lists.
+/// The items of a list, read by a call of one method each, up to the sign that closes the list: the loop of all lists.
 macro_rules! listed {
-    ($productions:ident, $close:expr, $item:ident) => {{
+    ($productions:ident, $close:expr, $item:ident ( $($arg:expr),* )) => {{
         let mut items = Vec::new($productions.alloc);
         let mut trailing_comma = None;
         loop {
@@ -414,7 +519,7 @@ macro_rules! listed {
                 }
                 None => {}
             }
-            let (item, comma) = $productions.$item()?;
+            let (item, comma) = $productions.$item($($arg),*)?;
             add(&$productions.input, &mut items, item)?;
             trailing_comma = comma;
         }
@@ -423,8 +528,8 @@ macro_rules! listed {
 
 pub(crate) use listed;
 
-/// Consumes what stands behind an item of a list: a comma, whose place is answered, or nothing where the sign that closes
-/// the list is current.
+/// Consumes what stands behind an item of a list: a comma, whose place is answered, or nothing where the sign that
+/// closes the list is current.
 pub(crate) fn separate<I: Tokens>(input: &mut Buffer<I>, close: Sign) -> PResult<Option<Span>>
     ensures separates { ContinuesAlone I.model (λ s. s) (separated (is_sign_token close)) input.old result input.new }
     ensures falls { OnOk result (to_come I.model input.new ≤ to_come I.model input.old) }

@@ -1,6 +1,6 @@
 // Object literals (ECMA-262, 13.2.5): properties, keys, and the functions of methods (15.4).
 ghost use Rattle.std.specs.Option.{is_some};
-ghost use Rattle.std.specs.Prelude.{◌≡◌, ◌<◌, ◌≤◌, true, false, not, [], Some, OnOk, IfOk};
+ghost use Rattle.std.specs.Prelude.{◌≡◌, ◌<◌, ◌≤◌, true, false, not, [], Some, OnOk, IfOk, MatchResult};
 ghost use Rattle.swc_context.specs.Reserved.{is_reserved_word};
 ghost use Rattle.swc_input.specs.Buffer.{to_come, context};
 ghost use Rattle.swc_input.specs.Plain.{plain_token};
@@ -11,18 +11,19 @@ ghost use Rattle.swc_grammar.specs.Symbols.{Props, Prop, Key, AfterKey as Behind
 ghost use Rattle.swc_grammar.specs.Tokens.{method_scope, method_params, method_block};
 ghost use Rattle.swc_grammar.specs.Parts.{key_lit_of};
 ghost use Rattle.swc_grammar.specs.Grammar as grammar;
-ghost use Rattle.swc_grammar.specs.Trees.{to};
+ghost use Rattle.swc_grammar.specs.Trees.{to, spread_prop_e};
 ghost use Rattle.swc_grammar.specs.Clean.{sym, run};
-ghost use Rattle.swc_nodes.specs.Slots.{expr_part, pat_part, key_parts};
-ghost use Rattle.swc_nodes.specs.Stands.{count, From, Grows};
+ghost use Rattle.swc_nodes.specs.Slots.{expr_part, pat_part, key_parts, prop_parts, one_expr};
+ghost use Rattle.swc_nodes.specs.Stands.{count, first_at, From, Grows};
 ghost use Rattle.swc_productions.specs.Readers.{by_production, nothing};
-ghost use Rattle.swc_productions.specs.Properties.{prop_item, spread_prop_tail, prop_plain, open_name, cover_tail};
-ghost use Rattle.swc_productions.specs.Keys.{is_key_lit, plain_key, computed_key, no_params, ends_params, parens};
+ghost use Rattle.swc_productions.specs.Properties.{prop_item, open_name, cover_name, cover_node};
+ghost use Rattle.swc_productions.specs.Begins.{Begins};
+ghost use Rattle.swc_productions.specs.Keys.{is_key_lit, plain_key, key_close, no_params, ends_params, parens};
 ghost use Rattle.swc_productions.specs.Keys.{params, method_body, shell};
-ghost use Rattle.swc_productions.specs.Methods.{prop_behind, method_behind, getter_behind, setter_behind, after_colon};
-ghost use Rattle.swc_productions.specs.Methods.{method_node, method_function, method_tail};
-ghost use Rattle.swc_productions.specs.Parsing.{seen, Here, Refuses, Checked, Tries, Acts, Parses, ParsesAlone};
-ghost use Rattle.swc_productions.specs.Parsing.{ContinuesAlone, Produces, itself, tree_of};
+ghost use Rattle.swc_productions.specs.Methods.{prop_behind, method_behind, getter_behind, setter_behind};
+ghost use Rattle.swc_productions.specs.Methods.{method_node, method_function};
+ghost use Rattle.swc_productions.specs.Parsing.{seen, Here, Refuses, Checked, Tries, Acts, Parses, ParsesAlone, Unheard};
+ghost use Rattle.swc_productions.specs.Parsing.{ContinuesAlone, Produces, by_hook, itself, tree_of};
 ghost use Rattle.swc_productions.specs.Parsing.{key_of, key_at, shell_of, shell_at, function_of, function_at};
 ghost use Rattle.swc_productions.specs.Parsing.{after_of, after_at};
 ghost use Rattle.swc_productions.specs.Parsing.{ident_spelling, prop_of, prop_at, prop_item_of, prop_item_at};
@@ -77,10 +78,11 @@ impl<I: Tokens, B: Bodies<I>> Productions<I, B> {
         ensures { Produces I.model B.is_faithful props_of props_at (run B.forms (sym Props))
             (count self.old.nodes) self.old result self.new }
     {
-        listed!(self, Sign::RBrace, parse_prop_item)
+        listed!(self, Sign::RBrace, parse_prop_item())
     }
 
-    /// A property of an object literal, and the comma behind it, whose place is answered too; none stands before the brace.
+    /// A property of an object literal, and the comma behind it, whose place is answered too; none stands before the
+    /// brace.
     #[cycle(productions)]
     fn parse_prop_item(&mut self) -> PResult<(PropNode<B::Block>, Option<Span>)>
         ensures { Produces I.model B.is_faithful prop_item_of prop_item_at (prop_item B.forms)
@@ -91,102 +93,35 @@ impl<I: Tokens, B: Bodies<I>> Productions<I, B> {
         Ok((prop, comma))
     }
 
-    /// A property of an object literal (ECMA-262, 13.2.5).
+    /// A property of an object literal (ECMA-262, 13.2.5): a name alone; dots, or a name with `=`, and an expression in
+    /// which `in` counts as an operator; a key, and its value or its method's function; or a method of another kind
+    /// (15.4 to 15.6 and 15.8).
     #[cycle(productions)]
     pub fn parse_object_prop(&mut self) -> PResult<PropNode<B::Block>>
         ensures { Produces I.model B.is_faithful prop_of prop_at (run B.forms (sym Prop))
             (count self.old.nodes) self.old result self.new }
     {
-        match eat(&mut self.input, Sign::DotDotDot)? {
-            Some(dots) => self.parse_spread_prop(dots),
-            None => self.parse_plain_prop(),
-        }
-    }
-
-    /// A property that no dots begin, by what it is.
-    #[cycle(productions)]
-    fn parse_plain_prop(&mut self) -> PResult<PropNode<B::Block>>
-        ensures { Produces I.model B.is_faithful prop_of prop_at (prop_plain B.forms)
-            (count self.old.nodes) self.old result self.new }
-    {
-        look(&mut self.input)?;
-        match prop_kind(&mut self.input)? {
-            PropKind::Shorthand => self.parse_shorthand_prop(),
-            PropKind::Cover => self.parse_cover_prop(),
-            PropKind::Key => self.parse_key_prop(),
-            PropKind::Method(kind) => {
-                let start = parse_modifiers(&mut self.input, kind)?;
-                self.parse_method(kind, start)
+        match parse_prop_head::<I, B>(self.alloc, &mut self.input)? {
+            PropHead::Shorthand(name) => Ok(PropNode::Shorthand(name)),
+            PropHead::Spread(dots) => {
+                let expr = self.parse_assignment_expr_with_in()?;
+                Ok(spread_prop(&self.nodes, dots, expr))
             }
-            PropKind::Questioned => self.parse_questioned_prop(),
-            PropKind::Unfit => Err(unfit_prop(self.alloc, &mut self.input)),
-            PropKind::Spread => Err(unexpected(
-                &mut self.input,
-                SyntaxError::Unexpected("property"),
-            )),
+            PropHead::Cover(name) => {
+                let value = self.parse_assignment_expr_with_in()?;
+                Ok(cover_prop(&self.nodes, name, value))
+            }
+            PropHead::Key => {
+                let key = self.parse_prop_name()?;
+                let after = self.parse_after_key()?;
+                Ok(key_prop(key, after))
+            }
+            PropHead::Method(kind, start) => {
+                let key = self.parse_prop_name()?;
+                let (function, param) = self.parse_method_function(kind, key.span())?;
+                Ok(method_of(kind, start, key, function, param))
+            }
         }
-    }
-
-    /// What stands behind the dots of a property (ECMA-262, 13.2.5): an assignment expression, in which `in` counts as
-    /// an operator.
-    #[cycle(productions)]
-    fn parse_spread_prop(&mut self, dots: Span) -> PResult<PropNode<B::Block>>
-        ensures { Produces I.model B.is_faithful prop_of prop_at (spread_prop_tail B.forms dots)
-            (count self.old.nodes) self.old result self.new }
-    {
-        let expr = self.parse_assignment_expr_with_in()?;
-        let span = span_to(&self.nodes, dots, expr);
-        Ok(PropNode::Spread(SpreadElement {
-            span,
-            dot3_token: dots,
-            expr,
-        }))
-    }
-
-    /// A name alone as a property, whose value it names too (ECMA-262, 13.2.5). One that is reserved where it stands is
-    /// recorded, at its place.
-    fn parse_shorthand_prop(&mut self) -> PResult<PropNode<B::Block>>
-        ensures { Produces I.model B.is_faithful prop_of prop_at (by_production B.forms (λ c. grammar.prop-short))
-            (count self.old.nodes) self.old result self.new }
-    {
-        let name = parse_open_name(self.alloc, &mut self.input)?;
-        Ok(PropNode::Shorthand(name))
-    }
-
-    /// A name with `=` and an expression behind it, as a property (ECMA-262, 13.2.5). A name that is reserved where it
-    /// stands is recorded, at its place.
-    #[cycle(productions)]
-    fn parse_cover_prop(&mut self) -> PResult<PropNode<B::Block>>
-        ensures { Produces I.model B.is_faithful prop_of prop_at (by_production B.forms (λ c. grammar.prop-cover))
-            (count self.old.nodes) self.old result self.new }
-    {
-        let key = parse_open_name(self.alloc, &mut self.input)?;
-        match eat(&mut self.input, Sign::Assign)? {
-            Some(_) => self.parse_cover_value(key),
-            None => Err(unexpected(&mut self.input, SyntaxError::Expected("="))),
-        }
-    }
-
-    /// What stands behind the `=` of such a property: an assignment expression, in which `in` counts as an operator.
-    #[cycle(productions)]
-    fn parse_cover_value(&mut self, key: Ident) -> PResult<PropNode<B::Block>>
-        ensures { Produces I.model B.is_faithful prop_of prop_at (cover_tail B.forms (ident_spelling key))
-            (count self.old.nodes) self.old result self.new }
-    {
-        let value = self.parse_assignment_expr_with_in()?;
-        let span = span_to(&self.nodes, key.span, value);
-        Ok(PropNode::Assign(AssignProp { span, key, value }))
-    }
-
-    /// A key, and behind it `:` and a value, or the function of a method (ECMA-262, 13.2.5 and 15.4).
-    #[cycle(productions)]
-    fn parse_key_prop(&mut self) -> PResult<PropNode<B::Block>>
-        ensures { Produces I.model B.is_faithful prop_of prop_at (by_production B.forms (λ c. grammar.prop-key))
-            (count self.old.nodes) self.old result self.new }
-    {
-        let key = self.parse_prop_name()?;
-        let after = self.parse_after_key()?;
-        Ok(key_prop(key, after))
     }
 
     /// What stands behind a key: `:` and a value, in which `in` counts as an operator, or the function of a method.
@@ -198,20 +133,13 @@ impl<I: Tokens, B: Bodies<I>> Productions<I, B> {
             (count self.old.nodes) self.old result self.new }
     {
         match eat(&mut self.input, Sign::Colon)? {
-            Some(_) => self.parse_key_value(),
+            Some(_) => {
+                let value = self.parse_assignment_expr_with_in()?;
+                let span = self.nodes.span(value);
+                Ok(AfterKey::Value { span, value })
+            }
             None => self.parse_key_method(),
         }
-    }
-
-    /// The value behind a key and `:`.
-    #[cycle(productions)]
-    fn parse_key_value(&mut self) -> PResult<AfterKey<B::Block>>
-        ensures { Produces I.model B.is_faithful after_of after_at (after_colon B.forms)
-            (count self.old.nodes) self.old result self.new }
-    {
-        let value = self.parse_assignment_expr_with_in()?;
-        let span = self.nodes.span(value);
-        Ok(AfterKey::Value { span, value })
     }
 
     /// The function of a method behind a key.
@@ -225,17 +153,6 @@ impl<I: Tokens, B: Bodies<I>> Productions<I, B> {
         }
         let function = self.parse_shell(false, false, None)?;
         Ok(AfterKey::Method(function))
-    }
-
-    /// The key and the function of a method of the kind, which begins at the place (ECMA-262, 15.4 to 15.6 and 15.8).
-    #[cycle(productions)]
-    fn parse_method(&mut self, kind: MethodKind, start: Span) -> PResult<PropNode<B::Block>>
-        ensures { Produces I.model B.is_faithful prop_of prop_at (method_tail B.forms kind start)
-            (count self.old.nodes) self.old result self.new }
-    {
-        let key = self.parse_prop_name()?;
-        let (function, param) = self.parse_method_function(kind, key.span())?;
-        Ok(method_of(kind, start, key, function, param))
     }
 
     /// The function of a method of the kind, whose key is at the place, and the parameter of a setter.
@@ -280,22 +197,8 @@ impl<I: Tokens, B: Bodies<I>> Productions<I, B> {
         }
     }
 
-    /// A word with `?` behind it, which is recorded, and what follows, as if the `?` weren't there (ECMA-262, 13.2.5).
-    #[cycle(productions)]
-    fn parse_questioned_prop(&mut self) -> PResult<PropNode<B::Block>>
-        ensures { Produces I.model B.is_faithful prop_of prop_at nothing
-            (count self.old.nodes) self.old result self.new }
-    {
-        let Questioned { name, kind } = parse_questioned(self.alloc, &mut self.input)?;
-        match kind {
-            PropKind::Shorthand => Ok(PropNode::Shorthand(name)),
-            PropKind::Cover => self.parse_cover_value(name),
-            PropKind::Method(kind) => self.parse_method(kind, name.span),
-            _ => Err(unfit_behind(&mut self.input)),
-        }
-    }
-
-    /// A property's key (ECMA-262, 13.2.5): any word, a string, a number, a big integer, or an expression in brackets.
+    /// A property's key (ECMA-262, 13.2.5): any word, a string, a number, a big integer, or an expression in brackets, in
+    /// which `in` counts as an operator.
     ///
     /// Another token is refused as `Unexpected`, at that token, and the end as `Eof`; a missing `]` as `Expected`.
     #[cycle(productions)]
@@ -304,19 +207,21 @@ impl<I: Tokens, B: Bodies<I>> Productions<I, B> {
             (count self.old.nodes) self.old result self.new }
     {
         match eat(&mut self.input, Sign::LBracket)? {
-            Some(start) => self.parse_computed_prop_name(start),
+            Some(start) => {
+                let expr = self.parse_assignment_expr_with_in()?;
+                self.computed_prop_name(start, expr)
+            }
             None => self.parse_plain_prop_name(),
         }
     }
 
-    /// What stands behind the bracket of a computed key: an expression in which `in` counts as an operator, and the
-    /// bracket that closes the key.
-    #[cycle(productions)]
-    fn parse_computed_prop_name(&mut self, start: Span) -> PResult<PropName<ExprId>>
-        ensures { Produces I.model B.is_faithful key_of key_at (computed_key B.forms start)
-            (count self.old.nodes) self.old result self.new }
+    /// The bracket that closes the key of an expression, behind this; that which opens it is at `start`. Another token is
+    /// refused as `Expected`, at that token, and the end as `Eof`.
+    fn computed_prop_name(&mut self, start: Span, expr: ExprId) -> PResult<PropName<ExprId>>
+        requires from { From 0 self.old.nodes (expr_part expr) }
+        ensures { Produces I.model B.is_faithful key_of key_at (key_close start (tree_of self.old.nodes expr))
+            (first_at self.old.nodes expr.0) self.old result self.new }
     {
-        let expr = self.parse_assignment_expr_with_in()?;
         let end = expect(&mut self.input, Sign::RBracket)?;
         let span = Span::new(start.lo, end.hi);
         Ok(PropName::Computed(ComputedPropName { span, expr }))
@@ -399,7 +304,8 @@ impl<I: Tokens, B: Bodies<I>> Productions<I, B> {
 
     /// A block, which the hook reads.
     fn parse_block(&mut self) -> PResult<B::Block>
-        ensures reads { Parses I.model B.is_faithful (λ v. v) B.forms.block self.old.input result self.new.input }
+        ensures reads { Parses I.model B.is_faithful (λ v. v) (by_hook B.forms.block)
+            self.old.input result self.new.input }
         ensures nodes { self.new.nodes ≡ self.old.nodes }
     {
         look(&mut self.input)?;
@@ -407,6 +313,74 @@ impl<I: Tokens, B: Bodies<I>> Productions<I, B> {
             return Err(unexpected(&mut self.input, SyntaxError::Expected("{")));
         }
         self.bodies.block(&mut self.input)
+    }
+}
+
+/// What a property begins with, before the first part that a production reads.
+#[derive(Drop)]
+pub(crate) enum PropHead {
+    /// A name alone, which is the whole property.
+    Shorthand(Ident),
+    /// The dots before an expression.
+    Spread(Span),
+    /// A name, and the `=` before its value.
+    Cover(Ident),
+    /// Nothing: a key comes.
+    Key,
+    /// What a method of the kind has before its key, and where that begins.
+    Method(MethodKind, Span),
+}
+
+/// What a property begins with (ECMA-262, 13.2.5 and 15.4 to 15.6): a name alone, dots, a name and `=`, or what a method
+/// has before its key; nothing where a key comes. A name that stands for its value too, and is reserved where it stands,
+/// is recorded, at its place; so is `?` behind a word, which is read on as if it weren't there.
+///
+/// A word with a token behind it that goes on with none of these is refused as `Unexpected`, at that token, and the end
+/// as `Eof`.
+fn parse_prop_head<I: Tokens, B: Bodies<I>>(
+    alloc: Global,
+    input: &mut Buffer<I>,
+) -> PResult<PropHead>
+    ensures reads { MatchResult result
+        (λ h. Begins I.model B.is_faithful B.forms h input.old input.new)
+        (λ e. Unheard I.model B.is_faithful (run B.forms (sym Prop)) input.old e input.new) }
+    ensures falls { OnOk result (to_come I.model input.new ≤ to_come I.model input.old) }
+{
+    look(input)?;
+    match prop_kind(input)? {
+        PropKind::Shorthand => {
+            let name = parse_open_name(alloc, input)?;
+            Ok(PropHead::Shorthand(name))
+        }
+        PropKind::Spread => {
+            let dots = expect(input, Sign::DotDotDot)?;
+            Ok(PropHead::Spread(dots))
+        }
+        PropKind::Cover => {
+            let name = parse_cover_name(alloc, input)?;
+            Ok(PropHead::Cover(name))
+        }
+        PropKind::Key => Ok(PropHead::Key),
+        PropKind::Method(kind) => {
+            let start = parse_modifiers(input, kind)?;
+            Ok(PropHead::Method(kind, start))
+        }
+        PropKind::Questioned => parse_questioned_head(alloc, input),
+        PropKind::Unfit => Err(unfit_prop(alloc, input)),
+    }
+}
+
+/// A word with `?` behind it, which is recorded, and what it begins as if the `?` weren't there (ECMA-262, 13.2.5).
+fn parse_questioned_head<I: Tokens>(alloc: Global, input: &mut Buffer<I>) -> PResult<PropHead>
+    ensures parses { ParsesAlone I.model (λ h. h) nothing input.old result input.new }
+    ensures falls { OnOk result (to_come I.model input.new < to_come I.model input.old) }
+{
+    let Questioned { name, kind } = parse_questioned(alloc, input)?;
+    match kind {
+        PropKind::Shorthand => Ok(PropHead::Shorthand(name)),
+        PropKind::Cover => Ok(PropHead::Cover(name)),
+        PropKind::Method(kind) => Ok(PropHead::Method(kind, name.span)),
+        _ => Err(unfit_behind(input)),
     }
 }
 
@@ -517,6 +491,18 @@ fn parse_open_name<I: Tokens>(alloc: Global, input: &mut Buffer<I>) -> PResult<I
     })
 }
 
+/// A name that stands for its value too, and the `=` behind it (ECMA-262, 13.2.5). A name that is reserved where it
+/// stands is recorded, at its place. Another token than `=` is refused as `Expected`, at that token, and the end as
+/// `Eof`.
+fn parse_cover_name<I: Tokens>(alloc: Global, input: &mut Buffer<I>) -> PResult<Ident>
+    ensures parses { ParsesAlone I.model ident_spelling cover_name input.old result input.new }
+    ensures falls { OnOk result (to_come I.model input.new < to_come I.model input.old) }
+{
+    let name = parse_open_name(alloc, input)?;
+    expect(input, Sign::Assign)?;
+    Ok(name)
+}
+
 /// Records a name that is reserved where it stands.
 fn check_open_name<I: Tokens>(input: &mut Buffer<I>, name: &IdentName) -> PResult<()>
     ensures checks { Checked I.model
@@ -604,6 +590,38 @@ fn span_to<F: Spanned + Drop, C: Spanned + Drop, K: Spanned + Drop>(
     ensures { result ≡ to start (span_of (tree_of nodes.now end)) }
 {
     Span::new(start.lo, nodes.span(end).hi)
+}
+
+/// The property of dots and the expression behind them.
+fn spread_prop<F: Spanned + Drop, C: Spanned + Drop, K: Spanned + Drop>(
+    nodes: &Nodes<F, C, K>,
+    dots: Span,
+    expr: ExprId,
+) -> PropNode<K>
+    requires { From 0 nodes.now (expr_part expr) }
+    ensures tree { prop_at nodes.now result ≡ spread_prop_e dots (tree_of nodes.now expr) }
+    ensures parts { prop_parts result ≡ one_expr expr }
+{
+    let span = span_to(nodes, dots, expr);
+    PropNode::Spread(SpreadElement {
+        span,
+        dot3_token: dots,
+        expr,
+    })
+}
+
+/// The property of a name and the value behind its `=`.
+fn cover_prop<F: Spanned + Drop, C: Spanned + Drop, K: Spanned + Drop>(
+    nodes: &Nodes<F, C, K>,
+    key: Ident,
+    value: ExprId,
+) -> PropNode<K>
+    requires { From 0 nodes.now (expr_part value) }
+    ensures tree { prop_at nodes.now result ≡ cover_node (ident_spelling key) (tree_of nodes.now value) }
+    ensures parts { prop_parts result ≡ one_expr value }
+{
+    let span = span_to(nodes, key.span, value);
+    PropNode::Assign(AssignProp { span, key, value })
 }
 
 /// What stands behind a key.

@@ -4,13 +4,15 @@ ghost use Rattle.swc_input.specs.declared.token.Token.{Token};
 ghost use Rattle.swc_input.specs.Buffer.{current, context, state_of};
 ghost use Rattle.swc_input.specs.Kinds.{at_token, is_hash};
 ghost use Rattle.swc_grammar.specs.Tokens.{is_ref, is_strict_word, is_lparen, is_rparen, is_lbracket, is_this};
-ghost use Rattle.swc_grammar.specs.Tokens.{is_word};
+ghost use Rattle.swc_grammar.specs.Tokens.{is_word, is_new, is_backquote};
 ghost use Rattle.swc_bodies.specs.Readings.{at_function, is_function, is_class, is_brace};
 ghost use Rattle.swc_grammar.specs.Clean.{is_lit, is_identifier};
 ghost use Rattle.swc_productions.specs.Keys.{is_key_lit};
 ghost use Rattle.swc_productions.specs.Parsing.{is_strict, seen, Looks};
+ghost use Rattle.swc_grammar.specs.Tokens.{begins_regex};
 
 use crate::moves::look;
+use crate::regex::{is_regex, is_slash};
 use std::alloc::Global;
 use swc_bodies::bodies::Bodies;
 use swc_context::context::Context;
@@ -40,6 +42,8 @@ pub struct Productions<I: Tokens, B: Bodies<I>> {
     pub bodies: B,
     /// Where commas stand behind the last parts of literals.
     pub commas: TrailingCommas,
+    /// Whether `import.` was read.
+    pub found_module_item: bool,
 }
 
 impl<I: Tokens, B: Bodies<I>> Productions<I, B> {
@@ -61,6 +65,16 @@ impl<I: Tokens, B: Bodies<I>> Productions<I, B> {
         matches!(
             self.input.cur_debug(),
             Some(Token::Word(Word::Keyword(Keyword::This)))
+        )
+    }
+
+    pub(crate) fn is_new(&self) -> bool
+        ensures value { result ≡ at_token is_new (seen self.now.input) }
+        ensures some { result ≡ true → IsSome (current self.now.input) }
+    {
+        matches!(
+            self.input.cur_debug(),
+            Some(Token::Word(Word::Keyword(Keyword::New)))
         )
     }
 
@@ -95,11 +109,26 @@ impl<I: Tokens, B: Bodies<I>> Productions<I, B> {
         }
     }
 
+    /// Whether a regular expression begins here: at `/` or `/=`, or at a whole one.
+    pub(crate) fn is_regex_start(&self) -> bool
+        ensures value { result ≡ at_token begins_regex (seen self.now.input) }
+        ensures some { result ≡ true → IsSome (current self.now.input) }
+    {
+        is_slash(&self.input) || is_regex(&self.input)
+    }
+
     pub(crate) fn is_lparen(&self) -> bool
         ensures value { result ≡ at_token is_lparen (seen self.now.input) }
         ensures some { result ≡ true → IsSome (current self.now.input) }
     {
         matches!(self.input.cur_debug(), Some(Token::LParen))
+    }
+
+    pub(crate) fn is_backquote(&self) -> bool
+        ensures value { result ≡ at_token is_backquote (seen self.now.input) }
+        ensures some { result ≡ true → IsSome (current self.now.input) }
+    {
+        matches!(self.input.cur_debug(), Some(Token::BackQuote))
     }
 
     /// Whether a literal is current that is a key: a string, a number or a big integer.

@@ -1,9 +1,11 @@
--- Tokens that have no text of their own: signs.
-use Rattle.std.proofs.Common.{◌≡◌, ℕ, ◌+◌, ◌-◌, List, IsFalse, take, drop, slice_range, ap, ◌∙◌, arith}
+-- Tokens that have no text of their own: signs, and what ends a text of a template.
+use Rattle.std.proofs.Common.{◌≡◌, ℕ, suc, ◌+◌, ◌-◌, List, [], ◌∷◌, Some, IsFalse, take, drop, drop-cons, get_or, slice_get, slice_range, add-one, ap, sym, ◌∙◌, arith}
+use Rattle.std.proofs.lemmas.Option.{get_or_from_slice_get, slice_get_within}
 use Rattle.swc_input.specs.declared.token.Token.{Token}
 use Rattle.swc_input.specs.declared.token.Token.TheVariants as token
 use Rattle.swc_tokens.specs.Signs.{has_text, sign_text}
 use Rattle.swc_tokens.specs.Spelling.{Spells}
+use Rattle.swc_tokens.specs.Strings.{OpensSubstitution}
 
 without-text : (text : List ℕ) (low high : ℕ) (t : Token) → IsFalse (has_text t) → sign_text t ≡ slice_range text low high → Spells text low high t
 unfolding Spells has_text
@@ -11,9 +13,38 @@ without-text text low high (token.Word word) none same = absurd (cc)
 without-text text low high (token.Str value raw) none same = absurd (cc)
 without-text text low high (token.Num raw) none same = absurd (cc)
 without-text text low high (token.BigInt raw) none same = absurd (cc)
+without-text text low high (token.Template raw cooked) none same = absurd (cc)
+without-text text low high (token.Regex body flags) none same = absurd (cc)
 without-text text low high _ none same = same
 
 pub Spells_sign : (text : List ℕ) (low size : ℕ) (t : Token) → IsFalse (has_text t) → sign_text t ≡ take size (drop low text) → Spells text low (low + size) t
 Spells_sign text low size t none same =
     let back : size ≡ (low + size) - low = omega arith in
     without-text text low (low + size) t none (same ∙ ap (λ n. take n (drop low text)) back)
+
+one_byte : (text : List ℕ) (low b : ℕ) → slice_get text low ≡ Some b → slice_range text low (low + 1) ≡ b ∷ []
+one_byte text low b there =
+    let inside = slice_get_within text low b there in
+    let back : (low + 1) - low ≡ 1 = omega arith in
+    let here = get_or_from_slice_get text low b b there in
+    ap (λ n. take n (drop low text)) back ∙ ap (take 1) (drop-cons text low b inside) ∙ ap (λ x. x ∷ []) here
+
+two_bytes : (text : List ℕ) (low a b : ℕ) → slice_get text low ≡ Some a → slice_get text (low + 1) ≡ Some b → slice_range text low (low + 2) ≡ a ∷ b ∷ []
+two_bytes text low a b first second =
+    let inside = slice_get_within text low a first in
+    let behind = slice_get_within text (low + 1) b second in
+    let back : (low + 2) - low ≡ 2 = omega arith in
+    let here = get_or_from_slice_get text low a a first in
+    let there = get_or_from_slice_get text (low + 1) b b second in
+    let rest : drop (suc low) text ≡ get_or text (low + 1) b ∷ drop (suc (low + 1)) text = rw (sym (add-one low)) (drop-cons text (low + 1) b behind) in
+    ap (λ n. take n (drop low text)) back ∙ ap (take 2) (drop-cons text low a inside)
+    ∙ ap (λ xs. get_or text low a ∷ take 1 xs) rest ∙ ap (λ x. x ∷ get_or text (low + 1) b ∷ []) here ∙ ap (λ x. a ∷ x ∷ []) there
+
+-- the backquote behind a text, and `${`
+pub Spells_backquote : (text : List ℕ) (low : ℕ) → slice_get text low ≡ Some 96 → Spells text low (low + 1) token.BackQuote
+unfolding Spells sign_text
+Spells_backquote text low there = sym (one_byte text low 96 there)
+
+pub Spells_substitution : (text : List ℕ) (low : ℕ) → OpensSubstitution text low → Spells text low (low + 2) token.DollarLBrace
+unfolding Spells sign_text
+Spells_substitution text low opens = sym (two_bytes text low 36 123 opens.first_there opens.second_there)

@@ -1,9 +1,12 @@
 pub mod Blanks
 pub mod Faults
+pub mod Nesting
 pub mod Numbers
 pub mod Order
 pub mod Reading
+pub mod Regexps
 pub mod Signs
 pub mod Spelling
 pub mod Strings
+pub mod Templates
 pub mod Words

@@ -1,4 +1,4 @@
--- Signs and operators (ECMA-262, 12.8), as they are written.
+-- Signs and operators (ECMA-262, 12.8), and those of templates (12.9.6), as they are written.
 use Rattle.std.specs.Prelude.{ℕ, List, [], Bool, true, false, codes}
 use Rattle.swc_context.specs.Operators.{assign_text, binary_text, operator_of}
 use Rattle.swc_input.specs.declared.token.Token.{Token}
@@ -20,7 +20,9 @@ sign_text token.LBrace = codes "{"
 sign_text token.RBrace = codes "}"
 sign_text token.Semi = codes ";"
 sign_text token.Comma = codes ","
+sign_text token.BackQuote = codes "`"
 sign_text token.Colon = codes ":"
+sign_text token.DollarLBrace = codes "${"
 sign_text token.QuestionMark = codes "?"
 sign_text token.PlusPlus = codes "++"
 sign_text token.MinusMinus = codes "--"
@@ -29,10 +31,12 @@ sign_text (token.BinOp operator) = binary_text (operator_of operator)
 sign_text (token.AssignOp operator) = assign_text operator
 sign_text _ = []
 
--- whether the token is a word, a number or a string
+-- whether the token is a word, a number, a string, a text of a template or a regular expression
 unfoldable pub has_text : Token → Bool
 has_text (token.Word _) = true
 has_text (token.Str _ _) = true
 has_text (token.Num _) = true
 has_text (token.BigInt _) = true
+has_text (token.Template _ _) = true
+has_text (token.Regex _ _) = true
 has_text _ = false

@@ -1,4 +1,5 @@
--- Strings (ECMA-262, 12.9.4), as far as they are read, and what they mean.
+-- Strings (ECMA-262, 12.9.4), as far as they are read, and what they mean; texts of templates (12.9.6) mean the like,
+-- with the backquote as their quote.
 use Rattle.std.specs.Prelude.{◌≡◌, ℕ, ◌+◌, ◌-◌, List, [], ◌∷◌, ◌++◌, Some, Bool, not, ◌&&◌, ◌||◌, if◌then◌else◌, nat_eq, nat_le, IsTrue, slice_get}
 use Rattle.swc_tokens.specs.Blanks.{is_line_break, StandAt}
 
@@ -6,9 +7,18 @@ use Rattle.swc_tokens.specs.Blanks.{is_line_break, StandAt}
 abbrev pub is_quote : ℕ → Bool
 is_quote b = nat_eq b 34 || nat_eq b 39
 
--- whether the byte stands for itself in a string with this quote: no quote, no backslash, no line break
+-- the quote of templates
+abbrev pub backquote : ℕ
+backquote = 96
+
+-- whether the byte stands for itself behind this quote: no quote, no backslash, no CR, and an LF in templates alone
 abbrev pub is_plain : ℕ → ℕ → Bool
-is_plain quote b = not (nat_eq b quote || nat_eq b 92 || is_line_break b)
+is_plain quote b =
+    not (nat_eq b quote || nat_eq b 92 || nat_eq b 13 || nat_eq b 10 && not (nat_eq quote backquote))
+
+-- `${`
+abbrev pub OpensSubstitution : List ℕ → ℕ → Type 0
+OpensSubstitution text at = StandAt text at 36 123
 
 -- whether an escape with this byte behind its backslash is read: no digit, no `x`, no `u`, no line break
 abbrev pub is_escape : ℕ → Bool
@@ -31,10 +41,11 @@ unescaped b =
     then 11
     else b
 
--- one byte that stands for itself
+-- one byte that stands for itself; in templates no `${` begins with it
 pub record IsPlain (text : List ℕ) (quote low high byte : ℕ) : Type 0 where
   pub there : slice_get text low ≡ Some byte
   pub plain : IsTrue (is_plain quote byte)
+  pub opens_nothing : quote ≡ backquote → ¬ OpensSubstitution text low
   pub one : high ≡ low + 1
 
 -- a backslash, and the byte behind it
@@ -45,12 +56,12 @@ pub record IsEscape (text : List ℕ) (low high byte : ℕ) : Type 0 where
   pub meaning : byte ≡ unescaped escaped
   pub two : high ≡ low + 2
 
--- what stands between two positions of a string means this byte
+-- what stands between two positions, behind this quote, means this byte
 pub data MeansByte (text : List ℕ) (quote low high byte : ℕ) : Type 0 where
   plain : IsPlain text quote low high byte → MeansByte text quote low high byte
   escape : IsEscape text low high byte → MeansByte text quote low high byte
 
--- what stands between two positions of a string means these bytes, one behind the other
+-- what stands between two positions, behind this quote, means these bytes, one behind the other
 pub data Means (text : List ℕ) (quote low : ℕ) : ℕ → List ℕ → Type 0 where
   nothing : Means text quote low low []
   and_byte : {mid high byte : ℕ} {value : List ℕ} → Means text quote low mid value

@@ -18,7 +18,7 @@ fn is_blank(byte: u8) -> bool
 }
 
 /// Whether the byte is a line break (ECMA-262, 12.3).
-fn is_line_break(byte: u8) -> bool
+pub(crate) fn is_line_break(byte: u8) -> bool
     ensures { result ≡ blanks.is_line_break byte }
 {
     matches!(byte, b'\n' | b'\r')
@@ -80,7 +80,7 @@ impl<'a> Reader<'a> {
     }
 
     /// Whether the two bytes come next.
-    fn is_next(&self, first: u8, second: u8) -> bool
+    pub(crate) fn is_next(&self, first: u8, second: u8) -> bool
         ensures { IsTrue result ↔ StandAt self.now.text.now self.now.at first second }
     {
         match (self.peek(), self.peek_second()) {

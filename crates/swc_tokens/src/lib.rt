@@ -1,8 +1,9 @@
 //! The reader of ECMAScript source text (ECMA-262, 12), in ASCII.
 //!
 //! Read are blanks and comments, words without escapes, numbers without separators, strings without
-//! escapes by number and without continued lines, signs and operators. The other forms (templates
-//! and regular expressions among them) are faults.
+//! escapes by number and without continued lines, templates, regular expressions, signs and
+//! operators. The other forms are faults; in templates an escape by number, and a continued line,
+//! is one of its text alone.
 #![tactic(auto)]
 
 ghost use Rattle.std.specs.Prelude.{◌≡◌, ◌+◌, ◌<◌, ◌≤◌, ◌∷◌, [], ◌++◌, length, IsFalse, IfOk, OnOk, IfErr, IfSome};
@@ -11,6 +12,7 @@ ghost use Rattle.std.specs.List.{All, position};
 ghost use Rattle.swc_tokens.specs.Faults as faults;
 ghost use Rattle.swc_tokens.specs.Faults.{IsRefusal};
 ghost use Rattle.swc_tokens.specs.Blanks.{MarksLineBreaks, OnlyBlanksBetween};
+ghost use Rattle.swc_tokens.specs.Nesting.{AreNested};
 ghost use Rattle.swc_tokens.specs.Order.{InOrder, is_error};
 ghost use Rattle.swc_tokens.specs.Reading.{AreRead};
 ghost use Rattle.swc_tokens.specs.Spelling.{Spells};
@@ -20,11 +22,14 @@ mod blank;
 mod fault;
 mod number;
 mod reader;
+mod regexp;
 mod sign;
 mod string;
+mod template;
 
 use crate::fault::{lex_fault, out_of_memory};
 use crate::reader::Reader;
+use crate::template::Templates;
 use std::alloc::Global;
 use swc_context::error::PResult;
 use swc_input::token::TokenAndSpan;
@@ -35,22 +40,34 @@ pub const MAX_LEN: usize = 4_294_967_295;
 /// The tokens of a text (ECMA-262, 12).
 ///
 /// Read are blanks and comments (12.2 to 12.4), which are no tokens, words without escapes (12.7),
-/// signs and operators (12.8), numbers (12.9.3) and strings (12.9.4). A token is marked as after a
-/// line break where one stands between it and the token before it, also one within a comment.
+/// signs and operators (12.8), numbers (12.9.3), strings (12.9.4), regular expressions (12.9.5) and
+/// templates (12.9.6). A token is marked as after a line break where one stands between it and the
+/// token before it, also one within a comment.
+///
+/// A template is a `BackQuote`, a `Template` and either a `BackQuote` or a `DollarLBrace`; behind
+/// this stand tokens up to the `RBrace` that closes it, and then a `Template` again. The text of a
+/// `Template` may be empty, as no other token may. Its `raw` is as it is written, an LF included,
+/// and its `cooked` is what it means, or `Lex` at the backslash of its first escape that isn't read:
+/// the rest of the text is read all the same.
+///
+/// A slash begins a regular expression, which is one token with its flags, unless an operand may end
+/// with the token before it: a word that is no keyword, `this`, `super`, a number, a string, a
+/// regular expression, `)`, `]`, `}`, `++`, `--` or the backquote that closes a template. It then
+/// divides.
 ///
 /// Positions count bytes from 0. A text longer than `MAX_LEN` is refused at 0..0, and then one with
 /// a byte above 127 at the first such byte, before all else. Want of memory is refused at 0..0. Any
 /// other fault is `Lex`, and the first one in the text refuses it:
 ///
-/// - at a byte with which no token begins, as a backquote or a backslash, or a slash that begins
-///   neither a comment nor an operator, where a regular expression would stand;
+/// - at a byte with which no token begins, as a backslash;
 /// - at the letter of an exponent, or of a base, without a digit behind it;
 /// - at a letter, a digit, a `$` or a `_` right behind a number, and so at a digit behind a leading
 ///   0;
-/// - at a line break in a string;
+/// - at a line break in a string or in a regular expression, and at a CR in the text of a template;
 /// - at the backslash of an escape by number (a digit, `x` or `u` behind it) or of a line that is
-///   continued (CR or LF behind it);
-/// - at the end of the text, with an empty span, where a string or a `/*` comment is open.
+///   continued (CR or LF behind it), in a string;
+/// - at the end of the text, with an empty span, where a string, a regular expression, a template or
+///   a `/*` comment is open.
 pub fn read_tokens(alloc: Global, text: &[u8]) -> PResult<Vec<TokenAndSpan>>
     ensures too_long { MAX_LEN < length text.now → result ≡ Err (faults.lex_fault (faults.between 0 0)) }
     ensures beyond_ascii { length text.now ≤ MAX_LEN
@@ -64,6 +81,7 @@ pub fn read_tokens(alloc: Global, text: &[u8]) -> PResult<Vec<TokenAndSpan>>
     ensures marks { IfOk result (λ tokens. MarksLineBreaks text.now tokens.items) }
     ensures first { IfOk result (λ tokens. IfSome (slice_get tokens.items 0) (λ t. IsFalse t.had_line_break)) }
     ensures no_errors { IfOk result (λ tokens. All (λ t. IsFalse (is_error t.token)) tokens.items) }
+    ensures nested { IfOk result (λ tokens. AreNested tokens.items) }
     ensures spells { IfOk result
         (λ tokens. All (λ t. Spells text.now t.span.lo.0 t.span.hi.0 t.token) tokens.items) }
 {
@@ -91,11 +109,17 @@ fn read_all(alloc: Global, text: &[u8]) -> PResult<Vec<TokenAndSpan>>
     requires ascii { IsAscii text.now }
     ensures refused { IfErr result (IsRefusal text.now) }
     ensures tokens { IfOk result (λ tokens. AreRead text.now tokens.items (length text.now)) }
+    ensures nested { IfOk result (λ tokens. AreNested tokens.items) }
 {
     let mut reader = Reader::new(alloc, text);
+    let mut templates = Templates::new(alloc);
     let mut tokens = Vec::new(alloc);
-    while let Some(token) = reader.read_next(tokens.last())? {
+    while let Some(token) = reader.read_next(templates.next, tokens.last())? {
+        templates.pass(&token.token)?;
         push(&mut tokens, token)?;
+    }
+    if templates.is_open() {
+        return Err(reader.fault());
     }
     Ok(tokens)
 }

@@ -6,7 +6,7 @@ ghost use Rattle.swc_tokens.specs.Numbers as numbers;
 ghost use Rattle.swc_tokens.specs.Numbers.{AreDigits, IsExponent, IsFraction, IsFractional, IsInBase};
 ghost use Rattle.swc_tokens.specs.Numbers.{IsInteger, IsWhole, MayBeExponent};
 ghost use Rattle.swc_tokens.specs.Numbers.{OpensBase, StartsNumber};
-ghost use Rattle.swc_tokens.specs.Order.{is_error};
+ghost use Rattle.swc_tokens.specs.Order.{is_free};
 ghost use Rattle.swc_tokens.specs.Spelling.{Spells};
 ghost use Rattle.swc_tokens.specs.Words.{IsNoWordPart};
 
@@ -67,14 +67,14 @@ impl<'a> Reader<'a> {
 
     /// Reads a number. An exponent or a base without digits is a fault at its letter, and a letter,
     /// a digit, `$` or `_` behind the number a fault there.
-    #[tactic(auto, unfolding(crate::specs::Order::is_error, crate::specs::Spelling::Spells))]
+    #[tactic(auto, unfolding(crate::specs::Order::is_free, crate::specs::Spelling::Spells))]
     pub(crate) fn read_number(&mut self) -> PResult<Token>
         requires { StartsNumber self.old.text.now self.old.at }
         ensures text { self.new.text ≡ self.old.text }
         ensures forward { self.old.at ≤ self.new.at }
         ensures taken { OnOk result (self.old.at < self.new.at) }
         ensures refused { IfErr result (IsRefusal self.old.text.now) }
-        ensures no_error { IfOk result (λ t. IsFalse (is_error t)) }
+        ensures free { IfOk result (λ t. IsTrue (is_free t)) }
         ensures spells { IfOk result (Spells self.old.text.now self.old.at self.new.at) }
     {
         let start = self.at;

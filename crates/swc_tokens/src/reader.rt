@@ -6,14 +6,17 @@ ghost use Rattle.std.specs.Str.{IsAscii};
 ghost use Rattle.swc_tokens.specs.Faults as faults;
 ghost use Rattle.swc_tokens.specs.Faults.{IsByteFault, IsRefusal};
 ghost use Rattle.swc_tokens.specs.Blanks.{AreBlanks, has_line_break};
-ghost use Rattle.swc_tokens.specs.Order.{is_error};
-ghost use Rattle.swc_tokens.specs.Reading.{IsNext};
+ghost use Rattle.swc_tokens.specs.Nesting.{fits, part_of};
+ghost use Rattle.swc_tokens.specs.Order.{is_error, is_free};
+ghost use Rattle.swc_tokens.specs.Reading.{IsNext, Takes};
 ghost use Rattle.swc_tokens.specs.Spelling.{Spells};
+ghost use Rattle.swc_tokens.specs.Templates.{EndsText};
 ghost use Rattle.swc_tokens.specs.Words as words;
 ghost use Rattle.swc_tokens.specs.Words.{IsNoWordPart};
 
 use crate::fault::{lex_fault, out_of_memory, span};
 use crate::sign::{begins_regexp, longest_sign};
+use crate::template::Next;
 use std::alloc::Global;
 use std::str;
 use swc_context::atom::Atom;
@@ -101,32 +104,73 @@ impl<'a> Reader<'a> {
     #[tactic(auto, using(crate::proofs::Blanks::AreBlanks_end))]
     pub(crate) fn read_next(
         &mut self,
+        next: Next,
         before: Option<&TokenAndSpan>,
     ) -> PResult<Option<TokenAndSpan>>
+        requires { next ≡ Next.Delimiter → EndsText self.old.text.now self.old.at }
         ensures text { self.new.text ≡ self.old.text }
         ensures refused { IfErr result (IsRefusal self.old.text.now) }
-        ensures next { IfOk result (λ next. IfSome next (λ t. IsNext self.old.text.now self.old.at t self.new.at)) }
+        ensures next { IfOk result
+            (λ token. IfSome token (λ t. IsNext self.old.text.now self.old.at next t self.new.at)) }
         ensures rest { IfOk result
             (λ next. IfNone next (AreBlanks self.old.text.now self.old.at (length self.old.text.now))) }
+        ensures closed { IfOk result (λ token. IfNone token (next ≡ Next.Token)) }
         ensures no_error { IfOk result (λ next. IfSome next (λ t. IsFalse (is_error t.token))) }
         ensures first { IfOk result (λ next. IfSome next (λ t. IsTrue t.had_line_break → IsSome before.entry)) }
         ensures marks { IfOk result (λ next. IfSome next (λ t. IsSome before.entry
             → t.had_line_break ≡ has_line_break self.old.text.now self.old.at t.span.lo.0)) }
     {
         let end = self.at;
-        self.skip_blanks()?;
+        self.skip_before(next)?;
         let line_break = self.has_line_break_from(end);
         let start = self.at;
-        match self.peek() {
+        match self.read_here(next, before)? {
             None => Ok(None),
-            Some(first) => {
-                let token = self.read_token(first, before)?;
-                Ok(Some(TokenAndSpan {
-                    token,
-                    had_line_break: line_break && before.is_some(),
-                    span: span(start, self.at),
-                }))
-            }
+            Some(token) => Ok(Some(TokenAndSpan {
+                token,
+                had_line_break: line_break && before.is_some(),
+                span: span(start, self.at),
+            })),
+        }
+    }
+
+    /// Skips what stands before that which is read next: blanks and comments, if it is a token.
+    #[tactic(auto, using(crate::proofs::Blanks::AreBlanks_none))]
+    fn skip_before(&mut self, next: Next) -> PResult<()>
+        ensures text { self.new.text ≡ self.old.text }
+        ensures refused { IfErr result (IsRefusal self.old.text.now) }
+        ensures forward { OnOk result (self.old.at ≤ self.new.at) }
+        ensures blanks { OnOk result (AreBlanks self.old.text.now self.old.at self.new.at) }
+        ensures stays { next ≡ Next.Delimiter → self.new.at ≡ self.old.at }
+    {
+        match next {
+            Next::Token => self.skip_blanks(),
+            Next::Text | Next::Delimiter => Ok(()),
+        }
+    }
+
+    /// Reads the token that begins here, unless the text ends.
+    #[tactic(auto, using(crate::proofs::Reading::here))]
+    fn read_here(&mut self, next: Next, before: Option<&TokenAndSpan>) -> PResult<Option<Token>>
+        requires { next ≡ Next.Delimiter → EndsText self.old.text.now self.old.at }
+        ensures text { self.new.text ≡ self.old.text }
+        ensures forward { OnOk result (self.old.at ≤ self.new.at) }
+        ensures refused { IfErr result (IsRefusal self.old.text.now) }
+        ensures takes { IfOk result (λ token. IfSome token (Takes next self.old.at self.new.at)) }
+        ensures fits { IfOk result (λ token. IfSome token (λ t. IsTrue (fits next (part_of t)))) }
+        ensures closed { IfOk result (λ token. IfNone token (next ≡ Next.Token)) }
+        ensures ends { IfOk result (λ token. IfNone token (length self.old.text.now ≤ self.old.at)) }
+        ensures no_error { IfOk result (λ token. IfSome token (λ t. IsFalse (is_error t))) }
+        ensures spells { IfOk result
+            (λ token. IfSome token (Spells self.old.text.now self.old.at self.new.at)) }
+    {
+        match next {
+            Next::Text => Ok(Some(self.read_text()?)),
+            Next::Delimiter => Ok(Some(self.read_delimiter())),
+            Next::Token => match self.peek() {
+                None => Ok(None),
+                Some(first) => Ok(Some(self.read_token(first, before)?)),
+            },
         }
     }
 
@@ -136,7 +180,7 @@ impl<'a> Reader<'a> {
         ensures text { self.new.text ≡ self.old.text }
         ensures forward { OnOk result (self.old.at < self.new.at) }
         ensures refused { IfErr result (IsRefusal self.old.text.now) }
-        ensures no_error { IfOk result (λ t. IsFalse (is_error t)) }
+        ensures free { IfOk result (λ t. IsTrue (is_free t)) }
         ensures spells { IfOk result (Spells self.old.text.now self.old.at self.new.at) }
     {
         if is_word_start(first) {
@@ -147,23 +191,20 @@ impl<'a> Reader<'a> {
         }
         match first {
             b'\'' | b'"' => self.read_string(first),
-            _ => self.read_sign(before),
+            b'/' if begins_regexp(before) => self.read_regexp(),
+            _ => self.read_sign(),
         }
     }
 
-    /// Reads a sign or an operator (ECMA-262, 12.8). Regular expressions, which begin with a slash,
-    /// aren't read.
-    fn read_sign(&mut self, before: Option<&TokenAndSpan>) -> PResult<Token>
+    /// Reads a sign or an operator (ECMA-262, 12.8).
+    fn read_sign(&mut self) -> PResult<Token>
         requires { self.old.at < length self.old.text.now }
         ensures text { self.new.text ≡ self.old.text }
         ensures forward { self.old.at < self.new.at }
         ensures refused { IfErr result (IsRefusal self.old.text.now) }
-        ensures no_error { IfOk result (λ t. IsFalse (is_error t)) }
+        ensures free { IfOk result (λ t. IsTrue (is_free t)) }
         ensures spells { IfOk result (Spells self.old.text.now self.old.at self.new.at) }
     {
-        if matches!(self.peek(), Some(b'/')) && begins_regexp(before) {
-            return Err(self.refuse());
-        }
         match longest_sign(&self.text[self.at..]) {
             Some((token, len)) => {
                 self.at += len;
@@ -186,14 +227,14 @@ impl<'a> Reader<'a> {
     }
 
     /// Reads a word (ECMA-262, 12.7).
-    #[tactic(auto, unfolding(crate::specs::Order::is_error, crate::specs::Spelling::Spells))]
+    #[tactic(auto, unfolding(crate::specs::Order::is_free, crate::specs::Spelling::Spells))]
     fn read_word(&mut self) -> PResult<Token>
         requires here { self.old.at < length self.old.text.now }
         requires begins { IfSome (slice_get self.old.text.now self.old.at) (λ b. IsTrue (words.is_word_start b)) }
         ensures text { self.new.text ≡ self.old.text }
         ensures forward { self.old.at < self.new.at }
         ensures refused { IfErr result (IsRefusal self.old.text.now) }
-        ensures no_error { IfOk result (λ t. IsFalse (is_error t)) }
+        ensures free { IfOk result (λ t. IsTrue (is_free t)) }
         ensures spells { IfOk result (Spells self.old.text.now self.old.at self.new.at) }
     {
         let start = self.at;
@@ -225,7 +266,7 @@ impl<'a> Reader<'a> {
     }
 
     /// Skips bytes with which a word goes on.
-    fn skip_word_parts(&mut self)
+    pub(crate) fn skip_word_parts(&mut self)
         ensures text { self.new.text ≡ self.old.text }
         ensures forward { self.old.at ≤ self.new.at }
         ensures parts { AllWithin (λ b. IsTrue (words.is_word_part b)) self.old.text.now self.old.at self.new.at }

@@ -1,6 +1,6 @@
 // Signs and operators (ECMA-262, 12.8): the longest that fits is read.
-ghost use Rattle.std.specs.Prelude.{◌≡◌, ◌<◌, ◌≤◌, length, take, IsFalse, IfSome};
-ghost use Rattle.swc_tokens.specs.Order.{is_error};
+ghost use Rattle.std.specs.Prelude.{◌≡◌, ◌<◌, ◌≤◌, length, take, IsTrue, IsFalse, IfSome};
+ghost use Rattle.swc_tokens.specs.Order.{is_free};
 ghost use Rattle.swc_tokens.specs.Signs.{has_text, sign_text};
 
 use swc_context::operator::{AssignOp, BinOpToken};
@@ -40,7 +40,7 @@ fn ends_operand(token: &Token) -> bool {
 
 /// The longest sign that the text begins with, and its length.
 pub(crate) fn longest_sign(text: &[u8]) -> Option<(Token, usize)>
-    ensures no_error { IfSome result (λ r. IsFalse (is_error r.0)) }
+    ensures free { IfSome result (λ r. IsTrue (is_free r.0)) }
     ensures no_text { IfSome result (λ r. IsFalse (has_text r.0)) }
     ensures spells { IfSome result (λ r. sign_text r.0 ≡ take r.1 text.now) }
     ensures nonempty { IfSome result (λ r. 0 < r.1) }
@@ -54,10 +54,10 @@ pub(crate) fn longest_sign(text: &[u8]) -> Option<(Token, usize)>
     None
 }
 
-/// The sign that is written so. There is no token for `?.`.
-#[tactic(auto, unfolding(crate::specs::Order::is_error, crate::specs::Signs::sign_text, crate::specs::Signs::has_text))]
+/// The sign that is written so, but for `${`. There is no token for `?.`.
+#[tactic(auto, unfolding(crate::specs::Order::is_free, crate::specs::Signs::sign_text, crate::specs::Signs::has_text))]
 fn sign_of(text: &[u8]) -> Option<Token>
-    ensures no_error { IfSome result (λ t. IsFalse (is_error t)) }
+    ensures free { IfSome result (λ t. IsTrue (is_free t)) }
     ensures no_text { IfSome result (λ t. IsFalse (has_text t)) }
     ensures spells { IfSome result (λ t. sign_text t ≡ text.now) }
 {
@@ -76,6 +76,7 @@ fn sign_of(text: &[u8]) -> Option<Token>
         b"}" => Token::RBrace,
         b";" => Token::Semi,
         b"," => Token::Comma,
+        b"`" => Token::BackQuote,
         b":" => Token::Colon,
         b"?" => Token::QuestionMark,
         b"++" => Token::PlusPlus,

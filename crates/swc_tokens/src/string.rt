@@ -1,17 +1,19 @@
 // Strings (ECMA-262, 12.9.4), without escapes by number and without continued lines.
-ghost use Rattle.std.specs.Prelude.{◌≡◌, ◌+◌, ◌-◌, ◌<◌, ◌≤◌, [], ◌∷◌, ◌++◌, IsTrue, IsFalse, IfSome};
+ghost use Rattle.std.specs.Prelude.{◌≡◌, ◌+◌, ◌-◌, ◌<◌, ◌≤◌, [], ◌∷◌, ◌++◌, length, IsTrue, IfSome};
 ghost use Rattle.std.specs.Prelude.{IfNone, IfOk, OnOk, IfErr, slice_get, string_bytes};
 ghost use Rattle.swc_tokens.specs.Faults as faults;
 ghost use Rattle.swc_tokens.specs.Faults.{IsRefusal};
-ghost use Rattle.swc_tokens.specs.Order.{is_error};
+ghost use Rattle.swc_tokens.specs.Order.{is_free};
 ghost use Rattle.swc_tokens.specs.Spelling.{Spells};
+ghost use Rattle.swc_tokens.specs.Blanks.{StandAt};
 ghost use Rattle.swc_tokens.specs.Strings as strings;
 ghost use Rattle.swc_tokens.specs.Strings.{IsEscape, Means, MeansByte};
+ghost use Rattle.swc_tokens.specs.Templates.{IsBadEscape};
 
 use crate::fault::{lex_fault, out_of_memory};
 use crate::reader::Reader;
 use swc_context::atom::Atom;
-use swc_context::error::PResult;
+use swc_context::error::{Error, PResult};
 use swc_input::token::Token;
 
 /// Whether an escape with this byte behind its backslash is read.
@@ -37,7 +39,7 @@ fn unescaped(byte: u8) -> u8
 }
 
 /// Adds a character.
-fn push(value: &mut String, byte: u8) -> PResult<()>
+pub(crate) fn push(value: &mut String, byte: u8) -> PResult<()>
     requires { byte < 128 }
     ensures added { OnOk result (string_bytes value.new ≡ string_bytes value.old ++ byte ∷ []) }
     ensures refused { IfErr result (λ e. e ≡ faults.out_of_memory) }
@@ -53,14 +55,14 @@ impl<'a> Reader<'a> {
     ///
     /// A line break in it is a fault there, an escape that isn't read one at its backslash, and a
     /// string without its second quote one at the end of the text.
-    #[tactic(auto, unfolding(crate::specs::Order::is_error, crate::specs::Spelling::Spells))]
+    #[tactic(auto, unfolding(crate::specs::Order::is_free, crate::specs::Spelling::Spells))]
     pub(crate) fn read_string(&mut self, quote: u8) -> PResult<Token>
         requires opens { slice_get self.old.text.now self.old.at ≡ Some quote }
         requires is_quote { IsTrue (strings.is_quote quote) }
         ensures text { self.new.text ≡ self.old.text }
         ensures forward { self.old.at < self.new.at }
         ensures refused { IfErr result (IsRefusal self.old.text.now) }
-        ensures no_error { IfOk result (λ t. IsFalse (is_error t)) }
+        ensures free { IfOk result (λ t. IsTrue (is_free t)) }
         ensures spells { IfOk result (Spells self.old.text.now self.old.at self.new.at) }
     {
         let start = self.at;
@@ -73,6 +75,7 @@ impl<'a> Reader<'a> {
     /// Reads up to the quote, which it takes, and gives what the text before it means.
     #[tactic(auto, using(crate::proofs::Strings::Means_nothing, crate::proofs::Strings::Means_more))]
     fn read_value(&mut self, quote: u8) -> PResult<Atom>
+        requires { IsTrue (strings.is_quote quote) }
         ensures text { self.new.text ≡ self.old.text }
         ensures forward { self.old.at ≤ self.new.at }
         ensures refused { IfErr result (IsRefusal self.old.text.now) }
@@ -88,6 +91,7 @@ impl<'a> Reader<'a> {
 
     /// Reads a character of a string, or takes its quote, and then there is none.
     fn read_character(&mut self, quote: u8) -> PResult<Option<u8>>
+        requires { IsTrue (strings.is_quote quote) }
         ensures text { self.new.text ≡ self.old.text }
         ensures forward { self.old.at ≤ self.new.at }
         ensures refused { IfErr result (IsRefusal self.old.text.now) }
@@ -100,7 +104,7 @@ impl<'a> Reader<'a> {
     {
         match self.peek() {
             None | Some(b'\n' | b'\r') => Err(self.fault()),
-            Some(b'\\') => Ok(Some(self.read_escape()?)),
+            Some(b'\\') => Ok(Some(self.read_escape()??)),
             Some(byte) => {
                 self.bump();
                 Ok(if byte == quote { None } else { Some(byte) })
@@ -108,24 +112,33 @@ impl<'a> Reader<'a> {
         }
     }
 
-    /// Reads an escape, which begins with its backslash.
-    fn read_escape(&mut self) -> PResult<u8>
+    /// Reads an escape, which begins with its backslash: what it means or, where escapes with the
+    /// byte behind the backslash aren't read, the fault of the backslash.
+    pub(crate) fn read_escape(&mut self) -> PResult<Result<u8, Error>>
         requires { slice_get self.old.text.now self.old.at ≡ Some 92 }
         ensures text { self.new.text ≡ self.old.text }
         ensures forward { self.old.at < self.new.at }
         ensures refused { IfErr result (IsRefusal self.old.text.now) }
-        ensures means { IfOk result (IsEscape self.old.text.now self.old.at self.new.at) }
-        ensures ascii { IfOk result (λ byte. byte < 128) }
+        ensures means { IfOk result (λ r. IfOk r (IsEscape self.old.text.now self.old.at self.new.at)) }
+        ensures ascii { IfOk result (λ r. IfOk r (λ byte. byte < 128)) }
+        ensures bad { IfOk result (λ r. IfErr r (λ _. ¬ StandAt self.old.text.now self.old.at 92 13
+            → IsBadEscape self.old.text.now self.old.at self.new.at)) }
+        ensures fault { IfOk result
+            (λ r. IfErr r (λ e. e ≡ faults.lex_fault (faults.between self.old.at (self.old.at + 1)))) }
+        ensures inside { OnOk result (self.old.at + 1 < length self.old.text.now) }
     {
         let backslash = self.at;
         self.bump();
         match self.peek() {
             None => Err(self.fault()),
-            Some(byte) if is_escape(byte) => {
+            Some(byte) => {
                 self.bump();
-                Ok(unescaped(byte))
+                if is_escape(byte) {
+                    Ok(Ok(unescaped(byte)))
+                } else {
+                    Ok(Err(lex_fault(backslash, backslash + 1)))
+                }
             }
-            Some(_) => Err(lex_fault(backslash, backslash + 1)),
         }
     }
 }

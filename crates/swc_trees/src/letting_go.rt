@@ -1,5 +1,5 @@
 // Letting go of boxed trees. A crate that is handed one lets it go here, so that this is proved once.
-use swc_ast::expr::Expr;
+use swc_ast::expr::{Expr, ExprOrSpread};
 use swc_ast::function::Param;
 use swc_ast::pat::Pat;
 use swc_ast::prop::PropOrSpread;
@@ -24,4 +24,14 @@ pub fn let_go_prop<F: Spanned + Drop, C: Spanned + Drop, K: Spanned + Drop>(
 /// Lets go of parameters, and of all that they hold.
 pub fn let_go_params<F: Spanned + Drop, C: Spanned + Drop, K: Spanned + Drop>(
     _params: Vec<Param<Pat<F, C, K>>>,
+) {}
+
+/// Lets go of expressions, and of all that they hold.
+pub fn let_go_exprs<F: Spanned + Drop, C: Spanned + Drop, K: Spanned + Drop>(
+    _exprs: Vec<Box<Expr<F, C, K>>>,
+) {}
+
+/// Lets go of arguments, and of all that they hold.
+pub fn let_go_args<F: Spanned + Drop, C: Spanned + Drop, K: Spanned + Drop>(
+    _args: Vec<ExprOrSpread<Box<Expr<F, C, K>>>>,
 ) {}

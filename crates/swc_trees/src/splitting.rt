@@ -1,6 +1,6 @@
 // Moves the parts out of an expression, a pattern or a target, onto the end of a list, and answers its node, in which
-// their places in the list stand for them. The first part is moved first, as in the source. What is moved leaves an empty
-// tree behind; no text and no value of the hook is copied.
+// their places in the list stand for them. The first part is moved first, as in the source. What is moved leaves an
+// empty tree behind; no text and no value of the hook is copied.
 ghost use Rattle.std.specs.Prelude.{map};
 ghost use Rattle.swc_ast.specs.Parts.{or_hole, item_tree, item_trees, callee_tree, args_tree, tpl_tree, body_tree};
 ghost use Rattle.swc_ast.specs.Parts.{rest_tree, simple_tree};
@@ -40,7 +40,8 @@ pub(crate) fn split<F: Spanned + Drop, C: Spanned + Drop, K: Spanned + Drop>(
     built: &mut Vec<Built<F, C, K>>,
     tree: &mut Built<F, C, K>,
 ) -> Result<Node<F, C, K>, AllocError>
-    ensures { SplitsNode F.place C.place K.place (built_view tree.old) (λ _. built_tree F.place C.place K.place tree.old)
+    ensures { SplitsNode F.place C.place K.place (built_view tree.old)
+        (λ _. built_tree F.place C.place K.place tree.old)
         built.old.items result built.new.items }
 {
     match tree {

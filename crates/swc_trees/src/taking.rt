@@ -1,11 +1,12 @@
 // Moves boxed trees out of the nodes. The last part of a node is taken first, so that all that a
 // node holds leaves it by a plain move.
 ghost use Rattle.std.specs.Prelude.{◌≡◌, ℕ, true, [], ◌∷◌, map, IfOk};
-ghost use Rattle.swc_ast.specs.Parts.{prop_name_tree};
+ghost use Rattle.swc_ast.specs.Parts.{prop_name_tree, args_tree, tpl_tree};
 ghost use Rattle.swc_ast.specs.Tree.{Tree};
+ghost use Rattle.swc_nodes.specs.Lists.{exprs_parts};
 ghost use Rattle.swc_nodes.specs.NodeTree.{node_tree};
 ghost use Rattle.swc_nodes.specs.Seats.{floor};
-ghost use Rattle.swc_nodes.specs.Slots.{form, view_ok, slots, expr_part, pat_part, key_parts, prop_parts};
+ghost use Rattle.swc_nodes.specs.Slots.{form, view_ok, slots, expr_part, pat_part, key_parts, prop_parts, args_parts};
 ghost use Rattle.swc_nodes.specs.Stands.{count, seat_at, bare_at, first_at, Apart, From, Left};
 ghost use Rattle.swc_nodes.specs.Walking.{part_of};
 ghost use Rattle.swc_trees.specs.Building.{part_kind, built_kind, built_tree, Stand, IsFor, AreFor};
@@ -13,10 +14,11 @@ ghost use Rattle.swc_trees.specs.Moving.{TakesOut, boxed_in, pat_in, prop_or_spr
 
 use crate::assembling::{assemble_expr, assemble_pat, assemble_pattern, assemble_simple};
 use crate::built::Built;
-use crate::items::Item;
+use crate::items::{Item, all};
+use crate::pieces::template;
 use crate::refusable::{boxed, push_to, reversed};
 use std::alloc::{AllocError, Global};
-use swc_ast::expr::{AssignTarget, Expr};
+use swc_ast::expr::{AssignTarget, Expr, ExprOrSpread, Tpl};
 use swc_ast::pat::Pat;
 use swc_ast::prop::{ComputedPropName, PropName, PropOrSpread};
 use swc_ast::spanned::Spanned;
@@ -93,6 +95,38 @@ pub fn take_prop<F: Spanned + Drop, C: Spanned + Drop, K: Spanned + Drop>(
     let parts = parts_of(alloc, &prop)?;
     let mut built = take_all(nodes, alloc, parts)?;
     prop.assemble(alloc, &mut built)
+}
+
+/// Moves arguments of a call out of the nodes, and lets go of all behind them.
+pub fn take_args<F: Spanned + Drop, C: Spanned + Drop, K: Spanned + Drop>(
+    nodes: &mut Nodes<F, C, K>,
+    alloc: Global,
+    args: Vec<ExprOrSpread<ExprId>>,
+) -> Result<Vec<ExprOrSpread<Box<Expr<F, C, K>>>>, AllocError>
+    requires { Apart 0 nodes.old (args_parts args) }
+    ensures left { Left (floor (seat_at nodes.old) (count nodes.old) (args_parts args)) nodes.old nodes.new }
+    ensures moved { IfOk result (λ xs. args_tree (boxed_in nodes.old) xs
+        ≡ args_tree (λ id. bare_at nodes.old id.0) args) }
+{
+    let parts = parts_of(alloc, &args)?;
+    let mut built = take_all(nodes, alloc, parts)?;
+    all(alloc, &mut built, args)
+}
+
+/// Moves what a template holds out of the nodes, and lets go of all behind it.
+pub fn take_tpl<F: Spanned + Drop, C: Spanned + Drop, K: Spanned + Drop>(
+    nodes: &mut Nodes<F, C, K>,
+    alloc: Global,
+    tpl: Tpl<ExprId>,
+) -> Result<Tpl<Box<Expr<F, C, K>>>, AllocError>
+    requires { Apart 0 nodes.old (exprs_parts tpl.exprs) }
+    ensures left { Left (floor (seat_at nodes.old) (count nodes.old) (exprs_parts tpl.exprs)) nodes.old nodes.new }
+    ensures moved { IfOk result (λ t. tpl_tree (boxed_in nodes.old) t
+        ≡ tpl_tree (λ id. bare_at nodes.old id.0) tpl) }
+{
+    let parts = parts_of(alloc, &tpl.exprs)?;
+    let mut built = take_all(nodes, alloc, parts)?;
+    template(alloc, &mut built, tpl)
 }
 
 /// Takes out a part of a node.

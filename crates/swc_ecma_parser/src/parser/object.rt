@@ -98,8 +98,8 @@ impl<I: Tokens, B: Bodies<I>> ParseObject<Box<ExprOf<B>>> for Parser<I, B> {
 
     ghost reads = { Promised I.model B.is_faithful B.forms prop_in_boxes Prop };
 
-    /// An object literal of the properties. Nothing is recorded. The comma behind the last is remembered at the literal's
-    /// start, or that there is none (`Parser::trailing_comma`): it matters where the literal is read as a pattern.
+    /// An object literal of the properties. Nothing is recorded. The comma behind the last is remembered at the
+    /// literal's start, or that there is none (`Parser::trailing_comma`): patterns will ask for it.
     fn make_object(
         &mut self,
         span: Span,

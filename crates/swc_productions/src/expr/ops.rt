@@ -1,6 +1,6 @@
 // Binary and unary operators (ECMA-262, 13.5 to 13.13).
-ghost use Rattle.std.specs.Prelude.{suc, ◌≡◌, ◌≢◌, ◌<◌, ◌≤◌, true, false, not, ◌&&◌, OnOk, IfOk, IfErr, IsSome};
-ghost use Rattle.swc_context.specs.declared.error.SyntaxError.TheVariants.{ParserFailed, TS1109};
+ghost use Rattle.std.specs.Prelude.{◌+◌, ◌≡◌, ◌≢◌, ◌<◌, ◌≤◌, true, false, not, ◌&&◌, OnOk, IfOk, IfErr, IsSome};
+ghost use Rattle.swc_context.specs.declared.error.SyntaxError.TheVariants.{OutOfMemory, ParserFailed, TS1109};
 ghost use Rattle.swc_input.specs.Buffer.{current, context, to_come};
 ghost use Rattle.swc_input.specs.Kinds.{at_token};
 ghost use Rattle.swc_grammar.specs.Trees as trees;
@@ -8,8 +8,8 @@ ghost use Rattle.swc_grammar.specs.Symbols.{Level, Unary};
 ghost use Rattle.swc_grammar.specs.Clean.{sym, climb, run, operator_at, prefix_at, no_error, left_ok};
 ghost use Rattle.swc_nodes.specs.Slots.{expr_part};
 ghost use Rattle.swc_nodes.specs.Stands.{count, first_at, From};
-ghost use Rattle.swc_productions.specs.Readers.{turn, bin_op, unary_op};
-ghost use Rattle.swc_productions.specs.Parsing.{seen, behind, Refuses, Consumes, Acts, Tries, Looks, Produces, GoesOn};
+ghost use Rattle.swc_productions.specs.Readers.{turn, bin_op, bin_op_node, unary_op, unary_op_node};
+ghost use Rattle.swc_productions.specs.Parsing.{seen, behind, Refuses, Acts, Tries, Looks, Produces, GoesOn};
 ghost use Rattle.swc_productions.specs.Parsing.{Recovers, Checked, itself, bin_op_of, operand_of, tree_of};
 ghost use Rattle.swc_productions.specs.Parsing.{bin_op_at};
 
@@ -32,7 +32,8 @@ use swc_nodes::nodes::{Nodes, NodesOf};
 use swc_nodes::shape::is_nullish_op;
 
 impl<I: Tokens, B: Bodies<I>> Productions<I, B> {
-    /// Binary operators of any precedence (ECMA-262, 13.13).
+    /// Binary operators of any precedence (ECMA-262, 13.13). Where the left operand was refused before an operator, that
+    /// is recorded, and reading goes on there; elsewhere the refusal stands, and so does want of memory.
     #[cycle(productions)]
     pub fn parse_bin_expr(&mut self) -> PResult<ExprId>
         ensures { Produces I.model B.is_faithful itself tree_of (run B.forms (sym (Level 1)))
@@ -40,20 +41,13 @@ impl<I: Tokens, B: Bodies<I>> Productions<I, B> {
     {
         match self.parse_unary_expr() {
             Ok(left) => self.parse_bin_op_recursively(left, 0),
-            Err(error) => self.parse_bin_expr_without_left(error),
+            Err(error) => {
+                let (left, op) = self.recover_left(error)?;
+                let (node, _) = self.parse_bin_op(left, op, 0)?;
+                check_nullish_left::<I, B>(&mut self.input, &self.nodes, node)?;
+                self.parse_bin_op_recursively(node, 0)
+            }
         }
-    }
-
-    /// Reads on where the left operand was refused. A refusal that can't be recovered from stands.
-    #[cycle(productions)]
-    fn parse_bin_expr_without_left(&mut self, error: Error) -> PResult<ExprId>
-        requires { error.kind ≢ ParserFailed }
-        ensures { Recovers I.model itself (Consumes I.model) error.kind self.old result self.new }
-    {
-        let (left, op) = self.recover_left(error)?;
-        let (node, _) = self.parse_bin_op(left, op, 0)?;
-        check_nullish_left::<I, B>(&mut self.input, &self.nodes, node)?;
-        self.parse_bin_op_recursively(node, 0)
     }
 
     /// Records, before an operator, that its left operand was refused: a node of `Invalid` stands
@@ -132,7 +126,8 @@ impl<I: Tokens, B: Bodies<I>> Productions<I, B> {
         self.parse_bin_op(left, op, min_prec)
     }
 
-    /// The operator that is current, and its right operand: the node, and the least precedence to go on with.
+    /// The operator that is current, and its right operand: the node, and the least precedence to go on with. Right of it
+    /// stand an operand, and the operators that bind tighter; after `**`, `**` too.
     #[cycle(productions)]
     fn parse_bin_op(
         &mut self,
@@ -148,25 +143,35 @@ impl<I: Tokens, B: Bodies<I>> Productions<I, B> {
     {
         skip(&mut self.input);
         refuse_unary_in_exp::<I, B>(&mut self.input, &self.nodes, op, left)?;
-        let right = self.parse_bin_operand(op)?;
+        let left_of_right = self.parse_unary_expr()?;
+        let right = self.parse_bin_op_recursively(left_of_right, right_min_prec(op))?;
+        self.bin_expr(left, op, right, min_prec)
+    }
+
+    /// An operator and its operands (ECMA-262, 13.6 to 13.13), of which the right one was read behind the left one: the
+    /// node, and the least precedence to go on with. An operand of `??` that is a node of `||` or `&&` is recorded.
+    /// Consumes nothing, and is refused only for want of memory.
+    fn bin_expr(
+        &mut self,
+        left: ExprId,
+        op: BinaryOp,
+        right: ExprId,
+        min_prec: u8,
+    ) -> PResult<(ExprId, Option<u8>)>
+        requires left { From 0 self.old.nodes (expr_part left) }
+        requires right { From (left.0 + 1) self.old.nodes (expr_part right) }
+        ensures { GoesOn I.model B.is_faithful bin_op_of bin_op_at
+            (λ c ts. bin_op_node B.forms op (tree_of self.old.nodes left) min_prec (tree_of self.old.nodes right) ts)
+            (first_at self.old.nodes left.0) self.old result self.new }
+    {
         check_operands::<I, B>(&mut self.input, &self.nodes, op, left, right)?;
         let node = self.nodes.bin_op(op, left, right);
         let node = made(&self.input, node)?;
         Ok((node, Some(min_prec)))
     }
 
-    /// What stands right of an operator: an operand, and the operators that bind tighter; after `**`, `**` too.
-    #[cycle(productions)]
-    fn parse_bin_operand(&mut self, op: BinaryOp) -> PResult<ExprId>
-        ensures { Produces I.model B.is_faithful itself tree_of (run B.forms (sym (Level (suc (trees.min_right op)))))
-            (count self.old.nodes) self.old result self.new }
-    {
-        let left_of_right = self.parse_unary_expr()?;
-        self.parse_bin_op_recursively(left_of_right, right_min_prec(op))
-    }
-
-    /// A unary expression (ECMA-262, 13.5): so far, a primary expression with any number of prefix
-    /// operators before it, but for `++`, `--` and `await`.
+    /// A unary expression (ECMA-262, 13.5): so far, a left-hand side with any number of prefix operators before it,
+    /// but for `++`, `--` and `await`.
     #[cycle(productions)]
     pub fn parse_unary_expr(&mut self) -> PResult<ExprId>
         ensures { Produces I.model B.is_faithful itself tree_of (run B.forms (sym Unary))
@@ -175,37 +180,55 @@ impl<I: Tokens, B: Bodies<I>> Productions<I, B> {
         look(&mut self.input)?;
         match cur_prefix_op(&self.input) {
             Some(op) => self.parse_unary_op(op),
-            None => self.parse_primary_expr(),
+            None => self.parse_lhs_expr(false),
         }
     }
 
-    /// A prefix operator, which is current, and its operand.
+    /// A prefix operator, which is current, and its operand. A refused operand is recorded, unless that is want of
+    /// memory, and a node of `Invalid` stands in its place.
     #[cycle(productions)]
     fn parse_unary_op(&mut self, op: UnaryOp) -> PResult<ExprId>
         requires { IsSome (current self.old.input) }
         ensures { Produces I.model B.is_faithful itself tree_of (unary_op B.forms op)
             (count self.old.nodes) self.old result self.new }
     {
-        let start = self.input.cur_span().lo;
+        let start = self.input.cur_span();
         skip(&mut self.input);
-        let arg = self.parse_unary_operand()?;
+        let at = cur_pos(&mut self.input)?;
+        match self.parse_unary_expr() {
+            Ok(arg) => self.unary_expr(start, op, arg),
+            Err(error) => self.unary_expr_without_operand(start, op, error, at),
+        }
+    }
+
+    /// A prefix operator at `start`, and its operand (ECMA-262, 13.5). For modules, an identifier as the operand of
+    /// `delete` is recorded. Consumes nothing, and is refused only for want of memory.
+    fn unary_expr(&mut self, start: Span, op: UnaryOp, arg: ExprId) -> PResult<ExprId>
+        requires { From 0 self.old.nodes (expr_part arg) }
+        ensures reads { GoesOn I.model B.is_faithful itself tree_of
+            (λ c ts. unary_op_node B.forms start op c (tree_of self.old.nodes arg) ts)
+            (first_at self.old.nodes arg.0) self.old result self.new }
+        ensures memory { IfErr result (λ e. e.kind ≡ OutOfMemory) }
+    {
         check_delete::<I, B>(&mut self.input, &self.nodes, op, arg)?;
-        let node = self.nodes.unary_op(start, op, arg);
+        let node = self.nodes.unary_op(start.lo, op, arg);
         made(&self.input, node)
     }
 
-    /// The operand of a prefix operator. A refused one is recorded, unless it is want of memory,
-    /// and a node of `Invalid` at one position stands in its place.
-    #[cycle(productions)]
-    fn parse_unary_operand(&mut self) -> PResult<ExprId>
-        ensures { GoesOn I.model B.is_faithful itself tree_of (run B.forms (sym Unary))
-            (count self.old.nodes) self.old result self.new }
+    /// A prefix operator at `start`, the operand of which, at `at`, was refused. That is recorded, unless it is want of
+    /// memory, and a node of `Invalid` at one position stands in its place.
+    fn unary_expr_without_operand(
+        &mut self,
+        start: Span,
+        op: UnaryOp,
+        error: Error,
+        at: BytePos,
+    ) -> PResult<ExprId>
+        requires { error.kind ≢ ParserFailed }
+        ensures { Recovers I.model itself (Tries I.model) error.kind self.old result self.new }
     {
-        let at = cur_pos(&mut self.input)?;
-        match self.parse_unary_expr() {
-            Ok(arg) => Ok(arg),
-            Err(error) => self.recover(error, BytePos(at.0.saturating_sub(1))),
-        }
+        let arg = self.recover(error, BytePos(at.0.saturating_sub(1)))?;
+        self.unary_expr(start, op, arg)
     }
 
     /// Records a refusal, unless it is want of memory: a node of `Invalid` at the position stands

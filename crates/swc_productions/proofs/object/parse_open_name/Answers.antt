@@ -2,6 +2,7 @@ use Rattle.std.proofs.Common.{not}
 use Rattle.std.proofs.lemmas.Result.{err_from_is_err_and}
 use Rattle.swc_context.specs.Reserved.{is_reserved_word}
 use Rattle.swc_input.specs.Buffer.{context}
+use Rattle.swc_productions.specs.Parsing.{scope}
 use Rattle.swc_productions.specs.Parsing.{name_spelling}
 use Rattle.swc_productions.specs.Properties.{open_by}
 use Rattle.swc_productions.proofs.Properties.{open_name_splits, open_by_well, open_by_ill}
@@ -23,5 +24,5 @@ returns-clause-parses g c = λ sure.
     let name = name_spelling c.in_ok-name.name in
     s.heard_more (λ x q. open_by x q) (λ x ts. open_name_splits x ts) (c.in_ok-name.ensures.parses sure)
     (s.on_checked_in (not (is_reserved_word (context g.I.Tokens.model c.parse_ident_name.new.input) c.in_ok-name.name.sym)) c.in_ok-check_open_name.ensures.checks
-    (λ ts h. open_by_well (context g.I.Tokens.model c.parse_ident_name.new.input) name ts h)
-    (λ ts h. open_by_ill (context g.I.Tokens.model c.parse_ident_name.new.input) name ts h))
+    (λ ts h. open_by_well (scope g.I.Tokens.model c.parse_ident_name.new.input) name ts h)
+    (λ ts h. open_by_ill (scope g.I.Tokens.model c.parse_ident_name.new.input) name ts h))

@@ -28,5 +28,5 @@ returns-clause-parses g c = λ sure.
     let name = c.in_ok-name.ensures.parses sure in
     let question = c.in_ok-question.ensures.expects sure in
     s.heard_noted (s.leads_then name.on.leads question.on.leads)
-    (s.longer name.on.leads question.on.leads name.some) c.in_ok-emit_err.ensures.tries
+    (s.longer name.on.leads question.on.leads name.onward) c.in_ok-emit_err.ensures.tries
     c.in_ok-emit_err.ensures.notes

@@ -9,3 +9,8 @@ returns-in-Ok-clause-read g c =
     (Read-still g.met.I.Tokens.laws c.args.self.now c.take_error.new.self c.record-in-Some.new.self (error_token (current c.args.self.now))
     c.take_error.ensures.read c.record-in-Some.ensures.read)
     c.record-in-Ok.ensures.read
+
+pub returns-in-Err-clause-read : goal.returns-in-Err-clause-read
+returns-in-Err-clause-read g c =
+    Read-still g.met.I.Tokens.laws c.args.self.now c.take_error.new.self c.record-in-Some.new.self (error_token (current c.args.self.now))
+    c.take_error.ensures.read c.record-in-Some.ensures.read

@@ -1,44 +1,61 @@
 -- What the steps of each production, one after another, ensure.
-use Rattle.std.proofs.Common.{Ok, map, ◌≡◌, ◌≢◌, Some, None, refl, sym, ap, ◌∙◌, arith}
+use Rattle.std.proofs.Common.{Ok, Err, map, ◌≡◌, ◌≢◌, ◌++◌, true, false, not, Some, None, refl, sym, ap, subst, ◌∙◌, arith}
 use Rattle.std.proofs.lemmas.Result.{err_from_is_err_and}
 use Rattle.swc_context.specs.Spans.{between}
-use Rattle.swc_context.proofs.Spans.{span_is}
 use Rattle.swc_context.specs.declared.error.SyntaxError.TheVariants.{OutOfMemory}
 use Rattle.swc_input.specs.Plain.{plain}
 use Rattle.swc_input.specs.Kinds.{at_token, is_hash}
 use Rattle.swc_input.specs.Buffer.{context}
-use Rattle.swc_grammar.specs.Tokens.{with_in}
-use Rattle.swc_ast.specs.Tree.{nil, cons, node, spread, trees, span_of}
-use Rattle.swc_ast.specs.Tree.{dots as dots_kind}
-use Rattle.swc_ast.specs.Parts.{item_of as item_tree_of}
-use Rattle.swc_nodes.specs.Lists.{trees_append, elem_parts, elem_tree, elem_trees, props_parts}
+use Rattle.swc_grammar.specs.Tokens.{include_in}
+use Rattle.swc_ast.specs.Tree.{nil, cons, node, trees, span_of}
+use Rattle.swc_ast.specs.Tree.{tpl as tpl_kind}
+use Rattle.swc_ast.specs.Parts.{item_of as item_tree_of, item_trees, quasi_tree}
+use Rattle.swc_grammar.specs.Trees.{trees_append}
+use Rattle.swc_nodes.specs.Lists.{elem_parts, elem_tree, elem_trees, props_parts, exprs_parts}
 use Rattle.swc_nodes.specs.Seats.{chain}
-use Rattle.swc_nodes.specs.Slots.{flat, if_some, item_parts, prop_parts, expr_part}
-use Rattle.swc_nodes.specs.Stands.{count, seat_at, tree_at}
-use Rattle.swc_nodes.proofs.Lists.{apart-none, apart-list-more, elems-more, props-more}
-use Rattle.swc_grammar.specs.Trees.{to, array_e, items_of, comma_of, unary_e, paren_e, bin_e, nullish_ok, delete_ok}
-use Rattle.swc_grammar.specs.Trees.{min_right, computed_e, object_e, spread_prop_e, prop_of as prop_tree, cover_e, ident_e, value_e, no_cover_in}
-use Rattle.swc_grammar.specs.Symbols.{Assign, Level, Elements}
+use Rattle.swc_nodes.specs.Slots.{flat, if_some, item_parts, args_parts, prop_parts, key_parts, one_expr, expr_part}
+use Rattle.swc_nodes.specs.Stands.{count, seat_at, tree_at, first_at, Apart}
+use Rattle.swc_nodes.proofs.Lists.{apart-none, apart-list-more, elems-more, props-more, exprs-more, exprs-apart-more}
+use Rattle.swc_nodes.proofs.Lists.{trees-both, trees-more, exprs-later, apart-later}
+use Rattle.swc_grammar.specs.Trees.{to, array_e, items_of, comma_of, paren_e}
+use Rattle.swc_grammar.specs.Trees.{min_right, object_e, spread_prop_e, prop_of as prop_tree, value_e, no_cover_in}
+use Rattle.swc_grammar.specs.Trees.{super_e, import_e}
+use Rattle.swc_grammar.specs.Trees.{parts_e, tpl_e}
+use Rattle.swc_grammar.specs.Symbols.{Assign, Level, Args, Elements}
 use Rattle.swc_grammar.specs.Tokens.{is_lparen, is_rparen, is_lbracket, is_rbracket, is_rbrace, is_comma, is_dots, is_this}
-use Rattle.swc_grammar.specs.Tokens.{is_colon, is_equals}
-use Rattle.swc_grammar.specs.Clean.{sym as at, run, climb, is_lit, is_identifier, prefix_at, no_error, left_ok}
+use Rattle.swc_grammar.specs.Tokens.{is_colon, is_dot, is_new, is_backquote, begins_regex}
+use Rattle.swc_grammar.specs.Tokens.{is_super, is_import}
+use Rattle.swc_grammar.specs.Clean.{sym as at, run, first, links, climb, is_lit, is_identifier}
+use Rattle.swc_grammar.specs.Clean.{prefix_at, no_error, left_ok}
 use Rattle.swc_grammar.specs.Words.{◌>>=◌}
-use Rattle.swc_productions.specs.Readers.{go_on, inside, paren_expr_close, paren_expr_node, paren_expr_tail, unary_op_node}
-use Rattle.swc_productions.specs.Readers.{unary_op_tail, bin_op_node, bin_op, turned}
+use Rattle.swc_productions.specs.Readers.{go_on, inside, paren_expr_tail, paren_expr_close, paren_expr_node, unary_op_node}
+use Rattle.swc_productions.specs.Readers.{unary_op_tail, bin_op_node, bin_op, turned, nothing}
+use Rattle.swc_productions.specs.Bases.{super_by, super_left, super_close, callee_node, plain_base, import_by, import_left}
 use Rattle.swc_productions.specs.Keys.{key_by, key_close}
-use Rattle.swc_productions.specs.Lists.{array_lit_tail, element_by, elements_behind, behind_by, separated}
+use Rattle.swc_productions.specs.Links.{computed_close, call_node, args_behind, args_by, construct_by, construct_node}
+use Rattle.swc_productions.specs.Links.{construct_of, new_by, new_node, new_tail, link_tail, links_by, separated_args}
+use Rattle.swc_productions.specs.Templates.{tagged_node, template_tail, tpl_expr_close}
+use Rattle.swc_productions.specs.Templates.{parts_behind, parts_by, parts_after}
+use Rattle.swc_productions.specs.Lists.{array_lit_tail, elements_inside, element_by, elements_behind, behind_by, separated}
 use Rattle.swc_productions.specs.Parsing.{seen, behind, tree_of, item_at, elems_at, seen_of, prop_at, ident_spelling, key_at}
+use Rattle.swc_productions.specs.Parsing.{args_at}
 use Rattle.swc_bodies.specs.Readings.{is_function, is_class, is_brace}
-use Rattle.swc_productions.specs.Properties.{object_lit_tail, props_behind, props_by, prop_by, cover_by, cover_behind}
-use Rattle.swc_productions.specs.Methods.{behind_key, after_by, method_tree, method_close, method_tail}
+use Rattle.swc_productions.specs.declared.object.PropHead.TheVariants as head
+use Rattle.swc_productions.specs.Properties.{object_lit_tail, props_behind, props_by, cover_node}
+use Rattle.swc_productions.specs.Methods.{behind_key, after_by, method_tree, method_close}
 use Rattle.swc_nodes.proofs.Standing.{grows-count, grows-same, grows-then}
 use Rattle.swc_nodes.proofs.Held.{apart-from, from-down, from-later, from_self, first_kept, if_from, tree-later}
-use Rattle.swc_productions.proofs.Building.{apart-down, grows-kept, made_at, made_over}
+use Rattle.swc_productions.proofs.Building.{apart-down, apart-lower, apart_behind, grows-kept, made_over}
+use Rattle.swc_productions.proofs.Bases as base
+use Rattle.swc_productions.proofs.Begins as begins
 use Rattle.swc_productions.proofs.Keys as key
+use Rattle.swc_productions.proofs.Links as link
 use Rattle.swc_productions.proofs.Lists as list
 use Rattle.swc_productions.proofs.Properties as props
+use Rattle.swc_productions.proofs.Regexes as regex
 use Rattle.swc_productions.proofs.Rules as rule
 use Rattle.swc_productions.proofs.Steps as s
+use Rattle.swc_productions.proofs.Templates as tpl
 use Rattle.swc_productions.proofs.Making as m
 use Rattle.swc_productions.proofs.Methods as method
 use Rattle.swc_productions.proofs.productions.Productions.+productions.Goals as goal
@@ -90,7 +107,7 @@ parse_primary_expr-returns-then-is_class g t c =
 pub parse_primary_expr-returns-then-is_ident_ref : goal.parse_primary_expr-returns-then-is_ident_ref
 parse_primary_expr-returns-then-is_ident_ref g t c =
     m.after c.parse_ident_expr.result (s.on_told c.in_ok-look.ensures.looks c.in_ok-is_async_function.ensures.tells (λ x ts same e told. rule.ident_expr_picked _ x ts
-    (ap (λ v. at_token (is_identifier x) v) e ∙ ap (λ v. at_token (is_identifier v) (seen c.is_async_function.new.input)) same ∙ sym c.is_ident_ref.ensures.value ∙ c.if-is_ident_ref.true))) (grows-same _) c.parse_ident_expr.ensures
+    (ap (λ v. at_token (is_identifier x.context) v) e ∙ ap (λ v. at_token (is_identifier v.context) (seen c.is_async_function.new.input)) same ∙ sym c.is_ident_ref.ensures.value ∙ c.if-is_ident_ref.true))) (grows-same _) c.parse_ident_expr.ensures
 
 pub parse_primary_expr-returns-then-is_hash : goal.parse_primary_expr-returns-then-is_hash
 parse_primary_expr-returns-then-is_hash g t c =
@@ -101,7 +118,7 @@ parse_primary_expr-returns-then-is_hash g t c =
 pub parse_primary_expr-returns : goal.parse_primary_expr-returns
 parse_primary_expr-returns g t c =
     m.no (s.unheard_told c.in_ok-look.ensures.looks c.in_ok-is_async_function.ensures.tells (λ x ts same e told. rule.primary_ends _ x ts
-    (ap (λ v. at_token (is_identifier x) v) e ∙ ap (λ v. at_token (is_identifier v) (seen c.is_async_function.new.input)) same ∙ sym c.is_ident_ref.ensures.value ∙ c.if-is_ident_ref.false)
+    (ap (λ v. at_token (is_identifier x.context) v) e ∙ ap (λ v. at_token (is_identifier v.context) (seen c.is_async_function.new.input)) same ∙ sym c.is_ident_ref.ensures.value ∙ c.if-is_ident_ref.false)
     (ap (at_token is_lit) e ∙ sym c.is_lit.ensures.value ∙ c.if-is_lit.false)
     (ap (at_token is_lparen) e ∙ sym c.is_lparen.ensures.value ∙ c.if-is_lparen.false)
     (ap (at_token is_hash) e ∙ sym c.is_hash.ensures.value ∙ c.if-is_hash.false)
@@ -109,8 +126,15 @@ parse_primary_expr-returns g t c =
     (ap (at_token is_lbracket) e ∙ sym c.is_lbracket.ensures.value ∙ c.if-is_lbracket.false)
     (rule.function_not ts (ap (at_token is_function) e ∙ sym c.is_function.ensures.value ∙ c.if-is_function.false) (told ∙ c.if-branch.false))
     (ap (at_token is_class) e ∙ sym c.is_class.ensures.value ∙ c.if-is_class.false)
-    (ap (at_token is_brace) e ∙ sym c.is_lbrace.ensures.value ∙ c.if-is_lbrace.false))
+    (ap (at_token is_brace) e ∙ sym c.is_lbrace.ensures.value ∙ c.if-is_lbrace.false)
+    (ap (at_token is_backquote) e ∙ sym c.is_backquote.ensures.value ∙ c.if-is_backquote.false)
+    (ap (at_token begins_regex) e ∙ sym c.is_regex_start.ensures.value ∙ c.if-is_regex_start.false))
     c.syntax_error.ensures.refuses) (grows-same _)
+
+pub parse_primary_expr-returns-then-is_regex_start : goal.parse_primary_expr-returns-then-is_regex_start
+parse_primary_expr-returns-then-is_regex_start g t c =
+    m.after c.parse_regex.result (s.on_told c.in_ok-look.ensures.looks c.in_ok-is_async_function.ensures.tells (λ x ts same e told. regex.regex_picked _ x ts
+    (ap (at_token begins_regex) e ∙ sym c.is_regex_start.ensures.value ∙ c.if-is_regex_start.true))) (grows-same _) c.parse_regex.ensures
 
 pub parse_primary_expr-returns-in_err-look : goal.parse_primary_expr-returns-in_err-look
 parse_primary_expr-returns-in_err-look g t c =
@@ -120,31 +144,35 @@ parse_primary_expr-returns-in_err-look g t c =
 pub parse_array_lit-returns-in_err-list : goal.parse_array_lit-returns-in_err-list
 parse_array_lit-returns-in_err-list g t c =
     let first = c.skip.ensures.took.1 in
+    let elems = elems_at c.parse_elements-elems.new.self.nodes in
+    let inside = s.parses_within g.I.Tokens.model g.B.Bodies.is_faithful elems (elements_inside g.B.BodyForms.forms) (run _ (at Elements)) c.parse_elements-elems.result include_in (λ x. refl) (λ x ts. list.inside_elements _ x ts)
+    c.set_ctx.ensures.moves (c.set_ctx.ensures.context ∙ ap include_in c.get_ctx-ctx.ensures) c.parse_elements-elems.ensures.reads c.set_ctx-2.ensures.moves
+    (c.set_ctx-2.ensures.context ∙ c.get_ctx-ctx.ensures) in
     let p = err_from_is_err_and c.from_residual.result c.from_residual.ensures.1 in rw (p.1, p.2)
     (m.no (s.unheard_after (s.on_took {g = array_lit_tail _ (plain first.was).span} g.met.I.Tokens.laws first (λ x ts. list.array_lit_opens _ (plain first.was) x ts (rule.passes_plain is_lbracket _ _ first.current c.requires)))
-    (s.unheard_call (λ x p. Some (array_e (comma_of p.0) (to (plain first.was).span (span_of p.0)) (items_of p.0), p.1)) (λ x ts. list.array_lit_splits _ (plain first.was).span x ts) c.in_err-list.ensures.reads)) c.parse_elements_with_in.ensures.grows)
+    (s.unheard_call (λ x p. Some (array_e (comma_of p.0) (to (plain first.was).span (span_of p.0)) (items_of p.0), p.1)) (λ x ts. list.array_lit_splits _ (plain first.was).span x ts)
+    (s.parses_err g.I.Tokens.model g.B.Bodies.is_faithful elems (elements_inside g.B.BodyForms.forms) _ _ c.parse_elements-elems.result _ c.in_err-list.was inside))) c.parse_elements-elems.ensures.grows)
 
 pub parse_array_lit-returns : goal.parse_array_lit-returns
 parse_array_lit-returns g t c =
     let first = c.skip.ensures.took.1 in
-    let items = elem_trees (tree_at c.parse_elements_with_in.new.self.nodes) c.in_ok-list.list.items in
+    let elems = elems_at c.parse_elements-elems.new.self.nodes in
+    let inside = s.parses_within g.I.Tokens.model g.B.Bodies.is_faithful elems (elements_inside g.B.BodyForms.forms) (run _ (at Elements)) c.parse_elements-elems.result include_in (λ x. refl) (λ x ts. list.inside_elements _ x ts)
+    c.set_ctx.ensures.moves (c.set_ctx.ensures.context ∙ ap include_in c.get_ctx-ctx.ensures) c.parse_elements-elems.ensures.reads c.set_ctx-2.ensures.moves
+    (c.set_ctx-2.ensures.context ∙ c.get_ctx-ctx.ensures) in
+    let read = s.parses_ok g.I.Tokens.model g.B.Bodies.is_faithful elems (elements_inside g.B.BodyForms.forms) _ _ c.parse_elements-elems.result c.in_ok-list.list c.in_ok-list.was inside in
+    let items = elem_trees (tree_at c.parse_elements-elems.new.self.nodes) c.in_ok-list.list.items in
     let whole : array_e c.in_ok-list.list.trailing_comma (to first.was.span c.in_ok-list.list.end) items ≡ array_e c.in_ok-list.list.trailing_comma (between c.cur_span.result.lo c.in_ok-list.list.end.hi) items =
     ap (λ v. array_e c.in_ok-list.list.trailing_comma (between v c.in_ok-list.list.end.hi) items) (ap (λ v. v.lo) (sym (s.place_was first c.cur_span.result c.cur_span.ensures))) in
     m.node _ c.array_lit-node.result c.made_literal.result (omega arith)
-    (made_over _ _ _ (elem_parts c.in_ok-list.list.items) _ c.array_lit-node.result c.array_lit-node.ensures.made c.in_ok-list.ensures.from) c.made_literal.ensures.ok c.made_literal.ensures.refused c.parse_elements_with_in.ensures.grows c.array_lit-node.ensures.grows
+    (made_over _ _ _ (elem_parts c.in_ok-list.list.items) _ c.array_lit-node.result c.array_lit-node.ensures.made (m.held_is _ c.parse_elements-elems.result c.in_ok-list.list c.in_ok-list.was c.parse_elements-elems.ensures.from))
+    c.made_literal.ensures.ok c.made_literal.ensures.refused c.parse_elements-elems.ensures.grows c.array_lit-node.ensures.grows
     (s.heard_answer whole (s.heard_first g.met.I.Tokens.laws first (λ x ts. list.array_lit_opens _ (plain first.was) x ts (rule.passes_plain is_lbracket _ _ first.current c.requires))
-    (s.on_call (λ x p. Some (array_e (comma_of p.0) (to (plain first.was).span (span_of p.0)) (items_of p.0), p.1)) (λ x ts. list.array_lit_splits _ (plain first.was).span x ts) c.in_ok-list.ensures.reads.on)))
+    (s.on_call (λ x p. Some (array_e (comma_of p.0) (to (plain first.was).span (span_of p.0)) (items_of p.0), p.1)) (λ x ts. list.array_lit_splits _ (plain first.was).span x ts) read.on)))
 
 pub parse_array_lit-array_lit-node-requires : goal.parse_array_lit-array_lit-node-requires
-parse_array_lit-array_lit-node-requires g t c = record { apart = apart-down (elem_parts c.in_ok-list.list.items) c.in_ok-list.ensures.from }
-
-pub parse_elements_with_in-returns : goal.parse_elements_with_in-returns
-parse_elements_with_in-returns g t c =
-    m.yes c.parse_elements-elems.result
-    (s.parses_within g.I.Tokens.model g.B.Bodies.is_faithful (elems_at c.parse_elements-elems.new.self.nodes) _ (run _ (at Elements)) c.parse_elements-elems.result with_in (λ x. refl) (λ x ts. list.inside_elements _ x ts)
-    c.set_ctx.ensures.moves (c.set_ctx.ensures.context ∙ ap with_in c.get_ctx-ctx.ensures) c.parse_elements-elems.ensures.reads c.set_ctx-2.ensures.moves
-    (c.set_ctx-2.ensures.context ∙ c.get_ctx-ctx.ensures))
-    c.parse_elements-elems.ensures.grows c.parse_elements-elems.ensures.from
+parse_array_lit-array_lit-node-requires g t c =
+    record { apart = apart-down (elem_parts c.in_ok-list.list.items) (m.held_is _ c.parse_elements-elems.result c.in_ok-list.list c.in_ok-list.was c.parse_elements-elems.ensures.from) }
 
 pub parse_elements-loop-items-init : goal.parse_elements-loop-items-init
 parse_elements-loop-items-init g t c = (
@@ -213,30 +241,34 @@ parse_element-returns-in-Some g t c =
     (s.eats_some g.B.Bodies.is_faithful is_comma _ c.in-Some.field-0 _ _ c.in-Some.is (c.in_ok-eat.ensures.eats g.B.Bodies.is_faithful)))
     (grows-same _) (apart-none (omega arith))
 
-pub parse_element-returns-in-None : goal.parse_element-returns-in-None
-parse_element-returns-in-None g t c =
-    m.after c.parse_element_item.result
-    (s.on_call (λ x p. element_by _ p.0 x p.1) (λ x ts. list.element_splits _ x ts)
-    (s.eats_none g.B.Bodies.is_faithful is_comma _ _ _ c.in-None.is (c.in_ok-eat.ensures.eats g.B.Bodies.is_faithful)))
-    (grows-same _) c.parse_element_item.ensures
+pub parse_element-returns-in_err-item-in-None : goal.parse_element-returns-in_err-item-in-None
+parse_element-returns-in_err-item-in-None g t c =
+    let none = s.on_call (λ x p. element_by g.B.BodyForms.forms p.0 x p.1) (λ x ts. list.element_splits _ x ts)
+    (s.eats_none g.B.Bodies.is_faithful is_comma _ _ _ c.in-None.is (c.in_ok-eat.ensures.eats g.B.Bodies.is_faithful)) in
+    let p = err_from_is_err_and c.from_residual-in_err-item-in-None.result c.from_residual-in_err-item-in-None.ensures.1 in rw (p.1, p.2)
+    (m.no (s.unheard_after none
+    (s.unheard_call (λ x p. separated is_rbracket x p.1 >>= (λ q. Some ((p.0, q.0), q.1))) (λ x ts. list.element_item_splits _ x ts) c.in_err-item-in-None.ensures.reads)) c.parse_expr_or_spread.ensures.grows)
 
-pub parse_element_item-returns-in_err-item : goal.parse_element_item-returns-in_err-item
-parse_element_item-returns-in_err-item g t c =
-    let p = err_from_is_err_and c.from_residual.result c.from_residual.ensures.1 in rw (p.1, p.2)
-    (m.no (s.unheard_call (λ x p. separated is_rbracket x p.1 >>= (λ q. Some ((p.0, q.0), q.1))) (λ x ts. list.element_item_splits _ x ts) c.in_err-item.ensures.reads) c.parse_expr_or_spread.ensures.grows)
+pub parse_element-returns-in_err-comma-in-None : goal.parse_element-returns-in_err-comma-in-None
+parse_element-returns-in_err-comma-in-None g t c =
+    let none = s.on_call (λ x p. element_by g.B.BodyForms.forms p.0 x p.1) (λ x ts. list.element_splits _ x ts)
+    (s.eats_none g.B.Bodies.is_faithful is_comma _ _ _ c.in-None.is (c.in_ok-eat.ensures.eats g.B.Bodies.is_faithful)) in
+    let item = item_at c.parse_expr_or_spread.new.self.nodes c.in_ok-item-in-None.item in
+    let p = err_from_is_err_and c.from_residual-in_err-comma-in-None.result c.from_residual-in_err-comma-in-None.ensures.1 in rw (p.1, p.2)
+    (m.no (s.unheard_after (s.on_then none
+    (s.on_call (λ x p. separated is_rbracket x p.1 >>= (λ q. Some ((p.0, q.0), q.1))) (λ x ts. list.element_item_splits _ x ts) c.in_ok-item-in-None.ensures.reads.on))
+    (s.unheard_call (λ x q. Some ((item, q.0), q.1)) (λ x ts. refl) (c.in_err-comma-in-None.ensures.separates g.B.Bodies.is_faithful))) c.parse_expr_or_spread.ensures.grows)
 
-pub parse_element_item-returns-in_err-comma : goal.parse_element_item-returns-in_err-comma
-parse_element_item-returns-in_err-comma g t c =
-    let p = err_from_is_err_and c.from_residual-in_err-comma.result c.from_residual-in_err-comma.ensures.1 in rw (p.1, p.2)
-    (m.no (s.unheard_after (s.on_call (λ x p. separated is_rbracket x p.1 >>= (λ q. Some ((p.0, q.0), q.1))) (λ x ts. list.element_item_splits _ x ts) c.in_ok-item.ensures.reads.on)
-    (s.unheard_call (λ x q. Some ((item_at c.parse_expr_or_spread.new.self.nodes c.in_ok-item.item, q.0), q.1)) (λ x ts. refl) (c.in_err-comma.ensures.separates g.B.Bodies.is_faithful))) c.parse_expr_or_spread.ensures.grows)
-
-pub parse_element_item-returns : goal.parse_element_item-returns
-parse_element_item-returns g t c =
+pub parse_element-returns-in_ok-comma-in-None : goal.parse_element-returns-in_ok-comma-in-None
+parse_element-returns-in_ok-comma-in-None g t c =
+    let none = s.on_call (λ x p. element_by g.B.BodyForms.forms p.0 x p.1) (λ x ts. list.element_splits _ x ts)
+    (s.eats_none g.B.Bodies.is_faithful is_comma _ _ _ c.in-None.is (c.in_ok-eat.ensures.eats g.B.Bodies.is_faithful)) in
+    let item = item_at c.parse_expr_or_spread.new.self.nodes c.in_ok-item-in-None.item in
     m.yes (Ok _)
-    (s.heard_more (λ x p. separated is_rbracket x p.1 >>= (λ q. Some ((p.0, q.0), q.1))) (λ x ts. list.element_item_splits _ x ts) c.in_ok-item.ensures.reads
-    (s.on_call (λ x q. Some ((item_at c.parse_expr_or_spread.new.self.nodes c.in_ok-item.item, q.0), q.1)) (λ x ts. refl) (c.in_ok-comma.ensures.separates g.B.Bodies.is_faithful)))
-    c.parse_expr_or_spread.ensures.grows (apart-from (expr_part c.in_ok-item.item.expr) c.in_ok-item.ensures.from)
+    (s.heard_after none
+    (s.heard_more (λ x p. separated is_rbracket x p.1 >>= (λ q. Some ((p.0, q.0), q.1))) (λ x ts. list.element_item_splits _ x ts) c.in_ok-item-in-None.ensures.reads
+    (s.on_call (λ x q. Some ((item, q.0), q.1)) (λ x ts. refl) (c.in_ok-comma-in-None.ensures.separates g.B.Bodies.is_faithful))))
+    c.parse_expr_or_spread.ensures.grows (apart-from (expr_part c.in_ok-item-in-None.item.expr) c.in_ok-item-in-None.ensures.from)
 
 pub parse_expr_or_spread-returns-in_err-spread : goal.parse_expr_or_spread-returns-in_err-spread
 parse_expr_or_spread-returns-in_err-spread g t c =
@@ -351,38 +383,112 @@ parse_prop_item-returns g t c =
     (s.on_call (λ x q. Some ((prop_at c.parse_object_prop.new.self.nodes c.in_ok-prop.prop, q.0), q.1)) (λ x ts. refl) (c.in_ok-comma.ensures.separates g.B.Bodies.is_faithful)))
     c.parse_object_prop.ensures.grows c.in_ok-prop.ensures.from
 
-pub parse_object_prop-returns-in_err-dots : goal.parse_object_prop-returns-in_err-dots
-parse_object_prop-returns-in_err-dots g t c =
+pub parse_object_prop-returns-in_err-name : goal.parse_object_prop-returns-in_err-name
+parse_object_prop-returns-in_err-name g t c =
     let p = err_from_is_err_and c.from_residual.result c.from_residual.ensures.1 in rw (p.1, p.2)
-    (m.no (s.unheard_call (λ x p. prop_by _ p.0 x p.1) (λ x ts. props.prop_splits _ x ts) (c.in_err-dots.ensures.eats g.B.Bodies.is_faithful)) (grows-same _))
+    (m.no c.in_err-name.ensures.reads (grows-same _))
 
-pub parse_object_prop-returns-in-Some : goal.parse_object_prop-returns-in-Some
-parse_object_prop-returns-in-Some g t c =
-    m.after c.parse_spread_prop.result
-    (s.on_call (λ x p. prop_by _ p.0 x p.1) (λ x ts. props.prop_splits _ x ts)
-    (s.eats_some g.B.Bodies.is_faithful is_dots _ c.in-Some.dots _ _ c.in-Some.is (c.in_ok-dots.ensures.eats g.B.Bodies.is_faithful)).on)
-    (grows-same _) c.parse_spread_prop.ensures
+pub parse_object_prop-returns-in-Shorthand : goal.parse_object_prop-returns-in-Shorthand
+parse_object_prop-returns-in-Shorthand g t c =
+    let left = begins.begun g.I.Tokens.model g.B.Bodies.is_faithful g.B.BodyForms.forms _ _ (head.Shorthand c.in-Shorthand.name) c.in-Shorthand.is c.in_ok-name.ensures.reads in
+    m.yes (Ok _) left (grows-same _) (apart-none (omega arith))
 
-pub parse_object_prop-returns-in-None : goal.parse_object_prop-returns-in-None
-parse_object_prop-returns-in-None g t c =
-    m.after c.parse_plain_prop.result
-    (s.on_call (λ x p. prop_by _ p.0 x p.1) (λ x ts. props.prop_splits _ x ts)
-    (s.eats_none g.B.Bodies.is_faithful is_dots _ _ _ c.in-None.is (c.in_ok-dots.ensures.eats g.B.Bodies.is_faithful)))
-    (grows-same _) c.parse_plain_prop.ensures
-
-pub parse_spread_prop-returns-in_err-expr : goal.parse_spread_prop-returns-in_err-expr
-parse_spread_prop-returns-in_err-expr g t c =
-    let p = err_from_is_err_and c.from_residual.result c.from_residual.ensures.1 in rw (p.1, p.2)
-    (m.no (s.unheard_call (λ x q. Some (spread_prop_e c.args.dots q.0, q.1)) (λ x ts. props.spread_prop_splits _ c.args.dots x ts) c.in_err-expr.ensures.reads)
+pub parse_object_prop-returns-in_err-expr-in-Spread : goal.parse_object_prop-returns-in_err-expr-in-Spread
+parse_object_prop-returns-in_err-expr-in-Spread g t c =
+    let left = begins.begun g.I.Tokens.model g.B.Bodies.is_faithful g.B.BodyForms.forms _ _ (head.Spread c.in-Spread.dots) c.in-Spread.is c.in_ok-name.ensures.reads in
+    let p = err_from_is_err_and c.from_residual-in_err-expr-in-Spread.result c.from_residual-in_err-expr-in-Spread.ensures.1 in rw (p.1, p.2)
+    (m.no (s.unheard_after left
+    (s.unheard_call (λ x q. Some (spread_prop_e c.in-Spread.dots q.0, q.1)) (λ x ts. props.spread_prop_splits _ c.in-Spread.dots x ts) c.in_err-expr-in-Spread.ensures.reads))
     c.parse_assignment_expr_with_in.ensures.grows)
 
-pub parse_spread_prop-returns : goal.parse_spread_prop-returns
-parse_spread_prop-returns g t c =
-    let parts = cons (node dots_kind c.args.dots nil) (cons (tree_of c.parse_assignment_expr_with_in.new.self.nodes c.in_ok-expr.expr) nil) in
+pub parse_object_prop-returns-in_ok-expr-in-Spread : goal.parse_object_prop-returns-in_ok-expr-in-Spread
+parse_object_prop-returns-in_ok-expr-in-Spread g t c =
+    let left = begins.begun g.I.Tokens.model g.B.Bodies.is_faithful g.B.BodyForms.forms _ _ (head.Spread c.in-Spread.dots) c.in-Spread.is c.in_ok-name.ensures.reads in
     m.yes (Ok _)
-    (s.heard_answer (ap (λ v. node spread v parts) (sym c.span_to-span.ensures))
-    (s.heard_call (λ x q. Some (spread_prop_e c.args.dots q.0, q.1)) (λ x ts. props.spread_prop_splits _ c.args.dots x ts) (λ x ts. refl) c.in_ok-expr.ensures.reads))
-    c.parse_assignment_expr_with_in.ensures.grows (apart-from (expr_part c.in_ok-expr.expr) c.in_ok-expr.ensures.from)
+    (s.heard_answer (sym c.spread_prop.ensures.tree) (s.heard_after left
+    (s.heard_call (λ x q. Some (spread_prop_e c.in-Spread.dots q.0, q.1)) (λ x ts. props.spread_prop_splits _ c.in-Spread.dots x ts) (λ x ts. refl) c.in_ok-expr-in-Spread.ensures.reads)))
+    c.parse_assignment_expr_with_in.ensures.grows
+    (subst (λ ps. Apart (count c.args.self.now.nodes) c.parse_assignment_expr_with_in.new.self.nodes ps) (sym c.spread_prop.ensures.parts)
+    (apart-from (expr_part c.in_ok-expr-in-Spread.expr) c.in_ok-expr-in-Spread.ensures.from))
+
+pub parse_object_prop-returns-in_err-value-in-Cover : goal.parse_object_prop-returns-in_err-value-in-Cover
+parse_object_prop-returns-in_err-value-in-Cover g t c =
+    let n = ident_spelling c.in-Cover.name in
+    let left = begins.begun g.I.Tokens.model g.B.Bodies.is_faithful g.B.BodyForms.forms _ _ (head.Cover c.in-Cover.name) c.in-Cover.is c.in_ok-name.ensures.reads in
+    let p = err_from_is_err_and c.from_residual-in_err-value-in-Cover.result c.from_residual-in_err-value-in-Cover.ensures.1 in rw (p.1, p.2)
+    (m.no (s.unheard_after left
+    (s.unheard_call (λ x p. Some (cover_node n p.0, p.1)) (λ x ts. props.cover_tail_splits _ n x ts) c.in_err-value-in-Cover.ensures.reads)) c.parse_assignment_expr_with_in-in-Cover.ensures.grows)
+
+pub parse_object_prop-returns-in_ok-value-in-Cover : goal.parse_object_prop-returns-in_ok-value-in-Cover
+parse_object_prop-returns-in_ok-value-in-Cover g t c =
+    let n = ident_spelling c.in-Cover.name in
+    let left = begins.begun g.I.Tokens.model g.B.Bodies.is_faithful g.B.BodyForms.forms _ _ (head.Cover c.in-Cover.name) c.in-Cover.is c.in_ok-name.ensures.reads in
+    m.yes (Ok _)
+    (s.heard_answer (sym c.cover_prop.ensures.tree) (s.heard_after left
+    (s.heard_call (λ x p. Some (cover_node n p.0, p.1)) (λ x ts. props.cover_tail_splits _ n x ts) (λ x ts. refl) c.in_ok-value-in-Cover.ensures.reads)))
+    c.parse_assignment_expr_with_in-in-Cover.ensures.grows
+    (subst (λ ps. Apart (count c.args.self.now.nodes) c.parse_assignment_expr_with_in-in-Cover.new.self.nodes ps) (sym c.cover_prop.ensures.parts)
+    (apart-from (expr_part c.in_ok-value-in-Cover.value) c.in_ok-value-in-Cover.ensures.from))
+
+pub parse_object_prop-returns-in_err-key-in-Key : goal.parse_object_prop-returns-in_err-key-in-Key
+parse_object_prop-returns-in_err-key-in-Key g t c =
+    let left = begins.begun g.I.Tokens.model g.B.Bodies.is_faithful g.B.BodyForms.forms _ _ head.Key c.in-Key.is c.in_ok-name.ensures.reads in
+    let p = err_from_is_err_and c.from_residual-in_err-key-in-Key.result c.from_residual-in_err-key-in-Key.ensures.1 in rw (p.1, p.2)
+    (m.no (s.unheard_after left (s.unheard_call (λ x p. behind_key _ p.0 x p.1) (λ x ts. method.key_splits _ x ts) c.in_err-key-in-Key.ensures.reads)) c.parse_prop_name.ensures.grows)
+
+pub parse_object_prop-returns-in_err-after-in-Key : goal.parse_object_prop-returns-in_err-after-in-Key
+parse_object_prop-returns-in_err-after-in-Key g t c =
+    let key = key_at c.parse_prop_name.new.self.nodes c.in_ok-key-in-Key.key in
+    let left = begins.begun g.I.Tokens.model g.B.Bodies.is_faithful g.B.BodyForms.forms _ _ head.Key c.in-Key.is c.in_ok-name.ensures.reads in
+    let p = err_from_is_err_and c.from_residual-in_err-after-in-Key.result c.from_residual-in_err-after-in-Key.ensures.1 in rw (p.1, p.2)
+    (m.no (s.unheard_after (s.on_then left (s.on_call (λ x p. behind_key _ p.0 x p.1) (λ x ts. method.key_splits _ x ts) c.in_ok-key-in-Key.ensures.reads.on))
+    (s.unheard_call (λ x p. Some (prop_tree key p.0, p.1)) (λ x ts. method.behind_key_splits _ key x ts) c.in_err-after-in-Key.ensures.reads)) (grows-then c.parse_prop_name.ensures.grows c.parse_after_key.ensures.grows))
+
+pub parse_object_prop-returns-in_ok-after-in-Key : goal.parse_object_prop-returns-in_ok-after-in-Key
+parse_object_prop-returns-in_ok-after-in-Key g t c =
+    let key = key_at c.parse_prop_name.new.self.nodes c.in_ok-key-in-Key.key in
+    let made = method.key_prop_made c.in_ok-key-in-Key.key c.in_ok-after-in-Key.after c.key_prop.result c.key_prop.ensures c.parse_after_key.ensures.grows c.in_ok-key-in-Key.ensures.from c.in_ok-after-in-Key.ensures.from in
+    let left = begins.begun g.I.Tokens.model g.B.Bodies.is_faithful g.B.BodyForms.forms _ _ head.Key c.in-Key.is c.in_ok-name.ensures.reads in
+    m.yes (Ok _)
+    (s.heard_answer made.0 (s.heard_after left
+    (s.heard_more (λ x p. behind_key _ p.0 x p.1) (λ x ts. method.key_splits _ x ts) c.in_ok-key-in-Key.ensures.reads
+    (s.on_call (λ x p. Some (prop_tree key p.0, p.1)) (λ x ts. method.behind_key_splits _ key x ts) c.in_ok-after-in-Key.ensures.reads.on))))
+    (grows-then c.parse_prop_name.ensures.grows c.parse_after_key.ensures.grows) made.1
+
+pub parse_object_prop-returns-in_err-key-in-Method : goal.parse_object_prop-returns-in_err-key-in-Method
+parse_object_prop-returns-in_err-key-in-Method g t c =
+    let kind = c.in-Method.kind in
+    let start = c.in-Method.start in
+    let left = begins.begun g.I.Tokens.model g.B.Bodies.is_faithful g.B.BodyForms.forms _ _ (head.Method c.in-Method.kind c.in-Method.start) c.in-Method.is c.in_ok-name.ensures.reads in
+    let p = err_from_is_err_and c.from_residual-in_err-key-in-Method.result c.from_residual-in_err-key-in-Method.ensures.1 in rw (p.1, p.2)
+    (m.no (s.unheard_after left (s.unheard_call (λ x p. method_close _ kind start p.0 x p.1) (λ x ts. method.method_tail_splits _ kind start x ts) c.in_err-key-in-Method.ensures.reads)) c.parse_prop_name-in-Method.ensures.grows)
+
+pub parse_object_prop-returns-in_err-function-in-Method : goal.parse_object_prop-returns-in_err-function-in-Method
+parse_object_prop-returns-in_err-function-in-Method g t c =
+    let kind = c.in-Method.kind in
+    let start = c.in-Method.start in
+    let key = key_at c.parse_prop_name-in-Method.new.self.nodes c.in_ok-key-in-Method.key in
+    let left = begins.begun g.I.Tokens.model g.B.Bodies.is_faithful g.B.BodyForms.forms _ _ (head.Method c.in-Method.kind c.in-Method.start) c.in-Method.is c.in_ok-name.ensures.reads in
+    let p = err_from_is_err_and c.from_residual-in_err-function-in-Method.result c.from_residual-in_err-function-in-Method.ensures.1 in rw (p.1, p.2)
+    (m.no (s.unheard_after (s.on_then left (s.on_call (λ x p. method_close _ kind start p.0 x p.1) (λ x ts. method.method_tail_splits _ kind start x ts) c.in_ok-key-in-Method.ensures.reads.on))
+    (s.unheard_call (λ x p. Some (method_tree kind start key p.0, p.1)) (λ x ts. method.method_close_splits _ kind start key x ts) c.in_err-function-in-Method.ensures.reads)) (grows-then c.parse_prop_name-in-Method.ensures.grows c.parse_method_function.ensures.grows))
+
+pub parse_object_prop-returns-in_ok-function-in-Method : goal.parse_object_prop-returns-in_ok-function-in-Method
+parse_object_prop-returns-in_ok-function-in-Method g t c =
+    let kind = c.in-Method.kind in
+    let start = c.in-Method.start in
+    let name = c.in_ok-key-in-Method.key in
+    let key = key_at c.parse_prop_name-in-Method.new.self.nodes name in
+    let function = c.in_ok-function-in-Method.function in
+    let param = c.in_ok-function-in-Method.param in
+    let left = begins.begun g.I.Tokens.model g.B.Bodies.is_faithful g.B.BodyForms.forms _ _ (head.Method c.in-Method.kind c.in-Method.start) c.in-Method.is c.in_ok-name.ensures.reads in
+    m.yes (Ok _)
+    (s.heard_after left
+    (method.method_heard _ kind start name function param c.method_of.result c.method_of.ensures c.parse_method_function.ensures.grows c.in_ok-key-in-Method.ensures.from c.in_ok-function-in-Method.ensures.from
+    (s.heard_more (λ x p. method_close _ kind start p.0 x p.1) (λ x ts. method.method_tail_splits _ kind start x ts) c.in_ok-key-in-Method.ensures.reads
+    (s.on_call (λ x p. Some (method_tree kind start key p.0, p.1)) (λ x ts. method.method_close_splits _ kind start key x ts) c.in_ok-function-in-Method.ensures.reads.on))))
+    (grows-then c.parse_prop_name-in-Method.ensures.grows c.parse_method_function.ensures.grows)
+    (method.method_apart kind start name function param c.method_of.result c.method_of.ensures c.parse_method_function.ensures.grows c.in_ok-key-in-Method.ensures.from c.in_ok-function-in-Method.ensures.from)
 
 pub parse_paren_expr-returns-in_err-look : goal.parse_paren_expr-returns-in_err-look
 parse_paren_expr-returns-in_err-look g t c =
@@ -439,103 +545,571 @@ parse_paren_expr-returns g t c =
     (λ x ts h. rule.paren_expr_well _ (plain first.was).span (plain last.was).span inner ts h)
     (λ x ts h. rule.paren_expr_ill _ (plain first.was).span (plain last.was).span inner ts h)))))))
 
+pub parse_lhs_expr-returns-in_err-look : goal.parse_lhs_expr-returns-in_err-look
+parse_lhs_expr-returns-in_err-look g t c =
+    let p = err_from_is_err_and c.from_residual.result c.from_residual.ensures.1 in rw (p.1, p.2)
+    (m.no (s.unheard_memory c.in_err-look.ensures.looks) (grows-same _))
+
+pub parse_lhs_expr-returns-then-is_new : goal.parse_lhs_expr-returns-then-is_new
+parse_lhs_expr-returns-then-is_new g t c =
+    m.after c.parse_new_expr.result (s.on_seen c.in_ok-look.ensures.looks (λ x ts same e. link.new_splits _ (not c.args.no_call) x ts
+    (ap (at_token is_new) e ∙ sym c.is_new.ensures.value ∙ c.if-is_new.true))) (grows-same _) c.parse_new_expr.ensures
+
+pub parse_lhs_expr-returns-in_err-base : goal.parse_lhs_expr-returns-in_err-base
+parse_lhs_expr-returns-in_err-base g t c =
+    let b = not c.args.no_call in
+    let p = err_from_is_err_and c.from_residual-in_err-base.result c.from_residual-in_err-base.ensures.1 in rw (p.1, p.2)
+    (m.no (s.unheard_after (s.on_seen {g = λ x ts. plain_base _ b x ts >>= (λ p. run _ (links b p.0) x p.1)} c.in_ok-look.ensures.looks
+    (λ x ts same e. link.lhs_splits _ b x ts (ap (at_token is_new) e ∙ sym c.is_new.ensures.value ∙ c.if-is_new.false)))
+    (s.unheard_call (λ x p. run _ (links b p.0) x p.1) (λ x ts. refl) c.in_err-base.ensures.reads)) c.parse_base.ensures.grows)
+
+pub parse_lhs_expr-returns : goal.parse_lhs_expr-returns
+parse_lhs_expr-returns g t c =
+    let b = not c.args.no_call in
+    m.after {m = record c.args.self.now { input = c.look.new.input }} c.parse_subscripts.result (s.on_seen {g = λ x ts. plain_base _ b x ts >>= (λ p. run _ (links b p.0) x p.1)} c.in_ok-look.ensures.looks
+    (λ x ts same e. link.lhs_splits _ b x ts (ap (at_token is_new) e ∙ sym c.is_new.ensures.value ∙ c.if-is_new.false))) (grows-same _)
+    (m.call c.parse_subscripts.result (λ x p. run _ (links b p.0) x p.1) (λ x ts. refl)
+    c.in_ok-base.ensures.reads c.parse_base.ensures.grows (λ x. from-down c.in_ok-base.ensures.from.above) c.parse_subscripts.ensures)
+
+pub parse_base-returns-in_err-start : goal.parse_base-returns-in_err-start
+parse_base-returns-in_err-start g t c =
+    let b = not c.args.no_call in
+    let p = err_from_is_err_and c.from_residual.result c.from_residual.ensures.1 in rw (p.1, p.2)
+    (m.no (s.unheard_call (λ x p. super_by _ b p.0 x p.1) (λ x ts. base.plain_splits _ b x ts) (c.in_err-start.ensures.eats g.B.Bodies.is_faithful)) (grows-same _))
+
+pub parse_base-returns-in-Some : goal.parse_base-returns-in-Some
+parse_base-returns-in-Some g t c =
+    let b = not c.args.no_call in
+    let some = s.eats_some g.B.Bodies.is_faithful is_super _ c.in-Some.start _ _ c.in-Some.is (c.in_ok-start.ensures.eats g.B.Bodies.is_faithful) in
+    m.after c.parse_super.result (s.on_call (λ x p. super_by _ b p.0 x p.1) (λ x ts. base.plain_splits _ b x ts) some.on) (grows-same _) c.parse_super.ensures
+
+pub parse_base-returns-in_err-start-2 : goal.parse_base-returns-in_err-start-2
+parse_base-returns-in_err-start-2 g t c =
+    let b = not c.args.no_call in
+    let none = s.eats_none g.B.Bodies.is_faithful is_super _ _ _ c.in-None.is (c.in_ok-start.ensures.eats g.B.Bodies.is_faithful) in
+    let p = err_from_is_err_and c.from_residual-in_err-start-2.result c.from_residual-in_err-start-2.ensures.1 in rw (p.1, p.2)
+    (m.no (s.unheard_after (s.on_call (λ x p. super_by _ b p.0 x p.1) (λ x ts. base.plain_splits _ b x ts) none)
+    (s.unheard_call (λ x q. import_by _ b q.0 x q.1) (λ x ts. refl) (c.in_err-start-2.ensures.eats g.B.Bodies.is_faithful))) (grows-same _))
+
+pub parse_base-returns-in-Some-2 : goal.parse_base-returns-in-Some-2
+parse_base-returns-in-Some-2 g t c =
+    let b = not c.args.no_call in
+    let none = s.eats_none g.B.Bodies.is_faithful is_super _ _ _ c.in-None.is (c.in_ok-start.ensures.eats g.B.Bodies.is_faithful) in
+    let some = s.eats_some g.B.Bodies.is_faithful is_import _ c.in-Some-2.start _ _ c.in-Some-2.is (c.in_ok-start-2.ensures.eats g.B.Bodies.is_faithful) in
+    m.after c.parse_import.result (s.on_then (s.on_call (λ x p. super_by _ b p.0 x p.1) (λ x ts. base.plain_splits _ b x ts) none)
+    (s.on_call (λ x q. import_by _ b q.0 x q.1) (λ x ts. refl) some.on)) (grows-same _) c.parse_import.ensures
+
+pub parse_base-returns-in-None-2 : goal.parse_base-returns-in-None-2
+parse_base-returns-in-None-2 g t c =
+    let b = not c.args.no_call in
+    let none = s.eats_none g.B.Bodies.is_faithful is_super _ _ _ c.in-None.is (c.in_ok-start.ensures.eats g.B.Bodies.is_faithful) in
+    let no = s.eats_none g.B.Bodies.is_faithful is_import _ _ _ c.in-None-2.is (c.in_ok-start-2.ensures.eats g.B.Bodies.is_faithful) in
+    m.after c.parse_primary_expr.result (s.on_then (s.on_call (λ x p. super_by _ b p.0 x p.1) (λ x ts. base.plain_splits _ b x ts) none)
+    (s.on_call (λ x q. import_by _ b q.0 x q.1) (λ x ts. refl) no)) (grows-same _) c.parse_primary_expr.ensures
+
+pub parse_super-returns-in_err-super_head : goal.parse_super-returns-in_err-super_head
+parse_super-returns-in_err-super_head g t c =
+    let p = err_from_is_err_and c.from_residual.result c.from_residual.ensures.1 in rw (p.1, p.2)
+    (m.no (s.unheard_call (λ x p. super_left _ c.args.start p.0 x p.1) (λ x ts. base.super_splits _ (not c.args.no_call) c.args.start x ts) (c.in_err-super_head.ensures.continues g.B.Bodies.is_faithful)) (grows-same _))
+
+pub parse_super-returns-in-Name : goal.parse_super-returns-in-Name
+parse_super-returns-in-Name g t c =
+    m.after c.parse_super_name.result (s.on_call (λ x p. super_left _ c.args.start p.0 x p.1) (λ x ts. base.super_splits _ (not c.args.no_call) c.args.start x ts)
+    (s.on_answer c.in-Name.is (c.in_ok-super_head.ensures.continues g.B.Bodies.is_faithful))) (grows-same _) c.parse_super_name.ensures
+
+pub parse_super-returns-in_err-expr-in-Computed : goal.parse_super-returns-in_err-expr-in-Computed
+parse_super-returns-in_err-expr-in-Computed g t c =
+    let q = c.in-Computed.bracket in
+    let p = err_from_is_err_and c.from_residual-in_err-expr-in-Computed.result c.from_residual-in_err-expr-in-Computed.ensures.1 in rw (p.1, p.2)
+    (m.no (s.unheard_after (s.on_call (λ x p. super_left _ c.args.start p.0 x p.1) (λ x ts. base.super_splits _ (not c.args.no_call) c.args.start x ts)
+    (s.on_answer c.in-Computed.is (c.in_ok-super_head.ensures.continues g.B.Bodies.is_faithful)))
+    (s.unheard_call (λ x p. super_close c.args.start q p.0 x p.1) (λ x ts. base.computed_splits _ c.args.start q x ts) c.in_err-expr-in-Computed.ensures.reads)) c.parse_assignment_expr_with_in.ensures.grows)
+
+pub parse_super-returns-in_ok-expr-in-Computed : goal.parse_super-returns-in_ok-expr-in-Computed
+parse_super-returns-in_ok-expr-in-Computed g t c =
+    let q = c.in-Computed.bracket in
+    m.after {m = record c.args.self.now { input = c.super_head.new.input }} c.super_computed.result
+    (s.on_call (λ x p. super_left _ c.args.start p.0 x p.1) (λ x ts. base.super_splits _ (not c.args.no_call) c.args.start x ts)
+    (s.on_answer c.in-Computed.is (c.in_ok-super_head.ensures.continues g.B.Bodies.is_faithful))) (grows-same _)
+    (m.call c.super_computed.result (λ x p. super_close c.args.start q p.0 x p.1) (λ x ts. base.computed_splits _ c.args.start q x ts)
+    c.in_ok-expr-in-Computed.ensures.reads c.parse_assignment_expr_with_in.ensures.grows (λ x. from-down c.in_ok-expr-in-Computed.ensures.from.above)
+    (m.weaker c.super_computed.result c.super_computed.ensures))
+
+pub parse_super-returns-in_err-list-in-Call : goal.parse_super-returns-in_err-list-in-Call
+parse_super-returns-in_err-list-in-Call g t c =
+    let p = err_from_is_err_and c.from_residual-in_err-list-in-Call.result c.from_residual-in_err-list-in-Call.ensures.1 in rw (p.1, p.2)
+    (m.no (s.unheard_after (s.on_call (λ x p. super_left _ c.args.start p.0 x p.1) (λ x ts. base.super_splits _ (not c.args.no_call) c.args.start x ts)
+    (s.on_answer c.in-Call.is (c.in_ok-super_head.ensures.continues g.B.Bodies.is_faithful)))
+    (s.unheard_call (λ x p. callee_node c.args.start (super_e c.args.start) p.0 x p.1) (λ x ts. base.args_splits _ c.args.start x ts) c.in_err-list-in-Call.ensures.reads)) c.parse_args.ensures.grows)
+
+pub parse_super-callee_call-requires : goal.parse_super-callee_call-requires
+parse_super-callee_call-requires g t c = apart-down (args_parts c.in_ok-list-in-Call.list.items) c.in_ok-list-in-Call.ensures.from
+
+pub parse_super-returns-in_ok-list-in-Call : goal.parse_super-returns-in_ok-list-in-Call
+parse_super-returns-in_ok-list-in-Call g t c =
+    m.after {m = record c.args.self.now { input = c.super_head.new.input }} c.callee_call.result
+    (s.on_call (λ x p. super_left _ c.args.start p.0 x p.1) (λ x ts. base.super_splits _ (not c.args.no_call) c.args.start x ts)
+    (s.on_answer c.in-Call.is (c.in_ok-super_head.ensures.continues g.B.Bodies.is_faithful))) (grows-same _)
+    (m.call c.callee_call.result (λ x p. callee_node c.args.start (super_e c.args.start) p.0 x p.1) (λ x ts. base.args_splits _ c.args.start x ts)
+    c.in_ok-list-in-Call.ensures.reads c.parse_args.ensures.grows (λ x h. h) (c.callee_call.ensures _ c.in_ok-list-in-Call.ensures.from))
+
+pub parse_super-returns-in-Other : goal.parse_super-returns-in-Other
+parse_super-returns-in-Other g t c =
+    m.after c.refuse_super.result (s.on_call (λ x p. super_left _ c.args.start p.0 x p.1) (λ x ts. base.super_splits _ (not c.args.no_call) c.args.start x ts)
+    (s.on_answer c.in-Other.is (c.in_ok-super_head.ensures.continues g.B.Bodies.is_faithful))) (grows-same _) c.refuse_super.ensures
+
+pub refuse_super-returns-in_err-super_chain : goal.refuse_super-returns-in_err-super_chain
+refuse_super-returns-in_err-super_chain g t c =
+    let p = err_from_is_err_and c.from_residual.result c.from_residual.ensures.1 in rw (p.1, p.2)
+    (m.no (s.unheard_none (λ x ts. refl) c.in_err-super_chain.ensures.acts) (grows-same _))
+
+pub refuse_super-returns-in-Name : goal.refuse_super-returns-in-Name
+refuse_super-returns-in-Name g t c =
+    m.after c.refuse_super_name.result (s.on_none {f = nothing} {g = nothing} (λ x ts. refl) (λ x ts. refl) c.in_ok-super_chain.ensures.acts) (grows-same _) c.refuse_super_name.ensures
+
+pub refuse_super-returns-in_err-parse_assignment_expr_with_in-in-Computed : goal.refuse_super-returns-in_err-parse_assignment_expr_with_in-in-Computed
+refuse_super-returns-in_err-parse_assignment_expr_with_in-in-Computed g t c =
+    let p = err_from_is_err_and c.from_residual-in_err-parse_assignment_expr_with_in-in-Computed.result c.from_residual-in_err-parse_assignment_expr_with_in-in-Computed.ensures.1 in rw (p.1, p.2)
+    (m.no (s.unheard_none (λ x ts. refl) (s.refuses_later c.in_ok-super_chain.ensures.acts c.in_err-parse_assignment_expr_with_in-in-Computed.ensures.reads.refuses)) c.parse_assignment_expr_with_in.ensures.grows)
+
+pub refuse_super-returns-in_ok-parse_assignment_expr_with_in-in-Computed : goal.refuse_super-returns-in_ok-parse_assignment_expr_with_in-in-Computed
+refuse_super-returns-in_ok-parse_assignment_expr_with_in-in-Computed g t c =
+    m.no (s.unheard_none (λ x ts. refl) (s.refuses_later (s.leads_then c.in_ok-super_chain.ensures.acts c.in_ok-parse_assignment_expr_with_in-in-Computed.ensures.reads.on.leads) c.refuse_super_brackets.ensures)) c.parse_assignment_expr_with_in.ensures.grows
+
+pub refuse_super-returns-in_err-parse_args-in-Call : goal.refuse_super-returns-in_err-parse_args-in-Call
+refuse_super-returns-in_err-parse_args-in-Call g t c =
+    let p = err_from_is_err_and c.from_residual-in_err-parse_args-in-Call.result c.from_residual-in_err-parse_args-in-Call.ensures.1 in rw (p.1, p.2)
+    (m.no (s.unheard_none (λ x ts. refl) (s.refuses_later c.in_ok-super_chain.ensures.acts c.in_err-parse_args-in-Call.ensures.reads.refuses)) c.parse_args.ensures.grows)
+
+pub refuse_super-returns-in_ok-parse_args-in-Call : goal.refuse_super-returns-in_ok-parse_args-in-Call
+refuse_super-returns-in_ok-parse_args-in-Call g t c =
+    m.no (s.unheard_none (λ x ts. refl) (s.refuses_later (s.leads_then c.in_ok-super_chain.ensures.acts c.in_ok-parse_args-in-Call.ensures.reads.on.leads) c.refuse_super_args.ensures)) c.parse_args.ensures.grows
+
+pub parse_import-returns-in_err-span : goal.parse_import-returns-in_err-span
+parse_import-returns-in_err-span g t c =
+    let p = err_from_is_err_and c.from_residual.result c.from_residual.ensures.1 in rw (p.1, p.2)
+    (m.no (s.unheard_call (λ x p. import_left _ c.args.start p.0 x p.1) (λ x ts. base.import_splits _ (not c.args.no_call) c.args.start x ts) (c.in_err-span.ensures.parses g.B.Bodies.is_faithful)) (grows-kept c.import_head.ensures.nodes))
+
+pub parse_import-returns-in-Meta : goal.parse_import-returns-in-Meta
+parse_import-returns-in-Meta g t c =
+    let kept = grows-kept c.import_head.ensures.nodes in
+    m.call c.import_meta.result (λ x p. import_left _ c.args.start p.0 x p.1) (λ x ts. base.import_splits _ (not c.args.no_call) c.args.start x ts)
+    (s.heard_answer c.in-Meta.is (c.in_ok-span.ensures.parses g.B.Bodies.is_faithful)) kept (λ x. from-down (grows-count kept)) c.import_meta.ensures
+
+pub parse_import-returns-in_err-list-in-Call : goal.parse_import-returns-in_err-list-in-Call
+parse_import-returns-in_err-list-in-Call g t c =
+    let i = c.in-Call.import in
+    let p = err_from_is_err_and c.from_residual-in_err-list-in-Call.result c.from_residual-in_err-list-in-Call.ensures.1 in rw (p.1, p.2)
+    (m.no (s.unheard_after (s.on_call (λ x p. import_left _ c.args.start p.0 x p.1) (λ x ts. base.import_splits _ (not c.args.no_call) c.args.start x ts)
+    (s.heard_answer c.in-Call.is (c.in_ok-span.ensures.parses g.B.Bodies.is_faithful)).on)
+    (s.unheard_call (λ x p. callee_node c.args.start (import_e i.span i.phase) p.0 x p.1) (λ x ts. refl) c.in_err-list-in-Call.ensures.reads)) (grows-then (grows-kept c.import_head.ensures.nodes) c.parse_args.ensures.grows))
+
+pub parse_import-callee_call-requires : goal.parse_import-callee_call-requires
+parse_import-callee_call-requires g t c = apart-down (args_parts c.in_ok-list-in-Call.list.items) c.in_ok-list-in-Call.ensures.from
+
+pub parse_import-returns-in_ok-list-in-Call : goal.parse_import-returns-in_ok-list-in-Call
+parse_import-returns-in_ok-list-in-Call g t c =
+    let i = c.in-Call.import in
+    let kept = grows-kept c.import_head.ensures.nodes in
+    m.after {m = c.import_head.new.self} c.callee_call.result
+    (s.on_call (λ x p. import_left _ c.args.start p.0 x p.1) (λ x ts. base.import_splits _ (not c.args.no_call) c.args.start x ts)
+    (s.heard_answer c.in-Call.is (c.in_ok-span.ensures.parses g.B.Bodies.is_faithful)).on) kept
+    (m.call c.callee_call.result (λ x p. callee_node c.args.start (import_e i.span i.phase) p.0 x p.1) (λ x ts. refl)
+    c.in_ok-list-in-Call.ensures.reads c.parse_args.ensures.grows (λ x. from-down (grows-count kept)) (c.callee_call.ensures _ c.in_ok-list-in-Call.ensures.from))
+
+pub parse_new_expr-returns-in_err-eat : goal.parse_new_expr-returns-in_err-eat
+parse_new_expr-returns-in_err-eat g t c =
+    let first = c.skip.ensures.took.1 in
+    let b = not c.args.no_call in
+    let at_new = c.cur_span-start.result in
+    let p = err_from_is_err_and c.from_residual.result c.from_residual.ensures.1 in rw (p.1, p.2)
+    (m.no (s.unheard_after (s.on_took {g = new_tail _ b (plain first.was).span} g.met.I.Tokens.laws first (λ x ts. link.new_opens _ b (plain first.was) x ts))
+    (s.unheard_call (λ x q. new_by _ b (plain first.was).span q.0 x q.1) (λ x ts. refl) (c.in_err-eat.ensures.eats g.B.Bodies.is_faithful))) (grows-same _))
+
+pub parse_new_expr-returns-in_err-target-in-Some : goal.parse_new_expr-returns-in_err-target-in-Some
+parse_new_expr-returns-in_err-target-in-Some g t c =
+    let first = c.skip.ensures.took.1 in
+    let b = not c.args.no_call in
+    let place = s.place_was first c.cur_span-start.result c.cur_span-start.ensures in
+    let some = s.eats_some g.B.Bodies.is_faithful is_dot _ c.in-Some.field-0 _ _ c.in-Some.is (c.in_ok-eat.ensures.eats g.B.Bodies.is_faithful) in
+    let p = err_from_is_err_and c.from_residual-in_err-target-in-Some.result c.from_residual-in_err-target-in-Some.ensures.1 in rw (p.1, p.2)
+    (m.no (s.unheard_after (s.on_then (s.on_took {g = new_tail _ b c.cur_span-start.result} g.met.I.Tokens.laws first
+    (λ x ts. link.new_opens _ b (plain first.was) x ts ∙ ap (λ v. new_tail g.B.BodyForms.forms b v x ts) (sym place)))
+    (s.on_call (λ x q. new_by _ b c.cur_span-start.result q.0 x q.1) (λ x ts. refl) some.on))
+    (s.unheard_call (λ x q. run _ (links b q.0) x q.1) (λ x ts. refl) c.in_err-target-in-Some.ensures.reads)) c.parse_new_target.ensures.grows)
+
+pub parse_new_expr-returns-in_ok-target-in-Some : goal.parse_new_expr-returns-in_ok-target-in-Some
+parse_new_expr-returns-in_ok-target-in-Some g t c =
+    let first = c.skip.ensures.took.1 in
+    let b = not c.args.no_call in
+    let place = s.place_was first c.cur_span-start.result c.cur_span-start.ensures in
+    let some = s.eats_some g.B.Bodies.is_faithful is_dot _ c.in-Some.field-0 _ _ c.in-Some.is (c.in_ok-eat.ensures.eats g.B.Bodies.is_faithful) in
+    m.after {m = record c.args.self.now { input = c.eat.new.input }} c.parse_subscripts.result (s.on_then (s.on_took {g = new_tail _ b c.cur_span-start.result} g.met.I.Tokens.laws first
+    (λ x ts. link.new_opens _ b (plain first.was) x ts ∙ ap (λ v. new_tail g.B.BodyForms.forms b v x ts) (sym place)))
+    (s.on_call (λ x q. new_by _ b c.cur_span-start.result q.0 x q.1) (λ x ts. refl) some.on)) (grows-same _)
+    (m.call c.parse_subscripts.result (λ x q. run _ (links b q.0) x q.1) (λ x ts. refl)
+    c.in_ok-target-in-Some.ensures.reads c.parse_new_target.ensures.grows (λ x. from-down c.in_ok-target-in-Some.ensures.from.above) c.parse_subscripts.ensures)
+
+pub parse_new_expr-returns-in-None : goal.parse_new_expr-returns-in-None
+parse_new_expr-returns-in-None g t c =
+    let first = c.skip.ensures.took.1 in
+    let b = not c.args.no_call in
+    let place = s.place_was first c.cur_span-start.result c.cur_span-start.ensures in
+    let none = s.eats_none g.B.Bodies.is_faithful is_dot _ _ _ c.in-None.is (c.in_ok-eat.ensures.eats g.B.Bodies.is_faithful) in
+    m.after c.parse_constructor.result (s.on_then (s.on_took {g = new_tail _ b c.cur_span-start.result} g.met.I.Tokens.laws first
+    (λ x ts. link.new_opens _ b (plain first.was) x ts ∙ ap (λ v. new_tail g.B.BodyForms.forms b v x ts) (sym place)))
+    (s.on_call (λ x q. new_by _ b c.cur_span-start.result q.0 x q.1) (λ x ts. refl) none)) (grows-same _) c.parse_constructor.ensures
+
+pub parse_constructor-returns-in_err-callee : goal.parse_constructor-returns-in_err-callee
+parse_constructor-returns-in_err-callee g t c =
+    let p = err_from_is_err_and c.from_residual.result c.from_residual.ensures.1 in rw (p.1, p.2)
+    (m.no (s.unheard_call (λ x p. construct_of _ (not c.args.no_call) c.args.start p.0 x p.1) (λ x ts. link.construct_splits _ (not c.args.no_call) c.args.start x ts) c.in_err-callee.ensures.reads) c.parse_lhs_expr.ensures.grows)
+
+pub parse_constructor-returns-in_err-refuse_opt_chain : goal.parse_constructor-returns-in_err-refuse_opt_chain
+parse_constructor-returns-in_err-refuse_opt_chain g t c =
+    let p = err_from_is_err_and c.from_residual-in_err-refuse_opt_chain.result c.from_residual-in_err-refuse_opt_chain.ensures.1 in rw (p.1, p.2)
+    (m.no (s.unheard_after (s.on_call (λ x p. construct_of _ (not c.args.no_call) c.args.start p.0 x p.1) (λ x ts. link.construct_splits _ (not c.args.no_call) c.args.start x ts) c.in_ok-callee.ensures.reads.on)
+    (s.unheard_none (λ x ts. link.construct_refused _ (not c.args.no_call) c.args.start _ x ts c.in_err-refuse_opt_chain.ensures.refuses.1) c.in_err-refuse_opt_chain.ensures.refuses.0)) c.parse_lhs_expr.ensures.grows)
+
+pub parse_constructor-returns-in_err-eat : goal.parse_constructor-returns-in_err-eat
+parse_constructor-returns-in_err-eat g t c =
+    let b = not c.args.no_call in
+    let l = tree_of c.parse_lhs_expr.new.self.nodes c.in_ok-callee.callee in
+    let p = err_from_is_err_and c.from_residual-in_err-eat.result c.from_residual-in_err-eat.ensures.1 in rw (p.1, p.2)
+    (m.no (s.unheard_after (s.on_call (λ x p. construct_of _ b c.args.start p.0 x p.1) (λ x ts. link.construct_splits _ b c.args.start x ts) c.in_ok-callee.ensures.reads.on)
+    (s.unheard_after (s.on_by (λ x ts. link.construct_passes _ b c.args.start l x ts c.in_ok-refuse_opt_chain.ensures.passes.1) (s.on_same {f = construct_node _ b c.args.start l} g.met.I.Tokens.laws c.in_ok-refuse_opt_chain.ensures.passes.0))
+    (s.unheard_call (λ x q. construct_by _ b c.args.start l q.0 x q.1) (λ x ts. refl) (c.in_err-eat.ensures.eats g.B.Bodies.is_faithful)))) c.parse_lhs_expr.ensures.grows)
+
+pub parse_constructor-returns-in_err-list-in-Some : goal.parse_constructor-returns-in_err-list-in-Some
+parse_constructor-returns-in_err-list-in-Some g t c =
+    let b = not c.args.no_call in
+    let l = tree_of c.parse_lhs_expr.new.self.nodes c.in_ok-callee.callee in
+    let some = s.eats_some g.B.Bodies.is_faithful is_lparen _ c.in-Some.field-0 _ _ c.in-Some.is (c.in_ok-eat.ensures.eats g.B.Bodies.is_faithful) in
+    let p = err_from_is_err_and c.from_residual-in_err-list-in-Some.result c.from_residual-in_err-list-in-Some.ensures.1 in rw (p.1, p.2)
+    (m.no (s.unheard_after (s.on_then (s.on_call (λ x p. construct_of _ b c.args.start p.0 x p.1) (λ x ts. link.construct_splits _ b c.args.start x ts) c.in_ok-callee.ensures.reads.on)
+    (s.on_then (s.on_by (λ x ts. link.construct_passes _ b c.args.start l x ts c.in_ok-refuse_opt_chain.ensures.passes.1) (s.on_same {f = construct_node _ b c.args.start l} g.met.I.Tokens.laws c.in_ok-refuse_opt_chain.ensures.passes.0))
+    (s.on_call (λ x q. construct_by _ b c.args.start l q.0 x q.1) (λ x ts. refl) some.on)))
+    (s.unheard_call (λ x q. run _ (links b q.0) x q.1) (λ x ts. refl)
+    (s.unheard_call (λ x p. new_node c.args.start l p.0 x p.1) (λ x ts. link.new_args_splits _ c.args.start l x ts) c.in_err-list-in-Some.ensures.reads)))
+    (grows-then c.parse_lhs_expr.ensures.grows c.parse_args.ensures.grows))
+
+pub parse_constructor-new_expr-requires : goal.parse_constructor-new_expr-requires
+parse_constructor-new_expr-requires g t c =
+    apart-down (one_expr c.in_ok-callee.callee ++ args_parts c.in_ok-list-in-Some.list.items)
+    (apart_behind c.parse_args.ensures.grows c.in_ok-callee.ensures.from c.in_ok-list-in-Some.ensures.from)
+
+pub parse_constructor-returns-in_err-base-in-Some : goal.parse_constructor-returns-in_err-base-in-Some
+parse_constructor-returns-in_err-base-in-Some g t c =
+    let b = not c.args.no_call in
+    let l = tree_of c.parse_lhs_expr.new.self.nodes c.in_ok-callee.callee in
+    let some = s.eats_some g.B.Bodies.is_faithful is_lparen _ c.in-Some.field-0 _ _ c.in-Some.is (c.in_ok-eat.ensures.eats g.B.Bodies.is_faithful) in
+    let base = m.tail {p = record c.parse_lhs_expr.new.self { input = c.eat.new.input }} (Err _) (λ v x p. new_node c.args.start v p.0 x p.1)
+    (λ x ts. link.new_args_splits g.B.BodyForms.forms c.args.start l x ts) c.in_ok-list-in-Some.ensures.reads c.parse_args.ensures.grows c.in_ok-callee.ensures.from c.in_err-base-in-Some.ensures in
+    let p = err_from_is_err_and c.from_residual-in_err-base-in-Some.result c.from_residual-in_err-base-in-Some.ensures.1 in rw (p.1, p.2)
+    (m.no (s.unheard_after (s.on_then (s.on_call (λ x p. construct_of _ b c.args.start p.0 x p.1) (λ x ts. link.construct_splits _ b c.args.start x ts) c.in_ok-callee.ensures.reads.on)
+    (s.on_then (s.on_by (λ x ts. link.construct_passes _ b c.args.start l x ts c.in_ok-refuse_opt_chain.ensures.passes.1) (s.on_same {f = construct_node _ b c.args.start l} g.met.I.Tokens.laws c.in_ok-refuse_opt_chain.ensures.passes.0))
+    (s.on_call (λ x q. construct_by _ b c.args.start l q.0 x q.1) (λ x ts. refl) some.on)))
+    (s.unheard_call (λ x q. run _ (links b q.0) x q.1) (λ x ts. refl) base.reads)) (grows-then c.parse_lhs_expr.ensures.grows base.grows))
+
+pub parse_constructor-returns-in_ok-base-in-Some : goal.parse_constructor-returns-in_ok-base-in-Some
+parse_constructor-returns-in_ok-base-in-Some g t c =
+    let b = not c.args.no_call in
+    let l = tree_of c.parse_lhs_expr.new.self.nodes c.in_ok-callee.callee in
+    let some = s.eats_some g.B.Bodies.is_faithful is_lparen _ c.in-Some.field-0 _ _ c.in-Some.is (c.in_ok-eat.ensures.eats g.B.Bodies.is_faithful) in
+    let base = m.tail {p = record c.parse_lhs_expr.new.self { input = c.eat.new.input }} (Ok c.in_ok-base-in-Some.base) (λ v x p. new_node c.args.start v p.0 x p.1)
+    (λ x ts. link.new_args_splits g.B.BodyForms.forms c.args.start l x ts) c.in_ok-list-in-Some.ensures.reads c.parse_args.ensures.grows c.in_ok-callee.ensures.from c.in_ok-base-in-Some.ensures in
+    m.after {m = record c.parse_lhs_expr.new.self { input = c.eat.new.input }} c.parse_subscripts.result (s.on_then (s.on_call (λ x p. construct_of _ b c.args.start p.0 x p.1) (λ x ts. link.construct_splits _ b c.args.start x ts) c.in_ok-callee.ensures.reads.on)
+    (s.on_then (s.on_by (λ x ts. link.construct_passes _ b c.args.start l x ts c.in_ok-refuse_opt_chain.ensures.passes.1) (s.on_same {f = construct_node _ b c.args.start l} g.met.I.Tokens.laws c.in_ok-refuse_opt_chain.ensures.passes.0))
+    (s.on_call (λ x q. construct_by _ b c.args.start l q.0 x q.1) (λ x ts. refl) some.on))) c.parse_lhs_expr.ensures.grows
+    (m.call {j = first_at c.new_expr.new.self.nodes c.in_ok-base-in-Some.base.0} c.parse_subscripts.result (λ x q. run _ (links b q.0) x q.1) (λ x ts. refl)
+    base.reads base.grows (λ x. from-down (let a = c.in_ok-callee.ensures.from.above in let d = base.from.above in omega arith)) c.parse_subscripts.ensures)
+
+pub parse_constructor-returns-in-None : goal.parse_constructor-returns-in-None
+parse_constructor-returns-in-None g t c =
+    let b = not c.args.no_call in
+    let l = tree_of c.parse_lhs_expr.new.self.nodes c.in_ok-callee.callee in
+    let none = s.eats_none g.B.Bodies.is_faithful is_lparen _ _ _ c.in-None.is (c.in_ok-eat.ensures.eats g.B.Bodies.is_faithful) in
+    m.node _ c.bare_new_expr-node.result c.made.result (c.in_ok-callee.ensures.from.above)
+    c.bare_new_expr-node.ensures.made c.made.ensures.ok c.made.ensures.refused c.parse_lhs_expr.ensures.grows c.bare_new_expr-node.ensures.grows
+    (s.heard_more (λ x p. construct_of _ b c.args.start p.0 x p.1) (λ x ts. link.construct_splits _ b c.args.start x ts) c.in_ok-callee.ensures.reads
+    (s.on_then (s.on_by (λ x ts. link.construct_passes _ b c.args.start l x ts c.in_ok-refuse_opt_chain.ensures.passes.1) (s.on_same {f = construct_node _ b c.args.start l} g.met.I.Tokens.laws c.in_ok-refuse_opt_chain.ensures.passes.0))
+    (s.on_call (λ x q. construct_by _ b c.args.start l q.0 x q.1) (λ x ts. refl) none)))
+
+pub parse_subscripts-loop-head-init : goal.parse_subscripts-loop-head-init
+parse_subscripts-loop-head-init g t c = (s.on_here g.met.I.Tokens.laws _ (λ x ts. refl), omega arith, grows-same _, from_self c.requires.from)
+
+pub parse_subscripts-loop-head-preserved : goal.parse_subscripts-loop-head-preserved
+parse_subscripts-loop-head-preserved g t c =
+    let b = not c.args.no_call in
+    let l = tree_of c.loop-head.self.nodes c.loop-head.obj in (
+      s.on_then c.loop-head.invariant.0 (s.on_then (s.on_call (λ x p. links_by _ b p.0 l x p.1) (λ x ts. link.links_splits _ b l x ts)
+          (s.on_answer c.in-Some.is (c.in_ok-head.ensures.heads g.B.Bodies.is_faithful)))
+          (s.on_call (λ x p. run _ (links b p.0) x p.1) (λ x ts. refl) c.in_ok-obj.ensures.reads.on)),
+      let a = c.loop-head.invariant.1 in let d = c.in_ok-head.ensures.falls in let e = c.in_ok-obj.ensures.falls in omega arith,
+      grows-then c.loop-head.invariant.2 c.parse_link.ensures.grows,
+      from-down c.loop-head.invariant.3.above c.in_ok-obj.ensures.from,
+    )
+
+pub parse_subscripts-returns-in_err-head : goal.parse_subscripts-returns-in_err-head
+parse_subscripts-returns-in_err-head g t c =
+    let b = not c.args.no_call in
+    let l = tree_of c.loop-head.self.nodes c.loop-head.obj in
+    let p = err_from_is_err_and c.from_residual.result c.from_residual.ensures.1 in rw (p.1, p.2)
+    (m.no_more (s.unheard_after c.loop-head.invariant.0 (s.unheard_call (λ x p. links_by _ b p.0 l x p.1) (λ x ts. link.links_splits _ b l x ts)
+    (c.in_err-head.ensures.heads g.B.Bodies.is_faithful))) c.loop-head.invariant.2)
+
+pub parse_subscripts-returns-in-None : goal.parse_subscripts-returns-in-None
+parse_subscripts-returns-in-None g t c =
+    let b = not c.args.no_call in
+    let l = tree_of c.loop-head.self.nodes c.loop-head.obj in
+    m.on (Ok _)
+    (s.on_then c.loop-head.invariant.0 (s.on_call (λ x p. links_by _ b p.0 l x p.1) (λ x ts. link.links_splits _ b l x ts)
+    (s.on_answer c.in-None.is (c.in_ok-head.ensures.heads g.B.Bodies.is_faithful))))
+    c.loop-head.invariant.2 c.loop-head.invariant.3
+
+pub parse_subscripts-returns-in_err-obj : goal.parse_subscripts-returns-in_err-obj
+parse_subscripts-returns-in_err-obj g t c =
+    let b = not c.args.no_call in
+    let l = tree_of c.loop-head.self.nodes c.loop-head.obj in
+    let p = err_from_is_err_and c.from_residual-in_err-obj.result c.from_residual-in_err-obj.ensures.1 in rw (p.1, p.2)
+    (m.no_more (s.unheard_after c.loop-head.invariant.0 (s.unheard_after (s.on_call (λ x p. links_by _ b p.0 l x p.1) (λ x ts. link.links_splits _ b l x ts)
+    (s.on_answer c.in-Some.is (c.in_ok-head.ensures.heads g.B.Bodies.is_faithful)))
+    (s.unheard_call (λ x p. run _ (links b p.0) x p.1) (λ x ts. refl) c.in_err-obj.ensures.reads)))
+    (grows-then c.loop-head.invariant.2 c.parse_link.ensures.grows))
+
+pub parse_link-returns-in-Name : goal.parse_link-returns-in-Name
+parse_link-returns-in-Name g t c =
+    let l = tree_of c.args.self.now.nodes c.args.obj in
+    m.after c.parse_dot_member.result (s.on_here {f = link_tail _ c.args.head l} g.met.I.Tokens.laws _ (λ x ts. link.tail_name _ c.args.head c.in-Name.optional l x ts c.in-Name.is)) (grows-same _) c.parse_dot_member.ensures
+
+pub parse_link-returns-in_err-expr-in-Computed : goal.parse_link-returns-in_err-expr-in-Computed
+parse_link-returns-in_err-expr-in-Computed g t c =
+    let l = tree_of c.args.self.now.nodes c.args.obj in
+    let p = err_from_is_err_and c.from_residual.result c.from_residual.ensures.1 in rw (p.1, p.2)
+    (m.no (s.unheard_call (λ x p. computed_close c.in-Computed.optional c.in-Computed.start l p.0 x p.1)
+    (λ x ts. link.tail_computed _ c.args.head c.in-Computed.start c.in-Computed.optional l x ts c.in-Computed.is) c.in_err-expr-in-Computed.ensures.reads) c.parse_assignment_expr_with_in.ensures.grows)
+
+pub parse_link-computed_member-requires : goal.parse_link-computed_member-requires
+parse_link-computed_member-requires g t c =
+    apart-down (one_expr c.args.obj ++ one_expr c.in_ok-expr-in-Computed.expr)
+    (apart_behind c.parse_assignment_expr_with_in.ensures.grows c.requires.from (apart-from (expr_part c.in_ok-expr-in-Computed.expr) c.in_ok-expr-in-Computed.ensures.from))
+
+pub parse_link-returns-in_ok-expr-in-Computed : goal.parse_link-returns-in_ok-expr-in-Computed
+parse_link-returns-in_ok-expr-in-Computed g t c =
+    m.tail c.computed_member.result (λ v x p. computed_close c.in-Computed.optional c.in-Computed.start v p.0 x p.1)
+    (λ x ts. link.tail_computed _ c.args.head c.in-Computed.start c.in-Computed.optional _ x ts c.in-Computed.is)
+    c.in_ok-expr-in-Computed.ensures.reads c.parse_assignment_expr_with_in.ensures.grows c.requires.from (m.weaker c.computed_member.result c.computed_member.ensures)
+
+pub parse_link-returns-in_err-list-in-Call : goal.parse_link-returns-in_err-list-in-Call
+parse_link-returns-in_err-list-in-Call g t c =
+    let l = tree_of c.args.self.now.nodes c.args.obj in
+    let p = err_from_is_err_and c.from_residual-in_err-list-in-Call.result c.from_residual-in_err-list-in-Call.ensures.1 in rw (p.1, p.2)
+    (m.no (s.unheard_call (λ x p. call_node c.in-Call.optional l p.0 x p.1)
+    (λ x ts. link.tail_call _ c.args.head c.in-Call.optional l x ts c.in-Call.is) c.in_err-list-in-Call.ensures.reads) c.parse_args.ensures.grows)
+
+pub parse_link-call_expr-requires : goal.parse_link-call_expr-requires
+parse_link-call_expr-requires g t c =
+    apart-down (one_expr c.args.obj ++ args_parts c.in_ok-list-in-Call.list.items)
+    (apart_behind c.parse_args.ensures.grows c.requires.from c.in_ok-list-in-Call.ensures.from)
+
+pub parse_link-returns-in_ok-list-in-Call : goal.parse_link-returns-in_ok-list-in-Call
+parse_link-returns-in_ok-list-in-Call g t c =
+    m.tail c.call_expr.result (λ v x p. call_node c.in-Call.optional v p.0 x p.1)
+    (λ x ts. link.tail_call _ c.args.head c.in-Call.optional _ x ts c.in-Call.is)
+    c.in_ok-list-in-Call.ensures.reads c.parse_args.ensures.grows c.requires.from c.call_expr.ensures
+
+pub parse_link-returns-in_err-parts-in-Template : goal.parse_link-returns-in_err-parts-in-Template
+parse_link-returns-in_err-parts-in-Template g t c =
+    let l = tree_of c.args.self.now.nodes c.args.obj in
+    let p = err_from_is_err_and c.from_residual-in_err-parts-in-Template.result c.from_residual-in_err-parts-in-Template.ensures.1 in rw (p.1, p.2)
+    (m.no (s.unheard_call (λ x p. tagged_node c.in-Template.start l p.0 x p.1)
+    (λ x ts. link.tail_template _ c.args.head c.in-Template.start l x ts c.in-Template.is) c.in_err-parts-in-Template.ensures.reads) c.parse_tpl_elements.ensures.grows)
+
+pub parse_link-tagged_tpl-requires : goal.parse_link-tagged_tpl-requires
+parse_link-tagged_tpl-requires g t c =
+    apart-down (one_expr c.args.obj ++ exprs_parts c.in_ok-parts-in-Template.parts.exprs)
+    (apart_behind c.parse_tpl_elements.ensures.grows c.requires.from c.in_ok-parts-in-Template.ensures.from)
+
+pub parse_link-returns-in_ok-parts-in-Template : goal.parse_link-returns-in_ok-parts-in-Template
+parse_link-returns-in_ok-parts-in-Template g t c =
+    m.tail c.tagged_tpl.result (λ v x p. tagged_node c.in-Template.start v p.0 x p.1)
+    (λ x ts. link.tail_template _ c.args.head c.in-Template.start _ x ts c.in-Template.is)
+    c.in_ok-parts-in-Template.ensures.reads c.parse_tpl_elements.ensures.grows c.requires.from c.tagged_tpl.ensures
+
+pub parse_args-returns : goal.parse_args-returns
+parse_args-returns g t c =
+    m.yes c.parse_arg_list-args.result
+    (s.parses_within g.I.Tokens.model g.B.Bodies.is_faithful (args_at c.parse_arg_list-args.new.self.nodes) _ (run _ (at (Args c.args.is_dynamic_import))) c.parse_arg_list-args.result include_in (λ x. refl) (λ x ts. link.inside_args _ c.args.is_dynamic_import x ts)
+    c.set_ctx.ensures.moves (c.set_ctx.ensures.context ∙ ap include_in c.get_ctx-ctx.ensures) c.parse_arg_list-args.ensures.reads c.set_ctx-2.ensures.moves
+    (c.set_ctx-2.ensures.context ∙ c.get_ctx-ctx.ensures))
+    c.parse_arg_list-args.ensures.grows c.parse_arg_list-args.ensures.from
+
+pub parse_arg_list-loop-items-init : goal.parse_arg_list-loop-items-init
+parse_arg_list-loop-items-init g t c = (
+  s.on_here g.met.I.Tokens.laws _ (λ x ts. link.args_first _ c.args.is_dynamic_import x ts ∙ ap (λ v. args_behind g.B.BodyForms.forms c.args.is_dynamic_import (item_trees (tree_of c.args.self.now.nodes) v) None x ts) (sym c.new-items.ensures.items)),
+  omega arith,
+  grows-same _,
+  record { chained = ap (λ v. chain (seat_at c.args.self.now.nodes) (count c.args.self.now.nodes) (flat item_parts v) (count c.args.self.now.nodes)) c.new-items.ensures.items ∙ (apart-none {ns = c.args.self.now.nodes} {k = count c.args.self.now.nodes} (omega arith)).chained },
+)
+
+pub parse_arg_list-loop-items-preserved : goal.parse_arg_list-loop-items-preserved
+parse_arg_list-loop-items-preserved g t c =
+    let before = item_trees (tree_of c.loop-items.self.nodes) c.loop-items.items.items in
+    let comma = c.loop-items.trailing_comma in
+    let none = s.eats_none g.B.Bodies.is_faithful is_rparen _ _ _ c.in-None.is (c.in_ok-end.ensures.eats g.B.Bodies.is_faithful) in
+    let more = ap (λ v. item_trees (tree_of c.parse_arg_item.new.self.nodes) v) c.in_ok-add.ensures.added
+    ∙ link.items-more c.loop-items.items.items c.in_ok-item.item c.parse_arg_item.ensures.grows c.loop-items.invariant.3 in
+    let parts = apart-list-more item_parts c.loop-items.items.items c.in_ok-item.item c.parse_arg_item.ensures.grows c.loop-items.invariant.3 c.in_ok-item.ensures.from in (
+      s.on_then c.loop-items.invariant.0 (s.on_then (s.on_call (λ x p. args_by _ c.args.is_dynamic_import before comma p.0 x p.1) (λ x ts. link.behind_splits _ c.args.is_dynamic_import before comma x ts) none)
+          (s.on_to (s.on_call (λ x p. args_behind _ c.args.is_dynamic_import (trees_append before (cons p.0.0 nil)) p.0.1 x p.1) (λ x ts. link.args_more_splits _ c.args.is_dynamic_import before x ts) c.in_ok-item.ensures.reads.on)
+          (λ x ts. ap (λ v. args_behind g.B.BodyForms.forms c.args.is_dynamic_import v c.in_ok-item.comma x ts) (sym more)))),
+      let a = c.loop-items.invariant.1 in let b = c.in_ok-item.ensures.falls in let d = c.in_ok-end.ensures.falls in omega arith,
+      grows-then c.loop-items.invariant.2 c.parse_arg_item.ensures.grows,
+      record { chained = ap (λ v. chain (seat_at c.parse_arg_item.new.self.nodes) (count c.args.self.now.nodes) (flat item_parts v) (count c.parse_arg_item.new.self.nodes)) c.in_ok-add.ensures.added ∙ parts.chained },
+    )
+
+pub parse_arg_list-returns-in_err-end : goal.parse_arg_list-returns-in_err-end
+parse_arg_list-returns-in_err-end g t c =
+    let before = item_trees (tree_of c.loop-items.self.nodes) c.loop-items.items.items in
+    let comma = c.loop-items.trailing_comma in
+    let p = err_from_is_err_and c.from_residual.result c.from_residual.ensures.1 in rw (p.1, p.2)
+    (m.no (s.unheard_after c.loop-items.invariant.0 (s.unheard_call (λ x p. args_by _ c.args.is_dynamic_import before comma p.0 x p.1) (λ x ts. link.behind_splits _ c.args.is_dynamic_import before comma x ts) (c.in_err-end.ensures.eats g.B.Bodies.is_faithful))) c.loop-items.invariant.2)
+
+pub parse_arg_list-returns-in-Some : goal.parse_arg_list-returns-in-Some
+parse_arg_list-returns-in-Some g t c =
+    let before = item_trees (tree_of c.loop-items.self.nodes) c.loop-items.items.items in
+    let comma = c.loop-items.trailing_comma in
+    let some = s.eats_some g.B.Bodies.is_faithful is_rparen _ c.in-Some.end _ _ c.in-Some.is (c.in_ok-end.ensures.eats g.B.Bodies.is_faithful) in
+    m.yes (Ok _)
+    (s.heard_after c.loop-items.invariant.0 (s.heard_call (λ x p. args_by _ c.args.is_dynamic_import before comma p.0 x p.1) (λ x ts. link.behind_splits _ c.args.is_dynamic_import before comma x ts) (λ x ts. refl) some))
+    c.loop-items.invariant.2 c.loop-items.invariant.3
+
+pub parse_arg_list-returns-in_err-item : goal.parse_arg_list-returns-in_err-item
+parse_arg_list-returns-in_err-item g t c =
+    let before = item_trees (tree_of c.loop-items.self.nodes) c.loop-items.items.items in
+    let comma = c.loop-items.trailing_comma in
+    let none = s.eats_none g.B.Bodies.is_faithful is_rparen _ _ _ c.in-None.is (c.in_ok-end.ensures.eats g.B.Bodies.is_faithful) in
+    let p = err_from_is_err_and c.from_residual-in_err-item.result c.from_residual-in_err-item.ensures.1 in rw (p.1, p.2)
+    (m.no (s.unheard_after c.loop-items.invariant.0 (s.unheard_after (s.on_call (λ x p. args_by _ c.args.is_dynamic_import before comma p.0 x p.1) (λ x ts. link.behind_splits _ c.args.is_dynamic_import before comma x ts) none)
+    (s.unheard_call (λ x p. args_behind _ c.args.is_dynamic_import (trees_append before (cons p.0.0 nil)) p.0.1 x p.1) (λ x ts. link.args_more_splits _ c.args.is_dynamic_import before x ts) c.in_err-item.ensures.reads))) (grows-then c.loop-items.invariant.2 c.parse_arg_item.ensures.grows))
+
+pub parse_arg_list-returns-in_err-add : goal.parse_arg_list-returns-in_err-add
+parse_arg_list-returns-in_err-add g t c =
+    let none = s.eats_none g.B.Bodies.is_faithful is_rparen _ _ _ c.in-None.is (c.in_ok-end.ensures.eats g.B.Bodies.is_faithful) in
+    let p = err_from_is_err_and c.from_residual-in_err-add.result c.from_residual-in_err-add.ensures.1 in rw (p.1, p.2)
+    (m.no (s.unheard_memory (s.forgoes_later (s.leads_then c.loop-items.invariant.0.leads (s.leads_then none.leads c.in_ok-item.ensures.reads.on.leads)) (s.forgoes_here g.met.I.Tokens.laws _ _ _ c.in_err-add.ensures.refused))) (grows-then c.loop-items.invariant.2 c.parse_arg_item.ensures.grows))
+
+pub parse_arg_item-returns-in_err-item : goal.parse_arg_item-returns-in_err-item
+parse_arg_item-returns-in_err-item g t c =
+    let p = err_from_is_err_and c.from_residual.result c.from_residual.ensures.1 in rw (p.1, p.2)
+    (m.no (s.unheard_call (λ x p. separated_args c.args.is_dynamic_import x p.1 >>= (λ q. Some ((p.0, q.0), q.1))) (λ x ts. link.arg_item_splits _ c.args.is_dynamic_import x ts) c.in_err-item.ensures.reads) c.parse_expr_or_spread.ensures.grows)
+
+pub parse_arg_item-returns-in_err-comma : goal.parse_arg_item-returns-in_err-comma
+parse_arg_item-returns-in_err-comma g t c =
+    let p = err_from_is_err_and c.from_residual-in_err-comma.result c.from_residual-in_err-comma.ensures.1 in rw (p.1, p.2)
+    (m.no (s.unheard_after (s.on_call (λ x p. separated_args c.args.is_dynamic_import x p.1 >>= (λ q. Some ((p.0, q.0), q.1))) (λ x ts. link.arg_item_splits _ c.args.is_dynamic_import x ts) c.in_ok-item.ensures.reads.on)
+    (s.unheard_call (λ x q. Some ((item_at c.parse_expr_or_spread.new.self.nodes c.in_ok-item.item, q.0), q.1)) (λ x ts. refl) (c.in_err-comma.ensures.separates g.B.Bodies.is_faithful))) c.parse_expr_or_spread.ensures.grows)
+
+pub parse_arg_item-returns : goal.parse_arg_item-returns
+parse_arg_item-returns g t c =
+    m.yes (Ok _)
+    (s.heard_more (λ x p. separated_args c.args.is_dynamic_import x p.1 >>= (λ q. Some ((p.0, q.0), q.1))) (λ x ts. link.arg_item_splits _ c.args.is_dynamic_import x ts) c.in_ok-item.ensures.reads
+    (s.on_call (λ x q. Some ((item_at c.parse_expr_or_spread.new.self.nodes c.in_ok-item.item, q.0), q.1)) (λ x ts. refl) (c.in_ok-comma.ensures.separates g.B.Bodies.is_faithful)))
+    c.parse_expr_or_spread.ensures.grows (apart-from (expr_part c.in_ok-item.item.expr) c.in_ok-item.ensures.from)
+
 pub parse_unary_expr-returns-in-Some : goal.parse_unary_expr-returns-in-Some
 parse_unary_expr-returns-in-Some g t c =
     m.after c.parse_unary_op.result (s.on_seen c.in_ok-look.ensures.looks (λ x ts same e. rule.unary_op_picked _ c.in-Some.op x ts (ap prefix_at e ∙ sym c.cur_prefix_op.ensures.value ∙ c.in-Some.is))) (grows-same _) c.parse_unary_op.ensures
 
 pub parse_unary_expr-returns-in-None : goal.parse_unary_expr-returns-in-None
 parse_unary_expr-returns-in-None g t c =
-    m.after c.parse_primary_expr.result (s.on_seen c.in_ok-look.ensures.looks (λ x ts same e. rule.unary_primary _ x ts (ap prefix_at e ∙ sym c.cur_prefix_op.ensures.value ∙ c.in-None.is))) (grows-same _) c.parse_primary_expr.ensures
+    m.after c.parse_lhs_expr.result (s.on_seen c.in_ok-look.ensures.looks (λ x ts same e. rule.unary_left _ x ts (ap prefix_at e ∙ sym c.cur_prefix_op.ensures.value ∙ c.in-None.is))) (grows-same _) c.parse_lhs_expr.ensures
 
 pub parse_unary_expr-returns-in_err-look : goal.parse_unary_expr-returns-in_err-look
 parse_unary_expr-returns-in_err-look g t c =
     let p = err_from_is_err_and c.from_residual.result c.from_residual.ensures.1 in rw (p.1, p.2)
     (m.no (s.unheard_memory c.in_err-look.ensures.looks) (grows-same _))
 
-pub parse_unary_op-returns-in_err-arg : goal.parse_unary_op-returns-in_err-arg
-parse_unary_op-returns-in_err-arg g t c =
+pub parse_unary_op-returns-in_err-at : goal.parse_unary_op-returns-in_err-at
+parse_unary_op-returns-in_err-at g t c =
     let p = err_from_is_err_and c.from_residual.result c.from_residual.ensures.1 in rw (p.1, p.2)
-    (m.no (s.unheard_after (s.on_took {g = unary_op_tail _ (plain c.skip.ensures.took.1.was).span c.args.op} g.met.I.Tokens.laws c.skip.ensures.took.1 (λ x ts. rule.unary_op_opens _ c.args.op (plain c.skip.ensures.took.1.was) x ts))
-    (s.unheard_call (λ x p. unary_op_node _ (plain c.skip.ensures.took.1.was).span c.args.op x p.0 p.1) (λ x ts. rule.unary_op_splits _ (plain c.skip.ensures.took.1.was).span c.args.op x ts) c.in_err-arg.ensures.reads)) c.parse_unary_operand.ensures.grows)
+    (m.no (s.unheard_memory (s.forgoes_later (s.took_leads g.met.I.Tokens.laws c.skip.ensures.took.1) c.in_err-at.ensures.looks)) (grows-same _))
 
-pub parse_unary_op-returns-in_err-check_delete : goal.parse_unary_op-returns-in_err-check_delete
-parse_unary_op-returns-in_err-check_delete g t c =
-    let p = err_from_is_err_and c.from_residual-in_err-check_delete.result c.from_residual-in_err-check_delete.ensures.1 in rw (p.1, p.2)
-    (m.no (s.unheard_memory (s.forgoes_later (s.leads_then (s.took_leads g.met.I.Tokens.laws c.skip.ensures.took.1) c.in_ok-arg.ensures.reads.leads) c.in_err-check_delete.ensures.checks)) c.parse_unary_operand.ensures.grows)
-
-pub parse_unary_op-returns : goal.parse_unary_op-returns
-parse_unary_op-returns g t c =
+pub parse_unary_op-returns-in-Ok : goal.parse_unary_op-returns-in-Ok
+parse_unary_op-returns-in-Ok g t c =
     let first = c.skip.ensures.took.1 in
-    let whole : unary_e (to first.was.span (span_of (tree_of c.parse_unary_operand.new.self.nodes c.in_ok-arg.arg))) c.args.op (tree_of c.parse_unary_operand.new.self.nodes c.in_ok-arg.arg) ≡ unary_e (between c.cur_span.result.lo (span_of (tree_of c.parse_unary_operand.new.self.nodes c.in_ok-arg.arg)).hi) c.args.op (tree_of c.parse_unary_operand.new.self.nodes c.in_ok-arg.arg) =
-    ap (λ v. unary_e (between v (span_of (tree_of c.parse_unary_operand.new.self.nodes c.in_ok-arg.arg)).hi) c.args.op (tree_of c.parse_unary_operand.new.self.nodes c.in_ok-arg.arg)) (ap (λ v. v.lo) (sym (s.place_was first c.cur_span.result c.cur_span.ensures))) in
-    m.node _ c.unary_op-node.result c.made.result c.in_ok-arg.ensures.from.above c.unary_op-node.ensures.made c.made.ensures.ok c.made.ensures.refused c.parse_unary_operand.ensures.grows c.unary_op-node.ensures.grows
-    (s.heard_answer whole (s.heard_first g.met.I.Tokens.laws first (λ x ts. rule.unary_op_opens _ c.args.op (plain first.was) x ts)
-    (s.on_then (s.on_call (λ x p. unary_op_node _ (plain c.skip.ensures.took.1.was).span c.args.op x p.0 p.1) (λ x ts. rule.unary_op_splits _ (plain c.skip.ensures.took.1.was).span c.args.op x ts) c.in_ok-arg.ensures.reads)
-    (s.on_checked_in (delete_ok (context g.I.Tokens.model c.parse_unary_operand.new.self.input) c.args.op (tree_of c.parse_unary_operand.new.self.nodes c.in_ok-arg.arg)) c.in_ok-check_delete.ensures.checks
-    (λ ts h. rule.unary_op_well _ (plain c.skip.ensures.took.1.was).span c.args.op (context g.I.Tokens.model c.parse_unary_operand.new.self.input) (tree_of c.parse_unary_operand.new.self.nodes c.in_ok-arg.arg) ts h)
-    (λ ts h. rule.unary_op_ill _ (plain c.skip.ensures.took.1.was).span c.args.op (context g.I.Tokens.model c.parse_unary_operand.new.self.input) (tree_of c.parse_unary_operand.new.self.nodes c.in_ok-arg.arg) ts h)))))
+    let q = (plain first.was).span in
+    let arg = tree_of c.parse_unary_expr.new.self.nodes c.in-Ok.arg in
+    let place = s.place_was first c.cur_span-start.result c.cur_span-start.ensures in
+    m.after {m = record c.args.self.now { input = c.cur_pos.new.input }} c.unary_expr.result
+    (s.on_then (s.on_took {g = unary_op_tail _ q c.args.op} g.met.I.Tokens.laws first (λ x ts. rule.unary_op_opens _ c.args.op (plain first.was) x ts))
+    (s.on_seen {g = unary_op_tail _ q c.args.op} c.in_ok-at.ensures.looks (λ x ts same e. refl))) (grows-same _)
+    (m.call {m = c.parse_unary_expr.new.self} c.unary_expr.result (λ x p. unary_op_node _ q c.args.op x p.0 p.1) (λ x ts. rule.unary_op_splits _ q c.args.op x ts)
+    c.in-Ok.ensures.reads c.parse_unary_expr.ensures.grows (λ x. from-down c.in-Ok.ensures.from.above)
+    (m.on_after c.unary_expr.result (s.on_here g.met.I.Tokens.laws _ (λ x ts. ap (λ v. unary_op_node g.B.BodyForms.forms v c.args.op x arg ts) (sym place))) (grows-same _) c.unary_expr.ensures.reads))
 
-pub parse_unary_operand-returns-in_err-at : goal.parse_unary_operand-returns-in_err-at
-parse_unary_operand-returns-in_err-at g t c =
-    let p = err_from_is_err_and c.from_residual.result c.from_residual.ensures.1 in rw (p.1, p.2)
-    (m.no_more (s.unheard_memory c.in_err-at.ensures.looks) (grows-same _))
-
-pub parse_unary_operand-returns-in-Ok : goal.parse_unary_operand-returns-in-Ok
-parse_unary_operand-returns-in-Ok g t c =
-    m.on (Ok _)
-    (s.on_then (s.on_seen c.in_ok-at.ensures.looks (λ x ts same e. refl)) c.in-Ok.ensures.reads.on)
-    c.parse_unary_expr.ensures.grows c.in-Ok.ensures.from
-
-pub parse_unary_operand-returns-in-Err : goal.parse_unary_operand-returns-in-Err
-parse_unary_operand-returns-in-Err g t c =
-    m.on c.recover.result
-    (s.continues_after g.I.Tokens.model g.B.Bodies.is_faithful (tree_of c.recover.new.self.nodes) _ _ c.recover.result (s.on_seen c.in_ok-at.ensures.looks (λ x ts same e. refl))
-    (s.continues_recovered g.I.Tokens.model g.B.Bodies.is_faithful (tree_of c.recover.new.self.nodes) _ _ c.recover.result c.in-Err.ensures.reads c.recover.ensures.effect c.recover.ensures.notes c.recover.ensures.some))
-    (grows-then c.parse_unary_expr.ensures.grows c.recover.ensures.grows) (if_from _ _ _ (λ x. x) c.recover.result (grows-count c.parse_unary_expr.ensures.grows) c.recover.ensures.from)
+pub parse_unary_op-returns-in-Err : goal.parse_unary_op-returns-in-Err
+parse_unary_op-returns-in-Err g t c =
+    let first = c.skip.ensures.took.1 in
+    let q = (plain first.was).span in
+    let r = c.unary_expr_without_operand.result in
+    let h = c.unary_expr_without_operand.ensures in
+    let view = tree_of c.unary_expr_without_operand.new.self.nodes in
+    m.yes r
+    (s.parses_first g.I.Tokens.model g.B.Bodies.is_faithful view _ {g = unary_op_tail _ q c.args.op} g.met.I.Tokens.laws first (λ x ts. rule.unary_op_opens _ c.args.op (plain first.was) x ts) _ r
+    (s.continues_after g.I.Tokens.model g.B.Bodies.is_faithful view _ _ r (s.on_seen {g = unary_op_tail _ q c.args.op} c.in_ok-at.ensures.looks (λ x ts same e. refl))
+    (s.continues_recovered g.I.Tokens.model g.B.Bodies.is_faithful view _ _ r
+    (s.unheard_call (λ x p. unary_op_node _ q c.args.op x p.0 p.1) (λ x ts. rule.unary_op_splits _ q c.args.op x ts) c.in-Err.ensures.reads) h.effect h.notes h.some)))
+    (grows-then c.parse_unary_expr.ensures.grows h.grows) (if_from _ _ _ (λ x. x) r (grows-count c.parse_unary_expr.ensures.grows) h.from)
 
 pub parse_bin_expr-returns-in-Ok : goal.parse_bin_expr-returns-in-Ok
 parse_bin_expr-returns-in-Ok g t c =
     m.call c.parse_bin_op_recursively.result (λ x p. run _ (climb p.0 0) x p.1) (λ x ts. rule.operand_splits _ 0 x ts (omega arith))
     c.in-Ok.ensures.reads c.parse_unary_expr.ensures.grows (λ x. from-down c.in-Ok.ensures.from.above) c.parse_bin_op_recursively.ensures
 
-pub parse_bin_expr-returns-in-Err : goal.parse_bin_expr-returns-in-Err
-parse_bin_expr-returns-in-Err g t c =
-    m.yes c.parse_bin_expr_without_left.result
-    (s.parses_recovered g.I.Tokens.model g.B.Bodies.is_faithful (tree_of c.parse_bin_expr_without_left.new.self.nodes) (run _ (at (Level 1))) _ c.parse_bin_expr_without_left.result (s.unheard_call (λ x p. run _ (climb p.0 0) x p.1) (λ x ts. rule.operand_splits _ 0 x ts (omega arith)) c.in-Err.ensures.reads)
-    c.parse_bin_expr_without_left.ensures.effect c.parse_bin_expr_without_left.ensures.notes c.parse_bin_expr_without_left.ensures.some c.parse_bin_expr_without_left.ensures.memory)
-    (grows-then c.parse_unary_expr.ensures.grows c.parse_bin_expr_without_left.ensures.grows) (if_from _ _ _ (λ x. x) c.parse_bin_expr_without_left.result (grows-count c.parse_unary_expr.ensures.grows) c.parse_bin_expr_without_left.ensures.from)
-
-pub parse_bin_expr_without_left-returns-in_err-left : goal.parse_bin_expr_without_left-returns-in_err-left
-parse_bin_expr_without_left-returns-in_err-left g t c =
+pub parse_bin_expr-returns-in_err-left-in-Err : goal.parse_bin_expr-returns-in_err-left-in-Err
+parse_bin_expr-returns-in_err-left-in-Err g t c =
+    let u = s.unheard_call (λ x p. run _ (climb p.0 0) x p.1) (λ x ts. rule.operand_splits _ 0 x ts (omega arith)) c.in-Err.ensures.reads in
     let p = err_from_is_err_and c.from_residual.result c.from_residual.ensures.1 in
-    let h = c.in_err-left.ensures.recovers in rw (p.1, p.2) (m.not_recovered h.effect h.memory h.grows)
+    let h = c.in_err-left-in-Err.ensures.recovers in rw (p.1, p.2)
+    (m.no (s.unheard_doomed u h.memory h.effect) (grows-then c.parse_unary_expr.ensures.grows h.grows))
 
-pub parse_bin_expr_without_left-returns-in_err-node : goal.parse_bin_expr_without_left-returns-in_err-node
-parse_bin_expr_without_left-returns-in_err-node g t c =
-    let p = err_from_is_err_and c.from_residual-in_err-node.result c.from_residual-in_err-node.ensures.1 in
-    let h = c.in_ok-left.ensures.recovers in rw (p.1, p.2)
-    (m.not_recovered (s.refuses_later h.effect c.in_err-node.ensures.reads.refuses) (λ n. h.some) (grows-then h.grows c.parse_bin_op.ensures.grows))
+pub parse_bin_expr-returns-in_err-node-in-Err : goal.parse_bin_expr-returns-in_err-node-in-Err
+parse_bin_expr-returns-in_err-node-in-Err g t c =
+    let u = s.unheard_call (λ x p. run _ (climb p.0 0) x p.1) (λ x ts. rule.operand_splits _ 0 x ts (omega arith)) c.in-Err.ensures.reads in
+    let p = err_from_is_err_and c.from_residual-in_err-node-in-Err.result c.from_residual-in_err-node-in-Err.ensures.1 in
+    let h = c.in_ok-left-in-Err.ensures.recovers in rw (p.1, p.2)
+    (m.no (s.unheard_doomed u (λ n. h.some) (s.refuses_later h.effect c.in_err-node-in-Err.ensures.reads.refuses))
+    (grows-then c.parse_unary_expr.ensures.grows (grows-then h.grows c.parse_bin_op.ensures.grows)))
 
-pub parse_bin_expr_without_left-returns-in_err-check_nullish_left : goal.parse_bin_expr_without_left-returns-in_err-check_nullish_left
-parse_bin_expr_without_left-returns-in_err-check_nullish_left g t c =
-    let p = err_from_is_err_and c.from_residual-in_err-check_nullish_left.result c.from_residual-in_err-check_nullish_left.ensures.1 in
-    let h = c.in_ok-left.ensures.recovers in rw (p.1, p.2)
-    (m.not_recovered (s.refuses_later (s.leads_then h.effect c.in_ok-node.ensures.reads.on.leads) (s.forgoes_refuses c.in_err-check_nullish_left.ensures.checks)) (λ n. h.some) (grows-then h.grows c.parse_bin_op.ensures.grows))
+pub parse_bin_expr-returns-in_err-check_nullish_left-in-Err : goal.parse_bin_expr-returns-in_err-check_nullish_left-in-Err
+parse_bin_expr-returns-in_err-check_nullish_left-in-Err g t c =
+    let u = s.unheard_call (λ x p. run _ (climb p.0 0) x p.1) (λ x ts. rule.operand_splits _ 0 x ts (omega arith)) c.in-Err.ensures.reads in
+    let p = err_from_is_err_and c.from_residual-in_err-check_nullish_left-in-Err.result c.from_residual-in_err-check_nullish_left-in-Err.ensures.1 in
+    let h = c.in_ok-left-in-Err.ensures.recovers in rw (p.1, p.2)
+    (m.no (s.unheard_doomed u (λ n. h.some) (s.refuses_later (s.leads_then h.effect c.in_ok-node-in-Err.ensures.reads.on.leads) (s.forgoes_refuses c.in_err-check_nullish_left-in-Err.ensures.checks)))
+    (grows-then c.parse_unary_expr.ensures.grows (grows-then h.grows c.parse_bin_op.ensures.grows)))
 
-pub parse_bin_expr_without_left-returns : goal.parse_bin_expr_without_left-returns
-parse_bin_expr_without_left-returns g t c =
-    let h = c.in_ok-left.ensures.recovers in
-    let effect = s.consumes_then g.I.Tokens.model g.B.Bodies.is_faithful (tree_of c.parse_bin_op_recursively.new.self.nodes) (run _ (climb (tree_of c.parse_bin_op.new.self.nodes c.in_ok-node.node) 0)) h.effect (s.leads_then c.in_ok-node.ensures.reads.on.leads c.in_ok-check_nullish_left.ensures.checks.leads) (s.longer c.in_ok-node.ensures.reads.on.leads c.in_ok-check_nullish_left.ensures.checks.leads c.in_ok-node.ensures.reads.some) _ c.parse_bin_op_recursively.result c.parse_bin_op_recursively.ensures.reads in
+pub parse_bin_expr-returns-in_ok-check_nullish_left-in-Err : goal.parse_bin_expr-returns-in_ok-check_nullish_left-in-Err
+parse_bin_expr-returns-in_ok-check_nullish_left-in-Err g t c =
+    let u = s.unheard_call (λ x p. run _ (climb p.0 0) x p.1) (λ x ts. rule.operand_splits _ 0 x ts (omega arith)) c.in-Err.ensures.reads in
+    let h = c.in_ok-left-in-Err.ensures.recovers in
+    let node = c.in_ok-node-in-Err.ensures in
+    let more = s.leads_then node.reads.on.leads c.in_ok-check_nullish_left-in-Err.ensures.checks.leads in
+    let r = c.parse_bin_op_recursively-in-Err.result in
+    let reads = c.parse_bin_op_recursively-in-Err.ensures.reads in
+    let view = tree_of c.parse_bin_op_recursively-in-Err.new.self.nodes in
+    let f = run g.B.BodyForms.forms (climb (tree_of c.parse_bin_op.new.self.nodes c.in_ok-node-in-Err.node) 0) in
+    let a = grows-count c.parse_unary_expr.ensures.grows in
     let first = h.from.above in
-    let above = c.in_ok-node.ensures.from.above in record {
-      effect = effect;
-      notes = λ l. s.notes_then g.I.Tokens.model g.B.Bodies.is_faithful (tree_of c.parse_bin_op_recursively.new.self.nodes) (run _ (climb (tree_of c.parse_bin_op.new.self.nodes c.in_ok-node.node) 0)) c.args.self.now.input (h.notes l) (s.leads_then c.in_ok-node.ensures.reads.on.leads c.in_ok-check_nullish_left.ensures.checks.leads) _ c.parse_bin_op_recursively.result c.parse_bin_op_recursively.ensures.reads;
-      some = s.on_ok c.parse_bin_op_recursively.result h.some;
-      memory = s.if_err (λ e. e.kind ≢ OutOfMemory) c.parse_bin_op_recursively.result h.some;
-      falls = s.consumes_falls g.I.Tokens.model _ _ c.parse_bin_op_recursively.result effect;
-      grows = grows-then (grows-then h.grows c.parse_bin_op.ensures.grows) c.parse_bin_op_recursively.ensures.grows;
-      from = if_from _ _ _ (λ x. x) c.parse_bin_op_recursively.result (omega arith) c.parse_bin_op_recursively.ensures.from;
-    }
+    let above = node.from.above in
+    m.yes r
+    (s.parses_recovered g.I.Tokens.model g.B.Bodies.is_faithful view (run _ (at (Level 1))) _ r u
+    (s.consumes_then g.I.Tokens.model g.B.Bodies.is_faithful view f h.effect more (s.longer node.reads.on.leads c.in_ok-check_nullish_left-in-Err.ensures.checks.leads node.reads.onward) _ r reads)
+    (λ l. s.notes_then g.I.Tokens.model g.B.Bodies.is_faithful view f c.parse_unary_expr.new.self.input (h.notes l) more _ r reads)
+    (s.on_ok r h.some) (s.if_err (λ e. e.kind ≢ OutOfMemory) r h.some))
+    (grows-then c.parse_unary_expr.ensures.grows (grows-then (grows-then h.grows c.parse_bin_op.ensures.grows) c.parse_bin_op_recursively-in-Err.ensures.grows))
+    (if_from _ (count c.args.self.now.nodes) (first_at c.parse_bin_op.new.self.nodes c.in_ok-node-in-Err.node.0) (λ x. x) r (omega arith) c.parse_bin_op_recursively-in-Err.ensures.from)
 
 pub parse_bin_op_recursively-loop-next_left-init : goal.parse_bin_op_recursively-loop-next_left-init
 parse_bin_op_recursively-loop-next_left-init g t c = (s.on_here g.met.I.Tokens.laws _ (λ x ts. refl), omega arith, grows-same _, from_self c.requires.from)
@@ -602,51 +1176,44 @@ parse_bin_op-returns-in_err-refuse_unary_in_exp g t c =
     (m.no (s.unheard_after (s.on_took {g = bin_op _ c.args.op (tree_of c.args.self.now.nodes c.args.left) c.args.min_prec} g.met.I.Tokens.laws c.skip.ensures.took.1 (λ x ts. refl))
     (s.unheard_none (λ x ts. rule.bin_op_ends _ c.args.op (tree_of c.args.self.now.nodes c.args.left) c.args.min_prec x ts c.in_err-refuse_unary_in_exp.ensures.refuses.1) c.in_err-refuse_unary_in_exp.ensures.refuses.0)) (grows-same _))
 
+pub parse_bin_op-returns-in_err-left_of_right : goal.parse_bin_op-returns-in_err-left_of_right
+parse_bin_op-returns-in_err-left_of_right g t c =
+    let l = tree_of c.args.self.now.nodes c.args.left in
+    let p = err_from_is_err_and c.from_residual-in_err-left_of_right.result c.from_residual-in_err-left_of_right.ensures.1 in rw (p.1, p.2)
+    (m.no (s.unheard_after (s.on_then (s.on_took {g = bin_op _ c.args.op l c.args.min_prec} g.met.I.Tokens.laws c.skip.ensures.took.1 (λ x ts. refl)) (s.on_same {f = bin_op _ c.args.op l c.args.min_prec} g.met.I.Tokens.laws c.in_ok-refuse_unary_in_exp.ensures.passes.0))
+    (s.unheard_call (λ x p. bin_op_node _ c.args.op l c.args.min_prec p.0 p.1) (λ x ts. rule.bin_op_splits _ c.args.op l c.args.min_prec x ts c.in_ok-refuse_unary_in_exp.ensures.passes.1)
+    (s.unheard_call (λ x p. run _ (climb p.0 (min_right c.args.op)) x p.1) (λ x ts. rule.right_splits _ c.args.op (min_right c.args.op) x ts refl) c.in_err-left_of_right.ensures.reads))) c.parse_unary_expr.ensures.grows)
+
 pub parse_bin_op-returns-in_err-right : goal.parse_bin_op-returns-in_err-right
 parse_bin_op-returns-in_err-right g t c =
+    let l = tree_of c.args.self.now.nodes c.args.left in
     let p = err_from_is_err_and c.from_residual-in_err-right.result c.from_residual-in_err-right.ensures.1 in rw (p.1, p.2)
-    (m.no (s.unheard_after (s.on_then (s.on_took {g = bin_op _ c.args.op (tree_of c.args.self.now.nodes c.args.left) c.args.min_prec} g.met.I.Tokens.laws c.skip.ensures.took.1 (λ x ts. refl)) (s.on_same {f = bin_op _ c.args.op (tree_of c.args.self.now.nodes c.args.left) c.args.min_prec} g.met.I.Tokens.laws c.in_ok-refuse_unary_in_exp.ensures.passes.0))
-    (s.unheard_call (λ x p. bin_op_node _ c.args.op (tree_of c.args.self.now.nodes c.args.left) c.args.min_prec p.0 p.1) (λ x ts. rule.bin_op_splits _ c.args.op (tree_of c.args.self.now.nodes c.args.left) c.args.min_prec x ts c.in_ok-refuse_unary_in_exp.ensures.passes.1) c.in_err-right.ensures.reads)) c.parse_bin_operand.ensures.grows)
+    (m.no (s.unheard_after (s.on_then (s.on_took {g = bin_op _ c.args.op l c.args.min_prec} g.met.I.Tokens.laws c.skip.ensures.took.1 (λ x ts. refl)) (s.on_same {f = bin_op _ c.args.op l c.args.min_prec} g.met.I.Tokens.laws c.in_ok-refuse_unary_in_exp.ensures.passes.0))
+    (s.unheard_call (λ x p. bin_op_node _ c.args.op l c.args.min_prec p.0 p.1) (λ x ts. rule.bin_op_splits _ c.args.op l c.args.min_prec x ts c.in_ok-refuse_unary_in_exp.ensures.passes.1)
+    (s.unheard_after (s.on_call (λ x p. run _ (climb p.0 c.right_min_prec.result) x p.1) (λ x ts. rule.right_splits _ c.args.op c.right_min_prec.result x ts c.right_min_prec.ensures) c.in_ok-left_of_right.ensures.reads.on)
+    c.in_err-right.ensures.reads))) (grows-then c.parse_unary_expr.ensures.grows c.parse_bin_op_recursively.ensures.grows))
 
-pub parse_bin_op-returns-in_err-check_operands : goal.parse_bin_op-returns-in_err-check_operands
-parse_bin_op-returns-in_err-check_operands g t c =
-    let p = err_from_is_err_and c.from_residual-in_err-check_operands.result c.from_residual-in_err-check_operands.ensures.1 in rw (p.1, p.2)
-    (m.no (s.unheard_memory (s.forgoes_later (s.leads_then (s.leads_then (s.took_leads g.met.I.Tokens.laws c.skip.ensures.took.1) (s.same_leads g.met.I.Tokens.laws c.in_ok-refuse_unary_in_exp.ensures.passes.0)) c.in_ok-right.ensures.reads.on.leads) c.in_err-check_operands.ensures.checks)) c.parse_bin_operand.ensures.grows)
+pub parse_bin_op-bin_expr-requires-clause-left : goal.parse_bin_op-bin_expr-requires-clause-left
+parse_bin_op-bin_expr-requires-clause-left g t c = from-later (grows-then c.parse_unary_expr.ensures.grows c.parse_bin_op_recursively.ensures.grows) c.requires.from
 
-pub parse_bin_op-returns-in_err-node : goal.parse_bin_op-returns-in_err-node
-parse_bin_op-returns-in_err-node g t c =
-    let p = err_from_is_err_and c.from_residual-in_err-node.result c.from_residual-in_err-node.ensures.1 in rw (p.1, p.2)
-    (m.no (s.unheard_memory (s.forgoes_later (s.leads_then (s.leads_then (s.leads_then (s.took_leads g.met.I.Tokens.laws c.skip.ensures.took.1) (s.same_leads g.met.I.Tokens.laws c.in_ok-refuse_unary_in_exp.ensures.passes.0)) c.in_ok-right.ensures.reads.on.leads) c.in_ok-check_operands.ensures.checks.leads) (s.forgoes_here g.met.I.Tokens.laws _ _ _ c.in_err-node.ensures.refused))) (grows-then c.parse_bin_operand.ensures.grows c.bin_op-node.ensures.grows))
+pub parse_bin_op-bin_expr-requires-clause-right : goal.parse_bin_op-bin_expr-requires-clause-right
+parse_bin_op-bin_expr-requires-clause-right g t c =
+    let within = c.requires.from.within in
+    let above = c.in_ok-left_of_right.ensures.from.above in
+    from-down (omega arith) c.in_ok-right.ensures.from
 
 pub parse_bin_op-returns : goal.parse_bin_op-returns
 parse_bin_op-returns g t c =
-    let later = tree-later c.parse_bin_operand.ensures.grows c.requires.from in
-    let made = made_at _ _ _ c.bin_op-node.result c.in_ok-node.node c.bin_op-node.ensures.made c.in_ok-node.ensures.ok in
-    let whole = ap (λ v. bin_e (to (span_of v) (span_of (tree_of c.parse_bin_operand.new.self.nodes c.in_ok-right.right))) c.args.op v (tree_of c.parse_bin_operand.new.self.nodes c.in_ok-right.right)) (sym later) ∙ sym made.stands in
-    m.yes (Ok _)
-    (s.heard_answer (ap (λ v. (v, Some c.args.min_prec)) whole) (s.heard_first g.met.I.Tokens.laws c.skip.ensures.took.1 (λ x ts. refl) (s.on_then (s.on_same {f = bin_op _ c.args.op (tree_of c.args.self.now.nodes c.args.left) c.args.min_prec} g.met.I.Tokens.laws c.in_ok-refuse_unary_in_exp.ensures.passes.0)
-    (s.on_then (s.on_call (λ x p. bin_op_node _ c.args.op (tree_of c.args.self.now.nodes c.args.left) c.args.min_prec p.0 p.1) (λ x ts. rule.bin_op_splits _ c.args.op (tree_of c.args.self.now.nodes c.args.left) c.args.min_prec x ts c.in_ok-refuse_unary_in_exp.ensures.passes.1) c.in_ok-right.ensures.reads.on)
-    (s.on_checked (nullish_ok c.args.op (tree_of c.parse_bin_operand.new.self.nodes c.args.left) (tree_of c.parse_bin_operand.new.self.nodes c.in_ok-right.right)) c.in_ok-check_operands.ensures.checks
-    (λ x ts h. rule.bin_op_well _ c.args.op (tree_of c.args.self.now.nodes c.args.left) (tree_of c.parse_bin_operand.new.self.nodes c.in_ok-right.right) c.args.min_prec ts (ap (λ v. nullish_ok c.args.op v (tree_of c.parse_bin_operand.new.self.nodes c.in_ok-right.right)) (sym later) ∙ h))
-    (λ x ts h. rule.bin_op_ill _ c.args.op (tree_of c.args.self.now.nodes c.args.left) (tree_of c.parse_bin_operand.new.self.nodes c.in_ok-right.right) c.args.min_prec ts (ap (λ v. nullish_ok c.args.op v (tree_of c.parse_bin_operand.new.self.nodes c.in_ok-right.right)) (sym later) ∙ h)))))))
-    (grows-then c.parse_bin_operand.ensures.grows c.bin_op-node.ensures.grows) (from-down (first_kept c.parse_bin_operand.ensures.grows c.requires.from) made.from)
-
-pub parse_bin_op-check_operands-requires-clause-left : goal.parse_bin_op-check_operands-requires-clause-left
-parse_bin_op-check_operands-requires-clause-left g t c = from-later c.parse_bin_operand.ensures.grows c.requires.from
-
-pub parse_bin_op-bin_op-node-requires-clause-left : goal.parse_bin_op-bin_op-node-requires-clause-left
-parse_bin_op-bin_op-node-requires-clause-left g t c = from-later c.parse_bin_operand.ensures.grows c.requires.from
-
-pub parse_bin_operand-returns-in_err-left_of_right : goal.parse_bin_operand-returns-in_err-left_of_right
-parse_bin_operand-returns-in_err-left_of_right g t c =
-    let p = err_from_is_err_and c.from_residual.result c.from_residual.ensures.1 in rw (p.1, p.2)
-    (m.no (s.unheard_call (λ x p. run _ (climb p.0 (min_right c.args.op)) x p.1) (λ x ts. rule.right_splits _ c.args.op (min_right c.args.op) x ts refl) c.in_err-left_of_right.ensures.reads) c.parse_unary_expr.ensures.grows)
-
-pub parse_bin_operand-returns : goal.parse_bin_operand-returns
-parse_bin_operand-returns g t c =
-    m.call c.parse_bin_op_recursively.result (λ x p. run _ (climb p.0 c.right_min_prec.result) x p.1)
-    (λ x ts. rule.right_splits _ c.args.op c.right_min_prec.result x ts c.right_min_prec.ensures)
-    c.in_ok-left_of_right.ensures.reads c.parse_unary_expr.ensures.grows (λ x. from-down c.in_ok-left_of_right.ensures.from.above) c.parse_bin_op_recursively.ensures
+    let l = tree_of c.args.self.now.nodes c.args.left in
+    let right = tree_of c.parse_bin_op_recursively.new.self.nodes c.in_ok-right.right in
+    let grown = grows-then c.parse_unary_expr.ensures.grows c.parse_bin_op_recursively.ensures.grows in
+    let later = tree-later grown c.requires.from in
+    m.after {m = record c.args.self.now { input = c.refuse_unary_in_exp.new.input }} c.bin_expr.result
+    (s.on_then (s.on_took {g = bin_op _ c.args.op l c.args.min_prec} g.met.I.Tokens.laws c.skip.ensures.took.1 (λ x ts. refl)) (s.on_same {f = bin_op _ c.args.op l c.args.min_prec} g.met.I.Tokens.laws c.in_ok-refuse_unary_in_exp.ensures.passes.0)) (grows-same _)
+    (m.call {m = c.parse_bin_op_recursively.new.self} c.bin_expr.result (λ x p. bin_op_node _ c.args.op l c.args.min_prec p.0 p.1) (λ x ts. rule.bin_op_splits _ c.args.op l c.args.min_prec x ts c.in_ok-refuse_unary_in_exp.ensures.passes.1)
+    (s.heard_more (λ x p. run _ (climb p.0 c.right_min_prec.result) x p.1) (λ x ts. rule.right_splits _ c.args.op c.right_min_prec.result x ts c.right_min_prec.ensures) c.in_ok-left_of_right.ensures.reads c.in_ok-right.ensures.reads)
+    grown (λ x. from-down (first_kept grown c.requires.from))
+    (m.on_after c.bin_expr.result (s.on_here g.met.I.Tokens.laws _ (λ x ts. ap (λ v. bin_op_node g.B.BodyForms.forms c.args.op v c.args.min_prec right ts) (sym later))) (grows-same _) c.bin_expr.ensures))
 
 pub parse_assignment_expr-returns-in_err-require_cur : goal.parse_assignment_expr-returns-in_err-require_cur
 parse_assignment_expr-returns-in_err-require_cur g t c =
@@ -660,8 +1227,8 @@ parse_assignment_expr-returns g t c =
 pub parse_assignment_expr_with_in-returns : goal.parse_assignment_expr_with_in-returns
 parse_assignment_expr_with_in-returns g t c =
     m.yes c.parse_assignment_expr-expr.result
-    (s.parses_within g.I.Tokens.model g.B.Bodies.is_faithful (tree_of c.parse_assignment_expr-expr.new.self.nodes) _ (run _ (at Assign)) c.parse_assignment_expr-expr.result with_in (λ x. refl) (λ x ts. rule.inside_assign _ x ts)
-    c.set_ctx.ensures.moves (c.set_ctx.ensures.context ∙ ap with_in c.get_ctx-ctx.ensures) c.parse_assignment_expr-expr.ensures.reads c.set_ctx-2.ensures.moves
+    (s.parses_within g.I.Tokens.model g.B.Bodies.is_faithful (tree_of c.parse_assignment_expr-expr.new.self.nodes) _ (run _ (at Assign)) c.parse_assignment_expr-expr.result include_in (λ x. refl) (λ x ts. rule.inside_assign _ x ts)
+    c.set_ctx.ensures.moves (c.set_ctx.ensures.context ∙ ap include_in c.get_ctx-ctx.ensures) c.parse_assignment_expr-expr.ensures.reads c.set_ctx-2.ensures.moves
     (c.set_ctx-2.ensures.context ∙ c.get_ctx-ctx.ensures))
     c.parse_assignment_expr-expr.ensures.grows c.parse_assignment_expr-expr.ensures.from
 
@@ -670,12 +1237,22 @@ parse_prop_name-returns-in_err-start g t c =
     let p = err_from_is_err_and c.from_residual.result c.from_residual.ensures.1 in rw (p.1, p.2)
     (m.no (s.unheard_call (λ x p. key_by _ p.0 x p.1) (λ x ts. key.key_splits _ x ts) (c.in_err-start.ensures.eats g.B.Bodies.is_faithful)) (grows-same _))
 
-pub parse_prop_name-returns-in-Some : goal.parse_prop_name-returns-in-Some
-parse_prop_name-returns-in-Some g t c =
-    m.after c.parse_computed_prop_name.result
-    (s.on_call (λ x p. key_by _ p.0 x p.1) (λ x ts. key.key_splits _ x ts)
-    (s.eats_some g.B.Bodies.is_faithful is_lbracket _ c.in-Some.start _ _ c.in-Some.is (c.in_ok-start.ensures.eats g.B.Bodies.is_faithful)).on)
-    (grows-same _) c.parse_computed_prop_name.ensures
+pub parse_prop_name-returns-in_err-expr-in-Some : goal.parse_prop_name-returns-in_err-expr-in-Some
+parse_prop_name-returns-in_err-expr-in-Some g t c =
+    let some = s.on_call (λ x p. key_by g.B.BodyForms.forms p.0 x p.1) (λ x ts. key.key_splits _ x ts)
+    (s.eats_some g.B.Bodies.is_faithful is_lbracket _ c.in-Some.start _ _ c.in-Some.is (c.in_ok-start.ensures.eats g.B.Bodies.is_faithful)).on in
+    let p = err_from_is_err_and c.from_residual-in_err-expr-in-Some.result c.from_residual-in_err-expr-in-Some.ensures.1 in rw (p.1, p.2)
+    (m.no (s.unheard_after some
+    (s.unheard_call (λ x p. key_close c.in-Some.start p.0 x p.1) (λ x ts. key.computed_key_splits _ c.in-Some.start x ts) c.in_err-expr-in-Some.ensures.reads)) c.parse_assignment_expr_with_in.ensures.grows)
+
+pub parse_prop_name-returns-in_ok-expr-in-Some : goal.parse_prop_name-returns-in_ok-expr-in-Some
+parse_prop_name-returns-in_ok-expr-in-Some g t c =
+    let some = s.on_call (λ x p. key_by g.B.BodyForms.forms p.0 x p.1) (λ x ts. key.key_splits _ x ts)
+    (s.eats_some g.B.Bodies.is_faithful is_lbracket _ c.in-Some.start _ _ c.in-Some.is (c.in_ok-start.ensures.eats g.B.Bodies.is_faithful)).on in
+    m.after_held c.computed_prop_name.result
+    (s.on_then some
+    (s.on_call (λ x p. key_close c.in-Some.start p.0 x p.1) (λ x ts. key.computed_key_splits _ c.in-Some.start x ts) c.in_ok-expr-in-Some.ensures.reads.on))
+    c.parse_assignment_expr_with_in.ensures.grows (λ x. apart-lower (key_parts x) c.in_ok-expr-in-Some.ensures.from.above) c.computed_prop_name.ensures
 
 pub parse_prop_name-returns-in-None : goal.parse_prop_name-returns-in-None
 parse_prop_name-returns-in-None g t c =
@@ -684,157 +1261,28 @@ parse_prop_name-returns-in-None g t c =
     (s.eats_none g.B.Bodies.is_faithful is_lbracket _ _ _ c.in-None.is (c.in_ok-start.ensures.eats g.B.Bodies.is_faithful)))
     (grows-same _) c.parse_plain_prop_name.ensures
 
-pub parse_computed_prop_name-returns-in_err-expr : goal.parse_computed_prop_name-returns-in_err-expr
-parse_computed_prop_name-returns-in_err-expr g t c =
-    let p = err_from_is_err_and c.from_residual.result c.from_residual.ensures.1 in rw (p.1, p.2)
-    (m.no (s.unheard_call (λ x p. key_close c.args.start p.0 x p.1) (λ x ts. key.computed_key_splits _ c.args.start x ts) c.in_err-expr.ensures.reads) c.parse_assignment_expr_with_in.ensures.grows)
-
-pub parse_computed_prop_name-returns-in_err-end : goal.parse_computed_prop_name-returns-in_err-end
-parse_computed_prop_name-returns-in_err-end g t c =
-    let e = tree_of c.parse_assignment_expr_with_in.new.self.nodes c.in_ok-expr.expr in
-    let p = err_from_is_err_and c.from_residual-in_err-end.result c.from_residual-in_err-end.ensures.1 in rw (p.1, p.2)
-    (m.no (s.unheard_after (s.on_call (λ x p. key_close c.args.start p.0 x p.1) (λ x ts. key.computed_key_splits _ c.args.start x ts) c.in_ok-expr.ensures.reads.on)
-    (s.unheard_call (λ x q. Some (computed_e (to c.args.start q.0) e, q.1)) (λ x ts. refl) (c.in_err-end.ensures.expects g.B.Bodies.is_faithful))) c.parse_assignment_expr_with_in.ensures.grows)
-
-pub parse_computed_prop_name-returns : goal.parse_computed_prop_name-returns
-parse_computed_prop_name-returns g t c =
-    let e = tree_of c.parse_assignment_expr_with_in.new.self.nodes c.in_ok-expr.expr in
-    let whole = ap (λ v. computed_e v e) (sym (span_is c.new-span.result c.args.start.lo c.in_ok-end.end.hi c.new-span.ensures.lo c.new-span.ensures.hi)) in
-    m.yes (Ok _)
-    (s.heard_answer whole (s.heard_more (λ x p. key_close c.args.start p.0 x p.1) (λ x ts. key.computed_key_splits _ c.args.start x ts) c.in_ok-expr.ensures.reads
-    (s.on_call (λ x q. Some (computed_e (to c.args.start q.0) e, q.1)) (λ x ts. refl) (c.in_ok-end.ensures.expects g.B.Bodies.is_faithful).on)))
-    c.parse_assignment_expr_with_in.ensures.grows (apart-from (expr_part c.in_ok-expr.expr) c.in_ok-expr.ensures.from)
-
-pub parse_cover_prop-returns-in_err-key : goal.parse_cover_prop-returns-in_err-key
-parse_cover_prop-returns-in_err-key g t c =
-    let p = err_from_is_err_and c.from_residual.result c.from_residual.ensures.1 in rw (p.1, p.2)
-    (m.no (s.unheard_call (λ x p. cover_behind _ p.0 x p.1) (λ x ts. props.cover_splits _ x ts) (c.in_err-key.ensures.parses g.B.Bodies.is_faithful)) (grows-same _))
-
-pub parse_cover_prop-returns-in_err-eat : goal.parse_cover_prop-returns-in_err-eat
-parse_cover_prop-returns-in_err-eat g t c =
-    let n = ident_spelling c.in_ok-key.key in
-    let p = err_from_is_err_and c.from_residual-in_err-eat.result c.from_residual-in_err-eat.ensures.1 in rw (p.1, p.2)
-    (m.no (s.unheard_after (s.on_call (λ x p. cover_behind _ p.0 x p.1) (λ x ts. props.cover_splits _ x ts) (c.in_ok-key.ensures.parses g.B.Bodies.is_faithful).on)
-    (s.unheard_call (λ x p. cover_by _ n p.0 x p.1) (λ x ts. props.cover_behind_splits _ n x ts) (c.in_err-eat.ensures.eats g.B.Bodies.is_faithful))) (grows-same _))
-
-pub parse_cover_prop-returns-in-Some : goal.parse_cover_prop-returns-in-Some
-parse_cover_prop-returns-in-Some g t c =
-    let n = ident_spelling c.in_ok-key.key in
-    m.after c.parse_cover_value.result
-    (s.on_then (s.on_call (λ x p. cover_behind _ p.0 x p.1) (λ x ts. props.cover_splits _ x ts) (c.in_ok-key.ensures.parses g.B.Bodies.is_faithful).on)
-    (s.on_call (λ x p. cover_by _ n p.0 x p.1) (λ x ts. props.cover_behind_splits _ n x ts)
-    (s.eats_some g.B.Bodies.is_faithful is_equals _ c.in-Some.field-0 _ _ c.in-Some.is (c.in_ok-eat.ensures.eats g.B.Bodies.is_faithful)).on))
-    (grows-same _) c.parse_cover_value.ensures
-
-pub parse_cover_prop-returns-in-None : goal.parse_cover_prop-returns-in-None
-parse_cover_prop-returns-in-None g t c =
-    let n = ident_spelling c.in_ok-key.key in
-    m.no (s.unheard_after (s.on_then (s.on_call (λ x p. cover_behind _ p.0 x p.1) (λ x ts. props.cover_splits _ x ts) (c.in_ok-key.ensures.parses g.B.Bodies.is_faithful).on)
-    (s.on_call (λ x p. cover_by g.B.BodyForms.forms n p.0 x p.1) (λ x ts. props.cover_behind_splits _ n x ts)
-    (s.eats_none g.B.Bodies.is_faithful is_equals _ _ _ c.in-None.is (c.in_ok-eat.ensures.eats g.B.Bodies.is_faithful))))
-    (s.unheard_none (λ x ts. refl) c.unexpected.ensures.refuses)) (grows-same _)
-
-pub parse_cover_value-returns-in_err-value : goal.parse_cover_value-returns-in_err-value
-parse_cover_value-returns-in_err-value g t c =
-    let n = ident_spelling c.args.key in
-    let p = err_from_is_err_and c.from_residual.result c.from_residual.ensures.1 in rw (p.1, p.2)
-    (m.no (s.unheard_call (λ x p. Some (cover_e (to n.at (span_of p.0)) (ident_e n.at n.text) p.0, p.1)) (λ x ts. props.cover_tail_splits _ n x ts) c.in_err-value.ensures.reads)
-    c.parse_assignment_expr_with_in.ensures.grows)
-
-pub parse_cover_value-returns : goal.parse_cover_value-returns
-parse_cover_value-returns g t c =
-    let n = ident_spelling c.args.key in
-    let value = tree_of c.parse_assignment_expr_with_in.new.self.nodes c.in_ok-value.value in
-    m.yes (Ok _)
-    (s.heard_answer (ap (λ v. cover_e v (ident_e n.at n.text) value) (sym c.span_to-span.ensures))
-    (s.heard_call (λ x p. Some (cover_e (to n.at (span_of p.0)) (ident_e n.at n.text) p.0, p.1)) (λ x ts. props.cover_tail_splits _ n x ts) (λ x ts. refl) c.in_ok-value.ensures.reads))
-    c.parse_assignment_expr_with_in.ensures.grows (apart-from (expr_part c.in_ok-value.value) c.in_ok-value.ensures.from)
-
-pub parse_plain_prop-returns-in_err-look : goal.parse_plain_prop-returns-in_err-look
-parse_plain_prop-returns-in_err-look g t c =
-    let p = err_from_is_err_and c.from_residual.result c.from_residual.ensures.1 in rw (p.1, p.2)
-    (m.no (s.unheard_memory c.in_err-look.ensures.looks) (grows-same _))
-
-pub parse_plain_prop-returns-in_err-prop_kind : goal.parse_plain_prop-returns-in_err-prop_kind
-parse_plain_prop-returns-in_err-prop_kind g t c =
-    let p = err_from_is_err_and c.from_residual-in_err-prop_kind.result c.from_residual-in_err-prop_kind.ensures.1 in rw (p.1, p.2)
-    (m.no (s.unheard_memory (s.forgoes_later (s.here_leads c.in_ok-look.ensures.looks) c.in_err-prop_kind.ensures.tells)) (grows-same _))
-
-pub parse_plain_prop-returns-in-Shorthand : goal.parse_plain_prop-returns-in-Shorthand
-parse_plain_prop-returns-in-Shorthand g t c =
-    m.after c.parse_shorthand_prop.result (s.on_told c.in_ok-look.ensures.looks c.in_ok-prop_kind.ensures.tells (λ x ts same e told.
-    props.plain_short _ x ts (told ∙ c.in-Shorthand.is))) (grows-same _) c.parse_shorthand_prop.ensures
-
-pub parse_plain_prop-returns-in-Cover : goal.parse_plain_prop-returns-in-Cover
-parse_plain_prop-returns-in-Cover g t c =
-    m.after c.parse_cover_prop.result (s.on_told c.in_ok-look.ensures.looks c.in_ok-prop_kind.ensures.tells (λ x ts same e told.
-    props.plain_cover _ x ts (told ∙ c.in-Cover.is))) (grows-same _) c.parse_cover_prop.ensures
-
-pub parse_plain_prop-returns-in-Key : goal.parse_plain_prop-returns-in-Key
-parse_plain_prop-returns-in-Key g t c =
-    m.after c.parse_key_prop.result (s.on_told c.in_ok-look.ensures.looks c.in_ok-prop_kind.ensures.tells (λ x ts same e told.
-    props.plain_key _ x ts (told ∙ c.in-Key.is))) (grows-same _) c.parse_key_prop.ensures
-
-pub parse_plain_prop-returns-in_err-start-in-Method : goal.parse_plain_prop-returns-in_err-start-in-Method
-parse_plain_prop-returns-in_err-start-in-Method g t c =
-    let kind = c.in-Method.kind in
-    let p = err_from_is_err_and c.from_residual-in_err-start-in-Method.result c.from_residual-in_err-start-in-Method.ensures.1 in rw (p.1, p.2)
-    (m.no (s.unheard_after (s.on_told c.in_ok-look.ensures.looks c.in_ok-prop_kind.ensures.tells (λ x ts same e told. props.plain_method _ kind x ts (told ∙ c.in-Method.is)))
-    (s.unheard_call (λ x p. method_tail _ kind p.0 x p.1) (λ x ts. refl) (c.in_err-start-in-Method.ensures.parses g.B.Bodies.is_faithful))) (grows-same _))
-
-pub parse_plain_prop-returns-in_ok-start-in-Method : goal.parse_plain_prop-returns-in_ok-start-in-Method
-parse_plain_prop-returns-in_ok-start-in-Method g t c =
-    let kind = c.in-Method.kind in
-    m.after c.parse_method.result (s.on_then (s.on_told c.in_ok-look.ensures.looks c.in_ok-prop_kind.ensures.tells (λ x ts same e told. props.plain_method _ kind x ts (told ∙ c.in-Method.is)))
-    (s.on_call (λ x p. method_tail _ kind p.0 x p.1) (λ x ts. refl) (c.in_ok-start-in-Method.ensures.parses g.B.Bodies.is_faithful).on)) (grows-same _) c.parse_method.ensures
-
-pub parse_plain_prop-returns-in-Questioned : goal.parse_plain_prop-returns-in-Questioned
-parse_plain_prop-returns-in-Questioned g t c =
-    m.after c.parse_questioned_prop.result (s.on_told c.in_ok-look.ensures.looks c.in_ok-prop_kind.ensures.tells (λ x ts same e told.
-    props.plain_questioned _ x ts (told ∙ c.in-Questioned.is))) (grows-same _) c.parse_questioned_prop.ensures
-
-pub parse_plain_prop-returns-in-Unfit : goal.parse_plain_prop-returns-in-Unfit
-parse_plain_prop-returns-in-Unfit g t c =
-    m.no (s.unheard_told c.in_ok-look.ensures.looks c.in_ok-prop_kind.ensures.tells (λ x ts same e told.
-    props.plain_unfit _ x ts (told ∙ c.in-Unfit.is)) c.unfit_prop.ensures.refuses) (grows-same _)
-
-pub parse_plain_prop-returns-in-Spread : goal.parse_plain_prop-returns-in-Spread
-parse_plain_prop-returns-in-Spread g t c =
-    m.no (s.unheard_told c.in_ok-look.ensures.looks c.in_ok-prop_kind.ensures.tells (λ x ts same e told.
-    props.plain_spread _ x ts (told ∙ c.in-Spread.is)) c.unexpected.ensures.refuses) (grows-same _)
-
-pub parse_key_prop-returns-in_err-key : goal.parse_key_prop-returns-in_err-key
-parse_key_prop-returns-in_err-key g t c =
-    let p = err_from_is_err_and c.from_residual.result c.from_residual.ensures.1 in rw (p.1, p.2)
-    (m.no (s.unheard_call (λ x p. behind_key _ p.0 x p.1) (λ x ts. method.key_splits _ x ts) c.in_err-key.ensures.reads) c.parse_prop_name.ensures.grows)
-
-pub parse_key_prop-returns-in_err-after : goal.parse_key_prop-returns-in_err-after
-parse_key_prop-returns-in_err-after g t c =
-    let p = err_from_is_err_and c.from_residual-in_err-after.result c.from_residual-in_err-after.ensures.1 in rw (p.1, p.2)
-    (m.no (s.unheard_after (s.on_call (λ x p. behind_key _ p.0 x p.1) (λ x ts. method.key_splits _ x ts) c.in_ok-key.ensures.reads.on)
-    (s.unheard_call (λ x p. Some (prop_tree (key_at c.parse_prop_name.new.self.nodes c.in_ok-key.key) p.0, p.1)) (λ x ts. method.behind_key_splits _ (key_at c.parse_prop_name.new.self.nodes c.in_ok-key.key) x ts) c.in_err-after.ensures.reads)) (grows-then c.parse_prop_name.ensures.grows c.parse_after_key.ensures.grows))
-
-pub parse_key_prop-returns : goal.parse_key_prop-returns
-parse_key_prop-returns g t c =
-    let key = key_at c.parse_prop_name.new.self.nodes c.in_ok-key.key in
-    let made = method.key_prop_made c.in_ok-key.key c.in_ok-after.after c.key_prop.result c.key_prop.ensures c.parse_after_key.ensures.grows c.in_ok-key.ensures.from c.in_ok-after.ensures.from in
-    m.yes (Ok _)
-    (s.heard_answer made.0
-    (s.heard_more (λ x p. behind_key _ p.0 x p.1) (λ x ts. method.key_splits _ x ts) c.in_ok-key.ensures.reads
-    (s.on_call (λ x p. Some (prop_tree key p.0, p.1)) (λ x ts. method.behind_key_splits _ key x ts) c.in_ok-after.ensures.reads.on)))
-    (grows-then c.parse_prop_name.ensures.grows c.parse_after_key.ensures.grows) made.1
-
 pub parse_after_key-returns-in_err-eat : goal.parse_after_key-returns-in_err-eat
 parse_after_key-returns-in_err-eat g t c =
     let p = err_from_is_err_and c.from_residual.result c.from_residual.ensures.1 in rw (p.1, p.2)
     (m.no (s.unheard_call (λ x p. after_by _ p.0 x p.1) (λ x ts. method.after_splits _ x ts) (c.in_err-eat.ensures.eats g.B.Bodies.is_faithful)) (grows-same _))
 
-pub parse_after_key-returns-in-Some : goal.parse_after_key-returns-in-Some
-parse_after_key-returns-in-Some g t c =
-    m.after c.parse_key_value.result
-    (s.on_call (λ x p. after_by _ p.0 x p.1) (λ x ts. method.after_splits _ x ts)
-    (s.eats_some g.B.Bodies.is_faithful is_colon _ c.in-Some.field-0 _ _ c.in-Some.is (c.in_ok-eat.ensures.eats g.B.Bodies.is_faithful)).on)
-    (grows-same _) c.parse_key_value.ensures
+pub parse_after_key-returns-in_err-value-in-Some : goal.parse_after_key-returns-in_err-value-in-Some
+parse_after_key-returns-in_err-value-in-Some g t c =
+    let some = s.on_call (λ x p. after_by g.B.BodyForms.forms p.0 x p.1) (λ x ts. method.after_splits _ x ts)
+    (s.eats_some g.B.Bodies.is_faithful is_colon _ c.in-Some.field-0 _ _ c.in-Some.is (c.in_ok-eat.ensures.eats g.B.Bodies.is_faithful)).on in
+    let p = err_from_is_err_and c.from_residual-in_err-value-in-Some.result c.from_residual-in_err-value-in-Some.ensures.1 in rw (p.1, p.2)
+    (m.no (s.unheard_after some
+    (s.unheard_call (λ x p. Some (value_e (span_of p.0) p.0, p.1)) (λ x ts. method.after_colon_splits _ x ts) c.in_err-value-in-Some.ensures.reads)) c.parse_assignment_expr_with_in.ensures.grows)
+
+pub parse_after_key-returns-in_ok-value-in-Some : goal.parse_after_key-returns-in_ok-value-in-Some
+parse_after_key-returns-in_ok-value-in-Some g t c =
+    let value = tree_of c.parse_assignment_expr_with_in.new.self.nodes c.in_ok-value-in-Some.value in
+    let some = s.on_call (λ x p. after_by g.B.BodyForms.forms p.0 x p.1) (λ x ts. method.after_splits _ x ts)
+    (s.eats_some g.B.Bodies.is_faithful is_colon _ c.in-Some.field-0 _ _ c.in-Some.is (c.in_ok-eat.ensures.eats g.B.Bodies.is_faithful)).on in
+    m.yes (Ok _)
+    (s.heard_answer (ap (λ v. value_e v value) (sym c.span-span.ensures)) (s.heard_after some
+    (s.heard_call (λ x p. Some (value_e (span_of p.0) p.0, p.1)) (λ x ts. method.after_colon_splits _ x ts) (λ x ts. refl) c.in_ok-value-in-Some.ensures.reads)))
+    c.parse_assignment_expr_with_in.ensures.grows c.in_ok-value-in-Some.ensures.from
 
 pub parse_after_key-returns-in-None : goal.parse_after_key-returns-in-None
 parse_after_key-returns-in-None g t c =
@@ -843,60 +1291,141 @@ parse_after_key-returns-in-None g t c =
     (s.eats_none g.B.Bodies.is_faithful is_colon _ _ _ c.in-None.is (c.in_ok-eat.ensures.eats g.B.Bodies.is_faithful)))
     (grows-same _) c.parse_key_method.ensures
 
-pub parse_key_value-returns-in_err-value : goal.parse_key_value-returns-in_err-value
-parse_key_value-returns-in_err-value g t c =
+pub parse_primary_expr-returns-then-is_backquote : goal.parse_primary_expr-returns-then-is_backquote
+parse_primary_expr-returns-then-is_backquote g t c =
+    m.after c.parse_tpl.result (s.on_told c.in_ok-look.ensures.looks c.in_ok-is_async_function.ensures.tells (λ x ts same e told. rule.template_picked _ x ts
+    (ap (at_token is_backquote) e ∙ sym c.is_backquote.ensures.value ∙ c.if-is_backquote.true))) (grows-same _) c.parse_tpl.ensures
+
+pub parse_tpl-returns-in_err-start : goal.parse_tpl-returns-in_err-start
+parse_tpl-returns-in_err-start g t c =
     let p = err_from_is_err_and c.from_residual.result c.from_residual.ensures.1 in rw (p.1, p.2)
-    (m.no (s.unheard_call (λ x p. Some (value_e (span_of p.0) p.0, p.1)) (λ x ts. method.after_colon_splits _ x ts) c.in_err-value.ensures.reads) c.parse_assignment_expr_with_in.ensures.grows)
+    (m.no (s.unheard_call (λ x p. template_tail _ c.args.is_tagged p.0 x p.1) (λ x ts. tpl.template_splits _ c.args.is_tagged x ts) (c.in_err-start.ensures.expects g.B.Bodies.is_faithful)) (grows-same _))
 
-pub parse_key_value-returns : goal.parse_key_value-returns
-parse_key_value-returns g t c =
-    let value = tree_of c.parse_assignment_expr_with_in.new.self.nodes c.in_ok-value.value in
-    m.yes (Ok _)
-    (s.heard_answer (ap (λ v. value_e v value) (sym c.span-span.ensures))
-    (s.heard_call (λ x p. Some (value_e (span_of p.0) p.0, p.1)) (λ x ts. method.after_colon_splits _ x ts) (λ x ts. refl) c.in_ok-value.ensures.reads))
-    c.parse_assignment_expr_with_in.ensures.grows c.in_ok-value.ensures.from
+pub parse_tpl-returns-in_err-parts : goal.parse_tpl-returns-in_err-parts
+parse_tpl-returns-in_err-parts g t c =
+    let start = c.in_ok-start.start in
+    let p = err_from_is_err_and c.from_residual-in_err-parts.result c.from_residual-in_err-parts.ensures.1 in rw (p.1, p.2)
+    (m.no (s.unheard_after (s.on_call (λ x p. template_tail _ c.args.is_tagged p.0 x p.1) (λ x ts. tpl.template_splits _ c.args.is_tagged x ts) (c.in_ok-start.ensures.expects g.B.Bodies.is_faithful).on)
+    (s.unheard_call (λ x p. Some (tpl_e (to start (span_of p.0)) p.0, p.1)) (λ x ts. refl) c.in_err-parts.ensures.reads)) c.parse_tpl_elements.ensures.grows)
 
-pub parse_method-returns-in_err-key : goal.parse_method-returns-in_err-key
-parse_method-returns-in_err-key g t c =
+pub parse_tpl-tpl-node-requires : goal.parse_tpl-tpl-node-requires
+parse_tpl-tpl-node-requires g t c = record { apart = apart-down (exprs_parts c.in_ok-parts.parts.exprs) c.in_ok-parts.ensures.from }
+
+pub parse_tpl-returns : goal.parse_tpl-returns
+parse_tpl-returns g t c =
+    let start = c.in_ok-start.start in
+    let parts = c.in_ok-parts.parts in
+    let now = c.parse_tpl_elements.new.self.nodes in
+    m.node _ c.tpl-node.result c.made.result (omega arith)
+    (made_over _ _ _ (exprs_parts parts.exprs) _ c.tpl-node.result c.tpl-node.ensures.made c.in_ok-parts.ensures.from)
+    c.made.ensures.ok c.made.ensures.refused c.parse_tpl_elements.ensures.grows c.tpl-node.ensures.grows
+    (s.heard_answer (ap (λ v. node tpl_kind (to start parts.end) v) (sym (trees-both (map quasi_tree parts.quasis.items) (map (tree_of now) parts.exprs.items))))
+    (s.heard_more (λ x p. template_tail _ c.args.is_tagged p.0 x p.1) (λ x ts. tpl.template_splits _ c.args.is_tagged x ts) (c.in_ok-start.ensures.expects g.B.Bodies.is_faithful)
+    (s.on_call (λ x p. Some (tpl_e (to start (span_of p.0)) p.0, p.1)) (λ x ts. refl) c.in_ok-parts.ensures.reads.on)))
+
+pub parse_tpl_elements-loop-exprs-init : goal.parse_tpl_elements-loop-exprs-init
+parse_tpl_elements-loop-exprs-init g t c = (
+  s.on_here g.met.I.Tokens.laws _ (λ x ts. tpl.parts_first _ c.args.is_tagged x ts
+      ∙ ap (λ v. parts_behind g.B.BodyForms.forms c.args.is_tagged (trees (map quasi_tree v)) nil x ts) (sym c.new-quasis.ensures.items)
+      ∙ ap (λ v. parts_behind g.B.BodyForms.forms c.args.is_tagged (trees (map quasi_tree c.new-quasis.result.items)) (trees (map (tree_of c.args.self.now.nodes) v)) x ts) (sym c.new-exprs.ensures.items)),
+  omega arith,
+  grows-same _,
+  record { chained = ap (λ v. chain (seat_at c.args.self.now.nodes) (count c.args.self.now.nodes) (flat one_expr v) (count c.args.self.now.nodes)) c.new-exprs.ensures.items ∙ (apart-none {ns = c.args.self.now.nodes} {k = count c.args.self.now.nodes} (omega arith)).chained },
+)
+
+pub parse_tpl_elements-loop-exprs-preserved : goal.parse_tpl_elements-loop-exprs-preserved
+parse_tpl_elements-loop-exprs-preserved g t c =
+    let texts = trees (map quasi_tree c.loop-exprs.quasis.items) in
+    let exprs = trees (map (tree_of c.loop-exprs.self.nodes) c.loop-exprs.exprs.items) in
+    let now = trees_append texts (cons (quasi_tree c.in_ok-quasi.quasi) nil) in
+    let element = s.on_call (λ x p. parts_after g.B.BodyForms.forms c.args.is_tagged (trees_append texts (cons p.0 nil)) exprs x p.1) (λ x ts. tpl.behind_splits _ c.args.is_tagged texts exprs x ts) (c.in_ok-quasi.ensures.parses g.B.Bodies.is_faithful).on in
+    let opened = s.on_call (λ x p. parts_by g.B.BodyForms.forms c.args.is_tagged now exprs p.0 x p.1) (λ x ts. refl) (s.on_answer c.in-None.is (c.in_ok-end.ensures.ends g.B.Bodies.is_faithful).on) in
+    let added = ap (λ v. trees (map quasi_tree v)) c.in_ok-add.ensures.added ∙ trees-more quasi_tree c.loop-exprs.quasis.items c.in_ok-quasi.quasi in
+    let grows = grows-then (grows-kept c.parse_tpl_element.ensures.nodes) c.parse_assignment_expr_with_in.ensures.grows in
+    let nodes = c.parse_assignment_expr_with_in.new.self.nodes in
+    let more = ap (λ v. trees (map (tree_of nodes) v)) c.in_ok-add-2.ensures.added ∙ exprs-more c.loop-exprs.exprs.items c.in_ok-expr.expr grows c.loop-exprs.invariant.3 in
+    let parts = exprs-apart-more c.loop-exprs.exprs.items c.in_ok-expr.expr grows c.loop-exprs.invariant.3 (from-down (grows-count (grows-kept c.parse_tpl_element.ensures.nodes)) c.in_ok-expr.ensures.from) in (
+      s.on_then c.loop-exprs.invariant.0 (s.on_then element (s.on_then opened
+          (s.on_to (s.on_call (λ x p. parts_behind g.B.BodyForms.forms c.args.is_tagged now (trees_append exprs (cons p.0 nil)) x p.1) (λ x ts. refl)
+          (s.on_then (s.on_call (λ x p. tpl_expr_close g.B.BodyForms.forms p.0 x p.1) (λ x ts. refl) c.in_ok-expr.ensures.reads.on)
+          (s.on_call (λ x q. Some (tree_of nodes c.in_ok-expr.expr, q.1)) (λ x ts. refl) (c.in_ok-expect.ensures.expects g.B.Bodies.is_faithful).on)))
+          (λ x ts. tpl.behind_same g.B.BodyForms.forms c.args.is_tagged (sym added) (sym more) x ts)))),
+      let a = c.loop-exprs.invariant.1 in let b = c.in_ok-quasi.ensures.falls in let d = c.in_ok-end.ensures.falls in let e = c.in_ok-expr.ensures.falls in let f = c.in_ok-expect.ensures.falls in omega arith,
+      grows-then c.loop-exprs.invariant.2 grows,
+      record { chained = ap (λ v. chain (seat_at nodes) (count c.args.self.now.nodes) (flat one_expr v) (count nodes)) c.in_ok-add-2.ensures.added ∙ parts.chained },
+    )
+
+pub parse_tpl_elements-returns-in_err-quasi : goal.parse_tpl_elements-returns-in_err-quasi
+parse_tpl_elements-returns-in_err-quasi g t c =
+    let texts = trees (map quasi_tree c.loop-exprs.quasis.items) in
+    let exprs = trees (map (tree_of c.loop-exprs.self.nodes) c.loop-exprs.exprs.items) in
     let p = err_from_is_err_and c.from_residual.result c.from_residual.ensures.1 in rw (p.1, p.2)
-    (m.no (s.unheard_call (λ x p. method_close _ c.args.kind c.args.start p.0 x p.1) (λ x ts. method.method_tail_splits _ c.args.kind c.args.start x ts) c.in_err-key.ensures.reads) c.parse_prop_name.ensures.grows)
+    (m.no (s.unheard_after c.loop-exprs.invariant.0 (s.unheard_call (λ x p. parts_after g.B.BodyForms.forms c.args.is_tagged (trees_append texts (cons p.0 nil)) exprs x p.1) (λ x ts. tpl.behind_splits _ c.args.is_tagged texts exprs x ts) (c.in_err-quasi.ensures.parses g.B.Bodies.is_faithful)))
+    (grows-then c.loop-exprs.invariant.2 (grows-kept c.parse_tpl_element.ensures.nodes)))
 
-pub parse_method-returns-in_err-function : goal.parse_method-returns-in_err-function
-parse_method-returns-in_err-function g t c =
-    let key = key_at c.parse_prop_name.new.self.nodes c.in_ok-key.key in
-    let p = err_from_is_err_and c.from_residual-in_err-function.result c.from_residual-in_err-function.ensures.1 in rw (p.1, p.2)
-    (m.no (s.unheard_after (s.on_call (λ x p. method_close _ c.args.kind c.args.start p.0 x p.1) (λ x ts. method.method_tail_splits _ c.args.kind c.args.start x ts) c.in_ok-key.ensures.reads.on)
-    (s.unheard_call (λ x p. Some (method_tree c.args.kind c.args.start key p.0, p.1)) (λ x ts. method.method_close_splits _ c.args.kind c.args.start key x ts) c.in_err-function.ensures.reads)) (grows-then c.parse_prop_name.ensures.grows c.parse_method_function.ensures.grows))
+pub parse_tpl_elements-returns-in_err-add : goal.parse_tpl_elements-returns-in_err-add
+parse_tpl_elements-returns-in_err-add g t c =
+    let p = err_from_is_err_and c.from_residual-in_err-add.result c.from_residual-in_err-add.ensures.1 in rw (p.1, p.2)
+    (m.no (s.unheard_memory (s.forgoes_later (s.leads_then c.loop-exprs.invariant.0.leads (c.in_ok-quasi.ensures.parses g.B.Bodies.is_faithful).on.leads) (s.forgoes_here g.met.I.Tokens.laws _ _ _ c.in_err-add.ensures.refused)))
+    (grows-then c.loop-exprs.invariant.2 (grows-kept c.parse_tpl_element.ensures.nodes)))
 
-pub parse_method-returns : goal.parse_method-returns
-parse_method-returns g t c =
-    let key = key_at c.parse_prop_name.new.self.nodes c.in_ok-key.key in
+pub parse_tpl_elements-returns-in_err-end : goal.parse_tpl_elements-returns-in_err-end
+parse_tpl_elements-returns-in_err-end g t c =
+    let texts = trees (map quasi_tree c.loop-exprs.quasis.items) in
+    let exprs = trees (map (tree_of c.loop-exprs.self.nodes) c.loop-exprs.exprs.items) in
+    let now = trees_append texts (cons (quasi_tree c.in_ok-quasi.quasi) nil) in
+    let element = s.on_call (λ x p. parts_after g.B.BodyForms.forms c.args.is_tagged (trees_append texts (cons p.0 nil)) exprs x p.1) (λ x ts. tpl.behind_splits _ c.args.is_tagged texts exprs x ts) (c.in_ok-quasi.ensures.parses g.B.Bodies.is_faithful).on in
+    let p = err_from_is_err_and c.from_residual-in_err-end.result c.from_residual-in_err-end.ensures.1 in rw (p.1, p.2)
+    (m.no (s.unheard_after c.loop-exprs.invariant.0 (s.unheard_after element (s.unheard_call (λ x p. parts_by g.B.BodyForms.forms c.args.is_tagged now exprs p.0 x p.1) (λ x ts. refl) (c.in_err-end.ensures.ends g.B.Bodies.is_faithful))))
+    (grows-then c.loop-exprs.invariant.2 (grows-kept c.parse_tpl_element.ensures.nodes)))
+
+pub parse_tpl_elements-returns-in-Some : goal.parse_tpl_elements-returns-in-Some
+parse_tpl_elements-returns-in-Some g t c =
+    let texts = trees (map quasi_tree c.loop-exprs.quasis.items) in
+    let exprs = trees (map (tree_of c.loop-exprs.self.nodes) c.loop-exprs.exprs.items) in
+    let now = trees_append texts (cons (quasi_tree c.in_ok-quasi.quasi) nil) in
+    let element = s.on_call (λ x p. parts_after g.B.BodyForms.forms c.args.is_tagged (trees_append texts (cons p.0 nil)) exprs x p.1) (λ x ts. tpl.behind_splits _ c.args.is_tagged texts exprs x ts) (c.in_ok-quasi.ensures.parses g.B.Bodies.is_faithful).on in
+    let added = ap (λ v. trees (map quasi_tree v)) c.in_ok-add.ensures.added ∙ trees-more quasi_tree c.loop-exprs.quasis.items c.in_ok-quasi.quasi in
+    let kept = grows-kept c.parse_tpl_element.ensures.nodes in
+    let some = s.heard_answer c.in-Some.is (c.in_ok-end.ensures.ends g.B.Bodies.is_faithful) in
+    let whole = ap (λ v. parts_e c.in-Some.end v exprs) (sym added)
+    ∙ ap (λ v. parts_e c.in-Some.end (trees (map quasi_tree c.add.new.list.items)) v) (sym (exprs-later c.loop-exprs.exprs.items kept c.loop-exprs.invariant.3)) in
     m.yes (Ok _)
-    (method.method_heard _ c.args.kind c.args.start c.in_ok-key.key c.in_ok-function.function c.in_ok-function.param c.method_of.result c.method_of.ensures c.parse_method_function.ensures.grows c.in_ok-key.ensures.from c.in_ok-function.ensures.from
-    (s.heard_more (λ x p. method_close _ c.args.kind c.args.start p.0 x p.1) (λ x ts. method.method_tail_splits _ c.args.kind c.args.start x ts) c.in_ok-key.ensures.reads
-    (s.on_call (λ x p. Some (method_tree c.args.kind c.args.start key p.0, p.1)) (λ x ts. method.method_close_splits _ c.args.kind c.args.start key x ts) c.in_ok-function.ensures.reads.on)))
-    (grows-then c.parse_prop_name.ensures.grows c.parse_method_function.ensures.grows)
-    (method.method_apart c.args.kind c.args.start c.in_ok-key.key c.in_ok-function.function c.in_ok-function.param c.method_of.result c.method_of.ensures c.parse_method_function.ensures.grows c.in_ok-key.ensures.from c.in_ok-function.ensures.from)
+    (s.heard_answer whole (s.heard_after c.loop-exprs.invariant.0 (s.heard_after element (s.heard_call (λ x p. parts_by g.B.BodyForms.forms c.args.is_tagged now exprs p.0 x p.1) (λ x ts. refl) (λ x ts. refl) some))))
+    (grows-then c.loop-exprs.invariant.2 kept) (apart-later kept c.loop-exprs.invariant.3)
 
-pub parse_questioned_prop-returns-in_err-name : goal.parse_questioned_prop-returns-in_err-name
-parse_questioned_prop-returns-in_err-name g t c =
-    let p = err_from_is_err_and c.from_residual.result c.from_residual.ensures.1 in rw (p.1, p.2)
-    (m.no (s.unheard_none (λ x ts. refl) (c.in_err-name.ensures.parses g.B.Bodies.is_faithful).refuses) (grows-same _))
+pub parse_tpl_elements-returns-in_err-expr : goal.parse_tpl_elements-returns-in_err-expr
+parse_tpl_elements-returns-in_err-expr g t c =
+    let texts = trees (map quasi_tree c.loop-exprs.quasis.items) in
+    let exprs = trees (map (tree_of c.loop-exprs.self.nodes) c.loop-exprs.exprs.items) in
+    let now = trees_append texts (cons (quasi_tree c.in_ok-quasi.quasi) nil) in
+    let element = s.on_call (λ x p. parts_after g.B.BodyForms.forms c.args.is_tagged (trees_append texts (cons p.0 nil)) exprs x p.1) (λ x ts. tpl.behind_splits _ c.args.is_tagged texts exprs x ts) (c.in_ok-quasi.ensures.parses g.B.Bodies.is_faithful).on in
+    let opened = s.on_call (λ x p. parts_by g.B.BodyForms.forms c.args.is_tagged now exprs p.0 x p.1) (λ x ts. refl) (s.on_answer c.in-None.is (c.in_ok-end.ensures.ends g.B.Bodies.is_faithful).on) in
+    let p = err_from_is_err_and c.from_residual-in_err-expr.result c.from_residual-in_err-expr.ensures.1 in rw (p.1, p.2)
+    (m.no (s.unheard_after c.loop-exprs.invariant.0 (s.unheard_after element (s.unheard_after opened
+    (s.unheard_call (λ x p. parts_behind g.B.BodyForms.forms c.args.is_tagged now (trees_append exprs (cons p.0 nil)) x p.1) (λ x ts. refl)
+    (s.unheard_call (λ x p. tpl_expr_close g.B.BodyForms.forms p.0 x p.1) (λ x ts. refl) c.in_err-expr.ensures.reads)))))
+    (grows-then c.loop-exprs.invariant.2 (grows-then (grows-kept c.parse_tpl_element.ensures.nodes) c.parse_assignment_expr_with_in.ensures.grows)))
 
-pub parse_questioned_prop-returns-in-Shorthand : goal.parse_questioned_prop-returns-in-Shorthand
-parse_questioned_prop-returns-in-Shorthand g t c =
-    m.yes (Ok _)
-    (s.heard_nothing (c.in_ok-name.ensures.parses g.B.Bodies.is_faithful) (s.here g.met.I.Tokens.laws _))
-    (grows-same _) (apart-none (omega arith))
+pub parse_tpl_elements-returns-in_err-expect : goal.parse_tpl_elements-returns-in_err-expect
+parse_tpl_elements-returns-in_err-expect g t c =
+    let texts = trees (map quasi_tree c.loop-exprs.quasis.items) in
+    let exprs = trees (map (tree_of c.loop-exprs.self.nodes) c.loop-exprs.exprs.items) in
+    let now = trees_append texts (cons (quasi_tree c.in_ok-quasi.quasi) nil) in
+    let element = s.on_call (λ x p. parts_after g.B.BodyForms.forms c.args.is_tagged (trees_append texts (cons p.0 nil)) exprs x p.1) (λ x ts. tpl.behind_splits _ c.args.is_tagged texts exprs x ts) (c.in_ok-quasi.ensures.parses g.B.Bodies.is_faithful).on in
+    let opened = s.on_call (λ x p. parts_by g.B.BodyForms.forms c.args.is_tagged now exprs p.0 x p.1) (λ x ts. refl) (s.on_answer c.in-None.is (c.in_ok-end.ensures.ends g.B.Bodies.is_faithful).on) in
+    let e = tree_of c.parse_assignment_expr_with_in.new.self.nodes c.in_ok-expr.expr in
+    let p = err_from_is_err_and c.from_residual-in_err-expect.result c.from_residual-in_err-expect.ensures.1 in rw (p.1, p.2)
+    (m.no (s.unheard_after c.loop-exprs.invariant.0 (s.unheard_after element (s.unheard_after opened
+    (s.unheard_call (λ x p. parts_behind g.B.BodyForms.forms c.args.is_tagged now (trees_append exprs (cons p.0 nil)) x p.1) (λ x ts. refl)
+    (s.unheard_after (s.on_call (λ x p. tpl_expr_close g.B.BodyForms.forms p.0 x p.1) (λ x ts. refl) c.in_ok-expr.ensures.reads.on)
+    (s.unheard_call (λ x q. Some (e, q.1)) (λ x ts. refl) (c.in_err-expect.ensures.expects g.B.Bodies.is_faithful)))))))
+    (grows-then c.loop-exprs.invariant.2 (grows-then (grows-kept c.parse_tpl_element.ensures.nodes) c.parse_assignment_expr_with_in.ensures.grows)))
 
-pub parse_questioned_prop-returns-in-Cover : goal.parse_questioned_prop-returns-in-Cover
-parse_questioned_prop-returns-in-Cover g t c =
-    m.after c.parse_cover_value.result (s.on_nothing (c.in_ok-name.ensures.parses g.B.Bodies.is_faithful)) (grows-same _) c.parse_cover_value.ensures
-
-pub parse_questioned_prop-returns-in-Method : goal.parse_questioned_prop-returns-in-Method
-parse_questioned_prop-returns-in-Method g t c =
-    m.after c.parse_method.result (s.on_nothing (c.in_ok-name.ensures.parses g.B.Bodies.is_faithful)) (grows-same _) c.parse_method.ensures
-
-pub parse_questioned_prop-returns-in_default : goal.parse_questioned_prop-returns-in_default
-parse_questioned_prop-returns-in_default g t c =
-    m.no (s.unheard_none (λ x ts. refl) (s.refuses_later (c.in_ok-name.ensures.parses g.B.Bodies.is_faithful).on.leads c.unfit_behind.ensures.refuses)) (grows-same _)
+pub parse_tpl_elements-returns-in_err-add-2 : goal.parse_tpl_elements-returns-in_err-add-2
+parse_tpl_elements-returns-in_err-add-2 g t c =
+    let p = err_from_is_err_and c.from_residual-in_err-add-2.result c.from_residual-in_err-add-2.ensures.1 in rw (p.1, p.2)
+    (m.no (s.unheard_memory (s.forgoes_later (s.leads_then c.loop-exprs.invariant.0.leads (s.leads_then (c.in_ok-quasi.ensures.parses g.B.Bodies.is_faithful).on.leads (s.leads_then (c.in_ok-end.ensures.ends g.B.Bodies.is_faithful).on.leads
+    (s.leads_then c.in_ok-expr.ensures.reads.on.leads (c.in_ok-expect.ensures.expects g.B.Bodies.is_faithful).on.leads))))
+    (s.forgoes_here g.met.I.Tokens.laws _ _ _ c.in_err-add-2.ensures.refused)))
+    (grows-then c.loop-exprs.invariant.2 (grows-then (grows-kept c.parse_tpl_element.ensures.nodes) c.parse_assignment_expr_with_in.ensures.grows)))

@@ -1,14 +1,18 @@
 -- Each call is made with fewer tokens to come, or on the way down to a primary expression.
-use Rattle.std.proofs.Common.{◌+◌, ◌*◌, ◌≤◌}
+use Rattle.std.proofs.Common.{◌+◌, ◌*◌, ◌≤◌, not, map}
 use Rattle.swc_input.specs.Buffer.{to_come}
-use Rattle.swc_grammar.specs.Symbols.{Elements, Props}
-use Rattle.swc_grammar.specs.Clean.{sym, climb, run}
-use Rattle.swc_nodes.specs.Slots.{expr_part}
-use Rattle.swc_nodes.specs.Lists.{elem_parts, elem_trees, props_parts, props_trees}
+use Rattle.swc_ast.specs.Parts.{item_trees, quasi_tree}
+use Rattle.swc_ast.specs.Tree.{trees}
+use Rattle.swc_grammar.specs.Symbols.{Args, Elements, Props, Parts}
+use Rattle.swc_grammar.specs.Clean.{sym, links, climb, run}
+use Rattle.swc_nodes.specs.Slots.{expr_part, args_parts}
+use Rattle.swc_nodes.specs.Lists.{elem_parts, elem_trees, props_parts, props_trees, exprs_parts}
 use Rattle.swc_nodes.specs.Stands.{tree_at, count, first_at, Apart, From, Grows}
+use Rattle.swc_productions.specs.Links.{args_behind}
 use Rattle.swc_productions.specs.Lists.{elements_behind}
 use Rattle.swc_productions.specs.Properties.{props_behind}
 use Rattle.swc_productions.specs.Parsing.{On, tree_of}
+use Rattle.swc_productions.specs.Templates.{parts_behind}
 use Rattle.swc_productions.proofs.productions.Productions.+productions.Given as goal
 
 abbrev pub decreases-parse_paren_expr : goal.decreases-parse_paren_expr
@@ -17,17 +21,74 @@ decreases-parse_paren_expr g l = to_come g.I.Tokens.model l.self.now.input * 20 
 abbrev pub decreases-parse_primary_expr : goal.decreases-parse_primary_expr
 decreases-parse_primary_expr g l = to_come g.I.Tokens.model l.self.now.input * 20 + 2
 
+abbrev pub decreases-parse_base : goal.decreases-parse_base
+decreases-parse_base g l = to_come g.I.Tokens.model l.self.now.input * 20 + 3
+
+abbrev pub decreases-parse_super : goal.decreases-parse_super
+decreases-parse_super g l = to_come g.I.Tokens.model l.self.now.input * 20 + 19
+
+abbrev pub decreases-refuse_super : goal.decreases-refuse_super
+decreases-refuse_super g l = to_come g.I.Tokens.model l.self.now.input * 20 + 17
+
+abbrev pub decreases-parse_import : goal.decreases-parse_import
+decreases-parse_import g l = to_come g.I.Tokens.model l.self.now.input * 20 + 1
+
+abbrev pub decreases-parse_lhs_expr : goal.decreases-parse_lhs_expr
+decreases-parse_lhs_expr g l = to_come g.I.Tokens.model l.self.now.input * 20 + 4
+
+abbrev pub decreases-parse_new_expr : goal.decreases-parse_new_expr
+decreases-parse_new_expr g l = to_come g.I.Tokens.model l.self.now.input * 20 + 2
+
+abbrev pub decreases-parse_constructor : goal.decreases-parse_constructor
+decreases-parse_constructor g l = to_come g.I.Tokens.model l.self.now.input * 20 + 5
+
+abbrev pub decreases-parse_subscripts : goal.decreases-parse_subscripts
+decreases-parse_subscripts g l = to_come g.I.Tokens.model l.self.now.input * 20 + 3
+
+abbrev pub invariant-parse_subscripts-loop-head : goal.invariant-parse_subscripts-loop-head
+invariant-parse_subscripts-loop-head g l =
+    On g.I.Tokens.model g.B.Bodies.is_faithful
+    (run g.B.BodyForms.forms (links (not l.fn.no_call) (tree_of l.fn.self.nodes l.fn.obj)))
+    (run g.B.BodyForms.forms (links (not l.fn.no_call) (tree_of l.self.nodes l.obj)))
+    l.fn.self.input l.self.input
+    × (to_come g.I.Tokens.model l.self.input ≤ to_come g.I.Tokens.model l.fn.self.input)
+    × Grows l.fn.self.nodes l.self.nodes
+    × From (first_at l.fn.self.nodes l.fn.obj.0) l.self.nodes (expr_part l.obj)
+
+abbrev pub decreases-parse_subscripts-loop-head : goal.decreases-parse_subscripts-loop-head
+decreases-parse_subscripts-loop-head g l = to_come g.I.Tokens.model l.self.input
+
+abbrev pub decreases-parse_link : goal.decreases-parse_link
+decreases-parse_link g l = to_come g.I.Tokens.model l.self.now.input * 20 + 17
+
+abbrev pub decreases-parse_args : goal.decreases-parse_args
+decreases-parse_args g l = to_come g.I.Tokens.model l.self.now.input * 20 + 16
+
+abbrev pub decreases-parse_arg_list : goal.decreases-parse_arg_list
+decreases-parse_arg_list g l = to_come g.I.Tokens.model l.self.now.input * 20 + 15
+
+abbrev pub invariant-parse_arg_list-loop-items : goal.invariant-parse_arg_list-loop-items
+invariant-parse_arg_list-loop-items g l =
+    On g.I.Tokens.model g.B.Bodies.is_faithful
+    (run g.B.BodyForms.forms (sym (Args l.fn.is_dynamic_import)))
+    (args_behind g.B.BodyForms.forms l.fn.is_dynamic_import (item_trees (tree_of l.self.nodes) l.items.items)
+    l.trailing_comma)
+    l.fn.self.input l.self.input
+    × (to_come g.I.Tokens.model l.self.input ≤ to_come g.I.Tokens.model l.fn.self.input)
+    × Grows l.fn.self.nodes l.self.nodes
+    × Apart (count l.fn.self.nodes) l.self.nodes (args_parts l.items)
+
+abbrev pub decreases-parse_arg_list-loop-items : goal.decreases-parse_arg_list-loop-items
+decreases-parse_arg_list-loop-items g l = to_come g.I.Tokens.model l.self.input
+
+abbrev pub decreases-parse_arg_item : goal.decreases-parse_arg_item
+decreases-parse_arg_item g l = to_come g.I.Tokens.model l.self.now.input * 20 + 14
+
 abbrev pub decreases-parse_unary_op : goal.decreases-parse_unary_op
 decreases-parse_unary_op g l = to_come g.I.Tokens.model l.self.now.input * 20 + 3
 
 abbrev pub decreases-parse_unary_expr : goal.decreases-parse_unary_expr
-decreases-parse_unary_expr g l = to_come g.I.Tokens.model l.self.now.input * 20 + 4
-
-abbrev pub decreases-parse_unary_operand : goal.decreases-parse_unary_operand
-decreases-parse_unary_operand g l = to_come g.I.Tokens.model l.self.now.input * 20 + 5
-
-abbrev pub decreases-parse_bin_operand : goal.decreases-parse_bin_operand
-decreases-parse_bin_operand g l = to_come g.I.Tokens.model l.self.now.input * 20 + 6
+decreases-parse_unary_expr g l = to_come g.I.Tokens.model l.self.now.input * 20 + 5
 
 abbrev pub decreases-parse_bin_op : goal.decreases-parse_bin_op
 decreases-parse_bin_op g l = to_come g.I.Tokens.model l.self.now.input * 20 + 7
@@ -53,9 +114,6 @@ invariant-parse_bin_op_recursively-loop-next_left g l =
 abbrev pub decreases-parse_bin_op_recursively-loop-next_left : goal.decreases-parse_bin_op_recursively-loop-next_left
 decreases-parse_bin_op_recursively-loop-next_left g l = to_come g.I.Tokens.model l.self.input
 
-abbrev pub decreases-parse_bin_expr_without_left : goal.decreases-parse_bin_expr_without_left
-decreases-parse_bin_expr_without_left g l = to_come g.I.Tokens.model l.self.now.input * 20 + 10
-
 abbrev pub decreases-parse_bin_expr : goal.decreases-parse_bin_expr
 decreases-parse_bin_expr g l = to_come g.I.Tokens.model l.self.now.input * 20 + 11
 
@@ -70,9 +128,6 @@ decreases-parse_array_lit g l = to_come g.I.Tokens.model l.self.now.input * 20 +
 
 abbrev pub decreases-parse_expr_or_spread : goal.decreases-parse_expr_or_spread
 decreases-parse_expr_or_spread g l = to_come g.I.Tokens.model l.self.now.input * 20 + 13
-
-abbrev pub decreases-parse_element_item : goal.decreases-parse_element_item
-decreases-parse_element_item g l = to_come g.I.Tokens.model l.self.now.input * 20 + 14
 
 abbrev pub decreases-parse_element : goal.decreases-parse_element
 decreases-parse_element g l = to_come g.I.Tokens.model l.self.now.input * 20 + 15
@@ -93,20 +148,11 @@ invariant-parse_elements-loop-items g l =
 abbrev pub decreases-parse_elements-loop-items : goal.decreases-parse_elements-loop-items
 decreases-parse_elements-loop-items g l = to_come g.I.Tokens.model l.self.input
 
-abbrev pub decreases-parse_elements_with_in : goal.decreases-parse_elements_with_in
-decreases-parse_elements_with_in g l = to_come g.I.Tokens.model l.self.now.input * 20 + 17
-
-abbrev pub decreases-parse_computed_prop_name : goal.decreases-parse_computed_prop_name
-decreases-parse_computed_prop_name g l = to_come g.I.Tokens.model l.self.now.input * 20 + 14
-
 abbrev pub decreases-parse_prop_name : goal.decreases-parse_prop_name
 decreases-parse_prop_name g l = to_come g.I.Tokens.model l.self.now.input * 20 + 15
 
 abbrev pub decreases-parse_object_lit : goal.decreases-parse_object_lit
 decreases-parse_object_lit g l = to_come g.I.Tokens.model l.self.now.input * 20 + 1
-
-abbrev pub decreases-parse_spread_prop : goal.decreases-parse_spread_prop
-decreases-parse_spread_prop g l = to_come g.I.Tokens.model l.self.now.input * 20 + 14
 
 abbrev pub decreases-parse_object_prop : goal.decreases-parse_object_prop
 decreases-parse_object_prop g l = to_come g.I.Tokens.model l.self.now.input * 20 + 18
@@ -130,26 +176,25 @@ invariant-parse_props-loop-items g l =
 abbrev pub decreases-parse_props-loop-items : goal.decreases-parse_props-loop-items
 decreases-parse_props-loop-items g l = to_come g.I.Tokens.model l.self.input
 
-abbrev pub decreases-parse_key_value : goal.decreases-parse_key_value
-decreases-parse_key_value g l = to_come g.I.Tokens.model l.self.now.input * 20 + 14
-
 abbrev pub decreases-parse_after_key : goal.decreases-parse_after_key
 decreases-parse_after_key g l = to_come g.I.Tokens.model l.self.now.input * 20 + 15
 
-abbrev pub decreases-parse_key_prop : goal.decreases-parse_key_prop
-decreases-parse_key_prop g l = to_come g.I.Tokens.model l.self.now.input * 20 + 16
+abbrev pub decreases-parse_tpl : goal.decreases-parse_tpl
+decreases-parse_tpl g l = to_come g.I.Tokens.model l.self.now.input * 20 + 1
 
-abbrev pub decreases-parse_cover_value : goal.decreases-parse_cover_value
-decreases-parse_cover_value g l = to_come g.I.Tokens.model l.self.now.input * 20 + 14
+abbrev pub decreases-parse_tpl_elements : goal.decreases-parse_tpl_elements
+decreases-parse_tpl_elements g l = to_come g.I.Tokens.model l.self.now.input * 20 + 16
 
-abbrev pub decreases-parse_cover_prop : goal.decreases-parse_cover_prop
-decreases-parse_cover_prop g l = to_come g.I.Tokens.model l.self.now.input * 20 + 15
+abbrev pub invariant-parse_tpl_elements-loop-exprs : goal.invariant-parse_tpl_elements-loop-exprs
+invariant-parse_tpl_elements-loop-exprs g l =
+    On g.I.Tokens.model g.B.Bodies.is_faithful
+    (run g.B.BodyForms.forms (sym (Parts l.fn.is_tagged)))
+    (parts_behind g.B.BodyForms.forms l.fn.is_tagged (trees (map quasi_tree l.quasis.items))
+    (trees (map (tree_of l.self.nodes) l.exprs.items)))
+    l.fn.self.input l.self.input
+    × (to_come g.I.Tokens.model l.self.input ≤ to_come g.I.Tokens.model l.fn.self.input)
+    × Grows l.fn.self.nodes l.self.nodes
+    × Apart (count l.fn.self.nodes) l.self.nodes (exprs_parts l.exprs)
 
-abbrev pub decreases-parse_method : goal.decreases-parse_method
-decreases-parse_method g l = to_come g.I.Tokens.model l.self.now.input * 20 + 16
-
-abbrev pub decreases-parse_questioned_prop : goal.decreases-parse_questioned_prop
-decreases-parse_questioned_prop g l = to_come g.I.Tokens.model l.self.now.input * 20 + 16
-
-abbrev pub decreases-parse_plain_prop : goal.decreases-parse_plain_prop
-decreases-parse_plain_prop g l = to_come g.I.Tokens.model l.self.now.input * 20 + 17
+abbrev pub decreases-parse_tpl_elements-loop-exprs : goal.decreases-parse_tpl_elements-loop-exprs
+decreases-parse_tpl_elements-loop-exprs g l = to_come g.I.Tokens.model l.self.input

@@ -1,6 +1,7 @@
 use Rattle.std.proofs.Common.{refl, sym, ap, ◌∙◌}
 use Rattle.swc_input.specs.Kinds.{at_token}
 use Rattle.swc_bodies.specs.Readings.{is_brace}
+use Rattle.swc_productions.specs.Parsing.{by_hook}
 use Rattle.swc_productions.proofs.Hearing as hearing
 use Rattle.swc_productions.proofs.Keys as key
 use Rattle.swc_productions.proofs.Steps as s
@@ -15,7 +16,7 @@ returns-then-not-is_lbrace-clause-reads g c =
 pub returns-clause-reads : goal.returns-clause-reads
 returns-clause-reads g c =
     s.parses_after g.I.Tokens.model g.B.Bodies.is_faithful (λ v. v) _ _ c.block.result
-    (s.on_seen {g = g.B.BodyForms.forms.block} c.in_ok-look.ensures.looks (λ x ts same e. refl))
+    (s.on_seen {g = by_hook g.B.BodyForms.forms.block} c.in_ok-look.ensures.looks (λ x ts same e. refl))
     (hearing.hook_parses g.I.Tokens.model g.met.I.Tokens.laws _ g.B.Bodies.is_faithful
     (hearing.token_some is_brace _ (c.is_lbrace.ensures.begins c.if-not-is_lbrace.false)) c.block.result
     c.block.ensures.hooked c.block.ensures.faithful)

@@ -1,12 +1,13 @@
 use Rattle.std.proofs.Common.{refl, ap, ◌∙◌}
 use Rattle.swc_grammar.specs.Tokens.{method_block}
+use Rattle.swc_productions.specs.Parsing.{by_hook}
 use Rattle.swc_productions.proofs.Keys as key
 use Rattle.swc_productions.proofs.Steps as s
 use Rattle.swc_productions.proofs.productions.Productions.parse_method_block.Goals as goal
 
 pub returns-clause-reads : goal.returns-clause-reads
 returns-clause-reads g c =
-    s.parses_within g.I.Tokens.model g.B.Bodies.is_faithful (λ v. v) _ g.B.BodyForms.forms.block
+    s.parses_within g.I.Tokens.model g.B.Bodies.is_faithful (λ v. v) _ (by_hook g.B.BodyForms.forms.block)
     c.parse_block-block.result
     (method_block c.args.is_async c.args.is_generator) (λ x. refl)
     (λ x ts. key.method_body_block _ c.args.is_async c.args.is_generator x ts) c.set_ctx.ensures.moves

@@ -4,7 +4,7 @@ use Rattle.swc_productions.specs.Keys.{expected_by}
 use Rattle.swc_productions.specs.Lists.{is_sign_token}
 use Rattle.swc_productions.proofs.Keys.{expected_splits}
 use Rattle.swc_productions.proofs.Steps as s
-use Rattle.swc_productions.proofs.moves.expect.Goals as goal
+use Rattle.swc_productions.proofs.moves.expect_or.Goals as goal
 
 pub returns-in_err-span-clause-expects : goal.returns-in_err-span-clause-expects
 returns-in_err-span-clause-expects g c =
@@ -21,7 +21,7 @@ pub returns-in-Some-clause-falls : goal.returns-in-Some-clause-falls
 returns-in-Some-clause-falls g c =
     let h =
     s.eats_some true (is_sign_token c.args.sign) _ c.in-Some.span _ _ c.in-Some.is (c.in_ok-span.ensures.eats true) in
-    s.lower (record { leads = h.on.leads; some = h.some })
+    s.lower (record { leads = h.on.leads; onward = h.onward })
 
 pub returns-in-None-clause-expects : goal.returns-in-None-clause-expects
 returns-in-None-clause-expects g c = λ sure.

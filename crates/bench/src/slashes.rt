@@ -1,0 +1,227 @@
+// A source of tokens that gives each slash by itself, and a regular expression on the hint.
+ghost use Rattle.std.specs.Prelude.{◌≤◌};
+ghost use Rattle.bench.specs.Slashes.{NextFrom, hinted_tokens};
+ghost use Rattle.swc_input.specs.Source.{hint_brings};
+
+use crate::settings::setting_of;
+use bench_lower::rows::{Row, unescaped};
+use std::alloc::{AllocError, Global};
+use std::test::Fail;
+use swc_context::context::{Context, EsVersion, Syntax, TokenContexts};
+use swc_context::error::Error;
+use swc_context::operator::{AssignOp, BinOpToken};
+use swc_context::span::{BytePos, Span};
+use swc_input::listed::TokensInput;
+use swc_input::token::{Token, TokenAndSpan};
+use swc_input::tokens::Tokens;
+use swc_tokens::read_tokens;
+
+/// A source that gives the tokens of a list, in which each slash stands by itself. Behind a slash at which it is told
+/// that a regular expression begins, it gives the one that begins there, if one does, and then the tokens behind that.
+#[derive(Drop)]
+pub(crate) struct SlashInput {
+    list: TokensInput,
+    regexes: Vec<TokenAndSpan>,
+    hinted: Option<TokenAndSpan>,
+    past: BytePos,
+    ended: bool,
+}
+
+impl SlashInput {
+    /// A source that gives the tokens of this list, and these regular expressions in place of what they are made of.
+    pub(crate) fn new(list: TokensInput, regexes: Vec<TokenAndSpan>) -> SlashInput {
+        SlashInput {
+            list,
+            regexes,
+            hinted: None,
+            past: BytePos(0),
+            ended: false,
+        }
+    }
+}
+
+/// The first token of the list that doesn't begin before the place. Those before it are dropped.
+fn next_from(list: &mut TokensInput, past: BytePos) -> Option<TokenAndSpan>
+    ensures { NextFrom list.old result list.new }
+{
+    while let Some(token) = list.next() {
+        if token.span.lo.0 >= past.0 {
+            return Some(token);
+        }
+    }
+    None
+}
+
+/// Takes the token that begins at the place out of the tokens.
+fn take_at(tokens: &mut Vec<TokenAndSpan>, start: Option<BytePos>) -> Option<TokenAndSpan>
+    ensures { hinted_tokens result ≤ hint_brings start }
+{
+    let start = start?;
+    let index = tokens.iter().position(|token| token.span.lo.0 == start.0)?;
+    Some(tokens.remove(index))
+}
+
+impl Iterator for SlashInput {
+    ghost use Rattle.std.specs.Iterator.{at_most};
+    ghost use Rattle.bench.specs.Slashes.{NextSlash, tokens_left};
+
+    type Item = TokenAndSpan;
+
+    ghost next_gives = { λ s r t. NextSlash s.list s.hinted s.ended r t.list t.hinted t.ended };
+
+    ghost remaining = { λ s. at_most (tokens_left s.list s.hinted) };
+
+    fn next(&mut self) -> Option<TokenAndSpan> {
+        if self.ended {
+            return None;
+        }
+        if let Some(regex) = self.hinted.take() {
+            self.past = regex.span.hi;
+            return Some(regex);
+        }
+        let token = next_from(&mut self.list, self.past);
+        self.ended = token.is_none();
+        token
+    }
+}
+
+impl Tokens for SlashInput {
+    ghost use Rattle.std.proofs.Common.{refl};
+    ghost use Rattle.bench.specs.declared.slashes.SlashInput.{SlashInput};
+    ghost use Rattle.bench.specs.Slashes.{slash_model, slash_laws, slash_asked};
+
+    ghost model = { slash_model (λ (s : SlashInput). s.list) (λ s. s.hinted) (λ s. s.ended) };
+
+    ghost laws = { slash_laws (λ (s : SlashInput). s.list) (λ s. s.hinted) (λ s. s.ended) };
+
+    ghost may_ask = { λ s. tt };
+
+    ghost ends = { λ s. refl };
+
+    ghost asked = { slash_asked (λ (s : SlashInput). s.list) (λ s. s.hinted) (λ s. s.ended) };
+
+    fn set_ctx(&mut self, ctx: Context) -> Result<(), AllocError> {
+        self.list.set_ctx(ctx)
+    }
+
+    fn ctx(&self) -> Context {
+        self.list.ctx()
+    }
+
+    fn syntax(&self) -> Syntax {
+        self.list.syntax()
+    }
+
+    fn target(&self) -> EsVersion {
+        self.list.target()
+    }
+
+    fn start_pos(&self) -> BytePos {
+        self.list.start_pos()
+    }
+
+    fn set_expr_allowed(&mut self, allow: bool) {
+        self.list.set_expr_allowed(allow);
+    }
+
+    fn set_next_regexp(&mut self, start: Option<BytePos>) {
+        self.hinted = take_at(&mut self.regexes, start);
+    }
+
+    fn token_context(&self) -> &TokenContexts {
+        self.list.token_context()
+    }
+
+    fn token_context_mut(&mut self) -> &mut TokenContexts {
+        self.list.token_context_mut()
+    }
+
+    fn set_token_context(&mut self, contexts: TokenContexts) {
+        self.list.set_token_context(contexts);
+    }
+
+    fn add_error(&mut self, error: Error) -> Result<(), AllocError> {
+        self.list.add_error(error)
+    }
+
+    fn add_module_mode_error(&mut self, error: Error) -> Result<(), AllocError> {
+        self.list.add_module_mode_error(error)
+    }
+
+    fn take_errors(&mut self) -> Vec<Error> {
+        self.list.take_errors()
+    }
+
+    fn failed(&self) -> bool {
+        false
+    }
+}
+
+/// The source of the row's text, in its setting.
+pub(crate) fn slashes_of(alloc: Global, row: Row<'_>) -> Result<SlashInput, Fail> {
+    let (context, syntax) = setting_of(row.setting).ok_or("no setting")?;
+    let text = unescaped(alloc, row.text)?;
+    let tokens = divided(alloc, text.as_str())?;
+    let regexes = regexes_in(alloc, text.as_str(), &tokens)?;
+    let list = TokensInput::new(alloc, tokens, context, syntax, EsVersion::default());
+    Ok(SlashInput::new(list, regexes))
+}
+
+/// The tokens of the text, which has no `%`, where each slash in it divides: as the reader of tokens gives them, where
+/// a `%` stands for each slash.
+fn divided(alloc: Global, text: &str) -> Result<Vec<TokenAndSpan>, Fail> {
+    let text = text.replace(alloc, '/', "%")?;
+    let mut tokens = Vec::new(alloc);
+    for next in read_tokens(alloc, text.as_bytes())? {
+        tokens.push(TokenAndSpan {
+            token: with_slash(next.token),
+            had_line_break: next.had_line_break,
+            span: next.span,
+        })?;
+    }
+    Ok(tokens)
+}
+
+/// The token, with a slash for its `%`.
+fn with_slash(token: Token) -> Token {
+    match token {
+        Token::BinOp(BinOpToken::Mod) => Token::BinOp(BinOpToken::Div),
+        Token::AssignOp(AssignOp::ModAssign) => Token::AssignOp(AssignOp::DivAssign),
+        token => token,
+    }
+}
+
+/// The regular expressions that begin where one of the tokens does.
+fn regexes_in(
+    alloc: Global,
+    text: &str,
+    tokens: &[TokenAndSpan],
+) -> Result<Vec<TokenAndSpan>, AllocError> {
+    let mut regexes = Vec::new(alloc);
+    for token in tokens {
+        if let Some(regex) = regex_at(alloc, text, token.span.lo, token.had_line_break) {
+            regexes.push(regex)?;
+        }
+    }
+    Ok(regexes)
+}
+
+/// The regular expression that begins at the place, behind a line break or not: what the reader of tokens gives first
+/// of the text from there on.
+fn regex_at(
+    alloc: Global,
+    text: &str,
+    start: BytePos,
+    had_line_break: bool,
+) -> Option<TokenAndSpan> {
+    let rest = text.as_bytes().get(start.0 as usize..)?;
+    let first = read_tokens(alloc, rest).ok()?.into_iter().next()?;
+    if !matches!(&first.token, Token::Regex(..)) {
+        return None;
+    }
+    Some(TokenAndSpan {
+        token: first.token,
+        had_line_break,
+        span: Span::new(start, BytePos(start.0.saturating_add(first.span.hi.0))),
+    })
+}

@@ -1,0 +1,424 @@
+// What left-hand sides begin with (ECMA-262, 13.3): `super`, `import`, and primary expressions.
+ghost use Rattle.std.specs.Prelude.{ℕ, ◌≡◌, ◌<◌, ◌≤◌, ◌++◌, not, OnOk, IsSome};
+ghost use Rattle.swc_input.specs.Buffer.{context, current, to_come};
+ghost use Rattle.swc_ast.specs.Parts.{callee_tree};
+ghost use Rattle.swc_grammar.specs.Tokens.{super_ok};
+ghost use Rattle.swc_nodes.specs.Slots.{args_parts, callee_parts, expr_part};
+ghost use Rattle.swc_nodes.specs.Stands.{count, first_at, Apart, From};
+ghost use Rattle.swc_productions.specs.Bases.{plain_base, super_tail, super_head, super_here, super_name_tail, super_close};
+ghost use Rattle.swc_productions.specs.Bases.{callee_node, import_tail, import_head, import_member, import_callee};
+ghost use Rattle.swc_productions.specs.Bases.{import_meta_node};
+ghost use Rattle.swc_productions.specs.Parsing.{scope, ContinuesAlone, ParsesAlone, Produces, GoesOn, Checked, Acts};
+ghost use Rattle.swc_productions.specs.Parsing.{Refuses, itself, tree_of, args_at};
+ghost use Rattle.swc_productions.specs.Readers.{nothing};
+
+use crate::expr::chain_behind;
+use crate::moves::{
+    Listed, Sign, eat, emit_err, expect, is_sign, look, made, parse_ident_name, parse_private_name,
+    skip, syntax_error, unexpected,
+};
+use crate::productions::Productions;
+use swc_ast::expr::{Callee, ExprOrSpread, Import, ImportPhase, MetaPropKind, Super, SuperProp};
+use swc_ast::prop::ComputedPropName;
+use swc_bodies::bodies::Bodies;
+use swc_context::error::{Error, PResult, SyntaxError};
+use swc_context::span::Span;
+use swc_input::buffer::Buffer;
+use swc_input::tokens::Tokens;
+use swc_nodes::node::ExprId;
+
+/// What stands behind `super` (ECMA-262, 13.3.7), by its first tokens, which were consumed.
+#[derive(Clone, Copy)]
+pub(crate) enum SuperHead {
+    /// `.`: a property, by its name.
+    Name,
+    /// `[`, which stands at the place: a property, by an expression.
+    Computed(Span),
+    /// `(`: a call.
+    Call,
+    /// Neither a property nor a call: nothing was consumed.
+    Other,
+}
+
+/// A link of an optional chain behind `super`, which may have none, by its first tokens, which were consumed.
+#[derive(Clone, Copy)]
+enum SuperChain {
+    /// `?.`, and neither a bracket nor a parenthesis.
+    Name,
+    /// `?.` and `[`.
+    Computed,
+    /// `?.` and `(`.
+    Call,
+}
+
+/// What `import` begins, up to the arguments of a call.
+#[derive(Drop)]
+pub(crate) enum ImportHead {
+    /// `import.meta` (ECMA-262, 13.3.12), at the place.
+    Meta(Span),
+    /// A call of `import` (13.3.10), behind its parenthesis.
+    Call(Import),
+}
+
+impl<I: Tokens, B: Bodies<I>> Productions<I, B> {
+    /// What a left-hand side begins with (ECMA-262, 13.3), where that isn't `new`: `super`, `import`, or a primary
+    /// expression. With `no_call`, it is no call of `super` or `import`.
+    #[cycle(productions)]
+    pub(crate) fn parse_base(&mut self, no_call: bool) -> PResult<ExprId>
+        ensures { Produces I.model B.is_faithful itself tree_of (plain_base B.forms (not no_call))
+            (count self.old.nodes) self.old result self.new }
+    {
+        match eat(&mut self.input, Sign::Super)? {
+            Some(start) => return self.parse_super(start, no_call),
+            None => {}
+        }
+        match eat(&mut self.input, Sign::Import)? {
+            Some(start) => self.parse_import(start, no_call),
+            None => self.parse_primary_expr(),
+        }
+    }
+
+    /// A property of `super`, or a call of it (ECMA-262, 13.3.7), behind `super` at `start`. In brackets stands an
+    /// expression in which `in` counts as an operator. With `no_call`, a call is refused, as anything else is.
+    #[cycle(productions)]
+    fn parse_super(&mut self, start: Span, no_call: bool) -> PResult<ExprId>
+        ensures { Produces I.model B.is_faithful itself tree_of (super_tail B.forms (not no_call) start)
+            (count self.old.nodes) self.old result self.new }
+    {
+        match super_head(&mut self.input, no_call)? {
+            SuperHead::Name => self.parse_super_name(start),
+            SuperHead::Computed(bracket) => {
+                let expr = self.parse_assignment_expr_with_in()?;
+                self.super_computed(start, bracket, expr)
+            }
+            SuperHead::Call => {
+                let list = self.parse_args(false)?;
+                self.callee_call(start, Callee::Super(Super { span: start }), list)
+            }
+            SuperHead::Other => self.refuse_super(no_call),
+        }
+    }
+
+    /// A property of `super` at `start` (ECMA-262, 13.3.7), by its name, behind the `.`. Where `super` may have none,
+    /// that is refused as `InvalidSuper`, at the name. A private name is refused there too: as `InvalidSuperCall`,
+    /// where `super` may have properties.
+    fn parse_super_name(&mut self, start: Span) -> PResult<ExprId>
+        ensures { Produces I.model B.is_faithful itself tree_of (super_name_tail start)
+            (count self.old.nodes) self.old result self.new }
+    {
+        look(&mut self.input)?;
+        if self.is_hash() {
+            parse_private_name(self.alloc, &mut self.input)?;
+            return Err(refuse_super_link(&mut self.input, true));
+        }
+        let name = parse_ident_name(self.alloc, &mut self.input)?;
+        require_super(&mut self.input)?;
+        let end = name.span.hi;
+        let prop = SuperProp::Ident(name);
+        let obj = Super { span: start };
+        let node = self.nodes.super_prop_expr(obj, prop, end);
+        made(&self.input, node)
+    }
+
+    /// A property of `super` at `start` (ECMA-262, 13.3.7), by `expr`, which stands behind the bracket at `bracket`: the
+    /// bracket that closes it. Where `super` may have none, that is refused as `InvalidSuper`, at that bracket.
+    fn super_computed(&mut self, start: Span, bracket: Span, expr: ExprId) -> PResult<ExprId>
+        requires { From 0 self.old.nodes (expr_part expr) }
+        ensures { Produces I.model B.is_faithful itself tree_of
+            (super_close start bracket (tree_of self.old.nodes expr))
+            (first_at self.old.nodes expr.0) self.old result self.new }
+    {
+        let end = expect(&mut self.input, Sign::RBracket)?;
+        require_super(&mut self.input)?;
+        let span = Span::new(bracket.lo, end.hi);
+        let prop = SuperProp::Computed(ComputedPropName { span, expr });
+        let obj = Super { span: start };
+        let node = self.nodes.super_prop_expr(obj, prop, end.hi);
+        made(&self.input, node)
+    }
+
+    /// A call of `super` or `import` (ECMA-262, 13.3.7 and 13.3.10), which begins at `start`, behind its arguments.
+    /// Consumes nothing, and is refused only for want of memory.
+    fn callee_call(
+        &mut self,
+        start: Span,
+        callee: Callee<ExprId>,
+        list: Listed<ExprOrSpread<ExprId>>,
+    ) -> PResult<ExprId>
+        requires { Apart 0 self.old.nodes (callee_parts callee ++ args_parts list.items) }
+        ensures { (k : ℕ) → Apart k self.old.nodes (callee_parts callee ++ args_parts list.items)
+            → GoesOn I.model B.is_faithful itself tree_of
+            (callee_node start (callee_tree (tree_of self.old.nodes) callee) (args_at self.old.nodes list))
+            k self.old result self.new }
+    {
+        let end = list.end.hi;
+        let node = self.nodes.callee_call(start.lo, callee, list.items, end);
+        made(&self.input, node)
+    }
+
+    /// Refuses what is neither a property of `super` nor a call of it: a link of an optional chain, behind what it
+    /// reads, and any other token as `InvalidSuper`, with `no_call` as `InvalidSuperCall`. Of a link, arguments are
+    /// refused as `SuperCallOptional`; a name or brackets as `InvalidSuper`, and where `super` may have properties, with
+    /// `no_call` as `InvalidSuperCall`.
+    #[cycle(productions)]
+    fn refuse_super(&mut self, no_call: bool) -> PResult<ExprId>
+        ensures { Produces I.model B.is_faithful itself tree_of nothing
+            (count self.old.nodes) self.old result self.new }
+    {
+        match super_chain(&mut self.input, no_call)? {
+            SuperChain::Name => self.refuse_super_name(no_call),
+            SuperChain::Computed => {
+                self.parse_assignment_expr_with_in()?;
+                Err(refuse_super_brackets(&mut self.input, no_call))
+            }
+            SuperChain::Call => {
+                self.parse_args(false)?;
+                Err(refuse_super_args(&mut self.input))
+            }
+        }
+    }
+
+    /// Refuses a name behind `super` and `?.`, as `InvalidSuper`, and where `super` may have properties, with `no_call`
+    /// as `InvalidSuperCall`.
+    fn refuse_super_name(&mut self, no_call: bool) -> PResult<ExprId>
+        ensures { Produces I.model B.is_faithful itself tree_of nothing
+            (count self.old.nodes) self.old result self.new }
+    {
+        self.parse_member_name()?;
+        Err(refuse_super_link(&mut self.input, no_call))
+    }
+
+    /// `import.meta` (ECMA-262, 13.3.12), or a call of `import` (13.3.10) or of `import.source`, behind `import` at
+    /// `start`. With `no_call`, a call is refused.
+    #[cycle(productions)]
+    fn parse_import(&mut self, start: Span, no_call: bool) -> PResult<ExprId>
+        ensures { Produces I.model B.is_faithful itself tree_of (import_tail B.forms (not no_call) start)
+            (count self.old.nodes) self.old result self.new }
+    {
+        match self.import_head(start, no_call)? {
+            ImportHead::Meta(span) => self.import_meta(span),
+            ImportHead::Call(import) => {
+                let list = self.parse_args(true)?;
+                self.callee_call(start, Callee::Import(import), list)
+            }
+        }
+    }
+
+    /// The same, up to the arguments of a call: these are left.
+    fn import_head(&mut self, start: Span, no_call: bool) -> PResult<ImportHead>
+        ensures parses { ParsesAlone I.model (λ h. h) (import_head (not no_call) start)
+            self.old.input result self.new.input }
+        ensures nodes { self.new.nodes ≡ self.old.nodes }
+        ensures falls { OnOk result (to_come I.model self.new.input < to_come I.model self.old.input) }
+    {
+        match eat(&mut self.input, Sign::Dot)? {
+            Some(_) => self.import_member(start, no_call),
+            None => {
+                let phase = ImportPhase::Evaluation;
+                import_callee(&mut self.input, Import { span: start, phase }, no_call)
+            }
+        }
+    }
+
+    /// The same behind the `.`. Another word there is consumed, and the token behind it refused.
+    fn import_member(&mut self, start: Span, no_call: bool) -> PResult<ImportHead>
+        ensures parses { ParsesAlone I.model (λ h. h) (import_member (not no_call) start)
+            self.old.input result self.new.input }
+        ensures nodes { self.new.nodes ≡ self.old.nodes }
+        ensures falls { OnOk result (to_come I.model self.new.input < to_come I.model self.old.input) }
+    {
+        self.found_module_item = true;
+        match eat(&mut self.input, Sign::Meta)? {
+            Some(end) => {
+                let span = Span::new(start.lo, end.hi);
+                check_import_meta(&mut self.input, span)?;
+                return Ok(ImportHead::Meta(span));
+            }
+            None => {}
+        }
+        match eat(&mut self.input, Sign::Source)? {
+            Some(end) => {
+                let span = Span::new(start.lo, end.hi);
+                let phase = ImportPhase::Source;
+                import_callee(&mut self.input, Import { span, phase }, no_call)
+            }
+            None => {
+                parse_ident_name(self.alloc, &mut self.input)?;
+                let kind = SyntaxError::Unexpected("meta");
+                Err(unexpected(&mut self.input, kind))
+            }
+        }
+    }
+
+    /// `import.meta` (ECMA-262, 13.3.12), which stands at `span`. Consumes nothing, and is refused only for want of
+    /// memory.
+    fn import_meta(&mut self, span: Span) -> PResult<ExprId>
+        ensures { GoesOn I.model B.is_faithful itself tree_of (import_meta_node span)
+            (count self.old.nodes) self.old result self.new }
+    {
+        let node = self.nodes.meta_prop(span, MetaPropKind::ImportMeta);
+        made(&self.input, node)
+    }
+}
+
+/// What stands behind `super`, by the first tokens of it.
+fn super_head<I: Tokens>(input: &mut Buffer<I>, no_call: bool) -> PResult<SuperHead>
+    ensures continues { ContinuesAlone I.model (λ h. h) (super_head (not no_call)) input.old result input.new }
+    ensures falls { OnOk result (to_come I.model input.new ≤ to_come I.model input.old) }
+{
+    match eat(input, Sign::Dot)? {
+        Some(_) => return Ok(SuperHead::Name),
+        None => {}
+    }
+    match eat(input, Sign::LBracket)? {
+        Some(bracket) => return Ok(SuperHead::Computed(bracket)),
+        None => {}
+    }
+    if no_call {
+        return Ok(SuperHead::Other);
+    }
+    match eat(input, Sign::LParen)? {
+        Some(_) => Ok(SuperHead::Call),
+        None => Ok(SuperHead::Other),
+    }
+}
+
+/// The first tokens of a link of an optional chain behind `super`, up to what is in it. Any other token is refused: as
+/// `InvalidSuper`, and with `no_call` as `InvalidSuperCall`.
+fn super_chain<I: Tokens>(input: &mut Buffer<I>, no_call: bool) -> PResult<SuperChain>
+    ensures acts { Acts I.model input.old result input.new }
+    ensures falls { OnOk result (to_come I.model input.new ≤ to_come I.model input.old) }
+{
+    look(input)?;
+    if !is_sign(input, Sign::Question) {
+        return Err(refuse_super_token(input, no_call));
+    }
+    match chain_behind(input)? {
+        Some(_) => super_chain_link(input),
+        None => Err(refuse_super_token(input, no_call)),
+    }
+}
+
+/// The same from its `?` on, which is current.
+fn super_chain_link<I: Tokens>(input: &mut Buffer<I>) -> PResult<SuperChain>
+    requires { IsSome (current input.old) }
+    ensures acts { Acts I.model input.old result input.new }
+    ensures falls { OnOk result (to_come I.model input.new ≤ to_come I.model input.old) }
+{
+    skip(input);
+    expect(input, Sign::Dot)?;
+    match eat(input, Sign::LParen)? {
+        Some(_) => return Ok(SuperChain::Call),
+        None => {}
+    }
+    match eat(input, Sign::LBracket)? {
+        Some(_) => Ok(SuperChain::Computed),
+        None => Ok(SuperChain::Name),
+    }
+}
+
+/// What is called, and the parenthesis behind it (ECMA-262, 13.3.10). With `no_call`, a call is refused.
+fn import_callee<I: Tokens>(
+    input: &mut Buffer<I>,
+    import: Import,
+    no_call: bool,
+) -> PResult<ImportHead>
+    ensures parses { ParsesAlone I.model (λ h. h) (import_callee (not no_call) import) input.old result input.new }
+    ensures falls { OnOk result (to_come I.model input.new < to_come I.model input.old) }
+{
+    if no_call {
+        return Err(refuse_import(input));
+    }
+    expect(input, Sign::LParen)?;
+    Ok(ImportHead::Call(import))
+}
+
+/// Whether `super` may have properties here.
+fn super_allowed<I: Tokens>(input: &Buffer<I>) -> bool
+    ensures { result ≡ super_ok (scope I.model input.now) }
+{
+    let ctx = input.get_ctx();
+    let syntax = input.syntax();
+    ctx.allow_direct_super || syntax.allow_super_outside_method
+}
+
+/// Asks that `super` may have properties here; refused as `InvalidSuper`, at the token consumed last.
+fn require_super<I: Tokens>(input: &mut Buffer<I>) -> PResult<()>
+    ensures passes { ContinuesAlone I.model (λ u. u) super_here input.old result input.new }
+    ensures falls { OnOk result (to_come I.model input.new ≤ to_come I.model input.old) }
+{
+    if super_allowed(input) {
+        return Ok(());
+    }
+    let span = input.prev_span();
+    Err(syntax_error(input, span, SyntaxError::InvalidSuper))
+}
+
+/// Refuses what stands behind `super` at the token consumed last: as `InvalidSuper`, and where `super` may have
+/// properties, with `no_call` as `InvalidSuperCall`.
+fn refuse_super_link<I: Tokens>(input: &mut Buffer<I>, no_call: bool) -> Error
+    ensures { Refuses I.model input.old result input.new }
+{
+    let span = input.prev_span();
+    if no_call && super_allowed(input) {
+        return syntax_error(input, span, SyntaxError::InvalidSuperCall);
+    }
+    syntax_error(input, span, SyntaxError::InvalidSuper)
+}
+
+/// Refuses brackets behind `super` and `?.`, behind the expression in them: as `InvalidSuper`, and where `super` may have
+/// properties, with `no_call` as `InvalidSuperCall`; another token than the one that closes them where that is expected.
+fn refuse_super_brackets<I: Tokens>(input: &mut Buffer<I>, no_call: bool) -> Error
+    ensures { Refuses I.model input.old result input.new }
+{
+    match expect(input, Sign::RBracket) {
+        Ok(_) => refuse_super_link(input, no_call),
+        Err(error) => error,
+    }
+}
+
+/// Refuses arguments behind `super` and `?.`, at the token consumed last: as `SuperCallOptional`.
+fn refuse_super_args<I: Tokens>(input: &mut Buffer<I>) -> Error
+    ensures { Refuses I.model input.old result input.new }
+{
+    let span = input.prev_span();
+    syntax_error(input, span, SyntaxError::SuperCallOptional)
+}
+
+/// Refuses the current token behind `super`: as `InvalidSuper`, and with `no_call` as `InvalidSuperCall`.
+fn refuse_super_token<I: Tokens>(input: &mut Buffer<I>, no_call: bool) -> Error
+    ensures { Refuses I.model input.old result input.new }
+{
+    let span = input.cur_span();
+    if no_call {
+        return syntax_error(input, span, SyntaxError::InvalidSuperCall);
+    }
+    syntax_error(input, span, SyntaxError::InvalidSuper)
+}
+
+/// Records that there is no `import.meta` to give, as in scripts (ECMA-262, 13.3.12.1).
+fn check_import_meta<I: Tokens>(input: &mut Buffer<I>, span: Span) -> PResult<()>
+    ensures checks { Checked I.model (context I.model input.old).can_be_module input.old result input.new }
+    ensures falls { OnOk result (to_come I.model input.new ≤ to_come I.model input.old) }
+{
+    let ctx = input.get_ctx();
+    if ctx.can_be_module {
+        return Ok(());
+    }
+    emit_err(input, span, SyntaxError::ImportMetaInScript)
+}
+
+/// Refuses a call of `import`: a parenthesis as `InvalidImport`, and another token where one is expected.
+fn refuse_import<I: Tokens>(input: &mut Buffer<I>) -> Error
+    ensures { Refuses I.model input.old result input.new }
+{
+    match look(input) {
+        Ok(_) => {}
+        Err(error) => return error,
+    }
+    if is_sign(input, Sign::LParen) {
+        let span = input.cur_span();
+        return syntax_error(input, span, SyntaxError::InvalidImport);
+    }
+    unexpected(input, SyntaxError::Expected("("))
+}

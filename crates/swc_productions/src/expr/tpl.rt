@@ -1,0 +1,190 @@
+// Templates, with a tag and without (ECMA-262, 13.2.8 and 13.3.11).
+ghost use Rattle.std.specs.Prelude.{◌≡◌, ◌<◌, ◌≤◌, ◌++◌, true, not, None, Some, Err, OnOk, IfOk, IfErr, IsSome};
+ghost use Rattle.swc_context.specs.declared.error.Error.{Error};
+ghost use Rattle.swc_input.specs.Buffer.{current, to_come};
+ghost use Rattle.swc_input.specs.Kinds.{at_token};
+ghost use Rattle.swc_input.specs.Recording.{counted};
+ghost use Rattle.swc_input.specs.declared.token.Token.TheVariants as tok;
+ghost use Rattle.swc_grammar.specs.Parts.{cooked_of};
+ghost use Rattle.swc_grammar.specs.Symbols.{Template, Parts};
+ghost use Rattle.swc_grammar.specs.Trees.{is_chain};
+ghost use Rattle.swc_grammar.specs.Clean.{sym, run};
+ghost use Rattle.swc_nodes.specs.Lists.{exprs_parts};
+ghost use Rattle.swc_nodes.specs.Slots.{expr_part, one_expr};
+ghost use Rattle.swc_nodes.specs.Stands.{count, first_at, Apart, From};
+ghost use Rattle.swc_productions.specs.Parsing.{seen, ParsesAlone, Produces, GoesOn, Checked, itself, tree_of};
+ghost use Rattle.swc_productions.specs.Templates.{is_template, tpl_element, tpl_end, tagged_node};
+ghost use Rattle.swc_productions.specs.Templates.{quasi_in, tpl_parts_of, tpl_parts_at};
+
+use crate::moves::{Sign, add, bump, eat, emit_err, expect, look, made, unexpected};
+use crate::productions::Productions;
+use swc_ast::expr::TplElement;
+use swc_bodies::bodies::Bodies;
+use swc_context::atom::Atom;
+use swc_context::error::{Error, PResult, SyntaxError};
+use swc_context::span::{BytePos, Span};
+use swc_input::buffer::Buffer;
+use swc_input::recording::counted_error;
+use swc_input::token::Token;
+use swc_input::tokens::Tokens;
+use swc_nodes::node::ExprId;
+use swc_nodes::nodes::NodesOf;
+
+/// What stands between the backquotes of a template: its texts, an expression between each two of them, and the place
+/// of the backquote that closes it.
+#[derive(Drop)]
+pub(crate) struct TplParts {
+    pub(crate) quasis: Vec<TplElement>,
+    pub(crate) exprs: Vec<ExprId>,
+    pub(crate) end: Span,
+}
+
+impl<I: Tokens, B: Bodies<I>> Productions<I, B> {
+    /// A template (ECMA-262, 13.2.8). Where it `is_tagged`, a text may have a bad escape.
+    #[cycle(productions)]
+    pub(crate) fn parse_tpl(&mut self, is_tagged: bool) -> PResult<ExprId>
+        ensures { Produces I.model B.is_faithful itself tree_of (run B.forms (sym (Template is_tagged)))
+            (count self.old.nodes) self.old result self.new }
+    {
+        let start = expect(&mut self.input, Sign::BackQuote)?;
+        let parts = self.parse_tpl_elements(is_tagged)?;
+        let end = parts.end.hi;
+        let node = self.nodes.tpl(start.lo, end, parts.quasis, parts.exprs);
+        made(&self.input, node)
+    }
+
+    /// The node of a template with the tag `tag` (ECMA-262, 13.3.11), behind its `parts`; the backquote that opens it is
+    /// at `start`. A tag that is an optional chain is recorded. Refused only for want of memory.
+    pub(crate) fn tagged_tpl(
+        &mut self,
+        tag: ExprId,
+        start: Span,
+        parts: TplParts,
+    ) -> PResult<ExprId>
+        requires { Apart 0 self.old.nodes (one_expr tag ++ exprs_parts parts.exprs) }
+        ensures { GoesOn I.model B.is_faithful itself tree_of
+            (tagged_node start (tree_of self.old.nodes tag) (tpl_parts_at self.old.nodes parts))
+            (first_at self.old.nodes tag.0) self.old result self.new }
+    {
+        let end = parts.end.hi;
+        check_tag::<I, B>(&mut self.input, &self.nodes, tag, end)?;
+        let node = self
+            .nodes
+            .tagged_tpl(tag, start.lo, end, parts.quasis, parts.exprs);
+        made(&self.input, node)
+    }
+
+    /// The texts of a template, behind its backquote, between each two of them an expression in which `in` counts as an
+    /// operator, in braces, and the backquote that closes the template.
+    #[cycle(productions)]
+    pub(crate) fn parse_tpl_elements(&mut self, is_tagged: bool) -> PResult<TplParts>
+        ensures { Produces I.model B.is_faithful tpl_parts_of tpl_parts_at (run B.forms (sym (Parts is_tagged)))
+            (count self.old.nodes) self.old result self.new }
+    {
+        let mut quasis = Vec::new(self.alloc);
+        let mut exprs = Vec::new(self.alloc);
+        loop {
+            let quasi = self.parse_tpl_element(is_tagged)?;
+            add(&self.input, &mut quasis, quasi)?;
+            match eat_tpl_end(&mut self.input)? {
+                Some(end) => return Ok(TplParts { quasis, exprs, end }),
+                None => {}
+            }
+            let expr = self.parse_assignment_expr_with_in()?;
+            expect(&mut self.input, Sign::RBrace)?;
+            add(&self.input, &mut exprs, expr)?;
+        }
+    }
+
+    /// A text of a template (ECMA-262, 12.9.6), the last one where a backquote stands behind it. Without a tag a bad
+    /// escape in it is refused.
+    fn parse_tpl_element(&mut self, is_tagged: bool) -> PResult<TplElement>
+        ensures parses { ParsesAlone I.model (quasi_in self.old.nodes) (tpl_element is_tagged)
+            self.old.input result self.new.input }
+        ensures falls { OnOk result (to_come I.model self.new.input < to_come I.model self.old.input) }
+        ensures nodes { self.new.nodes ≡ self.old.nodes }
+    {
+        look(&mut self.input)?;
+        if !is_template(&self.input) {
+            let kind = SyntaxError::Unexpected("template token");
+            return Err(unexpected(&mut self.input, kind));
+        }
+        let token = bump(&mut self.input);
+        let span = self.input.prev_span();
+        let (raw, cooked) = template_of(token);
+        let cooked = cooked_text(cooked, is_tagged)?;
+        look(&mut self.input)?;
+        let tail = self.is_backquote();
+        Ok(TplElement {
+            span,
+            tail,
+            cooked,
+            raw,
+        })
+    }
+}
+
+/// Consumes what stands behind a text of a template: the backquote that closes the template, whose place is answered, or
+/// the `${` of an expression.
+fn eat_tpl_end<I: Tokens>(input: &mut Buffer<I>) -> PResult<Option<Span>>
+    ensures ends { ParsesAlone I.model (λ o. o) tpl_end input.old result input.new }
+    ensures falls { OnOk result (to_come I.model input.new < to_come I.model input.old) }
+{
+    match eat(input, Sign::BackQuote)? {
+        Some(end) => Ok(Some(end)),
+        None => {
+            expect(input, Sign::DollarLBrace)?;
+            Ok(None)
+        }
+    }
+}
+
+/// Whether a text of a template is current.
+fn is_template<I: Tokens>(input: &Buffer<I>) -> bool
+    ensures value { result ≡ at_token is_template (seen input.now) }
+    ensures some { result ≡ true → IsSome (current input.now) }
+{
+    matches!(input.cur_debug(), Some(Token::Template { .. }))
+}
+
+/// The text of a template that a token is: as it is written, and what it means.
+fn template_of(token: Token) -> (Atom, Result<Atom, Error>)
+    requires { is_template token ≡ true }
+    ensures { token ≡ tok.Template result.0 result.1 }
+{
+    match token {
+        Token::Template { raw, cooked } => (raw, cooked),
+        _ => unreachable!(),
+    }
+}
+
+/// What a text of a template means. With a tag a bad escape means nothing; without one it is refused.
+fn cooked_text(cooked: Result<Atom, Error>, is_tagged: bool) -> PResult<Option<Atom>>
+    ensures means { IfOk result (λ text. cooked_of is_tagged cooked ≡ Some text) }
+    ensures bad { IfErr result (λ e. cooked_of is_tagged cooked ≡ None) }
+    ensures refused { IfErr result (λ e. (x : Error) × (cooked ≡ Err x) × (e ≡ counted x)) }
+{
+    match cooked {
+        Ok(text) => Ok(Some(text)),
+        Err(_) if is_tagged => Ok(None),
+        Err(error) => Err(counted_error(error)),
+    }
+}
+
+/// Records a tag that is an optional chain, at the place of the whole template, which ends at `end`.
+fn check_tag<I: Tokens, B: Bodies<I>>(
+    input: &mut Buffer<I>,
+    nodes: &NodesOf<B>,
+    tag: ExprId,
+    end: BytePos,
+) -> PResult<()>
+    requires { From 0 nodes.now (expr_part tag) }
+    ensures checks { Checked I.model (not (is_chain (tree_of nodes.now tag))) input.old result input.new }
+    ensures falls { OnOk result (to_come I.model input.new ≤ to_come I.model input.old) }
+{
+    if !nodes.is_opt_chain(tag) {
+        return Ok(());
+    }
+    let span = Span::new(nodes.span(tag).lo, end);
+    emit_err(input, span, SyntaxError::TaggedTplInOptChain)
+}
