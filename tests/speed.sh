@@ -3,9 +3,10 @@
 #
 #     tests/speed.sh [PROGRAM ..]     other builds of show_expr to run beside it, as that of an earlier commit
 #
-# The texts are one long expression, `a + 1 * b - a + 1 * b - .. - a`, of 0.25, 0.5 and 1 MB, bare and in 100 parentheses. The least of five runs
-# counts. Where node and its package acorn are installed, acorn parses the same texts. The stack is as large as the system lets it grow, which
-# builds need that print by recursion; then the depth of parentheses that a stack of 8 MB holds is looked for.
+# The texts are one long expression, `a + 1 * b - a + 1 * b - .. - a`, of 0.25, 0.5 and 1 MB, bare and in 100 parentheses, and chains of links,
+# `a.b(c).b(c)..` and `a?.b[c]?.b[c]..`, of 25,000, 50,000 and 100,000 such pairs. The least of five runs counts. Where node and its package acorn
+# are installed, acorn parses the same texts. The stack is as large as the system lets it grow, which builds need that print by recursion. Then
+# the longest texts are run on a stack of 1 MB, and the depth of parentheses that one of 8 MB holds is looked for.
 cd "$(dirname "$0")/.." || exit 2
 program=crates/show_expr/out/show_expr
 if [ ! -x "$program" ]; then
@@ -26,6 +27,14 @@ def text_of(size, depth):
     return b'(' * depth + UNIT * (size // len(UNIT)) + b'a' + b')' * depth + b'\n'
 
 
+def chain_of(link, pairs):
+    return b'a' + link * pairs + b'\n'
+
+
+def ended(status):
+    return 'status %d' % os.WEXITSTATUS(status) if os.WIFEXITED(status) else 'signal %d' % os.WTERMSIG(status)
+
+
 def run(command, text, stack=None):
     def limit():
         if stack:
@@ -44,14 +53,14 @@ if node and run([node, '--stack-size=60000', '-e', ACORN], b'a')[0] == 0:
     commands.append(('acorn', [node, '--stack-size=60000', '-e', ACORN]))
 print('| program | text | bytes | processor seconds | peak memory, MB | ended |')
 print('|---|---|---|---|---|---|')
-for depth in (0, 100):
-    for size in (250_000, 500_000, 1_000_000):
-        text = text_of(size, depth)
-        for name, command in commands:
-            runs = [run(command, text) for _ in range(5)]
-            ended = 'status %d' % os.WEXITSTATUS(runs[0][0]) if os.WIFEXITED(runs[0][0]) else 'signal %d' % os.WTERMSIG(runs[0][0])
-            text_name = 'in 100 parentheses' if depth else 'bare'
-            print('| %s | %s | %d | %.2f | %.0f | %s |' % (name, text_name, len(text), min(r[1] for r in runs), min(r[2] for r in runs), ended), flush=True)
+texts = [(name, text_of(size, depth)) for name, depth in (('bare', 0), ('in 100 parentheses', 100)) for size in (250_000, 500_000, 1_000_000)]
+chains = [(name, chain_of(link, pairs)) for name, link in (('`a.b(c)..`', b'.b(c)'), ('`a?.b[c]..`', b'?.b[c]')) for pairs in (25_000, 50_000, 100_000)]
+for text_name, text in texts + chains:
+    for name, command in commands:
+        runs = [run(command, text) for _ in range(5)]
+        print('| %s | %s | %d | %.2f | %.0f | %s |' % (name, text_name, len(text), min(r[1] for r in runs), min(r[2] for r in runs), ended(runs[0][0])), flush=True)
+for text_name, text in (texts[2], chains[2], chains[5]):
+    print('on a stack of 1 MB, %s, %d bytes: %s' % (text_name, len(text), ended(run(commands[0][1], text, 1 << 20)[0])))
 low, high = 0, 100_000
 while high - low > 10:
     middle = (low + high) // 2

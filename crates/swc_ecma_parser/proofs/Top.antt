@@ -22,7 +22,7 @@ use Rattle.swc_grammar.specs.Trees.{is_grouped, are_grouped, grouped_at, is_vali
 use Rattle.swc_grammar.specs.Words.{◌>>=◌}
 use Rattle.swc_grammar.proofs.Sound as clean
 use Rattle.swc_grammar.proofs.Complete as clean_all
-use Rattle.swc_grammar.proofs.Complete.{stops-expr, stops-assign, stops-level, stops-unary}
+use Rattle.swc_grammar.proofs.Complete.{stops-bound, stops-link}
 use Rattle.swc_grammar.proofs.Cut.{cut-append}
 use Rattle.swc_grammar.proofs.Good.{grouped, valid}
 use Rattle.swc_grammar.proofs.Literals.{literal-read}
@@ -191,16 +191,16 @@ pub record Stopping (s : Symbol) : Type 0 where
   pub stop : (c : Scope) (ys : List TokenAndSpan) → EndsAt s ys → Stop s c ys
 
 pub expr-stops : Stopping Expr
-expr-stops = record { stop = λ c ys e. stops-expr c e }
+expr-stops = record { stop = λ c ys e. (stops-link true Expr e, stops-bound Expr c e) }
 
 pub assign-stops : Stopping Assign
-assign-stops = record { stop = λ c ys e. stops-assign Assign c e }
+assign-stops = record { stop = λ c ys e. (stops-link true Assign e, stops-bound Assign c e) }
 
 pub level-stops : Stopping (Level 1)
-level-stops = record { stop = λ c ys e. stops-level (Level 1) c e }
+level-stops = record { stop = λ c ys e. (omega arith, stops-link true (Level 1) e, stops-bound (Level 1) c e) }
 
 pub unary-stops : Stopping Unary
-unary-stops = record { stop = λ c ys e. stops-unary Unary c e }
+unary-stops = record { stop = λ c ys e. stops-link true Unary e }
 
 pub key-stops : Stopping Key
 key-stops = record { stop = λ c ys e. tt }

@@ -167,7 +167,7 @@ impl<I: Tokens, B: Bodies<I>> Parser<I, B> {
         self.finish(answer)
     }
 
-    /// An expression (ECMA-262, 13.16): assignment expressions with commas between them.
+    /// An expression (ECMA-262, 13.16): so far, an assignment expression.
     ///
     /// The end is refused as `Eof`, where the token consumed last ends.
     pub fn parse_expr(&mut self) -> PResult<Box<ExprOf<B>>>
@@ -180,15 +180,7 @@ impl<I: Tokens, B: Bodies<I>> Parser<I, B> {
         self.finish(answer)
     }
 
-    /// What a head of `for` may begin with, where that is no declaration (ECMA-262, 14.7.4): so far an expression, as
-    /// `parse_expr` reads it.
-    pub fn parse_for_head_prefix(&mut self) -> PResult<Box<ExprOf<B>>>
-        ensures promised { Promised I.model B.is_faithful B.forms in_boxes Expr self.old result self.new }
-    {
-        self.parse_expr()
-    }
-
-    /// An assignment expression (ECMA-262, 13.15): a conditional, an assignment to a simple target, or `yield`.
+    /// An assignment expression (ECMA-262, 13.15): so far, binary operators of any precedence.
     ///
     /// The end is refused as `Eof`, where the token consumed last ends.
     pub fn parse_assignment_expr(&mut self) -> PResult<Box<ExprOf<B>>>
@@ -219,9 +211,10 @@ impl<I: Tokens, B: Bodies<I>> Parser<I, B> {
     }
 
     /// A unary expression (ECMA-262, 13.5): so far, any number of `delete`, `void`, `typeof`, `+`,
-    /// `-`, `~` and `!`, and then a primary expression: `this`, a literal, an array literal, an
-    /// identifier, `#` and a name, an expression in parentheses, or a function or a class, which the
-    /// hook reads.
+    /// `-`, `~` and `!`, and then a left-hand side (13.3): a primary expression, `new`, `super` or
+    /// `import`, with its links. A primary expression (13.2) is `this`, a literal, a regular
+    /// expression, a template, an array or object literal, an identifier, `#` and a name, an
+    /// assignment expression in parentheses, or a function or a class, which the hook reads.
     ///
     /// A refused operand of such an operator is recorded, and a node of `Invalid` stands in its
     /// place, at one position, that before the operand. `delete` of an identifier has the fault

@@ -1,5 +1,4 @@
 pub mod Ahead
-pub mod Assignments
 pub mod Bases
 pub mod Begins
 pub mod Building
@@ -12,7 +11,6 @@ pub mod Making
 pub mod Methods
 pub mod Naming
 pub mod NextLink
-pub mod Parens
 pub mod Pieces
 pub mod PrivateNames
 pub mod PropKinds
@@ -22,5 +20,4 @@ pub mod Rules
 pub mod Signs
 pub mod Steps
 pub mod Templates
-pub mod Updates
 pub mod Words

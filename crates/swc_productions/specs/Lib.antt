@@ -1,4 +1,3 @@
-pub mod Assignments
 pub mod Bases
 pub mod Begins
 pub mod Keys
@@ -11,4 +10,3 @@ pub mod Properties
 pub mod Readers
 pub mod Regexes
 pub mod Templates
-pub mod Updates
