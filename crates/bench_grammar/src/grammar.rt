@@ -10,8 +10,7 @@ use std::alloc::{AllocError, Global};
 ///
 /// `Whole` is an expression, where `in` is an operator but in the mode `without-in`. The symbols
 /// `..NoIn` stand for those without it. `# Name` is an operand, which the standard has left of `in`
-/// alone. So far `async` and `await` are no operands by themselves, and no method has parameters,
-/// so that there is no setter.
+/// alone. So far `async` is no operand by itself, and no method has parameters, so that there is no setter.
 ///
 /// The texts of templates are empty, and what stands between their expressions is one token; so is a template without
 /// an expression. No list has braces, functions or classes beside them: what ends a template ends with a backquote,

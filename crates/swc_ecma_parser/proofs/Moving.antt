@@ -1,5 +1,8 @@
 -- The tree of an answer is moved out of the nodes, and the nodes that were made are cut off.
 use Rattle.std.proofs.Common.{◌≡◌, ℕ, Bool, List, [], ◌∷◌, Option, None, Result, Ok, Err, Some, IfOk, MatchResult, refl, sym, ap, subst, ◌∙◌, arith}
+use Rattle.std.specs.declared.alloc.Global.{Global}
+use Rattle.std.specs.declared.boxed.Box.{Box}
+use Rattle.std.specs.declared.vec.Vec.{Vec}
 use Rattle.swc_context.specs.declared.error.Error.{Error}
 use Rattle.swc_input.specs.declared.buffer.Buffer.{Buffer}
 use Rattle.swc_context.specs.declared.span.Span.{Span}
@@ -7,11 +10,12 @@ use Rattle.swc_input.specs.Source.{Model}
 use Rattle.swc_input.specs.Buffer.{last_position}
 use Rattle.swc_input.specs.Recording.{no_memory}
 use Rattle.swc_ast.specs.Parts.{item_of, item_trees, args_tree, tpl_tree}
-use Rattle.swc_ast.specs.Tree.{Tree, node, args, no_span}
+use Rattle.swc_ast.specs.Tree.{Tree, node, args, args_with, no_span}
+use Rattle.swc_ast.specs.declared.expr.Expr.{Expr}
 use Rattle.swc_ast.specs.declared.expr.ExprOrSpread.{ExprOrSpread}
 use Rattle.swc_ast.specs.declared.expr.Tpl.{Tpl}
 use Rattle.swc_ast.specs.declared.spanned.Spanned.{Ghosts}
-use Rattle.swc_grammar.specs.Trees.{unmarked, all_unmarked}
+use Rattle.swc_grammar.specs.Trees.{unmarked, all_unmarked, items_of}
 use Rattle.swc_grammar.specs.Words.{◌>>=◌}
 use Rattle.swc_nodes.specs.Slots.{Part, expr_part}
 use Rattle.swc_nodes.specs.Stands.{count, seat_at, tree_at, bare_at, Apart, From, Grows, CutTo, SameNodes}
@@ -25,8 +29,9 @@ use Rattle.swc_productions.specs.declared.moves.Listed.{Listed}
 use Rattle.swc_productions.specs.Parsing.{tree_of, args_at, Heard, Unheard, Parses}
 use Rattle.swc_productions.specs.Pieces.{tpl_at}
 use Rattle.swc_productions.proofs.Steps.{Reader, spent, heard_call, unheard_call, unheard_memory}
-use Rattle.swc_ecma_parser.specs.Promise.{only_items}
-use Rattle.swc_ecma_parser.proofs.Top.{bare, bare_items}
+use Rattle.swc_ecma_parser.specs.Calls.{tree_by}
+use Rattle.swc_ecma_parser.specs.Promise.{only_items, items_and_comma, list_tree}
+use Rattle.swc_ecma_parser.proofs.Top.{bare, stripped}
 
 module _ {F C K : Type 0} {fg : Ghosts F} {cg : Ghosts C} {kg : Ghosts K} where
   -- nodes were appended, and cut off again
@@ -54,8 +59,8 @@ module _ {S F C K : Type 0} {fg : Ghosts F} {cg : Ghosts C} {kg : Ghosts K} (mod
 
 module _ {S F C K X T : Type 0} {fg : Ghosts F} {cg : Ghosts C} {kg : Ghosts K} (model : Model S) (sure : Bool) (f : Reader (Tree F C K)) (ns : Nodes F C K fg cg kg) (by : Nodes F C K fg cg kg → X → Tree F C K) (bare_by : X → Tree F C K) (view : T → Tree F C K) where
   -- what is answered in boxes stands for what the numbers stood for, as `strip` leaves it, or memory was wanted
-  moved-by : (strip : Tree F C K → Tree F C K) (b c : Buffer S) (answer : Result X Error) (r : Result T Error) → Parses model sure (by ns) f b answer c → ((x : X) → strip (by ns x) ≡ bare_by x) →
-      MatchResult answer (λ x. MatchResult r (λ t. view t ≡ bare_by x) (λ e. e ≡ no_memory (last_position c))) (λ e. r ≡ Err e) → Parses model sure view (λ k ts. f k ts >>= (λ p. Some (strip p.0, p.1))) b r c
+  pub moved-by : (strip : Tree F C K → Tree F C K) (b c : Buffer S) (answer : Result X Error) (r : Result T Error) → Parses model sure (by ns) f b answer c → ((x : X) → strip (by ns x) ≡ bare_by x) →
+      MatchResult answer (λ x. MatchResult r (λ t. view t ≡ bare_by x) (λ e. e ≡ no_memory (last_position c))) (λ e. r ≡ Err e) → Parses model sure view (stripped strip f) b r c
   moved-by strip b c (Ok x) (Ok t) h same m =
       subst (λ v. Heard model sure (λ k ts. f k ts >>= (λ p. Some (strip p.0, p.1))) v b c) (same x ∙ sym m) (heard_call (λ k p. Some (strip p.0, p.1)) (λ k ts. refl) (λ k ts. refl) h)
   moved-by strip b c (Ok x) (Err e) h same m =
@@ -63,14 +68,10 @@ module _ {S F C K X T : Type 0} {fg : Ghosts F} {cg : Ghosts C} {kg : Ghosts K} 
   moved-by strip b c (Err e) r h same m =
       subst (λ v. Parses model sure view (λ k ts. f k ts >>= (λ p. Some (strip p.0, p.1))) b v c) (sym m) (unheard_call (λ k p. Some (strip p.0, p.1)) (λ k ts. refl) h)
 
-  -- without the marks of commas, and of a list its items alone
+  -- without the marks of commas
   pub moved-parses : (b c : Buffer S) (answer : Result X Error) (r : Result T Error) → Parses model sure (by ns) f b answer c → ((x : X) → unmarked (by ns x) ≡ bare_by x) →
       MatchResult answer (λ x. MatchResult r (λ t. view t ≡ bare_by x) (λ e. e ≡ no_memory (last_position c))) (λ e. r ≡ Err e) → Parses model sure view (bare f) b r c
   moved-parses = moved-by unmarked
-
-  pub moved-items : (b c : Buffer S) (answer : Result X Error) (r : Result T Error) → Parses model sure (by ns) f b answer c → ((x : X) → only_items (unmarked (by ns x)) ≡ bare_by x) →
-      MatchResult answer (λ x. MatchResult r (λ t. view t ≡ bare_by x) (λ e. e ≡ no_memory (last_position c))) (λ e. r ≡ Err e) → Parses model sure view (bare_items f) b r c
-  moved-items = moved-by (λ v. only_items (unmarked v))
 
 module _ {F C K : Type 0} where
   item-bare : (o : Option Span) (t : Tree F C K) → unmarked (item_of o t) ≡ item_of o (unmarked t)
@@ -82,9 +83,30 @@ module _ {F C K : Type 0} where
   items-bare at (x ∷ xs) = rw (item-bare x.spread (at x.expr.0), items-bare at xs) refl
 
 module _ {F C K : Type 0} {fg : Ghosts F} {cg : Ghosts C} {kg : Ghosts K} (ns : Nodes F C K fg cg kg) where
-  -- the arguments that were read, and a template, without the marks of commas
-  pub args-bare : (l : Listed (ExprOrSpread ExprId)) → only_items (unmarked (args_at ns l)) ≡ args_tree (λ e. bare_at ns e.0) l.items
+  -- a list that was read, its items alone and with its comma, and a template, without the marks of commas
+  pub args-bare : (l : Listed (ExprOrSpread ExprId)) → only_items (args_at ns l) ≡ args_tree (λ e. bare_at ns e.0) l.items
   args-bare l = ap (λ v. node args no_span v) (items-bare (tree_at ns) l.items.items)
+
+  abbrev pub bare_list : Listed (ExprOrSpread ExprId) → Tree F C K
+  bare_list l = node (args_with l.trailing_comma) no_span (item_trees (λ e. bare_at ns e.0) l.items.items)
+
+  pub list-bare : (l : Listed (ExprOrSpread ExprId)) → items_and_comma (args_at ns l) ≡ bare_list l
+  list-bare l = ap (λ v. node (args_with l.trailing_comma) no_span v) (items-bare (tree_at ns) l.items.items)
 
   pub tpl-bare : (t : Tpl ExprId) → unmarked (tpl_at ns t) ≡ tpl_tree (λ e. bare_at ns e.0) t
   tpl-bare t = unmarked-node fg.place cg.place kg.place (tree_at ns) (n.Tpl t)
+
+  -- the items in boxes, with the comma put beside them
+  pub moved-list : {M : Error → Type 0} (o : Option Span) (answer : Result (Listed (ExprOrSpread ExprId)) Error)
+      (a : Result (Vec (ExprOrSpread (Box (Expr F C K) Global)) Global) Error)
+      (r : Result (Vec (ExprOrSpread (Box (Expr F C K) Global)) Global × Option Span) Error)
+      → IfOk answer (λ l. o ≡ l.trailing_comma)
+      → MatchResult answer (λ l. MatchResult a (λ t. args_tree (tree_by fg.place cg.place kg.place) t ≡ args_tree (λ e. bare_at ns e.0) l.items) M) (λ e. a ≡ Err e)
+      → MatchResult a (λ t. r ≡ Ok (t, o)) (λ e. r ≡ Err e)
+      → MatchResult answer (λ l. MatchResult r (λ p. list_tree fg.place cg.place kg.place p ≡ bare_list l) M) (λ e. r ≡ Err e)
+  moved-list {M} o (Ok l) (Ok t) r q m w =
+      subst (λ v. MatchResult v (λ p. list_tree fg.place cg.place kg.place p ≡ bare_list l) M) (sym w)
+      (ap (λ v. node (args_with o) no_span (items_of v)) m ∙ ap (λ v. node (args_with v) no_span (item_trees (λ e. bare_at ns e.0) l.items.items)) q)
+  moved-list {M} o (Ok l) (Err e) r q m w = subst (λ v. MatchResult v (λ p. list_tree fg.place cg.place kg.place p ≡ bare_list l) M) (sym w) m
+  moved-list o (Err e) (Err x) r q m w = w ∙ ap (λ v. v) m
+  moved-list o (Err e) (Ok t) r q m w = absurd cc

@@ -18,18 +18,18 @@ use Rattle.swc_grammar.specs.Scope.{Scope}
 use Rattle.swc_grammar.specs.Symbols.{Symbol, Expr, Assign, Level, Unary, Key, Prop, Literal, Arguments, Template}
 use Rattle.swc_grammar.specs.Reads as grammar
 use Rattle.swc_grammar.specs.Clean.{Out, sym as at, Stop, run}
-use Rattle.swc_grammar.specs.Trees.{is_grouped, are_grouped, grouped_at, is_valid, are_valid, is_invalid, unmarked}
+use Rattle.swc_grammar.specs.Trees.{is_grouped, are_grouped, grouped_at, is_valid, are_valid, is_invalid, unmarked, items_of}
 use Rattle.swc_grammar.specs.Words.{◌>>=◌}
 use Rattle.swc_grammar.proofs.Sound as clean
 use Rattle.swc_grammar.proofs.Complete as clean_all
-use Rattle.swc_grammar.proofs.Complete.{stops-bound, stops-link}
+use Rattle.swc_grammar.proofs.Complete.{stops-expr, stops-assign, stops-level, stops-unary}
 use Rattle.swc_grammar.proofs.Cut.{cut-append}
 use Rattle.swc_grammar.proofs.Good.{grouped, valid}
 use Rattle.swc_grammar.proofs.Literals.{literal-read}
 use Rattle.swc_grammar.proofs.Marks.{same-grouped, same-valid}
 use Rattle.swc_productions.specs.Parsing.{scope, recorded, Loud, Consumes, Heard, Parses, TookLiteral}
 use Rattle.swc_ecma_parser.specs.Promise.{Derivation, Anywhere, EndsAt, Unmarred, Derives, Sound, Complete, OneTree}
-use Rattle.swc_ecma_parser.specs.Promise.{Grouped, Valid, PromisedLit, only_items, ReadsItems}
+use Rattle.swc_ecma_parser.specs.Promise.{Grouped, Valid, PromisedLit, only_items, items_and_comma, ReadsAs}
 use Rattle.swc_productions.proofs.Hearing.{same_faults}
 use Rattle.swc_productions.proofs.Steps.{Reader, consumes_of}
 
@@ -58,9 +58,9 @@ parts p q h = let e : p ≡ q = cc in (ap (λ v. v.0) e, ap (λ v. v.1) e)
 abbrev pub bare : {F C K : Type 0} → Reader (Tree F C K) → Reader (Tree F C K)
 bare f c ts = f c ts >>= (λ p. Some (unmarked p.0, p.1))
 
--- a reader of a list, of its items alone
-abbrev pub bare_items : {F C K : Type 0} → Reader (Tree F C K) → Reader (Tree F C K)
-bare_items f c ts = f c ts >>= (λ p. Some (only_items (unmarked p.0), p.1))
+-- a reader of trees, as `strip` leaves them
+abbrev pub stripped : {F C K : Type 0} → (Tree F C K → Tree F C K) → Reader (Tree F C K) → Reader (Tree F C K)
+stripped strip f c ts = f c ts >>= (λ p. Some (strip p.0, p.1))
 
 stripped_from : {F C K : Type 0} (strip : Tree F C K → Tree F C K) (o : Out (Tree F C K)) (t : Tree F C K) (ys : List TokenAndSpan)
     → (o >>= (λ p. Some (strip p.0, p.1))) ≡ Some (t, ys)
@@ -80,9 +80,9 @@ module _ {F C K : Type 0} {fun_at : F → Span} {class_at : C → Span} {block_a
     cut = λ c own ys t d. record { marked = d.marked; read = cut-append own ys d.read; same = d.same };
   }
 
-  is_sound_items : (s : Symbol) → IsSound (ReadsItems hook s) (bare_items (run hook (at s)))
-  is_sound_items s = record {
-    sound = λ c ts ys t h. let (m, e, same) = stripped_from (λ v. only_items (unmarked v)) (run hook (at s) c ts) t ys h in
+  is_sound_as : (strip : Tree F C K → Tree F C K) (s : Symbol) → IsSound (ReadsAs strip hook s) (stripped strip (run hook (at s)))
+  is_sound_as strip s = record {
+    sound = λ c ts ys t h. let (m, e, same) = stripped_from strip (run hook (at s) c ts) t ys h in
         record { marked = m; read = clean.sound hook laws s c ts (m, ys) e; same = same };
     cut = λ c own ys t d. record { marked = d.marked; read = cut-append own ys d.read; same = d.same };
   }
@@ -99,11 +99,11 @@ module _ {F C K : Type 0} (hook : Hook F C K) where
         ap (λ o. o >>= (λ p. Some (unmarked p.0, p.1))) (clean_all.complete hook d.read (stop c ys e)) ∙ ap (λ v. Some (v, ys)) d.same;
   }
 
-  is_complete_items : (s : Symbol) → ((c : Scope) (ys : List TokenAndSpan) → EndsAt s ys → Stop s c ys)
-      → IsComplete (ReadsItems hook s) (EndsAt s) (bare_items (run hook (at s)))
-  is_complete_items s stop = record {
+  is_complete_as : (strip : Tree F C K → Tree F C K) (s : Symbol) → ((c : Scope) (ys : List TokenAndSpan) → EndsAt s ys → Stop s c ys)
+      → IsComplete (ReadsAs strip hook s) (EndsAt s) (stripped strip (run hook (at s)))
+  is_complete_as strip s stop = record {
     complete = λ c ts ys t d e.
-        ap (λ o. o >>= (λ p. Some (only_items (unmarked p.0), p.1))) (clean_all.complete hook d.read (stop c ys e)) ∙ ap (λ v. Some (v, ys)) d.same;
+        ap (λ o. o >>= (λ p. Some (strip p.0, p.1))) (clean_all.complete hook d.read (stop c ys e)) ∙ ap (λ v. Some (v, ys)) d.same;
   }
 
 -- what holds of each tree that is derived
@@ -115,12 +115,29 @@ right_of : (a b : Bool) → (a && b) ≡ true → b ≡ true
 right_of true b h = h
 right_of false b h = cc
 
+-- what leaves trees well
+pub record Leaves {F C K : Type 0} (strip : Tree F C K → Tree F C K) : Type 0 where
+  pub grouped : (t : Tree F C K) → is_grouped t ≡ true → is_grouped (strip t) ≡ true
+  pub valid : (t : Tree F C K) → is_valid t ≡ true → is_valid (strip t) ≡ true
+
 module _ {F C K : Type 0} where
-  items_grouped : (t : Tree F C K) → is_grouped t ≡ true → is_grouped (only_items t) ≡ true
+  items_grouped : (t : Tree F C K) → is_grouped t ≡ true → are_grouped (items_of t) ≡ true
   items_grouped (node k s ts) h = right_of (grouped_at (node k s ts)) (are_grouped ts) h
 
-  items_valid : (t : Tree F C K) → is_valid t ≡ true → is_valid (only_items t) ≡ true
+  items_valid : (t : Tree F C K) → is_valid t ≡ true → are_valid (items_of t) ≡ true
   items_valid (node k s ts) h = right_of (not (is_invalid k)) (are_valid ts) h
+
+  pub leaves-items : Leaves {F} {C} {K} only_items
+  leaves-items = record {
+    grouped = λ t h. items_grouped (unmarked t) (same-grouped t ∙ h);
+    valid = λ t h. items_valid (unmarked t) (same-valid t ∙ h);
+  }
+
+  pub leaves-list : Leaves {F} {C} {K} items_and_comma
+  leaves-list = record {
+    grouped = λ t h. items_grouped (unmarked t) (same-grouped t ∙ h);
+    valid = λ t h. items_valid (unmarked t) (same-valid t ∙ h);
+  }
 
 module _ {F C K : Type 0} (hook : Hook F C K) where
   well : (s : Symbol) → Well (grammar.Reads hook s)
@@ -132,10 +149,10 @@ module _ {F C K : Type 0} (hook : Hook F C K) where
     valid = λ c xs ys t d. ap (λ v. is_valid v) (sym d.same) ∙ same-valid d.marked ∙ valid d.read;
   }
 
-  well_items : (s : Symbol) → Well (ReadsItems hook s)
-  well_items s = record {
-    grouped = λ c xs ys t d. ap (λ v. is_grouped v) (sym d.same) ∙ items_grouped (unmarked d.marked) (same-grouped d.marked ∙ grouped d.read);
-    valid = λ c xs ys t d. ap (λ v. is_valid v) (sym d.same) ∙ items_valid (unmarked d.marked) (same-valid d.marked ∙ valid d.read);
+  well_as : {strip : Tree F C K → Tree F C K} → Leaves strip → (s : Symbol) → Well (ReadsAs strip hook s)
+  well_as leaves s = record {
+    grouped = λ c xs ys t d. ap (λ v. is_grouped v) (sym d.same) ∙ leaves.grouped d.marked (grouped d.read);
+    valid = λ c xs ys t d. ap (λ v. is_valid v) (sym d.same) ∙ leaves.valid d.marked (valid d.read);
   }
 
 as_many : {es fs : List Error} → Keeps es fs → (length es < length fs → ⊥) → length fs ≡ length es
@@ -191,16 +208,16 @@ pub record Stopping (s : Symbol) : Type 0 where
   pub stop : (c : Scope) (ys : List TokenAndSpan) → EndsAt s ys → Stop s c ys
 
 pub expr-stops : Stopping Expr
-expr-stops = record { stop = λ c ys e. (stops-link true Expr e, stops-bound Expr c e) }
+expr-stops = record { stop = λ c ys e. stops-expr c e }
 
 pub assign-stops : Stopping Assign
-assign-stops = record { stop = λ c ys e. (stops-link true Assign e, stops-bound Assign c e) }
+assign-stops = record { stop = λ c ys e. stops-assign Assign c e }
 
 pub level-stops : Stopping (Level 1)
-level-stops = record { stop = λ c ys e. (omega arith, stops-link true (Level 1) e, stops-bound (Level 1) c e) }
+level-stops = record { stop = λ c ys e. stops-level (Level 1) c e }
 
 pub unary-stops : Stopping Unary
-unary-stops = record { stop = λ c ys e. stops-link true Unary e }
+unary-stops = record { stop = λ c ys e. stops-unary Unary c e }
 
 pub key-stops : Stopping Key
 key-stops = record { stop = λ c ys e. tt }
@@ -237,11 +254,11 @@ module _ {S F C K T : Type 0} (model : Model S) (sure : Bool) (hook : Hook F C K
   meets-in-boxes {s} stops =
       meets s (grammar.ReadsUnmarked hook s) (bare (run hook (at s))) (is_sound_bare hook laws s) (is_complete_bare hook s stops.stop) (well_bare hook s)
 
-  -- of the items of a list in boxes
-  pub meets-items : {s : Symbol} → Stopping s → (b : Buffer S) (r : Result T Error) (c : Buffer S)
-      → Parses model sure view (bare_items (run hook (at s))) b r c → Meets model sure (ReadsItems hook s) view s b r c
-  meets-items {s} stops =
-      meets s (ReadsItems hook s) (bare_items (run hook (at s))) (is_sound_items hook laws s) (is_complete_items hook s stops.stop) (well_items hook s)
+  -- of a list in boxes, as `strip` leaves it
+  pub meets-as : {strip : Tree F C K → Tree F C K} → Leaves strip → {s : Symbol} → Stopping s → (b : Buffer S) (r : Result T Error) (c : Buffer S)
+      → Parses model sure view (stripped strip (run hook (at s))) b r c → Meets model sure (ReadsAs strip hook s) view s b r c
+  meets-as {strip} leaves {s} stops =
+      meets s (ReadsAs strip hook s) (stripped strip (run hook (at s))) (is_sound_as hook laws strip s) (is_complete_as hook strip s stops.stop) (well_as hook leaves s)
 
 -- a call on a literal
 module _ {S F C K : Type 0} (model : Model S) (hook : Hook F C K) where

@@ -1,7 +1,8 @@
 -- What the calls of a parser promise, by the written grammar alone.
-use Rattle.std.specs.Prelude.{◌≡◌, ◌≢◌, Bool, true, false, List, [], ◌++◌, Result, Err, IfOk, IfErr, MatchResult}
+use Rattle.std.specs.Prelude.{◌≡◌, ◌≢◌, Bool, true, false, List, [], ◌++◌, Option, Result, Err, IfOk, IfErr, MatchResult}
 use Rattle.swc_context.specs.declared.error.Error.{Error}
 use Rattle.swc_context.specs.declared.error.SyntaxError.TheVariants.{OutOfMemory}
+use Rattle.swc_context.specs.declared.span.Span.{Span}
 use Rattle.swc_input.specs.declared.buffer.Buffer.{Buffer}
 use Rattle.swc_input.specs.declared.token.TokenAndSpan.{TokenAndSpan}
 use Rattle.swc_input.specs.Source.{Model}
@@ -11,7 +12,7 @@ use Rattle.std.specs.declared.alloc.Global.{Global}
 use Rattle.std.specs.declared.boxed.Box.{Box}
 use Rattle.std.specs.declared.vec.Vec.{Vec}
 use Rattle.swc_ast.specs.Parts.{lit_tree, prop_name_tree, args_tree, tpl_tree}
-use Rattle.swc_ast.specs.Tree.{Tree, node, args, no_span}
+use Rattle.swc_ast.specs.Tree.{Tree, node, args, args_with, no_span}
 use Rattle.swc_ast.specs.TreeOf.{prop_or_spread_tree}
 use Rattle.swc_ast.specs.declared.expr.Expr.{Expr}
 use Rattle.swc_ast.specs.declared.expr.ExprOrSpread.{ExprOrSpread}
@@ -27,7 +28,7 @@ use Rattle.swc_grammar.specs.Symbols.{Symbol, Key, Prop, Literal, Arguments, Tem
 use Rattle.swc_grammar.specs.Reads.{Reads, ReadsUnmarked, Stops}
 use Rattle.swc_grammar.specs.Names.{Spelling, NameKind, Reference, ReadsName}
 use Rattle.swc_grammar.specs.Tokens.{ends_prop, may_be_reference}
-use Rattle.swc_grammar.specs.Trees.{is_grouped, is_valid, items_of, unmarked}
+use Rattle.swc_grammar.specs.Trees.{is_grouped, is_valid, items_of, comma_of, unmarked}
 use Rattle.swc_nodes.specs.Slots.{expr_part}
 use Rattle.swc_nodes.specs.Stands.{count, From, Grows, SameNodes}
 use Rattle.swc_nodes.specs.declared.node.ExprId.{ExprId}
@@ -127,20 +128,36 @@ prop_in_boxes {F} {C} {K} {fg = fg} {cg = cg} {kg = kg} = record {
   leaves = λ ns r ms. SameNodes ns ms;
 }
 
--- a list of items, without the token that closes it, and without the marks of commas
+-- a list of items, without the token that closes it: its items alone, and with the place of a comma behind the last one, or none
 abbrev pub only_items : {F C K : Type 0} → Tree F C K → Tree F C K
-only_items t = node args no_span (items_of t)
+only_items t = node args no_span (items_of (unmarked t))
 
-pub record ReadsItems {F C K : Type 0} (hook : Hook F C K) (s : Symbol) (c : Scope) (xs ys : List TokenAndSpan) (t : Tree F C K) : Type 0 where
+abbrev pub items_and_comma : {F C K : Type 0} → Tree F C K → Tree F C K
+items_and_comma t = node (args_with (comma_of t)) no_span (items_of (unmarked t))
+
+-- what is derived, as `strip` leaves it
+pub record ReadsAs {F C K : Type 0} (strip : Tree F C K → Tree F C K) (hook : Hook F C K) (s : Symbol) (c : Scope) (xs ys : List TokenAndSpan) (t : Tree F C K) : Type 0 where
   pub marked : Tree F C K
   pub read : Reads hook s c xs ys marked
-  pub same : only_items (unmarked marked) ≡ t
+  pub same : strip marked ≡ t
+
+-- a list of items in boxes, and a comma, as the tree of both
+abbrev pub list_tree : {F C K : Type 0} → (F → Span) → (C → Span) → (K → Span) → Vec (ExprOrSpread (Box (Expr F C K) Global)) Global × Option Span → Tree F C K
+list_tree fun class block p = node (args_with p.1) no_span (items_of (args_tree (tree_by fun class block) p.0))
 
 -- arguments in boxes, and a template
 abbrev pub args_in_boxes : {F C K : Type 0} {fg : Ghosts F} {cg : Ghosts C} {kg : Ghosts K} → Answer (Vec (ExprOrSpread (Box (Expr F C K) Global)) Global) F C K fg cg kg
 args_in_boxes {fg = fg} {cg = cg} {kg = kg} = record {
   tree = λ ns xs. args_tree (tree_by fg.place cg.place kg.place) xs;
-  derives = λ hook s. ReadsItems hook s;
+  derives = λ hook s. ReadsAs only_items hook s;
+  leaves = λ ns r ms. SameNodes ns ms;
+}
+
+-- a list in boxes, with the comma behind the last item
+abbrev pub list_in_boxes : {F C K : Type 0} {fg : Ghosts F} {cg : Ghosts C} {kg : Ghosts K} → Answer (Vec (ExprOrSpread (Box (Expr F C K) Global)) Global × Option Span) F C K fg cg kg
+list_in_boxes {fg = fg} {cg = cg} {kg = kg} = record {
+  tree = λ ns p. list_tree fg.place cg.place kg.place p;
+  derives = λ hook s. ReadsAs items_and_comma hook s;
   leaves = λ ns r ms. SameNodes ns ms;
 }
 

@@ -1,12 +1,15 @@
 -- What the grammar derives, the clean parser reads, where nothing goes on that it would take too.
 use Rattle.std.specs.Prelude.{◌≡◌, ℕ, zero, suc, ◌≤◌, ◌<◌, min, Bool, true, false, not, ◌||◌, List, [], ◌∷◌}
-use Rattle.std.specs.Prelude.{◌++◌, ◌&&◌, Option, Some, None, codes}
+use Rattle.std.specs.Prelude.{◌++◌, ◌&&◌, if◌then◌else◌, Option, Some, None, codes}
 use Rattle.swc_context.specs.Texts.{is_text}
 use Rattle.std.proofs.Common.{refl, sym as sym_path, ap, subst, ◌∙◌, arith}
 use Rattle.std.proofs.lemmas.Bool.{eqb-true, ltb-true, le-leb, lt-leb}
 use Rattle.swc_context.specs.Operators.{precedence_of}
 use Rattle.swc_context.specs.declared.operator.BinaryOp.{BinaryOp}
+use Rattle.swc_context.specs.declared.operator.UnaryOp.{UnaryOp}
+use Rattle.swc_context.specs.declared.operator.UpdateOp.{UpdateOp}
 use Rattle.swc_context.specs.declared.operator.BinaryOp.TheVariants as binary
+use Rattle.swc_context.specs.declared.operator.AssignOp.{AssignOp}
 use Rattle.swc_context.specs.declared.operator.AssignOp.TheVariants as assign
 use Rattle.swc_context.specs.declared.operator.BinOpToken.TheVariants as sign
 use Rattle.swc_context.specs.declared.span.Span.{Span}
@@ -16,7 +19,9 @@ use Rattle.swc_input.specs.declared.token.Token.{Token}
 use Rattle.swc_input.specs.declared.token.Token.TheVariants as token
 use Rattle.swc_input.specs.declared.token.TokenAndSpan.{TokenAndSpan}
 use Rattle.swc_input.specs.Kinds.{at_token, is_hash}
-use Rattle.swc_ast.specs.Tree.{Tree, span_of}
+use Rattle.swc_ast.specs.Targets.{is_target}
+use Rattle.swc_ast.specs.Tree.{Tree, node, Trees, nil, cons, span_of}
+use Rattle.swc_ast.specs.Tree.{bin as bin_kind, unary as unary_kind, update as update_kind}
 use Rattle.swc_bodies.specs.Readings.{whole_span, Hook, begins as begins_own, begins_function, is_function_here}
 use Rattle.swc_bodies.specs.Readings.{is_function, is_async, is_class}
 use Rattle.swc_grammar.specs.Scope.{Scope}
@@ -26,16 +31,18 @@ use Rattle.swc_grammar.specs.Tokens.{is_stop, is_comma, is_dots, is_reference, i
 use Rattle.swc_grammar.specs.Tokens.{is_colon, is_star, is_equals, is_question, is_word, is_get, ends_prop, follows_key}
 use Rattle.swc_grammar.specs.Tokens.{is_dot, is_lbracket, is_backquote, is_dollar_brace, is_slash, is_new}
 use Rattle.swc_grammar.specs.Tokens.{is_super, is_import, is_meta, is_source}
-use Rattle.swc_grammar.specs.Trees.{new_e, is_chain, items_of}
+use Rattle.swc_grammar.specs.Tokens.{is_update, is_assign, is_await, is_yield, await_ident_ok, ends_await, yield_ok}
+use Rattle.swc_grammar.specs.Tokens.{goes_on_yield, begins_yielded}
+use Rattle.swc_grammar.specs.Trees.{new_e, is_chain, items_of, seq_of, trees_append, is_operation}
 use Rattle.swc_grammar.specs.Trees.{to, bin_e, nullish_ok, logical_ok, exp_ok, is_unary, min_right}
-use Rattle.swc_grammar.specs.Symbols.{Symbol, Expr, Assign, Level, Unary, Lhs, Left, Arguments, Args, ArgsTail, Primary}
+use Rattle.swc_grammar.specs.Symbols.{Symbol, Expr, Exprs, Assign, Level, Unary, Lhs, Left, Arguments, Args, ArgsTail, Primary}
 use Rattle.swc_grammar.specs.Symbols.{Literal, Template, Parts, Base}
 use Rattle.swc_grammar.specs.Symbols.{Elements, ElementsTail}
 use Rattle.swc_grammar.specs.Symbols.{Item, Props, PropsTail, Prop, Key, AfterKey, Shell, Answer, Body, Value}
 use Rattle.swc_grammar.specs.Symbols.{begins_body, Side}
 use Rattle.swc_grammar.specs.Names.{Spelling}
 use Rattle.swc_grammar.specs.Parts.{reference, any_name, lit_of, regex_of, text_of, key_lit_of, prefix_here}
-use Rattle.swc_grammar.specs.Parts.{operator_here}
+use Rattle.swc_grammar.specs.Parts.{update_here, assign_here, operator_here}
 use Rattle.swc_grammar.specs.Grammar.{Production, ident-expr, lit, paren-expr, unary-left, unary-op, exp-unary}
 use Rattle.swc_grammar.specs.Grammar.{base-primary, super-name, super-computed, super-call, import-meta, import-call}
 use Rattle.swc_grammar.specs.Grammar.{import-source, left-base, member-name, member-private, member-computed, call, args-end}
@@ -49,17 +56,21 @@ use Rattle.swc_grammar.specs.Grammar.{object-lit, props-end, props-more, props-t
 use Rattle.swc_grammar.specs.Grammar.{prop-spread, prop-short, prop-cover, prop-key, prop-generator, prop-async}
 use Rattle.swc_grammar.specs.Grammar.{prop-async-generator, prop-getter, after-value, after-shell, shell-block}
 use Rattle.swc_grammar.specs.Grammar.{key-name, key-literal, key-computed}
-use Rattle.swc_grammar.specs.Grammar.{level-up, bin-op, private-expr, assign-level, expr-assign}
+use Rattle.swc_grammar.specs.Grammar.{level-up, bin-op, private-expr, assign-level}
+use Rattle.swc_grammar.specs.Grammar.{update-postfix, update-prefix, await-expr, await-ident, cond-expr, assign-expr}
+use Rattle.swc_grammar.specs.Grammar.{yield-alone, yield-expr, yield-star, exprs-one, exprs-more, seq-expr}
 use Rattle.swc_grammar.specs.Reads.{Hears, Reads, by, Follows, gave, took, held, calm, part, heard, is_stop_for, Stops}
 use Rattle.swc_grammar.specs.Reads.{at-end, at-stop}
 use Rattle.swc_grammar.specs.Clean.{Out, and_then, first, Call, sym, links, climb, plan, rank_of, rank, allowed, exec}
 use Rattle.swc_grammar.specs.Clean.{constructs, no_link, no_more, more, linked, link, call_link, chain_link, call_args, args}
 use Rattle.swc_grammar.specs.Clean.{args_tail, tpl, parts, base, super_base, import_base, import_dot, begins_new, second}
-use Rattle.swc_grammar.specs.Clean.{operator_at, prefix_at}
-use Rattle.swc_grammar.specs.Clean.{Bound, Stop, left_ok, no_error, Choice, pick, chosen, expr, assign, unary, primary}
+use Rattle.swc_grammar.specs.Clean.{operator_at, prefix_at, updates, assigns, seqs, no_update_at, ends_unary, no_assign_at}
+use Rattle.swc_grammar.specs.Clean.{ends_assign, begins_yield, goes_on_yield_at, ends_await_at, update_tail, cond_tail}
+use Rattle.swc_grammar.specs.Clean.{assign_tail, exprs_next, yield_by, await_by, unary_by}
+use Rattle.swc_grammar.specs.Clean.{Bound, Stop, left_ok, no_error, Choice, pick, chosen, primary}
 use Rattle.swc_grammar.specs.Clean.{literal, elements, elements_tail, item, props, props_tail, prop, key, after_key}
 use Rattle.swc_grammar.specs.Clean.{shell, prop_word, is_lit, turn, turned, step, run}
-use Rattle.swc_grammar.specs.Firsts.{starts, begins_primary, begins_left, begins_expression, begins_key}
+use Rattle.swc_grammar.specs.Firsts.{starts, begins_primary, begins_left, begins_operand, begins_expression, begins_key}
 use Rattle.swc_grammar.specs.Firsts.{begins_prop}
 use Rattle.swc_grammar.proofs.Binds.{bind}
 use Rattle.swc_grammar.proofs.Bodies.{hears-run}
@@ -70,7 +81,7 @@ use Rattle.swc_grammar.proofs.Only.{only-rbracket, only-comma, only-dots, only-c
 use Rattle.swc_grammar.proofs.Only.{only-super, only-import}
 use Rattle.swc_grammar.proofs.Only.{only-colon, only-star, only-equals, only-backquote, only-dollar-brace, only-question}
 use Rattle.swc_grammar.proofs.Firsts.{Under, under-held, given-held, begins, placed-op, reference-first, name-first}
-use Rattle.swc_grammar.proofs.Firsts.{async-word, get-word}
+use Rattle.swc_grammar.proofs.Firsts.{async-word, get-word, update-first}
 use Rattle.swc_grammar.proofs.Knot.{knot}
 use Rattle.swc_grammar.proofs.Levels.{bound-some, bound-above, min-right-same}
 
@@ -84,21 +95,22 @@ stop-token c (token.Word (word.Keyword keyword.InstanceOf)) false h = absurd cc
 stop-token c (token.BinOp o) b h = absurd cc
 stop-token c t b h = refl
 
-link-token : (b : Bool) (t : TokenAndSpan) (us : List TokenAndSpan)
+ends-token : (t : TokenAndSpan) (us : List TokenAndSpan)
     → (is_comma t.token || (is_closer t.token || is_word_apart t.token t.had_line_break)) ≡ true
-    → no_link b (t ∷ us) ≡ true
-link-token b t us h = by-token b t.token t.had_line_break t.span h
+    → ends_assign (t ∷ us) ≡ true
+ends-token t us h = by-token t.token t.had_line_break t.span h
   where
-    by-token : (b : Bool) (u : Token) (d : Bool) (s : Span)
-        → (is_comma u || (is_closer u || is_word_apart u d)) ≡ true
-        → no_link b (tk u d s ∷ us) ≡ true
-    by-token b token.Dot d s h = absurd cc
-    by-token b token.LBracket d s h = absurd cc
-    by-token b token.BackQuote d s h = absurd cc
-    by-token b token.QuestionMark d s h = absurd cc
-    by-token b token.LParen d s h = absurd cc
-    by-token true u d s h = refl
-    by-token false u d s h = refl
+    by-token : (u : Token) (d : Bool) (s : Span) → (is_comma u || (is_closer u || is_word_apart u d)) ≡ true
+        → ends_assign (tk u d s ∷ us) ≡ true
+    by-token token.Dot d s h = absurd cc
+    by-token token.LBracket d s h = absurd cc
+    by-token token.BackQuote d s h = absurd cc
+    by-token token.QuestionMark d s h = absurd cc
+    by-token token.LParen d s h = absurd cc
+    by-token token.PlusPlus d s h = absurd cc
+    by-token token.MinusMinus d s h = absurd cc
+    by-token (token.AssignOp op) d s h = absurd cc
+    by-token u d s h = refl
 
 and-false : (a : Bool) → (a && false) ≡ false
 and-false true = refl
@@ -131,14 +143,35 @@ stop-any : (s : Symbol) (t : TokenAndSpan) → is_stop_for s t ≡ true → (is_
 stop-any Expr t h = or-right (is_comma t.token) (is_stop t) h
 stop-any s t h = h
 
-pub stops-bound : {ys : List TokenAndSpan} (s : Symbol) (c : Scope) → Stops s ys → Bound c 0 ys
+stops-bound : {ys : List TokenAndSpan} (s : Symbol) (c : Scope) → Stops s ys → Bound c 0 ys
 stops-bound s c at-end = λ op e. absurd cc
 stops-bound s c (at-stop {t = t} h) =
     let n = stop-token c t.token t.had_line_break (stop-any s t h) in λ op e. absurd cc
 
-pub stops-link : {ys : List TokenAndSpan} (b : Bool) (s : Symbol) → Stops s ys → no_link b ys ≡ true
-stops-link b s at-end = refl
-stops-link b s (at-stop {t = t} {ts = ts} h) = link-token b t ts (stop-any s t h)
+stops-end : {ys : List TokenAndSpan} (s : Symbol) → Stops s ys → ends_assign ys ≡ true
+stops-end s at-end = refl
+stops-end s (at-stop {t = t} {ts = ts} h) = ends-token t ts (stop-any s t h)
+
+stops-comma : {ys : List TokenAndSpan} → Stops Expr ys → at_token is_comma (first ys) ≡ false
+stops-comma at-end = refl
+stops-comma (at-stop {t = t} h) = by-token t.token t.had_line_break h
+  where
+    by-token : (u : Token) (d : Bool) → (is_closer u || is_word_apart u d) ≡ true → is_comma u ≡ false
+    by-token token.Comma d h = absurd cc
+    by-token u d h = refl
+
+-- at a hard stop each symbol of expressions stops
+pub stops-assign : {ys : List TokenAndSpan} (s : Symbol) (c : Scope) → Stops s ys → Stop Assign c ys
+stops-assign s c h = (stops-end s h, stops-bound s c h)
+
+pub stops-expr : {ys : List TokenAndSpan} (c : Scope) → Stops Expr ys → Stop Expr c ys
+stops-expr c h = (rw (stops-end Expr h, stops-comma h) refl, stops-bound Expr c h)
+
+pub stops-unary : {ys : List TokenAndSpan} (s : Symbol) (c : Scope) → Stops s ys → Stop Unary c ys
+stops-unary {ys = ys} s c h = (both (ends_unary ys) (no_assign_at (first ys)) (stops-end s h)).0
+
+pub stops-level : {ys : List TokenAndSpan} (s : Symbol) (c : Scope) → Stops s ys → Stop (Level 1) c ys
+stops-level s c h = (omega arith, stops-unary s c h, stops-bound s c h)
 
 -- what stands behind a property is no operator and no link
 ends-prop-stop : (c : Scope) (ys : List TokenAndSpan) → at_token ends_prop (first ys) ≡ true → Stop Assign c ys
@@ -228,16 +261,46 @@ not-get-token : (t : Token) → is_async t ≡ true → is_get t ≡ false
 not-get-token (token.Word (word.Ident w)) h = not-get w h
 not-get-token t h = absurd cc
 
--- Of a left-hand side the claim is that links are read on from there. Of a level it holds for climbing on from any
+-- Of a left-hand side the claim is that links are read on from there, and of expressions with commas between them that
+-- commas are. Of a level it holds for climbing on from any
 -- precedence below it: so what a level above read needs no second climbing. And no link follows, since the last operand
 -- would take it, and no `**`, since the right operand of one before would.
 abbrev Claim : {F C K : Type 0} (hook : Hook F C K) (s : Symbol)
     → Scope → List TokenAndSpan → List TokenAndSpan → Answer F C K s → Type 0
 Claim hook (Level zero) c xs ys t = Unit {0}
-Claim hook (Level (suc n)) c xs ys t = n ≤ 10 → no_link true ys ≡ true → Bound c (min (suc n) 10) ys
+Claim hook (Level (suc n)) c xs ys t = n ≤ 10 → ends_unary ys ≡ true → Bound c (min (suc n) 10) ys
     → (m : ℕ) → m ≤ n → run hook (sym (Level (suc m))) c xs ≡ run hook (climb t m) c ys
+Claim hook Exprs c xs ys t = Stop Assign c ys → run hook (sym Expr) c xs ≡ run hook (seqs (items_of t)) c ys
 Claim hook (Left b) c xs ys t = run hook (sym (Lhs b)) c xs ≡ run hook (links b t) c ys
 Claim hook s c xs ys t = Stop s c ys → run hook (sym s) c xs ≡ Some (t, ys)
+
+if-on : {A : Type 0} (b : Bool) (x y : A) → b ≡ true → (if b then x else y) ≡ x
+if-on true x y h = refl
+if-on false x y h = absurd cc
+
+if-off : {A : Type 0} (b : Bool) (x y : A) → b ≡ false → (if b then x else y) ≡ y
+if-off true x y h = absurd cc
+if-off false x y h = refl
+
+not-on : (b : Bool) → b ≡ false → not b ≡ true
+not-on true h = absurd cc
+not-on false h = refl
+
+not-off : (b : Bool) → b ≡ true → not b ≡ false
+not-off true h = refl
+not-off false h = absurd cc
+
+is-false : (b : Bool) → not b ≡ true → b ≡ false
+is-false true h = absurd cc
+is-false false h = refl
+
+neither : (a b : Bool) → (a || b) ≡ false → (a ≡ false) × (b ≡ false)
+neither true b h = absurd cc
+neither false b h = (refl, h)
+
+is-true : (b : Bool) → not b ≡ false → b ≡ true
+is-true true h = refl
+is-true false h = absurd cc
 
 starting : (Q : List TokenAndSpan → Type 0) (P : Token → Bool) (xs : List TokenAndSpan) → at_token P (first xs) ≡ true
     → ((a : TokenAndSpan) (us : List TokenAndSpan) → P a.token ≡ true → Q (a ∷ us)) → Q xs
@@ -400,16 +463,18 @@ module _ {F C K : Type 0} (hook : Hook F C K) where
   settle (Level zero) c xs ys t g h stop = absurd stop
   settle (Level (suc n)) c xs ys t g h (le, end, b) =
       h le end (bound-above c n (min (suc n) 10) ys (omega arith) b) n (omega arith) ∙ climb-ends t n c ys g.left b
+  settle Exprs c xs ys t g h stop = absurd stop
   settle (Left b) c xs ys t g h stop = absurd stop
   settle s c xs ys t g h stop = h stop
 
-  -- no reading goes on with `)`
-  quiet-rparen : (c : Scope) (a : TokenAndSpan) (us : List TokenAndSpan) → is_rparen a.token ≡ true
-      → Stop Assign c (a ∷ us)
-  quiet-rparen c a us h =
-      only-rparen (λ v. Stop Assign c (tk v a.had_line_break a.span ∷ us)) (refl, λ op k. absurd cc) a.token h
+  -- an expression stops where an assignment expression does, and no comma comes next
+  expr-stop : (c : Scope) (ys : List TokenAndSpan) → Stop Expr c ys
+      → Stop Assign c ys × (at_token is_comma (first ys) ≡ false)
+  expr-stop c ys (h, b) =
+      let (x, y) = both (ends_assign ys) (not (at_token is_comma (first ys))) h in
+      ((x, b), is-false (at_token is_comma (first ys)) y)
 
-  -- nor with `]`
+  -- no reading goes on with `]`
   quiet-rbracket : (c : Scope) (a : TokenAndSpan) (us : List TokenAndSpan) → is_rbracket a.token ≡ true
       → Stop Expr c (a ∷ us)
   quiet-rbracket c a us h =
@@ -420,6 +485,17 @@ module _ {F C K : Type 0} (hook : Hook F C K) where
       → Stop Expr c (a ∷ us)
   quiet-rbrace c a us h =
       only-rbrace (λ v. Stop Expr c (tk v a.had_line_break a.span ∷ us)) (refl, λ op k. absurd cc) a.token h
+
+  -- nor with `:`, nor, but for a sequence, with a comma
+  quiet-colon : (c : Scope) (a : TokenAndSpan) (us : List TokenAndSpan) → is_colon a.token ≡ true
+      → Stop Assign c (a ∷ us)
+  quiet-colon c a us h =
+      only-colon (λ v. Stop Assign c (tk v a.had_line_break a.span ∷ us)) (refl, λ op k. absurd cc) a.token h
+
+  quiet-comma : (c : Scope) (a : TokenAndSpan) (us : List TokenAndSpan) → is_comma a.token ≡ true
+      → Stop Assign c (a ∷ us)
+  quiet-comma c a us h =
+      only-comma (λ v. Stop Assign c (tk v a.had_line_break a.span ∷ us)) (refl, λ op k. absurd cc) a.token h
 
   -- an item is followed by a comma or what closes its list, with which none goes on
   quiet-tail : (c : Scope) (a : TokenAndSpan) (us : List TokenAndSpan) → starts ElementsTail c a.token ≡ true
@@ -451,11 +527,11 @@ module _ {F C K : Type 0} (hook : Hook F C K) where
       by-token t h = refl
 
   no-prefix-first : (c : Scope) (xs : List TokenAndSpan) → at_token (begins_left c) (first xs) ≡ true
-      → prefix_at (first xs) ≡ None
-  no-prefix-first c [] h = refl
+      → (prefix_at (first xs) ≡ None) × (at_token is_update (first xs) ≡ false)
+  no-prefix-first c [] h = (refl, refl)
   no-prefix-first c (a ∷ us) h = by-token a.token h
     where
-      by-token : (t : Token) → begins_left c t ≡ true → prefix_of t ≡ None
+      by-token : (t : Token) → begins_left c t ≡ true → (prefix_of t ≡ None) × (is_update t ≡ false)
       by-token (token.Word (word.Keyword keyword.Delete)) h = absurd cc
       by-token (token.Word (word.Keyword keyword.Void)) h = absurd cc
       by-token (token.Word (word.Keyword keyword.TypeOf)) h = absurd cc
@@ -463,7 +539,81 @@ module _ {F C K : Type 0} (hook : Hook F C K) where
       by-token (token.BinOp sign.Sub) h = absurd cc
       by-token token.Tilde h = absurd cc
       by-token token.Bang h = absurd cc
+      by-token token.PlusPlus h = absurd cc
+      by-token token.MinusMinus h = absurd cc
+      by-token t h = (refl, refl)
+
+  -- a prefix operator is neither `++` nor `--` nor `await`, and that is none of these
+  prefix-apart : (t : Token) (op : UnaryOp) → prefix_of t ≡ Some op → (is_update t ≡ false) × (is_await t ≡ false)
+  prefix-apart token.PlusPlus op h = absurd cc
+  prefix-apart token.MinusMinus op h = absurd cc
+  prefix-apart (token.Word (word.Keyword keyword.Await)) op h = absurd cc
+  prefix-apart t op h = (refl, refl)
+
+  await-apart : (t : Token) → is_await t ≡ true → is_update t ≡ false
+  await-apart (token.Word w) h = refl
+  await-apart t h = absurd cc
+
+  -- what binary operators join begins with no error, and not with `yield` where that is an operator
+  no-yield-first : (c : Scope) (xs : List TokenAndSpan) → at_token (begins_operand c) (first xs) ≡ true
+      → (begins_yield c xs ≡ false) × (at_token no_error (first xs) ≡ true)
+  no-yield-first c [] h = absurd cc
+  no-yield-first c (a ∷ us) h = by-token a.token h
+    where
+      by-token : (t : Token) → begins_operand c t ≡ true
+          → ((is_yield t && c.context.in_generator) ≡ false) × (no_error t ≡ true)
+      by-token (token.Error e) h = absurd cc
+      by-token (token.Word (word.Keyword keyword.Yield)) h = (by-flag c.context.in_generator refl, refl)
+        where
+          by-flag : (b : Bool) → c.context.in_generator ≡ b → c.context.in_generator ≡ false
+          by-flag true e = absurd cc
+          by-flag false e = e
+      by-token t h = (refl, refl)
+
+  -- what follows `?` is no `.`
+  no-dot-expr : (c : Scope) (xs : List TokenAndSpan) → at_token (begins_expression c) (first xs) ≡ true
+      → at_token is_dot (first xs) ≡ false
+  no-dot-expr c [] h = refl
+  no-dot-expr c (a ∷ us) h = by-token a.token h
+    where
+      by-token : (t : Token) → begins_expression c t ≡ true → is_dot t ≡ false
+      by-token token.Dot h = absurd cc
       by-token t h = refl
+
+  -- a test of what stands first, on the list
+  first-sees : (p : Token → Bool) (xs : List TokenAndSpan) → sees (λ t. p t.token) xs ≡ false
+      → at_token p (first xs) ≡ false
+  first-sees p [] h = refl
+  first-sees p (t ∷ ts) h = h
+
+  -- what stands behind `await` and `yield`
+  await-goes-on : (c : Scope) (us : List TokenAndSpan)
+      → sees (λ t. is_star t.token || (not c.context.in_async && ends_await t)) us ≡ false
+      → at_token (begins_operand c) (first us) ≡ true
+      → (at_token is_star (first us) ≡ false) × ((not c.context.in_async && ends_await_at (first us)) ≡ false)
+  await-goes-on c [] w h = absurd cc
+  await-goes-on c (t ∷ ts) w h = neither (is_star t.token) (not c.context.in_async && ends_await t) w
+
+  await-ends : (us : List TokenAndSpan) → sees (λ t. is_star t.token || not (ends_await t)) us ≡ false
+      → (at_token is_star (first us) ≡ false) × (ends_await_at (first us) ≡ true)
+  await-ends [] w = (refl, refl)
+  await-ends (t ∷ ts) w =
+      let (x, y) = neither (is_star t.token) (not (ends_await t)) w in (x, is-true (ends_await t) y)
+
+  yield-ends : (us : List TokenAndSpan) → sees goes_on_yield us ≡ false → goes_on_yield_at (first us) ≡ false
+  yield-ends [] w = refl
+  yield-ends (t ∷ ts) w = w
+
+  yield-goes-on : (c : Scope) (us : List TokenAndSpan)
+      → sees (λ t. is_star t.token || not (goes_on_yield t)) us ≡ false
+      → at_token (begins_expression c) (first us) ≡ true
+      → (at_token is_star (first us) ≡ false) × (goes_on_yield_at (first us) ≡ true)
+  yield-goes-on c [] w h = absurd cc
+  yield-goes-on c (t ∷ ts) w h =
+      let (x, y) = neither (is_star t.token) (not (goes_on_yield t)) w in (x, is-true (goes_on_yield t) y)
+
+  star-yielded : (t : Token) → is_star t ≡ true → begins_yielded t ≡ true
+  star-yielded t h = only-star (λ v. begins_yielded v ≡ true) refl t h
 
   -- a left-hand side begins with no `.`, and a primary expression not with `new`
   no-dot-first : (c : Scope) (xs : List TokenAndSpan) → at_token (begins_left c) (first xs) ≡ true
@@ -519,18 +669,81 @@ module _ {F C K : Type 0} (hook : Hook F C K) where
   lit-picks c [] h = absurd cc
   lit-picks c (a ∷ us) h = lit-token c a.token a.had_line_break a.span us h
 
+  -- `yield`, by what stands behind it
+  yield-picks : (c : Scope) (a : TokenAndSpan) (us : List TokenAndSpan) (x : Choice F C K Assign c)
+      → is_yield a.token ≡ true → (c.context.in_generator && yield_ok c.context) ≡ true
+      → (yield_ok c.context ≡ true → yield_by {F = F} {C = C} {K = K} c (first us) ≡ x)
+      → step (sym Assign) c (a ∷ us) ≡ chosen x
+  yield-picks c a us x h k e =
+      let (g, o) = both c.context.in_generator (yield_ok c.context) k in
+      if-on (begins_yield c (a ∷ us)) _ _ (rw (h, g) refl) ∙ ap chosen (e o)
+
+  alone-picks : (c : Scope) (u : Option TokenAndSpan) → goes_on_yield_at u ≡ false → yield_ok c.context ≡ true
+      → yield_by {F = F} {C = C} {K = K} c u ≡ pick yield-alone
+  alone-picks c u h o =
+      if-off (not (yield_ok c.context)) _ _ (not-off (yield_ok c.context) o)
+      ∙ if-on (not (goes_on_yield_at u)) _ _ (not-on (goes_on_yield_at u) h)
+
+  yielded-picks : (c : Scope) (u : Option TokenAndSpan) (x : Choice F C K Assign c) → goes_on_yield_at u ≡ true
+      → (if at_token is_star u then pick yield-star else pick yield-expr) ≡ x → yield_ok c.context ≡ true
+      → yield_by {F = F} {C = C} {K = K} c u ≡ x
+  yielded-picks c u x h e o =
+      if-off (not (yield_ok c.context)) _ _ (not-off (yield_ok c.context) o)
+      ∙ if-off (not (goes_on_yield_at u)) _ _ (not-off (goes_on_yield_at u) h) ∙ e
+
+  -- the productions that are picked by what stands first: those of `yield`
+  abbrev is_yielded : {c : Scope} {r : Side F C K Assign} → Production Assign c r → Bool
+  is_yielded yield-alone = true
+  is_yielded yield-expr = true
+  is_yielded yield-star = true
+  is_yielded p = false
+
   picked-assign : {c : Scope} {r : Side F C K Assign} {xs ys : List TokenAndSpan} {t : Tree F C K}
-      (p : Production Assign c r)
-      → Follows hook Assign r xs ys t → assign c xs ≡ pick p
-  picked-assign {c = c} assign-level (part {xs = xs} e d) = rw (no-error-first c xs (begins e)) refl
+      (p : Production Assign c r) → is_yielded p ≡ true
+      → Follows hook Assign r xs ys t → step (sym Assign) c xs ≡ chosen (pick p)
+  picked-assign {c = c} yield-alone y (took {a = a} {xs = us} (held h (held k (calm w d)))) =
+      yield-picks c a us _ h k (alone-picks c (first us) (yield-ends us w))
+  picked-assign {c = c} yield-expr y (took {a = a} {xs = us} (held h (held k (calm w (part e d))))) =
+      let (x, g) = yield-goes-on c us w (begins e) in
+      yield-picks c a us _ h k (yielded-picks c (first us) _ g (if-off (at_token is_star (first us)) _ _ x))
+  picked-assign {c = c} yield-star y (took {a = a} (held h (held k (took {a = b} {xs = us} (held n (held x d)))))) =
+      yield-picks c a (b ∷ us) _ h k
+      (yielded-picks c (Some b) _ (rw (is-false b.had_line_break n, star-yielded b.token x) refl)
+      (if-on (is_star b.token) _ _ x))
+  picked-assign p y d = absurd cc
+
+  -- `++` and `--` before an operand, `await`, and prefix operators
+  await-picks : (c : Scope) (a : TokenAndSpan) (us : List TokenAndSpan) (x : Choice F C K Unary c)
+      → is_await a.token ≡ true → at_token is_star (first us) ≡ false
+      → (if not c.context.in_async && ends_await_at (first us) then pick await-ident else pick await-expr) ≡ x
+      → step (sym Unary) c (a ∷ us) ≡ chosen x
+  await-picks c a us x h s e =
+      if-off (is_update a.token) _ _ (await-apart a.token h) ∙ if-on (is_await a.token) _ _ h
+      ∙ ap chosen (if-off (at_token is_star (first us)) _ _ s ∙ e)
+
+  abbrev is_signed : {c : Scope} {r : Side F C K Unary} → Production Unary c r → Bool
+  is_signed unary-left = false
+  is_signed update-postfix = false
+  is_signed p = true
 
   picked-unary : {c : Scope} {r : Side F C K Unary} {xs ys : List TokenAndSpan} {t : Tree F C K}
-      (p : Production Unary c r)
-      → Follows hook Unary r xs ys t → unary c xs ≡ pick p
-  picked-unary unary-op (took {a = a} d) =
-      let (x, h, k) = given-held (prefix_here a.token a.span) _ d in rw
-      (placed-op (prefix_of a.token) a.span x.0 x.1 h) refl
-  picked-unary {c = c} unary-left (part {xs = xs} e d) = rw (no-prefix-first c xs (begins e)) refl
+      (p : Production Unary c r) → is_signed p ≡ true
+      → Follows hook Unary r xs ys t → step (sym Unary) c xs ≡ chosen (pick p)
+  picked-unary update-prefix y (took {a = a} d) =
+      let (x, h, k) = given-held (update_here a.token a.span) _ d in
+      if-on (is_update a.token) _ _ (update-first a.token a.span x h)
+  picked-unary {c = c} await-expr y (took {a = a} {xs = us} (held h (held k (calm w (part e d))))) =
+      let (x, n) = await-goes-on c us w (begins e) in await-picks c a us _ h x (if-off _ _ _ n)
+  picked-unary {c = c} await-ident y (took {a = a} {xs = us} (held h (held k (calm w d)))) =
+      let (x, n) = await-ends us w in
+      let (g, o) = neither c.context.in_async c.context.module (is-false (c.context.in_async || c.context.module) k) in
+      await-picks c a us _ h x (if-on (not c.context.in_async && ends_await_at (first us)) _ _ (rw (g, n) refl))
+  picked-unary {c = c} unary-op y (took {a = a} {xs = us} d) =
+      let (x, h, k) = given-held (prefix_here a.token a.span) _ d in
+      let op = placed-op (prefix_of a.token) a.span x.0 x.1 h in
+      let (u, w) = prefix-apart a.token x.0 op in
+      if-off (is_update a.token) _ _ u ∙ if-off (is_await a.token) _ _ w ∙ ap (λ v. unary_by c v) op
+  picked-unary p y d = absurd cc
 
   -- arguments
   not-closed : (c : Scope) (xs : List TokenAndSpan) → at_token (starts Item c) (first xs) ≡ true
@@ -898,11 +1111,22 @@ module _ {F C K : Type 0} (hook : Hook F C K) where
       get-picks c a us h (begins e)
 
   -- where a symbol's reading stops, what a picked production reads stops too
-  ready-unary : {c : Scope} {r : Side F C K Unary} (ys : List TokenAndSpan) → Stop Unary c ys → Production Unary c r
-      → Ready (Some 11) ys r
-  ready-unary ys stop unary-op =
+  ready-assign : {c : Scope} {r : Side F C K Assign} (ys : List TokenAndSpan) → Stop Assign c ys
+      → (p : Production Assign c r) → is_yielded p ≡ true → Ready (Some 14) ys r
+  ready-assign ys stop yield-alone y = λ a h k. tt
+  ready-assign ys stop yield-expr y = λ a h k. (refl, λ e. (stop, tt))
+  ready-assign ys stop yield-star y = λ a h k b n x. (refl, λ e. (stop, tt))
+  ready-assign ys stop p y = absurd cc
+
+  ready-unary : {c : Scope} {r : Side F C K Unary} (ys : List TokenAndSpan) → Stop Unary c ys
+      → (p : Production Unary c r) → is_signed p ≡ true → Ready (Some 11) ys r
+  ready-unary ys stop update-prefix y =
+      λ a. ready-given _ _ (update_here a.token a.span) _ (λ x h. (refl, λ e. (λ n. stop, λ n. tt)))
+  ready-unary ys stop await-expr y = λ a h k. (refl, λ e. (stop, tt))
+  ready-unary ys stop await-ident y = λ a h k. tt
+  ready-unary ys stop unary-op y =
       λ a. ready-given _ _ (prefix_here a.token a.span) _ (λ x h. (refl, λ e. (λ n. stop, λ n. tt)))
-  ready-unary ys stop unary-left = (refl, λ e. (stop, tt))
+  ready-unary ys stop p y = absurd cc
 
   ready-base : {b : Bool} {c : Scope} {r : Side F C K (Base b)} (ys : List TokenAndSpan) → Production (Base b) c r
       → Ready (Some 9) ys r
@@ -938,7 +1162,7 @@ module _ {F C K : Type 0} (hook : Hook F C K) where
   ready-primary ys object-lit = λ a h. (refl, λ e. (tt, tt))
   ready-primary ys fn-expr = λ v s. tt
   ready-primary ys class-expr = λ v s. tt
-  ready-primary ys (paren-expr {c = c}) = λ a h. (refl, λ e. (λ b us h n. quiet-rparen (with_in c) b us h, λ b k n. tt))
+  ready-primary ys paren-expr = λ a h. (refl, λ es. (λ n. tt, λ n. tt))
   ready-primary ys (private-expr {c = c}) = λ a h b. ready-given _ _ (any_name c b.token b.span) _ (λ n h1. tt)
 
   ready-parts : {c : Scope} {is_tagged : Bool} {r : Side F C K (Parts is_tagged)} (ys : List TokenAndSpan)
@@ -992,7 +1216,7 @@ module _ {F C K : Type 0} (hook : Hook F C K) where
   ready-key ys (key-name {c = c}) = λ a. ready-given _ _ (any_name c a.token a.span) _ (λ n h. tt)
   ready-key ys key-literal = λ a. ready-given _ _ (key_lit_of a.token a.span) _ (λ e h. tt)
   ready-key ys (key-computed {c = c}) =
-      λ a h. (refl, λ e. (λ b us g. quiet-rbracket (with_in c) b us g, λ b g. tt))
+      λ a h. (refl, λ e. (λ b us g. (expr-stop (with_in c) (b ∷ us) (quiet-rbracket (with_in c) b us g)).0, λ b g. tt))
 
   ready-after : {c : Scope} {r : Side F C K AfterKey} (ys : List TokenAndSpan) → Stop AfterKey c ys
       → Production AfterKey c r → Ready (Some 3) ys r
@@ -1104,17 +1328,19 @@ module _ {F C K : Type 0} (hook : Hook F C K) where
       rw (dollar-alone (first us) (next-passes is_dollar_brace k)) refl
 
   -- operators
-  operator-link : (c : Scope) (a : TokenAndSpan) (us : List TokenAndSpan) (op : BinaryOp)
-      → binary_of c.context a.token ≡ Some op → no_link true (a ∷ us) ≡ true
-  operator-link c a us op h = by-token a.token a.had_line_break a.span h
+  operator-ends : (c : Scope) (a : TokenAndSpan) (us : List TokenAndSpan) (op : BinaryOp)
+      → binary_of c.context a.token ≡ Some op → ends_unary (a ∷ us) ≡ true
+  operator-ends c a us op h = by-token a.token a.had_line_break a.span h
     where
       by-token : (t : Token) (b : Bool) (s : Span) → binary_of c.context t ≡ Some op
-          → no_link true (tk t b s ∷ us) ≡ true
+          → ends_unary (tk t b s ∷ us) ≡ true
       by-token token.BackQuote b s h = absurd cc
       by-token token.QuestionMark b s h = absurd cc
       by-token token.Dot b s h = absurd cc
       by-token token.LBracket b s h = absurd cc
       by-token token.LParen b s h = absurd cc
+      by-token token.PlusPlus b s h = absurd cc
+      by-token token.MinusMinus b s h = absurd cc
       by-token t b s h = refl
 
   left-free : (op : BinaryOp) (l : Tree F C K) → precedence_of op ≤ 10 → exp_ok op l ≡ true
@@ -1133,7 +1359,7 @@ module _ {F C K : Type 0} (hook : Hook F C K) where
       let e : run hook (sym (Level (suc (min_right op)))) c ms ≡ Some (r, ys) =
       rw right-at (settle (Level (suc (suc n))) c ms ys r w right
       (top, end, bound-above c (min (suc n) 10) (suc n) ys (omega arith) b)) in
-      left le (operator-link c a ms op o) (bound-some c (min (suc n) 10) (a ∷ ms) op o (omega arith)) m lt
+      left le (operator-ends c a ms op o) (bound-some c (min (suc n) 10) (a ∷ ms) op o (omega arith)) m lt
       ∙ climb-takes op m c a l r ms ys o (omega arith) (left-free op l (omega arith)) k g e
 
   power-op : (c : Scope) (a : TokenAndSpan) → is_power a.token ≡ true → binary_of c.context a.token ≡ Some binary.Exp
@@ -1144,9 +1370,90 @@ module _ {F C K : Type 0} (hook : Hook F C K) where
       → Claim hook Unary c xs (a ∷ ms) l → Claim hook (Level 11) c ms ys r
       → Claim hook (Level 11) c xs ys (bin_e (to (span_of l) (span_of r)) binary.Exp l r)
   exp-reads c a l r xs ms ys y x w left right = λ le end b m lt.
-      operand-climbs m c xs (a ∷ ms) l (omega arith) (left (operator-link c a ms binary.Exp (power-op c a y)))
+      operand-climbs m c xs (a ∷ ms) l (omega arith) (left (operator-ends c a ms binary.Exp (power-op c a y)))
       ∙ climb-takes binary.Exp m c a l r ms ys (power-op c a y) (omega arith) x refl refl
       (settle (Level 11) c ms ys r w right (omega arith, end, b))
+
+  -- what is picked by what stands first
+  yielded : {c : Scope} {r : Side F C K Assign} {xs ys : List TokenAndSpan} {t : Tree F C K}
+      (p : Production Assign c r) → is_yielded p ≡ true → Ran Assign r xs ys t → Claim hook Assign c xs ys t
+  yielded {c = c} {xs = xs} {ys = ys} p y d = λ stop.
+      picks Assign c xs p (pick p) (picked-assign p y (forget d)) refl
+      (side-reads (Some 14) d (ready-assign ys stop p y))
+
+  signed : {c : Scope} {r : Side F C K Unary} {xs ys : List TokenAndSpan} {t : Tree F C K}
+      (p : Production Unary c r) → is_signed p ≡ true → Ran Unary r xs ys t → Claim hook Unary c xs ys t
+  signed {c = c} {xs = xs} {ys = ys} p y d = λ stop.
+      picks Unary c xs p (pick p) (picked-unary p y (forget d)) refl
+      (side-reads (Some 11) d (ready-unary ys stop p y))
+
+  -- a left-hand side as an operand, and what `++` or `--` stand behind
+  operand-reads : (c : Scope) (xs ms : List TokenAndSpan) (l : Tree F C K)
+      → at_token (begins_left c) (first xs) ≡ true → sees (λ t. is_await t.token) xs ≡ false
+      → run hook (sym (Lhs true)) c xs ≡ Some (l, ms) → run hook (sym Unary) c xs ≡ run hook (updates l) c ms
+  operand-reads c xs ms l h w e =
+      let (p, u) = no-prefix-first c xs h in
+      knot hook (sym Unary) c xs ∙ rw (u, first-sees is_await xs w, p, e) (last (Some 11) (updates l) c ms refl)
+
+  updates-end : (c : Scope) (l : Tree F C K) (ms : List TokenAndSpan) → no_update_at (first ms) ≡ true
+      → run hook (updates l) c ms ≡ Some (l, ms)
+  updates-end c l ms h = knot hook (updates l) c ms ∙ rw h refl
+
+  update-link : (a : TokenAndSpan) (us : List TokenAndSpan) → is_update a.token ≡ true → no_link true (a ∷ us) ≡ true
+  update-link a us h = by-token a.token a.had_line_break a.span h
+    where
+      by-token : (t : Token) (b : Bool) (s : Span) → is_update t ≡ true → no_link true (tk t b s ∷ us) ≡ true
+      by-token token.PlusPlus b s h = refl
+      by-token token.MinusMinus b s h = refl
+      by-token t b s h = absurd cc
+
+  -- what binary operators join, and what `?` or an operator that writes stands behind
+  level-reads : (c : Scope) (xs ms : List TokenAndSpan) (e : Tree F C K)
+      → at_token (begins_operand c) (first xs) ≡ true
+      → run hook (sym (Level 1)) c xs ≡ Some (e, ms) → run hook (sym Assign) c xs ≡ run hook (assigns e) c ms
+  level-reads c xs ms e h d =
+      let (y, n) = no-yield-first c xs h in
+      knot hook (sym Assign) c xs ∙ rw (y, n, d) (last (Some 14) (assigns e) c ms refl)
+
+  no-assign-here : (o : Option TokenAndSpan) → no_assign_at o ≡ true
+      → (at_token is_question o ≡ false) × (at_token is_assign o ≡ false)
+  no-assign-here None h = (refl, refl)
+  no-assign-here (Some t) h =
+      let (x, y) = both (not (is_question t.token)) (not (is_assign t.token)) h in
+      (is-false (is_question t.token) x, is-false (is_assign t.token) y)
+
+  assigns-end : (c : Scope) (e : Tree F C K) (ms : List TokenAndSpan) → no_assign_at (first ms) ≡ true
+      → run hook (assigns e) c ms ≡ Some (e, ms)
+  assigns-end c e ms h =
+      let (q, a) = no-assign-here (first ms) h in knot hook (assigns e) c ms ∙ rw (q, a) refl
+
+  question-ends : (a : TokenAndSpan) (us : List TokenAndSpan) → is_question a.token ≡ true
+      → at_token is_dot (first us) ≡ false → ends_unary (a ∷ us) ≡ true
+  question-ends a us h d =
+      only-question (λ v. ends_unary (tk v a.had_line_break a.span ∷ us) ≡ true) (rw d refl) a.token h
+
+  question-bound : (c : Scope) (a : TokenAndSpan) (us : List TokenAndSpan) → is_question a.token ≡ true
+      → Bound c 0 (a ∷ us)
+  question-bound c a us h =
+      only-question (λ v. Bound c 0 (tk v a.had_line_break a.span ∷ us)) (λ op k. absurd cc) a.token h
+
+  assign-token : (c : Scope) (a : TokenAndSpan) (us : List TokenAndSpan) (op : AssignOp)
+      → assign_here a.token a.span ≡ Some op
+      → (is_question a.token ≡ false) × (is_assign a.token ≡ true) × (ends_unary (a ∷ us) ≡ true) × Bound c 0 (a ∷ us)
+  assign-token c a us op h = by-token a.token a.had_line_break a.span h
+    where
+      by-token : (t : Token) (b : Bool) (s : Span) → assign_here t s ≡ Some op
+          → (is_question t ≡ false) × (is_assign t ≡ true) × (ends_unary (tk t b s ∷ us) ≡ true)
+          × Bound c 0 (tk t b s ∷ us)
+      by-token (token.AssignOp o) b s h = (refl, refl, refl, λ op' k. absurd cc)
+      by-token t b s h = absurd cc
+
+  -- a target is no operation
+  target-apart : (strict : Bool) (t : Tree F C K) → is_target strict t ≡ true → is_operation t ≡ false
+  target-apart strict (node (bin_kind op) s ts) h = absurd cc
+  target-apart strict (node (unary_kind op) s ts) h = absurd cc
+  target-apart strict (node (update_kind op is_prefix) s ts) h = absurd cc
+  target-apart strict (node k s ts) h = refl
 
   -- one clause a production
   claim-by : {s : Symbol} {c : Scope} {r : Side F C K s} {xs ys : List TokenAndSpan} {t : Answer F C K s}
@@ -1154,9 +1461,25 @@ module _ {F C K : Type 0} (hook : Hook F C K) where
   claim-by {s = Primary} {c = c} {xs = xs} {ys = ys} p d = λ stop.
       picks Primary c xs p (primary c xs) refl (picked-primary p (forget d))
       (side-reads (Some 8) d (ready-primary {c = c} ys p))
-  claim-by {s = Unary} {c = c} {xs = xs} {ys = ys} p d = λ stop.
-      picks Unary c xs p (unary c xs) refl (picked-unary p (forget d))
-      (side-reads (Some 11) d (ready-unary {c = c} ys stop p))
+  claim-by {c = c} unary-left (ran-calm {xs = xs} w (ran-part {e = l} {ms = ms} dl h d)) =
+      gave-ran (λ u us. Claim hook Unary c xs us u) d
+      (λ stop. let (n, u) = both (no_link true ms) (no_update_at (first ms)) stop in
+      operand-reads c xs ms l (begins dl) w (h n) ∙ updates-end c l ms u)
+  claim-by {c = c} {ys = ys} update-postfix
+      (ran-calm {xs = xs} w (ran-part {e = l} dl h (ran-took {a = a} {xs = us} (ran-held n d)))) =
+      let (x, o, d1) = given-ran (update_here a.token a.span) _ d in
+      let u = update-first a.token a.span x o in
+      λ stop.
+      operand-reads c xs (a ∷ us) l (begins dl) w (h (update-link a us u))
+      ∙ knot hook (updates l) c (a ∷ us)
+      ∙ ap (λ v. exec hook (run hook) (Some 1) v (a ∷ us))
+      (if-off (no_update_at (Some a)) _ _ (rw (u, is-false a.had_line_break n) refl))
+      ∙ side-reads {r = update_tail c l} (Some 1) (ran-took (ran-held n d))
+      (λ b j. ready-given _ _ (update_here b.token b.span) _ (λ y i m. tt))
+  claim-by update-prefix d = signed update-prefix refl d
+  claim-by await-expr d = signed await-expr refl d
+  claim-by await-ident d = signed await-ident refl d
+  claim-by unary-op d = signed unary-op refl d
   claim-by {c = c} (lhs-left {b = b}) (ran-part {e = e} {xs = xs} {ms = ms} l h d) =
       gave-ran (λ u us. Claim hook (Lhs b) c xs us u) d (λ stop. h ∙ links-end b e c ms (any-link b ms stop))
   claim-by {c = c} (new-bare {b = b})
@@ -1290,11 +1613,46 @@ module _ {F C K : Type 0} (hook : Hook F C K) where
       let top = ltb-true (suc n) 11 b in
       gave-ran (λ u vs. Claim hook (Level (suc n)) c xs vs u) d5
       (op-reads n op c a l r xs us ms (omega arith) o (eqb-true (precedence_of op) (suc n) p) k g (good dr) left right)
-  claim-by {c = c} {xs = xs} {ys = ys} assign-level d = λ stop.
-      picks Assign c xs assign-level (assign c xs) refl (picked-assign assign-level (forget d))
-      (side-reads (Some 14) d (refl, λ e. ((omega arith, stop.0, stop.1), tt)))
-  claim-by {c = c} {xs = xs} {ys = ys} expr-assign d = λ stop.
-      picks Expr c xs expr-assign (expr c xs) refl refl (side-reads (Some 15) d (refl, λ e. (stop, tt)))
+  claim-by {c = c} assign-level (ran-part {e = e} {xs = xs} {ms = ms} de h d) =
+      gave-ran (λ u us. Claim hook Assign c xs us u) d
+      (λ stop. let (u, n) = both (ends_unary ms) (no_assign_at (first ms)) stop.0 in
+      level-reads c xs ms e (begins de) (settle (Level 1) c xs ms e (good de) h (omega arith, u, stop.1))
+      ∙ assigns-end c e ms n)
+  claim-by {c = c} {ys = ys} cond-expr
+      (ran-part {e = e} {xs = xs} de h (ran-took {a = a} {xs = us} (ran-held q (ran-part dm k d)))) = λ stop.
+      level-reads c xs (a ∷ us) e (begins de)
+      (settle (Level 1) c xs (a ∷ us) e (good de) h
+      (omega arith, question-ends a us q (no-dot-expr (with_in c) us (begins dm)), question-bound c a us q))
+      ∙ knot hook (assigns e) c (a ∷ us)
+      ∙ rw q (side-reads {r = cond_tail c e} (Some 1) (ran-took {a = a} (ran-held q (ran-part dm k d)))
+      (λ b i. (refl, λ m. (λ o vs j. quiet-colon (with_in c) o vs j, λ o j. (refl, λ v. (stop, tt))))))
+  claim-by {c = c} {ys = ys} assign-expr (ran-part {e = l} {xs = xs} dl h (ran-took {a = a} {xs = us} d)) =
+      let (op, o, d1) = given-ran (assign_here a.token a.span) _ d in
+      let (t, d2) = must-ran d1 in
+      let (q, w, u, b) = assign-token c a us op o in
+      λ stop.
+      level-reads c xs (a ∷ us) l (begins dl)
+      (operand-climbs 0 c xs (a ∷ us) l (omega arith) (h u) ∙ climb-ends l 0 c (a ∷ us) (good dl).left b)
+      ∙ knot hook (assigns l) c (a ∷ us)
+      ∙ rw (q, w, target-apart c.context.strict l t)
+      (side-reads {r = assign_tail c l} (Some 1) (ran-took {a = a} d)
+      (λ e. ready-given _ _ (assign_here e.token e.span) _ (λ y i m. (refl, λ r. (stop, tt)))))
+  claim-by yield-alone d = yielded yield-alone refl d
+  claim-by yield-expr d = yielded yield-expr refl d
+  claim-by yield-star d = yielded yield-star refl d
+  claim-by {c = c} exprs-one (ran-part {e = e} {xs = xs} {ms = ms} de h d) =
+      gave-ran (λ u us. Claim hook Exprs c xs us u) d
+      (λ stop. knot hook (sym Expr) c xs ∙ rw (h stop) (last (Some 15) (seqs (cons e nil)) c ms refl))
+  claim-by {c = c} exprs-more
+      (ran-part {e = es} {xs = xs} ds h (ran-took {a = a} {xs = us} (ran-held q (ran-part {e = e} {ms = ms} de k d)))) =
+      gave-ran (λ u vs. Claim hook Exprs c xs vs u) d
+      (λ stop. h (quiet-comma c a us q)
+      ∙ knot hook (seqs (items_of es)) c (a ∷ us)
+      ∙ rw (q, k stop) (rw q (last None (seqs (trees_append (items_of es) (cons e nil))) c ms refl)))
+  claim-by {c = c} seq-expr (ran-part {e = es} {xs = xs} {ms = ms} ds h d) =
+      gave-ran (λ u us. Claim hook Expr c xs us u) d
+      (λ stop. let (e, n) = expr-stop c ms stop in
+      h e ∙ knot hook (seqs (items_of es)) c ms ∙ rw n refl)
 
   mutual
     claim : {s : Symbol} {c : Scope} {xs ys : List TokenAndSpan} {t : Answer F C K s} → Reads hook s c xs ys t

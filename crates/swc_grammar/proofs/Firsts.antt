@@ -7,6 +7,7 @@ use Rattle.swc_context.specs.Texts.{is_text}
 use Rattle.swc_context.specs.declared.operator.AssignOp.TheVariants as assign
 use Rattle.swc_context.specs.declared.operator.BinOpToken.TheVariants as sign
 use Rattle.swc_context.specs.declared.operator.UnaryOp.{UnaryOp}
+use Rattle.swc_context.specs.declared.operator.UpdateOp.{UpdateOp}
 use Rattle.swc_context.specs.declared.span.Span.{Span}
 use Rattle.swc_context.specs.declared.word.Keyword.TheVariants as keyword
 use Rattle.swc_context.specs.declared.word.Word.TheVariants as word
@@ -19,15 +20,16 @@ use Rattle.swc_grammar.specs.Scope.{Scope}
 use Rattle.swc_grammar.specs.Rule.{Rule, gives, never, take, check, peek, read, hear, given, ◌>>=◌}
 use Rattle.swc_bodies.specs.Readings.{Hook, is_function, is_async, is_class, is_function_here, begins as begins_own}
 use Rattle.swc_bodies.specs.Readings.{begins_function}
-use Rattle.swc_grammar.specs.Symbols.{Symbol, Expr, Assign, Level, Unary, Left, Args, ArgsTail, Primary, Literal}
+use Rattle.swc_grammar.specs.Symbols.{Symbol, Expr, Exprs, Assign, Level, Unary, Left, Args, ArgsTail, Primary, Literal}
 use Rattle.swc_grammar.specs.Symbols.{Elements, ElementsTail}
 use Rattle.swc_grammar.specs.Symbols.{Item, Props, PropsTail, AfterKey, Answer, Body, Value}
 use Rattle.swc_grammar.specs.Symbols.{begins_body, Side}
 use Rattle.swc_grammar.specs.Names.{Spelling, may_refer}
 use Rattle.swc_grammar.specs.Tokens.{tk, binary_of, prefix_of, is_reference, ref_ok, is_put_off, is_comma, is_rbracket}
 use Rattle.swc_grammar.specs.Tokens.{is_dots, is_rbrace, is_colon, is_lparen, is_rparen, is_star, is_word, is_get}
-use Rattle.swc_grammar.specs.Tokens.{is_new, is_super, is_import, is_slash}
+use Rattle.swc_grammar.specs.Tokens.{is_new, is_super, is_import, is_slash, is_update, update_of, is_await, is_yield, yield_ok}
 use Rattle.swc_grammar.specs.Parts.{reference, any_name, lit_of, regex_of, text_of, key_lit_of, with_place, prefix_here}
+use Rattle.swc_grammar.specs.Parts.{update_here}
 use Rattle.swc_grammar.specs.Grammar.{Production, ident-expr, lit, paren-expr, unary-left, unary-op, exp-unary}
 use Rattle.swc_grammar.specs.Grammar.{base-primary, super-name, super-computed, super-call, import-meta, import-call}
 use Rattle.swc_grammar.specs.Grammar.{import-source, left-base, member-name, member-private, member-computed, call, args-end}
@@ -41,11 +43,13 @@ use Rattle.swc_grammar.specs.Grammar.{object-lit, props-end, props-more, props-t
 use Rattle.swc_grammar.specs.Grammar.{prop-spread, prop-short, prop-cover, prop-key, prop-generator, prop-async}
 use Rattle.swc_grammar.specs.Grammar.{prop-async-generator, prop-getter, after-value, after-shell, shell-block}
 use Rattle.swc_grammar.specs.Grammar.{key-name, key-literal, key-computed}
-use Rattle.swc_grammar.specs.Grammar.{level-up, bin-op, private-expr, assign-level, expr-assign}
+use Rattle.swc_grammar.specs.Grammar.{level-up, bin-op, private-expr, assign-level}
+use Rattle.swc_grammar.specs.Grammar.{update-postfix, update-prefix, await-expr, await-ident, cond-expr, assign-expr}
+use Rattle.swc_grammar.specs.Grammar.{yield-alone, yield-expr, yield-star, exprs-one, exprs-more, seq-expr}
 use Rattle.swc_grammar.specs.Reads.{Reads, by, Follows, gave, took, held, calm, part, heard}
 use Rattle.swc_grammar.specs.Clean.{first, is_lit, is_identifier}
 use Rattle.swc_grammar.specs.Firsts.{is_prefix_op, is_prefix, is_first, starts, begins_primary, begins_left}
-use Rattle.swc_grammar.specs.Firsts.{is_left_word, begins_expression, begins_key, begins_prop, is_text_token}
+use Rattle.swc_grammar.specs.Firsts.{is_left_word, begins_operand, begins_expression, begins_key, begins_prop, is_text_token}
 use Rattle.swc_grammar.proofs.Answers.{both}
 use Rattle.swc_grammar.proofs.Bodies.{body-some}
 use Rattle.swc_grammar.proofs.Cut.{follows-length}
@@ -208,6 +212,41 @@ import-first : (c : Scope) (t : Token) → is_import t ≡ true → begins_left 
 import-first c t h =
     or-right (begins_primary c t) (is_left_word t) (only-import (λ v. is_left_word v ≡ true) refl t h)
 
+-- what binary operators join, and any expression
+operand-left : (c : Scope) (t : Token) → begins_left c t ≡ true → begins_operand c t ≡ true
+operand-left c t h = or-left (begins_left c t) (is_prefix t || (is_update t || is_await t)) h
+
+operand-prefix : (c : Scope) (t : Token) → is_prefix t ≡ true → begins_operand c t ≡ true
+operand-prefix c t h =
+    or-right (begins_left c t) (is_prefix t || (is_update t || is_await t))
+    (or-left (is_prefix t) (is_update t || is_await t) h)
+
+operand-sign : (c : Scope) (t : Token) → (is_update t || is_await t) ≡ true → begins_operand c t ≡ true
+operand-sign c t h =
+    or-right (begins_left c t) (is_prefix t || (is_update t || is_await t))
+    (or-right (is_prefix t) (is_update t || is_await t) h)
+
+pub update-first : (t : Token) (s : Span) (x : UpdateOp × Span) → update_here t s ≡ Some x → is_update t ≡ true
+update-first token.PlusPlus s x h = refl
+update-first token.MinusMinus s x h = refl
+update-first t s x h = absurd cc
+
+operand-update : (c : Scope) (t : Token) (s : Span) (x : UpdateOp × Span) → update_here t s ≡ Some x
+    → begins_operand c t ≡ true
+operand-update c t s x h = operand-sign c t (or-left (is_update t) (is_await t) (update-first t s x h))
+
+operand-await : (c : Scope) (t : Token) → is_await t ≡ true → begins_operand c t ≡ true
+operand-await c t h = operand-sign c t (or-right (is_update t) (is_await t) h)
+
+expression-operand : (c : Scope) (t : Token) → begins_operand c t ≡ true → begins_expression c t ≡ true
+expression-operand c t h = or-left (begins_operand c t) (is_yield t && c.context.in_generator) h
+
+expression-yield : (c : Scope) (t : Token) → is_yield t ≡ true → (c.context.in_generator && yield_ok c.context) ≡ true
+    → begins_expression c t ≡ true
+expression-yield c t h k =
+    let (g, o) = both c.context.in_generator (yield_ok c.context) k in
+    or-right (begins_operand c t) (is_yield t && c.context.in_generator) (rw (h, g) refl)
+
 module _ {F C K : Type 0} where
   pub under-given : {A D : Type 0} (X : Type 0) (o : Option A) (k : A → Rule Symbol (Answer F C K) Body (Value F C K) D)
       → ((x : A) → o ≡ Some x → Under X (k x)) → Under X (given o >>= k)
@@ -310,16 +349,28 @@ module _ {F C K : Type 0} where
   opens (args-more {c = c}) = λ t h. or-left (begins_expression c t || is_dots t) (is_rparen t) h
   opens (args-tail-end {c = c} {i = i}) = λ a h. only-rparen (λ t. starts (ArgsTail i) c t ≡ true) refl a.token h
   opens (args-tail-more {c = c} {i = i}) = λ a h. only-comma (λ t. starts (ArgsTail i) c t ≡ true) refl a.token h
-  opens (unary-left {c = c}) = λ t h. or-left (begins_left c t) (is_prefix t) h
+  opens (unary-left {c = c}) = λ t h. operand-left c t h
+  opens (update-postfix {c = c}) = λ t h. operand-left c t h
+  opens (update-prefix {c = c}) = λ a. under-given _ (update_here a.token a.span) _
+      (λ x h. operand-update c a.token a.span x h)
+  opens (await-expr {c = c}) = λ a h k. operand-await c a.token h
+  opens (await-ident {c = c}) = λ a h k. operand-await c a.token h
   opens (unary-op {c = c}) = λ a. under-given _ (prefix_here a.token a.span) _
-      (λ x h. or-right (begins_left c a.token) (is_prefix a.token) (placed-is (prefix_of a.token) a.span x h))
+      (λ x h. operand-prefix c a.token (placed-is (prefix_of a.token) a.span x h))
   opens exp-unary = λ t h. h
   opens exp-op = λ t h. h
   opens (level-up b) = λ t h. h
   opens (bin-op b) = λ t h. h
   opens (private-expr {c = c}) = λ a h. by-first c a.token (only-hash (λ t. is_first t ≡ true) refl a.token h)
-  opens assign-level = λ t h. h
-  opens expr-assign = λ t h. h
+  opens (assign-level {c = c}) = λ t h. expression-operand c t h
+  opens (cond-expr {c = c}) = λ t h. expression-operand c t h
+  opens (assign-expr {c = c}) = λ t h. expression-operand c t h
+  opens (yield-alone {c = c}) = λ a h k. expression-yield c a.token h k
+  opens (yield-expr {c = c}) = λ a h k. expression-yield c a.token h k
+  opens (yield-star {c = c}) = λ a h k. expression-yield c a.token h k
+  opens exprs-one = λ t h. h
+  opens exprs-more = λ t h. h
+  opens seq-expr = λ t h. h
 
   mutual
     pub begins : {hook : Hook F C K} {s : Symbol} {c : Scope} {xs ys : List TokenAndSpan} {t : Answer F C K s}
@@ -412,6 +463,10 @@ module _ {F C K : Type 0} where
   leads args-tail-end = tt
   leads args-tail-more = tt
   leads unary-left = tt
+  leads update-postfix = tt
+  leads update-prefix = tt
+  leads await-expr = tt
+  leads await-ident = tt
   leads unary-op = tt
   leads exp-unary = tt
   leads exp-op = tt
@@ -419,7 +474,14 @@ module _ {F C K : Type 0} where
   leads (bin-op b) = tt
   leads private-expr = tt
   leads assign-level = tt
-  leads expr-assign = tt
+  leads cond-expr = tt
+  leads assign-expr = tt
+  leads yield-alone = tt
+  leads yield-expr = tt
+  leads yield-star = tt
+  leads exprs-one = tt
+  leads exprs-more = tt
+  leads seq-expr = tt
 
   mutual
     pub takes : {hook : Hook F C K} {s : Symbol} {c : Scope} {xs ys : List TokenAndSpan} {t : Answer F C K s}

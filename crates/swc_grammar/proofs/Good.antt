@@ -15,21 +15,22 @@ use Rattle.swc_input.specs.declared.token.Token.TheVariants as token
 use Rattle.swc_input.specs.declared.token.TokenAndSpan.{TokenAndSpan}
 use Rattle.swc_ast.specs.Tree.{Kind, Tree, node, Trees, nil, cons, span_of}
 use Rattle.swc_ast.specs.Tree.{unary as unary_kind, bin as bin_kind, update as update_kind, cond as cond_kind}
-use Rattle.swc_ast.specs.Tree.{await as await_kind, assign as assign_kind}
+use Rattle.swc_ast.specs.Tree.{await as await_kind, assign as assign_kind, item, spread}
 use Rattle.swc_grammar.specs.Scope.{Scope}
 use Rattle.swc_grammar.specs.Rule.{Rule, gives, never, take, check, peek, read, hear, given, ◌>>=◌}
 use Rattle.swc_bodies.specs.Readings.{Hook}
-use Rattle.swc_grammar.specs.Symbols.{Symbol, Level, Unary, Lhs, Left, Base, Primary, Literal, Template, Parts, Prop, Key, AfterKey}
+use Rattle.swc_grammar.specs.Symbols.{Symbol, Expr, Level, Unary, Lhs, Left, Base, Primary, Literal, Template, Parts, Prop, Key, AfterKey}
 use Rattle.swc_grammar.specs.Symbols.{Answer, Body}
 use Rattle.swc_grammar.specs.Symbols.{Value, Side}
 use Rattle.swc_grammar.specs.Trees.{to, bin_e, tightness, least_left, min_right, exp_ok, is_unary, nullish_ok}
 use Rattle.swc_grammar.specs.Trees.{logical_ok}
 use Rattle.swc_grammar.specs.Trees.{is_valid, are_valid, is_invalid, is_grouped, are_grouped, grouped_at, items_of}
 use Rattle.swc_grammar.specs.Trees.{at_place, method_e, value_e, prop_of, regex_e, text_e, trees_append, texts_of, exprs_of}
+use Rattle.swc_grammar.specs.Trees.{held_expr, held_exprs, seq_of, paren_e}
 use Rattle.swc_grammar.specs.Trees.{is_chain, chain_e, link_e, member_e, call_e, name_e, private_e, computed_e}
 use Rattle.swc_grammar.specs.Parts.{reference, any_name, lit_of, regex_of, flags_ok, cooked_of, text_by}
 use Rattle.swc_grammar.specs.Parts.{text_of, key_lit_of}
-use Rattle.swc_grammar.specs.Parts.{prefix_here, operator_here}
+use Rattle.swc_grammar.specs.Parts.{prefix_here, update_here, assign_here, operator_here}
 use Rattle.swc_grammar.specs.Grammar.{Production, ident-expr, lit, paren-expr, unary-left, unary-op, exp-unary}
 use Rattle.swc_grammar.specs.Grammar.{base-primary, super-name, super-computed, super-call, import-meta, import-call}
 use Rattle.swc_grammar.specs.Grammar.{import-source, left-base, member-name, member-private, member-computed, call, args-end}
@@ -43,7 +44,9 @@ use Rattle.swc_grammar.specs.Grammar.{object-lit, props-end, props-more, props-t
 use Rattle.swc_grammar.specs.Grammar.{prop-spread, prop-short, prop-cover, prop-key, prop-generator, prop-async}
 use Rattle.swc_grammar.specs.Grammar.{prop-async-generator, prop-getter, after-value, after-shell, shell-block}
 use Rattle.swc_grammar.specs.Grammar.{key-name, key-literal, key-computed}
-use Rattle.swc_grammar.specs.Grammar.{level-up, bin-op, private-expr, assign-level, expr-assign}
+use Rattle.swc_grammar.specs.Grammar.{level-up, bin-op, private-expr, assign-level}
+use Rattle.swc_grammar.specs.Grammar.{update-postfix, update-prefix, await-expr, await-ident, cond-expr, assign-expr}
+use Rattle.swc_grammar.specs.Grammar.{yield-alone, yield-expr, yield-star, exprs-one, exprs-more, seq-expr}
 use Rattle.swc_grammar.specs.Reads.{Reads, by, Follows, gave, took, held, calm, part, heard}
 use Rattle.swc_grammar.specs.Clean.{left_ok}
 use Rattle.swc_grammar.proofs.Answers.{inj, both, only}
@@ -87,7 +90,21 @@ plain : {F C K : Type 0} (op : BinaryOp) (l : Tree F C K) → precedence_of op �
 plain binary.Exp l h = absurd (omega arith)
 plain op l h = (refl, refl, refl)
 
+last-of-five : (a b c d e : Bool) → (a && b && c && d && e) ≡ true → e ≡ true
+last-of-five true true true true e h = h
+last-of-five true true true false e h = absurd cc
+last-of-five true true false d e h = absurd cc
+last-of-five true false c d e h = absurd cc
+last-of-five false b c d e h = absurd cc
+
 module _ {F C K : Type 0} where
+  -- a tree whose operators group has none of `??` on the left of `||` or `&&` at its top
+  grouped-left : (t : Tree F C K) → is_grouped t ≡ true → left_ok t ≡ true
+  grouped-left (bin_e s op l r) h =
+      last-of-five (nat_le (least_left op) (tightness l)) (nat_lt (min_right op) (tightness r)) (exp_ok op l)
+      (nullish_ok op l r) (logical_ok op l) (both (grouped_at (bin_e s op l r)) (are_grouped (cons l (cons r nil))) h).0
+  grouped-left t h = refl
+
   -- a tree that holds tightest, as it has no operator
   leaf : {s : Symbol} (t : Answer F C K s) → is_valid t ≡ true → left_ok t ≡ true → is_grouped t ≡ true
       → loosest s ≤ tightness t
@@ -259,6 +276,52 @@ module _ {F C K : Type 0} where
       → are_grouped (trees_append (texts_of ps) (exprs_of ps)) ≡ true
   parts-grouped ps h = append-grouped (texts_of ps) (exprs_of ps) (texts-grouped ps h) (exprs-grouped ps h)
 
+  -- what holds of the items of a list holds of what they hold, and of the sequence of that
+  held-valid : (t : Tree F C K) → is_valid t ≡ true → is_valid (held_expr t) ≡ true
+  held-valid (node item s (cons e ts)) h = (both (is_valid e) (are_valid ts) h).0
+  held-valid (node spread s (cons d (cons e ts))) h =
+      (both (is_valid e) (are_valid ts) (both (is_valid d) (are_valid (cons e ts)) h).1).0
+  held-valid t h = h
+
+  held-grouped : (t : Tree F C K) → is_grouped t ≡ true → is_grouped (held_expr t) ≡ true
+  held-grouped (node item s (cons e ts)) h = (both (is_grouped e) (are_grouped ts) h).0
+  held-grouped (node spread s (cons d (cons e ts))) h =
+      (both (is_grouped e) (are_grouped ts) (both (is_grouped d) (are_grouped (cons e ts)) h).1).0
+  held-grouped t h = h
+
+  all-valid : (ts : Trees F C K) → are_valid ts ≡ true → are_valid (held_exprs ts) ≡ true
+  all-valid nil h = refl
+  all-valid (cons t ts) h = let (x, y) = both (is_valid t) (are_valid ts) h in rw (held-valid t x, all-valid ts y) refl
+
+  all-grouped : (ts : Trees F C K) → are_grouped ts ≡ true → are_grouped (held_exprs ts) ≡ true
+  all-grouped nil h = refl
+  all-grouped (cons t ts) h =
+      let (x, y) = both (is_grouped t) (are_grouped ts) h in rw (held-grouped t x, all-grouped ts y) refl
+
+  seq-valid : (ts : Trees F C K) → are_valid ts ≡ true → is_valid (seq_of ts) ≡ true
+  seq-valid nil h = refl
+  seq-valid (cons e nil) h = (both (is_valid e) true h).0
+  seq-valid (cons e (cons u us)) h = h
+
+  seq-grouped : (ts : Trees F C K) → are_grouped ts ≡ true → is_grouped (seq_of ts) ≡ true
+  seq-grouped nil h = refl
+  seq-grouped (cons e nil) h = (both (is_grouped e) true h).0
+  seq-grouped (cons e (cons u us)) h = h
+
+  seq-good : (ts : Trees F C K) → are_valid ts ≡ true → are_grouped ts ≡ true → Good F C K Expr (seq_of ts)
+  seq-good ts v g =
+      let h = seq-grouped ts g in leaf (seq_of ts) (seq-valid ts v) (grouped-left (seq_of ts) h) h (omega arith)
+
+  paren-good : (s : Span) (ts : Trees F C K) → are_valid ts ≡ true → are_grouped ts ≡ true
+      → Good F C K Primary (paren_e s (seq_of (held_exprs ts)))
+  paren-good s ts v g =
+      let w = seq-valid (held_exprs ts) (all-valid ts v) in
+      let h = seq-grouped (held_exprs ts) (all-grouped ts g) in
+      wrapped s (seq_of (held_exprs ts)) w h
+    where
+      wrapped : (s : Span) (e : Tree F C K) → is_valid e ≡ true → is_grouped e ≡ true → Good F C K Primary (paren_e s e)
+      wrapped s e v g = leaf (paren_e s e) (rw v refl) refl (rw g refl) (omega arith)
+
   -- a link, as one of an optional chain or not
   link-good : {b : Bool} (is_optional : Bool) (l t : Tree F C K) → Good F C K (Left b) t
       → Good F C K (Left b) (link_e is_optional l t)
@@ -326,7 +389,7 @@ module _ {F C K : Type 0} where
       λ a. keeps-given _ (any_name c a.token a.span) _ (λ n h. leaf _ refl refl refl (omega arith))
   keeps key-literal = λ a. keeps-given _ (key_lit_of a.token a.span) _ (λ e h. key-lit-good a.token a.span e h)
   keeps key-computed = λ a h e g b k. leaf _ (rw g.valid refl) refl (rw g.grouped refl) (omega arith)
-  keeps paren-expr = λ a h e g b h1 n. leaf _ (rw g.valid refl) refl (rw g.grouped refl) (omega arith)
+  keeps paren-expr = λ a h es g p. paren-good _ (items_of es) (items-valid es g.valid) (items-grouped es g.grouped)
   keeps regex-alone = λ a. keeps-given _ (regex_of a.token a.span) _ (λ e h. regex-good a.token a.span e h)
   keeps regex-slash = λ a h b. keeps-given _ (regex_of b.token b.span) _ (λ e k. regex-moved b.token b.span _ e k)
   keeps primary-template = λ e g. looser g.tight g
@@ -379,6 +442,13 @@ module _ {F C K : Type 0} where
   keeps args-tail-end = λ a h. leaf _ refl refl refl (omega arith)
   keeps args-tail-more = λ a h es g n. leaf _ (items-valid es g.valid) refl (items-grouped es g.grouped) (omega arith)
   keeps unary-left = λ e g. looser g.tight g
+  keeps update-postfix = λ l g a b. keeps-given _ (update_here a.token a.span) _
+      (λ x h n. leaf _ (rw g.valid refl) refl (rw (le-leb 12 (tightness l) g.tight, g.grouped) refl) (omega arith))
+  keeps update-prefix = λ a. keeps-given _ (update_here a.token a.span) _
+      (λ x h e g n. leaf _ (rw g.valid refl) refl (rw (le-leb 12 (tightness e) g.tight, g.grouped) refl) (omega arith))
+  keeps await-expr = λ a h k e g.
+      leaf _ (rw g.valid refl) refl (rw (le-leb 12 (tightness e) g.tight, g.grouped) refl) (omega arith)
+  keeps await-ident = λ a h k. leaf _ refl refl refl (omega arith)
   keeps unary-op = λ a. keeps-given _ (prefix_here a.token a.span) _
       (λ x h e g n. leaf _ (rw g.valid refl) refl (rw (le-leb 12 (tightness e) g.tight, g.grouped) refl) (omega arith))
   keeps exp-unary = λ e g. looser (let t = g.tight in omega arith) g
@@ -389,7 +459,21 @@ module _ {F C K : Type 0} where
   keeps (private-expr {c = c}) =
       λ a h b. keeps-given _ (any_name c b.token b.span) _ (λ n h1. leaf _ refl refl refl (omega arith))
   keeps assign-level = λ e g. looser (omega arith) g
-  keeps expr-assign = λ e g. looser (omega arith) g
+  keeps cond-expr = λ t g b h e d i j a k.
+      leaf _ (rw (g.valid, d.valid, k.valid) refl) refl
+      (rw (le-leb 1 (tightness t) g.tight, g.grouped, d.grouped, k.grouped) refl) (omega arith)
+  keeps assign-expr = λ l g a. keeps-given _ (assign_here a.token a.span) _
+      (λ op h n r d. leaf _ (rw (g.valid, d.valid) refl) refl
+      (rw (le-leb 12 (tightness l) g.tight, g.grouped, d.grouped) refl) (omega arith))
+  keeps yield-alone = λ a h k. leaf _ refl refl refl (omega arith)
+  keeps yield-expr = λ a h k e g. leaf _ (rw g.valid refl) refl (rw g.grouped refl) (omega arith)
+  keeps yield-star = λ a h k b i j e g. leaf _ (rw g.valid refl) refl (rw g.grouped refl) (omega arith)
+  keeps exprs-one = λ e g. leaf _ (rw g.valid refl) refl (rw g.grouped refl) (omega arith)
+  keeps exprs-more = λ es g a h e d.
+      leaf _ (append-valid (items_of es) (cons e nil) (items-valid es g.valid) (rw d.valid refl)) refl
+      (append-grouped (items_of es) (cons e nil) (items-grouped es g.grouped) (rw d.grouped refl)) (omega arith)
+  keeps seq-expr = λ es g.
+      seq-good (items_of es) (items-valid es g.valid) (items-grouped es g.grouped)
 
   mutual
     pub good : {hook : Hook F C K} {s : Symbol} {c : Scope} {xs ys : List TokenAndSpan} {t : Answer F C K s}

@@ -1,7 +1,7 @@
 -- What the clean parser reads, the grammar derives, over a lawful hook. A choice picks a production, and so does a
 -- link, so this is said once for all choices and once for all links; only the operators, which are read by precedence
 -- and not by level, have a proof of their own.
-use Rattle.std.specs.Prelude.{◌≡◌, ℕ, zero, suc, ◌≤◌, Bool, true, false, not, if◌then◌else◌, List, [], ◌∷◌, Option, Some}
+use Rattle.std.specs.Prelude.{◌≡◌, ℕ, zero, suc, ◌≤◌, Bool, true, false, not, ◌&&◌, if◌then◌else◌, List, [], ◌∷◌, Option, Some}
 use Rattle.std.specs.Prelude.{None, IsTrue, nat_eq, nat_le}
 use Rattle.std.proofs.Common.{refl, sym as sym_path, subst, ap, ◌∙◌, arith}
 use Rattle.std.proofs.lemmas.Bool.{leb-true, leb-false, lt-ltb, eq-eqb}
@@ -17,23 +17,30 @@ use Rattle.swc_input.specs.declared.token.Token.{Token}
 use Rattle.swc_input.specs.declared.token.Token.TheVariants as token
 use Rattle.swc_input.specs.declared.token.TokenAndSpan.{TokenAndSpan}
 use Rattle.swc_input.specs.Kinds.{at_token}
-use Rattle.swc_ast.specs.Tree.{Tree, span_of}
+use Rattle.swc_context.specs.declared.operator.UnaryOp.{UnaryOp}
+use Rattle.swc_ast.specs.Tree.{Tree, Trees, nil, cons, span_of}
 use Rattle.swc_bodies.specs.Readings.{whole_span, Hook, LawfulHook}
 use Rattle.swc_grammar.specs.Scope.{Scope}
 use Rattle.swc_grammar.specs.Rule.{gives, never, take, check, peek, read, hear, sees, given, ◌>>=◌}
-use Rattle.swc_grammar.specs.Tokens.{with_in, binary_of, is_power, is_lparen, is_new}
-use Rattle.swc_grammar.specs.Trees.{new_e, bare_new_e, is_chain, items_of}
+use Rattle.swc_grammar.specs.Tokens.{with_in, binary_of, is_power, is_lparen, is_new, is_update, is_await, is_question}
+use Rattle.swc_grammar.specs.Tokens.{is_assign, is_comma}
+use Rattle.swc_grammar.specs.Parts.{operator_here}
+use Rattle.swc_grammar.specs.Trees.{new_e, bare_new_e, is_chain, items_of, exprs_e, seq_of, is_operation}
 use Rattle.swc_grammar.specs.Trees.{to, bin_e, nullish_ok, logical_ok, exp_ok, min_right}
-use Rattle.swc_grammar.specs.Symbols.{Symbol, Expr, Assign, Level, Unary, Lhs, Left, Arguments, Args, ArgsTail, Primary}
+use Rattle.swc_grammar.specs.Symbols.{Symbol, Expr, Exprs, Assign, Level, Unary, Lhs, Left, Arguments, Args, ArgsTail, Primary}
 use Rattle.swc_grammar.specs.Symbols.{Literal, Template, Parts, Base}
 use Rattle.swc_grammar.specs.Symbols.{Elements, ElementsTail}
 use Rattle.swc_grammar.specs.Symbols.{Item, Props, PropsTail, Prop, Key, AfterKey, Shell, Answer, Body, Value}
 use Rattle.swc_grammar.specs.Symbols.{reading_of, Side}
-use Rattle.swc_grammar.specs.Grammar.{exp-unary, exp-op, bin-op, lhs-left, left-base, new-bare, left-new}
+use Rattle.swc_grammar.specs.Grammar.{exp-unary, exp-op, level-up, bin-op, lhs-left, left-base, new-bare, left-new}
+use Rattle.swc_grammar.specs.Grammar.{unary-left, update-postfix, update-prefix, unary-op, assign-level, cond-expr}
+use Rattle.swc_grammar.specs.Grammar.{assign-expr, exprs-one, exprs-more, seq-expr}
 use Rattle.swc_grammar.specs.Reads.{Hears, Reads, by, Follows, gave, took, held, calm, part, heard}
 use Rattle.swc_grammar.specs.Clean.{first, Call, sym, links, climb, Ans, Plan, plan, Runs, rank_of, rank, allowed, exec}
 use Rattle.swc_grammar.specs.Clean.{constructs, Link, no_more, more, linked, link, base, constructed, constructed_with}
 use Rattle.swc_grammar.specs.Clean.{begins_new, lhs, call_args, args, args_tail, tpl, parts}
+use Rattle.swc_grammar.specs.Clean.{updates, assigns, seqs, second, begins_yield, no_update_at, no_error, prefix_at}
+use Rattle.swc_grammar.specs.Clean.{update_tail, cond_tail, assign_tail, exprs_next, exprs_tail, yield_by, await_by, unary_by}
 use Rattle.swc_grammar.specs.Clean.{operator_at, Bound, left_ok, Choice, none, pick, chosen, expr, assign, unary}
 use Rattle.swc_grammar.specs.Clean.{primary, literal, elements, elements_tail, item, props, props_tail, prop, key}
 use Rattle.swc_grammar.specs.Clean.{after_key, shell}
@@ -41,6 +48,7 @@ use Rattle.swc_grammar.specs.Clean.{turn, turned, step, run_at, measure, run}
 use Rattle.swc_grammar.proofs.Answers.{then-ok, only, unless, hear-ok, choose, inj, both}
 use Rattle.swc_grammar.proofs.Binds.{bind}
 use Rattle.swc_grammar.proofs.Bodies.{before-is, hears}
+use Rattle.swc_grammar.proofs.Firsts.{given-held}
 use Rattle.swc_grammar.proofs.Levels.{lift, min-right-same, below-exp, right-low, bound-none, bound-some, bound-above}
 
 -- What stands on the left of the operators above the precedence m: an operand by itself, or a node, behind which no
@@ -74,6 +82,14 @@ Means hook (constructs b s l) c ts r =
     → Sided hook false c xs ts l → Sided hook b c (a ∷ xs) r.1 r.0
 Means hook (links b l) c ts r =
     (xs : List TokenAndSpan) → Reads hook (Left b) c xs ts l → Reads hook (Left b) c xs r.1 r.0
+Means hook (updates l) c ts r =
+    (xs : List TokenAndSpan) → at_token is_await (first xs) ≡ false → Reads hook (Lhs true) c xs ts l
+    → Reads hook Unary c xs r.1 r.0
+Means hook (assigns e) c ts r =
+    (xs : List TokenAndSpan) → Reads hook (Level 1) c xs ts e → Reads hook Assign c xs r.1 r.0
+Means {F = F} {C = C} {K = K} hook (seqs es) c ts r =
+    (xs : List TokenAndSpan) (t : Tree F C K) → items_of t ≡ es → Reads hook Exprs c xs ts t
+    → Reads hook Expr c xs r.1 r.0
 Means hook (climb l m) c ts r =
     m ≤ 10 → (xs : List TokenAndSpan) → OnLeft hook c m xs ts l
     → Reads hook (Level (suc m)) c xs r.1 r.0 × Bound c m r.1
@@ -84,6 +100,30 @@ reads-of hook (Level zero) c ts r m = m
 reads-of hook (Level (suc k)) c ts r m = m.0
 reads-of hook (Lhs b) c ts r m = side-read hook m
 reads-of hook s c ts r m = m
+
+-- a test of what stands first, on the list
+sees-first : (p : Token → Bool) (xs : List TokenAndSpan) → at_token p (first xs) ≡ false
+    → sees (λ t. p t.token) xs ≡ false
+sees-first p [] h = refl
+sees-first p (t ∷ ts) h = h
+
+-- What is read as a level, and is no operation, is read as an operand.
+bin-is : {F C K : Type 0} {hook : Hook F C K} {k : ℕ} {c : Scope} {xs ys : List TokenAndSpan} {t : Tree F C K}
+    (op : BinaryOp) (l : Tree F C K)
+    → Follows hook (Level k) (check (nat_eq (precedence_of op) k) (read (Level (suc k)) c (λ r.
+    check (nullish_ok op l r) (check (logical_ok op l) (gives (bin_e (to (span_of l) (span_of r)) op l r)))))) xs ys t
+    → is_operation t ≡ true
+bin-is op l (held p (part d (held n (held g gave)))) = refl
+
+level-unary : {F C K : Type 0} {hook : Hook F C K} {k : ℕ} {c : Scope} {xs ys : List TokenAndSpan} {t : Tree F C K}
+    → Reads hook (Level k) c xs ys t → is_operation t ≡ false → Reads hook Unary c xs ys t
+level-unary (by exp-unary (part d gave)) n = d
+level-unary (by exp-op (part d (took (held h (held x (part r gave)))))) n = absurd cc
+level-unary (by (level-up b) (part d gave)) n = level-unary d n
+level-unary {c = c} (by (bin-op b) (part {e = l} d (took {a = a} f))) n =
+    let (op, o, g) = given-held (operator_here c a.token a.span) _ f in
+    let y = bin-is op l g in
+    absurd cc
 
 -- the token of `**`
 in-no-exp : (b : Bool) → (if b then Some binary.In else None) ≡ Some binary.Exp → ⊥
@@ -148,6 +188,90 @@ module _ {F C K : Type 0} (hook : Hook F C K)
       let (y, h1) = only (allowed g (rank k)) h in
       let (q, a, b) = then-ok (p k c ts) (λ e us. exec hook p g (f e) us) h1 in
       (q, ih k c ts q a, b)
+
+  -- Behind a left-hand side `++` or `--`; behind operators the rest of a conditional, or of an assignment; behind
+  -- expressions a comma and one more.
+  updates-sound : (c : Scope) (l : Tree F C K) (xs ts : List TokenAndSpan) (r : Tree F C K × List TokenAndSpan)
+      → at_token is_await (first xs) ≡ false → Reads hook (Lhs true) c xs ts l
+      → exec hook p (Some 1) (step (updates l) c ts) ts ≡ Some r → Reads hook Unary c xs r.1 r.0
+  updates-sound c l xs ts r n d h = choose (no_update_at (first ts)) _ _
+      (λ v. exec hook p (Some 1) v ts ≡ Some r) h
+      (λ z k. subst (λ v. Reads hook Unary c xs v.1 v.0) (inj (l, ts) r k)
+      (by unary-left (calm (sees-first is_await xs n) (part d gave))))
+      (λ z k. by update-postfix
+      (calm (sees-first is_await xs n) (part d (side-sound (Some 1) (update_tail c l) ts r k))))
+
+  assigns-sound : (c : Scope) (e : Tree F C K) (xs ts : List TokenAndSpan) (r : Tree F C K × List TokenAndSpan)
+      → Reads hook (Level 1) c xs ts e → exec hook p (Some 1) (step (assigns e) c ts) ts ≡ Some r
+      → Reads hook Assign c xs r.1 r.0
+  assigns-sound c e xs ts r d h = choose (at_token is_question (first ts)) _ _
+      (λ v. exec hook p (Some 1) v ts ≡ Some r) h
+      (λ z k. by cond-expr (part d (side-sound (Some 1) (cond_tail c e) ts r k)))
+      (λ z k. choose (at_token is_assign (first ts) && not (is_operation e)) _ _
+      (λ v. exec hook p (Some 1) v ts ≡ Some r) k
+      (λ y j. let (w, n) = both (at_token is_assign (first ts)) (not (is_operation e)) y in
+      by assign-expr (part (level-unary d (is-false (is_operation e) n)) (side-sound (Some 1) (assign_tail c e) ts r j)))
+      (λ y j. subst (λ v. Reads hook Assign c xs v.1 v.0) (inj (e, ts) r j) (by assign-level (part d gave))))
+    where
+      is-false : (b : Bool) → not b ≡ true → b ≡ false
+      is-false true h = absurd cc
+      is-false false h = refl
+
+  seqs-sound : (c : Scope) (es : Trees F C K) (t : Tree F C K) (xs ts : List TokenAndSpan)
+      (r : Tree F C K × List TokenAndSpan) → items_of t ≡ es → Reads hook Exprs c xs ts t
+      → exec hook p (Some 1) (step (seqs es) c ts) ts ≡ Some r → Reads hook Expr c xs r.1 r.0
+  seqs-sound c es t xs ts r i d h = choose (at_token is_comma (first ts)) _ _
+      (λ v. exec hook p (Some 1) v ts ≡ Some r) h
+      (λ z k. one-more ts d k)
+      (λ z k. subst (λ v. Reads hook Expr c xs v.1 v.0) (inj (seq_of es, ts) r k)
+      (subst (λ v. Reads hook Expr c xs ts (seq_of v)) i (by seq-expr (part d gave))))
+    where
+      one-more : (us : List TokenAndSpan) → Reads hook Exprs c xs us t
+          → exec hook p (Some 1) (exprs_tail c es) us ≡ Some r → Reads hook Expr c xs r.1 r.0
+      one-more [] d k = cc
+      one-more (a ∷ us) d k =
+          let behind : Tree F C K → Plan F C K (Tree F C K) = λ x. read (seqs (items_of x)) c (λ v. gives v) in
+          let (u, w, j) =
+          then-ok (exec hook p None (plan (exprs_next c es a)) us) (λ x vs. exec hook p None (behind x) vs)
+          (sym_path (bind hook p (plan (exprs_next c es a)) behind us) ∙ k) in
+          let more = side-sound None (exprs_next c es a) us u w in
+          last-sound None (seqs (items_of u.0)) c u.1 r j xs u.0 refl
+          (by exprs-more (part d (took (subst (λ v. Follows hook Exprs (exprs_next c v a) us u.1 u.0) (sym_path i) more))))
+
+  -- an expression, an assignment expression, and a unary one, from their first token on
+  expr-sound : (c : Scope) (ts : List TokenAndSpan) (r : Tree F C K × List TokenAndSpan)
+      → exec hook p (Some 15) (expr c) ts ≡ Some r → Reads hook Expr c ts r.1 r.0
+  expr-sound c ts r h =
+      let (q, e, k) =
+      call-sound (Some 15) (sym Assign) c (λ e. read (seqs (cons e nil)) c (λ v. gives v)) ts r h in
+      last-sound (Some 15) (seqs (cons q.0 nil)) c q.1 r k ts (exprs_e (cons q.0 nil)) refl (by exprs-one (part e gave))
+
+  assign-sound : (c : Scope) (ts : List TokenAndSpan) (r : Tree F C K × List TokenAndSpan)
+      → exec hook p (Some 14) (assign c ts) ts ≡ Some r → Reads hook Assign c ts r.1 r.0
+  assign-sound c ts r h = choose (begins_yield c ts) _ _ (λ v. exec hook p (Some 14) v ts ≡ Some r) h
+      (λ z k. choice-sound (Some 14) (yield_by c (second ts)) ts r k)
+      (λ z k. choose (at_token no_error (first ts)) _ _ (λ v. exec hook p (Some 14) v ts ≡ Some r) k
+      (λ y j.
+      let (q, e, i) =
+      call-sound (Some 14) (sym (Level 1)) c (λ e. read (assigns e) c (λ v. gives v)) ts r j in
+      last-sound (Some 14) (assigns q.0) c q.1 r i ts e.0)
+      (λ y j. absurd cc))
+
+  unary-sound : (c : Scope) (ts : List TokenAndSpan) (r : Tree F C K × List TokenAndSpan)
+      → exec hook p (Some 11) (unary c ts) ts ≡ Some r → Reads hook Unary c ts r.1 r.0
+  unary-sound c ts r h = choose (at_token is_update (first ts)) _ _ (λ v. exec hook p (Some 11) v ts ≡ Some r) h
+      (λ z k. choice-sound (Some 11) (pick (update-prefix {c = c})) ts r k)
+      (λ z k. choose (at_token is_await (first ts)) _ _ (λ v. exec hook p (Some 11) v ts ≡ Some r) k
+      (λ y j. choice-sound (Some 11) (await_by c (second ts)) ts r j)
+      (λ y j. by-op (prefix_at (first ts)) y j))
+    where
+      by-op : (o : Option UnaryOp) → at_token is_await (first ts) ≡ false
+          → exec hook p (Some 11) (unary_by c o) ts ≡ Some r → Reads hook Unary c ts r.1 r.0
+      by-op (Some op) y j = choice-sound (Some 11) (pick (unary-op {c = c})) ts r j
+      by-op None y j =
+          let (q, e, k) =
+          call-sound (Some 11) (sym (Lhs true)) c (λ l. read (updates l) c (λ v. gives v)) ts r j in
+          last-sound (Some 11) (updates q.0) c q.1 r k ts y (side-read hook e)
 
   -- a link, and what stands behind it
   link-sound : {b : Bool} {c : Scope} (g : Option ℕ) (x : Link F C K b c) (l : Tree F C K) (xs ts : List TokenAndSpan)
@@ -281,14 +405,15 @@ module _ {F C K : Type 0} (hook : Hook F C K)
 
   step-sound : (k : Call F C K) (c : Scope) (ts : List TokenAndSpan) (r : Ans F C K k × List TokenAndSpan)
       → exec hook p (Some (rank k)) (step k c ts) ts ≡ Some r → Means hook k c ts r
-  step-sound (sym Expr) c ts r h = choice-sound (Some 15) (expr c ts) ts r h
-  step-sound (sym Assign) c ts r h = choice-sound (Some 14) (assign c ts) ts r h
+  step-sound (sym Expr) c ts r h = expr-sound c ts r h
+  step-sound (sym Exprs) c ts r h = cc
+  step-sound (sym Assign) c ts r h = assign-sound c ts r h
   step-sound (sym (Level zero)) c ts r h = cc
   step-sound (sym (Level (suc m))) c ts r h =
       let (y, h1) = only (nat_le m 10) h in
       let (q, a, b) = call-sound (Some 12) (sym Unary) c (λ e. read (climb e m) c (λ v. gives v)) ts r h1 in
       last-sound (Some 12) (climb q.0 m) c q.1 r b (leb-true m 10 y) ts (alone a)
-  step-sound (sym Unary) c ts r h = choice-sound (Some 11) (unary c ts) ts r h
+  step-sound (sym Unary) c ts r h = unary-sound c ts r h
   step-sound (sym (Lhs b)) c ts r h = lhs-sound b c ts r h
   step-sound (sym (Left b)) c ts r h = cc
   step-sound (sym (Base b)) c ts r h = choice-sound (Some 9) (base b c ts) ts r h
@@ -311,6 +436,9 @@ module _ {F C K : Type 0} (hook : Hook F C K)
       choice-sound (Some 2) (shell is_async is_generator c ts) ts r h
   step-sound (constructs b s l) c ts r h = λ a xs y at n d. constructs-sound (Some 1) b c a s l xs ts r y at n d h
   step-sound (links b l) c ts r h = λ xs d. link-sound (Some 1) (link b c ts) l xs ts r d h
+  step-sound (updates l) c ts r h = λ xs n d. updates-sound c l xs ts r n d h
+  step-sound (assigns e) c ts r h = λ xs d. assigns-sound c e xs ts r d h
+  step-sound (seqs es) c ts r h = λ xs t i d. seqs-sound c es t xs ts r i d h
   step-sound (climb l m) c ts r h =
       λ small xs d. turn-sound c (Some 1) (operator_at c.context (first ts)) l m xs ts r small d refl h
 

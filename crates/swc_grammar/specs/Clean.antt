@@ -2,7 +2,7 @@
 -- nothing where the code refuses or records a fault. By what stands first it picks one of the grammar's productions,
 -- whose right-hand side is then run as it stands, so what is read is derived by construction. It is a private measure
 -- of the code: what is promised to callers speaks of the grammar.
-use Rattle.std.specs.Prelude.{ℕ, zero, suc, ◌+◌, ◌-◌, ◌*◌, ◌≤◌, Bool, true, false, not, ◌&&◌, if◌then◌else◌}
+use Rattle.std.specs.Prelude.{ℕ, zero, suc, ◌+◌, ◌-◌, ◌*◌, ◌≤◌, Bool, true, false, not, ◌&&◌, ◌||◌, if◌then◌else◌}
 use Rattle.std.specs.Prelude.{List, [], ◌∷◌, Option, Some, None, ◌≡◌, length, take as front, nat_le, nat_lt}
 use Rattle.swc_context.specs.Operators.{precedence_of}
 use Rattle.swc_context.specs.declared.context.Context.{Context}
@@ -14,19 +14,21 @@ use Rattle.swc_input.specs.declared.token.Token.{Token}
 use Rattle.swc_input.specs.declared.token.Token.TheVariants as token
 use Rattle.swc_input.specs.declared.token.TokenAndSpan.{TokenAndSpan}
 use Rattle.swc_input.specs.Kinds.{at_token, is_hash}
-use Rattle.swc_ast.specs.Tree.{Tree, span_of}
+use Rattle.swc_ast.specs.Targets.{is_target as is_simple_target}
+use Rattle.swc_ast.specs.Tree.{Tree, Trees, nil, cons, span_of}
 use Rattle.swc_bodies.specs.Readings.{whole_span, Hook, begins, begins_function, is_class, is_brace, is_async}
 use Rattle.swc_grammar.specs.Scope.{Scope}
 use Rattle.swc_grammar.specs.Rule.{Rule, gives, never, take, check, peek, read, hear, sees, ◌>>=◌, ◌>>◌, symbol, must}
-use Rattle.swc_grammar.specs.Symbols.{Symbol, Expr, Assign, Level, Unary, Lhs, Left, Arguments, Args, ArgsTail, Primary}
+use Rattle.swc_grammar.specs.Rule.{token as a_token, one, one_on_line}
+use Rattle.swc_grammar.specs.Symbols.{Symbol, Expr, Exprs, Assign, Level, Unary, Lhs, Left, Arguments, Args, ArgsTail, Primary}
 use Rattle.swc_grammar.specs.Symbols.{Literal, Template, Parts, Base}
 use Rattle.swc_grammar.specs.Symbols.{Elements, ElementsTail}
 use Rattle.swc_grammar.specs.Symbols.{Item, Props, PropsTail, Prop, Key, AfterKey, Shell, Answer, Body, Value}
 use Rattle.swc_grammar.specs.Symbols.{reading_of, Side}
-use Rattle.swc_grammar.specs.Grammar.{Production, expr-assign, assign-level, ident-expr, lit, paren-expr}
-use Rattle.swc_grammar.specs.Grammar.{unary-left, unary-op, private-expr}
+use Rattle.swc_grammar.specs.Grammar.{Production, ident-expr, lit, paren-expr, unary-op, private-expr}
+use Rattle.swc_grammar.specs.Grammar.{update-prefix, await-expr, await-ident, yield-alone, yield-expr, yield-star}
 use Rattle.swc_grammar.specs.Grammar.{member-name, member-private, member-computed, call, args-end, args-more}
-use Rattle.swc_grammar.specs.Grammar.{args-tail-end, args-tail-more, new-target, chain-name, chain-private}
+use Rattle.swc_grammar.specs.Grammar.{args-tail-end, args-tail-more, left-base, new-target, chain-name, chain-private}
 use Rattle.swc_grammar.specs.Grammar.{chain-computed, chain-call, tagged-tpl, arguments, primary-template, template, parts-end}
 use Rattle.swc_grammar.specs.Grammar.{parts-more, regex-alone, regex-slash, base-primary, super-name, super-computed}
 use Rattle.swc_grammar.specs.Grammar.{super-call, import-meta, import-call, import-source}
@@ -38,10 +40,12 @@ use Rattle.swc_grammar.specs.Grammar.{prop-async-generator, prop-getter, after-v
 use Rattle.swc_grammar.specs.Grammar.{key-name, key-literal, key-computed}
 use Rattle.swc_grammar.specs.Tokens.{is_ref, binary_of, prefix_of, is_lparen, is_this, is_lbracket, is_rbracket, is_comma}
 use Rattle.swc_grammar.specs.Tokens.{is_dots, is_rbrace, is_colon, is_star, is_equals, is_word, is_get, with_in}
-use Rattle.swc_grammar.specs.Tokens.{is_super, is_import, is_source}
+use Rattle.swc_grammar.specs.Tokens.{is_super, is_import, is_source, is_update, is_assign, is_await, is_yield}
+use Rattle.swc_grammar.specs.Tokens.{ends_await, yield_ok, goes_on_yield}
+use Rattle.swc_grammar.specs.Parts.{update_here, assign_here}
 use Rattle.swc_grammar.specs.Tokens.{is_question, is_dot, is_rparen, is_new, is_backquote, is_slash, is_regex, ends_prop, follows_key}
 use Rattle.swc_grammar.specs.Trees.{to, bin_e, new_e, bare_new_e, is_chain, items_of, nullish_ok, logical_ok, exp_ok}
-use Rattle.swc_grammar.specs.Trees.{min_right}
+use Rattle.swc_grammar.specs.Trees.{min_right, trees_append, update_e, cond_e, assign_e, exprs_e, seq_of, is_operation}
 
 -- what was read, and the tokens left
 abbrev pub Out : Type 0 → Type 0
@@ -73,20 +77,27 @@ hear_then None ts f = None
 hear_then (Some p) ts f = if nat_lt (length p.1) (length ts) then f p.0 (whole_span (before ts p.1)) p.1 else None
 
 -- Where the recursion goes on: at a symbol; behind a left-hand side that was read so far, at its links, with calls or
--- without; behind `new`, at its place, and what is constructed, at the arguments, or none; and behind an operand, at the
--- operators above the precedence m.
+-- without; behind `new`, at its place, and what is constructed, at the arguments, or none; behind a left-hand side, at
+-- `++` or `--`; behind an operand, at the operators above the precedence m; behind what these are read to, at `?` or an
+-- operator that writes; and behind expressions with commas between them, at the next comma.
 pub data Call (F C K : Type 0) : Type 0 where
   sym : Symbol → Call F C K
   links : Bool → Tree F C K → Call F C K
   constructs : Bool → Span → Tree F C K → Call F C K
+  updates : Tree F C K → Call F C K
   climb : Tree F C K → ℕ → Call F C K
+  assigns : Tree F C K → Call F C K
+  seqs : Trees F C K → Call F C K
 
 -- what a call gives
 abbrev pub Ans : (F C K : Type 0) → Call F C K → Type 0
 Ans F C K (sym s) = Answer F C K s
 Ans F C K (links b l) = Tree F C K
 Ans F C K (constructs b s l) = Tree F C K
+Ans F C K (updates l) = Tree F C K
 Ans F C K (climb l m) = Tree F C K
+Ans F C K (assigns e) = Tree F C K
+Ans F C K (seqs es) = Tree F C K
 
 -- what is run: a right-hand side, with calls in place of symbols
 abbrev pub Plan : (F C K : Type 0) → Type 0 → Type 0
@@ -104,6 +115,7 @@ plan (hear b c f) = hear b c (λ v s. plan (f v s))
 -- Which calls may stand first in which, before a token: those of a lower rank. So the recursion ends.
 abbrev pub rank_of : Symbol → ℕ
 rank_of Expr = 15
+rank_of Exprs = 15
 rank_of Assign = 14
 rank_of (Level k) = 12
 rank_of Unary = 11
@@ -131,7 +143,10 @@ abbrev pub rank : {F C K : Type 0} → Call F C K → ℕ
 rank (sym s) = rank_of s
 rank (links b l) = 1
 rank (constructs b s l) = 1
+rank (updates l) = 1
 rank (climb l m) = 1
+rank (assigns e) = 1
+rank (seqs es) = 1
 
 abbrev pub measure : {F C K : Type 0} → Call F C K → List TokenAndSpan → ℕ
 measure k ts = 20 * length ts + rank k
@@ -199,6 +214,34 @@ no_link_at b (Some t) u =
 abbrev pub no_link : Bool → List TokenAndSpan → Bool
 no_link b ts = no_link_at b (first ts) (second ts)
 
+-- no `++` or `--` on the same line; no link, and none of these; and no `?`, and no operator that writes, either
+abbrev pub no_update_at : Option TokenAndSpan → Bool
+no_update_at None = true
+no_update_at (Some t) = not (is_update t.token) || t.had_line_break
+
+abbrev pub ends_unary : List TokenAndSpan → Bool
+ends_unary ts = no_link true ts && no_update_at (first ts)
+
+abbrev pub no_assign_at : Option TokenAndSpan → Bool
+no_assign_at None = true
+no_assign_at (Some t) = not (is_question t.token) && not (is_assign t.token)
+
+abbrev pub ends_assign : List TokenAndSpan → Bool
+ends_assign ts = ends_unary ts && no_assign_at (first ts)
+
+-- `yield`, where it is an operator; whether what stands behind it goes on with it; and whether what stands behind
+-- `await` makes it an identifier, outside async code
+abbrev pub begins_yield : Scope → List TokenAndSpan → Bool
+begins_yield c ts = at_token is_yield (first ts) && c.context.in_generator
+
+abbrev pub goes_on_yield_at : Option TokenAndSpan → Bool
+goes_on_yield_at None = false
+goes_on_yield_at (Some t) = goes_on_yield t
+
+abbrev pub ends_await_at : Option TokenAndSpan → Bool
+ends_await_at None = true
+ends_await_at (Some t) = ends_await t
+
 -- `new`, but for `new.target`
 abbrev pub begins_new : List TokenAndSpan → Bool
 begins_new ts = at_token is_new (first ts) && not (at_token is_dot (second ts))
@@ -214,7 +257,7 @@ Stop Primary c ys = Unit {0}
 Stop Literal c ys = Unit {0}
 Stop (Template is_tagged) c ys = Unit {0}
 Stop (Parts is_tagged) c ys = Unit {0}
-Stop Unary c ys = no_link true ys ≡ true
+Stop Unary c ys = ends_unary ys ≡ true
 Stop (Lhs b) c ys = no_link true ys ≡ true
 Stop (Left b) c ys = ⊥
 Stop (Base b) c ys = Unit {0}
@@ -227,11 +270,13 @@ Stop Props c ys = Unit {0}
 Stop PropsTail c ys = Unit {0}
 Stop Prop c ys = at_token ends_prop (first ys) ≡ true
 Stop Key c ys = Unit {0}
-Stop AfterKey c ys = (no_link true ys ≡ true) × Bound (with_in c) 0 ys
+Stop AfterKey c ys = (ends_assign ys ≡ true) × Bound (with_in c) 0 ys
 Stop (Shell is_async is_generator) c ys = Unit {0}
 Stop (Level zero) c ys = ⊥
-Stop (Level (suc n)) c ys = (n ≤ 10) × (no_link true ys ≡ true) × Bound c n ys
-Stop s c ys = (no_link true ys ≡ true) × Bound c 0 ys
+Stop (Level (suc n)) c ys = (n ≤ 10) × (ends_unary ys ≡ true) × Bound c n ys
+Stop Expr c ys = ((ends_assign ys && not (at_token is_comma (first ys))) ≡ true) × Bound c 0 ys
+Stop Exprs c ys = ⊥
+Stop s c ys = (ends_assign ys ≡ true) × Bound c 0 ys
 
 -- a choice: none of a symbol's productions, or one
 pub data Choice (F C K : Type 0) (s : Symbol) (c : Scope) : Type 0 where
@@ -249,19 +294,80 @@ module _ {F C K : Type 0} where
   chosen none = never
   chosen (pick {r = r} p) = plan r
 
+  -- What stands behind a part that was read: behind a left-hand side `++` or `--`; behind operators `?` and the rest of
+  -- a conditional, or an operator that writes and what it writes; behind expressions a comma and one more.
+  abbrev pub update_tail : Scope → Tree F C K → Side F C K Unary
+  update_tail c l = do
+    (op, s) ← one_on_line update_here
+    must (is_simple_target c.context.strict l)
+    gives (update_e (to (span_of l) s) op false l)
+
+  abbrev pub cond_tail : Scope → Tree F C K → Side F C K Assign
+  cond_tail c t = do
+    a_token is_question
+    e ← symbol Assign (with_in c)
+    a_token is_colon
+    a ← symbol Assign c
+    gives (cond_e (to (span_of t) (span_of a)) t e a)
+
+  abbrev pub assign_tail : Scope → Tree F C K → Side F C K Assign
+  assign_tail c l = do
+    op ← one assign_here
+    must (is_simple_target c.context.strict l)
+    r ← symbol Assign c
+    gives (assign_e (to (span_of l) (span_of r)) op l r)
+
+  abbrev pub exprs_next : Scope → Trees F C K → TokenAndSpan → Side F C K Exprs
+  exprs_next c es t = do
+    must (is_comma t.token)
+    e ← symbol Assign c
+    gives (exprs_e (trees_append es (cons e nil)))
+
+  abbrev pub exprs_tail : Scope → Trees F C K → Plan F C K (Tree F C K)
+  exprs_tail c es = take (λ t. plan (exprs_next c es t) >>= (λ x. symbol (seqs (items_of x)) c))
+
   -- The choices.
-  abbrev pub expr : (c : Scope) → List TokenAndSpan → Choice F C K Expr c
-  expr c ts = pick expr-assign
+  abbrev pub expr : Scope → Plan F C K (Tree F C K)
+  expr c = do
+    e ← symbol (sym Assign) c
+    symbol (seqs (cons e nil)) c
 
-  abbrev pub assign : (c : Scope) → List TokenAndSpan → Choice F C K Assign c
-  assign c ts = if at_token no_error (first ts) then pick assign-level else none
+  -- behind `yield`: an operand or none, by the token that stands there
+  abbrev pub yield_by : (c : Scope) → Option TokenAndSpan → Choice F C K Assign c
+  yield_by c u =
+      if not (yield_ok c.context) then none else
+      (if not (goes_on_yield_at u) then pick yield-alone else
+      (if at_token is_star u then pick yield-star else pick yield-expr))
 
-  abbrev pub unary_by : {c : Scope} → Option UnaryOp → Choice F C K Unary c
-  unary_by None = pick unary-left
-  unary_by (Some op) = pick unary-op
+  abbrev pub assigned : Scope → Plan F C K (Tree F C K)
+  assigned c = do
+    e ← symbol (sym (Level 1)) c
+    symbol (assigns e) c
 
-  abbrev pub unary : (c : Scope) → List TokenAndSpan → Choice F C K Unary c
-  unary c ts = unary_by (prefix_at (first ts))
+  abbrev pub assign : (c : Scope) → List TokenAndSpan → Plan F C K (Tree F C K)
+  assign c ts =
+      if begins_yield c ts then chosen (yield_by c (second ts)) else
+      (if at_token no_error (first ts) then assigned c else never)
+
+  -- behind `await`: an operand or none, by the token that stands there
+  abbrev pub await_by : (c : Scope) → Option TokenAndSpan → Choice F C K Unary c
+  await_by c u =
+      if at_token is_star u then none else
+      (if not c.context.in_async && ends_await_at u then pick await-ident else pick await-expr)
+
+  abbrev pub operand : Scope → Plan F C K (Tree F C K)
+  operand c = do
+    l ← symbol (sym (Lhs true)) c
+    symbol (updates l) c
+
+  abbrev pub unary_by : (c : Scope) → Option UnaryOp → Plan F C K (Tree F C K)
+  unary_by c None = operand c
+  unary_by c (Some op) = chosen (pick (unary-op {c = c}))
+
+  abbrev pub unary : (c : Scope) → List TokenAndSpan → Plan F C K (Tree F C K)
+  unary c ts =
+      if at_token is_update (first ts) then chosen (pick (update-prefix {c = c})) else
+      (if at_token is_await (first ts) then chosen (await_by c (second ts)) else unary_by c (prefix_at (first ts)))
 
   -- a left-hand side with what it goes on with
   abbrev pub linked : {b : Bool} {c : Scope} → Link F C K b c → Tree F C K → Plan F C K (Tree F C K)
@@ -437,11 +543,12 @@ module _ {F C K : Type 0} where
 
   -- what is run at each call
   abbrev pub step : (k : Call F C K) → Scope → List TokenAndSpan → Plan F C K (Ans F C K k)
-  step (sym Expr) c ts = chosen (expr c ts)
-  step (sym Assign) c ts = chosen (assign c ts)
+  step (sym Expr) c ts = expr c
+  step (sym Exprs) c ts = never
+  step (sym Assign) c ts = assign c ts
   step (sym (Level zero)) c ts = never
   step (sym (Level (suc m))) c ts = must (nat_le m 10) >> symbol (sym Unary) c >>= (λ e. symbol (climb e m) c)
-  step (sym Unary) c ts = chosen (unary c ts)
+  step (sym Unary) c ts = unary c ts
   step (sym (Lhs b)) c ts = lhs b c ts
   step (sym (Left b)) c ts = never
   step (sym (Base b)) c ts = chosen (base b c ts)
@@ -464,6 +571,12 @@ module _ {F C K : Type 0} where
   step (links b l) c ts = linked (link b c ts) l
   step (constructs b s l) c ts =
       if at_token is_lparen (first ts) then constructed_with b s l c else gives (bare_new_e (to s (span_of l)) l)
+  step (updates l) c ts = if no_update_at (first ts) then gives l else plan (update_tail c l)
+  step (assigns e) c ts =
+      if at_token is_question (first ts) then plan (cond_tail c e) else
+      (if at_token is_assign (first ts) && not (is_operation e) then plan (assign_tail c e) else gives e)
+  step (seqs es) c ts =
+      if at_token is_comma (first ts) then exprs_tail c es else gives (seq_of es)
   step (climb l m) c ts = turn (operator_at c.context (first ts)) l m c >>= (λ r. turned r.0 r.1 c)
 
 -- closed by as many steps as the measure of the call, which is enough

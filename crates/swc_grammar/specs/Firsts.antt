@@ -1,5 +1,5 @@
 -- What a reading begins with, symbol by symbol.
-use Rattle.std.specs.Prelude.{Bool, true, false, ◌||◌, Option, Some, None, codes}
+use Rattle.std.specs.Prelude.{Bool, true, false, ◌||◌, ◌&&◌, Option, Some, None, codes}
 use Rattle.swc_context.specs.declared.operator.AssignOp.TheVariants as assign
 use Rattle.swc_context.specs.declared.operator.BinOpToken.TheVariants as sign
 use Rattle.swc_context.specs.declared.operator.UnaryOp.{UnaryOp}
@@ -10,11 +10,12 @@ use Rattle.swc_input.specs.declared.token.Token.{Token}
 use Rattle.swc_input.specs.declared.token.Token.TheVariants as token
 use Rattle.swc_grammar.specs.Scope.{Scope}
 use Rattle.swc_grammar.specs.Clean.{is_lit, is_identifier}
-use Rattle.swc_grammar.specs.Symbols.{Symbol, Lhs, Left, Base, Arguments, Template, Parts}
+use Rattle.swc_grammar.specs.Symbols.{Symbol, Level, Unary, Lhs, Left, Base, Arguments, Template, Parts}
 use Rattle.swc_grammar.specs.Symbols.{Args, ArgsTail, Primary, Literal, Elements, ElementsTail, Item}
 use Rattle.swc_grammar.specs.Symbols.{Props, PropsTail, Prop, Key, AfterKey, Shell}
 use Rattle.swc_grammar.specs.Tokens.{prefix_of, is_comma, is_rbracket, is_rbrace, is_dots, is_star, is_lparen}
-use Rattle.swc_grammar.specs.Tokens.{is_backquote, is_rparen, ends_prop, follows_key}
+use Rattle.swc_grammar.specs.Tokens.{is_backquote, is_update, is_await, is_yield}
+use Rattle.swc_grammar.specs.Tokens.{is_rparen, ends_prop, follows_key}
 
 abbrev pub is_prefix_op : Option UnaryOp → Bool
 is_prefix_op None = false
@@ -48,7 +49,8 @@ is_first t = false
 abbrev pub begins_primary : Scope → Token → Bool
 begins_primary c t = is_identifier c.context t || is_first t
 
--- a left-hand side: with `new`, `super` and `import` too; any other: with a prefix operator too
+-- a left-hand side: with `new`, `super` and `import` too; what binary operators join: with a prefix operator, `++`, `--` or
+-- `await` too; any other: with `yield` too
 abbrev pub is_left_word : Token → Bool
 is_left_word (token.Word (word.Keyword keyword.New)) = true
 is_left_word (token.Word (word.Keyword keyword.Super)) = true
@@ -58,8 +60,11 @@ is_left_word t = false
 abbrev pub begins_left : Scope → Token → Bool
 begins_left c t = begins_primary c t || is_left_word t
 
+abbrev pub begins_operand : Scope → Token → Bool
+begins_operand c t = begins_left c t || (is_prefix t || (is_update t || is_await t))
+
 abbrev pub begins_expression : Scope → Token → Bool
-begins_expression c t = begins_left c t || is_prefix t
+begins_expression c t = begins_operand c t || (is_yield t && c.context.in_generator)
 
 -- a text of a template
 abbrev pub is_text_token : Token → Bool
@@ -79,6 +84,8 @@ abbrev pub begins_prop : Token → Bool
 begins_prop t = begins_key t || (is_dots t || is_star t)
 
 abbrev pub starts : Symbol → Scope → Token → Bool
+starts (Level k) c t = begins_operand c t
+starts Unary c t = begins_operand c t
 starts (Lhs b) c t = begins_left c t
 starts (Left b) c t = begins_left c t
 starts (Base b) c t = begins_left c t

@@ -1,18 +1,20 @@
 -- The written grammar, after ECMA-262, whose sections stand beside it. `Production symbol c side` says that in the
 -- scope c the right-hand side is one of the symbol's. What it means that a right-hand side is followed is said in
 -- Reads.
-use Rattle.std.specs.Prelude.{ℕ, suc, Bool, true, false, not, ◌||◌, None, IsTrue, nat_eq, nat_lt}
+use Rattle.std.specs.Prelude.{ℕ, suc, Bool, true, false, not, ◌||◌, ◌&&◌, None, IsTrue, codes, nat_eq, nat_lt}
 use Rattle.swc_context.specs.Operators.{precedence_of}
 use Rattle.swc_context.specs.Reserved.{is_reserved_word}
 use Rattle.swc_context.specs.declared.operator.BinaryOp.TheVariants as binary
 use Rattle.swc_input.specs.Kinds.{is_hash}
+use Rattle.swc_ast.specs.Targets.{is_target as is_simple_target}
 use Rattle.swc_ast.specs.Tree.{nil, cons, span_of}
 use Rattle.swc_ast.specs.declared.expr.ImportPhase.TheVariants as phase
 use Rattle.swc_ast.specs.declared.expr.MetaPropKind.TheVariants as kind
 use Rattle.swc_bodies.specs.Readings.{is_async, is_brace}
 use Rattle.swc_grammar.specs.Scope.{Scope, in_context}
-use Rattle.swc_grammar.specs.Rule.{gives, ◌>>=◌, ◌>>◌, symbol, token, one, must, body}
-use Rattle.swc_grammar.specs.Symbols.{Symbol, Expr, Assign, Level, Unary, Lhs, Left, Arguments, Args, ArgsTail, Primary}
+use Rattle.swc_grammar.specs.Rule.{gives, ◌>>=◌, ◌>>◌, symbol, token, one, token_on_line, one_on_line}
+use Rattle.swc_grammar.specs.Rule.{must, ahead, body}
+use Rattle.swc_grammar.specs.Symbols.{Symbol, Expr, Exprs, Assign, Level, Unary, Lhs, Left, Arguments, Args, ArgsTail, Primary}
 use Rattle.swc_grammar.specs.Symbols.{Literal, Template, Parts, Base}
 use Rattle.swc_grammar.specs.Symbols.{Elements, ElementsTail}
 use Rattle.swc_grammar.specs.Symbols.{Item, Props, PropsTail, Prop, Key, AfterKey, Shell, Side, function, class, block}
@@ -20,15 +22,18 @@ use Rattle.swc_grammar.specs.Names.{is_joined}
 use Rattle.swc_grammar.specs.Tokens.{with_in, is_this, is_lparen, is_rparen, is_lbracket, is_rbracket, is_comma, is_dots}
 use Rattle.swc_grammar.specs.Tokens.{is_dot, is_question, is_backquote, is_dollar_brace, is_slash, is_new, is_target, new_target_ok}
 use Rattle.swc_grammar.specs.Tokens.{is_super, is_import, is_meta, is_source, super_ok, import_comma_ok}
+use Rattle.swc_grammar.specs.Tokens.{is_await, is_yield, await_ok, await_ident_ok, ends_await, yield_ok, goes_on_yield}
 use Rattle.swc_grammar.specs.Tokens.{is_power, is_rbrace, is_colon, is_star, is_equals, is_get, method_block}
-use Rattle.swc_grammar.specs.Parts.{reference, any_name, lit_of, regex_of, text_of, key_lit_of, prefix_here, operator_here}
+use Rattle.swc_grammar.specs.Parts.{reference, any_name, lit_of, regex_of, text_of, key_lit_of, prefix_here}
+use Rattle.swc_grammar.specs.Parts.{update_here, assign_here, operator_here}
 use Rattle.swc_grammar.specs.Trees.{to, ident_e, this_e, array_e, listed, items_of, comma_of, put_first, behind_comma}
 use Rattle.swc_grammar.specs.Trees.{hole_e, item_e, spread_e, fn_e}
 use Rattle.swc_grammar.specs.Trees.{class_e, private_e, unary_e, paren_e, bin_e, object_e, name_e, computed_e}
 use Rattle.swc_grammar.specs.Trees.{spread_prop_e, short_e, cover_e, value_e, block_e, function_e, method_e, getter_e}
 use Rattle.swc_grammar.specs.Trees.{at_place, parts_e, put_part, tpl_e, tagged_e, new_e, bare_new_e, meta_e, link_e, is_chain}
 use Rattle.swc_grammar.specs.Trees.{super_e, import_e, super_prop_e, comma_ok}
-use Rattle.swc_grammar.specs.Trees.{prop_of, member_e, call_e, nullish_ok, logical_ok, delete_ok, is_unary, no_cover_in}
+use Rattle.swc_grammar.specs.Trees.{prop_of, member_e, call_e, nullish_ok, logical_ok, delete_ok, is_unary, paren_ok}
+use Rattle.swc_grammar.specs.Trees.{trees_append, held_exprs, update_e, await_e, yield_e, cond_e, assign_e, exprs_e, seq_of}
 
 pub data Production {F C K : Type 0} : (s : Symbol) → Scope → Side F C K s → Type 0 where
   -- Identifier references (13.1)
@@ -187,13 +192,13 @@ pub data Production {F C K : Type 0} : (s : Symbol) → Scope → Side F C K s �
   class-expr : {c : Scope} → Production Primary c (do
     (v, s) ← body class c
     gives (class_e s v))
-  -- Parentheses (13.2.9), in which `in` is an operator
+  -- Parentheses (13.2.9), in which `in` is an operator. As the standard has it, what is read there covers more than an
+  -- expression: a list like that of arguments, of which then only some are expressions in parentheses.
   paren-expr : {c : Scope} → Production Primary c (do
     s ← token is_lparen
-    e ← symbol Assign (with_in c)
-    s' ← token is_rparen
-    must (no_cover_in e)
-    gives (paren_e (to s s') e))
+    es ← symbol (Args false) (with_in c)
+    must (paren_ok es)
+    gives (paren_e (to s (span_of es)) (seq_of (held_exprs (items_of es)))))
   -- Left-hand sides (13.3): with links, or `new` without arguments (NewExpression, 13.3.5), behind which no link is read.
   -- What is constructed is no optional chain.
   lhs-left : {c : Scope} {b : Bool} → Production (Lhs b) c (symbol (Left b) c)
@@ -339,8 +344,36 @@ pub data Production {F C K : Type 0} : (s : Symbol) → Scope → Side F C K s �
     es ← symbol (Args i) c
     must (comma_ok (not i || import_comma_ok c) es)
     gives (behind_comma s es))
+  -- UpdateExpression (13.4): what is written to is a valid simple target, and an operator behind it stands on its line.
+  -- No left-hand side that is an operand by itself begins with `await`.
+  unary-left : {c : Scope} → Production Unary c (do
+    ahead (λ t. is_await t.token)
+    symbol (Lhs true) c)
+  update-postfix : {c : Scope} → Production Unary c (do
+    ahead (λ t. is_await t.token)
+    l ← symbol (Lhs true) c
+    (op, s) ← one_on_line update_here
+    must (is_simple_target c.context.strict l)
+    gives (update_e (to (span_of l) s) op false l))
+  update-prefix : {c : Scope} → Production Unary c (do
+    (op, s) ← one update_here
+    e ← symbol Unary c
+    must (is_simple_target c.context.strict e)
+    gives (update_e (to s (span_of e)) op true e))
+  -- `await` (15.8), and the identifier `await` (13.1), which stands outside async code where no operand can follow. A `*`
+  -- follows neither.
+  await-expr : {c : Scope} → Production Unary c (do
+    s ← token is_await
+    must (await_ok c.context)
+    ahead (λ t. is_star t.token || (not c.context.in_async && ends_await t))
+    e ← symbol Unary c
+    gives (await_e (to s (span_of e)) e))
+  await-ident : {c : Scope} → Production Unary c (do
+    s ← token is_await
+    must (await_ident_ok c.context)
+    ahead (λ t. is_star t.token || not (ends_await t))
+    gives (ident_e s (codes "await")))
   -- UnaryExpression (13.5)
-  unary-left : {c : Scope} → Production Unary c (symbol (Lhs true) c)
   unary-op : {c : Scope} → Production Unary c (do
     (op, s) ← one prefix_here
     e ← symbol Unary c
@@ -369,7 +402,48 @@ pub data Production {F C K : Type 0} : (s : Symbol) → Scope → Side F C K s �
     s ← token is_hash
     n ← one (any_name c)
     gives (private_e (to s n.at) n.text))
-  -- AssignmentExpression (13.15)
+  -- AssignmentExpression (13.15), with ConditionalExpression (13.14), in whose middle `in` is an operator, and
+  -- YieldExpression (15.5), whose operand begins on the line of `yield`. What is written to is a valid simple target.
   assign-level : {c : Scope} → Production Assign c (symbol (Level 1) c)
+  cond-expr : {c : Scope} → Production Assign c (do
+    t ← symbol (Level 1) c
+    token is_question
+    e ← symbol Assign (with_in c)
+    token is_colon
+    a ← symbol Assign c
+    gives (cond_e (to (span_of t) (span_of a)) t e a))
+  assign-expr : {c : Scope} → Production Assign c (do
+    l ← symbol Unary c
+    op ← one assign_here
+    must (is_simple_target c.context.strict l)
+    r ← symbol Assign c
+    gives (assign_e (to (span_of l) (span_of r)) op l r))
+  yield-alone : {c : Scope} → Production Assign c (do
+    s ← token is_yield
+    must (c.context.in_generator && yield_ok c.context)
+    ahead goes_on_yield
+    gives (yield_e s false hole_e))
+  yield-expr : {c : Scope} → Production Assign c (do
+    s ← token is_yield
+    must (c.context.in_generator && yield_ok c.context)
+    ahead (λ t. is_star t.token || not (goes_on_yield t))
+    e ← symbol Assign c
+    gives (yield_e (to s (span_of e)) false e))
+  yield-star : {c : Scope} → Production Assign c (do
+    s ← token is_yield
+    must (c.context.in_generator && yield_ok c.context)
+    token_on_line is_star
+    e ← symbol Assign c
+    gives (yield_e (to s (span_of e)) true e))
   -- Expression (13.16)
-  expr-assign : {c : Scope} → Production Expr c (symbol Assign c)
+  exprs-one : {c : Scope} → Production Exprs c (do
+    e ← symbol Assign c
+    gives (exprs_e (cons e nil)))
+  exprs-more : {c : Scope} → Production Exprs c (do
+    es ← symbol Exprs c
+    token is_comma
+    e ← symbol Assign c
+    gives (exprs_e (trees_append (items_of es) (cons e nil))))
+  seq-expr : {c : Scope} → Production Expr c (do
+    es ← symbol Exprs c
+    gives (seq_of (items_of es)))

@@ -8,6 +8,8 @@ use Rattle.swc_grammar.specs.Rule.{Rule}
 -- The symbols. Of levels there are eleven: that of the least precedence is 1.
 pub data Symbol : Type 0 where
   Expr : Symbol
+  -- assignment expressions with commas between them (13.16)
+  Exprs : Symbol
   Assign : Symbol
   Level : ℕ → Symbol
   Unary : Symbol

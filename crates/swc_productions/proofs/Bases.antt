@@ -37,8 +37,8 @@ use Rattle.swc_productions.specs.declared.expr.base.SuperHead.TheVariants as hea
 use Rattle.swc_productions.specs.Keys.{expected}
 use Rattle.swc_productions.specs.Links.{args_inside}
 use Rattle.swc_productions.specs.Lists.{eaten}
-use Rattle.swc_productions.specs.Readers.{inside}
-use Rattle.swc_productions.proofs.Keys.{then_calls, then_token, expr_assign}
+use Rattle.swc_productions.specs.Readers.{whole_inside}
+use Rattle.swc_productions.proofs.Keys.{then_calls, then_token}
 use Rattle.swc_productions.proofs.Lists.{calls, bind_same}
 use Rattle.swc_productions.proofs.Words.{is_same}
 
@@ -132,7 +132,7 @@ module _ {F C K : Type 0} where
 
 module _ {F C K : Type 0} (hook : Hook F C K) where
   pub computed_splits : (s q : Span) (x : Scope) (ts : List TokenAndSpan)
-      → super_computed_tail hook s q x ts ≡ (inside hook x ts >>= (λ p. super_close s q p.0 x p.1))
+      → super_computed_tail hook s q x ts ≡ (whole_inside hook x ts >>= (λ p. super_close s q p.0 x p.1))
   unfolding super_computed_tail
   computed_splits s q x ts = refl
 
@@ -187,13 +187,12 @@ module _ {F C K : Type 0} (hook : Hook F C K) where
       → exec hook (run hook) (Some 9) (chosen (super_base {F = F} {C = C} {K = K} b {c = x} (Some (tk v m q))))
       (tk super_token n s ∷ (tk v m q ∷ us))
       ≡ super_tail hook b s x (tk v m q ∷ us)
-  unfolding super_tail super_head super_name_tail super_computed_tail super_args_tail args_inside inside eaten word
+  unfolding super_tail super_head super_name_tail super_computed_tail super_args_tail args_inside whole_inside eaten word
   super_second b x n s token.Dot m q [] = refl
   super_second b x n s token.Dot m q (u ∷ us) = name_one (any_name x u.token u.span) s x us
   super_second b x n s token.LBracket m q us =
       then_calls (run hook (at Expr) (with_in x) us) _ (λ e vs. super_close s q e x vs)
       (λ e vs. closes s q e x vs)
-      ∙ ap (λ v. v >>= (λ p. super_close s q p.0 x p.1)) (expr_assign hook (with_in x) us)
   super_second true x n s token.LParen m q us = calls (run hook (at (Args false)) (with_in x) us) _
   super_second false x n s token.LParen m q us = refl
   super_second true x n s v m q us = refl

@@ -15,7 +15,7 @@ use Rattle.swc_ast.specs.Tree.{Tree}
 use Rattle.swc_bodies.specs.Readings.{Hook, LawfulHook, begins, is_brace}
 use Rattle.swc_grammar.specs.Scope.{Scope, in_context}
 use Rattle.swc_grammar.specs.Rule.{gives, take, check}
-use Rattle.swc_grammar.specs.Symbols.{Expr, Assign, Key, Shell, block}
+use Rattle.swc_grammar.specs.Symbols.{Assign, Key, Shell, block}
 use Rattle.swc_grammar.specs.Tokens.{tk, with_in, is_word, is_lparen, is_rparen, is_lbracket, is_rbracket}
 use Rattle.swc_grammar.specs.Tokens.{method_params, method_block}
 use Rattle.swc_grammar.specs.Trees.{to, name_e, computed_e, function_e, block_e}
@@ -24,7 +24,6 @@ use Rattle.swc_grammar.specs.Names.{may_name}
 use Rattle.swc_grammar.specs.Clean.{Out, and_then, hear_then, first, no_error, sym as at, exec, step, rank_of, run}
 use Rattle.swc_grammar.specs.Words.{◌>>=◌, word}
 use Rattle.swc_grammar.proofs.Bodies.{hears, hears-place, hears-run}
-use Rattle.swc_grammar.proofs.Complete.{last}
 use Rattle.swc_grammar.proofs.Knot.{knot}
 use Rattle.swc_productions.specs.Keys.{expected_by, expected, is_key_lit, plain_key, key_close, computed_key}
 use Rattle.swc_productions.specs.Keys.{key_by, ends_params, no_params, parens_close, parens_tail, parens, params, method_body}
@@ -113,10 +112,6 @@ module _ {F C K : Type 0} where
   plain_key_unfit x (t ∷ ts) h = plain_key_not x (t ∷ ts) (error_word t.token h) (error_lit t.token h)
 
 module _ {F C K : Type 0} (hook : Hook F C K) where
-  -- an expression is an assignment expression
-  pub expr_assign : (x : Scope) (ts : List TokenAndSpan) → run hook (at Expr) x ts ≡ run hook (at Assign) x ts
-  expr_assign x ts = knot hook (at Expr) x ts ∙ last hook (Some 15) (at Assign) x ts refl
-
   -- behind the expression of a key
   closes : (s : Span) (e : Tree F C K) (x : Scope) (us : List TokenAndSpan)
       → exec hook (run hook) None (take (λ t. check (is_rbracket t.token) (gives (computed_e (to s t.span) e)))) us

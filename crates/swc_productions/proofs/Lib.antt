@@ -1,4 +1,5 @@
 pub mod Ahead
+pub mod Assignments
 pub mod Bases
 pub mod Begins
 pub mod Building
@@ -11,6 +12,7 @@ pub mod Making
 pub mod Methods
 pub mod Naming
 pub mod NextLink
+pub mod Parens
 pub mod Pieces
 pub mod PrivateNames
 pub mod PropKinds
@@ -20,4 +22,5 @@ pub mod Rules
 pub mod Signs
 pub mod Steps
 pub mod Templates
+pub mod Updates
 pub mod Words

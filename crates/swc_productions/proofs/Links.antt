@@ -55,9 +55,9 @@ use Rattle.swc_productions.specs.Links.{args_inside, call_tail, arg_item, args_b
 use Rattle.swc_productions.specs.Links.{last_by, last_comma, comma_behind, separated_args}
 use Rattle.swc_productions.specs.Lists.{eaten, closed, separated, behind, put_before}
 use Rattle.swc_productions.specs.Parsing.{tree_of, item_at}
-use Rattle.swc_productions.specs.Readers.{inside}
+use Rattle.swc_productions.specs.Readers.{whole_inside}
 use Rattle.swc_productions.proofs.Bases.{base_splits}
-use Rattle.swc_productions.proofs.Keys.{then_calls, then_token, expr_assign}
+use Rattle.swc_productions.proofs.Keys.{then_calls, then_token}
 use Rattle.swc_productions.proofs.Lists.{calls, binds, bind_same, twice, ended}
 
 abbrev new_token : Token
@@ -476,7 +476,7 @@ module _ {F C K : Type 0} (hook : Hook F C K) where
 
   pub tail_computed : (k : LinkHead) (s : Span) (o : Bool) (l : Tree F C K) (x : Scope) (ts : List TokenAndSpan)
       → k ≡ head.Computed s o
-      → link_tail hook k l x ts ≡ (inside hook x ts >>= (λ p. computed_close o s l p.0 x p.1))
+      → link_tail hook k l x ts ≡ (whole_inside hook x ts >>= (λ p. computed_close o s l p.0 x p.1))
   unfolding link_tail computed_tail
   tail_computed k s o l x ts h = rw h refl
 
@@ -606,11 +606,10 @@ module _ {F C K : Type 0} (hook : Hook F C K) where
 
   computed_reads : (o : Bool) (s : Span) (l : Tree F C K) (x : Scope) (us : List TokenAndSpan)
       → exec hook (run hook) None (plan (computed_side o l s x)) us ≡ computed_tail hook o s l x us
-  unfolding computed_tail inside
+  unfolding computed_tail whole_inside
   computed_reads o s l x us =
       then_calls (run hook (at Expr) (with_in x) us) _ (λ e vs. computed_close o s l e x vs)
       (λ e vs. closes o s l e x vs)
-      ∙ ap (λ v. v >>= (λ p. computed_close o s l p.0 x p.1)) (expr_assign hook (with_in x) us)
 
   call_reads : (o : Bool) (l : Tree F C K) (x : Scope) (us : List TokenAndSpan)
       → exec hook (run hook) None (plan (call_side o l x)) us ≡ call_tail hook o l x us

@@ -10,6 +10,7 @@ use Rattle.swc_context.specs.declared.context.Context.{Context}
 use Rattle.swc_context.specs.declared.operator.BinaryOp.{BinaryOp}
 use Rattle.swc_context.specs.declared.operator.UnaryOp.{UnaryOp}
 use Rattle.swc_context.specs.declared.span.Span.{Span}
+use Rattle.swc_context.specs.declared.word.Keyword.TheVariants as keyword
 use Rattle.swc_context.specs.declared.word.Word.TheVariants as written
 use Rattle.swc_input.specs.declared.token.Token.{Token}
 use Rattle.swc_input.specs.declared.token.Token.TheVariants as token
@@ -21,10 +22,10 @@ use Rattle.swc_grammar.specs.Scope.{Scope}
 use Rattle.swc_grammar.specs.Rule.{gives, take, check, read, given, ◌>>=◌ as ◌▸◌}
 use Rattle.swc_bodies.specs.Readings.{Hook, LawfulHook, begins, begins_function, is_class, is_function, is_async, is_brace}
 use Rattle.swc_bodies.specs.Readings.{is_function_here}
-use Rattle.swc_grammar.specs.Symbols.{Assign, Level, Unary, Lhs, Primary, Literal, Template, Side, function, class}
+use Rattle.swc_grammar.specs.Symbols.{Expr, Assign, Level, Unary, Lhs, Primary, Literal, Template, Side, function, class}
 use Rattle.swc_grammar.specs.Tokens.{is_backquote, is_slash, is_regex, begins_regex}
 use Rattle.swc_grammar.specs.Tokens.{tk, with_in, is_reference, ref_ok, is_put_off, prefix_of, is_lparen, is_rparen}
-use Rattle.swc_grammar.specs.Tokens.{is_this, is_lbracket}
+use Rattle.swc_grammar.specs.Tokens.{is_this, is_lbracket, is_backquote, is_update, is_await, is_yield}
 use Rattle.swc_grammar.specs.Names.{Spelling, spelling, may_refer, may_name, spelled}
 use Rattle.swc_grammar.specs.Trees.{to, ident_e, this_e, fn_e, class_e, private_e, unary_e, paren_e, bin_e, is_logical}
 use Rattle.swc_grammar.specs.Trees.{is_nullish_op}
@@ -34,7 +35,7 @@ use Rattle.swc_grammar.specs.Grammar.{ident-expr, this-expr, primary-literal, fn
 use Rattle.swc_grammar.specs.Grammar.{private-expr, primary-template}
 use Rattle.swc_grammar.specs.Clean.{Out, and_then, hear_then, first, sym as at, climb, plan, exec, is_lit, is_identifier}
 use Rattle.swc_grammar.specs.Clean.{no_error, operator_at, prefix_at, left_ok}
-use Rattle.swc_grammar.specs.Clean.{pick, unary_by, primary, bin_op as bin_op_plan, turn as turn_plan}
+use Rattle.swc_grammar.specs.Clean.{pick, chosen, step, begins_yield, primary, bin_op as bin_op_plan, turn as turn_plan}
 use Rattle.swc_grammar.specs.Clean.{turned as turned_plan, run}
 use Rattle.swc_grammar.specs.Words.{◌>>=◌, rest, one, word}
 use Rattle.swc_grammar.specs.Firsts.{begins_expression}
@@ -48,7 +49,6 @@ use Rattle.swc_grammar.proofs.Rules.{exec-bind, run_picked, reads_nothing}
 use Rattle.swc_productions.proofs.Lists.{calls}
 use Rattle.swc_productions.specs.Parsing.{is_strict, begins_async, seen_of}
 use Rattle.swc_productions.specs.Readers.{reading, by_production, inside, private_expr_tail, unary_op_tail, unary_op_node}
-use Rattle.swc_productions.specs.Readers.{paren_expr_tail, paren_expr_close, paren_expr_node}
 use Rattle.swc_productions.specs.Readers.{unary_op, turn, bin_op}
 use Rattle.swc_productions.specs.Readers.{bin_op_node, turned, go_on}
 
@@ -315,54 +315,27 @@ module _ {F C K : Type 0} (hook : Hook F C K) where
           ∙ ap (λ s. Some (class_e s p.0, p.1)) (sym (hears-place hook laws class x ts p.0 p.1 h))
           ∙ ap (λ o. o >>= (λ p. Some (class_e (class_at p.0) p.0, p.1))) (sym e)
 
-  -- ---- parentheses (13.2.9)
-
-  pub paren_expr_opens : (t : TokenAndSpan) (x : Scope) (ts : List TokenAndSpan) → is_lparen t.token ≡ true
-      → by_production hook (λ c. paren-expr) x (t ∷ ts) ≡ paren_expr_tail hook t.span x ts
-  unfolding by_production paren_expr_tail reading
-  paren_expr_opens t x ts h = rw h refl
-
-  pub paren_expr_splits : (s : Span) (x : Scope) (ts : List TokenAndSpan)
-      → paren_expr_tail hook s x ts ≡ (inside hook x ts >>= (λ p. paren_expr_close hook s p.0 p.1))
-  unfolding paren_expr_tail inside paren_expr_close reading
-  paren_expr_splits s x ts = calls (run hook (at Assign) (with_in x) ts) _
-
-  pub paren_expr_closes : (s : Span) (e : Tree F C K) (t : TokenAndSpan) (ts : List TokenAndSpan) → is_rparen t.token ≡ true
-      → paren_expr_close hook s e (t ∷ ts) ≡ paren_expr_node hook s t.span e ts
-  unfolding paren_expr_close paren_expr_node reading
-  paren_expr_closes s e t ts h = rw h refl
-
-  pub paren_expr_well : (s s' : Span) (e : Tree F C K) (ts : List TokenAndSpan) → no_cover_in e ≡ true
-      → paren_expr_node hook s s' e ts ≡ Some (paren_e (to s s') e, ts)
-  unfolding paren_expr_node reading
-  paren_expr_well s s' e ts h = rw h refl
-
-  pub paren_expr_ill : (s s' : Span) (e : Tree F C K) (ts : List TokenAndSpan) → no_cover_in e ≡ false
-      → paren_expr_node hook s s' e ts ≡ None
-  unfolding paren_expr_node reading
-  paren_expr_ill s s' e ts h = rw h refl
-
-  pub paren_expr_ends : (s : Span) (e : Tree F C K) (ts : List TokenAndSpan) → at_token is_rparen (first ts) ≡ false
-      → paren_expr_close hook s e ts ≡ None
-  unfolding paren_expr_close reading
-  paren_expr_ends s e [] h = refl
-  paren_expr_ends s e (t ∷ ts) h = rw h refl
-
   -- ---- prefix operators (13.5)
+
+  prefix_apart : (t : Token) (op : UnaryOp) → prefix_of t ≡ Some op → (is_update t ≡ false) × (is_await t ≡ false)
+  prefix_apart token.PlusPlus op h = absurd cc
+  prefix_apart token.MinusMinus op h = absurd cc
+  prefix_apart (token.Word (written.Keyword keyword.Await)) op h = absurd cc
+  prefix_apart t op h = (refl, refl)
+
+  prefix_chosen : (op : UnaryOp) (x : Scope) (t : TokenAndSpan) (ts : List TokenAndSpan) → prefix_of t.token ≡ Some op
+      → step {F = F} {C = C} {K = K} (at Unary) x (t ∷ ts) ≡ chosen (pick (unary-op {c = x}))
+  prefix_chosen op x t ts h = let (u, w) = prefix_apart t.token op h in rw (u, w, h) refl
 
   pub unary_op_picked : (op : UnaryOp) (x : Scope) (ts : List TokenAndSpan) → prefix_at (first ts) ≡ Some op
       → run hook (at Unary) x ts ≡ unary_op hook op x ts
   unfolding unary_op unary_op_tail reading
   unary_op_picked op x [] h = cc
   unary_op_picked op x (t ∷ ts) h =
-      run_picked hook Unary x (t ∷ ts) unary-op (unary_by (prefix_of t.token)) refl (ap unary_by h)
+      run_picked hook Unary x (t ∷ ts) unary-op (pick unary-op) (prefix_chosen op x t ts h) refl
       ∙ given_is (prefix_here t.token t.span) (op, t.span)
       (λ p. read Unary x (λ e. check (delete_ok x.context p.0 e) (gives (unary_e (to p.1 (span_of e)) p.0 e)))) ts
       (ap (λ o. with_place o t.span) h)
-
-  pub unary_left : (x : Scope) (ts : List TokenAndSpan) → prefix_at (first ts) ≡ None
-      → run hook (at Unary) x ts ≡ run hook (at (Lhs true)) x ts
-  unary_left x ts h = knot hook (at Unary) x ts ∙ rw h (last hook (Some 11) (at (Lhs true)) x ts refl)
 
   pub unary_op_opens : (op : UnaryOp) (t : TokenAndSpan) (x : Scope) (ts : List TokenAndSpan)
       → unary_op hook op x (t ∷ ts) ≡ unary_op_tail hook t.span op x ts
@@ -494,29 +467,19 @@ module _ {F C K : Type 0} (hook : Hook F C K) where
 
   -- ---- assignment expressions (13.15)
 
-  pub assign_good : (x : Scope) (ts : List TokenAndSpan) → at_token no_error (first ts) ≡ true
-      → run hook (at Assign) x ts ≡ run hook (at (Level 1)) x ts
-  assign_good x ts h = knot hook (at Assign) x ts ∙ rw h (last hook (Some 14) (at (Level 1)) x ts refl)
+  yield_unfit : (x : Scope) (ts : List TokenAndSpan) → at_token no_error (first ts) ≡ false
+      → begins_yield x ts ≡ false
+  yield_unfit x [] h = refl
+  yield_unfit x (t ∷ ts) h = by_token t.token h
+    where
+      by_token : (u : Token) → no_error u ≡ false → (is_yield u && x.context.in_generator) ≡ false
+      by_token (token.Error e) h = refl
+      by_token u h = absurd cc
 
   pub assign_bad : (x : Scope) (ts : List TokenAndSpan) → at_token no_error (first ts) ≡ false
       → run hook (at Assign) x ts ≡ None
-  assign_bad x ts h = knot hook (at Assign) x ts ∙ rw h refl
+  assign_bad x ts h = knot hook (at Assign) x ts ∙ rw (yield_unfit x ts h, h) refl
 
   pub inside_assign : (x : Scope) (ts : List TokenAndSpan) → inside hook x ts ≡ run hook (at Assign) (with_in x) ts
   unfolding inside
   inside_assign x ts = refl
-
--- `()`: the code refuses it by itself, and nothing is read there, since no expression begins with `)`
-rparen_none : (x : Scope) (ts : List TokenAndSpan) → at_token is_rparen (first ts) ≡ true
-    → at_token (begins_expression x) (first ts) ≡ false
-rparen_none x [] h = absurd cc
-rparen_none x (t ∷ ts) h = only-rparen (λ v. begins_expression x v ≡ false) refl t.token h
-
-pub paren_expr_empty : {F C K : Type 0} {fun_at : F → Span} {class_at : C → Span} {block_at : K → Span} (hook : Hook F C K)
-    → LawfulHook fun_at class_at block_at hook → (s : Span) (x : Scope) (ts : List TokenAndSpan)
-    → at_token is_rparen (first ts) ≡ true
-    → paren_expr_tail hook s x ts ≡ None
-paren_expr_empty hook laws s x ts h =
-    paren_expr_splits hook s x ts
-    ∙ ap (λ o. o >>= (λ p. paren_expr_close hook s p.0 p.1))
-    (inside_assign hook x ts ∙ reads_nothing hook laws Assign (with_in x) ts (rparen_none (with_in x) ts h))

@@ -715,6 +715,15 @@ module _ {S : Type 0} {model : Model S} where
       let q = k.passes refl in
       record { leads = leads_then h.leads k.leads; passes = λ w. (ap (λ v. v ++ k.leads.taken) p.0 ∙ q.0, q.1 ∙ p.1); notes = λ n l. cc }
 
+  pub checks_and : (p q : Bool) {b c d : Buffer S} → Checks model p b c → Checks model q c d → Checks model (p && q) b d
+  unfolding leads_then
+  checks_and false q h k = record { leads = leads_then h.leads k.leads; passes = λ w. cc; notes = λ n l. let a = h.notes refl l in let m = more_recorded k.leads in omega arith }
+  checks_and true false h k = record { leads = leads_then h.leads k.leads; passes = λ w. cc; notes = λ n l. let a = k.notes refl (loud_after h.leads l) in let m = more_recorded h.leads in omega arith }
+  checks_and true true h k =
+      let p = h.passes refl in
+      let q = k.passes refl in
+      record { leads = leads_then h.leads k.leads; passes = λ w. (ap (λ v. v ++ k.leads.taken) p.0 ∙ q.0, q.1 ∙ p.1); notes = λ n l. cc }
+
   -- a fault of modules: it is recorded there, and waits elsewhere
   pub checks_strict : (laws : Laws model) (b c : Buffer S) (e : Error) → Read model b [] c → ((context model b).ignore_error ≡ true → c ≡ b) →
       ((context model b).ignore_error ≡ false → model.state c.iter ≡ with_module_error e (model.state b.iter)) → Checks model (not (context model b).module) b c

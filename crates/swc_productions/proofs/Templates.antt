@@ -21,7 +21,7 @@ use Rattle.swc_bodies.specs.Readings.{Hook}
 use Rattle.swc_grammar.specs.Scope.{Scope}
 use Rattle.swc_grammar.specs.Rule.{gives, take, check, given, read, ◌>>=◌ as ◌▸◌}
 use Rattle.swc_grammar.specs.Parts.{cooked_of, text_by, text_of}
-use Rattle.swc_grammar.specs.Symbols.{Expr, Assign, Template, Parts, Side}
+use Rattle.swc_grammar.specs.Symbols.{Expr, Template, Parts, Side}
 use Rattle.swc_grammar.specs.Tokens.{with_in, is_backquote, is_dollar_brace, is_rbrace}
 use Rattle.swc_grammar.specs.Trees.{to, trees_append, text_e, parts_e, put_part, texts_of, exprs_of, tpl_e, tagged_e}
 use Rattle.swc_grammar.specs.Trees.{is_chain}
@@ -33,11 +33,11 @@ use Rattle.swc_nodes.proofs.Lists.{trees_append-assoc, trees_append-nil}
 use Rattle.swc_productions.specs.Keys.{expected}
 use Rattle.swc_productions.specs.Lists.{eaten}
 use Rattle.swc_productions.specs.Parsing.{Refuses, Here, seen, seen_of}
-use Rattle.swc_productions.specs.Readers.{inside}
+use Rattle.swc_productions.specs.Readers.{whole_inside}
 use Rattle.swc_productions.specs.Templates.{is_template, text_at, tpl_element, parts_before, tagged_node}
 use Rattle.swc_productions.specs.Templates.{tpl_end_by, tpl_end, tpl_expr_close, tpl_expr_tail, parts_behind, parts_by}
 use Rattle.swc_productions.specs.Templates.{parts_after, template_tail}
-use Rattle.swc_productions.proofs.Keys.{then_calls, then_token, expr_assign}
+use Rattle.swc_productions.proofs.Keys.{then_calls, then_token}
 use Rattle.swc_productions.proofs.Lists.{calls, binds, bind_same}
 use Rattle.swc_productions.proofs.Steps.{here_leads, leads_then, took_leads, spent, served_later}
 
@@ -184,12 +184,10 @@ module _ {F C K : Type 0} (hook : Hook F C K) where
       (λ e vs. exec hook (run hook) None (plan (parts_side is_tagged t e x)) vs)
       ≡ (tpl_expr_tail hook x us
       >>= (λ r. run hook (at (Parts is_tagged)) x r.1 >>= (λ w. Some (put_part t r.0 w.0, w.1))))
-  unfolding inside
+  unfolding whole_inside
   expr_rest is_tagged t x us =
-      ap (λ v. and_then v (λ e vs. exec hook (run hook) None (plan (parts_side is_tagged t e x)) vs))
-      (expr_assign hook (with_in x) us)
-      ∙ then_calls (run hook (at Assign) (with_in x) us) _ _ (λ e vs. parts_rest is_tagged t e x vs)
-      ∙ binds (run hook (at Assign) (with_in x) us) (λ p. tpl_expr_close hook p.0 x p.1) _
+      then_calls (run hook (at Expr) (with_in x) us) _ _ (λ e vs. parts_rest is_tagged t e x vs)
+      ∙ binds (run hook (at Expr) (with_in x) us) (λ p. tpl_expr_close hook p.0 x p.1) _
 
   more_rest : (is_tagged : Bool) (t : Tree F C K) (x : Scope) (us : List TokenAndSpan)
       → exec hook (run hook) None (plan (more_side is_tagged t x)) us

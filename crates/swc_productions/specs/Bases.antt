@@ -23,7 +23,7 @@ use Rattle.swc_productions.specs.declared.expr.base.SuperHead.TheVariants as hea
 use Rattle.swc_productions.specs.Keys.{expected}
 use Rattle.swc_productions.specs.Links.{args_inside}
 use Rattle.swc_productions.specs.Lists.{eaten}
-use Rattle.swc_productions.specs.Readers.{inside}
+use Rattle.swc_productions.specs.Readers.{whole_inside}
 
 -- whether `super` may have properties here
 abbrev pub here_by : Bool → List TokenAndSpan → Out (Unit {0})
@@ -118,7 +118,7 @@ module _ {F C K : Type 0} (hook : Hook F C K) where
 
   -- a property in brackets, in which `in` is an operator, behind the one at q
   unfoldable pub super_computed_tail : Span → Span → Scope → List TokenAndSpan → Out (Tree F C K)
-  super_computed_tail s q c ts = inside hook c ts >>= (λ p. super_close s q p.0 c p.1)
+  super_computed_tail s q c ts = whole_inside hook c ts >>= (λ p. super_close s q p.0 c p.1)
 
   -- a call, behind its parenthesis
   unfoldable pub super_args_tail : Span → Scope → List TokenAndSpan → Out (Tree F C K)

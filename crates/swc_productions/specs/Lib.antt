@@ -1,3 +1,4 @@
+pub mod Assignments
 pub mod Bases
 pub mod Begins
 pub mod Keys
@@ -10,3 +11,4 @@ pub mod Properties
 pub mod Readers
 pub mod Regexes
 pub mod Templates
+pub mod Updates

@@ -23,7 +23,7 @@ use Rattle.swc_productions.specs.declared.expr.LinkHead.{LinkHead}
 use Rattle.swc_productions.specs.declared.expr.LinkHead.TheVariants as head
 use Rattle.swc_productions.specs.Keys.{expected}
 use Rattle.swc_productions.specs.Lists.{eaten, separated, behind, put_before}
-use Rattle.swc_productions.specs.Readers.{inside}
+use Rattle.swc_productions.specs.Readers.{whole_inside}
 use Rattle.swc_productions.specs.Templates.{tagged_tail}
 
 -- the link of an optional chain, by the token behind its `?`
@@ -146,7 +146,7 @@ module _ {F C K : Type 0} where
 module _ {F C K : Type 0} (hook : Hook F C K) where
   -- a member in brackets, in which `in` is an operator, behind the one at s
   unfoldable pub computed_tail : Bool → Span → Tree F C K → Scope → List TokenAndSpan → Out (Tree F C K)
-  computed_tail o s l c ts = inside hook c ts >>= (λ p. computed_close o s l p.0 c p.1)
+  computed_tail o s l c ts = whole_inside hook c ts >>= (λ p. computed_close o s l p.0 c p.1)
 
   -- ---- arguments (13.3.8)
 

@@ -7,11 +7,11 @@ use Rattle.swc_context.specs.declared.span.Span.{Span}
 use Rattle.swc_input.specs.declared.token.TokenAndSpan.{TokenAndSpan}
 use Rattle.swc_ast.specs.Tree.{Tree, span_of}
 use Rattle.swc_grammar.specs.Scope.{Scope}
-use Rattle.swc_grammar.specs.Rule.{gives, check, ◌>>=◌, ◌>>◌, symbol, token, one, must}
+use Rattle.swc_grammar.specs.Rule.{gives, check, ◌>>=◌, ◌>>◌, symbol, one, must}
 use Rattle.swc_bodies.specs.Readings.{Hook}
-use Rattle.swc_grammar.specs.Symbols.{Symbol, Assign, Unary, Answer, Side}
-use Rattle.swc_grammar.specs.Tokens.{with_in, is_rparen}
-use Rattle.swc_grammar.specs.Trees.{to, private_e, unary_e, paren_e, bin_e, delete_ok, nullish_ok, no_cover_in}
+use Rattle.swc_grammar.specs.Symbols.{Symbol, Expr, Assign, Unary, Answer, Side}
+use Rattle.swc_grammar.specs.Tokens.{with_in}
+use Rattle.swc_grammar.specs.Trees.{to, private_e, unary_e, bin_e, delete_ok, nullish_ok}
 use Rattle.swc_grammar.specs.Parts.{any_name}
 use Rattle.swc_grammar.specs.Grammar.{Production}
 use Rattle.swc_grammar.specs.Clean.{Out, first, sym, climb, Plan, plan, exec, operator_at, run}
@@ -30,28 +30,6 @@ module _ {F C K : Type 0} (hook : Hook F C K) where
   unfoldable pub by_production : {s : Symbol} {r : Scope → Side F C K s} → ((c : Scope) → Production s c (r c))
       → Scope → List TokenAndSpan → Out (Answer F C K s)
   by_production {r = r} p c ts = reading (plan (r c)) ts
-
-  -- ---- parentheses (13.2.9)
-
-  -- behind the parenthesis at s, and behind the expression in it
-  unfoldable pub paren_expr_tail : Span → Scope → List TokenAndSpan → Out (Tree F C K)
-  paren_expr_tail s c ts = reading (plan (do
-    e ← symbol Assign (with_in c)
-    s' ← token is_rparen
-    must (no_cover_in e)
-    gives (paren_e (to s s') e))) ts
-
-  unfoldable pub paren_expr_close : Span → Tree F C K → List TokenAndSpan → Out (Tree F C K)
-  paren_expr_close s e ts = reading (plan (do
-    s' ← token is_rparen
-    must (no_cover_in e)
-    gives (paren_e (to s s') e))) ts
-
-  -- behind the closing parenthesis, at s'
-  unfoldable pub paren_expr_node : Span → Span → Tree F C K → List TokenAndSpan → Out (Tree F C K)
-  paren_expr_node s s' e ts = reading (plan (do
-    must (no_cover_in e)
-    gives (paren_e (to s s') e))) ts
 
   -- ---- prefix operators (13.5)
 
@@ -110,3 +88,9 @@ module _ {F C K : Type 0} (hook : Hook F C K) where
   -- an assignment expression in which `in` is an operator
   unfoldable pub inside : Scope → List TokenAndSpan → Out (Tree F C K)
   inside c ts = run hook (sym Assign) (with_in c) ts
+
+  -- ---- expressions (13.16)
+
+  -- an expression in which `in` is an operator
+  unfoldable pub whole_inside : Scope → List TokenAndSpan → Out (Tree F C K)
+  whole_inside c ts = run hook (sym Expr) (with_in c) ts

@@ -23,7 +23,7 @@ use Rattle.swc_nodes.specs.declared.nodes.Nodes.{Nodes}
 use Rattle.swc_productions.specs.declared.expr.tpl.TplParts.{TplParts}
 use Rattle.swc_productions.specs.Keys.{expected}
 use Rattle.swc_productions.specs.Lists.{eaten}
-use Rattle.swc_productions.specs.Readers.{inside}
+use Rattle.swc_productions.specs.Readers.{whole_inside}
 
 -- the tokens that are texts of templates
 abbrev pub is_template : Token → Bool
@@ -64,7 +64,7 @@ module _ {F C K : Type 0} (hook : Hook F C K) where
   tpl_expr_close e c ts = expected is_rbrace c ts >>= (λ q. Some (e, q.1))
 
   abbrev pub tpl_expr_tail : Scope → List TokenAndSpan → Out (Tree F C K)
-  tpl_expr_tail c ts = inside hook c ts >>= (λ p. tpl_expr_close p.0 c p.1)
+  tpl_expr_tail c ts = whole_inside hook c ts >>= (λ p. tpl_expr_close p.0 c p.1)
 
   -- Behind some texts, and as many expressions: those that are left, to where the template is closed.
   unfoldable pub parts_behind : Bool → Trees F C K → Trees F C K → Scope → List TokenAndSpan → Out (Tree F C K)

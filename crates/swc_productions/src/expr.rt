@@ -1,28 +1,31 @@
 // Expressions (ECMA-262, 13).
-ghost use Rattle.std.specs.Prelude.{◌≡◌, ◌<◌, ◌≤◌, ◌++◌, true, false, not, ◌&&◌, None, Some, OnOk, IfOk, IfErr};
-ghost use Rattle.std.specs.Prelude.{IsSome};
-ghost use Rattle.std.specs.Prelude.{MatchOption};
+ghost use Rattle.std.specs.Prelude.{ℕ, length, ◌≡◌, ◌≢◌, ◌<◌, ◌≤◌, ◌++◌, true, false, not, ◌&&◌, None, Some, OnOk, IfOk, IfErr};
+ghost use Rattle.std.specs.Prelude.{IsSome, MatchOption};
+ghost use Rattle.swc_ast.specs.Parts.{item_trees};
+ghost use Rattle.swc_context.specs.declared.error.SyntaxError.TheVariants.{OutOfMemory};
+ghost use Rattle.swc_input.specs.Recording.{is_some};
 ghost use Rattle.swc_input.specs.Buffer.{current, peeked, to_come, context, Peeked};
 ghost use Rattle.swc_input.specs.Plain.{plain_token};
 ghost use Rattle.swc_input.specs.Kinds.{at_token, is_hash};
-ghost use Rattle.swc_grammar.specs.Symbols.{Expr, Assign, Lhs, Primary, Literal, Elements, Item};
+ghost use Rattle.swc_grammar.specs.Symbols.{Lhs, Primary, Literal, Elements, Item};
 ghost use Rattle.swc_grammar.specs.Tokens.{is_lparen, is_lbracket, is_this, is_new, new_target_ok, begins_regex};
 ghost use Rattle.swc_bodies.specs.Readings.{at_function, is_class};
 ghost use Rattle.swc_grammar.specs.Parts.{lit_of};
 ghost use Rattle.swc_grammar.specs.Grammar as grammar;
 ghost use Rattle.swc_grammar.specs.Clean.{sym, links, run, first, is_lit, is_identifier};
-ghost use Rattle.swc_grammar.specs.Trees.{no_cover_in, is_chain};
+ghost use Rattle.swc_grammar.specs.Trees.{no_cover_in, no_covers, no_spread, paren_ok, is_chain};
 ghost use Rattle.swc_grammar.specs.Words.{rest};
 ghost use Rattle.swc_nodes.specs.Lists.{is_cover_prop, has_cover};
 ghost use Rattle.swc_nodes.specs.Slots.{expr_part, one_expr, args_parts};
 ghost use Rattle.swc_nodes.specs.Stands.{count, first_at, Apart, From};
-ghost use Rattle.swc_productions.specs.Readers.{by_production, inside};
+ghost use Rattle.swc_productions.specs.Assignments.{paren_of};
+ghost use Rattle.swc_productions.specs.Readers.{by_production};
 ghost use Rattle.swc_productions.specs.Lists.{element};
 ghost use Rattle.swc_productions.specs.Links.{link_at, link_here, chain_at, chain_head, head_of, link_head};
 ghost use Rattle.swc_productions.specs.Links.{member_name, dot_tail, computed_close, call_node, link_tail};
 ghost use Rattle.swc_productions.specs.Links.{new_lhs, target_tail, construct_tail, new_node};
 ghost use Rattle.swc_productions.specs.Parsing.{lit_in, seen, ParsesAlone, ContinuesAlone, Produces, GoesOn, Checked};
-ghost use Rattle.swc_productions.specs.Parsing.{Refuses, Tells, TookLiteral};
+ghost use Rattle.swc_productions.specs.Parsing.{Refuses, Tells, TookLiteral, Checks};
 ghost use Rattle.swc_productions.specs.Regexes.{regex_expr};
 ghost use Rattle.swc_productions.specs.Parsing.{itself, tree_of, item_of, item_at, elem_of, elem_at, elems_of};
 ghost use Rattle.swc_productions.specs.Parsing.{elems_at, args_at, member_name_of, member_name_at};
@@ -52,6 +55,7 @@ use swc_nodes::node::{ExprId, PropNode};
 use swc_nodes::nodes::{Nodes, NodesOf};
 
 mod args;
+mod assign;
 mod base;
 mod ops;
 mod pieces;
@@ -89,24 +93,6 @@ pub(crate) enum LinkHead {
 }
 
 impl<I: Tokens, B: Bodies<I>> Productions<I, B> {
-    /// An expression (ECMA-262, 13.16).
-    pub fn parse_expr(&mut self) -> PResult<ExprId>
-        ensures { Produces I.model B.is_faithful itself tree_of (run B.forms (sym Expr))
-            (count self.old.nodes) self.old result self.new }
-    {
-        self.parse_assignment_expr()
-    }
-
-    /// An assignment expression (ECMA-262, 13.15).
-    #[cycle(productions)]
-    pub fn parse_assignment_expr(&mut self) -> PResult<ExprId>
-        ensures { Produces I.model B.is_faithful itself tree_of (run B.forms (sym Assign))
-            (count self.old.nodes) self.old result self.new }
-    {
-        require_cur(&mut self.input)?;
-        self.parse_bin_expr()
-    }
-
     /// A primary expression (ECMA-262, 13.2).
     #[cycle(productions)]
     pub(crate) fn parse_primary_expr(&mut self) -> PResult<ExprId>
@@ -282,50 +268,33 @@ impl<I: Tokens, B: Bodies<I>> Productions<I, B> {
         made(&self.input, node)
     }
 
-    /// An expression in parentheses (ECMA-262, 13.2.9).
+    /// Expressions in parentheses (ECMA-262, 13.2.9), as a list like that of arguments has them.
     #[cycle(productions)]
     fn parse_paren_expr(&mut self) -> PResult<ExprId>
         requires { at_token is_lparen (seen self.old.input) ≡ true }
         ensures { Produces I.model B.is_faithful itself tree_of (by_production B.forms (λ c. grammar.paren-expr))
             (count self.old.nodes) self.old result self.new }
     {
-        let start = self.input.cur_span().lo;
+        let start = self.input.cur_span();
         skip(&mut self.input);
-        look(&mut self.input)?;
-        if self.is_rparen() {
-            skip(&mut self.input);
-            let span = Span::new(start, self.input.last_pos());
-            return Err(syntax_error(&mut self.input, span, SyntaxError::EmptyParenExpr));
-        }
-        let expr = self.parse_assignment_expr_with_in()?;
-        look(&mut self.input)?;
-        if !self.is_rparen() {
-            return Err(unexpected(&mut self.input, SyntaxError::Expected(")")));
-        }
-        skip(&mut self.input);
-        let end = self.input.last_pos();
-        check_cover_names::<I, B>(&mut self.input, &self.nodes, expr)?;
-        let node = self.nodes.paren_expr(start, end, expr);
-        made(&self.input, node)
+        let list = self.parse_args(false)?;
+        self.paren_items(start, list)
     }
 
-    /// An assignment expression in which `in` counts as an operator.
-    #[cycle(productions)]
-    pub(crate) fn parse_assignment_expr_with_in(&mut self) -> PResult<ExprId>
-        ensures { Produces I.model B.is_faithful itself tree_of (inside B.forms)
-            (count self.old.nodes) self.old result self.new }
+    /// What stands in parentheses, of a list from the one at `start` on: one expression by itself, or a sequence. An
+    /// object literal among them with a property `name = value` is recorded, and so is a comma behind the last one; an
+    /// empty list is refused, and so is an expression behind dots.
+    fn paren_items(&mut self, start: Span, list: Listed<ExprOrSpread<ExprId>>) -> PResult<ExprId>
+        requires apart { Apart 0 self.old.nodes (args_parts list.items) }
+        ensures { (k : ℕ) → Apart k self.old.nodes (args_parts list.items) → GoesOn I.model B.is_faithful itself tree_of
+            (λ c ts. paren_of start (args_at self.old.nodes list) ts) k self.old result self.new }
     {
-        let ctx = self.input.get_ctx();
-        set_ctx(
-            &mut self.input,
-            Context {
-                include_in_expr: true,
-                ..ctx
-            },
-        );
-        let expr = self.parse_assignment_expr();
-        set_ctx(&mut self.input, ctx);
-        expr
+        check_paren_items::<I, B>(&mut self.input, &self.nodes, start, &list)?;
+        let end = list.end.hi;
+        let node = self.nodes.seq_of_items(list.items);
+        let expr = made(&self.input, node)?;
+        let node = self.nodes.paren_expr(start.lo, end, expr);
+        made(&self.input, node)
     }
 
     /// A left-hand side (ECMA-262, 13.3); with `no_call`, a parenthesis is no link of it, but that of `new`.
@@ -445,7 +414,7 @@ impl<I: Tokens, B: Bodies<I>> Productions<I, B> {
         match head {
             LinkHead::Name { optional } => self.parse_dot_member(obj, optional),
             LinkHead::Computed { start, optional } => {
-                let expr = self.parse_assignment_expr_with_in()?;
+                let expr = self.parse_expr_with_in()?;
                 self.computed_member(obj, start, expr, optional)
             }
             LinkHead::Call { optional } => {
@@ -742,6 +711,78 @@ fn check_strict_word<I: Tokens>(
     }
     let sym = copy_of(input, &ident.sym)?;
     emit_strict_mode_err(input, ident.span, SyntaxError::InvalidIdentInStrict(sym))
+}
+
+/// Records and refuses what can't stand in parentheses, of a list from the one at `start` on.
+fn check_paren_items<I: Tokens, B: Bodies<I>>(
+    input: &mut Buffer<I>,
+    nodes: &NodesOf<B>,
+    start: Span,
+    list: &Listed<ExprOrSpread<ExprId>>,
+) -> PResult<()>
+    requires { Apart 0 nodes.now (args_parts list.now.items) }
+    ensures checks { OnOk result (Checks I.model (paren_ok (args_at nodes.now list.now)) input.old input.new) }
+    ensures some { OnOk result (1 ≤ length list.now.items.items) }
+    ensures refuses { IfErr result (λ e. Refuses I.model input.old e input.new
+        × (e.kind ≢ OutOfMemory → paren_ok (args_at nodes.now list.now) ≡ false)) }
+    ensures falls { OnOk result (to_come I.model input.new ≤ to_come I.model input.old) }
+{
+    check_item_covers::<I, B>(input, nodes, &list.items)?;
+    if list.items.is_empty() {
+        let span = Span::new(start.lo, list.end.hi);
+        return Err(syntax_error(input, span, SyntaxError::EmptyParenExpr));
+    }
+    check_last_comma(input, list.trailing_comma)?;
+    refuse_spread::<I, B>(input, nodes, &list.items)
+}
+
+/// Records each property `name = value` of the object literals among the items of a list, in their order.
+fn check_item_covers<I: Tokens, B: Bodies<I>>(
+    input: &mut Buffer<I>,
+    nodes: &NodesOf<B>,
+    items: &Vec<ExprOrSpread<ExprId>>,
+) -> PResult<()>
+    requires { Apart 0 nodes.now (args_parts items.now) }
+    ensures checks { Checked I.model (no_covers (item_trees (tree_of nodes.now) items.now.items))
+        input.old result input.new }
+    ensures falls { OnOk result (to_come I.model input.new ≤ to_come I.model input.old) }
+{
+    for item in items {
+        check_cover_names::<I, B>(input, nodes, item.expr)?;
+    }
+    Ok(())
+}
+
+/// Records a comma behind the last expression in parentheses.
+fn check_last_comma<I: Tokens>(input: &mut Buffer<I>, comma: Option<Span>) -> PResult<()>
+    ensures checks { Checked I.model (not (is_some comma)) input.old result input.new }
+    ensures falls { OnOk result (to_come I.model input.new ≤ to_come I.model input.old) }
+{
+    match comma {
+        Some(span) => emit_err(input, span, SyntaxError::TS1109),
+        None => Ok(()),
+    }
+}
+
+/// Refuses the first item of a list that stands behind dots, at its expression.
+fn refuse_spread<I: Tokens, B: Bodies<I>>(
+    input: &mut Buffer<I>,
+    nodes: &NodesOf<B>,
+    items: &Vec<ExprOrSpread<ExprId>>,
+) -> PResult<()>
+    requires { Apart 0 nodes.now (args_parts items.now) }
+    ensures passes { OnOk result ((input.new ≡ input.old)
+        × (no_spread (item_trees (tree_of nodes.now) items.now.items) ≡ true)) }
+    ensures refuses { IfErr result (λ e. Refuses I.model input.old e input.new
+        × (no_spread (item_trees (tree_of nodes.now) items.now.items) ≡ false)) }
+{
+    for item in items {
+        if item.spread.is_some() {
+            let span = nodes.span(item.expr);
+            return Err(syntax_error(input, span, SyntaxError::SpreadInParenExpr));
+        }
+    }
+    Ok(())
 }
 
 /// Records each property `name = value` of an object literal, in their order, at their places. Of any other expression

@@ -20,6 +20,7 @@ ghost use Rattle.swc_productions.specs.Keys.{expected};
 ghost use Rattle.swc_nodes.specs.Commas.{Remembers};
 ghost use Rattle.swc_productions.specs.Links.{hash_name};
 ghost use Rattle.swc_productions.specs.Regexes.{SkipsSlash};
+ghost use Rattle.swc_productions.specs.Updates.{breaks_at};
 ghost use Rattle.swc_productions.specs.Lists.{is_named, is_sign_token, separated, closed};
 
 use std::alloc::{AllocError, Global};
@@ -59,6 +60,15 @@ pub(crate) fn cur_pos<I: Tokens>(input: &mut Buffer<I>) -> PResult<BytePos>
     } else {
         Ok(input.last_pos())
     }
+}
+
+/// Whether a line break stands before the current token; true at the end. Refused only for want of memory.
+pub(crate) fn is_after_line_break<I: Tokens>(input: &mut Buffer<I>) -> PResult<bool>
+    ensures looks { Looks I.model input.old result input.new }
+    ensures value { IfOk result (λ r. r ≡ breaks_at (seen input.new)) }
+    ensures falls { to_come I.model input.new ≤ to_come I.model input.old }
+{
+    Ok(!look(input)? || input.had_line_break_before_cur())
 }
 
 /// Whether `async` is current, and behind it, on the same line, `function`. Refused only for want of memory.
@@ -578,17 +588,49 @@ pub(crate) fn label_spread<I: Tokens>(
     ensures memory { error.kind ≡ OutOfMemory → result.kind ≡ OutOfMemory }
 {
     match spread {
-        Some(span) if !is_out_of_memory(&error) => labelled(alloc, input, span, error),
+        Some(span) if !is_out_of_memory(&error) => {
+            let note = "An expression should follow '...'";
+            labelled(alloc, input, span, note, error)
+        }
         _ => error,
     }
 }
 
+/// The refusal of an operand of `yield`, labelled with the place of that, and of a `*` behind it; want of memory stays
+/// as it is.
+pub(crate) fn label_yield<I: Tokens>(
+    alloc: Global,
+    input: &Buffer<I>,
+    span: Span,
+    error: Error,
+) -> Error
+    requires { error.kind ≢ ParserFailed }
+    ensures kind { result.kind ≢ ParserFailed }
+    ensures memory { error.kind ≡ OutOfMemory → result.kind ≡ OutOfMemory }
+{
+    if is_out_of_memory(&error) {
+        return error;
+    }
+    labelled(
+        alloc,
+        input,
+        span,
+        "Tried to parse an argument of yield",
+        error,
+    )
+}
+
 /// The error, with a note on what stands at the place.
-fn labelled<I: Tokens>(alloc: Global, input: &Buffer<I>, span: Span, error: Error) -> Error
+fn labelled<I: Tokens>(
+    alloc: Global,
+    input: &Buffer<I>,
+    span: Span,
+    note: &'static str,
+    error: Error,
+) -> Error
     ensures kind { result.kind ≢ ParserFailed }
 {
     let at = error.span();
-    let note = "An expression should follow '...'";
     match Box::new(alloc, error) {
         Ok(inner) => Error::new(at, SyntaxError::WithLabel { inner, span, note }),
         Err(_) => input.out_of_memory(),

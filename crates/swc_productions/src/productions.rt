@@ -194,13 +194,12 @@ impl<I: Tokens, B: Bodies<I>> Productions<I, B> {
     }
 }
 
-/// Whether a word other than `let` and `await` is an expression by itself.
+/// Whether the word is an expression by itself.
 fn is_identifier_word(ctx: Context, word: &Word) -> bool
     ensures { result ≡ is_ref ctx word.now }
 {
     match word {
         Word::Keyword(Keyword::Let) => true,
-        Word::Keyword(Keyword::Await) => false,
         Word::Ident(name) => !ctx.is_reserved(word) && name.as_str() != "async",
         _ => !ctx.is_reserved(word),
     }

@@ -1,12 +1,19 @@
 // Arguments and templates, as calls of a parser.
+ghost use Rattle.std.specs.Prelude.{◌≡◌, false, Ok, Err, IfOk, MatchResult};
 ghost use Rattle.swc_grammar.specs.Symbols.{Arguments, Template};
-ghost use Rattle.swc_ecma_parser.specs.Promise.{Promised, args_in_boxes, tpl_in_boxes};
+ghost use Rattle.swc_ecma_parser.specs.Promise.{Promised, args_in_boxes, list_in_boxes, tpl_in_boxes};
 
 use crate::parser::Parser;
 use swc_ast::expr::{ExprOrSpread, Tpl};
 use swc_bodies::bodies::{Bodies, ExprOf};
 use swc_context::error::PResult;
+use swc_context::span::Span;
 use swc_input::tokens::Tokens;
+use swc_nodes::node::ExprId;
+use swc_productions::moves::Listed;
+
+/// A list in parentheses, over a hook's values, and the place of the comma behind its last item.
+pub type ArgsOrPatsOf<B> = (Vec<ExprOrSpread<Box<ExprOf<B>>>>, Option<Span>);
 
 impl<I: Tokens, B: Bodies<I>> Parser<I, B> {
     /// Arguments (ECMA-262, 13.3.8), from `(` through the `)` that closes them: expressions, and spreads, in which `in`
@@ -32,6 +39,25 @@ impl<I: Tokens, B: Bodies<I>> Parser<I, B> {
         self.finish(answer)
     }
 
+    /// A list in parentheses, from `(` through the `)` that closes it, with the place of a comma behind the last item:
+    /// expressions, and spreads, in which `in` is an operator. It is read as arguments are, and is what parameters of an
+    /// arrow function, an expression in parentheses (ECMA-262, 13.2.9) and arguments of a call of `async` have in common;
+    /// none of what these forbid is looked at.
+    ///
+    /// It refuses what `parse_args` does.
+    pub fn parse_args_or_pats(&mut self) -> PResult<ArgsOrPatsOf<B>>
+        ensures promised { Promised I.model B.is_faithful B.forms list_in_boxes (Arguments false)
+            self.old result self.new }
+    {
+        self.begin()?;
+        let start = self.productions.nodes.len();
+        let answer = self.productions.parse_arguments(false);
+        let comma = last_comma(&answer);
+        let answer = self.move_out(start, answer);
+        let answer = with_comma(answer, comma);
+        self.finish(answer)
+    }
+
     /// A template (ECMA-262, 13.2.8), from its backquote through the one that closes it: texts, and between each two
     /// of them an expression in `${` and `}`, in which `in` is an operator. Where it `is_tagged` (13.3.11), a text
     /// may have a bad escape: `cooked` is none then.
@@ -49,5 +75,25 @@ impl<I: Tokens, B: Bodies<I>> Parser<I, B> {
         let answer = self.productions.parse_template(is_tagged);
         let answer = self.move_out(start, answer);
         self.finish(answer)
+    }
+}
+
+/// The place of the comma behind the last item of a list that was read.
+fn last_comma(answer: &PResult<Listed<ExprOrSpread<ExprId>>>) -> Option<Span>
+    ensures { IfOk answer.now (λ l. result ≡ l.trailing_comma) }
+{
+    match answer {
+        Ok(list) => list.trailing_comma,
+        Err(_) => None,
+    }
+}
+
+/// A list, with the place of a comma beside it.
+fn with_comma<T>(answer: PResult<T>, comma: Option<Span>) -> PResult<(T, Option<Span>)>
+    ensures { MatchResult answer (λ t. result ≡ Ok (t, comma)) (λ e. result ≡ Err e) }
+{
+    match answer {
+        Ok(list) => Ok((list, comma)),
+        Err(error) => Err(error),
     }
 }

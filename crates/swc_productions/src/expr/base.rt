@@ -88,7 +88,7 @@ impl<I: Tokens, B: Bodies<I>> Productions<I, B> {
         match super_head(&mut self.input, no_call)? {
             SuperHead::Name => self.parse_super_name(start),
             SuperHead::Computed(bracket) => {
-                let expr = self.parse_assignment_expr_with_in()?;
+                let expr = self.parse_expr_with_in()?;
                 self.super_computed(start, bracket, expr)
             }
             SuperHead::Call => {
@@ -168,7 +168,7 @@ impl<I: Tokens, B: Bodies<I>> Productions<I, B> {
         match super_chain(&mut self.input, no_call)? {
             SuperChain::Name => self.refuse_super_name(no_call),
             SuperChain::Computed => {
-                self.parse_assignment_expr_with_in()?;
+                self.parse_expr_with_in()?;
                 Err(refuse_super_brackets(&mut self.input, no_call))
             }
             SuperChain::Call => {

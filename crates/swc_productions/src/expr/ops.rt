@@ -1,27 +1,36 @@
-// Binary and unary operators (ECMA-262, 13.5 to 13.13).
-ghost use Rattle.std.specs.Prelude.{◌+◌, ◌≡◌, ◌≢◌, ◌<◌, ◌≤◌, true, false, not, ◌&&◌, OnOk, IfOk, IfErr, IsSome};
+// Binary and unary operators, `++`, `--` and `await` (ECMA-262, 13.4 to 13.13 and 15.8).
+ghost use Rattle.std.specs.Prelude.{◌+◌, ◌≡◌, ◌≢◌, ◌<◌, ◌≤◌, true, false, not, ◌&&◌, codes, OnOk, IfOk, IfErr, IsSome};
 ghost use Rattle.swc_context.specs.declared.error.SyntaxError.TheVariants.{OutOfMemory, ParserFailed, TS1109};
-ghost use Rattle.swc_input.specs.Buffer.{current, context, to_come};
+ghost use Rattle.swc_input.specs.Buffer.{current, context, last_position, to_come};
+ghost use Rattle.swc_input.specs.Recording.{no_memory};
+ghost use Rattle.swc_ast.specs.Targets.{is_target};
 ghost use Rattle.swc_input.specs.Kinds.{at_token};
 ghost use Rattle.swc_grammar.specs.Trees as trees;
 ghost use Rattle.swc_grammar.specs.Symbols.{Level, Unary};
-ghost use Rattle.swc_grammar.specs.Clean.{sym, climb, run, operator_at, prefix_at, no_error, left_ok};
+ghost use Rattle.swc_grammar.specs.Tokens.{is_await as is_await_word, await_ok, await_ident_ok, ends_operand};
+ghost use Rattle.swc_grammar.specs.Clean.{sym, updates, climb, run, operator_at, prefix_at, no_error, left_ok};
+ghost use Rattle.swc_grammar.specs.Clean.{ends_await_at};
 ghost use Rattle.swc_nodes.specs.Slots.{expr_part};
 ghost use Rattle.swc_nodes.specs.Stands.{count, first_at, From};
 ghost use Rattle.swc_productions.specs.Readers.{turn, bin_op, bin_op_node, unary_op, unary_op_node};
 ghost use Rattle.swc_productions.specs.Parsing.{seen, behind, Refuses, Acts, Tries, Looks, Produces, GoesOn};
 ghost use Rattle.swc_productions.specs.Parsing.{Recovers, Checked, itself, bin_op_of, operand_of, tree_of};
 ghost use Rattle.swc_productions.specs.Parsing.{bin_op_at};
+ghost use Rattle.swc_productions.specs.Updates.{update_at, update_behind, update_prefix, await_ident, await_operand};
+ghost use Rattle.swc_productions.specs.Updates.{await_expr};
 
 use crate::moves::{
-    cur_pos, emit_err, emit_error, emit_strict_mode_err, is_out_of_memory, look, made, skip,
-    syntax_error,
+    Sign, cur_pos, emit_err, emit_error, emit_strict_mode_err, is_after_line_break,
+    is_out_of_memory, is_sign, look, made, skip, syntax_error,
 };
 use crate::productions::Productions;
+use std::alloc::Global;
+use swc_ast::ident::Ident;
 use swc_ast::spanned::Spanned;
 use swc_bodies::bodies::Bodies;
+use swc_context::atom::Atom;
 use swc_context::error::{Error, PResult, SyntaxError};
-use swc_context::operator::{BinOpToken, BinaryOp, UnaryOp};
+use swc_context::operator::{BinOpToken, BinaryOp, UnaryOp, UpdateOp};
 use swc_context::span::{BytePos, Span};
 use swc_context::word::{Keyword, Word};
 use swc_input::buffer::Buffer;
@@ -170,18 +179,102 @@ impl<I: Tokens, B: Bodies<I>> Productions<I, B> {
         Ok((node, Some(min_prec)))
     }
 
-    /// A unary expression (ECMA-262, 13.5): so far, a left-hand side with any number of prefix operators before it,
-    /// but for `++`, `--` and `await`.
+    /// A unary expression (ECMA-262, 13.5): `++`, `--`, another prefix operator or `await`, and its operand; or a
+    /// left-hand side, and `++` or `--` behind it on the same line.
     #[cycle(productions)]
     pub fn parse_unary_expr(&mut self) -> PResult<ExprId>
         ensures { Produces I.model B.is_faithful itself tree_of (run B.forms (sym Unary))
             (count self.old.nodes) self.old result self.new }
     {
         look(&mut self.input)?;
-        match cur_prefix_op(&self.input) {
-            Some(op) => self.parse_unary_op(op),
-            None => self.parse_lhs_expr(false),
+        match cur_update_op(&self.input) {
+            Some(op) => return self.parse_update_prefix(op),
+            None => {}
         }
+        match cur_prefix_op(&self.input) {
+            Some(op) => return self.parse_unary_op(op),
+            None => {}
+        }
+        if is_await(&self.input) {
+            return self.parse_await_expr();
+        }
+        let expr = self.parse_lhs_expr(false)?;
+        self.parse_update_postfix(expr)
+    }
+
+    /// `++` or `--` (ECMA-262, 13.4), which is current, and its operand.
+    #[cycle(productions)]
+    fn parse_update_prefix(&mut self, op: UpdateOp) -> PResult<ExprId>
+        requires { IsSome (current self.old.input) }
+        ensures { Produces I.model B.is_faithful itself tree_of (update_prefix B.forms op)
+            (count self.old.nodes) self.old result self.new }
+    {
+        let start = self.input.cur_span().lo;
+        skip(&mut self.input);
+        let arg = self.parse_unary_expr()?;
+        check_update_target::<I, B>(&mut self.input, &self.nodes, arg)?;
+        let node = self.nodes.update_prefix(start, op, arg);
+        made(&self.input, node)
+    }
+
+    /// Reads on after a left-hand side: `++` or `--` (ECMA-262, 13.4) on the same line, or nothing.
+    fn parse_update_postfix(&mut self, expr: ExprId) -> PResult<ExprId>
+        requires from { From 0 self.old.nodes (expr_part expr) }
+        ensures { GoesOn I.model B.is_faithful itself tree_of (run B.forms (updates (tree_of self.old.nodes expr)))
+            (first_at self.old.nodes expr.0) self.old result self.new }
+    {
+        let op = match update_behind_cur(&mut self.input)? {
+            Some(op) => op,
+            None => return Ok(expr),
+        };
+        check_update_target::<I, B>(&mut self.input, &self.nodes, expr)?;
+        skip(&mut self.input);
+        let end = self.input.last_pos();
+        let node = self.nodes.update_postfix(op, expr, end);
+        made(&self.input, node)
+    }
+
+    /// `await` (ECMA-262, 15.8), which is current, and its operand; or the identifier `await`. A `*` behind it is refused.
+    #[cycle(productions)]
+    fn parse_await_expr(&mut self) -> PResult<ExprId>
+        requires { IsSome (current self.old.input) }
+        ensures { Produces I.model B.is_faithful itself tree_of (await_expr B.forms)
+            (count self.old.nodes) self.old result self.new }
+    {
+        let start = self.input.cur_span();
+        skip(&mut self.input);
+        look(&mut self.input)?;
+        if is_sign(&self.input, Sign::Star) {
+            let span = self.input.cur_span();
+            return Err(syntax_error(&mut self.input, span, SyntaxError::AwaitStar));
+        }
+        if is_await_ident(&mut self.input)? {
+            return self.parse_await_ident(start);
+        }
+        self.parse_await_operand(start)
+    }
+
+    /// The operand of the `await` at `start` (ECMA-262, 15.8). Where it is no operator, that is recorded.
+    #[cycle(productions)]
+    fn parse_await_operand(&mut self, start: Span) -> PResult<ExprId>
+        ensures { Produces I.model B.is_faithful itself tree_of (await_operand B.forms start)
+            (count self.old.nodes) self.old result self.new }
+    {
+        check_await(&mut self.input, start)?;
+        let arg = self.parse_unary_expr()?;
+        let node = self.nodes.await_expr(start.lo, arg);
+        made(&self.input, node)
+    }
+
+    /// The identifier `await` (ECMA-262, 13.1), which stands at `start`. In a module it is recorded.
+    fn parse_await_ident(&mut self, start: Span) -> PResult<ExprId>
+        ensures { GoesOn I.model B.is_faithful itself tree_of (λ c ts. await_ident start c ts)
+            (count self.old.nodes) self.old result self.new }
+    {
+        check_await_ident(&mut self.input, start)?;
+        let sym = text_of(self.alloc, &self.input, "await")?;
+        let node = self.nodes.ident_expr(Ident { span: start, sym });
+        made(&self.input, node)
     }
 
     /// A prefix operator, which is current, and its operand. A refused operand is recorded, unless that is want of
@@ -305,7 +398,134 @@ fn cur_binary_op<I: Tokens>(input: &Buffer<I>) -> Option<BinaryOp>
     }
 }
 
-/// The prefix operator that the current token is: so far, none of `++`, `--` and `await`.
+/// Whether `await` is current.
+fn is_await<I: Tokens>(input: &Buffer<I>) -> bool
+    ensures value { result ≡ at_token is_await_word (seen input.now) }
+    ensures some { result ≡ true → IsSome (current input.now) }
+{
+    match input.cur_debug() {
+        Some(token) => is_await_token(token),
+        None => false,
+    }
+}
+
+/// Whether the token is the word `await`.
+fn is_await_token(token: &Token) -> bool
+    ensures { result ≡ is_await_word token.now }
+{
+    matches!(token, Token::Word(Word::Keyword(Keyword::Await)))
+}
+
+/// Whether `await`, which was consumed, is an identifier: outside async code, where no operand follows. Refused only for
+/// want of memory.
+fn is_await_ident<I: Tokens>(input: &mut Buffer<I>) -> PResult<bool>
+    ensures looks { Looks I.model input.old result input.new }
+    ensures value { IfOk result
+        (λ r. r ≡ (not (context I.model input.new).in_async && ends_await_at (seen input.new))) }
+    ensures falls { OnOk result (to_come I.model input.new ≤ to_come I.model input.old) }
+{
+    let is_async = input.get_ctx().in_async;
+    let ends = is_after_line_break(input)? || is_operand_end(input);
+    Ok(!is_async && ends)
+}
+
+/// Whether a token is current that closes or parts a list, or ends a statement.
+fn is_operand_end<I: Tokens>(input: &Buffer<I>) -> bool
+    ensures { result ≡ at_token ends_operand (seen input.now) }
+{
+    matches!(
+        input.cur_debug(),
+        Some(Token::Semi | Token::RBrace | Token::RParen | Token::RBracket | Token::Comma)
+    )
+}
+
+/// Records, in a module, that `await`, at `start`, is no identifier.
+fn check_await_ident<I: Tokens>(input: &mut Buffer<I>, start: Span) -> PResult<()>
+    ensures checks { Checked I.model (await_ident_ok (context I.model input.old)) input.old result input.new }
+    ensures falls { OnOk result (to_come I.model input.new ≤ to_come I.model input.old) }
+{
+    let ctx = input.get_ctx();
+    if ctx.in_async || ctx.module {
+        return emit_err(input, start, SyntaxError::InvalidIdentInAsync);
+    }
+    Ok(())
+}
+
+/// Records that `await`, at `start`, is no operator: in a function that isn't async, at the token behind it, and in
+/// parameters outside a function.
+fn check_await<I: Tokens>(input: &mut Buffer<I>, start: Span) -> PResult<()>
+    ensures checks { Checked I.model (await_ok (context I.model input.old)) input.old result input.new }
+    ensures falls { OnOk result (to_come I.model input.new ≤ to_come I.model input.old) }
+{
+    let ctx = input.get_ctx();
+    if ctx.in_function && !ctx.in_async {
+        let span = input.cur_span();
+        return emit_err(input, span, SyntaxError::AwaitInFunction);
+    }
+    if ctx.in_parameters && !ctx.in_function {
+        return emit_err(input, start, SyntaxError::AwaitParamInAsync);
+    }
+    Ok(())
+}
+
+/// The text, as a name. Refused only for want of memory.
+fn text_of<I: Tokens>(alloc: Global, input: &Buffer<I>, text: &str) -> PResult<Atom>
+    ensures text { IfOk result (λ t. t ≡ text.now) }
+    ensures refused { IfErr result (λ e. e ≡ no_memory (last_position input.now)) }
+{
+    match Atom::new(alloc, text) {
+        Ok(atom) => Ok(atom),
+        Err(_) => Err(input.out_of_memory()),
+    }
+}
+
+/// `++` or `--`, where it is current.
+fn cur_update_op<I: Tokens>(input: &Buffer<I>) -> Option<UpdateOp>
+    ensures value { result ≡ update_at (seen input.now) }
+    ensures some { IsSome result → IsSome (current input.now) }
+    ensures fit { IsSome result → at_token no_error (seen input.now) ≡ true }
+{
+    match input.cur_debug()? {
+        Token::PlusPlus => Some(UpdateOp::PlusPlus),
+        Token::MinusMinus => Some(UpdateOp::MinusMinus),
+        _ => None,
+    }
+}
+
+/// The same, where no line break stands before it. Refused only for want of memory.
+fn update_behind_cur<I: Tokens>(input: &mut Buffer<I>) -> PResult<Option<UpdateOp>>
+    ensures looks { Looks I.model input.old result input.new }
+    ensures value { IfOk result (λ r. r ≡ update_behind (seen input.new)) }
+    ensures some { IfOk result (λ r. IsSome r → IsSome (current input.new)) }
+    ensures fit { IfOk result (λ r. IsSome r → at_token no_error (seen input.new) ≡ true) }
+    ensures falls { OnOk result (to_come I.model input.new ≤ to_come I.model input.old) }
+{
+    if is_after_line_break(input)? {
+        return Ok(None);
+    }
+    Ok(cur_update_op(input))
+}
+
+/// Records what `++` and `--` can't write to.
+fn check_update_target<I: Tokens, B: Bodies<I>>(
+    input: &mut Buffer<I>,
+    nodes: &NodesOf<B>,
+    arg: ExprId,
+) -> PResult<()>
+    requires { From 0 nodes.now (expr_part arg) }
+    ensures checks { Checked I.model (is_target (context I.model input.old).strict (tree_of nodes.now arg))
+        input.old result input.new }
+    ensures kept { at_token no_error (seen input.old) ≡ true → OnOk result (current input.new ≡ current input.old) }
+    ensures falls { OnOk result (to_come I.model input.new ≤ to_come I.model input.old) }
+{
+    let strict = input.get_ctx().strict;
+    if nodes.is_simple_target(arg, strict) {
+        return Ok(());
+    }
+    emit_err(input, nodes.span(arg), SyntaxError::TS2406)
+}
+
+/// The prefix operator that the current token is: none of `++`, `--` and `await`.
 fn cur_prefix_op<I: Tokens>(input: &Buffer<I>) -> Option<UnaryOp>
     ensures value { result ≡ prefix_at (seen input.now) }
     ensures some { IsSome result → IsSome (current input.now) }

@@ -90,7 +90,7 @@ impl<I: Tokens, B: Bodies<I>> Productions<I, B> {
                 Some(end) => return Ok(TplParts { quasis, exprs, end }),
                 None => {}
             }
-            let expr = self.parse_assignment_expr_with_in()?;
+            let expr = self.parse_expr_with_in()?;
             expect(&mut self.input, Sign::RBrace)?;
             add(&self.input, &mut exprs, expr)?;
         }

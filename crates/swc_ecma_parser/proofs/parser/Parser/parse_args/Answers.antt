@@ -6,9 +6,10 @@ use Rattle.swc_ast.specs.Parts.{args_tree}
 use Rattle.swc_nodes.specs.Stands.{bare_at}
 use Rattle.swc_productions.specs.Parsing.{args_at}
 use Rattle.swc_ecma_parser.specs.Calls.{nodes_of, tree_by}
+use Rattle.swc_ecma_parser.specs.Promise.{only_items}
 use Rattle.swc_ecma_parser.proofs.Calling.{promised, promised-again}
-use Rattle.swc_ecma_parser.proofs.Moving.{moved-items, args-bare, cut-back}
-use Rattle.swc_ecma_parser.proofs.Top.{args-stops, meets-items}
+use Rattle.swc_ecma_parser.proofs.Moving.{moved-by, args-bare, cut-back}
+use Rattle.swc_ecma_parser.proofs.Top.{args-stops, leaves-items, meets-as}
 use Rattle.swc_ecma_parser.proofs.parser.Parser.parse_args.Goals as goal
 
 pub returns-in_err-begin : goal.returns-in_err-begin
@@ -24,8 +25,8 @@ returns g c =
     record {
       promised = promised c.parse_arguments-answer.new.self.input (nodes_of c.move_out-answer.new.self) c.move_out-answer.result c.finish.result c.in_ok-begin.ensures.runs moved.runs
           done.answer (done.buffer ∙ moved.buffer) done.nodes done.fails
-          (meets-items g.I.Tokens.model g.B.Bodies.is_faithful g.B.BodyForms.forms g.met.B.Bodies.lawful (args_tree boxed) args-stops _ c.move_out-answer.result _
-          (moved-items g.I.Tokens.model g.B.Bodies.is_faithful (run g.B.BodyForms.forms (at (Arguments c.args.is_dynamic_import))) ns args_at (λ l. args_tree (λ e. bare_at ns e.0) l.items) (args_tree boxed) _ _ c.parse_arguments-answer.result c.move_out-answer.result read.reads
+          (meets-as g.I.Tokens.model g.B.Bodies.is_faithful g.B.BodyForms.forms g.met.B.Bodies.lawful (args_tree boxed) leaves-items args-stops _ c.move_out-answer.result _
+          (moved-by g.I.Tokens.model g.B.Bodies.is_faithful (run g.B.BodyForms.forms (at (Arguments c.args.is_dynamic_import))) ns args_at (λ l. args_tree (λ e. bare_at ns e.0) l.items) (args_tree boxed) only_items _ _ c.parse_arguments-answer.result c.move_out-answer.result read.reads
           (args-bare ns) moved.moved))
           (cut-back (nodes_of c.move_out-answer.new.self) read.grows (rw (sym c.len-start.ensures) moved.nodes));
     }

@@ -1,5 +1,5 @@
 -- What the steps of each production, one after another, ensure.
-use Rattle.std.proofs.Common.{Ok, Err, map, ◌≡◌, ◌≢◌, ◌++◌, true, false, not, Some, None, refl, sym, ap, subst, ◌∙◌, arith}
+use Rattle.std.proofs.Common.{Ok, Err, map, length, length-append, ◌≤◌, [], ◌∷◌, ◌≡◌, ◌≢◌, ◌++◌, ◌&&◌, true, false, not, Some, None, refl, sym, ap, subst, ◌∙◌, arith}
 use Rattle.std.proofs.lemmas.Result.{err_from_is_err_and}
 use Rattle.swc_context.specs.Spans.{between}
 use Rattle.swc_context.specs.declared.error.SyntaxError.TheVariants.{OutOfMemory}
@@ -11,24 +11,32 @@ use Rattle.swc_ast.specs.Tree.{nil, cons, node, trees, span_of}
 use Rattle.swc_ast.specs.Tree.{tpl as tpl_kind}
 use Rattle.swc_ast.specs.Parts.{item_of as item_tree_of, item_trees, quasi_tree}
 use Rattle.swc_grammar.specs.Trees.{trees_append}
-use Rattle.swc_nodes.specs.Lists.{elem_parts, elem_tree, elem_trees, props_parts, exprs_parts}
+use Rattle.swc_nodes.specs.Lists.{elem_parts, elem_tree, elem_trees, props_parts, exprs_parts, expr_trees}
 use Rattle.swc_nodes.specs.Seats.{chain}
 use Rattle.swc_nodes.specs.Slots.{flat, if_some, item_parts, args_parts, prop_parts, key_parts, one_expr, expr_part}
 use Rattle.swc_nodes.specs.Stands.{count, seat_at, tree_at, first_at, Apart}
 use Rattle.swc_nodes.proofs.Lists.{apart-none, apart-list-more, elems-more, props-more, exprs-more, exprs-apart-more}
 use Rattle.swc_nodes.proofs.Lists.{trees-both, trees-more, exprs-later, apart-later}
-use Rattle.swc_grammar.specs.Trees.{to, array_e, items_of, comma_of, paren_e}
-use Rattle.swc_grammar.specs.Trees.{min_right, object_e, spread_prop_e, prop_of as prop_tree, value_e, no_cover_in}
+use Rattle.swc_grammar.specs.Trees.{to, array_e, items_of, comma_of}
+use Rattle.swc_grammar.specs.Trees.{update_e, await_e, cond_e, assign_e, yield_e, hole_e, seq_of}
+use Rattle.swc_grammar.specs.Trees.{min_right, object_e, spread_prop_e, prop_of as prop_tree, value_e}
 use Rattle.swc_grammar.specs.Trees.{super_e, import_e}
 use Rattle.swc_grammar.specs.Trees.{parts_e, tpl_e}
-use Rattle.swc_grammar.specs.Symbols.{Assign, Level, Args, Elements}
+use Rattle.swc_grammar.specs.Symbols.{Expr, Assign, Level, Lhs, Args, Elements}
 use Rattle.swc_grammar.specs.Tokens.{is_lparen, is_rparen, is_lbracket, is_rbracket, is_rbrace, is_comma, is_dots, is_this}
 use Rattle.swc_grammar.specs.Tokens.{is_colon, is_dot, is_new, is_backquote, begins_regex}
-use Rattle.swc_grammar.specs.Tokens.{is_super, is_import}
-use Rattle.swc_grammar.specs.Clean.{sym as at, run, first, links, climb, is_lit, is_identifier}
-use Rattle.swc_grammar.specs.Clean.{prefix_at, no_error, left_ok}
+use Rattle.swc_grammar.specs.Tokens.{is_super, is_import, is_question, is_star, is_await, is_yield, await_ok, yield_ok}
+use Rattle.swc_ast.specs.Targets.{is_target}
+use Rattle.swc_input.specs.Recording.{is_some}
+use Rattle.swc_grammar.specs.Clean.{sym as at, run, first, links, updates, climb, assigns, seqs, is_lit, is_identifier}
+use Rattle.swc_grammar.specs.Clean.{prefix_at, no_error, left_ok, ends_await_at, goes_on_yield_at}
 use Rattle.swc_grammar.specs.Words.{◌>>=◌}
-use Rattle.swc_productions.specs.Readers.{go_on, inside, paren_expr_tail, paren_expr_close, paren_expr_node, unary_op_node}
+use Rattle.swc_productions.specs.Parsing.{scope}
+use Rattle.swc_productions.specs.Assignments.{paren_of, paren_expr_tail, seqs_by, seqs_more, cond_tail, cond_colon, cond_close}
+use Rattle.swc_productions.specs.Assignments.{assign_at, assign_tail, yield_arg, yield_tail, yield_operand}
+use Rattle.swc_productions.specs.Updates.{update_at, update_node, update_tail, await_reads, await_tail, await_go}
+use Rattle.swc_productions.specs.Updates.{await_ident, await_operand}
+use Rattle.swc_productions.specs.Readers.{go_on, unary_op_node}
 use Rattle.swc_productions.specs.Readers.{unary_op_tail, bin_op_node, bin_op, turned, nothing}
 use Rattle.swc_productions.specs.Bases.{super_by, super_left, super_close, callee_node, plain_base, import_by, import_left}
 use Rattle.swc_productions.specs.Keys.{key_by, key_close}
@@ -46,6 +54,7 @@ use Rattle.swc_productions.specs.Methods.{behind_key, after_by, method_tree, met
 use Rattle.swc_nodes.proofs.Standing.{grows-count, grows-same, grows-then}
 use Rattle.swc_nodes.proofs.Held.{apart-from, from-down, from-later, from_self, first_kept, if_from, tree-later}
 use Rattle.swc_productions.proofs.Building.{apart-down, apart-lower, apart_behind, grows-kept, made_over}
+use Rattle.swc_productions.proofs.Assignments as assign
 use Rattle.swc_productions.proofs.Bases as base
 use Rattle.swc_productions.proofs.Begins as begins
 use Rattle.swc_productions.proofs.Keys as key
@@ -56,6 +65,7 @@ use Rattle.swc_productions.proofs.Regexes as regex
 use Rattle.swc_productions.proofs.Rules as rule
 use Rattle.swc_productions.proofs.Steps as s
 use Rattle.swc_productions.proofs.Templates as tpl
+use Rattle.swc_productions.proofs.Updates as update
 use Rattle.swc_productions.proofs.Making as m
 use Rattle.swc_productions.proofs.Methods as method
 use Rattle.swc_productions.proofs.productions.Productions.+productions.Goals as goal
@@ -490,60 +500,25 @@ parse_object_prop-returns-in_ok-function-in-Method g t c =
     (grows-then c.parse_prop_name-in-Method.ensures.grows c.parse_method_function.ensures.grows)
     (method.method_apart kind start name function param c.method_of.result c.method_of.ensures c.parse_method_function.ensures.grows c.in_ok-key-in-Method.ensures.from c.in_ok-function-in-Method.ensures.from)
 
-pub parse_paren_expr-returns-in_err-look : goal.parse_paren_expr-returns-in_err-look
-parse_paren_expr-returns-in_err-look g t c =
+pub parse_paren_expr-returns-in_err-list : goal.parse_paren_expr-returns-in_err-list
+parse_paren_expr-returns-in_err-list g t c =
+    let first = c.skip.ensures.took.1 in
     let p = err_from_is_err_and c.from_residual.result c.from_residual.ensures.1 in rw (p.1, p.2)
-    (m.no (s.unheard_memory (s.forgoes_later (s.took_leads g.met.I.Tokens.laws c.skip.ensures.took.1) c.in_err-look.ensures.looks)) (grows-same _))
+    (m.no (s.unheard_after (s.on_took {g = paren_expr_tail _ (plain first.was).span} g.met.I.Tokens.laws first (λ x ts. assign.paren_expr_opens _ (plain first.was) x ts (rule.passes_plain is_lparen _ _ first.current c.requires)))
+    (s.unheard_call (λ x p. paren_of (plain first.was).span p.0 p.1) (λ x ts. assign.paren_expr_splits _ (plain first.was).span x ts) c.in_err-list.ensures.reads)) c.parse_args.ensures.grows)
 
-pub parse_paren_expr-returns-then-is_rparen : goal.parse_paren_expr-returns-then-is_rparen
-parse_paren_expr-returns-then-is_rparen g t c =
-    m.no (s.unheard_after (s.on_took {g = paren_expr_tail _ (plain c.skip.ensures.took.1.was).span} g.met.I.Tokens.laws c.skip.ensures.took.1 (λ x ts. rule.paren_expr_opens _ (plain c.skip.ensures.took.1.was) x ts (rule.passes_plain is_lparen _ _ c.skip.ensures.took.1.current c.requires)))
-    (s.unheard_at c.in_ok-look.ensures.looks (λ x ts same e. rule.paren_expr_empty _ g.met.B.Bodies.lawful (plain c.skip.ensures.took.1.was).span x ts (ap (at_token is_rparen) e ∙ sym c.is_rparen.ensures.value ∙ c.if-is_rparen.true))
-    (s.refuses_later (s.took_leads g.met.I.Tokens.laws c.skip-then-is_rparen.ensures.took.1) c.syntax_error.ensures.refuses))) (grows-same _)
-
-pub parse_paren_expr-returns-in_err-expr : goal.parse_paren_expr-returns-in_err-expr
-parse_paren_expr-returns-in_err-expr g t c =
-    let p = err_from_is_err_and c.from_residual-in_err-expr.result c.from_residual-in_err-expr.ensures.1 in rw (p.1, p.2)
-    (m.no (s.unheard_after (s.on_took {g = paren_expr_tail _ (plain c.skip.ensures.took.1.was).span} g.met.I.Tokens.laws c.skip.ensures.took.1 (λ x ts. rule.paren_expr_opens _ (plain c.skip.ensures.took.1.was) x ts (rule.passes_plain is_lparen _ _ c.skip.ensures.took.1.current c.requires)))
-    (s.unheard_after (s.on_seen {g = λ x ts. inside _ x ts >>= (λ p. paren_expr_close _ (plain c.skip.ensures.took.1.was).span p.0 p.1)} c.in_ok-look.ensures.looks (λ x ts same e. rule.paren_expr_splits _ (plain c.skip.ensures.took.1.was).span x ts))
-    (s.unheard_call (λ x p. paren_expr_close _ (plain c.skip.ensures.took.1.was).span p.0 p.1) (λ x ts. refl) c.in_err-expr.ensures.reads))) c.parse_assignment_expr_with_in.ensures.grows)
-
-pub parse_paren_expr-returns-in_err-look-2 : goal.parse_paren_expr-returns-in_err-look-2
-parse_paren_expr-returns-in_err-look-2 g t c =
-    let p = err_from_is_err_and c.from_residual-in_err-look-2.result c.from_residual-in_err-look-2.ensures.1 in rw (p.1, p.2)
-    (m.no (s.unheard_memory (s.forgoes_later (s.leads_then (s.leads_then (s.took_leads g.met.I.Tokens.laws c.skip.ensures.took.1) (s.here_leads c.in_ok-look.ensures.looks)) c.in_ok-expr.ensures.reads.on.leads) c.in_err-look-2.ensures.looks)) c.parse_assignment_expr_with_in.ensures.grows)
-
-pub parse_paren_expr-returns-then-not-is_rparen : goal.parse_paren_expr-returns-then-not-is_rparen
-parse_paren_expr-returns-then-not-is_rparen g t c =
-    m.no (s.unheard_after (s.on_took {g = paren_expr_tail _ (plain c.skip.ensures.took.1.was).span} g.met.I.Tokens.laws c.skip.ensures.took.1 (λ x ts. rule.paren_expr_opens _ (plain c.skip.ensures.took.1.was) x ts (rule.passes_plain is_lparen _ _ c.skip.ensures.took.1.current c.requires)))
-    (s.unheard_after (s.on_then (s.on_seen {g = λ x ts. inside _ x ts >>= (λ p. paren_expr_close _ (plain c.skip.ensures.took.1.was).span p.0 p.1)} c.in_ok-look.ensures.looks (λ x ts same e. rule.paren_expr_splits _ (plain c.skip.ensures.took.1.was).span x ts))
-    (s.on_call (λ x p. paren_expr_close _ (plain c.skip.ensures.took.1.was).span p.0 p.1) (λ x ts. refl) c.in_ok-expr.ensures.reads.on))
-    (s.unheard_at c.in_ok-look-2.ensures.looks (λ x ts same e. rule.paren_expr_ends _ (plain c.skip.ensures.took.1.was).span (tree_of c.parse_assignment_expr_with_in.new.self.nodes c.in_ok-expr.expr) ts (ap (at_token is_rparen) e ∙ sym c.is_rparen-2.ensures.value ∙ c.if-not-is_rparen.true)) c.unexpected.ensures.refuses))) c.parse_assignment_expr_with_in.ensures.grows
-
-pub parse_paren_expr-returns-in_err-check_cover_names : goal.parse_paren_expr-returns-in_err-check_cover_names
-parse_paren_expr-returns-in_err-check_cover_names g t c =
-    let p = err_from_is_err_and c.from_residual-in_err-check_cover_names.result c.from_residual-in_err-check_cover_names.ensures.1 in rw (p.1, p.2)
-    (m.no (s.unheard_memory (s.forgoes_later (s.leads_then (s.leads_then (s.leads_then (s.took_leads g.met.I.Tokens.laws c.skip.ensures.took.1) (s.here_leads c.in_ok-look.ensures.looks)) c.in_ok-expr.ensures.reads.on.leads)
-    (s.leads_then (s.here_leads c.in_ok-look-2.ensures.looks) (s.took_leads g.met.I.Tokens.laws c.skip-2.ensures.took.1))) c.in_err-check_cover_names.ensures.checks)) c.parse_assignment_expr_with_in.ensures.grows)
+pub parse_paren_expr-paren_items-requires : goal.parse_paren_expr-paren_items-requires
+parse_paren_expr-paren_items-requires g t c = record { apart = apart-down (args_parts c.in_ok-list.list.items) c.in_ok-list.ensures.from }
 
 pub parse_paren_expr-returns : goal.parse_paren_expr-returns
 parse_paren_expr-returns g t c =
     let first = c.skip.ensures.took.1 in
-    let last = c.skip-2.ensures.took.1 in
-    let inner = tree_of c.parse_assignment_expr_with_in.new.self.nodes c.in_ok-expr.expr in
-    let whole : paren_e (to first.was.span last.was.span) inner ≡ paren_e (between c.cur_span.result.lo c.last_pos-end.result) inner =
-    ap (λ v. paren_e (between v last.was.span.hi) inner) (ap (λ v. v.lo) (sym (s.place_was first c.cur_span.result c.cur_span.ensures)))
-    ∙ ap (λ v. paren_e (between c.cur_span.result.lo v) inner) (ap (λ v. v.hi) (sym (s.last_was last)) ∙ sym c.last_pos-end.ensures) in
-    m.node _ c.paren_expr-node.result c.made.result c.in_ok-expr.ensures.from.above c.paren_expr-node.ensures.made c.made.ensures.ok c.made.ensures.refused c.parse_assignment_expr_with_in.ensures.grows c.paren_expr-node.ensures.grows
-    (s.heard_answer whole (s.heard_first g.met.I.Tokens.laws first (λ x ts. rule.paren_expr_opens _ (plain first.was) x ts (rule.passes_plain is_lparen _ _ first.current c.requires))
-    (s.on_then (s.on_then (s.on_seen {g = λ x ts. inside _ x ts >>= (λ p. paren_expr_close _ (plain c.skip.ensures.took.1.was).span p.0 p.1)} c.in_ok-look.ensures.looks (λ x ts same e. rule.paren_expr_splits _ (plain c.skip.ensures.took.1.was).span x ts))
-    (s.on_call (λ x p. paren_expr_close _ (plain c.skip.ensures.took.1.was).span p.0 p.1) (λ x ts. refl) c.in_ok-expr.ensures.reads.on))
-    (s.on_then (s.on_seen c.in_ok-look-2.ensures.looks (λ x ts same e. refl))
-    (s.on_then (s.on_took {g = λ x ts. paren_expr_node _ (plain first.was).span (plain last.was).span inner ts} g.met.I.Tokens.laws last
-    (λ x ts. rule.paren_expr_closes _ (plain first.was).span inner (plain last.was) ts (rule.passes_plain is_rparen _ last.was last.current (sym c.is_rparen-2.ensures.value ∙ c.if-not-is_rparen.false))))
-    (s.on_checked {g = s.give (paren_e (to first.was.span last.was.span) inner)} (no_cover_in inner) c.in_ok-check_cover_names.ensures.checks
-    (λ x ts h. rule.paren_expr_well _ (plain first.was).span (plain last.was).span inner ts h)
-    (λ x ts h. rule.paren_expr_ill _ (plain first.was).span (plain last.was).span inner ts h)))))))
+    let start = c.cur_span-start.result in
+    let place = s.place_was first c.cur_span-start.result c.cur_span-start.ensures in
+    m.after {m = record c.args.self.now { input = c.skip.new.input }} c.paren_items.result (s.on_took {g = paren_expr_tail _ start} g.met.I.Tokens.laws first
+    (λ x ts. assign.paren_expr_opens _ (plain first.was) x ts (rule.passes_plain is_lparen _ _ first.current c.requires) ∙ ap (λ v. paren_expr_tail g.B.BodyForms.forms v x ts) (sym place))) (grows-same _)
+    (m.call c.paren_items.result (λ x p. paren_of start p.0 p.1) (λ x ts. assign.paren_expr_splits _ start x ts)
+    c.in_ok-list.ensures.reads c.parse_args.ensures.grows (λ x h. h) (c.paren_items.ensures (count c.args.self.now.nodes) c.in_ok-list.ensures.from))
 
 pub parse_lhs_expr-returns-in_err-look : goal.parse_lhs_expr-returns-in_err-look
 parse_lhs_expr-returns-in_err-look g t c =
@@ -623,7 +598,7 @@ parse_super-returns-in_err-expr-in-Computed g t c =
     let p = err_from_is_err_and c.from_residual-in_err-expr-in-Computed.result c.from_residual-in_err-expr-in-Computed.ensures.1 in rw (p.1, p.2)
     (m.no (s.unheard_after (s.on_call (λ x p. super_left _ c.args.start p.0 x p.1) (λ x ts. base.super_splits _ (not c.args.no_call) c.args.start x ts)
     (s.on_answer c.in-Computed.is (c.in_ok-super_head.ensures.continues g.B.Bodies.is_faithful)))
-    (s.unheard_call (λ x p. super_close c.args.start q p.0 x p.1) (λ x ts. base.computed_splits _ c.args.start q x ts) c.in_err-expr-in-Computed.ensures.reads)) c.parse_assignment_expr_with_in.ensures.grows)
+    (s.unheard_call (λ x p. super_close c.args.start q p.0 x p.1) (λ x ts. base.computed_splits _ c.args.start q x ts) c.in_err-expr-in-Computed.ensures.reads)) c.parse_expr_with_in.ensures.grows)
 
 pub parse_super-returns-in_ok-expr-in-Computed : goal.parse_super-returns-in_ok-expr-in-Computed
 parse_super-returns-in_ok-expr-in-Computed g t c =
@@ -632,7 +607,7 @@ parse_super-returns-in_ok-expr-in-Computed g t c =
     (s.on_call (λ x p. super_left _ c.args.start p.0 x p.1) (λ x ts. base.super_splits _ (not c.args.no_call) c.args.start x ts)
     (s.on_answer c.in-Computed.is (c.in_ok-super_head.ensures.continues g.B.Bodies.is_faithful))) (grows-same _)
     (m.call c.super_computed.result (λ x p. super_close c.args.start q p.0 x p.1) (λ x ts. base.computed_splits _ c.args.start q x ts)
-    c.in_ok-expr-in-Computed.ensures.reads c.parse_assignment_expr_with_in.ensures.grows (λ x. from-down c.in_ok-expr-in-Computed.ensures.from.above)
+    c.in_ok-expr-in-Computed.ensures.reads c.parse_expr_with_in.ensures.grows (λ x. from-down c.in_ok-expr-in-Computed.ensures.from.above)
     (m.weaker c.super_computed.result c.super_computed.ensures))
 
 pub parse_super-returns-in_err-list-in-Call : goal.parse_super-returns-in_err-list-in-Call
@@ -667,14 +642,14 @@ pub refuse_super-returns-in-Name : goal.refuse_super-returns-in-Name
 refuse_super-returns-in-Name g t c =
     m.after c.refuse_super_name.result (s.on_none {f = nothing} {g = nothing} (λ x ts. refl) (λ x ts. refl) c.in_ok-super_chain.ensures.acts) (grows-same _) c.refuse_super_name.ensures
 
-pub refuse_super-returns-in_err-parse_assignment_expr_with_in-in-Computed : goal.refuse_super-returns-in_err-parse_assignment_expr_with_in-in-Computed
-refuse_super-returns-in_err-parse_assignment_expr_with_in-in-Computed g t c =
-    let p = err_from_is_err_and c.from_residual-in_err-parse_assignment_expr_with_in-in-Computed.result c.from_residual-in_err-parse_assignment_expr_with_in-in-Computed.ensures.1 in rw (p.1, p.2)
-    (m.no (s.unheard_none (λ x ts. refl) (s.refuses_later c.in_ok-super_chain.ensures.acts c.in_err-parse_assignment_expr_with_in-in-Computed.ensures.reads.refuses)) c.parse_assignment_expr_with_in.ensures.grows)
+pub refuse_super-returns-in_err-parse_expr_with_in-in-Computed : goal.refuse_super-returns-in_err-parse_expr_with_in-in-Computed
+refuse_super-returns-in_err-parse_expr_with_in-in-Computed g t c =
+    let p = err_from_is_err_and c.from_residual-in_err-parse_expr_with_in-in-Computed.result c.from_residual-in_err-parse_expr_with_in-in-Computed.ensures.1 in rw (p.1, p.2)
+    (m.no (s.unheard_none (λ x ts. refl) (s.refuses_later c.in_ok-super_chain.ensures.acts c.in_err-parse_expr_with_in-in-Computed.ensures.reads.refuses)) c.parse_expr_with_in.ensures.grows)
 
-pub refuse_super-returns-in_ok-parse_assignment_expr_with_in-in-Computed : goal.refuse_super-returns-in_ok-parse_assignment_expr_with_in-in-Computed
-refuse_super-returns-in_ok-parse_assignment_expr_with_in-in-Computed g t c =
-    m.no (s.unheard_none (λ x ts. refl) (s.refuses_later (s.leads_then c.in_ok-super_chain.ensures.acts c.in_ok-parse_assignment_expr_with_in-in-Computed.ensures.reads.on.leads) c.refuse_super_brackets.ensures)) c.parse_assignment_expr_with_in.ensures.grows
+pub refuse_super-returns-in_ok-parse_expr_with_in-in-Computed : goal.refuse_super-returns-in_ok-parse_expr_with_in-in-Computed
+refuse_super-returns-in_ok-parse_expr_with_in-in-Computed g t c =
+    m.no (s.unheard_none (λ x ts. refl) (s.refuses_later (s.leads_then c.in_ok-super_chain.ensures.acts c.in_ok-parse_expr_with_in-in-Computed.ensures.reads.on.leads) c.refuse_super_brackets.ensures)) c.parse_expr_with_in.ensures.grows
 
 pub refuse_super-returns-in_err-parse_args-in-Call : goal.refuse_super-returns-in_err-parse_args-in-Call
 refuse_super-returns-in_err-parse_args-in-Call g t c =
@@ -887,18 +862,18 @@ parse_link-returns-in_err-expr-in-Computed g t c =
     let l = tree_of c.args.self.now.nodes c.args.obj in
     let p = err_from_is_err_and c.from_residual.result c.from_residual.ensures.1 in rw (p.1, p.2)
     (m.no (s.unheard_call (λ x p. computed_close c.in-Computed.optional c.in-Computed.start l p.0 x p.1)
-    (λ x ts. link.tail_computed _ c.args.head c.in-Computed.start c.in-Computed.optional l x ts c.in-Computed.is) c.in_err-expr-in-Computed.ensures.reads) c.parse_assignment_expr_with_in.ensures.grows)
+    (λ x ts. link.tail_computed _ c.args.head c.in-Computed.start c.in-Computed.optional l x ts c.in-Computed.is) c.in_err-expr-in-Computed.ensures.reads) c.parse_expr_with_in.ensures.grows)
 
 pub parse_link-computed_member-requires : goal.parse_link-computed_member-requires
 parse_link-computed_member-requires g t c =
     apart-down (one_expr c.args.obj ++ one_expr c.in_ok-expr-in-Computed.expr)
-    (apart_behind c.parse_assignment_expr_with_in.ensures.grows c.requires.from (apart-from (expr_part c.in_ok-expr-in-Computed.expr) c.in_ok-expr-in-Computed.ensures.from))
+    (apart_behind c.parse_expr_with_in.ensures.grows c.requires.from (apart-from (expr_part c.in_ok-expr-in-Computed.expr) c.in_ok-expr-in-Computed.ensures.from))
 
 pub parse_link-returns-in_ok-expr-in-Computed : goal.parse_link-returns-in_ok-expr-in-Computed
 parse_link-returns-in_ok-expr-in-Computed g t c =
     m.tail c.computed_member.result (λ v x p. computed_close c.in-Computed.optional c.in-Computed.start v p.0 x p.1)
     (λ x ts. link.tail_computed _ c.args.head c.in-Computed.start c.in-Computed.optional _ x ts c.in-Computed.is)
-    c.in_ok-expr-in-Computed.ensures.reads c.parse_assignment_expr_with_in.ensures.grows c.requires.from (m.weaker c.computed_member.result c.computed_member.ensures)
+    c.in_ok-expr-in-Computed.ensures.reads c.parse_expr_with_in.ensures.grows c.requires.from (m.weaker c.computed_member.result c.computed_member.ensures)
 
 pub parse_link-returns-in_err-list-in-Call : goal.parse_link-returns-in_err-list-in-Call
 parse_link-returns-in_err-list-in-Call g t c =
@@ -1017,18 +992,128 @@ parse_arg_item-returns g t c =
     (s.on_call (λ x q. Some ((item_at c.parse_expr_or_spread.new.self.nodes c.in_ok-item.item, q.0), q.1)) (λ x ts. refl) (c.in_ok-comma.ensures.separates g.B.Bodies.is_faithful)))
     c.parse_expr_or_spread.ensures.grows (apart-from (expr_part c.in_ok-item.item.expr) c.in_ok-item.ensures.from)
 
-pub parse_unary_expr-returns-in-Some : goal.parse_unary_expr-returns-in-Some
-parse_unary_expr-returns-in-Some g t c =
-    m.after c.parse_unary_op.result (s.on_seen c.in_ok-look.ensures.looks (λ x ts same e. rule.unary_op_picked _ c.in-Some.op x ts (ap prefix_at e ∙ sym c.cur_prefix_op.ensures.value ∙ c.in-Some.is))) (grows-same _) c.parse_unary_op.ensures
-
-pub parse_unary_expr-returns-in-None : goal.parse_unary_expr-returns-in-None
-parse_unary_expr-returns-in-None g t c =
-    m.after c.parse_lhs_expr.result (s.on_seen c.in_ok-look.ensures.looks (λ x ts same e. rule.unary_left _ x ts (ap prefix_at e ∙ sym c.cur_prefix_op.ensures.value ∙ c.in-None.is))) (grows-same _) c.parse_lhs_expr.ensures
-
 pub parse_unary_expr-returns-in_err-look : goal.parse_unary_expr-returns-in_err-look
 parse_unary_expr-returns-in_err-look g t c =
     let p = err_from_is_err_and c.from_residual.result c.from_residual.ensures.1 in rw (p.1, p.2)
     (m.no (s.unheard_memory c.in_err-look.ensures.looks) (grows-same _))
+
+pub parse_unary_expr-returns-in-Some : goal.parse_unary_expr-returns-in-Some
+parse_unary_expr-returns-in-Some g t c =
+    m.after c.parse_update_prefix.result (s.on_seen c.in_ok-look.ensures.looks (λ x ts same e. update.update_picked _ c.in-Some.op x ts (ap update_at e ∙ sym c.cur_update_op.ensures.value ∙ c.in-Some.is))) (grows-same _) c.parse_update_prefix.ensures
+
+pub parse_unary_expr-returns-in-Some-cur_prefix_op : goal.parse_unary_expr-returns-in-Some-cur_prefix_op
+parse_unary_expr-returns-in-Some-cur_prefix_op g t c =
+    m.after c.parse_unary_op.result (s.on_seen c.in_ok-look.ensures.looks (λ x ts same e. rule.unary_op_picked _ c.in-Some-cur_prefix_op.op x ts (ap prefix_at e ∙ sym c.cur_prefix_op.ensures.value ∙ c.in-Some-cur_prefix_op.is))) (grows-same _) c.parse_unary_op.ensures
+
+pub parse_unary_expr-returns-then-is_await : goal.parse_unary_expr-returns-then-is_await
+parse_unary_expr-returns-then-is_await g t c =
+    m.after c.parse_await_expr.result (s.on_seen c.in_ok-look.ensures.looks (λ x ts same e. update.await_picked _ x ts (ap (at_token is_await) e ∙ sym c.is_await.ensures.value ∙ c.if-is_await.true))) (grows-same _) c.parse_await_expr.ensures
+
+pub parse_unary_expr-returns-in_err-expr : goal.parse_unary_expr-returns-in_err-expr
+parse_unary_expr-returns-in_err-expr g t c =
+    let p = err_from_is_err_and c.from_residual-in_err-expr.result c.from_residual-in_err-expr.ensures.1 in rw (p.1, p.2)
+    (m.no (s.unheard_after (s.on_seen {g = λ x ts. run _ (at (Lhs true)) x ts >>= (λ p. run _ (updates p.0) x p.1)} c.in_ok-look.ensures.looks (λ x ts same e. update.operand_splits _ x ts
+    (update.no_update_first g.B.BodyForms.forms (first ts) (ap update_at e ∙ sym c.cur_update_op.ensures.value ∙ c.in-None.is))
+    (ap (at_token is_await) e ∙ sym c.is_await.ensures.value ∙ c.if-is_await.false)
+    (ap prefix_at e ∙ sym c.cur_prefix_op.ensures.value ∙ c.in-None-cur_prefix_op.is)))
+    (s.unheard_call (λ x p. run _ (updates p.0) x p.1) (λ x ts. refl) c.in_err-expr.ensures.reads)) c.parse_lhs_expr.ensures.grows)
+
+pub parse_unary_expr-returns : goal.parse_unary_expr-returns
+parse_unary_expr-returns g t c =
+    m.after {m = record c.args.self.now { input = c.look.new.input }} c.parse_update_postfix.result (s.on_seen {g = λ x ts. run _ (at (Lhs true)) x ts >>= (λ p. run _ (updates p.0) x p.1)} c.in_ok-look.ensures.looks (λ x ts same e. update.operand_splits _ x ts
+    (update.no_update_first g.B.BodyForms.forms (first ts) (ap update_at e ∙ sym c.cur_update_op.ensures.value ∙ c.in-None.is))
+    (ap (at_token is_await) e ∙ sym c.is_await.ensures.value ∙ c.if-is_await.false)
+    (ap prefix_at e ∙ sym c.cur_prefix_op.ensures.value ∙ c.in-None-cur_prefix_op.is))) (grows-same _)
+    (m.call c.parse_update_postfix.result (λ x p. run _ (updates p.0) x p.1) (λ x ts. refl)
+    c.in_ok-expr.ensures.reads c.parse_lhs_expr.ensures.grows (λ x. from-down c.in_ok-expr.ensures.from.above) c.parse_update_postfix.ensures)
+
+pub parse_update_prefix-returns-in_err-arg : goal.parse_update_prefix-returns-in_err-arg
+parse_update_prefix-returns-in_err-arg g t c =
+    let first = c.skip.ensures.took.1 in
+    let p = err_from_is_err_and c.from_residual.result c.from_residual.ensures.1 in rw (p.1, p.2)
+    (m.no (s.unheard_after (s.on_took {g = update_tail _ (plain first.was).span c.args.op} g.met.I.Tokens.laws first (λ x ts. update.update_opens _ c.args.op (plain first.was) x ts))
+    (s.unheard_call (λ x p. update_node (plain first.was).span c.args.op x p.0 p.1) (λ x ts. update.update_splits _ (plain first.was).span c.args.op x ts) c.in_err-arg.ensures.reads)) c.parse_unary_expr.ensures.grows)
+
+pub parse_update_prefix-returns-in_err-check_update_target : goal.parse_update_prefix-returns-in_err-check_update_target
+parse_update_prefix-returns-in_err-check_update_target g t c =
+    let p = err_from_is_err_and c.from_residual-in_err-check_update_target.result c.from_residual-in_err-check_update_target.ensures.1 in rw (p.1, p.2)
+    (m.no (s.unheard_memory (s.forgoes_later (s.leads_then (s.took_leads g.met.I.Tokens.laws c.skip.ensures.took.1) c.in_ok-arg.ensures.reads.on.leads) c.in_err-check_update_target.ensures.checks)) c.parse_unary_expr.ensures.grows)
+
+pub parse_update_prefix-returns : goal.parse_update_prefix-returns
+parse_update_prefix-returns g t c =
+    let first = c.skip.ensures.took.1 in
+    let e = tree_of c.parse_unary_expr.new.self.nodes c.in_ok-arg.arg in
+    let whole = ap (λ v. update_e (between v (span_of e).hi) c.args.op true e) (ap (λ v. v.lo) (sym (s.place_was first c.cur_span.result c.cur_span.ensures))) in
+    m.node _ c.update_prefix-node.result c.made.result c.in_ok-arg.ensures.from.above c.update_prefix-node.ensures.made c.made.ensures.ok c.made.ensures.refused c.parse_unary_expr.ensures.grows c.update_prefix-node.ensures.grows
+    (s.heard_answer whole (s.heard_first g.met.I.Tokens.laws first (λ x ts. update.update_opens _ c.args.op (plain first.was) x ts)
+    (s.on_then (s.on_call (λ x p. update_node (plain first.was).span c.args.op x p.0 p.1) (λ x ts. update.update_splits _ (plain first.was).span c.args.op x ts) c.in_ok-arg.ensures.reads.on)
+    (s.on_checked_in (is_target (context g.I.Tokens.model c.parse_unary_expr.new.self.input).strict e) c.in_ok-check_update_target.ensures.checks
+    (λ ts h. update.update_well (plain first.was).span c.args.op (scope g.I.Tokens.model c.parse_unary_expr.new.self.input) e ts h)
+    (λ ts h. update.update_ill (plain first.was).span c.args.op (scope g.I.Tokens.model c.parse_unary_expr.new.self.input) e ts h)))))
+
+pub parse_await_expr-returns-in_err-look : goal.parse_await_expr-returns-in_err-look
+parse_await_expr-returns-in_err-look g t c =
+    let p = err_from_is_err_and c.from_residual.result c.from_residual.ensures.1 in rw (p.1, p.2)
+    (m.no (s.unheard_memory (s.forgoes_later (s.took_leads g.met.I.Tokens.laws c.skip.ensures.took.1) c.in_err-look.ensures.looks)) (grows-same _))
+
+pub parse_await_expr-returns-then-is_sign : goal.parse_await_expr-returns-then-is_sign
+parse_await_expr-returns-then-is_sign g t c =
+    let first = c.skip.ensures.took.1 in
+    m.no (s.unheard_after (s.on_took {g = await_tail _ (plain first.was).span} g.met.I.Tokens.laws first (λ x ts. update.await_opens _ (plain first.was) x ts))
+    (s.unheard_at c.in_ok-look.ensures.looks (λ x ts same e. update.await_star _ (plain first.was).span x ts (ap (at_token is_star) e ∙ sym c.is_sign.ensures.value ∙ c.if-is_sign.true)) c.syntax_error.ensures.refuses)) (grows-same _)
+
+pub parse_await_expr-returns-in_err-is_await_ident : goal.parse_await_expr-returns-in_err-is_await_ident
+parse_await_expr-returns-in_err-is_await_ident g t c =
+    let p = err_from_is_err_and c.from_residual-in_err-is_await_ident.result c.from_residual-in_err-is_await_ident.ensures.1 in rw (p.1, p.2)
+    (m.no (s.unheard_memory (s.forgoes_later (s.leads_then (s.took_leads g.met.I.Tokens.laws c.skip.ensures.took.1) (s.here_leads c.in_ok-look.ensures.looks)) c.in_err-is_await_ident.ensures.looks)) (grows-same _))
+
+pub parse_await_expr-returns-then-branch : goal.parse_await_expr-returns-then-branch
+parse_await_expr-returns-then-branch g t c =
+    let first = c.skip.ensures.took.1 in
+    let start = c.cur_span-start.result in
+    let place = s.place_was first c.cur_span-start.result c.cur_span-start.ensures in
+    m.yes c.parse_await_ident.result
+    (update.parses_first g.I.Tokens.model g.B.Bodies.is_faithful (tree_of c.parse_await_ident.new.self.nodes) _ (await_tail g.B.BodyForms.forms start) _ c.parse_await_ident.result g.met.I.Tokens.laws first
+    (λ x ts. update.await_opens _ (plain first.was) x ts ∙ ap (λ v. await_tail g.B.BodyForms.forms v x ts) (sym place))
+    (s.continues_after g.I.Tokens.model g.B.Bodies.is_faithful (tree_of c.parse_await_ident.new.self.nodes) (await_tail g.B.BodyForms.forms start) _ c.parse_await_ident.result
+    (s.on_then (s.on_seen {g = await_go _ start} c.in_ok-look.ensures.looks (λ x ts same e. update.await_plain _ start x ts (ap (at_token is_star) e ∙ sym c.is_sign.ensures.value ∙ c.if-is_sign.false)))
+    (s.on_seen {g = await_ident start} c.in_ok-is_await_ident.ensures.looks (λ x ts same e. update.await_named _ start x ts
+    (ap (λ v. not x.context.in_async && ends_await_at v) e ∙ ap (λ v. not v.context.in_async && ends_await_at (seen c.is_await_ident.new.input)) same ∙ sym c.in_ok-is_await_ident.ensures.value ∙ c.if-branch.true))))
+    c.parse_await_ident.ensures.reads))
+    c.parse_await_ident.ensures.grows c.parse_await_ident.ensures.from
+
+pub parse_await_expr-returns : goal.parse_await_expr-returns
+parse_await_expr-returns g t c =
+    let first = c.skip.ensures.took.1 in
+    let start = c.cur_span-start.result in
+    let place = s.place_was first c.cur_span-start.result c.cur_span-start.ensures in
+    m.after {m = record c.args.self.now { input = c.is_await_ident.new.input }} c.parse_await_operand.result
+    (s.on_then (s.on_took {g = await_tail _ start} g.met.I.Tokens.laws first (λ x ts. update.await_opens _ (plain first.was) x ts ∙ ap (λ v. await_tail g.B.BodyForms.forms v x ts) (sym place)))
+    (s.on_then (s.on_seen {g = await_go _ start} c.in_ok-look.ensures.looks (λ x ts same e. update.await_plain _ start x ts (ap (at_token is_star) e ∙ sym c.is_sign.ensures.value ∙ c.if-is_sign.false)))
+    (s.on_seen {g = await_operand _ start} c.in_ok-is_await_ident.ensures.looks (λ x ts same e. update.await_goes _ start x ts
+    (ap (λ v. not x.context.in_async && ends_await_at v) e ∙ ap (λ v. not v.context.in_async && ends_await_at (seen c.is_await_ident.new.input)) same ∙ sym c.in_ok-is_await_ident.ensures.value ∙ c.if-branch.false)))))
+    (grows-same _) c.parse_await_operand.ensures
+
+pub parse_await_operand-returns-in_err-check_await : goal.parse_await_operand-returns-in_err-check_await
+parse_await_operand-returns-in_err-check_await g t c =
+    let p = err_from_is_err_and c.from_residual.result c.from_residual.ensures.1 in rw (p.1, p.2)
+    (m.no (s.unheard_memory c.in_err-check_await.ensures.checks) (grows-same _))
+
+pub parse_await_operand-returns-in_err-arg : goal.parse_await_operand-returns-in_err-arg
+parse_await_operand-returns-in_err-arg g t c =
+    let p = err_from_is_err_and c.from_residual-in_err-arg.result c.from_residual-in_err-arg.ensures.1 in rw (p.1, p.2)
+    (m.no (s.unheard_after (s.on_checked_in {g = await_reads _ c.args.start} (await_ok (context g.I.Tokens.model c.args.self.now.input)) c.in_ok-check_await.ensures.checks
+    (λ ts h. update.await_well _ c.args.start (scope g.I.Tokens.model c.args.self.now.input) ts h)
+    (λ ts h. update.await_ill _ c.args.start (scope g.I.Tokens.model c.args.self.now.input) ts h))
+    (s.unheard_call (λ x p. Some (await_e (to c.args.start (span_of p.0)) p.0, p.1)) (λ x ts. refl) c.in_err-arg.ensures.reads)) c.parse_unary_expr.ensures.grows)
+
+pub parse_await_operand-returns : goal.parse_await_operand-returns
+parse_await_operand-returns g t c =
+    m.node _ c.await_expr-node.result c.made.result c.in_ok-arg.ensures.from.above c.await_expr-node.ensures.made c.made.ensures.ok c.made.ensures.refused c.parse_unary_expr.ensures.grows c.await_expr-node.ensures.grows
+    (s.heard_after (s.on_checked_in {g = await_reads _ c.args.start} (await_ok (context g.I.Tokens.model c.args.self.now.input)) c.in_ok-check_await.ensures.checks
+    (λ ts h. update.await_well _ c.args.start (scope g.I.Tokens.model c.args.self.now.input) ts h)
+    (λ ts h. update.await_ill _ c.args.start (scope g.I.Tokens.model c.args.self.now.input) ts h))
+    (s.heard_call (λ x p. Some (await_e (to c.args.start (span_of p.0)) p.0, p.1)) (λ x ts. refl) (λ x ts. refl) c.in_ok-arg.ensures.reads))
 
 pub parse_unary_op-returns-in_err-at : goal.parse_unary_op-returns-in_err-at
 parse_unary_op-returns-in_err-at g t c =
@@ -1215,14 +1300,324 @@ parse_bin_op-returns g t c =
     grown (λ x. from-down (first_kept grown c.requires.from))
     (m.on_after c.bin_expr.result (s.on_here g.met.I.Tokens.laws _ (λ x ts. ap (λ v. bin_op_node g.B.BodyForms.forms c.args.op v c.args.min_prec right ts) (sym later))) (grows-same _) c.bin_expr.ensures))
 
+pub parse_expr-returns-in_err-expr : goal.parse_expr-returns-in_err-expr
+parse_expr-returns-in_err-expr g t c =
+    let p = err_from_is_err_and c.from_residual.result c.from_residual.ensures.1 in rw (p.1, p.2)
+    (m.no (s.unheard_call (λ x p. run _ (seqs (cons p.0 nil)) x p.1) (λ x ts. assign.expr_splits _ x ts) c.in_err-expr.ensures.reads) c.parse_assignment_expr.ensures.grows)
+
+pub parse_expr-returns-in_err-eat : goal.parse_expr-returns-in_err-eat
+parse_expr-returns-in_err-eat g t c =
+    let e = tree_of c.parse_assignment_expr.new.self.nodes c.in_ok-expr.expr in
+    let p = err_from_is_err_and c.from_residual-in_err-eat.result c.from_residual-in_err-eat.ensures.1 in rw (p.1, p.2)
+    (m.no (s.unheard_after (s.on_call (λ x p. run _ (seqs (cons p.0 nil)) x p.1) (λ x ts. assign.expr_splits _ x ts) c.in_ok-expr.ensures.reads.on)
+    (s.unheard_call (λ x p. seqs_by _ (cons e nil) p.0 x p.1) (λ x ts. assign.seqs_splits _ (cons e nil) x ts) (c.in_err-eat.ensures.eats g.B.Bodies.is_faithful))) c.parse_assignment_expr.ensures.grows)
+
+pub parse_expr-returns-in-Some : goal.parse_expr-returns-in-Some
+parse_expr-returns-in-Some g t c =
+    let e = tree_of c.parse_assignment_expr.new.self.nodes c.in_ok-expr.expr in
+    let some = s.eats_some g.B.Bodies.is_faithful is_comma _ c.in-Some.field-0 _ _ c.in-Some.is (c.in_ok-eat.ensures.eats g.B.Bodies.is_faithful) in
+    m.call {m = c.parse_assignment_expr.new.self} c.parse_seq_expr.result (λ x p. run _ (seqs (cons p.0 nil)) x p.1) (λ x ts. assign.expr_splits _ x ts) c.in_ok-expr.ensures.reads c.parse_assignment_expr.ensures.grows (λ x. from-down c.in_ok-expr.ensures.from.above)
+    (m.on_after {m = record c.parse_assignment_expr.new.self { input = c.eat.new.input }} c.parse_seq_expr.result
+    (s.on_call (λ x p. seqs_by _ (cons e nil) p.0 x p.1) (λ x ts. assign.seqs_splits _ (cons e nil) x ts) some.on) (grows-same _)
+    (m.weaker c.parse_seq_expr.result c.parse_seq_expr.ensures))
+
+pub parse_expr-returns-in-None : goal.parse_expr-returns-in-None
+parse_expr-returns-in-None g t c =
+    let e = tree_of c.parse_assignment_expr.new.self.nodes c.in_ok-expr.expr in
+    let none = s.eats_none g.B.Bodies.is_faithful is_comma _ _ _ c.in-None.is (c.in_ok-eat.ensures.eats g.B.Bodies.is_faithful) in
+    m.yes (Ok _)
+    (s.heard_more (λ x p. run _ (seqs (cons p.0 nil)) x p.1) (λ x ts. assign.expr_splits _ x ts) c.in_ok-expr.ensures.reads
+    (s.on_call (λ x p. seqs_by _ (cons e nil) p.0 x p.1) (λ x ts. assign.seqs_splits _ (cons e nil) x ts) none))
+    c.parse_assignment_expr.ensures.grows c.in_ok-expr.ensures.from
+
+pub parse_expr_with_in-returns : goal.parse_expr_with_in-returns
+parse_expr_with_in-returns g t c =
+    m.yes c.parse_expr-expr.result
+    (s.parses_within g.I.Tokens.model g.B.Bodies.is_faithful (tree_of c.parse_expr-expr.new.self.nodes) _ (run _ (at Expr)) c.parse_expr-expr.result include_in (λ x. refl) (λ x ts. assign.inside_expr _ x ts)
+    c.set_ctx.ensures.moves (c.set_ctx.ensures.context ∙ ap include_in c.get_ctx-ctx.ensures) c.parse_expr-expr.ensures.reads c.set_ctx-2.ensures.moves
+    (c.set_ctx-2.ensures.context ∙ c.get_ctx-ctx.ensures))
+    c.parse_expr-expr.ensures.grows c.parse_expr-expr.ensures.from
+
 pub parse_assignment_expr-returns-in_err-require_cur : goal.parse_assignment_expr-returns-in_err-require_cur
 parse_assignment_expr-returns-in_err-require_cur g t c =
     let p = err_from_is_err_and c.from_residual.result c.from_residual.ensures.1 in rw (p.1, p.2)
     (m.no (s.unheard_unfit g.met.I.Tokens.laws (λ x ts h. rule.assign_bad _ x ts h) c.in_err-require_cur.ensures.fits) (grows-same _))
 
+pub parse_assignment_expr-returns-then-is_yield_operator : goal.parse_assignment_expr-returns-then-is_yield_operator
+parse_assignment_expr-returns-then-is_yield_operator g t c =
+    m.after c.parse_yield_expr.result (s.on_seen c.in_ok-require_cur.ensures.fits (λ x ts same e. assign.yield_picked _ x ts
+    (ap (λ v. at_token is_yield v && x.context.in_generator) e ∙ ap (λ v. at_token is_yield (seen c.require_cur.new.input) && v.context.in_generator) same ∙ sym c.is_yield_operator.ensures.value ∙ c.if-is_yield_operator.true))) (grows-same _) c.parse_yield_expr.ensures
+
+pub parse_assignment_expr-returns-in_err-left : goal.parse_assignment_expr-returns-in_err-left
+parse_assignment_expr-returns-in_err-left g t c =
+    let p = err_from_is_err_and c.from_residual-in_err-left.result c.from_residual-in_err-left.ensures.1 in rw (p.1, p.2)
+    (m.no (s.unheard_after (s.on_seen {g = λ x ts. run _ (at (Level 1)) x ts >>= (λ p. run _ (assigns p.0) x p.1)} c.in_ok-require_cur.ensures.fits (λ x ts same e. assign.assign_splits _ x ts
+    (ap (λ v. at_token is_yield v && x.context.in_generator) e ∙ ap (λ v. at_token is_yield (seen c.require_cur.new.input) && v.context.in_generator) same ∙ sym c.is_yield_operator.ensures.value ∙ c.if-is_yield_operator.false)
+    (ap (at_token no_error) e ∙ c.in_ok-require_cur.ensures.token)))
+    (s.unheard_call (λ x p. run _ (assigns p.0) x p.1) (λ x ts. refl) c.in_err-left.ensures.reads)) c.parse_bin_expr.ensures.grows)
+
 pub parse_assignment_expr-returns : goal.parse_assignment_expr-returns
 parse_assignment_expr-returns g t c =
-    m.after c.parse_bin_expr.result (s.on_seen c.in_ok-require_cur.ensures.fits (λ x ts same e. rule.assign_good _ x ts (ap (at_token no_error) e ∙ c.in_ok-require_cur.ensures.token))) (grows-same _) c.parse_bin_expr.ensures
+    m.after {m = record c.args.self.now { input = c.require_cur.new.input }} c.finish_assignment_expr.result (s.on_seen {g = λ x ts. run _ (at (Level 1)) x ts >>= (λ p. run _ (assigns p.0) x p.1)} c.in_ok-require_cur.ensures.fits (λ x ts same e. assign.assign_splits _ x ts
+    (ap (λ v. at_token is_yield v && x.context.in_generator) e ∙ ap (λ v. at_token is_yield (seen c.require_cur.new.input) && v.context.in_generator) same ∙ sym c.is_yield_operator.ensures.value ∙ c.if-is_yield_operator.false)
+    (ap (at_token no_error) e ∙ c.in_ok-require_cur.ensures.token))) (grows-same _)
+    (m.call c.finish_assignment_expr.result (λ x p. run _ (assigns p.0) x p.1) (λ x ts. refl)
+    c.in_ok-left.ensures.reads c.parse_bin_expr.ensures.grows (λ x. from-down c.in_ok-left.ensures.from.above) c.finish_assignment_expr.ensures)
+
+pub finish_assignment_expr-returns-in_err-look : goal.finish_assignment_expr-returns-in_err-look
+finish_assignment_expr-returns-in_err-look g t c =
+    let p = err_from_is_err_and c.from_residual.result c.from_residual.ensures.1 in rw (p.1, p.2)
+    (m.no_more (s.unheard_memory c.in_err-look.ensures.looks) (grows-same _))
+
+pub finish_assignment_expr-returns-then-is_sign : goal.finish_assignment_expr-returns-then-is_sign
+finish_assignment_expr-returns-then-is_sign g t c =
+    let l = tree_of c.args.self.now.nodes c.args.left in
+    m.on_after c.parse_cond_expr.result (s.on_seen c.in_ok-look.ensures.looks (λ x ts same e. assign.assigns_cond _ l x ts (ap (at_token is_question) e ∙ sym c.is_sign.ensures.value ∙ c.if-is_sign.true))) (grows-same _)
+    (m.weaker c.parse_cond_expr.result c.parse_cond_expr.ensures)
+
+pub finish_assignment_expr-returns-in-Some : goal.finish_assignment_expr-returns-in-Some
+finish_assignment_expr-returns-in-Some g t c =
+    let l = tree_of c.args.self.now.nodes c.args.left in
+    m.on_after c.parse_assign_expr.result (s.on_seen c.in_ok-look.ensures.looks (λ x ts same e. assign.assigns_assign _ c.in-Some.op l x ts (ap (λ v. assign_at v l) e ∙ sym c.cur_assign_op.ensures.value ∙ c.in-Some.is))) (grows-same _)
+    (m.weaker c.parse_assign_expr.result c.parse_assign_expr.ensures)
+
+pub finish_assignment_expr-returns-in-None : goal.finish_assignment_expr-returns-in-None
+finish_assignment_expr-returns-in-None g t c =
+    let l = tree_of c.args.self.now.nodes c.args.left in
+    m.on (Ok _) (s.on_seen c.in_ok-look.ensures.looks (λ x ts same e. assign.assigns_end _ l x ts
+    (ap (at_token is_question) e ∙ sym c.is_sign.ensures.value ∙ c.if-is_sign.false)
+    (ap (λ v. assign_at v l) e ∙ sym c.cur_assign_op.ensures.value ∙ c.in-None.is))) (grows-same _) (from_self c.requires.from)
+
+pub parse_cond_expr-returns-in_err-cons : goal.parse_cond_expr-returns-in_err-cons
+parse_cond_expr-returns-in_err-cons g t c =
+    let l = tree_of c.args.self.now.nodes c.args.test in
+    let p = err_from_is_err_and c.from_residual.result c.from_residual.ensures.1 in rw (p.1, p.2)
+    (m.no (s.unheard_after (s.on_took {g = cond_tail _ l} g.met.I.Tokens.laws c.skip.ensures.took.1 (λ x ts. refl))
+    (s.unheard_call (λ x p. cond_colon _ l p.0 x p.1) (λ x ts. assign.cond_tail_splits _ l x ts) c.in_err-cons.ensures.reads)) c.parse_assignment_expr_with_in.ensures.grows)
+
+pub parse_cond_expr-returns-in_err-expect : goal.parse_cond_expr-returns-in_err-expect
+parse_cond_expr-returns-in_err-expect g t c =
+    let l = tree_of c.args.self.now.nodes c.args.test in
+    let e = tree_of c.parse_assignment_expr_with_in.new.self.nodes c.in_ok-cons.cons in
+    let p = err_from_is_err_and c.from_residual-in_err-expect.result c.from_residual-in_err-expect.ensures.1 in rw (p.1, p.2)
+    (m.no (s.unheard_after (s.on_then (s.on_took {g = cond_tail _ l} g.met.I.Tokens.laws c.skip.ensures.took.1 (λ x ts. refl))
+    (s.on_call (λ x p. cond_colon _ l p.0 x p.1) (λ x ts. assign.cond_tail_splits _ l x ts) c.in_ok-cons.ensures.reads.on))
+    (s.unheard_call (λ x q. cond_close _ l e x q.1) (λ x ts. refl) (c.in_err-expect.ensures.expects g.B.Bodies.is_faithful))) c.parse_assignment_expr_with_in.ensures.grows)
+
+pub parse_cond_expr-returns-in_err-alt : goal.parse_cond_expr-returns-in_err-alt
+parse_cond_expr-returns-in_err-alt g t c =
+    let l = tree_of c.args.self.now.nodes c.args.test in
+    let e = tree_of c.parse_assignment_expr_with_in.new.self.nodes c.in_ok-cons.cons in
+    let p = err_from_is_err_and c.from_residual-in_err-alt.result c.from_residual-in_err-alt.ensures.1 in rw (p.1, p.2)
+    (m.no (s.unheard_after (s.on_then (s.on_then (s.on_took {g = cond_tail _ l} g.met.I.Tokens.laws c.skip.ensures.took.1 (λ x ts. refl))
+    (s.on_call (λ x p. cond_colon _ l p.0 x p.1) (λ x ts. assign.cond_tail_splits _ l x ts) c.in_ok-cons.ensures.reads.on))
+    (s.on_call (λ x q. cond_close _ l e x q.1) (λ x ts. refl) (c.in_ok-expect.ensures.expects g.B.Bodies.is_faithful).on))
+    (s.unheard_call (λ x q. Some (cond_e (to (span_of l) (span_of q.0)) l e q.0, q.1)) (λ x ts. refl) c.in_err-alt.ensures.reads))
+    (grows-then c.parse_assignment_expr_with_in.ensures.grows c.parse_assignment_expr.ensures.grows))
+
+pub parse_cond_expr-cond_expr-node-requires-clause-test : goal.parse_cond_expr-cond_expr-node-requires-clause-test
+parse_cond_expr-cond_expr-node-requires-clause-test g t c =
+    from-later (grows-then c.parse_assignment_expr_with_in.ensures.grows c.parse_assignment_expr.ensures.grows) c.requires.from
+
+pub parse_cond_expr-cond_expr-node-requires-clause-then : goal.parse_cond_expr-cond_expr-node-requires-clause-then
+parse_cond_expr-cond_expr-node-requires-clause-then g t c =
+    from-down (let h = c.requires.from.within in omega arith) (from-later c.parse_assignment_expr.ensures.grows c.in_ok-cons.ensures.from)
+
+pub parse_cond_expr-cond_expr-node-requires-clause-other : goal.parse_cond_expr-cond_expr-node-requires-clause-other
+parse_cond_expr-cond_expr-node-requires-clause-other g t c =
+    from-down (let h = c.in_ok-cons.ensures.from.within in omega arith) c.in_ok-alt.ensures.from
+
+pub parse_cond_expr-returns : goal.parse_cond_expr-returns
+parse_cond_expr-returns g t c =
+    let l = tree_of c.args.self.now.nodes c.args.test in
+    let e = tree_of c.parse_assignment_expr_with_in.new.self.nodes c.in_ok-cons.cons in
+    let a = tree_of c.parse_assignment_expr.new.self.nodes c.in_ok-alt.alt in
+    let grows = grows-then c.parse_assignment_expr_with_in.ensures.grows c.parse_assignment_expr.ensures.grows in
+    let whole = ap (λ v. cond_e (to (span_of v) (span_of a)) v e a) (sym (tree-later grows c.requires.from))
+    ∙ ap (λ v. cond_e (to (span_of (tree_of c.parse_assignment_expr.new.self.nodes c.args.test)) (span_of a)) (tree_of c.parse_assignment_expr.new.self.nodes c.args.test) v a) (sym (tree-later c.parse_assignment_expr.ensures.grows c.in_ok-cons.ensures.from)) in
+    m.node _ c.cond_expr-node.result c.made.result (first_kept grows c.requires.from) c.cond_expr-node.ensures.made c.made.ensures.ok c.made.ensures.refused grows c.cond_expr-node.ensures.grows
+    (s.heard_answer whole (s.heard_first g.met.I.Tokens.laws c.skip.ensures.took.1 (λ x ts. refl)
+    (s.on_then (s.on_call (λ x p. cond_colon _ l p.0 x p.1) (λ x ts. assign.cond_tail_splits _ l x ts) c.in_ok-cons.ensures.reads.on)
+    (s.on_then (s.on_call (λ x q. cond_close _ l e x q.1) (λ x ts. refl) (c.in_ok-expect.ensures.expects g.B.Bodies.is_faithful).on)
+    (s.on_call (λ x q. Some (cond_e (to (span_of l) (span_of q.0)) l e q.0, q.1)) (λ x ts. refl) c.in_ok-alt.ensures.reads.on)))))
+
+pub parse_seq_expr-returns-in_err-add : goal.parse_seq_expr-returns-in_err-add
+parse_seq_expr-returns-in_err-add g t c =
+    let p = err_from_is_err_and c.from_residual.result c.from_residual.ensures.1 in rw (p.1, p.2)
+    (m.no (s.unheard_memory (s.forgoes_here g.met.I.Tokens.laws _ _ _ c.in_err-add.ensures.refused)) (grows-same _))
+
+pub parse_seq_expr-loop-exprs-init : goal.parse_seq_expr-loop-exprs-init
+parse_seq_expr-loop-exprs-init g t c =
+    let now = c.args.self.now.nodes in
+    let one = c.in_ok-add.ensures.added ∙ ap (λ v. v ++ c.args.first ∷ []) c.new-exprs.ensures.items in (
+      s.on_here g.met.I.Tokens.laws _ (λ x ts. ap (λ v. seqs_more g.B.BodyForms.forms (trees (map (λ e. tree_at now e.0) v)) x ts) (sym one)),
+      omega arith,
+      grows-same _,
+      record { chained = ap (λ v. chain (seat_at now) (first_at now c.args.first.0) (flat one_expr v) (count now)) one ∙ (apart-from (expr_part c.args.first) (from_self c.requires.from)).chained },
+      subst (λ v. 1 ≤ length v) (sym one) (omega arith),
+    )
+
+pub parse_seq_expr-returns-in_err-expr : goal.parse_seq_expr-returns-in_err-expr
+parse_seq_expr-returns-in_err-expr g t c =
+    let es = expr_trees (tree_at c.loop-exprs.self.nodes) c.loop-exprs.exprs in
+    let p = err_from_is_err_and c.from_residual-in_err-expr.result c.from_residual-in_err-expr.ensures.1 in rw (p.1, p.2)
+    (m.no (s.unheard_after c.loop-exprs.invariant.0 (s.unheard_call (λ x p. run _ (seqs (trees_append es (cons p.0 nil))) x p.1) (λ x ts. assign.seqs_more_splits _ es x ts) c.in_err-expr.ensures.reads))
+    (grows-then c.loop-exprs.invariant.2 c.parse_assignment_expr.ensures.grows))
+
+pub parse_seq_expr-returns-in_err-add-2 : goal.parse_seq_expr-returns-in_err-add-2
+parse_seq_expr-returns-in_err-add-2 g t c =
+    let p = err_from_is_err_and c.from_residual-in_err-add-2.result c.from_residual-in_err-add-2.ensures.1 in rw (p.1, p.2)
+    (m.no (s.unheard_memory (s.forgoes_later (s.leads_then c.loop-exprs.invariant.0.leads c.in_ok-expr.ensures.reads.on.leads) (s.forgoes_here g.met.I.Tokens.laws _ _ _ c.in_err-add-2.ensures.refused)))
+    (grows-then c.loop-exprs.invariant.2 c.parse_assignment_expr.ensures.grows))
+
+pub parse_seq_expr-returns-in_err-eat : goal.parse_seq_expr-returns-in_err-eat
+parse_seq_expr-returns-in_err-eat g t c =
+    let es = expr_trees (tree_at c.loop-exprs.self.nodes) c.loop-exprs.exprs in
+    let more = trees_append es (cons (tree_of c.parse_assignment_expr.new.self.nodes c.in_ok-expr.expr) nil) in
+    let p = err_from_is_err_and c.from_residual-in_err-eat.result c.from_residual-in_err-eat.ensures.1 in rw (p.1, p.2)
+    (m.no (s.unheard_after c.loop-exprs.invariant.0 (s.unheard_after (s.on_call (λ x p. run _ (seqs (trees_append es (cons p.0 nil))) x p.1) (λ x ts. assign.seqs_more_splits _ es x ts) c.in_ok-expr.ensures.reads.on)
+    (s.unheard_call (λ x p. seqs_by _ more p.0 x p.1) (λ x ts. assign.seqs_splits _ more x ts) (c.in_err-eat.ensures.eats g.B.Bodies.is_faithful))))
+    (grows-then c.loop-exprs.invariant.2 c.parse_assignment_expr.ensures.grows))
+
+pub parse_seq_expr-loop-exprs-preserved : goal.parse_seq_expr-loop-exprs-preserved
+parse_seq_expr-loop-exprs-preserved g t c =
+    let es = expr_trees (tree_at c.loop-exprs.self.nodes) c.loop-exprs.exprs in
+    let nodes = c.parse_assignment_expr.new.self.nodes in
+    let more = trees_append es (cons (tree_of nodes c.in_ok-expr.expr) nil) in
+    let grows = c.parse_assignment_expr.ensures.grows in
+    let some = s.eats_some g.B.Bodies.is_faithful is_comma _ c.in-Some.field-0 _ _ c.in-Some.is (c.in_ok-eat.ensures.eats g.B.Bodies.is_faithful) in
+    let added = ap (λ v. trees (map (λ e. tree_at nodes e.0) v)) c.in_ok-add-2.ensures.added ∙ exprs-more c.loop-exprs.exprs.items c.in_ok-expr.expr grows c.loop-exprs.invariant.3 in
+    let parts = exprs-apart-more c.loop-exprs.exprs.items c.in_ok-expr.expr grows c.loop-exprs.invariant.3 c.in_ok-expr.ensures.from in (
+      s.on_then c.loop-exprs.invariant.0 (s.on_then (s.on_call (λ x p. run _ (seqs (trees_append es (cons p.0 nil))) x p.1) (λ x ts. assign.seqs_more_splits _ es x ts) c.in_ok-expr.ensures.reads.on)
+          (s.on_to (s.on_call (λ x p. seqs_by _ more p.0 x p.1) (λ x ts. assign.seqs_splits _ more x ts) some.on)
+          (λ x ts. ap (λ v. seqs_more g.B.BodyForms.forms v x ts) (sym added)))),
+      let a = c.loop-exprs.invariant.1 in let b = c.in_ok-expr.ensures.falls in let d = c.in_ok-eat.ensures.falls in omega arith,
+      grows-then c.loop-exprs.invariant.2 grows,
+      record { chained = ap (λ v. chain (seat_at nodes) (first_at c.args.self.now.nodes c.args.first.0) (flat one_expr v) (count nodes)) c.in_ok-add-2.ensures.added ∙ parts.chained },
+      subst (λ v. 1 ≤ length v) (sym c.in_ok-add-2.ensures.added) (let h = length-append c.loop-exprs.exprs.items (c.in_ok-expr.expr ∷ []) in omega arith),
+    )
+
+pub parse_seq_expr-returns-in-None : goal.parse_seq_expr-returns-in-None
+parse_seq_expr-returns-in-None g t c =
+    let es = expr_trees (tree_at c.loop-exprs.self.nodes) c.loop-exprs.exprs in
+    let nodes = c.parse_assignment_expr.new.self.nodes in
+    let more = trees_append es (cons (tree_of nodes c.in_ok-expr.expr) nil) in
+    let grows = c.parse_assignment_expr.ensures.grows in
+    let none = s.eats_none g.B.Bodies.is_faithful is_comma _ _ _ c.in-None.is (c.in_ok-eat.ensures.eats g.B.Bodies.is_faithful) in
+    let added = ap (λ v. trees (map (λ e. tree_at nodes e.0) v)) c.in_ok-add-2.ensures.added ∙ exprs-more c.loop-exprs.exprs.items c.in_ok-expr.expr grows c.loop-exprs.invariant.3 in
+    let parts = exprs-apart-more c.loop-exprs.exprs.items c.in_ok-expr.expr grows c.loop-exprs.invariant.3 c.in_ok-expr.ensures.from in
+    let apart : Apart (first_at c.args.self.now.nodes c.args.first.0) nodes (exprs_parts c.add-in-loop-exprs.new.list) = record { chained = ap (λ v. chain (seat_at nodes) (first_at c.args.self.now.nodes c.args.first.0) (flat one_expr v) (count nodes)) c.in_ok-add-2.ensures.added ∙ parts.chained } in
+    m.node _ c.seq_expr-node.result c.made.result (omega arith)
+    (made_over _ _ (first_at c.args.self.now.nodes c.args.first.0) (exprs_parts c.add-in-loop-exprs.new.list) _ c.seq_expr-node.result c.seq_expr-node.ensures.made apart)
+    c.made.ensures.ok c.made.ensures.refused (grows-then c.loop-exprs.invariant.2 grows) c.seq_expr-node.ensures.grows
+    (s.heard_answer (ap seq_of (sym added)) (s.heard_after c.loop-exprs.invariant.0 (s.heard_more (λ x p. run _ (seqs (trees_append es (cons p.0 nil))) x p.1) (λ x ts. assign.seqs_more_splits _ es x ts) c.in_ok-expr.ensures.reads
+    (s.on_call (λ x p. seqs_by _ more p.0 x p.1) (λ x ts. assign.seqs_splits _ more x ts) none))))
+
+pub parse_seq_expr-seq_expr-node-requires-clause-apart : goal.parse_seq_expr-seq_expr-node-requires-clause-apart
+parse_seq_expr-seq_expr-node-requires-clause-apart g t c =
+    let nodes = c.parse_assignment_expr.new.self.nodes in
+    let start = first_at c.args.self.now.nodes c.args.first.0 in
+    let parts = exprs-apart-more c.loop-exprs.exprs.items c.in_ok-expr.expr c.parse_assignment_expr.ensures.grows c.loop-exprs.invariant.3 c.in_ok-expr.ensures.from in
+    let apart : Apart start nodes (exprs_parts c.add-in-loop-exprs.new.list) = record { chained = ap (λ v. chain (seat_at nodes) start (flat one_expr v) (count nodes)) c.in_ok-add-2.ensures.added ∙ parts.chained } in
+    apart-down (exprs_parts c.add-in-loop-exprs.new.list) apart
+
+pub parse_assign_expr-returns-in_err-check_assign_target : goal.parse_assign_expr-returns-in_err-check_assign_target
+parse_assign_expr-returns-in_err-check_assign_target g t c =
+    let l = tree_of c.args.self.now.nodes c.args.left in
+    let h = c.in_err-check_assign_target.ensures.refuses in
+    let p = err_from_is_err_and c.from_residual.result c.from_residual.ensures.1 in rw (p.1, p.2)
+    (m.no (record { refuses = h.0; none = λ n sure loud ts k. assign.assign_ill _ c.args.op l (scope g.I.Tokens.model c.args.self.now.input) ts (h.1 n) }) (grows-same _))
+
+pub parse_assign_expr-returns-in_err-right : goal.parse_assign_expr-returns-in_err-right
+parse_assign_expr-returns-in_err-right g t c =
+    let l = tree_of c.args.self.now.nodes c.args.left in
+    let x0 = scope g.I.Tokens.model c.args.self.now.input in
+    let p = err_from_is_err_and c.from_residual-in_err-right.result c.from_residual-in_err-right.ensures.1 in rw (p.1, p.2)
+    (m.no (s.unheard_after (s.on_then (s.on_checked_in {g = behind (assign_tail _ c.args.op l)} (is_target x0.context.strict l) c.in_ok-check_assign_target.ensures.checks
+    (λ ts h. assign.assign_well _ c.args.op l x0 ts h) (λ ts h. assign.assign_ill _ c.args.op l x0 ts h))
+    (s.on_took {g = assign_tail _ c.args.op l} g.met.I.Tokens.laws c.skip.ensures.took.1 (λ x ts. refl)))
+    (s.unheard_call (λ x p. Some (assign_e (to (span_of l) (span_of p.0)) c.args.op l p.0, p.1)) (λ x ts. assign.assign_tail_splits _ c.args.op l x ts) c.in_err-right.ensures.reads)) c.parse_assignment_expr.ensures.grows)
+
+pub parse_assign_expr-assign_expr-node-requires-clause-left : goal.parse_assign_expr-assign_expr-node-requires-clause-left
+parse_assign_expr-assign_expr-node-requires-clause-left g t c = from-later c.parse_assignment_expr.ensures.grows c.in_ok-check_assign_target.ensures.target
+
+pub parse_assign_expr-assign_expr-node-requires-clause-right : goal.parse_assign_expr-assign_expr-node-requires-clause-right
+parse_assign_expr-assign_expr-node-requires-clause-right g t c = from-down (let h = c.requires.from.within in omega arith) c.in_ok-right.ensures.from
+
+pub parse_assign_expr-returns : goal.parse_assign_expr-returns
+parse_assign_expr-returns g t c =
+    let l = tree_of c.args.self.now.nodes c.args.left in
+    let r = tree_of c.parse_assignment_expr.new.self.nodes c.in_ok-right.right in
+    let x0 = scope g.I.Tokens.model c.args.self.now.input in
+    let grows = c.parse_assignment_expr.ensures.grows in
+    let whole = ap (λ v. assign_e (to (span_of v) (span_of r)) c.args.op v r) (sym (tree-later grows c.requires.from)) in
+    m.node _ c.assign_expr-node.result c.made.result (first_kept grows c.requires.from) c.assign_expr-node.ensures.made c.made.ensures.ok c.made.ensures.refused grows c.assign_expr-node.ensures.grows
+    (s.heard_answer whole (s.heard_after (s.on_checked_in {g = behind (assign_tail _ c.args.op l)} (is_target x0.context.strict l) c.in_ok-check_assign_target.ensures.checks
+    (λ ts h. assign.assign_well _ c.args.op l x0 ts h) (λ ts h. assign.assign_ill _ c.args.op l x0 ts h))
+    (s.heard_first g.met.I.Tokens.laws c.skip.ensures.took.1 (λ x ts. refl)
+    (s.on_call (λ x p. Some (assign_e (to (span_of l) (span_of p.0)) c.args.op l p.0, p.1)) (λ x ts. assign.assign_tail_splits _ c.args.op l x ts) c.in_ok-right.ensures.reads.on))))
+
+pub parse_yield_expr-returns-in_err-refuse_yield_param : goal.parse_yield_expr-returns-in_err-refuse_yield_param
+parse_yield_expr-returns-in_err-refuse_yield_param g t c =
+    let first = c.skip.ensures.took.1 in
+    let h = c.in_err-refuse_yield_param.ensures.refuses in
+    let p = err_from_is_err_and c.from_residual.result c.from_residual.ensures.1 in rw (p.1, p.2)
+    (m.no (s.unheard_after (s.on_took {g = yield_tail _ (plain first.was).span} g.met.I.Tokens.laws first (λ x ts. assign.yield_opens _ (plain first.was) x ts))
+    (record { refuses = h.0; none = λ n sure loud ts k. assign.yield_ill _ (plain first.was).span (scope g.I.Tokens.model c.skip.new.input) ts h.1 })) (grows-same _))
+
+pub parse_yield_expr-returns-in_err-goes_on_yield : goal.parse_yield_expr-returns-in_err-goes_on_yield
+parse_yield_expr-returns-in_err-goes_on_yield g t c =
+    let p = err_from_is_err_and c.from_residual-in_err-goes_on_yield.result c.from_residual-in_err-goes_on_yield.ensures.1 in rw (p.1, p.2)
+    (m.no (s.unheard_memory (s.forgoes_later (s.leads_then (s.took_leads g.met.I.Tokens.laws c.skip.ensures.took.1) (s.same_leads g.met.I.Tokens.laws c.in_ok-refuse_yield_param.ensures.passes.0)) c.in_err-goes_on_yield.ensures.looks)) (grows-same _))
+
+pub parse_yield_expr-returns-then-branch : goal.parse_yield_expr-returns-then-branch
+parse_yield_expr-returns-then-branch g t c =
+    let first = c.skip.ensures.took.1 in
+    let start = c.cur_span-start.result in
+    let place = s.place_was first c.cur_span-start.result c.cur_span-start.ensures in
+    let same_at = s.leads_then (s.same_leads g.met.I.Tokens.laws c.in_ok-refuse_yield_param.ensures.passes.0) (s.here_leads c.in_ok-goes_on_yield.ensures.looks) in
+    m.after {m = record c.args.self.now { input = c.goes_on_yield.new.input }} c.parse_yield_operand.result
+    (s.on_then (s.on_took {g = yield_tail _ start} g.met.I.Tokens.laws first (λ x ts. assign.yield_opens _ (plain first.was) x ts ∙ ap (λ v. yield_tail g.B.BodyForms.forms v x ts) (sym place)))
+    (s.on_then (s.on_same {f = yield_tail _ start} g.met.I.Tokens.laws c.in_ok-refuse_yield_param.ensures.passes.0)
+    (s.on_seen {g = yield_operand _ start} c.in_ok-goes_on_yield.ensures.looks (λ x ts same e.
+    assign.yield_well _ start x ts (ap (λ v. yield_ok v.context) (same ∙ s.read_scope g.met.I.Tokens.laws same_at.read) ∙ c.in_ok-refuse_yield_param.ensures.passes.1)
+    ∙ assign.yield_goes _ start x ts (ap goes_on_yield_at e ∙ sym c.in_ok-goes_on_yield.ensures.value ∙ c.if-branch.true)))))
+    (grows-same _) c.parse_yield_operand.ensures
+
+pub parse_yield_expr-returns : goal.parse_yield_expr-returns
+parse_yield_expr-returns g t c =
+    let first = c.skip.ensures.took.1 in
+    let start = c.cur_span-start.result in
+    let place = s.place_was first c.cur_span-start.result c.cur_span-start.ensures in
+    let same_at = s.leads_then (s.same_leads g.met.I.Tokens.laws c.in_ok-refuse_yield_param.ensures.passes.0) (s.here_leads c.in_ok-goes_on_yield.ensures.looks) in
+    m.node _ c.yield_alone-node.result c.made.result (omega arith) c.yield_alone-node.ensures.made c.made.ensures.ok c.made.ensures.refused (grows-same _) c.yield_alone-node.ensures.grows
+    (s.heard_first g.met.I.Tokens.laws first (λ x ts. assign.yield_opens _ (plain first.was) x ts ∙ ap (λ v. yield_tail g.B.BodyForms.forms v x ts) (sym place))
+    (s.on_then (s.on_same {f = yield_tail _ start} g.met.I.Tokens.laws c.in_ok-refuse_yield_param.ensures.passes.0)
+    (s.on_seen {g = s.give (yield_e start false hole_e)} c.in_ok-goes_on_yield.ensures.looks (λ x ts same e.
+    assign.yield_well _ start x ts (ap (λ v. yield_ok v.context) (same ∙ s.read_scope g.met.I.Tokens.laws same_at.read) ∙ c.in_ok-refuse_yield_param.ensures.passes.1)
+    ∙ assign.yield_stays _ start x ts (ap goes_on_yield_at e ∙ sym c.in_ok-goes_on_yield.ensures.value ∙ c.if-branch.false)))))
+
+pub parse_yield_operand-returns-in_err-star : goal.parse_yield_operand-returns-in_err-star
+parse_yield_operand-returns-in_err-star g t c =
+    let p = err_from_is_err_and c.from_residual.result c.from_residual.ensures.1 in rw (p.1, p.2)
+    (m.no (s.unheard_call (λ x p. yield_arg _ c.args.start p.0 x p.1) (λ x ts. assign.yield_operand_splits _ c.args.start x ts) (c.in_err-star.ensures.eats g.B.Bodies.is_faithful)) (grows-same _))
+
+pub parse_yield_operand-returns-in-Ok : goal.parse_yield_operand-returns-in-Ok
+parse_yield_operand-returns-in-Ok g t c =
+    let star = c.in_ok-star.star in
+    let e = tree_of c.parse_assignment_expr.new.self.nodes c.in-Ok.arg in
+    let given = ap (λ b. yield_e (between c.args.start.lo (span_of e).hi) b e) (sym (assign.given_some star) ∙ sym c.is_some.ensures) in
+    m.node _ c.yield_expr-node.result c.made.result c.in-Ok.ensures.from.above c.yield_expr-node.ensures.made c.made.ensures.ok c.made.ensures.refused c.parse_assignment_expr.ensures.grows c.yield_expr-node.ensures.grows
+    (s.heard_answer given (s.heard_after (s.on_call (λ x p. yield_arg _ c.args.start p.0 x p.1) (λ x ts. assign.yield_operand_splits _ c.args.start x ts) (s.eats_on g.B.Bodies.is_faithful is_star star _ _ (c.in_ok-star.ensures.eats g.B.Bodies.is_faithful)))
+    (s.heard_call (λ x q. Some (yield_e (to c.args.start (span_of q.0)) (is_some star) q.0, q.1)) (λ x ts. refl) (λ x ts. refl) c.in-Ok.ensures.reads)))
+
+pub parse_yield_operand-returns-in-Err : goal.parse_yield_operand-returns-in-Err
+parse_yield_operand-returns-in-Err g t c =
+    let star = c.in_ok-star.star in
+    m.no (s.unheard_as c.label_yield.result c.label_yield.ensures.kind c.label_yield.ensures.memory
+    (s.unheard_after (s.on_call (λ x p. yield_arg _ c.args.start p.0 x p.1) (λ x ts. assign.yield_operand_splits _ c.args.start x ts) (s.eats_on g.B.Bodies.is_faithful is_star star _ _ (c.in_ok-star.ensures.eats g.B.Bodies.is_faithful)))
+    (s.unheard_call (λ x q. Some (yield_e (to c.args.start (span_of q.0)) (is_some star) q.0, q.1)) (λ x ts. refl) c.in-Err.ensures.reads)))
+    c.parse_assignment_expr.ensures.grows
 
 pub parse_assignment_expr_with_in-returns : goal.parse_assignment_expr_with_in-returns
 parse_assignment_expr_with_in-returns g t c =
@@ -1341,8 +1736,8 @@ parse_tpl_elements-loop-exprs-preserved g t c =
     let element = s.on_call (λ x p. parts_after g.B.BodyForms.forms c.args.is_tagged (trees_append texts (cons p.0 nil)) exprs x p.1) (λ x ts. tpl.behind_splits _ c.args.is_tagged texts exprs x ts) (c.in_ok-quasi.ensures.parses g.B.Bodies.is_faithful).on in
     let opened = s.on_call (λ x p. parts_by g.B.BodyForms.forms c.args.is_tagged now exprs p.0 x p.1) (λ x ts. refl) (s.on_answer c.in-None.is (c.in_ok-end.ensures.ends g.B.Bodies.is_faithful).on) in
     let added = ap (λ v. trees (map quasi_tree v)) c.in_ok-add.ensures.added ∙ trees-more quasi_tree c.loop-exprs.quasis.items c.in_ok-quasi.quasi in
-    let grows = grows-then (grows-kept c.parse_tpl_element.ensures.nodes) c.parse_assignment_expr_with_in.ensures.grows in
-    let nodes = c.parse_assignment_expr_with_in.new.self.nodes in
+    let grows = grows-then (grows-kept c.parse_tpl_element.ensures.nodes) c.parse_expr_with_in.ensures.grows in
+    let nodes = c.parse_expr_with_in.new.self.nodes in
     let more = ap (λ v. trees (map (tree_of nodes) v)) c.in_ok-add-2.ensures.added ∙ exprs-more c.loop-exprs.exprs.items c.in_ok-expr.expr grows c.loop-exprs.invariant.3 in
     let parts = exprs-apart-more c.loop-exprs.exprs.items c.in_ok-expr.expr grows c.loop-exprs.invariant.3 (from-down (grows-count (grows-kept c.parse_tpl_element.ensures.nodes)) c.in_ok-expr.ensures.from) in (
       s.on_then c.loop-exprs.invariant.0 (s.on_then element (s.on_then opened
@@ -1405,7 +1800,7 @@ parse_tpl_elements-returns-in_err-expr g t c =
     (m.no (s.unheard_after c.loop-exprs.invariant.0 (s.unheard_after element (s.unheard_after opened
     (s.unheard_call (λ x p. parts_behind g.B.BodyForms.forms c.args.is_tagged now (trees_append exprs (cons p.0 nil)) x p.1) (λ x ts. refl)
     (s.unheard_call (λ x p. tpl_expr_close g.B.BodyForms.forms p.0 x p.1) (λ x ts. refl) c.in_err-expr.ensures.reads)))))
-    (grows-then c.loop-exprs.invariant.2 (grows-then (grows-kept c.parse_tpl_element.ensures.nodes) c.parse_assignment_expr_with_in.ensures.grows)))
+    (grows-then c.loop-exprs.invariant.2 (grows-then (grows-kept c.parse_tpl_element.ensures.nodes) c.parse_expr_with_in.ensures.grows)))
 
 pub parse_tpl_elements-returns-in_err-expect : goal.parse_tpl_elements-returns-in_err-expect
 parse_tpl_elements-returns-in_err-expect g t c =
@@ -1414,13 +1809,13 @@ parse_tpl_elements-returns-in_err-expect g t c =
     let now = trees_append texts (cons (quasi_tree c.in_ok-quasi.quasi) nil) in
     let element = s.on_call (λ x p. parts_after g.B.BodyForms.forms c.args.is_tagged (trees_append texts (cons p.0 nil)) exprs x p.1) (λ x ts. tpl.behind_splits _ c.args.is_tagged texts exprs x ts) (c.in_ok-quasi.ensures.parses g.B.Bodies.is_faithful).on in
     let opened = s.on_call (λ x p. parts_by g.B.BodyForms.forms c.args.is_tagged now exprs p.0 x p.1) (λ x ts. refl) (s.on_answer c.in-None.is (c.in_ok-end.ensures.ends g.B.Bodies.is_faithful).on) in
-    let e = tree_of c.parse_assignment_expr_with_in.new.self.nodes c.in_ok-expr.expr in
+    let e = tree_of c.parse_expr_with_in.new.self.nodes c.in_ok-expr.expr in
     let p = err_from_is_err_and c.from_residual-in_err-expect.result c.from_residual-in_err-expect.ensures.1 in rw (p.1, p.2)
     (m.no (s.unheard_after c.loop-exprs.invariant.0 (s.unheard_after element (s.unheard_after opened
     (s.unheard_call (λ x p. parts_behind g.B.BodyForms.forms c.args.is_tagged now (trees_append exprs (cons p.0 nil)) x p.1) (λ x ts. refl)
     (s.unheard_after (s.on_call (λ x p. tpl_expr_close g.B.BodyForms.forms p.0 x p.1) (λ x ts. refl) c.in_ok-expr.ensures.reads.on)
     (s.unheard_call (λ x q. Some (e, q.1)) (λ x ts. refl) (c.in_err-expect.ensures.expects g.B.Bodies.is_faithful)))))))
-    (grows-then c.loop-exprs.invariant.2 (grows-then (grows-kept c.parse_tpl_element.ensures.nodes) c.parse_assignment_expr_with_in.ensures.grows)))
+    (grows-then c.loop-exprs.invariant.2 (grows-then (grows-kept c.parse_tpl_element.ensures.nodes) c.parse_expr_with_in.ensures.grows)))
 
 pub parse_tpl_elements-returns-in_err-add-2 : goal.parse_tpl_elements-returns-in_err-add-2
 parse_tpl_elements-returns-in_err-add-2 g t c =
@@ -1428,4 +1823,4 @@ parse_tpl_elements-returns-in_err-add-2 g t c =
     (m.no (s.unheard_memory (s.forgoes_later (s.leads_then c.loop-exprs.invariant.0.leads (s.leads_then (c.in_ok-quasi.ensures.parses g.B.Bodies.is_faithful).on.leads (s.leads_then (c.in_ok-end.ensures.ends g.B.Bodies.is_faithful).on.leads
     (s.leads_then c.in_ok-expr.ensures.reads.on.leads (c.in_ok-expect.ensures.expects g.B.Bodies.is_faithful).on.leads))))
     (s.forgoes_here g.met.I.Tokens.laws _ _ _ c.in_err-add-2.ensures.refused)))
-    (grows-then c.loop-exprs.invariant.2 (grows-then (grows-kept c.parse_tpl_element.ensures.nodes) c.parse_assignment_expr_with_in.ensures.grows)))
+    (grows-then c.loop-exprs.invariant.2 (grows-then (grows-kept c.parse_tpl_element.ensures.nodes) c.parse_expr_with_in.ensures.grows)))

@@ -1,13 +1,14 @@
 -- Each call is made with fewer tokens to come, or on the way down to a primary expression.
-use Rattle.std.proofs.Common.{◌+◌, ◌*◌, ◌≤◌, not, map}
+use Rattle.std.proofs.Common.{◌+◌, ◌*◌, ◌≤◌, not, map, length}
 use Rattle.swc_input.specs.Buffer.{to_come}
 use Rattle.swc_ast.specs.Parts.{item_trees, quasi_tree}
-use Rattle.swc_ast.specs.Tree.{trees}
+use Rattle.swc_ast.specs.Tree.{nil, cons, trees}
 use Rattle.swc_grammar.specs.Symbols.{Args, Elements, Props, Parts}
 use Rattle.swc_grammar.specs.Clean.{sym, links, climb, run}
 use Rattle.swc_nodes.specs.Slots.{expr_part, args_parts}
-use Rattle.swc_nodes.specs.Lists.{elem_parts, elem_trees, props_parts, props_trees, exprs_parts}
+use Rattle.swc_nodes.specs.Lists.{elem_parts, elem_trees, props_parts, props_trees, exprs_parts, expr_trees}
 use Rattle.swc_nodes.specs.Stands.{tree_at, count, first_at, Apart, From, Grows}
+use Rattle.swc_productions.specs.Assignments.{seqs_more}
 use Rattle.swc_productions.specs.Links.{args_behind}
 use Rattle.swc_productions.specs.Lists.{elements_behind}
 use Rattle.swc_productions.specs.Properties.{props_behind}
@@ -84,6 +85,15 @@ decreases-parse_arg_list-loop-items g l = to_come g.I.Tokens.model l.self.input
 abbrev pub decreases-parse_arg_item : goal.decreases-parse_arg_item
 decreases-parse_arg_item g l = to_come g.I.Tokens.model l.self.now.input * 20 + 14
 
+abbrev pub decreases-parse_update_prefix : goal.decreases-parse_update_prefix
+decreases-parse_update_prefix g l = to_come g.I.Tokens.model l.self.now.input * 20 + 1
+
+abbrev pub decreases-parse_await_expr : goal.decreases-parse_await_expr
+decreases-parse_await_expr g l = to_come g.I.Tokens.model l.self.now.input * 20 + 1
+
+abbrev pub decreases-parse_await_operand : goal.decreases-parse_await_operand
+decreases-parse_await_operand g l = to_come g.I.Tokens.model l.self.now.input * 20 + 6
+
 abbrev pub decreases-parse_unary_op : goal.decreases-parse_unary_op
 decreases-parse_unary_op g l = to_come g.I.Tokens.model l.self.now.input * 20 + 3
 
@@ -117,11 +127,49 @@ decreases-parse_bin_op_recursively-loop-next_left g l = to_come g.I.Tokens.model
 abbrev pub decreases-parse_bin_expr : goal.decreases-parse_bin_expr
 decreases-parse_bin_expr g l = to_come g.I.Tokens.model l.self.now.input * 20 + 11
 
+abbrev pub decreases-parse_expr : goal.decreases-parse_expr
+decreases-parse_expr g l = to_come g.I.Tokens.model l.self.now.input * 20 + 13
+
+abbrev pub decreases-parse_seq_expr : goal.decreases-parse_seq_expr
+decreases-parse_seq_expr g l = to_come g.I.Tokens.model l.self.now.input * 20 + 13
+
+abbrev pub invariant-parse_seq_expr-loop-exprs : goal.invariant-parse_seq_expr-loop-exprs
+invariant-parse_seq_expr-loop-exprs g l =
+    On g.I.Tokens.model g.B.Bodies.is_faithful
+    (seqs_more g.B.BodyForms.forms (cons (tree_of l.fn.self.nodes l.fn.first) nil))
+    (seqs_more g.B.BodyForms.forms (expr_trees (tree_at l.self.nodes) l.exprs))
+    l.fn.self.input l.self.input
+    × (to_come g.I.Tokens.model l.self.input ≤ to_come g.I.Tokens.model l.fn.self.input)
+    × Grows l.fn.self.nodes l.self.nodes
+    × Apart (first_at l.fn.self.nodes l.fn.first.0) l.self.nodes (exprs_parts l.exprs)
+    × (1 ≤ length l.exprs.items)
+
+abbrev pub decreases-parse_seq_expr-loop-exprs : goal.decreases-parse_seq_expr-loop-exprs
+decreases-parse_seq_expr-loop-exprs g l = to_come g.I.Tokens.model l.self.input
+
+abbrev pub decreases-parse_expr_with_in : goal.decreases-parse_expr_with_in
+decreases-parse_expr_with_in g l = to_come g.I.Tokens.model l.self.now.input * 20 + 14
+
 abbrev pub decreases-parse_assignment_expr : goal.decreases-parse_assignment_expr
 decreases-parse_assignment_expr g l = to_come g.I.Tokens.model l.self.now.input * 20 + 12
 
 abbrev pub decreases-parse_assignment_expr_with_in : goal.decreases-parse_assignment_expr_with_in
 decreases-parse_assignment_expr_with_in g l = to_come g.I.Tokens.model l.self.now.input * 20 + 13
+
+abbrev pub decreases-finish_assignment_expr : goal.decreases-finish_assignment_expr
+decreases-finish_assignment_expr g l = to_come g.I.Tokens.model l.self.now.input * 20 + 2
+
+abbrev pub decreases-parse_cond_expr : goal.decreases-parse_cond_expr
+decreases-parse_cond_expr g l = to_come g.I.Tokens.model l.self.now.input * 20 + 1
+
+abbrev pub decreases-parse_assign_expr : goal.decreases-parse_assign_expr
+decreases-parse_assign_expr g l = to_come g.I.Tokens.model l.self.now.input * 20 + 1
+
+abbrev pub decreases-parse_yield_expr : goal.decreases-parse_yield_expr
+decreases-parse_yield_expr g l = to_come g.I.Tokens.model l.self.now.input * 20 + 1
+
+abbrev pub decreases-parse_yield_operand : goal.decreases-parse_yield_operand
+decreases-parse_yield_operand g l = to_come g.I.Tokens.model l.self.now.input * 20 + 13
 
 abbrev pub decreases-parse_array_lit : goal.decreases-parse_array_lit
 decreases-parse_array_lit g l = to_come g.I.Tokens.model l.self.now.input * 20 + 1

@@ -1,0 +1,30 @@
+use Rattle.std.proofs.Common.{false, refl, sym, ◌∙◌}
+use Rattle.std.proofs.lemmas.Result.{err_from_is_err_and}
+use Rattle.swc_grammar.specs.Symbols.{Arguments}
+use Rattle.swc_grammar.specs.Clean.{sym as at, run}
+use Rattle.swc_productions.specs.Parsing.{args_at}
+use Rattle.swc_ecma_parser.specs.Calls.{nodes_of}
+use Rattle.swc_ecma_parser.specs.Promise.{items_and_comma, list_tree}
+use Rattle.swc_ecma_parser.proofs.Calling.{promised, promised-again}
+use Rattle.swc_ecma_parser.proofs.Moving.{moved-by, moved-list, bare_list, list-bare, cut-back}
+use Rattle.swc_ecma_parser.proofs.Top.{args-stops, leaves-list, meets-as}
+use Rattle.swc_ecma_parser.proofs.parser.Parser.parse_args_or_pats.Goals as goal
+
+pub returns-in_err-begin : goal.returns-in_err-begin
+returns-in_err-begin g c = let p = err_from_is_err_and c.from_residual.result c.from_residual.ensures.1 in rw (p.1, p.2) (record { promised = promised-again c.in_err-begin.ensures.again refl })
+
+pub returns : goal.returns
+returns g c =
+    let boxed = list_tree g.B.Fun.Spanned.place g.B.Class.Spanned.place g.B.Block.Spanned.place in
+    let done = c.finish.ensures in
+    let moved = c.move_out-answer.ensures in
+    let read = c.parse_arguments-answer.ensures in
+    let ns = c.parse_arguments-answer.new.self.nodes in
+    record {
+      promised = promised c.parse_arguments-answer.new.self.input (nodes_of c.move_out-answer.new.self) c.with_comma-answer.result c.finish.result c.in_ok-begin.ensures.runs moved.runs
+          done.answer (done.buffer ∙ moved.buffer) done.nodes done.fails
+          (meets-as g.I.Tokens.model g.B.Bodies.is_faithful g.B.BodyForms.forms g.met.B.Bodies.lawful boxed leaves-list args-stops _ c.with_comma-answer.result _
+          (moved-by g.I.Tokens.model g.B.Bodies.is_faithful (run g.B.BodyForms.forms (at (Arguments false))) ns args_at (bare_list ns) boxed items_and_comma _ _ c.parse_arguments-answer.result c.with_comma-answer.result read.reads
+          (list-bare ns) (moved-list ns c.last_comma-comma.result c.parse_arguments-answer.result c.move_out-answer.result c.with_comma-answer.result c.last_comma-comma.ensures.0 moved.moved c.with_comma-answer.ensures.0)))
+          (cut-back (nodes_of c.move_out-answer.new.self) read.grows (rw (sym c.len-start.ensures) moved.nodes));
+    }

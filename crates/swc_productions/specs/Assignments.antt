@@ -1,0 +1,97 @@
+-- What the steps of the code read in assignment expressions and in sequences (13.14 to 13.16, 15.5), by the clean parser.
+use Rattle.std.specs.Prelude.{Bool, true, false, not, ◌&&◌, if◌then◌else◌, List, Option, Some, None}
+use Rattle.swc_context.specs.declared.operator.AssignOp.{AssignOp}
+use Rattle.swc_context.specs.declared.span.Span.{Span}
+use Rattle.swc_input.specs.declared.token.TokenAndSpan.{TokenAndSpan}
+use Rattle.swc_input.specs.Kinds.{at_token}
+use Rattle.swc_input.specs.Recording.{is_some}
+use Rattle.swc_ast.specs.Targets.{is_target}
+use Rattle.swc_ast.specs.Tree.{Tree, Trees, nil, cons, span_of}
+use Rattle.swc_bodies.specs.Readings.{Hook}
+use Rattle.swc_grammar.specs.Scope.{Scope}
+use Rattle.swc_grammar.specs.Symbols.{Assign}
+use Rattle.swc_grammar.specs.Tokens.{assign_of, is_colon, is_star, yield_ok}
+use Rattle.swc_grammar.specs.Trees.{to, trees_append, cond_e, assign_e, yield_e, hole_e, seq_of, is_operation, items_of}
+use Rattle.swc_grammar.specs.Trees.{held_exprs, paren_ok, paren_e}
+use Rattle.swc_grammar.specs.Clean.{Out, first, sym, seqs, goes_on_yield_at, run}
+use Rattle.swc_grammar.specs.Words.{◌>>=◌, rest}
+use Rattle.swc_productions.specs.Keys.{expected}
+use Rattle.swc_productions.specs.Links.{args_inside}
+use Rattle.swc_productions.specs.Lists.{eaten}
+use Rattle.swc_productions.specs.Readers.{inside}
+
+-- the operator that a token is, where it writes to what stands before it: no operation is written to
+abbrev pub assign_at : {F C K : Type 0} → Option TokenAndSpan → Tree F C K → Option AssignOp
+assign_at None l = None
+assign_at (Some t) l = if is_operation l then None else assign_of t.token
+
+module _ {F C K : Type 0} where
+  -- a list in parentheses (13.2.9), which begins at s: what stands in them
+  abbrev pub paren_of : Span → Tree F C K → List TokenAndSpan → Out (Tree F C K)
+  paren_of s es ts =
+      if paren_ok es then Some (paren_e (to s (span_of es)) (seq_of (held_exprs (items_of es))), ts) else None
+
+module _ {F C K : Type 0} (hook : Hook F C K) where
+  -- ---- parentheses (13.2.9)
+
+  -- behind the parenthesis at s
+  unfoldable pub paren_expr_tail : Span → Scope → List TokenAndSpan → Out (Tree F C K)
+  paren_expr_tail s c ts = args_inside hook false c ts >>= (λ p. paren_of s p.0 p.1)
+
+  -- ---- sequences (13.16)
+
+  -- behind some expressions and a comma, and behind some expressions, where a comma was taken or not
+  unfoldable pub seqs_more : Trees F C K → Scope → List TokenAndSpan → Out (Tree F C K)
+  seqs_more es c ts =
+      run hook (sym Assign) c ts >>= (λ p. run hook (seqs (trees_append es (cons p.0 nil))) c p.1)
+
+  abbrev pub seqs_by : Trees F C K → Option Span → Scope → List TokenAndSpan → Out (Tree F C K)
+  seqs_by es (Some s) c ts = seqs_more es c ts
+  seqs_by es None c ts = Some (seq_of es, ts)
+
+  -- ---- conditionals (13.14)
+
+  -- of what t tests, behind its middle e and the `:`; behind its middle; and behind the `?`
+  abbrev pub cond_close : Tree F C K → Tree F C K → Scope → List TokenAndSpan → Out (Tree F C K)
+  cond_close t e c ts =
+      run hook (sym Assign) c ts >>= (λ q. Some (cond_e (to (span_of t) (span_of q.0)) t e q.0, q.1))
+
+  abbrev pub cond_colon : Tree F C K → Tree F C K → Scope → List TokenAndSpan → Out (Tree F C K)
+  cond_colon t e c ts = expected is_colon c ts >>= (λ q. cond_close t e c q.1)
+
+  unfoldable pub cond_tail : Tree F C K → Scope → List TokenAndSpan → Out (Tree F C K)
+  cond_tail t c ts = inside hook c ts >>= (λ p. cond_colon t p.0 c p.1)
+
+  -- ---- assignments (13.15)
+
+  -- to l, behind the operator, and from that on
+  unfoldable pub assign_tail : AssignOp → Tree F C K → Scope → List TokenAndSpan → Out (Tree F C K)
+  assign_tail op l c ts =
+      run hook (sym Assign) c ts >>= (λ p. Some (assign_e (to (span_of l) (span_of p.0)) op l p.0, p.1))
+
+  unfoldable pub assign_expr : AssignOp → Tree F C K → Scope → List TokenAndSpan → Out (Tree F C K)
+  assign_expr op l c ts = if is_target c.context.strict l then assign_tail op l c (rest ts) else None
+
+  -- ---- `yield` (15.5)
+
+  -- its operand, behind the `*` or none, where `yield` is at s; from the `*` on; behind the word; and from that on
+  abbrev pub yield_arg : Span → Option Span → Scope → List TokenAndSpan → Out (Tree F C K)
+  yield_arg s o c ts =
+      run hook (sym Assign) c ts >>= (λ q. Some (yield_e (to s (span_of q.0)) (is_some o) q.0, q.1))
+
+  unfoldable pub yield_operand : Span → Scope → List TokenAndSpan → Out (Tree F C K)
+  yield_operand s c ts = eaten is_star c ts >>= (λ p. yield_arg s p.0 c p.1)
+
+  abbrev pub yield_go : Span → Scope → List TokenAndSpan → Out (Tree F C K)
+  yield_go s c ts =
+      if goes_on_yield_at (first ts) then yield_operand s c ts else Some (yield_e s false hole_e, ts)
+
+  unfoldable pub yield_tail : Span → Scope → List TokenAndSpan → Out (Tree F C K)
+  yield_tail s c ts = if yield_ok c.context then yield_go s c ts else None
+
+  abbrev pub yield_by : Option TokenAndSpan → Scope → List TokenAndSpan → Out (Tree F C K)
+  yield_by None c us = None
+  yield_by (Some t) c us = yield_tail t.span c us
+
+  unfoldable pub yield_expr : Scope → List TokenAndSpan → Out (Tree F C K)
+  yield_expr c ts = yield_by (first ts) c (rest ts)
