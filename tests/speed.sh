@@ -15,7 +15,11 @@ if [ ! -x "$program" ]; then
 fi
 ulimit -Ss "$(ulimit -Hs)" 2>/dev/null
 exec python3 - "$program" "$@" <<'END'
-import os, resource, shutil, subprocess, sys, tempfile
+import os, shutil, sys
+
+sys.dont_write_bytecode = True
+sys.path.insert(0, 'tests')
+from measure import ended, run, runs
 
 os.environ.setdefault('NODE_PATH', '/usr/share/nodejs')
 
@@ -31,25 +35,9 @@ def chain_of(link, pairs):
     return b'a' + link * pairs + b'\n'
 
 
-def ended(status):
-    return 'status %d' % os.WEXITSTATUS(status) if os.WIFEXITED(status) else 'signal %d' % os.WTERMSIG(status)
-
-
-def run(command, text, stack=None):
-    def limit():
-        if stack:
-            resource.setrlimit(resource.RLIMIT_STACK, (stack, stack))
-    with tempfile.TemporaryFile() as given, tempfile.TemporaryFile() as wrote:
-        given.write(text)
-        given.seek(0)
-        child = subprocess.Popen(command, stdin=given, stdout=wrote, stderr=subprocess.DEVNULL, preexec_fn=limit)
-        status, usage = os.wait4(child.pid, 0)[1:]
-        return status, usage.ru_utime + usage.ru_stime, usage.ru_maxrss / 1024
-
-
 commands = [(name, [name, 'expr', 'script']) for name in sys.argv[1:]]
 node = shutil.which('node')
-if node and run([node, '--stack-size=60000', '-e', ACORN], b'a')[0] == 0:
+if node and run([node, '--stack-size=60000', '-e', ACORN], b'a').status == 0:
     commands.append(('acorn', [node, '--stack-size=60000', '-e', ACORN]))
 print('| program | text | bytes | processor seconds | peak memory, MB | ended |')
 print('|---|---|---|---|---|---|')
@@ -57,14 +45,14 @@ texts = [(name, text_of(size, depth)) for name, depth in (('bare', 0), ('in 100 
 chains = [(name, chain_of(link, pairs)) for name, link in (('`a.b(c)..`', b'.b(c)'), ('`a?.b[c]..`', b'?.b[c]')) for pairs in (25_000, 50_000, 100_000)]
 for text_name, text in texts + chains:
     for name, command in commands:
-        runs = [run(command, text) for _ in range(5)]
-        print('| %s | %s | %d | %.2f | %.0f | %s |' % (name, text_name, len(text), min(r[1] for r in runs), min(r[2] for r in runs), ended(runs[0][0])), flush=True)
+        least = runs(command, text)
+        print('| %s | %s | %d | %.2f | %.0f | %s |' % (name, text_name, len(text), least.seconds, least.megabytes, ended(least.status)), flush=True)
 for text_name, text in (texts[2], chains[2], chains[5]):
-    print('on a stack of 1 MB, %s, %d bytes: %s' % (text_name, len(text), ended(run(commands[0][1], text, 1 << 20)[0])))
+    print('on a stack of 1 MB, %s, %d bytes: %s' % (text_name, len(text), ended(run(commands[0][1], text, 1 << 20).status)))
 low, high = 0, 100_000
 while high - low > 10:
     middle = (low + high) // 2
-    status = run(commands[0][1], b'(' * middle + b'a' + b')' * middle, 8 << 20)[0]
+    status = run(commands[0][1], b'(' * middle + b'a' + b')' * middle, 8 << 20).status
     low, high = (middle, high) if os.WIFEXITED(status) else (low, middle)
 print('parentheses that a stack of 8 MB holds: some %d' % low)
 END
