@@ -21,7 +21,7 @@ show_expr | expr script | a + b = c | Bin(+, a, b)\nunread\n | 0
 show_expr | expr script | a && b ?? c | Bin(??, Bin(&&, a, b), c)\nNullishCoalescingWithLogicalOp 0..6\n | 1
 show_expr | expr script | a ?? b && c | Bin(??, a, Bin(&&, b, c))\nNullishCoalescingWithLogicalOp 5..11\n | 1
 show_expr | expr script | a ?? b || c || d | Bin(||, Bin(||, Bin(??, a, b), c), d)\nNullishCoalescingWithLogicalOp 0..11\n | 1
-show_expr | expr script | (a, b) | refused: Expected 2..3 )\n | 2
+show_expr | expr script | (a b) | refused: Expected 3..4 ,\n | 2
 show_expr | expr script | async | refused: TS1109 0..5\n | 2
 show_expr | expr script | 5 @@ \ | refused: Lex 5..6\n | 2
 show_expr | expr script | a + é | refused: Lex 4..5\n | 2
@@ -44,7 +44,7 @@ show_expr | expr strict | let | let\n | 0
 show_expr | expr strict | delete a | Unary(delete, a)\n | 0
 show_expr | expr strict | implements | refused: TS1109 0..10\n | 2
 show_expr | expr generator | implements in a | Bin(in, implements, a)\n | 0
-show_expr | expr generator | yield | refused: TS1109 0..5\n | 2
+show_expr | expr generator | yield | Yield(-)\n | 0
 show_expr | expr async | yield | yield\n | 0
 show_expr | expr async | await | refused: TS1109 0..5\n | 2
 show_expr | expr async | static | static\n | 0
@@ -99,7 +99,7 @@ show_expr | expr script | a.+ b | Bin(+, Invalid, b)\nTS1109 2..3\n | 1
 show_expr | expr script | a.1 | a\nunread\n | 0
 show_expr | expr script | a[b] | Member(a, [b])\n | 0
 show_expr | expr script | a[b c] | refused: Expected 4..5 ]\n | 2
-show_expr | expr script | a[b, c] | refused: Expected 3..4 ]\n | 2
+show_expr | expr script | a[b, c] | Member(a, [Seq(b, c)])\n | 0
 show_expr | expr script | a[] | refused: TS1109 2..3\n | 2
 show_expr | expr script | f() | Call(f, [])\n | 0
 show_expr | expr script | f(...a, b) | Call(f, [...a, b])\n | 0
@@ -125,9 +125,9 @@ show_expr | expr script | a?.[b]() | OptChain(false, Call(OptChain(true, Member(
 show_expr | expr script | a?.b?.c | OptChain(true, Member(OptChain(true, Member(a, .b)), .c))\n | 0
 show_expr | expr script | (a?.b).c | Member(Paren(OptChain(true, Member(a, .b))), .c)\n | 0
 show_expr | expr script | a ? . b | OptChain(true, Member(a, .b))\n | 0
-show_expr | expr script | a?.5 | a\nunread\n | 0
-show_expr | expr script | a ? b | a\nunread\n | 0
-show_expr | expr script | a? | a\nunread\n | 0
+show_expr | expr script | a?.5 | refused: Eof 4..4\n | 2
+show_expr | expr script | a ? b | refused: Eof 5..5\n | 2
+show_expr | expr script | a? | refused: Eof 2..2\n | 2
 show_expr | expr script | a?. | refused: Eof 3..3\n | 2
 show_expr | expr script | a?.) | refused: ExpectedIdent 3..4\n | 2
 show_expr | expr script | new a | New(a, -)\n | 0
@@ -206,7 +206,53 @@ show_expr | expr script | /a/dgimsuvy | /a/dgimsuvy\n | 0
 show_expr | expr script | /a/g.test(b) | Call(Member(/a/g, .test), [b])\n | 0
 show_expr | expr script | a / b / c | Bin(/, Bin(/, a, b), c)\n | 0
 show_expr | expr script | a + /b/ / c | Bin(+, a, Bin(/, /b/, c))\n | 0
-show_expr | expr script | [/=]/, /[/]/] | Array[/=]/, /[/]/]\n | 0";
+show_expr | expr script | [/=]/, /[/]/] | Array[/=]/, /[/]/]\n | 0
+show_expr | expr script | (a, b) | Paren(Seq(a, b))\n | 0
+show_expr | expr script | (a,) | Paren(a)\nTS1109 2..3\n | 1
+show_expr | expr script | (...a) | refused: SpreadInParenExpr 4..5\n | 2
+show_expr | expr script | (...a,) | refused: SpreadInParenExpr 4..5\nTS1109 5..6\n | 2
+show_expr | expr script | ({a = 1}, b) | Paren(Seq(Object{a = 1}, b))\nAssignProperty 2..7\n | 1
+show_expr | expr script | a = 1, b += 2, c ||= 3 | Seq(Assign(=, a, 1), Assign(+=, b, 2), Assign(||=, c, 3))\n | 0
+show_expr | expr script | a, | refused: Eof 2..2\n | 2
+show_expr | expr script | a ? b : c = d | Cond(a, b, Assign(=, c, d))\n | 0
+show_expr | expr script | a ? b : c ? d : e | Cond(a, b, Cond(c, d, e))\n | 0
+show_expr | expr script | a?.5:b | Cond(a, .5, b)\n | 0
+show_expr | expr script | a ? b, c : d | refused: Expected 5..6 :\n | 2
+show_expr | expr script | a++ = 1 | Postfix(++, a)\nunread\n | 0
+show_expr | expr script | a\n++b | a\nunread\n | 0
+show_expr | expr script | 5++ | Postfix(++, 5)\nTS2406 0..1\n | 1
+show_expr | expr script | --a.b ** c-- | Bin(**, Prefix(--, Member(a, .b)), Postfix(--, c))\n | 0
+show_expr | expr script | a = b = c | Assign(=, a, Assign(=, b, c))\n | 0
+show_expr | expr script | (a).b[c] >>>= d | Assign(>>>=, Member(Member(Paren(a), .b), [c]), d)\n | 0
+show_expr | expr script | a?.b = c | Assign(=, OptChain(true, Member(a, .b)), c)\nTS2406 0..4\n | 1
+show_expr | expr script | a?.b += c | Assign(+=, OptChain(true, Member(a, .b)), c)\nNotSimpleAssign 0..4\n | 1
+show_expr | expr script | f() = 1 | refused: InvalidAssignTarget 0..3\nTS2406 0..3\n | 2
+show_expr | expr script | [a] = b | refused: InvalidAssignTarget 0..3\n | 2
+show_expr | expr script | {a} = b | refused: InvalidAssignTarget 0..3\n | 2
+show_expr | expr script | a => b | a\nunread\n | 0
+show_expr | expr script | eval = arguments++ | Assign(=, eval, Postfix(++, arguments))\n | 0
+show_expr | expr strict | eval = 1 | Assign(=, eval, 1)\nTS2406 0..4\n | 1
+show_expr | expr strict | arguments++ | Postfix(++, arguments)\nTS2406 0..9\n | 1
+show_expr | expr module | eval.a = --arguments | Assign(=, Member(eval, .a), Prefix(--, arguments))\nTS2406 11..20\n | 1
+show_expr | expr script | yield = 1 | Assign(=, yield, 1)\n | 0
+show_expr | expr strict | yield | refused: TS1109 0..5\n | 2
+show_expr | expr generator | yield\n* a | Yield(-)\nunread\n | 0
+show_expr | expr generator | yield a, b | Seq(Yield(a), b)\n | 0
+show_expr | expr generator | yield * a ? b : yield | YieldStar(Cond(a, b, Yield(-)))\n | 0
+show_expr | expr generator | yield * | refused: WithLabel 7..7 (Eof 7..7)\n | 2
+show_expr | expr script | await | await\n | 0
+show_expr | expr script | await x | Await(x)\n | 0
+show_expr | expr script | await\nx | await\nunread\n | 0
+show_expr | expr script | await * x | Bin(*, Invalid, x)\nTS1109 6..7\n | 1
+show_expr | expr script | a ? await : b | refused: TS1109 10..11\n | 2
+show_expr | expr strict | await | await\n | 0
+show_expr | expr module | await | await\nInvalidIdentInAsync 0..5\n | 1
+show_expr | expr module | await x | Await(x)\n | 0
+show_expr | expr generator | await | await\n | 0
+show_expr | expr generator | await x | Await(x)\nAwaitInFunction 6..7\n | 1
+show_expr | expr async | await x.y | Await(Member(x, .y))\n | 0
+show_expr | expr async | await\nx | Await(x)\n | 0
+show_expr | expr async | await a ** b | refused: UnaryInExp 8..10\n | 2";
 
 /// Gives some bytes, and then ends, or fails.
 #[derive(Drop)]

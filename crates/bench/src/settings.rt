@@ -14,7 +14,7 @@ pub(crate) fn source_of(alloc: Global, row: Row<'_>) -> Result<TokensInput, Fail
     Ok(TokensInput::new(alloc, tokens, context, syntax, EsVersion::default()))
 }
 
-/// The context and the syntax of some words: a mode of the program, and then what differs from it.
+/// The context and the syntax of some words: a mode of the program, and then, in their order, what differs from it.
 pub(crate) fn setting_of(words: &str) -> Option<(Context, Syntax)> {
     let mut context = Context {
         include_in_expr: true,
@@ -32,7 +32,7 @@ pub(crate) fn setting_of(words: &str) -> Option<(Context, Syntax)> {
     Some((context, syntax))
 }
 
-/// Changes what the word says.
+/// Changes what the word says. `parameters` are those of what the words before say, outside its body.
 fn set(context: &mut Context, word: &str) -> Option<()> {
     match word {
         "script" | "failing" | "slashes" => {}
@@ -42,8 +42,20 @@ fn set(context: &mut Context, word: &str) -> Option<()> {
             context.can_be_module = true;
             context.strict = true;
         }
-        "generator" => context.in_generator = true,
-        "async" => context.in_async = true,
+        "generator" => {
+            context.in_generator = true;
+            enter_function(context);
+        }
+        "async" => {
+            context.in_async = true;
+            enter_function(context);
+        }
+        "function" => enter_function(context),
+        "parameters" => {
+            context.in_parameters = true;
+            context.in_function = false;
+        }
+        "static_block" => context.in_static_block = true,
         "without_in" => context.include_in_expr = false,
         "method" => context.allow_direct_super = true,
         "ignore_error" => context.ignore_error = true,
@@ -51,8 +63,11 @@ fn set(context: &mut Context, word: &str) -> Option<()> {
             TestBodies::named(word)?;
         }
     }
-    let in_function = context.in_generator || context.in_async;
-    context.in_function = in_function;
-    context.inside_non_arrow_function_scope = in_function;
     Some(())
+}
+
+/// Changes what a function, no arrow, changes in its body.
+fn enter_function(context: &mut Context) {
+    context.in_function = true;
+    context.inside_non_arrow_function_scope = true;
 }

@@ -4,7 +4,7 @@ use std::alloc::AllocError;
 use swc_ast::ident::{BindingIdent, Ident, IdentName, ModuleExportName, PrivateName};
 use swc_ast::lit::Lit;
 use swc_context::atom::Atom;
-use swc_context::error::{Error, PResult};
+use swc_context::error::{Error, PResult, SyntaxError};
 use swc_context::span::Span;
 
 /// What a call answers: a text, as a row has it.
@@ -23,6 +23,14 @@ pub(crate) fn show<T: Shown>(out: &mut String, answer: PResult<T>) -> Result<(),
 /// Writes the refusal.
 pub(crate) fn show_refusal(out: &mut String, fault: Error) -> Result<(), AllocError> {
     write!(out, "refused: {fault}")
+}
+
+/// Writes with which note a refusal is labelled, and at which place.
+pub(crate) fn show_label(out: &mut String, fault: &Error) -> Result<(), AllocError> {
+    match fault.kind() {
+        SyntaxError::WithLabel { span, note, .. } => write!(out, "{span} {note}"),
+        _ => out.push_str("no label"),
+    }
 }
 
 /// Writes the faults, or that there is none.

@@ -17,7 +17,8 @@ use swc_print::print::PrintNodes;
 use swc_trees::letting_go::{let_go_args, let_go_exprs, let_go_params, let_go_prop};
 use swc_trees::putting::put_expr;
 
-fn show_id(
+/// Writes the expression of that number, and its place.
+pub(crate) fn show_id(
     out: &mut String,
     nodes: &Nodes<Span, Span, Span>,
     id: ExprId,
@@ -127,6 +128,18 @@ impl Shown for Vec<ExprOrSpread<Box<ExprOf<TestBodies>>>> {
         }
         let_go_args(self);
         shown
+    }
+}
+
+/// The items of a list, and the comma behind the last one.
+impl Shown for (Vec<ExprOrSpread<Box<ExprOf<TestBodies>>>>, Option<Span>) {
+    fn show(self, out: &mut String) -> Result<(), AllocError> {
+        let (items, comma) = self;
+        items.show(out)?;
+        match comma {
+            Some(span) => write!(out, " comma {span}"),
+            None => Ok(()),
+        }
     }
 }
 

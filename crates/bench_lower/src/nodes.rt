@@ -119,7 +119,53 @@ is_target; is_strict_target | expr | a@0..1 .b@3..4 OptMember@0..4 | false; fals
 is_target; is_strict_target | expr | this@0..4 | false; false
 is_target; is_strict_target | expr | Array(0)@0..2 | false; false
 is_target; is_strict_target | expr | 0x1F@1..5 | false; false
-is_target; is_strict_target | expr | 0x1F@1..5 Paren@0..3 | false; false";
+is_target; is_strict_target | expr | 0x1F@1..5 Paren@0..3 | false; false
+is_target; is_strict_target | expr | a@2..3 Paren@1..4 Paren@0..5 | true; true
+is_target; is_strict_target | expr | arguments@2..11 Paren@1..12 Paren@0..13 | true; false
+is_target; is_strict_target | expr | super@1..6 .a@7..8 SuperProp@1..8 Paren@0..9 | true; true
+is_target; is_strict_target | expr | super@0..5 a@6..7 []@5..8 SuperProp@0..8 | true; true
+is_target; is_strict_target | expr | a@0..1 .#b@2..4 Member@0..4 | true; true
+is_target; is_strict_target | expr | a@0..1 b@2..3 []@1..4 Member@0..4 | true; true
+is_target; is_strict_target | expr | a@0..1 Call(0)@0..3 .b@4..5 Member@0..5 | true; true
+is_target; is_strict_target | expr | Array(0)@0..2 .b@3..4 Member@0..4 | true; true
+is_target; is_strict_target | expr | 0x1F@1..5 Paren@0..6 .b@7..8 Member@0..8 | true; true
+is_target; is_strict_target | expr | a@0..1 OptCall(0)@0..5 .b@6..7 Member@0..7 | false; false
+is_target; is_strict_target | expr | a@0..1 .b@3..4 OptMember@0..4 .c@5..6 ChainMember@0..6 | false; false
+is_target; is_strict_target | expr | a@0..1 OptCall(0)@0..5 | false; false
+is_target; is_strict_target | expr | a@1..2 .b@4..5 OptMember@1..5 Paren@0..6 | false; false
+is_target; is_strict_target | expr | Array(0)@1..3 Paren@0..4 | false; false
+is_target; is_strict_target | expr | Object(0)@0..2 | false; false
+is_target; is_strict_target | expr | Object(0)@1..3 Paren@0..4 | false; false
+is_target; is_strict_target | expr | 'ab'@1..5 | false; false
+is_target; is_strict_target | expr | true@0..4 | false; false
+is_target; is_strict_target | expr | null@0..4 | false; false
+is_target; is_strict_target | expr | 17n@1..4 | false; false
+is_target; is_strict_target | expr | /[/]/g@1..7 | false; false
+is_target; is_strict_target | expr | #name@0..5 | false; false
+is_target; is_strict_target | expr | new.target@0..10 | false; false
+is_target; is_strict_target | expr | import.meta@0..11 | false; false
+is_target; is_strict_target | expr | Invalid@1..2 | false; false
+is_target; is_strict_target | expr | Fn(6)@0..14 | false; false
+is_target; is_strict_target | expr | Class(3)@0..7 | false; false
+is_target; is_strict_target | expr | a@1..2 Unary(!)@0..2 | false; false
+is_target; is_strict_target | expr | a@2..3 Prefix(++)@0..3 | false; false
+is_target; is_strict_target | expr | a@0..1 Postfix(--)@0..3 | false; false
+is_target; is_strict_target | expr | a@0..1 b@4..5 Bin(+)@0..5 | false; false
+is_target; is_strict_target | expr | a@0..1 z@4..5 Assign(=)@0..5 | false; false
+is_target; is_strict_target | expr | a@0..1 b@4..5 c@8..9 Cond@0..9 | false; false
+is_target; is_strict_target | expr | a@0..1 b@3..4 Seq(2)@0..4 | false; false
+is_target; is_strict_target | expr | a@1..2 b@4..5 Seq(2)@1..5 Paren@0..6 | false; false
+is_target; is_strict_target | expr | a@0..1 Call(0)@0..3 | false; false
+is_target; is_strict_target | expr | super@0..5 Call(0)@0..7 | false; false
+is_target; is_strict_target | expr | import@0..6 b@7..8 Call(1)@0..9 | false; false
+is_target; is_strict_target | expr | a@4..5 New@0..5 | false; false
+is_target; is_strict_target | expr | a@4..5 New(0)@0..7 | false; false
+is_target; is_strict_target | expr | `a`@1..2 Tpl(0)@0..3 | false; false
+is_target; is_strict_target | expr | t@0..1 `a`@1..2 TaggedTpl(0)@0..4 | false; false
+is_target; is_strict_target | expr | PatIdent(a)@0..1 b@5..6 Arrow(1)@0..6 | false; false
+is_target; is_strict_target | expr | a@6..7 Await@0..7 | false; false
+is_target; is_strict_target | expr | -@5..5 Yield@0..5 | false; false
+is_target; is_strict_target | expr | a@7..8 YieldStar@0..8 | false; false";
 
 /// An expression that was moved out of nodes, with its text and its place in them.
 #[derive(Drop)]

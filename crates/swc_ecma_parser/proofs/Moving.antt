@@ -97,16 +97,16 @@ module _ {F C K : Type 0} {fg : Ghosts F} {cg : Ghosts C} {kg : Ghosts K} (ns : 
   tpl-bare t = unmarked-node fg.place cg.place kg.place (tree_at ns) (n.Tpl t)
 
   -- the items in boxes, with the comma put beside them
-  pub moved-list : {M : Error → Type 0} (o : Option Span) (answer : Result (Listed (ExprOrSpread ExprId)) Error)
+  pub moved-list : (M : Error → Type 0) (o : Option Span) (answer : Result (Listed (ExprOrSpread ExprId)) Error)
       (a : Result (Vec (ExprOrSpread (Box (Expr F C K) Global)) Global) Error)
       (r : Result (Vec (ExprOrSpread (Box (Expr F C K) Global)) Global × Option Span) Error)
       → IfOk answer (λ l. o ≡ l.trailing_comma)
       → MatchResult answer (λ l. MatchResult a (λ t. args_tree (tree_by fg.place cg.place kg.place) t ≡ args_tree (λ e. bare_at ns e.0) l.items) M) (λ e. a ≡ Err e)
       → MatchResult a (λ t. r ≡ Ok (t, o)) (λ e. r ≡ Err e)
       → MatchResult answer (λ l. MatchResult r (λ p. list_tree fg.place cg.place kg.place p ≡ bare_list l) M) (λ e. r ≡ Err e)
-  moved-list {M} o (Ok l) (Ok t) r q m w =
+  moved-list M o (Ok l) (Ok t) r q m w =
       subst (λ v. MatchResult v (λ p. list_tree fg.place cg.place kg.place p ≡ bare_list l) M) (sym w)
       (ap (λ v. node (args_with o) no_span (items_of v)) m ∙ ap (λ v. node (args_with v) no_span (item_trees (λ e. bare_at ns e.0) l.items.items)) q)
-  moved-list {M} o (Ok l) (Err e) r q m w = subst (λ v. MatchResult v (λ p. list_tree fg.place cg.place kg.place p ≡ bare_list l) M) (sym w) m
-  moved-list o (Err e) (Err x) r q m w = w ∙ ap (λ v. v) m
-  moved-list o (Err e) (Ok t) r q m w = absurd cc
+  moved-list M o (Ok l) (Err e) r q m w = subst (λ v. MatchResult v (λ p. list_tree fg.place cg.place kg.place p ≡ bare_list l) M) (sym w) m
+  moved-list M o (Err e) (Err x) r q m w = let same : x ≡ e = cc in w ∙ ap (λ v. Err v) same
+  moved-list M o (Err e) (Ok t) r q m w = absurd cc

@@ -127,13 +127,13 @@ module _ {F C K : Type 0} where
   items_valid : (t : Tree F C K) → is_valid t ≡ true → are_valid (items_of t) ≡ true
   items_valid (node k s ts) h = right_of (not (is_invalid k)) (are_valid ts) h
 
-  pub leaves-items : Leaves {F} {C} {K} only_items
+  pub leaves-items : Leaves {F = F} {C = C} {K = K} only_items
   leaves-items = record {
     grouped = λ t h. items_grouped (unmarked t) (same-grouped t ∙ h);
     valid = λ t h. items_valid (unmarked t) (same-valid t ∙ h);
   }
 
-  pub leaves-list : Leaves {F} {C} {K} items_and_comma
+  pub leaves-list : Leaves {F = F} {C = C} {K = K} items_and_comma
   leaves-list = record {
     grouped = λ t h. items_grouped (unmarked t) (same-grouped t ∙ h);
     valid = λ t h. items_valid (unmarked t) (same-valid t ∙ h);

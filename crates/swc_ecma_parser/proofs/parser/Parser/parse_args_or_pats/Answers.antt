@@ -25,6 +25,6 @@ returns g c =
           done.answer (done.buffer ∙ moved.buffer) done.nodes done.fails
           (meets-as g.I.Tokens.model g.B.Bodies.is_faithful g.B.BodyForms.forms g.met.B.Bodies.lawful boxed leaves-list args-stops _ c.with_comma-answer.result _
           (moved-by g.I.Tokens.model g.B.Bodies.is_faithful (run g.B.BodyForms.forms (at (Arguments false))) ns args_at (bare_list ns) boxed items_and_comma _ _ c.parse_arguments-answer.result c.with_comma-answer.result read.reads
-          (list-bare ns) (moved-list ns c.last_comma-comma.result c.parse_arguments-answer.result c.move_out-answer.result c.with_comma-answer.result c.last_comma-comma.ensures.0 moved.moved c.with_comma-answer.ensures.0)))
+          (list-bare ns) (moved-list ns _ c.last_comma-comma.result c.parse_arguments-answer.result c.move_out-answer.result c.with_comma-answer.result c.last_comma-comma.ensures moved.moved c.with_comma-answer.ensures)))
           (cut-back (nodes_of c.move_out-answer.new.self) read.grows (rw (sym c.len-start.ensures) moved.nodes));
     }
