@@ -6,23 +6,35 @@
 Reads the rows of crates/bench_grammar/src/lists.rt, `tokens | mode | counts`, and counts anew how many lists of no token, of one, of
 two and so on are expressions. Prints each row whose counts differ, with the right ones. Status 0 if none does.
 
-A list is walked from left to right. What matters of its front: the open parentheses and brackets, whether an operand comes next, and
+A list is walked from left to right. What matters of its front: the open parentheses, brackets and conditionals, whether an operand comes next, and
 which operators stand in these (`??` may not stand beside `||` or `&&`) and before the operand (none may stand left of `**`). Between
 brackets an item begins behind the bracket and behind each comma: there dots may stand, a comma (which makes a hole), or the end. Between
 braces so does a property: dots, `*`, a name, another key, or the end. Behind a name that isn't reserved the property may end, or `=` stand;
 behind each key `:` may, or a method's two parentheses and its block; behind `get` and `async` another key, and behind `async` a `*` too.
-Behind these a method has to come. A setter has a parameter, and none is read so far, so `set` is a name like others.
+Behind these a method has to come. A setter has a parameter, and none is read so far, so `set` is a name like others. In parentheses that are
+no arguments, in brackets behind an operand, in templates and outside of all these a comma stands between two expressions.
 
-Behind an operand links may stand: a `.` and any word, or one behind `#`; a bracket and one expression; a parenthesis and arguments, which are
-items as between brackets, but no hole; a template. In a module `delete` and a name alone is no operand, and one with a link behind the name is.
-Behind `new` an operand stands that no prefix operator begins, or, where a function is around, `. target`, which is one together with it. The
-first arguments behind an operand are those of the last `new` before it that has none. Where each has some, `?` and `.` may stand before a
-name, a bracket or arguments, and no template behind these. Where no `new` before it has none, `super` stands before arguments, and so do `import`
-and `import . source`, whose arguments end with no comma; in a module `import . meta` is an operand. What begins, goes on with and ends a template are tokens of their own; between
-them one expression stands.
+Behind an operand links may stand: a `.` and any word, or one behind `#`; a bracket and expressions; a parenthesis and arguments, which are
+items as between brackets, but no hole; a template. In a module `delete` and a name alone is no operand, and one with a link or an update
+behind the name is. Behind `new` an operand stands that no prefix operator begins, or, where a function is around, `. target`, which is one
+together with it. The first arguments behind an operand are those of the last `new` before it that has none. Where each has some, `?` and `.`
+may stand before a name, a bracket or arguments, and no template behind these. Where no `new` before it has none, `super` stands before
+arguments, and so do `import` and `import . source`, whose arguments end with no comma; in a module `import . meta` is an operand. What begins,
+goes on with and ends a template are tokens of their own; between them expressions stand.
+
+An operand may be written to if it is a name (in strict code not `eval`), ends with the link to a name or a bracket and has no `? .`, or is
+such an operand alone in parentheses; and if each `new` before it has arguments. `++` and `--` stand before such an operand, or behind it on its
+line, and then no link follows. `=` and `+=` stand behind one with which an assignment expression begins. A `?` that no `.` follows opens a
+conditional, which its `:` closes; in it one assignment expression stands, and behind it another.
+
+In a generator an assignment expression may be `yield`, `yield` and another on its line, or `yield *` and another. In async code `await` is a
+prefix operator. Elsewhere it is a name where a line break, a comma, what closes something or the end follows; that may be written to, and no link
+or update stands behind it. It is none in a module, and none where a `*` follows, on whichever line. Where something else follows it is a prefix
+operator, but not in a generator. Behind `new` it is a name like `a`, in scripts and generators that aren't strict. A token that is written with
+`\\r` has a line break before it.
 
 A block, a function and a class are taken whole. Of each it matters how many brackets are open. Within its own brace, braces alone are
-counted; before that brace all brackets are, where any that closes may close any that opens. Rows with `=` and parentheses are none: that
+counted; before that brace all brackets are, where any that closes may close any that opens. Rows with `=`, braces and parentheses are none: that
 `({a = 1})` is no expression isn't counted. Nor are rows with templates and braces, of which either may end the other, nor such with `/`, which
 begins a regular expression where no operand stands before it.
 """
@@ -34,50 +46,74 @@ from pathlib import Path
 LISTS = Path(__file__).parent.parent / "crates/bench_grammar/src/lists.rt"
 PREFIX = set("+ - ! ~ void typeof delete".split())
 BINARY = set("?? || && | ^ & == != === !== < > <= >= instanceof in << >> >>> + - * / % **".split())
+UPDATE = ("++", "--")
 # Names that no mode reserves, those that some modes bar as operands, those that some reserve, and where a property is before its value.
-NAMES = {"a", "get", "set", "target", "meta", "source"}
+NAMES = {"a", "get", "set", "target", "meta", "source", "eval"}
 BARRED = {
     "let": {"module"},
     "yield": {"module", "strict", "generator"},
     "implements": {"module", "strict"},
 }
-RESERVED = {**BARRED, "let": {"module", "strict"}}
+RESERVED = {**BARRED, "let": {"module", "strict"}, "await": {"module", "async"}}
 PROPERTY = {"{", "name", "key", "get", "async", "*", "method", "params", "shell", "done"}
 # A template, and what begins one.
 TEMPLATE = ("``", "`${")
-# What `before` is behind a comma, or what stands for one in a template, by what closes the list.
-BEHIND_COMMA = {"]": ",", "}": "{", ").": "args", ")!": "last", "`": ""}
+# What `before` is behind a comma, by what closes the list; nothing closes the whole.
+BEHIND_COMMA = {"": "", ")": "", "].": "", "`": "", "]": ",", "}": "{", ").": "args", ")!": "last"}
 
-# outer: of each open parenthesis, bracket or template, what closes it, the family outside it, whether its operand has a prefix operator, and
-# its `news`; behind what closes it stands where a property is after that, or a `.` if it is a link, or a `!` if it is a call of `import`. family: `??`, `||` (which is that of `&&`
-# too) or none. before: the token before; `args` where an argument may begin, `last` where one has to; where an operand is complete, `delete` if it is one with a link
-# alone. wants: an operand comes next. prefixed: that operand, or the last one, has a prefix operator. whole: of what is taken whole, whether
-# its own brace is open, how many brackets are open beside that, and whether it is a method's block, or none. news: before that operand, or the
-# last one, how many `new` have no arguments; -1 if it is an optional chain.
-Front = namedtuple("Front", "outer family before wants prefixed whole news", defaults=(None, 0))
+# outer: of each open parenthesis, bracket, template or conditional, what closes it, and outside it the family, whether the operand has a prefix
+# operator, `news`, `lead` and `must`; behind what closes it stands where a property is after that, or a `.` if it is a link, or a `!` if it is a
+# call of `import`. family: `??`, `||` (which is that of `&&` too) or none. before: the token before; `args` where an argument may begin, `last`
+# where one has to; where an operand is complete, `delete` if it is one with a link or an update alone, `yield` and `await` if an operand of these
+# may come, `update` if no link may. wants: `assign` where an assignment expression begins, `operand` where only an operand does, or nothing.
+# prefixed: that operand, or the last one, has a prefix operator. whole: of what is taken whole, whether its own brace is open, how many brackets
+# are open beside that, and whether it is a method's block, or none. news: before that operand, or the last one, how many `new` have no
+# arguments; -1 if it is an optional chain. lead: that operand is all there is of an assignment expression (`first`), and of what stands in its
+# bracket (`only`), or nothing. must: that operand has `++` or `--` before it. target: the operand that is complete may be written to, if each
+# `new` has arguments.
+Front = namedtuple("Front", "outer family before wants prefixed whole news lead must target", defaults=(None, 0, "only", False, False))
+
+
+def begun(front, before):
+    """The front with a token more behind which another assignment expression begins."""
+    return Front(front.outer, "", before, "assign", False, lead="first")
 
 
 def opened(front, close, before, news):
     """The front with an opening parenthesis or bracket more, or what begins a template."""
-    return Front(front.outer + ((close, front.family, front.prefixed, news),), "", before, True, False)
+    inner = (close, front.family, front.prefixed, news, front.lead, front.must)
+    return Front(front.outer + (inner,), "", before, "assign", False)
 
 
 def closed(front):
     """The front with what closes the last parenthesis, bracket, brace or template more."""
-    close, family, prefixed, news = front.outer[-1]
+    close, family, prefixed, news, lead, must = front.outer[-1]
+    if close == ":":
+        return begun(front._replace(outer=front.outer[:-1]), "")
     if close[1:] not in ("", ".", "!"):
-        return Front(front.outer[:-1], "", close[1:], True, False)
-    return Front(front.outer[:-1], family, "", False, prefixed, None, news)
+        return Front(front.outer[:-1], "", close[1:], "operand", False)
+    target = close == "]." or (close == ")" and front.lead == "only" and writable(front))
+    return Front(front.outer[:-1], family, "", "", prefixed, None, news, lead, must, target)
+
+
+def done(front, target=False):
+    """The front with a token more with which an operand is complete."""
+    return front._replace(before="", wants="", target=target)
+
+
+def writable(front):
+    """Whether the operand that is complete may be written to."""
+    return front.target and front.news == 0 and not front.must
+
+
+def fitting(front):
+    """Whether the operand that is complete is one that `++` or `--` before it may write to, if these stand there."""
+    return front.before != "delete" and (not front.must or writable(front._replace(must=False)))
 
 
 def item(front, token):
     """The front with a bracket, a comma or dots more, where an item between brackets begins."""
     return closed(front) if token == "]" else front._replace(before=token)
-
-
-def value(front, token):
-    """The front with a token more behind which the expression of a property begins."""
-    return front._replace(family="", before=token, wants=True, prefixed=False, news=0)
 
 
 def within(front, token):
@@ -92,14 +128,14 @@ def within(front, token):
             return front._replace(whole=(inside, depth - 1, is_block))
         if not inside:
             return None
-        return front._replace(whole=None, before="done" if is_block else "", wants=is_block)
+        return front._replace(whole=None, before="done") if is_block else done(front._replace(whole=None))
     return front
 
 
 def key(front, token, close):
     """The front with a token more where a key begins, behind which stands what `close` names, or None."""
     if token == "[":
-        return Front(front.outer + (("]" + close, "", False, 0),), "", "", True, False)
+        return opened(front, "]" + close, "", 0)
     return front._replace(before=close) if token == "1" or token.isalpha() else None
 
 
@@ -130,7 +166,7 @@ def prop(front, token, mode):
         return None
     if before == "{":
         if token in ("}", "..."):
-            return closed(front) if token == "}" else value(front, token)
+            return closed(front) if token == "}" else begun(front, token)
         if token == "*":
             return front._replace(before="*")
         return named(front, token, mode) if token.isalpha() else key(front, token, "key")
@@ -139,7 +175,7 @@ def prop(front, token, mode):
     if token == "(":
         return front._replace(before="params")
     if token == ":" or (token == "=" and before != "key"):
-        return value(front, token)
+        return begun(front, token)
     if before == "async" and token == "*":
         return front._replace(before="*")
     return key(front, token, "method") if before in ("get", "async") else None
@@ -147,10 +183,8 @@ def prop(front, token, mode):
 
 def link(front, token):
     """The front with a token more that begins a link, or None."""
-    if token == "?":
-        return front._replace(before="?", wants=True, news=-1) if front.news <= 0 else None
     if token == ".":
-        return front._replace(before=".", wants=True)
+        return front._replace(before=".", wants="operand")
     if token in TEMPLATE:
         return template(front, token) if front.news >= 0 else None
     if token == "(":
@@ -160,25 +194,49 @@ def link(front, token):
 
 def template(front, token):
     """The front with a template more, or what begins one."""
-    return opened(front, "`", "", front.news) if token == "`${" else front._replace(before="", wants=False)
+    return opened(front, "`", "", front.news) if token == "`${" else done(front)
 
 
 def constructed(front, token, mode):
     """The front with a token more behind `new`, where that may not be what an operand is elsewhere, or None."""
     if front.before == "new .":
-        return front._replace(before="", wants=False, news=front.news - 1) if token == "target" else None
+        return done(front._replace(news=front.news - 1)) if token == "target" else None
+    if token == "await":
+        return done(front, True) if mode in ("script", "generator", "without-in") else None
     return front._replace(before="new .") if token == "." and mode in ("generator", "async") else None
 
 
 def called(front, token, mode):
     """The front with a token more behind `super` or `import`, or None."""
     if front.before == "import ." and token == "meta" and mode == "module":
-        return front._replace(before="", wants=False)
+        return done(front)
     if (front.before, token) in (("import", "."), ("import .", "source")):
         return front._replace(before=front.before + " " + token)
     if token != "(" or front.before == "import ." or front.news > 0:
         return None
     return opened(front, ")." if front.before == "super" else ")!", "args", front.news)
+
+
+def asked(front, token, mode):
+    """The front with a token more behind a `?`, which begins a link or stands in a conditional, or None."""
+    if token == ".":
+        return front._replace(before="?.", news=-1) if front.news <= 0 else None
+    front = front._replace(before=front.before[:-1])
+    return operand(conditional(front), token, mode) if fitting(front) else None
+
+
+def conditional(front):
+    """The front with the `?` of a conditional more."""
+    return begun(opened(front, ":", "", 0), "")
+
+
+def prefix(front, token, mode):
+    """The front with a prefix operator more, or a word that may be one, or None. The operators behind `++` and `--` make no target."""
+    if token in UPDATE:
+        return None if front.must else front._replace(before=token, wants="operand", lead="", must=True)
+    if token == "await" and mode != "async":
+        return front._replace(before=token, wants="", target=True)
+    return None if front.must else front._replace(before=token, wants="operand", lead="", prefixed=True)
 
 
 def operand(front, token, mode):
@@ -189,13 +247,13 @@ def operand(front, token, mode):
         return prop(front, token, mode)
     if front.before == "async function":
         return front._replace(before="", whole=(False, 0, False)) if token == "function" else None
-    if front.before == "?":
-        return front._replace(before="?.") if token == "." else None
+    if front.before in ("?", "delete?"):
+        return asked(front, token, mode)
     if front.before == "?." and token in ("(", "["):
         return link(front, token)
     if front.before == "#" or (front.before in (".", "?.") and token != "#"):
-        return front._replace(before="", wants=False) if token.isalpha() else None
-    if front.before == "new ." or (front.before == "new" and (token == "." or token in PREFIX)):
+        return done(front, front.target) if token.isalpha() else None
+    if front.before == "new ." or (front.before == "new" and (token in (".", "await", *UPDATE) or token in PREFIX)):
         return constructed(front, token, mode)
     if front.before == "super" or front.before.startswith("import"):
         return called(front, token, mode)
@@ -205,8 +263,11 @@ def operand(front, token, mode):
         return closed(front) if token == ")" else front._replace(before=token)
     if front.before in ("[", ",") and token in ("]", ",", "..."):
         return item(front, token)
-    if token in PREFIX:
-        return front._replace(before=token, prefixed=True)
+    if token == "yield" and front.wants == "assign" and mode == "generator":
+        return front._replace(before=token, wants="")
+    if token in PREFIX or token in UPDATE or token == "await":
+        return prefix(front, token, mode)
+    front = front._replace(wants="operand")
     if token == "#":
         return front._replace(before=token)
     if token == "new":
@@ -222,39 +283,84 @@ def operand(front, token, mode):
     if token == "async":
         return front._replace(before="async function")
     reference = token in (*NAMES, *BARRED) and mode not in BARRED.get(token, ())
+    front = front._replace(target=reference and (token != "eval" or mode not in ("module", "strict")))
     if reference and front.before == "delete" and mode == "module":
-        return front._replace(wants=False)
-    return front._replace(before="", wants=False) if reference or token in ("1", "this") else None
+        return front._replace(wants="")
+    return done(front, front.target) if reference or token in ("1", "this") else None
 
 
-def operator(front, token, mode):
-    """The front with a token more where an operand is complete, or None."""
-    if token in (".", "(", "[", "?", *TEMPLATE):
-        return link(front, token)
-    if front.before == "delete":
-        return None
+def ended(front, token):
+    """The front with a token more that ends an assignment expression, or None."""
     close = front.outer[-1][0] if front.outer else ""
     if close and token == ("}`" if close == "`" else close[0]):
         return closed(front)
-    if close in BEHIND_COMMA and token == ("}${" if close == "`" else ","):
-        return front._replace(family="", before=BEHIND_COMMA[close], wants=True, prefixed=False, news=0)
+    is_comma = token == "," or (token == "}${" and close == "`")
+    return begun(front, BEHIND_COMMA[close]) if is_comma and close in BEHIND_COMMA else None
+
+
+def behind_word(front, token, is_broken, mode):
+    """The front with a token more behind `yield`, or outside async code `await`, or None."""
+    if front.before == "yield":
+        ending = ended(front, token)
+        if ending or is_broken:
+            return ending
+        return begun(front, "") if token == "*" else operand(begun(front, ""), token, mode)
+    if is_broken or token in (")", "]", ",") or token.startswith("}"):
+        is_name = mode != "module" and not (is_broken and token == "*")
+        return operator(front._replace(before="update"), token, is_broken, mode) if is_name else None
+    if mode == "generator" or front.must:
+        return None
+    return operand(front._replace(before="", wants="operand", lead="", prefixed=True), token, mode)
+
+
+def operator(front, token, is_broken, mode):
+    """The front with a token more where an operand is complete, or None."""
+    if front.before in ("yield", "await"):
+        return behind_word(front, token, is_broken, mode)
+    if token in UPDATE:
+        return front._replace(before="update", target=False) if writable(front) and not is_broken else None
+    if token == "?" and front.before != "update":
+        return front._replace(before=front.before + "?", wants="operand")
+    if token in (".", "(", "[", *TEMPLATE):
+        return link(front._replace(target=token == "."), token) if front.before != "update" else None
+    if not fitting(front):
+        return None
+    if token == "?":
+        return conditional(front)
+    if token in ("=", "+="):
+        return begun(front, "") if front.lead and writable(front) else None
+    ending = ended(front, token)
+    if ending:
+        return ending
     family = {"??": "??", "||": "||", "&&": "||"}.get(token, front.family)
     mixed = front.family and family != front.family
     if token not in BINARY or mixed or (token == "**" and front.prefixed):
         return None
     if token == "in" and mode == "without-in" and not front.outer:
         return None
-    return front._replace(family=family, before="", wants=True, prefixed=False, news=0)
+    return Front(front.outer, family, "", "operand", False, lead="")
+
+
+def followed(front, token, mode):
+    """The front with a token more, before which a line break stands where it is written with one, or None."""
+    is_broken = token.startswith("\\r")
+    bare = token[2:] if is_broken else token
+    return operand(front, bare, mode) if front.wants else operator(front, bare, is_broken, mode)
+
+
+def complete(front, mode):
+    """Whether the front is an expression."""
+    return not front.wants and not front.outer and fitting(front) and (front.before, mode) != ("await", "module")
 
 
 def counts(tokens, mode, longest):
-    fronts = Counter([Front((), "", "", True, False)])
+    fronts = Counter([Front((), "", "", "assign", False)])
     for _ in range(longest + 1):
-        yield sum(n for front, n in fronts.items() if not front.wants and not front.outer and front.before != "delete")
+        yield sum(n for front, n in fronts.items() if complete(front, mode))
         longer = Counter()
         for front, n in fronts.items():
             for token in tokens:
-                after = (operand if front.wants else operator)(front, token, mode)
+                after = followed(front, token, mode)
                 if after:
                     longer[after] += n
         fronts = longer

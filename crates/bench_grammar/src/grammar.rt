@@ -1,7 +1,7 @@
 // The lists of tokens that the standard's productions derive, with their trees.
 use std::alloc::{AllocError, Global};
 
-/// The productions of ECMA-262, 13.1 to 13.3, 13.5 to 13.13, and 15.4 to 15.8, a line each: a symbol, what it is made
+/// The productions of ECMA-262, 13.1 to 13.16, and 15.4 to 15.8, a line each: a symbol, what it is made
 /// of, and its tree, in which `_` stands for the tree of each symbol in turn, and `$` for the number of tokens of what
 /// this production makes. One without a tree has no `->`. Behind `unless` stand the modes in which there is no such
 /// production. Behind `within` stands how many more tokens a whole list with it has at least: where that makes it
@@ -11,6 +11,17 @@ use std::alloc::{AllocError, Global};
 /// `Whole` is an expression, where `in` is an operator but in the mode `without-in`. The symbols
 /// `..NoIn` stand for those without it. `# Name` is an operand, which the standard has left of `in`
 /// alone. So far `async` is no operand by itself, and no method has parameters, so that there is no setter.
+///
+/// `Target` is what `++`, `--` and an assignment may write to, so far no array and no object: `Simple`, which is a
+/// left-hand side, or `Named`, the name `await`. Nothing but `new` makes a link's operand of that name, in `Begun`.
+/// That an object with `a = 1` directly in parentheses is no expression isn't said here: no list has `=` and braces
+/// beside parentheses.
+///
+/// Two marks, which are no tokens, look at what follows: behind `@` stands the end, `)`, `]`, `,`, `}` or a line
+/// break that no `*` follows, and behind `;` no line break.
+///
+/// A token that begins with `\r` has a line break before it, and is a token apart. Some productions have it, those in
+/// which it may stand in the lists of the tests, and no others: so no list has `\ra` and a `.`, for one.
 ///
 /// The texts of templates are empty, and what stands between their expressions is one token; so is a template without
 /// an expression. No list has braces, functions or classes beside them: what ends a template ends with a backquote,
@@ -48,6 +59,7 @@ Head = class -> Class within 2
 Head = Head Any -> _ within 2
 Head = Head Group -> _ within 2
 Reference = a -> a
+Reference = \ra -> a
 Reference = get -> get
 Reference = set -> set
 Reference = target -> target
@@ -57,6 +69,8 @@ Reference = let -> let unless module
 Reference = yield -> yield unless module strict generator
 Reference = implements -> implements unless module strict
 Name = a -> a
+Name = eval -> eval
+Name = await -> await
 Name = async -> async
 Name = get -> get
 Name = set -> set
@@ -77,6 +91,9 @@ Name = let -> let
 Name = yield -> yield
 Name = implements -> implements
 Name = this -> this
+Eval = eval -> eval
+Round = (
+Round = \r(
 Array = [ ] -> Array[]
 Array = [ Elision ] -> Array[_]
 Array = [ Elements ] -> Array[_]
@@ -90,21 +107,25 @@ Object = { Properties , } -> Object{_}
 Other = Array -> _
 Other = Object -> _
 Other = Head Block -> _<$>
-Other = ( Expression ) -> Paren(_)
+Other = Round Expression ) -> Paren(_)
 Other = # Name -> #_
 Template = `` -> Tpl(``)
 Template = `${ Substitutions }` -> Tpl(``, _, ``)
 Other = Template -> _
 Primary = Reference -> _
+Primary = Eval -> _
 Primary = Other -> _
-Arguments = ( ) -> []
-Arguments = ( List ) -> [_]
-Arguments = ( List , ) -> [_]
-Link = Member [ Expression ] -> Member(_, [_])
-Link = Member . Name -> Member(_, ._)
-Link = Member . # Name -> Member(_, .#_)
+Arguments = Round ) -> []
+Arguments = Round List ) -> [_]
+Arguments = Round List , ) -> [_]
+Field = Member [ Expression ] -> Member(_, [_])
+Field = Member . Name -> Member(_, ._)
+Field = Member \r. Name -> Member(_, ._)
+Field = Member . # Name -> Member(_, .#_)
+Link = Field -> _
 Link = Member Template -> Tagged(_, _)
 Link = new Member Arguments -> New(_, _)
+Link = new Begun Arguments -> New(_, _)
 Link = new . target -> new.target unless script module strict without-in
 Link = import . meta -> import.meta unless script strict generator async without-in
 Imported = ( ) -> []
@@ -114,14 +135,20 @@ Call = import Imported -> Call(import, _)
 Call = import . source Imported -> Call(import.source, _)
 Call = Member Arguments -> Call(_, _)
 Call = Call Arguments -> Call(_, _)
-Call = Call [ Expression ] -> Member(_, [_])
-Call = Call . Name -> Member(_, ._)
-Call = Call . # Name -> Member(_, .#_)
+Item = Call [ Expression ] -> Member(_, [_])
+Item = Call . Name -> Member(_, ._)
+Item = Call \r. Name -> Member(_, ._)
+Item = Call . # Name -> Member(_, .#_)
+Call = Item -> _
 Call = Call Template -> Tagged(_, _)
 Member = Primary -> _
 Member = Link -> _
 New = new Member -> New(_, -)
 New = new New -> New(_, -)
+Begun = await -> await unless module strict async
+Begun = Begun . Name -> Member(_, ._)
+Begun = Begun [ Expression ] -> Member(_, [_])
+New = new Begun -> New(_, -)
 Optional = Chained ? . Name -> OptChain(true, Member(_, ._))
 Optional = Chained ? . # Name -> OptChain(true, Member(_, .#_))
 Optional = Chained ? . [ Expression ] -> OptChain(true, Member(_, [_]))
@@ -135,7 +162,24 @@ Chained = Call -> _
 Chained = Optional -> _
 LeftHandSide = Chained -> _
 LeftHandSide = New -> _
+Named = await @ -> await unless module async
+Simple = Reference -> _
+Simple = Eval -> _ unless module strict
+Simple = Field -> _
+Simple = Item -> _
+Simple = Round Target ) -> Paren(_)
+Target = Simple -> _
+Target = Named -> _
+Written = Simple ++ -> Postfix(++, _)
+Written = Simple -- -> Postfix(--, _)
+Written = ++ Target -> Prefix(++, _)
+Written = -- Target -> Prefix(--, _)
+Written = \r++ Target -> Prefix(++, _)
+Update = LeftHandSide -> _
+Update = Written -> _
+Update = Named -> _
 Prefixed = + Unary -> Unary(+, _)
+Prefixed = \r+ Unary -> Unary(+, _)
 Prefixed = - Unary -> Unary(-, _)
 Prefixed = ~ Unary -> Unary(~, _)
 Prefixed = ! Unary -> Unary(!, _)
@@ -147,17 +191,25 @@ Prefixed = delete Link -> Unary(delete, _)
 Prefixed = delete Call -> Unary(delete, _)
 Prefixed = delete New -> Unary(delete, _)
 Prefixed = delete Optional -> Unary(delete, _)
+Prefixed = delete Written -> Unary(delete, _)
+Prefixed = delete Named -> Unary(delete, _)
 Prefixed = delete Reference -> Unary(delete, _) unless module
-Unary = LeftHandSide -> _
+Prefixed = delete Eval -> Unary(delete, _) unless module
+Prefixed = await ; Unary -> Await(_) unless generator async
+Prefixed = await Unary -> Await(_) unless script module strict generator without-in
+Unary = Update -> _
 Unary = Prefixed -> _
 Power = Unary -> _
-Power = LeftHandSide ** Power -> Bin(**, _, _)
+Power = Update ** Power -> Bin(**, _, _)
+Power = Update \r** Power -> Bin(**, _, _)
 Product = Power -> _
 Product = Product * Power -> Bin(*, _, _)
+Product = Product \r* Power -> Bin(*, _, _)
 Product = Product / Power -> Bin(/, _, _)
 Product = Product % Power -> Bin(%, _, _)
 Sum = Product -> _
 Sum = Sum + Product -> Bin(+, _, _)
+Sum = Sum \r+ Product -> Bin(+, _, _)
 Sum = Sum - Product -> Bin(-, _, _)
 Shift = Sum -> _
 Shift = Shift << Sum -> Bin(<<, _, _)
@@ -188,29 +240,45 @@ Or = Or || And -> Bin(||, _, _)
 CoalesceHead = BitOr -> _
 Coalesce = CoalesceHead ?? BitOr -> Bin(??, _, _)
 CoalesceHead = Coalesce -> _
-Expression = Or -> _
-Expression = Coalesce -> _
+Short = Or -> _
+Short = Coalesce -> _
+Assign = yield -> Yield(-) unless script module strict async without-in
+Assign = yield ; Assign -> Yield(_) unless script module strict async without-in
+Assign = yield * Assign -> YieldStar(_) unless script module strict async without-in
+Assign = Short -> _
+Assign = Short ? Assign : Assign -> Cond(_, _, _)
+Assign = Short \r? Assign : Assign -> Cond(_, _, _)
+Assign = Short ? Assign \r: Assign -> Cond(_, _, _)
+Assign = Target = Assign -> Assign(=, _, _)
+Assign = Target \r= Assign -> Assign(=, _, _)
+Assign = Target += Assign -> Assign(+=, _, _)
+Several = Assign , Assign -> _, _
+Several = Several , Assign -> _, _
+Expression = Assign -> _
+Expression = Several -> Seq(_)
 Elision = , -> -
 Elision = Elision , -> _, -
-Spread = ... Expression -> ..._
+Spread = ... Assign -> ..._
 Substitutions = Expression -> _
 Substitutions = Substitutions }${ Expression -> _, ``, _
-Elements = Expression -> _
-Elements = Elision Expression -> _, _
+Elements = Assign -> _
+Elements = Elision Assign -> _, _
 Elements = Spread -> _
 Elements = Elision Spread -> _, _
-Elements = Elements , Expression -> _, _
-Elements = Elements , Elision Expression -> _, _, _
+Elements = Elements , Assign -> _, _
+Elements = Elements , Elision Assign -> _, _, _
 Elements = Elements , Spread -> _, _
 Elements = Elements , Elision Spread -> _, _, _
-List = Expression -> _
+List = Assign -> _
 List = Spread -> _
-List = List , Expression -> _, _
+List = List , Assign -> _, _
 List = List , Spread -> _, _
 Key = Name -> _
 Key = 1 -> 1
-Key = [ Expression ] -> [_]
+Key = [ Assign ] -> [_]
 Open = a -> a
+Open = eval -> eval
+Open = await -> await unless module async
 Open = async -> async
 Open = get -> get
 Open = set -> set
@@ -219,8 +287,8 @@ Open = let -> let unless module strict
 Open = yield -> yield unless module strict generator
 Open = implements -> implements unless module strict
 Property = Open -> _
-Property = Open = Expression -> _ = _
-Property = Key : Expression -> _: _
+Property = Open = Assign -> _ = _
+Property = Key : Assign -> _: _
 Property = Key ( ) Block -> Method(_, [], _)
 Property = * Key ( ) Block -> GeneratorMethod(_, [], _)
 Property = async Key ( ) Block -> AsyncMethod(_, [], _)
@@ -253,14 +321,28 @@ OrNoIn = OrNoIn || AndNoIn -> Bin(||, _, _)
 CoalesceHeadNoIn = BitOrNoIn -> _
 CoalesceNoIn = CoalesceHeadNoIn ?? BitOrNoIn -> Bin(??, _, _)
 CoalesceHeadNoIn = CoalesceNoIn -> _
-ExpressionNoIn = OrNoIn -> _
-ExpressionNoIn = CoalesceNoIn -> _
+ShortNoIn = OrNoIn -> _
+ShortNoIn = CoalesceNoIn -> _
+AssignNoIn = ShortNoIn -> _
+AssignNoIn = ShortNoIn ? Assign : AssignNoIn -> Cond(_, _, _)
+AssignNoIn = Target = AssignNoIn -> Assign(=, _, _)
+AssignNoIn = Target += AssignNoIn -> Assign(+=, _, _)
+SeveralNoIn = AssignNoIn , AssignNoIn -> _, _
+SeveralNoIn = SeveralNoIn , AssignNoIn -> _, _
+ExpressionNoIn = AssignNoIn -> _
+ExpressionNoIn = SeveralNoIn -> Seq(_)
 Whole = Expression -> _ unless without-in
 Whole = ExpressionNoIn -> _ unless script module strict generator async
 ";
 
 /// The tokens that aren't `Any`.
 const BRACKETS: &str = "( ) [ ] { }";
+
+/// The mark behind which an operand has to end.
+const ENDS: &str = "@";
+
+/// The mark behind which no line break may stand.
+const SAME_LINE: &str = ";";
 
 /// A list, or the front of one, and its tree, in which `_` stands for what isn't there yet. A token
 /// by itself has no tree.
@@ -284,6 +366,30 @@ impl Reading {
             tree,
         })
     }
+
+    /// Whether what stands behind each mark may stand there.
+    fn stands(&self) -> bool {
+        let tokens = self.tokens.as_str();
+        for behind in tokens.split('@').skip(1) {
+            if !ends(behind) {
+                return false;
+            }
+        }
+        !tokens.contains(";\r")
+    }
+
+    /// The list without marks, and its tree.
+    fn line(&self, alloc: Global) -> Result<String, AllocError> {
+        let tokens = self.tokens.replace(alloc, '@', "")?;
+        let tokens = tokens.replace(alloc, ';', "")?;
+        Ok(format!(in alloc; "{tokens}= {}", self.tree)?)
+    }
+}
+
+/// Whether an operand ends before this.
+fn ends(behind: &str) -> bool {
+    let next = behind.chars().next().unwrap_or(')');
+    matches!(next, ')' | ']' | ',' | '}' | '\r') && !behind.starts_with("\r* ")
 }
 
 /// Readings of a symbol that have the same number of tokens.
@@ -339,12 +445,14 @@ pub(crate) fn spelled(alloc: Global, token: &str) -> Result<String, AllocError> 
     }
 }
 
-/// What each of the tokens is by itself.
+/// What each of the tokens is by itself, and each mark, which is no token.
 pub(crate) fn tokens_derived(
     alloc: Global,
     tokens: &'static str,
 ) -> Result<Vec<Derived>, AllocError> {
     let mut found = Vec::new(alloc);
+    found.push(Derived::of_one(alloc, ENDS, 0, ENDS, "")?)?;
+    found.push(Derived::of_one(alloc, SAME_LINE, 0, SAME_LINE, "")?)?;
     for token in tokens.split(' ') {
         let text = spelled(alloc, token)?;
         found.push(Derived::of_one(alloc, token, 1, text.as_str(), "")?)?;
@@ -496,14 +604,16 @@ pub(crate) fn expressions(
     Ok(lines)
 }
 
-/// Adds each of the lists, with its tree.
+/// Adds each of the lists in which what stands behind each mark may stand there, with its tree.
 fn add_lines(
     alloc: Global,
     lines: &mut Vec<String>,
     readings: &[Reading],
 ) -> Result<(), AllocError> {
     for reading in readings {
-        lines.push(format!(in alloc; "{}= {}", reading.tokens, reading.tree)?)?;
+        if reading.stands() {
+            lines.push(reading.line(alloc)?)?;
+        }
     }
     Ok(())
 }

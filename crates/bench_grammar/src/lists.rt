@@ -13,12 +13,12 @@ const LISTS: &str = "\
 a 1 + * ?? || && ( ) in - ! delete ** # let yield implements | script | 0 5 26 314 2493
 a 1 + * ?? || && ( ) in - ! delete ** # let yield implements | module | 0 2 13 88 649
 a 1 + * ?? || && ( ) in - ! delete ** # let yield implements | strict | 0 3 18 150 1173
-a 1 + * ?? || && ( ) in - ! delete ** # let yield implements | generator | 0 4 22 224 1772
+a 1 + * ?? || && ( ) in - ! delete ** # let yield implements | generator | 0 5 27 257 2069
 a 1 + * ?? || && ( ) in - ! delete ** # let yield implements | async | 0 5 26 314 2493
 a - delete ** # let yield implements ( ) | script | 0 4 13 66 278 1280
 a - delete ** # let yield implements ( ) | module | 0 1 6 16 63 223
 a - delete ** # let yield implements ( ) | strict | 0 2 9 30 126 484
-a - delete ** # let yield implements ( ) | generator | 0 3 11 46 195 816
+a - delete ** # let yield implements ( ) | generator | 0 4 15 62 266 1146
 a - delete ** # let yield implements ( ) | async | 0 4 13 66 278 1280
 a + - ! * ** ?? && ( ) | script | 0 1 3 17 70 335
 a + - ! * ** ?? && ( ) | module | 0 1 3 17 70 335
@@ -43,51 +43,51 @@ a + - * % ** << >> >>> ( ) | script | 0 1 2 14 45 232
 a < > <= >= instanceof in == != === !== | script | 0 1 0 10 0 100
 a < in == & ^ | ?? && || | without-in | 0 1 0 8 0 60
 a ~ ! void typeof delete + - ** | script | 0 1 7 52 378 2753
-a [ ] , ... | script | 0 1 1 2 6 14 37 104 290
-a this [ ] , ... | script | 0 2 1 3 12 25 78
-a in * + ** [ ] , ( ) | script | 0 1 2 10 31 132
-a in [ ] , ... ( ) | without-in | 0 1 1 4 9 30 92
-a ?? || && - [ ] , ... | script | 0 1 2 8 27 95
-a let # - delete this [ ] , ... | module | 0 2 8 23 89 350
-a let # - delete this [ ] , ... | strict | 0 3 11 35 148 609
-a { } , : = | script | 0 1 1 1 1 3 5 9
-a { } , ... | script | 0 1 1 1 2 3 5 9
-a in 1 this { } : , | script | 0 3 1 10 7 47
-a { } [ ] , : ... | script | 0 1 2 3 9 25
-a { } , : = ?? || - | module | 0 1 2 6 16 44
-a in { } : = + | without-in | 0 1 2 4 7 17
+a [ ] , ... | script | 0 1 1 3 8 20 57 161 464
+a this [ ] , ... | script | 0 2 1 7 16 46 152
+a in * + ** [ ] , ( ) | script | 0 1 2 11 35 158
+a in [ ] , ... ( ) | without-in | 0 1 1 5 11 41 124
+a ?? || && - [ ] , ... | script | 0 1 2 9 31 116
+a let # - delete this [ ] , ... | module | 0 2 8 27 121 514
+a let # - delete this [ ] , ... | strict | 0 3 11 44 214 967
+a { } , : = | script | 0 1 1 3 4 11 18 44
+a { } , ... | script | 0 1 1 2 4 7 14 27
+a in 1 this { } : , | script | 0 3 1 19 13 135
+a { } [ ] , : ... | script | 0 1 2 4 13 36
+a { } , : = ?? || - | module | 0 1 2 8 22 70
+a in { } : = + | without-in | 0 1 2 5 9 22
 a { } ( ) : in | without-in | 0 1 1 3 3 11
 a { } ( ) | script | 0 1 1 3 3 8 13 29 60
 a get { } ( ) | script | 0 2 1 6 6 16 37 70 196
 a set { } ( ) | script | 0 2 1 6 6 16 37 70 194
 get { } ( ) [ ] | script | 0 1 2 4 8 20 48 125
 async * { } ( ) | script | 0 0 1 1 2 3 7 13 32 77
-async get * a { } ( ) , | script | 0 2 1 11 13 72 142 569
-async get set function class * ( ) { } : , a this [ ] | script | 0 4 2 35 116
+async get * a { } ( ) , | script | 0 2 1 15 17 129 232 1251
+async get set function class * ( ) { } : , a this [ ] | script | 0 4 2 51 132
 function a { } ( ) | script | 0 1 1 4 9 41 181
 async function { } ( ) | script | 0 0 1 2 9 41 204
 class a { } | script | 0 1 1 2 4 13 40 122
 class function ( [ ] { } | module | 0 0 2 2 16 90
-get set { } ( ) : , | module | 0 2 1 6 8 28 63 185
-let yield async implements { } , | script | 0 3 1 4 4 16
-let yield async implements { } , | module | 0 0 1 1 1 1
-let yield async implements { } , | strict | 0 1 1 1 1 1
-let yield async implements { } , | generator | 0 2 1 3 3 9
+get set { } ( ) : , | module | 0 2 1 10 12 65 123 500
+let yield async implements { } , | script | 0 3 1 13 10 68
+let yield async implements { } , | module | 0 0 1 1 1 2
+let yield async implements { } , | strict | 0 1 1 2 3 5
+let yield async implements { } , | generator | 0 3 4 16 34 104
 ";
 
 /// The same of left-hand sides: links, `new`, `super`, `import` and templates.
 const LEFT_HAND_SIDES: &str = "\
 a . # [ ] ( ) | script | 0 1 2 4 11 26 72 191
-a . [ ] ( ) , ... | script | 0 1 1 5 10 36 103
+a . [ ] ( ) , ... | script | 0 1 1 6 12 49 139
 a in . [ ] ( ) + | without-in | 0 1 2 8 20 74
 a let - delete ** . # ( ) | module | 0 1 4 15 61 219
 a let yield . ( ) | strict | 0 2 0 10 4 50
-a let yield . ( ) | generator | 0 2 0 10 4 50
+a let yield . ( ) | generator | 0 3 3 14 23 87
 function class a . { } ( ) | script | 0 1 1 8 26 200
-a { } . : ( ) , | script | 0 1 1 4 5 17 30 91
+a { } . : ( ) , | script | 0 1 1 5 7 28 53 182
 a let - delete . [ ] ( ) | module | 0 1 2 11 34 137
-a ?? || . ( ) , | script | 0 1 0 5 1 26 16
-a new ( ) . , | script | 0 1 1 5 7 26 50
+a ?? || . ( ) , | script | 0 1 0 6 1 38 18
+a new ( ) . , | script | 0 1 1 6 9 39 80
 a new [ ] ( ) ... | script | 0 1 2 5 13 35
 a new - ** ( ) # | script | 0 1 4 11 36 116
 a new . target ( ) | generator | 0 2 2 13 19 80 171
@@ -96,7 +96,7 @@ a new { } ( ) : | script | 0 1 2 5 9 22 49
 a class new . { } ( ) | script | 0 1 2 9 26 145
 a ? . # ( ) [ ] | script | 0 1 2 4 12 30 86
 a new ? . ( ) | script | 0 1 1 5 9 26 64 164
-a ? ?? . , [ ] ( ) | script | 0 1 1 6 12 48
+a ? ?? . , [ ] ( ) | script | 0 1 1 7 14 63
 a in ? . [ ] ( ) | without-in | 0 1 1 5 9 34
 a let delete new ? . `` | module | 0 2 5 19 59 157
 a let delete new ? . `` | strict | 0 3 9 30 90 237
@@ -105,13 +105,65 @@ a in `${ }` }${ [ ] | without-in | 0 1 1 2 4 11
 a new `` `${ }` . ( ) | script | 0 2 4 16 50 176
 a ? . `` `${ }` }${ | script | 0 2 2 6 16 40
 a super ( ) . new | script | 0 1 1 7 9 41 77
-import ( ) , a ... | script | 0 1 0 3 2 9 16 44
+import ( ) , a ... | script | 0 1 0 4 2 17 20 92
 import . source ( ) a | script | 0 2 0 11 6 56 87 310
 import . meta new ( ) | module | 0 1 1 8 10 47 87 303
 import . meta ( ) a | script | 0 2 0 11 6 55 85
 super import ( ) ? . | script | 0 0 0 2 0 8 8 34
-import new [ ] ( ) , | script | 0 0 1 3 6 18 47 136
+import new [ ] ( ) , | script | 0 0 1 3 6 19 53 158
 super import ( ) `` - ** | script | 0 1 2 9 25 86 282
+";
+
+/// The same of updates, assignments, conditionals, sequences, `yield` and `await`. `\r` is a line break before a token.
+const ASSIGNMENTS: &str = "\
+a = += ++ -- ? : , ( ) | script | 0 1 4 5 25
+a = += ++ -- ? : , ( ) | without-in | 0 1 4 5 25
+a = in ? : , ( ) | without-in | 0 1 0 4 1 20 12
+a eval . ++ -- = ( ) | script | 0 2 8 12 52
+a eval . ++ -- = ( ) | strict | 0 2 4 10 32 62
+a eval - delete ++ = ( ) | module | 0 2 4 18 54
+a ++ \r++ -- - ** ( ) | script | 0 1 6 10 43
+a ++ delete typeof ** \r** | module | 0 1 3 8 22 52 124
+a ++ = ? . : ( ) | script | 0 1 2 4 10 20
+a \r. . ++ \r++ = ( ) | script | 0 1 3 5 16 28
+a # . = ++ [ ] , | script | 0 1 4 5 25 66
+a new ++ = . ( ) | script | 0 1 3 6 18 39
+a ++ = . `${ }` }${ , | script | 0 1 2 4 11 24
+a super import ( ) . ++ = | script | 0 1 2 8 15 54
+import . meta = ++ a | module | 0 2 4 11 20 55 106
+new . target = ++ a | generator | 0 2 6 13 33 68 174
+a { } , : = ++ ? | strict | 0 1 3 3 10 20 51
+async function a { } = , | script | 0 1 1 5 16
+a await ( ) [ ] , | script | 0 2 3 13 37
+a await + - ** ( ) | script | 0 2 6 27 101
+a await - ** * ++ = ( ) | async | 0 1 4 14 53
+a await ++ ** + ? : , | script | 0 2 7 22 82 281
+a await ++ -- = \r= ( ) | strict | 0 2 8 17 53
+a await ? : \r: \r= , | script | 0 2 2 10 14 56 104
+a await \r? + \r+ * \r* : | script | 0 2 6 26 102
+a \ra await \r+ + \r( ( ) , | script | 0 3 8 55 235
+a \ra await \r+ * \r* ++ \r++ | async | 0 2 10 32 160
+a \ra await \r++ ++ * \r* ( ) | module | 0 2 7 16 80
+a await ++ = ( ) , + \r+ | generator | 0 2 7 29 125
+a await = ++ , in ( ) \r+ | without-in | 0 2 7 25 99
+a await yield , ? : \r: ( ) | generator | 0 3 3 16 31 132
+a await new . ( ) = ++ | script | 0 2 7 17 53
+a await new . [ ] | generator | 0 2 3 8 19 49
+a await new . ( ) ++ | strict | 0 2 6 13 38 96
+a await `${ }` }${ , \r+ | script | 0 2 4 16 50
+a await { } , : = | script | 0 2 3 11 22 71 171
+a await . { } : , | async | 0 1 2 6 12 32 72
+a await { } ( ) : ? , | module | 0 1 2 6 14 42
+a yield * = ? : , | generator | 0 2 2 11 19 70 156
+a yield + - ** ++ ( ) | generator | 0 2 6 20 74
+a yield = += in , ( ) [ ] | generator | 0 2 3 18 50
+a yield \ra \r* * \r= = , | generator | 0 3 2 34 37 359
+a yield \ra \r++ ++ ( ) \r( | generator | 0 3 8 15 50
+a yield \r+ + ? : \r? \r= | generator | 0 2 4 11 29 86
+a yield { } , : = ... | generator | 0 2 3 10 24 71
+a yield [ ] , ... ++ | generator | 0 2 5 12 42
+a yield `${ }` }${ , = | generator | 0 2 2 10 20 70
+a yield ++ = ? : ( ) | strict | 0 1 2 3 7 12
 ";
 
 /// The lists of one token more.
@@ -233,4 +285,9 @@ fn reads_what_the_productions_derive(rt: HostRuntime) -> Result<(), AllocError> 
 #[test]
 fn reads_left_hand_sides(rt: HostRuntime) -> Result<(), AllocError> {
     agree_in(&rt, rt.alloc(), LEFT_HAND_SIDES)
+}
+
+#[test]
+fn reads_assignments(rt: HostRuntime) -> Result<(), AllocError> {
+    agree_in(&rt, rt.alloc(), ASSIGNMENTS)
 }
