@@ -154,9 +154,11 @@ impl<I: Tokens, B: Bodies<I>> Parser<I, B> {
         self.productions.commas.get(start)
     }
 
-    /// An expression, as `parse_expr` reads it: its number among the nodes, which keeps its tree until they are let go.
+    /// An expression, as `parse_expr` reads it: its number among the nodes, which keeps its tree until they are let
+    /// go.
     ///
-    /// The nodes that were made are appended to those that there were. After a refusal the nodes are those from before.
+    /// The nodes that were made are appended to those that there were. After a refusal the nodes are those from
+    /// before.
     pub fn parse_expr_id(&mut self) -> PResult<ExprId>
         ensures promised { Promised I.model B.is_faithful B.forms by_number Expr self.old result self.new }
     {
@@ -189,18 +191,18 @@ impl<I: Tokens, B: Bodies<I>> Parser<I, B> {
         self.parse_expr()
     }
 
-    /// An assignment expression (ECMA-262, 13.15): binary operators and their operands, as `parse_bin_expr` reads them; a
-    /// conditional of such (13.14), in whose middle `in` is an operator; an assignment to a simple target; or `yield`
-    /// (15.5), in a generator. Behind a conditional, a binary operator, a prefix operator, `++`, `--` and `await` no
+    /// An assignment expression (ECMA-262, 13.15): binary operators and their operands, as `parse_bin_expr` reads
+    /// them; a conditional of such (13.14), in whose middle `in` is an operator; an assignment to a simple target; or
+    /// `yield` (15.5), in a generator. Behind a conditional, a binary operator, a prefix operator, `++` and `--` no
     /// assignment is read.
     ///
-    /// The end is refused as `Eof`, where the token consumed last ends. What stands left of `=` and can't be written to
-    /// is recorded as `TS2406`, left of another operator as `NotSimpleAssign`; and what isn't an identifier, a member, a
-    /// property of `super`, in parentheses, or an optional chain is refused as `InvalidAssignTarget`, all at its place:
-    /// so far array and object literals too, as they stand for patterns. What follows the middle of a conditional and is
-    /// no `:` is refused as `Expected`, at the current token. `yield` in parameters outside a function is refused as
-    /// `YieldParamInGen`, at the word; a refusal of its operand is labelled (`WithLabel`) with the place of the word and
-    /// of the `*` behind it.
+    /// The end is refused as `Eof`, where the token consumed last ends. What stands left of `=` and can't be written
+    /// to is recorded as `TS2406`, left of another operator as `NotSimpleAssign`; and what isn't an identifier, a
+    /// member, a property of `super`, in parentheses, or an optional chain is refused as `InvalidAssignTarget`, all at
+    /// its place: so far array and object literals too, as they stand for patterns. What follows the middle of a
+    /// conditional and is no `:` is refused as `Expected`, at the current token. `yield` in parameters outside a
+    /// function is refused as `YieldParamInGen`, at the word; a refusal of its operand is labelled (`WithLabel`) with
+    /// the place of the word and of the `*` behind it.
     pub fn parse_assignment_expr(&mut self) -> PResult<Box<ExprOf<B>>>
         ensures promised { Promised I.model B.is_faithful B.forms in_boxes Assign self.old result self.new }
     {
@@ -228,30 +230,30 @@ impl<I: Tokens, B: Bodies<I>> Parser<I, B> {
         self.finish(answer)
     }
 
-    /// A unary expression (ECMA-262, 13.5): any number of `delete`, `void`, `typeof`, `+`, `-`, `~`, `!`, `++` and `--`
-    /// (13.4) and `await` (15.8), and then a left-hand side (13.3), with `++` or `--` behind it on the same line or
-    /// without: a primary expression, `new`, `super` or `import`, with its links. A primary expression (13.2) is `this`,
-    /// a literal, a regular expression, a template, an array or object literal, an identifier, `#` and a name,
+    /// A unary expression (ECMA-262, 13.5): any number of `delete`, `void`, `typeof`, `+`, `-`, `~`, `!`, `++` and
+    /// `--` (13.4) and `await` (15.8), and then a left-hand side (13.3), with `++` or `--` behind it on the same line
+    /// or without: a primary expression, `new`, `super` or `import`, with its links. A primary expression (13.2) is
+    /// `this`, a literal, a regular expression, a template, an array or object literal, an identifier, `#` and a name,
     /// expressions in parentheses, or a function or a class, which the hook reads. Outside async code `await` is an
     /// identifier where no operand can follow: before `)`, `]`, `}`, `,`, `;`, a line break and the end.
     ///
-    /// A refused operand of `delete`, `void`, `typeof`, `+`, `-`, `~` or `!` is recorded, and a node of `Invalid` stands
-    /// in its place, at one position, that before the operand; behind `++`, `--` and `await` it is refused. `delete` of
-    /// an identifier has the fault `TS1102`, and an identifier that is a word of strict code twice
+    /// A refused operand of `delete`, `void`, `typeof`, `+`, `-`, `~` or `!` is recorded, and a node of `Invalid`
+    /// stands in its place, at one position, that before the operand; behind `++`, `--` and `await` it is refused.
+    /// `delete` of an identifier has the fault `TS1102`, and an identifier that is a word of strict code twice
     /// `InvalidIdentInStrict`; these are recorded in modules, and wait elsewhere. What `++` and `--` can't write to is
     /// recorded as `TS2406`, at its place. `await` before `*` is refused as `AwaitStar`, at the `*`; the identifier
-    /// `await` is recorded in a module as `InvalidIdentInAsync`, at the word; the operator in a function that isn't async
-    /// as `AwaitInFunction`, at the token behind it, and in parameters outside a function as `AwaitParamInAsync`, at the
-    /// word.
+    /// `await` is recorded in a module as `InvalidIdentInAsync`, at the word; the operator in a function that isn't
+    /// async as `AwaitInFunction`, at the token behind it, and in parameters outside a function as
+    /// `AwaitParamInAsync`, at the word.
     ///
     /// What begins no primary expression is refused as `TS1109`, at the current token or, at the end, at the token
     /// consumed last; `()` as `EmptyParenExpr`, at the parentheses, and an expression behind dots in parentheses as
     /// `SpreadInParenExpr`, at the expression. A comma behind the last expression in parentheses is recorded as
-    /// `TS1109`, at the comma, and a property `name = value` of an object literal among them as `AssignProperty`, at the
-    /// property. What follows an item of parentheses and is neither `,` nor `)`, and what follows an element of an array
-    /// and is neither `,` nor `]`, is refused as `Expected`, at the current token, and the end there as `Eof`; what
-    /// follows `#` and is no word as `ExpectedIdent`. A refusal behind `...` is labelled with the place of the dots
-    /// (`WithLabel`). What the hook refuses is refused.
+    /// `TS1109`, at the comma, and a property `name = value` of an object literal among them as `AssignProperty`, at
+    /// the property. What follows an item of parentheses and is neither `,` nor `)`, and what follows an element of an
+    /// array and is neither `,` nor `]`, is refused as `Expected`, at the current token, and the end there as `Eof`;
+    /// what follows `#` and is no word as `ExpectedIdent`. A refusal behind `...` is labelled with the place of the
+    /// dots (`WithLabel`). What the hook refuses is refused.
     pub fn parse_unary_expr(&mut self) -> PResult<Box<ExprOf<B>>>
         ensures promised { Promised I.model B.is_faithful B.forms in_boxes Unary self.old result self.new }
     {

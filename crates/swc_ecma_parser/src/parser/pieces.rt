@@ -16,9 +16,9 @@ use swc_productions::moves::Listed;
 pub type ArgsOrPatsOf<B> = (Vec<ExprOrSpread<Box<ExprOf<B>>>>, Option<Span>);
 
 impl<I: Tokens, B: Bodies<I>> Parser<I, B> {
-    /// Arguments (ECMA-262, 13.3.8), from `(` through the `)` that closes them: expressions, and spreads, in which `in`
-    /// is an operator. A comma may stand behind the last one, and isn't remembered. With `is_dynamic_import` they are
-    /// those of `import` (13.3.10): how many there are isn't looked at.
+    /// Arguments (ECMA-262, 13.3.8), from `(` through the `)` that closes them: expressions, and spreads, in which
+    /// `in` is an operator. A comma may stand behind the last one, and isn't remembered. With `is_dynamic_import` they
+    /// are those of `import` (13.3.10): how many there are isn't looked at.
     ///
     /// What is no `(` where they begin is refused as `Expected`, at the current token, and so is what follows an
     /// argument and is neither `,` nor `)`; the end as `Eof`, where the token consumed last ends. A refusal behind
@@ -40,9 +40,9 @@ impl<I: Tokens, B: Bodies<I>> Parser<I, B> {
     }
 
     /// A list in parentheses, from `(` through the `)` that closes it, with the place of a comma behind the last item:
-    /// expressions, and spreads, in which `in` is an operator. It is read as arguments are, and is what parameters of an
-    /// arrow function, an expression in parentheses (ECMA-262, 13.2.9) and arguments of a call of `async` have in common;
-    /// none of what these forbid is looked at.
+    /// expressions, and spreads, in which `in` is an operator. It is read as arguments are, and is what parameters of
+    /// an arrow function, an expression in parentheses (ECMA-262, 13.2.9) and arguments of a call of `async` have in
+    /// common; none of what these forbid is looked at.
     ///
     /// It refuses what `parse_args` does.
     pub fn parse_args_or_pats(&mut self) -> PResult<ArgsOrPatsOf<B>>
@@ -59,13 +59,13 @@ impl<I: Tokens, B: Bodies<I>> Parser<I, B> {
     }
 
     /// A template (ECMA-262, 13.2.8), from its backquote through the one that closes it: texts, and between each two
-    /// of them an expression in `${` and `}`, in which `in` is an operator. Where it `is_tagged` (13.3.11), a text
-    /// may have a bad escape: `cooked` is none then.
+    /// of them an expression in `${` and `}`, in which `in` is an operator. Where it `is_tagged` (13.3.11), a text may
+    /// have a bad escape: `cooked` is none then.
     ///
     /// What is no backquote where it begins is refused as `Expected`, at the current token, and so is what follows an
-    /// expression and is no `}`; what follows a text and is neither `${` nor a backquote too; what is no text where one
-    /// is to stand as `Unexpected`; the end as `Eof`, where the token consumed last ends. Where it isn't tagged, a bad
-    /// escape is refused by the error that its text has, at that error's place, once the text was consumed.
+    /// expression and is no `}`; what follows a text and is neither `${` nor a backquote too; what is no text where
+    /// one is to stand as `Unexpected`; the end as `Eof`, where the token consumed last ends. Where it isn't tagged, a
+    /// bad escape is refused by the error that its text has, at that error's place, once the text was consumed.
     pub fn parse_tpl(&mut self, is_tagged: bool) -> PResult<Tpl<Box<ExprOf<B>>>>
         ensures promised { Promised I.model B.is_faithful B.forms tpl_in_boxes (Template is_tagged)
             self.old result self.new }
