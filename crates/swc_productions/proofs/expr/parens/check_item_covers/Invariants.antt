@@ -2,7 +2,7 @@ use Rattle.std.proofs.Common.{◌≤◌, take}
 use Rattle.swc_input.specs.Buffer.{to_come}
 use Rattle.swc_productions.specs.Parsing.{tree_of, Checks}
 use Rattle.swc_productions.proofs.Parens.{all_pass, whole_item}
-use Rattle.swc_productions.proofs.expr.check_item_covers.Given as goal
+use Rattle.swc_productions.proofs.expr.parens.check_item_covers.Given as goal
 
 abbrev pub invariant-loop-item : goal.invariant-loop-item
 invariant-loop-item g l =

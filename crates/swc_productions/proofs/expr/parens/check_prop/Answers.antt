@@ -2,7 +2,7 @@ use Rattle.std.proofs.Common.{not, ap, arith}
 use Rattle.swc_nodes.specs.Lists.{is_cover_prop}
 use Rattle.swc_productions.proofs.Covers.{no_assign}
 use Rattle.swc_productions.proofs.Steps.{check_passes}
-use Rattle.swc_productions.proofs.expr.check_prop.Goals as goal
+use Rattle.swc_productions.proofs.expr.parens.check_prop.Goals as goal
 
 pub returns-in_default : goal.returns-in_default
 returns-in_default g c = record {

@@ -1,7 +1,7 @@
 use Rattle.std.proofs.Common.{not, refl, sym, ap, subst, ◌∙◌, arith}
 use Rattle.swc_productions.specs.Parsing.{tree_of, Refuses}
 use Rattle.swc_productions.proofs.Parens.{plain_item, item_from, pass-on, none_spread, one_spread}
-use Rattle.swc_productions.proofs.expr.refuse_spread.Goals as goal
+use Rattle.swc_productions.proofs.expr.parens.refuse_spread.Goals as goal
 
 pub loop-item-init : goal.loop-item-init
 loop-item-init g c = (refl, refl)

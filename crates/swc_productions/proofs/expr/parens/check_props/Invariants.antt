@@ -2,7 +2,7 @@ use Rattle.std.proofs.Common.{not, ◌≤◌, take}
 use Rattle.swc_input.specs.Buffer.{to_come}
 use Rattle.swc_nodes.specs.Lists.{has_cover}
 use Rattle.swc_productions.specs.Parsing.{Checks}
-use Rattle.swc_productions.proofs.expr.check_props.Given as goal
+use Rattle.swc_productions.proofs.expr.parens.check_props.Given as goal
 
 abbrev pub invariant-loop-prop : goal.invariant-loop-prop
 invariant-loop-prop g l =

@@ -1,7 +1,7 @@
 use Rattle.swc_grammar.specs.Trees.{no_cover_in}
 use Rattle.swc_productions.specs.Parsing.{tree_of}
 use Rattle.swc_productions.proofs.Steps.{check_passes}
-use Rattle.swc_productions.proofs.expr.check_cover_names.Goals as goal
+use Rattle.swc_productions.proofs.expr.parens.check_cover_names.Goals as goal
 
 pub returns-in-None-clause-checks : goal.returns-in-None-clause-checks
 returns-in-None-clause-checks g c =

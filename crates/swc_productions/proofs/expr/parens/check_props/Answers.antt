@@ -2,7 +2,7 @@ use Rattle.std.proofs.Common.{true, refl, arith}
 use Rattle.std.proofs.lemmas.Result.{err_from_is_err_and}
 use Rattle.swc_productions.proofs.Covers.{checks-more, checks-all}
 use Rattle.swc_productions.proofs.Steps.{check_passes, forgoes_later}
-use Rattle.swc_productions.proofs.expr.check_props.Goals as goal
+use Rattle.swc_productions.proofs.expr.parens.check_props.Goals as goal
 
 pub loop-prop-init : goal.loop-prop-init
 loop-prop-init g c = (check_passes true g.met.I.Tokens.laws _ refl, omega arith)

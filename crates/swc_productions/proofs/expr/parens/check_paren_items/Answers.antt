@@ -5,7 +5,7 @@ use Rattle.std.proofs.lemmas.Result.{err_from_is_err_and}
 use Rattle.swc_productions.specs.Parsing.{tree_of}
 use Rattle.swc_productions.proofs.Parens.{paren_none, paren_checked, paren_refused}
 use Rattle.swc_productions.proofs.Steps as s
-use Rattle.swc_productions.proofs.expr.check_paren_items.Goals as goal
+use Rattle.swc_productions.proofs.expr.parens.check_paren_items.Goals as goal
 
 pub returns-in_err-check_item_covers-clause-refuses : goal.returns-in_err-check_item_covers-clause-refuses
 returns-in_err-check_item_covers-clause-refuses g c =

@@ -1,7 +1,7 @@
 use Rattle.std.proofs.Common.{not, ap}
 use Rattle.swc_input.specs.Recording.{is_some}
 use Rattle.swc_productions.proofs.Steps.{check_passes, check_notes}
-use Rattle.swc_productions.proofs.expr.check_last_comma.Goals as goal
+use Rattle.swc_productions.proofs.expr.parens.check_last_comma.Goals as goal
 
 pub returns-in-Some-clause-checks : goal.returns-in-Some-clause-checks
 returns-in-Some-clause-checks g c =

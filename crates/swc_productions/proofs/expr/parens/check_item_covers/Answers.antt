@@ -3,7 +3,7 @@ use Rattle.std.proofs.lemmas.Result.{err_from_is_err_and}
 use Rattle.swc_productions.specs.Parsing.{tree_of}
 use Rattle.swc_productions.proofs.Parens.{whole_item, item_from, item_checked, items_checked}
 use Rattle.swc_productions.proofs.Steps.{check_passes, forgoes_later}
-use Rattle.swc_productions.proofs.expr.check_item_covers.Goals as goal
+use Rattle.swc_productions.proofs.expr.parens.check_item_covers.Goals as goal
 
 pub loop-item-init : goal.loop-item-init
 loop-item-init g c = (check_passes true g.met.I.Tokens.laws _ refl, omega arith)
