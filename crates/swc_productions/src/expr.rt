@@ -28,8 +28,8 @@ ghost use Rattle.swc_productions.specs.Parsing.{elems_at, args_at, member_name_o
 
 use crate::expr::parens::check_paren_items;
 use crate::moves::{
-    Listed, Sign, add, bump, copy_of, eat, emit_err, emit_strict_mode_err, expect, expect_or,
-    is_async_function, is_sign, label_spread, listed, look, made, made_literal, parse_ident_name,
+    Listed, Sign, bump, copy_of, eat, emit_err, emit_strict_mode_err, expect, expect_or,
+    is_async_function, is_sign, label_spread, listed, look, made_literal, parse_ident_name,
     parse_ident_ref, parse_private_name, require_cur, separate, set_ctx, skip, syntax_error,
     unexpected,
 };
@@ -110,7 +110,7 @@ impl<I: Tokens, B: Bodies<I>> Productions<I, B> {
         if self.is_lit() {
             let lit = self.parse_lit()?;
             let node = self.nodes.lit(lit);
-            return made(&self.input, node);
+            return self.made(node);
         }
         if self.is_lparen() {
             return self.parse_paren_expr();
@@ -136,7 +136,7 @@ impl<I: Tokens, B: Bodies<I>> Productions<I, B> {
         if self.is_regex_start() {
             return self.parse_regex();
         }
-        let span = self.input.cur_span();
+        let span = self.cur_span();
         Err(syntax_error(&mut self.input, span, SyntaxError::TS1109))
     }
 
@@ -148,9 +148,9 @@ impl<I: Tokens, B: Bodies<I>> Productions<I, B> {
         ensures { Produces I.model B.is_faithful itself tree_of (by_production B.forms (λ c. grammar.array-lit))
             (count self.old.nodes) self.old result self.new }
     {
-        let start = self.input.cur_span().lo;
+        let start = self.cur_span().lo;
         skip(&mut self.input);
-        let ctx = self.input.get_ctx();
+        let ctx = self.get_ctx();
         set_ctx(
             &mut self.input,
             Context {
@@ -214,8 +214,9 @@ impl<I: Tokens, B: Bodies<I>> Productions<I, B> {
             (count self.old.nodes) self.old result self.new }
     {
         skip(&mut self.input);
-        let node = self.nodes.this_expr(self.input.prev_span());
-        made(&self.input, node)
+        let span = self.prev_span();
+        let node = self.nodes.this_expr(span);
+        self.made(node)
     }
 
     /// A function, which the hook reads (ECMA-262, 13.2.6): at `function`, or at `async` with `function` after it.
@@ -226,7 +227,7 @@ impl<I: Tokens, B: Bodies<I>> Productions<I, B> {
     {
         let function = self.bodies.fun(&mut self.input)?;
         let node = self.nodes.fn_expr(function);
-        made(&self.input, node)
+        self.made(node)
     }
 
     /// A class, which the hook reads (ECMA-262, 15.7).
@@ -237,7 +238,7 @@ impl<I: Tokens, B: Bodies<I>> Productions<I, B> {
     {
         let class = self.bodies.class(&mut self.input)?;
         let node = self.nodes.class_expr(class);
-        made(&self.input, node)
+        self.made(node)
     }
 
     /// An identifier reference as an expression (ECMA-262, 13.1).
@@ -250,7 +251,7 @@ impl<I: Tokens, B: Bodies<I>> Productions<I, B> {
         let ident = parse_ident_ref(self.alloc, &mut self.input)?;
         check_strict_word(&mut self.input, is_strict, &ident)?;
         let node = self.nodes.ident_expr(ident);
-        made(&self.input, node)
+        self.made(node)
     }
 
     /// `#` and a name, as an expression (ECMA-262, 13.10.1).
@@ -259,11 +260,11 @@ impl<I: Tokens, B: Bodies<I>> Productions<I, B> {
         ensures { Produces I.model B.is_faithful itself tree_of (by_production B.forms (λ c. grammar.private-expr))
             (count self.old.nodes) self.old result self.new }
     {
-        let start = self.input.cur_span().lo;
+        let start = self.cur_span().lo;
         skip(&mut self.input);
         let name = parse_ident_name(self.alloc, &mut self.input)?;
         let node = self.nodes.private_expr(start, name);
-        made(&self.input, node)
+        self.made(node)
     }
 
     /// Expressions in parentheses (ECMA-262, 13.2.9), as a list like that of arguments has them.
@@ -273,7 +274,7 @@ impl<I: Tokens, B: Bodies<I>> Productions<I, B> {
         ensures { Produces I.model B.is_faithful itself tree_of (by_production B.forms (λ c. grammar.paren-expr))
             (count self.old.nodes) self.old result self.new }
     {
-        let start = self.input.cur_span();
+        let start = self.cur_span();
         skip(&mut self.input);
         let list = self.parse_args(false)?;
         self.paren_items(start, list)
@@ -290,9 +291,9 @@ impl<I: Tokens, B: Bodies<I>> Productions<I, B> {
         check_paren_items::<I, B>(&mut self.input, &self.nodes, start, &list)?;
         let end = list.end.hi;
         let node = self.nodes.seq_of_items(list.items);
-        let expr = made(&self.input, node)?;
+        let expr = self.made(node)?;
         let node = self.nodes.paren_expr(start.lo, end, expr);
-        made(&self.input, node)
+        self.made(node)
     }
 
     /// A left-hand side (ECMA-262, 13.3); with `no_call`, a parenthesis is no link of it, but that of `new`.
@@ -316,7 +317,7 @@ impl<I: Tokens, B: Bodies<I>> Productions<I, B> {
         ensures { Produces I.model B.is_faithful itself tree_of (new_lhs B.forms (not no_call))
             (count self.old.nodes) self.old result self.new }
     {
-        let start = self.input.cur_span();
+        let start = self.cur_span();
         skip(&mut self.input);
         match eat(&mut self.input, Sign::Dot)? {
             Some(_) => {
@@ -341,7 +342,7 @@ impl<I: Tokens, B: Bodies<I>> Productions<I, B> {
         let span = Span::new(start.lo, end.hi);
         check_new_target(&mut self.input, span)?;
         let node = self.nodes.meta_prop(span, MetaPropKind::NewTarget);
-        made(&self.input, node)
+        self.made(node)
     }
 
     /// What `new` at `start` constructs (ECMA-262, 13.3.5), which is no optional chain, and its arguments, and links
@@ -361,7 +362,7 @@ impl<I: Tokens, B: Bodies<I>> Productions<I, B> {
             }
             None => {
                 let node = self.nodes.bare_new_expr(start.lo, callee);
-                made(&self.input, node)
+                self.made(node)
             }
         }
     }
@@ -380,7 +381,7 @@ impl<I: Tokens, B: Bodies<I>> Productions<I, B> {
     {
         let end = list.end.hi;
         let node = self.nodes.new_expr(start.lo, callee, list.items, end);
-        made(&self.input, node)
+        self.made(node)
     }
 
     /// Reads on after `obj`, through all links; with `no_call`, a parenthesis is none.
@@ -434,7 +435,7 @@ impl<I: Tokens, B: Bodies<I>> Productions<I, B> {
     {
         let (prop, end) = self.parse_member_name()?;
         let node = self.nodes.member_expr(obj, prop, end, optional);
-        made(&self.input, node)
+        self.made(node)
     }
 
     /// What names a member behind a `.`, any word or a private name, and where it ends, in bytes.
@@ -470,7 +471,7 @@ impl<I: Tokens, B: Bodies<I>> Productions<I, B> {
         let span = Span::new(start.lo, end.hi);
         let prop = MemberProp::Computed(ComputedPropName { span, expr });
         let node = self.nodes.member_expr(obj, prop, end.hi, optional);
-        made(&self.input, node)
+        self.made(node)
     }
 
     /// The node of a call (ECMA-262, 13.3.6), with its arguments; `optional`, where `?.` stands before these. Refused
@@ -488,7 +489,7 @@ impl<I: Tokens, B: Bodies<I>> Productions<I, B> {
     {
         let end = list.end.hi;
         let node = self.nodes.call_expr(callee, list.items, end, optional);
-        made(&self.input, node)
+        self.made(node)
     }
 
     /// The literal that a token is.
@@ -518,11 +519,11 @@ impl<I: Tokens, B: Bodies<I>> Productions<I, B> {
     {
         require_cur(&mut self.input)?;
         if !self.is_lit() {
-            let span = self.input.cur_span();
+            let span = self.cur_span();
             return Err(syntax_error(&mut self.input, span, SyntaxError::TS1109));
         }
         let token = bump(&mut self.input);
-        let span = self.input.prev_span();
+        let span = self.prev_span();
         Ok(self.lit_of(token, span))
     }
 
@@ -537,7 +538,7 @@ impl<I: Tokens, B: Bodies<I>> Productions<I, B> {
         let regex = parse_regex_text(&mut self.input)?;
         check_flags(&mut self.input, &regex)?;
         let node = self.nodes.lit(Lit::Regex(regex));
-        made(&self.input, node)
+        self.made(node)
     }
 }
 

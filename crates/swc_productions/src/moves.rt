@@ -306,17 +306,6 @@ pub fn is_out_of_memory(error: &Error) -> bool
     matches!(error.kind(), SyntaxError::OutOfMemory)
 }
 
-/// The number of a node. Refused only for want of memory.
-pub(crate) fn made<I: Tokens>(input: &Buffer<I>, id: Result<ExprId, AllocError>) -> PResult<ExprId>
-    ensures ok { IfOk result (λ r. id ≡ Ok r) }
-    ensures refused { IfErr result (λ e. e ≡ no_memory (last_position input.now)) }
-{
-    match id {
-        Ok(id) => Ok(id),
-        Err(_) => Err(input.out_of_memory()),
-    }
-}
-
 /// The number of a literal's node. A comma behind its last part is remembered too, or that there is none. Refused only
 /// for want of memory.
 pub(crate) fn made_literal<I: Tokens>(
@@ -330,9 +319,9 @@ pub(crate) fn made_literal<I: Tokens>(
     ensures refused { IfErr result (λ e. e ≡ no_memory (last_position input.now)) }
     ensures remembers { OnOk result (Remembers start.0 trailing_comma commas.old commas.new) }
 {
-    match commas.remember(start, trailing_comma) {
-        Ok(()) => made(input, id),
-        Err(_) => Err(input.out_of_memory()),
+    match (commas.remember(start, trailing_comma), id) {
+        (Ok(()), Ok(id)) => Ok(id),
+        _ => Err(input.out_of_memory()),
     }
 }
 
@@ -530,7 +519,7 @@ macro_rules! listed {
                 None => {}
             }
             let (item, comma) = $productions.$item($($arg),*)?;
-            add(&$productions.input, &mut items, item)?;
+            $productions.add(&mut items, item)?;
             trailing_comma = comma;
         }
     }};
@@ -563,17 +552,6 @@ fn require_close<I: Tokens>(input: &mut Buffer<I>, close: Sign) -> PResult<()>
         return Err(unexpected(input, SyntaxError::Expected(",")));
     }
     Ok(())
-}
-
-/// Adds to a list. Refused only for want of memory.
-pub(crate) fn add<I: Tokens, T: Drop>(input: &Buffer<I>, list: &mut Vec<T>, item: T) -> PResult<()>
-    ensures added { OnOk result (list.new.items ≡ list.old.items ++ item ∷ []) }
-    ensures refused { IfErr result (λ e. e ≡ no_memory (last_position input.now)) }
-{
-    match list.push(item) {
-        Ok(()) => Ok(()),
-        Err(_) => Err(input.out_of_memory()),
-    }
 }
 
 /// The refusal of what stands behind dots, labelled with their place; want of memory stays as it is.

@@ -33,7 +33,7 @@ use crate::kinds::{
     MethodKind, PropKind, is_word, modifier_here, parse_modifiers, prop_kind, questioned_kind,
 };
 use crate::moves::{
-    Listed, Sign, add, bump, eat, emit_err, expect, is_sign, listed, look, made_literal,
+    Listed, Sign, bump, eat, emit_err, expect, is_sign, listed, look, made_literal,
     parse_ident_name, require_cur, separate, set_ctx, skip, unexpected,
 };
 use crate::productions::Productions;
@@ -61,7 +61,7 @@ impl<I: Tokens, B: Bodies<I>> Productions<I, B> {
         ensures { Produces I.model B.is_faithful itself tree_of (by_production B.forms (λ c. grammar.object-lit))
             (count self.old.nodes) self.old result self.new }
     {
-        let start = self.input.cur_span().lo;
+        let start = self.cur_span().lo;
         skip(&mut self.input);
         let list = self.parse_props()?;
         let end = list.end.hi;
@@ -242,7 +242,7 @@ impl<I: Tokens, B: Bodies<I>> Productions<I, B> {
             return Err(unexpected(&mut self.input, SyntaxError::Unexpected(expected)));
         }
         let token = bump(&mut self.input);
-        let span = self.input.prev_span();
+        let span = self.prev_span();
         Ok(self.key_lit_of(token, span))
     }
 
@@ -295,7 +295,7 @@ impl<I: Tokens, B: Bodies<I>> Productions<I, B> {
             self.old.input result self.new.input }
         ensures nodes { self.new.nodes ≡ self.old.nodes }
     {
-        let ctx = self.input.get_ctx();
+        let ctx = self.get_ctx();
         set_ctx(&mut self.input, method_block(is_async, is_generator, ctx));
         let block = self.parse_block();
         set_ctx(&mut self.input, ctx);

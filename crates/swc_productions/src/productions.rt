@@ -1,7 +1,8 @@
 // What all productions stand on: the buffer, the nodes and the hook.
-ghost use Rattle.std.specs.Prelude.{◌≡◌, true, false, None, Some, IfOk, IsSome};
+ghost use Rattle.std.specs.Prelude.{◌≡◌, ◌++◌, ◌∷◌, [], true, false, None, Some, Ok, IfOk, IfErr, OnOk, IsSome, MatchOption};
 ghost use Rattle.swc_input.specs.declared.token.Token.{Token};
-ghost use Rattle.swc_input.specs.Buffer.{current, context, state_of};
+ghost use Rattle.swc_input.specs.Buffer.{current, context, state_of, previous, last_position};
+ghost use Rattle.swc_input.specs.Recording.{no_memory};
 ghost use Rattle.swc_input.specs.Kinds.{at_token, is_hash};
 ghost use Rattle.swc_grammar.specs.Tokens.{is_ref, is_strict_word, is_lparen, is_rparen, is_lbracket, is_this};
 ghost use Rattle.swc_grammar.specs.Tokens.{is_word, is_new, is_backquote};
@@ -13,15 +14,17 @@ ghost use Rattle.swc_grammar.specs.Tokens.{begins_regex};
 
 use crate::moves::look;
 use crate::regex::{is_regex, is_slash};
-use std::alloc::Global;
+use std::alloc::{AllocError, Global};
 use swc_bodies::bodies::Bodies;
 use swc_context::context::Context;
 use swc_context::error::PResult;
+use swc_context::span::{BytePos, Span};
 use swc_context::word::{Keyword, Word};
 use swc_input::buffer::Buffer;
 use swc_input::token::Token;
 use swc_input::tokens::Tokens;
 use swc_nodes::commas::TrailingCommas;
+use swc_nodes::node::ExprId;
 use swc_nodes::nodes::NodesOf;
 
 /// The productions of the grammar, as methods: each reads its symbol from the buffer, from the
@@ -56,6 +59,56 @@ impl<I: Tokens, B: Bodies<I>> Productions<I, B> {
         ensures nodes { self.new.nodes ≡ self.old.nodes }
     {
         Ok(!look(&mut self.input)?)
+    }
+
+    /// The place of the current token, where it is known already, or else of the token consumed last.
+    pub(crate) fn cur_span(&self) -> Span
+        ensures { MatchOption (current self.now.input) (result ≡ previous self.now.input) (λ t. result ≡ t.span) }
+    {
+        self.input.cur_span()
+    }
+
+    /// Where the token consumed last ends, in bytes.
+    pub(crate) fn last_pos(&self) -> BytePos
+        ensures { result ≡ last_position self.now.input }
+    {
+        self.input.last_pos()
+    }
+
+    /// The place of the token consumed last.
+    pub(crate) fn prev_span(&self) -> Span
+        ensures { result ≡ previous self.now.input }
+    {
+        self.input.prev_span()
+    }
+
+    /// The context of the source.
+    pub(crate) fn get_ctx(&self) -> Context
+        ensures { result ≡ (state_of I.model self.now.input).context }
+    {
+        self.input.get_ctx()
+    }
+
+    /// The number of a node. Refused only for want of memory.
+    pub(crate) fn made(&self, id: Result<ExprId, AllocError>) -> PResult<ExprId>
+        ensures ok { IfOk result (λ r. id ≡ Ok r) }
+        ensures refused { IfErr result (λ e. e ≡ no_memory (last_position self.now.input)) }
+    {
+        match id {
+            Ok(id) => Ok(id),
+            Err(_) => Err(self.input.out_of_memory()),
+        }
+    }
+
+    /// Adds to a list. Refused only for want of memory.
+    pub(crate) fn add<T: Drop>(&self, list: &mut Vec<T>, item: T) -> PResult<()>
+        ensures added { OnOk result (list.new.items ≡ list.old.items ++ item ∷ []) }
+        ensures refused { IfErr result (λ e. e ≡ no_memory (last_position self.now.input)) }
+    {
+        match list.push(item) {
+            Ok(()) => Ok(()),
+            Err(_) => Err(self.input.out_of_memory()),
+        }
     }
 
     pub(crate) fn is_this(&self) -> bool
@@ -169,7 +222,7 @@ impl<I: Tokens, B: Bodies<I>> Productions<I, B> {
         ensures value { result ≡ at_token (is_identifier (context I.model self.now.input)) (seen self.now.input) }
         ensures some { result ≡ true → IsSome (current self.now.input) }
     {
-        let ctx = self.input.get_ctx();
+        let ctx = self.get_ctx();
         match self.input.cur_debug() {
             Some(Token::Word(word)) => is_identifier_word(ctx, word),
             _ => false,

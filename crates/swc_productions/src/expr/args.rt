@@ -9,9 +9,7 @@ ghost use Rattle.swc_productions.specs.Links.{args_inside, arg_item, last_comma,
 ghost use Rattle.swc_productions.specs.Parsing.{scope, ContinuesAlone, Produces};
 ghost use Rattle.swc_productions.specs.Parsing.{arg_item_of, arg_item_at, args_of, args_at};
 
-use crate::moves::{
-    Listed, Sign, add, eat, is_sign, listed, look, separate, set_ctx, syntax_error,
-};
+use crate::moves::{Listed, Sign, eat, is_sign, listed, look, separate, set_ctx, syntax_error};
 use crate::productions::Productions;
 use swc_ast::expr::ExprOrSpread;
 use swc_bodies::bodies::Bodies;
@@ -34,8 +32,8 @@ impl<I: Tokens, B: Bodies<I>> Productions<I, B> {
         ensures { Produces I.model B.is_faithful args_of args_at (args_inside B.forms is_dynamic_import)
             (count self.old.nodes) self.old result self.new }
     {
-        let start = self.input.prev_span();
-        let ctx = self.input.get_ctx();
+        let start = self.prev_span();
+        let ctx = self.get_ctx();
         set_ctx(
             &mut self.input,
             Context {

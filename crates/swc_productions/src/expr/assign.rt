@@ -18,8 +18,8 @@ ghost use Rattle.swc_productions.specs.Readers.{inside, whole_inside};
 ghost use Rattle.swc_productions.specs.Parsing.{seen, behind, Checks, Looks, Refuses, Produces, GoesOn, itself, tree_of};
 
 use crate::moves::{
-    Sign, add, eat, emit_err, expect, is_after_line_break, is_sign, label_yield, look, made,
-    require_cur, set_ctx, skip, syntax_error,
+    Sign, eat, emit_err, expect, is_after_line_break, is_sign, label_yield, look, require_cur,
+    set_ctx, skip, syntax_error,
 };
 use crate::productions::Productions;
 use swc_bodies::bodies::Bodies;
@@ -57,15 +57,15 @@ impl<I: Tokens, B: Bodies<I>> Productions<I, B> {
             (first_at self.old.nodes first.0) self.old result self.new }
     {
         let mut exprs = Vec::new(self.alloc);
-        add(&self.input, &mut exprs, first)?;
+        self.add(&mut exprs, first)?;
         loop {
             let expr = self.parse_assignment_expr()?;
-            add(&self.input, &mut exprs, expr)?;
+            self.add(&mut exprs, expr)?;
             match eat(&mut self.input, Sign::Comma)? {
                 Some(_) => {}
                 None => {
                     let node = self.nodes.seq_expr(exprs);
-                    return made(&self.input, node);
+                    return self.made(node);
                 }
             }
         }
@@ -77,7 +77,7 @@ impl<I: Tokens, B: Bodies<I>> Productions<I, B> {
         ensures { Produces I.model B.is_faithful itself tree_of (whole_inside B.forms)
             (count self.old.nodes) self.old result self.new }
     {
-        let ctx = self.input.get_ctx();
+        let ctx = self.get_ctx();
         set_ctx(
             &mut self.input,
             Context {
@@ -110,7 +110,7 @@ impl<I: Tokens, B: Bodies<I>> Productions<I, B> {
         ensures { Produces I.model B.is_faithful itself tree_of (inside B.forms)
             (count self.old.nodes) self.old result self.new }
     {
-        let ctx = self.input.get_ctx();
+        let ctx = self.get_ctx();
         set_ctx(
             &mut self.input,
             Context {
@@ -167,7 +167,7 @@ impl<I: Tokens, B: Bodies<I>> Productions<I, B> {
         expect(&mut self.input, Sign::Colon)?;
         let alt = self.parse_assignment_expr()?;
         let node = self.nodes.cond_expr(test, cons, alt);
-        made(&self.input, node)
+        self.made(node)
     }
 
     /// The rest of an assignment (ECMA-262, 13.15) to `left`, from its operator on, which is current.
@@ -184,7 +184,7 @@ impl<I: Tokens, B: Bodies<I>> Productions<I, B> {
         skip(&mut self.input);
         let right = self.parse_assignment_expr()?;
         let node = self.nodes.assign_expr(op, left, right);
-        made(&self.input, node)
+        self.made(node)
     }
 
     /// `yield` (ECMA-262, 15.5), which is current, and its operand, where one begins on the same line. In parameters
@@ -195,14 +195,14 @@ impl<I: Tokens, B: Bodies<I>> Productions<I, B> {
         ensures { Produces I.model B.is_faithful itself tree_of (yield_expr B.forms)
             (count self.old.nodes) self.old result self.new }
     {
-        let start = self.input.cur_span();
+        let start = self.cur_span();
         skip(&mut self.input);
         refuse_yield_param(&mut self.input)?;
         if goes_on_yield(&mut self.input)? {
             return self.parse_yield_operand(start);
         }
         let node = self.nodes.yield_alone(start);
-        made(&self.input, node)
+        self.made(node)
     }
 
     /// The operand of the `yield` at `start`, with the `*` before it or not. A refusal of it is labelled with the place
@@ -213,11 +213,11 @@ impl<I: Tokens, B: Bodies<I>> Productions<I, B> {
             (count self.old.nodes) self.old result self.new }
     {
         let star = eat(&mut self.input, Sign::Star)?;
-        let end = self.input.last_pos();
+        let end = self.last_pos();
         match self.parse_assignment_expr() {
             Ok(arg) => {
                 let node = self.nodes.yield_expr(start.lo, star.is_some(), arg);
-                made(&self.input, node)
+                self.made(node)
             }
             Err(error) => {
                 let span = Span::new(start.lo, end);

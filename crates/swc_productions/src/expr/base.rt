@@ -14,8 +14,8 @@ ghost use Rattle.swc_productions.specs.Readers.{nothing};
 
 use crate::expr::chain_behind;
 use crate::moves::{
-    Listed, Sign, eat, emit_err, expect, is_sign, look, made, parse_ident_name, parse_private_name,
-    skip, syntax_error, unexpected,
+    Listed, Sign, eat, emit_err, expect, is_sign, look, parse_ident_name, parse_private_name, skip,
+    syntax_error, unexpected,
 };
 use crate::productions::Productions;
 use swc_ast::expr::{Callee, ExprOrSpread, Import, ImportPhase, MetaPropKind, Super, SuperProp};
@@ -117,7 +117,7 @@ impl<I: Tokens, B: Bodies<I>> Productions<I, B> {
         let prop = SuperProp::Ident(name);
         let obj = Super { span: start };
         let node = self.nodes.super_prop_expr(obj, prop, end);
-        made(&self.input, node)
+        self.made(node)
     }
 
     /// A property of `super` at `start` (ECMA-262, 13.3.7), by `expr`, which stands behind the bracket at `bracket`: the
@@ -134,7 +134,7 @@ impl<I: Tokens, B: Bodies<I>> Productions<I, B> {
         let prop = SuperProp::Computed(ComputedPropName { span, expr });
         let obj = Super { span: start };
         let node = self.nodes.super_prop_expr(obj, prop, end.hi);
-        made(&self.input, node)
+        self.made(node)
     }
 
     /// A call of `super` or `import` (ECMA-262, 13.3.7 and 13.3.10), which begins at `start`, behind its arguments.
@@ -153,7 +153,7 @@ impl<I: Tokens, B: Bodies<I>> Productions<I, B> {
     {
         let end = list.end.hi;
         let node = self.nodes.callee_call(start.lo, callee, list.items, end);
-        made(&self.input, node)
+        self.made(node)
     }
 
     /// Refuses what is neither a property of `super` nor a call of it: a link of an optional chain, behind what it
@@ -257,7 +257,7 @@ impl<I: Tokens, B: Bodies<I>> Productions<I, B> {
             (count self.old.nodes) self.old result self.new }
     {
         let node = self.nodes.meta_prop(span, MetaPropKind::ImportMeta);
-        made(&self.input, node)
+        self.made(node)
     }
 }
 

@@ -21,7 +21,7 @@ ghost use Rattle.swc_productions.specs.Updates.{await_expr};
 
 use crate::moves::{
     Sign, cur_pos, emit_err, emit_error, emit_strict_mode_err, is_after_line_break,
-    is_out_of_memory, is_sign, look, made, skip, syntax_error,
+    is_out_of_memory, is_sign, look, skip, syntax_error,
 };
 use crate::productions::Productions;
 use std::alloc::Global;
@@ -84,10 +84,10 @@ impl<I: Tokens, B: Bodies<I>> Productions<I, B> {
         ensures recovers { Recovers I.model operand_of (Tries I.model) TS1109 self.old result self.new }
         ensures operator { OnOk result (IsSome (current self.new.input)) }
     {
-        let operator = self.input.cur_span();
+        let operator = self.cur_span();
         emit_err(&mut self.input, operator, SyntaxError::TS1109)?;
         let node = self.nodes.invalid(at);
-        let left = made(&self.input, node)?;
+        let left = self.made(node)?;
         Ok((left, op))
     }
 
@@ -175,7 +175,7 @@ impl<I: Tokens, B: Bodies<I>> Productions<I, B> {
     {
         check_operands::<I, B>(&mut self.input, &self.nodes, op, left, right)?;
         let node = self.nodes.bin_op(op, left, right);
-        let node = made(&self.input, node)?;
+        let node = self.made(node)?;
         Ok((node, Some(min_prec)))
     }
 
@@ -209,12 +209,12 @@ impl<I: Tokens, B: Bodies<I>> Productions<I, B> {
         ensures { Produces I.model B.is_faithful itself tree_of (update_prefix B.forms op)
             (count self.old.nodes) self.old result self.new }
     {
-        let start = self.input.cur_span().lo;
+        let start = self.cur_span().lo;
         skip(&mut self.input);
         let arg = self.parse_unary_expr()?;
         check_update_target::<I, B>(&mut self.input, &self.nodes, arg)?;
         let node = self.nodes.update_prefix(start, op, arg);
-        made(&self.input, node)
+        self.made(node)
     }
 
     /// Reads on after a left-hand side: `++` or `--` (ECMA-262, 13.4) on the same line, or nothing.
@@ -229,9 +229,9 @@ impl<I: Tokens, B: Bodies<I>> Productions<I, B> {
         };
         check_update_target::<I, B>(&mut self.input, &self.nodes, expr)?;
         skip(&mut self.input);
-        let end = self.input.last_pos();
+        let end = self.last_pos();
         let node = self.nodes.update_postfix(op, expr, end);
-        made(&self.input, node)
+        self.made(node)
     }
 
     /// `await` (ECMA-262, 15.8), which is current, and its operand; or the identifier `await`. A `*` behind it is refused.
@@ -241,11 +241,11 @@ impl<I: Tokens, B: Bodies<I>> Productions<I, B> {
         ensures { Produces I.model B.is_faithful itself tree_of (await_expr B.forms)
             (count self.old.nodes) self.old result self.new }
     {
-        let start = self.input.cur_span();
+        let start = self.cur_span();
         skip(&mut self.input);
         look(&mut self.input)?;
         if is_sign(&self.input, Sign::Star) {
-            let span = self.input.cur_span();
+            let span = self.cur_span();
             return Err(syntax_error(&mut self.input, span, SyntaxError::AwaitStar));
         }
         if is_await_ident(&mut self.input)? {
@@ -263,7 +263,7 @@ impl<I: Tokens, B: Bodies<I>> Productions<I, B> {
         check_await(&mut self.input, start)?;
         let arg = self.parse_unary_expr()?;
         let node = self.nodes.await_expr(start.lo, arg);
-        made(&self.input, node)
+        self.made(node)
     }
 
     /// The identifier `await` (ECMA-262, 13.1), which stands at `start`. In a module it is recorded.
@@ -274,7 +274,7 @@ impl<I: Tokens, B: Bodies<I>> Productions<I, B> {
         check_await_ident(&mut self.input, start)?;
         let sym = text_of(self.alloc, &self.input, "await")?;
         let node = self.nodes.ident_expr(Ident { span: start, sym });
-        made(&self.input, node)
+        self.made(node)
     }
 
     /// A prefix operator, which is current, and its operand. A refused operand is recorded, unless that is want of
@@ -285,7 +285,7 @@ impl<I: Tokens, B: Bodies<I>> Productions<I, B> {
         ensures { Produces I.model B.is_faithful itself tree_of (unary_op B.forms op)
             (count self.old.nodes) self.old result self.new }
     {
-        let start = self.input.cur_span();
+        let start = self.cur_span();
         skip(&mut self.input);
         let at = cur_pos(&mut self.input)?;
         match self.parse_unary_expr() {
@@ -305,7 +305,7 @@ impl<I: Tokens, B: Bodies<I>> Productions<I, B> {
     {
         check_delete::<I, B>(&mut self.input, &self.nodes, op, arg)?;
         let node = self.nodes.unary_op(start.lo, op, arg);
-        made(&self.input, node)
+        self.made(node)
     }
 
     /// A prefix operator at `start`, the operand of which, at `at`, was refused. That is recorded, unless it is want of
@@ -332,7 +332,7 @@ impl<I: Tokens, B: Bodies<I>> Productions<I, B> {
     {
         emit_error(&mut self.input, error)?;
         let node = self.nodes.invalid(Span::new(at, at));
-        made(&self.input, node)
+        self.made(node)
     }
 }
 

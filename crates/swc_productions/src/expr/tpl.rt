@@ -16,7 +16,7 @@ ghost use Rattle.swc_productions.specs.Parsing.{seen, ParsesAlone, Produces, Goe
 ghost use Rattle.swc_productions.specs.Templates.{is_template, tpl_element, tpl_end, tagged_node};
 ghost use Rattle.swc_productions.specs.Templates.{quasi_in, tpl_parts_of, tpl_parts_at};
 
-use crate::moves::{Sign, add, bump, eat, emit_err, expect, look, made, unexpected};
+use crate::moves::{Sign, bump, eat, emit_err, expect, look, unexpected};
 use crate::productions::Productions;
 use swc_ast::expr::TplElement;
 use swc_bodies::bodies::Bodies;
@@ -50,7 +50,7 @@ impl<I: Tokens, B: Bodies<I>> Productions<I, B> {
         let parts = self.parse_tpl_elements(is_tagged)?;
         let end = parts.end.hi;
         let node = self.nodes.tpl(start.lo, end, parts.quasis, parts.exprs);
-        made(&self.input, node)
+        self.made(node)
     }
 
     /// The node of a template with the tag `tag` (ECMA-262, 13.3.11), behind its `parts`; the backquote that opens it is
@@ -71,7 +71,7 @@ impl<I: Tokens, B: Bodies<I>> Productions<I, B> {
         let node = self
             .nodes
             .tagged_tpl(tag, start.lo, end, parts.quasis, parts.exprs);
-        made(&self.input, node)
+        self.made(node)
     }
 
     /// The texts of a template, behind its backquote, between each two of them an expression in which `in` counts as an
@@ -85,14 +85,14 @@ impl<I: Tokens, B: Bodies<I>> Productions<I, B> {
         let mut exprs = Vec::new(self.alloc);
         loop {
             let quasi = self.parse_tpl_element(is_tagged)?;
-            add(&self.input, &mut quasis, quasi)?;
+            self.add(&mut quasis, quasi)?;
             match eat_tpl_end(&mut self.input)? {
                 Some(end) => return Ok(TplParts { quasis, exprs, end }),
                 None => {}
             }
             let expr = self.parse_expr_with_in()?;
             expect(&mut self.input, Sign::RBrace)?;
-            add(&self.input, &mut exprs, expr)?;
+            self.add(&mut exprs, expr)?;
         }
     }
 
@@ -110,7 +110,7 @@ impl<I: Tokens, B: Bodies<I>> Productions<I, B> {
             return Err(unexpected(&mut self.input, kind));
         }
         let token = bump(&mut self.input);
-        let span = self.input.prev_span();
+        let span = self.prev_span();
         let (raw, cooked) = template_of(token);
         let cooked = cooked_text(cooked, is_tagged)?;
         look(&mut self.input)?;
