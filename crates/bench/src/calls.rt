@@ -24,6 +24,7 @@ parse_expr | script | a@5..6 +@2..3 b@0..1 | Bin(+, a, b) 1..5 | none | end
 parse_expr | script without_in | a@5..6 +@2..3 b@0..1 | Bin(+, a, b) 1..5 | none | end
 parse_expr | script | -@0..1 )@0..1 | Unary(-, Invalid) 0..0 | TS1109 0..1 | 0..1
 parse_expr | script | +@0..1 E(Lex)@2..3 | Unary(+, Invalid) 0..1 | Lex 2..3 | end
+parse_expr | script | +@0..1 E(Lex)@2..3 E(TS1109)@4..5 | Unary(+, Invalid) 0..1 | TS1109 4..5, Lex 2..3 | end
 parse_expr | script no_early_errors | +@0..1 E(Lex)@2..3 | Unary(+, Invalid) 0..1 | none | end
 parse_expr; at_end | script | +@0..1 E(OutOfMemory)@2..3 | Unary(+, Invalid) 0..1; true | Lex 2..3 | end
 parse_expr | module no_early_errors | let | let 0..3 | InvalidIdentInStrict 0..3 let, InvalidIdentInStrict 0..3 let | end

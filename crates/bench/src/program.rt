@@ -75,6 +75,8 @@ show_expr | expr script | {async *g(){}} | Object{AsyncGeneratorMethod(g, [], <2
 show_expr | expr script | {class} | Object{class}\nReservedWordInObjShorthandOrPat 1..6\n | 1
 show_expr | expr script | {1} | refused: Unexpected 2..3 identifier\n | 2
 show_expr | expr script | {m(a){}} | refused: Expected 3..4 )\n | 2
+show_expr | expr script | {+} | refused: TS1109 2..3\nTS1109 1..2\n | 2
+show_expr | expr script | {get *a(){}} | Bin(*, Invalid, Call(a, []))\nunread\nTS1109 5..6\n | 1
 show_expr | expr script | {async *g(){}, get [k]() {}, a: [b, , ...c], d = 1} | Object{AsyncGeneratorMethod(g, [], <2>), Getter([k], <2>), a: Array[b, -, ...c], d = 1}\n | 0
 show_expr | expr script | {} | Object{}\n | 0
 show_expr | expr script | {a, in: 1, ...b,} | Object{a, in: 1, ...b}\n | 0

@@ -116,6 +116,16 @@ super import ( ) `` - ** | script | 0 1 2 9 25 86 282
 
 /// The same of updates, assignments, conditionals, sequences, `yield` and `await`. `\r` is a line break before a token.
 const ASSIGNMENTS: &str = "\
+a = += ++ -- ? : , yield await \ra \r++ | script | 0 4 21 55 309
+a = += ++ -- ? : , yield await \ra \r++ | module | 0 2 11 19 95
+a = += ++ -- ? : , yield await \ra \r++ | strict | 0 3 15 31 160
+a = += ++ -- ? : , yield await \ra \r++ | generator | 0 4 16 43 211
+a = += ++ -- ? : , yield await \ra \r++ | async | 0 3 18 45 234
+a = += ++ -- ? : , yield await \r? | script | 0 3 13 34 143
+a = += ++ -- ? : , yield await \r? | module | 0 1 5 8 25
+a = += ++ -- ? : , yield await \r? | strict | 0 2 8 16 56
+a = += ++ -- ? : , yield await \r? | generator | 0 3 9 24 87
+a = += ++ -- ? : , yield await \r? | async | 0 2 10 22 90
 a = += ++ -- ? : , ( ) | script | 0 1 4 5 25
 a = += ++ -- ? : , ( ) | without-in | 0 1 4 5 25
 a = in ? : , ( ) | without-in | 0 1 0 4 1 20 12

@@ -1,4 +1,4 @@
-//! Reads an expression from a text, and counts its operators.
+//! Reads an expression from a text, and counts its binary and prefix operators.
 #![tactic(auto)]
 
 use std::alloc::Global;
@@ -11,7 +11,8 @@ use swc_ecma_parser::nodes::node::Node;
 use swc_ecma_parser::parser::Parser;
 use swc_ecma_parser::tokens::read_tokens;
 
-/// How many operators stand in an expression. Each node stands behind its parts, and under its number.
+/// How many binary operators and prefix operators, `++` and `--` apart, stand in an expression. Each node stands behind its
+/// parts, and under its number.
 fn count_operators(alloc: Global, text: &[u8]) -> PResult<usize> {
     let tokens = read_tokens(alloc, text)?;
     let (context, syntax) = (Context::default(), Syntax::default());

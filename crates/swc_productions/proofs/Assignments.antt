@@ -23,7 +23,7 @@ use Rattle.swc_grammar.specs.Tokens.{tk, is_yield, yield_ok, goes_on_yield, begi
 use Rattle.swc_grammar.specs.Trees.{to, trees_append, cond_e, assign_e, yield_e, hole_e, is_operation}
 use Rattle.swc_grammar.specs.Grammar.{paren-expr}
 use Rattle.swc_grammar.specs.Clean.{Out, and_then, first, sym as at, assigns, seqs, no_error, begins_yield, plan}
-use Rattle.swc_grammar.specs.Clean.{goes_on_yield_at, exec, run, step, chosen, pick, yield_by as yield_choice}
+use Rattle.swc_grammar.specs.Clean.{goes_on_yield_at, exec, run, chosen, yield_by as yield_choice}
 use Rattle.swc_grammar.specs.Words.{◌>>=◌}
 use Rattle.swc_grammar.proofs.Answers.{both}
 use Rattle.swc_grammar.proofs.Complete.{last}

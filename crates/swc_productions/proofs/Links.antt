@@ -20,7 +20,7 @@ use Rattle.swc_bodies.specs.Readings.{Hook}
 use Rattle.swc_grammar.specs.Scope.{Scope}
 use Rattle.swc_grammar.specs.Rule.{gives, take, check, given, symbol, must, token as token_of, one as one_of}
 use Rattle.swc_grammar.specs.Rule.{◌>>=◌ as ◌▸◌, ◌>>◌}
-use Rattle.swc_grammar.specs.Symbols.{Expr, Symbol, Lhs, Left, Base, Args, ArgsTail, Item}
+use Rattle.swc_grammar.specs.Symbols.{Expr, Lhs, Left, Base, Args, ArgsTail, Item}
 use Rattle.swc_grammar.specs.Symbols.{Parts, Side}
 use Rattle.swc_grammar.specs.Tokens.{tk, with_in, is_dot, is_rbracket, is_rparen, is_new, is_target, new_target_ok}
 use Rattle.swc_grammar.specs.Tokens.{import_comma_ok}

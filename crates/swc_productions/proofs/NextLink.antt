@@ -1,5 +1,5 @@
 -- Which link comes next, by the current token, and by the one behind a `?`.
-use Rattle.std.proofs.Common.{◌≡◌, Bool, true, false, List, Option, Some, None, Result, Ok, Err, refl, sym, ap, ◌∙◌}
+use Rattle.std.proofs.Common.{◌≡◌, Bool, true, false, Option, Some, None, Result, Ok, Err, refl, sym, ap, ◌∙◌}
 use Rattle.swc_context.specs.declared.error.Error.{Error}
 use Rattle.swc_input.specs.declared.buffer.Buffer.{Buffer}
 use Rattle.swc_input.specs.declared.token.Token.{Token}
@@ -13,7 +13,6 @@ use Rattle.swc_grammar.specs.Tokens.{tk, is_dot, is_question}
 use Rattle.swc_grammar.specs.Words.{rest}
 use Rattle.swc_grammar.proofs.Only.{only-question}
 use Rattle.swc_productions.specs.declared.expr.Link.{Link}
-use Rattle.swc_productions.specs.declared.expr.Link.TheVariants as link
 use Rattle.swc_productions.specs.Links.{link_at, chain_at, link_here}
 use Rattle.swc_productions.specs.Parsing.{seen, seen_of, Told, Tells}
 use Rattle.swc_productions.proofs.Ahead.{told_here}

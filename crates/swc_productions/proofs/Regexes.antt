@@ -1,7 +1,7 @@
 -- Regular expressions: the hints to a lexer, and what is read, a step at a time.
 use Rattle.std.specs.Prelude.{nat_eq, if◌then◌else◌}
 use Rattle.std.specs.List.{list_any}
-use Rattle.std.proofs.Common.{◌≡◌, ℕ, Bool, true, false, not, ◌&&◌, ◌||◌, List, [], ◌∷◌, Option, Some, None, MatchOption, length, refl, sym, ap, subst, ◌∙◌, arith}
+use Rattle.std.proofs.Common.{◌≡◌, ℕ, Bool, true, false, ◌&&◌, List, [], ◌∷◌, Option, Some, None, MatchOption, length, refl, sym, ap, ◌∙◌, arith}
 use Rattle.swc_context.specs.declared.span.BytePos.{BytePos}
 use Rattle.swc_context.specs.declared.span.Span.{Span}
 use Rattle.swc_input.specs.declared.buffer.Buffer.{Buffer}
@@ -11,7 +11,7 @@ use Rattle.swc_input.specs.declared.token.TokenAndSpan.{TokenAndSpan}
 use Rattle.swc_input.specs.Plain.{plain}
 use Rattle.swc_input.specs.Kinds.{at_token}
 use Rattle.swc_input.specs.Source.{Model, Laws, Hinted}
-use Rattle.swc_input.specs.Buffer.{Took, Still, Lives, Bumped, current, source, held, with_source, context}
+use Rattle.swc_input.specs.Buffer.{Took, Still, Lives, Bumped, current, source, held, with_source}
 use Rattle.swc_input.specs.Laws.{Took-then, keeps_same}
 use Rattle.swc_ast.specs.declared.lit.Lit.TheVariants as lit
 use Rattle.swc_ast.specs.declared.lit.Regex.{Regex}
@@ -29,7 +29,7 @@ use Rattle.swc_grammar.specs.Trees.{to, at_place, regex_e}
 use Rattle.swc_grammar.specs.Clean.{first, sym as at, plan, exec, run}
 use Rattle.swc_grammar.proofs.Knot.{knot}
 use Rattle.swc_grammar.specs.Words.{◌>>=◌, one}
-use Rattle.swc_productions.specs.Parsing.{scope, Leads, On, recorded}
+use Rattle.swc_productions.specs.Parsing.{scope, On}
 use Rattle.swc_productions.specs.Regexes.{regex_in, regex_alone, regex_tail, from_slash, regex_text, regex_made, regex_expr, SkipsSlash}
 use Rattle.swc_grammar.specs.Tokens.{is_slash, is_regex, begins_regex}
 use Rattle.swc_grammar.specs.Parts.{is_flag, repeated, flags_ok}

@@ -22,14 +22,14 @@ use Rattle.swc_grammar.specs.Scope.{Scope}
 use Rattle.swc_grammar.specs.Rule.{gives, take, check, read, given, ◌>>=◌ as ◌▸◌}
 use Rattle.swc_bodies.specs.Readings.{Hook, LawfulHook, begins, begins_function, is_class, is_function, is_async, is_brace}
 use Rattle.swc_bodies.specs.Readings.{is_function_here}
-use Rattle.swc_grammar.specs.Symbols.{Expr, Assign, Level, Unary, Lhs, Primary, Literal, Template, Side, function, class}
+use Rattle.swc_grammar.specs.Symbols.{Assign, Level, Unary, Primary, Literal, Template, Side, function, class}
 use Rattle.swc_grammar.specs.Tokens.{is_backquote, is_slash, is_regex, begins_regex}
-use Rattle.swc_grammar.specs.Tokens.{tk, with_in, is_reference, ref_ok, is_put_off, prefix_of, is_lparen, is_rparen}
+use Rattle.swc_grammar.specs.Tokens.{tk, with_in, is_reference, ref_ok, is_put_off, prefix_of, is_lparen}
 use Rattle.swc_grammar.specs.Tokens.{is_this, is_lbracket, is_backquote, is_update, is_await, is_yield}
 use Rattle.swc_grammar.specs.Names.{Spelling, spelling, may_refer, may_name, spelled}
-use Rattle.swc_grammar.specs.Trees.{to, ident_e, this_e, fn_e, class_e, private_e, unary_e, paren_e, bin_e, is_logical}
+use Rattle.swc_grammar.specs.Trees.{to, ident_e, this_e, fn_e, class_e, private_e, unary_e, bin_e, is_logical}
 use Rattle.swc_grammar.specs.Trees.{is_nullish_op}
-use Rattle.swc_grammar.specs.Trees.{nullish_ok, exp_ok, delete_ok, min_right, no_cover_in}
+use Rattle.swc_grammar.specs.Trees.{nullish_ok, exp_ok, delete_ok, min_right}
 use Rattle.swc_grammar.specs.Parts.{reference, any_name, lit_of, with_place, prefix_here}
 use Rattle.swc_grammar.specs.Grammar.{ident-expr, this-expr, primary-literal, fn-expr, class-expr, paren-expr, unary-op}
 use Rattle.swc_grammar.specs.Grammar.{private-expr, primary-template}
@@ -38,14 +38,13 @@ use Rattle.swc_grammar.specs.Clean.{no_error, operator_at, prefix_at, left_ok}
 use Rattle.swc_grammar.specs.Clean.{pick, chosen, step, begins_yield, primary, bin_op as bin_op_plan, turn as turn_plan}
 use Rattle.swc_grammar.specs.Clean.{turned as turned_plan, run}
 use Rattle.swc_grammar.specs.Words.{◌>>=◌, rest, one, word}
-use Rattle.swc_grammar.specs.Firsts.{begins_expression}
 use Rattle.swc_grammar.proofs.Answers.{both}
 use Rattle.swc_grammar.proofs.Bodies.{hears, hears-place, hears-run}
 use Rattle.swc_grammar.proofs.Complete.{last, lit-picks, fn-picks, class-picks}
 use Rattle.swc_grammar.proofs.Knot.{knot}
 use Rattle.swc_grammar.proofs.Levels.{right-low}
-use Rattle.swc_grammar.proofs.Only.{only-this, only-lparen, only-rparen, only-hash, only-backquote}
-use Rattle.swc_grammar.proofs.Rules.{exec-bind, run_picked, reads_nothing}
+use Rattle.swc_grammar.proofs.Only.{only-this, only-lparen, only-hash, only-backquote}
+use Rattle.swc_grammar.proofs.Rules.{exec-bind, run_picked}
 use Rattle.swc_productions.proofs.Lists.{calls}
 use Rattle.swc_productions.specs.Parsing.{is_strict, begins_async, seen_of}
 use Rattle.swc_productions.specs.Readers.{reading, by_production, inside, private_expr_tail, unary_op_tail, unary_op_node}

@@ -1,6 +1,6 @@
 -- The clean parser's steps in templates (13.2.8, 13.3.11), as the code goes them.
-use Rattle.std.proofs.Common.{◌≡◌, ◌≢◌, ℕ, Bool, true, false, not, if◌then◌else◌, List, [], ◌∷◌, ◌++◌, Option, Some, None}
-use Rattle.std.proofs.Common.{Result, Ok, Err, IsSome, map, refl, sym, ap, subst, ◌∙◌}
+use Rattle.std.proofs.Common.{◌≡◌, ◌≢◌, ℕ, Bool, true, false, not, if◌then◌else◌, List, [], ◌∷◌, Option, Some, None}
+use Rattle.std.proofs.Common.{Result, Ok, Err, IsSome, refl, sym, ap, ◌∙◌}
 use Rattle.swc_context.specs.declared.error.Error.{Error}
 use Rattle.swc_context.specs.declared.error.SyntaxError.{SyntaxError}
 use Rattle.swc_context.specs.declared.error.SyntaxError.TheVariants as kind
@@ -13,10 +13,9 @@ use Rattle.swc_input.specs.Buffer.{Bumped, current}
 use Rattle.swc_input.specs.Kinds.{at_token}
 use Rattle.swc_input.specs.Laws.{held_some}
 use Rattle.swc_input.specs.Plain.{plain, plain_cooked, plain_token}
-use Rattle.swc_input.specs.Recording.{counted, counted_kind}
+use Rattle.swc_input.specs.Recording.{counted_kind}
 use Rattle.swc_input.specs.Source.{Model, Laws}
-use Rattle.swc_ast.specs.Tree.{Tree, Trees, nil, cons, span_of, trees}
-use Rattle.swc_ast.specs.declared.spanned.Spanned.{Ghosts}
+use Rattle.swc_ast.specs.Tree.{Tree, Trees, nil, cons, span_of}
 use Rattle.swc_bodies.specs.Readings.{Hook}
 use Rattle.swc_grammar.specs.Scope.{Scope}
 use Rattle.swc_grammar.specs.Rule.{gives, take, check, given, read, ◌>>=◌ as ◌▸◌}
@@ -32,14 +31,14 @@ use Rattle.swc_grammar.proofs.Knot.{knot}
 use Rattle.swc_nodes.proofs.Lists.{trees_append-assoc, trees_append-nil}
 use Rattle.swc_productions.specs.Keys.{expected}
 use Rattle.swc_productions.specs.Lists.{eaten}
-use Rattle.swc_productions.specs.Parsing.{Refuses, Here, seen, seen_of}
+use Rattle.swc_productions.specs.Parsing.{Refuses, seen, seen_of}
 use Rattle.swc_productions.specs.Readers.{whole_inside}
 use Rattle.swc_productions.specs.Templates.{is_template, text_at, tpl_element, parts_before, tagged_node}
 use Rattle.swc_productions.specs.Templates.{tpl_end_by, tpl_end, tpl_expr_close, tpl_expr_tail, parts_behind, parts_by}
 use Rattle.swc_productions.specs.Templates.{parts_after, template_tail}
 use Rattle.swc_productions.proofs.Keys.{then_calls, then_token}
 use Rattle.swc_productions.proofs.Lists.{calls, binds, bind_same}
-use Rattle.swc_productions.proofs.Steps.{here_leads, leads_then, took_leads, spent, served_later}
+use Rattle.swc_productions.proofs.Steps.{took_leads, spent}
 
 -- the error of a bad escape, as it counts, isn't that of a failed parser
 pub counted_apart : (k : SyntaxError) → counted_kind k ≢ kind.ParserFailed

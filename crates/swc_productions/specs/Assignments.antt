@@ -1,9 +1,8 @@
 -- What the steps of the code read in assignment expressions and in sequences (13.14 to 13.16, 15.5), by the clean parser.
-use Rattle.std.specs.Prelude.{Bool, true, false, not, ◌&&◌, if◌then◌else◌, List, Option, Some, None}
+use Rattle.std.specs.Prelude.{false, if◌then◌else◌, List, Option, Some, None}
 use Rattle.swc_context.specs.declared.operator.AssignOp.{AssignOp}
 use Rattle.swc_context.specs.declared.span.Span.{Span}
 use Rattle.swc_input.specs.declared.token.TokenAndSpan.{TokenAndSpan}
-use Rattle.swc_input.specs.Kinds.{at_token}
 use Rattle.swc_input.specs.Recording.{is_some}
 use Rattle.swc_ast.specs.Targets.{is_target}
 use Rattle.swc_ast.specs.Tree.{Tree, Trees, nil, cons, span_of}

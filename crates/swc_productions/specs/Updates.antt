@@ -1,5 +1,5 @@
 -- What the steps of the code read of `++`, `--` (13.4) and `await` (15.8), by the clean parser.
-use Rattle.std.specs.Prelude.{Bool, true, false, not, ◌&&◌, if◌then◌else◌, List, Option, Some, None, codes}
+use Rattle.std.specs.Prelude.{Bool, true, not, ◌&&◌, if◌then◌else◌, List, Option, Some, None, codes}
 use Rattle.swc_context.specs.declared.operator.UpdateOp.{UpdateOp}
 use Rattle.swc_context.specs.declared.span.Span.{Span}
 use Rattle.swc_input.specs.declared.token.TokenAndSpan.{TokenAndSpan}

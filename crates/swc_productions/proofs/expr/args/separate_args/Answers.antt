@@ -1,4 +1,4 @@
-use Rattle.std.proofs.Common.{Some, refl}
+use Rattle.std.proofs.Common.{Some}
 use Rattle.std.proofs.lemmas.Result.{err_from_is_err_and}
 use Rattle.swc_productions.specs.Links.{comma_behind}
 use Rattle.swc_productions.proofs.Links.{args_separated, behind_other, behind_last, behind_none}

@@ -1,4 +1,4 @@
-use Rattle.std.proofs.Common.{sym, ap, ◌∙◌}
+use Rattle.std.proofs.Common.{sym, ◌∙◌}
 use Rattle.swc_grammar.specs.Tokens.{super_ok}
 use Rattle.swc_productions.specs.Parsing.{scope}
 use Rattle.swc_productions.proofs.Bases.{super_may, super_may_not}

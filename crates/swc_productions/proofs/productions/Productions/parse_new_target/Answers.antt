@@ -1,4 +1,4 @@
-use Rattle.std.proofs.Common.{if◌then◌else◌, Some, None, refl, sym, ap, ◌∙◌, arith}
+use Rattle.std.proofs.Common.{if◌then◌else◌, Some, None, refl, sym, ap, arith}
 use Rattle.std.proofs.lemmas.Result.{err_from_is_err_and}
 use Rattle.swc_context.proofs.Spans.{span_is}
 use Rattle.swc_input.specs.Buffer.{context}

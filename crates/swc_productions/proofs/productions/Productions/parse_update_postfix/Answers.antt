@@ -1,7 +1,6 @@
 use Rattle.std.proofs.Common.{Ok, false, refl, sym, ap, ◌∙◌, arith}
 use Rattle.std.proofs.lemmas.Result.{err_from_is_err_and}
 use Rattle.swc_context.specs.Spans.{between}
-use Rattle.swc_input.specs.Buffer.{context}
 use Rattle.swc_ast.specs.Targets.{is_target}
 use Rattle.swc_ast.specs.Tree.{span_of}
 use Rattle.swc_grammar.specs.Trees.{update_e}
