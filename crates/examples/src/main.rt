@@ -11,8 +11,8 @@ use swc_ecma_parser::nodes::node::Node;
 use swc_ecma_parser::parser::Parser;
 use swc_ecma_parser::tokens::read_tokens;
 
-/// How many binary operators and prefix operators, `++` and `--` apart, stand in an expression. Each node stands behind its
-/// parts, and under its number.
+/// How many binary operators and prefix operators, `++` and `--` apart, stand in an expression. Each node stands
+/// behind its parts, and under its number.
 fn count_operators(alloc: Global, text: &[u8]) -> PResult<usize> {
     let tokens = read_tokens(alloc, text)?;
     let (context, syntax) = (Context::default(), Syntax::default());
