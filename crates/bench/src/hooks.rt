@@ -7,7 +7,7 @@ ghost use Rattle.swc_input.specs.Buffer.{current, source, to_come, Read};
 ghost use Rattle.swc_bodies.specs.Readings.{Hooked, Reading};
 
 use swc_bodies::bodies::{Bodies, BodyForms};
-use swc_context::error::{Error, PResult, SyntaxError};
+use swc_context::error::{Error, PResult, SyntaxError, Wanted};
 use swc_context::span::Span;
 use swc_input::buffer::Buffer;
 use swc_input::tokens::Tokens;
@@ -92,7 +92,7 @@ fn answer<I: Tokens>(manner: Manner, input: &mut Buffer<I>) -> PResult<Span>
 {
     let span = consume(input);
     match manner {
-        Manner::Refuses => Err(Error::new(span, SyntaxError::Unexpected("{"))),
+        Manner::Refuses => Err(Error::new(span, SyntaxError::Unexpected(Wanted::LBrace))),
         Manner::Records => {
             input.emit_err(span, SyntaxError::TS1005)?;
             Ok(span)

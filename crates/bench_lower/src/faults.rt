@@ -3,7 +3,7 @@ use crate::rows::expect;
 use std::alloc::{AllocError, Global};
 use std::test::Fail;
 use swc_context::atom::Atom;
-use swc_context::error::{Error, SyntaxError};
+use swc_context::error::{Error, Note, SyntaxError, Wanted};
 use swc_context::span::{BytePos, Span};
 
 /// Faults, each by its name and the ends of its place, and how it is printed.
@@ -11,7 +11,7 @@ const FAULTS: &str = "\
 TS1109 0 1 | TS1109 0..1
 TS1109 5 2 | TS1109 2..5
 Expected 2 3 | Expected 2..3 )
-Unexpected 4 6 | Unexpected 4..6 an expression
+Unexpected 4 6 | Unexpected 4..6 expression
 WithLabel 5 6 | WithLabel 5..6 (TS1109 5..6)
 UnaryInExp 3 5 | UnaryInExp 3..5
 InvalidIdentInStrict 0 3 | InvalidIdentInStrict 0..3 let
@@ -24,12 +24,12 @@ fn place(lo: u32, hi: u32) -> Span {
 /// The kind of fault that has the name.
 fn kind_named(alloc: Global, name: &str) -> Result<SyntaxError, AllocError> {
     Ok(match name {
-        "Expected" => SyntaxError::Expected(")"),
-        "Unexpected" => SyntaxError::Unexpected("an expression"),
+        "Expected" => SyntaxError::Expected(Wanted::RParen),
+        "Unexpected" => SyntaxError::Unexpected(Wanted::Expr),
         "WithLabel" => SyntaxError::WithLabel {
             inner: Box::new(alloc, Error::new(place(5, 6), SyntaxError::TS1109))?,
             span: place(1, 2),
-            note: "the parameters",
+            note: Note::YieldArgument,
         },
         "UnaryInExp" => SyntaxError::UnaryInExp {
             left_span: place(0, 2),

@@ -1,10 +1,10 @@
 -- How a body is taken from a buffer, a step at a time.
-use Rattle.std.specs.Prelude.{codes}
 use Rattle.std.proofs.Common.{◌≡◌, ◌≢◌, ◌<◌, ◌≤◌, ◌⊎◌, inl, inr, Bool, true, false, List, [], ◌∷◌, ◌++◌, Option, Some, None, Ok, Err, IsSome, length, map, min, max, refl, sym, ap, ◌∙◌, subst, arith, length-append, append_assoc}
 use Rattle.swc_context.specs.declared.context.Context.{Context}
 use Rattle.swc_context.specs.declared.error.Error.{Error}
 use Rattle.swc_context.specs.declared.error.SyntaxError.{SyntaxError}
 use Rattle.swc_context.specs.declared.error.SyntaxError.TheVariants as kind
+use Rattle.swc_context.specs.declared.error.Wanted.TheVariants as wanted
 use Rattle.swc_context.specs.declared.span.BytePos.{BytePos}
 use Rattle.swc_context.specs.declared.span.Span.{Span}
 use Rattle.swc_context.specs.declared.word.Keyword.TheVariants as keyword
@@ -74,12 +74,12 @@ module _ {S : Type 0} {model : Model S} (laws : Laws model) where
       let k = Known-after laws b h [] ts l.look.read.took known in
       ap (next p) k.2 ∙ none-next h p k.0 (current h) refl barred (Known-Future laws h k.0 k.1) (at-end b h k.0 l k.1)
 
-  wanted-own : (k : SyntaxError) → wanting k ≡ Some (codes "{") → k ≢ kind.ParserFailed
+  wanted-own : (k : SyntaxError) → wanting k ≡ Some wanted.LBrace → k ≢ kind.ParserFailed
   wanted-own kind.ParserFailed brace i = cc
   wanted-own k brace i = cc
 
   -- the refusal of the current token
-  pub stops-here : (b h c : Buffer S) (p : Place) (k : SyntaxError) (r : Error) → wanting k ≡ Some (codes "{") → Looked model b h → at_current p (current h) ≡ None →
+  pub stops-here : (b h c : Buffer S) (p : Place) (k : SyntaxError) (r : Error) → wanting k ≡ Some wanted.LBrace → Looked model b h → at_current p (current h) ≡ None →
       Refused model h (λ here. unfit (current here) (last_position here) k) r c → Stops model b p r c
   stops-here b h c p k r brace l barred x =
       let own : k ≢ kind.ParserFailed = λ i. wanted-own k brace i in

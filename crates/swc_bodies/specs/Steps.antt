@@ -1,8 +1,10 @@
 -- The steps by which a body is taken from a buffer.
-use Rattle.std.specs.Prelude.{◌≡◌, ◌≢◌, ◌⊎◌, ℕ, ◌<◌, List, [], ◌∷◌, Option, Some, None, Result, MatchResult, codes}
+use Rattle.std.specs.Prelude.{◌≡◌, ◌≢◌, ◌⊎◌, ℕ, ◌<◌, List, [], ◌∷◌, Option, Some, None, Result, MatchResult}
 use Rattle.swc_context.specs.declared.error.Error.{Error}
 use Rattle.swc_context.specs.declared.error.SyntaxError.{SyntaxError}
 use Rattle.swc_context.specs.declared.error.SyntaxError.TheVariants.{OutOfMemory, ParserFailed, Unexpected}
+use Rattle.swc_context.specs.declared.error.Wanted.{Wanted}
+use Rattle.swc_context.specs.declared.error.Wanted.TheVariants as wanted
 use Rattle.swc_input.specs.declared.buffer.Buffer.{Buffer}
 use Rattle.swc_input.specs.declared.token.TokenAndSpan.{TokenAndSpan}
 use Rattle.swc_input.specs.Plain.{plain}
@@ -14,8 +16,8 @@ use Rattle.swc_bodies.specs.Keeping.{kept}
 use Rattle.swc_bodies.specs.Taking.{at_current, next}
 
 -- what is wanted in place of a token that is refused
-abbrev pub wanting : SyntaxError → Option (List ℕ)
-wanting (Unexpected text) = Some text.now
+abbrev pub wanting : SyntaxError → Option Wanted
+wanting (Unexpected what) = Some what
 wanting k = None
 
 module _ {S : Type 0} (model : Model S) where
@@ -23,7 +25,7 @@ module _ {S : Type 0} (model : Model S) where
   -- body, or is an error token, or the end.
   pub data NoBody (e : Error) (c : Buffer S) : Type 0 where
     wanted_memory : e ≡ no_memory (last_position c) → NoBody e c
-    refused_token : (b : Buffer S) (k : SyntaxError) → wanting k ≡ Some (codes "{") → Refused model b (λ here. unfit (current here) (last_position here) k) e c → NoBody e c
+    refused_token : (b : Buffer S) (k : SyntaxError) → wanting k ≡ Some wanted.LBrace → Refused model b (λ here. unfit (current here) (last_position here) k) e c → NoBody e c
 
   -- the current token was consumed; it was kept behind the tokens ts, which are us then, or memory was wanted
   pub record KeepsOne (b : Buffer S) (ts : List TokenAndSpan) (r : Result (Unit {0}) Error) (us : List TokenAndSpan) (c : Buffer S) : Type 0 where

@@ -6,7 +6,7 @@ ghost use Rattle.swc_input.specs.Plain.{plain};
 ghost use Rattle.swc_input.specs.Buffer.{current, to_come, Read, Lives};
 
 use crate::bodies::{Bodies, BodyForms};
-use swc_context::error::{Error, PResult, SyntaxError};
+use swc_context::error::{Error, PResult, SyntaxError, Wanted};
 use swc_context::span::Span;
 use swc_input::buffer::Buffer;
 use swc_input::tokens::Tokens;
@@ -38,7 +38,7 @@ fn refuse_body<I: Tokens>(input: &mut Buffer<I>) -> Error
 {
     let span = input.cur_span();
     let _ = input.bump();
-    Error::new(span, SyntaxError::Unexpected("{"))
+    Error::new(span, SyntaxError::Unexpected(Wanted::LBrace))
 }
 
 impl<I: Tokens> Bodies<I> for NoBodies {

@@ -14,7 +14,7 @@ use crate::bodies::{Bodies, BodyForms};
 use crate::place::{Place, sign_at};
 use crate::token_body::{TokenBody, keep};
 use std::alloc::{AllocError, Global};
-use swc_context::error::{PResult, SyntaxError};
+use swc_context::error::{PResult, SyntaxError, Wanted};
 use swc_context::span::Span;
 use swc_context::word::{Keyword, Word};
 use swc_input::buffer::Buffer;
@@ -44,7 +44,7 @@ fn next_place<I: Tokens>(place: Place, input: &mut Buffer<I>) -> PResult<Place>
     }
     match after_current(place, input) {
         Some(next) => Ok(next),
-        None => Err(input.unexpected(SyntaxError::Unexpected("{"))),
+        None => Err(input.unexpected(SyntaxError::Unexpected(Wanted::LBrace))),
     }
 }
 

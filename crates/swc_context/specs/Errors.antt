@@ -1,6 +1,11 @@
--- The names of the kinds of faults.
+-- The names of the kinds of faults, and the texts that faults hold.
 use Rattle.std.specs.Prelude.{ℕ, List, codes}
+use Rattle.swc_context.specs.declared.error.Note.{Note}
+use Rattle.swc_context.specs.declared.error.Note.TheVariants as note
 use Rattle.swc_context.specs.declared.error.SyntaxError.{SyntaxError, Eof, Expected, Unexpected, WithLabel', TS1005, TS1014, TS1048, TS1102, TS1106, TS1109, TS1162, TS2406, UnaryInExp, NullishCoalescingWithLogicalOp, AwaitStar, AwaitInFunction, AwaitParamInAsync, YieldParamInGen, InvalidIdentInAsync, InvalidIdentInStrict, EvalAndArgumentsInStrict, ExpectedIdent, SpaceBetweenHashAndIdent, ArgumentsInClassField, AssignProperty, InvalidAssignTarget, NotSimpleAssign, UnknownRegExpFlags, DuplicatedRegExpFlags, InvalidNewTarget, ImportMetaInScript, OptChainCannotFollowConstructorCall, TrailingCommaInsideImport, TaggedTplInOptChain, InvalidSuper, InvalidSuperCall, SuperCallOptional, InvalidImport, LineBreakBeforeArrow, ArrowNotAllowed, EmptyParenExpr, SpreadInParenExpr, ReservedWordInObjShorthandOrPat, GetterParam, SetterParam, RestPatInSetter, CommaAfterRestElement, DotsWithoutIdentifier, NonLastRestParam, InvalidPat, OutOfMemory, ParserFailed, Lex}
+use Rattle.swc_context.specs.declared.error.Wanted.{Wanted}
+use Rattle.swc_context.specs.declared.error.Wanted.TheVariants as wanted
+use Rattle.swc_context.specs.Words.{keyword_text}
 
 abbrev pub kind_name : SyntaxError → List ℕ
 kind_name Eof = codes "Eof"
@@ -56,3 +61,45 @@ kind_name InvalidPat = codes "InvalidPat"
 kind_name OutOfMemory = codes "OutOfMemory"
 kind_name ParserFailed = codes "ParserFailed"
 kind_name Lex = codes "Lex"
+
+-- what is wanted, as it is written, or by its name
+abbrev pub wanted_text : Wanted → List ℕ
+wanted_text wanted.LParen = codes "("
+wanted_text wanted.RParen = codes ")"
+wanted_text wanted.LBracket = codes "["
+wanted_text wanted.RBracket = codes "]"
+wanted_text wanted.LBrace = codes "{"
+wanted_text wanted.RBrace = codes "}"
+wanted_text wanted.Semi = codes ";"
+wanted_text wanted.Comma = codes ","
+wanted_text wanted.Dot = codes "."
+wanted_text wanted.DotDotDot = codes "..."
+wanted_text wanted.Colon = codes ":"
+wanted_text wanted.QuestionMark = codes "?"
+wanted_text wanted.Arrow = codes "=>"
+wanted_text wanted.Assign = codes "="
+wanted_text wanted.Star = codes "*"
+wanted_text wanted.Hash = codes "#"
+wanted_text wanted.BackQuote = codes "`"
+wanted_text wanted.DollarLBrace = codes "${"
+wanted_text wanted.As = codes "as"
+wanted_text wanted.Async = codes "async"
+wanted_text wanted.From = codes "from"
+wanted_text wanted.Get = codes "get"
+wanted_text wanted.Meta = codes "meta"
+wanted_text wanted.Of = codes "of"
+wanted_text wanted.Set = codes "set"
+wanted_text wanted.Source = codes "source"
+wanted_text wanted.Target = codes "target"
+wanted_text (wanted.Keyword keyword) = keyword_text keyword
+wanted_text wanted.Ident = codes "identifier"
+wanted_text wanted.IdentOrStr = codes "identifier or string"
+wanted_text wanted.PropName = codes "identifier, string literal, numeric literal or [ for the computed key"
+wanted_text wanted.TplToken = codes "template token"
+wanted_text wanted.Expr = codes "expression"
+wanted_text wanted.Stmt = codes "statement"
+
+-- what the form is that a refusal stands in
+abbrev pub note_text : Note → List ℕ
+note_text note.ExprAfterDots = codes "An expression should follow '...'"
+note_text note.YieldArgument = codes "Tried to parse an argument of yield"

@@ -1,10 +1,11 @@
 // What is refused and recorded.
 ghost use Rattle.std.specs.Prelude.{◌≡◌, IfOk};
-ghost use Rattle.swc_context.specs.Errors.{kind_name};
+ghost use Rattle.swc_context.specs.Errors.{kind_name, note_text, wanted_text};
 ghost use Rattle.swc_context.specs.Plain.{plain_error, plain_kind};
 
 use crate::atom::Atom;
 use crate::span::Span;
+use crate::word::Keyword;
 use std::alloc::AllocError;
 use std::fmt;
 
@@ -19,21 +20,172 @@ pub struct Error {
     kind: SyntaxError,
 }
 
+/// What is wanted where another token stands: a sign or a word, or what goes by a name.
+#[derive(Clone, Copy, PartialEq, Eq, Debug)]
+pub enum Wanted {
+    /// `(`
+    LParen,
+    /// `)`
+    RParen,
+    /// `[`
+    LBracket,
+    /// `]`
+    RBracket,
+    /// `{`
+    LBrace,
+    /// `}`
+    RBrace,
+    /// `;`
+    Semi,
+    /// `,`
+    Comma,
+    /// `.`
+    Dot,
+    /// `...`
+    DotDotDot,
+    /// `:`
+    Colon,
+    /// `?`
+    QuestionMark,
+    /// `=>`
+    Arrow,
+    /// `=`
+    Assign,
+    /// `*`
+    Star,
+    /// `#`
+    Hash,
+    /// A backquote.
+    BackQuote,
+    /// `${`
+    DollarLBrace,
+    /// `as`
+    As,
+    /// `async`
+    Async,
+    /// `from`
+    From,
+    /// `get`
+    Get,
+    /// `meta`
+    Meta,
+    /// `of`
+    Of,
+    /// `set`
+    Set,
+    /// `source`
+    Source,
+    /// `target`
+    Target,
+    /// A keyword.
+    Keyword(Keyword),
+    /// An identifier.
+    Ident,
+    /// An identifier or a string.
+    IdentOrStr,
+    /// A property's key.
+    PropName,
+    /// A text or a `${` of a template.
+    TplToken,
+    /// An expression.
+    Expr,
+    /// A statement.
+    Stmt,
+}
+
+impl Wanted {
+    /// A sign or a word as it is written, and of all else the name.
+    pub fn as_str(self) -> &'static str
+        ensures { result.now ≡ wanted_text self }
+    {
+        match self {
+            Wanted::LParen => "(",
+            Wanted::RParen => ")",
+            Wanted::LBracket => "[",
+            Wanted::RBracket => "]",
+            Wanted::LBrace => "{",
+            Wanted::RBrace => "}",
+            Wanted::Semi => ";",
+            Wanted::Comma => ",",
+            Wanted::Dot => ".",
+            Wanted::DotDotDot => "...",
+            Wanted::Colon => ":",
+            Wanted::QuestionMark => "?",
+            Wanted::Arrow => "=>",
+            Wanted::Assign => "=",
+            Wanted::Star => "*",
+            Wanted::Hash => "#",
+            Wanted::BackQuote => "`",
+            Wanted::DollarLBrace => "${",
+            Wanted::As => "as",
+            Wanted::Async => "async",
+            Wanted::From => "from",
+            Wanted::Get => "get",
+            Wanted::Meta => "meta",
+            Wanted::Of => "of",
+            Wanted::Set => "set",
+            Wanted::Source => "source",
+            Wanted::Target => "target",
+            Wanted::Keyword(keyword) => keyword.as_str(),
+            Wanted::Ident => "identifier",
+            Wanted::IdentOrStr => "identifier or string",
+            Wanted::PropName =>
+                "identifier, string literal, numeric literal or [ for the computed key",
+            Wanted::TplToken => "template token",
+            Wanted::Expr => "expression",
+            Wanted::Stmt => "statement",
+        }
+    }
+}
+
+impl fmt::Display for Wanted {
+    fn fmt<W: fmt::Write>(&self, f: &mut fmt::Formatter<W>) -> fmt::Result {
+        f.write_str(self.as_str())
+    }
+}
+
+/// What the form is that a refusal stands in.
+#[derive(Clone, Copy, PartialEq, Eq, Debug)]
+pub enum Note {
+    /// What stands behind `...`.
+    ExprAfterDots,
+    /// The operand of `yield`.
+    YieldArgument,
+}
+
+impl Note {
+    /// The note's text.
+    pub fn as_str(self) -> &'static str
+        ensures { result.now ≡ note_text self }
+    {
+        match self {
+            Note::ExprAfterDots => "An expression should follow '...'",
+            Note::YieldArgument => "Tried to parse an argument of yield",
+        }
+    }
+}
+
+impl fmt::Display for Note {
+    fn fmt<W: fmt::Write>(&self, f: &mut fmt::Formatter<W>) -> fmt::Result {
+        f.write_str(self.as_str())
+    }
+}
+
 /// The kind of a fault. The place that is named is the span of the error.
 #[derive(PartialEq, Eq, Debug, Drop)]
 #[cycle(fault)]
 pub enum SyntaxError {
     /// A token is required where the text ends; at the end of the previous token.
     Eof,
-    /// Another token is required; the current one. Holds the spelling that is wanted.
-    Expected(&'static str),
-    /// A token that fits nowhere here; the current one. Holds the name of what is wanted.
-    Unexpected(&'static str),
+    /// Another token is required; the current one. Holds what is wanted.
+    Expected(Wanted),
+    /// A token that fits nowhere here; the current one. Holds what is wanted.
+    Unexpected(Wanted),
     /// A refusal inside a form, with a note on the form and its place.
     WithLabel {
         inner: Box<Error>,
         span: Span,
-        note: &'static str,
+        note: Note,
     },
     /// Operators after an arrow function with a block; the current token.
     TS1005,
@@ -179,7 +331,10 @@ impl fmt::Display for Error {
         let span = self.span;
         write!(f, "{name} {span}")?;
         match self.kind() {
-            SyntaxError::Expected(text) | SyntaxError::Unexpected(text) => write!(f, " {text}"),
+            SyntaxError::Expected(wanted) | SyntaxError::Unexpected(wanted) => write!(
+                f,
+                " {wanted}"
+            ),
             SyntaxError::WithLabel { inner, .. } => write!(f, " ({inner})"),
             SyntaxError::InvalidIdentInStrict(word) => write!(f, " {word}"),
             SyntaxError::DuplicatedRegExpFlags(flag) => write!(f, " {flag}"),
@@ -198,15 +353,15 @@ impl SyntaxError {
     {
         match self {
             SyntaxError::Eof => Ok(SyntaxError::Eof),
-            SyntaxError::Expected(text) => Ok(SyntaxError::Expected(text)),
-            SyntaxError::Unexpected(text) => Ok(SyntaxError::Unexpected(text)),
+            SyntaxError::Expected(wanted) => Ok(SyntaxError::Expected(*wanted)),
+            SyntaxError::Unexpected(wanted) => Ok(SyntaxError::Unexpected(*wanted)),
             SyntaxError::WithLabel { inner, span, note } => {
                 let copy = inner.try_clone()?;
                 let alloc = *Box::allocator(inner);
                 Ok(SyntaxError::WithLabel {
                     inner: Box::new(alloc, copy)?,
                     span: *span,
-                    note,
+                    note: *note,
                 })
             }
             SyntaxError::TS1005 => Ok(SyntaxError::TS1005),

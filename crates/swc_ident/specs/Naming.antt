@@ -1,5 +1,5 @@
 -- What the calls on names do.
-use Rattle.std.specs.Prelude.{◌≡◌, ℕ, true, false, List, [], ◌∷◌, Option, Some, None, MatchOption, MatchResult, Result, codes}
+use Rattle.std.specs.Prelude.{◌≡◌, ℕ, true, false, List, [], ◌∷◌, Option, Some, None, MatchOption, MatchResult, Result}
 use Rattle.either.specs.declared.Either.{Either}
 use Rattle.either.specs.Either.{MatchEither}
 use Rattle.swc_ast.specs.declared.ident.BindingIdent.{BindingIdent}
@@ -15,6 +15,8 @@ use Rattle.swc_context.specs.declared.context.Context.{Context}
 use Rattle.swc_context.specs.declared.error.Error.{Error}
 use Rattle.swc_context.specs.declared.error.SyntaxError.{SyntaxError}
 use Rattle.swc_context.specs.declared.error.SyntaxError.TheVariants as kind
+use Rattle.swc_context.specs.declared.error.Wanted.{Wanted}
+use Rattle.swc_context.specs.declared.error.Wanted.TheVariants as wanted
 use Rattle.swc_context.specs.declared.span.BytePos.{BytePos}
 use Rattle.swc_context.specs.declared.span.Span.{Span}
 use Rattle.swc_context.specs.declared.word.Word.{Word}
@@ -40,12 +42,12 @@ abbrev pub place_here : {S : Type 0} → Buffer S → Span
 place_here b = elim (current b) [ None ↦ previous b | Some t ↦ t.span ]
 
 -- what an error says that is expected, or that is missed
-abbrev pub expects : SyntaxError → Option (List ℕ)
-expects (kind.Expected text) = Some text.now
+abbrev pub expects : SyntaxError → Option Wanted
+expects (kind.Expected what) = Some what
 expects k = None
 
-abbrev pub misses : SyntaxError → Option (List ℕ)
-misses (kind.Unexpected text) = Some text.now
+abbrev pub misses : SyntaxError → Option Wanted
+misses (kind.Unexpected what) = Some what
 misses k = None
 
 module _ {S : Type 0} (model : Model S) where
@@ -119,7 +121,7 @@ module _ {S : Type 0} (model : Model S) where
   -- why there is none: also a token that is no `#`, and a name that doesn't begin there
   pub data Unprivate (b : Buffer S) (e : Error) (c : Buffer S) : Type 0 where
     no_memory_either : (xs : List TokenAndSpan) → Read model b xs c → e.kind ≡ kind.OutOfMemory → Unprivate b e c
-    no_hash : {k : SyntaxError} (r : Refused model b (λ here. unfit (current here) (last_position here) k) e c) → expects k ≡ Some (codes "#") → at_token is_hash (current r.here) ≡ false → Unprivate b e c
+    no_hash : {k : SyntaxError} (r : Refused model b (λ here. unfit (current here) (last_position here) k) e c) → expects k ≡ Some wanted.Hash → at_token is_hash (current r.here) ≡ false → Unprivate b e c
     apart : {hash : Span} {hashed : Buffer S} → Hashed b hash hashed →
         (r : Refused model hashed (λ here. fault_at (between hash.lo hash.hi) kind.SpaceBetweenHashAndIdent) e c) → (next_begins r.here ≡ hash.hi → ⊥) → Unprivate b e c
     no_name : {hash : Span} {hashed near : Buffer S} → Hashed b hash hashed → Looked model hashed near → next_begins near ≡ hash.hi → Unnamed name_of_any near e c → Unprivate b e c
@@ -137,7 +139,7 @@ module _ {S : Type 0} (model : Model S) where
   -- why there is neither a name nor a string
   pub data Unexported (b : Buffer S) (e : Error) (c : Buffer S) : Type 0 where
     no_memory_for_it : (xs : List TokenAndSpan) → Read model b xs c → e.kind ≡ kind.OutOfMemory → Unexported b e c
-    no_string : {k : SyntaxError} (r : Refused model b (λ here. unfit (current here) (last_position here) k) e c) → misses k ≡ Some (codes "identifier or string") →
+    no_string : {k : SyntaxError} (r : Refused model b (λ here. unfit (current here) (last_position here) k) e c) → misses k ≡ Some wanted.IdentOrStr →
         at_token is_word (current r.here) ≡ false → at_token is_str (current r.here) ≡ false → Unexported b e c
 
   -- a word that may be bound where it stands is bound; before anything else nothing is consumed

@@ -13,7 +13,7 @@ use crate::words::{
 use either::Either;
 use std::alloc::Global;
 use swc_ast::ident::{BindingIdent, Ident, IdentName, ModuleExportName, PrivateName};
-use swc_context::error::{PResult, SyntaxError};
+use swc_context::error::{PResult, SyntaxError, Wanted};
 use swc_context::span::Span;
 use swc_input::buffer::Buffer;
 use swc_input::token::Token;
@@ -70,7 +70,7 @@ fn parse_hash<I: Tokens>(input: &mut Buffer<I>) -> PResult<Span>
 {
     input.has_cur()?;
     if !is_at_hash(input) {
-        return Err(input.unexpected(SyntaxError::Expected("#")));
+        return Err(input.unexpected(SyntaxError::Expected(Wanted::Hash)));
     }
     bump_hash(input);
     Ok(input.prev_span())
@@ -134,7 +134,7 @@ pub fn parse_module_export_name<I: Tokens>(
             sym: name.sym,
         }));
     }
-    Err(input.unexpected(SyntaxError::Unexpected("identifier or string")))
+    Err(input.unexpected(SyntaxError::Unexpected(Wanted::IdentOrStr)))
 }
 
 /// An identifier, where `yield` and `await` are included or not (Identifier; ECMA-262, 12.7 and 13.1.1).

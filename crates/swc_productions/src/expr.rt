@@ -42,7 +42,7 @@ use swc_ast::prop::ComputedPropName;
 use swc_ast::spanned::Spanned;
 use swc_bodies::bodies::Bodies;
 use swc_context::context::Context;
-use swc_context::error::{PResult, SyntaxError};
+use swc_context::error::{PResult, SyntaxError, Wanted};
 use swc_context::span::{BytePos, Span};
 use swc_context::word::Word;
 use swc_input::buffer::Buffer;
@@ -337,7 +337,7 @@ impl<I: Tokens, B: Bodies<I>> Productions<I, B> {
         let end = expect_or(
             &mut self.input,
             Sign::Target,
-            SyntaxError::Unexpected("target"),
+            SyntaxError::Unexpected(Wanted::Target),
         )?;
         let span = Span::new(start.lo, end.hi);
         check_new_target(&mut self.input, span)?;

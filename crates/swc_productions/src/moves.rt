@@ -27,7 +27,7 @@ use std::alloc::{AllocError, Global};
 use swc_ast::ident::{Ident, IdentName, PrivateName};
 use swc_context::atom::Atom;
 use swc_context::context::Context;
-use swc_context::error::{Error, PResult, SyntaxError};
+use swc_context::error::{Error, Note, PResult, SyntaxError, Wanted};
 use swc_context::operator::{AssignOp, BinOpToken};
 use swc_context::span::{BytePos, Span};
 use swc_context::word::{Keyword, Word};
@@ -440,31 +440,31 @@ pub(crate) fn eat<I: Tokens>(input: &mut Buffer<I>, sign: Sign) -> PResult<Optio
     Ok(Some(span))
 }
 
-/// How the sign is written.
-fn sign_text(sign: Sign) -> &'static str {
+/// What is wanted where the sign is.
+fn wanted(sign: Sign) -> Wanted {
     match sign {
-        Sign::Comma => ",",
-        Sign::DotDotDot => "...",
-        Sign::LParen => "(",
-        Sign::RParen => ")",
-        Sign::LBracket => "[",
-        Sign::RBracket => "]",
-        Sign::RBrace => "}",
-        Sign::Assign => "=",
-        Sign::Colon => ":",
-        Sign::Star => "*",
-        Sign::Async => "async",
-        Sign::Get => "get",
-        Sign::Set => "set",
-        Sign::Question => "?",
-        Sign::Dot => ".",
-        Sign::Target => "target",
-        Sign::Super => "super",
-        Sign::Import => "import",
-        Sign::Meta => "meta",
-        Sign::Source => "source",
-        Sign::BackQuote => "`",
-        Sign::DollarLBrace => "${",
+        Sign::Comma => Wanted::Comma,
+        Sign::DotDotDot => Wanted::DotDotDot,
+        Sign::LParen => Wanted::LParen,
+        Sign::RParen => Wanted::RParen,
+        Sign::LBracket => Wanted::LBracket,
+        Sign::RBracket => Wanted::RBracket,
+        Sign::RBrace => Wanted::RBrace,
+        Sign::Assign => Wanted::Assign,
+        Sign::Colon => Wanted::Colon,
+        Sign::Star => Wanted::Star,
+        Sign::Async => Wanted::Async,
+        Sign::Get => Wanted::Get,
+        Sign::Set => Wanted::Set,
+        Sign::Question => Wanted::QuestionMark,
+        Sign::Dot => Wanted::Dot,
+        Sign::Target => Wanted::Target,
+        Sign::Super => Wanted::Keyword(Keyword::Super),
+        Sign::Import => Wanted::Keyword(Keyword::Import),
+        Sign::Meta => Wanted::Meta,
+        Sign::Source => Wanted::Source,
+        Sign::BackQuote => Wanted::BackQuote,
+        Sign::DollarLBrace => Wanted::DollarLBrace,
     }
 }
 
@@ -474,7 +474,7 @@ pub(crate) fn expect<I: Tokens>(input: &mut Buffer<I>, sign: Sign) -> PResult<Sp
     ensures expects { ParsesAlone I.model (λ s. s) (expected (is_sign_token sign)) input.old result input.new }
     ensures falls { OnOk result (to_come I.model input.new < to_come I.model input.old) }
 {
-    expect_or(input, sign, SyntaxError::Expected(sign_text(sign)))
+    expect_or(input, sign, SyntaxError::Expected(wanted(sign)))
 }
 
 /// Consumes the sign, and answers its place. Where another token is current, that is refused by the kind, at that
@@ -549,7 +549,7 @@ fn require_close<I: Tokens>(input: &mut Buffer<I>, close: Sign) -> PResult<()>
 {
     look(input)?;
     if !is_sign(input, close) {
-        return Err(unexpected(input, SyntaxError::Expected(",")));
+        return Err(unexpected(input, SyntaxError::Expected(Wanted::Comma)));
     }
     Ok(())
 }
@@ -567,8 +567,7 @@ pub(crate) fn label_spread<I: Tokens>(
 {
     match spread {
         Some(span) if !is_out_of_memory(&error) => {
-            let note = "An expression should follow '...'";
-            labelled(alloc, input, span, note, error)
+            labelled(alloc, input, span, Note::ExprAfterDots, error)
         }
         _ => error,
     }
@@ -589,13 +588,7 @@ pub(crate) fn label_yield<I: Tokens>(
     if is_out_of_memory(&error) {
         return error;
     }
-    labelled(
-        alloc,
-        input,
-        span,
-        "Tried to parse an argument of yield",
-        error,
-    )
+    labelled(alloc, input, span, Note::YieldArgument, error)
 }
 
 /// The error, with a note on what stands at the place.
@@ -603,7 +596,7 @@ fn labelled<I: Tokens>(
     alloc: Global,
     input: &Buffer<I>,
     span: Span,
-    note: &'static str,
+    note: Note,
     error: Error,
 ) -> Error
     ensures kind { result.kind ≢ ParserFailed }

@@ -45,7 +45,7 @@ use swc_ast::prop::{AssignProp, ComputedPropName, PropName, SpreadElement};
 use swc_ast::spanned::Spanned;
 use swc_bodies::bodies::Bodies;
 use swc_context::context::Context;
-use swc_context::error::{Error, PResult, SyntaxError};
+use swc_context::error::{Error, PResult, SyntaxError, Wanted};
 use swc_context::span::{BytePos, Span};
 use swc_input::buffer::Buffer;
 use swc_input::token::Token;
@@ -149,7 +149,7 @@ impl<I: Tokens, B: Bodies<I>> Productions<I, B> {
     {
         look(&mut self.input)?;
         if !self.is_lparen() {
-            return Err(unexpected(&mut self.input, SyntaxError::Unexpected("identifier")));
+            return Err(unexpected(&mut self.input, SyntaxError::Unexpected(Wanted::Ident)));
         }
         let function = self.parse_shell(false, false, None)?;
         Ok(AfterKey::Method(function))
@@ -238,8 +238,7 @@ impl<I: Tokens, B: Bodies<I>> Productions<I, B> {
             return Ok(PropName::Ident(name));
         }
         if !self.is_key_lit() {
-            let expected = "identifier, string literal, numeric literal or [ for the computed key";
-            return Err(unexpected(&mut self.input, SyntaxError::Unexpected(expected)));
+            return Err(unexpected(&mut self.input, SyntaxError::Unexpected(Wanted::PropName)));
         }
         let token = bump(&mut self.input);
         let span = self.prev_span();
@@ -310,7 +309,7 @@ impl<I: Tokens, B: Bodies<I>> Productions<I, B> {
     {
         look(&mut self.input)?;
         if !self.is_lbrace() {
-            return Err(unexpected(&mut self.input, SyntaxError::Expected("{")));
+            return Err(unexpected(&mut self.input, SyntaxError::Expected(Wanted::LBrace)));
         }
         self.bodies.block(&mut self.input)
     }
@@ -425,7 +424,7 @@ pub fn parse_formal_params<I: Tokens>(input: &mut Buffer<I>) -> PResult<()>
         return Ok(());
     }
     if !is_sign(input, Sign::RParen) {
-        return Err(unexpected(input, SyntaxError::Expected(")")));
+        return Err(unexpected(input, SyntaxError::Expected(Wanted::RParen)));
     }
     Ok(())
 }

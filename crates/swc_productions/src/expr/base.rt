@@ -21,7 +21,7 @@ use crate::productions::Productions;
 use swc_ast::expr::{Callee, ExprOrSpread, Import, ImportPhase, MetaPropKind, Super, SuperProp};
 use swc_ast::prop::ComputedPropName;
 use swc_bodies::bodies::Bodies;
-use swc_context::error::{Error, PResult, SyntaxError};
+use swc_context::error::{Error, PResult, SyntaxError, Wanted};
 use swc_context::span::Span;
 use swc_input::buffer::Buffer;
 use swc_input::tokens::Tokens;
@@ -244,7 +244,7 @@ impl<I: Tokens, B: Bodies<I>> Productions<I, B> {
             }
             None => {
                 parse_ident_name(self.alloc, &mut self.input)?;
-                let kind = SyntaxError::Unexpected("meta");
+                let kind = SyntaxError::Unexpected(Wanted::Meta);
                 Err(unexpected(&mut self.input, kind))
             }
         }
@@ -420,5 +420,5 @@ fn refuse_import<I: Tokens>(input: &mut Buffer<I>) -> Error
         let span = input.cur_span();
         return syntax_error(input, span, SyntaxError::InvalidImport);
     }
-    unexpected(input, SyntaxError::Expected("("))
+    unexpected(input, SyntaxError::Expected(Wanted::LParen))
 }

@@ -21,7 +21,7 @@ use crate::productions::Productions;
 use swc_ast::expr::TplElement;
 use swc_bodies::bodies::Bodies;
 use swc_context::atom::Atom;
-use swc_context::error::{Error, PResult, SyntaxError};
+use swc_context::error::{Error, PResult, SyntaxError, Wanted};
 use swc_context::span::{BytePos, Span};
 use swc_input::buffer::Buffer;
 use swc_input::recording::counted_error;
@@ -106,7 +106,7 @@ impl<I: Tokens, B: Bodies<I>> Productions<I, B> {
     {
         look(&mut self.input)?;
         if !is_template(&self.input) {
-            let kind = SyntaxError::Unexpected("template token");
+            let kind = SyntaxError::Unexpected(Wanted::TplToken);
             return Err(unexpected(&mut self.input, kind));
         }
         let token = bump(&mut self.input);
