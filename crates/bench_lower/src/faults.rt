@@ -11,7 +11,7 @@ const FAULTS: &str = "\
 TS1109 0 1 | TS1109 0..1
 TS1109 5 2 | TS1109 2..5
 Expected 2 3 | Expected 2..3 )
-Unexpected 4 6 | Unexpected 4..6 expression
+Unexpected 4 6 | Unexpected 4..6 identifier
 WithLabel 5 6 | WithLabel 5..6 (TS1109 5..6)
 UnaryInExp 3 5 | UnaryInExp 3..5
 InvalidIdentInStrict 0 3 | InvalidIdentInStrict 0..3 let
@@ -25,7 +25,7 @@ fn place(lo: u32, hi: u32) -> Span {
 fn kind_named(alloc: Global, name: &str) -> Result<SyntaxError, AllocError> {
     Ok(match name {
         "Expected" => SyntaxError::Expected(Wanted::RParen),
-        "Unexpected" => SyntaxError::Unexpected(Wanted::Expr),
+        "Unexpected" => SyntaxError::Unexpected(Wanted::Ident),
         "WithLabel" => SyntaxError::WithLabel {
             inner: Box::new(alloc, Error::new(place(5, 6), SyntaxError::TS1109))?,
             span: place(1, 2),

@@ -83,14 +83,16 @@ pub enum Wanted {
     Ident,
     /// An identifier or a string.
     IdentOrStr,
+    /// An identifier, in an object pattern.
+    PatIdent,
+    /// What is bound: an identifier or a pattern.
+    Binding,
     /// A property's key.
     PropName,
+    /// What may stand behind a property's key.
+    AfterPropName,
     /// A text or a `${` of a template.
     TplToken,
-    /// An expression.
-    Expr,
-    /// A statement.
-    Stmt,
 }
 
 impl Wanted {
@@ -129,11 +131,12 @@ impl Wanted {
             Wanted::Keyword(keyword) => keyword.as_str(),
             Wanted::Ident => "identifier",
             Wanted::IdentOrStr => "identifier or string",
+            Wanted::PatIdent => "an identifier",
+            Wanted::Binding => "yield, an identifier, [ or {",
             Wanted::PropName =>
                 "identifier, string literal, numeric literal or [ for the computed key",
+            Wanted::AfterPropName => "... , *,  (, [, :, , ?, = or an identifier",
             Wanted::TplToken => "template token",
-            Wanted::Expr => "expression",
-            Wanted::Stmt => "statement",
         }
     }
 }

@@ -714,6 +714,5 @@ fn unfit_prop<I: Tokens>(alloc: Global, input: &mut Buffer<I>) -> Error
 fn unfit_behind<I: Tokens>(input: &mut Buffer<I>) -> Error
     ensures refuses { Refuses I.model input.old result input.new }
 {
-    let expected = "... , *,  (, [, :, , ?, = or an identifier";
-    unexpected(input, SyntaxError::Unexpected(expected))
+    unexpected(input, SyntaxError::Unexpected(Wanted::AfterPropName))
 }
