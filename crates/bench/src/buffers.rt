@@ -70,24 +70,24 @@ struct Called {
 impl Subject for Called {
     fn call(&mut self, out: &mut String, call: &str) -> Result<(), Fail> {
         let buffer = &mut self.buffer;
-        match call {
-            "cur" => show_token(out, buffer.cur())?,
-            "cur_debug" => show_token(out, buffer.cur_debug())?,
-            "peek" if buffer.knows_cur() => show_token(out, buffer.peek())?,
-            "bump" if buffer.knows_cur() => show_bumped(out, buffer)?,
-            "next" => show_next(out, buffer)?,
-            "knows_cur" => buffer.knows_cur().show(out)?,
-            "has_cur" => show(out, buffer.has_cur())?,
-            "require_cur" => show(out, buffer.require_cur())?,
-            "had_line_break_before_cur" => buffer.had_line_break_before_cur().show(out)?,
+        let shown = match call {
+            "cur" => show_token(out, buffer.cur()),
+            "cur_debug" => show_token(out, buffer.cur_debug()),
+            "peek" if buffer.knows_cur() => show_token(out, buffer.peek()),
+            "bump" if buffer.knows_cur() => show_bumped(out, buffer),
+            "next" => show_next(out, buffer),
+            "knows_cur" => buffer.knows_cur().show(out),
+            "has_cur" => show(out, buffer.has_cur()),
+            "require_cur" => show(out, buffer.require_cur()),
+            "had_line_break_before_cur" => buffer.had_line_break_before_cur().show(out),
             "has_linebreak_between_cur_and_peeked" if buffer.knows_cur() => {
-                buffer.has_linebreak_between_cur_and_peeked().show(out)?
+                buffer.has_linebreak_between_cur_and_peeked().show(out)
             }
-            "failed" => buffer.failed().show(out)?,
-            "store" => ().show(out)?,
-            _ => tell_place(out, buffer, call)?,
-        }
-        Ok(())
+            "failed" => buffer.failed().show(out),
+            "store" => ().show(out),
+            _ => return tell_place(out, buffer, call),
+        };
+        Ok(shown?)
     }
 }
 
@@ -120,50 +120,50 @@ fn show_token(out: &mut String, token: Option<&Token>) -> Result<(), AllocError>
 
 /// Tells places.
 fn tell_place(out: &mut String, buffer: &mut Tested, call: &str) -> Result<(), Fail> {
-    match call {
-        "start_pos" => buffer.input().start_pos().0.show(out)?,
-        "last_pos" => buffer.last_pos().0.show(out)?,
-        "cur_pos" => buffer.cur_pos().0.show(out)?,
-        "prev_span" => buffer.prev_span().show(out)?,
-        "cur_span" => buffer.cur_span().show(out)?,
-        _ => change(out, buffer, call)?,
-    }
-    Ok(())
+    let shown = match call {
+        "start_pos" => buffer.input().start_pos().0.show(out),
+        "last_pos" => buffer.last_pos().0.show(out),
+        "cur_pos" => buffer.cur_pos().0.show(out),
+        "prev_span" => buffer.prev_span().show(out),
+        "cur_span" => buffer.cur_span().show(out),
+        _ => return change(out, buffer, call),
+    };
+    Ok(shown?)
 }
 
 /// Changes what is current, and reads with the hook.
 fn change(out: &mut String, buffer: &mut Tested, call: &str) -> Result<(), Fail> {
-    match call {
+    let shown = match call {
         "cut_lshift" if is_at_lshift(buffer) => {
             buffer.cut_lshift();
-            out.push_str("done")?;
+            ().show(out)
         }
-        "fun" if is_at_function(buffer) => show(out, NoBodies.fun(buffer))?,
-        "class" if is_at_class(buffer) => show(out, NoBodies.class(buffer))?,
-        "block" if is_at_brace(buffer) => show(out, NoBodies.block(buffer))?,
-        "keep_fun" | "keep_class" | "keep_block" => keep(out, buffer, call)?,
-        "take_errors" => show_faults(out, &buffer.input().take_errors())?,
-        "out_of_memory" => show_refusal(out, buffer.out_of_memory())?,
-        "has_defaults" => has_defaults(buffer).show(out)?,
-        "hint" => hint(buffer).show(out)?,
+        "fun" if is_at_function(buffer) => show(out, NoBodies.fun(buffer)),
+        "class" if is_at_class(buffer) => show(out, NoBodies.class(buffer)),
+        "block" if is_at_brace(buffer) => show(out, NoBodies.block(buffer)),
+        "keep_fun" | "keep_class" | "keep_block" => return keep(out, buffer, call),
+        "take_errors" => show_faults(out, &buffer.input().take_errors()),
+        "out_of_memory" => show_refusal(out, buffer.out_of_memory()),
+        "has_defaults" => has_defaults(buffer).show(out),
+        "hint" => hint(buffer).show(out),
         _ => {
             let (name, argument) = call.split_once(' ').ok_or("no call")?;
-            compare(out, buffer, name, argument)?;
+            return compare(out, buffer, name, argument);
         }
-    }
-    Ok(())
+    };
+    Ok(shown?)
 }
 
 /// Reads with the hook that keeps tokens.
 fn keep(out: &mut String, buffer: &mut Tested, call: &str) -> Result<(), Fail> {
     let mut hook = TokenBodies::new(*out.allocator());
-    match call {
-        "keep_fun" if is_at_function(buffer) => show_body(out, "Fn", hook.fun(buffer))?,
-        "keep_class" if is_at_class(buffer) => show_body(out, "Class", hook.class(buffer))?,
-        "keep_block" if is_at_brace(buffer) => show_body(out, "Block", hook.block(buffer))?,
+    let shown = match call {
+        "keep_fun" if is_at_function(buffer) => show_body(out, "Fn", hook.fun(buffer)),
+        "keep_class" if is_at_class(buffer) => show_body(out, "Class", hook.class(buffer)),
+        "keep_block" if is_at_brace(buffer) => show_body(out, "Block", hook.block(buffer)),
         _ => return Err(Fail::new("no call")),
-    }
-    Ok(())
+    };
+    Ok(shown?)
 }
 
 /// Writes how many tokens were kept of the body, and its place; or the refusal.
@@ -268,19 +268,23 @@ fn record(
 ) -> Result<(), Fail>
     requires { kind ≢ OutOfMemory }
 {
-    match call {
-        "emit_error" => show(out, buffer.emit_error(Error::new(span, kind)))?,
-        "emit_err" => show(out, buffer.emit_err(span, kind))?,
-        "emit_strict_mode_err" => show(out, buffer.emit_strict_mode_err(span, kind))?,
-        "syntax_error" => show_refusal(out, buffer.syntax_error(span, kind))?,
-        "add_error" => buffer.input().add_error(Error::new(span, kind))?.show(out)?,
-        "add_module_mode_error" => buffer
-            .input()
-            .add_module_mode_error(Error::new(span, kind))?
-            .show(out)?,
+    let shown = match call {
+        "emit_error" => show(out, buffer.emit_error(Error::new(span, kind))),
+        "emit_err" => show(out, buffer.emit_err(span, kind)),
+        "emit_strict_mode_err" => show(out, buffer.emit_strict_mode_err(span, kind)),
+        "syntax_error" => show_refusal(out, buffer.syntax_error(span, kind)),
+        "add_error" => {
+            buffer.input().add_error(Error::new(span, kind))?;
+            ().show(out)
+        }
+        "add_module_mode_error" => {
+            let fault = Error::new(span, kind);
+            buffer.input().add_module_mode_error(fault)?;
+            ().show(out)
+        }
         _ => return Err(Fail::new("no call")),
-    }
-    Ok(())
+    };
+    Ok(shown?)
 }
 
 /// What the calls answer and record.

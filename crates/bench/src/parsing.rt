@@ -27,25 +27,25 @@ struct Tested<I: Tokens> {
 impl<I: Tokens> Subject for Tested<I> {
     fn call(&mut self, out: &mut String, call: &str) -> Result<(), Fail> {
         let parser = &mut self.parser;
-        match call {
-            "parse_expr_id" => show_numbered(out, parser)?,
-            "parse_expr" if self.numbers => show_numbered(out, parser)?,
-            "parse_expr" => show(out, parser.parse_expr())?,
-            "parse_assignment_expr" => show(out, parser.parse_assignment_expr())?,
-            "parse_bin_expr" => show(out, parser.parse_bin_expr())?,
-            "parse_unary_expr" => show(out, parser.parse_unary_expr())?,
-            "parse_for_head_prefix" => show(out, parser.parse_for_head_prefix())?,
-            "label_of_refusal" => show_refused_label(out, parser)?,
-            "parse_lit" => show(out, parser.parse_lit())?,
-            "at_end" => show(out, parser.at_end())?,
-            "count_nodes" => write!(out, "{}", parser.nodes().len())?,
+        let shown = match call {
+            "parse_expr_id" => show_numbered(out, parser),
+            "parse_expr" if self.numbers => show_numbered(out, parser),
+            "parse_expr" => show(out, parser.parse_expr()),
+            "parse_assignment_expr" => show(out, parser.parse_assignment_expr()),
+            "parse_bin_expr" => show(out, parser.parse_bin_expr()),
+            "parse_unary_expr" => show(out, parser.parse_unary_expr()),
+            "parse_for_head_prefix" => show(out, parser.parse_for_head_prefix()),
+            "label_of_refusal" => show_refused_label(out, parser),
+            "parse_lit" => show(out, parser.parse_lit()),
+            "at_end" => show(out, parser.at_end()),
+            "count_nodes" => write!(out, "{}", parser.nodes().len()),
             "clear_nodes" => {
                 parser.clear_nodes();
-                ().show(out)?;
+                ().show(out)
             }
-            _ => call_part(parser, out, call)?,
-        }
-        Ok(())
+            _ => return call_part(parser, out, call),
+        };
+        Ok(shown?)
     }
 }
 
@@ -66,21 +66,21 @@ fn call_part<I: Tokens>(
     out: &mut String,
     call: &str,
 ) -> Result<(), Fail> {
-    match call {
-        "parse_args(false)" => show(out, parser.parse_args(false))?,
-        "parse_args(true)" => show(out, parser.parse_args(true))?,
-        "parse_args_or_pats" => show(out, parser.parse_args_or_pats())?,
-        "parse_tpl(false)" => show(out, parser.parse_tpl(false))?,
-        "parse_tpl(true)" => show(out, parser.parse_tpl(true))?,
-        "parse_prop_name" => show(out, parser.parse_prop_name())?,
-        "parse_object_prop" => show(out, parser.parse_object_prop())?,
-        "make_object" => make_object(parser, out, None)?,
-        "found_module_item" => parser.found_module_item().show(out)?,
-        "parse_formal_params" => show(out, parser.parse_formal_params())?,
-        "parse_unique_formal_params" => show(out, parser.parse_unique_formal_params())?,
-        _ => call_name(parser, out, call)?,
-    }
-    Ok(())
+    let shown = match call {
+        "parse_args(false)" => show(out, parser.parse_args(false)),
+        "parse_args(true)" => show(out, parser.parse_args(true)),
+        "parse_args_or_pats" => show(out, parser.parse_args_or_pats()),
+        "parse_tpl(false)" => show(out, parser.parse_tpl(false)),
+        "parse_tpl(true)" => show(out, parser.parse_tpl(true)),
+        "parse_prop_name" => show(out, parser.parse_prop_name()),
+        "parse_object_prop" => show(out, parser.parse_object_prop()),
+        "make_object" => make_object(parser, out, None),
+        "found_module_item" => parser.found_module_item().show(out),
+        "parse_formal_params" => show(out, parser.parse_formal_params()),
+        "parse_unique_formal_params" => show(out, parser.parse_unique_formal_params()),
+        _ => return call_name(parser, out, call),
+    };
+    Ok(shown?)
 }
 
 /// Makes an object literal of no properties at the start of the text, with a comma at the place, or none.
@@ -88,10 +88,10 @@ fn make_object<I: Tokens>(
     parser: &mut Parser<I, TestBodies>,
     out: &mut String,
     trailing_comma: Option<Span>,
-) -> Result<(), Fail> {
+) -> Result<(), AllocError> {
     let none = Vec::new(*out.allocator());
     let start = Span::new(BytePos(0), BytePos(0));
-    Ok(show(out, parser.make_object(start, none, trailing_comma))?)
+    show(out, parser.make_object(start, none, trailing_comma))
 }
 
 /// The calls on names.
@@ -100,19 +100,19 @@ fn call_name<I: Tokens>(
     out: &mut String,
     call: &str,
 ) -> Result<(), Fail> {
-    match call {
-        "parse_ident(true, true)" => show(out, parser.parse_ident(true, true))?,
-        "parse_ident_ref" => show(out, parser.parse_ident_ref())?,
-        "parse_label_ident" => show(out, parser.parse_label_ident())?,
-        "parse_ident_name" => show(out, parser.parse_ident_name())?,
-        "parse_binding_ident" => show(out, parser.parse_binding_ident())?,
-        "parse_opt_binding_ident" => show(out, parser.parse_opt_binding_ident())?,
-        "parse_module_export_name" => show(out, parser.parse_module_export_name())?,
-        "parse_private_name" => show(out, parser.parse_private_name())?,
-        "parse_maybe_private_name" => show(out, parser.parse_maybe_private_name())?,
-        _ => call_at(parser, out, call)?,
-    }
-    Ok(())
+    let shown = match call {
+        "parse_ident(true, true)" => show(out, parser.parse_ident(true, true)),
+        "parse_ident_ref" => show(out, parser.parse_ident_ref()),
+        "parse_label_ident" => show(out, parser.parse_label_ident()),
+        "parse_ident_name" => show(out, parser.parse_ident_name()),
+        "parse_binding_ident" => show(out, parser.parse_binding_ident()),
+        "parse_opt_binding_ident" => show(out, parser.parse_opt_binding_ident()),
+        "parse_module_export_name" => show(out, parser.parse_module_export_name()),
+        "parse_private_name" => show(out, parser.parse_private_name()),
+        "parse_maybe_private_name" => show(out, parser.parse_maybe_private_name()),
+        _ => return call_at(parser, out, call),
+    };
+    Ok(shown?)
 }
 
 /// The calls that are given a place, or a number.

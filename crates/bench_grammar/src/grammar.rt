@@ -395,7 +395,7 @@ fn ends(behind: &str) -> bool {
 /// Readings of a symbol that have the same number of tokens.
 #[derive(Drop)]
 pub(crate) struct Derived {
-    symbol: &'static str,
+    symbol: String,
     length: usize,
     readings: Vec<Reading>,
 }
@@ -404,7 +404,7 @@ impl Derived {
     /// One reading.
     fn of_one(
         alloc: Global,
-        symbol: &'static str,
+        symbol: &str,
         length: usize,
         tokens: &str,
         tree: &str,
@@ -415,7 +415,7 @@ impl Derived {
         };
         let readings = vec![in alloc; reading]?;
         Ok(Derived {
-            symbol,
+            symbol: String::from_str(alloc, symbol)?,
             length,
             readings,
         })
@@ -430,7 +430,7 @@ impl Derived {
             }
         }
         Ok(Derived {
-            symbol: self.symbol,
+            symbol: self.symbol.clone()?,
             length: self.length.saturating_add(parts.length),
             readings,
         })
@@ -446,10 +446,7 @@ pub(crate) fn spelled(alloc: Global, token: &str) -> Result<String, AllocError> 
 }
 
 /// What each of the tokens is by itself, and each mark, which is no token.
-pub(crate) fn tokens_derived(
-    alloc: Global,
-    tokens: &'static str,
-) -> Result<Vec<Derived>, AllocError> {
+pub(crate) fn tokens_derived(alloc: Global, tokens: &str) -> Result<Vec<Derived>, AllocError> {
     let mut found = Vec::new(alloc);
     found.push(Derived::of_one(alloc, ENDS, 0, ENDS, "")?)?;
     found.push(Derived::of_one(alloc, SAME_LINE, 0, SAME_LINE, "")?)?;
@@ -464,40 +461,41 @@ pub(crate) fn tokens_derived(
 }
 
 /// Which lists are asked for: those of a mode, the longest of which has as many tokens.
-#[derive(Clone, Copy)]
-pub(crate) struct Asked<'a> {
-    pub(crate) mode: &'a str,
+#[derive(Drop)]
+pub(crate) struct Asked {
+    pub(crate) mode: String,
     pub(crate) longest: usize,
 }
 
 /// A line of the productions.
-#[derive(Clone, Copy)]
-struct Production {
-    symbol: &'static str,
-    items: &'static str,
-    tree: &'static str,
-    lacking: &'static str,
+#[derive(Drop)]
+pub(crate) struct Production {
+    symbol: String,
+    items: String,
+    tree: String,
+    lacking: String,
     around: usize,
 }
 
 impl Production {
-    fn of_line(line: &'static str) -> Production {
+    fn of_line(alloc: Global, line: &str) -> Result<Production, AllocError> {
         let (line, around) = line.split_once(" within ").unwrap_or((line, ""));
         let (line, lacking) = line.split_once(" unless ").unwrap_or((line, ""));
         let (symbol, form) = line.split_once(" = ").unwrap_or((line, ""));
         let (items, tree) = form.split_once(" -> ").unwrap_or((form, ""));
-        Production {
-            symbol,
-            items,
-            tree,
-            lacking,
+        Ok(Production {
+            symbol: String::from_str(alloc, symbol)?,
+            items: String::from_str(alloc, items)?,
+            tree: String::from_str(alloc, tree)?,
+            lacking: String::from_str(alloc, lacking)?,
             around: around.parse().unwrap_or(0),
-        }
+        })
     }
 
     /// Whether a list of the length that it makes may stand in one that is asked for.
-    fn fits(&self, length: usize, asked: Asked<'_>) -> bool {
-        !self.lacking.contains(asked.mode) && length.saturating_add(self.around) <= asked.longest
+    fn fits(&self, length: usize, asked: &Asked) -> bool {
+        !self.lacking.as_str().contains(asked.mode.as_str())
+            && length.saturating_add(self.around) <= asked.longest
     }
 }
 
@@ -511,7 +509,7 @@ fn continued(
 ) -> Result<Vec<Derived>, AllocError> {
     let mut longer = Vec::new(alloc);
     for parts in found {
-        if parts.symbol == item {
+        if parts.symbol.as_str() == item {
             for front in fronts {
                 if front.length.saturating_add(parts.length) <= length {
                     longer.push(front.followed_by(alloc, parts)?)?;
@@ -526,14 +524,17 @@ fn continued(
 fn made(
     alloc: Global,
     found: &[Derived],
-    production: Production,
+    production: &Production,
     length: usize,
 ) -> Result<Vec<Derived>, AllocError> {
     let count = format!(in alloc; "{length}")?;
-    let tree = production.tree.replace(alloc, '$', count.as_str())?;
-    let start = Derived::of_one(alloc, production.symbol, 0, "", tree.as_str())?;
+    let tree = production
+        .tree
+        .as_str()
+        .replace(alloc, '$', count.as_str())?;
+    let start = Derived::of_one(alloc, production.symbol.as_str(), 0, "", tree.as_str())?;
     let mut fronts = vec![in alloc; start]?;
-    for item in production.items.split(' ') {
+    for item in production.items.as_str().split(' ') {
         fronts = continued(alloc, &fronts, item, found, length)?;
     }
     Ok(fronts)
@@ -558,13 +559,13 @@ fn of_length(
 fn add_derived(
     alloc: Global,
     found: &mut Vec<Derived>,
-    production: Production,
+    production: &Production,
     length: usize,
 ) -> Result<(), AllocError> {
     let readings = of_length(alloc, made(alloc, found, production, length)?, length)?;
     if !readings.is_empty() {
         found.push(Derived {
-            symbol: production.symbol,
+            symbol: production.symbol.clone()?,
             length,
             readings,
         })?;
@@ -572,15 +573,24 @@ fn add_derived(
     Ok(())
 }
 
+/// The productions, in their order.
+pub(crate) fn productions(alloc: Global) -> Result<Vec<Production>, AllocError> {
+    let mut all = Vec::new(alloc);
+    for line in PRODUCTIONS.lines() {
+        all.push(Production::of_line(alloc, line)?)?;
+    }
+    Ok(all)
+}
+
 /// Adds the lists of this length that the productions derive, where the shorter ones were found.
 pub(crate) fn add_all_derived(
     alloc: Global,
     found: &mut Vec<Derived>,
+    productions: &[Production],
     length: usize,
-    asked: Asked<'_>,
+    asked: &Asked,
 ) -> Result<(), AllocError> {
-    for line in PRODUCTIONS.lines() {
-        let production = Production::of_line(line);
+    for production in productions {
         if production.fits(length, asked) {
             add_derived(alloc, found, production, length)?;
         }
@@ -596,7 +606,7 @@ pub(crate) fn expressions(
 ) -> Result<Vec<String>, AllocError> {
     let mut lines = Vec::new(alloc);
     for derived in found {
-        if derived.symbol == "Whole" && derived.length == length {
+        if derived.symbol.as_str() == "Whole" && derived.length == length {
             add_lines(alloc, &mut lines, &derived.readings)?;
         }
     }

@@ -1,6 +1,8 @@
 // Every list of a few tokens: the parser reads it whole exactly if the productions derive it, and
 // answers the one tree that they give it.
-use crate::grammar::{Asked, Derived, add_all_derived, expressions, spelled, tokens_derived};
+use crate::grammar::{
+    Asked, Derived, Production, add_all_derived, expressions, productions, spelled, tokens_derived,
+};
 use crate::parse::{Found, context_of, found_in};
 use std::alloc::{AllocError, Global};
 use std::process::Abort;
@@ -242,16 +244,18 @@ fn same(rt: &impl Abort, read: &[String], wanted: &[String], count: usize, mode:
 fn agree_on(
     rt: &impl Abort,
     found: &mut Vec<Derived>,
+    productions: &[Production],
     lists: Vec<String>,
     length: usize,
-    asked: Asked<'_>,
+    asked: &Asked,
     count: usize,
 ) -> Result<Vec<String>, AllocError> {
     let alloc = *found.allocator();
-    add_all_derived(alloc, found, length, asked)?;
+    add_all_derived(alloc, found, productions, length, asked)?;
     let wanted = expressions(alloc, found, length)?;
-    let Outcome { lines, fronts } = parsed(alloc, lists, context_of(asked.mode))?;
-    same(rt, &lines, &wanted, count, asked.mode);
+    let mode = asked.mode.as_str();
+    let Outcome { lines, fronts } = parsed(alloc, lists, context_of(mode))?;
+    same(rt, &lines, &wanted, count, mode);
     Ok(fronts)
 }
 
@@ -259,11 +263,13 @@ fn agree_on(
 fn agree(
     rt: &impl Abort,
     alloc: Global,
-    tokens: &'static str,
+    productions: &[Production],
+    tokens: &str,
     mode: &str,
     counts: &str,
 ) -> Result<(), AllocError> {
     let longest = counts.matches(' ').count();
+    let mode = String::from_str(alloc, mode)?;
     let asked = Asked { mode, longest };
     let mut found = tokens_derived(alloc, tokens)?;
     let mut lists = vec![in alloc; String::new(alloc)]?;
@@ -272,17 +278,18 @@ fn agree(
             lists = longer(alloc, &lists, tokens)?;
         }
         let count = count.parse().unwrap_or(usize::MAX);
-        lists = agree_on(rt, &mut found, lists, length, asked, count)?;
+        lists = agree_on(rt, &mut found, productions, lists, length, &asked, count)?;
     }
     Ok(())
 }
 
 /// On the rows of a table the parser and the productions have to agree.
-fn agree_in(rt: &impl Abort, alloc: Global, rows: &'static str) -> Result<(), AllocError> {
+fn agree_in(rt: &impl Abort, alloc: Global, rows: &str) -> Result<(), AllocError> {
+    let productions = productions(alloc)?;
     for line in rows.lines() {
         let (front, counts) = line.rsplit_once(" | ").unwrap_or((line, ""));
         let (tokens, mode) = front.rsplit_once(" | ").unwrap_or((front, ""));
-        agree(rt, alloc, tokens, mode, counts)?;
+        agree(rt, alloc, &productions, tokens, mode, counts)?;
     }
     Ok(())
 }

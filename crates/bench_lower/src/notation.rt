@@ -19,11 +19,11 @@ use swc_nodes::node::{ExprId, Node, PatId, PatPropNode, PropNode, TargetNode};
 
 /// Nodes, and what waits for the node that takes it.
 #[derive(Drop)]
-pub(crate) struct Builder<'a> {
+pub(crate) struct Builder {
     alloc: Global,
     nodes: HookedNodes,
     parts: Vec<Part>,
-    words: Vec<Word<'a>>,
+    words: Vec<Word>,
     props: Vec<PropNode<Hooked>>,
     pat_props: Vec<PatPropNode>,
 }
@@ -44,7 +44,7 @@ pub(crate) fn nodes_of(alloc: Global, text: &str) -> Result<(HookedNodes, usize)
         pat_props: Vec::new(alloc),
     };
     for word in text.split(' ') {
-        builder.read(word_of(word).ok_or("no word")?)?;
+        builder.read(word_of(alloc, word)?)?;
     }
     let last = builder.take::<ExprId>()?;
     Ok((builder.nodes, last.0))
@@ -56,10 +56,10 @@ fn last_of<T: Drop>(list: &mut Vec<T>, count: usize) -> Result<Vec<T>, Fail> {
     Ok(list.split_off(from)?)
 }
 
-impl<'a> Builder<'a> {
+impl Builder {
     /// Reads a word.
-    fn read(&mut self, word: Word<'a>) -> Result<(), Fail> {
-        match word.kind {
+    fn read(&mut self, word: Word) -> Result<(), Fail> {
+        match word.kind.as_str() {
             "-" => self.parts.push(Part::hole(word.span))?,
             "..." => {
                 let part = self.parts.pop().ok_or("no part")?;
@@ -69,12 +69,12 @@ impl<'a> Builder<'a> {
             "[]" | "Block" | "super" | "import" | "import.source" => self.words.push(word)?,
             kind if kind.starts_with('.') || kind.starts_with('`') => self.words.push(word)?,
             _ => {
-                if let Some(prop) = self.prop(word)? {
+                if let Some(prop) = self.prop(&word)? {
                     self.props.push(prop)?;
-                } else if let Some(prop) = self.pat_prop(word)? {
+                } else if let Some(prop) = self.pat_prop(&word)? {
                     self.pat_props.push(prop)?;
                 } else {
-                    let node = self.node(word)?;
+                    let node = self.node(&word)?;
                     self.append(node, word.span)?;
                 }
             }
@@ -101,7 +101,7 @@ impl<'a> Builder<'a> {
     }
 
     /// Takes as many parts as the word says.
-    fn take_list<T: Held + Drop>(&mut self, word: Word<'a>) -> Result<Vec<T>, Fail> {
+    fn take_list<T: Held + Drop>(&mut self, word: &Word) -> Result<Vec<T>, Fail> {
         let mut list = Vec::new(self.alloc);
         for part in last_of(&mut self.parts, word.count()?)? {
             list.push(T::of(part)?)?;
@@ -110,17 +110,17 @@ impl<'a> Builder<'a> {
     }
 
     /// Takes the last word that is no node.
-    fn word(&mut self) -> Result<Word<'a>, Fail> {
+    fn word(&mut self) -> Result<Word, Fail> {
         Ok(self.words.pop().ok_or("no name")?)
     }
 
     fn block(&mut self) -> Result<Hooked, Fail> {
-        hooked(self.word()?)
+        hooked(&self.word()?)
     }
 
     fn ident(&mut self) -> Result<Ident, Fail> {
         let word = self.word()?;
-        ident_of(self.alloc, word)
+        ident_of(self.alloc, &word)
     }
 
     fn computed(&mut self, span: Span) -> Result<ComputedPropName<ExprId>, Fail> {
@@ -130,10 +130,10 @@ impl<'a> Builder<'a> {
 
     fn key(&mut self) -> Result<PropName<ExprId>, Fail> {
         let word = self.word()?;
-        if word.kind == "[]" {
+        if word.kind.as_str() == "[]" {
             return at(PropName::Computed(self.computed(word.span)?), word.span);
         }
-        let key = match written(self.alloc, word)? {
+        let key = match written(self.alloc, &word)? {
             Spelled::Str(text) => PropName::Str(text),
             Spelled::Num(number) => PropName::Num(number),
             Spelled::BigInt(number) => PropName::BigInt(number),
@@ -145,10 +145,10 @@ impl<'a> Builder<'a> {
 
     fn member_prop(&mut self) -> Result<MemberProp<ExprId>, Fail> {
         let word = self.word()?;
-        if word.kind == "[]" {
+        if word.kind.as_str() == "[]" {
             return at(MemberProp::Computed(self.computed(word.span)?), word.span);
         }
-        let prop = match written(self.alloc, word)? {
+        let prop = match written(self.alloc, &word)? {
             Spelled::Ident(ident) => MemberProp::Ident(at(name_of(ident), word.span)?),
             Spelled::PrivateName(name) => MemberProp::PrivateName(name),
             _ => return Err(Fail::new("no member")),
@@ -158,10 +158,10 @@ impl<'a> Builder<'a> {
 
     fn super_prop(&mut self, span: Span) -> Result<SuperPropExpr<ExprId>, Fail> {
         let word = self.word()?;
-        let prop = if word.kind == "[]" {
+        let prop = if word.kind.as_str() == "[]" {
             SuperProp::Computed(self.computed(word.span)?)
         } else {
-            let ident = ident_of(self.alloc, word)?;
+            let ident = ident_of(self.alloc, &word)?;
             SuperProp::Ident(at(name_of(ident), word.span)?)
         };
         let prop = at(prop, word.span)?;
@@ -177,15 +177,16 @@ impl<'a> Builder<'a> {
     }
 
     fn callee(&mut self) -> Result<Callee<ExprId>, Fail> {
-        let kind = match self.words.last() {
-            Some(word) => word.kind,
-            None => "",
+        let is_keyword = match self.words.last() {
+            Some(word) => matches!(word.kind.as_str(), "super" | "import" | "import.source"),
+            None => false,
         };
-        if kind != "super" && !kind.starts_with("import") {
+        if !is_keyword {
             return Ok(Callee::Expr(self.take()?));
         }
-        let span = self.word()?.span;
-        let phase = match kind {
+        let word = self.word()?;
+        let span = word.span;
+        let phase = match word.kind.as_str() {
             "super" => return Ok(Callee::Super(at(Super { span }, span)?)),
             "import" => ImportPhase::Evaluation,
             _ => ImportPhase::Source,
@@ -193,9 +194,9 @@ impl<'a> Builder<'a> {
         Ok(Callee::Import(at(Import { span, phase }, span)?))
     }
 
-    fn chain(&mut self, word: Word<'a>) -> Result<OptChainExpr<ExprId>, Fail> {
+    fn chain(&mut self, word: &Word) -> Result<OptChainExpr<ExprId>, Fail> {
         let span = word.span;
-        let base = if word.kind.ends_with("Member") {
+        let base = if word.kind.as_str().ends_with("Member") {
             OptChainBase::Member(self.member(span)?)
         } else {
             let args = self.take_list(word)?;
@@ -204,7 +205,7 @@ impl<'a> Builder<'a> {
             OptChainBase::Call(at(call, span)?)
         };
         let base = Box::new(self.alloc, at(base, span)?)?;
-        let optional = word.kind.starts_with("Opt");
+        let optional = word.kind.as_str().starts_with("Opt");
         at(
             OptChainExpr {
                 span,
@@ -215,7 +216,7 @@ impl<'a> Builder<'a> {
         )
     }
 
-    fn tpl(&mut self, word: Word<'a>) -> Result<Tpl<ExprId>, Fail> {
+    fn tpl(&mut self, word: &Word) -> Result<Tpl<ExprId>, Fail> {
         let count = word.count()?;
         let exprs = self.take_list(word)?;
         let mut quasis = Vec::new(self.alloc);
@@ -224,7 +225,7 @@ impl<'a> Builder<'a> {
             count.checked_add(1).ok_or("too many texts")?,
         )?;
         for (index, text) in texts.iter().enumerate() {
-            let written = text.kind.trim_matches('`');
+            let written = text.kind.as_str().trim_matches('`');
             let quasi = TplElement {
                 span: text.span,
                 tail: index == count,
@@ -246,15 +247,17 @@ impl<'a> Builder<'a> {
 
     fn arrow_body(&mut self) -> Result<BlockStmtOrExpr<ExprId, Hooked>, Fail> {
         match self.words.last() {
-            Some(word) if word.kind == "Block" => Ok(BlockStmtOrExpr::BlockStmt(self.block()?)),
+            Some(word) if word.kind.as_str() == "Block" => Ok(BlockStmtOrExpr::BlockStmt(
+                self.block()?,
+            )),
             _ => Ok(BlockStmtOrExpr::Expr(self.take()?)),
         }
     }
 
     /// An item of an object literal.
-    fn prop(&mut self, word: Word<'a>) -> Result<Option<PropNode<Hooked>>, Fail> {
+    fn prop(&mut self, word: &Word) -> Result<Option<PropNode<Hooked>>, Fail> {
         let span = word.span;
-        Ok(Some(match word.kind {
+        Ok(Some(match word.kind.as_str() {
             "Spread" => {
                 let (dot3_token, expr) = self.take()?;
                 let spread = SpreadElement {
@@ -282,10 +285,10 @@ impl<'a> Builder<'a> {
     }
 
     /// A property with a block.
-    fn method(&mut self, word: Word<'a>) -> Result<PropNode<Hooked>, Fail> {
+    fn method(&mut self, word: &Word) -> Result<PropNode<Hooked>, Fail> {
         let span = word.span;
         let body = self.block()?;
-        match word.kind {
+        match word.kind.as_str() {
             "Getter" => {
                 let key = self.key()?;
                 Ok(PropNode::Getter { span, key, body })
@@ -317,9 +320,9 @@ impl<'a> Builder<'a> {
     }
 
     /// An item of an object pattern.
-    fn pat_prop(&mut self, word: Word<'a>) -> Result<Option<PatPropNode>, Fail> {
+    fn pat_prop(&mut self, word: &Word) -> Result<Option<PatPropNode>, Fail> {
         let span = word.span;
-        Ok(Some(match word.kind {
+        Ok(Some(match word.kind.as_str() {
             "PatKeyValue" => {
                 let value = self.take()?;
                 let key = self.key()?;
@@ -343,9 +346,9 @@ impl<'a> Builder<'a> {
     }
 
     /// A node with a list, or a link.
-    fn node(&mut self, word: Word<'a>) -> Result<HookedNode, Fail> {
+    fn node(&mut self, word: &Word) -> Result<HookedNode, Fail> {
         let span = word.span;
-        Ok(match word.kind {
+        Ok(match word.kind.as_str() {
             "Array" => {
                 let elems = self.take_list(word)?;
                 Node::Array {
@@ -384,9 +387,9 @@ impl<'a> Builder<'a> {
     }
 
     /// A call or an arrow function.
-    fn link(&mut self, word: Word<'a>) -> Result<HookedNode, Fail> {
+    fn link(&mut self, word: &Word) -> Result<HookedNode, Fail> {
         let span = word.span;
-        Ok(match word.kind {
+        Ok(match word.kind.as_str() {
             "SuperProp" => Node::SuperProp(self.super_prop(span)?),
             "Call" => {
                 let args = self.take_list(word)?;
@@ -414,7 +417,7 @@ impl<'a> Builder<'a> {
                     span,
                     params,
                     body,
-                    is_async: word.kind == "AsyncArrow",
+                    is_async: word.kind.as_str() == "AsyncArrow",
                 }
             }
             _ => return self.operation(word),
@@ -422,9 +425,9 @@ impl<'a> Builder<'a> {
     }
 
     /// A unary or binary operation.
-    fn operation(&mut self, word: Word<'a>) -> Result<HookedNode, Fail> {
+    fn operation(&mut self, word: &Word) -> Result<HookedNode, Fail> {
         let span = word.span;
-        Ok(match word.kind {
+        Ok(match word.kind.as_str() {
             "Unary" => {
                 let op = operator(word, &[("!", UnaryOp::Bang), ("typeof", UnaryOp::TypeOf)])?;
                 let arg = self.take()?;
@@ -436,7 +439,7 @@ impl<'a> Builder<'a> {
                     word,
                     &[("++", UpdateOp::PlusPlus), ("--", UpdateOp::MinusMinus)],
                 )?,
-                prefix: word.kind == "Prefix",
+                prefix: word.kind.as_str() == "Prefix",
                 arg: self.take()?,
             },
             "Bin" => {
@@ -458,9 +461,9 @@ impl<'a> Builder<'a> {
     }
 
     /// Another node with one part to three.
-    fn wrapping(&mut self, word: Word<'a>) -> Result<HookedNode, Fail> {
+    fn wrapping(&mut self, word: &Word) -> Result<HookedNode, Fail> {
         let span = word.span;
-        Ok(match word.kind {
+        Ok(match word.kind.as_str() {
             "Cond" => {
                 let alt = self.take()?;
                 let cons = self.take()?;
@@ -482,7 +485,7 @@ impl<'a> Builder<'a> {
             }
             "Yield" | "YieldStar" => {
                 let arg = self.take()?;
-                let delegate = word.kind == "YieldStar";
+                let delegate = word.kind.as_str() == "YieldStar";
                 Node::Yield {
                     span,
                     arg,
@@ -505,9 +508,9 @@ impl<'a> Builder<'a> {
     }
 
     /// An assignment, or a pattern with parts.
-    fn assignment(&mut self, word: Word<'a>) -> Result<HookedNode, Fail> {
+    fn assignment(&mut self, word: &Word) -> Result<HookedNode, Fail> {
         let span = word.span;
-        Ok(match word.kind {
+        Ok(match word.kind.as_str() {
             "Assign" => {
                 let op = operator(
                     word,
@@ -542,9 +545,9 @@ impl<'a> Builder<'a> {
 }
 
 /// The operator that is the argument of the word.
-fn operator<T: Copy>(word: Word<'_>, operators: &[(&str, T)]) -> Result<T, Fail> {
+fn operator<T: Copy>(word: &Word, operators: &[(&str, T)]) -> Result<T, Fail> {
     for (text, operator) in operators {
-        if *text == word.argument {
+        if *text == word.argument.as_str() {
             return Ok(*operator);
         }
     }
@@ -552,7 +555,7 @@ fn operator<T: Copy>(word: Word<'_>, operators: &[(&str, T)]) -> Result<T, Fail>
 }
 
 /// What a hook read there, of as many tokens as the word says.
-fn hooked(word: Word<'_>) -> Result<Hooked, Fail> {
+fn hooked(word: &Word) -> Result<Hooked, Fail> {
     Ok(Hooked {
         span: word.span,
         count: word.count()?,
@@ -567,13 +570,13 @@ fn name_of(ident: Ident) -> IdentName {
 }
 
 /// A node without parts.
-fn leaf(alloc: Global, word: Word<'_>) -> Result<HookedNode, Fail> {
+fn leaf(alloc: Global, word: &Word) -> Result<HookedNode, Fail> {
     let span = word.span;
-    Ok(match word.kind {
+    Ok(match word.kind.as_str() {
         "this" => Node::This(at(ThisExpr { span }, span)?),
         "null" => Node::Null(at(Null { span }, span)?),
         "true" | "false" => {
-            let value = word.kind == "true";
+            let value = word.kind.as_str() == "true";
             Node::Bool(at(Bool { span, value }, span)?)
         }
         "new.target" => {
@@ -589,7 +592,7 @@ fn leaf(alloc: Global, word: Word<'_>) -> Result<HookedNode, Fail> {
         "Invalid" => Node::Invalid(at(Invalid { span }, span)?),
         "PatInvalid" => Node::PatInvalid(at(Invalid { span }, span)?),
         "PatIdent" => {
-            let sym = Atom::new(alloc, word.argument)?;
+            let sym = Atom::new(alloc, word.argument.as_str())?;
             let id = Ident { span, sym };
             Node::PatIdent(at(BindingIdent { id }, span)?)
         }
@@ -597,7 +600,7 @@ fn leaf(alloc: Global, word: Word<'_>) -> Result<HookedNode, Fail> {
     })
 }
 
-fn ident_of(alloc: Global, word: Word<'_>) -> Result<Ident, Fail> {
+fn ident_of(alloc: Global, word: &Word) -> Result<Ident, Fail> {
     match written(alloc, word)? {
         Spelled::Ident(ident) => Ok(ident),
         _ => Err(Fail::new("no identifier")),
@@ -634,9 +637,9 @@ impl Spelled {
 }
 
 /// A name or a literal, with a dot before it or not.
-fn written(alloc: Global, word: Word<'_>) -> Result<Spelled, Fail> {
+fn written(alloc: Global, word: &Word) -> Result<Spelled, Fail> {
     let span = word.span;
-    let text = word.kind.trim_start_matches('.');
+    let text = word.kind.as_str().trim_start_matches('.');
     let raw = Atom::new(alloc, text)?;
     Ok(match text.chars().next() {
         Some('\'') => {

@@ -1,5 +1,6 @@
 // What waits, in the notation of nodes, for the node that takes it.
 use crate::tokens::span_of;
+use std::alloc::Global;
 use std::test::Fail;
 use swc_ast::expr::ExprOrSpread;
 use swc_ast::function::Param;
@@ -8,28 +9,31 @@ use swc_context::span::Span;
 use swc_nodes::node::{ExprId, PatId};
 
 /// A word of the notation: `Bin(+)@0..5` has the kind `Bin`, the argument `+` and a place.
-#[derive(Clone, Copy)]
-pub(crate) struct Word<'a> {
-    pub(crate) kind: &'a str,
-    pub(crate) argument: &'a str,
+#[derive(Drop)]
+pub(crate) struct Word {
+    pub(crate) kind: String,
+    pub(crate) argument: String,
     pub(crate) span: Span,
 }
 
 /// The word that is written so.
-pub(crate) fn word_of(text: &str) -> Option<Word<'_>> {
-    let (head, place) = text.rsplit_once('@')?;
+pub(crate) fn word_of(alloc: Global, text: &str) -> Result<Word, Fail> {
+    let (head, place) = text.rsplit_once('@').ok_or("no word")?;
     let (kind, argument) = head.split_once('(').unwrap_or((head, ""));
-    Some(Word {
+    let span = span_of(place).ok_or("no word")?;
+    let kind = String::from_str(alloc, kind)?;
+    let argument = String::from_str(alloc, argument.trim_end_matches(')'))?;
+    Ok(Word {
         kind,
-        argument: argument.trim_end_matches(')'),
-        span: span_of(place)?,
+        argument,
+        span,
     })
 }
 
-impl Word<'_> {
+impl Word {
     /// The number that is its argument.
-    pub(crate) fn count(self) -> Result<usize, Fail> {
-        Ok(self.argument.parse().ok().ok_or("no number")?)
+    pub(crate) fn count(&self) -> Result<usize, Fail> {
+        Ok(self.argument.as_str().parse().ok().ok_or("no number")?)
     }
 }
 

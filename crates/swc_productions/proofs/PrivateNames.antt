@@ -5,6 +5,7 @@ use Rattle.swc_context.specs.Spans.{between}
 use Rattle.swc_context.specs.declared.error.Error.{Error}
 use Rattle.swc_context.specs.declared.error.SyntaxError.{SyntaxError}
 use Rattle.swc_context.specs.declared.error.SyntaxError.TheVariants as kind
+use Rattle.swc_context.specs.declared.error.Wanted.{Wanted}
 use Rattle.swc_context.specs.declared.span.BytePos.{BytePos}
 use Rattle.swc_context.specs.declared.span.Span.{Span}
 use Rattle.swc_context.proofs.Spans.{same_position}
@@ -68,9 +69,9 @@ nothing : {A : Type 0} (b : Bool) (o : Out A) → o ≡ None → (if b then o el
 nothing true o h = h
 nothing false o h = refl
 
-expected_kind : (k : SyntaxError) (text : List ℕ) → expects k ≡ Some text → k ≢ kind.ParserFailed
-expected_kind (kind.Expected t) text h e = cc
-expected_kind k text h e = cc
+expected_kind : (k : SyntaxError) (what : Wanted) → expects k ≡ Some what → k ≢ kind.ParserFailed
+expected_kind (kind.Expected t) what h e = cc
+expected_kind k what h e = cc
 
 module _ {S : Type 0} {model : Model S} where
   -- a name that any word is has no faults, so it ends where the token consumed last does

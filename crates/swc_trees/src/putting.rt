@@ -25,7 +25,7 @@ pub fn put_expr<F: Spanned + Drop, C: Spanned + Drop, K: Spanned + Drop>(
     ensures grows { Grows nodes.old nodes.new }
     ensures made { IfOk result (λ id. Made (count nodes.old) nodes.new (expr_part id) (boxed_in nodes.old expr)) }
 {
-    Ok(ExprId(put(nodes, alloc, &mut Built::Expr(expr))?))
+    Ok(ExprId(put_whole(nodes, alloc, Built::Expr(expr))?))
 }
 
 /// Moves a pattern into the nodes, and answers its number.
@@ -37,7 +37,20 @@ pub fn put_pat<F: Spanned + Drop, C: Spanned + Drop, K: Spanned + Drop>(
     ensures grows { Grows nodes.old nodes.new }
     ensures made { IfOk result (λ id. Made (count nodes.old) nodes.new (pat_part id) (pat_in nodes.old pat)) }
 {
-    Ok(PatId(put(nodes, alloc, &mut Built::Pat(pat))?))
+    Ok(PatId(put_whole(nodes, alloc, Built::Pat(pat))?))
+}
+
+/// Puts in a tree, and lets go of what is left of it.
+fn put_whole<F: Spanned + Drop, C: Spanned + Drop, K: Spanned + Drop>(
+    nodes: &mut Nodes<F, C, K>,
+    alloc: Global,
+    tree: Built<F, C, K>,
+) -> Result<usize, AllocError>
+    ensures { PutsIn (λ i. numbered (built_view tree ∷ []) (i ∷ []))
+        (λ at i. at i ≡ built_tree F.place C.place K.place tree) nodes.old result nodes.new }
+{
+    let mut tree = tree;
+    put(nodes, alloc, &mut tree)
 }
 
 /// Puts in a tree: its parts first, and then its node, in which the numbers of those take the place of theirs in the

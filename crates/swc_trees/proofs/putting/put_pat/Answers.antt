@@ -4,4 +4,4 @@ use Rattle.swc_trees.specs.Splitting.{part}
 use Rattle.swc_trees.proofs.putting.put_pat.Goals as goal
 
 pub returns : goal.returns
-returns g c = record { grows = c.in_ok-put.ensures.grows; made = puts-made (part pat) c.in_ok-put.ensures }
+returns g c = record { grows = c.in_ok-put_whole.ensures.grows; made = puts-made (part pat) c.in_ok-put_whole.ensures }

@@ -1,4 +1,5 @@
 use Rattle.std.proofs.Common.{refl, sym, ap, ◌∙◌}
+use Rattle.std.proofs.lemmas.Result.{err_from_is_err_and}
 use Rattle.swc_input.specs.Kinds.{at_token}
 use Rattle.swc_bodies.specs.Readings.{is_brace}
 use Rattle.swc_productions.specs.Parsing.{by_hook}
@@ -6,6 +7,11 @@ use Rattle.swc_productions.proofs.Hearing as hearing
 use Rattle.swc_productions.proofs.Keys as key
 use Rattle.swc_productions.proofs.Steps as s
 use Rattle.swc_productions.proofs.productions.Productions.parse_block.Goals as goal
+
+pub returns-in_err-look-clause-reads : goal.returns-in_err-look-clause-reads
+returns-in_err-look-clause-reads g c =
+    let p = err_from_is_err_and c.from_residual.result c.from_residual.ensures.1 in rw (p.1, p.2)
+    (s.unheard_memory c.in_err-look.ensures.looks)
 
 pub returns-then-not-is_lbrace-clause-reads : goal.returns-then-not-is_lbrace-clause-reads
 returns-then-not-is_lbrace-clause-reads g c =

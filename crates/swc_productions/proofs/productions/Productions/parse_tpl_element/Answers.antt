@@ -9,6 +9,11 @@ use Rattle.swc_productions.proofs.Steps as s
 use Rattle.swc_productions.proofs.Templates as tpl
 use Rattle.swc_productions.proofs.productions.Productions.parse_tpl_element.Goals as goal
 
+pub returns-in_err-look-clause-parses : goal.returns-in_err-look-clause-parses
+returns-in_err-look-clause-parses g c =
+    let p = err_from_is_err_and c.from_residual.result c.from_residual.ensures.1 in λ sure. rw (p.1, p.2)
+    (s.unheard_memory c.in_err-look.ensures.looks)
+
 pub returns-then-not-is_template-clause-parses : goal.returns-then-not-is_template-clause-parses
 returns-then-not-is_template-clause-parses g c = λ sure.
     s.unheard_at c.in_ok-look.ensures.looks (λ x ts same e. tpl.element_not c.args.is_tagged x ts
