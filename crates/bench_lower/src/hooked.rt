@@ -1,4 +1,5 @@
 // What a hook reads, in the rows of nodes.
+use swc_ast::expr::Expr;
 use swc_ast::spanned::Spanned;
 use swc_context::span::Span;
 use swc_nodes::node::Node;
@@ -25,6 +26,8 @@ impl Kept for Hooked {
         self.count
     }
 }
+
+pub(crate) type HookedExpr = Expr<Hooked, Hooked, Hooked>;
 
 pub(crate) type HookedNode = Node<Hooked, Hooked, Hooked>;
 

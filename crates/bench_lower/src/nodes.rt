@@ -1,5 +1,5 @@
 // Trees of each kind of node: their texts and places, and which of them may be assigned to.
-use crate::hooked::{Hooked, HookedNodes};
+use crate::hooked::{Hooked, HookedExpr, HookedNodes};
 use crate::notation::nodes_of;
 use crate::rows::{Row, Subject, answers, row_of};
 use crate::tokens::span_of;
@@ -10,6 +10,7 @@ use swc_ast::target::ExprExt;
 use swc_context::span::Span;
 use swc_nodes::node::{ExprId, PatId};
 use swc_print::print::{Kept, PrintNodes};
+use swc_trees::letting_go::let_go;
 use swc_trees::putting::{put_expr, put_pat};
 use swc_trees::taking::{take_expr, take_pat};
 
@@ -213,6 +214,23 @@ where
     Ok(answer)
 }
 
+/// What the calls answer of an expression that has the text and the place.
+fn answer_of_tree(
+    alloc: Global,
+    text: &str,
+    place: Span,
+    tree: &Box<HookedExpr>,
+    calls: &str,
+) -> Result<String, Fail> {
+    let mut boxed = Asked { text, place, tree };
+    let mut plain = Asked {
+        text,
+        place,
+        tree: &**tree,
+    };
+    answer_of(alloc, &mut boxed, &mut plain, calls)
+}
+
 fn of_expr(
     alloc: Global,
     nodes: &mut HookedNodes,
@@ -223,23 +241,30 @@ fn of_expr(
         return Err(Fail::new("no expression"));
     }
     let text = nodes.print_expr(alloc, id)?;
-    let text = text.as_str();
     let place = nodes.span(id);
     let tree = take_expr(nodes, alloc, id)?;
-    let mut boxed = Asked {
-        text,
-        place,
-        tree: &tree,
-    };
-    let mut plain = Asked {
-        text,
-        place,
-        tree: &*tree,
-    };
-    let answer = answer_of(alloc, &mut boxed, &mut plain, calls)?;
+    match answer_of_tree(alloc, text.as_str(), place, &tree, calls) {
+        Ok(answer) => {
+            put_back(alloc, nodes, tree, text.as_str())?;
+            Ok(answer)
+        }
+        Err(fail) => {
+            let_go(tree);
+            Err(fail)
+        }
+    }
+}
+
+/// Puts the tree back into the nodes, where it has to be printed as before.
+fn put_back(
+    alloc: Global,
+    nodes: &mut HookedNodes,
+    tree: Box<HookedExpr>,
+    text: &str,
+) -> Result<(), Fail> {
     let again = put_expr(nodes, alloc, tree)?;
     if nodes.print_expr(alloc, again)?.as_str() == text {
-        Ok(answer)
+        Ok(())
     } else {
         Err(Fail::new("another tree when put back"))
     }
