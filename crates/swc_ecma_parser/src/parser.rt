@@ -9,6 +9,8 @@ ghost use Rattle.swc_ecma_parser.specs.Calls.{buffer_of, nodes_of, commas_of, wi
 ghost use Rattle.swc_ecma_parser.specs.Calls.{wants_memory, found_import};
 ghost use Rattle.swc_ecma_parser.specs.Calls.{parser_failed, Called, SeesEnd, MovesOut};
 ghost use Rattle.swc_ecma_parser.specs.Promise.{Promised, PromisedLit, in_boxes, by_number};
+ghost use Rattle.std.specs.Borrow.{sem, follows};
+ghost use Rattle.swc_ecma_parser.specs.contracts.parser.Parser.{the_row};
 
 use crate::taking::Take;
 use std::alloc::Global;
@@ -75,11 +77,14 @@ impl<I: Tokens, B: Bodies<I>> Parser<I, B> {
         }
     }
 
-    /// The source.
+    /// The source. What is written to it through the answer, and that alone, changes the parser.
     pub fn input(&mut self) -> &mut I
+        ensures* lent { sem 𝓛 (follows (the_row I.row B.row B.Fun.row B.Class.row B.Block.row B.Fun.Spanned
+            B.Class.Spanned B.Block.Spanned) I.row self.entry.ghost_name result.ghost_name
+            (λ s. with_buffer (with_source s (buffer_of self.old)) self.old)) }
         ensures value { result.now ≡ source (buffer_of self.old) }
     {
-        self.productions.input.input()
+        self.productions.source()
     }
 
     /// Hands out the faults that were recorded, and none that wait for the context to become a module.

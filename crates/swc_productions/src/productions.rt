@@ -11,6 +11,9 @@ ghost use Rattle.swc_grammar.specs.Clean.{is_lit, is_identifier};
 ghost use Rattle.swc_productions.specs.Keys.{is_key_lit};
 ghost use Rattle.swc_productions.specs.Parsing.{is_strict, seen, Looks};
 ghost use Rattle.swc_grammar.specs.Tokens.{begins_regex};
+ghost use Rattle.std.specs.Borrow.{sem, follows};
+ghost use Rattle.swc_input.specs.Buffer.{source as source_of, with_source};
+ghost use Rattle.swc_productions.specs.contracts.productions.Productions.{the_row};
 
 use crate::moves::look;
 use crate::regex::{is_regex, is_slash};
@@ -59,6 +62,16 @@ impl<I: Tokens, B: Bodies<I>> Productions<I, B> {
         ensures nodes { self.new.nodes ≡ self.old.nodes }
     {
         Ok(!look(&mut self.input)?)
+    }
+
+    /// The source. What is written to it through the answer, and that alone, changes the productions.
+    pub fn source(&mut self) -> &mut I
+        ensures* lent { sem 𝓛 (follows (the_row I.row B.row B.Fun.row B.Class.row B.Block.row B.Fun.Spanned
+            B.Class.Spanned B.Block.Spanned) I.row self.entry.ghost_name result.ghost_name
+            (λ s. record self.old { input = with_source s self.old.input })) }
+        ensures value { result.now ≡ source_of self.old.input }
+    {
+        self.input.input()
     }
 
     /// The place of the current token, where it is known already, or else of the token consumed last.
