@@ -49,10 +49,19 @@ pub type PatOf<B> = Pat<<B as BodyForms>::Fun, <B as BodyForms>::Class, <B as Bo
 /// answered, unless memory is wanted (`complete`); no other is derived from all tokens
 /// (`one_tree`); operators group by their precedence (`grouped`), and no `Invalid` stands in for
 /// what was refused (`valid`).
-#[derive(Drop)]
 pub struct Parser<I: Tokens, B: Bodies<I>> {
     productions: Productions<I, B>,
     failed: bool,
+}
+
+// Not derived: so letting go of a parser is a call, and is proved here alone.
+impl<I: Tokens, B: Bodies<I>> Drop for Parser<I, B> {
+    fn drop(self) {
+        let Parser {
+            productions: _,
+            failed: _,
+        } = self;
+    }
 }
 
 impl<I: Tokens, B: Bodies<I>> Parser<I, B> {
@@ -130,15 +139,7 @@ impl<I: Tokens, B: Bodies<I>> Parser<I, B> {
             productions,
             failed: _,
         } = self;
-        let Productions {
-            alloc: _,
-            input: _,
-            nodes,
-            bodies: _,
-            commas: _,
-            found_module_item: _,
-        } = productions;
-        nodes
+        productions.into_nodes()
     }
 
     /// Lets go of all nodes: the numbers that there were stand for nothing from now on.

@@ -27,13 +27,24 @@ use swc_context::span::{BytePos, Span};
 ///
 /// Looks take tokens from the source and consume none. A `None` of a look is the end, or want of
 /// memory where the source has `failed`; `Buffer::has_cur` tells these apart.
-#[derive(Drop)]
 pub struct Buffer<I> {
     pub(crate) iter: I,
     /// The place of the token that was consumed last.
     pub(crate) prev_span: Span,
     pub(crate) cur: Option<TokenAndSpan>,
     pub(crate) next: Option<TokenAndSpan>,
+}
+
+// Not derived: so letting go of a buffer is a call, and is proved here alone.
+impl<I: Drop> Drop for Buffer<I> {
+    fn drop(self) {
+        let Buffer {
+            iter: _,
+            prev_span: _,
+            cur: _,
+            next: _,
+        } = self;
+    }
 }
 
 /// Puts a token in a place. (Letting go of what stood there has a case for each kind of token.)

@@ -10,7 +10,6 @@ use swc_context::error::Error;
 use swc_context::span::BytePos;
 
 /// A source that gives the tokens of a list.
-#[derive(Drop)]
 pub struct TokensInput {
     rest: VecDeque<TokenAndSpan>,
     context: Context,
@@ -21,6 +20,22 @@ pub struct TokensInput {
     errors: Vec<Error>,
     module_errors: Vec<Error>,
     ghost none_waits: { context.module ≡ true → vec_len module_errors ≡ 0 },
+}
+
+// Not derived: so letting go of a list's source is a call, and is proved here alone.
+impl Drop for TokensInput {
+    fn drop(self) {
+        let TokensInput {
+            rest: _,
+            context: _,
+            syntax: _,
+            target: _,
+            start: _,
+            contexts: _,
+            errors: _,
+            module_errors: _,
+        } = self;
+    }
 }
 
 impl TokensInput {

@@ -8,9 +8,15 @@ use swc_context::span::{BytePos, Span};
 
 /// The places of commas behind the last element of an array literal, or the last property of an object literal
 /// (ECMA-262, 13.2.4 and 13.2.5), by the places where the literals begin. Trees in boxes don't hold them.
-#[derive(Drop)]
 pub struct TrailingCommas {
     by_start: BTreeMap<u32, Span>,
+}
+
+// Not derived: so letting go of the places is a call, and is proved here alone.
+impl Drop for TrailingCommas {
+    fn drop(self) {
+        let TrailingCommas { by_start: _ } = self;
+    }
 }
 
 impl TrailingCommas {

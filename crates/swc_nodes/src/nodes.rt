@@ -12,10 +12,16 @@ use swc_bodies::bodies::BodyForms;
 /// the part before it, in the order of the source, so no node is a part of two.
 ///
 /// A number keeps its tree as nodes are appended. Letting go of nodes takes no recursion over trees.
-#[derive(Drop)]
 pub struct Nodes<F: Spanned, C: Spanned, K: Spanned> {
     nodes: Vec<Node<F, C, K>>,
     ghost in_order: { ordered F.place C.place K.place [] nodes.items ≡ true },
+}
+
+// Not derived: so letting go of nodes is a call, and is proved here alone.
+impl<F: Spanned + Drop, C: Spanned + Drop, K: Spanned + Drop> Drop for Nodes<F, C, K> {
+    fn drop(self) {
+        let Nodes { nodes: _ } = self;
+    }
 }
 
 /// Nodes over a hook's values.

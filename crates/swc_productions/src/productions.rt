@@ -36,7 +36,6 @@ use swc_nodes::nodes::NodesOf;
 /// `Parser` of swc_ecma_parser stands over them, and says of its calls what the productions of the
 /// same names record and refuse, and where. A production doesn't ask whether an earlier one wanted
 /// memory: that is left to its caller.
-#[derive(Drop)]
 pub struct Productions<I: Tokens, B: Bodies<I>> {
     /// Where names are put.
     pub alloc: Global,
@@ -52,7 +51,36 @@ pub struct Productions<I: Tokens, B: Bodies<I>> {
     pub found_module_item: bool,
 }
 
+// Not derived: so letting go of a parser's parts is a call, and is proved here alone.
+impl<I: Tokens, B: Bodies<I>> Drop for Productions<I, B> {
+    fn drop(self) {
+        let Productions {
+            alloc: _,
+            input: _,
+            nodes: _,
+            bodies: _,
+            commas: _,
+            found_module_item: _,
+        } = self;
+    }
+}
+
 impl<I: Tokens, B: Bodies<I>> Productions<I, B> {
+    /// The nodes. The rest is let go.
+    pub fn into_nodes(self) -> NodesOf<B>
+        ensures { result ≡ self.nodes }
+    {
+        let Productions {
+            alloc: _,
+            input: _,
+            nodes,
+            bodies: _,
+            commas: _,
+            found_module_item: _,
+        } = self;
+        nodes
+    }
+
     /// Whether no token is left. Consumes nothing, and is refused for want of memory alone.
     pub fn is_end(&mut self) -> PResult<bool>
         ensures looks { Looks I.model self.old.input result self.new.input }
