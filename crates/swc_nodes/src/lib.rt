@@ -6,6 +6,7 @@
 #![tactic(auto)]
 
 pub mod apart;
+pub mod aside;
 pub mod commas;
 pub mod making;
 pub mod node;

@@ -13,6 +13,7 @@ use std::alloc::{AllocError, Global};
 use swc_ast::expr::Expr;
 use swc_ast::pat::Pat;
 use swc_ast::spanned::Spanned;
+use swc_nodes::aside::Aside;
 use swc_nodes::node::{ExprId, PatId};
 use swc_nodes::nodes::Nodes;
 
@@ -49,8 +50,8 @@ fn put_whole<F: Spanned + Drop, C: Spanned + Drop, K: Spanned + Drop>(
     ensures { PutsIn (λ i. numbered (built_view tree ∷ []) (i ∷ []))
         (λ at i. at i ≡ built_tree F.place C.place K.place tree) nodes.old result nodes.new }
 {
-    let mut tree = tree;
-    put(nodes, alloc, &mut tree)
+    let mut tree = Aside(tree);
+    put(nodes, alloc, &mut tree.0)
 }
 
 /// Puts in a tree: its parts first, and then its node, in which the numbers of those take the place of theirs in the
@@ -65,10 +66,10 @@ fn put<F: Spanned + Drop, C: Spanned + Drop, K: Spanned + Drop>(
         (λ at i. at i ≡ built_tree F.place C.place K.place tree.old) nodes.old result nodes.new }
 {
     let mut parts = Vec::new(alloc);
-    let mut node = split(alloc, &mut parts, tree)?;
+    let mut node = Aside(split(alloc, &mut parts, tree)?);
     let numbers = put_all(nodes, alloc, &mut parts)?;
-    node.renumber(&numbers);
-    nodes.push(node)
+    node.0.renumber(&numbers);
+    nodes.push(node.into_inner())
 }
 
 /// Puts in the trees of a list, and answers their numbers.

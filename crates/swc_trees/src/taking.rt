@@ -23,6 +23,7 @@ use swc_ast::pat::Pat;
 use swc_ast::prop::{ComputedPropName, PropName, PropOrSpread};
 use swc_ast::spanned::Spanned;
 use swc_nodes::apart::{PartId, parts_of};
+use swc_nodes::aside::Aside;
 use swc_nodes::node::{ExprId, Node, PatId, PropNode, TargetNode};
 use swc_nodes::nodes::Nodes;
 
@@ -92,9 +93,10 @@ pub fn take_prop<F: Spanned + Drop, C: Spanned + Drop, K: Spanned + Drop>(
     ensures moved { IfOk result
         (λ p. prop_or_spread_in nodes.old p ≡ prop_node_as nodes.old (bare_at nodes.old) prop) }
 {
-    let parts = parts_of(alloc, &prop)?;
+    let prop = Aside(prop);
+    let parts = parts_of(alloc, &prop.0)?;
     let mut built = take_all(nodes, alloc, parts)?;
-    prop.assemble(alloc, &mut built)
+    prop.into_inner().assemble(alloc, &mut built)
 }
 
 /// Moves arguments of a call out of the nodes, and lets go of all behind them.
@@ -140,10 +142,10 @@ fn take<F: Spanned + Drop, C: Spanned + Drop, K: Spanned + Drop>(
     ensures { TakesOut (part_of part ∷ [])
         (λ at y. IsFor F.place C.place K.place at (part_of part) y) nodes.old result nodes.new }
 {
-    let node = nodes.pop_at(part.number());
-    let parts = parts_of(alloc, &node)?;
+    let node = Aside(nodes.pop_at(part.number()));
+    let parts = parts_of(alloc, &node.0)?;
     let built = take_all(nodes, alloc, parts)?;
-    assemble(alloc, part, node, built)
+    assemble(alloc, part, node.into_inner(), built)
 }
 
 /// Takes out parts of a node, the last first.

@@ -1,22 +1,25 @@
-use Rattle.std.proofs.Common.{arith, rules}
+use Rattle.std.proofs.Common.{IfOk, subst, arith, rules}
+use Rattle.swc_nodes.specs.Stands.{Added}
 use Rattle.swc_nodes.proofs.Standing.{grows-same, grows-then}
 use Rattle.swc_trees.proofs.Puts.{split-lighter, puts-refused, puts-node, node-apart, puts-appended, putting-starts, putting-weight, putting-more, putting-ends}
 use Rattle.swc_trees.proofs.putting.+putting.Goals as goal
 
 pub put-put_all-requires : goal.put-put_all-requires
-put-put_all-requires g t c κs within = let w = split-lighter g.F.Spanned.place g.C.Spanned.place g.K.Spanned.place c.new-parts.ensures.items c.in_ok-node.ensures in search rules
+put-put_all-requires g t c κs within = let w = split-lighter g.F.Spanned.place g.C.Spanned.place g.K.Spanned.place c.new-parts.ensures.items c.in_ok-split.ensures in search rules
 
-pub put-returns-in_err-node : goal.put-returns-in_err-node
-put-returns-in_err-node g t c = puts-refused _ c.from_residual.ensures.0 (grows-same c.args.nodes.now)
+pub put-returns-in_err-split : goal.put-returns-in_err-split
+put-returns-in_err-split g t c = puts-refused _ c.from_residual.ensures.0 (grows-same c.args.nodes.now)
 
 pub put-returns-in_err-numbers : goal.put-returns-in_err-numbers
 put-returns-in_err-numbers g t c = puts-refused _ c.from_residual-in_err-numbers.ensures.0 c.put_all.ensures.grows
 
 pub put-push-requires : goal.put-push-requires
-put-push-requires g t c = node-apart (puts-node c.new-parts.ensures.items c.in_ok-node.ensures c.in_ok-numbers.ensures c.renumber.ensures.renumbered c.renumber.ensures.form)
+put-push-requires g t c = rw c.into_inner.ensures (node-apart (puts-node c.new-parts.ensures.items c.in_ok-split.ensures c.in_ok-numbers.ensures c.renumber.ensures.renumbered c.renumber.ensures.form))
 
 pub put-returns : goal.put-returns
-put-returns g t c = puts-appended (puts-node c.new-parts.ensures.items c.in_ok-node.ensures c.in_ok-numbers.ensures c.renumber.ensures.renumbered c.renumber.ensures.form) c.push.ensures.grows c.push.ensures.added
+put-returns g t c =
+    puts-appended (puts-node c.new-parts.ensures.items c.in_ok-split.ensures c.in_ok-numbers.ensures c.renumber.ensures.renumbered c.renumber.ensures.form) c.push.ensures.grows
+    (subst (λ x. IfOk c.push.result (λ i. Added c.put_all.new.nodes c.push.new.self i x)) c.into_inner.ensures c.push.ensures.added)
 
 pub put_all-loop-tree-init : goal.put_all-loop-tree-init
 put_all-loop-tree-init g t c = putting-starts c.args.trees.now.items _ c.deref_mut-tree-items.ensures.value c.new-numbers.ensures.items

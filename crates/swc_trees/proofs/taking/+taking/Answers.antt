@@ -1,5 +1,6 @@
-use Rattle.std.proofs.Common.{◌≡◌, [], ◌∙◌, rules}
-use Rattle.swc_nodes.specs.Stands.{count}
+use Rattle.std.proofs.Common.{◌≡◌, [], sym, ap, subst, ◌∙◌, rules}
+use Rattle.swc_nodes.specs.Slots.{slots}
+use Rattle.swc_nodes.specs.Stands.{count, Popped}
 use Rattle.swc_nodes.specs.Walking.{part_of}
 use Rattle.swc_trees.proofs.Rebuilt.{one, wanted, seen, apart-flat, apart-slots, taken-seen, taken-all, popped-at, parts-refused, parts-kinds, popped-built}
 use Rattle.swc_trees.proofs.Taken.{popped-view, apart-within, taking-starts, next-apart, taking-grows, taking-more, taking-ends}
@@ -23,19 +24,22 @@ take_all-returns g t c =
 
 pub take-take_all-requires : goal.take-take_all-requires
 take-take_all-requires g t c κs within =
-    let e : count c.pop_at-node.new.self ≡ (part_of c.args.part).at = c.pop_at-node.ensures.counted ∙ c.number.ensures in
-    search (rules, e, apart-within (part_of c.args.part) c.requires, apart-slots c.pop_at-node.result c.in_ok-parts.parts.items c.in_ok-parts.ensures c.pop_at-node.ensures.apart)
+    let e : count c.pop_at.new.self ≡ (part_of c.args.part).at = c.pop_at.ensures.counted ∙ c.number.ensures in
+    search (rules, e, apart-within (part_of c.args.part) c.requires, apart-slots c.pop_at.result c.in_ok-parts.parts.items c.in_ok-parts.ensures c.pop_at.ensures.apart)
 
 pub take-returns-in_err-built : goal.take-returns-in_err-built
 take-returns-in_err-built g t c =
-    parts-refused _ c.from_residual-in_err-built.ensures.0 (part_of c.args.part) (popped-at (part_of c.args.part) c.number.ensures c.pop_at-node.ensures) c.in_ok-parts.ensures c.take_all.ensures
+    parts-refused _ c.from_residual-in_err-built.ensures.0 (part_of c.args.part) (popped-at (part_of c.args.part) c.number.ensures c.pop_at.ensures) c.in_ok-parts.ensures c.take_all.ensures
 
 pub take-assemble-requires-clause-view : goal.take-assemble-requires-clause-view
-take-assemble-requires-clause-view g t c = popped-view (part_of c.args.part) c.requires (popped-at (part_of c.args.part) c.number.ensures c.pop_at-node.ensures)
+take-assemble-requires-clause-view g t c = rw c.into_inner.ensures (popped-view (part_of c.args.part) c.requires (popped-at (part_of c.args.part) c.number.ensures c.pop_at.ensures))
 
 pub take-assemble-requires-clause-kinds : goal.take-assemble-requires-clause-kinds
-take-assemble-requires-clause-kinds g t c = parts-kinds c.pop_at-node.result c.in_ok-parts.ensures c.in_ok-built.ensures
+take-assemble-requires-clause-kinds g t c = rw c.into_inner.ensures (parts-kinds c.pop_at.result c.in_ok-parts.ensures c.in_ok-built.ensures)
 
 pub take-returns : goal.take-returns
 take-returns g t c =
-    popped-built (part_of c.args.part) (popped-at (part_of c.args.part) c.number.ensures c.pop_at-node.ensures) c.in_ok-parts.ensures c.in_ok-built.ensures c.assemble.ensures.kind c.assemble.ensures.tree
+    let same = sym c.into_inner.ensures in
+    let popped = popped-at (part_of c.args.part) c.number.ensures c.pop_at.ensures in
+    popped-built (part_of c.args.part) (subst (λ x. Popped c.args.nodes.now (part_of c.args.part).at x c.pop_at.new.self) same popped)
+    (c.in_ok-parts.ensures ∙ ap slots same) c.in_ok-built.ensures c.assemble.ensures.kind c.assemble.ensures.tree
