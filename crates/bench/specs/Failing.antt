@@ -1,11 +1,13 @@
 -- A source that gives the tokens of a list and then, in place of the end, fails: by its list, and by whether it has failed.
 use Rattle.std.specs.Prelude.{◌≡◌, ◌≤◌, Bool, false, true, List, [], ◌++◌, Option, Some, None, MatchOption, length}
 use Rattle.std.proofs.Common.{refl, sym, ap, subst, ◌∙◌, arith}
+use Rattle.swc_context.specs.declared.context.TokenContexts.{TokenContexts}
 use Rattle.swc_input.specs.Laws.{keeps_same}
 use Rattle.swc_input.specs.declared.listed.TokensInput.{TokensInput}
 use Rattle.swc_input.specs.declared.token.TokenAndSpan.{TokenAndSpan}
 use Rattle.swc_input.specs.Listed.{listed_state, ListedGives, NextListed, listed_lawful, listed_none, listed_joins, listed_asked}
-use Rattle.swc_input.specs.Source.{Source, Model, Laws, IsLawful, Keeping, Gave, Asked}
+use Rattle.swc_input.specs.Source.{Source, Model, Laws, IsLawful, Keeping, Gave, Asked, Unmoved}
+use Rattle.bench.specs.declared.failing.FailingInput.{FailingInput}
 
 -- its end never comes, and its list isn't promised
 abbrev pub failing_state : TokensInput → Bool → Source
@@ -101,3 +103,14 @@ failing_asked list failed s None t n = elim (failed s) as (λ b. failed s ≡ b 
         };
       })
 ] refl
+
+-- a lexer's stack of contexts is no part of the state
+abbrev pub with_contexts : FailingInput → TokenContexts → FailingInput
+with_contexts s contexts = record s { list = record s.list { contexts = contexts } }
+
+pub failing_unmoved : (s : FailingInput) (contexts : TokenContexts) →
+    Unmoved (failing_model (λ (v : FailingInput). v.list) (λ v. v.failed)) s (with_contexts s contexts)
+failing_unmoved s contexts = record {
+  gave = record { listed = record { list = refl; syntax = refl; target = refl }; failed = λ f. (refl, f) };
+  state = refl;
+}

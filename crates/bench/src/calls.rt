@@ -100,6 +100,10 @@ parse_expr; parse_binding_ident | script hook_refuses | {*m() { yield | refused:
 parse_expr; parse_binding_ident | generator hook_refuses | {get m() { yield | refused: Unexpected 9..10 {; yield 11..16 | ExpectedIdent 11..16 | end
 parse_expr_id; count_nodes; parse_expr_id; count_nodes | script hook_refuses | [a, class b + function | refused: Unexpected 4..9 {; 0; Bin(+, b, Fn<0>) 10..22; 3 | TS1005 14..22 | end
 parse_expr; parse_expr | script hook_refuses failing | class | refused: OutOfMemory 5..5; refused: ParserFailed 0..5 | none | refused: ParserFailed 0..5
+parse_unary_expr; parse_expr | script hook_overlooks failing | class | refused: OutOfMemory 5..5; refused: ParserFailed 0..5 | none | refused: ParserFailed 0..5
+parse_unary_expr; parse_expr | script hook_overlooks failing | async function | refused: Unexpected 0..5 {; refused: OutOfMemory 14..14 | none | refused: ParserFailed 6..14
+parse_expr; parse_expr | script hook_overlooks failing | {m() { | refused: OutOfMemory 6..6; refused: ParserFailed 5..6 | none | refused: ParserFailed 5..6
+parse_expr | script hook_overlooks | {m() { | refused: Unexpected 5..6 { | none | end
 parse_expr; parse_expr; at_end | script hook_wants_memory | async function | refused: OutOfMemory 5..5; refused: ParserFailed 0..5; refused: ParserFailed 0..5 | none | refused: ParserFailed 0..5
 parse_expr; parse_expr | script hook_wants_memory | class * a | refused: OutOfMemory 5..5; refused: ParserFailed 0..5 | none | refused: ParserFailed 0..5
 parse_expr; parse_expr | script hook_wants_memory | [* a, - function | refused: OutOfMemory 16..16; refused: ParserFailed 8..16 | TS1109 1..2 | refused: ParserFailed 8..16
@@ -710,7 +714,7 @@ parse_expr; trailing_comma 0; trailing_comma 1 | script | [[], , ] | Array[Array
 parse_expr; trailing_comma 0 | script | {a, b : 1 , } | Object{a, b: 1} 0..13; 10..11 | none | end
 parse_expr; trailing_comma 0 | script | {a} | Object{a} 0..3; none | none | end
 parse_expr; trailing_comma 3; parse_expr; trailing_comma 3 | script | {@3..4 a@5..6 ,@6..7 }@7..8 {@3..4 }@8..9 | Object{a} 3..8; 6..7; Object{} 3..9; none | none | end
-parse_expr; trailing_comma 0; trailing_comma 1 | script | [[a, ], | refused: Eof 7..7; none; 3..4 | none | end
+parse_expr; trailing_comma 0; trailing_comma 1 | script | [[a, ], | refused: Eof 7..7; none; none | none | end
 trailing_comma 0; make_object 4..5; trailing_comma 0; trailing_comma 1 | script |  | none; Object{} 0..0; 4..5; none | none | end
 parse_expr; trailing_comma 0; make_object; trailing_comma 0 | script | [a, ] | Array[a] 0..5; 2..3; Object{} 0..0; none | none | end
 parse_formal_params | script | ) | none | none | 0..1
@@ -736,4 +740,21 @@ parse_module_export_name | script | a | a 0..1 | none | end
 parse_opt_binding_ident | script | a | a 0..1 | none | end
 parse_private_name | script | #a | #a 0..2 | none | end
 parse_maybe_private_name | script | #a | #a 0..2 | none | end
+parse_expr; set_ctx module | script | new await | New(await, -) 0..9; done | none | end
+parse_expr; set_ctx module | script | new let | New(let, -) 0..7; done | InvalidIdentInStrict 4..7 let, InvalidIdentInStrict 4..7 let | end
+parse_expr | script | a = + | Assign(=, a, Unary(+, Invalid)) 0..5 | TS1109 4..5 | end
+parse_expr | script | a = b ? c : + | Assign(=, a, Cond(b, c, Unary(+, Invalid))) 0..13 | TS1109 12..13 | end
+parse_expr | script | a = b * + | Assign(=, a, Bin(*, b, Unary(+, Invalid))) 0..9 | TS1109 8..9 | end
+parse_expr | script | a = +   ) | Assign(=, a, Unary(+, Invalid)) 0..5 | TS1109 8..9 | 8..9
+parse_expr | script | a, + | Seq(a, Unary(+, Invalid)) 0..4 | TS1109 3..4 | end
+parse_expr | script | ++*a, b | Seq(Bin(*, Invalid, a), b) 0..7 | TS1109 2..3 | end
+parse_expr | script | ++*a?b:c | Cond(Bin(*, Invalid, a), b, c) 0..8 | TS1109 2..3 | end
+parse_expr | script | ++ await + | Prefix(++, Await(Unary(+, Invalid))) 0..10 | TS1109 9..10, TS2406 3..10 | end
+parse_expr | generator | yield + | Yield(Unary(+, Invalid)) 0..7 | TS1109 6..7 | end
+parse_expr | script | ({a=+}) | Paren(Object{a = Unary(+, Invalid)}) 0..7 | TS1109 5..6, AssignProperty 2..5 | end
+parse_expr | script | (...a=+) | refused: SpreadInParenExpr 4..7 | TS1109 7..8 | end
+parse_expr | script | (...++*a?b:c) | refused: SpreadInParenExpr 4..12 | TS1109 6..7 | end
+parse_expr | script | a@0..1 =@2..3 +@4..5 E(Lex)@6..7 | Assign(=, a, Unary(+, Invalid)) 0..5 | Lex 6..7 | end
+parse_expr | script | (@6..7 a@5..6 )@4..5 (@2..3 a@1..2 )@0..1 | Call(Paren(a), [a]) 1..6 | none | end
+parse_expr_id | script | (@6..7 a@5..6 )@4..5 (@2..3 a@1..2 )@0..1 | Call(Paren(a), [a]) 1..6 | none | end
 parse_lit | script | 1 | 1 0..1 | none | end";

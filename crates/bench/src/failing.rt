@@ -50,11 +50,15 @@ impl Iterator for FailingInput {
 impl Tokens for FailingInput {
     ghost use Rattle.std.proofs.Common.{refl};
     ghost use Rattle.bench.specs.declared.failing.FailingInput.{FailingInput};
-    ghost use Rattle.bench.specs.Failing.{failing_model, failing_laws, failing_asked};
+    ghost use Rattle.bench.specs.Failing.{failing_model, with_contexts, failing_laws, failing_unmoved, failing_asked};
 
     ghost model = { failing_model (λ (s : FailingInput). s.list) (λ (s : FailingInput). s.failed) };
 
+    ghost with_contexts = { with_contexts };
+
     ghost laws = { failing_laws (λ (s : FailingInput). s.list) (λ (s : FailingInput). s.failed) };
+
+    ghost unmoved = { failing_unmoved };
 
     ghost may_ask = { λ s. tt };
 

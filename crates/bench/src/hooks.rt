@@ -1,4 +1,4 @@
-// A hook of the tests' own, which refuses, records a fault or wants memory.
+// A hook of the tests' own, which refuses, overlooks that the source failed, records a fault or wants memory.
 ghost use Rattle.std.specs.Prelude.{◌≡◌, ◌<◌, ◌∷◌, [], IsSome};
 ghost use Rattle.swc_context.specs.declared.span.Span.{Span};
 ghost use Rattle.swc_input.specs.declared.token.TokenAndSpan.{TokenAndSpan};
@@ -17,6 +17,8 @@ use swc_input::tokens::Tokens;
 enum Manner {
     /// Refuses the token, as `Unexpected` with `{`.
     Refuses,
+    /// Looks behind the token, and refuses it all the same, whether the source fails there or not.
+    Overlooks,
     /// Records `TS1005` at the token, and answers its place.
     Records,
     /// Refuses, for want of memory.
@@ -59,6 +61,7 @@ impl TestBodies {
     pub(crate) fn named(word: &str) -> Option<TestBodies> {
         match word {
             "hook_refuses" => Some(TestBodies::at_first(Manner::Refuses)),
+            "hook_overlooks" => Some(TestBodies::at_first(Manner::Overlooks)),
             "hook_records" => Some(TestBodies::at_first(Manner::Records)),
             "hook_wants_memory" => Some(TestBodies::at_first(Manner::WantsMemory)),
             _ => None,
@@ -93,6 +96,10 @@ fn answer<I: Tokens>(manner: Manner, input: &mut Buffer<I>) -> PResult<Span>
     let span = consume(input);
     match manner {
         Manner::Refuses => Err(Error::new(span, SyntaxError::Unexpected(Wanted::LBrace))),
+        Manner::Overlooks => {
+            let _ = input.had_line_break_before_cur();
+            Err(Error::new(span, SyntaxError::Unexpected(Wanted::LBrace)))
+        }
         Manner::Records => {
             input.emit_err(span, SyntaxError::TS1005)?;
             Ok(span)

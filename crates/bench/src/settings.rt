@@ -71,3 +71,25 @@ fn enter_function(context: &mut Context) {
     context.in_function = true;
     context.inside_non_arrow_function_scope = true;
 }
+
+/// Whether the context is that of the mode.
+fn is_mode(mode: &str, context: Context) -> bool {
+    setting_of(mode).is_some_and(|setting| setting.0 == context)
+}
+
+#[test]
+fn contexts_of_modes(_rt: HostRuntime) -> Result<(), Fail> {
+    let modes = [
+        ("script", Context::script()),
+        ("strict", Context::strict()),
+        ("module", Context::module()),
+        ("generator", Context::generator()),
+        ("async", Context::asynchronous()),
+    ];
+    for (mode, context) in modes {
+        if !is_mode(mode, context) {
+            return Err(Fail::new(format_args!("another context: {mode}")));
+        }
+    }
+    Ok(())
+}

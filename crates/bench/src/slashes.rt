@@ -1,6 +1,6 @@
 // A source of tokens that gives each slash by itself, and a regular expression on the hint.
-ghost use Rattle.std.specs.Prelude.{◌≤◌};
-ghost use Rattle.bench.specs.Slashes.{NextFrom, hinted_tokens};
+ghost use Rattle.std.specs.Prelude.{◌≡◌, ◌≤◌, Some};
+ghost use Rattle.bench.specs.Slashes.{NextFrom, TakesAt, hinted_tokens, index_at};
 ghost use Rattle.swc_input.specs.Source.{hint_brings};
 
 use crate::settings::setting_of;
@@ -42,7 +42,7 @@ impl SlashInput {
 
 /// The first token of the list that doesn't begin before the place. Those before it are dropped.
 fn next_from(list: &mut TokensInput, past: BytePos) -> Option<TokenAndSpan>
-    ensures { NextFrom list.old result list.new }
+    ensures { NextFrom past list.old result list.new }
 {
     while let Some(token) = list.next() {
         if token.span.lo.0 >= past.0 {
@@ -53,12 +53,20 @@ fn next_from(list: &mut TokensInput, past: BytePos) -> Option<TokenAndSpan>
 }
 
 /// Takes the token that begins at the place out of the tokens.
+#[tactic(auto, using(crate::specs::Slashes::taken_at, crate::specs::Slashes::none_at))]
 fn take_at(tokens: &mut Vec<TokenAndSpan>, start: Option<BytePos>) -> Option<TokenAndSpan>
-    ensures { hinted_tokens result ≤ hint_brings start }
+    ensures takes { TakesAt start tokens.old.items result tokens.new.items }
+    ensures one { hinted_tokens result ≤ hint_brings start }
 {
-    let start = start?;
-    let index = tokens.iter().position(|token| token.span.lo.0 == start.0)?;
+    let index = index_at(tokens, start?)?;
     Some(tokens.remove(index))
+}
+
+/// Where a token stands that begins at the place.
+fn index_at(tokens: &Vec<TokenAndSpan>, start: BytePos) -> Option<usize>
+    ensures { result ≡ index_at (Some start) tokens.now.items }
+{
+    tokens.iter().position(|token| token.span.lo.0 == start.0)
 }
 
 impl Iterator for SlashInput {
@@ -67,7 +75,7 @@ impl Iterator for SlashInput {
 
     type Item = TokenAndSpan;
 
-    ghost next_gives = { λ s r t. NextSlash s.list s.hinted s.ended r t.list t.hinted t.ended };
+    ghost next_gives = { NextSlash };
 
     ghost remaining = { λ s. at_most (tokens_left s.list s.hinted) };
 
@@ -87,19 +95,23 @@ impl Iterator for SlashInput {
 
 impl Tokens for SlashInput {
     ghost use Rattle.std.proofs.Common.{refl};
-    ghost use Rattle.bench.specs.declared.slashes.SlashInput.{SlashInput};
-    ghost use Rattle.bench.specs.Slashes.{slash_model, slash_laws, slash_asked};
+    ghost use Rattle.bench.specs.Slashes.{slash_model, with_contexts, slash_laws, slash_unmoved, slash_asked};
 
-    ghost model = { slash_model (λ (s : SlashInput). s.list) (λ s. s.hinted) (λ s. s.ended) };
+    ghost model = { slash_model };
 
-    ghost laws = { slash_laws (λ (s : SlashInput). s.list) (λ s. s.hinted) (λ s. s.ended) };
+    ghost with_contexts = { with_contexts };
+
+    ghost laws = { slash_laws };
+
+    ghost unmoved = { slash_unmoved };
 
     ghost may_ask = { λ s. tt };
 
     ghost ends = { λ s. refl };
 
-    ghost asked = { slash_asked (λ (s : SlashInput). s.list) (λ s. s.hinted) (λ s. s.ended) };
+    ghost asked = { slash_asked };
 
+    #[tactic(auto, using(crate::specs::Slashes::list_called))]
     fn set_ctx(&mut self, ctx: Context) -> Result<(), AllocError> {
         self.list.set_ctx(ctx)
     }
@@ -120,10 +132,12 @@ impl Tokens for SlashInput {
         self.list.start_pos()
     }
 
+    #[tactic(auto, using(crate::specs::Slashes::list_called))]
     fn set_expr_allowed(&mut self, allow: bool) {
         self.list.set_expr_allowed(allow);
     }
 
+    #[tactic(auto, using(crate::specs::Slashes::hint_given))]
     fn set_next_regexp(&mut self, start: Option<BytePos>) {
         self.hinted = take_at(&mut self.regexes, start);
     }
@@ -136,18 +150,22 @@ impl Tokens for SlashInput {
         self.list.token_context_mut()
     }
 
+    #[tactic(auto, using(crate::specs::Slashes::list_called))]
     fn set_token_context(&mut self, contexts: TokenContexts) {
         self.list.set_token_context(contexts);
     }
 
+    #[tactic(auto, using(crate::specs::Slashes::list_called))]
     fn add_error(&mut self, error: Error) -> Result<(), AllocError> {
         self.list.add_error(error)
     }
 
+    #[tactic(auto, using(crate::specs::Slashes::list_called))]
     fn add_module_mode_error(&mut self, error: Error) -> Result<(), AllocError> {
         self.list.add_module_mode_error(error)
     }
 
+    #[tactic(auto, using(crate::specs::Slashes::list_called))]
     fn take_errors(&mut self) -> Vec<Error> {
         self.list.take_errors()
     }

@@ -26,7 +26,7 @@ pub(crate) fn show_id(
     if !nodes.has_expr(id) {
         return out.push_str("no expression");
     }
-    match nodes.print_expr(*out.allocator(), id) {
+    match nodes.print_expr(id) {
         Ok(text) => {
             out.push_str(text.as_str())?;
             write!(out, " {}", nodes.span(id))
@@ -42,7 +42,7 @@ pub(crate) fn show_numbered<I: Tokens>(
 ) -> Result<(), AllocError> {
     match parser.parse_expr_id() {
         Ok(id) => show_id(out, parser.nodes(), id),
-        Err(fault) => write!(out, "refused: {fault}"),
+        Err(fault) => write!(out, "refused: {}", fault.brief()),
     }
 }
 

@@ -146,14 +146,14 @@ fn write_answer(out: &mut String, answer: &PResult<Answer>) -> Result<(), AllocE
         Ok(Answer::Text(text)) => {
             write!(out, "string {} as {} {}", text.value, text.raw, text.span)
         }
-        Err(fault) => write!(out, "refused: {fault}"),
+        Err(fault) => write!(out, "refused: {}", fault.brief()),
     }
 }
 
 /// Writes the faults that the parser hands out.
 fn write_faults(out: &mut String, when: &str, parser: &mut ListedParser) -> Result<(), AllocError> {
     for fault in &parser.take_errors() {
-        write!(out, ", {when} {fault}")?;
+        write!(out, ", {when} {}", fault.brief())?;
     }
     Ok(())
 }

@@ -69,7 +69,7 @@ pub(crate) fn found_in(alloc: Global, text: &str, context: Context) -> PResult<F
 /// lets it go at each `?`, so this one borrows it.
 fn whole_tree(alloc: Global, parser: &mut ListedParser) -> PResult<Option<String>> {
     let id = parser.parse_expr_id()?;
-    let tree = parser.nodes().print_expr(alloc, id)?;
+    let tree = parser.nodes().print_expr(id)?;
     let is_clean = parser.at_end()? && parser.take_errors().is_empty();
     Ok(if is_clean { Some(tree) } else { None })
 }

@@ -240,7 +240,7 @@ fn of_expr(
     if !nodes.has_expr(id) {
         return Err(Fail::new("no expression"));
     }
-    let text = nodes.print_expr(alloc, id)?;
+    let text = nodes.print_expr(id)?;
     let place = nodes.span(id);
     let tree = take_expr(nodes, alloc, id)?;
     match answer_of_tree(alloc, text.as_str(), place, &tree, calls) {
@@ -263,7 +263,7 @@ fn put_back(
     text: &str,
 ) -> Result<(), Fail> {
     let again = put_expr(nodes, alloc, tree)?;
-    if nodes.print_expr(alloc, again)?.as_str() == text {
+    if nodes.print_expr(again)?.as_str() == text {
         Ok(())
     } else {
         Err(Fail::new("another tree when put back"))
@@ -274,11 +274,11 @@ fn of_pat(alloc: Global, nodes: &mut HookedNodes, id: PatId) -> Result<String, F
     if !nodes.has_pat(id) {
         return Err(Fail::new("no pattern"));
     }
-    let text = nodes.print_pat(alloc, id)?;
+    let text = nodes.print_pat(id)?;
     let tree = take_pat(nodes, alloc, id)?;
     let place = tree.span();
     let again = put_pat(nodes, alloc, tree)?;
-    if nodes.print_pat(alloc, again)? == text {
+    if nodes.print_pat(again)? == text {
         Ok(format!(in alloc; "{text} {place}")?)
     } else {
         Err(Fail::new("another tree when put back"))

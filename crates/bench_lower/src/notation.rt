@@ -15,7 +15,7 @@ use swc_ast::prop::{AssignProp, ComputedPropName, PropName, SpreadElement};
 use swc_context::atom::Atom;
 use swc_context::operator::{AssignOp, BinaryOp, UnaryOp, UpdateOp};
 use swc_context::span::Span;
-use swc_nodes::node::{ExprId, Node, PatId, PatPropNode, PropNode, TargetNode};
+use swc_nodes::node::{ExprId, InvalidNode, Node, PatId, PatPropNode, PropNode, TargetNode};
 
 /// Nodes, and what waits for the node that takes it.
 #[derive(Drop)]
@@ -589,7 +589,11 @@ fn leaf(alloc: Global, word: &Word) -> Result<HookedNode, Fail> {
         }
         "Fn" => Node::Fn(hooked(word)?),
         "Class" => Node::Class(hooked(word)?),
-        "Invalid" => Node::Invalid(at(Invalid { span }, span)?),
+        "Invalid" => {
+            let Invalid { span } = at(Invalid { span }, span)?;
+            let (first, last) = (span.lo, span.hi);
+            Node::Invalid(InvalidNode { span, first, last })
+        }
         "PatInvalid" => Node::PatInvalid(at(Invalid { span }, span)?),
         "PatIdent" => {
             let sym = Atom::new(alloc, word.argument.as_str())?;

@@ -399,7 +399,7 @@ fn show_texts(out: &mut String, token: &Token) -> Result<(), AllocError> {
             show_value(out, raw.as_str())?;
             match cooked {
                 Ok(value) => show_value(out, value.as_str()),
-                Err(fault) => write!(out, " ({fault})"),
+                Err(fault) => write!(out, " ({})", fault.brief()),
             }
         }
         Token::Regex(body, flags) => {
@@ -443,7 +443,7 @@ fn read(alloc: Global, bytes: &[u8]) -> Result<String, AllocError> {
     let mut out = String::new(alloc);
     match read_tokens(alloc, bytes) {
         Ok(tokens) => show_tokens(&mut out, &tokens)?,
-        Err(fault) => write!(out, "refused: {fault}")?,
+        Err(fault) => write!(out, "refused: {}", fault.brief())?,
     }
     Ok(out)
 }

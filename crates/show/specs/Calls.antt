@@ -1,29 +1,20 @@
 -- What the program is asked to do, and what it answers.
-use Rattle.std.specs.Prelude.{ℕ, true, if◌then◌else◌, List, [], ◌∷◌, Option, Some, None, IsSome, Result, Ok, Err, codes}
-use Rattle.swc_context.specs.Contexts.{no_flags}
+use Rattle.std.specs.Prelude.{◌≡◌, ℕ, if◌then◌else◌, List, [], ◌∷◌, Option, Some, None, IsSome, IfSome, Result, Ok, Err, codes}
+use Rattle.swc_context.specs.Contexts.{script_context, module_context, strict_context, generator_context, async_context}
 use Rattle.swc_context.specs.Texts.{is_text}
 use Rattle.swc_context.specs.declared.context.Context.{Context}
 use Rattle.swc_context.specs.declared.error.Error.{Error}
-
--- a script, in which `in` counts as an operator
-abbrev pub script : Context
-script = record no_flags { include_in_expr = true }
-
-abbrev pub strict : Context
-strict = record script { strict = true }
-
--- the body of a function that is no arrow function
-abbrev pub function : Context
-function = record script { in_function = true; inside_non_arrow_function_scope = true }
+use Rattle.show.specs.declared.answer.Shown.{Shown}
+use Rattle.show.specs.Answers.{Answers}
 
 -- the context of a mode
 abbrev pub context_of_mode : List ℕ → Option Context
 context_of_mode mode =
-    if is_text mode (codes "script") then Some script
-    else (if is_text mode (codes "module") then Some (record strict { «module» = true; can_be_module = true })
-    else (if is_text mode (codes "strict") then Some strict
-    else (if is_text mode (codes "generator") then Some (record function { in_generator = true })
-    else (if is_text mode (codes "async") then Some (record function { in_async = true })
+    if is_text mode (codes "script") then Some script_context
+    else (if is_text mode (codes "module") then Some module_context
+    else (if is_text mode (codes "strict") then Some strict_context
+    else (if is_text mode (codes "generator") then Some generator_context
+    else (if is_text mode (codes "async") then Some async_context
     else None))))
 
 -- the context of what is to be read, which so far is `expr`, and a mode
@@ -43,3 +34,11 @@ abbrev pub status : {S : Type 0} → Result S Error → List Error → ℕ
 status (Err e) es = 2
 status (Ok s) [] = 0
 status (Ok s) (e ∷ es) = 1
+
+-- the status of a run in a context, over an input that gives these bytes, where they are known
+pub data Runs (c : Context) (given : Option (List ℕ)) : ℕ → Type 0 where
+  -- The input couldn't be read, or the answer couldn't be written.
+  fails : Runs c given 3
+  -- What the input gave was answered.
+  answers : {text : List ℕ} {shown : Result Shown Error} {recorded : List Error} → IfSome given (λ bytes. text ≡ bytes)
+      → Answers c text shown recorded → Runs c given (status shown recorded)

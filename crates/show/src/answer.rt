@@ -1,5 +1,7 @@
 // What the parser makes of a source text.
-ghost use Rattle.std.specs.Prelude.{IfOk};
+ghost use Rattle.std.specs.Prelude.{◌≡◌, false, IfOk};
+ghost use Rattle.show.specs.Answers.{Answers, Shows};
+ghost use Rattle.show.specs.Calls as calls;
 ghost use Rattle.swc_nodes.specs.Slots.{expr_part};
 ghost use Rattle.swc_nodes.specs.Stands.{From};
 
@@ -16,21 +18,42 @@ use swc_tokens::read_tokens;
 
 /// A tree, printed.
 #[derive(Drop)]
-pub(crate) struct Shown {
-    pub(crate) tree: String,
+pub struct Shown {
+    pub tree: String,
     /// Tokens are left behind the tree.
-    pub(crate) unread: bool,
+    pub unread: bool,
 }
 
 /// What was read, or the refusal, and the faults that were recorded.
 #[derive(Drop)]
-pub(crate) struct Answer {
-    pub(crate) shown: PResult<Shown>,
-    pub(crate) recorded: Vec<Error>,
+pub struct Answer {
+    pub shown: PResult<Shown>,
+    pub recorded: Vec<Error>,
+}
+
+const CLEAN: u8 = 0;
+
+const RECORDED: u8 = 1;
+
+const REFUSED: u8 = 2;
+
+impl Answer {
+    /// The program's status: 0 where a tree was read and nothing recorded, 1 where something was, 2 for a refusal.
+    pub fn status(&self) -> u8
+        ensures { result ≡ calls.status self.now.shown self.now.recorded.items }
+    {
+        match &self.shown {
+            Err(_) => REFUSED,
+            Ok(_) if self.recorded.is_empty() => CLEAN,
+            Ok(_) => RECORDED,
+        }
+    }
 }
 
 /// Reads the text as an expression. A fault of the reader of tokens is a refusal.
-pub(crate) fn answer_to(alloc: Global, text: &[u8], ctx: Context) -> Answer {
+pub fn answer_to(alloc: Global, text: &[u8], ctx: Context) -> Answer
+    ensures { ctx.ignore_error ≡ false → Answers ctx text.now result.shown result.recorded.items }
+{
     match read_tokens(alloc, text) {
         Ok(tokens) => {
             let Whole {
@@ -57,15 +80,16 @@ pub(crate) fn answer_to(alloc: Global, text: &[u8], ctx: Context) -> Answer {
     }
 }
 
-/// Prints what was read.
+/// What was read, printed.
 fn show(
     alloc: Global,
     nodes: &NodesOf<TokenBodies>,
     read: PResult<(ExprId, bool)>,
 ) -> PResult<Shown>
     requires { IfOk read (λ r. From 0 nodes.now (expr_part r.0)) }
+    ensures { Shows read result }
 {
     let (expr, unread) = read?;
-    let tree = nodes.print_expr(alloc, expr)?;
+    let tree = nodes.print_expr(expr)?;
     Ok(Shown { tree, unread })
 }

@@ -1,6 +1,6 @@
 //! The program `show_expr` as a function: reads source text, and writes what the parser makes of it.
 #![tactic(auto)]
 
-mod answer;
+pub mod answer;
 mod arguments;
 pub mod run;

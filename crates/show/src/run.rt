@@ -1,18 +1,12 @@
 // The program.
-ghost use Rattle.std.specs.Prelude.{◌≡◌, ◌≢◌, ◌≤◌, map};
-ghost use Rattle.show.specs.Calls.{Asks, status};
+ghost use Rattle.std.specs.Prelude.{◌≡◌, ◌≢◌, ◌≤◌, map, IfSome};
+ghost use Rattle.show.specs.Calls.{Asks, context_of, Runs};
 
 use crate::answer::{Answer, answer_to};
 use crate::arguments::context_of;
 use std::alloc::Global;
 use std::io;
 use std::io::{Read, Write};
-
-const CLEAN: u8 = 0;
-
-const RECORDED: u8 = 1;
-
-const REFUSED: u8 = 2;
 
 const BAD_CALL: u8 = 3;
 
@@ -35,7 +29,7 @@ pub fn run<R: Read, W: Write, C: Write>(
     output: &mut W,
     complaints: &mut C,
 ) -> u8
-    ensures status { result ≤ 3 }
+    ensures status { IfSome (context_of (map (λ a. a.now) arguments.now)) (λ c. Runs c (R.remaining input.old) result) }
     ensures bad_call { ¬ Asks (map (λ a. a.now) arguments.now) → result ≡ 3 }
     ensures unread { ¬ Asks (map (λ a. a.now) arguments.now) → input.new ≡ input.old }
     ensures unwritten { ¬ Asks (map (λ a. a.now) arguments.now) → output.new ≡ output.old }
@@ -51,7 +45,7 @@ pub fn run<R: Read, W: Write, C: Write>(
     }
     let answer = answer_to(alloc, &text, ctx);
     match write_answer(output, &answer) {
-        Ok(()) => status_of(&answer),
+        Ok(()) => answer.status(),
         Err(_) => BAD_CALL,
     }
 }
@@ -65,20 +59,10 @@ fn write_answer<W: Write>(output: &mut W, answer: &Answer) -> io::Result<()> {
                 writeln!(output, "unread")?;
             }
         }
-        Err(refusal) => writeln!(output, "refused: {refusal}")?,
+        Err(refusal) => writeln!(output, "refused: {}", refusal.brief())?,
     }
     for error in &answer.recorded {
-        writeln!(output, "{error}")?;
+        writeln!(output, "{}", error.brief())?;
     }
     output.flush()
-}
-
-fn status_of(answer: &Answer) -> u8
-    ensures { result ≡ status answer.now.shown answer.now.recorded.items }
-{
-    match &answer.shown {
-        Err(_) => REFUSED,
-        Ok(_) if answer.recorded.is_empty() => CLEAN,
-        Ok(_) => RECORDED,
-    }
 }

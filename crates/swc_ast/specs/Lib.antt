@@ -3,3 +3,4 @@ pub mod Spans
 pub mod Targets
 pub mod Tree
 pub mod TreeOf
+pub mod Trees

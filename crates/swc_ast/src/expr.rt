@@ -518,13 +518,14 @@ impl<F: Spanned, C: Spanned, K: Spanned> Spanned for AssignTarget<F, C, K> {
 }
 
 impl<F: Spanned, C: Spanned, K: Spanned> Spanned for Expr<F, C, K> {
+    ghost use Rattle.swc_context.specs.Spans.{in_order};
     ghost use Rattle.swc_ast.specs.Tree.{span_of};
     ghost use Rattle.swc_ast.specs.TreeOf.{expr_tree};
 
-    ghost place = { λ e. span_of (expr_tree _ _ _ F.place C.place K.place e) };
+    ghost place = { λ e. in_order (span_of (expr_tree _ _ _ F.place C.place K.place e)) };
 
     fn span(&self) -> Span {
-        match self {
+        let extent = match self {
             Expr::Fn(f) => f.span(),
             Expr::Class(c) => c.span(),
             Expr::Array { span, .. }
@@ -552,6 +553,7 @@ impl<F: Spanned, C: Spanned, K: Spanned> Spanned for Expr<F, C, K> {
             Expr::Ident(e) => e.span,
             Expr::Lit(e) => e.span(),
             Expr::Invalid(e) => e.span,
-        }
+        };
+        extent.in_order()
     }
 }

@@ -72,19 +72,21 @@ impl<P> Spanned for RestPat<P> {
 }
 
 impl<F: Spanned, C: Spanned, K: Spanned> Spanned for Pat<F, C, K> {
+    ghost use Rattle.swc_context.specs.Spans.{in_order};
     ghost use Rattle.swc_ast.specs.Tree.{span_of};
     ghost use Rattle.swc_ast.specs.TreeOf.{pat_tree};
 
-    ghost place = { λ p. span_of (pat_tree _ _ _ F.place C.place K.place p) };
+    ghost place = { λ p. in_order (span_of (pat_tree _ _ _ F.place C.place K.place p)) };
 
     fn span(&self) -> Span {
-        match self {
+        let extent = match self {
             Pat::Ident(b) => b.id.span,
             Pat::Array { span, .. } | Pat::Object { span, .. } | Pat::Assign { span, .. } => *span,
             Pat::Rest(r) => r.span,
-            Pat::Expr(e) => e.span(),
+            Pat::Expr(e) => return e.span(),
             Pat::Invalid(i) => i.span,
-        }
+        };
+        extent.in_order()
     }
 }
 

@@ -1,5 +1,5 @@
 -- How a body is taken from a buffer, a step at a time.
-use Rattle.std.proofs.Common.{◌≡◌, ◌≢◌, ◌<◌, ◌≤◌, ◌⊎◌, inl, inr, Bool, true, false, List, [], ◌∷◌, ◌++◌, Option, Some, None, Ok, Err, IsSome, length, map, min, max, refl, sym, ap, ◌∙◌, subst, arith, length-append, append_assoc}
+use Rattle.std.proofs.Common.{◌≡◌, ◌≢◌, ◌<◌, ◌≤◌, inl, inr, true, false, List, [], ◌∷◌, ◌++◌, Option, Some, None, Ok, Err, IsSome, length, map, refl, sym, ap, ◌∙◌, subst, arith, length-append, append_assoc}
 use Rattle.swc_context.specs.declared.context.Context.{Context}
 use Rattle.swc_context.specs.declared.error.Error.{Error}
 use Rattle.swc_context.specs.declared.error.SyntaxError.{SyntaxError}
@@ -15,10 +15,10 @@ use Rattle.swc_input.specs.declared.token.Token.TheVariants as token
 use Rattle.swc_input.specs.declared.token.TokenAndSpan.{TokenAndSpan}
 use Rattle.swc_input.specs.Plain.{plain, plain_token}
 use Rattle.swc_input.specs.Source.{Model, Laws, given_one}
-use Rattle.swc_input.specs.Buffer.{Read, Lives, Looked, Known, Future, current, source, last_position, to_come}
+use Rattle.swc_input.specs.Buffer.{Read, Looked, Known, Future, current, source, last_position, to_come}
 use Rattle.swc_input.specs.Kinds.{at_token}
-use Rattle.swc_input.specs.Recording.{Refused, refusal, unfit, no_memory}
-use Rattle.swc_input.specs.Laws.{Read-then, Read-late, Read-same, Refused-read, Known-after, Future-current, Future-end, Known-Future, Looked-lives}
+use Rattle.swc_input.specs.Recording.{Refused, unfit, no_memory}
+use Rattle.swc_input.specs.Laws.{Read-then, Read-late, Read-same, Refused-read, Known-after, Future-current, Future-end, Known-Future}
 use Rattle.swc_input.proofs.Refusals.{Refused-kind, unfit-kind}
 use Rattle.swc_bodies.specs.declared.place.Place.{Place}
 use Rattle.swc_bodies.specs.declared.place.Place.TheVariants as place
@@ -35,26 +35,10 @@ stops-full laws b p e h = record {
   read = ([], Read-same laws b);
   own = λ i. cc;
   answer = wanted_memory h;
-  lives = λ ne. absurd (ne (ap (λ x. x.kind) h));
   cause = inl (ap (λ x. x.kind) h);
 }
 
--- whatever the refusal, it isn't want of memory where the source has failed
-running : (o : Option TokenAndSpan) (f : Bool) (at : BytePos) (e : Error) → (refusal o f at e).kind ≢ kind.OutOfMemory → IsSome o ⊎ (f ≡ false)
-running None true at e ne = absurd (ne refl)
-running None false at e ne = inr refl
-running (Some t) f at e ne = inl refl
-
 module _ {S : Type 0} {model : Model S} (laws : Laws model) where
-  -- a refusal behind a look that isn't want of memory leaves the source running
-  refused-lives : (b h c : Buffer S) (e : Buffer S → Error) (r : Error) → Looked model b h → Refused model h e r c → r.kind ≢ kind.OutOfMemory → Lives model b c
-  refused-lives b h c e r l x ne f =
-      let here = x.lives f in
-      elim (running (current x.here) (model.state (source x.here)).failed (last_position x.here) (e x.here) (λ i. ne (ap (λ y. y.kind) x.answer ∙ i))) [
-        | inl some ↦ Looked-lives laws l x.looked some here
-        | inr runs ↦ cc
-      ]
-
   -- no token comes that may stand at the place, where the current one may not
   none-next : (h : Buffer S) (p : Place) (ts : List TokenAndSpan) (o : Option TokenAndSpan) → current h ≡ o → at_current p o ≡ None → Future model h ts →
       (o ≡ None → ts ≡ []) → next p ts ≡ None
@@ -87,7 +71,6 @@ module _ {S : Type 0} {model : Model S} (laws : Laws model) where
         read = (d.0, Read-late laws b h c d.0 l.look.read d.1);
         own = Refused-kind model h c (λ here. unfit (current here) (last_position here) k) r (λ here. unfit-kind (current here) (last_position here) k kind.ParserFailed (λ i. cc) own) x;
         answer = refused_token h k brace x;
-        lives = refused-lives b h c (λ here. unfit (current here) (last_position here) k) r l x;
         cause = inr (λ ts known. known-none b h p ts l barred known);
       }
 
@@ -105,7 +88,6 @@ pub record SoFar {S : Type 0} (model : Model S) (b : Buffer S) (first : Place) (
   pub some : 1 ≤ length all
   pub read : Read model b all i
   pub less : to_come model i < to_come model b
-  pub lives : Lives model b i
   -- over a listed source nothing was recorded
   pub quiet : (m : List TokenAndSpan) → (model.state (source b)).known ≡ Some m → (model.state (source i)).errors ≡ (model.state (source b)).errors
   pub reads : (begins : Token → Option Place) → begun begins (given_one (current b)) ≡ Some first → (c : Context) (other : List TokenAndSpan) →
@@ -121,7 +103,6 @@ module _ {S : Type 0} {model : Model S} (laws : Laws model) where
     some = omega arith;
     read = read;
     less = less;
-    lives = λ f. subst (λ s. (model.state s).failed ≡ true) same f;
     quiet = λ m known. ap (λ s. (model.state s).errors) same;
     reads = λ begins begun-so ctx other.
         let here : begins (plain_token t.token) ≡ Some first = sym (ap (λ o. begun begins (given_one o)) at) ∙ begun-so in
@@ -137,9 +118,6 @@ module _ {S : Type 0} {model : Model S} (laws : Laws model) where
     some = let a = s.some in let l = length-append s.all (plain t ∷ []) in omega arith;
     read = Read-then laws b i k s.all (plain t ∷ []) s.read (Read-late laws i j k (plain t ∷ []) g.looked.look.read read);
     less = let a = s.less in let l = g.looked.look.read.lower in let m = read.lower in omega arith;
-    lives = λ f.
-        let here : (model.state (source j)).failed ≡ true = subst (λ x. (model.state x).failed ≡ true) same f in
-        s.lives (g.looked.lives (goes-some i p q j g) here);
     quiet = λ m known.
         let took = s.read.took in
         let later = (laws.gave b.iter i.iter took.given took.gave).known m known in
@@ -154,27 +132,26 @@ module _ {S : Type 0} {model : Model S} (laws : Laws model) where
 
   -- what was taken before a refusal was taken with it
   refused-hooked : (reads : Context → List TokenAndSpan → Option (Body × List TokenAndSpan)) (b : Buffer S) (first : Place) (from : BytePos) (i : Buffer S) (p : Place) (items : List TokenAndSpan) (xs : List TokenAndSpan) (e : Error) (c : Buffer S) →
-      SoFar model b first from i p items → Read model i xs c → e.kind ≢ kind.ParserFailed → (e.kind ≢ kind.OutOfMemory → Lives model i c) →
+      SoFar model b first from i p items → Read model i xs c → e.kind ≢ kind.ParserFailed →
       Hooked model reads b (Err e) c
-  refused-hooked reads b first from i p items xs e c s read own lives = record {
+  refused-hooked reads b first from i p items xs e c s read own = record {
     taken = s.all ++ xs;
     some = let a = s.some in let l = length-append s.all xs in omega arith;
     read = Read-then laws b i c s.all xs s.read read;
     less = let a = s.less in let l = read.lower in omega arith;
     clean = λ loud same. tt;
     refused = own;
-    lives = λ ne f. s.lives (lives ne f);
   }
 
   pub stopped-hooked : (reads : Context → List TokenAndSpan → Option (Body × List TokenAndSpan)) (b : Buffer S) (first : Place) (from : BytePos) (i : Buffer S) (p : Place) (items : List TokenAndSpan) (e : Error) (c : Buffer S) →
       SoFar model b first from i p items → Stops model i p e c → Hooked model reads b (Err e) c
-  stopped-hooked reads b first from i p items e c s x = refused-hooked reads b first from i p items x.read.0 e c s x.read.1 x.own x.lives
+  stopped-hooked reads b first from i p items e c s x = refused-hooked reads b first from i p items x.read.0 e c s x.read.1 x.own
 
   -- a token was taken, and memory to keep it was wanted
   pub unkept-hooked : (reads : Context → List TokenAndSpan → Option (Body × List TokenAndSpan)) (b : Buffer S) (first : Place) (from : BytePos) (i : Buffer S) (p : Place) (items : List TokenAndSpan) (q : Place) (j : Buffer S) (xs : List TokenAndSpan) (e : Error) (k : Buffer S) →
       SoFar model b first from i p items → GoesOn model i p q j → Read model j xs k → e ≡ no_memory (last_position k) → Hooked model reads b (Err e) k
   unkept-hooked reads b first from i p items q j xs e k s g read memory =
-      refused-hooked reads b first from i p items xs e k s (Read-late laws i j k xs g.looked.look.read read) (λ h. cc) (λ ne. absurd (ne (ap (λ x. x.kind) memory)))
+      refused-hooked reads b first from i p items xs e k s (Read-late laws i j k xs g.looked.look.read read) (λ h. cc)
 
   -- what is still to come of a listed source is what was taken, and what comes behind it
   left : (b : Buffer S) (first : Place) (from : BytePos) (i : Buffer S) (p : Place) (items : List TokenAndSpan) (begins : Token → Option Place) →
@@ -206,7 +183,6 @@ module _ {S : Type 0} {model : Model S} (laws : Laws model) where
         s.reads begins so (model.state (source b)).context rest ∙ ap (λ q. taken_on from rest q (map plain items) (last_position i)) end
         ∙ taken-end from rest (map plain items) (last_position i) ∙ ap (λ w. read w rest) (sym is);
     refused = tt;
-    lives = s.lives;
   }
 
   pub done-faithful : (b : Buffer S) (first : Place) (from : BytePos) (i : Buffer S) (p : Place) (items : List TokenAndSpan) (v : Body) (begins : Token → Option Place) →
@@ -221,10 +197,6 @@ module _ {S : Type 0} {model : Model S} (laws : Laws model) where
 pub ended : (p : Place) → is_end p ≡ true → p ≡ place.End
 ended place.End h = refl
 ended p h = cc
-
-pub body-is : (span : Span) (from to : BytePos) (ks : List TokenAndSpan) → span.lo.0 ≡ min from.0 to.0 → span.hi.0 ≡ max from.0 to.0 →
-    record { span = span; tokens = ks } ≡ body from ks to
-body-is span from to ks lo hi = rw (← lo, ← hi)
 
 -- with which token a body begins doesn't depend on where boxes lie
 class-first : (t : Token) → is_class t ≡ true → class_first (plain_token t) ≡ Some (place.Head 0)

@@ -4,7 +4,7 @@ use Rattle.swc_context.specs.declared.context.Context.{Context}
 use Rattle.swc_context.specs.declared.span.BytePos.{BytePos}
 use Rattle.swc_context.specs.declared.word.Keyword.TheVariants as keyword
 use Rattle.swc_context.specs.declared.word.Word.TheVariants as word
-use Rattle.swc_context.specs.Spans.{between}
+use Rattle.swc_context.specs.Spans.{from_to}
 use Rattle.swc_input.specs.declared.token.Token.{Token}
 use Rattle.swc_input.specs.declared.token.Token.TheVariants as token
 use Rattle.swc_input.specs.declared.token.TokenAndSpan.{TokenAndSpan}
@@ -57,7 +57,7 @@ record OwnOn (from : BytePos) (ts : List TokenAndSpan) (p : Place) (ks : List To
   own : List TokenAndSpan
   list : ts ≡ own ++ rest
   alone : (other : List TokenAndSpan) → taken_on from (own ++ other) p ks to ≡ Some (v, other)
-  span : v.span ≡ between from (last_end to own)
+  span : v.span ≡ from_to from (last_end to own)
 
 -- what a reading gives, and its parts
 abbrev pub read : Body → List TokenAndSpan → Option (Body × List TokenAndSpan)
@@ -112,7 +112,7 @@ owns-from first starts c t ts p v rest opens h o = record {
   list = ap (λ l. t ∷ l) o.list;
   begins = opens t o.own p v h (o.alone []);
   alone = λ other. rw (h, taken) (o.alone other);
-  span = o.span ∙ ap (between t.span.lo) (last_end-of t o.own);
+  span = o.span ∙ ap (from_to t.span.lo) (last_end-of t o.own);
 }
 
 owns-all : (first : Token → Option Place) (starts : List TokenAndSpan → Bool) → Opens first starts →

@@ -1,6 +1,7 @@
 -- What a hook reads: the bodies that the parser doesn't look into.
 use Rattle.std.specs.Prelude.{◌≡◌, ◌≢◌, ◌<◌, ◌≤◌, Bool, true, false, not, ◌&&◌, ◌||◌, List, [], ◌∷◌, ◌++◌, Option, Some, None, Result, IfOk, IfErr, MatchResult, codes, length, refl}
-use Rattle.swc_context.specs.Spans.{between}
+use Rattle.swc_context.specs.Contexts.{view}
+use Rattle.swc_context.specs.Spans.{from_to}
 use Rattle.swc_context.specs.Texts.{is_text}
 use Rattle.swc_context.specs.declared.context.Context.{Context}
 use Rattle.swc_context.specs.declared.error.Error.{Error}
@@ -13,7 +14,7 @@ use Rattle.swc_input.specs.declared.token.Token.{Token}
 use Rattle.swc_input.specs.declared.token.Token.TheVariants as token
 use Rattle.swc_input.specs.declared.token.TokenAndSpan.{TokenAndSpan}
 use Rattle.swc_input.specs.Source.{Model}
-use Rattle.swc_input.specs.Buffer.{Read, Lives, Future, Known, source, to_come}
+use Rattle.swc_input.specs.Buffer.{Read, Future, Known, source, to_come}
 use Rattle.swc_input.specs.Recording.{is_silent}
 
 abbrev pub is_function : Token → Bool
@@ -54,27 +55,18 @@ abbrev pub begins : (Token → Bool) → List TokenAndSpan → Bool
 begins f [] = false
 begins f (t ∷ ts) = f t.token
 
--- from the start of the first token to the end of the last, the smaller end first, as nodes have it
+-- from the start of the first token to the end of the last, as they stand, as nodes have it
 abbrev pub last_of : TokenAndSpan → List TokenAndSpan → TokenAndSpan
 last_of t [] = t
 last_of t (u ∷ us) = last_of u us
 
 abbrev pub whole_span : List TokenAndSpan → Span
 whole_span [] = record { lo = record { 0 = 0 }; hi = record { 0 = 0 } }
-whole_span (t ∷ ts) = between t.span.lo (last_of t ts).span.hi
+whole_span (t ∷ ts) = from_to t.span.lo (last_of t ts).span.hi
 
 -- From a context and the tokens to come: a value and the tokens left, or nothing. So there is at most one reading from each place.
 abbrev pub Reading : Type 0 → Type 0
 Reading V = Context → List TokenAndSpan → Option (V × List TokenAndSpan)
-
--- the context without the flags that decide nothing
-abbrev pub view : Context → Context
-view c = record c {
-  will_expect_colon_for_cond = false;
-  in_cond_expr = false;
-  should_not_lex_lt_or_gt_as_type = false;
-  in_property_name = false;
-}
 
 -- the tokens xs were read as v from a list that goes on with rest
 pub record ReadsOwn {V : Type 0} (place : V → Span) (starts : List TokenAndSpan → Bool) (reads : Reading V) (c : Context) (ts : List TokenAndSpan) (v : V) (rest : List TokenAndSpan) : Type 0 where
@@ -108,8 +100,8 @@ Loud model b = is_silent (model.state (source b)) ≡ false
 
 module _ {S V : Type 0} (model : Model S) where
   -- A call of a hook, from b to c, that answered r: it took a token at least, and fewer are to come. Where faults are recorded, and it
-  -- answers a value and records none, the value is what the reading gives, whatever comes after. Where the source fails, want of memory
-  -- is refused.
+  -- answers a value and records none, the value is what the reading gives, whatever comes after. Of a source that fails nothing is
+  -- asked: then the parser answers want of memory, in place of r.
   pub record Hooked (reads : Reading V) (b : Buffer S) (r : Result V Error) (c : Buffer S) : Type 0 where
     pub taken : List TokenAndSpan
     pub some : 1 ≤ length taken
@@ -118,7 +110,6 @@ module _ {S V : Type 0} (model : Model S) where
     pub clean : Loud model b → (model.state (source c)).errors ≡ (model.state (source b)).errors → IfOk r (λ v. (rest : List TokenAndSpan)
         → Future model c rest → reads (model.state (source b)).context (taken ++ rest) ≡ Some (v, rest))
     pub refused : IfErr r (λ e. e.kind ≢ ParserFailed)
-    pub lives : MatchResult r (λ v. Lives model b c) (λ e. e.kind ≢ OutOfMemory → Lives model b c)
 
   -- Over a listed source, and where faults are recorded, a faithful hook reads cleanly what its reading gives, or answers want of memory.
   abbrev pub Faithful : Reading V → Buffer S → Result V Error → Buffer S → Type 0
@@ -128,10 +119,13 @@ module _ {S V : Type 0} (model : Model S) where
       (λ e. e.kind ≡ OutOfMemory)
 
 -- nothing is read
-abbrev pub no_forms : {F C K : Type 0} → Hook F C K
-no_forms = record { fun = λ c ts. None; class = λ c ts. None; block = λ c ts. None }
+abbrev pub no_reading : {V : Type 0} → Reading V
+no_reading c ts = None
 
-none_is_reading : {V : Type 0} (place : V → Span) (starts : List TokenAndSpan → Bool) → IsReading place starts (λ c ts. None)
+abbrev pub no_forms : {F C K : Type 0} → Hook F C K
+no_forms = record { fun = no_reading; class = no_reading; block = no_reading }
+
+none_is_reading : {V : Type 0} (place : V → Span) (starts : List TokenAndSpan → Bool) → IsReading place starts no_reading
 none_is_reading place starts = record { owns = λ c ts v rest h. cc; viewed = λ c ts. refl }
 
 pub no_forms_read : {F C K : Type 0} (fun_place : F → Span) (class_place : C → Span) (block_place : K → Span) → LawfulHook fun_place class_place block_place no_forms

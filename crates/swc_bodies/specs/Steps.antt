@@ -1,5 +1,5 @@
 -- The steps by which a body is taken from a buffer.
-use Rattle.std.specs.Prelude.{◌≡◌, ◌≢◌, ◌⊎◌, ℕ, ◌<◌, List, [], ◌∷◌, Option, Some, None, Result, MatchResult}
+use Rattle.std.specs.Prelude.{◌≡◌, ◌≢◌, ◌⊎◌, ◌<◌, List, [], ◌∷◌, Option, Some, None, Result, Err, MatchResult}
 use Rattle.swc_context.specs.declared.error.Error.{Error}
 use Rattle.swc_context.specs.declared.error.SyntaxError.{SyntaxError}
 use Rattle.swc_context.specs.declared.error.SyntaxError.TheVariants.{OutOfMemory, ParserFailed, Unexpected}
@@ -9,7 +9,7 @@ use Rattle.swc_input.specs.declared.buffer.Buffer.{Buffer}
 use Rattle.swc_input.specs.declared.token.TokenAndSpan.{TokenAndSpan}
 use Rattle.swc_input.specs.Plain.{plain}
 use Rattle.swc_input.specs.Source.{Model}
-use Rattle.swc_input.specs.Buffer.{Read, ReadSome, Lives, Looked, Known, current, source, last_position, to_come}
+use Rattle.swc_input.specs.Buffer.{Read, ReadSome, Looked, Known, current, source, last_position, to_come}
 use Rattle.swc_input.specs.Recording.{Refused, no_memory, unfit}
 use Rattle.swc_bodies.specs.declared.place.Place.{Place}
 use Rattle.swc_bodies.specs.Keeping.{kept}
@@ -26,6 +26,13 @@ module _ {S : Type 0} (model : Model S) where
   pub data NoBody (e : Error) (c : Buffer S) : Type 0 where
     wanted_memory : e ≡ no_memory (last_position c) → NoBody e c
     refused_token : (b : Buffer S) (k : SyntaxError) → wanting k ≡ Some wanted.LBrace → Refused model b (λ here. unfit (current here) (last_position here) k) e c → NoBody e c
+
+  -- no body is read: the current token was consumed, and is refused where it lies
+  pub record Declines {V : Type 0} (b : Buffer S) (r : Result V Error) (c : Buffer S) : Type 0 where
+    pub token : TokenAndSpan
+    pub current : current b ≡ Some token
+    pub read : Read model b (plain token ∷ []) c
+    pub refused : r ≡ Err (record { span = token.span; kind = Unexpected wanted.LBrace })
 
   -- the current token was consumed; it was kept behind the tokens ts, which are us then, or memory was wanted
   pub record KeepsOne (b : Buffer S) (ts : List TokenAndSpan) (r : Result (Unit {0}) Error) (us : List TokenAndSpan) (c : Buffer S) : Type 0 where
@@ -47,5 +54,4 @@ module _ {S : Type 0} (model : Model S) where
     pub read : ReadSome model b c
     pub own : e.kind ≢ ParserFailed
     pub answer : NoBody e c
-    pub lives : e.kind ≢ OutOfMemory → Lives model b c
     pub cause : (e.kind ≡ OutOfMemory) ⊎ ((ts : List TokenAndSpan) → Known model b ts → next p ts ≡ None)

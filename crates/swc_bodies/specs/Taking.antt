@@ -4,7 +4,7 @@ use Rattle.swc_context.specs.declared.context.Context.{Context}
 use Rattle.swc_context.specs.declared.span.BytePos.{BytePos}
 use Rattle.swc_context.specs.declared.word.Keyword.TheVariants as keyword
 use Rattle.swc_context.specs.declared.word.Word.TheVariants as word
-use Rattle.swc_context.specs.Spans.{between}
+use Rattle.swc_context.specs.Spans.{from_to}
 use Rattle.swc_input.specs.declared.token.Token.{Token}
 use Rattle.swc_input.specs.declared.token.Token.TheVariants as token
 use Rattle.swc_input.specs.declared.token.TokenAndSpan.{TokenAndSpan}
@@ -105,7 +105,7 @@ at_current p (Some t) = after p (sign_at t)
 
 -- a body that began at the position, of which these tokens were kept, and whose last token ended there
 abbrev pub body : BytePos → List TokenAndSpan → BytePos → Body
-body from ks to = record { span = between from to; tokens = ks }
+body from ks to = record { span = from_to from to; tokens = ks }
 
 -- What is read from a place on, of a body that began at the position, where these tokens were kept, and the token taken last ended there.
 abbrev pub taken_on : BytePos → List TokenAndSpan → Place → List TokenAndSpan → BytePos → Option (Body × List TokenAndSpan)

@@ -32,7 +32,8 @@ pub type ExprOf<B> = Expr<<B as BodyForms>::Fun, <B as BodyForms>::Class, <B as 
 /// A hook over a kind of source.
 ///
 /// Each call takes tokens through the buffer alone, one at least, so that fewer are to come, and keeps the context. It
-/// may record faults, and refuse.
+/// may record faults, and refuse. Where the source has failed, the parser refuses for want of memory, whatever the hook
+/// answered.
 pub trait Bodies<I: Tokens>: BodyForms + Drop {
     /// The hook reads all that its readings give, and so completeness may be claimed of a parser with it.
     ghost is_faithful: { Bool };

@@ -1,9 +1,9 @@
 // The hook that reads nothing.
-ghost use Rattle.std.specs.Prelude.{◌≡◌, ◌≢◌, ◌<◌, ◌≤◌, ◌∷◌, [], List, IsSome, length};
-ghost use Rattle.swc_context.specs.declared.error.SyntaxError.TheVariants.{ParserFailed};
-ghost use Rattle.swc_input.specs.declared.token.TokenAndSpan.{TokenAndSpan};
-ghost use Rattle.swc_input.specs.Plain.{plain};
-ghost use Rattle.swc_input.specs.Buffer.{current, to_come, Read, Lives};
+ghost use Rattle.std.specs.Prelude.{◌≡◌, ◌<◌, true, IsSome};
+ghost use Rattle.swc_input.specs.Buffer.{current, to_come};
+ghost use Rattle.swc_input.specs.Kinds.{at_token};
+ghost use Rattle.swc_bodies.specs.Readings.{Hooked, Faithful, no_reading, at_function, is_class, is_brace};
+ghost use Rattle.swc_bodies.specs.Steps.{Declines};
 
 use crate::bodies::{Bodies, BodyForms};
 use swc_context::error::{Error, PResult, SyntaxError, Wanted};
@@ -29,34 +29,46 @@ impl BodyForms for NoBodies {
 }
 
 /// Consumes the current token and refuses it.
-fn refuse_body<I: Tokens>(input: &mut Buffer<I>) -> Error
+fn refuse_body<I: Tokens>(input: &mut Buffer<I>) -> PResult<Span>
     requires { IsSome (current input.old) }
-    ensures read { (t : TokenAndSpan) × (current input.old ≡ Some t) × Read I.model input.old (plain t ∷ []) input.new }
+    ensures declines { Declines I.model input.old result input.new }
     ensures falls { to_come I.model input.new < to_come I.model input.old }
-    ensures refused { result.kind ≢ ParserFailed }
-    ensures lives { Lives I.model input.old input.new }
 {
     let span = input.cur_span();
     let _ = input.bump();
-    Error::new(span, SyntaxError::Unexpected(Wanted::LBrace))
+    Err(Error::new(span, SyntaxError::Unexpected(Wanted::LBrace)))
 }
 
 impl<I: Tokens> Bodies<I> for NoBodies {
-    ghost use Rattle.std.specs.Prelude.{true};
     ghost use Rattle.swc_bodies.specs.Readings.{no_forms_read};
 
     ghost is_faithful = { true };
 
-    fn fun(&mut self, input: &mut Buffer<I>) -> PResult<Span> {
-        Err(refuse_body(input))
+    fn fun(&mut self, input: &mut Buffer<I>) -> PResult<Span>
+        requires { at_function (current input.old) ≡ true }
+        ensures hooked { Hooked I.model no_reading input.old result input.new }
+        ensures faithful { Faithful I.model no_reading input.old result input.new }
+        ensures declines { Declines I.model input.old result input.new }
+    {
+        refuse_body(input)
     }
 
-    fn class(&mut self, input: &mut Buffer<I>) -> PResult<Span> {
-        Err(refuse_body(input))
+    fn class(&mut self, input: &mut Buffer<I>) -> PResult<Span>
+        requires { at_token is_class (current input.old) ≡ true }
+        ensures hooked { Hooked I.model no_reading input.old result input.new }
+        ensures faithful { Faithful I.model no_reading input.old result input.new }
+        ensures declines { Declines I.model input.old result input.new }
+    {
+        refuse_body(input)
     }
 
-    fn block(&mut self, input: &mut Buffer<I>) -> PResult<Span> {
-        Err(refuse_body(input))
+    fn block(&mut self, input: &mut Buffer<I>) -> PResult<Span>
+        requires { at_token is_brace (current input.old) ≡ true }
+        ensures hooked { Hooked I.model no_reading input.old result input.new }
+        ensures faithful { Faithful I.model no_reading input.old result input.new }
+        ensures declines { Declines I.model input.old result input.new }
+    {
+        refuse_body(input)
     }
 
     ghost lawful = { no_forms_read (λ s. s) (λ s. s) (λ s. s) };

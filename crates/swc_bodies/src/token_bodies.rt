@@ -85,7 +85,10 @@ fn take_body<I: Tokens>(alloc: Global, first: Place, input: &mut Buffer<I>) -> P
         keep_current(&mut kept, input)?;
     }
     Ok(TokenBody {
-        span: Span::new(from, input.last_pos()),
+        span: Span {
+            lo: from,
+            hi: input.last_pos(),
+        },
         tokens: kept,
     })
 }

@@ -1,23 +1,25 @@
 -- From what the body of a call does to what the call promises: of a parser that has failed, and of any other.
-use Rattle.std.proofs.Common.{◌≡◌, Bool, true, false, ◌||◌, Result, Err, refl, sym, ap, ◌∙◌}
+use Rattle.std.proofs.Common.{◌≡◌, ◌≢◌, Bool, true, false, ◌||◌, Result, Err, MatchResult, refl, sym, ap, ◌∙◌}
 use Rattle.swc_context.specs.declared.error.Error.{Error}
+use Rattle.swc_context.specs.declared.error.SyntaxError.TheVariants.{OutOfMemory}
 use Rattle.swc_input.specs.declared.buffer.Buffer.{Buffer}
 use Rattle.swc_input.specs.Source.{Model}
 use Rattle.swc_input.specs.Buffer.{previous}
 use Rattle.swc_ast.specs.declared.spanned.Spanned.{Ghosts}
 use Rattle.swc_bodies.specs.Readings.{Hook}
 use Rattle.swc_grammar.specs.Symbols.{Symbol}
+use Rattle.swc_nodes.specs.declared.commas.TrailingCommas.{TrailingCommas}
 use Rattle.swc_nodes.specs.declared.nodes.Nodes.{Nodes}
 use Rattle.swc_ecma_parser.specs.declared.parser.Parser.{Parser}
-use Rattle.swc_ecma_parser.specs.Calls.{buffer_of, nodes_of, has_failed, wants_memory, parser_failed, Called}
-use Rattle.swc_ecma_parser.specs.Promise.{Answer, Promised}
+use Rattle.swc_ecma_parser.specs.Calls.{buffer_of, nodes_of, commas_of, has_failed, wants_memory, parser_failed, Called}
+use Rattle.swc_ecma_parser.specs.Promise.{Answer, Promised, RemembersAll}
 use Rattle.swc_ecma_parser.proofs.Top.{Meets}
 
-not_both : {b : Bool} → b ≡ true → b ≡ false → ⊥
+pub not_both : {b : Bool} → b ≡ true → b ≡ false → ⊥
 not_both t f = let e : true ≡ false = sym t ∙ f in cc
 
 -- a parser that ran has failed where it answers want of memory
-failing : {T : Type 0} {was is f : Bool} (a r : Result T Error) → was ≡ false → f ≡ was → r ≡ a → is ≡ (f || wants_memory a) → is ≡ wants_memory r
+pub failing : {T : Type 0} {was is f : Bool} (a r : Result T Error) → was ≡ false → f ≡ was → r ≡ a → is ≡ (f || wants_memory a) → is ≡ wants_memory r
 failing a r runs same e h = h ∙ ap (λ v. v || wants_memory a) (same ∙ runs) ∙ ap (λ v. wants_memory v) (sym e)
 
 module _ {S H F C K T : Type 0} {fg : Ghosts F} {cg : Ghosts C} {kg : Ghosts K} where
@@ -26,15 +28,17 @@ module _ {S H F C K T : Type 0} {fg : Ghosts F} {cg : Ghosts C} {kg : Ghosts K} 
     again = λ failed. (refl, ap (λ x. Err x) h.1);
     effect = λ runs. absurd (not_both h.0 runs);
     nodes = refl;
+    commas = refl;
     fails = λ runs. absurd (not_both h.0 runs);
   }
 
   pub called : {Effect : Buffer S → Result T Error → Buffer S → Type 0} {p q : Parser S H F C K fg cg kg} {b : Buffer S} {f : Bool} (a r : Result T Error) → has_failed p ≡ false → f ≡ has_failed p →
-      r ≡ a → buffer_of q ≡ b → nodes_of q ≡ nodes_of p → has_failed q ≡ (f || wants_memory a) → Effect (buffer_of p) a b → Called Effect p r q
-  called a r runs same e buffer nodes fails done = record {
+      r ≡ a → buffer_of q ≡ b → nodes_of q ≡ nodes_of p → commas_of q ≡ commas_of p → has_failed q ≡ (f || wants_memory a) → Effect (buffer_of p) a b → Called Effect p r q
+  called a r runs same e buffer nodes commas fails done = record {
     again = λ failed. absurd (not_both failed runs);
     effect = λ w. rw (e, buffer) done;
     nodes = nodes;
+    commas = commas;
     fails = λ w. failing a r runs same e fails;
   }
 
@@ -48,14 +52,17 @@ module _ {S H T F C K : Type 0} {fg : Ghosts F} {cg : Ghosts C} {kg : Ghosts K} 
     one_tree = λ runs. absurd (not_both h.0 runs);
     grouped = λ runs. absurd (not_both h.0 runs);
     valid = λ runs. absurd (not_both h.0 runs);
+    commas = λ n. refl;
     nodes = leaves;
     fails = λ runs. absurd (not_both h.0 runs);
   }
 
-  -- the buffer and the nodes before the parser remembers want of memory
-  pub promised : {p q : Parser S H F C K fg cg kg} {f : Bool} (b : Buffer S) (ns : Nodes F C K fg cg kg) (a r : Result T Error) → has_failed p ≡ false → f ≡ has_failed p →
-      r ≡ a → buffer_of q ≡ b → nodes_of q ≡ ns → has_failed q ≡ (f || wants_memory a) → Meets model sure (answer.derives hook s) (answer.tree ns) s (buffer_of p) a b → answer.leaves (nodes_of p) a ns → Promised model sure hook answer s p r q
-  promised {p} {q} b ns a r runs same e buffer nodes fails done leaves =
+  -- the buffer, the nodes and the commas before the parser remembers want of memory
+  pub promised : {p q : Parser S H F C K fg cg kg} {f : Bool} (b : Buffer S) (ns : Nodes F C K fg cg kg) (cs : TrailingCommas) (a r : Result T Error) → has_failed p ≡ false → f ≡ has_failed p →
+      r ≡ a → buffer_of q ≡ b → nodes_of q ≡ ns → commas_of q ≡ cs → has_failed q ≡ (f || wants_memory a) → Meets model sure (answer.derives hook s) (answer.tree ns) s (buffer_of p) a b
+      → MatchResult a (λ x. RemembersAll model hook answer.strip s (answer.tree ns x) (buffer_of p) b (commas_of p) cs) (λ x. x.kind ≢ OutOfMemory → cs ≡ commas_of p)
+      → answer.leaves (nodes_of p) a ns → Promised model sure hook answer s p r q
+  promised {p} {q} b ns cs a r runs same e buffer nodes commas fails done remembers leaves =
       let left : answer.leaves (nodes_of p) r (nodes_of q) = rw (e, nodes) leaves in
       let meets : Meets model sure (answer.derives hook s) (answer.tree (nodes_of q)) s (buffer_of p) r (buffer_of q) = rw (e, buffer, nodes) done in
       record {
@@ -66,6 +73,7 @@ module _ {S H T F C K : Type 0} {fg : Ghosts F} {cg : Ghosts C} {kg : Ghosts K} 
         one_tree = λ w. meets.one_tree;
         grouped = λ w. meets.grouped;
         valid = λ w. meets.valid;
+        commas = rw (e, buffer, nodes, commas) remembers;
         nodes = left;
         fails = λ w. failing a r runs same e fails;
       }

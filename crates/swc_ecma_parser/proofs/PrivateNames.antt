@@ -7,10 +7,10 @@ use Rattle.swc_input.specs.declared.buffer.Buffer.{Buffer}
 use Rattle.swc_input.specs.declared.token.TokenAndSpan.{TokenAndSpan}
 use Rattle.swc_input.specs.Source.{Model, Laws}
 use Rattle.swc_input.specs.Kinds.{is_hash}
+use Rattle.swc_ast.specs.Trees.{to}
 use Rattle.swc_grammar.specs.Scope.{Scope}
 use Rattle.swc_grammar.specs.Clean.{Out, first}
 use Rattle.swc_grammar.specs.Names.{Spelling, spelling, may_name}
-use Rattle.swc_grammar.specs.Trees.{to}
 use Rattle.swc_grammar.specs.Words.{◌>>=◌, rest, begins_at, hash_by, hash_word, word}
 use Rattle.swc_ident.specs.Naming.{PrivateNames}
 use Rattle.swc_productions.specs.Links.{hash_name}

@@ -13,12 +13,12 @@ use Rattle.swc_input.specs.Laws.{Known-after, Known-Future, Future-some}
 use Rattle.swc_ast.specs.declared.lit.Lit.{Lit}
 use Rattle.swc_ast.specs.Parts.{lit_tree}
 use Rattle.swc_ast.specs.Tree.{Tree, node}
+use Rattle.swc_ast.specs.Trees.{is_grouped, are_grouped, grouped_at, is_valid, are_valid, is_invalid, unmarked, items_of}
 use Rattle.swc_bodies.specs.Readings.{Hook, LawfulHook}
 use Rattle.swc_grammar.specs.Scope.{Scope}
 use Rattle.swc_grammar.specs.Symbols.{Symbol, Expr, Assign, Level, Unary, Key, Prop, Literal, Arguments, Template}
 use Rattle.swc_grammar.specs.Reads as grammar
 use Rattle.swc_grammar.specs.Clean.{Out, sym as at, Stop, run}
-use Rattle.swc_grammar.specs.Trees.{is_grouped, are_grouped, grouped_at, is_valid, are_valid, is_invalid, unmarked, items_of}
 use Rattle.swc_grammar.specs.Words.{◌>>=◌}
 use Rattle.swc_grammar.proofs.Sound as clean
 use Rattle.swc_grammar.proofs.Complete as clean_all
@@ -70,7 +70,7 @@ stripped_from strip (Some p) t ys h = let q = parts (strip p.0, p.1) (t, ys) h i
 
 module _ {F C K : Type 0} {fun_at : F → Span} {class_at : C → Span} {block_at : K → Span} (hook : Hook F C K)
     (laws : LawfulHook fun_at class_at block_at hook) where
-  is_sound : (s : Symbol) → IsSound (grammar.Reads hook s) (run hook (at s))
+  pub is_sound : (s : Symbol) → IsSound (grammar.Reads hook s) (run hook (at s))
   is_sound s = record { sound = λ c ts ys t h. clean.sound hook laws s c ts (t, ys) h; cut = λ c own ys t d. cut-append own ys d }
 
   is_sound_bare : (s : Symbol) → IsSound (grammar.ReadsUnmarked hook s) (bare (run hook (at s)))

@@ -1,6 +1,7 @@
 -- From one expression read, and the end looked for, to the headline.
 use Rattle.std.proofs.Common.{◌≡◌, Bool, true, false, not, ◌||◌, List, [], ◌∷◌, ◌++◌, Option, Some, None, Result, IfOk, IsSome, MatchResult, refl, sym, ap, subst, ◌∙◌}
 use Rattle.std.proofs.lemmas.List.{append-nil}
+use Rattle.swc_context.specs.Contexts.{view}
 use Rattle.swc_context.specs.declared.context.Context.{Context}
 use Rattle.swc_context.specs.declared.context.EsVersion.{EsVersion}
 use Rattle.swc_context.specs.declared.context.Syntax.{Syntax}
@@ -112,7 +113,7 @@ module _ {H F C K : Type 0} {fg : Ghosts F} {cg : Ghosts C} {kg : Ghosts K} {sur
       let known : Known listed_model (buffer_of p) (plain_list ts) = rw (new) (fresh-known input at ts c x v is) in
       let loud : Loud listed_model (buffer_of p) = rw (new) (fresh-loud input at ts c x v is heeded) in
       let clean : (listed_state (source (buffer_of p))).errors ≡ [] = ap (λ b. (listed_state (source b)).errors) new ∙ ap (λ s. s.errors) is in
-      let same : scope listed_model (buffer_of p) ≡ scope_of c x = ap (λ b. scope listed_model b) new ∙ ap (λ s. scope_of s.context s.syntax) is in
+      let same : scope listed_model (buffer_of p) ≡ scope_of (view c) x = ap (λ b. scope listed_model b) new ∙ ap (λ s. scope_of (view s.context) s.syntax) is in
       let S : Scope → Type 0 = λ k. IfOk r (λ y. y.1 ≡ false → (listed_state (source (buffer_of q))).errors ≡ [] → Reads hook Expr k (plain_list ts) [] (tree_of (nodes_of q) y.0)) in
       record {
         sound = subst S same (whole-sound listed_laws (plain_list ts) t runs known loud clean);

@@ -1,23 +1,26 @@
 -- What the calls of a parser do.
-use Rattle.std.specs.Prelude.{◌≡◌, ℕ, List, map, Bool, true, false, None, IsSome, Option, Result, Ok, Err, IfOk, OnOk, MatchResult}
+use Rattle.std.specs.Prelude.{◌≡◌, ℕ, List, map, Bool, true, false, None, Some, IsSome, Option, Result, Ok, Err, IfOk, IfErr, IsOk, OnOk, MatchResult}
 use Rattle.std.specs.declared.alloc.Global.{Global}
 use Rattle.std.specs.declared.boxed.Box.{Box}
 use Rattle.swc_context.specs.declared.error.Error.{Error}
 use Rattle.swc_context.specs.declared.error.SyntaxError.TheVariants.{ParserFailed}
+use Rattle.swc_context.specs.declared.span.BytePos.{BytePos}
 use Rattle.swc_context.specs.declared.span.Span.{Span}
 use Rattle.swc_input.specs.declared.buffer.Buffer.{Buffer}
+use Rattle.swc_input.specs.declared.token.TokenAndSpan.{TokenAndSpan}
 use Rattle.swc_input.specs.Source.{Model}
-use Rattle.swc_input.specs.Buffer.{ReadSome, current, last_position, previous, state_of}
+use Rattle.swc_input.specs.Buffer.{ReadSome, Looked, current, last_position, previous, state_of}
 use Rattle.swc_input.specs.Recording.{no_memory}
 use Rattle.swc_ast.specs.Tree.{Tree, object, node, trees}
 use Rattle.swc_ast.specs.TreeOf.{boxed_tree, prop_or_spread_tree}
 use Rattle.swc_ast.specs.declared.expr.Expr.{Expr}
 use Rattle.swc_ast.specs.declared.prop.PropOrSpread.{PropOrSpread}
 use Rattle.swc_ast.specs.declared.spanned.Spanned.{Ghosts}
-use Rattle.swc_nodes.specs.Commas.{Remembers}
+use Rattle.swc_nodes.specs.Commas.{Remembers, Recalls, part_commas}
+use Rattle.swc_nodes.specs.Slots.{Part}
 use Rattle.swc_nodes.specs.declared.commas.TrailingCommas.{TrailingCommas}
 use Rattle.swc_nodes.specs.declared.nodes.Nodes.{Nodes}
-use Rattle.swc_nodes.specs.Stands.{bare_at}
+use Rattle.swc_nodes.specs.Stands.{tree_at, bare_at}
 use Rattle.swc_productions.specs.Parsing.{is_memory, Looks}
 use Rattle.swc_ecma_parser.specs.declared.parser.Parser.{Parser}
 
@@ -37,7 +40,7 @@ with_nodes ns p = record p { productions = record p.productions { nodes = ns } }
 
 -- where commas stand behind the last parts of literals, as far as it is remembered
 abbrev pub commas_of : {S H F C K : Type 0} {fg : Ghosts F} {cg : Ghosts C} {kg : Ghosts K} → Parser S H F C K fg cg kg → TrailingCommas
-commas_of p = p.productions.commas
+commas_of p = p.commas
 
 -- whether `import` and a `.` were read
 abbrev pub found_import : {S H F C K : Type 0} {fg : Ghosts F} {cg : Ghosts C} {kg : Ghosts K} → Parser S H F C K fg cg kg → Bool
@@ -63,11 +66,12 @@ parser_failed at = record { span = at; kind = ParserFailed }
 module _ {S H F C K T : Type 0} {fg : Ghosts F} {cg : Ghosts C} {kg : Ghosts K} where
   -- What a call does that makes no node, from the parser p to q, where it answers r. A parser that met want of memory does nothing, and
   -- refuses as `ParserFailed` at the token consumed last (`again`). Of any other Effect says what is done to the buffer, and it has failed
-  -- from now on where it refuses for want of memory, and only there (`fails`).
+  -- from now on where it refuses for want of memory, and only there (`fails`). What is remembered of commas stays.
   pub record Called (Effect : Buffer S → Result T Error → Buffer S → Type 0) (p : Parser S H F C K fg cg kg) (r : Result T Error) (q : Parser S H F C K fg cg kg) : Type 0 where
     pub again : has_failed p ≡ true → (q ≡ p) × (r ≡ Err (parser_failed (previous (buffer_of p))))
     pub effect : has_failed p ≡ false → Effect (buffer_of p) r (buffer_of q)
     pub nodes : nodes_of q ≡ nodes_of p
+    pub commas : commas_of q ≡ commas_of p
     pub fails : has_failed p ≡ false → has_failed q ≡ wants_memory r
 
 module _ {S H F C K X T : Type 0} {fg : Ghosts F} {cg : Ghosts C} {kg : Ghosts K} where
@@ -77,12 +81,24 @@ module _ {S H F C K X T : Type 0} {fg : Ghosts F} {cg : Ghosts C} {kg : Ghosts K
       (λ x. MatchResult r (λ t. view t ≡ by (bare_at (nodes_of p)) x) (λ e. e ≡ no_memory (last_position (buffer_of p))))
       (λ e. r ≡ Err e)
 
+  -- the commas of the literals of what was moved out were remembered; after the answer's refusal none is
+  abbrev pub RemembersParts : (X → List Part) → Parser S H F C K fg cg kg → Result X Error → Result T Error → Parser S H F C K fg cg kg → Type 0
+  RemembersParts parts p answer r q = MatchResult answer
+      (λ x. OnOk r (Recalls (part_commas (tree_at (nodes_of p)) (parts x)) (commas_of p) (commas_of q)))
+      (λ e. commas_of q ≡ commas_of p)
+
+-- the answer stays, or memory was wanted
+abbrev pub Kept : {X : Type 0} → BytePos → Result X Error → Result X Error → Type 0
+Kept at answer r = MatchResult answer (λ x. MatchResult r (λ y. y ≡ x) (λ e. e ≡ no_memory at)) (λ e. r ≡ Err e)
+
 module _ {S : Type 0} (model : Model S) where
-  -- whether none is left: a look, which consumes nothing
+  -- whether none is left: a look, which consumes nothing, and is refused where the source has failed alone; so never over a listed source
   pub record SeesEnd (b : Buffer S) (r : Result Bool Error) (c : Buffer S) : Type 0 where
     pub looks : Looks model b r c
     pub end : IfOk r (λ v. v ≡ true → (current c ≡ None) × ((state_of model c).ended ≡ true))
     pub token : IfOk r (λ v. v ≡ false → IsSome (current c))
+    pub refused : IfErr r (λ e. (e ≡ no_memory (last_position c)) × Looked model b c × ((state_of model c).failed ≡ true))
+    pub sure : (m : List TokenAndSpan) → (state_of model b).known ≡ Some m → IsOk r
 
   -- a call of swc_ident on a name
   pub record ReadsAName {T : Type 0} (Names : Buffer S → Result T Error → Buffer S → Type 0) (b : Buffer S) (r : Result T Error) (c : Buffer S) : Type 0 where
@@ -97,7 +113,11 @@ module _ {S F C K : Type 0} (fun_at : F → Span) (class_at : C → Span) (block
       (λ e. e ≡ no_memory (last_position b))
 
 module _ {S H F C K : Type 0} {fg : Ghosts F} {cg : Ghosts C} {kg : Ghosts K} where
-  -- What a call does that makes an object literal of properties; on Ok the comma behind the last is remembered at the literal's start.
+  -- What a call does that makes an object literal of properties, as `Called` has it of those that remember no comma; on Ok the comma behind
+  -- the last is remembered at the literal's start.
   pub record Makes (span : Span) (props : List (PropOrSpread F C K)) (comma : Option Span) (p : Parser S H F C K fg cg kg) (r : Result (Box (Expr F C K) Global) Error) (q : Parser S H F C K fg cg kg) : Type 0 where
-    pub called : Called (MakesObject fg.place cg.place kg.place span props) p r q
+    pub again : has_failed p ≡ true → (q ≡ p) × (r ≡ Err (parser_failed (previous (buffer_of p))))
+    pub makes : has_failed p ≡ false → MakesObject fg.place cg.place kg.place span props (buffer_of p) r (buffer_of q)
+    pub nodes : nodes_of q ≡ nodes_of p
+    pub fails : has_failed p ≡ false → has_failed q ≡ wants_memory r
     pub remembers : OnOk r (Remembers span.lo.0 comma (commas_of p) (commas_of q))

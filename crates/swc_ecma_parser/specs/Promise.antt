@@ -1,4 +1,6 @@
--- What the calls of a parser promise, by the written grammar alone.
+-- What the calls of a parser promise, by the written grammar alone. What is derived at a buffer is derived in its scope: by
+-- the context without the four flags that decide nothing (`view`), and the syntax. The context itself, with all its flags,
+-- is after each call what it was before.
 use Rattle.std.specs.Prelude.{◌≡◌, ◌≢◌, Bool, true, false, List, [], ◌++◌, Option, Result, Err, IfOk, IfErr, MatchResult}
 use Rattle.swc_context.specs.declared.error.Error.{Error}
 use Rattle.swc_context.specs.declared.error.SyntaxError.TheVariants.{OutOfMemory}
@@ -14,6 +16,7 @@ use Rattle.std.specs.declared.vec.Vec.{Vec}
 use Rattle.swc_ast.specs.Parts.{lit_tree, prop_name_tree, args_tree, tpl_tree}
 use Rattle.swc_ast.specs.Tree.{Tree, node, args, args_with, no_span}
 use Rattle.swc_ast.specs.TreeOf.{prop_or_spread_tree}
+use Rattle.swc_ast.specs.Trees.{is_grouped, is_valid, items_of, comma_of, unmarked}
 use Rattle.swc_ast.specs.declared.expr.Expr.{Expr}
 use Rattle.swc_ast.specs.declared.expr.ExprOrSpread.{ExprOrSpread}
 use Rattle.swc_ast.specs.declared.expr.Tpl.{Tpl}
@@ -28,14 +31,15 @@ use Rattle.swc_grammar.specs.Symbols.{Symbol, Key, Prop, Literal, Arguments, Tem
 use Rattle.swc_grammar.specs.Reads.{Reads, ReadsUnmarked, Stops}
 use Rattle.swc_grammar.specs.Names.{Spelling, NameKind, Reference, ReadsName}
 use Rattle.swc_grammar.specs.Tokens.{ends_prop, may_be_reference}
-use Rattle.swc_grammar.specs.Trees.{is_grouped, is_valid, items_of, comma_of, unmarked}
+use Rattle.swc_nodes.specs.Commas.{commas_in, Recalls}
 use Rattle.swc_nodes.specs.Slots.{expr_part}
 use Rattle.swc_nodes.specs.Stands.{count, From, Grows, SameNodes}
+use Rattle.swc_nodes.specs.declared.commas.TrailingCommas.{TrailingCommas}
 use Rattle.swc_nodes.specs.declared.node.ExprId.{ExprId}
 use Rattle.swc_nodes.specs.declared.nodes.Nodes.{Nodes}
 use Rattle.swc_productions.specs.Keys.{ends_params}
 use Rattle.swc_productions.specs.Parsing.{scope, Loud, Acts, Consumes, Here, seen, tree_of}
-use Rattle.swc_ecma_parser.specs.Calls.{buffer_of, nodes_of, tree_by, has_failed, wants_memory, parser_failed}
+use Rattle.swc_ecma_parser.specs.Calls.{buffer_of, nodes_of, commas_of, tree_by, has_failed, wants_memory, parser_failed}
 use Rattle.swc_ecma_parser.specs.declared.parser.Parser.{Parser}
 
 -- a derivation of A: in the scope, from the tokens from the first list on to before the second
@@ -98,11 +102,12 @@ module _ {S F C K T : Type 0} (model : Model S) (view : T → Tree F C K) where
   abbrev pub Valid : Buffer S → Result T Error → Buffer S → Type 0
   Valid b r c = Loud model b → IfOk r (λ x. Unmarred model b c → is_valid (view x) ≡ true)
 
--- How a call answers trees: which tree an answer stands for, by the nodes that the parser then has; what derives such trees; and what
--- becomes of the nodes.
+-- How a call answers trees: which tree an answer stands for, by the nodes that the parser then has; what derives such trees; what is left
+-- in them of a tree with its marks of commas; and what becomes of the nodes.
 pub record Answer (T F C K : Type 0) (fg : Ghosts F) (cg : Ghosts C) (kg : Ghosts K) : Type 1 where
   pub tree : Nodes F C K fg cg kg → T → Tree F C K
   pub derives : Hook F C K → Symbol → Derivation (Tree F C K)
+  pub strip : Tree F C K → Tree F C K
   pub leaves : Nodes F C K fg cg kg → Result T Error → Nodes F C K fg cg kg → Type 0
 
 -- in boxes, which have no marks of commas: the nodes are what they were
@@ -110,6 +115,7 @@ abbrev pub in_boxes : {F C K : Type 0} {fg : Ghosts F} {cg : Ghosts C} {kg : Gho
 in_boxes {fg = fg} {cg = cg} {kg = kg} = record {
   tree = λ ns e. tree_by fg.place cg.place kg.place e;
   derives = λ hook s. ReadsUnmarked hook s;
+  strip = unmarked;
   leaves = λ ns r ms. SameNodes ns ms;
 }
 
@@ -118,6 +124,7 @@ abbrev pub key_in_boxes : {F C K : Type 0} {fg : Ghosts F} {cg : Ghosts C} {kg :
 key_in_boxes {fg = fg} {cg = cg} {kg = kg} = record {
   tree = λ ns k. prop_name_tree (tree_by fg.place cg.place kg.place) k;
   derives = λ hook s. ReadsUnmarked hook s;
+  strip = unmarked;
   leaves = λ ns r ms. SameNodes ns ms;
 }
 
@@ -125,6 +132,7 @@ abbrev pub prop_in_boxes : {F C K : Type 0} {fg : Ghosts F} {cg : Ghosts C} {kg 
 prop_in_boxes {F} {C} {K} {fg = fg} {cg = cg} {kg = kg} = record {
   tree = λ ns x. prop_or_spread_tree F C K fg.place cg.place kg.place x;
   derives = λ hook s. ReadsUnmarked hook s;
+  strip = unmarked;
   leaves = λ ns r ms. SameNodes ns ms;
 }
 
@@ -150,6 +158,7 @@ abbrev pub args_in_boxes : {F C K : Type 0} {fg : Ghosts F} {cg : Ghosts C} {kg 
 args_in_boxes {fg = fg} {cg = cg} {kg = kg} = record {
   tree = λ ns xs. args_tree (tree_by fg.place cg.place kg.place) xs;
   derives = λ hook s. ReadsAs only_items hook s;
+  strip = only_items;
   leaves = λ ns r ms. SameNodes ns ms;
 }
 
@@ -158,6 +167,7 @@ abbrev pub list_in_boxes : {F C K : Type 0} {fg : Ghosts F} {cg : Ghosts C} {kg 
 list_in_boxes {fg = fg} {cg = cg} {kg = kg} = record {
   tree = λ ns p. list_tree fg.place cg.place kg.place p;
   derives = λ hook s. ReadsAs items_and_comma hook s;
+  strip = items_and_comma;
   leaves = λ ns r ms. SameNodes ns ms;
 }
 
@@ -165,6 +175,7 @@ abbrev pub tpl_in_boxes : {F C K : Type 0} {fg : Ghosts F} {cg : Ghosts C} {kg :
 tpl_in_boxes {fg = fg} {cg = cg} {kg = kg} = record {
   tree = λ ns t. tpl_tree (tree_by fg.place cg.place kg.place) t;
   derives = λ hook s. ReadsUnmarked hook s;
+  strip = unmarked;
   leaves = λ ns r ms. SameNodes ns ms;
 }
 
@@ -173,8 +184,18 @@ abbrev pub by_number : {F C K : Type 0} {fg : Ghosts F} {cg : Ghosts C} {kg : Gh
 by_number = record {
   tree = λ ns id. tree_of ns id;
   derives = λ hook s. Reads hook s;
+  strip = λ t. t;
   leaves = λ ns r ms. MatchResult r (λ id. Grows ns ms × From (count ns) ms (expr_part id)) (λ e. SameNodes ns ms);
 }
+
+module _ {S F C K : Type 0} (model : Model S) (hook : Hook F C K) (strip : Tree F C K → Tree F C K) (s : Symbol) where
+  -- Between b and c the commas of literals were remembered, one after another, and no other: of those of a tree that has its marks, of which
+  -- `strip` leaves t. Where faults are recorded at all, and none was, it is derived from the tokens consumed.
+  pub record RemembersAll (t : Tree F C K) (b c : Buffer S) (old new : TrailingCommas) : Type 0 where
+    pub marked : Tree F C K
+    pub same : strip marked ≡ t
+    pub derived : Loud model b → Unmarred model b c → Derives model (Reads hook s) (λ (m : Tree F C K). m) marked b c
+    pub recalls : Recalls (commas_in marked) old new
 
 -- What a call promises that reads the symbol s, from the parser p to q, where it answers r.
 pub record Promised {S H T F C K : Type 0} {fg : Ghosts F} {cg : Ghosts C} {kg : Ghosts K} (model : Model S) (sure : Bool) (hook : Hook F C K) (answer : Answer T F C K fg cg kg) (s : Symbol) (p : Parser S H F C K fg cg kg) (r : Result T Error) (q : Parser S H F C K fg cg kg) : Type 0 where
@@ -189,6 +210,10 @@ pub record Promised {S H T F C K : Type 0} {fg : Ghosts F} {cg : Ghosts C} {kg :
   pub one_tree : has_failed p ≡ false → sure ≡ true → EndsAt s [] → OneTree model (answer.derives hook s) (answer.tree (nodes_of q)) (buffer_of p) r (buffer_of q)
   pub grouped : has_failed p ≡ false → Grouped model (answer.tree (nodes_of q)) (buffer_of p) r (buffer_of q)
   pub valid : has_failed p ≡ false → Valid model (answer.tree (nodes_of q)) (buffer_of p) r (buffer_of q)
+  -- The commas of the answer's literals were remembered; what is refused but for want of memory leaves what there was.
+  pub commas : MatchResult r
+      (λ x. RemembersAll model hook answer.strip s (answer.tree (nodes_of q) x) (buffer_of p) (buffer_of q) (commas_of p) (commas_of q))
+      (λ e. e.kind ≢ OutOfMemory → commas_of q ≡ commas_of p)
   -- what becomes of the nodes
   pub nodes : answer.leaves (nodes_of p) r (nodes_of q)
   -- it has failed from now on where it refuses for want of memory, and only there

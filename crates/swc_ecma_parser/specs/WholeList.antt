@@ -1,5 +1,6 @@
 -- A whole list of tokens, read as one expression: the headline, in its own words.
 use Rattle.std.specs.Prelude.{◌≡◌, Bool, true, false, not, List, [], map, Result, Ok, Err, IfOk, MatchResult}
+use Rattle.swc_context.specs.Contexts.{view}
 use Rattle.swc_context.specs.declared.context.Context.{Context}
 use Rattle.swc_context.specs.declared.context.Syntax.{Syntax}
 use Rattle.swc_context.specs.declared.error.Error.{Error}
@@ -28,15 +29,15 @@ abbrev pub IsHeeded : Context → Syntax → Type 0
 IsHeeded c x = (c.ignore_error ≡ false) × (x.early_errors ≡ true)
 
 module _ {F C K : Type 0} {fg : Ghosts F} {cg : Ghosts C} {kg : Ghosts K} where
-  -- what is read of the tokens ts, in the context c and by the syntax x: the number of an expression and whether tokens are left behind
+  -- In the context c, of which four flags decide nothing (`view`), and by the syntax x, what is read of the tokens ts: the number of an expression and whether tokens are left behind
   -- it, or a refusal; the nodes; and the faults that were recorded
   pub record Headline (sure : Bool) (hook : Hook F C K) (c : Context) (x : Syntax) (ts : List TokenAndSpan)
       (read : Result (ExprId × Bool) Error) (nodes : Nodes F C K fg cg kg) (recorded : List Error) : Type 0 where
     -- A tree answered with no token left and no fault recorded is derived by the written grammar from the whole list.
-    pub sound : IfOk read (λ r. r.1 ≡ false → recorded ≡ [] → Reads hook Expr (scope_of c x) ts [] (tree_of nodes r.0))
+    pub sound : IfOk read (λ r. r.1 ≡ false → recorded ≡ [] → Reads hook Expr (scope_of (view c) x) ts [] (tree_of nodes r.0))
     -- Each tree that the grammar derives from the whole list is answered, with no token left and no fault recorded, or memory was wanted.
     -- The hook has to be faithful.
-    pub complete : sure ≡ true → (t : Tree F C K) → Reads hook Expr (scope_of c x) ts [] t
+    pub complete : sure ≡ true → (t : Tree F C K) → Reads hook Expr (scope_of (view c) x) ts [] t
         → MatchResult read (λ r. (tree_of nodes r.0 ≡ t) × (r.1 ≡ false) × (recorded ≡ [])) (λ e. e.kind ≡ OutOfMemory)
 
 module _ {S H F C K : Type 0} {fg : Ghosts F} {cg : Ghosts C} {kg : Ghosts K} (model : Model S) (sure : Bool) (hook : Hook F C K) where

@@ -1,19 +1,20 @@
 // The parser that is called from outside.
 ghost use Rattle.std.specs.Prelude.{◌≡◌, ◌||◌, ℕ, true, false, [], None, IfErr, IfOk, OnOk, MatchResult};
 ghost use Rattle.swc_input.specs.Buffer.{last_position, previous, source, state_of, with_source, fresh};
-ghost use Rattle.swc_nodes.specs.Commas.{comma_at};
-ghost use Rattle.swc_nodes.specs.Slots.{expr_part};
-ghost use Rattle.swc_nodes.specs.Stands.{count, Apart, From, CutTo};
+ghost use Rattle.swc_nodes.specs.Commas.{comma_at, part_commas, Recalls};
+ghost use Rattle.swc_nodes.specs.Seats.{floor};
+ghost use Rattle.swc_nodes.specs.Slots.{one_expr};
+ghost use Rattle.swc_nodes.specs.Stands.{count, seat_at, tree_at, bare_at, Apart, Left, CutTo};
 ghost use Rattle.swc_grammar.specs.Symbols.{Expr, Assign, Level, Unary};
 ghost use Rattle.swc_ecma_parser.specs.Calls.{buffer_of, nodes_of, commas_of, with_buffer, with_nodes, has_failed};
 ghost use Rattle.swc_ecma_parser.specs.Calls.{wants_memory, found_import};
-ghost use Rattle.swc_ecma_parser.specs.Calls.{parser_failed, Called, SeesEnd, MovesOut};
+ghost use Rattle.swc_ecma_parser.specs.Calls.{parser_failed, Called, SeesEnd, Kept, MovesOut, RemembersParts};
 ghost use Rattle.swc_ecma_parser.specs.Promise.{Promised, PromisedLit, in_boxes, by_number};
 ghost use Rattle.std.specs.Borrow.{sem, follows};
 ghost use Rattle.swc_ecma_parser.specs.contracts.parser.Parser.{the_row};
 
 use crate::taking::Take;
-use std::alloc::Global;
+use std::alloc::{AllocError, Global};
 use swc_ast::lit::Lit;
 use swc_ast::pat::Pat;
 use swc_bodies::bodies::{Bodies, BodyForms, ExprOf};
@@ -51,6 +52,7 @@ pub type PatOf<B> = Pat<<B as BodyForms>::Fun, <B as BodyForms>::Class, <B as Bo
 /// what was refused (`valid`).
 pub struct Parser<I: Tokens, B: Bodies<I>> {
     productions: Productions<I, B>,
+    commas: TrailingCommas,
     failed: bool,
 }
 
@@ -59,6 +61,7 @@ impl<I: Tokens, B: Bodies<I>> Drop for Parser<I, B> {
     fn drop(self) {
         let Parser {
             productions: _,
+            commas: _,
             failed: _,
         } = self;
     }
@@ -79,9 +82,9 @@ impl<I: Tokens, B: Bodies<I>> Parser<I, B> {
                 input: Buffer::new(input),
                 bodies,
                 nodes: Nodes::new(alloc),
-                commas: TrailingCommas::new(alloc),
                 found_module_item: false,
             },
+            commas: TrailingCommas::new(alloc),
             failed: false,
         }
     }
@@ -137,6 +140,7 @@ impl<I: Tokens, B: Bodies<I>> Parser<I, B> {
     {
         let Parser {
             productions,
+            commas: _,
             failed: _,
         } = self;
         productions.into_nodes()
@@ -151,13 +155,14 @@ impl<I: Tokens, B: Bodies<I>> Parser<I, B> {
     }
 
     /// The place of a comma behind the last element of an array literal, or the last property of an object literal,
-    /// that begins at `start`, a position in bytes: of the one that was read there last, or was made by `make_object`.
+    /// that begins at `start`, a position in bytes: of the one in the last answer that has one there, or that was made
+    /// by `make_object` since.
     ///
     /// A tree in boxes has no place for it. Among nodes it stands in the literal's own.
     pub fn trailing_comma(&self, start: BytePos) -> Option<Span>
         ensures { result ≡ comma_at (commas_of self.now) start.0 }
     {
-        self.productions.commas.get(start)
+        self.commas.get(start)
     }
 
     /// An expression, as `parse_expr` reads it: its number among the nodes, which keeps its tree until they are let
@@ -281,38 +286,61 @@ impl<I: Tokens, B: Bodies<I>> Parser<I, B> {
         self.finish(answer)
     }
 
-    /// Keeps the nodes that were made for the answer, or cuts them off after a refusal.
+    /// Keeps the nodes that were made for the answer, and remembers the commas of its literals; or cuts them off after a
+    /// refusal.
     fn keep(&mut self, start: usize, answer: PResult<ExprId>) -> PResult<ExprId>
-        ensures answer { result ≡ answer }
-        ensures nodes { MatchResult answer (λ id. nodes_of self.new ≡ nodes_of self.old)
+        requires { IfOk answer (λ id. Apart start (nodes_of self.old) (one_expr id)) }
+        ensures answer { Kept (last_position (buffer_of self.old)) answer result }
+        ensures commas { RemembersParts one_expr self.old answer result self.new }
+        ensures nodes { MatchResult result (λ id. nodes_of self.new ≡ nodes_of self.old)
             (λ e. CutTo start (nodes_of self.old) (nodes_of self.new)) }
         ensures buffer { buffer_of self.new ≡ buffer_of self.old }
         ensures runs { has_failed self.new ≡ has_failed self.old }
     {
+        let answer = self.remember(answer);
         if answer.is_err() {
             self.productions.nodes.cut(start);
         }
         answer
     }
 
-    /// Moves the answer out of the nodes, and cuts off those that were made for it.
-    fn move_out<T: Take<B::Fun, B::Class, B::Block>>(
+    /// Remembers the commas of an answer's literals. Beside the answer's own refusal it is refused only for want of
+    /// memory.
+    fn remember(&mut self, answer: PResult<ExprId>) -> PResult<ExprId>
+        requires { IfOk answer (λ id. Apart 0 (nodes_of self.old) (one_expr id)) }
+        ensures answer { Kept (last_position (buffer_of self.old)) answer result }
+        ensures commas { RemembersParts one_expr self.old answer result self.new }
+        ensures nodes { nodes_of self.new ≡ nodes_of self.old }
+        ensures buffer { buffer_of self.new ≡ buffer_of self.old }
+        ensures runs { has_failed self.new ≡ has_failed self.old }
+    {
+        match answer {
+            Ok(id) => match self.commas.remember_all(&self.productions.nodes, &id) {
+                Ok(()) => Ok(id),
+                Err(_) => Err(self.productions.input.out_of_memory()),
+            },
+            Err(error) => Err(error),
+        }
+    }
+
+    /// Moves the answer out of the nodes, remembers the commas of its literals, and cuts off the nodes that were made
+    /// for it.
+    fn move_out<T: Take<B::Fun, B::Class, B::Block> + Drop>(
         &mut self,
         start: usize,
         answer: PResult<T>,
     ) -> PResult<T::Whole>
         requires { IfOk answer (λ x. Apart start (nodes_of self.old) (T.parts x)) }
         ensures moved { MovesOut T.by T.tree self.old answer result }
+        ensures commas { RemembersParts T.parts self.old answer result self.new }
         ensures nodes { CutTo start (nodes_of self.old) (nodes_of self.new) }
         ensures buffer { buffer_of self.new ≡ buffer_of self.old }
         ensures runs { has_failed self.new ≡ has_failed self.old }
     {
         match answer {
             Ok(numbers) => {
-                let alloc = self.productions.alloc;
-                let made = &mut self.productions.nodes;
-                let whole = numbers.take(made, alloc);
-                made.cut(start);
+                let whole = self.take_out(numbers);
+                self.productions.nodes.cut(start);
                 match whole {
                     Ok(whole) => Ok(whole),
                     Err(_) => Err(self.productions.input.out_of_memory()),
@@ -323,6 +351,24 @@ impl<I: Tokens, B: Bodies<I>> Parser<I, B> {
                 Err(error)
             }
         }
+    }
+
+    /// Moves what has the numbers out of the nodes, once the commas of its literals are remembered.
+    fn take_out<T: Take<B::Fun, B::Class, B::Block> + Drop>(
+        &mut self,
+        numbers: T,
+    ) -> Result<T::Whole, AllocError>
+        requires { Apart 0 (nodes_of self.old) (T.parts numbers) }
+        ensures left { Left (floor (seat_at (nodes_of self.old)) (count (nodes_of self.old)) (T.parts numbers))
+            (nodes_of self.old) (nodes_of self.new) }
+        ensures moved { IfOk result (λ y. T.tree y ≡ T.by (bare_at (nodes_of self.old)) numbers) }
+        ensures commas { OnOk result (Recalls (part_commas (tree_at (nodes_of self.old)) (T.parts numbers))
+            (commas_of self.old) (commas_of self.new)) }
+        ensures buffer { buffer_of self.new ≡ buffer_of self.old }
+        ensures runs { has_failed self.new ≡ has_failed self.old }
+    {
+        numbers.remember(&self.productions.nodes, &mut self.commas)?;
+        numbers.take(&mut self.productions.nodes, self.productions.alloc)
     }
 
     /// After want of memory, refuses.

@@ -1,12 +1,14 @@
 // What calls move out of the nodes.
-ghost use Rattle.std.specs.Prelude.{◌≡◌, IfOk};
+ghost use Rattle.std.specs.Prelude.{◌≡◌, IfOk, OnOk};
+ghost use Rattle.swc_nodes.specs.Commas.{part_commas, Recalls};
 ghost use Rattle.swc_nodes.specs.Seats.{floor};
-ghost use Rattle.swc_nodes.specs.Stands.{count, seat_at, bare_at, Apart, Left};
+ghost use Rattle.swc_nodes.specs.Stands.{count, seat_at, tree_at, bare_at, Apart, Left};
 
 use std::alloc::{AllocError, Global};
 use swc_ast::expr::{Expr, ExprOrSpread, Tpl};
 use swc_ast::prop::{PropName, PropOrSpread};
 use swc_ast::spanned::Spanned;
+use swc_nodes::commas::TrailingCommas;
 use swc_nodes::node::{ExprId, PropNode};
 use swc_nodes::nodes::Nodes;
 use swc_productions::moves::Listed;
@@ -26,6 +28,15 @@ pub(crate) trait Take<F: Spanned + Drop, C: Spanned + Drop, K: Spanned + Drop> {
     ghost by: { (ℕ → Tree F C K) → Self → Tree F C K };
 
     ghost tree: { Self.Whole → Tree F C K };
+
+    /// Remembers the commas of the literals in it, or forgets what was remembered where they begin.
+    fn remember(
+        &self,
+        nodes: &Nodes<F, C, K>,
+        commas: &mut TrailingCommas,
+    ) -> Result<(), AllocError>
+        requires { Apart 0 nodes.now (parts self.now) }
+        ensures { OnOk result (Recalls (part_commas (tree_at nodes.now) (parts self.now)) commas.old commas.new) };
 
     /// Moves it out, and lets go of all nodes behind it.
     fn take(self, nodes: &mut Nodes<F, C, K>, alloc: Global) -> Result<Self::Whole, AllocError>
@@ -47,6 +58,14 @@ impl<F: Spanned + Drop, C: Spanned + Drop, K: Spanned + Drop> Take<F, C, K> for 
 
     ghost tree = { boxed_tree _ _ _ F.place C.place K.place };
 
+    fn remember(
+        &self,
+        nodes: &Nodes<F, C, K>,
+        commas: &mut TrailingCommas,
+    ) -> Result<(), AllocError> {
+        commas.remember_all(nodes, self)
+    }
+
     fn take(self, nodes: &mut Nodes<F, C, K>, alloc: Global) -> Result<Self::Whole, AllocError> {
         take_expr(nodes, alloc, self)
     }
@@ -66,6 +85,14 @@ impl<F: Spanned + Drop, C: Spanned + Drop, K: Spanned + Drop> Take<F, C, K> for 
 
     ghost tree = { prop_name_tree (boxed_tree _ _ _ F.place C.place K.place) };
 
+    fn remember(
+        &self,
+        nodes: &Nodes<F, C, K>,
+        commas: &mut TrailingCommas,
+    ) -> Result<(), AllocError> {
+        commas.remember_all(nodes, self)
+    }
+
     fn take(self, nodes: &mut Nodes<F, C, K>, alloc: Global) -> Result<Self::Whole, AllocError> {
         take_key(nodes, alloc, self)
     }
@@ -83,6 +110,14 @@ impl<F: Spanned + Drop, C: Spanned + Drop, K: Spanned + Drop> Take<F, C, K> for 
     ghost by = { prop_of F.place C.place K.place };
 
     ghost tree = { prop_or_spread_tree _ _ _ F.place C.place K.place };
+
+    fn remember(
+        &self,
+        nodes: &Nodes<F, C, K>,
+        commas: &mut TrailingCommas,
+    ) -> Result<(), AllocError> {
+        commas.remember_all(nodes, self)
+    }
 
     fn take(self, nodes: &mut Nodes<F, C, K>, alloc: Global) -> Result<Self::Whole, AllocError> {
         take_prop(nodes, alloc, self)
@@ -104,6 +139,14 @@ impl<F: Spanned + Drop, C: Spanned + Drop, K: Spanned + Drop> Take<F, C, K>
 
     ghost tree = { args_tree (boxed_tree _ _ _ F.place C.place K.place) };
 
+    fn remember(
+        &self,
+        nodes: &Nodes<F, C, K>,
+        commas: &mut TrailingCommas,
+    ) -> Result<(), AllocError> {
+        commas.remember_all(nodes, &self.items)
+    }
+
     fn take(self, nodes: &mut Nodes<F, C, K>, alloc: Global) -> Result<Self::Whole, AllocError> {
         take_args(nodes, alloc, self.items)
     }
@@ -122,6 +165,14 @@ impl<F: Spanned + Drop, C: Spanned + Drop, K: Spanned + Drop> Take<F, C, K> for 
     ghost by = { λ at. tpl_tree (expr_of F.place C.place K.place at) };
 
     ghost tree = { tpl_tree (boxed_tree _ _ _ F.place C.place K.place) };
+
+    fn remember(
+        &self,
+        nodes: &Nodes<F, C, K>,
+        commas: &mut TrailingCommas,
+    ) -> Result<(), AllocError> {
+        commas.remember_all(nodes, &self.exprs)
+    }
 
     fn take(self, nodes: &mut Nodes<F, C, K>, alloc: Global) -> Result<Self::Whole, AllocError> {
         take_tpl(nodes, alloc, self)

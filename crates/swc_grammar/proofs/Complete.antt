@@ -22,6 +22,8 @@ use Rattle.swc_input.specs.Kinds.{at_token, is_hash}
 use Rattle.swc_ast.specs.Targets.{is_target}
 use Rattle.swc_ast.specs.Tree.{Tree, node, Trees, nil, cons, span_of}
 use Rattle.swc_ast.specs.Tree.{bin as bin_kind, unary as unary_kind, update as update_kind}
+use Rattle.swc_ast.specs.Trees.{new_e, is_chain, items_of, seq_of, trees_append, is_operation}
+use Rattle.swc_ast.specs.Trees.{to, bin_e, nullish_ok, logical_ok, exp_ok, is_unary, min_right, left_ok}
 use Rattle.swc_bodies.specs.Readings.{whole_span, Hook, begins as begins_own, begins_function, is_function_here}
 use Rattle.swc_bodies.specs.Readings.{is_function, is_async, is_class}
 use Rattle.swc_grammar.specs.Scope.{Scope}
@@ -33,8 +35,6 @@ use Rattle.swc_grammar.specs.Tokens.{is_dot, is_lbracket, is_backquote, is_dolla
 use Rattle.swc_grammar.specs.Tokens.{is_super, is_import, is_meta, is_source}
 use Rattle.swc_grammar.specs.Tokens.{is_update, is_assign, is_await, is_yield, await_ident_ok, ends_await, yield_ok}
 use Rattle.swc_grammar.specs.Tokens.{goes_on_yield, begins_yielded}
-use Rattle.swc_grammar.specs.Trees.{new_e, is_chain, items_of, seq_of, trees_append, is_operation}
-use Rattle.swc_grammar.specs.Trees.{to, bin_e, nullish_ok, logical_ok, exp_ok, is_unary, min_right}
 use Rattle.swc_grammar.specs.Symbols.{Symbol, Expr, Exprs, Assign, Level, Unary, Lhs, Left, Arguments, Args, ArgsTail, Primary}
 use Rattle.swc_grammar.specs.Symbols.{Literal, Template, Parts, Base}
 use Rattle.swc_grammar.specs.Symbols.{Elements, ElementsTail}
@@ -67,7 +67,7 @@ use Rattle.swc_grammar.specs.Clean.{args_tail, tpl, parts, base, super_base, imp
 use Rattle.swc_grammar.specs.Clean.{operator_at, prefix_at, updates, assigns, seqs, no_update_at, ends_unary, no_assign_at}
 use Rattle.swc_grammar.specs.Clean.{ends_assign, begins_yield, goes_on_yield_at, ends_await_at, update_tail, cond_tail}
 use Rattle.swc_grammar.specs.Clean.{assign_tail, exprs_next, yield_by, await_by, unary_by}
-use Rattle.swc_grammar.specs.Clean.{Bound, Stop, left_ok, no_error, Choice, pick, chosen, primary}
+use Rattle.swc_grammar.specs.Clean.{Bound, Stop, no_error, Choice, pick, chosen, primary}
 use Rattle.swc_grammar.specs.Clean.{literal, elements, elements_tail, item, props, props_tail, prop, key, after_key}
 use Rattle.swc_grammar.specs.Clean.{shell, prop_word, is_lit, turn, turned, step, run}
 use Rattle.swc_grammar.specs.Firsts.{starts, begins_primary, begins_left, begins_operand, begins_expression, begins_key}
@@ -396,7 +396,7 @@ module _ {F C K : Type 0} (hook : Hook F C K) where
   links-stop b c [] h = no-call-at-end b
   links-stop b c (t ∷ us) h = let (x, y, z, q, p) = no-links b t us h in rw (x, y, z, q) (no-call-here b t p)
 
-  links-end : (b : Bool) (t : Tree F C K) (c : Scope) (ys : List TokenAndSpan) → no_link b ys ≡ true
+  pub links-end : (b : Bool) (t : Tree F C K) (c : Scope) (ys : List TokenAndSpan) → no_link b ys ≡ true
       → run hook (links b t) c ys ≡ Some (t, ys)
   links-end b t c ys h =
       knot hook (links b t) c ys ∙ ap (λ v. exec hook (run hook) (Some 1) (linked v t) ys) (links-stop b c ys h)

@@ -16,18 +16,18 @@ use Rattle.swc_input.specs.declared.token.TokenAndSpan.{TokenAndSpan}
 use Rattle.swc_ast.specs.Tree.{Kind, Tree, node, Trees, nil, cons, span_of}
 use Rattle.swc_ast.specs.Tree.{unary as unary_kind, bin as bin_kind, update as update_kind, cond as cond_kind}
 use Rattle.swc_ast.specs.Tree.{await as await_kind, assign as assign_kind, item, spread}
+use Rattle.swc_ast.specs.Trees.{to, bin_e, tightness, least_left, min_right, exp_ok, is_unary, nullish_ok}
+use Rattle.swc_ast.specs.Trees.{logical_ok}
+use Rattle.swc_ast.specs.Trees.{is_valid, are_valid, is_invalid, is_grouped, are_grouped, grouped_at, items_of}
+use Rattle.swc_ast.specs.Trees.{at_place, method_e, value_e, prop_of, regex_e, text_e, trees_append, texts_of, exprs_of}
+use Rattle.swc_ast.specs.Trees.{held_expr, held_exprs, seq_of, paren_e}
+use Rattle.swc_ast.specs.Trees.{is_chain, chain_e, link_e, member_e, call_e, name_e, private_e, computed_e, left_ok}
 use Rattle.swc_grammar.specs.Scope.{Scope}
 use Rattle.swc_grammar.specs.Rule.{Rule, gives, never, take, check, peek, read, hear, given, ◌>>=◌}
 use Rattle.swc_bodies.specs.Readings.{Hook}
 use Rattle.swc_grammar.specs.Symbols.{Symbol, Expr, Level, Unary, Lhs, Left, Base, Primary, Literal, Template, Parts, Prop, Key, AfterKey}
 use Rattle.swc_grammar.specs.Symbols.{Answer, Body}
 use Rattle.swc_grammar.specs.Symbols.{Value, Side}
-use Rattle.swc_grammar.specs.Trees.{to, bin_e, tightness, least_left, min_right, exp_ok, is_unary, nullish_ok}
-use Rattle.swc_grammar.specs.Trees.{logical_ok}
-use Rattle.swc_grammar.specs.Trees.{is_valid, are_valid, is_invalid, is_grouped, are_grouped, grouped_at, items_of}
-use Rattle.swc_grammar.specs.Trees.{at_place, method_e, value_e, prop_of, regex_e, text_e, trees_append, texts_of, exprs_of}
-use Rattle.swc_grammar.specs.Trees.{held_expr, held_exprs, seq_of, paren_e}
-use Rattle.swc_grammar.specs.Trees.{is_chain, chain_e, link_e, member_e, call_e, name_e, private_e, computed_e}
 use Rattle.swc_grammar.specs.Parts.{reference, any_name, lit_of, regex_of, flags_ok, cooked_of, text_by}
 use Rattle.swc_grammar.specs.Parts.{text_of, key_lit_of}
 use Rattle.swc_grammar.specs.Parts.{prefix_here, update_here, assign_here, operator_here}
@@ -48,7 +48,6 @@ use Rattle.swc_grammar.specs.Grammar.{level-up, bin-op, private-expr, assign-lev
 use Rattle.swc_grammar.specs.Grammar.{update-postfix, update-prefix, await-expr, await-ident, cond-expr, assign-expr}
 use Rattle.swc_grammar.specs.Grammar.{yield-alone, yield-expr, yield-star, exprs-one, exprs-more, seq-expr}
 use Rattle.swc_grammar.specs.Reads.{Reads, by, Follows, gave, took, held, calm, part, heard}
-use Rattle.swc_grammar.specs.Clean.{left_ok}
 use Rattle.swc_grammar.proofs.Answers.{inj, both, only}
 
 -- how loosely a symbol's trees may hold together

@@ -14,6 +14,7 @@ pub mod Knot
 pub mod Levels
 pub mod Literals
 pub mod Marks
+pub mod Members
 pub mod Names
 pub mod One
 pub mod Only

@@ -19,14 +19,14 @@ use Rattle.swc_input.specs.declared.token.TokenAndSpan.{TokenAndSpan}
 use Rattle.swc_input.specs.Kinds.{at_token}
 use Rattle.swc_context.specs.declared.operator.UnaryOp.{UnaryOp}
 use Rattle.swc_ast.specs.Tree.{Tree, Trees, nil, cons, span_of}
+use Rattle.swc_ast.specs.Trees.{new_e, bare_new_e, is_chain, items_of, exprs_e, seq_of, is_operation}
+use Rattle.swc_ast.specs.Trees.{to, bin_e, nullish_ok, logical_ok, exp_ok, min_right, left_ok}
 use Rattle.swc_bodies.specs.Readings.{whole_span, Hook, LawfulHook}
 use Rattle.swc_grammar.specs.Scope.{Scope}
 use Rattle.swc_grammar.specs.Rule.{gives, never, take, check, peek, read, hear, sees, given, ◌>>=◌}
 use Rattle.swc_grammar.specs.Tokens.{with_in, binary_of, is_power, is_lparen, is_new, is_update, is_await, is_question}
 use Rattle.swc_grammar.specs.Tokens.{is_assign, is_comma}
 use Rattle.swc_grammar.specs.Parts.{operator_here}
-use Rattle.swc_grammar.specs.Trees.{new_e, bare_new_e, is_chain, items_of, exprs_e, seq_of, is_operation}
-use Rattle.swc_grammar.specs.Trees.{to, bin_e, nullish_ok, logical_ok, exp_ok, min_right}
 use Rattle.swc_grammar.specs.Symbols.{Symbol, Expr, Exprs, Assign, Level, Unary, Lhs, Left, Arguments, Args, ArgsTail, Primary}
 use Rattle.swc_grammar.specs.Symbols.{Literal, Template, Parts, Base}
 use Rattle.swc_grammar.specs.Symbols.{Elements, ElementsTail}
@@ -41,7 +41,7 @@ use Rattle.swc_grammar.specs.Clean.{constructs, Link, no_more, more, linked, lin
 use Rattle.swc_grammar.specs.Clean.{begins_new, lhs, call_args, args, args_tail, tpl, parts}
 use Rattle.swc_grammar.specs.Clean.{updates, assigns, seqs, second, begins_yield, no_update_at, no_error, prefix_at}
 use Rattle.swc_grammar.specs.Clean.{update_tail, cond_tail, assign_tail, exprs_next, exprs_tail, yield_by, await_by, unary_by}
-use Rattle.swc_grammar.specs.Clean.{operator_at, Bound, left_ok, Choice, none, pick, chosen, expr, assign, unary}
+use Rattle.swc_grammar.specs.Clean.{operator_at, Bound, Choice, none, pick, chosen, expr, assign, unary}
 use Rattle.swc_grammar.specs.Clean.{primary, literal, elements, elements_tail, item, props, props_tail, prop, key}
 use Rattle.swc_grammar.specs.Clean.{after_key, shell}
 use Rattle.swc_grammar.specs.Clean.{turn, turned, step, run_at, measure, run}

@@ -16,6 +16,8 @@ use Rattle.swc_input.specs.declared.token.TokenAndSpan.{TokenAndSpan}
 use Rattle.swc_input.specs.Kinds.{at_token, is_hash}
 use Rattle.swc_ast.specs.Targets.{is_target as is_simple_target}
 use Rattle.swc_ast.specs.Tree.{Tree, Trees, nil, cons, span_of}
+use Rattle.swc_ast.specs.Trees.{to, bin_e, new_e, bare_new_e, is_chain, items_of, nullish_ok, left_ok, exp_ok}
+use Rattle.swc_ast.specs.Trees.{min_right, trees_append, update_e, cond_e, assign_e, exprs_e, seq_of, is_operation}
 use Rattle.swc_bodies.specs.Readings.{whole_span, Hook, begins, begins_function, is_class, is_brace, is_async}
 use Rattle.swc_grammar.specs.Scope.{Scope}
 use Rattle.swc_grammar.specs.Rule.{Rule, gives, never, take, check, peek, read, hear, sees, ◌>>=◌, ◌>>◌, symbol, must}
@@ -38,14 +40,12 @@ use Rattle.swc_grammar.specs.Grammar.{item-spread, object-lit, props-end, props-
 use Rattle.swc_grammar.specs.Grammar.{prop-spread, prop-short, prop-cover, prop-key, prop-generator, prop-async}
 use Rattle.swc_grammar.specs.Grammar.{prop-async-generator, prop-getter, after-value, after-shell, shell-block}
 use Rattle.swc_grammar.specs.Grammar.{key-name, key-literal, key-computed}
-use Rattle.swc_grammar.specs.Tokens.{is_ref, binary_of, prefix_of, is_lparen, is_this, is_lbracket, is_rbracket, is_comma}
+use Rattle.swc_grammar.specs.Tokens.{is_ref, at_word, binary_where, prefix_of, is_lparen, is_this, is_lbracket, is_rbracket, is_comma}
 use Rattle.swc_grammar.specs.Tokens.{is_dots, is_rbrace, is_colon, is_star, is_equals, is_word, is_get, with_in}
 use Rattle.swc_grammar.specs.Tokens.{is_super, is_import, is_source, is_update, is_assign, is_await, is_yield}
 use Rattle.swc_grammar.specs.Tokens.{ends_await, yield_ok, goes_on_yield}
 use Rattle.swc_grammar.specs.Parts.{update_here, assign_here}
 use Rattle.swc_grammar.specs.Tokens.{is_question, is_dot, is_rparen, is_new, is_backquote, is_slash, is_regex, ends_prop, follows_key}
-use Rattle.swc_grammar.specs.Trees.{to, bin_e, new_e, bare_new_e, is_chain, items_of, nullish_ok, logical_ok, exp_ok}
-use Rattle.swc_grammar.specs.Trees.{min_right, trees_append, update_e, cond_e, assign_e, exprs_e, seq_of, is_operation}
 
 -- what was read, and the tokens left
 abbrev pub Out : Type 0 → Type 0
@@ -183,8 +183,7 @@ is_lit (token.Str value raw) = true
 is_lit t = false
 
 abbrev pub is_identifier : Context → Token → Bool
-is_identifier c (token.Word w) = is_ref c w
-is_identifier c t = false
+is_identifier c t = at_word (λ w. is_ref c w) t
 
 -- no fault of the text stands in its place
 abbrev pub no_error : Token → Bool
@@ -192,9 +191,12 @@ no_error (token.Error e) = false
 no_error t = true
 
 -- the operators that are read where a token stands
+abbrev pub operator_where : Bool → Option TokenAndSpan → Option BinaryOp
+operator_where include_in None = None
+operator_where include_in (Some t) = binary_where include_in t.token
+
 abbrev pub operator_at : Context → Option TokenAndSpan → Option BinaryOp
-operator_at c None = None
-operator_at c (Some t) = binary_of c t.token
+operator_at c t = operator_where c.include_in_expr t
 
 abbrev pub prefix_at : Option TokenAndSpan → Option UnaryOp
 prefix_at None = None
@@ -245,11 +247,6 @@ ends_await_at (Some t) = ends_await t
 -- `new`, but for `new.target`
 abbrev pub begins_new : List TokenAndSpan → Bool
 begins_new ts = at_token is_new (first ts) && not (at_token is_dot (second ts))
-
--- a node of `||` or `&&` has none of `??` on its left
-abbrev pub left_ok : {F C K : Type 0} → Tree F C K → Bool
-left_ok (bin_e s op l r) = logical_ok op l
-left_ok t = true
 
 -- where a symbol's reading stops for the clean parser: nothing goes on that it would take too
 abbrev pub Stop : Symbol → Scope → List TokenAndSpan → Type 0

@@ -8,6 +8,14 @@ use Rattle.swc_context.specs.declared.operator.BinaryOp.TheVariants as binary
 use Rattle.swc_input.specs.Kinds.{is_hash}
 use Rattle.swc_ast.specs.Targets.{is_target as is_simple_target}
 use Rattle.swc_ast.specs.Tree.{nil, cons, span_of}
+use Rattle.swc_ast.specs.Trees.{to, ident_e, this_e, array_e, listed, items_of, comma_of, put_first, behind_comma}
+use Rattle.swc_ast.specs.Trees.{hole_e, item_e, spread_e, fn_e}
+use Rattle.swc_ast.specs.Trees.{class_e, private_e, unary_e, paren_e, bin_e, object_e, name_e, computed_e}
+use Rattle.swc_ast.specs.Trees.{spread_prop_e, short_e, cover_e, value_e, block_e, function_e, method_e, getter_e}
+use Rattle.swc_ast.specs.Trees.{at_place, parts_e, put_part, tpl_e, tagged_e, new_e, bare_new_e, meta_e, link_e, is_chain}
+use Rattle.swc_ast.specs.Trees.{super_e, import_e, super_prop_e, comma_ok}
+use Rattle.swc_ast.specs.Trees.{prop_of, member_e, call_e, nullish_ok, logical_ok, delete_ok, is_unary, paren_ok}
+use Rattle.swc_ast.specs.Trees.{trees_append, held_exprs, update_e, await_e, yield_e, cond_e, assign_e, exprs_e, seq_of}
 use Rattle.swc_ast.specs.declared.expr.ImportPhase.TheVariants as phase
 use Rattle.swc_ast.specs.declared.expr.MetaPropKind.TheVariants as kind
 use Rattle.swc_bodies.specs.Readings.{is_async, is_brace}
@@ -26,14 +34,6 @@ use Rattle.swc_grammar.specs.Tokens.{is_await, is_yield, await_ok, await_ident_o
 use Rattle.swc_grammar.specs.Tokens.{is_power, is_rbrace, is_colon, is_star, is_equals, is_get, method_block}
 use Rattle.swc_grammar.specs.Parts.{reference, any_name, lit_of, regex_of, text_of, key_lit_of, prefix_here}
 use Rattle.swc_grammar.specs.Parts.{update_here, assign_here, operator_here}
-use Rattle.swc_grammar.specs.Trees.{to, ident_e, this_e, array_e, listed, items_of, comma_of, put_first, behind_comma}
-use Rattle.swc_grammar.specs.Trees.{hole_e, item_e, spread_e, fn_e}
-use Rattle.swc_grammar.specs.Trees.{class_e, private_e, unary_e, paren_e, bin_e, object_e, name_e, computed_e}
-use Rattle.swc_grammar.specs.Trees.{spread_prop_e, short_e, cover_e, value_e, block_e, function_e, method_e, getter_e}
-use Rattle.swc_grammar.specs.Trees.{at_place, parts_e, put_part, tpl_e, tagged_e, new_e, bare_new_e, meta_e, link_e, is_chain}
-use Rattle.swc_grammar.specs.Trees.{super_e, import_e, super_prop_e, comma_ok}
-use Rattle.swc_grammar.specs.Trees.{prop_of, member_e, call_e, nullish_ok, logical_ok, delete_ok, is_unary, paren_ok}
-use Rattle.swc_grammar.specs.Trees.{trees_append, held_exprs, update_e, await_e, yield_e, cond_e, assign_e, exprs_e, seq_of}
 
 pub data Production {F C K : Type 0} : (s : Symbol) → Scope → Side F C K s → Type 0 where
   -- Identifier references (13.1)

@@ -9,5 +9,4 @@ pub mod Rule
 pub mod Scope
 pub mod Symbols
 pub mod Tokens
-pub mod Trees
 pub mod Words

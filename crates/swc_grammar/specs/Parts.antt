@@ -13,10 +13,10 @@ use Rattle.swc_input.specs.declared.token.Token.{Token}
 use Rattle.swc_input.specs.declared.token.Token.TheVariants as tok
 use Rattle.swc_input.specs.Recording.{is_some}
 use Rattle.swc_ast.specs.Tree.{Tree}
+use Rattle.swc_ast.specs.Trees.{null_e, boolean_e, num_e, big_e, str_e, regex_e, text_e}
 use Rattle.swc_grammar.specs.Scope.{Scope}
 use Rattle.swc_grammar.specs.Names.{Spelling, may_refer, may_name, spelled}
 use Rattle.swc_grammar.specs.Tokens.{is_put_off, binary_of, prefix_of, update_of, assign_of}
-use Rattle.swc_grammar.specs.Trees.{null_e, boolean_e, num_e, big_e, str_e, regex_e, text_e}
 
 -- an identifier reference (13.1) that is an expression by itself
 abbrev pub reference : Scope → Token → Span → Option Spelling

@@ -19,7 +19,7 @@ use Rattle.swc_input.specs.Source.{Model, Laws}
 use Rattle.swc_input.specs.Buffer.{ReadSome, Looked, current, previous, context}
 use Rattle.swc_input.specs.Recording.{error_here, error_in, is_some, is_fit, Refused}
 use Rattle.swc_input.specs.Kinds.{at_token}
-use Rattle.swc_ident.specs.Naming.{Judges, fault_at, place_here, Notes, Spoken, Named, Unnamed, no_memory, not_fit, no_word, refused_word, Names, Unbound, Bound}
+use Rattle.swc_ident.specs.Naming.{Judges, fault_at, place_here, Notes, Spoken, Named, Unnamed, no_memory, not_fit, no_word, refused_word, Unbindable, no_memory_to_bind, refused_binding, Names, Unbound, Bound}
 use Rattle.swc_ident.specs.Steps.{Forgone, word_faults}
 use Rattle.swc_ident.specs.Verdicts.{Fault, now, in_modules, is_word, name_of_any, ident_verdict, binding_verdict, binding_faults, and_then, is_bindable}
 use Rattle.swc_ident.proofs.Reading.{place_is, reads_then, looked_then, looked_reads, refused_reads, met, noted_then, notes_read, passed_reads, passed_later}
@@ -68,6 +68,14 @@ fit_token t h = cc
 fit_word : (o : Option TokenAndSpan) → at_token is_word o ≡ true → is_fit o ≡ true
 fit_word None h = cc
 fit_word (Some t) h = fit_token t.token h
+
+bindable_word : (c : Context) (o : Option TokenAndSpan) → at_token (is_bindable c) o ≡ true → at_token is_word o ≡ true
+bindable_word c None h = cc
+bindable_word c (Some t) h = word_of t.token h
+  where
+    word_of : (t : Token) → is_bindable c t ≡ true → is_word t ≡ true
+    word_of (token.Word w) h = refl
+    word_of t h = cc
 
 module _ {S : Type 0} {model : Model S} where
   same_context : {b c : Buffer S} → Looked model b c → context model c ≡ context model b
@@ -219,19 +227,37 @@ module _ {S : Type 0} {model : Model S} where
   pub unbound : {b c : Buffer S} → Looked model b c → at_token (is_bindable (context model c)) (current c) ≡ false → Unbound model b c
   unbound {c = c} l none = (l, ap (λ x. at_token (is_bindable x) (current c)) (sym (same_context l)) ∙ none)
 
+  -- a word that may be bound was current, and it was this one
+  spoken_bindable : {w : Word} {at : Span} {b c d : Buffer S} → Looked model b c → at_token (is_bindable (context model c)) (current c) ≡ true →
+      Spoken model c w at d → is_bindable (context model b) (token.Word w) ≡ true
+  spoken_bindable {w = w} {c = c} l may s =
+      let f = is_bindable (context model c) in
+      let t = word_some f (current c) may in
+      let here : at_token f (current s.here) ≡ true = ap (λ x. at_token f (current x)) (s.looked.same t.0 t.1) ∙ may in
+      let was : f s.took.was.token ≡ true = ap (at_token f) (sym s.took.current) ∙ here in
+      ap (λ x. is_bindable x (token.Word w)) (sym (same_context l)) ∙ ap f s.took.token ∙ was
+
+  -- where a word that may be bound is current, the table alone and want of memory refuse it
+  pub unbindable_later : {b c d : Buffer S} {e : Error} → Laws model → Looked model b c → at_token (is_bindable (context model c)) (current c) ≡ true →
+      Unnamed model binding_verdict c e d → Unbindable model b e d
+  unbindable_later laws l may (no_memory xs r k) = let x = reads_then laws (looked_reads l) (xs, r) in no_memory_to_bind x.0 x.1 k
+  unbindable_later {c = c} laws l may (not_fit r f) =
+      let t = word_some (is_bindable (context model c)) (current c) may in
+      let same = ap (λ x. is_fit (current x)) (r.looked.same t.0 t.1) in
+      let fits = fit_word (current c) (bindable_word (context model c) (current c) may) in absurd cc
+  unbindable_later {c = c} laws l may (no_word r fits f) =
+      let t = word_some (is_bindable (context model c)) (current c) may in
+      let same = ap (λ x. at_token is_word (current x)) (r.looked.same t.0 t.1) in
+      let word = bindable_word (context model c) (current c) may in absurd cc
+  unbindable_later laws l may (refused_word {w = w} {at = at} {spoken = s0} {noted = n0} s v n r) =
+      let P : List Fault → Type 0 = λ fs. Notes model at fs s0 n0 in
+      refused_binding (passed_later laws l s) (spoken_bindable l may s) (ap (λ x. (binding_verdict x w).refusal) (sym (same_context l)) ∙ v)
+      (subst P (ap (λ x. (binding_verdict x w).faults) (same_context l)) n) r
+
   pub bound_later : {text : List ℕ} {at : Span} {b c d : Buffer S} → Laws model → Looked model b c → at_token (is_bindable (context model c)) (current c) ≡ true →
       Named model binding_verdict text at c d → Bound model text at b d
   unfolding named_later
-  bound_later {b = b} {c = c} laws l may n =
-      let f = is_bindable (context model c) in
-      let t = word_some f (current c) may in
-      let took = n.said.took in
-      let here : at_token f (current n.said.here) ≡ true = ap (λ x. at_token f (current x)) (n.said.looked.same t.0 t.1) ∙ may in
-      let was : f took.was.token ≡ true = ap (at_token f) (sym took.current) ∙ here in
-      record {
-        named = named_later laws l n;
-        may = ap (λ x. is_bindable x (token.Word n.name)) (sym (same_context l)) ∙ ap f took.token ∙ was;
-      }
+  bound_later laws l may n = record { named = named_later laws l n; may = spoken_bindable l may n.said }
 
 module _ {S : Type 0} (model : Model S) where
   pub names_read : {T : Type 0} (judge : Judges) (text : T → List ℕ) (at : T → Span) (b c : Buffer S) (r : Result T Error) → Laws model → Names model judge text at b r c → ReadSome model b c

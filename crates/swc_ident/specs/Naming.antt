@@ -9,7 +9,7 @@ use Rattle.swc_ast.specs.declared.ident.PrivateName.{PrivateName}
 use Rattle.swc_ast.specs.declared.ident.ModuleExportName.{ModuleExportName}
 use Rattle.swc_ast.specs.declared.ident.ModuleExportName.TheVariants as export
 use Rattle.swc_ast.specs.declared.lit.Str.{Str}
-use Rattle.swc_context.specs.Spans.{between}
+use Rattle.swc_context.specs.Spans.{between, from_to}
 use Rattle.swc_context.specs.Words.{word_text}
 use Rattle.swc_context.specs.declared.context.Context.{Context}
 use Rattle.swc_context.specs.declared.error.Error.{Error}
@@ -96,6 +96,14 @@ module _ {S : Type 0} (model : Model S) where
     refused_word : {w : Word} {k : SyntaxError} {at : Span} {spoken noted : Buffer S} → Spoken b w at spoken → (judge (context model b) w).refusal ≡ Some k →
         Notes at (judge (context model b) w).faults spoken noted → Refused model noted (λ here. fault_at at k) e c → Unnamed judge b e c
 
+  -- Why a word that may be bound where it stands isn't: memory was wanted; or the table refuses the word, which was consumed, and whose
+  -- faults were noted. So the end and an error token are never refused.
+  pub data Unbindable (b : Buffer S) (e : Error) (c : Buffer S) : Type 0 where
+    no_memory_to_bind : (xs : List TokenAndSpan) → Read model b xs c → e.kind ≡ kind.OutOfMemory → Unbindable b e c
+    refused_binding : {w : Word} {k : SyntaxError} {at : Span} {spoken noted : Buffer S} → Spoken b w at spoken →
+        is_bindable (context model b) (token.Word w) ≡ true → (binding_verdict (context model b) w).refusal ≡ Some k →
+        Notes at (binding_verdict (context model b) w).faults spoken noted → Refused model noted (λ here. fault_at at k) e c → Unbindable b e c
+
   -- a name, or why there is none
   abbrev pub Names : {T : Type 0} → Judges → (T → List ℕ) → (T → Span) → Buffer S → Result T Error → Buffer S → Type 0
   Names judge text at b r c = MatchResult r (λ t. Named judge (text t) (at t) b c) (λ e. Unnamed judge b e c)
@@ -116,7 +124,7 @@ module _ {S : Type 0} (model : Model S) where
     pub joined : next_begins near ≡ hash.hi
     pub word : Span
     pub name : Named name_of_any text word near c
-    pub place : at ≡ between hash.lo word.hi
+    pub place : at ≡ from_to hash.lo word.hi
 
   -- why there is none: also a token that is no `#`, and a name that doesn't begin there
   pub data Unprivate (b : Buffer S) (e : Error) (c : Buffer S) : Type 0 where
@@ -185,4 +193,4 @@ module _ {S : Type 0} (model : Model S) where
   abbrev pub BindsIfBindable : Buffer S → Result (Option BindingIdent) Error → Buffer S → Type 0
   BindsIfBindable b r c = MatchResult r
       (λ o. MatchOption o (Unbound model b c) (λ i. Bound model i.id.sym i.id.span b c))
-      (λ e. Unnamed model binding_verdict b e c)
+      (λ e. Unbindable model b e c)

@@ -37,11 +37,14 @@ unless true = None
 unless false = Some kind.ExpectedIdent
 
 -- a word that is no keyword; `let` and `yield`, which strict code reserves too, are keywords, and have rows of their own
-abbrev pub name_verdict : Context → List ℕ → Verdict
-name_verdict c w =
+abbrev pub verdict_of_name : Bool → List ℕ → Verdict
+verdict_of_name in_class_field w =
     if is_text w (codes "enum") then taken_with (now (kind.InvalidIdentInStrict w)) else
     (if is_one_of w strict_names then taken_with (in_modules (kind.InvalidIdentInStrict w)) else
-    (if c.in_class_field && is_text w (codes "arguments") then taken_with (now kind.ArgumentsInClassField) else taken))
+    (if in_class_field && is_text w (codes "arguments") then taken_with (now kind.ArgumentsInClassField) else taken))
+
+abbrev pub name_verdict : Context → List ℕ → Verdict
+name_verdict c w = verdict_of_name c.in_class_field w
 
 -- `await` is no identifier in a static block, then none in a module and in async code, and else one where it is included
 abbrev pub await_refusal : Context → Bool → Option SyntaxError
@@ -50,12 +53,15 @@ await_refusal c included =
     (if c.module || c.in_async then Some kind.InvalidIdentInAsync else unless included)
 
 -- Identifier: by the word, the context, and whether `yield` and `await` are included
+abbrev pub verdict_of : Bool → Option SyntaxError → Bool → Word → Verdict
+verdict_of y of_await in_class_field (word.Ident w) = verdict_of_name in_class_field w
+verdict_of y of_await in_class_field (word.Keyword keyword.Let) = taken_with (in_modules (kind.InvalidIdentInStrict (codes "let")))
+verdict_of y of_await in_class_field (word.Keyword keyword.Yield) = record { faults = in_modules (kind.InvalidIdentInStrict (codes "yield")) ∷ []; refusal = unless y }
+verdict_of y of_await in_class_field (word.Keyword keyword.Await) = record { faults = []; refusal = of_await }
+verdict_of y of_await in_class_field w = refused kind.ExpectedIdent
+
 abbrev pub ident_verdict : Bool → Bool → Context → Word → Verdict
-ident_verdict y a c (word.Ident w) = name_verdict c w
-ident_verdict y a c (word.Keyword keyword.Let) = taken_with (in_modules (kind.InvalidIdentInStrict (codes "let")))
-ident_verdict y a c (word.Keyword keyword.Yield) = record { faults = in_modules (kind.InvalidIdentInStrict (codes "yield")) ∷ []; refusal = unless y }
-ident_verdict y a c (word.Keyword keyword.Await) = record { faults = []; refusal = await_refusal c a }
-ident_verdict y a c w = refused kind.ExpectedIdent
+ident_verdict y a c w = verdict_of y (await_refusal c a) c.in_class_field w
 
 -- IdentifierReference and LabelIdentifier: `yield` is included outside generators, `await` outside async code
 abbrev pub reference_verdict : Context → Word → Verdict

@@ -58,7 +58,10 @@ pub fn parse_private_name<I: Tokens>(alloc: Global, input: &mut Buffer<I>) -> PR
     }
     let name = parse_ident_name(alloc, input)?;
     Ok(PrivateName {
-        span: Span::new(hash.lo, name.span.hi),
+        span: Span {
+            lo: hash.lo,
+            hi: name.span.hi,
+        },
         name: name.sym,
     })
 }
@@ -199,7 +202,7 @@ pub fn parse_binding_ident<I: Tokens>(alloc: Global, input: &mut Buffer<I>) -> P
 /// A word that is bound, if one is current that `Context::is_reserved` doesn't reserve (ECMA-262, 13.1).
 ///
 /// Such a word is read as by `parse_binding_ident`. Before any other token, an error token too, and
-/// at the end the answer is `None`, and nothing is consumed.
+/// at the end the answer is `None`, and nothing is consumed: there only want of memory is refused.
 pub fn parse_opt_binding_ident<I: Tokens>(
     alloc: Global,
     input: &mut Buffer<I>,

@@ -5,10 +5,11 @@ use Rattle.std.proofs.lemmas.List.{nil_from_length}
 use Rattle.swc_context.specs.declared.context.Context.{Context}
 use Rattle.swc_context.specs.declared.context.EsVersion.{EsVersion}
 use Rattle.swc_context.specs.declared.context.Syntax.{Syntax}
+use Rattle.swc_context.specs.declared.context.TokenContexts.{TokenContexts}
 use Rattle.swc_input.specs.declared.token.TokenAndSpan.{TokenAndSpan}
 use Rattle.swc_input.specs.declared.listed.TokensInput.{TokensInput}
 use Rattle.swc_input.specs.Plain.{plain}
-use Rattle.swc_input.specs.Source.{Source, Model, Laws, IsLawful, Keeping, Gave, Asked}
+use Rattle.swc_input.specs.Source.{Source, Model, Laws, IsLawful, Keeping, Gave, Asked, Unmoved}
 use Rattle.swc_input.specs.Laws.{keeps_same}
 
 abbrev pub is_nil : {A : Type 0} → List A → Bool
@@ -80,6 +81,9 @@ keeping s t r n = record {
   quiet = λ m h. (n.errors, n.waiting);
 }
 
+abbrev pub with_contexts : TokensInput → TokenContexts → TokensInput
+with_contexts s contexts = record s { contexts = contexts }
+
 abbrev pub listed_model : Model TokensInput
 listed_model = record { state = listed_state; gives = ListedGives }
 
@@ -113,6 +117,10 @@ listed_gave s t xs a = record {
 
 pub listed_laws : Laws listed_model
 listed_laws = record { lawful = listed_lawful; none = listed_none; joins = listed_joins; gave = listed_gave }
+
+-- a lexer's stack of contexts is no part of the state
+pub listed_unmoved : (s : TokensInput) (contexts : TokenContexts) → Unmoved listed_model s (with_contexts s contexts)
+listed_unmoved s contexts = record { gave = record { list = refl; syntax = refl; target = refl }; state = refl }
 
 pub listed_asked : (s : TokensInput) (r : Option TokenAndSpan) (t : TokensInput) → NextListed s r t → Asked listed_model s r t
 listed_asked s (Some x) t n = record {

@@ -134,6 +134,11 @@ pub record Laws {S : Type 0} (model : Model S) : Type 0 where
   pub joins : (s t u : S) (xs ys : List TokenAndSpan) → model.gives s xs t → model.gives t ys u → model.gives s (xs ++ ys) u
   pub gave : (s t : S) (xs : List TokenAndSpan) → model.gives s xs t → Gave (model.state s) xs (model.state t)
 
+-- between s and t no token was given, and the state is the same
+pub record Unmoved {S : Type 0} (model : Model S) (s t : S) : Type 0 where
+  pub gave : model.gives s [] t
+  pub state : model.state t ≡ model.state s
+
 -- a call of `next` that answered r
 pub record Asked {S : Type 0} (model : Model S) (s : S) (r : Option TokenAndSpan) (t : S) : Type 0 where
   pub gave : model.gives s (given_one r) t

@@ -87,11 +87,15 @@ impl Iterator for TokensInput {
 
 impl Tokens for TokensInput {
     ghost use Rattle.std.proofs.Common.{refl};
-    ghost use Rattle.swc_input.specs.Listed.{listed_model, listed_laws, listed_asked};
+    ghost use Rattle.swc_input.specs.Listed.{listed_model, with_contexts, listed_laws, listed_unmoved, listed_asked};
 
     ghost model = { listed_model };
 
+    ghost with_contexts = { with_contexts };
+
     ghost laws = { listed_laws };
+
+    ghost unmoved = { listed_unmoved };
 
     ghost may_ask = { λ s. tt };
 

@@ -1,8 +1,11 @@
 // Where the parser's tokens come from.
 ghost use Rattle.std.specs.Prelude.{◌≡◌, [], Option, OnOk, OnErr};
+ghost use Rattle.std.specs.Borrow.{sem, follows};
 ghost use Rattle.std.specs.Iterator.{at_most};
+ghost use Rattle.swc_context.specs.declared.context.TokenContexts.{TokenContexts};
+ghost use Rattle.swc_context.specs.contracts.context.TokenContexts.{the_row as contexts_row};
 ghost use Rattle.swc_input.specs.declared.token.TokenAndSpan.{TokenAndSpan};
-ghost use Rattle.swc_input.specs.Source.{Model, Laws, Asked, HeldBack, Hinted};
+ghost use Rattle.swc_input.specs.Source.{Model, Laws, Asked, HeldBack, Hinted, Unmoved};
 ghost use Rattle.swc_input.specs.Source.{with_context, with_error, with_module_error};
 
 use crate::token::TokenAndSpan;
@@ -18,6 +21,9 @@ use swc_context::span::BytePos;
 pub trait Tokens: Iterator<Item = TokenAndSpan> {
     /// What contracts see of a source: its states, and which tokens calls gave between two of them.
     ghost model: { Model Self };
+
+    /// The source with another stack of contexts.
+    ghost with_contexts: { Self → TokenContexts → Self };
 
     /// Sets the context. To a module, the faults that waited for one are recorded. Refused only
     /// there, and then nothing changes.
@@ -58,8 +64,10 @@ pub trait Tokens: Iterator<Item = TokenAndSpan> {
     /// A lexer's stack of contexts.
     fn token_context(&self) -> &TokenContexts;
 
-    /// A lexer's stack of contexts, to be changed.
-    fn token_context_mut(&mut self) -> &mut TokenContexts;
+    /// A lexer's stack of contexts, to be changed. Whatever is written to it, nothing else changes.
+    fn token_context_mut(&mut self) -> &mut TokenContexts
+        ensures* lent { sem 𝓛 (follows Self.row contexts_row self.entry.ghost_name result.ghost_name
+            (with_contexts self.old)) };
 
     /// Replaces a lexer's stack of contexts.
     fn set_token_context(&mut self, contexts: TokenContexts)
@@ -90,6 +98,8 @@ pub trait Tokens: Iterator<Item = TokenAndSpan> {
         ensures { result ≡ (model.state self.now).failed };
 
     ghost laws: { Laws model };
+
+    ghost unmoved: { (s : Self) (contexts : TokenContexts) → Unmoved model s (with_contexts s contexts) };
 
     ghost may_ask: { (s : Self) → Self.can_next s };
 

@@ -1,18 +1,20 @@
 -- The properties of an object literal that are `name = e`, by its node and by its tree.
-use Rattle.std.proofs.Common.{◌≡◌, ℕ, true, false, Bool, not, ◌&&◌, ◌||◌, List, [], ◌∷◌, map, Option, refl, ap, ◌∙◌}
+use Rattle.std.proofs.Common.{◌≡◌, ℕ, ◌<◌, true, false, Bool, not, ◌&&◌, ◌||◌, List, [], ◌∷◌, map, Option, refl, ap, ◌∙◌}
 use Rattle.std.specs.declared.alloc.Global.{Global}
 use Rattle.std.specs.declared.vec.Vec.{Vec}
 use Rattle.swc_context.specs.declared.span.Span.{Span}
-use Rattle.swc_ast.specs.Tree.{Tree, trees}
+use Rattle.swc_ast.specs.Tree.{object_with, Tree, node, trees}
+use Rattle.swc_ast.specs.Trees.{is_cover, no_cover, no_cover_in}
 use Rattle.swc_ast.specs.declared.spanned.Spanned.{Ghosts}
-use Rattle.swc_grammar.specs.Trees.{is_cover, no_cover, no_cover_in}
-use Rattle.swc_nodes.specs.Lists.{is_cover_prop, has_cover}
+use Rattle.swc_nodes.specs.Lists.{is_cover_prop, has_cover, IsObject}
 use Rattle.swc_nodes.specs.NodeTree.{prop_of}
-use Rattle.swc_nodes.specs.Stands.{seat_before, tree_at, Stood}
+use Rattle.swc_nodes.specs.Slots.{prop_parts}
+use Rattle.swc_nodes.specs.Stands.{count, seat_before, tree_at, Stood}
 use Rattle.swc_nodes.specs.declared.node.Node.TheVariants as n
 use Rattle.swc_nodes.specs.declared.node.PropNode.{PropNode}
 use Rattle.swc_nodes.specs.declared.node.PropNode.TheVariants as prop
 use Rattle.swc_nodes.specs.declared.nodes.Nodes.{Nodes}
+use Rattle.swc_nodes.proofs.Lists.{list-same, prop-same, stood-trees}
 
 neither : (a b : Bool) → (not a && not b) ≡ not (a || b)
 neither true b = refl
@@ -40,3 +42,11 @@ module _ {F C K : Type 0} {fg : Ghosts F} {cg : Ghosts C} {kg : Ghosts K} where
   object-covers {ns} {i} s props comma t =
       ap (λ v. no_cover_in v.tree) t.stands
       ∙ covers fg.place cg.place kg.place (λ j. (seat_before i ns j).tree) props.items
+
+  pub object-is : {ns : Nodes F C K fg cg kg} {i : ℕ} (s : Span) (props : Vec (PropNode K) Global)
+      (comma : Option Span) → Stood ns i (n.Object s props comma) → i < count ns → IsObject ns i props
+  object-is {ns} {i} s props comma t lt =
+      let was = λ (j : ℕ). (seat_before i ns j).tree in
+      let same = list-same was (tree_at ns) prop_parts (prop_of fg.place cg.place kg.place was) (prop_of fg.place cg.place kg.place (tree_at ns))
+      (prop-same fg.place cg.place kg.place was (tree_at ns)) props.items (stood-trees t lt) in
+      record { span = s; comma = comma; stands = ap (λ v. v.tree) t.stands ∙ ap (node (object_with comma) s) same }

@@ -3,8 +3,7 @@ use Rattle.std.proofs.Common.{◌≡◌, ℕ, suc, ◌+◌, ◌<◌, ◌≤◌, 
 use Rattle.swc_context.specs.declared.operator.BinaryOp.{BinaryOp}
 use Rattle.swc_context.specs.declared.span.Span.{Span}
 use Rattle.swc_ast.specs.declared.spanned.Spanned.{Ghosts}
-use Rattle.swc_grammar.specs.Clean.{left_ok}
-use Rattle.swc_grammar.specs.Trees.{is_logical_op, is_nullish, logical_ok}
+use Rattle.swc_ast.specs.Trees.{is_logical_op, is_nullish, logical_ok, left_ok}
 use Rattle.swc_nodes.specs.NodeTree.{marked_tree}
 use Rattle.swc_nodes.specs.Seats.{floor, chain}
 use Rattle.swc_nodes.specs.Slots.{Part, View, Form, target_expr, other_expr, target_pat, other_pat, expr, pat, slots, form, view_ok, expr_part, one_expr}

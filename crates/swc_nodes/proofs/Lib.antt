@@ -1,10 +1,13 @@
 pub mod Chains
 pub mod Covers
+pub mod Edges
 pub mod Held
 pub mod Lists
+pub mod Remembered
 pub mod Renumbered
 pub mod Sequences
 pub mod Standing
 pub mod Targets
 pub mod Unmarked
 pub mod Walked
+pub mod Weighed

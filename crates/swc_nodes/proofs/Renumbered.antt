@@ -7,7 +7,7 @@ use Rattle.std.specs.Vec.{with_items}
 use Rattle.std.specs.declared.alloc.Global.{Global}
 use Rattle.std.specs.declared.vec.Vec.{Vec}
 use Rattle.swc_ast.specs.Tree.{Tree, args, node, no_span, Trees, trees}
-use Rattle.swc_grammar.specs.Trees.{trees_append}
+use Rattle.swc_ast.specs.Trees.{trees_append}
 use Rattle.swc_nodes.specs.Renumbering.{given, with_given, Renumbered}
 use Rattle.swc_nodes.specs.Slots.{Part, flat}
 use Rattle.swc_nodes.proofs.Lists.{trees-both}

@@ -1,20 +1,21 @@
 -- Expressions with commas between them: one alone, or a sequence from the first to the last.
 use Rattle.std.proofs.Common.{◌≡◌, ℕ, zero, suc, ◌-◌, ◌≤◌, ◌<◌, List, [], ◌∷◌, map, Option, Some, None, length}
 use Rattle.std.proofs.Common.{Result, Ok, Err, IfOk, refl, sym, ap, subst, ◌∙◌, arith}
-use Rattle.std.specs.Prelude.{min, max, slice_index_or}
+use Rattle.std.specs.Prelude.{slice_index_or}
 use Rattle.std.specs.declared.alloc.Global.{Global}
 use Rattle.std.specs.declared.vec.Vec.{Vec}
-use Rattle.swc_context.proofs.Spans.{span_is}
+use Rattle.swc_context.specs.Spans.{from_to}
+use Rattle.swc_context.specs.declared.span.BytePos.{BytePos}
 use Rattle.swc_context.specs.declared.span.Span.{Span}
 use Rattle.swc_ast.specs.Parts.{item_of, item_tree, item_trees}
-use Rattle.swc_ast.specs.Tree.{Tree, node, cons, trees, seq, span_of}
+use Rattle.swc_ast.specs.Tree.{Tree, node, cons, trees, seq}
+use Rattle.swc_ast.specs.Trees.{held_expr, held_exprs}
 use Rattle.swc_ast.specs.declared.expr.ExprOrSpread.{ExprOrSpread}
 use Rattle.swc_ast.specs.declared.spanned.Spanned.{Ghosts}
-use Rattle.swc_grammar.specs.Trees.{to, last_place, seq_of, held_expr, held_exprs}
-use Rattle.swc_nodes.specs.Lists.{exprs_parts, expr_trees}
+use Rattle.swc_nodes.specs.Lists.{exprs_parts, expr_trees, seq_between}
 use Rattle.swc_nodes.specs.Seats.{fits, chain}
 use Rattle.swc_nodes.specs.Slots.{expr, flat, one_expr, item_parts, args_parts, expr_part}
-use Rattle.swc_nodes.specs.Stands.{count, seat_at, tree_at, Apart, From, Added, Made}
+use Rattle.swc_nodes.specs.Stands.{count, seat_at, tree_at, start_at, end_at, first_start, last_end, Apart, From, Added, Made}
 use Rattle.swc_nodes.specs.declared.node.ExprId.{ExprId}
 use Rattle.swc_nodes.specs.declared.node.Node.TheVariants as n
 use Rattle.swc_nodes.specs.declared.nodes.Nodes.{Nodes}
@@ -25,23 +26,11 @@ use Rattle.swc_nodes.proofs.Lists.{list-made}
 -- ---- the tree of a sequence
 
 module _ {F C K : Type 0} (at : ExprId → Tree F C K) where
-  last-is : (x : ExprId) (xs : List ExprId) (d : ExprId) →
-      span_of (at (slice_index_or (x ∷ xs) (length xs) d)) ≡ last_place (span_of (at x)) (trees (map at xs))
-  last-is x [] d = refl
-  last-is x (y ∷ ys) d = last-is y ys d
-
-  seq-is : (s : Span) (xs : List ExprId) (x y : ExprId) → s ≡ to (span_of (at x)) (span_of (at y)) → 2 ≤ length xs →
-      x ≡ slice_index_or xs 0 x → y ≡ slice_index_or xs (length xs - 1) y →
-      node seq s (trees (map at xs)) ≡ seq_of (trees (map at xs))
-  seq-is s [] x y e le first last = absurd (omega arith)
-  seq-is s (a ∷ []) x y e le first last = absurd (omega arith)
-  seq-is s (a ∷ b ∷ bs) x y e le first last =
-      let places : Span → Span → Tree F C K = λ p q. node seq (to p q) (trees (map at (a ∷ b ∷ bs))) in
-      let k : length (a ∷ b ∷ bs) - 1 ≡ suc (length bs) = omega arith in
-      let end : y ≡ slice_index_or (b ∷ bs) (length bs) y = last ∙ ap (λ j. slice_index_or (a ∷ b ∷ bs) j y) k in
-      ap (λ v. node seq v (trees (map at (a ∷ b ∷ bs)))) e
-      ∙ ap (λ v. places (span_of (at v)) (span_of (at y))) first
-      ∙ ap (λ v. places (span_of (at a)) v) (ap (λ v. span_of (at v)) end ∙ last-is b bs y)
+  seq-is : (lo hi : BytePos) (xs : List ExprId) → 2 ≤ length xs →
+      node seq (from_to lo hi) (trees (map at xs)) ≡ seq_between lo hi (trees (map at xs))
+  seq-is lo hi [] le = absurd (omega arith)
+  seq-is lo hi (a ∷ []) le = absurd (omega arith)
+  seq-is lo hi (a ∷ b ∷ bs) le = refl
 
 -- ---- what the items of a list hold
 
@@ -75,24 +64,42 @@ module _ {F C K : Type 0} {fg : Ghosts F} {cg : Ghosts C} {kg : Ghosts K} where
 
   pub one-made : {ns : Nodes F C K fg cg kg} (xs : List ExprId) (x : ExprId) → length xs ≡ 1 → x ≡ slice_index_or xs 0 x →
       (k : ℕ) → Apart k ns (flat one_expr xs) →
-      Made k ns (expr_part x) (seq_of (trees (map (λ e. tree_at ns e.0) xs)))
+      Made k ns (expr_part x) (seq_between (first_start ns xs) (last_end ns xs) (trees (map (λ e. tree_at ns e.0) xs)))
   one-made [] x l e k a = absurd (omega arith)
   one-made {ns} (y ∷ []) x l e k a =
       record { from = from-nth k (y ∷ []) 0 x (omega arith) e a; stands = ap (λ v. tree_at ns v.0) e }
   one-made (y ∷ z ∷ zs) x l e k a = absurd (omega arith)
 
-  pub seq-made : {ns ms : Nodes F C K fg cg kg} {i : ℕ} (s p q : Span) (es : Vec ExprId Global) (x y : ExprId) →
-      s.lo.0 ≡ min p.lo.0 q.hi.0 → s.hi.0 ≡ max p.lo.0 q.hi.0 →
-      p ≡ span_of (tree_at ns x.0) → q ≡ span_of (tree_at ns y.0) → 2 ≤ length es.items →
-      x ≡ slice_index_or es.items 0 x → y ≡ slice_index_or es.items (length es.items - 1) y →
+  -- where the first one begins, and where the last one ends
+  pub first-is : (ns : Nodes F C K fg cg kg) (xs : List ExprId) (x : ExprId) → 1 ≤ length xs → x ≡ slice_index_or xs 0 x →
+      start_at ns x.0 ≡ first_start ns xs
+  first-is ns [] x le e = absurd (omega arith)
+  first-is ns (y ∷ ys) x le e = ap (λ v. start_at ns v.0) e
+
+  last-behind : (ns : Nodes F C K fg cg kg) (y : ExprId) (ys : List ExprId) (x : ExprId) →
+      x ≡ slice_index_or (y ∷ ys) (length ys) x → end_at ns x.0 ≡ last_end ns (y ∷ ys)
+  last-behind ns y [] x e = ap (λ v. end_at ns v.0) e
+  last-behind ns y (z ∷ zs) x e = last-behind ns z zs x e
+
+  pub last-is : (ns : Nodes F C K fg cg kg) (xs : List ExprId) (x : ExprId) → 1 ≤ length xs →
+      x ≡ slice_index_or xs (length xs - 1) x → end_at ns x.0 ≡ last_end ns xs
+  last-is ns [] x le e = absurd (omega arith)
+  last-is ns (y ∷ ys) x le e =
+      let k : length (y ∷ ys) - 1 ≡ length ys = omega arith in
+      last-behind ns y ys x (e ∙ ap (λ j. slice_index_or (y ∷ ys) j x) k)
+
+  pub seq-made : {ns ms : Nodes F C K fg cg kg} {i : ℕ} (s : Span) (es : Vec ExprId Global) →
+      s ≡ from_to (first_start ns es.items) (last_end ns es.items) → 2 ≤ length es.items →
       Apart 0 ns (exprs_parts es) → Added ns ms i (n.Seq s es) → (k : ℕ) → Apart k ns (exprs_parts es) →
-      Made k ms (record { at = i; view = expr }) (seq_of (expr_trees (tree_at ns) es))
-  seq-made {ns} s p q es x y lo hi from_p to_q le first last parts d k from =
+      Made k ms (record { at = i; view = expr })
+      (seq_between (first_start ns es.items) (last_end ns es.items) (expr_trees (tree_at ns) es))
+  seq-made {ns} s es place le parts d k from =
       let made = list-made (n.Seq s es) refl parts d k from in
-      let place = span_is s p.lo q.hi lo hi ∙ ap (λ v. to v q) from_p ∙ ap (to (span_of (tree_at ns x.0))) to_q in
+      let at : ExprId → Tree F C K = λ e. tree_at ns e.0 in
       record {
         from = made.from;
-        stands = made.stands ∙ seq-is (λ e. tree_at ns e.0) s es.items x y place le first last;
+        stands = made.stands ∙ ap (λ v. node seq v (trees (map at es.items))) place
+            ∙ seq-is at (first_start ns es.items) (last_end ns es.items) es.items le;
       }
 
   -- what items hold lies apart as the items do, and what is made of it is made of them
@@ -104,16 +111,19 @@ module _ {F C K : Type 0} {fg : Ghosts F} {cg : Ghosts C} {kg : Ghosts K} where
 
   pub held-made : {E : Type 0} (ns ms : Nodes F C K fg cg kg) (r : Result ExprId E) (es : Vec ExprId Global)
       (items : Vec (ExprOrSpread ExprId) Global) → es.items ≡ map (λ x. x.expr) items.items →
-      IfOk r (λ id. (k : ℕ) → Apart k ns (exprs_parts es) →
-      Made k ms (expr_part id) (seq_of (expr_trees (tree_at ns) es))) →
-      IfOk r (λ id. (k : ℕ) → Apart k ns (args_parts items) →
-      Made k ms (expr_part id) (seq_of (held_exprs (item_trees (λ e. tree_at ns e.0) items.items))))
+      IfOk r (λ id. (k : ℕ) → Apart k ns (exprs_parts es) → Made k ms (expr_part id)
+      (seq_between (first_start ns es.items) (last_end ns es.items) (expr_trees (tree_at ns) es))) →
+      IfOk r (λ id. (k : ℕ) → Apart k ns (args_parts items) → Made k ms (expr_part id)
+      (seq_between (first_start ns (map (λ x. x.expr) items.items)) (last_end ns (map (λ x. x.expr) items.items))
+      (held_exprs (item_trees (λ e. tree_at ns e.0) items.items))))
   held-made ns ms (Ok id) es items e made =
       λ k a.
       let m = made k (held-apart es items e a) in
       let at : ExprId → Tree F C K = λ x. tree_at ns x.0 in
+      let xs = map (λ (x : ExprOrSpread ExprId). x.expr) items.items in
       record {
         from = m.from;
-        stands = m.stands ∙ ap (λ v. seq_of (trees (map at v))) e ∙ ap seq_of (held-trees at items.items);
+        stands = m.stands ∙ ap (λ v. seq_between (first_start ns v) (last_end ns v) (trees (map at v))) e
+            ∙ ap (seq_between (first_start ns xs) (last_end ns xs)) (held-trees at items.items);
       }
   held-made ns ms (Err x) es items e made = tt

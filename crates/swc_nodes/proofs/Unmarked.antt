@@ -6,6 +6,7 @@ use Rattle.swc_context.specs.declared.span.Span.{Span}
 use Rattle.swc_ast.specs.Tree.{Tree, node, nil, cons, trees, no_span, span_of, args, array, object, computed, param, seq, tpl}
 use Rattle.swc_ast.specs.Parts.{or_hole, prop_name_tree, member_prop_tree, super_part_tree, item_of, item_tree, item_trees}
 use Rattle.swc_ast.specs.Parts.{args_tree, base_tree, callee_tree, quasi_tree, tpl_tree, body_tree, param_tree, function_tree}
+use Rattle.swc_ast.specs.Trees.{unmarked, all_unmarked}
 use Rattle.swc_ast.specs.declared.expr.BlockStmtOrExpr.{BlockStmtOrExpr}
 use Rattle.swc_ast.specs.declared.expr.BlockStmtOrExpr.TheVariants as body
 use Rattle.swc_ast.specs.declared.expr.Callee.{Callee}
@@ -22,7 +23,6 @@ use Rattle.swc_ast.specs.declared.expr.TplElement.{TplElement}
 use Rattle.swc_ast.specs.declared.function.Function.{Function}
 use Rattle.swc_ast.specs.declared.prop.PropName.{PropName}
 use Rattle.swc_ast.specs.declared.prop.PropName.TheVariants as prop_name
-use Rattle.swc_grammar.specs.Trees.{unmarked, all_unmarked}
 use Rattle.swc_nodes.specs.NodeTree.{expr_of, pat_of, target_of, prop_of, pat_prop_of, node_tree, marked_tree}
 use Rattle.swc_nodes.specs.declared.node.ExprId.{ExprId}
 use Rattle.swc_nodes.specs.declared.node.PatId.{PatId}

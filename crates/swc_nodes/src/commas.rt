@@ -1,9 +1,14 @@
 // Where commas stand behind the last parts of literals.
 ghost use Rattle.std.specs.Prelude.{◌≡◌, ℕ, None, OnOk, OnErr};
-ghost use Rattle.swc_nodes.specs.Commas.{comma_at, Remembers};
+ghost use Rattle.swc_nodes.specs.Commas.{comma_at, Remembers, Recalls, node_comma, part_commas};
+ghost use Rattle.swc_nodes.specs.Stands.{tree_at, Apart};
 
+use crate::apart::{Parts, parts_of};
+use crate::node::Node;
+use crate::nodes::Nodes;
 use std::alloc::{AllocError, Global};
 use std::collections::BTreeMap;
+use swc_ast::spanned::Spanned;
 use swc_context::span::{BytePos, Span};
 
 /// The places of commas behind the last element of an array literal, or the last property of an object literal
@@ -55,6 +60,52 @@ impl TrailingCommas {
                 self.by_start.remove(&start.0);
                 Ok(())
             }
+        }
+    }
+
+    /// Remembers the commas of all literals that are reached from the parts of an item, which lie apart: each at the
+    /// place where the literal begins, or forgets what was there where it has none; so it does of array and object
+    /// patterns, which have none. Goes without recursion, and is refused only for want of memory.
+    ///
+    /// A node comes before its parts, and of these the last one first. Where several begin at one place, as in no text,
+    /// that of the last one is remembered.
+    pub fn remember_all<T: Parts, F: Spanned + Drop, C: Spanned + Drop, K: Spanned + Drop>(
+        &mut self,
+        nodes: &Nodes<F, C, K>,
+        item: &T,
+    ) -> Result<(), AllocError>
+        requires { Apart 0 nodes.now (T.parts item.now) }
+        ensures recalls { OnOk result
+            (Recalls (part_commas (tree_at nodes.now) (T.parts item.now)) self.old self.new) }
+    {
+        let mut due = parts_of(nodes.allocator(), item)?;
+        while let Some(part) = due.pop() {
+            let node = nodes.get(part.number());
+            self.remember_node(node)?;
+            node.list(&mut due)?;
+        }
+        Ok(())
+    }
+
+    /// Remembers the comma of a literal, and forgets what was there of one without, and of a pattern.
+    fn remember_node<F, C, K>(&mut self, node: &Node<F, C, K>) -> Result<(), AllocError>
+        ensures { OnOk result (Recalls (node_comma node.now) self.old self.new) }
+    {
+        match node {
+            Node::Array {
+                span,
+                trailing_comma,
+                ..
+            }
+            | Node::Object {
+                span,
+                trailing_comma,
+                ..
+            } => self.remember(span.lo, *trailing_comma),
+            Node::PatArray { span, .. } | Node::PatObject { span, .. } => {
+                self.remember(span.lo, None)
+            }
+            _ => Ok(()),
         }
     }
 }

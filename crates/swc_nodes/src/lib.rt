@@ -8,6 +8,7 @@
 pub mod apart;
 pub mod aside;
 pub mod commas;
+pub mod ends;
 pub mod making;
 pub mod node;
 pub mod nodes;

@@ -1,19 +1,20 @@
 // Makes the nodes of productions, and says where they stand.
 ghost use Rattle.std.specs.Prelude.{◌≡◌, ℕ, ◌+◌, ◌≤◌, true, false, ◌++◌, length, map, IfOk};
-ghost use Rattle.swc_context.specs.Spans.{between};
+ghost use Rattle.swc_context.specs.Spans.{from_to};
 ghost use Rattle.swc_ast.specs.Parts.{leaf, ident_tree, lit_tree, item_trees, member_prop_tree, base_tree};
 ghost use Rattle.swc_ast.specs.Parts.{callee_tree, super_part_tree};
 ghost use Rattle.swc_ast.specs.Spans.{chain_base_span};
 ghost use Rattle.swc_ast.specs.Tree.{node, nil, cons, invalid, super, super_prop, tpl, span_of};
-ghost use Rattle.swc_grammar.specs.Trees as trees;
+ghost use Rattle.swc_ast.specs.Trees as trees;
 ghost use Rattle.swc_nodes.specs.Lists.{elem_parts, elem_trees, props_parts, props_trees, exprs_parts, expr_trees};
-ghost use Rattle.swc_nodes.specs.Lists.{tpl_trees};
+ghost use Rattle.swc_nodes.specs.Lists.{tpl_trees, seq_between};
 ghost use Rattle.swc_nodes.specs.Slots.{expr_part, pat_part, one_expr, member_parts, args_parts, base_parts};
 ghost use Rattle.swc_nodes.specs.Slots.{callee_parts, super_parts, target_part};
 ghost use Rattle.swc_nodes.specs.declared.node.TargetNode.TheVariants as target;
-ghost use Rattle.swc_nodes.specs.Stands.{count, tree_at, first_at, Apart, From, Grows, Made};
+ghost use Rattle.swc_nodes.specs.Stands.{count, tree_at, first_at, start_at, end_at, first_start, last_end};
+ghost use Rattle.swc_nodes.specs.Stands.{Apart, From, Grows, Made};
 
-use crate::node::{ExprId, Node, PatId, PropNode, TargetNode};
+use crate::node::{ExprId, InvalidNode, Node, PatId, PropNode, TargetNode};
 use crate::nodes::Nodes;
 use std::alloc::{AllocError, Global};
 use swc_ast::expr::{
@@ -74,9 +75,9 @@ impl<F: Spanned + Drop, C: Spanned + Drop, K: Spanned + Drop> Nodes<F, C, K> {
         requires apart { Apart 0 self.old (elem_parts elems) }
         ensures grows { Grows self.old self.new }
         ensures made { IfOk result (λ id. (k : ℕ) → Apart k self.old (elem_parts elems) → Made k self.new (expr_part id)
-            (trees.array_e trailing_comma (between start end) (elem_trees (tree_at self.old) elems))) }
+            (trees.array_e trailing_comma (from_to start end) (elem_trees (tree_at self.old) elems))) }
     {
-        let span = Span::new(start, end);
+        let span = Span { lo: start, hi: end };
         Ok(ExprId(self.push(Node::Array {
             span,
             elems,
@@ -99,10 +100,10 @@ impl<F: Spanned + Drop, C: Spanned + Drop, K: Spanned + Drop> Nodes<F, C, K> {
         ensures grows { Grows self.old self.new }
         ensures made { IfOk result (λ id. (k : ℕ) → Apart k self.old (props_parts props)
             → Made k self.new (expr_part id)
-            (trees.object_e trailing_comma (between start end)
+            (trees.object_e trailing_comma (from_to start end)
             (props_trees F.place C.place K.place (tree_at self.old) props))) }
     {
-        let span = Span::new(start, end);
+        let span = Span { lo: start, hi: end };
         Ok(ExprId(self.push(Node::Object {
             span,
             props,
@@ -138,9 +139,9 @@ impl<F: Spanned + Drop, C: Spanned + Drop, K: Spanned + Drop> Nodes<F, C, K> {
         requires { From 0 self.old (expr_part expr) }
         ensures grows { Grows self.old self.new }
         ensures made { IfOk result (λ id. Made (first_at self.old expr.0) self.new (expr_part id)
-            (trees.paren_e (between start end) (tree_at self.old expr.0))) }
+            (trees.paren_e (from_to start end) (tree_at self.old expr.0))) }
     {
-        let span = Span::new(start, end);
+        let span = Span { lo: start, hi: end };
         Ok(ExprId(self.push(Node::Paren(ParenExpr { span, expr }))?))
     }
 
@@ -160,10 +161,13 @@ impl<F: Spanned + Drop, C: Spanned + Drop, K: Spanned + Drop> Nodes<F, C, K> {
         ensures grows { Grows self.old self.new }
         ensures made { IfOk result (λ id. (k : ℕ) → Apart k self.old (one_expr obj ++ member_parts prop)
             → Made k self.new (expr_part id) (trees.link_e optional (tree_at self.old obj.0)
-            (trees.member_e (between (span_of (tree_at self.old obj.0)).lo end) (tree_at self.old obj.0)
+            (trees.member_e (from_to (span_of (tree_at self.old obj.0)).lo end) (tree_at self.old obj.0)
             (member_prop_tree (λ e. tree_at self.old e.0) prop)))) }
     {
-        let span = Span::new(self.span(obj).lo, end);
+        let span = Span {
+            lo: self.extent(obj).lo,
+            hi: end,
+        };
         if optional || self.is_opt_chain(obj) {
             let member = MemberExpr { span, obj, prop };
             return self.opt_chain(span, optional, OptChainBase::Member(member));
@@ -187,10 +191,13 @@ impl<F: Spanned + Drop, C: Spanned + Drop, K: Spanned + Drop> Nodes<F, C, K> {
         ensures grows { Grows self.old self.new }
         ensures made { IfOk result (λ id. (k : ℕ) → Apart k self.old (one_expr callee ++ args_parts args)
             → Made k self.new (expr_part id) (trees.link_e optional (tree_at self.old callee.0)
-            (trees.call_e (between (span_of (tree_at self.old callee.0)).lo end) (tree_at self.old callee.0)
+            (trees.call_e (from_to (span_of (tree_at self.old callee.0)).lo end) (tree_at self.old callee.0)
             (item_trees (λ e. tree_at self.old e.0) args.items)))) }
     {
-        let span = Span::new(self.span(callee).lo, end);
+        let span = Span {
+            lo: self.extent(callee).lo,
+            hi: end,
+        };
         if optional || self.is_opt_chain(callee) {
             let call = OptCall { span, callee, args };
             return self.opt_chain(span, optional, OptChainBase::Call(call));
@@ -237,10 +244,10 @@ impl<F: Spanned + Drop, C: Spanned + Drop, K: Spanned + Drop> Nodes<F, C, K> {
         ensures grows { Grows self.old self.new }
         ensures made { IfOk result (λ id. (k : ℕ) → Apart k self.old (callee_parts callee ++ args_parts args)
             → Made k self.new (expr_part id)
-            (trees.call_e (between start end) (callee_tree (λ e. tree_at self.old e.0) callee)
+            (trees.call_e (from_to start end) (callee_tree (λ e. tree_at self.old e.0) callee)
             (item_trees (λ e. tree_at self.old e.0) args.items))) }
     {
-        let span = Span::new(start, end);
+        let span = Span { lo: start, hi: end };
         Ok(ExprId(self.push(Node::Call { span, callee, args })?))
     }
 
@@ -257,10 +264,13 @@ impl<F: Spanned + Drop, C: Spanned + Drop, K: Spanned + Drop> Nodes<F, C, K> {
         ensures grows { Grows self.old self.new }
         ensures made { IfOk result (λ id. (k : ℕ) → Apart k self.old (super_parts prop)
             → Made k self.new (expr_part id)
-            (node super_prop (between obj.span.lo end) (cons (leaf super obj.span)
+            (node super_prop (from_to obj.span.lo end) (cons (leaf super obj.span)
             (cons (super_part_tree (λ e. tree_at self.old e.0) prop) nil)))) }
     {
-        let span = Span::new(obj.span.lo, end);
+        let span = Span {
+            lo: obj.span.lo,
+            hi: end,
+        };
         Ok(ExprId(self.push(Node::SuperProp(SuperPropExpr { span, obj, prop }))?))
     }
 
@@ -278,10 +288,10 @@ impl<F: Spanned + Drop, C: Spanned + Drop, K: Spanned + Drop> Nodes<F, C, K> {
         ensures grows { Grows self.old self.new }
         ensures made { IfOk result (λ id. (k : ℕ) → Apart k self.old (one_expr callee ++ args_parts args)
             → Made k self.new (expr_part id)
-            (trees.new_e (between start end) (tree_at self.old callee.0)
+            (trees.new_e (from_to start end) (tree_at self.old callee.0)
             (item_trees (λ e. tree_at self.old e.0) args.items))) }
     {
-        let span = Span::new(start, end);
+        let span = Span { lo: start, hi: end };
         let args = Some(args);
         Ok(ExprId(self.push(Node::New { span, callee, args })?))
     }
@@ -291,9 +301,12 @@ impl<F: Spanned + Drop, C: Spanned + Drop, K: Spanned + Drop> Nodes<F, C, K> {
         requires { From 0 self.old (expr_part callee) }
         ensures grows { Grows self.old self.new }
         ensures made { IfOk result (λ id. Made (first_at self.old callee.0) self.new (expr_part id)
-            (trees.bare_new_e (between start (span_of (tree_at self.old callee.0)).hi) (tree_at self.old callee.0))) }
+            (trees.bare_new_e (from_to start (span_of (tree_at self.old callee.0)).hi) (tree_at self.old callee.0))) }
     {
-        let span = Span::new(start, self.span(callee).hi);
+        let span = Span {
+            lo: start,
+            hi: self.extent(callee).hi,
+        };
         let args = None;
         Ok(ExprId(self.push(Node::New { span, callee, args })?))
     }
@@ -321,9 +334,9 @@ impl<F: Spanned + Drop, C: Spanned + Drop, K: Spanned + Drop> Nodes<F, C, K> {
         ensures grows { Grows self.old self.new }
         ensures made { IfOk result (λ id. (k : ℕ) → Apart k self.old (exprs_parts exprs)
             → Made k self.new (expr_part id)
-            (node tpl (between start end) (tpl_trees (tree_at self.old) quasis exprs))) }
+            (node tpl (from_to start end) (tpl_trees (tree_at self.old) quasis exprs))) }
     {
-        let span = Span::new(start, end);
+        let span = Span { lo: start, hi: end };
         Ok(ExprId(self.push(Node::Tpl(Tpl {
             span,
             exprs,
@@ -347,12 +360,15 @@ impl<F: Spanned + Drop, C: Spanned + Drop, K: Spanned + Drop> Nodes<F, C, K> {
         ensures grows { Grows self.old self.new }
         ensures made { IfOk result (λ id. (k : ℕ) → Apart k self.old (one_expr tag ++ exprs_parts exprs)
             → Made k self.new (expr_part id)
-            (trees.tagged_e (between (span_of (tree_at self.old tag.0)).lo end) (tree_at self.old tag.0)
-            (node tpl (between start end) (tpl_trees (tree_at self.old) quasis exprs)))) }
+            (trees.tagged_e (from_to (span_of (tree_at self.old tag.0)).lo end) (tree_at self.old tag.0)
+            (node tpl (from_to start end) (tpl_trees (tree_at self.old) quasis exprs)))) }
     {
-        let span = Span::new(self.span(tag).lo, end);
+        let span = Span {
+            lo: self.extent(tag).lo,
+            hi: end,
+        };
         let tpl = Tpl {
-            span: Span::new(start, end),
+            span: Span { lo: start, hi: end },
             exprs,
             quasis,
         };
@@ -370,9 +386,12 @@ impl<F: Spanned + Drop, C: Spanned + Drop, K: Spanned + Drop> Nodes<F, C, K> {
         requires { From 0 self.old (expr_part arg) }
         ensures grows { Grows self.old self.new }
         ensures made { IfOk result (λ id. Made (first_at self.old arg.0) self.new (expr_part id)
-            (trees.update_e (between start (span_of (tree_at self.old arg.0)).hi) op true (tree_at self.old arg.0))) }
+            (trees.update_e (from_to start (span_of (tree_at self.old arg.0)).hi) op true (tree_at self.old arg.0))) }
     {
-        let span = Span::new(start, self.span(arg).hi);
+        let span = Span {
+            lo: start,
+            hi: self.extent(arg).hi,
+        };
         let prefix = true;
         Ok(ExprId(self.push(Node::Update {
             span,
@@ -392,9 +411,12 @@ impl<F: Spanned + Drop, C: Spanned + Drop, K: Spanned + Drop> Nodes<F, C, K> {
         requires { From 0 self.old (expr_part arg) }
         ensures grows { Grows self.old self.new }
         ensures made { IfOk result (λ id. Made (first_at self.old arg.0) self.new (expr_part id)
-            (trees.update_e (between (span_of (tree_at self.old arg.0)).lo end) op false (tree_at self.old arg.0))) }
+            (trees.update_e (from_to (span_of (tree_at self.old arg.0)).lo end) op false (tree_at self.old arg.0))) }
     {
-        let span = Span::new(self.span(arg).lo, end);
+        let span = Span {
+            lo: self.extent(arg).lo,
+            hi: end,
+        };
         let prefix = false;
         Ok(ExprId(self.push(Node::Update {
             span,
@@ -409,9 +431,12 @@ impl<F: Spanned + Drop, C: Spanned + Drop, K: Spanned + Drop> Nodes<F, C, K> {
         requires { From 0 self.old (expr_part arg) }
         ensures grows { Grows self.old self.new }
         ensures made { IfOk result (λ id. Made (first_at self.old arg.0) self.new (expr_part id)
-            (trees.await_e (between start (span_of (tree_at self.old arg.0)).hi) (tree_at self.old arg.0))) }
+            (trees.await_e (from_to start (end_at self.old arg.0)) (tree_at self.old arg.0))) }
     {
-        let span = Span::new(start, self.span(arg).hi);
+        let span = Span {
+            lo: start,
+            hi: self.end(arg),
+        };
         Ok(ExprId(self.push(Node::Await { span, arg })?))
     }
 
@@ -425,9 +450,12 @@ impl<F: Spanned + Drop, C: Spanned + Drop, K: Spanned + Drop> Nodes<F, C, K> {
         requires { From 0 self.old (expr_part arg) }
         ensures grows { Grows self.old self.new }
         ensures made { IfOk result (λ id. Made (first_at self.old arg.0) self.new (expr_part id)
-            (trees.unary_e (between start (span_of (tree_at self.old arg.0)).hi) op (tree_at self.old arg.0))) }
+            (trees.unary_e (from_to start (span_of (tree_at self.old arg.0)).hi) op (tree_at self.old arg.0))) }
     {
-        let span = Span::new(start, self.span(arg).hi);
+        let span = Span {
+            lo: start,
+            hi: self.extent(arg).hi,
+        };
         Ok(ExprId(self.push(Node::Unary { span, op, arg })?))
     }
 
@@ -448,7 +476,10 @@ impl<F: Spanned + Drop, C: Spanned + Drop, K: Spanned + Drop> Nodes<F, C, K> {
             (trees.bin_e (trees.to (span_of (tree_at self.old left.0)) (span_of (tree_at self.old right.0))) op
             (tree_at self.old left.0) (tree_at self.old right.0))) }
     {
-        let span = Span::new(self.span(left).lo, self.span(right).hi);
+        let span = Span {
+            lo: self.extent(left).lo,
+            hi: self.extent(right).hi,
+        };
         Ok(ExprId(self.push(Node::Bin {
             span,
             op,
@@ -472,10 +503,13 @@ impl<F: Spanned + Drop, C: Spanned + Drop, K: Spanned + Drop> Nodes<F, C, K> {
         ensures grows { Grows self.old self.new }
         ensures made { IfOk result
             (λ id. Made (first_at self.old test.0) self.new (expr_part id)
-            (trees.cond_e (trees.to (span_of (tree_at self.old test.0)) (span_of (tree_at self.old alt.0)))
+            (trees.cond_e (from_to (start_at self.old test.0) (span_of (tree_at self.old alt.0)).hi)
             (tree_at self.old test.0) (tree_at self.old cons.0) (tree_at self.old alt.0))) }
     {
-        let span = Span::new(self.span(test).lo, self.span(alt).hi);
+        let span = Span {
+            lo: self.start(test),
+            hi: self.extent(alt).hi,
+        };
         Ok(ExprId(self.push(Node::Cond {
             span,
             test,
@@ -498,10 +532,13 @@ impl<F: Spanned + Drop, C: Spanned + Drop, K: Spanned + Drop> Nodes<F, C, K> {
         ensures grows { Grows self.old self.new }
         ensures made { IfOk result
             (λ id. Made (first_at self.old left.0) self.new (expr_part id)
-            (trees.assign_e (trees.to (span_of (tree_at self.old left.0)) (span_of (tree_at self.old value.0))) op
+            (trees.assign_e (from_to (span_of (tree_at self.old left.0)).lo (end_at self.old value.0)) op
             (tree_at self.old left.0) (tree_at self.old value.0))) }
     {
-        let span = Span::new(self.span(left).lo, self.span(value).hi);
+        let span = Span {
+            lo: self.extent(left).lo,
+            hi: self.end(value),
+        };
         Ok(ExprId(self.push(Node::Assign {
             span,
             op,
@@ -535,9 +572,12 @@ impl<F: Spanned + Drop, C: Spanned + Drop, K: Spanned + Drop> Nodes<F, C, K> {
         requires { From 0 self.old (expr_part arg) }
         ensures grows { Grows self.old self.new }
         ensures made { IfOk result (λ id. Made (first_at self.old arg.0) self.new (expr_part id)
-            (trees.yield_e (between start (span_of (tree_at self.old arg.0)).hi) delegate (tree_at self.old arg.0))) }
+            (trees.yield_e (from_to start (end_at self.old arg.0)) delegate (tree_at self.old arg.0))) }
     {
-        let span = Span::new(start, self.span(arg).hi);
+        let span = Span {
+            lo: start,
+            hi: self.end(arg),
+        };
         let arg = Some(arg);
         Ok(ExprId(self.push(Node::Yield {
             span,
@@ -554,13 +594,18 @@ impl<F: Spanned + Drop, C: Spanned + Drop, K: Spanned + Drop> Nodes<F, C, K> {
         requires apart { Apart 0 self.old (exprs_parts exprs) }
         ensures grows { Grows self.old self.new }
         ensures made { IfOk result (λ id. (k : ℕ) → Apart k self.old (exprs_parts exprs)
-            → Made k self.new (expr_part id) (trees.seq_of (expr_trees (tree_at self.old) exprs))) }
+            → Made k self.new (expr_part id)
+            (seq_between (first_start self.old exprs.items) (last_end self.old exprs.items)
+            (expr_trees (tree_at self.old) exprs))) }
     {
         let (first, last) = (exprs[0], exprs[exprs.len() - 1]);
         if exprs.len() == 1 {
             return Ok(first);
         }
-        let span = Span::new(self.span(first).lo, self.span(last).hi);
+        let span = Span {
+            lo: self.start(first),
+            hi: self.end(last),
+        };
         Ok(ExprId(self.push(Node::Seq { span, exprs })?))
     }
 
@@ -571,7 +616,9 @@ impl<F: Spanned + Drop, C: Spanned + Drop, K: Spanned + Drop> Nodes<F, C, K> {
         ensures grows { Grows self.old self.new }
         ensures made { IfOk result (λ id. (k : ℕ) → Apart k self.old (args_parts items)
             → Made k self.new (expr_part id)
-            (trees.seq_of (trees.held_exprs (item_trees (λ e. tree_at self.old e.0) items.items)))) }
+            (seq_between (first_start self.old (map (λ item. item.expr) items.items))
+            (last_end self.old (map (λ item. item.expr) items.items))
+            (trees.held_exprs (item_trees (λ e. tree_at self.old e.0) items.items)))) }
     {
         let exprs = held_exprs(self.allocator(), &items)?;
         self.seq_expr(exprs)
@@ -581,19 +628,29 @@ impl<F: Spanned + Drop, C: Spanned + Drop, K: Spanned + Drop> Nodes<F, C, K> {
     pub fn private_expr(&mut self, start: BytePos, name: IdentName) -> Result<ExprId, AllocError>
         ensures grows { Grows self.old self.new }
         ensures made { IfOk result (λ id. Made (count self.old) self.new (expr_part id)
-            (trees.private_e (between start name.span.hi) name.sym)) }
+            (trees.private_e (from_to start name.span.hi) name.sym)) }
     {
-        let span = Span::new(start, name.span.hi);
+        let span = Span {
+            lo: start,
+            hi: name.span.hi,
+        };
         let name = name.sym;
         Ok(ExprId(self.push(Node::PrivateName(PrivateName { span, name }))?))
     }
 
-    /// What stands in for an operand that was refused.
-    pub fn invalid(&mut self, span: Span) -> Result<ExprId, AllocError>
+    /// What stands in for an operand that was refused, which begins at `first`, and before which a token ends at `last`.
+    pub fn invalid(
+        &mut self,
+        span: Span,
+        first: BytePos,
+        last: BytePos,
+    ) -> Result<ExprId, AllocError>
         ensures grows { Grows self.old self.new }
         ensures made { IfOk result (λ id. Made (count self.old) self.new (expr_part id) (leaf invalid span)) }
+        ensures start { IfOk result (λ id. start_at self.new id.0 ≡ first) }
+        ensures end { IfOk result (λ id. end_at self.new id.0 ≡ last) }
     {
-        Ok(ExprId(self.push(Node::Invalid(Invalid { span }))?))
+        Ok(ExprId(self.push(Node::Invalid(InvalidNode { span, first, last }))?))
     }
 
     /// What stands in for a pattern that is missing.

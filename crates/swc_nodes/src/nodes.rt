@@ -58,8 +58,8 @@ impl<F: Spanned + Drop, C: Spanned + Drop, K: Spanned + Drop> Nodes<F, C, K> {
         self.nodes.is_empty()
     }
 
-    /// What the nodes take their memory from.
-    pub(crate) fn allocator(&self) -> Global {
+    /// What the nodes take their memory from: so does what is made of them.
+    pub fn allocator(&self) -> Global {
         *self.nodes.allocator()
     }
 

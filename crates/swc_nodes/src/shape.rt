@@ -1,10 +1,11 @@
 // Where a node stands, and what form it has.
-ghost use Rattle.std.specs.Prelude.{◌≡◌, not, true, MatchOption};
+ghost use Rattle.std.specs.Prelude.{◌≡◌, not, true, false, MatchOption};
+ghost use Rattle.swc_context.specs.Spans.{in_order};
 ghost use Rattle.swc_ast.specs.Targets as targets;
 ghost use Rattle.swc_ast.specs.Tree.{span_of};
-ghost use Rattle.swc_grammar.specs.Clean.{left_ok};
-ghost use Rattle.swc_grammar.specs.Trees as trees;
-ghost use Rattle.swc_nodes.specs.Lists.{has_cover};
+ghost use Rattle.swc_ast.specs.Trees.{left_ok};
+ghost use Rattle.swc_ast.specs.Trees as trees;
+ghost use Rattle.swc_nodes.specs.Lists.{has_cover, is_object, IsObject};
 ghost use Rattle.swc_nodes.specs.Slots.{expr_part, pat_part, target_part};
 ghost use Rattle.swc_nodes.specs.declared.node.TargetNode.TheVariants as target;
 ghost use Rattle.swc_nodes.specs.Stands.{tree_at, From};
@@ -16,8 +17,17 @@ use swc_context::operator::BinaryOp;
 use swc_context::span::Span;
 
 impl<F: Spanned + Drop, C: Spanned + Drop, K: Spanned + Drop> Nodes<F, C, K> {
-    /// The place of an expression.
+    /// The place of an expression, the smaller end first.
     pub fn span(&self, id: ExprId) -> Span
+        requires { From 0 self.now (expr_part id) }
+        ensures { result ≡ in_order (span_of (tree_at self.now id.0)) }
+    {
+        self.extent(id).in_order()
+    }
+
+    /// Where an expression lies, as its tokens have it: from where the first one begins to where the last one ends. Where
+    /// a source gives tokens out of order, the end may be the smaller one.
+    pub fn extent(&self, id: ExprId) -> Span
         requires { From 0 self.now (expr_part id) }
         ensures { result ≡ span_of (tree_at self.now id.0) }
     {
@@ -146,10 +156,12 @@ impl<F: Spanned + Drop, C: Spanned + Drop, K: Spanned + Drop> Nodes<F, C, K> {
         }
     }
 
-    /// The properties of an object literal; nothing of any other expression.
+    /// The properties of an object literal, of which there may be none; nothing of any other expression.
     pub fn props(&self, id: ExprId) -> Option<&Vec<PropNode<K>>>
         requires { From 0 self.now (expr_part id) }
-        ensures { MatchOption result (trees.no_cover_in (tree_at self.now id.0) ≡ true)
+        ensures is { MatchOption result (is_object (tree_at self.now id.0) ≡ false)
+            (λ props. IsObject self.now id.0 props.now) }
+        ensures covers { MatchOption result (trees.no_cover_in (tree_at self.now id.0) ≡ true)
             (λ props. trees.no_cover_in (tree_at self.now id.0) ≡ not (has_cover props.now.items)) }
     {
         match self.get(id.0) {

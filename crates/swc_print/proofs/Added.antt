@@ -4,7 +4,9 @@ use Rattle.std.specs.Prelude.{slice_get}
 use Rattle.std.proofs.lemmas.List.{append-nil, reverse-append}
 use Rattle.std.proofs.lemmas.Option.{slice_get_read}
 use Rattle.swc_nodes.specs.Slots.{Part, flat, if_some}
-use Rattle.swc_print.specs.Numbers.{numbers, ats}
+use Rattle.swc_nodes.specs.Weights.{ats}
+use Rattle.swc_nodes.proofs.Weighed.{ats-append}
+use Rattle.swc_print.specs.Numbers.{numbers}
 use Rattle.swc_print.specs.declared.pieces.Piece.{Piece}
 use Rattle.swc_print.specs.declared.pieces.Piece.TheVariants as piece
 
@@ -14,10 +16,6 @@ numbers-append (piece.Text t ∷ xs) ys = numbers-append xs ys
 numbers-append (piece.Count k ∷ xs) ys = numbers-append xs ys
 numbers-append (piece.Node i ∷ xs) ys = ap (λ v. i ∷ v) (numbers-append xs ys)
 numbers-append (piece.Last i ∷ xs) ys = ap (λ v. i ∷ v) (numbers-append xs ys)
-
-pub ats-append : (ps qs : List Part) → ats (ps ++ qs) ≡ ats ps ++ ats qs
-ats-append [] qs = refl
-ats-append (p ∷ ps) qs = ap (λ v. p.at ∷ v) (ats-append ps qs)
 
 pub piece_more : (old new : List Piece) (p : Piece) → new ≡ old ++ p ∷ [] → numbers new ≡ numbers old ++ numbers (p ∷ [])
 piece_more old new p e = ap numbers e ∙ numbers-append old (p ∷ [])

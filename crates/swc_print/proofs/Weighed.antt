@@ -1,25 +1,20 @@
 -- What is left to print becomes less as a node is taken apart.
-use Rattle.std.proofs.Common.{◌≡◌, ℕ, suc, ◌+◌, ◌<◌, ◌≤◌, true, List, [], ◌∷◌, ◌++◌, length, take, drop, reverse, Some, refl, sym, ap, ◌∙◌, arith, append_assoc}
-use Rattle.std.specs.List.{All, sum_by}
-use Rattle.std.proofs.lemmas.List.Elements.{All-nil, All-cons, All-append, All-take, All-same, All-pop}
-use Rattle.std.proofs.lemmas.List.Sums.{sum_by-cons, sum_by-append, sum_by_push}
+use Rattle.std.proofs.Common.{◌≡◌, ℕ, ◌+◌, ◌<◌, List, [], ◌∷◌, ◌++◌, length, take, drop, reverse, Some, refl, sym, ap, ◌∙◌, arith, append_assoc}
+use Rattle.std.proofs.lemmas.List.Elements.{All-append, All-take, All-same, All-pop}
+use Rattle.std.proofs.lemmas.List.Sums.{sum_by-append, sum_by_push}
 use Rattle.std.proofs.lemmas.List.Sorted.{sum_by-IsPermutation, All-permutation, IsPermutation-reverse}
 use Rattle.std.proofs.lemmas.List.{append-nil, take-append-drop, take_at}
 use Rattle.swc_ast.specs.declared.spanned.Spanned.{Ghosts}
-use Rattle.swc_nodes.specs.Seats.{Seat, floor, fits, chain}
 use Rattle.swc_nodes.specs.Slots.{Part, slots, flat, one_expr, expr_part}
-use Rattle.swc_nodes.specs.Stands.{count, seat_at, seat_before, first_at, Stood}
+use Rattle.swc_nodes.specs.Stands.{count, seat_at, Stood}
 use Rattle.swc_nodes.specs.declared.node.Node.{Node}
 use Rattle.swc_nodes.specs.declared.node.Node.TheVariants as n
 use Rattle.swc_nodes.specs.declared.node.ExprId.{ExprId}
 use Rattle.swc_ast.specs.declared.expr.Tpl.{Tpl}
 use Rattle.swc_nodes.specs.declared.nodes.Nodes.{Nodes}
-use Rattle.swc_nodes.proofs.Chains.{both_true, fitting, chain-bound}
-use Rattle.swc_nodes.proofs.Standing.{before-same}
-use Rattle.swc_nodes.proofs.Held.{stood-parts}
-use Rattle.swc_print.specs.Numbers.{ats, shown, tpl_shown}
-use Rattle.swc_print.specs.Weights.{weight, left_over, AreNumbers}
-use Rattle.swc_print.proofs.Added.{ats-append}
+use Rattle.swc_nodes.specs.Weights.{ats, weight, left_over, AreNumbers}
+use Rattle.swc_nodes.proofs.Weighed.{ats-append, parts_lighter, parts_numbers}
+use Rattle.swc_print.specs.Numbers.{shown, tpl_shown}
 
 flat-append : {X : Type 0} (f : X → List Part) (xs ys : List X) → flat f (xs ++ ys) ≡ flat f xs ++ flat f ys
 flat-append f [] ys = refl
@@ -31,39 +26,6 @@ shown_some t =
     ap (flat one_expr) (sym (take-append-drop n es)) ∙ flat-append one_expr (take n es) (drop n es)
 
 module _ {F C K : Type 0} where
-  chain_weight : (at : ℕ → Seat F C K) (lo : ℕ) (ps : List Part) (hi : ℕ) → chain at lo ps hi ≡ true → sum_by (weight at) (ats ps) + lo ≤ hi
-  chain_weight at lo [] hi h = let w = chain-bound at lo [] hi h in omega arith
-  chain_weight at lo (p ∷ ps) hi h =
-      let b = both_true h in let f = fitting at lo p b.0 in
-      let above = f.above in let first = f.first in
-      let rest = chain_weight at (suc p.at) ps hi b.1 in
-      let e = sum_by-cons (weight at) p.at (ats ps) in
-      omega arith
-
-  floor_weight : (at : ℕ → Seat F C K) (lo : ℕ) (ps : List Part) (hi : ℕ) → chain at lo ps hi ≡ true → sum_by (weight at) (ats ps) + floor at hi ps ≤ hi
-  floor_weight at lo [] hi h = omega arith
-  floor_weight at lo (p ∷ ps) hi h =
-      let b = both_true h in let f = fitting at lo p b.0 in
-      let first = f.first in
-      let rest = chain_weight at (suc p.at) ps hi b.1 in
-      let e = sum_by-cons (weight at) p.at (ats ps) in
-      omega arith
-
-  chain_below : (at : ℕ → Seat F C K) (lo : ℕ) (ps : List Part) (hi more : ℕ) → hi ≤ more → chain at lo ps hi ≡ true → All (λ k. k < more) (ats ps)
-  chain_below at lo [] hi more le h = All-nil (λ k. k < more)
-  chain_below at lo (p ∷ ps) hi more le h =
-      let b : (fits at lo p ≡ true) × (chain at (suc p.at) ps hi ≡ true) = both_true h in
-      let w = chain-bound at (suc p.at) ps hi b.1 in
-      let here : p.at < more = omega arith in
-      All-cons (λ k. k < more) p.at (ats ps) here (chain_below at (suc p.at) ps hi more le b.1)
-
-  floor_same : (at by : ℕ → Seat F C K) (lo : ℕ) (ps : List Part) (hi : ℕ) → ((i : ℕ) → i < hi → at i ≡ by i) → chain by lo ps hi ≡ true → floor at hi ps ≡ floor by hi ps
-  floor_same at by lo [] hi same h = refl
-  floor_same at by lo (p ∷ ps) hi same h =
-      let b : (fits by lo p ≡ true) × (chain by (suc p.at) ps hi ≡ true) = both_true h in
-      let w = chain-bound by (suc p.at) ps hi b.1 in
-      ap (λ s. s.first) (same p.at (omega arith))
-
   -- the parts that are shown come first among the parts
   pub shown_first : (x : Node F C K) → (rest : List Part) × (slots x ≡ shown x ++ rest)
   shown_first (n.Tpl t) = (flat one_expr (drop (length t.quasis.items) t.exprs.items), shown_some t)
@@ -74,14 +36,6 @@ module _ {F C K : Type 0} where
   turned b p q r x none put moved = moved ∙ ap (λ v. b ++ reverse v) (put ∙ ap (λ v. v ++ ats (shown x)) none)
 
 module _ {F C K : Type 0} {fg : Ghosts F} {cg : Ghosts C} {kg : Ghosts K} where
-  parts_lighter : (ns : Nodes F C K fg cg kg) (i : ℕ) (x : Node F C K) → Stood ns i x → i < count ns → left_over ns (ats (slots x)) < weight (seat_at ns) i
-  parts_lighter ns i x s lt =
-      let c = stood-parts s lt in
-      let e : first_at ns i ≡ floor (seat_before i ns) i (slots x) = ap (λ t. t.first) s.stands in
-      let f = floor_same (seat_before i ns) (seat_at ns) 0 (slots x) i (λ j l. before-same i ns j l (omega arith)) c in
-      let w = floor_weight (seat_at ns) 0 (slots x) i c in
-      omega arith
-
   pub shown_lighter : (ns : Nodes F C K fg cg kg) (i : ℕ) (x : Node F C K) → Stood ns i x → i < count ns → left_over ns (ats (shown x)) < weight (seat_at ns) i
   shown_lighter ns i x s lt =
       let w = parts_lighter ns i x s lt in
@@ -94,7 +48,7 @@ module _ {F C K : Type 0} {fg : Ghosts F} {cg : Ghosts C} {kg : Ghosts K} where
   shown_numbers ns i x s lt =
       let p = shown_first x in
       let n = length (ats (shown x)) in
-      let all = chain_below (seat_at ns) 0 (slots x) i (count ns) (let l : i ≤ count ns = omega arith in l) (stood-parts s lt) in
+      let all = parts_numbers ns i x s lt in
       let e : take n (ats (slots x)) ≡ ats (shown x) = ap (take n) (ap ats p.1 ∙ ats-append (shown x) p.0) ∙ take_at (ats (shown x)) (ats p.0) n refl in
       All-same (λ k. k < count ns) (ats (shown x)) (take n (ats (slots x))) (sym e) (All-take (λ k. k < count ns) n (ats (slots x)) all)
 

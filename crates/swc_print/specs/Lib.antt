@@ -1,3 +1,2 @@
 pub mod Memory
 pub mod Numbers
-pub mod Weights

@@ -3,6 +3,7 @@ use Rattle.std.specs.Prelude.{◌≡◌, ℕ, Bool, true, false, List, [], ◌�
 use Rattle.swc_ast.specs.declared.expr.Tpl.{Tpl}
 use Rattle.swc_nodes.specs.declared.node.ExprId.{ExprId}
 use Rattle.swc_nodes.specs.Slots.{Part, slots, one_expr, flat}
+use Rattle.swc_nodes.specs.Weights.{ats}
 use Rattle.swc_nodes.specs.declared.node.Node.{Node}
 use Rattle.swc_nodes.specs.declared.node.Node.TheVariants as n
 use Rattle.swc_print.specs.declared.pieces.Pieces.{Pieces}
@@ -15,10 +16,6 @@ numbers (piece.Node i ∷ ps) = i ∷ numbers ps
 numbers (piece.Last i ∷ ps) = i ∷ numbers ps
 numbers (piece.Text t ∷ ps) = numbers ps
 numbers (piece.Count k ∷ ps) = numbers ps
-
-abbrev pub ats : List Part → List ℕ
-ats [] = []
-ats (p ∷ ps) = p.at ∷ ats ps
 
 -- A template shows as many expressions as it has texts.
 abbrev pub tpl_shown : Tpl ExprId → List Part

@@ -2,7 +2,8 @@
 ghost use Rattle.std.specs.Prelude.{◌≡◌, ◌++◌, ◌∷◌, [], OnOk};
 ghost use Rattle.swc_nodes.specs.Slots.{one_expr, one_pat, if_some, item_parts, param_parts, prop_parts};
 ghost use Rattle.swc_nodes.specs.Slots.{pat_prop_parts, key_parts, flat};
-ghost use Rattle.swc_print.specs.Numbers.{Lays, numbers, ats};
+ghost use Rattle.swc_nodes.specs.Weights.{ats};
+ghost use Rattle.swc_print.specs.Numbers.{Lays, numbers};
 
 use crate::pieces::{
     Piece, Pieces, put_after, put_computed, put_in, put_kept_last, put_part, put_text,

@@ -7,7 +7,7 @@ ghost use Rattle.swc_print.specs.Memory.{want_of_memory};
 
 use crate::kinds::put_node;
 use crate::pieces::{Piece, Pieces};
-use std::alloc::{AllocError, Global};
+use std::alloc::AllocError;
 use swc_ast::spanned::Spanned;
 use swc_bodies::token_body::TokenBody;
 use swc_context::error::{Error, PResult, SyntaxError};
@@ -48,12 +48,12 @@ pub trait PrintNodes {
     ghost has_pat: { Self → PatId → Type 0 };
 
     /// The text of an expression. The only error is want of memory, `OutOfMemory` at 0..0.
-    fn print_expr(&self, alloc: Global, id: ExprId) -> PResult<String>
+    fn print_expr(&self, id: ExprId) -> PResult<String>
         requires { has_expr self.now id }
         ensures refused { IfErr result (λ e. e ≡ want_of_memory) };
 
     /// The text of a pattern, in the same form. The only error is want of memory, `OutOfMemory` at 0..0.
-    fn print_pat(&self, alloc: Global, id: PatId) -> PResult<String>
+    fn print_pat(&self, id: PatId) -> PResult<String>
         requires { has_pat self.now id }
         ensures refused { IfErr result (λ e. e ≡ want_of_memory) };
 }
@@ -67,12 +67,12 @@ impl<F: Spanned + Drop + Kept, C: Spanned + Drop + Kept, K: Spanned + Drop + Kep
 
     ghost has_pat = { λ ns id. From 0 ns (pat_part id) };
 
-    fn print_expr(&self, alloc: Global, id: ExprId) -> PResult<String> {
-        print_node(alloc, self, id.0).map_err(out_of_memory)
+    fn print_expr(&self, id: ExprId) -> PResult<String> {
+        print_node(self, id.0).map_err(out_of_memory)
     }
 
-    fn print_pat(&self, alloc: Global, id: PatId) -> PResult<String> {
-        print_node(alloc, self, id.0).map_err(out_of_memory)
+    fn print_pat(&self, id: PatId) -> PResult<String> {
+        print_node(self, id.0).map_err(out_of_memory)
     }
 }
 
@@ -91,12 +91,12 @@ fn out_of_memory(_error: AllocError) -> Error
 
 /// The text of a node. What is left to print lies on a stack, the next piece on top.
 fn print_node<F: Spanned + Drop + Kept, C: Spanned + Drop + Kept, K: Spanned + Drop + Kept>(
-    alloc: Global,
     nodes: &Nodes<F, C, K>,
     number: usize,
 ) -> Result<String, AllocError>
     requires { number < count nodes.now }
 {
+    let alloc = nodes.allocator();
     let mut stack = Vec::new(alloc);
     let mut pieces = Pieces {
         out: String::new(alloc),

@@ -1,26 +1,33 @@
 -- What the clean parser reads in parentheses, sequences, conditionals, assignments and of `yield`, a step at a time, as
 -- the code goes it.
-use Rattle.std.proofs.Common.{◌≡◌, Bool, true, false, not, ◌&&◌, if◌then◌else◌, List, [], ◌∷◌, Option, Some, None}
+use Rattle.std.proofs.Common.{◌≡◌, Bool, true, false, not, ◌&&◌, if◌then◌else◌, List, [], ◌∷◌, Option, Some, None, Result}
 use Rattle.std.proofs.Common.{refl, sym, ap, ◌∙◌, ◌||◌}
 use Rattle.std.specs.Prelude.{is_some as is_given}
+use Rattle.swc_context.specs.Contexts.{view as deciding}
+use Rattle.swc_context.specs.declared.context.Context.{Context}
+use Rattle.swc_context.specs.declared.error.Error.{Error}
 use Rattle.swc_context.specs.declared.operator.AssignOp.{AssignOp}
+use Rattle.swc_context.specs.declared.span.BytePos.{BytePos}
 use Rattle.swc_context.specs.declared.span.Span.{Span}
 use Rattle.swc_context.specs.declared.word.Keyword.TheVariants as keyword
 use Rattle.swc_context.specs.declared.word.Word.TheVariants as written
+use Rattle.swc_input.specs.declared.buffer.Buffer.{Buffer}
 use Rattle.swc_input.specs.declared.token.Token.{Token}
 use Rattle.swc_input.specs.declared.token.Token.TheVariants as token
 use Rattle.swc_input.specs.declared.token.TokenAndSpan.{TokenAndSpan}
+use Rattle.swc_input.specs.Buffer.{context}
 use Rattle.swc_input.specs.Kinds.{at_token}
 use Rattle.swc_input.specs.Recording.{is_some}
+use Rattle.swc_input.specs.Source.{Model}
 use Rattle.swc_ast.specs.Targets.{is_target}
 use Rattle.swc_ast.specs.Tree.{Tree, Trees, nil, cons, span_of}
+use Rattle.swc_ast.specs.Trees.{to, trees_append, cond_e, assign_e, yield_e, hole_e, is_operation}
 use Rattle.swc_bodies.specs.Readings.{Hook}
 use Rattle.swc_grammar.specs.Scope.{Scope}
 use Rattle.swc_grammar.specs.Rule.{gives, take, check, read, sees}
 use Rattle.swc_grammar.specs.Symbols.{Expr, Assign, Level, Args}
-use Rattle.swc_grammar.specs.Tokens.{with_in, assign_of, is_assign, is_comma, is_question, is_lparen, is_colon, is_star}
+use Rattle.swc_grammar.specs.Tokens.{include_in, with_in, assign_of, is_assign, is_comma, is_question, is_lparen, is_colon, is_star}
 use Rattle.swc_grammar.specs.Tokens.{tk, is_yield, yield_ok, goes_on_yield, begins_yielded}
-use Rattle.swc_grammar.specs.Trees.{to, trees_append, cond_e, assign_e, yield_e, hole_e, is_operation}
 use Rattle.swc_grammar.specs.Grammar.{paren-expr}
 use Rattle.swc_grammar.specs.Clean.{Out, and_then, first, sym as at, assigns, seqs, no_error, begins_yield, plan}
 use Rattle.swc_grammar.specs.Clean.{goes_on_yield_at, exec, run, chosen, yield_by as yield_choice}
@@ -29,15 +36,19 @@ use Rattle.swc_grammar.proofs.Answers.{both}
 use Rattle.swc_grammar.proofs.Complete.{last}
 use Rattle.swc_grammar.proofs.Knot.{knot}
 use Rattle.swc_productions.specs.Assignments.{assign_at, paren_of, paren_expr_tail, seqs_more, seqs_by, cond_tail}
+use Rattle.swc_productions.specs.Assignments.{begun_if, seqs_from_by, assigns_from}
 use Rattle.swc_productions.specs.Assignments.{cond_colon, cond_close, assign_tail, assign_expr, yield_arg, yield_operand}
 use Rattle.swc_productions.specs.Assignments.{yield_go, yield_tail, yield_expr}
 use Rattle.swc_productions.specs.Keys.{expected}
 use Rattle.swc_productions.specs.Links.{args_inside}
 use Rattle.swc_productions.specs.Lists.{eaten, eaten_by}
-use Rattle.swc_productions.specs.Parsing.{behind}
+use Rattle.swc_productions.specs.Contexts.{cond_middle, cond_last}
+use Rattle.swc_productions.specs.Parsing.{behind, Moves, Parses}
 use Rattle.swc_productions.specs.Readers.{reading, by_production, inside, whole_inside}
 use Rattle.swc_productions.proofs.Keys.{then_calls, then_token}
 use Rattle.swc_productions.proofs.Lists.{calls}
+use Rattle.swc_productions.proofs.Rules.{inside_assign}
+use Rattle.swc_productions.proofs.Steps.{parses_within, parses_aside}
 use Rattle.swc_productions.proofs.Updates.{if_on, if_off}
 
 -- whether something is given, by either name
@@ -118,26 +129,26 @@ module _ {F C K : Type 0} (hook : Hook F C K) where
   alt_reads : (l e : Tree F C K) (x : Scope) (t : TokenAndSpan) (us : List TokenAndSpan)
       → (if is_colon t.token then and_then (run hook (at Assign) x us)
       (λ a vs. Some (cond_e (to (span_of l) (span_of a)) l e a, vs)) else None)
-      ≡ (if is_colon t.token then cond_close hook l e x us else None)
+      ≡ (if is_colon t.token then cond_close hook (span_of l).lo l e x us else None)
   alt_reads l e x t us = ap (λ o. if is_colon t.token then o else None) (calls (run hook (at Assign) x us) _)
 
   -- behind the middle of a conditional
   colon_reads : (l e : Tree F C K) (x : Scope) (us : List TokenAndSpan)
       → exec hook (run hook) None
       (take (λ t. check (is_colon t.token) (read (at Assign) x (λ a. gives (cond_e (to (span_of l) (span_of a)) l e a))))) us
-      ≡ cond_colon hook l e x us
-  colon_reads l e x [] = then_token is_colon x [] (λ q vs. cond_close hook l e x vs)
+      ≡ cond_colon hook (span_of l).lo l e x us
+  colon_reads l e x [] = then_token is_colon x [] (λ q vs. cond_close hook (span_of l).lo l e x vs)
   colon_reads l e x (t ∷ us) =
-      alt_reads l e x t us ∙ then_token is_colon x (t ∷ us) (λ q vs. cond_close hook l e x vs)
+      alt_reads l e x t us ∙ then_token is_colon x (t ∷ us) (λ q vs. cond_close hook (span_of l).lo l e x vs)
 
   -- behind what binary operators join
   pub assigns_cond : (l : Tree F C K) (x : Scope) (ts : List TokenAndSpan) → at_token is_question (first ts) ≡ true
-      → run hook (assigns l) x ts ≡ behind (cond_tail hook l) x ts
+      → run hook (assigns l) x ts ≡ behind (cond_tail hook (span_of l).lo l) x ts
   unfolding cond_tail inside expected eaten
   assigns_cond l x [] h = cc
   assigns_cond l x (t ∷ ts) h =
       knot hook (assigns l) x (t ∷ ts)
-      ∙ rw h (rw h (then_calls (run hook (at Assign) (with_in x) ts) _ (λ e us. cond_colon hook l e x us)
+      ∙ rw h (rw h (then_calls (run hook (at Assign) (with_in x) ts) _ (λ e us. cond_colon hook (span_of l).lo l e x us)
       (λ e us. colon_reads l e x us)))
 
   assign_is : (t : Token) (op : AssignOp) → assign_of t ≡ Some op
@@ -321,7 +332,61 @@ module _ {F C K : Type 0} (hook : Hook F C K) where
   unfolding assign_tail
   assign_tail_splits op l x ts = refl
 
-  pub cond_tail_splits : (l : Tree F C K) (x : Scope) (ts : List TokenAndSpan)
-      → cond_tail hook l x ts ≡ (inside hook x ts >>= (λ p. cond_colon hook l p.0 x p.1))
+  pub cond_tail_splits : (lo : BytePos) (l : Tree F C K) (x : Scope) (ts : List TokenAndSpan)
+      → cond_tail hook lo l x ts ≡ (inside hook x ts >>= (λ p. cond_colon hook lo l p.0 x p.1))
   unfolding cond_tail
-  cond_tail_splits l x ts = refl
+  cond_tail_splits lo l x ts = refl
+
+  -- behind what binary operators join: a conditional, or something else; all of it, where the conditional begins where
+  -- what it tests does
+  pub from_question : (lo : BytePos) (l : Tree F C K) (x : Scope) (ts : List TokenAndSpan) → at_token is_question (first ts) ≡ true
+      → assigns_from hook lo l x ts ≡ behind (cond_tail hook lo l) x ts
+  unfolding assigns_from
+  from_question lo l x ts h = rw h refl
+
+  pub from_other : (lo : BytePos) (l : Tree F C K) (x : Scope) (ts : List TokenAndSpan) → at_token is_question (first ts) ≡ false
+      → assigns_from hook lo l x ts ≡ run hook (assigns l) x ts
+  unfolding assigns_from
+  from_other lo l x ts h = rw h refl
+
+  from_by : (l : Tree F C K) (x : Scope) (ts : List TokenAndSpan) (b : Bool) → at_token is_question (first ts) ≡ b
+      → assigns_from hook (span_of l).lo l x ts ≡ run hook (assigns l) x ts
+  from_by l x ts true h = from_question (span_of l).lo l x ts h ∙ sym (assigns_cond l x ts h)
+  from_by l x ts false h = from_other (span_of l).lo l x ts h
+
+  pub from_place : (lo : BytePos) (l : Tree F C K) (x : Scope) (ts : List TokenAndSpan) → lo ≡ (span_of l).lo
+      → run hook (assigns l) x ts ≡ assigns_from hook lo l x ts
+  from_place lo l x ts h =
+      sym (ap (λ v. assigns_from hook v l x ts) h ∙ from_by l x ts (at_token is_question (first ts)) refl)
+
+  -- a sequence that begins where its first expression does
+  begun_none : (lo : BytePos) (o : Out (Tree F C K)) → o ≡ (o >>= (λ p. Some (begun_if false lo p.0, p.1)))
+  begun_none lo None = refl
+  begun_none lo (Some p) = refl
+
+  pub seqs_begun : (b : Bool) (lo : BytePos) (es : Trees F C K) (x : Scope) (ts : List TokenAndSpan) → b ≡ false
+      → run hook (seqs es) x ts ≡ (eaten is_comma x ts >>= (λ p. seqs_from_by hook b lo es p.0 x p.1))
+  seqs_begun b lo es x ts h =
+      seqs_splits es x ts ∙ then_begun (eaten is_comma x ts)
+    where
+      then_begun : (o : Out (Option Span)) → (o >>= (λ p. seqs_by hook es p.0 x p.1))
+          ≡ (o >>= (λ p. seqs_from_by hook b lo es p.0 x p.1))
+      then_begun None = refl
+      then_begun (Some p) = begun_none lo (seqs_by hook es p.0 x p.1)
+          ∙ ap (λ v. seqs_by hook es p.0 x p.1 >>= (λ q. Some (begun_if v lo q.0, q.1))) (sym h)
+
+-- ---- the parts of a conditional (13.14), each in a context of its own, which is put back
+
+module _ {S : Type 0} (model : Model S) (sure : Bool) {F C K T : Type 0} (hook : Hook F C K) (tree : T → Tree F C K) where
+  pub in_middle : {b c d e : Buffer S} (ctx : Context) (r : Result T Error) → ctx ≡ context model b → Moves model b c
+      → context model c ≡ cond_middle ctx → Parses model sure tree (run hook (at Assign)) c r d → Moves model d e
+      → context model e ≡ ctx → Parses model sure tree (inside hook) b r e
+  in_middle ctx r from m to h n back =
+      parses_within model sure tree (inside hook) (run hook (at Assign)) r include_in (λ x. refl)
+      (λ x ts. inside_assign hook x ts) m (ap deciding to ∙ ap (λ x. include_in (deciding x)) from) h n (back ∙ from)
+
+  pub in_last : {b c d e : Buffer S} (ctx : Context) (r : Result T Error) → ctx ≡ context model b → Moves model b c
+      → context model c ≡ cond_last ctx → Parses model sure tree (run hook (at Assign)) c r d → Moves model d e
+      → context model e ≡ ctx → Parses model sure tree (run hook (at Assign)) b r e
+  in_last ctx r from m to h n back =
+      parses_aside model sure tree (run hook (at Assign)) r m (ap deciding to ∙ ap deciding from) h n (back ∙ from)

@@ -10,6 +10,7 @@ use Rattle.swc_input.specs.declared.token.Token.TheVariants as token
 use Rattle.swc_input.specs.declared.token.TokenAndSpan.{TokenAndSpan}
 use Rattle.swc_input.specs.Kinds.{at_token, is_hash}
 use Rattle.swc_ast.specs.Tree.{Tree, span_of}
+use Rattle.swc_ast.specs.Trees.{to, items_of, call_e, super_e, import_e, meta_e}
 use Rattle.swc_ast.specs.declared.expr.Import.{Import}
 use Rattle.swc_ast.specs.declared.expr.ImportPhase.TheVariants as phase
 use Rattle.swc_ast.specs.declared.expr.MetaPropKind.TheVariants as kind
@@ -19,7 +20,6 @@ use Rattle.swc_grammar.specs.Rule.{gives, take, check, read, given, must, ◌>>=
 use Rattle.swc_grammar.specs.Symbols.{Expr, Base, Args, Primary}
 use Rattle.swc_grammar.specs.Tokens.{tk, with_in, is_new, is_dot, is_rbracket, is_lparen, is_super, is_meta, is_source}
 use Rattle.swc_grammar.specs.Tokens.{super_ok}
-use Rattle.swc_grammar.specs.Trees.{to, items_of, call_e, super_e, import_e, meta_e}
 use Rattle.swc_grammar.specs.Parts.{any_name}
 use Rattle.swc_grammar.specs.Names.{Spelling, may_name}
 use Rattle.swc_grammar.specs.Clean.{Out, and_then, first, second, sym as at, plan, exec, chosen, super_base, import_base}

@@ -1,17 +1,18 @@
--- A call of the hook, as a reading: what it answers is what the hook's reading gives.
-use Rattle.std.proofs.Common.{◌≡◌, ◌≢◌, ◌<◌, Bool, true, List, [], ◌∷◌, ◌++◌, Option, Some, None, Result, Ok, Err}
-use Rattle.std.proofs.Common.{IsSome, length, refl, ap, ◌∙◌, arith, length-append}
+-- A call of the hook, as a reading: what is answered is what the hook's reading gives.
+use Rattle.std.proofs.Common.{◌≡◌, ◌≢◌, ◌<◌, Bool, true, false, List, [], ◌∷◌, ◌++◌, Some, None, Result, Ok, Err}
+use Rattle.std.proofs.Common.{length, refl, sym, ap, subst, ◌∙◌, arith, length-append}
 use Rattle.std.proofs.lemmas.List.{append-nil}
+use Rattle.swc_context.specs.Contexts.{view as deciding}
+use Rattle.swc_context.specs.declared.context.Context.{Context}
 use Rattle.swc_context.specs.declared.error.Error.{Error}
 use Rattle.swc_context.specs.declared.error.SyntaxError.TheVariants.{OutOfMemory}
+use Rattle.swc_context.specs.declared.span.BytePos.{BytePos}
 use Rattle.swc_input.specs.declared.buffer.Buffer.{Buffer}
-use Rattle.swc_input.specs.declared.token.Token.{Token}
 use Rattle.swc_input.specs.declared.token.TokenAndSpan.{TokenAndSpan}
 use Rattle.swc_input.specs.Source.{Model, Laws, Keeps}
-use Rattle.swc_input.specs.Buffer.{Known, context, current}
-use Rattle.swc_input.specs.Laws.{held_some}
-use Rattle.swc_input.specs.Kinds.{at_token}
-use Rattle.swc_bodies.specs.Readings.{Reading, Hooked, Faithful, at_function}
+use Rattle.swc_input.specs.Buffer.{Known, context, source}
+use Rattle.swc_input.specs.Recording.{no_memory}
+use Rattle.swc_bodies.specs.Readings.{Reading, Hooked, Faithful}
 use Rattle.swc_grammar.specs.Clean.{Out}
 use Rattle.swc_productions.specs.Parsing.{Loud, recorded, by_hook, Parses}
 
@@ -31,16 +32,8 @@ nothing : {V : Type 0} (o : Out V) → ((v : V) (rest : List TokenAndSpan) → o
 nothing None f = refl
 nothing (Some p) f = absurd (f p.0 p.1 refl)
 
--- where the hook is called a token is current
-pub function_some : (o : Option TokenAndSpan) → at_function o ≡ true → IsSome o
-function_some None h = cc
-function_some (Some t) h = refl
-
-pub token_some : (f : Token → Bool) (o : Option TokenAndSpan) → at_token f o ≡ true → IsSome o
-token_some f None h = cc
-token_some f (Some t) h = refl
-
-module _ {S V : Type 0} (model : Model S) (laws : Laws model) (reads : Reading V) (sure : Bool) {b : Buffer S} where
+module _ {S V : Type 0} (model : Model S) (laws : Laws model) (reads : Reading V)
+    (viewed : (c : Context) (ts : List TokenAndSpan) → reads c ts ≡ reads (deciding c) ts) (sure : Bool) {b : Buffer S} where
   -- a faithful hook that records a fault, or refuses, reads nothing
   none_faulty : (c : Buffer S) (v : V) → Faithful model reads b (Ok v) c → Loud model b
       → recorded model b < recorded model c
@@ -52,22 +45,45 @@ module _ {S V : Type 0} (model : Model S) (laws : Laws model) (reads : Reading V
       → (ts : List TokenAndSpan) → Known model b ts → reads (context model b) ts ≡ None
   none_refused c x f n l ts k = nothing (reads (context model b) ts) (λ w rest e. n (f l ts w rest k e))
 
-  -- called where a token is current, it reads what its reading gives
-  pub hook_parses : {c : Buffer S} → IsSome (current b) → (r : Result V Error) → Hooked model reads b r c
+  -- where the source runs, it reads what its reading gives
+  running_parses : {c : Buffer S} → (model.state (source c)).failed ≡ false → (r : Result V Error) → Hooked model reads b r c
       → (sure ≡ true → Faithful model reads b r c) → Parses model sure (λ v. v) (by_hook reads) b r c
-  hook_parses {c = c} here (Ok v) h f = record {
+  running_parses {c = c} runs (Ok v) h f = record {
     on = record {
-      leads = record { laws = laws; taken = h.taken; read = h.read; lives = h.lives };
-      clean = λ l s ys fut. h.clean l (same_faults h.read.errors s) ys fut;
-      faulty = λ y l lt ts k. none_faulty c v (f y) l lt ts k;
+      leads = record { laws = laws; taken = h.taken; read = h.read; lives = λ e. let n = sym e ∙ runs in cc };
+      clean = λ l s ys fut. sym (viewed (context model b) (h.taken ++ ys)) ∙ h.clean l (same_faults h.read.errors s) ys fut;
+      faulty = λ y l lt ts k. sym (viewed (context model b) ts) ∙ none_faulty c v (f y) l lt ts k;
     };
     onward = record { some = h.some; less = h.less };
   }
-  hook_parses {c = c} here (Err x) h f = record {
+  running_parses {c = c} runs (Err x) h f = record {
     refuses = record {
       spends = record { laws = laws; taken = h.taken; read = h.read };
       kind = h.refused;
-      served = λ n. record { before = λ e. (h.lives n e, held_some b here) };
+      served = λ n. record { before = λ e. let n = sym e ∙ runs in cc };
     };
-    none = λ n y l ts k. none_refused c x (f y) n l ts k;
+    none = λ n y l ts k. sym (viewed (context model b) ts) ∙ none_refused c x (f y) n l ts k;
   }
+
+  -- where it has failed, memory is wanted
+  failed_parses : {c : Buffer S} (at : BytePos) (r : Result V Error) → Hooked model reads b r c
+      → Parses model sure (λ (v : V). v) (by_hook reads) b (Err (no_memory at)) c
+  failed_parses at r h = record {
+    refuses = record {
+      spends = record { laws = laws; taken = h.taken; read = h.read };
+      kind = λ own. cc;
+      served = λ n. absurd (n refl);
+    };
+    none = λ n. absurd (n refl);
+  }
+
+  -- the hook answered r, and q is answered: r itself, or want of memory where the source has failed
+  pub hook_parses : {c : Buffer S} (at : BytePos) (r q : Result V Error) → Hooked model reads b r c → (sure ≡ true → Faithful model reads b r c)
+      → ((model.state (source c)).failed ≡ false → q ≡ r) → ((model.state (source c)).failed ≡ true → q ≡ Err (no_memory at))
+      → Parses model sure (λ v. v) (by_hook reads) b q c
+  hook_parses {c = c} at r q h f runs fails =
+      let Read : Result V Error → Type 0 = λ x. Parses model sure (λ v. v) (by_hook reads) b x c in
+      elim (model.state (source c)).failed as (λ d. (model.state (source c)).failed ≡ d → Read q) [
+        | true ↦ (λ e. subst Read (sym (fails e)) (failed_parses at r h))
+        | false ↦ (λ e. subst Read (sym (runs e)) (running_parses e r h f))
+      ] refl

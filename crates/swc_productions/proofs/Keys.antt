@@ -12,13 +12,13 @@ use Rattle.swc_input.specs.Buffer.{context, current}
 use Rattle.swc_input.specs.Kinds.{at_token}
 use Rattle.swc_input.specs.Source.{Model}
 use Rattle.swc_ast.specs.Tree.{Tree}
+use Rattle.swc_ast.specs.Trees.{to, name_e, computed_e, function_e, block_e}
 use Rattle.swc_bodies.specs.Readings.{Hook, LawfulHook, begins, is_brace}
 use Rattle.swc_grammar.specs.Scope.{Scope, in_context}
 use Rattle.swc_grammar.specs.Rule.{gives, take, check}
 use Rattle.swc_grammar.specs.Symbols.{Assign, Key, Shell, block}
 use Rattle.swc_grammar.specs.Tokens.{tk, with_in, is_word, is_lparen, is_rparen, is_lbracket, is_rbracket}
 use Rattle.swc_grammar.specs.Tokens.{method_params, method_block}
-use Rattle.swc_grammar.specs.Trees.{to, name_e, computed_e, function_e, block_e}
 use Rattle.swc_grammar.specs.Parts.{key_lit_of}
 use Rattle.swc_grammar.specs.Names.{may_name}
 use Rattle.swc_grammar.specs.Clean.{Out, and_then, hear_then, first, no_error, sym as at, exec, step, rank_of, run}

@@ -4,6 +4,7 @@ pub mod Bases
 pub mod Begins
 pub mod Building
 pub mod Covers
+pub mod Endings
 pub mod Hearing
 pub mod Keys
 pub mod Links

@@ -1,7 +1,8 @@
 -- The clean parser's steps in left-hand sides (13.3), as the code goes them.
-use Rattle.std.specs.Prelude.{◌≡◌, ℕ, Bool, true, false, not, ◌&&◌, if◌then◌else◌, List, [], ◌∷◌, ◌++◌, Option, Some, None}
+use Rattle.std.specs.Prelude.{◌≡◌, ℕ, Bool, true, false, not, ◌&&◌, ◌||◌, if◌then◌else◌, List, [], ◌∷◌, ◌++◌, Option}
+use Rattle.std.specs.Prelude.{Some, None}
 use Rattle.std.proofs.Common.{refl, sym, ap, ◌∙◌}
-use Rattle.swc_context.specs.Spans.{between}
+use Rattle.swc_context.specs.Spans.{from_to}
 use Rattle.swc_context.specs.Words.{word_text}
 use Rattle.swc_context.specs.declared.span.BytePos.{BytePos}
 use Rattle.swc_context.specs.declared.span.Span.{Span}
@@ -14,6 +15,9 @@ use Rattle.swc_context.specs.declared.word.Word.TheVariants as word_of
 use Rattle.swc_ast.specs.declared.expr.MetaPropKind.TheVariants as kind
 use Rattle.swc_ast.specs.Parts.{item_tree, item_trees}
 use Rattle.swc_ast.specs.Tree.{Tree, Trees, nil, cons, span_of}
+use Rattle.swc_ast.specs.Trees.{to, listed, items_of, put_first, name_e, private_e, computed_e, member_e, call_e}
+use Rattle.swc_ast.specs.Trees.{trees_append, link_e, is_chain, new_e, meta_e, tpl_e, tagged_e}
+use Rattle.swc_ast.specs.Trees.{has_items, comma_ok, behind_comma}
 use Rattle.swc_ast.specs.declared.expr.ExprOrSpread.{ExprOrSpread}
 use Rattle.swc_ast.specs.declared.spanned.Spanned.{Ghosts}
 use Rattle.swc_bodies.specs.Readings.{Hook}
@@ -22,11 +26,8 @@ use Rattle.swc_grammar.specs.Rule.{gives, take, check, given, symbol, must, toke
 use Rattle.swc_grammar.specs.Rule.{◌>>=◌ as ◌▸◌, ◌>>◌}
 use Rattle.swc_grammar.specs.Symbols.{Expr, Lhs, Left, Base, Args, ArgsTail, Item}
 use Rattle.swc_grammar.specs.Symbols.{Parts, Side}
-use Rattle.swc_grammar.specs.Tokens.{tk, with_in, is_dot, is_rbracket, is_rparen, is_new, is_target, new_target_ok}
-use Rattle.swc_grammar.specs.Tokens.{import_comma_ok}
-use Rattle.swc_grammar.specs.Trees.{to, listed, items_of, put_first, name_e, private_e, computed_e, member_e, call_e}
-use Rattle.swc_grammar.specs.Trees.{trees_append, link_e, is_chain, new_e, meta_e, tpl_e, tagged_e}
-use Rattle.swc_grammar.specs.Trees.{has_items, comma_ok, behind_comma}
+use Rattle.swc_grammar.specs.Tokens.{tk, with_in, is_dot, is_rbracket, is_rparen, is_new, is_super, is_import, is_target}
+use Rattle.swc_grammar.specs.Tokens.{import_comma_ok, new_target_ok}
 use Rattle.swc_grammar.specs.Parts.{any_name}
 use Rattle.swc_grammar.specs.Names.{Spelling, spelling, is_joined, may_name}
 use Rattle.swc_grammar.specs.Clean.{Out, and_then, first, second, sym as at, links, constructs, constructed, Plan, plan}
@@ -34,6 +35,7 @@ use Rattle.swc_grammar.specs.Clean.{exec, link, linked, step, begins_new, run}
 use Rattle.swc_grammar.specs.Words.{◌>>=◌, one, word}
 use Rattle.swc_grammar.proofs.Complete.{last}
 use Rattle.swc_grammar.proofs.Knot.{knot}
+use Rattle.swc_grammar.proofs.Members.{lhs_parts as members}
 use Rattle.swc_grammar.proofs.Only.{only-rparen, only-new}
 use Rattle.swc_grammar.proofs.Rules.{exec-bind}
 use Rattle.swc_nodes.specs.Slots.{flat, item_parts}
@@ -62,6 +64,20 @@ use Rattle.swc_productions.proofs.Lists.{calls, binds, bind_same, twice, ended}
 
 abbrev new_token : Token
 new_token = token.Word (word_of.Keyword keyword.New)
+
+neither : (a b : Bool) → (a || b) ≡ false → (a ≡ false) × (b ≡ false)
+neither true b h = absurd cc
+neither false b h = (refl, h)
+
+-- `super` and `import` are not `new`
+not_new_token : (t : Token) → (is_super t || is_import t) ≡ true → is_new t ≡ false
+not_new_token (token.Word (word_of.Keyword keyword.New)) h = absurd cc
+not_new_token t h = refl
+
+pub not_new : (o : Option TokenAndSpan) → (at_token is_super o || at_token is_import o) ≡ true
+    → at_token is_new o ≡ false
+not_new None h = absurd cc
+not_new (Some t) h = not_new_token t.token h
 
 -- ---- what stands behind an argument
 
@@ -161,7 +177,7 @@ module _ {F C K : Type 0} where
 
   pub dot_splits : (o : Bool) (l : Tree F C K) (x : Scope) (ts : List TokenAndSpan)
       → dot_tail o l x ts
-      ≡ (member_name x ts >>= (λ p. Some (link_e o l (member_e (between (span_of l).lo p.0.1) l p.0.0), p.1)))
+      ≡ (member_name x ts >>= (λ p. Some (link_e o l (member_e (from_to (span_of l).lo p.0.1) l p.0.0), p.1)))
   unfolding dot_tail
   dot_splits o l x ts = refl
 
@@ -468,6 +484,14 @@ module _ {F C K : Type 0} (hook : Hook F C K) where
       base_links b x ts (ap (λ v. v && not (at_token is_dot (second ts))) h)
       ∙ ap (λ o. o >>= (λ p. run hook (links b p.0) x p.1)) (base_splits hook b x ts h)
 
+  -- one that begins with neither `super` nor `import`: a member expression, and the links behind it
+  pub lhs_parts : (x : Scope) (ts : List TokenAndSpan)
+      → (at_token is_super (first ts) || at_token is_import (first ts)) ≡ false
+      → run hook (at (Lhs true)) x ts ≡ (run hook (at (Lhs false)) x ts >>= (λ p. run hook (links true p.0) x p.1))
+  lhs_parts x ts h =
+      let (n, k) = neither (at_token is_super (first ts)) (at_token is_import (first ts)) h in
+      members hook x ts n k ∙ calls (run hook (at (Lhs false)) x ts) (λ l us. run hook (links true l) x us)
+
   -- a link behind its first tokens, by these
   pub tail_name : (k : LinkHead) (o : Bool) (l : Tree F C K) (x : Scope) (ts : List TokenAndSpan) → k ≡ head.Name o
       → link_tail hook k l x ts ≡ dot_tail o l x ts
@@ -539,7 +563,7 @@ module _ {F C K : Type 0} (hook : Hook F C K) where
   as_private p = Some ((private_e p.0.0.at p.0.0.text, p.0.1), p.1)
 
   abbrev as_member : Bool → Tree F C K → (Tree F C K × BytePos) × List TokenAndSpan → Out (Tree F C K)
-  as_member o l p = Some (link_e o l (member_e (between (span_of l).lo p.0.1) l p.0.0), p.1)
+  as_member o l p = Some (link_e o l (member_e (from_to (span_of l).lo p.0.1) l p.0.0), p.1)
 
   -- a name behind the `.`
   name_one : (o : Bool) (n : Option Spelling) (l : Tree F C K) (us : List TokenAndSpan)

@@ -11,7 +11,6 @@ use Rattle.swc_bodies.specs.Readings.{Hook}
 use Rattle.swc_grammar.specs.Scope.{Scope}
 use Rattle.swc_grammar.specs.Symbols.{Assign, Primary, Elements, ElementsTail, Item}
 use Rattle.swc_grammar.specs.Tokens.{tk, with_in, is_comma, is_dots, is_lbracket, is_rbracket}
-use Rattle.swc_grammar.specs.Trees.{to, array_e, listed, items_of, comma_of, put_first}
 use Rattle.swc_grammar.specs.Grammar.{array-lit}
 use Rattle.swc_grammar.specs.Clean.{Out, and_then, first, sym as at, exec, pick, primary, step, run}
 use Rattle.swc_grammar.specs.Words.{◌>>=◌}
@@ -22,7 +21,8 @@ use Rattle.swc_productions.specs.Readers.{reading, by_production}
 use Rattle.swc_productions.specs.Lists.{eaten, closed, separated, separated_by, behind, put_before, elements_inside}
 use Rattle.swc_productions.specs.Lists.{array_lit_tail, element, element_by, element_item, elements_behind, elements_more, behind_by}
 use Rattle.swc_ast.specs.Parts.{item_of}
-use Rattle.swc_grammar.specs.Trees.{trees_append}
+use Rattle.swc_ast.specs.Trees.{to, array_e, listed, items_of, comma_of, put_first}
+use Rattle.swc_ast.specs.Trees.{trees_append}
 use Rattle.swc_nodes.proofs.Lists.{trees_append-assoc, trees_append-nil}
 
 pub eaten_not : (f : Token → Bool) (x : Scope) (ts : List TokenAndSpan) → at_token f (first ts) ≡ false

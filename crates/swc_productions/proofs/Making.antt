@@ -1,5 +1,5 @@
 -- Productions: what is read, and the nodes that were made.
-use Rattle.std.proofs.Common.{◌≡◌, ◌≢◌, ℕ, Bool, ◌≤◌, Result, Ok, Err, IfOk, IfErr, List, ap, subst}
+use Rattle.std.proofs.Common.{◌≡◌, ◌≢◌, ℕ, Bool, ◌≤◌, Some, Result, Ok, Err, IfOk, IfErr, List, ap, subst}
 use Rattle.std.specs.declared.alloc.AllocError.{AllocError}
 use Rattle.swc_context.specs.declared.error.Error.{Error}
 use Rattle.swc_context.specs.declared.error.SyntaxError.{SyntaxError}
@@ -23,7 +23,7 @@ use Rattle.swc_nodes.proofs.Standing.{grows-then}
 use Rattle.swc_productions.specs.declared.productions.Productions.{Productions}
 use Rattle.swc_productions.specs.Parsing.{On, Heard, Unheard, Parses, Continues, Produces, GoesOn, Recovers, itself, tree_of}
 use Rattle.swc_productions.proofs.Building.{made_tree, made_from}
-use Rattle.swc_productions.proofs.Steps.{Reader, lower, less, node_parses, node_continues, parses_after, parses_call, continues_after, continues_of, give}
+use Rattle.swc_productions.proofs.Steps.{Reader, lower, less, node_parses, node_continues, parses_after, parses_call, parses_call_read, continues_after, continues_of, give}
 
 -- what an answer holds is weakened, and what is held of the answer that came
 pub if_held : {T : Type 0} {P Q : T → Type 0} → ((x : T) → P x → Q x) → (r : Result T Error) → IfOk r P → IfOk r Q
@@ -66,6 +66,12 @@ module _ {S H F C K : Type 0} {fg : Ghosts F} {cg : Ghosts C} {kg : Ghosts K} {m
   pub call : {B : Type 0} {q0 : Reader B} {t : B} {p m q : Productions S H F C K fg cg kg} {j : ℕ} (r : Result T Error) (then : Scope → B × List TokenAndSpan → Out A) → ((x : Scope) (ts : List TokenAndSpan) → f x ts ≡ (q0 x ts >>= then x)) →
       Heard model sure q0 t p.input m.input → Grows p.nodes m.nodes → ((x : T) → held j q.nodes x → held k q.nodes x) → GoesOn model sure held view (λ x ts. then x (t, ts)) j m r q → Produces model sure held view f k p r q
   call {q = q} {j = j} r then step h w down s = yes r (parses_call model sure (view q.nodes) f q.input r then step h s.reads) (grows-then w s.grows) (if_held down r s.from)
+
+  -- the same, where what was read is known to be what q0 read
+  pub call_read : {B : Type 0} {q0 : Reader B} {g : Reader A} {t : B} {p m q : Productions S H F C K fg cg kg} {j : ℕ} (r : Result T Error) (then : Scope → B × List TokenAndSpan → Out A) → ((x : Scope) (ts : List TokenAndSpan) → f x ts ≡ (q0 x ts >>= then x)) →
+      Heard model sure q0 t p.input m.input → ((x : Scope) (ts us : List TokenAndSpan) → q0 x ts ≡ Some (t, us) → (y : Scope) (ys : List TokenAndSpan) → then y (t, ys) ≡ g y ys) → Grows p.nodes m.nodes → ((x : T) → held j q.nodes x → held k q.nodes x) → GoesOn model sure held view g j m r q → Produces model sure held view f k p r q
+  call_read {g = g} {q = q} {j = j} r then step h same w down s =
+      yes r (parses_call_read model sure (view q.nodes) f {g = g} q.input r then step h same s.reads) (grows-then w s.grows) (if_held down r s.from)
 
   pub weaker : {p q : Productions S H F C K fg cg kg} (r : Result T Error) → Produces model sure held view f k p r q → GoesOn model sure held view f k p r q
   weaker {p} {q} r h = on r (continues_of model sure (view q.nodes) f p.input q.input r h.reads) h.grows h.from

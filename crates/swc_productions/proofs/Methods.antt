@@ -10,6 +10,7 @@ use Rattle.swc_input.specs.declared.buffer.Buffer.{Buffer}
 use Rattle.swc_ast.specs.Parts.{prop_name_tree}
 use Rattle.swc_ast.specs.Spans.{prop_name_span}
 use Rattle.swc_ast.specs.Tree.{Tree, span_of}
+use Rattle.swc_ast.specs.Trees.{to, value_e, prop_of, method_e, getter_e}
 use Rattle.swc_ast.specs.declared.function.Function.{Function}
 use Rattle.swc_ast.specs.declared.prop.PropName.{PropName}
 use Rattle.swc_ast.specs.declared.prop.PropName.TheVariants as prop_name
@@ -18,7 +19,6 @@ use Rattle.swc_bodies.specs.Readings.{Hook, is_async}
 use Rattle.swc_grammar.specs.Scope.{Scope}
 use Rattle.swc_grammar.specs.Symbols.{Assign, Key, AfterKey as Behind, Shell}
 use Rattle.swc_grammar.specs.Tokens.{tk, with_in, is_colon, is_get, is_star}
-use Rattle.swc_grammar.specs.Trees.{to, value_e, prop_of, method_e, getter_e}
 use Rattle.swc_grammar.specs.Grammar.{prop-key, prop-generator, prop-async, prop-async-generator, prop-getter}
 use Rattle.swc_grammar.specs.Clean.{Out, and_then, sym as at, run}
 use Rattle.swc_grammar.specs.Words.{◌>>=◌}

@@ -3,6 +3,7 @@ use Rattle.std.proofs.Common.{IsSome, ◌≡◌, ◌≢◌, ◌≤◌, ◌<◌, 
 use Rattle.swc_context.specs.Reserved.{strict_names}
 use Rattle.swc_context.specs.Texts.{is_text, is_one_of}
 use Rattle.swc_context.specs.Words.{word_text}
+use Rattle.swc_context.specs.Contexts.{view as deciding}
 use Rattle.swc_context.specs.declared.context.Context.{Context}
 use Rattle.swc_context.specs.declared.error.Error.{Error}
 use Rattle.swc_context.specs.declared.error.SyntaxError.{SyntaxError}
@@ -32,9 +33,10 @@ use Rattle.swc_productions.specs.Parsing.{seen, seen_of, scope, recorded, Leads,
 use Rattle.swc_productions.proofs.Steps.{Reader, here, read_scope, parses_after, on_took, leads_then, refuses_later, refused, required, on_seen, on_then, heard_after, heard_first, unheard_after, unheard_at, unheard_memory, unheard_unfit, lower, on_looked, looked_again}
 use Rattle.swc_productions.proofs.Words.{none_counts, is_taken, is_clean, reference-table}
 
--- a call never refuses a word as the parser's own failure
-abbrev pub Honest : Judges → Type 0
-Honest judge = (c : Context) (w : Word) (k : SyntaxError) → (judge c w).refusal ≡ Some k → k ≢ kind.ParserFailed
+-- a call never refuses a word as the parser's own failure, and looks at no flag that decides nothing
+pub record Honest (judge : Judges) : Type 0 where
+  pub refuses : (c : Context) (w : Word) (k : SyntaxError) → (judge c w).refusal ≡ Some k → k ≢ kind.ParserFailed
+  pub viewed : (c : Context) (w : Word) → judge (deciding c) w ≡ judge c w
 
 -- the clean reader of the words that a judge takes
 abbrev pub word_of : Judges → Reader Spelling
@@ -98,11 +100,11 @@ takes_word judge x w t s at text ts e p q =
     ∙ passed (is_clean x.context (judge x.context w)) (spelling text at) ts
 
 -- the context of the call is that of the fault
-clean_is : (judge : Judges) (x c : Context) (w : Word) → x ≡ c → (judge c w).refusal ≡ None → is_clean x (judge x w) ≡ none_counts x.module (judge c w).faults
-clean_is judge x c w e h = ap (λ v. is_clean v (judge v w)) e ∙ ap (λ o. is_taken o && none_counts c.module (judge c w).faults) h ∙ ap (λ v. none_counts v.module (judge c w).faults) (sym e)
+clean_is : (judge : Judges) → Honest judge → (x c : Context) (w : Word) → x ≡ c → (judge c w).refusal ≡ None → is_clean (deciding x) (judge (deciding x) w) ≡ none_counts x.module (judge c w).faults
+clean_is judge honest x c w e h = ap (is_clean x) (honest.viewed x w) ∙ ap (λ v. is_clean v (judge v w)) e ∙ ap (λ o. is_taken o && none_counts c.module (judge c w).faults) h ∙ ap (λ v. none_counts v.module (judge c w).faults) (sym e)
 
-unclean_is : (judge : Judges) (x c : Context) (w : Word) (k : SyntaxError) → x ≡ c → (judge c w).refusal ≡ Some k → is_clean x (judge x w) ≡ false
-unclean_is judge x c w k e h = ap (λ v. is_clean v (judge v w)) e ∙ ap (λ o. is_taken o && none_counts c.module (judge c w).faults) h
+unclean_is : (judge : Judges) → Honest judge → (x c : Context) (w : Word) (k : SyntaxError) → x ≡ c → (judge c w).refusal ≡ Some k → is_clean (deciding x) (judge (deciding x) w) ≡ false
+unclean_is judge honest x c w k e h = ap (is_clean x) (honest.viewed x w) ∙ ap (λ v. is_clean v (judge v w)) e ∙ ap (λ o. is_taken o && none_counts c.module (judge c w).faults) h
 
 pub goes : {A : Type 0} (b : Bool) (o : Out A) → b ≡ true → (if b then o else None) ≡ o
 goes true o h = refl
@@ -113,7 +115,7 @@ stops true o h = cc
 stops false o h = refl
 
 pub honest-name : Honest name_of_any
-honest-name c w k h e = cc
+honest-name = record { refuses = λ c w k h e. cc; viewed = λ c w. refl }
 
 unless_kind : (b : Bool) (k : SyntaxError) → unless b ≡ Some k → k ≢ kind.ParserFailed
 unless_kind true k h e = cc
@@ -131,24 +133,27 @@ name_kind false true a w k h e = cc
 name_kind false false true w k h e = cc
 name_kind false false false w k h e = cc
 
-honest-ident : (y a : Bool) → Honest (ident_verdict y a)
-honest-ident y a c (written.Ident w) k h = name_kind (is_text w (codes "enum")) (is_one_of w strict_names) (c.in_class_field && is_text w (codes "arguments")) w k h
-honest-ident y a c (written.Keyword keyword.Let) k h = λ e. cc
-honest-ident y a c (written.Keyword keyword.Yield) k h = unless_kind y k h
-honest-ident y a c (written.Keyword keyword.Await) k h = await_kind c.in_static_block (c.module || c.in_async) a k h
-honest-ident y a c w k h = λ e. cc
+ident_refuses : (y a : Bool) (c : Context) (w : Word) (k : SyntaxError) → (ident_verdict y a c w).refusal ≡ Some k → k ≢ kind.ParserFailed
+ident_refuses y a c (written.Ident w) k h = name_kind (is_text w (codes "enum")) (is_one_of w strict_names) (c.in_class_field && is_text w (codes "arguments")) w k h
+ident_refuses y a c (written.Keyword keyword.Let) k h = λ e. cc
+ident_refuses y a c (written.Keyword keyword.Yield) k h = unless_kind y k h
+ident_refuses y a c (written.Keyword keyword.Await) k h = await_kind c.in_static_block (c.module || c.in_async) a k h
+ident_refuses y a c w k h = λ e. cc
 
 pub honest-reference : Honest reference_verdict
-honest-reference c w = honest-ident (not c.in_generator) (not c.in_async) c w
+honest-reference = record { refuses = λ c w. ident_refuses (not c.in_generator) (not c.in_async) c w; viewed = λ c w. refl }
 
 bound_refusal : (v : Verdict) (o : Option SyntaxError) (fs : List Fault) → o ≡ v.refusal → (elim o as (λ p. Verdict) [ None ↦ and_then v fs | Some k ↦ v ]).refusal ≡ v.refusal
 bound_refusal v None fs h = refl
 bound_refusal v (Some k) fs h = refl
 
-pub honest-binding : Honest binding_verdict
-honest-binding c w k h =
+binding_refuses : (c : Context) (w : Word) (k : SyntaxError) → (binding_verdict c w).refusal ≡ Some k → k ≢ kind.ParserFailed
+binding_refuses c w k h =
     let v = ident_verdict true true c w in
-    honest-ident true true c w k (sym (bound_refusal v v.refusal (binding_faults c (word_text w)) refl) ∙ h)
+    ident_refuses true true c w k (sym (bound_refusal v v.refusal (binding_faults c (word_text w)) refl) ∙ h)
+
+pub honest-binding : Honest binding_verdict
+honest-binding = record { refuses = binding_refuses; viewed = λ c w. refl }
 
 -- a word that is an expression by itself is read as a reference
 ref_word : (x : Context) (t : Token) (s : Span) (ts : List TokenAndSpan) → is_identifier x t ≡ true → one (spelled (ref_ok x) t s) ts ≡ one (spelled (λ w. is_clean x (reference_verdict x w)) t s) ts
@@ -285,13 +290,13 @@ module _ {S : Type 0} {model : Model S} {sure : Bool} where
       on_then (on_looked {f = word_of judge} laws s.looked (was_there s)) (on_took laws s.took (λ x ts. takes_word judge x w s.took.was.token s.took.was.span at text ts s.took.token s.place same))
 
   -- a name was read
-  pub heard_name : (judge : Judges) {text : List ℕ} {at : Span} {b c : Buffer S} → Laws model → Named model judge text at b c → Heard model sure (word_of judge) (spelling text at) b c
+  pub heard_name : (judge : Judges) → Honest judge → {text : List ℕ} {at : Span} {b c : Buffer S} → Laws model → Named model judge text at b c → Heard model sure (word_of judge) (spelling text at) b c
   unfolding word
-  heard_name judge {text = text} {at = at} {b = b} laws n =
-      let x = context model n.spoken in
+  heard_name judge honest {text = text} {at = at} {b = b} laws n =
+      let x = deciding (context model n.spoken) in
       let w = n.name in
       let s = n.said in
-      let same : is_clean x (judge x w) ≡ none_counts x.module (judge (context model b) w).faults = clean_is judge x (context model b) w (spoken_context s) n.accepts in
+      let same : is_clean x (judge x w) ≡ none_counts x.module (judge (context model b) w).faults = clean_is judge honest (context model n.spoken) (context model b) w (spoken_context s) n.accepts in
       heard_after (on_looked {f = word_of judge} laws s.looked (was_there s))
       (heard_first laws s.took (λ x ts. takes_word judge x w s.took.was.token s.took.was.span at text ts s.took.token s.place n.spelled)
       (on_notes laws n.noted (λ ts h. goes (is_clean x (judge x w)) (Some (spelling text at, ts)) (same ∙ h)) (λ ts h. stops (is_clean x (judge x w)) (Some (spelling text at, ts)) (same ∙ h))))
@@ -308,11 +313,11 @@ module _ {S : Type 0} {model : Model S} {sure : Bool} where
       (λ x ts same h. ap (λ o. word_by (λ c w. is_clean c (judge c w)) x o (rest ts)) h ∙ none_seen (λ c w. is_clean c (judge c w)) x (current r.here) (rest ts) none)
       (refused laws (λ here. fault_at (place_here here) kind.ExpectedIdent) e (λ here k. cc) (refused_here laws r))
   unheard_name judge honest {b = b} {c = c} {e = e} laws (refused_word {w = w} {k = k} {at = at} {spoken = s0} s v n r) =
-      let x = context model s0 in
-      let same = unclean_is judge x (context model b) w k (spoken_context s) v in
+      let x = deciding (context model s0) in
+      let same = unclean_is judge honest (context model s0) (context model b) w k (spoken_context s) v in
       unheard_after (on_spoken judge (word_text w) laws s refl)
       (record {
-        refuses = refuses_later (notes_leads laws n) (refused laws (λ here. fault_at at k) e (λ here. honest (context model b) w k v) r);
+        refuses = refuses_later (notes_leads laws n) (refused laws (λ here. fault_at at k) e (λ here. honest.refuses (context model b) w k v) r);
         none = λ m y l ts known. stops (is_clean x (judge x w)) (Some (spelling (word_text w) at, ts)) same;
       })
 
@@ -320,7 +325,7 @@ module _ {S : Type 0} (model : Model S) (sure : Bool) where
   -- what a call on names answers, the clean reader of its words reads
   pub parses_name : {T : Type 0} (judge : Judges) → Honest judge → (text : T → List ℕ) (at : T → Span) (b c : Buffer S) (r : Result T Error) → Laws model → Names model judge text at b r c →
       Parses model sure (λ t. spelling (text t) (at t)) (word_of judge) b r c
-  parses_name judge honest text at b c (Ok t) laws h = heard_name judge laws h
+  parses_name judge honest text at b c (Ok t) laws h = heard_name judge honest laws h
   parses_name judge honest text at b c (Err e) laws h = unheard_name judge honest laws h
 
   -- at a word that is an expression by itself

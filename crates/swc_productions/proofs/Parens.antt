@@ -12,9 +12,9 @@ use Rattle.swc_input.specs.Recording.{is_some}
 use Rattle.swc_input.specs.Source.{Model}
 use Rattle.swc_ast.specs.Parts.{item_of, item_trees}
 use Rattle.swc_ast.specs.Tree.{Tree}
+use Rattle.swc_ast.specs.Trees.{listed, held_expr, no_cover_in, no_covers, is_spread, no_spread, paren_ok}
 use Rattle.swc_ast.specs.declared.expr.ExprOrSpread.{ExprOrSpread}
 use Rattle.swc_ast.specs.declared.spanned.Spanned.{Ghosts}
-use Rattle.swc_grammar.specs.Trees.{listed, held_expr, no_cover_in, no_covers, is_spread, no_spread, paren_ok}
 use Rattle.swc_nodes.specs.Seats.{fits}
 use Rattle.swc_nodes.specs.Slots.{flat, item_parts, expr_part}
 use Rattle.swc_nodes.specs.Stands.{seat_at, Apart, From}

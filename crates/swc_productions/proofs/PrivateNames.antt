@@ -21,9 +21,9 @@ use Rattle.swc_input.specs.Recording.{Refused, unfit}
 use Rattle.swc_input.proofs.Ends.{past_end}
 use Rattle.swc_input.proofs.Refusals.{unfit-kind}
 use Rattle.swc_input.specs.Kinds.{at_token, is_hash}
+use Rattle.swc_ast.specs.Trees.{to}
 use Rattle.swc_grammar.specs.Scope.{Scope}
 use Rattle.swc_grammar.specs.Names.{Spelling, spelling, may_name}
-use Rattle.swc_grammar.specs.Trees.{to}
 use Rattle.swc_grammar.specs.Clean.{Out, first}
 use Rattle.swc_grammar.specs.Words.{◌>>=◌, rest, begins_at, word}
 use Rattle.swc_ident.specs.Naming.{fault_at, Hashed, Private, Unprivate, no_memory_either, no_hash, apart, no_name, expects, Named, Notes, none-noted}
@@ -116,7 +116,7 @@ module _ {S : Type 0} {model : Model S} {sure : Bool} where
       (heard_after (on_looked {f = hash_name} laws s.looked (was_there s))
       (heard_first laws s.took (λ x ts. hash_goes p.hash x s.took.was.token s.took.was.had_line_break s.took.was.span ts s.took.token s.place)
       (on_then (on_seen {g = name_behind p.hash} here (λ x ts same h. goes (begins_at p.hash (first ts)) (name_behind p.hash x ts) (ap (begins_at p.hash) h ∙ joined)))
-      (on_call (λ x r. named p.hash r) (λ x ts. refl) (heard_name name_of_any laws p.name).on))))
+      (on_call (λ x r. named p.hash r) (λ x ts. refl) (heard_name name_of_any honest-name laws p.name).on))))
 
   -- none was read
   pub unheard_private : {b c : Buffer S} {e : Error} → Laws model → Unprivate model b e c → Unheard model sure hash_name b e c

@@ -8,12 +8,13 @@ use Rattle.swc_input.specs.declared.token.Token.TheVariants as token
 use Rattle.swc_input.specs.declared.token.TokenAndSpan.{TokenAndSpan}
 use Rattle.swc_input.specs.Kinds.{at_token}
 use Rattle.swc_ast.specs.Tree.{Tree, Trees, nil, cons, span_of}
+use Rattle.swc_ast.specs.Trees.{to, object_e, listed, items_of, comma_of, put_first, spread_prop_e, short_e, cover_e, ident_e}
+use Rattle.swc_ast.specs.Trees.{trees_append}
 use Rattle.swc_bodies.specs.Readings.{Hook, is_async, is_brace}
 use Rattle.swc_grammar.specs.Scope.{Scope}
 use Rattle.swc_grammar.specs.Symbols.{Assign, Primary, Props, PropsTail, Prop, Side}
 use Rattle.swc_grammar.specs.Tokens.{tk, with_in, is_dots, is_equals, is_get, is_set, is_question, is_rbrace, is_star}
 use Rattle.swc_grammar.specs.Tokens.{is_word, ends_prop, follows_key}
-use Rattle.swc_grammar.specs.Trees.{to, object_e, listed, items_of, comma_of, put_first, spread_prop_e, short_e, cover_e, ident_e}
 use Rattle.swc_grammar.specs.Grammar.{Production, object-lit, prop-spread, prop-short, prop-cover, prop-key}
 use Rattle.swc_grammar.specs.Grammar.{prop-generator, prop-async, prop-async-generator, prop-getter}
 use Rattle.swc_grammar.specs.Names.{Spelling, may_name}
@@ -25,7 +26,6 @@ use Rattle.swc_grammar.specs.Words.{◌>>=◌, one, word}
 use Rattle.swc_grammar.proofs.Knot.{knot}
 use Rattle.swc_grammar.proofs.Only.{only-brace, only-rbrace}
 use Rattle.swc_grammar.proofs.Rules.{run_picked}
-use Rattle.swc_grammar.specs.Trees.{trees_append}
 use Rattle.swc_productions.specs.declared.kinds.MethodKind.{MethodKind}
 use Rattle.swc_productions.specs.declared.kinds.MethodKind.TheVariants as method
 use Rattle.swc_productions.specs.declared.kinds.Modifier.{Modifier}

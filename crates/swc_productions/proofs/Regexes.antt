@@ -17,6 +17,7 @@ use Rattle.swc_ast.specs.declared.lit.Lit.TheVariants as lit
 use Rattle.swc_ast.specs.declared.lit.Regex.{Regex}
 use Rattle.swc_ast.specs.Parts.{lit_tree}
 use Rattle.swc_ast.specs.Tree.{Tree, span_of}
+use Rattle.swc_ast.specs.Trees.{to, at_place, regex_e}
 use Rattle.swc_context.specs.declared.operator.AssignOp.TheVariants as assign
 use Rattle.swc_context.specs.declared.operator.BinOpToken.TheVariants as sign
 use Rattle.swc_bodies.specs.Readings.{Hook}
@@ -25,7 +26,6 @@ use Rattle.swc_grammar.specs.Rule.{gives, given, one as one_of, ◌>>=◌ as ◌
 use Rattle.swc_grammar.specs.Symbols.{Primary}
 use Rattle.swc_grammar.specs.Parts.{regex_of}
 use Rattle.swc_grammar.specs.Tokens.{tk}
-use Rattle.swc_grammar.specs.Trees.{to, at_place, regex_e}
 use Rattle.swc_grammar.specs.Clean.{first, sym as at, plan, exec, run}
 use Rattle.swc_grammar.proofs.Knot.{knot}
 use Rattle.swc_grammar.specs.Words.{◌>>=◌, one}

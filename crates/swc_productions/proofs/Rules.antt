@@ -11,6 +11,7 @@ use Rattle.swc_context.specs.declared.operator.BinaryOp.{BinaryOp}
 use Rattle.swc_context.specs.declared.operator.UnaryOp.{UnaryOp}
 use Rattle.swc_context.specs.declared.span.Span.{Span}
 use Rattle.swc_context.specs.declared.word.Keyword.TheVariants as keyword
+use Rattle.swc_context.specs.declared.word.Word.{Word}
 use Rattle.swc_context.specs.declared.word.Word.TheVariants as written
 use Rattle.swc_input.specs.declared.token.Token.{Token}
 use Rattle.swc_input.specs.declared.token.Token.TheVariants as token
@@ -18,23 +19,23 @@ use Rattle.swc_input.specs.declared.token.TokenAndSpan.{TokenAndSpan}
 use Rattle.swc_input.specs.Plain.{plain}
 use Rattle.swc_input.specs.Kinds.{at_token, is_hash}
 use Rattle.swc_ast.specs.Tree.{Tree, span_of}
+use Rattle.swc_ast.specs.Trees.{to, ident_e, this_e, fn_e, class_e, private_e, unary_e, bin_e, is_logical}
+use Rattle.swc_ast.specs.Trees.{is_nullish_op}
+use Rattle.swc_ast.specs.Trees.{nullish_ok, exp_ok, delete_ok, min_right, left_ok}
 use Rattle.swc_grammar.specs.Scope.{Scope}
 use Rattle.swc_grammar.specs.Rule.{gives, take, check, read, given, ◌>>=◌ as ◌▸◌}
 use Rattle.swc_bodies.specs.Readings.{Hook, LawfulHook, begins, begins_function, is_class, is_function, is_async, is_brace}
 use Rattle.swc_bodies.specs.Readings.{is_function_here}
 use Rattle.swc_grammar.specs.Symbols.{Assign, Level, Unary, Primary, Literal, Template, Side, function, class}
 use Rattle.swc_grammar.specs.Tokens.{is_backquote, is_slash, is_regex, begins_regex}
-use Rattle.swc_grammar.specs.Tokens.{tk, with_in, is_reference, ref_ok, is_put_off, prefix_of, is_lparen}
+use Rattle.swc_grammar.specs.Tokens.{tk, with_in, is_reference, is_strict_word, ref_ok, is_put_off, prefix_of, is_lparen}
 use Rattle.swc_grammar.specs.Tokens.{is_this, is_lbracket, is_backquote, is_update, is_await, is_yield}
 use Rattle.swc_grammar.specs.Names.{Spelling, spelling, may_refer, may_name, spelled}
-use Rattle.swc_grammar.specs.Trees.{to, ident_e, this_e, fn_e, class_e, private_e, unary_e, bin_e, is_logical}
-use Rattle.swc_grammar.specs.Trees.{is_nullish_op}
-use Rattle.swc_grammar.specs.Trees.{nullish_ok, exp_ok, delete_ok, min_right}
 use Rattle.swc_grammar.specs.Parts.{reference, any_name, lit_of, with_place, prefix_here}
 use Rattle.swc_grammar.specs.Grammar.{ident-expr, this-expr, primary-literal, fn-expr, class-expr, paren-expr, unary-op}
 use Rattle.swc_grammar.specs.Grammar.{private-expr, primary-template}
 use Rattle.swc_grammar.specs.Clean.{Out, and_then, hear_then, first, sym as at, climb, plan, exec, is_lit, is_identifier}
-use Rattle.swc_grammar.specs.Clean.{no_error, operator_at, prefix_at, left_ok}
+use Rattle.swc_grammar.specs.Clean.{no_error, operator_at, prefix_at}
 use Rattle.swc_grammar.specs.Clean.{pick, chosen, step, begins_yield, primary, bin_op as bin_op_plan, turn as turn_plan}
 use Rattle.swc_grammar.specs.Clean.{turned as turned_plan, run}
 use Rattle.swc_grammar.specs.Words.{◌>>=◌, rest, one, word}
@@ -46,7 +47,7 @@ use Rattle.swc_grammar.proofs.Levels.{right-low}
 use Rattle.swc_grammar.proofs.Only.{only-this, only-lparen, only-hash, only-backquote}
 use Rattle.swc_grammar.proofs.Rules.{exec-bind, run_picked}
 use Rattle.swc_productions.proofs.Lists.{calls}
-use Rattle.swc_productions.specs.Parsing.{is_strict, begins_async, seen_of}
+use Rattle.swc_productions.specs.Parsing.{is_strict, is_strict_in, begins_async, seen_of}
 use Rattle.swc_productions.specs.Readers.{reading, by_production, inside, private_expr_tail, unary_op_tail, unary_op_node}
 use Rattle.swc_productions.specs.Readers.{unary_op, turn, bin_op}
 use Rattle.swc_productions.specs.Readers.{bin_op_node, turned, go_on}
@@ -106,12 +107,19 @@ and_true true = refl
 and_true false = refl
 
 -- in a module a word of strict code is none
-strict_not : (c : Context) (t : Token) (s : Span) → c.module && is_strict t ≡ true → spelled (ref_ok c) t s ≡ None
-strict_not c (token.Word w) s h = rw h refl
+strict_in_module : (m : Bool) (w : Word) → m && is_strict_in m w ≡ true → m && is_strict_word w ≡ true
+strict_in_module true (written.Keyword keyword.Await) h = refl
+strict_in_module true w h = h
+strict_in_module false w h = cc
+
+strict_not : (c : Context) (t : Token) (s : Span) → c.module && is_strict c.module t ≡ true
+    → spelled (ref_ok c) t s ≡ None
+strict_not c (token.Word w) s h = rw (strict_in_module c.module w h) refl
 strict_not c t s h = refl
 
 module _ {F C K : Type 0} where
-  pub name_strict : (x : Scope) (ts : List TokenAndSpan) → x.context.module && at_token is_strict (first ts) ≡ true
+  pub name_strict : (x : Scope) (ts : List TokenAndSpan)
+      → x.context.module && at_token (is_strict x.context.module) (first ts) ≡ true
       → (word ref_ok x ts >>= (λ p. Some (ident_e {F = F} {C = C} {K = K} p.0.at p.0.text, p.1))) ≡ None
   unfolding word
   name_strict x [] h = refl

@@ -4,6 +4,7 @@ use Rattle.std.proofs.lemmas.Bool.{cases_lt}
 use Rattle.std.proofs.lemmas.List.{append-nil}
 use Rattle.std.specs.Result.{is_err}
 use Rattle.std.specs.declared.alloc.AllocError.{AllocError}
+use Rattle.swc_context.specs.Contexts.{view as deciding}
 use Rattle.swc_context.specs.declared.context.Context.{Context}
 use Rattle.swc_context.specs.declared.context.Syntax.{Syntax}
 use Rattle.swc_context.specs.declared.error.Error.{Error}
@@ -154,10 +155,10 @@ module _ {S : Type 0} {model : Model S} where
   -- where code stands is what it was, and where the context was set another
   pub read_scope : {b c : Buffer S} {xs : List TokenAndSpan} → Laws model → Read model b xs c
       → scope model c ≡ scope model b
-  read_scope laws read = scope_is read.context (kept_syntax laws read.took)
+  read_scope laws read = scope_is (ap deciding read.context) (kept_syntax laws read.took)
 
-  moved_scope : {b c : Buffer S} (w : Context → Context) → Moves model b c → context model c ≡ w (context model b)
-      → scope model c ≡ in_context w (scope model b)
+  moved_scope : {b c : Buffer S} (w : Context → Context) → Moves model b c
+      → deciding (context model c) ≡ w (deciding (context model b)) → scope model c ≡ in_context w (scope model b)
   moved_scope w m to = scope_is to (kept_syntax m.laws m.took)
 
   -- nothing was done
@@ -680,6 +681,47 @@ module _ {S : Type 0} {model : Model S} {sure : Bool} where
   pub heard_answer : {A : Type 0} {f : Reader A} {t u : A} {b c : Buffer S} → t ≡ u → Heard model sure f t b c → Heard model sure f u b c
   heard_answer {A = A} {f = f} {b = b} {c = c} e o = let P : A → Type 0 = λ v. Heard model sure f v b c in subst P e o
 
+  -- ---- what is known of what was read
+
+  -- q is called, and what is read behind what it read, where that is known to be what q read
+  pub on_call_read : {A B : Type 0} {f : Reader A} {q : Reader B} {g : Reader A} {t : B} {b c : Buffer S} (k : Scope → B × List TokenAndSpan → Out A) → ((x : Scope) (ts : List TokenAndSpan) → f x ts ≡ (q x ts >>= k x)) →
+      On model sure q (give t) b c → ((x : Scope) (ts us : List TokenAndSpan) → q x ts ≡ Some (t, us) → (y : Scope) (ys : List TokenAndSpan) → k y (t, ys) ≡ g y ys) → On model sure f g b c
+  unfolding on_call
+  on_call_read {b = b} {c = c} k step o same =
+      let on = on_call k step o in
+      record {
+        leads = o.leads;
+        clean = λ l s ys fut. on.clean l s ys fut ∙ same _ _ _ (o.clean l s ys fut) (scope model c) ys;
+        faulty = on.faulty;
+      }
+
+  -- the same, where that is all
+  pub heard_call_read : {A B : Type 0} {f : Reader A} {q : Reader B} {t : B} {u : A} {b c : Buffer S} (k : Scope → B × List TokenAndSpan → Out A) → ((x : Scope) (ts : List TokenAndSpan) → f x ts ≡ (q x ts >>= k x)) →
+      ((x : Scope) (ts us : List TokenAndSpan) → q x ts ≡ Some (t, us) → (y : Scope) (ys : List TokenAndSpan) → k y (t, ys) ≡ Some (u, ys)) → Heard model sure q t b c → Heard model sure f u b c
+  unfolding on_call_read
+  heard_call_read {u = u} k step ends h = record { on = on_call_read {g = give u} k step h.on ends; onward = h.onward }
+
+  -- what was read, and what is read behind it, is another thing, where the first is known to be what q read
+  pub heard_more_read : {A B : Type 0} {f : Reader A} {q : Reader B} {t : B} {u v : A} {b c d : Buffer S} (k : Scope → B × List TokenAndSpan → Out A) → ((x : Scope) (ts : List TokenAndSpan) → f x ts ≡ (q x ts >>= k x)) →
+      Heard model sure q t b c → On model sure (λ x ts. k x (t, ts)) (give u) c d → ((x : Scope) (ts us : List TokenAndSpan) → q x ts ≡ Some (t, us) → u ≡ v) → Heard model sure f v b d
+  unfolding on_then leads_then on_call heard_more heard_then
+  heard_more_read {b = b} {c = c} {d = d} k step h o same =
+      let m = more_recorded h.on.leads in
+      let n = more_recorded o.leads in
+      let laws = h.on.leads.laws in
+      let all = heard_more k step h o in
+      record {
+        on = record {
+          leads = all.on.leads;
+          clean = λ l s ys fut.
+              let s1 : recorded model c ≡ recorded model b = omega arith in
+              let read = h.on.clean l s1 (o.leads.taken ++ ys) (Future-before laws c d o.leads.taken ys o.leads.read.took fut) in
+              all.on.clean l s ys fut ∙ ap (λ w. Some (w, ys)) (same _ _ _ read);
+          faulty = all.on.faulty;
+        };
+        onward = all.onward;
+      }
+
 module _ {S : Type 0} {model : Model S} where
   -- the place of the current token, and of the one consumed last
   pub place_was : {b c : Buffer S} {k : Token} (h : Bumped model b k c) (p : Span) → MatchOption (current b) (p ≡ b.prev_span) (λ t. p ≡ t.span) → p ≡ h.was.span
@@ -792,10 +834,10 @@ module _ {S : Type 0} {model : Model S} where
 module _ {S : Type 0} {model : Model S} {sure : Bool} where
   -- f reads what q reads with the context changed by w
   pub on_within : {A : Type 0} {f q : Reader A} {t : A} {b c d e : Buffer S} (w : Context → Context) → ((x : Context) → (w x).ignore_error ≡ x.ignore_error) → ((x : Scope) (ts : List TokenAndSpan) → f x ts ≡ q (in_context w x) ts) →
-      Moves model b c → context model c ≡ w (context model b) → On model sure q (give t) c d → Moves model d e → context model e ≡ context model b → On model sure f (give t) b e
+      Moves model b c → deciding (context model c) ≡ w (deciding (context model b)) → On model sure q (give t) c d → Moves model d e → context model e ≡ context model b → On model sure f (give t) b e
   unfolding within within_spent spent
   on_within {f = f} {q = q} {t = t} {b = b} {c = c} {d = d} {e = e} w quiet step m to o n back =
-      let loud = λ (l : Loud model b). loud_within m (ap (λ x. x.ignore_error) to ∙ quiet (context model b)) l in
+      let loud = λ (l : Loud model b). loud_within m (ap (λ x. x.ignore_error) to ∙ quiet (deciding (context model b))) l in
       let en = ap length n.errors in
       let em = ap length m.errors in
       record {
@@ -811,7 +853,7 @@ module _ {S : Type 0} {model : Model S} {sure : Bool} where
       }
 
   unheard_within : {A : Type 0} {f q : Reader A} {b c d e : Buffer S} {x : Error} (w : Context → Context) → ((x : Context) → (w x).ignore_error ≡ x.ignore_error) → ((x : Scope) (ts : List TokenAndSpan) → f x ts ≡ q (in_context w x) ts) →
-      Moves model b c → context model c ≡ w (context model b) → Unheard model sure q c x d → Moves model d e → context model e ≡ context model b → Unheard model sure f b x e
+      Moves model b c → deciding (context model c) ≡ w (deciding (context model b)) → Unheard model sure q c x d → Moves model d e → context model e ≡ context model b → Unheard model sure f b x e
   unheard_within {f = f} {q = q} {b = b} {c = c} w quiet step m to u n back = record {
     refuses = record {
       spends = within_spent m u.refuses.spends n back;
@@ -820,7 +862,7 @@ module _ {S : Type 0} {model : Model S} {sure : Bool} where
     };
     none = λ z y l ts k.
         let v = Known-after m.laws b c [] ts m.took k in
-        ap (λ x. f (scope model b) x) v.2 ∙ step (scope model b) v.0 ∙ ap (λ x. q x v.0) (sym (moved_scope w m to)) ∙ u.none z y (loud_within m (ap (λ x. x.ignore_error) to ∙ quiet (context model b)) l) v.0 v.1;
+        ap (λ x. f (scope model b) x) v.2 ∙ step (scope model b) v.0 ∙ ap (λ x. q x v.0) (sym (moved_scope w m to)) ∙ u.none z y (loud_within m (ap (λ x. x.ignore_error) to ∙ quiet (deciding (context model b))) l) v.0 v.1;
   }
 
 module _ {S : Type 0} (model : Model S) (sure : Bool) {T A : Type 0} (view : T → A) (f : Reader A) where
@@ -843,10 +885,15 @@ module _ {S : Type 0} (model : Model S) (sure : Bool) {T A : Type 0} (view : T �
   parses_first laws h step d (Err e) u = unheard_after (on_took laws h step) u
 
   pub parses_within : (q : Reader A) {b c d e : Buffer S} (r : Result T Error) (w : Context → Context) → ((x : Context) → (w x).ignore_error ≡ x.ignore_error) → ((x : Scope) (ts : List TokenAndSpan) → f x ts ≡ q (in_context w x) ts) →
-      Moves model b c → context model c ≡ w (context model b) → Parses model sure view q c r d → Moves model d e → context model e ≡ context model b → Parses model sure view f b r e
+      Moves model b c → deciding (context model c) ≡ w (deciding (context model b)) → Parses model sure view q c r d → Moves model d e → context model e ≡ context model b → Parses model sure view f b r e
   unfolding on_within within within_spent spent
   parses_within q (Ok x) w quiet step m to h n back = record { on = on_within w quiet step m to h.on n back; onward = onward_within m h.onward n }
   parses_within q (Err x) w quiet step m to u n back = unheard_within w quiet step m to u n back
+
+  -- the same in a context that differs in flags which decide nothing
+  pub parses_aside : {b c d e : Buffer S} (r : Result T Error) → Moves model b c → deciding (context model c) ≡ deciding (context model b)
+      → Parses model sure view f c r d → Moves model d e → context model e ≡ context model b → Parses model sure view f b r e
+  parses_aside r m to h n back = parses_within f r (λ x. x) (λ x. refl) (λ x ts. refl) m to h n back
 
   -- what callers outside the productions are told
   pub consumes_of : (b c : Buffer S) (r : Result T Error) → Parses model sure view f b r c → Consumes model b r c
@@ -939,6 +986,13 @@ module _ {S : Type 0} (model : Model S) (sure : Bool) where
       Heard model sure q t b c → Continues model sure view (λ x ts. k x (t, ts)) c r d → Parses model sure view f b r d
   unfolding on_call
   parses_call view f d r k step h s = parses_then model sure view f d r (on_call k step h.on) h.onward s
+
+  -- the same, where what is gone on from is known to be what q read
+  pub parses_call_read : {T A B : Type 0} (view : T → A) (f : Reader A) {q : Reader B} {g : Reader A} {t : B} {b c : Buffer S} (d : Buffer S) (r : Result T Error) (k : Scope → B × List TokenAndSpan → Out A) → ((x : Scope) (ts : List TokenAndSpan) → f x ts ≡ (q x ts >>= k x)) →
+      Heard model sure q t b c → ((x : Scope) (ts us : List TokenAndSpan) → q x ts ≡ Some (t, us) → (y : Scope) (ys : List TokenAndSpan) → k y (t, ys) ≡ g y ys) → Continues model sure view g c r d → Parses model sure view f b r d
+  unfolding on_call on_call_read
+  parses_call_read view f {g = g} d r k step h same s =
+      parses_then model sure view f d r (on_call_read {g = g} k step h.on same) h.onward s
 
 module _ {S : Type 0} (model : Model S) (sure : Bool) {T A : Type 0} (view : T → A) (f : Reader A) where
   -- what may consume nothing, and is refused for want of memory alone, after a call like that

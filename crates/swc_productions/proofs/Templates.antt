@@ -16,14 +16,14 @@ use Rattle.swc_input.specs.Plain.{plain, plain_cooked, plain_token}
 use Rattle.swc_input.specs.Recording.{counted_kind}
 use Rattle.swc_input.specs.Source.{Model, Laws}
 use Rattle.swc_ast.specs.Tree.{Tree, Trees, nil, cons, span_of}
+use Rattle.swc_ast.specs.Trees.{to, trees_append, text_e, parts_e, put_part, texts_of, exprs_of, tpl_e, tagged_e}
+use Rattle.swc_ast.specs.Trees.{is_chain}
 use Rattle.swc_bodies.specs.Readings.{Hook}
 use Rattle.swc_grammar.specs.Scope.{Scope}
 use Rattle.swc_grammar.specs.Rule.{gives, take, check, given, read, ◌>>=◌ as ◌▸◌}
 use Rattle.swc_grammar.specs.Parts.{cooked_of, text_by, text_of}
 use Rattle.swc_grammar.specs.Symbols.{Expr, Template, Parts, Side}
 use Rattle.swc_grammar.specs.Tokens.{with_in, is_backquote, is_dollar_brace, is_rbrace}
-use Rattle.swc_grammar.specs.Trees.{to, trees_append, text_e, parts_e, put_part, texts_of, exprs_of, tpl_e, tagged_e}
-use Rattle.swc_grammar.specs.Trees.{is_chain}
 use Rattle.swc_grammar.specs.Grammar.{parts-end, parts-more}
 use Rattle.swc_grammar.specs.Clean.{Out, and_then, first, sym as at, pick, chosen, plan, exec, run}
 use Rattle.swc_grammar.specs.Words.{◌>>=◌, rest, one}

@@ -17,12 +17,12 @@ use Rattle.swc_input.specs.Plain.{plain}
 use Rattle.swc_input.specs.Source.{Model, Laws}
 use Rattle.swc_ast.specs.Targets.{is_target}
 use Rattle.swc_ast.specs.Tree.{Tree, span_of}
+use Rattle.swc_ast.specs.Trees.{to, update_e, await_e, ident_e}
 use Rattle.swc_bodies.specs.Readings.{Hook}
 use Rattle.swc_grammar.specs.Scope.{Scope}
 use Rattle.swc_grammar.specs.Rule.{gives, read, sees}
 use Rattle.swc_grammar.specs.Symbols.{Unary, Lhs}
 use Rattle.swc_grammar.specs.Tokens.{tk, is_update, update_of, is_await, is_star, await_ok, await_ident_ok, ends_await}
-use Rattle.swc_grammar.specs.Trees.{to, update_e, await_e, ident_e}
 use Rattle.swc_grammar.specs.Clean.{Out, and_then, first, sym as at, updates, no_update_at, ends_await_at, prefix_at}
 use Rattle.swc_grammar.specs.Clean.{exec, run, chosen, await_by as await_choice}
 use Rattle.swc_grammar.proofs.Answers.{both}

@@ -1,19 +1,23 @@
 -- What the steps of the code read in assignment expressions and in sequences (13.14 to 13.16, 15.5), by the clean parser.
-use Rattle.std.specs.Prelude.{false, if◌then◌else◌, List, Option, Some, None}
+use Rattle.std.specs.Prelude.{Bool, true, false, if◌then◌else◌, List, Option, Some, None}
 use Rattle.swc_context.specs.declared.operator.AssignOp.{AssignOp}
+use Rattle.swc_context.specs.Spans.{from_to}
+use Rattle.swc_context.specs.declared.span.BytePos.{BytePos}
 use Rattle.swc_context.specs.declared.span.Span.{Span}
 use Rattle.swc_input.specs.declared.token.TokenAndSpan.{TokenAndSpan}
 use Rattle.swc_input.specs.Recording.{is_some}
 use Rattle.swc_ast.specs.Targets.{is_target}
-use Rattle.swc_ast.specs.Tree.{Tree, Trees, nil, cons, span_of}
+use Rattle.swc_input.specs.Kinds.{at_token}
+use Rattle.swc_ast.specs.Tree.{Tree, node, Trees, nil, cons, span_of}
+use Rattle.swc_ast.specs.Trees.{to, trees_append, cond_e, assign_e, yield_e, hole_e, seq_of, is_operation, items_of}
+use Rattle.swc_ast.specs.Trees.{held_exprs, paren_ok, paren_e}
 use Rattle.swc_bodies.specs.Readings.{Hook}
 use Rattle.swc_grammar.specs.Scope.{Scope}
 use Rattle.swc_grammar.specs.Symbols.{Assign}
-use Rattle.swc_grammar.specs.Tokens.{assign_of, is_colon, is_star, yield_ok}
-use Rattle.swc_grammar.specs.Trees.{to, trees_append, cond_e, assign_e, yield_e, hole_e, seq_of, is_operation, items_of}
-use Rattle.swc_grammar.specs.Trees.{held_exprs, paren_ok, paren_e}
-use Rattle.swc_grammar.specs.Clean.{Out, first, sym, seqs, goes_on_yield_at, run}
+use Rattle.swc_grammar.specs.Tokens.{assign_of, is_colon, is_question, is_star, yield_ok}
+use Rattle.swc_grammar.specs.Clean.{Out, first, sym, assigns, seqs, goes_on_yield_at, run}
 use Rattle.swc_grammar.specs.Words.{◌>>=◌, rest}
+use Rattle.swc_nodes.specs.Lists.{seq_between}
 use Rattle.swc_productions.specs.Keys.{expected}
 use Rattle.swc_productions.specs.Links.{args_inside}
 use Rattle.swc_productions.specs.Lists.{eaten}
@@ -29,6 +33,16 @@ module _ {F C K : Type 0} where
   abbrev pub paren_of : Span → Tree F C K → List TokenAndSpan → Out (Tree F C K)
   paren_of s es ts =
       if paren_ok es then Some (paren_e (to s (span_of es)) (seq_of (held_exprs (items_of es))), ts) else None
+
+  -- the same, where the first of its expressions begins, and the last one ends, at other positions than their places say
+  abbrev pub paren_from : BytePos → BytePos → Span → Tree F C K → List TokenAndSpan → Out (Tree F C K)
+  paren_from lo hi s es ts =
+      if paren_ok es then Some (paren_e (to s (span_of es)) (seq_between lo hi (held_exprs (items_of es))), ts) else None
+
+  -- the same node, but where it begins, if that is told
+  abbrev pub begun_if : Bool → BytePos → Tree F C K → Tree F C K
+  begun_if true lo (node k s ts) = node k (from_to lo s.hi) ts
+  begun_if false lo t = t
 
 module _ {F C K : Type 0} (hook : Hook F C K) where
   -- ---- parentheses (13.2.9)
@@ -48,18 +62,30 @@ module _ {F C K : Type 0} (hook : Hook F C K) where
   seqs_by es (Some s) c ts = seqs_more es c ts
   seqs_by es None c ts = Some (seq_of es, ts)
 
+  -- the same of a sequence that begins at a position, where that is told
+  abbrev pub seqs_from : Bool → BytePos → Trees F C K → Scope → List TokenAndSpan → Out (Tree F C K)
+  seqs_from b lo es c ts = seqs_more es c ts >>= (λ p. Some (begun_if b lo p.0, p.1))
+
+  abbrev pub seqs_from_by : Bool → BytePos → Trees F C K → Option Span → Scope → List TokenAndSpan → Out (Tree F C K)
+  seqs_from_by b lo es o c ts = seqs_by es o c ts >>= (λ p. Some (begun_if b lo p.0, p.1))
+
   -- ---- conditionals (13.14)
 
-  -- of what t tests, behind its middle e and the `:`; behind its middle; and behind the `?`
-  abbrev pub cond_close : Tree F C K → Tree F C K → Scope → List TokenAndSpan → Out (Tree F C K)
-  cond_close t e c ts =
-      run hook (sym Assign) c ts >>= (λ q. Some (cond_e (to (span_of t) (span_of q.0)) t e q.0, q.1))
+  -- that begin at a position: of what t tests, behind its middle e and the `:`; behind its middle; and behind the `?`
+  abbrev pub cond_close : BytePos → Tree F C K → Tree F C K → Scope → List TokenAndSpan → Out (Tree F C K)
+  cond_close lo t e c ts =
+      run hook (sym Assign) c ts >>= (λ q. Some (cond_e (from_to lo (span_of q.0).hi) t e q.0, q.1))
 
-  abbrev pub cond_colon : Tree F C K → Tree F C K → Scope → List TokenAndSpan → Out (Tree F C K)
-  cond_colon t e c ts = expected is_colon c ts >>= (λ q. cond_close t e c q.1)
+  abbrev pub cond_colon : BytePos → Tree F C K → Tree F C K → Scope → List TokenAndSpan → Out (Tree F C K)
+  cond_colon lo t e c ts = expected is_colon c ts >>= (λ q. cond_close lo t e c q.1)
 
-  unfoldable pub cond_tail : Tree F C K → Scope → List TokenAndSpan → Out (Tree F C K)
-  cond_tail t c ts = inside hook c ts >>= (λ p. cond_colon t p.0 c p.1)
+  unfoldable pub cond_tail : BytePos → Tree F C K → Scope → List TokenAndSpan → Out (Tree F C K)
+  cond_tail lo t c ts = inside hook c ts >>= (λ p. cond_colon lo t p.0 c p.1)
+
+  -- behind what binary operators join, where a conditional begins at the position
+  unfoldable pub assigns_from : BytePos → Tree F C K → Scope → List TokenAndSpan → Out (Tree F C K)
+  assigns_from lo l c ts =
+      if at_token is_question (first ts) then cond_tail lo l c (rest ts) else run hook (assigns l) c ts
 
   -- ---- assignments (13.15)
 

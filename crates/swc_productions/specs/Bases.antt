@@ -3,6 +3,7 @@ use Rattle.std.specs.Prelude.{ℕ, Bool, true, false, if◌then◌else◌, List,
 use Rattle.swc_context.specs.declared.span.Span.{Span}
 use Rattle.swc_input.specs.declared.token.TokenAndSpan.{TokenAndSpan}
 use Rattle.swc_ast.specs.Tree.{Tree, span_of}
+use Rattle.swc_ast.specs.Trees.{to, items_of, name_e, computed_e, call_e, super_e, import_e, super_prop_e, meta_e}
 use Rattle.swc_ast.specs.declared.expr.Import.{Import}
 use Rattle.swc_ast.specs.declared.expr.ImportPhase.{ImportPhase}
 use Rattle.swc_ast.specs.declared.expr.ImportPhase.TheVariants as phase
@@ -12,7 +13,6 @@ use Rattle.swc_grammar.specs.Scope.{Scope}
 use Rattle.swc_grammar.specs.Symbols.{Primary}
 use Rattle.swc_grammar.specs.Tokens.{is_dot, is_lbracket, is_lparen, is_rbracket, is_super, is_import, is_meta}
 use Rattle.swc_grammar.specs.Tokens.{is_source, super_ok}
-use Rattle.swc_grammar.specs.Trees.{to, items_of, name_e, computed_e, call_e, super_e, import_e, super_prop_e, meta_e}
 use Rattle.swc_grammar.specs.Clean.{Out, sym, run}
 use Rattle.swc_grammar.specs.Names.{may_name}
 use Rattle.swc_grammar.specs.Words.{◌>>=◌, word}

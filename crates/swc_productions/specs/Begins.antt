@@ -4,10 +4,10 @@ use Rattle.swc_input.specs.declared.buffer.Buffer.{Buffer}
 use Rattle.swc_input.specs.declared.token.TokenAndSpan.{TokenAndSpan}
 use Rattle.swc_input.specs.Source.{Model}
 use Rattle.swc_ast.specs.Tree.{Tree}
+use Rattle.swc_ast.specs.Trees.{short_e}
 use Rattle.swc_bodies.specs.Readings.{Hook}
 use Rattle.swc_grammar.specs.Scope.{Scope}
 use Rattle.swc_grammar.specs.Symbols.{Prop}
-use Rattle.swc_grammar.specs.Trees.{short_e}
 use Rattle.swc_grammar.specs.Grammar.{prop-key}
 use Rattle.swc_grammar.specs.Clean.{Out, sym, run}
 use Rattle.swc_productions.specs.declared.object.PropHead.{PropHead}

@@ -6,10 +6,10 @@ use Rattle.swc_input.specs.declared.token.Token.TheVariants as token
 use Rattle.swc_input.specs.declared.token.TokenAndSpan.{TokenAndSpan}
 use Rattle.swc_input.specs.Kinds.{at_token}
 use Rattle.swc_ast.specs.Tree.{Tree}
+use Rattle.swc_ast.specs.Trees.{to, name_e, computed_e, function_e, block_e}
 use Rattle.swc_bodies.specs.Readings.{Hook}
 use Rattle.swc_grammar.specs.Scope.{Scope, in_context}
 use Rattle.swc_grammar.specs.Tokens.{is_word, is_lparen, is_rparen, is_rbracket, method_params, method_block}
-use Rattle.swc_grammar.specs.Trees.{to, name_e, computed_e, function_e, block_e}
 use Rattle.swc_grammar.specs.Parts.{key_lit_of}
 use Rattle.swc_grammar.specs.Names.{may_name}
 use Rattle.swc_grammar.specs.Symbols.{Shell}

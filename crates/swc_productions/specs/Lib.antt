@@ -1,6 +1,7 @@
 pub mod Assignments
 pub mod Bases
 pub mod Begins
+pub mod Contexts
 pub mod Keys
 pub mod Links
 pub mod Lists

@@ -1,19 +1,19 @@
 -- What the steps of the code read in left-hand sides (13.3), by the clean parser.
 use Rattle.std.specs.Prelude.{Bool, true, false, not, ◌&&◌, if◌then◌else◌, List, Option, Some, None}
-use Rattle.swc_context.specs.Spans.{between}
+use Rattle.swc_context.specs.Spans.{from_to}
 use Rattle.swc_context.specs.declared.span.BytePos.{BytePos}
 use Rattle.swc_context.specs.declared.span.Span.{Span}
 use Rattle.swc_input.specs.declared.token.TokenAndSpan.{TokenAndSpan}
 use Rattle.swc_input.specs.Kinds.{at_token, is_hash}
 use Rattle.swc_ast.specs.Tree.{Tree, Trees, nil, cons, span_of}
+use Rattle.swc_ast.specs.Trees.{to, listed, items_of, name_e, private_e, computed_e, member_e, call_e, link_e}
+use Rattle.swc_ast.specs.Trees.{is_chain, new_e, bare_new_e, meta_e, trees_append}
 use Rattle.swc_ast.specs.declared.expr.MetaPropKind.TheVariants as kind
 use Rattle.swc_bodies.specs.Readings.{Hook}
 use Rattle.swc_grammar.specs.Scope.{Scope}
 use Rattle.swc_grammar.specs.Symbols.{Args, Item, Lhs}
 use Rattle.swc_grammar.specs.Tokens.{with_in, is_dot, is_lbracket, is_lparen, is_rbracket, is_rparen, is_question}
 use Rattle.swc_grammar.specs.Tokens.{is_backquote, is_target, new_target_ok, import_comma_ok}
-use Rattle.swc_grammar.specs.Trees.{to, listed, items_of, name_e, private_e, computed_e, member_e, call_e, link_e}
-use Rattle.swc_grammar.specs.Trees.{is_chain, new_e, bare_new_e, meta_e, trees_append}
 use Rattle.swc_grammar.specs.Clean.{Out, first, sym, links, run}
 use Rattle.swc_grammar.specs.Names.{Spelling, spelling, may_name}
 use Rattle.swc_grammar.specs.Words.{◌>>=◌, rest, begins_at, word}
@@ -121,7 +121,7 @@ module _ {F C K : Type 0} where
   -- a member of l (13.3.2), behind the `.`; in an optional chain or not
   unfoldable pub dot_tail : Bool → Tree F C K → Scope → List TokenAndSpan → Out (Tree F C K)
   dot_tail o l c ts =
-      member_name c ts >>= (λ p. Some (link_e o l (member_e (between (span_of l).lo p.0.1) l p.0.0), p.1))
+      member_name c ts >>= (λ p. Some (link_e o l (member_e (from_to (span_of l).lo p.0.1) l p.0.0), p.1))
 
   -- a member of l in brackets, of which the first is at s, behind its expression e
   abbrev pub computed_close : Bool → Span → Tree F C K → Tree F C K → Scope → List TokenAndSpan → Out (Tree F C K)

@@ -8,6 +8,8 @@ use Rattle.swc_input.specs.declared.token.Token.TheVariants as token
 use Rattle.swc_input.specs.declared.token.TokenAndSpan.{TokenAndSpan}
 use Rattle.swc_input.specs.Kinds.{at_token}
 use Rattle.swc_ast.specs.Tree.{Tree, Trees, nil, cons, span_of}
+use Rattle.swc_ast.specs.Trees.{to, array_e, hole_e, listed, items_of, comma_of, behind_comma}
+use Rattle.swc_ast.specs.Trees.{trees_append}
 use Rattle.swc_bodies.specs.Readings.{Hook, is_async}
 use Rattle.swc_grammar.specs.Scope.{Scope}
 use Rattle.swc_grammar.specs.Symbols.{Elements, Item}
@@ -15,10 +17,8 @@ use Rattle.swc_grammar.specs.Tokens.{is_dot, is_target, is_super, is_import, is_
 use Rattle.swc_grammar.specs.Tokens.{with_in, is_comma, is_dots, is_lparen, is_rparen, is_lbracket, is_rbracket}
 use Rattle.swc_grammar.specs.Tokens.{is_rbrace, is_equals, is_colon, is_star, is_get, is_set, is_question}
 use Rattle.swc_grammar.specs.Tokens.{is_backquote, is_dollar_brace}
-use Rattle.swc_grammar.specs.Trees.{to, array_e, hole_e, listed, items_of, comma_of, behind_comma}
 use Rattle.swc_grammar.specs.Clean.{Out, first, sym, run}
 use Rattle.swc_grammar.specs.Words.{◌>>=◌}
-use Rattle.swc_grammar.specs.Trees.{trees_append}
 use Rattle.swc_productions.specs.declared.moves.Sign.{Sign}
 use Rattle.swc_productions.specs.declared.moves.Sign.TheVariants as sign
 

@@ -1,6 +1,7 @@
 -- What parsing calls do to the buffer, and which clean reading each answers.
 use Rattle.std.specs.Prelude.{◌≡◌, ◌≢◌, ℕ, ◌≤◌, ◌<◌, Bool, true, false, List, [], ◌∷◌, ◌++◌, Option, Some, None, Result}
 use Rattle.std.specs.Prelude.{MatchResult, MatchOption, OnOk, IfOk, IfErr, length, ◌&&◌}
+use Rattle.swc_context.specs.Contexts.{view as deciding}
 use Rattle.swc_context.specs.declared.context.Context.{Context}
 use Rattle.swc_context.specs.declared.context.Syntax.{Syntax}
 use Rattle.swc_context.specs.declared.error.Error.{Error}
@@ -9,6 +10,9 @@ use Rattle.swc_context.specs.declared.error.SyntaxError.TheVariants.{OutOfMemory
 use Rattle.swc_context.specs.declared.operator.BinaryOp.{BinaryOp}
 use Rattle.swc_context.specs.declared.span.BytePos.{BytePos}
 use Rattle.swc_context.specs.declared.span.Span.{Span}
+use Rattle.swc_context.specs.declared.word.Keyword.TheVariants as keyword
+use Rattle.swc_context.specs.declared.word.Word.{Word}
+use Rattle.swc_context.specs.declared.word.Word.TheVariants as word
 use Rattle.swc_input.specs.declared.buffer.Buffer.{Buffer}
 use Rattle.swc_input.specs.declared.token.Token.{Token}
 use Rattle.swc_input.specs.declared.token.Token.TheVariants as token
@@ -25,6 +29,7 @@ use Rattle.swc_ast.specs.declared.ident.PrivateName.{PrivateName}
 use Rattle.swc_ast.specs.declared.lit.Lit.{Lit}
 use Rattle.swc_ast.specs.Parts.{lit_tree, item_tree, item_trees, prop_name_tree, member_prop_tree, function_tree}
 use Rattle.swc_ast.specs.Tree.{Tree}
+use Rattle.swc_ast.specs.Trees.{listed, value_e}
 use Rattle.swc_ast.specs.declared.expr.ExprOrSpread.{ExprOrSpread}
 use Rattle.swc_ast.specs.declared.expr.MemberProp.{MemberProp}
 use Rattle.swc_ast.specs.declared.function.Function.{Function}
@@ -32,7 +37,6 @@ use Rattle.swc_ast.specs.declared.prop.PropName.{PropName}
 use Rattle.swc_ast.specs.declared.spanned.Spanned.{Ghosts}
 use Rattle.swc_grammar.specs.Scope.{Scope}
 use Rattle.swc_grammar.specs.Parts.{lit_of}
-use Rattle.swc_grammar.specs.Trees.{listed, value_e}
 use Rattle.swc_grammar.specs.Clean.{Out, no_error, first}
 use Rattle.swc_bodies.specs.Readings.{Reading, is_async, is_function_here}
 use Rattle.swc_grammar.specs.Words.{rest}
@@ -58,10 +62,14 @@ abbrev pub is_memory : SyntaxError → Bool
 is_memory OutOfMemory = true
 is_memory k = false
 
--- a word of strict code
-abbrev pub is_strict : Token → Bool
-is_strict (token.Word w) = is_strict_word w
-is_strict t = false
+-- a word of strict code, in a module or not: `await` is one in modules alone
+abbrev pub is_strict_in : Bool → Word → Bool
+is_strict_in is_module (word.Keyword keyword.Await) = is_module
+is_strict_in is_module w = is_strict_word w
+
+abbrev pub is_strict : Bool → Token → Bool
+is_strict is_module (token.Word w) = is_strict_in is_module w
+is_strict is_module t = false
 
 -- `async`, and behind it, on the same line, `function`
 abbrev pub begins_async : List TokenAndSpan → Bool
@@ -101,9 +109,9 @@ abbrev pub by_hook : {V : Type 0} → Reading V → Scope → List TokenAndSpan 
 by_hook reads c ts = reads c.context ts
 
 module _ {S : Type 0} (model : Model S) where
-  -- where code stands at a buffer
+  -- where code stands at a buffer: by its context, without the flags that decide nothing, and the syntax
   abbrev pub scope : Buffer S → Scope
-  scope b = scope_of (context model b) (model.state b.iter).syntax
+  scope b = scope_of (deciding (context model b)) (model.state b.iter).syntax
 
   -- how many faults were recorded
   abbrev pub recorded : Buffer S → ℕ

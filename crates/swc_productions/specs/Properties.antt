@@ -6,16 +6,16 @@ use Rattle.swc_input.specs.declared.token.Token.{Token}
 use Rattle.swc_input.specs.declared.token.TokenAndSpan.{TokenAndSpan}
 use Rattle.swc_input.specs.Kinds.{at_token}
 use Rattle.swc_ast.specs.Tree.{Tree, Trees, nil, cons, span_of}
+use Rattle.swc_ast.specs.Trees.{to, object_e, listed, items_of, comma_of, spread_prop_e, cover_e, ident_e}
+use Rattle.swc_ast.specs.Trees.{trees_append}
 use Rattle.swc_bodies.specs.Readings.{Hook, is_async}
 use Rattle.swc_grammar.specs.Scope.{Scope}
 use Rattle.swc_grammar.specs.Symbols.{Props, Prop}
 use Rattle.swc_grammar.specs.Tokens.{is_dots, is_equals, is_get, is_set, is_question, is_rbrace, is_star, is_word}
 use Rattle.swc_grammar.specs.Tokens.{ends_prop, follows_key}
-use Rattle.swc_grammar.specs.Trees.{to, object_e, listed, items_of, comma_of, spread_prop_e, cover_e, ident_e}
 use Rattle.swc_grammar.specs.Clean.{Out, first, second, sym, run}
 use Rattle.swc_grammar.specs.Names.{Spelling, may_name}
 use Rattle.swc_grammar.specs.Words.{◌>>=◌, word}
-use Rattle.swc_grammar.specs.Trees.{trees_append}
 use Rattle.swc_productions.specs.declared.kinds.MethodKind.{MethodKind}
 use Rattle.swc_productions.specs.declared.kinds.MethodKind.TheVariants as method
 use Rattle.swc_productions.specs.declared.kinds.Modifier.{Modifier}

@@ -6,12 +6,12 @@ use Rattle.swc_context.specs.declared.operator.UnaryOp.{UnaryOp}
 use Rattle.swc_context.specs.declared.span.Span.{Span}
 use Rattle.swc_input.specs.declared.token.TokenAndSpan.{TokenAndSpan}
 use Rattle.swc_ast.specs.Tree.{Tree, span_of}
+use Rattle.swc_ast.specs.Trees.{to, private_e, unary_e, bin_e, delete_ok, nullish_ok}
 use Rattle.swc_grammar.specs.Scope.{Scope}
 use Rattle.swc_grammar.specs.Rule.{gives, check, ◌>>=◌, ◌>>◌, symbol, one, must}
 use Rattle.swc_bodies.specs.Readings.{Hook}
 use Rattle.swc_grammar.specs.Symbols.{Symbol, Expr, Assign, Unary, Answer, Side}
 use Rattle.swc_grammar.specs.Tokens.{with_in}
-use Rattle.swc_grammar.specs.Trees.{to, private_e, unary_e, bin_e, delete_ok, nullish_ok}
 use Rattle.swc_grammar.specs.Parts.{any_name}
 use Rattle.swc_grammar.specs.Grammar.{Production}
 use Rattle.swc_grammar.specs.Clean.{Out, first, sym, climb, Plan, plan, exec, operator_at, run}

@@ -12,11 +12,11 @@ use Rattle.swc_ast.specs.declared.lit.Lit.TheVariants as lit
 use Rattle.swc_ast.specs.declared.lit.Regex.{Regex}
 use Rattle.swc_ast.specs.Parts.{lit_tree}
 use Rattle.swc_ast.specs.Tree.{Tree}
+use Rattle.swc_ast.specs.Trees.{to}
 use Rattle.swc_grammar.specs.Scope.{Scope}
 use Rattle.swc_grammar.specs.Clean.{Out, first}
 use Rattle.swc_grammar.specs.Parts.{flags_ok}
 use Rattle.swc_grammar.specs.Tokens.{is_slash}
-use Rattle.swc_grammar.specs.Trees.{to}
 use Rattle.swc_grammar.specs.Words.{◌>>=◌, rest, one}
 
 -- the regular expression that a token is

@@ -7,6 +7,7 @@ use Rattle.swc_input.specs.declared.token.TokenAndSpan.{TokenAndSpan}
 use Rattle.swc_input.specs.Kinds.{at_token}
 use Rattle.swc_ast.specs.Parts.{quasi_tree}
 use Rattle.swc_ast.specs.Tree.{Tree, Trees, nil, cons, trees, span_of}
+use Rattle.swc_ast.specs.Trees.{to, trees_append, parts_e, texts_of, exprs_of, tpl_e, tagged_e, is_chain}
 use Rattle.swc_ast.specs.declared.expr.TplElement.{TplElement}
 use Rattle.swc_ast.specs.declared.spanned.Spanned.{Ghosts}
 use Rattle.swc_bodies.specs.Readings.{Hook}
@@ -14,7 +15,6 @@ use Rattle.swc_grammar.specs.Scope.{Scope}
 use Rattle.swc_grammar.specs.Parts.{text_of}
 use Rattle.swc_grammar.specs.Symbols.{Parts}
 use Rattle.swc_grammar.specs.Tokens.{is_backquote, is_dollar_brace, is_rbrace}
-use Rattle.swc_grammar.specs.Trees.{to, trees_append, parts_e, texts_of, exprs_of, tpl_e, tagged_e, is_chain}
 use Rattle.swc_grammar.specs.Clean.{Out, first, sym, run}
 use Rattle.swc_grammar.specs.Words.{◌>>=◌, rest, one}
 use Rattle.swc_nodes.specs.Lists.{exprs_parts}

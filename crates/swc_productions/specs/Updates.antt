@@ -6,11 +6,11 @@ use Rattle.swc_input.specs.declared.token.TokenAndSpan.{TokenAndSpan}
 use Rattle.swc_input.specs.Kinds.{at_token}
 use Rattle.swc_ast.specs.Targets.{is_target}
 use Rattle.swc_ast.specs.Tree.{Tree, span_of}
+use Rattle.swc_ast.specs.Trees.{to, update_e, await_e, ident_e}
 use Rattle.swc_bodies.specs.Readings.{Hook}
 use Rattle.swc_grammar.specs.Scope.{Scope}
 use Rattle.swc_grammar.specs.Symbols.{Unary}
 use Rattle.swc_grammar.specs.Tokens.{update_of, is_star, await_ok, await_ident_ok}
-use Rattle.swc_grammar.specs.Trees.{to, update_e, await_e, ident_e}
 use Rattle.swc_grammar.specs.Clean.{Out, first, sym, ends_await_at, run}
 use Rattle.swc_grammar.specs.Words.{◌>>=◌, rest}
 

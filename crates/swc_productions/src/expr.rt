@@ -1,20 +1,21 @@
 // Expressions (ECMA-262, 13).
-ghost use Rattle.std.specs.Prelude.{ℕ, ◌≡◌, ◌<◌, ◌≤◌, ◌++◌, true, false, not, ◌&&◌, None, Some, OnOk, IfOk, IfErr};
+ghost use Rattle.std.specs.Prelude.{ℕ, ◌≡◌, ◌<◌, ◌≤◌, ◌++◌, true, false, not, ◌&&◌, ◌||◌, None, Some, map, OnOk, IfOk, IfErr};
 ghost use Rattle.std.specs.Prelude.{IsSome, MatchOption};
 ghost use Rattle.swc_input.specs.Buffer.{current, peeked, to_come, context, Peeked};
 ghost use Rattle.swc_input.specs.Plain.{plain_token};
 ghost use Rattle.swc_input.specs.Kinds.{at_token, is_hash};
+ghost use Rattle.swc_ast.specs.Trees.{is_chain};
 ghost use Rattle.swc_grammar.specs.Symbols.{Lhs, Primary, Literal, Elements, Item};
-ghost use Rattle.swc_grammar.specs.Tokens.{is_lparen, is_lbracket, is_this, is_new, new_target_ok, begins_regex};
+ghost use Rattle.swc_grammar.specs.Tokens.{is_lparen, is_lbracket, is_this, is_new, is_super, is_import};
+ghost use Rattle.swc_grammar.specs.Tokens.{new_target_ok, begins_regex};
 ghost use Rattle.swc_bodies.specs.Readings.{at_function, is_class};
 ghost use Rattle.swc_grammar.specs.Parts.{lit_of};
 ghost use Rattle.swc_grammar.specs.Grammar as grammar;
 ghost use Rattle.swc_grammar.specs.Clean.{sym, links, run, first, is_lit, is_identifier};
-ghost use Rattle.swc_grammar.specs.Trees.{is_chain};
 ghost use Rattle.swc_grammar.specs.Words.{rest};
 ghost use Rattle.swc_nodes.specs.Slots.{expr_part, one_expr, args_parts};
-ghost use Rattle.swc_nodes.specs.Stands.{count, first_at, Apart, From};
-ghost use Rattle.swc_productions.specs.Assignments.{paren_of};
+ghost use Rattle.swc_nodes.specs.Stands.{count, first_at, first_start, last_end, Apart, From};
+ghost use Rattle.swc_productions.specs.Assignments.{paren_from};
 ghost use Rattle.swc_productions.specs.Readers.{by_production};
 ghost use Rattle.swc_productions.specs.Lists.{element};
 ghost use Rattle.swc_productions.specs.Links.{link_at, link_here, chain_at, chain_head, head_of, link_head};
@@ -28,10 +29,9 @@ ghost use Rattle.swc_productions.specs.Parsing.{elems_at, args_at, member_name_o
 
 use crate::expr::parens::check_paren_items;
 use crate::moves::{
-    Listed, Sign, bump, copy_of, eat, emit_err, emit_strict_mode_err, expect, expect_or,
-    is_async_function, is_sign, label_spread, listed, look, made_literal, parse_ident_name,
-    parse_ident_ref, parse_private_name, require_cur, separate, set_ctx, skip, syntax_error,
-    unexpected,
+    Listed, Sign, answered, bump, copy_of, eat, emit_err, emit_strict_mode_err, expect, expect_or,
+    is_async_function, is_sign, label_spread, listed, look, parse_ident_name, parse_ident_ref,
+    parse_private_name, require_cur, separate, set_ctx, skip, syntax_error, unexpected,
 };
 use crate::productions::Productions;
 use crate::regex::{check_flags, parse_regex_text};
@@ -140,8 +140,8 @@ impl<I: Tokens, B: Bodies<I>> Productions<I, B> {
         Err(syntax_error(&mut self.input, span, SyntaxError::TS1109))
     }
 
-    /// An array literal (ECMA-262, 13.2.4): elements among which `in` counts as an operator. The context is that from
-    /// before, also after a refusal.
+    /// An array literal (ECMA-262, 13.2.4): elements among which `in` counts as an operator, and no colon of a
+    /// conditional is expected. The context is that from before, also after a refusal.
     #[cycle(productions)]
     fn parse_array_lit(&mut self) -> PResult<ExprId>
         requires { at_token is_lbracket (seen self.old.input) ≡ true }
@@ -155,6 +155,7 @@ impl<I: Tokens, B: Bodies<I>> Productions<I, B> {
             &mut self.input,
             Context {
                 include_in_expr: true,
+                will_expect_colon_for_cond: false,
                 ..ctx
             },
         );
@@ -162,9 +163,10 @@ impl<I: Tokens, B: Bodies<I>> Productions<I, B> {
         set_ctx(&mut self.input, ctx);
         let list = elems?;
         let end = list.end.hi;
-        let trailing_comma = list.trailing_comma;
-        let node = self.nodes.array_lit(start, end, list.items, trailing_comma);
-        made_literal(&self.input, node, &mut self.commas, start, trailing_comma)
+        let node = self
+            .nodes
+            .array_lit(start, end, list.items, list.trailing_comma);
+        self.made(node)
     }
 
     /// The elements of an array literal, and the bracket that closes it.
@@ -225,7 +227,8 @@ impl<I: Tokens, B: Bodies<I>> Productions<I, B> {
         ensures { Produces I.model B.is_faithful itself tree_of (by_production B.forms (λ c. grammar.fn-expr))
             (count self.old.nodes) self.old result self.new }
     {
-        let function = self.bodies.fun(&mut self.input)?;
+        let answer = self.bodies.fun(&mut self.input);
+        let function = answered(&self.input, answer)?;
         let node = self.nodes.fn_expr(function);
         self.made(node)
     }
@@ -236,7 +239,8 @@ impl<I: Tokens, B: Bodies<I>> Productions<I, B> {
         ensures { Produces I.model B.is_faithful itself tree_of (by_production B.forms (λ c. grammar.class-expr))
             (count self.old.nodes) self.old result self.new }
     {
-        let class = self.bodies.class(&mut self.input)?;
+        let answer = self.bodies.class(&mut self.input);
+        let class = answered(&self.input, answer)?;
         let node = self.nodes.class_expr(class);
         self.made(node)
     }
@@ -286,7 +290,9 @@ impl<I: Tokens, B: Bodies<I>> Productions<I, B> {
     fn paren_items(&mut self, start: Span, list: Listed<ExprOrSpread<ExprId>>) -> PResult<ExprId>
         requires apart { Apart 0 self.old.nodes (args_parts list.items) }
         ensures { (k : ℕ) → Apart k self.old.nodes (args_parts list.items) → GoesOn I.model B.is_faithful itself tree_of
-            (λ c ts. paren_of start (args_at self.old.nodes list) ts) k self.old result self.new }
+            (λ c ts. paren_from (first_start self.old.nodes (map (λ item. item.expr) list.items.items))
+            (last_end self.old.nodes (map (λ item. item.expr) list.items.items)) start
+            (args_at self.old.nodes list) ts) k self.old result self.new }
     {
         check_paren_items::<I, B>(&mut self.input, &self.nodes, start, &list)?;
         let end = list.end.hi;
@@ -296,25 +302,53 @@ impl<I: Tokens, B: Bodies<I>> Productions<I, B> {
         self.made(node)
     }
 
-    /// A left-hand side (ECMA-262, 13.3); with `no_call`, a parenthesis is no link of it, but that of `new`.
+    /// A left-hand side (ECMA-262, 13.3). What stands before its first call is read as a member expression, but for
+    /// `super` and `import`: there no `<` and no `>` belong to a type. The context is that from before, also after a
+    /// refusal.
     #[cycle(productions)]
-    pub(crate) fn parse_lhs_expr(&mut self, no_call: bool) -> PResult<ExprId>
-        ensures { Produces I.model B.is_faithful itself tree_of (run B.forms (sym (Lhs (not no_call))))
+    pub(crate) fn parse_lhs_expr(&mut self) -> PResult<ExprId>
+        ensures { Produces I.model B.is_faithful itself tree_of (run B.forms (sym (Lhs true)))
+            (count self.old.nodes) self.old result self.new }
+    {
+        look(&mut self.input)?;
+        if is_super_or_import(&self.input) {
+            let base = self.parse_base(false)?;
+            return self.parse_subscripts(base, false);
+        }
+        let ctx = self.get_ctx();
+        set_ctx(
+            &mut self.input,
+            Context {
+                should_not_lex_lt_or_gt_as_type: true,
+                ..ctx
+            },
+        );
+        let member = self.parse_member_expr();
+        set_ctx(&mut self.input, ctx);
+        let callee = member?;
+        self.parse_subscripts(callee, false)
+    }
+
+    /// A member expression (ECMA-262, 13.3), or `new` without arguments: a left-hand side in which a parenthesis is no
+    /// link, but that of `new`.
+    #[cycle(productions)]
+    fn parse_member_expr(&mut self) -> PResult<ExprId>
+        ensures { Produces I.model B.is_faithful itself tree_of (run B.forms (sym (Lhs false)))
             (count self.old.nodes) self.old result self.new }
     {
         look(&mut self.input)?;
         if self.is_new() {
-            return self.parse_new_expr(no_call);
+            return self.parse_new_expr();
         }
-        let base = self.parse_base(no_call)?;
-        self.parse_subscripts(base, no_call)
+        let base = self.parse_base(true)?;
+        self.parse_subscripts(base, true)
     }
 
-    /// `new` (ECMA-262, 13.3.5), or `new.target` (13.3.12), and its links.
+    /// `new` (ECMA-262, 13.3.5), or `new.target` (13.3.12), and its links, but for calls.
     #[cycle(productions)]
-    fn parse_new_expr(&mut self, no_call: bool) -> PResult<ExprId>
+    fn parse_new_expr(&mut self) -> PResult<ExprId>
         requires { at_token is_new (seen self.old.input) ≡ true }
-        ensures { Produces I.model B.is_faithful itself tree_of (new_lhs B.forms (not no_call))
+        ensures { Produces I.model B.is_faithful itself tree_of (new_lhs B.forms false)
             (count self.old.nodes) self.old result self.new }
     {
         let start = self.cur_span();
@@ -322,9 +356,9 @@ impl<I: Tokens, B: Bodies<I>> Productions<I, B> {
         match eat(&mut self.input, Sign::Dot)? {
             Some(_) => {
                 let target = self.parse_new_target(start)?;
-                self.parse_subscripts(target, no_call)
+                self.parse_subscripts(target, true)
             }
-            None => self.parse_constructor(start, no_call),
+            None => self.parse_constructor(start),
         }
     }
 
@@ -339,26 +373,29 @@ impl<I: Tokens, B: Bodies<I>> Productions<I, B> {
             Sign::Target,
             SyntaxError::Unexpected(Wanted::Target),
         )?;
-        let span = Span::new(start.lo, end.hi);
+        let span = Span {
+            lo: start.lo,
+            hi: end.hi,
+        };
         check_new_target(&mut self.input, span)?;
         let node = self.nodes.meta_prop(span, MetaPropKind::NewTarget);
         self.made(node)
     }
 
     /// What `new` at `start` constructs (ECMA-262, 13.3.5), which is no optional chain, and its arguments, and links
-    /// behind these; or no arguments.
+    /// behind these, but for calls; or no arguments.
     #[cycle(productions)]
-    fn parse_constructor(&mut self, start: Span, no_call: bool) -> PResult<ExprId>
-        ensures { Produces I.model B.is_faithful itself tree_of (construct_tail B.forms (not no_call) start)
+    fn parse_constructor(&mut self, start: Span) -> PResult<ExprId>
+        ensures { Produces I.model B.is_faithful itself tree_of (construct_tail B.forms false start)
             (count self.old.nodes) self.old result self.new }
     {
-        let callee = self.parse_lhs_expr(true)?;
+        let callee = self.parse_member_expr()?;
         refuse_opt_chain::<I, B>(&mut self.input, &self.nodes, callee)?;
         match eat(&mut self.input, Sign::LParen)? {
             Some(_) => {
                 let list = self.parse_args(false)?;
                 let base = self.new_expr(start, callee, list)?;
-                self.parse_subscripts(base, no_call)
+                self.parse_subscripts(base, true)
             }
             None => {
                 let node = self.nodes.bare_new_expr(start.lo, callee);
@@ -468,7 +505,10 @@ impl<I: Tokens, B: Bodies<I>> Productions<I, B> {
             (first_at self.old.nodes obj.0) self.old result self.new }
     {
         let end = expect(&mut self.input, Sign::RBracket)?;
-        let span = Span::new(start.lo, end.hi);
+        let span = Span {
+            lo: start.lo,
+            hi: end.hi,
+        };
         let prop = MemberProp::Computed(ComputedPropName { span, expr });
         let node = self.nodes.member_expr(obj, prop, end.hi, optional);
         self.made(node)
@@ -540,6 +580,13 @@ impl<I: Tokens, B: Bodies<I>> Productions<I, B> {
         let node = self.nodes.lit(Lit::Regex(regex));
         self.made(node)
     }
+}
+
+/// Whether `super` or `import` is current.
+fn is_super_or_import<I: Tokens>(input: &Buffer<I>) -> bool
+    ensures { result ≡ (at_token is_super (seen input.now) || at_token is_import (seen input.now)) }
+{
+    is_sign(input, Sign::Super) || is_sign(input, Sign::Import)
 }
 
 /// Consumes the first tokens of the link that comes next, and answers what they begin; or nothing, where none comes next.
@@ -666,7 +713,7 @@ fn check_new_target<I: Tokens>(input: &mut Buffer<I>, span: Span) -> PResult<()>
     if may_be_new_target(ctx) {
         return Ok(());
     }
-    emit_err(input, span, SyntaxError::InvalidNewTarget)
+    emit_err(input, span.in_order(), SyntaxError::InvalidNewTarget)
 }
 
 /// Whether `new.target` may stand in the context.

@@ -17,7 +17,6 @@ ghost use Rattle.swc_productions.specs.Parsing.{seen, recorded, Loud, Moves};
 ghost use Rattle.swc_productions.specs.Parsing.{Refuses, Tries, ParsesAlone, ContinuesAlone, Eats, Looks, Fits};
 ghost use Rattle.swc_productions.specs.Parsing.{Checked, Tells, begins_async};
 ghost use Rattle.swc_productions.specs.Keys.{expected};
-ghost use Rattle.swc_nodes.specs.Commas.{Remembers};
 ghost use Rattle.swc_productions.specs.Links.{hash_name};
 ghost use Rattle.swc_productions.specs.Regexes.{SkipsSlash};
 ghost use Rattle.swc_productions.specs.Updates.{breaks_at};
@@ -35,7 +34,6 @@ use swc_ident::ident;
 use swc_input::buffer::Buffer;
 use swc_input::token::Token;
 use swc_input::tokens::Tokens;
-use swc_nodes::commas::TrailingCommas;
 use swc_nodes::node::ExprId;
 
 /// Looks at the current token: whether there is one, and not the end. Refused only for want of memory.
@@ -289,6 +287,17 @@ pub(crate) fn parse_private_name<I: Tokens>(
     Ok((name, end))
 }
 
+/// What a hook answered, or, where the source has failed, want of memory in its place: so no hook is asked to tell.
+pub(crate) fn answered<I: Tokens, T: Drop>(input: &Buffer<I>, answer: PResult<T>) -> PResult<T>
+    ensures runs { (state_of I.model input.now).failed ≡ false → result ≡ answer }
+    ensures fails { (state_of I.model input.now).failed ≡ true → result ≡ Err (no_memory (last_position input.now)) }
+{
+    if !input.failed() {
+        return answer;
+    }
+    Err(input.out_of_memory())
+}
+
 /// A copy of the text. Refused only for want of memory.
 pub(crate) fn copy_of<I: Tokens>(input: &Buffer<I>, text: &Atom) -> PResult<Atom>
     ensures refused { IfErr result (λ e. e ≡ no_memory (last_position input.now)) }
@@ -304,25 +313,6 @@ pub fn is_out_of_memory(error: &Error) -> bool
     ensures { result ≡ is_memory error.now.kind }
 {
     matches!(error.kind(), SyntaxError::OutOfMemory)
-}
-
-/// The number of a literal's node. A comma behind its last part is remembered too, or that there is none. Refused only
-/// for want of memory.
-pub(crate) fn made_literal<I: Tokens>(
-    input: &Buffer<I>,
-    id: Result<ExprId, AllocError>,
-    commas: &mut TrailingCommas,
-    start: BytePos,
-    trailing_comma: Option<Span>,
-) -> PResult<ExprId>
-    ensures ok { IfOk result (λ r. id ≡ Ok r) }
-    ensures refused { IfErr result (λ e. e ≡ no_memory (last_position input.now)) }
-    ensures remembers { OnOk result (Remembers start.0 trailing_comma commas.old commas.new) }
-{
-    match (commas.remember(start, trailing_comma), id) {
-        (Ok(()), Ok(id)) => Ok(id),
-        _ => Err(input.out_of_memory()),
-    }
 }
 
 /// A sign that productions look for.

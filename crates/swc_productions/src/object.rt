@@ -5,18 +5,20 @@ ghost use Rattle.swc_context.specs.Reserved.{is_reserved_word};
 ghost use Rattle.swc_input.specs.Buffer.{to_come, context};
 ghost use Rattle.swc_input.specs.Plain.{plain_token};
 ghost use Rattle.swc_input.specs.Kinds.{at_token};
+ghost use Rattle.swc_context.specs.Spans.{from_to};
+ghost use Rattle.swc_ast.specs.Parts.{ident_tree};
 ghost use Rattle.swc_ast.specs.Tree.{span_of};
+ghost use Rattle.swc_ast.specs.Trees.{to, cover_e, spread_prop_e};
 ghost use Rattle.swc_bodies.specs.Readings.{is_brace};
 ghost use Rattle.swc_grammar.specs.Symbols.{Props, Prop, Key, AfterKey as Behind, Shell};
 ghost use Rattle.swc_grammar.specs.Tokens.{method_scope, method_params, method_block};
 ghost use Rattle.swc_grammar.specs.Parts.{key_lit_of};
 ghost use Rattle.swc_grammar.specs.Grammar as grammar;
-ghost use Rattle.swc_grammar.specs.Trees.{to, spread_prop_e};
 ghost use Rattle.swc_grammar.specs.Clean.{sym, run};
 ghost use Rattle.swc_nodes.specs.Slots.{expr_part, pat_part, key_parts, prop_parts, one_expr};
-ghost use Rattle.swc_nodes.specs.Stands.{count, first_at, From, Grows};
+ghost use Rattle.swc_nodes.specs.Stands.{count, first_at, end_at, From, Grows};
 ghost use Rattle.swc_productions.specs.Readers.{by_production, nothing};
-ghost use Rattle.swc_productions.specs.Properties.{prop_item, open_name, cover_name, cover_node};
+ghost use Rattle.swc_productions.specs.Properties.{prop_item, open_name, cover_name};
 ghost use Rattle.swc_productions.specs.Begins.{Begins};
 ghost use Rattle.swc_productions.specs.Keys.{is_key_lit, plain_key, key_close, no_params, ends_params, parens};
 ghost use Rattle.swc_productions.specs.Keys.{params, method_body, shell};
@@ -33,8 +35,8 @@ use crate::kinds::{
     MethodKind, PropKind, is_word, modifier_here, parse_modifiers, prop_kind, questioned_kind,
 };
 use crate::moves::{
-    Listed, Sign, bump, eat, emit_err, expect, is_sign, listed, look, made_literal,
-    parse_ident_name, require_cur, separate, set_ctx, skip, unexpected,
+    Listed, Sign, answered, bump, eat, emit_err, expect, is_sign, listed, look, parse_ident_name,
+    require_cur, separate, set_ctx, skip, unexpected,
 };
 use crate::productions::Productions;
 use std::alloc::Global;
@@ -54,7 +56,8 @@ use swc_nodes::node::{ExprId, PatId, PropNode};
 use swc_nodes::nodes::Nodes;
 
 impl<I: Tokens, B: Bodies<I>> Productions<I, B> {
-    /// An object literal (ECMA-262, 13.2.5).
+    /// An object literal (ECMA-262, 13.2.5), in which no colon of a conditional is expected. The context is that from
+    /// before, also after a refusal.
     #[cycle(productions)]
     pub(crate) fn parse_object_lit(&mut self) -> PResult<ExprId>
         requires { at_token is_brace (seen self.old.input) ≡ true }
@@ -63,13 +66,22 @@ impl<I: Tokens, B: Bodies<I>> Productions<I, B> {
     {
         let start = self.cur_span().lo;
         skip(&mut self.input);
-        let list = self.parse_props()?;
+        let ctx = self.get_ctx();
+        set_ctx(
+            &mut self.input,
+            Context {
+                will_expect_colon_for_cond: false,
+                ..ctx
+            },
+        );
+        let props = self.parse_props();
+        set_ctx(&mut self.input, ctx);
+        let list = props?;
         let end = list.end.hi;
-        let trailing_comma = list.trailing_comma;
         let node = self
             .nodes
-            .object_lit(start, end, list.items, trailing_comma);
-        made_literal(&self.input, node, &mut self.commas, start, trailing_comma)
+            .object_lit(start, end, list.items, list.trailing_comma);
+        self.made(node)
     }
 
     /// The properties of an object literal, and the brace that closes it.
@@ -135,7 +147,7 @@ impl<I: Tokens, B: Bodies<I>> Productions<I, B> {
         match eat(&mut self.input, Sign::Colon)? {
             Some(_) => {
                 let value = self.parse_assignment_expr_with_in()?;
-                let span = self.nodes.span(value);
+                let span = self.nodes.extent(value);
                 Ok(AfterKey::Value { span, value })
             }
             None => self.parse_key_method(),
@@ -190,7 +202,7 @@ impl<I: Tokens, B: Bodies<I>> Productions<I, B> {
         ensures grows { Grows self.old.nodes self.new.nodes }
         ensures from { IfOk result (λ p. From (count self.old.nodes) self.new.nodes (pat_part p)) }
     {
-        emit_err(&mut self.input, key, SyntaxError::SetterParam)?;
+        emit_err(&mut self.input, key.in_order(), SyntaxError::SetterParam)?;
         match self.nodes.invalid_pat(Span::new(BytePos(0), BytePos(0))) {
             Ok(param) => Ok(param),
             Err(_) => Err(self.input.out_of_memory()),
@@ -200,9 +212,29 @@ impl<I: Tokens, B: Bodies<I>> Productions<I, B> {
     /// A property's key (ECMA-262, 13.2.5): any word, a string, a number, a big integer, or an expression in brackets, in
     /// which `in` counts as an operator.
     ///
-    /// Another token is refused as `Unexpected`, at that token, and the end as `Eof`; a missing `]` as `Expected`.
+    /// Another token is refused as `Unexpected`, at that token, and the end as `Eof`; a missing `]` as `Expected`. The
+    /// context is that from before, also after a refusal.
     #[cycle(productions)]
     pub fn parse_prop_name(&mut self) -> PResult<PropName<ExprId>>
+        ensures { Produces I.model B.is_faithful key_of key_at (run B.forms (sym Key))
+            (count self.old.nodes) self.old result self.new }
+    {
+        let ctx = self.get_ctx();
+        set_ctx(
+            &mut self.input,
+            Context {
+                in_property_name: true,
+                ..ctx
+            },
+        );
+        let key = self.parse_key();
+        set_ctx(&mut self.input, ctx);
+        key
+    }
+
+    /// The same, in whatever context.
+    #[cycle(productions)]
+    fn parse_key(&mut self) -> PResult<PropName<ExprId>>
         ensures { Produces I.model B.is_faithful key_of key_at (run B.forms (sym Key))
             (count self.old.nodes) self.old result self.new }
     {
@@ -223,7 +255,10 @@ impl<I: Tokens, B: Bodies<I>> Productions<I, B> {
             (first_at self.old.nodes expr.0) self.old result self.new }
     {
         let end = expect(&mut self.input, Sign::RBracket)?;
-        let span = Span::new(start.lo, end.hi);
+        let span = Span {
+            lo: start.lo,
+            hi: end.hi,
+        };
         Ok(PropName::Computed(ComputedPropName { span, expr }))
     }
 
@@ -277,7 +312,10 @@ impl<I: Tokens, B: Bodies<I>> Productions<I, B> {
     {
         let start = parse_params(&mut self.input, is_async, is_generator, setter)?;
         let body = self.parse_method_block(is_async, is_generator)?;
-        let span = Span::new(start.lo, body.span().hi);
+        let span = Span {
+            lo: start.lo,
+            hi: body.span().hi,
+        };
         let params = Vec::new(self.alloc);
         Ok(Function {
             span,
@@ -311,7 +349,8 @@ impl<I: Tokens, B: Bodies<I>> Productions<I, B> {
         if !self.is_lbrace() {
             return Err(unexpected(&mut self.input, SyntaxError::Expected(Wanted::LBrace)));
         }
-        self.bodies.block(&mut self.input)
+        let answer = self.bodies.block(&mut self.input);
+        answered(&self.input, answer)
     }
 }
 
@@ -448,13 +487,12 @@ fn method_scope(is_async: bool, is_generator: bool, ctx: Context) -> Context
         in_async: is_async,
         in_generator: is_generator,
         in_class_field: false,
-        inside_non_arrow_function_scope: true,
         allow_direct_super: true,
         ..ctx
     }
 }
 
-/// The context of a method's parameters.
+/// The context of a method's parameters, in which `new.target` is that of the code round the method.
 fn method_params(is_async: bool, is_generator: bool, ctx: Context) -> Context
     ensures { result ≡ method_params is_async is_generator ctx }
 {
@@ -472,6 +510,7 @@ fn method_block(is_async: bool, is_generator: bool, ctx: Context) -> Context
     Context {
         in_function: true,
         in_parameters: false,
+        inside_non_arrow_function_scope: true,
         ..method_scope(is_async, is_generator, ctx)
     }
 }
@@ -579,7 +618,7 @@ fn eat_questioned<I: Tokens>(input: &mut Buffer<I>, kind: PropKind) -> PResult<O
     }
 }
 
-/// From a place to the end of an expression.
+/// From a place to the end of an expression, as they stand.
 fn span_to<F: Spanned + Drop, C: Spanned + Drop, K: Spanned + Drop>(
     nodes: &Nodes<F, C, K>,
     start: Span,
@@ -588,7 +627,10 @@ fn span_to<F: Spanned + Drop, C: Spanned + Drop, K: Spanned + Drop>(
     requires { From 0 nodes.now (expr_part end) }
     ensures { result ≡ to start (span_of (tree_of nodes.now end)) }
 {
-    Span::new(start.lo, nodes.span(end).hi)
+    Span {
+        lo: start.lo,
+        hi: nodes.extent(end).hi,
+    }
 }
 
 /// The property of dots and the expression behind them.
@@ -616,10 +658,14 @@ fn cover_prop<F: Spanned + Drop, C: Spanned + Drop, K: Spanned + Drop>(
     value: ExprId,
 ) -> PropNode<K>
     requires { From 0 nodes.now (expr_part value) }
-    ensures tree { prop_at nodes.now result ≡ cover_node (ident_spelling key) (tree_of nodes.now value) }
+    ensures tree { prop_at nodes.now result ≡ cover_e (from_to key.span.lo (end_at nodes.now value.0))
+        (ident_tree key) (tree_of nodes.now value) }
     ensures parts { prop_parts result ≡ one_expr value }
 {
-    let span = span_to(nodes, key.span, value);
+    let span = Span {
+        lo: key.span.lo,
+        hi: nodes.end(value),
+    };
     PropNode::Assign(AssignProp { span, key, value })
 }
 
@@ -639,7 +685,10 @@ fn key_prop<K>(key: PropName<ExprId>, after: AfterKey<K>) -> PropNode<K>
     let start = key.span();
     match after {
         AfterKey::Value { span: at, value } => {
-            let span = Span::new(start.lo, at.hi);
+            let span = Span {
+                lo: start.lo,
+                hi: at.hi,
+            };
             PropNode::KeyValue { span, key, value }
         }
         AfterKey::Method(function) => method_prop(start, key, function),
@@ -668,7 +717,10 @@ fn method_prop<K>(start: Span, key: PropName<ExprId>, function: Function<PatId, 
     ensures { result ≡ method_behind start key function }
 {
     let mut function = function;
-    function.span = Span::new(start.lo, function.span.hi);
+    function.span = Span {
+        lo: start.lo,
+        hi: function.span.hi,
+    };
     PropNode::Method { key, function }
 }
 
@@ -676,7 +728,10 @@ fn method_prop<K>(start: Span, key: PropName<ExprId>, function: Function<PatId, 
 fn getter_prop<K>(start: Span, key: PropName<ExprId>, function: Function<PatId, K>) -> PropNode<K>
     ensures { result ≡ getter_behind start key function }
 {
-    let span = Span::new(start.lo, function.span.hi);
+    let span = Span {
+        lo: start.lo,
+        hi: function.span.hi,
+    };
     let body = function.body;
     PropNode::Getter { span, key, body }
 }
@@ -690,7 +745,10 @@ fn setter_prop<K>(
 ) -> PropNode<K>
     ensures { result ≡ setter_behind start key param function }
 {
-    let span = Span::new(start.lo, function.span.hi);
+    let span = Span {
+        lo: start.lo,
+        hi: function.span.hi,
+    };
     let body = function.body;
     PropNode::Setter {
         span,

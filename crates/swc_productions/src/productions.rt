@@ -1,21 +1,20 @@
 // What all productions stand on: the buffer, the nodes and the hook.
 ghost use Rattle.std.specs.Prelude.{◌≡◌, ◌++◌, ◌∷◌, [], true, false, None, Some, Ok, IfOk, IfErr, OnOk, IsSome, MatchOption};
 ghost use Rattle.swc_input.specs.declared.token.Token.{Token};
-ghost use Rattle.swc_input.specs.Buffer.{current, context, state_of, previous, last_position};
+ghost use Rattle.swc_input.specs.Buffer.{current, context, state_of, previous, last_position, Looked};
 ghost use Rattle.swc_input.specs.Recording.{no_memory};
 ghost use Rattle.swc_input.specs.Kinds.{at_token, is_hash};
-ghost use Rattle.swc_grammar.specs.Tokens.{is_ref, is_strict_word, is_lparen, is_rparen, is_lbracket, is_this};
+ghost use Rattle.swc_grammar.specs.Tokens.{is_ref, is_lparen, is_rparen, is_lbracket, is_this};
 ghost use Rattle.swc_grammar.specs.Tokens.{is_word, is_new, is_backquote};
 ghost use Rattle.swc_bodies.specs.Readings.{at_function, is_function, is_class, is_brace};
 ghost use Rattle.swc_grammar.specs.Clean.{is_lit, is_identifier};
 ghost use Rattle.swc_productions.specs.Keys.{is_key_lit};
-ghost use Rattle.swc_productions.specs.Parsing.{is_strict, seen, Looks};
+ghost use Rattle.swc_productions.specs.Parsing.{is_strict, is_strict_in, seen, Looks};
 ghost use Rattle.swc_grammar.specs.Tokens.{begins_regex};
 ghost use Rattle.std.specs.Borrow.{sem, follows};
 ghost use Rattle.swc_input.specs.Buffer.{source as source_of, with_source};
 ghost use Rattle.swc_productions.specs.contracts.productions.Productions.{the_row};
 
-use crate::moves::look;
 use crate::regex::{is_regex, is_slash};
 use std::alloc::{AllocError, Global};
 use swc_bodies::bodies::Bodies;
@@ -26,7 +25,6 @@ use swc_context::word::{Keyword, Word};
 use swc_input::buffer::Buffer;
 use swc_input::token::Token;
 use swc_input::tokens::Tokens;
-use swc_nodes::commas::TrailingCommas;
 use swc_nodes::node::ExprId;
 use swc_nodes::nodes::NodesOf;
 
@@ -45,8 +43,6 @@ pub struct Productions<I: Tokens, B: Bodies<I>> {
     pub nodes: NodesOf<B>,
     /// Reads functions, classes and blocks.
     pub bodies: B,
-    /// Where commas stand behind the last parts of literals.
-    pub commas: TrailingCommas,
     /// Whether `import.` was read.
     pub found_module_item: bool,
 }
@@ -59,7 +55,6 @@ impl<I: Tokens, B: Bodies<I>> Drop for Productions<I, B> {
             input: _,
             nodes: _,
             bodies: _,
-            commas: _,
             found_module_item: _,
         } = self;
     }
@@ -75,21 +70,22 @@ impl<I: Tokens, B: Bodies<I>> Productions<I, B> {
             input: _,
             nodes,
             bodies: _,
-            commas: _,
             found_module_item: _,
         } = self;
         nodes
     }
 
-    /// Whether no token is left. Consumes nothing, and is refused for want of memory alone.
+    /// Whether no token is left. Consumes nothing, and is refused where the source has failed alone.
     pub fn is_end(&mut self) -> PResult<bool>
         ensures looks { Looks I.model self.old.input result self.new.input }
         ensures end { IfOk result
             (λ r. r ≡ true → (current self.new.input ≡ None) × ((state_of I.model self.new.input).ended ≡ true)) }
         ensures token { IfOk result (λ r. r ≡ false → IsSome (current self.new.input)) }
+        ensures refused { IfErr result (λ e. (e ≡ no_memory (last_position self.new.input))
+            × Looked I.model self.old.input self.new.input × ((state_of I.model self.new.input).failed ≡ true)) }
         ensures nodes { self.new.nodes ≡ self.old.nodes }
     {
-        Ok(!look(&mut self.input)?)
+        Ok(!self.input.has_cur()?)
     }
 
     /// The source. What is written to it through the answer, and that alone, changes the productions.
@@ -277,12 +273,14 @@ impl<I: Tokens, B: Bodies<I>> Productions<I, B> {
         matches!(self.input.cur_debug(), Some(Token::Hash))
     }
 
-    /// Whether a word of strict code is current.
+    /// Whether a word of strict code is current; `await` is one in a module alone.
     pub(crate) fn is_strict_word(&self) -> bool
-        ensures value { result ≡ at_token is_strict (seen self.now.input) }
+        ensures value { result
+            ≡ at_token (is_strict (context I.model self.now.input).module) (seen self.now.input) }
     {
+        let is_module = self.get_ctx().module;
         match self.input.cur_debug() {
-            Some(Token::Word(word)) => is_strict_word(word),
+            Some(Token::Word(word)) => is_strict_word(word, is_module),
             _ => false,
         }
     }
@@ -299,12 +297,13 @@ fn is_identifier_word(ctx: Context, word: &Word) -> bool
     }
 }
 
-/// Whether the word is no identifier in a module.
-fn is_strict_word(word: &Word) -> bool
-    ensures { result ≡ is_strict_word word.now }
+/// Whether the word is no identifier in strict code; in a module `await` is none either (ECMA-262, 13.1.1).
+fn is_strict_word(word: &Word, is_module: bool) -> bool
+    ensures { result ≡ is_strict_in is_module word.now }
 {
     match word {
-        Word::Keyword(Keyword::Let | Keyword::Yield | Keyword::Await) => true,
+        Word::Keyword(Keyword::Let | Keyword::Yield) => true,
+        Word::Keyword(Keyword::Await) => is_module,
         Word::Ident(name) => name.is_strict_name(),
         _ => false,
     }

@@ -76,7 +76,10 @@ fn from_slash(start: BytePos, regex: Regex) -> Regex
     ensures { (slash : Span) → slash.lo ≡ start → result ≡ regexes.from_slash slash regex }
 {
     Regex {
-        span: Span::new(start, regex.span.hi),
+        span: Span {
+            lo: start,
+            hi: regex.span.hi,
+        },
         exp: regex.exp,
         flags: regex.flags,
     }
@@ -110,8 +113,9 @@ pub(crate) fn check_flags<I: Tokens>(input: &mut Buffer<I>, regex: &Regex) -> PR
     ensures falls { OnOk result (to_come I.model input.new ≤ to_come I.model input.old) }
 {
     let flags = regex.flags.as_str().as_bytes();
-    check_known(input, regex.span, flags)?;
-    check_once(input, regex.span, flags)
+    let span = regex.span.in_order();
+    check_known(input, span, flags)?;
+    check_once(input, span, flags)
 }
 
 /// Records flags that no regular expression has.

@@ -15,7 +15,7 @@ use crate::parts::both;
 use crate::pieces::{args_if_some, arrow_body, callee, chain, member, paren, super_prop, template};
 use crate::refusable::boxed;
 use std::alloc::{AllocError, Global};
-use swc_ast::expr::{AssignTarget, Expr, SimpleAssignTarget};
+use swc_ast::expr::{AssignTarget, Expr, Invalid, SimpleAssignTarget};
 use swc_ast::ident::BindingIdent;
 use swc_ast::lit::Lit;
 use swc_ast::pat::{Pat, RestPat};
@@ -45,7 +45,7 @@ pub(crate) fn assemble_expr<F: Spanned + Drop, C: Spanned + Drop, K: Spanned + D
         Node::Num(l) => Ok(Expr::Lit(Lit::Num(l))),
         Node::BigInt(l) => Ok(Expr::Lit(Lit::BigInt(l))),
         Node::Regex(r) => Ok(Expr::Lit(Lit::Regex(r))),
-        Node::Invalid(i) => Ok(Expr::Invalid(i)),
+        Node::Invalid(i) => Ok(Expr::Invalid(Invalid { span: i.span })),
         node => assemble_operation(alloc, built, node),
     }
 }

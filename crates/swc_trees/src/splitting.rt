@@ -32,7 +32,7 @@ use swc_ast::prop::PropOrSpread;
 use swc_ast::spanned::Spanned;
 use swc_context::operator::{AssignOp, BinaryOp, UnaryOp, UpdateOp};
 use swc_context::span::Span;
-use swc_nodes::node::Node;
+use swc_nodes::node::{InvalidNode, Node};
 
 /// The node of a tree, whose parts are moved out.
 pub(crate) fn split<F: Spanned + Drop, C: Spanned + Drop, K: Spanned + Drop>(
@@ -149,7 +149,11 @@ fn split_short<F: Spanned + Drop, C: Spanned + Drop, K: Spanned + Drop>(
         Expr::PrivateName(p) => Ok(Node::PrivateName(taken_private(alloc, p)?)),
         Expr::Ident(i) => Ok(Node::Ident(taken_ident(alloc, i)?)),
         Expr::Lit(l) => Ok(lit_node(taken_lit(l))),
-        Expr::Invalid(i) => Ok(Node::Invalid(Invalid { span: i.span })),
+        Expr::Invalid(i) => Ok(Node::Invalid(InvalidNode {
+            span: i.span,
+            first: i.span.lo,
+            last: i.span.hi,
+        })),
         Expr::Array { span, elems } => split_array(alloc, built, *span, elems),
         Expr::Object { span, props } => split_object(alloc, built, *span, props),
         Expr::Seq { span, exprs } => split_seq(alloc, built, *span, exprs),

@@ -74,7 +74,7 @@ impl<I: Tokens, B: Bodies<I>> Parser<I, B> {
         ensures nodes { nodes_of self.new ≡ nodes_of self.old }
         ensures runs { has_failed self.new ≡ has_failed self.old }
     {
-        match self.productions.commas.remember(span.lo, trailing_comma) {
+        match self.commas.remember(span.lo, trailing_comma) {
             Ok(()) => match object_lit(self.productions.alloc, span, props) {
                 Ok(object) => Ok(object),
                 Err(_) => Err(self.productions.input.out_of_memory()),

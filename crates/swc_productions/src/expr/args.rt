@@ -21,9 +21,10 @@ use swc_input::tokens::Tokens;
 use swc_nodes::node::ExprId;
 
 impl<I: Tokens, B: Bodies<I>> Productions<I, B> {
-    /// Arguments (ECMA-262, 13.3.8), behind their parenthesis, in which `in` counts as an operator, and the parenthesis
-    /// that closes them. Those of `import`, where it `is_dynamic_import`, may have no comma behind the last one, unless
-    /// import attributes are read.
+    /// Arguments (ECMA-262, 13.3.8), behind their parenthesis, in which `in` counts as an operator, and no colon of a
+    /// conditional is expected, and the parenthesis that closes them. Those of `import`, where it `is_dynamic_import`,
+    /// may have no comma behind the last one, unless import attributes are read. The context is that from before, also
+    /// after a refusal.
     #[cycle(productions)]
     pub(crate) fn parse_args(
         &mut self,
@@ -38,6 +39,7 @@ impl<I: Tokens, B: Bodies<I>> Productions<I, B> {
             &mut self.input,
             Context {
                 include_in_expr: true,
+                will_expect_colon_for_cond: false,
                 ..ctx
             },
         );

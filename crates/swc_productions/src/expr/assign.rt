@@ -6,14 +6,16 @@ ghost use Rattle.swc_input.specs.Buffer.{current, context, to_come};
 ghost use Rattle.swc_input.specs.Kinds.{at_token};
 ghost use Rattle.swc_ast.specs.Targets.{is_target};
 ghost use Rattle.swc_ast.specs.Tree.{nil, cons};
+ghost use Rattle.swc_ast.specs.Trees.{begins_in_invalid};
 ghost use Rattle.swc_grammar.specs.Symbols.{Expr, Assign};
 ghost use Rattle.swc_grammar.specs.Tokens.{is_yield, yield_ok, begins_yielded, begins_yielded_word};
-ghost use Rattle.swc_grammar.specs.Clean.{sym, assigns, goes_on_yield_at, no_error, run};
+ghost use Rattle.swc_grammar.specs.Clean.{sym, goes_on_yield_at, no_error, run};
 ghost use Rattle.swc_nodes.specs.Slots.{expr_part, target_part};
-ghost use Rattle.swc_nodes.specs.Stands.{count, first_at, From};
+ghost use Rattle.swc_nodes.specs.Stands.{count, first_at, start_at, From};
 ghost use Rattle.swc_nodes.specs.declared.node.TargetNode.TheVariants as target;
-ghost use Rattle.swc_productions.specs.Assignments.{assign_at, seqs_more, cond_tail, assign_expr, yield_expr};
-ghost use Rattle.swc_productions.specs.Assignments.{yield_operand};
+ghost use Rattle.swc_productions.specs.Assignments.{assign_at, assigns_from, seqs_from, cond_tail, assign_expr};
+ghost use Rattle.swc_productions.specs.Assignments.{yield_expr, yield_operand};
+ghost use Rattle.swc_productions.specs.Contexts.{cond_middle, cond_last};
 ghost use Rattle.swc_productions.specs.Readers.{inside, whole_inside};
 ghost use Rattle.swc_productions.specs.Parsing.{seen, behind, Checks, Looks, Refuses, Produces, GoesOn, itself, tree_of};
 
@@ -53,7 +55,8 @@ impl<I: Tokens, B: Bodies<I>> Productions<I, B> {
     fn parse_seq_expr(&mut self, first: ExprId) -> PResult<ExprId>
         requires from { From 0 self.old.nodes (expr_part first) }
         ensures { Produces I.model B.is_faithful itself tree_of
-            (seqs_more B.forms (cons (tree_of self.old.nodes first) nil))
+            (seqs_from B.forms (begins_in_invalid (tree_of self.old.nodes first)) (start_at self.old.nodes first.0)
+            (cons (tree_of self.old.nodes first) nil))
             (first_at self.old.nodes first.0) self.old result self.new }
     {
         let mut exprs = Vec::new(self.alloc);
@@ -128,7 +131,8 @@ impl<I: Tokens, B: Bodies<I>> Productions<I, B> {
     #[cycle(productions)]
     fn finish_assignment_expr(&mut self, left: ExprId) -> PResult<ExprId>
         requires from { From 0 self.old.nodes (expr_part left) }
-        ensures { GoesOn I.model B.is_faithful itself tree_of (run B.forms (assigns (tree_of self.old.nodes left)))
+        ensures { GoesOn I.model B.is_faithful itself tree_of
+            (assigns_from B.forms (start_at self.old.nodes left.0) (tree_of self.old.nodes left))
             (first_at self.old.nodes left.0) self.old result self.new }
     {
         look(&mut self.input)?;
@@ -153,19 +157,27 @@ impl<I: Tokens, B: Bodies<I>> Productions<I, B> {
         }
     }
 
-    /// The rest of a conditional (ECMA-262, 13.14) behind what it tests, from its `?` on, which is current.
+    /// The rest of a conditional (ECMA-262, 13.14) behind what it tests, from its `?` on, which is current. The context
+    /// is that from before, also after a refusal.
     #[cycle(productions)]
     fn parse_cond_expr(&mut self, test: ExprId) -> PResult<ExprId>
         requires from { From 0 self.old.nodes (expr_part test) }
         requires question { IsSome (current self.old.input) }
         ensures { Produces I.model B.is_faithful itself tree_of
-            (behind (cond_tail B.forms (tree_of self.old.nodes test)))
+            (behind (cond_tail B.forms (start_at self.old.nodes test.0) (tree_of self.old.nodes test)))
             (first_at self.old.nodes test.0) self.old result self.new }
     {
         skip(&mut self.input);
-        let cons = self.parse_assignment_expr_with_in()?;
+        let ctx = self.get_ctx();
+        set_ctx(&mut self.input, cond_middle(ctx));
+        let middle = self.parse_assignment_expr();
+        set_ctx(&mut self.input, ctx);
+        let cons = middle?;
         expect(&mut self.input, Sign::Colon)?;
-        let alt = self.parse_assignment_expr()?;
+        set_ctx(&mut self.input, cond_last(ctx));
+        let last = self.parse_assignment_expr();
+        set_ctx(&mut self.input, ctx);
+        let alt = last?;
         let node = self.nodes.cond_expr(test, cons, alt);
         self.made(node)
     }
@@ -224,6 +236,29 @@ impl<I: Tokens, B: Bodies<I>> Productions<I, B> {
                 Err(label_yield(self.alloc, &self.input, span, error))
             }
         }
+    }
+}
+
+/// The context of the middle of a conditional, in which `in` counts as an operator, and behind which a colon is expected.
+fn cond_middle(ctx: Context) -> Context
+    ensures { result ≡ cond_middle ctx }
+{
+    Context {
+        include_in_expr: true,
+        in_cond_expr: true,
+        will_expect_colon_for_cond: true,
+        ..ctx
+    }
+}
+
+/// The context of the last part of a conditional.
+fn cond_last(ctx: Context) -> Context
+    ensures { result ≡ cond_last ctx }
+{
+    Context {
+        in_cond_expr: true,
+        will_expect_colon_for_cond: false,
+        ..ctx
     }
 }
 

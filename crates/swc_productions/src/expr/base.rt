@@ -130,7 +130,10 @@ impl<I: Tokens, B: Bodies<I>> Productions<I, B> {
     {
         let end = expect(&mut self.input, Sign::RBracket)?;
         require_super(&mut self.input)?;
-        let span = Span::new(bracket.lo, end.hi);
+        let span = Span {
+            lo: bracket.lo,
+            hi: end.hi,
+        };
         let prop = SuperProp::Computed(ComputedPropName { span, expr });
         let obj = Super { span: start };
         let node = self.nodes.super_prop_expr(obj, prop, end.hi);
@@ -230,7 +233,10 @@ impl<I: Tokens, B: Bodies<I>> Productions<I, B> {
         self.found_module_item = true;
         match eat(&mut self.input, Sign::Meta)? {
             Some(end) => {
-                let span = Span::new(start.lo, end.hi);
+                let span = Span {
+                    lo: start.lo,
+                    hi: end.hi,
+                };
                 check_import_meta(&mut self.input, span)?;
                 return Ok(ImportHead::Meta(span));
             }
@@ -238,7 +244,10 @@ impl<I: Tokens, B: Bodies<I>> Productions<I, B> {
         }
         match eat(&mut self.input, Sign::Source)? {
             Some(end) => {
-                let span = Span::new(start.lo, end.hi);
+                let span = Span {
+                    lo: start.lo,
+                    hi: end.hi,
+                };
                 let phase = ImportPhase::Source;
                 import_callee(&mut self.input, Import { span, phase }, no_call)
             }
@@ -405,7 +414,7 @@ fn check_import_meta<I: Tokens>(input: &mut Buffer<I>, span: Span) -> PResult<()
     if ctx.can_be_module {
         return Ok(());
     }
-    emit_err(input, span, SyntaxError::ImportMetaInScript)
+    emit_err(input, span.in_order(), SyntaxError::ImportMetaInScript)
 }
 
 /// Refuses a call of `import`: a parenthesis as `InvalidImport`, and another token where one is expected.

@@ -4,11 +4,12 @@ ghost use Rattle.swc_context.specs.declared.error.SyntaxError.TheVariants.{OutOf
 ghost use Rattle.swc_input.specs.Buffer.{current, context, last_position, to_come};
 ghost use Rattle.swc_input.specs.Recording.{no_memory};
 ghost use Rattle.swc_ast.specs.Targets.{is_target};
+ghost use Rattle.swc_ast.specs.Trees as trees;
+ghost use Rattle.swc_ast.specs.Trees.{left_ok};
 ghost use Rattle.swc_input.specs.Kinds.{at_token};
-ghost use Rattle.swc_grammar.specs.Trees as trees;
 ghost use Rattle.swc_grammar.specs.Symbols.{Level, Unary};
 ghost use Rattle.swc_grammar.specs.Tokens.{is_await as is_await_word, await_ok, await_ident_ok, ends_operand};
-ghost use Rattle.swc_grammar.specs.Clean.{sym, updates, climb, run, operator_at, prefix_at, no_error, left_ok};
+ghost use Rattle.swc_grammar.specs.Clean.{sym, updates, climb, run, operator_at, prefix_at, no_error};
 ghost use Rattle.swc_grammar.specs.Clean.{ends_await_at};
 ghost use Rattle.swc_nodes.specs.Slots.{expr_part};
 ghost use Rattle.swc_nodes.specs.Stands.{count, first_at, From};
@@ -48,10 +49,11 @@ impl<I: Tokens, B: Bodies<I>> Productions<I, B> {
         ensures { Produces I.model B.is_faithful itself tree_of (run B.forms (sym (Level 1)))
             (count self.old.nodes) self.old result self.new }
     {
+        let first = cur_pos(&mut self.input)?;
         match self.parse_unary_expr() {
             Ok(left) => self.parse_bin_op_recursively(left, 0),
             Err(error) => {
-                let (left, op) = self.recover_left(error)?;
+                let (left, op) = self.recover_left(error, first)?;
                 let (node, _) = self.parse_bin_op(left, op, 0)?;
                 check_nullish_left::<I, B>(&mut self.input, &self.nodes, node)?;
                 self.parse_bin_op_recursively(node, 0)
@@ -59,9 +61,9 @@ impl<I: Tokens, B: Bodies<I>> Productions<I, B> {
         }
     }
 
-    /// Records, before an operator, that its left operand was refused: a node of `Invalid` stands
-    /// in for it. Elsewhere the refusal stands, and so does want of memory.
-    fn recover_left(&mut self, error: Error) -> PResult<(ExprId, BinaryOp)>
+    /// Records, before an operator, that its left operand, which begins at `first`, was refused: a node of `Invalid`
+    /// stands in for it. Elsewhere the refusal stands, and so does want of memory.
+    fn recover_left(&mut self, error: Error, first: BytePos) -> PResult<(ExprId, BinaryOp)>
         requires { error.kind ≢ ParserFailed }
         ensures recovers { Recovers I.model operand_of (Acts I.model) error.kind self.old result self.new }
         ensures operator { OnOk result (IsSome (current self.new.input)) }
@@ -70,15 +72,15 @@ impl<I: Tokens, B: Bodies<I>> Productions<I, B> {
             return Err(error);
         }
         match look_for_operator(&mut self.input) {
-            Ok(Some(op)) => self.stand_in(place_of(error), op),
+            Ok(Some(op)) => self.stand_in(place_of(error), first, op),
             Ok(None) => Err(error),
             Err(memory) => Err(instead(error, memory)),
         }
     }
 
-    /// Records that the operator, which is current, has no left operand: a node of `Invalid` at the
-    /// place stands in for it.
-    fn stand_in(&mut self, at: Span, op: BinaryOp) -> PResult<(ExprId, BinaryOp)>
+    /// Records that the operator, which is current, has no left operand: a node of `Invalid` at the place stands in for
+    /// what begins at `first`. No node ends with a left operand, so its `last` is `first` too.
+    fn stand_in(&mut self, at: Span, first: BytePos, op: BinaryOp) -> PResult<(ExprId, BinaryOp)>
         requires known { IsSome (current self.old.input) }
         requires fit { at_token no_error (seen self.old.input) ≡ true }
         ensures recovers { Recovers I.model operand_of (Tries I.model) TS1109 self.old result self.new }
@@ -86,7 +88,7 @@ impl<I: Tokens, B: Bodies<I>> Productions<I, B> {
     {
         let operator = self.cur_span();
         emit_err(&mut self.input, operator, SyntaxError::TS1109)?;
-        let node = self.nodes.invalid(at);
+        let node = self.nodes.invalid(at, first, first);
         let left = self.made(node)?;
         Ok((left, op))
     }
@@ -198,7 +200,7 @@ impl<I: Tokens, B: Bodies<I>> Productions<I, B> {
         if is_await(&self.input) {
             return self.parse_await_expr();
         }
-        let expr = self.parse_lhs_expr(false)?;
+        let expr = self.parse_lhs_expr()?;
         self.parse_update_postfix(expr)
     }
 
@@ -309,7 +311,7 @@ impl<I: Tokens, B: Bodies<I>> Productions<I, B> {
     }
 
     /// A prefix operator at `start`, the operand of which, at `at`, was refused. That is recorded, unless it is want of
-    /// memory, and a node of `Invalid` at one position stands in its place.
+    /// memory, and a node of `Invalid` stands in its place: what ends with it ends where the operator does.
     fn unary_expr_without_operand(
         &mut self,
         start: Span,
@@ -320,18 +322,19 @@ impl<I: Tokens, B: Bodies<I>> Productions<I, B> {
         requires { error.kind ≢ ParserFailed }
         ensures { Recovers I.model itself (Tries I.model) error.kind self.old result self.new }
     {
-        let arg = self.recover(error, BytePos(at.0.saturating_sub(1)))?;
+        let arg = self.recover(error, at, start.hi)?;
         self.unary_expr(start, op, arg)
     }
 
-    /// Records a refusal, unless it is want of memory: a node of `Invalid` at the position stands
-    /// in for what was refused.
-    fn recover(&mut self, error: Error, at: BytePos) -> PResult<ExprId>
+    /// Records a refusal, unless it is want of memory: a node of `Invalid`, at the position before `first`, stands in for
+    /// the operand that begins there. The token before it ends at `last`.
+    fn recover(&mut self, error: Error, first: BytePos, last: BytePos) -> PResult<ExprId>
         requires { error.kind ≢ ParserFailed }
         ensures { Recovers I.model itself (Tries I.model) error.kind self.old result self.new }
     {
         emit_error(&mut self.input, error)?;
-        let node = self.nodes.invalid(Span::new(at, at));
+        let at = BytePos(first.0.saturating_sub(1));
+        let node = self.nodes.invalid(Span { lo: at, hi: at }, first, last);
         self.made(node)
     }
 }

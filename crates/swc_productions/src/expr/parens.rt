@@ -1,10 +1,10 @@
 // What can't stand in parentheses by itself (ECMA-262, 13.2.9), of a list as arguments have it.
 ghost use Rattle.std.specs.Prelude.{length, ◌≡◌, ◌≢◌, ◌≤◌, true, false, not, OnOk, IfErr};
 ghost use Rattle.swc_ast.specs.Parts.{item_trees};
+ghost use Rattle.swc_ast.specs.Trees.{no_cover_in, no_covers, no_spread, paren_ok};
 ghost use Rattle.swc_context.specs.declared.error.SyntaxError.TheVariants.{OutOfMemory};
 ghost use Rattle.swc_input.specs.Recording.{is_some};
 ghost use Rattle.swc_input.specs.Buffer.{to_come};
-ghost use Rattle.swc_grammar.specs.Trees.{no_cover_in, no_covers, no_spread, paren_ok};
 ghost use Rattle.swc_nodes.specs.Lists.{is_cover_prop, has_cover};
 ghost use Rattle.swc_nodes.specs.Slots.{expr_part, args_parts};
 ghost use Rattle.swc_nodes.specs.Stands.{Apart, From};
@@ -127,7 +127,11 @@ fn check_prop<I: Tokens, K>(input: &mut Buffer<I>, prop: &PropNode<K>) -> PResul
     ensures falls { OnOk result (to_come I.model input.new ≤ to_come I.model input.old) }
 {
     match prop {
-        PropNode::Assign(cover) => emit_err(input, cover.span, SyntaxError::AssignProperty),
+        PropNode::Assign(cover) => emit_err(
+            input,
+            cover.span.in_order(),
+            SyntaxError::AssignProperty,
+        ),
         _ => Ok(()),
     }
 }

@@ -37,7 +37,10 @@ impl<I: Tokens, B: Bodies<I>> Productions<I, B> {
     {
         let start = expect(&mut self.input, Sign::BackQuote)?;
         let parts = self.parse_tpl_elements(is_tagged)?;
-        let span = Span::new(start.lo, parts.end.hi);
+        let span = Span {
+            lo: start.lo,
+            hi: parts.end.hi,
+        };
         Ok(Tpl {
             span,
             exprs: parts.exprs,

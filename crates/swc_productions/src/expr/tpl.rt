@@ -5,9 +5,9 @@ ghost use Rattle.swc_input.specs.Buffer.{current, to_come};
 ghost use Rattle.swc_input.specs.Kinds.{at_token};
 ghost use Rattle.swc_input.specs.Recording.{counted};
 ghost use Rattle.swc_input.specs.declared.token.Token.TheVariants as tok;
+ghost use Rattle.swc_ast.specs.Trees.{is_chain};
 ghost use Rattle.swc_grammar.specs.Parts.{cooked_of};
 ghost use Rattle.swc_grammar.specs.Symbols.{Template, Parts};
-ghost use Rattle.swc_grammar.specs.Trees.{is_chain};
 ghost use Rattle.swc_grammar.specs.Clean.{sym, run};
 ghost use Rattle.swc_nodes.specs.Lists.{exprs_parts};
 ghost use Rattle.swc_nodes.specs.Slots.{expr_part, one_expr};
@@ -16,11 +16,12 @@ ghost use Rattle.swc_productions.specs.Parsing.{seen, ParsesAlone, Produces, Goe
 ghost use Rattle.swc_productions.specs.Templates.{is_template, tpl_element, tpl_end, tagged_node};
 ghost use Rattle.swc_productions.specs.Templates.{quasi_in, tpl_parts_of, tpl_parts_at};
 
-use crate::moves::{Sign, bump, eat, emit_err, expect, look, unexpected};
+use crate::moves::{Sign, bump, eat, emit_err, expect, look, set_ctx, unexpected};
 use crate::productions::Productions;
 use swc_ast::expr::TplElement;
 use swc_bodies::bodies::Bodies;
 use swc_context::atom::Atom;
+use swc_context::context::Context;
 use swc_context::error::{Error, PResult, SyntaxError, Wanted};
 use swc_context::span::{BytePos, Span};
 use swc_input::buffer::Buffer;
@@ -75,9 +76,29 @@ impl<I: Tokens, B: Bodies<I>> Productions<I, B> {
     }
 
     /// The texts of a template, behind its backquote, between each two of them an expression in which `in` counts as an
-    /// operator, in braces, and the backquote that closes the template.
+    /// operator, in braces, and the backquote that closes the template. No colon of a conditional is expected in it. The
+    /// context is that from before, also after a refusal.
     #[cycle(productions)]
     pub(crate) fn parse_tpl_elements(&mut self, is_tagged: bool) -> PResult<TplParts>
+        ensures { Produces I.model B.is_faithful tpl_parts_of tpl_parts_at (run B.forms (sym (Parts is_tagged)))
+            (count self.old.nodes) self.old result self.new }
+    {
+        let ctx = self.get_ctx();
+        set_ctx(
+            &mut self.input,
+            Context {
+                will_expect_colon_for_cond: false,
+                ..ctx
+            },
+        );
+        let parts = self.parse_tpl_parts(is_tagged);
+        set_ctx(&mut self.input, ctx);
+        parts
+    }
+
+    /// The same, in whatever context.
+    #[cycle(productions)]
+    fn parse_tpl_parts(&mut self, is_tagged: bool) -> PResult<TplParts>
         ensures { Produces I.model B.is_faithful tpl_parts_of tpl_parts_at (run B.forms (sym (Parts is_tagged)))
             (count self.old.nodes) self.old result self.new }
     {
@@ -185,6 +206,6 @@ fn check_tag<I: Tokens, B: Bodies<I>>(
     if !nodes.is_opt_chain(tag) {
         return Ok(());
     }
-    let span = Span::new(nodes.span(tag).lo, end);
+    let span = Span::new(nodes.extent(tag).lo, end);
     emit_err(input, span, SyntaxError::TaggedTplInOptChain)
 }

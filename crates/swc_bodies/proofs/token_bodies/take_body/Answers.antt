@@ -1,8 +1,8 @@
-use Rattle.std.proofs.Common.{sym, ◌∙◌, map}
+use Rattle.std.proofs.Common.{sym, ap, ◌∙◌, map}
 use Rattle.std.proofs.lemmas.Result.{err_from_is_err_and}
 use Rattle.swc_input.specs.Plain.{plain}
-use Rattle.swc_bodies.specs.Taking.{taken}
-use Rattle.swc_bodies.proofs.Steps.{stepped, stopped-hooked, stopped-faithful, unkept-hooked, done-hooked, done-faithful, ended, body-is}
+use Rattle.swc_bodies.specs.Taking.{taken, body}
+use Rattle.swc_bodies.proofs.Steps.{stepped, stopped-hooked, stopped-faithful, unkept-hooked, done-hooked, done-faithful, ended}
 use Rattle.swc_bodies.proofs.token_bodies.take_body.Goals as goal
 
 pub returns-in_err-place-clause-hooked : goal.returns-in_err-place-clause-hooked
@@ -32,12 +32,12 @@ returns-in_err-keep_current-2-clause-hooked g c = λ begins so.
 pub returns-clause-hooked : goal.returns-clause-hooked
 returns-clause-hooked g c = λ begins so.
     done-hooked g.met.I.Tokens.laws c.args.input.now c.args.first c.cur_span.result.lo c.loop-place.input c.loop-place.place c.loop-place.kept.items _ begins so
-    (ended c.loop-place.place (sym c.is_end.ensures ∙ c.loop-place-test.false)) (rw c.last_pos.ensures at (body-is c.new.result c.cur_span.result.lo c.last_pos.result (map plain c.loop-place.kept.items) c.new.ensures.lo c.new.ensures.hi)) c.loop-place.invariant
+    (ended c.loop-place.place (sym c.is_end.ensures ∙ c.loop-place-test.false)) (ap (body c.cur_span.result.lo (map plain c.loop-place.kept.items)) c.last_pos.ensures) c.loop-place.invariant
 
 pub returns-clause-faithful : goal.returns-clause-faithful
 returns-clause-faithful g c = λ begins so.
     done-faithful g.met.I.Tokens.laws c.args.input.now c.args.first c.cur_span.result.lo c.loop-place.input c.loop-place.place c.loop-place.kept.items _ begins so
-    (ended c.loop-place.place (sym c.is_end.ensures ∙ c.loop-place-test.false)) (rw c.last_pos.ensures at (body-is c.new.result c.cur_span.result.lo c.last_pos.result (map plain c.loop-place.kept.items) c.new.ensures.lo c.new.ensures.hi)) c.loop-place.invariant
+    (ended c.loop-place.place (sym c.is_end.ensures ∙ c.loop-place-test.false)) (ap (body c.cur_span.result.lo (map plain c.loop-place.kept.items)) c.last_pos.ensures) c.loop-place.invariant
 
 pub returns-in_err-place-clause-refused : goal.returns-in_err-place-clause-refused
 returns-in_err-place-clause-refused g c =

@@ -1,6 +1,5 @@
 use Rattle.std.proofs.Common.{refl}
 use Rattle.std.proofs.lemmas.Result.{err_from_is_err_and}
-use Rattle.swc_context.proofs.Spans.{span_is}
 use Rattle.swc_ident.specs.Naming.{no_name}
 use Rattle.swc_ident.proofs.Reading.{end_seen, looked_then}
 use Rattle.swc_ident.proofs.Privacy.{apart_from, joins_hash, private_forgone, private_reads, unprivate_reads}
@@ -23,7 +22,7 @@ pub returns-then-cur_pos-hash-clause-private : goal.returns-then-cur_pos-hash-cl
 returns-then-cur_pos-hash-clause-private g c =
     let looked = looked_then g.met.I.Tokens.laws c.in_ok-has_cur.ensures.seen.looked c.cur_pos.ensures.looked in
     apart_from _ c.cur_pos.result c.new-at.result refl c.in_ok-hash.ensures looked c.cur_pos.ensures.value c.if-cur_pos-hash.true
-    (span_is c.new-at.result c.in_ok-hash.hash.lo c.in_ok-hash.hash.hi c.new-at.ensures.lo c.new-at.ensures.hi) c.syntax_error.ensures
+    c.new-at.ensures c.syntax_error.ensures
 
 pub returns-then-cur_pos-hash-clause-read : goal.returns-then-cur_pos-hash-clause-read
 returns-then-cur_pos-hash-clause-read g c = unprivate_reads g.met.I.Tokens.laws (returns-then-cur_pos-hash-clause-private g c)
@@ -51,7 +50,7 @@ returns-clause-private g c = record {
   joined = joins_hash c.cur_pos.new.self c.in_ok-hash.hash c.cur_pos.result c.cur_pos.ensures.value c.if-cur_pos-hash.false;
   word = c.in_ok-name.name.span;
   name = c.in_ok-name.ensures.names;
-  place = span_is c.new.result c.in_ok-hash.hash.lo c.in_ok-name.name.span.hi c.new.ensures.lo c.new.ensures.hi;
+  place = refl;
 }
 
 pub returns-clause-read : goal.returns-clause-read

@@ -1,6 +1,7 @@
 use Rattle.std.proofs.Common.{◌≡◌, ◌++◌, take}
 use Rattle.swc_nodes.specs.Slots.{flat}
-use Rattle.swc_print.specs.Numbers.{numbers, ats}
+use Rattle.swc_nodes.specs.Weights.{ats}
+use Rattle.swc_print.specs.Numbers.{numbers}
 use Rattle.swc_print.proofs.items.put_list.Given as goal
 
 abbrev pub invariant-loop-i : goal.invariant-loop-i

@@ -1,6 +1,6 @@
 use Rattle.std.proofs.Common.{◌≡◌, []}
 use Rattle.swc_print.specs.Numbers.{numbers}
-use Rattle.swc_print.specs.Weights.{left_over, AreNumbers}
+use Rattle.swc_nodes.specs.Weights.{left_over, AreNumbers}
 use Rattle.swc_print.proofs.print.print_node.Given as goal
 
 abbrev pub invariant-loop-pieces : goal.invariant-loop-pieces

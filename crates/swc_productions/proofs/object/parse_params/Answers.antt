@@ -1,5 +1,6 @@
 use Rattle.std.proofs.Common.{true, refl, sym, ap, ◌∙◌}
 use Rattle.std.specs.Option.{is_some}
+use Rattle.swc_context.specs.Contexts.{view as deciding}
 use Rattle.swc_grammar.specs.Tokens.{method_params}
 use Rattle.swc_productions.specs.Keys.{parens}
 use Rattle.swc_productions.proofs.Keys.{params_parens, parses_context}
@@ -18,6 +19,6 @@ returns g c = λ sure.
     s.parses_within g.I.Tokens.model sure (λ v. v) _ (parens (is_some c.args.setter)) c.parse_parens-start.result
     (method_params c.args.is_async c.args.is_generator) (λ x. refl)
     (λ x ts. params_parens (is_some c.args.setter) c.args.is_async c.args.is_generator x ts) c.set_ctx.ensures.moves
-    (c.set_ctx.ensures.context ∙ c.method_params.ensures
-    ∙ ap (method_params c.args.is_async c.args.is_generator) c.get_ctx-ctx.ensures)
+    (ap deciding (c.set_ctx.ensures.context ∙ c.method_params.ensures)
+    ∙ ap (λ x. deciding (method_params c.args.is_async c.args.is_generator x)) c.get_ctx-ctx.ensures)
     (c.parse_parens-start.ensures sure) c.set_ctx-2.ensures.moves (c.set_ctx-2.ensures.context ∙ c.get_ctx-ctx.ensures)

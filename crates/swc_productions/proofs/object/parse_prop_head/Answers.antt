@@ -1,6 +1,6 @@
 use Rattle.std.proofs.Common.{Some, refl, ◌∙◌}
 use Rattle.std.proofs.lemmas.Result.{err_from_is_err_and}
-use Rattle.swc_grammar.specs.Trees.{short_e}
+use Rattle.swc_ast.specs.Trees.{short_e}
 use Rattle.swc_productions.specs.Methods.{method_tail}
 use Rattle.swc_productions.specs.Properties.{cover_tail, spread_prop_tail}
 use Rattle.swc_productions.proofs.Begins.{begins_faulty}

@@ -29,7 +29,7 @@ returns-in-Ident g c =
 
 pub returns-in-Invalid : goal.returns-in-Invalid
 returns-in-Invalid g c =
-    made-is _ c.in-Invalid.is (made-none (λ at. invalid_tree _ _ _ g.F.Spanned.place g.C.Spanned.place g.K.Spanned.place c.in-Invalid.i))
+    made-is _ c.in-Invalid.is (made-none (λ at. invalid_tree _ _ _ g.F.Spanned.place g.C.Spanned.place g.K.Spanned.place (record { span = c.in-Invalid.i.span })))
 
 pub returns-in-Str : goal.returns-in-Str
 returns-in-Str g c =

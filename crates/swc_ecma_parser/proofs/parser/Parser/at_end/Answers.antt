@@ -1,6 +1,7 @@
 use Rattle.std.proofs.Common.{refl, ◌∙◌}
 use Rattle.std.proofs.lemmas.Result.{err_from_is_err_and}
 use Rattle.swc_ecma_parser.proofs.Calling.{called, called-again}
+use Rattle.swc_ecma_parser.proofs.Ending.{sees_end}
 use Rattle.swc_ecma_parser.proofs.parser.Parser.at_end.Goals as goal
 
 pub returns-in_err-begin : goal.returns-in_err-begin
@@ -10,5 +11,5 @@ pub returns : goal.returns
 returns g c =
     let done = c.finish.ensures in
     let answered = c.is_end-answer.ensures in
-    called c.is_end-answer.result c.finish.result c.in_ok-begin.ensures.runs refl done.answer done.buffer (done.nodes ∙ answered.nodes) done.fails
-    (record { looks = answered.looks; end = answered.end; token = answered.token })
+    called c.is_end-answer.result c.finish.result c.in_ok-begin.ensures.runs refl done.answer done.buffer (done.nodes ∙ answered.nodes) done.commas done.fails
+    (sees_end g.met.I.Tokens.laws c.is_end-answer.result answered.looks answered.end answered.token answered.refused)

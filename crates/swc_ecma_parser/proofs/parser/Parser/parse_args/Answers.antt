@@ -3,12 +3,14 @@ use Rattle.std.proofs.lemmas.Result.{err_from_is_err_and}
 use Rattle.swc_grammar.specs.Symbols.{Arguments}
 use Rattle.swc_grammar.specs.Clean.{sym as at, run}
 use Rattle.swc_ast.specs.Parts.{args_tree}
-use Rattle.swc_nodes.specs.Stands.{bare_at}
+use Rattle.swc_nodes.specs.Stands.{tree_at, bare_at}
 use Rattle.swc_productions.specs.Parsing.{args_at}
-use Rattle.swc_ecma_parser.specs.Calls.{nodes_of, tree_by}
+use Rattle.swc_nodes.specs.Slots.{args_parts}
+use Rattle.swc_nodes.proofs.Remembered.{args-commas}
+use Rattle.swc_ecma_parser.specs.Calls.{nodes_of, commas_of, tree_by}
 use Rattle.swc_ecma_parser.specs.Promise.{only_items}
 use Rattle.swc_ecma_parser.proofs.Calling.{promised, promised-again}
-use Rattle.swc_ecma_parser.proofs.Moving.{moved-by, args-bare, cut-back}
+use Rattle.swc_ecma_parser.proofs.Moving.{moved-by, args-bare, cut-back, recalled}
 use Rattle.swc_ecma_parser.proofs.Top.{args-stops, leaves-items, meets-as}
 use Rattle.swc_ecma_parser.proofs.parser.Parser.parse_args.Goals as goal
 
@@ -23,10 +25,12 @@ returns g c =
     let read = c.parse_arguments-answer.ensures in
     let ns = c.parse_arguments-answer.new.self.nodes in
     record {
-      promised = promised c.parse_arguments-answer.new.self.input (nodes_of c.move_out-answer.new.self) c.move_out-answer.result c.finish.result c.in_ok-begin.ensures.runs moved.runs
-          done.answer (done.buffer ∙ moved.buffer) done.nodes done.fails
+      promised = promised c.parse_arguments-answer.new.self.input (nodes_of c.move_out-answer.new.self) (commas_of c.move_out-answer.new.self) c.move_out-answer.result c.finish.result c.in_ok-begin.ensures.runs moved.runs
+          done.answer (done.buffer ∙ moved.buffer) done.nodes done.commas done.fails
           (meets-as g.I.Tokens.model g.B.Bodies.is_faithful g.B.BodyForms.forms g.met.B.Bodies.lawful (args_tree boxed) leaves-items args-stops _ c.move_out-answer.result _
           (moved-by g.I.Tokens.model g.B.Bodies.is_faithful (run g.B.BodyForms.forms (at (Arguments c.args.is_dynamic_import))) ns args_at (λ l. args_tree (λ e. bare_at ns e.0) l.items) (args_tree boxed) only_items _ _ c.parse_arguments-answer.result c.move_out-answer.result read.reads
           (args-bare ns) moved.moved))
+          (recalled g.I.Tokens.model g.B.Bodies.is_faithful g.B.BodyForms.forms g.met.B.Bodies.lawful (Arguments c.args.is_dynamic_import) only_items ns (args_at ns) (λ l. args_tree (λ e. bare_at ns e.0) l.items) (args_tree boxed) (λ l. args_parts l.items)
+          _ _ c.parse_arguments-answer.result c.move_out-answer.result _ _ read.reads (args-bare ns) (λ l. args-commas (tree_at ns) l.items) (moved.moved) (moved.commas))
           (cut-back (nodes_of c.move_out-answer.new.self) read.grows (rw (sym c.len-start.ensures) moved.nodes));
     }

@@ -3,10 +3,13 @@ use Rattle.std.proofs.lemmas.Result.{err_from_is_err_and}
 use Rattle.swc_grammar.specs.Symbols.{Arguments}
 use Rattle.swc_grammar.specs.Clean.{sym as at, run}
 use Rattle.swc_productions.specs.Parsing.{args_at}
-use Rattle.swc_ecma_parser.specs.Calls.{nodes_of}
+use Rattle.swc_nodes.specs.Slots.{args_parts}
+use Rattle.swc_nodes.specs.Stands.{tree_at}
+use Rattle.swc_nodes.proofs.Remembered.{args-commas}
+use Rattle.swc_ecma_parser.specs.Calls.{nodes_of, commas_of}
 use Rattle.swc_ecma_parser.specs.Promise.{items_and_comma, list_tree}
 use Rattle.swc_ecma_parser.proofs.Calling.{promised, promised-again}
-use Rattle.swc_ecma_parser.proofs.Moving.{moved-by, moved-list, bare_list, list-bare, cut-back}
+use Rattle.swc_ecma_parser.proofs.Moving.{moved-by, moved-list, bare_list, list-bare, cut-back, recalled, recalled-list}
 use Rattle.swc_ecma_parser.proofs.Top.{args-stops, leaves-list, meets-as}
 use Rattle.swc_ecma_parser.proofs.parser.Parser.parse_args_or_pats.Goals as goal
 
@@ -21,10 +24,12 @@ returns g c =
     let read = c.parse_arguments-answer.ensures in
     let ns = c.parse_arguments-answer.new.self.nodes in
     record {
-      promised = promised c.parse_arguments-answer.new.self.input (nodes_of c.move_out-answer.new.self) c.with_comma-answer.result c.finish.result c.in_ok-begin.ensures.runs moved.runs
-          done.answer (done.buffer ∙ moved.buffer) done.nodes done.fails
+      promised = promised c.parse_arguments-answer.new.self.input (nodes_of c.move_out-answer.new.self) (commas_of c.move_out-answer.new.self) c.with_comma-answer.result c.finish.result c.in_ok-begin.ensures.runs moved.runs
+          done.answer (done.buffer ∙ moved.buffer) done.nodes done.commas done.fails
           (meets-as g.I.Tokens.model g.B.Bodies.is_faithful g.B.BodyForms.forms g.met.B.Bodies.lawful boxed leaves-list args-stops _ c.with_comma-answer.result _
           (moved-by g.I.Tokens.model g.B.Bodies.is_faithful (run g.B.BodyForms.forms (at (Arguments false))) ns args_at (bare_list ns) boxed items_and_comma _ _ c.parse_arguments-answer.result c.with_comma-answer.result read.reads
           (list-bare ns) (moved-list ns _ c.last_comma-comma.result c.parse_arguments-answer.result c.move_out-answer.result c.with_comma-answer.result c.last_comma-comma.ensures moved.moved c.with_comma-answer.ensures)))
+          (recalled g.I.Tokens.model g.B.Bodies.is_faithful g.B.BodyForms.forms g.met.B.Bodies.lawful (Arguments false) items_and_comma ns (args_at ns) (bare_list ns) (boxed) (λ l. args_parts l.items)
+          _ _ c.parse_arguments-answer.result c.with_comma-answer.result _ _ read.reads (list-bare ns) (λ l. args-commas (tree_at ns) l.items) (moved-list ns _ c.last_comma-comma.result c.parse_arguments-answer.result c.move_out-answer.result c.with_comma-answer.result c.last_comma-comma.ensures moved.moved c.with_comma-answer.ensures) (recalled-list ns _ _ c.last_comma-comma.result c.parse_arguments-answer.result c.move_out-answer.result c.with_comma-answer.result moved.commas c.with_comma-answer.ensures))
           (cut-back (nodes_of c.move_out-answer.new.self) read.grows (rw (sym c.len-start.ensures) moved.nodes));
     }

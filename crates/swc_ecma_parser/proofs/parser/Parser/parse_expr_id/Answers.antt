@@ -2,10 +2,11 @@ use Rattle.std.proofs.Common.{refl, sym, ◌∙◌}
 use Rattle.std.proofs.lemmas.Result.{err_from_is_err_and}
 use Rattle.swc_grammar.specs.Symbols.{Expr}
 use Rattle.swc_grammar.specs.Clean.{sym as at, run}
+use Rattle.swc_nodes.specs.Slots.{one_expr}
 use Rattle.swc_productions.specs.Parsing.{tree_of}
-use Rattle.swc_ecma_parser.specs.Calls.{nodes_of}
+use Rattle.swc_ecma_parser.specs.Calls.{nodes_of, commas_of}
 use Rattle.swc_ecma_parser.proofs.Calling.{promised, promised-again}
-use Rattle.swc_ecma_parser.proofs.Moving.{kept-leaves, kept-parses}
+use Rattle.swc_ecma_parser.proofs.Moving.{kept-leaves, kept-moved, kept-parses, recalled}
 use Rattle.swc_ecma_parser.proofs.Top.{expr-stops, meets-by-number}
 use Rattle.swc_ecma_parser.proofs.parser.Parser.parse_expr_id.Goals as goal
 
@@ -17,10 +18,15 @@ returns g c =
     let done = c.finish.ensures in
     let kept = c.keep-answer.ensures in
     let read = c.parse_expr-answer.ensures in
+    let ms = c.parse_expr-answer.new.self.nodes in
+    let ns = nodes_of c.keep-answer.new.self in
+    let answer = c.parse_expr-answer.result in
     record {
-      promised = promised c.parse_expr-answer.new.self.input (nodes_of c.keep-answer.new.self) c.parse_expr-answer.result c.finish.result c.in_ok-begin.ensures.runs kept.runs
-          (done.answer ∙ kept.answer) (done.buffer ∙ kept.buffer) done.nodes (rw (sym kept.answer) done.fails)
-          (meets-by-number g.I.Tokens.model g.B.Bodies.is_faithful g.B.BodyForms.forms g.met.B.Bodies.lawful (tree_of (nodes_of c.keep-answer.new.self)) expr-stops _ c.parse_expr-answer.result _
-          (kept-parses g.I.Tokens.model g.B.Bodies.is_faithful (run g.B.BodyForms.forms (at Expr)) c.parse_expr-answer.new.self.nodes _ c.len-start.result _ _ c.parse_expr-answer.result read.reads kept.nodes))
-          (kept-leaves _ c.parse_expr-answer.result read.grows read.from (rw (sym c.len-start.ensures) kept.nodes));
+      promised = promised c.parse_expr-answer.new.self.input ns (commas_of c.keep-answer.new.self) c.keep-answer.result c.finish.result c.in_ok-begin.ensures.runs kept.runs
+          done.answer (done.buffer ∙ kept.buffer) done.nodes done.commas done.fails
+          (meets-by-number g.I.Tokens.model g.B.Bodies.is_faithful g.B.BodyForms.forms g.met.B.Bodies.lawful (tree_of ns) expr-stops _ c.keep-answer.result _
+          (kept-parses g.I.Tokens.model g.B.Bodies.is_faithful (run g.B.BodyForms.forms (at Expr)) ms ns c.len-start.result _ _ answer c.keep-answer.result read.reads kept.answer kept.nodes))
+          (recalled g.I.Tokens.model g.B.Bodies.is_faithful g.B.BodyForms.forms g.met.B.Bodies.lawful Expr (λ t. t) ms (tree_of ms) (tree_of ms) (tree_of ns) one_expr
+          _ _ answer c.keep-answer.result _ _ read.reads (λ e. refl) (λ e. refl) (kept-moved ms ns _ c.len-start.result answer c.keep-answer.result kept.answer kept.nodes) kept.commas)
+          (kept-leaves ns _ answer c.keep-answer.result read.grows read.from kept.answer (rw (sym c.len-start.ensures) kept.nodes));
     }

@@ -1,6 +1,6 @@
 use Rattle.std.proofs.Common.{ap, ◌∙◌}
 use Rattle.std.proofs.lemmas.Result.{err_from_is_err_and}
-use Rattle.swc_ecma_parser.specs.Calls.{has_failed, nodes_of}
+use Rattle.swc_ecma_parser.specs.Calls.{has_failed, nodes_of, commas_of}
 use Rattle.swc_ecma_parser.proofs.Calling.{called, called-again}
 use Rattle.swc_ecma_parser.proofs.parser.Parser.parse_formal_params.Goals as goal
 
@@ -14,4 +14,4 @@ returns g c =
     let done = c.finish.ensures in
     let answered = c.parse_no_params-answer.ensures in
     called c.parse_no_params-answer.result c.finish.result c.in_ok-begin.ensures.runs (ap has_failed answered.rest) done.answer done.buffer
-    (done.nodes ∙ ap nodes_of answered.rest) done.fails answered.effect
+    (done.nodes ∙ ap nodes_of answered.rest) (done.commas ∙ ap commas_of answered.rest) done.fails answered.effect

@@ -18,7 +18,7 @@ pub returns : goal.returns
 returns g c =
     let done = c.finish.ensures in
     let answered = c.parse_ident_name-answer.ensures in
-    called c.parse_ident_name-answer.result c.finish.result c.in_ok-begin.ensures.runs refl done.answer done.buffer done.nodes done.fails
+    called c.parse_ident_name-answer.result c.finish.result c.in_ok-begin.ensures.runs refl done.answer done.buffer done.nodes done.commas done.fails
     (let parses = parses_name g.I.Tokens.model true name_of_any honest-name (λ n. n.sym) (λ n. n.span) _ _ c.parse_ident_name-answer.result g.met.I.Tokens.laws answered.names in record {
       names = answered.names;
       read = answered.read;

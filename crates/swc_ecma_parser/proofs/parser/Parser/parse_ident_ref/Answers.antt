@@ -18,7 +18,7 @@ pub returns : goal.returns
 returns g c =
     let done = c.finish.ensures in
     let answered = c.parse_ident_ref-answer.ensures in
-    called c.parse_ident_ref-answer.result c.finish.result c.in_ok-begin.ensures.runs refl done.answer done.buffer done.nodes done.fails
+    called c.parse_ident_ref-answer.result c.finish.result c.in_ok-begin.ensures.runs refl done.answer done.buffer done.nodes done.commas done.fails
     (let parses = parses_name g.I.Tokens.model true reference_verdict honest-reference (λ i. i.sym) (λ i. i.span) _ _ c.parse_ident_ref-answer.result g.met.I.Tokens.laws answered.names in record {
       names = answered.names;
       read = answered.read;

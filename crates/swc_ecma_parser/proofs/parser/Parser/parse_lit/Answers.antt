@@ -15,6 +15,6 @@ returns g c =
     let done = c.finish.ensures in
     let answered = c.parse_lit-answer.ensures in
     called c.parse_lit-answer.result c.finish.result c.in_ok-begin.ensures.runs refl done.answer done.buffer
-    (done.nodes ∙ answered.nodes) done.fails
+    (done.nodes ∙ answered.nodes) done.commas done.fails
     (literal-meets g.I.Tokens.model g.B.BodyForms.forms _ c.parse_lit-answer.result _
     (answered.parses true) answered.literal)

@@ -10,5 +10,5 @@ pub returns : goal.returns
 returns g c =
     let done = c.finish.ensures in
     let answered = c.parse_maybe_private_name-answer.ensures in
-    called c.parse_maybe_private_name-answer.result c.finish.result c.in_ok-begin.ensures.runs refl done.answer done.buffer done.nodes done.fails
+    called c.parse_maybe_private_name-answer.result c.finish.result c.in_ok-begin.ensures.runs refl done.answer done.buffer done.nodes done.commas done.fails
     (record { names = answered.either; read = answered.read })

@@ -18,7 +18,7 @@ pub returns : goal.returns
 returns g c =
     let done = c.finish.ensures in
     let answered = c.parse_private_name-answer.ensures in
-    called c.parse_private_name-answer.result c.finish.result c.in_ok-begin.ensures.runs refl done.answer done.buffer done.nodes done.fails
+    called c.parse_private_name-answer.result c.finish.result c.in_ok-begin.ensures.runs refl done.answer done.buffer done.nodes done.commas done.fails
     (let parses = parses_private g.I.Tokens.model true (λ p. p.name) (λ p. p.span) _ _ c.parse_private_name-answer.result g.met.I.Tokens.laws answered.private in record {
       names = answered.private;
       read = answered.read;

@@ -3,11 +3,14 @@ use Rattle.std.proofs.lemmas.Result.{err_from_is_err_and}
 use Rattle.swc_grammar.specs.Symbols.{Template}
 use Rattle.swc_grammar.specs.Clean.{sym as at, run}
 use Rattle.swc_ast.specs.Parts.{tpl_tree}
-use Rattle.swc_nodes.specs.Stands.{bare_at}
+use Rattle.swc_nodes.specs.Stands.{tree_at, bare_at}
 use Rattle.swc_productions.specs.Pieces.{tpl_at}
-use Rattle.swc_ecma_parser.specs.Calls.{nodes_of, tree_by}
+use Rattle.swc_ast.specs.Trees.{unmarked}
+use Rattle.swc_nodes.specs.Lists.{exprs_parts}
+use Rattle.swc_nodes.proofs.Remembered.{tpl-commas}
+use Rattle.swc_ecma_parser.specs.Calls.{nodes_of, commas_of, tree_by}
 use Rattle.swc_ecma_parser.proofs.Calling.{promised, promised-again}
-use Rattle.swc_ecma_parser.proofs.Moving.{moved-parses, tpl-bare, cut-back}
+use Rattle.swc_ecma_parser.proofs.Moving.{moved-parses, tpl-bare, cut-back, recalled}
 use Rattle.swc_ecma_parser.proofs.Top.{tpl-stops, meets-in-boxes}
 use Rattle.swc_ecma_parser.proofs.parser.Parser.parse_tpl.Goals as goal
 
@@ -22,10 +25,12 @@ returns g c =
     let read = c.parse_template-answer.ensures in
     let ns = c.parse_template-answer.new.self.nodes in
     record {
-      promised = promised c.parse_template-answer.new.self.input (nodes_of c.move_out-answer.new.self) c.move_out-answer.result c.finish.result c.in_ok-begin.ensures.runs moved.runs
-          done.answer (done.buffer ∙ moved.buffer) done.nodes done.fails
+      promised = promised c.parse_template-answer.new.self.input (nodes_of c.move_out-answer.new.self) (commas_of c.move_out-answer.new.self) c.move_out-answer.result c.finish.result c.in_ok-begin.ensures.runs moved.runs
+          done.answer (done.buffer ∙ moved.buffer) done.nodes done.commas done.fails
           (meets-in-boxes g.I.Tokens.model g.B.Bodies.is_faithful g.B.BodyForms.forms g.met.B.Bodies.lawful (tpl_tree boxed) tpl-stops _ c.move_out-answer.result _
           (moved-parses g.I.Tokens.model g.B.Bodies.is_faithful (run g.B.BodyForms.forms (at (Template c.args.is_tagged))) ns tpl_at (tpl_tree (λ e. bare_at ns e.0)) (tpl_tree boxed) _ _ c.parse_template-answer.result c.move_out-answer.result read.reads
           (tpl-bare ns) moved.moved))
+          (recalled g.I.Tokens.model g.B.Bodies.is_faithful g.B.BodyForms.forms g.met.B.Bodies.lawful (Template c.args.is_tagged) unmarked ns (tpl_at ns) (tpl_tree (λ e. bare_at ns e.0)) (tpl_tree boxed) (λ t. exprs_parts t.exprs)
+          _ _ c.parse_template-answer.result c.move_out-answer.result _ _ read.reads (tpl-bare ns) (λ t. tpl-commas (tree_at ns) t) (moved.moved) (moved.commas))
           (cut-back (nodes_of c.move_out-answer.new.self) read.grows (rw (sym c.len-start.ensures) moved.nodes));
     }

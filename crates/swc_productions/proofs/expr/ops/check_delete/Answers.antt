@@ -1,7 +1,7 @@
 use Rattle.swc_input.specs.Buffer.{context}
+use Rattle.swc_ast.specs.Trees.{delete_ok}
 use Rattle.swc_productions.specs.Parsing.{tree_of}
 use Rattle.std.proofs.Common.{◌∙◌, sym}
-use Rattle.swc_grammar.specs.Trees.{delete_ok}
 use Rattle.swc_productions.proofs.Steps.{and_true, not_and, check_passes}
 use Rattle.swc_productions.proofs.expr.ops.check_delete.Goals as goal
 

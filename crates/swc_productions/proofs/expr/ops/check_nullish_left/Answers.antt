@@ -1,5 +1,5 @@
 use Rattle.std.proofs.Common.{◌∙◌, sym}
-use Rattle.swc_grammar.specs.Clean.{left_ok}
+use Rattle.swc_ast.specs.Trees.{left_ok}
 use Rattle.swc_productions.specs.Parsing.{tree_of}
 use Rattle.swc_productions.proofs.Steps.{check_passes, check_notes, not_true, not_false}
 use Rattle.swc_productions.proofs.expr.ops.check_nullish_left.Goals as goal

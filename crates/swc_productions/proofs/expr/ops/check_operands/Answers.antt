@@ -1,5 +1,5 @@
 use Rattle.std.proofs.Common.{◌∙◌, sym}
-use Rattle.swc_grammar.specs.Trees.{is_logical, nullish_ok}
+use Rattle.swc_ast.specs.Trees.{is_logical, nullish_ok}
 use Rattle.swc_productions.specs.Parsing.{tree_of}
 use Rattle.swc_productions.proofs.Steps.{check_passes, check_later}
 use Rattle.swc_productions.proofs.Rules.{nullish_other, nullish_both}

@@ -1,5 +1,5 @@
 use Rattle.std.proofs.Common.{not, ap, sym, ◌∙◌}
-use Rattle.swc_grammar.specs.Trees.{is_chain}
+use Rattle.swc_ast.specs.Trees.{is_chain}
 use Rattle.swc_productions.specs.Parsing.{tree_of}
 use Rattle.swc_productions.proofs.Steps.{check_passes}
 use Rattle.swc_productions.proofs.expr.tpl.check_tag.Goals as goal

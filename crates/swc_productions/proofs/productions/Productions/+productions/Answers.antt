@@ -1,38 +1,42 @@
 -- What the steps of each production, one after another, ensure.
-use Rattle.std.proofs.Common.{Ok, Err, map, length, length-append, ◌≤◌, [], ◌∷◌, ◌≡◌, ◌≢◌, ◌++◌, ◌&&◌, true, false, not, Some, None, refl, sym, ap, subst, ◌∙◌, arith}
+use Rattle.std.proofs.Common.{rules, Ok, Err, map, length, length-append, ◌≤◌, [], ◌∷◌, ◌≡◌, ◌≢◌, ◌++◌, ◌&&◌, ◌||◌, true, false, not, Some, None, refl, sym, ap, subst, ◌∙◌, arith}
 use Rattle.std.proofs.lemmas.Result.{err_from_is_err_and}
-use Rattle.swc_context.specs.Spans.{between}
+use Rattle.std.specs.Prelude.{slice_index_or}
+use Rattle.swc_context.specs.Contexts.{view as deciding}
+use Rattle.swc_context.specs.Spans.{from_to}
 use Rattle.swc_context.specs.declared.error.SyntaxError.TheVariants.{OutOfMemory}
 use Rattle.swc_input.specs.Plain.{plain}
 use Rattle.swc_input.specs.Kinds.{at_token, is_hash}
 use Rattle.swc_input.specs.Buffer.{context}
-use Rattle.swc_grammar.specs.Tokens.{include_in}
+use Rattle.swc_grammar.specs.Tokens.{include_in, with_in}
 use Rattle.swc_ast.specs.Tree.{nil, cons, node, trees, span_of}
 use Rattle.swc_ast.specs.Tree.{tpl as tpl_kind}
 use Rattle.swc_ast.specs.Parts.{item_of as item_tree_of, item_trees, quasi_tree}
-use Rattle.swc_grammar.specs.Trees.{trees_append}
 use Rattle.swc_nodes.specs.Lists.{elem_parts, elem_tree, elem_trees, props_parts, exprs_parts, expr_trees}
 use Rattle.swc_nodes.specs.Seats.{chain}
 use Rattle.swc_nodes.specs.Slots.{flat, if_some, item_parts, args_parts, prop_parts, key_parts, one_expr, expr_part}
-use Rattle.swc_nodes.specs.Stands.{count, seat_at, tree_at, first_at, Apart}
+use Rattle.swc_nodes.specs.Stands.{count, seat_at, tree_at, first_at, start_at, end_at, Apart}
+use Rattle.swc_nodes.proofs.Edges.{start-later}
 use Rattle.swc_nodes.proofs.Lists.{apart-none, apart-list-more, elems-more, props-more, exprs-more, exprs-apart-more}
 use Rattle.swc_nodes.proofs.Lists.{trees-both, trees-more, exprs-later, apart-later}
-use Rattle.swc_grammar.specs.Trees.{to, array_e, items_of, comma_of}
-use Rattle.swc_grammar.specs.Trees.{update_e, await_e, cond_e, assign_e, yield_e, hole_e, seq_of}
-use Rattle.swc_grammar.specs.Trees.{min_right, object_e, spread_prop_e, prop_of as prop_tree, value_e}
-use Rattle.swc_grammar.specs.Trees.{super_e, import_e}
-use Rattle.swc_grammar.specs.Trees.{parts_e, tpl_e}
-use Rattle.swc_grammar.specs.Symbols.{Expr, Assign, Level, Lhs, Args, Elements}
+use Rattle.swc_grammar.specs.Symbols.{Expr, Assign, Level, Unary, Lhs, Args, Elements, Key, Parts, Props}
 use Rattle.swc_grammar.specs.Tokens.{is_lparen, is_rparen, is_lbracket, is_rbracket, is_rbrace, is_comma, is_dots, is_this}
 use Rattle.swc_grammar.specs.Tokens.{is_colon, is_dot, is_new, is_backquote, begins_regex}
 use Rattle.swc_grammar.specs.Tokens.{is_super, is_import, is_question, is_star, is_await, is_yield, await_ok, yield_ok}
 use Rattle.swc_ast.specs.Targets.{is_target}
+use Rattle.swc_ast.specs.Trees.{trees_append, begins_in_invalid, cover_e, ident_e}
+use Rattle.swc_ast.specs.Trees.{to, array_e, items_of, comma_of}
+use Rattle.swc_ast.specs.Trees.{update_e, await_e, cond_e, assign_e, yield_e, hole_e, seq_of}
+use Rattle.swc_ast.specs.Trees.{min_right, object_e, spread_prop_e, prop_of as prop_tree, value_e}
+use Rattle.swc_ast.specs.Trees.{super_e, import_e}
+use Rattle.swc_ast.specs.Trees.{parts_e, tpl_e, left_ok}
 use Rattle.swc_input.specs.Recording.{is_some}
 use Rattle.swc_grammar.specs.Clean.{sym as at, run, first, links, updates, climb, assigns, seqs, is_lit, is_identifier}
-use Rattle.swc_grammar.specs.Clean.{prefix_at, no_error, left_ok, ends_await_at, goes_on_yield_at}
+use Rattle.swc_grammar.specs.Clean.{prefix_at, no_error, ends_await_at, goes_on_yield_at}
 use Rattle.swc_grammar.specs.Words.{◌>>=◌}
 use Rattle.swc_productions.specs.Parsing.{scope}
 use Rattle.swc_productions.specs.Assignments.{paren_of, paren_expr_tail, seqs_by, seqs_more, cond_tail, cond_colon, cond_close}
+use Rattle.swc_productions.specs.Assignments.{begun_if, seqs_from_by}
 use Rattle.swc_productions.specs.Assignments.{assign_at, assign_tail, yield_arg, yield_tail, yield_operand}
 use Rattle.swc_productions.specs.Updates.{update_at, update_node, update_tail, await_reads, await_tail, await_go}
 use Rattle.swc_productions.specs.Updates.{await_ident, await_operand}
@@ -42,11 +46,12 @@ use Rattle.swc_productions.specs.Bases.{super_by, super_left, super_close, calle
 use Rattle.swc_productions.specs.Keys.{key_by, key_close}
 use Rattle.swc_productions.specs.Links.{computed_close, call_node, args_behind, args_by, construct_by, construct_node}
 use Rattle.swc_productions.specs.Links.{construct_of, new_by, new_node, new_tail, link_tail, links_by, separated_args}
-use Rattle.swc_productions.specs.Templates.{tagged_node, template_tail, tpl_expr_close}
+use Rattle.swc_productions.specs.Templates.{tagged_node, template_tail, tpl_expr_close, tpl_parts_at}
 use Rattle.swc_productions.specs.Templates.{parts_behind, parts_by, parts_after}
-use Rattle.swc_productions.specs.Lists.{array_lit_tail, elements_inside, element_by, elements_behind, behind_by, separated}
+use Rattle.swc_productions.specs.Lists.{eaten, array_lit_tail, elements_inside, element_by, elements_behind, behind_by, separated}
 use Rattle.swc_productions.specs.Parsing.{seen, behind, tree_of, item_at, elems_at, seen_of, prop_at, ident_spelling, key_at}
-use Rattle.swc_productions.specs.Parsing.{args_at}
+use Rattle.swc_productions.specs.Parsing.{args_at, props_at}
+use Rattle.swc_productions.specs.Readers.{inside}
 use Rattle.swc_bodies.specs.Readings.{is_function, is_class, is_brace}
 use Rattle.swc_productions.specs.declared.object.PropHead.TheVariants as head
 use Rattle.swc_productions.specs.Properties.{object_lit_tail, props_behind, props_by, cover_node}
@@ -57,6 +62,7 @@ use Rattle.swc_productions.proofs.Building.{apart-down, apart-lower, apart_behin
 use Rattle.swc_productions.proofs.Assignments as assign
 use Rattle.swc_productions.proofs.Bases as base
 use Rattle.swc_productions.proofs.Begins as begins
+use Rattle.swc_productions.proofs.Endings as ending
 use Rattle.swc_productions.proofs.Keys as key
 use Rattle.swc_productions.proofs.Links as link
 use Rattle.swc_productions.proofs.Lists as list
@@ -156,7 +162,7 @@ parse_array_lit-returns-in_err-list g t c =
     let first = c.skip.ensures.took.1 in
     let elems = elems_at c.parse_elements-elems.new.self.nodes in
     let inside = s.parses_within g.I.Tokens.model g.B.Bodies.is_faithful elems (elements_inside g.B.BodyForms.forms) (run _ (at Elements)) c.parse_elements-elems.result include_in (λ x. refl) (λ x ts. list.inside_elements _ x ts)
-    c.set_ctx.ensures.moves (c.set_ctx.ensures.context ∙ ap include_in c.get_ctx-ctx.ensures) c.parse_elements-elems.ensures.reads c.set_ctx-2.ensures.moves
+    c.set_ctx.ensures.moves (ap deciding c.set_ctx.ensures.context ∙ ap (λ x. include_in (deciding x)) c.get_ctx-ctx.ensures) c.parse_elements-elems.ensures.reads c.set_ctx-2.ensures.moves
     (c.set_ctx-2.ensures.context ∙ c.get_ctx-ctx.ensures) in
     let p = err_from_is_err_and c.from_residual.result c.from_residual.ensures.1 in rw (p.1, p.2)
     (m.no (s.unheard_after (s.on_took {g = array_lit_tail _ (plain first.was).span} g.met.I.Tokens.laws first (λ x ts. list.array_lit_opens _ (plain first.was) x ts (rule.passes_plain is_lbracket _ _ first.current c.requires)))
@@ -168,15 +174,15 @@ parse_array_lit-returns g t c =
     let first = c.skip.ensures.took.1 in
     let elems = elems_at c.parse_elements-elems.new.self.nodes in
     let inside = s.parses_within g.I.Tokens.model g.B.Bodies.is_faithful elems (elements_inside g.B.BodyForms.forms) (run _ (at Elements)) c.parse_elements-elems.result include_in (λ x. refl) (λ x ts. list.inside_elements _ x ts)
-    c.set_ctx.ensures.moves (c.set_ctx.ensures.context ∙ ap include_in c.get_ctx-ctx.ensures) c.parse_elements-elems.ensures.reads c.set_ctx-2.ensures.moves
+    c.set_ctx.ensures.moves (ap deciding c.set_ctx.ensures.context ∙ ap (λ x. include_in (deciding x)) c.get_ctx-ctx.ensures) c.parse_elements-elems.ensures.reads c.set_ctx-2.ensures.moves
     (c.set_ctx-2.ensures.context ∙ c.get_ctx-ctx.ensures) in
     let read = s.parses_ok g.I.Tokens.model g.B.Bodies.is_faithful elems (elements_inside g.B.BodyForms.forms) _ _ c.parse_elements-elems.result c.in_ok-list.list c.in_ok-list.was inside in
     let items = elem_trees (tree_at c.parse_elements-elems.new.self.nodes) c.in_ok-list.list.items in
-    let whole : array_e c.in_ok-list.list.trailing_comma (to first.was.span c.in_ok-list.list.end) items ≡ array_e c.in_ok-list.list.trailing_comma (between c.cur_span.result.lo c.in_ok-list.list.end.hi) items =
-    ap (λ v. array_e c.in_ok-list.list.trailing_comma (between v c.in_ok-list.list.end.hi) items) (ap (λ v. v.lo) (sym (s.place_was first c.cur_span.result c.cur_span.ensures))) in
-    m.node _ c.array_lit-node.result c.made_literal.result (omega arith)
+    let whole : array_e c.in_ok-list.list.trailing_comma (to first.was.span c.in_ok-list.list.end) items ≡ array_e c.in_ok-list.list.trailing_comma (from_to c.cur_span.result.lo c.in_ok-list.list.end.hi) items =
+    ap (λ v. array_e c.in_ok-list.list.trailing_comma (from_to v c.in_ok-list.list.end.hi) items) (ap (λ v. v.lo) (sym (s.place_was first c.cur_span.result c.cur_span.ensures))) in
+    m.node _ c.array_lit-node.result c.made.result (omega arith)
     (made_over _ _ _ (elem_parts c.in_ok-list.list.items) _ c.array_lit-node.result c.array_lit-node.ensures.made (m.held_is _ c.parse_elements-elems.result c.in_ok-list.list c.in_ok-list.was c.parse_elements-elems.ensures.from))
-    c.made_literal.ensures.ok c.made_literal.ensures.refused c.parse_elements-elems.ensures.grows c.array_lit-node.ensures.grows
+    c.made.ensures.ok c.made.ensures.refused c.parse_elements-elems.ensures.grows c.array_lit-node.ensures.grows
     (s.heard_answer whole (s.heard_first g.met.I.Tokens.laws first (λ x ts. list.array_lit_opens _ (plain first.was) x ts (rule.passes_plain is_lbracket _ _ first.current c.requires))
     (s.on_call (λ x p. Some (array_e (comma_of p.0) (to (plain first.was).span (span_of p.0)) (items_of p.0), p.1)) (λ x ts. list.array_lit_splits _ (plain first.was).span x ts) read.on)))
 
@@ -302,23 +308,35 @@ parse_expr_or_spread-returns-in-Err g t c =
 pub parse_object_lit-returns-in_err-list : goal.parse_object_lit-returns-in_err-list
 parse_object_lit-returns-in_err-list g t c =
     let first = c.skip.ensures.took.1 in
+    let all = props_at c.parse_props-props.new.self.nodes in
+    let inside = s.parses_aside g.I.Tokens.model g.B.Bodies.is_faithful all (run _ (at Props)) c.parse_props-props.result
+    c.set_ctx.ensures.moves (ap deciding c.set_ctx.ensures.context ∙ ap deciding c.get_ctx-ctx.ensures) c.parse_props-props.ensures.reads c.set_ctx-2.ensures.moves
+    (c.set_ctx-2.ensures.context ∙ c.get_ctx-ctx.ensures) in
     let p = err_from_is_err_and c.from_residual.result c.from_residual.ensures.1 in rw (p.1, p.2)
     (m.no (s.unheard_after (s.on_took {g = object_lit_tail _ (plain first.was).span} g.met.I.Tokens.laws first (λ x ts. props.object_lit_opens _ (plain first.was) x ts (rule.passes_plain is_brace _ _ first.current c.requires)))
-    (s.unheard_call (λ x p. Some (object_e (comma_of p.0) (to (plain first.was).span (span_of p.0)) (items_of p.0), p.1)) (λ x ts. props.object_lit_splits _ (plain first.was).span x ts) c.in_err-list.ensures.reads)) c.parse_props.ensures.grows)
+    (s.unheard_call (λ x p. Some (object_e (comma_of p.0) (to (plain first.was).span (span_of p.0)) (items_of p.0), p.1)) (λ x ts. props.object_lit_splits _ (plain first.was).span x ts)
+    (s.parses_err g.I.Tokens.model g.B.Bodies.is_faithful all (run _ (at Props)) _ _ c.parse_props-props.result _ c.in_err-list.was inside))) c.parse_props-props.ensures.grows)
 
 pub parse_object_lit-returns : goal.parse_object_lit-returns
 parse_object_lit-returns g t c =
     let first = c.skip.ensures.took.1 in
-    let items = trees (map (prop_at c.parse_props.new.self.nodes) c.in_ok-list.list.items.items) in
-    let whole : object_e c.in_ok-list.list.trailing_comma (to first.was.span c.in_ok-list.list.end) items ≡ object_e c.in_ok-list.list.trailing_comma (between c.cur_span.result.lo c.in_ok-list.list.end.hi) items =
-    ap (λ v. object_e c.in_ok-list.list.trailing_comma (between v c.in_ok-list.list.end.hi) items) (ap (λ v. v.lo) (sym (s.place_was first c.cur_span.result c.cur_span.ensures))) in
-    m.node _ c.object_lit-node.result c.made_literal.result (omega arith)
-    (made_over _ _ _ (props_parts c.in_ok-list.list.items) _ c.object_lit-node.result c.object_lit-node.ensures.made c.in_ok-list.ensures.from) c.made_literal.ensures.ok c.made_literal.ensures.refused c.parse_props.ensures.grows c.object_lit-node.ensures.grows
+    let all = props_at c.parse_props-props.new.self.nodes in
+    let inside = s.parses_aside g.I.Tokens.model g.B.Bodies.is_faithful all (run _ (at Props)) c.parse_props-props.result
+    c.set_ctx.ensures.moves (ap deciding c.set_ctx.ensures.context ∙ ap deciding c.get_ctx-ctx.ensures) c.parse_props-props.ensures.reads c.set_ctx-2.ensures.moves
+    (c.set_ctx-2.ensures.context ∙ c.get_ctx-ctx.ensures) in
+    let read = s.parses_ok g.I.Tokens.model g.B.Bodies.is_faithful all (run _ (at Props)) _ _ c.parse_props-props.result c.in_ok-list.list c.in_ok-list.was inside in
+    let items = trees (map (prop_at c.parse_props-props.new.self.nodes) c.in_ok-list.list.items.items) in
+    let whole : object_e c.in_ok-list.list.trailing_comma (to first.was.span c.in_ok-list.list.end) items ≡ object_e c.in_ok-list.list.trailing_comma (from_to c.cur_span.result.lo c.in_ok-list.list.end.hi) items =
+    ap (λ v. object_e c.in_ok-list.list.trailing_comma (from_to v c.in_ok-list.list.end.hi) items) (ap (λ v. v.lo) (sym (s.place_was first c.cur_span.result c.cur_span.ensures))) in
+    m.node _ c.object_lit-node.result c.made.result (omega arith)
+    (made_over _ _ _ (props_parts c.in_ok-list.list.items) _ c.object_lit-node.result c.object_lit-node.ensures.made (m.held_is _ c.parse_props-props.result c.in_ok-list.list c.in_ok-list.was c.parse_props-props.ensures.from))
+    c.made.ensures.ok c.made.ensures.refused c.parse_props-props.ensures.grows c.object_lit-node.ensures.grows
     (s.heard_answer whole (s.heard_first g.met.I.Tokens.laws first (λ x ts. props.object_lit_opens _ (plain first.was) x ts (rule.passes_plain is_brace _ _ first.current c.requires))
-    (s.on_call (λ x p. Some (object_e (comma_of p.0) (to (plain first.was).span (span_of p.0)) (items_of p.0), p.1)) (λ x ts. props.object_lit_splits _ (plain first.was).span x ts) c.in_ok-list.ensures.reads.on)))
+    (s.on_call (λ x p. Some (object_e (comma_of p.0) (to (plain first.was).span (span_of p.0)) (items_of p.0), p.1)) (λ x ts. props.object_lit_splits _ (plain first.was).span x ts) read.on)))
 
 pub parse_object_lit-object_lit-node-requires : goal.parse_object_lit-object_lit-node-requires
-parse_object_lit-object_lit-node-requires g t c = record { apart = apart-down (props_parts c.in_ok-list.list.items) c.in_ok-list.ensures.from }
+parse_object_lit-object_lit-node-requires g t c =
+    record { apart = apart-down (props_parts c.in_ok-list.list.items) (m.held_is _ c.parse_props-props.result c.in_ok-list.list c.in_ok-list.was c.parse_props-props.ensures.from) }
 
 pub parse_props-loop-items-init : goal.parse_props-loop-items-init
 parse_props-loop-items-init g t c = (
@@ -433,9 +451,14 @@ pub parse_object_prop-returns-in_ok-value-in-Cover : goal.parse_object_prop-retu
 parse_object_prop-returns-in_ok-value-in-Cover g t c =
     let n = ident_spelling c.in-Cover.name in
     let left = begins.begun g.I.Tokens.model g.B.Bodies.is_faithful g.B.BodyForms.forms _ _ (head.Cover c.in-Cover.name) c.in-Cover.is c.in_ok-name.ensures.reads in
+    let value = c.in_ok-value-in-Cover in
+    let v = tree_of c.parse_assignment_expr_with_in-in-Cover.new.self.nodes value.value in
     m.yes (Ok _)
     (s.heard_answer (sym c.cover_prop.ensures.tree) (s.heard_after left
-    (s.heard_call (λ x p. Some (cover_node n p.0, p.1)) (λ x ts. props.cover_tail_splits _ n x ts) (λ x ts. refl) c.in_ok-value-in-Cover.ensures.reads)))
+    (s.heard_call_read (λ x p. Some (cover_node n p.0, p.1)) (λ x ts. props.cover_tail_splits _ n x ts)
+    (λ x ts us h y ys. ap (λ e. Some (cover_e (from_to n.at.lo e) (ident_e n.at n.text) v, ys))
+    (sym (ending.ended _ g.met.B.Bodies.lawful value.value Assign (with_in x) ts us value.ensures.from (sym (rule.inside_assign _ x ts) ∙ h))))
+    value.ensures.reads)))
     c.parse_assignment_expr_with_in-in-Cover.ensures.grows
     (subst (λ ps. Apart (count c.args.self.now.nodes) c.parse_assignment_expr_with_in-in-Cover.new.self.nodes ps) (sym c.cover_prop.ensures.parts)
     (apart-from (expr_part c.in_ok-value-in-Cover.value) c.in_ok-value-in-Cover.ensures.from))
@@ -517,30 +540,84 @@ parse_paren_expr-returns g t c =
     let place = s.place_was first c.cur_span-start.result c.cur_span-start.ensures in
     m.after {m = record c.args.self.now { input = c.skip.new.input }} c.paren_items.result (s.on_took {g = paren_expr_tail _ start} g.met.I.Tokens.laws first
     (λ x ts. assign.paren_expr_opens _ (plain first.was) x ts (rule.passes_plain is_lparen _ _ first.current c.requires) ∙ ap (λ v. paren_expr_tail g.B.BodyForms.forms v x ts) (sym place))) (grows-same _)
-    (m.call c.paren_items.result (λ x p. paren_of start p.0 p.1) (λ x ts. assign.paren_expr_splits _ start x ts)
-    c.in_ok-list.ensures.reads c.parse_args.ensures.grows (λ x h. h) (c.paren_items.ensures (count c.args.self.now.nodes) c.in_ok-list.ensures.from))
+    (m.call_read c.paren_items.result (λ x p. paren_of start p.0 p.1) (λ x ts. assign.paren_expr_splits _ start x ts)
+    c.in_ok-list.ensures.reads (λ x ts us h y ys. ending.items-clean _ g.met.B.Bodies.lawful start c.in_ok-list.list x ts us ys c.in_ok-list.ensures.from h) c.parse_args.ensures.grows (λ x h. h) (c.paren_items.ensures (count c.args.self.now.nodes) c.in_ok-list.ensures.from))
 
 pub parse_lhs_expr-returns-in_err-look : goal.parse_lhs_expr-returns-in_err-look
 parse_lhs_expr-returns-in_err-look g t c =
     let p = err_from_is_err_and c.from_residual.result c.from_residual.ensures.1 in rw (p.1, p.2)
     (m.no (s.unheard_memory c.in_err-look.ensures.looks) (grows-same _))
 
-pub parse_lhs_expr-returns-then-is_new : goal.parse_lhs_expr-returns-then-is_new
-parse_lhs_expr-returns-then-is_new g t c =
-    m.after c.parse_new_expr.result (s.on_seen c.in_ok-look.ensures.looks (λ x ts same e. link.new_splits _ (not c.args.no_call) x ts
-    (ap (at_token is_new) e ∙ sym c.is_new.ensures.value ∙ c.if-is_new.true))) (grows-same _) c.parse_new_expr.ensures
-
 pub parse_lhs_expr-returns-in_err-base : goal.parse_lhs_expr-returns-in_err-base
 parse_lhs_expr-returns-in_err-base g t c =
-    let b = not c.args.no_call in
+    let p = err_from_is_err_and c.from_residual-in_err-base.result c.from_residual-in_err-base.ensures.1 in rw (p.1, p.2)
+    (m.no (s.unheard_after (s.on_seen {g = λ x ts. plain_base _ true x ts >>= (λ p. run _ (links true p.0) x p.1)} c.in_ok-look.ensures.looks
+    (λ x ts same e. link.lhs_splits _ true x ts (link.not_new (first ts)
+    (ap (λ o. at_token is_super o || at_token is_import o) e ∙ sym c.is_super_or_import.ensures ∙ c.if-is_super_or_import.true))))
+    (s.unheard_call (λ x p. run _ (links true p.0) x p.1) (λ x ts. refl) c.in_err-base.ensures.reads)) c.parse_base.ensures.grows)
+
+pub parse_lhs_expr-returns-then-is_super_or_import : goal.parse_lhs_expr-returns-then-is_super_or_import
+parse_lhs_expr-returns-then-is_super_or_import g t c =
+    m.after {m = record c.args.self.now { input = c.look.new.input }} c.parse_subscripts.result (s.on_seen {g = λ x ts. plain_base _ true x ts >>= (λ p. run _ (links true p.0) x p.1)} c.in_ok-look.ensures.looks
+    (λ x ts same e. link.lhs_splits _ true x ts (link.not_new (first ts)
+    (ap (λ o. at_token is_super o || at_token is_import o) e ∙ sym c.is_super_or_import.ensures ∙ c.if-is_super_or_import.true)))) (grows-same _)
+    (m.call c.parse_subscripts.result (λ x p. run _ (links true p.0) x p.1) (λ x ts. refl)
+    c.in_ok-base.ensures.reads c.parse_base.ensures.grows (λ x. from-down c.in_ok-base.ensures.from.above) c.parse_subscripts.ensures)
+
+pub parse_lhs_expr-returns-in_err-callee : goal.parse_lhs_expr-returns-in_err-callee
+parse_lhs_expr-returns-in_err-callee g t c =
+    let tree = tree_of c.parse_member_expr-member.new.self.nodes in
+    let member = s.parses_aside g.I.Tokens.model g.B.Bodies.is_faithful tree (run _ (at (Lhs false))) c.parse_member_expr-member.result
+    c.set_ctx.ensures.moves (ap deciding c.set_ctx.ensures.context ∙ ap deciding c.get_ctx-ctx.ensures) c.parse_member_expr-member.ensures.reads c.set_ctx-2.ensures.moves
+    (c.set_ctx-2.ensures.context ∙ c.get_ctx-ctx.ensures) in
+    let p = err_from_is_err_and c.from_residual-in_err-callee.result c.from_residual-in_err-callee.ensures.1 in rw (p.1, p.2)
+    (m.no (s.unheard_after (s.on_seen {g = λ x ts. run _ (at (Lhs false)) x ts >>= (λ p. run _ (links true p.0) x p.1)} c.in_ok-look.ensures.looks
+    (λ x ts same e. link.lhs_parts _ x ts (ap (λ o. at_token is_super o || at_token is_import o) e ∙ sym c.is_super_or_import.ensures ∙ c.if-is_super_or_import.false)))
+    (s.unheard_call (λ x p. run _ (links true p.0) x p.1) (λ x ts. refl)
+    (s.parses_err g.I.Tokens.model g.B.Bodies.is_faithful tree (run _ (at (Lhs false))) _ _ c.parse_member_expr-member.result _ c.in_err-callee.was member)))
+    c.parse_member_expr-member.ensures.grows)
+
+pub parse_lhs_expr-parse_subscripts-requires-2 : goal.parse_lhs_expr-parse_subscripts-requires-2
+parse_lhs_expr-parse_subscripts-requires-2 g t c =
+    let falls = c.parse_member_expr-member.ensures.falls in
+    let read = c.in_ok-callee.was in
+    let from = from-down (omega arith) (m.held_is _ c.parse_member_expr-member.result c.in_ok-callee.callee read c.parse_member_expr-member.ensures.from) in
+    λ κs outlives. (search rules, (search rules, (search rules, (search rules, (search rules, (search rules, from))))))
+
+pub parse_lhs_expr-returns : goal.parse_lhs_expr-returns
+parse_lhs_expr-returns g t c =
+    let tree = tree_of c.parse_member_expr-member.new.self.nodes in
+    let member = s.parses_aside g.I.Tokens.model g.B.Bodies.is_faithful tree (run _ (at (Lhs false))) c.parse_member_expr-member.result
+    c.set_ctx.ensures.moves (ap deciding c.set_ctx.ensures.context ∙ ap deciding c.get_ctx-ctx.ensures) c.parse_member_expr-member.ensures.reads c.set_ctx-2.ensures.moves
+    (c.set_ctx-2.ensures.context ∙ c.get_ctx-ctx.ensures) in
+    let read = s.parses_ok g.I.Tokens.model g.B.Bodies.is_faithful tree (run _ (at (Lhs false))) _ _ c.parse_member_expr-member.result c.in_ok-callee.callee c.in_ok-callee.was member in
+    let held = m.held_is _ c.parse_member_expr-member.result c.in_ok-callee.callee c.in_ok-callee.was c.parse_member_expr-member.ensures.from in
+    m.after {m = record c.args.self.now { input = c.look.new.input }} c.parse_subscripts-2.result (s.on_seen {g = λ x ts. run _ (at (Lhs false)) x ts >>= (λ p. run _ (links true p.0) x p.1)} c.in_ok-look.ensures.looks
+    (λ x ts same e. link.lhs_parts _ x ts (ap (λ o. at_token is_super o || at_token is_import o) e ∙ sym c.is_super_or_import.ensures ∙ c.if-is_super_or_import.false))) (grows-same _)
+    (m.call c.parse_subscripts-2.result (λ x p. run _ (links true p.0) x p.1) (λ x ts. refl)
+    read c.parse_member_expr-member.ensures.grows (λ x. from-down held.above) c.parse_subscripts-2.ensures)
+
+pub parse_member_expr-returns-in_err-look : goal.parse_member_expr-returns-in_err-look
+parse_member_expr-returns-in_err-look g t c =
+    let p = err_from_is_err_and c.from_residual.result c.from_residual.ensures.1 in rw (p.1, p.2)
+    (m.no (s.unheard_memory c.in_err-look.ensures.looks) (grows-same _))
+
+pub parse_member_expr-returns-then-is_new : goal.parse_member_expr-returns-then-is_new
+parse_member_expr-returns-then-is_new g t c =
+    m.after c.parse_new_expr.result (s.on_seen c.in_ok-look.ensures.looks (λ x ts same e. link.new_splits _ false x ts
+    (ap (at_token is_new) e ∙ sym c.is_new.ensures.value ∙ c.if-is_new.true))) (grows-same _) c.parse_new_expr.ensures
+
+pub parse_member_expr-returns-in_err-base : goal.parse_member_expr-returns-in_err-base
+parse_member_expr-returns-in_err-base g t c =
+    let b = false in
     let p = err_from_is_err_and c.from_residual-in_err-base.result c.from_residual-in_err-base.ensures.1 in rw (p.1, p.2)
     (m.no (s.unheard_after (s.on_seen {g = λ x ts. plain_base _ b x ts >>= (λ p. run _ (links b p.0) x p.1)} c.in_ok-look.ensures.looks
     (λ x ts same e. link.lhs_splits _ b x ts (ap (at_token is_new) e ∙ sym c.is_new.ensures.value ∙ c.if-is_new.false)))
     (s.unheard_call (λ x p. run _ (links b p.0) x p.1) (λ x ts. refl) c.in_err-base.ensures.reads)) c.parse_base.ensures.grows)
 
-pub parse_lhs_expr-returns : goal.parse_lhs_expr-returns
-parse_lhs_expr-returns g t c =
-    let b = not c.args.no_call in
+pub parse_member_expr-returns : goal.parse_member_expr-returns
+parse_member_expr-returns g t c =
+    let b = false in
     m.after {m = record c.args.self.now { input = c.look.new.input }} c.parse_subscripts.result (s.on_seen {g = λ x ts. plain_base _ b x ts >>= (λ p. run _ (links b p.0) x p.1)} c.in_ok-look.ensures.looks
     (λ x ts same e. link.lhs_splits _ b x ts (ap (at_token is_new) e ∙ sym c.is_new.ensures.value ∙ c.if-is_new.false))) (grows-same _)
     (m.call c.parse_subscripts.result (λ x p. run _ (links b p.0) x p.1) (λ x ts. refl)
@@ -695,7 +772,7 @@ parse_import-returns-in_ok-list-in-Call g t c =
 pub parse_new_expr-returns-in_err-eat : goal.parse_new_expr-returns-in_err-eat
 parse_new_expr-returns-in_err-eat g t c =
     let first = c.skip.ensures.took.1 in
-    let b = not c.args.no_call in
+    let b = false in
     let at_new = c.cur_span-start.result in
     let p = err_from_is_err_and c.from_residual.result c.from_residual.ensures.1 in rw (p.1, p.2)
     (m.no (s.unheard_after (s.on_took {g = new_tail _ b (plain first.was).span} g.met.I.Tokens.laws first (λ x ts. link.new_opens _ b (plain first.was) x ts))
@@ -704,7 +781,7 @@ parse_new_expr-returns-in_err-eat g t c =
 pub parse_new_expr-returns-in_err-target-in-Some : goal.parse_new_expr-returns-in_err-target-in-Some
 parse_new_expr-returns-in_err-target-in-Some g t c =
     let first = c.skip.ensures.took.1 in
-    let b = not c.args.no_call in
+    let b = false in
     let place = s.place_was first c.cur_span-start.result c.cur_span-start.ensures in
     let some = s.eats_some g.B.Bodies.is_faithful is_dot _ c.in-Some.field-0 _ _ c.in-Some.is (c.in_ok-eat.ensures.eats g.B.Bodies.is_faithful) in
     let p = err_from_is_err_and c.from_residual-in_err-target-in-Some.result c.from_residual-in_err-target-in-Some.ensures.1 in rw (p.1, p.2)
@@ -716,7 +793,7 @@ parse_new_expr-returns-in_err-target-in-Some g t c =
 pub parse_new_expr-returns-in_ok-target-in-Some : goal.parse_new_expr-returns-in_ok-target-in-Some
 parse_new_expr-returns-in_ok-target-in-Some g t c =
     let first = c.skip.ensures.took.1 in
-    let b = not c.args.no_call in
+    let b = false in
     let place = s.place_was first c.cur_span-start.result c.cur_span-start.ensures in
     let some = s.eats_some g.B.Bodies.is_faithful is_dot _ c.in-Some.field-0 _ _ c.in-Some.is (c.in_ok-eat.ensures.eats g.B.Bodies.is_faithful) in
     m.after {m = record c.args.self.now { input = c.eat.new.input }} c.parse_subscripts.result (s.on_then (s.on_took {g = new_tail _ b c.cur_span-start.result} g.met.I.Tokens.laws first
@@ -728,7 +805,7 @@ parse_new_expr-returns-in_ok-target-in-Some g t c =
 pub parse_new_expr-returns-in-None : goal.parse_new_expr-returns-in-None
 parse_new_expr-returns-in-None g t c =
     let first = c.skip.ensures.took.1 in
-    let b = not c.args.no_call in
+    let b = false in
     let place = s.place_was first c.cur_span-start.result c.cur_span-start.ensures in
     let none = s.eats_none g.B.Bodies.is_faithful is_dot _ _ _ c.in-None.is (c.in_ok-eat.ensures.eats g.B.Bodies.is_faithful) in
     m.after c.parse_constructor.result (s.on_then (s.on_took {g = new_tail _ b c.cur_span-start.result} g.met.I.Tokens.laws first
@@ -738,27 +815,27 @@ parse_new_expr-returns-in-None g t c =
 pub parse_constructor-returns-in_err-callee : goal.parse_constructor-returns-in_err-callee
 parse_constructor-returns-in_err-callee g t c =
     let p = err_from_is_err_and c.from_residual.result c.from_residual.ensures.1 in rw (p.1, p.2)
-    (m.no (s.unheard_call (λ x p. construct_of _ (not c.args.no_call) c.args.start p.0 x p.1) (λ x ts. link.construct_splits _ (not c.args.no_call) c.args.start x ts) c.in_err-callee.ensures.reads) c.parse_lhs_expr.ensures.grows)
+    (m.no (s.unheard_call (λ x p. construct_of _ false c.args.start p.0 x p.1) (λ x ts. link.construct_splits _ false c.args.start x ts) c.in_err-callee.ensures.reads) c.parse_member_expr.ensures.grows)
 
 pub parse_constructor-returns-in_err-refuse_opt_chain : goal.parse_constructor-returns-in_err-refuse_opt_chain
 parse_constructor-returns-in_err-refuse_opt_chain g t c =
     let p = err_from_is_err_and c.from_residual-in_err-refuse_opt_chain.result c.from_residual-in_err-refuse_opt_chain.ensures.1 in rw (p.1, p.2)
-    (m.no (s.unheard_after (s.on_call (λ x p. construct_of _ (not c.args.no_call) c.args.start p.0 x p.1) (λ x ts. link.construct_splits _ (not c.args.no_call) c.args.start x ts) c.in_ok-callee.ensures.reads.on)
-    (s.unheard_none (λ x ts. link.construct_refused _ (not c.args.no_call) c.args.start _ x ts c.in_err-refuse_opt_chain.ensures.refuses.1) c.in_err-refuse_opt_chain.ensures.refuses.0)) c.parse_lhs_expr.ensures.grows)
+    (m.no (s.unheard_after (s.on_call (λ x p. construct_of _ false c.args.start p.0 x p.1) (λ x ts. link.construct_splits _ false c.args.start x ts) c.in_ok-callee.ensures.reads.on)
+    (s.unheard_none (λ x ts. link.construct_refused _ false c.args.start _ x ts c.in_err-refuse_opt_chain.ensures.refuses.1) c.in_err-refuse_opt_chain.ensures.refuses.0)) c.parse_member_expr.ensures.grows)
 
 pub parse_constructor-returns-in_err-eat : goal.parse_constructor-returns-in_err-eat
 parse_constructor-returns-in_err-eat g t c =
-    let b = not c.args.no_call in
-    let l = tree_of c.parse_lhs_expr.new.self.nodes c.in_ok-callee.callee in
+    let b = false in
+    let l = tree_of c.parse_member_expr.new.self.nodes c.in_ok-callee.callee in
     let p = err_from_is_err_and c.from_residual-in_err-eat.result c.from_residual-in_err-eat.ensures.1 in rw (p.1, p.2)
     (m.no (s.unheard_after (s.on_call (λ x p. construct_of _ b c.args.start p.0 x p.1) (λ x ts. link.construct_splits _ b c.args.start x ts) c.in_ok-callee.ensures.reads.on)
     (s.unheard_after (s.on_by (λ x ts. link.construct_passes _ b c.args.start l x ts c.in_ok-refuse_opt_chain.ensures.passes.1) (s.on_same {f = construct_node _ b c.args.start l} g.met.I.Tokens.laws c.in_ok-refuse_opt_chain.ensures.passes.0))
-    (s.unheard_call (λ x q. construct_by _ b c.args.start l q.0 x q.1) (λ x ts. refl) (c.in_err-eat.ensures.eats g.B.Bodies.is_faithful)))) c.parse_lhs_expr.ensures.grows)
+    (s.unheard_call (λ x q. construct_by _ b c.args.start l q.0 x q.1) (λ x ts. refl) (c.in_err-eat.ensures.eats g.B.Bodies.is_faithful)))) c.parse_member_expr.ensures.grows)
 
 pub parse_constructor-returns-in_err-list-in-Some : goal.parse_constructor-returns-in_err-list-in-Some
 parse_constructor-returns-in_err-list-in-Some g t c =
-    let b = not c.args.no_call in
-    let l = tree_of c.parse_lhs_expr.new.self.nodes c.in_ok-callee.callee in
+    let b = false in
+    let l = tree_of c.parse_member_expr.new.self.nodes c.in_ok-callee.callee in
     let some = s.eats_some g.B.Bodies.is_faithful is_lparen _ c.in-Some.field-0 _ _ c.in-Some.is (c.in_ok-eat.ensures.eats g.B.Bodies.is_faithful) in
     let p = err_from_is_err_and c.from_residual-in_err-list-in-Some.result c.from_residual-in_err-list-in-Some.ensures.1 in rw (p.1, p.2)
     (m.no (s.unheard_after (s.on_then (s.on_call (λ x p. construct_of _ b c.args.start p.0 x p.1) (λ x ts. link.construct_splits _ b c.args.start x ts) c.in_ok-callee.ensures.reads.on)
@@ -766,7 +843,7 @@ parse_constructor-returns-in_err-list-in-Some g t c =
     (s.on_call (λ x q. construct_by _ b c.args.start l q.0 x q.1) (λ x ts. refl) some.on)))
     (s.unheard_call (λ x q. run _ (links b q.0) x q.1) (λ x ts. refl)
     (s.unheard_call (λ x p. new_node c.args.start l p.0 x p.1) (λ x ts. link.new_args_splits _ c.args.start l x ts) c.in_err-list-in-Some.ensures.reads)))
-    (grows-then c.parse_lhs_expr.ensures.grows c.parse_args.ensures.grows))
+    (grows-then c.parse_member_expr.ensures.grows c.parse_args.ensures.grows))
 
 pub parse_constructor-new_expr-requires : goal.parse_constructor-new_expr-requires
 parse_constructor-new_expr-requires g t c =
@@ -775,37 +852,37 @@ parse_constructor-new_expr-requires g t c =
 
 pub parse_constructor-returns-in_err-base-in-Some : goal.parse_constructor-returns-in_err-base-in-Some
 parse_constructor-returns-in_err-base-in-Some g t c =
-    let b = not c.args.no_call in
-    let l = tree_of c.parse_lhs_expr.new.self.nodes c.in_ok-callee.callee in
+    let b = false in
+    let l = tree_of c.parse_member_expr.new.self.nodes c.in_ok-callee.callee in
     let some = s.eats_some g.B.Bodies.is_faithful is_lparen _ c.in-Some.field-0 _ _ c.in-Some.is (c.in_ok-eat.ensures.eats g.B.Bodies.is_faithful) in
-    let base = m.tail {p = record c.parse_lhs_expr.new.self { input = c.eat.new.input }} (Err _) (λ v x p. new_node c.args.start v p.0 x p.1)
+    let base = m.tail {p = record c.parse_member_expr.new.self { input = c.eat.new.input }} (Err _) (λ v x p. new_node c.args.start v p.0 x p.1)
     (λ x ts. link.new_args_splits g.B.BodyForms.forms c.args.start l x ts) c.in_ok-list-in-Some.ensures.reads c.parse_args.ensures.grows c.in_ok-callee.ensures.from c.in_err-base-in-Some.ensures in
     let p = err_from_is_err_and c.from_residual-in_err-base-in-Some.result c.from_residual-in_err-base-in-Some.ensures.1 in rw (p.1, p.2)
     (m.no (s.unheard_after (s.on_then (s.on_call (λ x p. construct_of _ b c.args.start p.0 x p.1) (λ x ts. link.construct_splits _ b c.args.start x ts) c.in_ok-callee.ensures.reads.on)
     (s.on_then (s.on_by (λ x ts. link.construct_passes _ b c.args.start l x ts c.in_ok-refuse_opt_chain.ensures.passes.1) (s.on_same {f = construct_node _ b c.args.start l} g.met.I.Tokens.laws c.in_ok-refuse_opt_chain.ensures.passes.0))
     (s.on_call (λ x q. construct_by _ b c.args.start l q.0 x q.1) (λ x ts. refl) some.on)))
-    (s.unheard_call (λ x q. run _ (links b q.0) x q.1) (λ x ts. refl) base.reads)) (grows-then c.parse_lhs_expr.ensures.grows base.grows))
+    (s.unheard_call (λ x q. run _ (links b q.0) x q.1) (λ x ts. refl) base.reads)) (grows-then c.parse_member_expr.ensures.grows base.grows))
 
 pub parse_constructor-returns-in_ok-base-in-Some : goal.parse_constructor-returns-in_ok-base-in-Some
 parse_constructor-returns-in_ok-base-in-Some g t c =
-    let b = not c.args.no_call in
-    let l = tree_of c.parse_lhs_expr.new.self.nodes c.in_ok-callee.callee in
+    let b = false in
+    let l = tree_of c.parse_member_expr.new.self.nodes c.in_ok-callee.callee in
     let some = s.eats_some g.B.Bodies.is_faithful is_lparen _ c.in-Some.field-0 _ _ c.in-Some.is (c.in_ok-eat.ensures.eats g.B.Bodies.is_faithful) in
-    let base = m.tail {p = record c.parse_lhs_expr.new.self { input = c.eat.new.input }} (Ok c.in_ok-base-in-Some.base) (λ v x p. new_node c.args.start v p.0 x p.1)
+    let base = m.tail {p = record c.parse_member_expr.new.self { input = c.eat.new.input }} (Ok c.in_ok-base-in-Some.base) (λ v x p. new_node c.args.start v p.0 x p.1)
     (λ x ts. link.new_args_splits g.B.BodyForms.forms c.args.start l x ts) c.in_ok-list-in-Some.ensures.reads c.parse_args.ensures.grows c.in_ok-callee.ensures.from c.in_ok-base-in-Some.ensures in
-    m.after {m = record c.parse_lhs_expr.new.self { input = c.eat.new.input }} c.parse_subscripts.result (s.on_then (s.on_call (λ x p. construct_of _ b c.args.start p.0 x p.1) (λ x ts. link.construct_splits _ b c.args.start x ts) c.in_ok-callee.ensures.reads.on)
+    m.after {m = record c.parse_member_expr.new.self { input = c.eat.new.input }} c.parse_subscripts.result (s.on_then (s.on_call (λ x p. construct_of _ b c.args.start p.0 x p.1) (λ x ts. link.construct_splits _ b c.args.start x ts) c.in_ok-callee.ensures.reads.on)
     (s.on_then (s.on_by (λ x ts. link.construct_passes _ b c.args.start l x ts c.in_ok-refuse_opt_chain.ensures.passes.1) (s.on_same {f = construct_node _ b c.args.start l} g.met.I.Tokens.laws c.in_ok-refuse_opt_chain.ensures.passes.0))
-    (s.on_call (λ x q. construct_by _ b c.args.start l q.0 x q.1) (λ x ts. refl) some.on))) c.parse_lhs_expr.ensures.grows
+    (s.on_call (λ x q. construct_by _ b c.args.start l q.0 x q.1) (λ x ts. refl) some.on))) c.parse_member_expr.ensures.grows
     (m.call {j = first_at c.new_expr.new.self.nodes c.in_ok-base-in-Some.base.0} c.parse_subscripts.result (λ x q. run _ (links b q.0) x q.1) (λ x ts. refl)
     base.reads base.grows (λ x. from-down (let a = c.in_ok-callee.ensures.from.above in let d = base.from.above in omega arith)) c.parse_subscripts.ensures)
 
 pub parse_constructor-returns-in-None : goal.parse_constructor-returns-in-None
 parse_constructor-returns-in-None g t c =
-    let b = not c.args.no_call in
-    let l = tree_of c.parse_lhs_expr.new.self.nodes c.in_ok-callee.callee in
+    let b = false in
+    let l = tree_of c.parse_member_expr.new.self.nodes c.in_ok-callee.callee in
     let none = s.eats_none g.B.Bodies.is_faithful is_lparen _ _ _ c.in-None.is (c.in_ok-eat.ensures.eats g.B.Bodies.is_faithful) in
     m.node _ c.bare_new_expr-node.result c.made.result (c.in_ok-callee.ensures.from.above)
-    c.bare_new_expr-node.ensures.made c.made.ensures.ok c.made.ensures.refused c.parse_lhs_expr.ensures.grows c.bare_new_expr-node.ensures.grows
+    c.bare_new_expr-node.ensures.made c.made.ensures.ok c.made.ensures.refused c.parse_member_expr.ensures.grows c.bare_new_expr-node.ensures.grows
     (s.heard_more (λ x p. construct_of _ b c.args.start p.0 x p.1) (λ x ts. link.construct_splits _ b c.args.start x ts) c.in_ok-callee.ensures.reads
     (s.on_then (s.on_by (λ x ts. link.construct_passes _ b c.args.start l x ts c.in_ok-refuse_opt_chain.ensures.passes.1) (s.on_same {f = construct_node _ b c.args.start l} g.met.I.Tokens.laws c.in_ok-refuse_opt_chain.ensures.passes.0))
     (s.on_call (λ x q. construct_by _ b c.args.start l q.0 x q.1) (λ x ts. refl) none)))
@@ -915,7 +992,7 @@ pub parse_args-returns : goal.parse_args-returns
 parse_args-returns g t c =
     m.yes c.parse_arg_list-args.result
     (s.parses_within g.I.Tokens.model g.B.Bodies.is_faithful (args_at c.parse_arg_list-args.new.self.nodes) _ (run _ (at (Args c.args.is_dynamic_import))) c.parse_arg_list-args.result include_in (λ x. refl) (λ x ts. link.inside_args _ c.args.is_dynamic_import x ts)
-    c.set_ctx.ensures.moves (c.set_ctx.ensures.context ∙ ap include_in c.get_ctx-ctx.ensures) c.parse_arg_list-args.ensures.reads c.set_ctx-2.ensures.moves
+    c.set_ctx.ensures.moves (ap deciding c.set_ctx.ensures.context ∙ ap (λ x. include_in (deciding x)) c.get_ctx-ctx.ensures) c.parse_arg_list-args.ensures.reads c.set_ctx-2.ensures.moves
     (c.set_ctx-2.ensures.context ∙ c.get_ctx-ctx.ensures))
     c.parse_arg_list-args.ensures.grows c.parse_arg_list-args.ensures.from
 
@@ -1043,7 +1120,7 @@ pub parse_update_prefix-returns : goal.parse_update_prefix-returns
 parse_update_prefix-returns g t c =
     let first = c.skip.ensures.took.1 in
     let e = tree_of c.parse_unary_expr.new.self.nodes c.in_ok-arg.arg in
-    let whole = ap (λ v. update_e (between v (span_of e).hi) c.args.op true e) (ap (λ v. v.lo) (sym (s.place_was first c.cur_span.result c.cur_span.ensures))) in
+    let whole = ap (λ v. update_e (from_to v (span_of e).hi) c.args.op true e) (ap (λ v. v.lo) (sym (s.place_was first c.cur_span.result c.cur_span.ensures))) in
     m.node _ c.update_prefix-node.result c.made.result c.in_ok-arg.ensures.from.above c.update_prefix-node.ensures.made c.made.ensures.ok c.made.ensures.refused c.parse_unary_expr.ensures.grows c.update_prefix-node.ensures.grows
     (s.heard_answer whole (s.heard_first g.met.I.Tokens.laws first (λ x ts. update.update_opens _ c.args.op (plain first.was) x ts)
     (s.on_then (s.on_call (λ x p. update_node (plain first.was).span c.args.op x p.0 p.1) (λ x ts. update.update_splits _ (plain first.was).span c.args.op x ts) c.in_ok-arg.ensures.reads.on)
@@ -1113,7 +1190,9 @@ parse_await_operand-returns g t c =
     (s.heard_after (s.on_checked_in {g = await_reads _ c.args.start} (await_ok (context g.I.Tokens.model c.args.self.now.input)) c.in_ok-check_await.ensures.checks
     (λ ts h. update.await_well _ c.args.start (scope g.I.Tokens.model c.args.self.now.input) ts h)
     (λ ts h. update.await_ill _ c.args.start (scope g.I.Tokens.model c.args.self.now.input) ts h))
-    (s.heard_call (λ x p. Some (await_e (to c.args.start (span_of p.0)) p.0, p.1)) (λ x ts. refl) (λ x ts. refl) c.in_ok-arg.ensures.reads))
+    (s.heard_call_read (λ x p. Some (await_e (to c.args.start (span_of p.0)) p.0, p.1)) (λ x ts. refl)
+    (λ x ts us h y ys. ap (λ v. Some (await_e (from_to c.args.start.lo v) (tree_of c.parse_unary_expr.new.self.nodes c.in_ok-arg.arg), ys))
+    (sym (ending.ended _ g.met.B.Bodies.lawful c.in_ok-arg.arg Unary x ts us c.in_ok-arg.ensures.from h))) c.in_ok-arg.ensures.reads))
 
 pub parse_unary_op-returns-in_err-at : goal.parse_unary_op-returns-in_err-at
 parse_unary_op-returns-in_err-at g t c =
@@ -1147,21 +1226,30 @@ parse_unary_op-returns-in-Err g t c =
     (s.unheard_call (λ x p. unary_op_node _ q c.args.op x p.0 p.1) (λ x ts. rule.unary_op_splits _ q c.args.op x ts) c.in-Err.ensures.reads) h.effect h.notes h.some)))
     (grows-then c.parse_unary_expr.ensures.grows h.grows) (if_from _ _ _ (λ x. x) r (grows-count c.parse_unary_expr.ensures.grows) h.from)
 
+pub parse_bin_expr-returns-in_err-first : goal.parse_bin_expr-returns-in_err-first
+parse_bin_expr-returns-in_err-first g t c =
+    let p = err_from_is_err_and c.from_residual.result c.from_residual.ensures.1 in rw (p.1, p.2)
+    (m.no (s.unheard_memory c.in_err-first.ensures.looks) (grows-same _))
+
 pub parse_bin_expr-returns-in-Ok : goal.parse_bin_expr-returns-in-Ok
 parse_bin_expr-returns-in-Ok g t c =
-    m.call c.parse_bin_op_recursively.result (λ x p. run _ (climb p.0 0) x p.1) (λ x ts. rule.operand_splits _ 0 x ts (omega arith))
-    c.in-Ok.ensures.reads c.parse_unary_expr.ensures.grows (λ x. from-down c.in-Ok.ensures.from.above) c.parse_bin_op_recursively.ensures
+    m.after {m = record c.args.self.now { input = c.cur_pos.new.input }} c.parse_bin_op_recursively.result
+    (s.on_seen {g = run _ (at (Level 1))} c.in_ok-first.ensures.looks (λ x ts same e. refl)) (grows-same _)
+    (m.call c.parse_bin_op_recursively.result (λ x p. run _ (climb p.0 0) x p.1) (λ x ts. rule.operand_splits _ 0 x ts (omega arith))
+    c.in-Ok.ensures.reads c.parse_unary_expr.ensures.grows (λ x. from-down c.in-Ok.ensures.from.above) c.parse_bin_op_recursively.ensures)
 
 pub parse_bin_expr-returns-in_err-left-in-Err : goal.parse_bin_expr-returns-in_err-left-in-Err
 parse_bin_expr-returns-in_err-left-in-Err g t c =
-    let u = s.unheard_call (λ x p. run _ (climb p.0 0) x p.1) (λ x ts. rule.operand_splits _ 0 x ts (omega arith)) c.in-Err.ensures.reads in
-    let p = err_from_is_err_and c.from_residual.result c.from_residual.ensures.1 in
+    let u = s.unheard_after (s.on_seen {g = run _ (at (Level 1))} c.in_ok-first.ensures.looks (λ x ts same e. refl))
+    (s.unheard_call (λ x p. run _ (climb p.0 0) x p.1) (λ x ts. rule.operand_splits _ 0 x ts (omega arith)) c.in-Err.ensures.reads) in
+    let p = err_from_is_err_and c.from_residual-in_err-left-in-Err.result c.from_residual-in_err-left-in-Err.ensures.1 in
     let h = c.in_err-left-in-Err.ensures.recovers in rw (p.1, p.2)
     (m.no (s.unheard_doomed u h.memory h.effect) (grows-then c.parse_unary_expr.ensures.grows h.grows))
 
 pub parse_bin_expr-returns-in_err-node-in-Err : goal.parse_bin_expr-returns-in_err-node-in-Err
 parse_bin_expr-returns-in_err-node-in-Err g t c =
-    let u = s.unheard_call (λ x p. run _ (climb p.0 0) x p.1) (λ x ts. rule.operand_splits _ 0 x ts (omega arith)) c.in-Err.ensures.reads in
+    let u = s.unheard_after (s.on_seen {g = run _ (at (Level 1))} c.in_ok-first.ensures.looks (λ x ts same e. refl))
+    (s.unheard_call (λ x p. run _ (climb p.0 0) x p.1) (λ x ts. rule.operand_splits _ 0 x ts (omega arith)) c.in-Err.ensures.reads) in
     let p = err_from_is_err_and c.from_residual-in_err-node-in-Err.result c.from_residual-in_err-node-in-Err.ensures.1 in
     let h = c.in_ok-left-in-Err.ensures.recovers in rw (p.1, p.2)
     (m.no (s.unheard_doomed u (λ n. h.some) (s.refuses_later h.effect c.in_err-node-in-Err.ensures.reads.refuses))
@@ -1169,7 +1257,8 @@ parse_bin_expr-returns-in_err-node-in-Err g t c =
 
 pub parse_bin_expr-returns-in_err-check_nullish_left-in-Err : goal.parse_bin_expr-returns-in_err-check_nullish_left-in-Err
 parse_bin_expr-returns-in_err-check_nullish_left-in-Err g t c =
-    let u = s.unheard_call (λ x p. run _ (climb p.0 0) x p.1) (λ x ts. rule.operand_splits _ 0 x ts (omega arith)) c.in-Err.ensures.reads in
+    let u = s.unheard_after (s.on_seen {g = run _ (at (Level 1))} c.in_ok-first.ensures.looks (λ x ts same e. refl))
+    (s.unheard_call (λ x p. run _ (climb p.0 0) x p.1) (λ x ts. rule.operand_splits _ 0 x ts (omega arith)) c.in-Err.ensures.reads) in
     let p = err_from_is_err_and c.from_residual-in_err-check_nullish_left-in-Err.result c.from_residual-in_err-check_nullish_left-in-Err.ensures.1 in
     let h = c.in_ok-left-in-Err.ensures.recovers in rw (p.1, p.2)
     (m.no (s.unheard_doomed u (λ n. h.some) (s.refuses_later (s.leads_then h.effect c.in_ok-node-in-Err.ensures.reads.on.leads) (s.forgoes_refuses c.in_err-check_nullish_left-in-Err.ensures.checks)))
@@ -1177,7 +1266,8 @@ parse_bin_expr-returns-in_err-check_nullish_left-in-Err g t c =
 
 pub parse_bin_expr-returns-in_ok-check_nullish_left-in-Err : goal.parse_bin_expr-returns-in_ok-check_nullish_left-in-Err
 parse_bin_expr-returns-in_ok-check_nullish_left-in-Err g t c =
-    let u = s.unheard_call (λ x p. run _ (climb p.0 0) x p.1) (λ x ts. rule.operand_splits _ 0 x ts (omega arith)) c.in-Err.ensures.reads in
+    let u = s.unheard_after (s.on_seen {g = run _ (at (Level 1))} c.in_ok-first.ensures.looks (λ x ts same e. refl))
+    (s.unheard_call (λ x p. run _ (climb p.0 0) x p.1) (λ x ts. rule.operand_splits _ 0 x ts (omega arith)) c.in-Err.ensures.reads) in
     let h = c.in_ok-left-in-Err.ensures.recovers in
     let node = c.in_ok-node-in-Err.ensures in
     let more = s.leads_then node.reads.on.leads c.in_ok-check_nullish_left-in-Err.ensures.checks.leads in
@@ -1316,9 +1406,13 @@ pub parse_expr-returns-in-Some : goal.parse_expr-returns-in-Some
 parse_expr-returns-in-Some g t c =
     let e = tree_of c.parse_assignment_expr.new.self.nodes c.in_ok-expr.expr in
     let some = s.eats_some g.B.Bodies.is_faithful is_comma _ c.in-Some.field-0 _ _ c.in-Some.is (c.in_ok-eat.ensures.eats g.B.Bodies.is_faithful) in
-    m.call {m = c.parse_assignment_expr.new.self} c.parse_seq_expr.result (λ x p. run _ (seqs (cons p.0 nil)) x p.1) (λ x ts. assign.expr_splits _ x ts) c.in_ok-expr.ensures.reads c.parse_assignment_expr.ensures.grows (λ x. from-down c.in_ok-expr.ensures.from.above)
+    let b = begins_in_invalid e in
+    let lo = start_at c.parse_assignment_expr.new.self.nodes c.in_ok-expr.expr.0 in
+    m.call_read {g = λ x ts. eaten is_comma x ts >>= (λ p. seqs_from_by _ b lo (cons e nil) p.0 x p.1)} {m = c.parse_assignment_expr.new.self} c.parse_seq_expr.result (λ x p. run _ (seqs (cons p.0 nil)) x p.1) (λ x ts. assign.expr_splits _ x ts) c.in_ok-expr.ensures.reads
+    (λ x ts us h y ys. assign.seqs_begun _ b lo (cons e nil) y ys (ending.valid-begins e (ending.read-valid _ g.met.B.Bodies.lawful Assign x ts us e h)))
+    c.parse_assignment_expr.ensures.grows (λ x. from-down c.in_ok-expr.ensures.from.above)
     (m.on_after {m = record c.parse_assignment_expr.new.self { input = c.eat.new.input }} c.parse_seq_expr.result
-    (s.on_call (λ x p. seqs_by _ (cons e nil) p.0 x p.1) (λ x ts. assign.seqs_splits _ (cons e nil) x ts) some.on) (grows-same _)
+    (s.on_call (λ x p. seqs_from_by _ b lo (cons e nil) p.0 x p.1) (λ x ts. refl) some.on) (grows-same _)
     (m.weaker c.parse_seq_expr.result c.parse_seq_expr.ensures))
 
 pub parse_expr-returns-in-None : goal.parse_expr-returns-in-None
@@ -1334,7 +1428,7 @@ pub parse_expr_with_in-returns : goal.parse_expr_with_in-returns
 parse_expr_with_in-returns g t c =
     m.yes c.parse_expr-expr.result
     (s.parses_within g.I.Tokens.model g.B.Bodies.is_faithful (tree_of c.parse_expr-expr.new.self.nodes) _ (run _ (at Expr)) c.parse_expr-expr.result include_in (λ x. refl) (λ x ts. assign.inside_expr _ x ts)
-    c.set_ctx.ensures.moves (c.set_ctx.ensures.context ∙ ap include_in c.get_ctx-ctx.ensures) c.parse_expr-expr.ensures.reads c.set_ctx-2.ensures.moves
+    c.set_ctx.ensures.moves (ap deciding c.set_ctx.ensures.context ∙ ap (λ x. include_in (deciding x)) c.get_ctx-ctx.ensures) c.parse_expr-expr.ensures.reads c.set_ctx-2.ensures.moves
     (c.set_ctx-2.ensures.context ∙ c.get_ctx-ctx.ensures))
     c.parse_expr-expr.ensures.grows c.parse_expr-expr.ensures.from
 
@@ -1361,8 +1455,10 @@ parse_assignment_expr-returns g t c =
     m.after {m = record c.args.self.now { input = c.require_cur.new.input }} c.finish_assignment_expr.result (s.on_seen {g = λ x ts. run _ (at (Level 1)) x ts >>= (λ p. run _ (assigns p.0) x p.1)} c.in_ok-require_cur.ensures.fits (λ x ts same e. assign.assign_splits _ x ts
     (ap (λ v. at_token is_yield v && x.context.in_generator) e ∙ ap (λ v. at_token is_yield (seen c.require_cur.new.input) && v.context.in_generator) same ∙ sym c.is_yield_operator.ensures.value ∙ c.if-is_yield_operator.false)
     (ap (at_token no_error) e ∙ c.in_ok-require_cur.ensures.token))) (grows-same _)
-    (m.call c.finish_assignment_expr.result (λ x p. run _ (assigns p.0) x p.1) (λ x ts. refl)
-    c.in_ok-left.ensures.reads c.parse_bin_expr.ensures.grows (λ x. from-down c.in_ok-left.ensures.from.above) c.finish_assignment_expr.ensures)
+    (m.call_read c.finish_assignment_expr.result (λ x p. run _ (assigns p.0) x p.1) (λ x ts. refl)
+    c.in_ok-left.ensures.reads (λ x ts us h y ys. assign.from_place _ _ _ y ys
+    (ending.begun _ g.met.B.Bodies.lawful c.in_ok-left.left (Level 1) x ts us c.in_ok-left.ensures.from h))
+    c.parse_bin_expr.ensures.grows (λ x. from-down c.in_ok-left.ensures.from.above) c.finish_assignment_expr.ensures)
 
 pub finish_assignment_expr-returns-in_err-look : goal.finish_assignment_expr-returns-in_err-look
 finish_assignment_expr-returns-in_err-look g t c =
@@ -1372,74 +1468,118 @@ finish_assignment_expr-returns-in_err-look g t c =
 pub finish_assignment_expr-returns-then-is_sign : goal.finish_assignment_expr-returns-then-is_sign
 finish_assignment_expr-returns-then-is_sign g t c =
     let l = tree_of c.args.self.now.nodes c.args.left in
-    m.on_after c.parse_cond_expr.result (s.on_seen c.in_ok-look.ensures.looks (λ x ts same e. assign.assigns_cond _ l x ts (ap (at_token is_question) e ∙ sym c.is_sign.ensures.value ∙ c.if-is_sign.true))) (grows-same _)
+    let lo = start_at c.args.self.now.nodes c.args.left.0 in
+    m.on_after c.parse_cond_expr.result (s.on_seen c.in_ok-look.ensures.looks (λ x ts same e. assign.from_question _ lo l x ts (ap (at_token is_question) e ∙ sym c.is_sign.ensures.value ∙ c.if-is_sign.true))) (grows-same _)
     (m.weaker c.parse_cond_expr.result c.parse_cond_expr.ensures)
 
 pub finish_assignment_expr-returns-in-Some : goal.finish_assignment_expr-returns-in-Some
 finish_assignment_expr-returns-in-Some g t c =
     let l = tree_of c.args.self.now.nodes c.args.left in
-    m.on_after c.parse_assign_expr.result (s.on_seen c.in_ok-look.ensures.looks (λ x ts same e. assign.assigns_assign _ c.in-Some.op l x ts (ap (λ v. assign_at v l) e ∙ sym c.cur_assign_op.ensures.value ∙ c.in-Some.is))) (grows-same _)
+    let lo = start_at c.args.self.now.nodes c.args.left.0 in
+    m.on_after c.parse_assign_expr.result (s.on_seen c.in_ok-look.ensures.looks (λ x ts same e.
+    assign.from_other _ lo l x ts (ap (at_token is_question) e ∙ sym c.is_sign.ensures.value ∙ c.if-is_sign.false)
+    ∙ assign.assigns_assign _ c.in-Some.op l x ts (ap (λ v. assign_at v l) e ∙ sym c.cur_assign_op.ensures.value ∙ c.in-Some.is))) (grows-same _)
     (m.weaker c.parse_assign_expr.result c.parse_assign_expr.ensures)
 
 pub finish_assignment_expr-returns-in-None : goal.finish_assignment_expr-returns-in-None
 finish_assignment_expr-returns-in-None g t c =
     let l = tree_of c.args.self.now.nodes c.args.left in
-    m.on (Ok _) (s.on_seen c.in_ok-look.ensures.looks (λ x ts same e. assign.assigns_end _ l x ts
+    let lo = start_at c.args.self.now.nodes c.args.left.0 in
+    m.on (Ok _) (s.on_seen c.in_ok-look.ensures.looks (λ x ts same e.
+    assign.from_other _ lo l x ts (ap (at_token is_question) e ∙ sym c.is_sign.ensures.value ∙ c.if-is_sign.false)
+    ∙ assign.assigns_end _ l x ts
     (ap (at_token is_question) e ∙ sym c.is_sign.ensures.value ∙ c.if-is_sign.false)
     (ap (λ v. assign_at v l) e ∙ sym c.cur_assign_op.ensures.value ∙ c.in-None.is))) (grows-same _) (from_self c.requires.from)
 
 pub parse_cond_expr-returns-in_err-cons : goal.parse_cond_expr-returns-in_err-cons
 parse_cond_expr-returns-in_err-cons g t c =
     let l = tree_of c.args.self.now.nodes c.args.test in
+    let lo = start_at c.args.self.now.nodes c.args.test.0 in
+    let middle = assign.in_middle g.I.Tokens.model g.B.Bodies.is_faithful _ _ c.get_ctx-ctx.result c.parse_assignment_expr-middle.result c.get_ctx-ctx.ensures c.set_ctx.ensures.moves
+    (c.set_ctx.ensures.context ∙ c.cond_middle.ensures) c.parse_assignment_expr-middle.ensures.reads c.set_ctx-2.ensures.moves c.set_ctx-2.ensures.context in
     let p = err_from_is_err_and c.from_residual.result c.from_residual.ensures.1 in rw (p.1, p.2)
-    (m.no (s.unheard_after (s.on_took {g = cond_tail _ l} g.met.I.Tokens.laws c.skip.ensures.took.1 (λ x ts. refl))
-    (s.unheard_call (λ x p. cond_colon _ l p.0 x p.1) (λ x ts. assign.cond_tail_splits _ l x ts) c.in_err-cons.ensures.reads)) c.parse_assignment_expr_with_in.ensures.grows)
+    (m.no (s.unheard_after (s.on_took {g = cond_tail _ lo l} g.met.I.Tokens.laws c.skip.ensures.took.1 (λ x ts. refl))
+    (s.unheard_call (λ x p. cond_colon _ lo l p.0 x p.1) (λ x ts. assign.cond_tail_splits _ lo l x ts)
+    (s.parses_err g.I.Tokens.model g.B.Bodies.is_faithful (tree_of c.parse_assignment_expr-middle.new.self.nodes) (inside _) _ _ c.parse_assignment_expr-middle.result _ c.in_err-cons.was middle)))
+    c.parse_assignment_expr-middle.ensures.grows)
 
 pub parse_cond_expr-returns-in_err-expect : goal.parse_cond_expr-returns-in_err-expect
 parse_cond_expr-returns-in_err-expect g t c =
     let l = tree_of c.args.self.now.nodes c.args.test in
-    let e = tree_of c.parse_assignment_expr_with_in.new.self.nodes c.in_ok-cons.cons in
+    let lo = start_at c.args.self.now.nodes c.args.test.0 in
+    let e = tree_of c.parse_assignment_expr-middle.new.self.nodes c.in_ok-cons.cons in
+    let middle = assign.in_middle g.I.Tokens.model g.B.Bodies.is_faithful _ _ c.get_ctx-ctx.result c.parse_assignment_expr-middle.result c.get_ctx-ctx.ensures c.set_ctx.ensures.moves
+    (c.set_ctx.ensures.context ∙ c.cond_middle.ensures) c.parse_assignment_expr-middle.ensures.reads c.set_ctx-2.ensures.moves c.set_ctx-2.ensures.context in
+    let read = s.parses_ok g.I.Tokens.model g.B.Bodies.is_faithful (tree_of c.parse_assignment_expr-middle.new.self.nodes) (inside _) _ _ c.parse_assignment_expr-middle.result c.in_ok-cons.cons c.in_ok-cons.was middle in
     let p = err_from_is_err_and c.from_residual-in_err-expect.result c.from_residual-in_err-expect.ensures.1 in rw (p.1, p.2)
-    (m.no (s.unheard_after (s.on_then (s.on_took {g = cond_tail _ l} g.met.I.Tokens.laws c.skip.ensures.took.1 (λ x ts. refl))
-    (s.on_call (λ x p. cond_colon _ l p.0 x p.1) (λ x ts. assign.cond_tail_splits _ l x ts) c.in_ok-cons.ensures.reads.on))
-    (s.unheard_call (λ x q. cond_close _ l e x q.1) (λ x ts. refl) (c.in_err-expect.ensures.expects g.B.Bodies.is_faithful))) c.parse_assignment_expr_with_in.ensures.grows)
+    (m.no (s.unheard_after (s.on_then (s.on_took {g = cond_tail _ lo l} g.met.I.Tokens.laws c.skip.ensures.took.1 (λ x ts. refl))
+    (s.on_call (λ x p. cond_colon _ lo l p.0 x p.1) (λ x ts. assign.cond_tail_splits _ lo l x ts) read.on))
+    (s.unheard_call (λ x q. cond_close _ lo l e x q.1) (λ x ts. refl) (c.in_err-expect.ensures.expects g.B.Bodies.is_faithful))) c.parse_assignment_expr-middle.ensures.grows)
 
 pub parse_cond_expr-returns-in_err-alt : goal.parse_cond_expr-returns-in_err-alt
 parse_cond_expr-returns-in_err-alt g t c =
     let l = tree_of c.args.self.now.nodes c.args.test in
-    let e = tree_of c.parse_assignment_expr_with_in.new.self.nodes c.in_ok-cons.cons in
+    let lo = start_at c.args.self.now.nodes c.args.test.0 in
+    let e = tree_of c.parse_assignment_expr-middle.new.self.nodes c.in_ok-cons.cons in
+    let middle = assign.in_middle g.I.Tokens.model g.B.Bodies.is_faithful _ _ c.get_ctx-ctx.result c.parse_assignment_expr-middle.result c.get_ctx-ctx.ensures c.set_ctx.ensures.moves
+    (c.set_ctx.ensures.context ∙ c.cond_middle.ensures) c.parse_assignment_expr-middle.ensures.reads c.set_ctx-2.ensures.moves c.set_ctx-2.ensures.context in
+    let read = s.parses_ok g.I.Tokens.model g.B.Bodies.is_faithful (tree_of c.parse_assignment_expr-middle.new.self.nodes) (inside _) _ _ c.parse_assignment_expr-middle.result c.in_ok-cons.cons c.in_ok-cons.was middle in
+    let kept = (c.in_ok-expect.ensures.expects g.B.Bodies.is_faithful).on.leads.read.context ∙ c.set_ctx-2.ensures.context in
+    let last = assign.in_last g.I.Tokens.model g.B.Bodies.is_faithful _ _ c.get_ctx-ctx.result c.parse_assignment_expr-last.result (sym kept) c.set_ctx-3.ensures.moves
+    (c.set_ctx-3.ensures.context ∙ c.cond_last.ensures) c.parse_assignment_expr-last.ensures.reads c.set_ctx-4.ensures.moves c.set_ctx-4.ensures.context in
     let p = err_from_is_err_and c.from_residual-in_err-alt.result c.from_residual-in_err-alt.ensures.1 in rw (p.1, p.2)
-    (m.no (s.unheard_after (s.on_then (s.on_then (s.on_took {g = cond_tail _ l} g.met.I.Tokens.laws c.skip.ensures.took.1 (λ x ts. refl))
-    (s.on_call (λ x p. cond_colon _ l p.0 x p.1) (λ x ts. assign.cond_tail_splits _ l x ts) c.in_ok-cons.ensures.reads.on))
-    (s.on_call (λ x q. cond_close _ l e x q.1) (λ x ts. refl) (c.in_ok-expect.ensures.expects g.B.Bodies.is_faithful).on))
-    (s.unheard_call (λ x q. Some (cond_e (to (span_of l) (span_of q.0)) l e q.0, q.1)) (λ x ts. refl) c.in_err-alt.ensures.reads))
-    (grows-then c.parse_assignment_expr_with_in.ensures.grows c.parse_assignment_expr.ensures.grows))
+    (m.no (s.unheard_after (s.on_then (s.on_then (s.on_took {g = cond_tail _ lo l} g.met.I.Tokens.laws c.skip.ensures.took.1 (λ x ts. refl))
+    (s.on_call (λ x p. cond_colon _ lo l p.0 x p.1) (λ x ts. assign.cond_tail_splits _ lo l x ts) read.on))
+    (s.on_call (λ x q. cond_close _ lo l e x q.1) (λ x ts. refl) (c.in_ok-expect.ensures.expects g.B.Bodies.is_faithful).on))
+    (s.unheard_call (λ x q. Some (cond_e (from_to lo (span_of q.0).hi) l e q.0, q.1)) (λ x ts. refl)
+    (s.parses_err g.I.Tokens.model g.B.Bodies.is_faithful (tree_of c.parse_assignment_expr-last.new.self.nodes) (run _ (at Assign)) _ _ c.parse_assignment_expr-last.result _ c.in_err-alt.was last)))
+    (grows-then c.parse_assignment_expr-middle.ensures.grows c.parse_assignment_expr-last.ensures.grows))
+
+pub parse_cond_expr-set_ctx-requires-3 : goal.parse_cond_expr-set_ctx-requires-3
+parse_cond_expr-set_ctx-requires-3 g t c =
+    let kept = (c.in_ok-expect.ensures.expects g.B.Bodies.is_faithful).on.leads.read.context ∙ c.set_ctx-2.ensures.context in
+    ap (λ x. x.«module») c.cond_last.ensures ∙ ap (λ x. x.«module») (sym kept)
 
 pub parse_cond_expr-cond_expr-node-requires-clause-test : goal.parse_cond_expr-cond_expr-node-requires-clause-test
 parse_cond_expr-cond_expr-node-requires-clause-test g t c =
-    from-later (grows-then c.parse_assignment_expr_with_in.ensures.grows c.parse_assignment_expr.ensures.grows) c.requires.from
+    from-later (grows-then c.parse_assignment_expr-middle.ensures.grows c.parse_assignment_expr-last.ensures.grows) c.requires.from
 
 pub parse_cond_expr-cond_expr-node-requires-clause-then : goal.parse_cond_expr-cond_expr-node-requires-clause-then
 parse_cond_expr-cond_expr-node-requires-clause-then g t c =
-    from-down (let h = c.requires.from.within in omega arith) (from-later c.parse_assignment_expr.ensures.grows c.in_ok-cons.ensures.from)
+    from-down (let h = c.requires.from.within in omega arith) (from-later c.parse_assignment_expr-last.ensures.grows
+    (m.held_is _ c.parse_assignment_expr-middle.result c.in_ok-cons.cons c.in_ok-cons.was c.parse_assignment_expr-middle.ensures.from))
 
 pub parse_cond_expr-cond_expr-node-requires-clause-other : goal.parse_cond_expr-cond_expr-node-requires-clause-other
 parse_cond_expr-cond_expr-node-requires-clause-other g t c =
-    from-down (let h = c.in_ok-cons.ensures.from.within in omega arith) c.in_ok-alt.ensures.from
+    let cons_from = m.held_is _ c.parse_assignment_expr-middle.result c.in_ok-cons.cons c.in_ok-cons.was c.parse_assignment_expr-middle.ensures.from in
+    from-down (let h = cons_from.within in omega arith)
+    (m.held_is _ c.parse_assignment_expr-last.result c.in_ok-alt.alt c.in_ok-alt.was c.parse_assignment_expr-last.ensures.from)
 
 pub parse_cond_expr-returns : goal.parse_cond_expr-returns
 parse_cond_expr-returns g t c =
     let l = tree_of c.args.self.now.nodes c.args.test in
-    let e = tree_of c.parse_assignment_expr_with_in.new.self.nodes c.in_ok-cons.cons in
-    let a = tree_of c.parse_assignment_expr.new.self.nodes c.in_ok-alt.alt in
-    let grows = grows-then c.parse_assignment_expr_with_in.ensures.grows c.parse_assignment_expr.ensures.grows in
-    let whole = ap (λ v. cond_e (to (span_of v) (span_of a)) v e a) (sym (tree-later grows c.requires.from))
-    ∙ ap (λ v. cond_e (to (span_of (tree_of c.parse_assignment_expr.new.self.nodes c.args.test)) (span_of a)) (tree_of c.parse_assignment_expr.new.self.nodes c.args.test) v a) (sym (tree-later c.parse_assignment_expr.ensures.grows c.in_ok-cons.ensures.from)) in
+    let lo = start_at c.args.self.now.nodes c.args.test.0 in
+    let e = tree_of c.parse_assignment_expr-middle.new.self.nodes c.in_ok-cons.cons in
+    let ns = c.parse_assignment_expr-last.new.self.nodes in
+    let a = tree_of ns c.in_ok-alt.alt in
+    let middle = assign.in_middle g.I.Tokens.model g.B.Bodies.is_faithful _ _ c.get_ctx-ctx.result c.parse_assignment_expr-middle.result c.get_ctx-ctx.ensures c.set_ctx.ensures.moves
+    (c.set_ctx.ensures.context ∙ c.cond_middle.ensures) c.parse_assignment_expr-middle.ensures.reads c.set_ctx-2.ensures.moves c.set_ctx-2.ensures.context in
+    let read = s.parses_ok g.I.Tokens.model g.B.Bodies.is_faithful (tree_of c.parse_assignment_expr-middle.new.self.nodes) (inside _) _ _ c.parse_assignment_expr-middle.result c.in_ok-cons.cons c.in_ok-cons.was middle in
+    let kept = (c.in_ok-expect.ensures.expects g.B.Bodies.is_faithful).on.leads.read.context ∙ c.set_ctx-2.ensures.context in
+    let last = assign.in_last g.I.Tokens.model g.B.Bodies.is_faithful _ _ c.get_ctx-ctx.result c.parse_assignment_expr-last.result (sym kept) c.set_ctx-3.ensures.moves
+    (c.set_ctx-3.ensures.context ∙ c.cond_last.ensures) c.parse_assignment_expr-last.ensures.reads c.set_ctx-4.ensures.moves c.set_ctx-4.ensures.context in
+    let read_last = s.parses_ok g.I.Tokens.model g.B.Bodies.is_faithful (tree_of ns) (run _ (at Assign)) _ _ c.parse_assignment_expr-last.result c.in_ok-alt.alt c.in_ok-alt.was last in
+    let grows = grows-then c.parse_assignment_expr-middle.ensures.grows c.parse_assignment_expr-last.ensures.grows in
+    let place = from_to (start_at ns c.args.test.0) (span_of a).hi in
+    let whole = ap (λ v. cond_e (from_to v (span_of a).hi) l e a) (sym (start-later grows c.requires.from))
+    ∙ ap (λ v. cond_e place v e a) (sym (tree-later grows c.requires.from))
+    ∙ ap (λ v. cond_e place (tree_of ns c.args.test) v a)
+    (sym (tree-later c.parse_assignment_expr-last.ensures.grows (m.held_is _ c.parse_assignment_expr-middle.result c.in_ok-cons.cons c.in_ok-cons.was c.parse_assignment_expr-middle.ensures.from))) in
     m.node _ c.cond_expr-node.result c.made.result (first_kept grows c.requires.from) c.cond_expr-node.ensures.made c.made.ensures.ok c.made.ensures.refused grows c.cond_expr-node.ensures.grows
     (s.heard_answer whole (s.heard_first g.met.I.Tokens.laws c.skip.ensures.took.1 (λ x ts. refl)
-    (s.on_then (s.on_call (λ x p. cond_colon _ l p.0 x p.1) (λ x ts. assign.cond_tail_splits _ l x ts) c.in_ok-cons.ensures.reads.on)
-    (s.on_then (s.on_call (λ x q. cond_close _ l e x q.1) (λ x ts. refl) (c.in_ok-expect.ensures.expects g.B.Bodies.is_faithful).on)
-    (s.on_call (λ x q. Some (cond_e (to (span_of l) (span_of q.0)) l e q.0, q.1)) (λ x ts. refl) c.in_ok-alt.ensures.reads.on)))))
+    (s.on_then (s.on_call (λ x p. cond_colon _ lo l p.0 x p.1) (λ x ts. assign.cond_tail_splits _ lo l x ts) read.on)
+    (s.on_then (s.on_call (λ x q. cond_close _ lo l e x q.1) (λ x ts. refl) (c.in_ok-expect.ensures.expects g.B.Bodies.is_faithful).on)
+    (s.on_call (λ x q. Some (cond_e (from_to lo (span_of q.0).hi) l e q.0, q.1)) (λ x ts. refl) read_last.on)))))
 
 pub parse_seq_expr-returns-in_err-add : goal.parse_seq_expr-returns-in_err-add
 parse_seq_expr-returns-in_err-add g t c =
@@ -1455,13 +1595,14 @@ parse_seq_expr-loop-exprs-init g t c =
       grows-same _,
       record { chained = ap (λ v. chain (seat_at now) (first_at now c.args.first.0) (flat one_expr v) (count now)) one ∙ (apart-from (expr_part c.args.first) (from_self c.requires.from)).chained },
       subst (λ v. 1 ≤ length v) (sym one) (omega arith),
+      ap (λ v. slice_index_or v 0 c.args.first) one,
     )
 
 pub parse_seq_expr-returns-in_err-expr : goal.parse_seq_expr-returns-in_err-expr
 parse_seq_expr-returns-in_err-expr g t c =
     let es = expr_trees (tree_at c.loop-exprs.self.nodes) c.loop-exprs.exprs in
     let p = err_from_is_err_and c.from_residual-in_err-expr.result c.from_residual-in_err-expr.ensures.1 in rw (p.1, p.2)
-    (m.no (s.unheard_after c.loop-exprs.invariant.0 (s.unheard_call (λ x p. run _ (seqs (trees_append es (cons p.0 nil))) x p.1) (λ x ts. assign.seqs_more_splits _ es x ts) c.in_err-expr.ensures.reads))
+    (m.no (s.unheard_call (λ x p. Some (begun_if (begins_in_invalid (tree_of c.args.self.now.nodes c.args.first)) (start_at c.args.self.now.nodes c.args.first.0) p.0, p.1)) (λ x ts. refl) (s.unheard_after c.loop-exprs.invariant.0 (s.unheard_call (λ x p. run _ (seqs (trees_append es (cons p.0 nil))) x p.1) (λ x ts. assign.seqs_more_splits _ es x ts) c.in_err-expr.ensures.reads)))
     (grows-then c.loop-exprs.invariant.2 c.parse_assignment_expr.ensures.grows))
 
 pub parse_seq_expr-returns-in_err-add-2 : goal.parse_seq_expr-returns-in_err-add-2
@@ -1475,8 +1616,8 @@ parse_seq_expr-returns-in_err-eat g t c =
     let es = expr_trees (tree_at c.loop-exprs.self.nodes) c.loop-exprs.exprs in
     let more = trees_append es (cons (tree_of c.parse_assignment_expr.new.self.nodes c.in_ok-expr.expr) nil) in
     let p = err_from_is_err_and c.from_residual-in_err-eat.result c.from_residual-in_err-eat.ensures.1 in rw (p.1, p.2)
-    (m.no (s.unheard_after c.loop-exprs.invariant.0 (s.unheard_after (s.on_call (λ x p. run _ (seqs (trees_append es (cons p.0 nil))) x p.1) (λ x ts. assign.seqs_more_splits _ es x ts) c.in_ok-expr.ensures.reads.on)
-    (s.unheard_call (λ x p. seqs_by _ more p.0 x p.1) (λ x ts. assign.seqs_splits _ more x ts) (c.in_err-eat.ensures.eats g.B.Bodies.is_faithful))))
+    (m.no (s.unheard_call (λ x p. Some (begun_if (begins_in_invalid (tree_of c.args.self.now.nodes c.args.first)) (start_at c.args.self.now.nodes c.args.first.0) p.0, p.1)) (λ x ts. refl) (s.unheard_after c.loop-exprs.invariant.0 (s.unheard_after (s.on_call (λ x p. run _ (seqs (trees_append es (cons p.0 nil))) x p.1) (λ x ts. assign.seqs_more_splits _ es x ts) c.in_ok-expr.ensures.reads.on)
+    (s.unheard_call (λ x p. seqs_by _ more p.0 x p.1) (λ x ts. assign.seqs_splits _ more x ts) (c.in_err-eat.ensures.eats g.B.Bodies.is_faithful)))))
     (grows-then c.loop-exprs.invariant.2 c.parse_assignment_expr.ensures.grows))
 
 pub parse_seq_expr-loop-exprs-preserved : goal.parse_seq_expr-loop-exprs-preserved
@@ -1495,10 +1636,14 @@ parse_seq_expr-loop-exprs-preserved g t c =
       grows-then c.loop-exprs.invariant.2 grows,
       record { chained = ap (λ v. chain (seat_at nodes) (first_at c.args.self.now.nodes c.args.first.0) (flat one_expr v) (count nodes)) c.in_ok-add-2.ensures.added ∙ parts.chained },
       subst (λ v. 1 ≤ length v) (sym c.in_ok-add-2.ensures.added) (let h = length-append c.loop-exprs.exprs.items (c.in_ok-expr.expr ∷ []) in omega arith),
+      ap (λ v. slice_index_or v 0 c.args.first) c.in_ok-add-2.ensures.added ∙ ending.head-more c.loop-exprs.exprs.items c.in_ok-expr.expr c.args.first c.loop-exprs.invariant.4
+          ∙ c.loop-exprs.invariant.5,
     )
 
 pub parse_seq_expr-returns-in-None : goal.parse_seq_expr-returns-in-None
 parse_seq_expr-returns-in-None g t c =
+    let old = c.args.self.now.nodes in let first = c.args.first in
+    let before = c.loop-exprs.exprs.items in let xs = c.add-in-loop-exprs.new.list.items in
     let es = expr_trees (tree_at c.loop-exprs.self.nodes) c.loop-exprs.exprs in
     let nodes = c.parse_assignment_expr.new.self.nodes in
     let more = trees_append es (cons (tree_of nodes c.in_ok-expr.expr) nil) in
@@ -1510,8 +1655,12 @@ parse_seq_expr-returns-in-None g t c =
     m.node _ c.seq_expr-node.result c.made.result (omega arith)
     (made_over _ _ (first_at c.args.self.now.nodes c.args.first.0) (exprs_parts c.add-in-loop-exprs.new.list) _ c.seq_expr-node.result c.seq_expr-node.ensures.made apart)
     c.made.ensures.ok c.made.ensures.refused (grows-then c.loop-exprs.invariant.2 grows) c.seq_expr-node.ensures.grows
-    (s.heard_answer (ap seq_of (sym added)) (s.heard_after c.loop-exprs.invariant.0 (s.heard_more (λ x p. run _ (seqs (trees_append es (cons p.0 nil))) x p.1) (λ x ts. assign.seqs_more_splits _ es x ts) c.in_ok-expr.ensures.reads
-    (s.on_call (λ x p. seqs_by _ more p.0 x p.1) (λ x ts. assign.seqs_splits _ more x ts) none))))
+    (s.heard_answer (ending.seq-begun old nodes first c.in_ok-expr.expr before xs (grows-then c.loop-exprs.invariant.2 grows) c.requires.from c.loop-exprs.invariant.4 c.loop-exprs.invariant.5 c.in_ok-add-2.ensures.added)
+    (s.heard_as (begun_if (begins_in_invalid (tree_of old first)) (start_at old first.0)) (λ x ts. refl)
+    (s.heard_after c.loop-exprs.invariant.0 (s.heard_more_read (λ x p. run _ (seqs (trees_append es (cons p.0 nil))) x p.1) (λ x ts. assign.seqs_more_splits _ es x ts) c.in_ok-expr.ensures.reads
+    (s.on_call (λ x p. seqs_by _ more p.0 x p.1) (λ x ts. assign.seqs_splits _ more x ts) none)
+    (λ x ts us h. ap seq_of (sym added) ∙ ending.seq-read old nodes first c.in_ok-expr.expr before xs (grows-then c.loop-exprs.invariant.2 grows) c.requires.from c.loop-exprs.invariant.4 c.loop-exprs.invariant.5 c.in_ok-add-2.ensures.added
+    (ending.ended _ g.met.B.Bodies.lawful c.in_ok-expr.expr Assign x ts us c.in_ok-expr.ensures.from h))))))
 
 pub parse_seq_expr-seq_expr-node-requires-clause-apart : goal.parse_seq_expr-seq_expr-node-requires-clause-apart
 parse_seq_expr-seq_expr-node-requires-clause-apart g t c =
@@ -1550,12 +1699,15 @@ parse_assign_expr-returns g t c =
     let r = tree_of c.parse_assignment_expr.new.self.nodes c.in_ok-right.right in
     let x0 = scope g.I.Tokens.model c.args.self.now.input in
     let grows = c.parse_assignment_expr.ensures.grows in
-    let whole = ap (λ v. assign_e (to (span_of v) (span_of r)) c.args.op v r) (sym (tree-later grows c.requires.from)) in
+    let end = end_at c.parse_assignment_expr.new.self.nodes c.in_ok-right.right.0 in
+    let whole = ap (λ v. assign_e (from_to (span_of v).lo end) c.args.op v r) (sym (tree-later grows c.requires.from)) in
     m.node _ c.assign_expr-node.result c.made.result (first_kept grows c.requires.from) c.assign_expr-node.ensures.made c.made.ensures.ok c.made.ensures.refused grows c.assign_expr-node.ensures.grows
     (s.heard_answer whole (s.heard_after (s.on_checked_in {g = behind (assign_tail _ c.args.op l)} (is_target x0.context.strict l) c.in_ok-check_assign_target.ensures.checks
     (λ ts h. assign.assign_well _ c.args.op l x0 ts h) (λ ts h. assign.assign_ill _ c.args.op l x0 ts h))
     (s.heard_first g.met.I.Tokens.laws c.skip.ensures.took.1 (λ x ts. refl)
-    (s.on_call (λ x p. Some (assign_e (to (span_of l) (span_of p.0)) c.args.op l p.0, p.1)) (λ x ts. assign.assign_tail_splits _ c.args.op l x ts) c.in_ok-right.ensures.reads.on))))
+    (s.on_call_read {g = s.give (assign_e (from_to (span_of l).lo end) c.args.op l r)} (λ x p. Some (assign_e (to (span_of l) (span_of p.0)) c.args.op l p.0, p.1)) (λ x ts. assign.assign_tail_splits _ c.args.op l x ts) c.in_ok-right.ensures.reads.on
+    (λ x ts us h y ys. ap (λ v. Some (assign_e (from_to (span_of l).lo v) c.args.op l r, ys))
+    (sym (ending.ended _ g.met.B.Bodies.lawful c.in_ok-right.right Assign x ts us c.in_ok-right.ensures.from h)))))))
 
 pub parse_yield_expr-returns-in_err-refuse_yield_param : goal.parse_yield_expr-returns-in_err-refuse_yield_param
 parse_yield_expr-returns-in_err-refuse_yield_param g t c =
@@ -1606,10 +1758,13 @@ pub parse_yield_operand-returns-in-Ok : goal.parse_yield_operand-returns-in-Ok
 parse_yield_operand-returns-in-Ok g t c =
     let star = c.in_ok-star.star in
     let e = tree_of c.parse_assignment_expr.new.self.nodes c.in-Ok.arg in
-    let given = ap (λ b. yield_e (between c.args.start.lo (span_of e).hi) b e) (sym (assign.given_some star) ∙ sym c.is_some.ensures) in
+    let end = end_at c.parse_assignment_expr.new.self.nodes c.in-Ok.arg.0 in
+    let given = ap (λ b. yield_e (from_to c.args.start.lo end) b e) (sym (assign.given_some star) ∙ sym c.is_some.ensures) in
     m.node _ c.yield_expr-node.result c.made.result c.in-Ok.ensures.from.above c.yield_expr-node.ensures.made c.made.ensures.ok c.made.ensures.refused c.parse_assignment_expr.ensures.grows c.yield_expr-node.ensures.grows
     (s.heard_answer given (s.heard_after (s.on_call (λ x p. yield_arg _ c.args.start p.0 x p.1) (λ x ts. assign.yield_operand_splits _ c.args.start x ts) (s.eats_on g.B.Bodies.is_faithful is_star star _ _ (c.in_ok-star.ensures.eats g.B.Bodies.is_faithful)))
-    (s.heard_call (λ x q. Some (yield_e (to c.args.start (span_of q.0)) (is_some star) q.0, q.1)) (λ x ts. refl) (λ x ts. refl) c.in-Ok.ensures.reads)))
+    (s.heard_call_read (λ x q. Some (yield_e (to c.args.start (span_of q.0)) (is_some star) q.0, q.1)) (λ x ts. refl)
+    (λ x ts us h y ys. ap (λ v. Some (yield_e (from_to c.args.start.lo v) (is_some star) e, ys))
+    (sym (ending.ended _ g.met.B.Bodies.lawful c.in-Ok.arg Assign x ts us c.in-Ok.ensures.from h))) c.in-Ok.ensures.reads)))
 
 pub parse_yield_operand-returns-in-Err : goal.parse_yield_operand-returns-in-Err
 parse_yield_operand-returns-in-Err g t c =
@@ -1623,25 +1778,33 @@ pub parse_assignment_expr_with_in-returns : goal.parse_assignment_expr_with_in-r
 parse_assignment_expr_with_in-returns g t c =
     m.yes c.parse_assignment_expr-expr.result
     (s.parses_within g.I.Tokens.model g.B.Bodies.is_faithful (tree_of c.parse_assignment_expr-expr.new.self.nodes) _ (run _ (at Assign)) c.parse_assignment_expr-expr.result include_in (λ x. refl) (λ x ts. rule.inside_assign _ x ts)
-    c.set_ctx.ensures.moves (c.set_ctx.ensures.context ∙ ap include_in c.get_ctx-ctx.ensures) c.parse_assignment_expr-expr.ensures.reads c.set_ctx-2.ensures.moves
+    c.set_ctx.ensures.moves (ap deciding c.set_ctx.ensures.context ∙ ap (λ x. include_in (deciding x)) c.get_ctx-ctx.ensures) c.parse_assignment_expr-expr.ensures.reads c.set_ctx-2.ensures.moves
     (c.set_ctx-2.ensures.context ∙ c.get_ctx-ctx.ensures))
     c.parse_assignment_expr-expr.ensures.grows c.parse_assignment_expr-expr.ensures.from
 
-pub parse_prop_name-returns-in_err-start : goal.parse_prop_name-returns-in_err-start
-parse_prop_name-returns-in_err-start g t c =
+pub parse_prop_name-returns : goal.parse_prop_name-returns
+parse_prop_name-returns g t c =
+    m.yes c.parse_key-key.result
+    (s.parses_aside g.I.Tokens.model g.B.Bodies.is_faithful (key_at c.parse_key-key.new.self.nodes) (run _ (at Key)) c.parse_key-key.result
+    c.set_ctx.ensures.moves (ap deciding c.set_ctx.ensures.context ∙ ap deciding c.get_ctx-ctx.ensures) c.parse_key-key.ensures.reads c.set_ctx-2.ensures.moves
+    (c.set_ctx-2.ensures.context ∙ c.get_ctx-ctx.ensures))
+    c.parse_key-key.ensures.grows c.parse_key-key.ensures.from
+
+pub parse_key-returns-in_err-start : goal.parse_key-returns-in_err-start
+parse_key-returns-in_err-start g t c =
     let p = err_from_is_err_and c.from_residual.result c.from_residual.ensures.1 in rw (p.1, p.2)
     (m.no (s.unheard_call (λ x p. key_by _ p.0 x p.1) (λ x ts. key.key_splits _ x ts) (c.in_err-start.ensures.eats g.B.Bodies.is_faithful)) (grows-same _))
 
-pub parse_prop_name-returns-in_err-expr-in-Some : goal.parse_prop_name-returns-in_err-expr-in-Some
-parse_prop_name-returns-in_err-expr-in-Some g t c =
+pub parse_key-returns-in_err-expr-in-Some : goal.parse_key-returns-in_err-expr-in-Some
+parse_key-returns-in_err-expr-in-Some g t c =
     let some = s.on_call (λ x p. key_by g.B.BodyForms.forms p.0 x p.1) (λ x ts. key.key_splits _ x ts)
     (s.eats_some g.B.Bodies.is_faithful is_lbracket _ c.in-Some.start _ _ c.in-Some.is (c.in_ok-start.ensures.eats g.B.Bodies.is_faithful)).on in
     let p = err_from_is_err_and c.from_residual-in_err-expr-in-Some.result c.from_residual-in_err-expr-in-Some.ensures.1 in rw (p.1, p.2)
     (m.no (s.unheard_after some
     (s.unheard_call (λ x p. key_close c.in-Some.start p.0 x p.1) (λ x ts. key.computed_key_splits _ c.in-Some.start x ts) c.in_err-expr-in-Some.ensures.reads)) c.parse_assignment_expr_with_in.ensures.grows)
 
-pub parse_prop_name-returns-in_ok-expr-in-Some : goal.parse_prop_name-returns-in_ok-expr-in-Some
-parse_prop_name-returns-in_ok-expr-in-Some g t c =
+pub parse_key-returns-in_ok-expr-in-Some : goal.parse_key-returns-in_ok-expr-in-Some
+parse_key-returns-in_ok-expr-in-Some g t c =
     let some = s.on_call (λ x p. key_by g.B.BodyForms.forms p.0 x p.1) (λ x ts. key.key_splits _ x ts)
     (s.eats_some g.B.Bodies.is_faithful is_lbracket _ c.in-Some.start _ _ c.in-Some.is (c.in_ok-start.ensures.eats g.B.Bodies.is_faithful)).on in
     m.after_held c.computed_prop_name.result
@@ -1649,8 +1812,8 @@ parse_prop_name-returns-in_ok-expr-in-Some g t c =
     (s.on_call (λ x p. key_close c.in-Some.start p.0 x p.1) (λ x ts. key.computed_key_splits _ c.in-Some.start x ts) c.in_ok-expr-in-Some.ensures.reads.on))
     c.parse_assignment_expr_with_in.ensures.grows (λ x. apart-lower (key_parts x) c.in_ok-expr-in-Some.ensures.from.above) c.computed_prop_name.ensures
 
-pub parse_prop_name-returns-in-None : goal.parse_prop_name-returns-in-None
-parse_prop_name-returns-in-None g t c =
+pub parse_key-returns-in-None : goal.parse_key-returns-in-None
+parse_key-returns-in-None g t c =
     m.after c.parse_plain_prop_name.result
     (s.on_call (λ x p. key_by _ p.0 x p.1) (λ x ts. key.key_splits _ x ts)
     (s.eats_none g.B.Bodies.is_faithful is_lbracket _ _ _ c.in-None.is (c.in_ok-start.ensures.eats g.B.Bodies.is_faithful)))
@@ -1675,7 +1838,7 @@ parse_after_key-returns-in_ok-value-in-Some g t c =
     let some = s.on_call (λ x p. after_by g.B.BodyForms.forms p.0 x p.1) (λ x ts. method.after_splits _ x ts)
     (s.eats_some g.B.Bodies.is_faithful is_colon _ c.in-Some.field-0 _ _ c.in-Some.is (c.in_ok-eat.ensures.eats g.B.Bodies.is_faithful)).on in
     m.yes (Ok _)
-    (s.heard_answer (ap (λ v. value_e v value) (sym c.span-span.ensures)) (s.heard_after some
+    (s.heard_answer (ap (λ v. value_e v value) (sym c.extent-span.ensures)) (s.heard_after some
     (s.heard_call (λ x p. Some (value_e (span_of p.0) p.0, p.1)) (λ x ts. method.after_colon_splits _ x ts) (λ x ts. refl) c.in_ok-value-in-Some.ensures.reads)))
     c.parse_assignment_expr_with_in.ensures.grows c.in_ok-value-in-Some.ensures.from
 
@@ -1718,8 +1881,16 @@ parse_tpl-returns g t c =
     (s.heard_more (λ x p. template_tail _ c.args.is_tagged p.0 x p.1) (λ x ts. tpl.template_splits _ c.args.is_tagged x ts) (c.in_ok-start.ensures.expects g.B.Bodies.is_faithful)
     (s.on_call (λ x p. Some (tpl_e (to start (span_of p.0)) p.0, p.1)) (λ x ts. refl) c.in_ok-parts.ensures.reads.on)))
 
-pub parse_tpl_elements-loop-exprs-init : goal.parse_tpl_elements-loop-exprs-init
-parse_tpl_elements-loop-exprs-init g t c = (
+pub parse_tpl_elements-returns : goal.parse_tpl_elements-returns
+parse_tpl_elements-returns g t c =
+    m.yes c.parse_tpl_parts-parts.result
+    (s.parses_aside g.I.Tokens.model g.B.Bodies.is_faithful (tpl_parts_at c.parse_tpl_parts-parts.new.self.nodes) (run _ (at (Parts c.args.is_tagged))) c.parse_tpl_parts-parts.result
+    c.set_ctx.ensures.moves (ap deciding c.set_ctx.ensures.context ∙ ap deciding c.get_ctx-ctx.ensures) c.parse_tpl_parts-parts.ensures.reads c.set_ctx-2.ensures.moves
+    (c.set_ctx-2.ensures.context ∙ c.get_ctx-ctx.ensures))
+    c.parse_tpl_parts-parts.ensures.grows c.parse_tpl_parts-parts.ensures.from
+
+pub parse_tpl_parts-loop-exprs-init : goal.parse_tpl_parts-loop-exprs-init
+parse_tpl_parts-loop-exprs-init g t c = (
   s.on_here g.met.I.Tokens.laws _ (λ x ts. tpl.parts_first _ c.args.is_tagged x ts
       ∙ ap (λ v. parts_behind g.B.BodyForms.forms c.args.is_tagged (trees (map quasi_tree v)) nil x ts) (sym c.new-quasis.ensures.items)
       ∙ ap (λ v. parts_behind g.B.BodyForms.forms c.args.is_tagged (trees (map quasi_tree c.new-quasis.result.items)) (trees (map (tree_of c.args.self.now.nodes) v)) x ts) (sym c.new-exprs.ensures.items)),
@@ -1728,8 +1899,8 @@ parse_tpl_elements-loop-exprs-init g t c = (
   record { chained = ap (λ v. chain (seat_at c.args.self.now.nodes) (count c.args.self.now.nodes) (flat one_expr v) (count c.args.self.now.nodes)) c.new-exprs.ensures.items ∙ (apart-none {ns = c.args.self.now.nodes} {k = count c.args.self.now.nodes} (omega arith)).chained },
 )
 
-pub parse_tpl_elements-loop-exprs-preserved : goal.parse_tpl_elements-loop-exprs-preserved
-parse_tpl_elements-loop-exprs-preserved g t c =
+pub parse_tpl_parts-loop-exprs-preserved : goal.parse_tpl_parts-loop-exprs-preserved
+parse_tpl_parts-loop-exprs-preserved g t c =
     let texts = trees (map quasi_tree c.loop-exprs.quasis.items) in
     let exprs = trees (map (tree_of c.loop-exprs.self.nodes) c.loop-exprs.exprs.items) in
     let now = trees_append texts (cons (quasi_tree c.in_ok-quasi.quasi) nil) in
@@ -1750,22 +1921,22 @@ parse_tpl_elements-loop-exprs-preserved g t c =
       record { chained = ap (λ v. chain (seat_at nodes) (count c.args.self.now.nodes) (flat one_expr v) (count nodes)) c.in_ok-add-2.ensures.added ∙ parts.chained },
     )
 
-pub parse_tpl_elements-returns-in_err-quasi : goal.parse_tpl_elements-returns-in_err-quasi
-parse_tpl_elements-returns-in_err-quasi g t c =
+pub parse_tpl_parts-returns-in_err-quasi : goal.parse_tpl_parts-returns-in_err-quasi
+parse_tpl_parts-returns-in_err-quasi g t c =
     let texts = trees (map quasi_tree c.loop-exprs.quasis.items) in
     let exprs = trees (map (tree_of c.loop-exprs.self.nodes) c.loop-exprs.exprs.items) in
     let p = err_from_is_err_and c.from_residual.result c.from_residual.ensures.1 in rw (p.1, p.2)
     (m.no (s.unheard_after c.loop-exprs.invariant.0 (s.unheard_call (λ x p. parts_after g.B.BodyForms.forms c.args.is_tagged (trees_append texts (cons p.0 nil)) exprs x p.1) (λ x ts. tpl.behind_splits _ c.args.is_tagged texts exprs x ts) (c.in_err-quasi.ensures.parses g.B.Bodies.is_faithful)))
     (grows-then c.loop-exprs.invariant.2 (grows-kept c.parse_tpl_element.ensures.nodes)))
 
-pub parse_tpl_elements-returns-in_err-add : goal.parse_tpl_elements-returns-in_err-add
-parse_tpl_elements-returns-in_err-add g t c =
+pub parse_tpl_parts-returns-in_err-add : goal.parse_tpl_parts-returns-in_err-add
+parse_tpl_parts-returns-in_err-add g t c =
     let p = err_from_is_err_and c.from_residual-in_err-add.result c.from_residual-in_err-add.ensures.1 in rw (p.1, p.2)
     (m.no (s.unheard_memory (s.forgoes_later (s.leads_then c.loop-exprs.invariant.0.leads (c.in_ok-quasi.ensures.parses g.B.Bodies.is_faithful).on.leads) (s.forgoes_here g.met.I.Tokens.laws _ _ _ c.in_err-add.ensures.refused)))
     (grows-then c.loop-exprs.invariant.2 (grows-kept c.parse_tpl_element.ensures.nodes)))
 
-pub parse_tpl_elements-returns-in_err-end : goal.parse_tpl_elements-returns-in_err-end
-parse_tpl_elements-returns-in_err-end g t c =
+pub parse_tpl_parts-returns-in_err-end : goal.parse_tpl_parts-returns-in_err-end
+parse_tpl_parts-returns-in_err-end g t c =
     let texts = trees (map quasi_tree c.loop-exprs.quasis.items) in
     let exprs = trees (map (tree_of c.loop-exprs.self.nodes) c.loop-exprs.exprs.items) in
     let now = trees_append texts (cons (quasi_tree c.in_ok-quasi.quasi) nil) in
@@ -1774,8 +1945,8 @@ parse_tpl_elements-returns-in_err-end g t c =
     (m.no (s.unheard_after c.loop-exprs.invariant.0 (s.unheard_after element (s.unheard_call (λ x p. parts_by g.B.BodyForms.forms c.args.is_tagged now exprs p.0 x p.1) (λ x ts. refl) (c.in_err-end.ensures.ends g.B.Bodies.is_faithful))))
     (grows-then c.loop-exprs.invariant.2 (grows-kept c.parse_tpl_element.ensures.nodes)))
 
-pub parse_tpl_elements-returns-in-Some : goal.parse_tpl_elements-returns-in-Some
-parse_tpl_elements-returns-in-Some g t c =
+pub parse_tpl_parts-returns-in-Some : goal.parse_tpl_parts-returns-in-Some
+parse_tpl_parts-returns-in-Some g t c =
     let texts = trees (map quasi_tree c.loop-exprs.quasis.items) in
     let exprs = trees (map (tree_of c.loop-exprs.self.nodes) c.loop-exprs.exprs.items) in
     let now = trees_append texts (cons (quasi_tree c.in_ok-quasi.quasi) nil) in
@@ -1789,8 +1960,8 @@ parse_tpl_elements-returns-in-Some g t c =
     (s.heard_answer whole (s.heard_after c.loop-exprs.invariant.0 (s.heard_after element (s.heard_call (λ x p. parts_by g.B.BodyForms.forms c.args.is_tagged now exprs p.0 x p.1) (λ x ts. refl) (λ x ts. refl) some))))
     (grows-then c.loop-exprs.invariant.2 kept) (apart-later kept c.loop-exprs.invariant.3)
 
-pub parse_tpl_elements-returns-in_err-expr : goal.parse_tpl_elements-returns-in_err-expr
-parse_tpl_elements-returns-in_err-expr g t c =
+pub parse_tpl_parts-returns-in_err-expr : goal.parse_tpl_parts-returns-in_err-expr
+parse_tpl_parts-returns-in_err-expr g t c =
     let texts = trees (map quasi_tree c.loop-exprs.quasis.items) in
     let exprs = trees (map (tree_of c.loop-exprs.self.nodes) c.loop-exprs.exprs.items) in
     let now = trees_append texts (cons (quasi_tree c.in_ok-quasi.quasi) nil) in
@@ -1802,8 +1973,8 @@ parse_tpl_elements-returns-in_err-expr g t c =
     (s.unheard_call (λ x p. tpl_expr_close g.B.BodyForms.forms p.0 x p.1) (λ x ts. refl) c.in_err-expr.ensures.reads)))))
     (grows-then c.loop-exprs.invariant.2 (grows-then (grows-kept c.parse_tpl_element.ensures.nodes) c.parse_expr_with_in.ensures.grows)))
 
-pub parse_tpl_elements-returns-in_err-expect : goal.parse_tpl_elements-returns-in_err-expect
-parse_tpl_elements-returns-in_err-expect g t c =
+pub parse_tpl_parts-returns-in_err-expect : goal.parse_tpl_parts-returns-in_err-expect
+parse_tpl_parts-returns-in_err-expect g t c =
     let texts = trees (map quasi_tree c.loop-exprs.quasis.items) in
     let exprs = trees (map (tree_of c.loop-exprs.self.nodes) c.loop-exprs.exprs.items) in
     let now = trees_append texts (cons (quasi_tree c.in_ok-quasi.quasi) nil) in
@@ -1817,8 +1988,8 @@ parse_tpl_elements-returns-in_err-expect g t c =
     (s.unheard_call (λ x q. Some (e, q.1)) (λ x ts. refl) (c.in_err-expect.ensures.expects g.B.Bodies.is_faithful)))))))
     (grows-then c.loop-exprs.invariant.2 (grows-then (grows-kept c.parse_tpl_element.ensures.nodes) c.parse_expr_with_in.ensures.grows)))
 
-pub parse_tpl_elements-returns-in_err-add-2 : goal.parse_tpl_elements-returns-in_err-add-2
-parse_tpl_elements-returns-in_err-add-2 g t c =
+pub parse_tpl_parts-returns-in_err-add-2 : goal.parse_tpl_parts-returns-in_err-add-2
+parse_tpl_parts-returns-in_err-add-2 g t c =
     let p = err_from_is_err_and c.from_residual-in_err-add-2.result c.from_residual-in_err-add-2.ensures.1 in rw (p.1, p.2)
     (m.no (s.unheard_memory (s.forgoes_later (s.leads_then c.loop-exprs.invariant.0.leads (s.leads_then (c.in_ok-quasi.ensures.parses g.B.Bodies.is_faithful).on.leads (s.leads_then (c.in_ok-end.ensures.ends g.B.Bodies.is_faithful).on.leads
     (s.leads_then c.in_ok-expr.ensures.reads.on.leads (c.in_ok-expect.ensures.expects g.B.Bodies.is_faithful).on.leads))))

@@ -1,5 +1,6 @@
 -- Each call is made with fewer tokens to come, or on the way down to a primary expression.
-use Rattle.std.proofs.Common.{◌+◌, ◌*◌, ◌≤◌, not, map, length}
+use Rattle.std.proofs.Common.{◌≡◌, ◌+◌, ◌*◌, ◌≤◌, not, map, length}
+use Rattle.std.specs.Prelude.{slice_index_or}
 use Rattle.swc_input.specs.Buffer.{to_come}
 use Rattle.swc_ast.specs.Parts.{item_trees, quasi_tree}
 use Rattle.swc_ast.specs.Tree.{nil, cons, trees}
@@ -35,7 +36,10 @@ abbrev pub decreases-parse_import : goal.decreases-parse_import
 decreases-parse_import g l = to_come g.I.Tokens.model l.self.now.input * 20 + 1
 
 abbrev pub decreases-parse_lhs_expr : goal.decreases-parse_lhs_expr
-decreases-parse_lhs_expr g l = to_come g.I.Tokens.model l.self.now.input * 20 + 4
+decreases-parse_lhs_expr g l = to_come g.I.Tokens.model l.self.now.input * 20 + 5
+
+abbrev pub decreases-parse_member_expr : goal.decreases-parse_member_expr
+decreases-parse_member_expr g l = to_come g.I.Tokens.model l.self.now.input * 20 + 4
 
 abbrev pub decreases-parse_new_expr : goal.decreases-parse_new_expr
 decreases-parse_new_expr g l = to_come g.I.Tokens.model l.self.now.input * 20 + 2
@@ -92,13 +96,13 @@ abbrev pub decreases-parse_await_expr : goal.decreases-parse_await_expr
 decreases-parse_await_expr g l = to_come g.I.Tokens.model l.self.now.input * 20 + 1
 
 abbrev pub decreases-parse_await_operand : goal.decreases-parse_await_operand
-decreases-parse_await_operand g l = to_come g.I.Tokens.model l.self.now.input * 20 + 6
+decreases-parse_await_operand g l = to_come g.I.Tokens.model l.self.now.input * 20 + 7
 
 abbrev pub decreases-parse_unary_op : goal.decreases-parse_unary_op
 decreases-parse_unary_op g l = to_come g.I.Tokens.model l.self.now.input * 20 + 3
 
 abbrev pub decreases-parse_unary_expr : goal.decreases-parse_unary_expr
-decreases-parse_unary_expr g l = to_come g.I.Tokens.model l.self.now.input * 20 + 5
+decreases-parse_unary_expr g l = to_come g.I.Tokens.model l.self.now.input * 20 + 6
 
 abbrev pub decreases-parse_bin_op : goal.decreases-parse_bin_op
 decreases-parse_bin_op g l = to_come g.I.Tokens.model l.self.now.input * 20 + 7
@@ -143,6 +147,7 @@ invariant-parse_seq_expr-loop-exprs g l =
     × Grows l.fn.self.nodes l.self.nodes
     × Apart (first_at l.fn.self.nodes l.fn.first.0) l.self.nodes (exprs_parts l.exprs)
     × (1 ≤ length l.exprs.items)
+    × (slice_index_or l.exprs.items 0 l.fn.first ≡ l.fn.first)
 
 abbrev pub decreases-parse_seq_expr-loop-exprs : goal.decreases-parse_seq_expr-loop-exprs
 decreases-parse_seq_expr-loop-exprs g l = to_come g.I.Tokens.model l.self.input
@@ -197,7 +202,10 @@ abbrev pub decreases-parse_elements-loop-items : goal.decreases-parse_elements-l
 decreases-parse_elements-loop-items g l = to_come g.I.Tokens.model l.self.input
 
 abbrev pub decreases-parse_prop_name : goal.decreases-parse_prop_name
-decreases-parse_prop_name g l = to_come g.I.Tokens.model l.self.now.input * 20 + 15
+decreases-parse_prop_name g l = to_come g.I.Tokens.model l.self.now.input * 20 + 16
+
+abbrev pub decreases-parse_key : goal.decreases-parse_key
+decreases-parse_key g l = to_come g.I.Tokens.model l.self.now.input * 20 + 15
 
 abbrev pub decreases-parse_object_lit : goal.decreases-parse_object_lit
 decreases-parse_object_lit g l = to_come g.I.Tokens.model l.self.now.input * 20 + 1
@@ -233,8 +241,11 @@ decreases-parse_tpl g l = to_come g.I.Tokens.model l.self.now.input * 20 + 1
 abbrev pub decreases-parse_tpl_elements : goal.decreases-parse_tpl_elements
 decreases-parse_tpl_elements g l = to_come g.I.Tokens.model l.self.now.input * 20 + 16
 
-abbrev pub invariant-parse_tpl_elements-loop-exprs : goal.invariant-parse_tpl_elements-loop-exprs
-invariant-parse_tpl_elements-loop-exprs g l =
+abbrev pub decreases-parse_tpl_parts : goal.decreases-parse_tpl_parts
+decreases-parse_tpl_parts g l = to_come g.I.Tokens.model l.self.now.input * 20 + 15
+
+abbrev pub invariant-parse_tpl_parts-loop-exprs : goal.invariant-parse_tpl_parts-loop-exprs
+invariant-parse_tpl_parts-loop-exprs g l =
     On g.I.Tokens.model g.B.Bodies.is_faithful
     (run g.B.BodyForms.forms (sym (Parts l.fn.is_tagged)))
     (parts_behind g.B.BodyForms.forms l.fn.is_tagged (trees (map quasi_tree l.quasis.items))
@@ -244,5 +255,5 @@ invariant-parse_tpl_elements-loop-exprs g l =
     × Grows l.fn.self.nodes l.self.nodes
     × Apart (count l.fn.self.nodes) l.self.nodes (exprs_parts l.exprs)
 
-abbrev pub decreases-parse_tpl_elements-loop-exprs : goal.decreases-parse_tpl_elements-loop-exprs
-decreases-parse_tpl_elements-loop-exprs g l = to_come g.I.Tokens.model l.self.input
+abbrev pub decreases-parse_tpl_parts-loop-exprs : goal.decreases-parse_tpl_parts-loop-exprs
+decreases-parse_tpl_parts-loop-exprs g l = to_come g.I.Tokens.model l.self.input

@@ -1,6 +1,6 @@
 use Rattle.std.proofs.Common.{Ok, Some, sym, ap}
 use Rattle.std.proofs.lemmas.Result.{err_from_is_err_and}
-use Rattle.swc_grammar.specs.Trees.{nullish_ok}
+use Rattle.swc_ast.specs.Trees.{nullish_ok}
 use Rattle.swc_nodes.proofs.Standing.{grows-same}
 use Rattle.swc_productions.specs.Parsing.{tree_of}
 use Rattle.swc_productions.proofs.Building.{made_at}

@@ -1,8 +1,7 @@
 use Rattle.std.proofs.Common.{◌++◌, Some, refl, sym, ap, arith}
 use Rattle.std.proofs.lemmas.Result.{err_from_is_err_and}
-use Rattle.swc_context.proofs.Spans.{span_is}
 use Rattle.swc_ast.specs.Tree.{span_of}
-use Rattle.swc_grammar.specs.Trees.{to, computed_e, member_e, link_e}
+use Rattle.swc_ast.specs.Trees.{to, computed_e, member_e, link_e}
 use Rattle.swc_nodes.specs.Slots.{expr_part, one_expr}
 use Rattle.swc_nodes.proofs.Held.{from-apart}
 use Rattle.swc_nodes.proofs.Standing.{grows-same}
@@ -26,9 +25,7 @@ pub returns : goal.returns
 returns g c =
     let l = tree_of c.args.self.now.nodes c.args.obj in
     let e = tree_of c.args.self.now.nodes c.args.expr in
-    let end = c.in_ok-end.end in
-    let whole = ap (λ v. link_e c.args.optional l (member_e (to (span_of l) end) l (computed_e v e))) (sym (span_is c.new-span.result c.args.start.lo end.hi c.new-span.ensures.lo c.new-span.ensures.hi)) in
     m.node _ c.member_expr-node.result c.made.result (omega arith)
     (made_over _ _ _ (one_expr c.args.obj ++ one_expr c.args.expr) _ c.member_expr-node.result c.member_expr-node.ensures.made
     (apart-first (expr_part c.args.obj) (one_expr c.args.expr) c.requires)) c.made.ensures.ok c.made.ensures.refused (grows-same _) c.member_expr-node.ensures.grows
-    (s.heard_answer whole (s.heard_call (λ x q. Some (link_e c.args.optional l (member_e (to (span_of l) q.0) l (computed_e (to c.args.start q.0) e)), q.1)) (λ x ts. refl) (λ x ts. refl) (c.in_ok-end.ensures.expects g.B.Bodies.is_faithful)))
+    (s.heard_call (λ x q. Some (link_e c.args.optional l (member_e (to (span_of l) q.0) l (computed_e (to c.args.start q.0) e)), q.1)) (λ x ts. refl) (λ x ts. refl) (c.in_ok-end.ensures.expects g.B.Bodies.is_faithful))

@@ -1,7 +1,6 @@
 use Rattle.std.proofs.Common.{Ok, Some, refl, sym, ap}
 use Rattle.std.proofs.lemmas.Result.{err_from_is_err_and}
-use Rattle.swc_context.proofs.Spans.{span_is}
-use Rattle.swc_grammar.specs.Trees.{to, computed_e}
+use Rattle.swc_ast.specs.Trees.{to, computed_e}
 use Rattle.swc_nodes.specs.Slots.{expr_part}
 use Rattle.swc_nodes.proofs.Held.{apart-from, from_self}
 use Rattle.swc_nodes.proofs.Standing.{grows-same}
@@ -20,10 +19,7 @@ returns-in_err-end g c =
 pub returns : goal.returns
 returns g c =
     let e = tree_of c.args.self.now.nodes c.args.expr in
-    let span = c.new-span.result in
-    let whole = ap (λ v. computed_e v e)
-    (sym (span_is span c.args.start.lo c.in_ok-end.end.hi c.new-span.ensures.lo c.new-span.ensures.hi)) in
     m.yes (Ok _)
-    (s.heard_answer whole (s.heard_call (λ x q. Some (computed_e (to c.args.start q.0) e, q.1)) (λ x ts. refl)
-    (λ x ts. refl) (c.in_ok-end.ensures.expects g.B.Bodies.is_faithful)))
+    (s.heard_call (λ x q. Some (computed_e (to c.args.start q.0) e, q.1)) (λ x ts. refl)
+    (λ x ts. refl) (c.in_ok-end.ensures.expects g.B.Bodies.is_faithful))
     (grows-same _) (apart-from (expr_part c.args.expr) (from_self c.requires.from))

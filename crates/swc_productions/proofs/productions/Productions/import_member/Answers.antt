@@ -1,6 +1,5 @@
 use Rattle.std.proofs.Common.{not, refl, sym, ap}
 use Rattle.std.proofs.lemmas.Result.{err_from_is_err_and}
-use Rattle.swc_context.proofs.Spans.{span_is}
 use Rattle.swc_ast.specs.declared.expr.ImportPhase.TheVariants as phase
 use Rattle.swc_grammar.specs.Tokens.{is_meta, is_source}
 use Rattle.swc_productions.specs.Bases.{callee_of, import_callee, import_meta, import_source}
@@ -26,9 +25,8 @@ returns-in-Some-clause-parses g c = λ sure.
     let b = not c.args.no_call in
     let end = c.in-Some.end in
     let some = s.eats_some sure is_meta _ end _ _ c.in-Some.is (c.in_ok-end.ensures.eats sure) in
-    s.heard_answer (ap (λ v. begun.Meta v) (sym (span_is c.new-span.result c.args.start.lo end.hi c.new-span.ensures.lo c.new-span.ensures.hi)))
-    (s.heard_more (λ x p. import_meta b c.args.start p.0 x p.1) (λ x ts. base.member_begins b c.args.start x ts) some
-    (s.on_checked_in _ c.in_ok-check_import_meta-in-Some.ensures.checks (λ ts h. rw h refl) (λ ts h. rw h refl)))
+    s.heard_more (λ x p. import_meta b c.args.start p.0 x p.1) (λ x ts. base.member_begins b c.args.start x ts) some
+    (s.on_checked_in _ c.in_ok-check_import_meta-in-Some.ensures.checks (λ ts h. rw h refl) (λ ts h. rw h refl))
 
 pub returns-in_err-end-2-clause-parses : goal.returns-in_err-end-2-clause-parses
 returns-in_err-end-2-clause-parses g c =
@@ -45,9 +43,8 @@ returns-in-Some-2-clause-parses g c = λ sure.
     let none = s.eats_none sure is_meta _ _ _ c.in-None.is (c.in_ok-end.ensures.eats sure) in
     let some = s.eats_some sure is_source _ end _ _ c.in-Some-2.is (c.in_ok-end-2.ensures.eats sure) in
     s.parses_after g.I.Tokens.model sure (λ h. h) _ _ c.import_callee.result
-    (s.on_to (s.on_then (s.on_call (λ x p. import_meta b c.args.start p.0 x p.1) (λ x ts. base.member_begins b c.args.start x ts) none)
+    (s.on_then (s.on_call (λ x p. import_meta b c.args.start p.0 x p.1) (λ x ts. base.member_begins b c.args.start x ts) none)
     (s.on_call (λ x q. import_source b c.args.start q.0 x q.1) (λ x ts. refl) some.on))
-    (λ x ts. ap (λ v. import_callee b (callee_of v phase.Source) x ts) (sym (span_is c.new-span-in-Some-2.result c.args.start.lo end.hi c.new-span-in-Some-2.ensures.lo c.new-span-in-Some-2.ensures.hi))))
     (c.import_callee.ensures.parses sure)
 
 pub returns-in_err-parse_ident_name-in-None-2-clause-parses : goal.returns-in_err-parse_ident_name-in-None-2-clause-parses

@@ -1,9 +1,13 @@
-use Rattle.std.proofs.Common.{sym, ap}
+use Rattle.std.proofs.Common.{map, sym, ap}
 use Rattle.std.proofs.lemmas.Result.{err_from_is_err_and}
-use Rattle.swc_context.specs.Spans.{between}
+use Rattle.swc_context.specs.Spans.{from_to}
 use Rattle.swc_ast.specs.Parts.{item_trees}
-use Rattle.swc_grammar.specs.Trees.{paren_ok, paren_e, seq_of, held_exprs}
+use Rattle.swc_ast.specs.Trees.{paren_ok, paren_e, held_exprs}
+use Rattle.swc_ast.specs.declared.expr.ExprOrSpread.{ExprOrSpread}
+use Rattle.swc_nodes.specs.Lists.{seq_between}
 use Rattle.swc_nodes.specs.Slots.{args_parts}
+use Rattle.swc_nodes.specs.Stands.{first_start, last_end}
+use Rattle.swc_nodes.specs.declared.node.ExprId.{ExprId}
 use Rattle.swc_nodes.proofs.Standing.{grows-same}
 use Rattle.swc_productions.specs.Parsing.{args_at, tree_of}
 use Rattle.swc_productions.proofs.Building.{made_at, made_over}
@@ -29,11 +33,13 @@ pub returns : goal.returns
 returns g c = λ k apart.
     let now = c.args.self.now.nodes in
     let es = args_at now c.args.list in
-    let held = seq_of (held_exprs (item_trees (tree_of now) c.args.list.items.items)) in
+    let xs = map (λ (x : ExprOrSpread ExprId). x.expr) c.args.list.items.items in
+    let held = seq_between (first_start now xs) (last_end now xs)
+    (held_exprs (item_trees (tree_of now) c.args.list.items.items)) in
     let over = made_over now c.seq_of_items-node.new.self k (args_parts c.args.list.items) held c.seq_of_items-node.result c.seq_of_items-node.ensures.made apart in
     let one = made_at c.seq_of_items-node.new.self k held c.seq_of_items-node.result c.in_ok-expr.expr over c.in_ok-expr.ensures.ok in
     m.node_on _ c.paren_expr-node.result c.made-2.result one.from.above c.paren_expr-node.ensures.made c.made-2.ensures.ok
     c.made-2.ensures.refused c.seq_of_items-node.ensures.grows c.paren_expr-node.ensures.grows
-    (s.on_answer (ap (λ v. paren_e (between c.args.start.lo c.args.list.end.hi) v) (sym one.stands))
+    (s.on_answer (ap (λ v. paren_e (from_to c.args.start.lo c.args.list.end.hi) v) (sym one.stands))
     (s.on_checked (paren_ok es) c.in_ok-check_paren_items.ensures.checks
     (λ x ts h. if_on (paren_ok es) _ _ h) (λ x ts h. if_off (paren_ok es) _ _ h)))

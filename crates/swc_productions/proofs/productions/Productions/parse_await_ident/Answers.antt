@@ -1,8 +1,8 @@
 use Rattle.std.proofs.Common.{sym, ap, arith}
 use Rattle.std.proofs.lemmas.Result.{err_from_is_err_and}
 use Rattle.swc_input.specs.Buffer.{context}
+use Rattle.swc_ast.specs.Trees.{ident_e}
 use Rattle.swc_grammar.specs.Tokens.{await_ident_ok}
-use Rattle.swc_grammar.specs.Trees.{ident_e}
 use Rattle.swc_nodes.proofs.Standing.{grows-same}
 use Rattle.swc_productions.specs.Parsing.{scope}
 use Rattle.swc_productions.proofs.Making as m

@@ -1,8 +1,8 @@
 use Rattle.std.proofs.Common.{Ok, Some, refl, sym, ap, ◌∙◌, arith}
 use Rattle.std.proofs.lemmas.Result.{err_from_is_err_and}
 use Rattle.swc_input.specs.Kinds.{at_token, is_hash}
+use Rattle.swc_ast.specs.Trees.{name_e, private_e}
 use Rattle.swc_grammar.specs.Names.{may_name}
-use Rattle.swc_grammar.specs.Trees.{name_e, private_e}
 use Rattle.swc_grammar.specs.Words.{◌>>=◌, word}
 use Rattle.swc_nodes.proofs.Lists.{apart-none}
 use Rattle.swc_nodes.proofs.Standing.{grows-same}

@@ -1,4 +1,5 @@
 use Rattle.std.proofs.Common.{refl, ap, ◌∙◌}
+use Rattle.swc_context.specs.Contexts.{view as deciding}
 use Rattle.swc_grammar.specs.Tokens.{method_block}
 use Rattle.swc_productions.specs.Parsing.{by_hook}
 use Rattle.swc_productions.proofs.Keys as key
@@ -11,6 +12,6 @@ returns-clause-reads g c =
     c.parse_block-block.result
     (method_block c.args.is_async c.args.is_generator) (λ x. refl)
     (λ x ts. key.method_body_block _ c.args.is_async c.args.is_generator x ts) c.set_ctx.ensures.moves
-    (c.set_ctx.ensures.context ∙ c.method_block.ensures
-    ∙ ap (method_block c.args.is_async c.args.is_generator) c.get_ctx-ctx.ensures)
+    (ap deciding (c.set_ctx.ensures.context ∙ c.method_block.ensures)
+    ∙ ap (λ x. deciding (method_block c.args.is_async c.args.is_generator x)) c.get_ctx-ctx.ensures)
     c.parse_block-block.ensures.reads c.set_ctx-2.ensures.moves (c.set_ctx-2.ensures.context ∙ c.get_ctx-ctx.ensures)

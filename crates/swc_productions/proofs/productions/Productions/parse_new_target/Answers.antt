@@ -1,10 +1,9 @@
 use Rattle.std.proofs.Common.{if◌then◌else◌, Some, None, refl, sym, ap, arith}
 use Rattle.std.proofs.lemmas.Result.{err_from_is_err_and}
-use Rattle.swc_context.proofs.Spans.{span_is}
 use Rattle.swc_input.specs.Buffer.{context}
 use Rattle.swc_ast.specs.declared.expr.MetaPropKind.TheVariants as kind
+use Rattle.swc_ast.specs.Trees.{to, meta_e}
 use Rattle.swc_grammar.specs.Tokens.{new_target_ok}
-use Rattle.swc_grammar.specs.Trees.{to, meta_e}
 use Rattle.swc_nodes.proofs.Standing.{grows-same}
 use Rattle.swc_productions.proofs.Links as link
 use Rattle.swc_productions.proofs.Making as m
@@ -23,8 +22,6 @@ returns-in_err-check_new_target g c =
 
 pub returns : goal.returns
 returns g c =
-    let end = c.in_ok-end.end in
-    let whole = ap (λ v. meta_e v kind.NewTarget) (sym (span_is c.new-span.result c.args.start.lo end.hi c.new-span.ensures.lo c.new-span.ensures.hi)) in
     m.node _ c.meta_prop-node.result c.made.result (omega arith) c.meta_prop-node.ensures.made c.made.ensures.ok c.made.ensures.refused (grows-same _) c.meta_prop-node.ensures.grows
-    (s.heard_answer whole (s.heard_more (λ x p. if new_target_ok x.context then Some (meta_e (to c.args.start p.0) kind.NewTarget, p.1) else None) (λ x ts. link.target_splits c.args.start x ts) (c.in_ok-end.ensures.expects g.B.Bodies.is_faithful)
-    (s.on_checked_in (new_target_ok (context g.I.Tokens.model c.expect_or.new.input)) c.in_ok-check_new_target.ensures.checks (λ ts h. rw h refl) (λ ts h. rw h refl))))
+    (s.heard_more (λ x p. if new_target_ok x.context then Some (meta_e (to c.args.start p.0) kind.NewTarget, p.1) else None) (λ x ts. link.target_splits c.args.start x ts) (c.in_ok-end.ensures.expects g.B.Bodies.is_faithful)
+    (s.on_checked_in (new_target_ok (context g.I.Tokens.model c.expect_or.new.input)) c.in_ok-check_new_target.ensures.checks (λ ts h. rw h refl) (λ ts h. rw h refl)))

@@ -2,8 +2,8 @@ use Rattle.std.proofs.Common.{Ok, Some, refl, sym, ap, ◌∙◌, arith}
 use Rattle.std.proofs.lemmas.Result.{err_from_is_err_and}
 use Rattle.swc_input.specs.Plain.{plain}
 use Rattle.swc_input.specs.Kinds.{at_token}
+use Rattle.swc_ast.specs.Trees.{name_e}
 use Rattle.swc_grammar.specs.Tokens.{is_word}
-use Rattle.swc_grammar.specs.Trees.{name_e}
 use Rattle.swc_grammar.specs.Parts.{key_lit_of}
 use Rattle.swc_nodes.specs.Seats.{chain}
 use Rattle.swc_nodes.specs.Stands.{count, seat_at}

@@ -1,8 +1,7 @@
 use Rattle.std.proofs.Common.{Ok, Some, [], map, refl, sym, ap, ◌∙◌}
 use Rattle.std.proofs.lemmas.Result.{err_from_is_err_and}
 use Rattle.std.specs.Option.{is_some}
-use Rattle.swc_context.specs.Spans.{between}
-use Rattle.swc_context.proofs.Spans.{span_is}
+use Rattle.swc_context.specs.Spans.{from_to}
 use Rattle.swc_ast.specs.Parts.{leaf, param_tree}
 use Rattle.swc_ast.specs.Tree.{node, cons, trees, function, block}
 use Rattle.swc_nodes.specs.Seats.{chain}
@@ -43,11 +42,10 @@ returns g c =
     let start = c.in_ok-start.start in
     let nodes = c.parse_method_block.new.self.nodes in
     let kept = grows-kept c.parse_method_block.ensures.nodes in
-    let spans = span_is c.new-span.result start.lo c.span.result.hi c.new-span.ensures.lo c.new-span.ensures.hi
-    ∙ ap (λ v. between start.lo v.hi) c.span.ensures in
+    let spans = ap (λ v. from_to start.lo v.hi) c.span.ensures in
     let whole = ap (λ v. node (function c.args.is_async c.args.is_generator) v
     (cons (leaf (block body) (place body)) (trees (map (param_tree {X = PatId} (λ q. tree_at nodes q.0)) [])))) (sym spans)
-    ∙ ap (λ l. node (function c.args.is_async c.args.is_generator) c.new-span.result
+    ∙ ap (λ l. node (function c.args.is_async c.args.is_generator) (from_to start.lo c.span.result.hi)
     (cons (leaf (block body) (place body)) (trees (map (param_tree {X = PatId} (λ q. tree_at nodes q.0)) l))))
     (sym c.new-params.ensures.items) in
     m.yes (Ok _)

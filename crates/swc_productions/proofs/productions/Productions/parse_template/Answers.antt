@@ -1,9 +1,8 @@
 use Rattle.std.proofs.Common.{◌++◌, Some, Ok, map, refl, sym, ap, ◌∙◌}
 use Rattle.std.proofs.lemmas.Result.{err_from_is_err_and}
-use Rattle.swc_context.proofs.Spans.{span_is}
 use Rattle.swc_ast.specs.Parts.{quasi_tree}
 use Rattle.swc_ast.specs.Tree.{node, trees, span_of, tpl as tpl_kind}
-use Rattle.swc_grammar.specs.Trees.{to, tpl_e}
+use Rattle.swc_ast.specs.Trees.{to, tpl_e}
 use Rattle.swc_nodes.proofs.Lists.{trees-both}
 use Rattle.swc_nodes.proofs.Standing.{grows-same}
 use Rattle.swc_productions.specs.Parsing.{tree_of}
@@ -37,9 +36,7 @@ returns g c =
     let exprs = map (tree_of c.parse_tpl_elements.new.self.nodes) parts.exprs.items in
     m.yes (Ok _)
     (s.heard_answer (ap (λ v. node tpl_kind (to start parts.end) v)
-    (sym (trees-both (map quasi_tree parts.quasis.items) exprs))
-    ∙ ap (λ v. node tpl_kind v (trees (map quasi_tree parts.quasis.items ++ exprs)))
-    (sym (span_is c.new-span.result start.lo parts.end.hi c.new-span.ensures.lo c.new-span.ensures.hi)))
+    (sym (trees-both (map quasi_tree parts.quasis.items) exprs)))
     (s.heard_more (λ x p. template_tail _ c.args.is_tagged p.0 x p.1)
     (λ x ts. tpl.template_splits _ c.args.is_tagged x ts) (c.in_ok-start.ensures.expects g.B.Bodies.is_faithful)
     (s.on_call (λ x p. Some (tpl_e (to start (span_of p.0)) p.0, p.1)) (λ x ts. refl) c.in_ok-parts.ensures.reads.on)))

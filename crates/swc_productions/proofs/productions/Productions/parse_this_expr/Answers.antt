@@ -1,7 +1,7 @@
 use Rattle.std.proofs.Common.{sym, ap, ◌∙◌, arith}
 use Rattle.swc_input.specs.Plain.{plain}
+use Rattle.swc_ast.specs.Trees.{this_e}
 use Rattle.swc_grammar.specs.Tokens.{is_this}
-use Rattle.swc_grammar.specs.Trees.{this_e}
 use Rattle.swc_nodes.proofs.Standing.{grows-same}
 use Rattle.swc_productions.proofs.Rules as rule
 use Rattle.swc_productions.proofs.Making as m

@@ -2,8 +2,8 @@ use Rattle.std.proofs.Common.{Some, refl, sym, ap, ◌∙◌}
 use Rattle.std.proofs.lemmas.Result.{err_from_is_err_and}
 use Rattle.swc_input.specs.Plain.{plain}
 use Rattle.swc_input.specs.Kinds.{at_token}
+use Rattle.swc_ast.specs.Trees.{text_e}
 use Rattle.swc_grammar.specs.Tokens.{is_backquote}
-use Rattle.swc_grammar.specs.Trees.{text_e}
 use Rattle.swc_productions.specs.Templates.{is_template, text_at, tpl_element}
 use Rattle.swc_productions.proofs.Steps as s
 use Rattle.swc_productions.proofs.Templates as tpl

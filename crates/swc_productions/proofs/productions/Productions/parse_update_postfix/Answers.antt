@@ -1,9 +1,9 @@
 use Rattle.std.proofs.Common.{Ok, false, refl, sym, ap, ◌∙◌, arith}
 use Rattle.std.proofs.lemmas.Result.{err_from_is_err_and}
-use Rattle.swc_context.specs.Spans.{between}
+use Rattle.swc_context.specs.Spans.{from_to}
 use Rattle.swc_ast.specs.Targets.{is_target}
 use Rattle.swc_ast.specs.Tree.{span_of}
-use Rattle.swc_grammar.specs.Trees.{update_e}
+use Rattle.swc_ast.specs.Trees.{update_e}
 use Rattle.swc_nodes.proofs.Held.{from_self}
 use Rattle.swc_nodes.proofs.Standing.{grows-same}
 use Rattle.swc_productions.specs.Parsing.{scope, tree_of}
@@ -35,7 +35,7 @@ returns g c =
     let op = c.in-Some.op in
     let first = c.skip.ensures.took.1 in
     let x0 = scope g.I.Tokens.model c.update_behind_cur.new.input in
-    let whole = ap (λ v. update_e (between (span_of l).lo v) op false l) (ap (λ v. v.hi) (sym (s.last_was first)) ∙ sym c.last_pos-end.ensures) in
+    let whole = ap (λ v. update_e (from_to (span_of l).lo v) op false l) (ap (λ v. v.hi) (sym (s.last_was first)) ∙ sym c.last_pos-end.ensures) in
     m.weaker c.made.result
     (m.node _ c.update_postfix-node.result c.made.result (omega arith) c.update_postfix-node.ensures.made c.made.ensures.ok
     c.made.ensures.refused (grows-same _) c.update_postfix-node.ensures.grows

@@ -1,7 +1,6 @@
 use Rattle.std.proofs.Common.{Some, refl, sym, ap, arith}
 use Rattle.std.proofs.lemmas.Result.{err_from_is_err_and}
-use Rattle.swc_context.proofs.Spans.{span_is}
-use Rattle.swc_grammar.specs.Trees.{to, computed_e, super_prop_e}
+use Rattle.swc_ast.specs.Trees.{to, computed_e, super_prop_e}
 use Rattle.swc_nodes.specs.Slots.{one_expr, expr_part}
 use Rattle.swc_nodes.proofs.Held.{apart-from, from_self}
 use Rattle.swc_nodes.proofs.Standing.{grows-same}
@@ -32,9 +31,8 @@ pub returns : goal.returns
 returns g c =
     let e = tree_of c.args.self.now.nodes c.args.expr in
     let end = c.in_ok-end.end in
-    let whole = ap (λ v. super_prop_e (to c.args.start end) c.args.start (computed_e v e)) (sym (span_is c.new-span.result c.args.bracket.lo end.hi c.new-span.ensures.lo c.new-span.ensures.hi)) in
     m.node _ c.super_prop_expr-node.result c.made.result (omega arith)
     (made_over _ _ _ (one_expr c.args.expr) _ c.super_prop_expr-node.result c.super_prop_expr-node.ensures.made (apart-from (expr_part c.args.expr) (from_self c.requires)))
     c.made.ensures.ok c.made.ensures.refused (grows-same _) c.super_prop_expr-node.ensures.grows
-    (s.heard_answer whole (s.heard_more (λ x q. allowed (super_in c.args.start c.args.bracket q.0 e) x q.1) (λ x ts. refl) (c.in_ok-end.ensures.expects g.B.Bodies.is_faithful)
-    (s.on_call (λ x q. Some (super_in c.args.start c.args.bracket end e, q.1)) (λ x ts. refl) (c.in_ok-require_super.ensures.passes g.B.Bodies.is_faithful))))
+    (s.heard_more (λ x q. allowed (super_in c.args.start c.args.bracket q.0 e) x q.1) (λ x ts. refl) (c.in_ok-end.ensures.expects g.B.Bodies.is_faithful)
+    (s.on_call (λ x q. Some (super_in c.args.start c.args.bracket end e, q.1)) (λ x ts. refl) (c.in_ok-require_super.ensures.passes g.B.Bodies.is_faithful)))

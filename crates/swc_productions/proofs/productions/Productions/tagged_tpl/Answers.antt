@@ -2,7 +2,7 @@ use Rattle.std.proofs.Common.{map, not, ◌++◌, sym, ap, arith}
 use Rattle.std.proofs.lemmas.Result.{err_from_is_err_and}
 use Rattle.swc_ast.specs.Parts.{quasi_tree}
 use Rattle.swc_ast.specs.Tree.{node, span_of, tpl as tpl_kind}
-use Rattle.swc_grammar.specs.Trees.{to, tagged_e, is_chain}
+use Rattle.swc_ast.specs.Trees.{to, tagged_e, is_chain}
 use Rattle.swc_nodes.specs.Lists.{exprs_parts}
 use Rattle.swc_nodes.specs.Slots.{expr_part, one_expr}
 use Rattle.swc_nodes.proofs.Held.{from-apart}

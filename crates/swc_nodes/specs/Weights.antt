@@ -1,10 +1,16 @@
--- What is left to print.
-use Rattle.std.specs.Prelude.{ℕ, suc, ◌-◌, ◌<◌, List}
+-- How many numbers are reached from numbers of nodes at most: what is left of a walk over trees.
+use Rattle.std.specs.Prelude.{ℕ, suc, ◌-◌, ◌<◌, List, [], ◌∷◌}
 use Rattle.std.specs.List.{All, sum_by}
 use Rattle.swc_ast.specs.declared.spanned.Spanned.{Ghosts}
 use Rattle.swc_nodes.specs.Seats.{Seat}
+use Rattle.swc_nodes.specs.Slots.{Part}
 use Rattle.swc_nodes.specs.Stands.{count, seat_at}
 use Rattle.swc_nodes.specs.declared.nodes.Nodes.{Nodes}
+
+-- the numbers of parts
+abbrev pub ats : List Part → List ℕ
+ats [] = []
+ats (p ∷ ps) = p.at ∷ ats ps
 
 -- how many numbers there are from the smallest that is reached from a number through the number itself
 abbrev pub weight : {F C K : Type 0} → (ℕ → Seat F C K) → ℕ → ℕ

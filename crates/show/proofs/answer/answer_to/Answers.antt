@@ -1,0 +1,29 @@
+use Rattle.std.proofs.Common.{refl}
+use Rattle.show.specs.Answers.{refused, judged}
+use Rattle.show.proofs.Giving.{same_error}
+use Rattle.show.proofs.Judging.{judged_by}
+use Rattle.show.proofs.answer.answer_to.Goals as goal
+
+pub returns-in-Ok : goal.returns-in-Ok
+returns-in-Ok c = λ heeded.
+    let tokens = c.in-Ok.ensures in judged (record {
+      read = record {
+        in_order = tokens.spans;
+        blanks = tokens.blanks;
+        marks = tokens.marks;
+        first = tokens.first;
+        no_errors = tokens.no_errors;
+        spells = tokens.spells;
+      };
+      nested = tokens.nested;
+    })
+    (judged_by c.args.ctx c.in-Ok.tokens.items c.parse_whole_expr-read.result.nodes
+    c.parse_whole_expr-read.result.recorded.items c.default.result c.default.ensures heeded
+    c.parse_whole_expr-read.ensures.headline c.show-shown.ensures)
+
+pub returns-in-Err : goal.returns-in-Err
+returns-in-Err c = λ heeded.
+    rw c.new-in-Err.ensures.items (refused {e = c.in-Err.fault} (record {
+      too_long = λ long. same_error _ _ refl refl (c.in-Err.ensures.too_long long);
+      inside = c.in-Err.ensures.refused;
+    }))

@@ -1,0 +1,59 @@
+-- What is answered of a source text.
+use Rattle.std.specs.Prelude.{◌≡◌, ℕ, ◌<◌, ◌≤◌, Bool, true, false, List, [], length, Result, Err, IfOk, MatchResult}
+use Rattle.swc_context.specs.Contexts.{view}
+use Rattle.swc_context.specs.declared.context.Context.{Context}
+use Rattle.swc_context.specs.declared.context.Syntax.{Syntax}
+use Rattle.swc_context.specs.declared.error.Error.{Error}
+use Rattle.swc_context.specs.declared.error.SyntaxError.TheVariants.{OutOfMemory}
+use Rattle.swc_input.specs.declared.token.TokenAndSpan.{TokenAndSpan}
+use Rattle.swc_ast.specs.Tree.{Tree}
+use Rattle.swc_bodies.specs.Keeping.{Body}
+use Rattle.swc_bodies.specs.Taking.{token_forms}
+use Rattle.swc_tokens.specs.Faults.{lex_fault, between, IsRefusal}
+use Rattle.swc_tokens.specs.Nesting.{AreNested}
+use Rattle.swc_tokens.specs.Reading.{AreRead}
+use Rattle.swc_grammar.specs.Symbols.{Expr}
+use Rattle.swc_grammar.specs.Reads.{Reads}
+use Rattle.swc_nodes.specs.declared.node.ExprId.{ExprId}
+use Rattle.swc_productions.specs.Parsing.{scope_of}
+use Rattle.swc_ecma_parser.specs.WholeList.{plain_list}
+use Rattle.show.specs.declared.answer.Shown.{Shown}
+
+-- the syntax in which the program reads
+abbrev pub as_default : Syntax
+as_default = record { early_errors = true; import_attributes = false; allow_super_outside_method = false }
+
+-- the text's tokens, as the reader of tokens promises them
+pub record AreTokens (text : List ℕ) (ts : List TokenAndSpan) : Type 0 where
+  pub read : AreRead text ts (length text)
+  pub nested : AreNested ts
+
+-- what the reader of tokens refuses of the text
+pub record IsTokenFault (text : List ℕ) (e : Error) : Type 0 where
+  pub too_long : 4294967295 < length text → e ≡ lex_fault (between 0 0)
+  pub inside : length text ≤ 4294967295 → IsRefusal text e
+
+-- a tree that the written grammar derives from all of the tokens; four flags of the context decide nothing (`view`)
+pub record Derived (c : Context) (ts : List TokenAndSpan) : Type 0 where
+  pub tree : Tree Body Body Body
+  pub reads : Reads token_forms Expr (scope_of (view c) as_default) (plain_list ts) [] tree
+
+-- what is answered of a text's tokens, and recorded
+pub record Judged (c : Context) (ts : List TokenAndSpan) (shown : Result Shown Error) (recorded : List Error) : Type 0 where
+  -- Where no token is left and nothing was recorded, the written grammar derives a tree from all of them.
+  pub sound : IfOk shown (λ s. s.unread ≡ false → recorded ≡ [] → Derived c ts)
+  -- Where it derives a tree from all of them, that is so, or memory was wanted.
+  pub complete : Derived c ts
+      → MatchResult shown (λ s. (s.unread ≡ false) × (recorded ≡ [])) (λ e. e.kind ≡ OutOfMemory)
+
+-- what is answered of a text in a context, and recorded
+pub data Answers (c : Context) (text : List ℕ) : Result Shown Error → List Error → Type 0 where
+  -- The text's tokens can't be read.
+  refused : {e : Error} → IsTokenFault text e → Answers c text (Err e) []
+  -- They were read as an expression.
+  judged : {ts : List TokenAndSpan} {shown : Result Shown Error} {recorded : List Error} → AreTokens text ts
+      → Judged c ts shown recorded → Answers c text shown recorded
+
+-- what was read is shown: whether tokens are left behind it, or the refusal; there may be no memory for its text
+abbrev pub Shows : Result (ExprId × Bool) Error → Result Shown Error → Type 0
+Shows read shown = MatchResult read (λ r. MatchResult shown (λ s. s.unread ≡ r.1) (λ e. e.kind ≡ OutOfMemory)) (λ e. shown ≡ Err e)

@@ -1,0 +1,14 @@
+use Rattle.std.proofs.Common.{◌≡◌}
+use Rattle.swc_nodes.specs.Slots.{expr_part}
+use Rattle.swc_nodes.specs.Stands.{seat_at, From}
+use Rattle.swc_nodes.proofs.nodes.Nodes.end.Given as goal
+
+abbrev pub invariant-loop-operand : goal.invariant-loop-operand
+invariant-loop-operand g l =
+    record {
+      from : From 0 l.self (expr_part l.last);
+      same : (seat_at l.self l.last.0).refused_end ≡ (seat_at l.self l.fn.id.0).refused_end;
+    }
+
+abbrev pub decreases-loop-operand : goal.decreases-loop-operand
+decreases-loop-operand g l = l.last.0
