@@ -7,7 +7,7 @@ use Rattle.swc_input.specs.declared.listed.TokensInput.{TokensInput}
 use Rattle.swc_input.specs.declared.token.TokenAndSpan.{TokenAndSpan}
 use Rattle.swc_input.specs.Listed.{listed_state, ListedGives, NextListed, listed_lawful, listed_none, listed_joins, listed_asked}
 use Rattle.swc_input.specs.Source.{Source, Model, Laws, IsLawful, Keeping, Gave, Asked, Unmoved}
-use Rattle.bench.specs.declared.failing.FailingInput.{FailingInput}
+use Rattle.bench.specs.declared.sources.FailingInput.{FailingInput}
 
 -- its end never comes, and its list isn't promised
 abbrev pub failing_state : TokensInput → Bool → Source

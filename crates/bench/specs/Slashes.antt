@@ -16,7 +16,7 @@ use Rattle.swc_input.specs.declared.listed.TokensInput.{TokensInput}
 use Rattle.swc_input.specs.declared.token.TokenAndSpan.{TokenAndSpan}
 use Rattle.swc_input.specs.Listed.{listed_state, listed_lawful, coming, ListedGives}
 use Rattle.swc_input.specs.Source.{Source, Model, Laws, Keeping, Gave, Asked, Unmoved, given_one}
-use Rattle.bench.specs.declared.slashes.SlashInput.{SlashInput}
+use Rattle.bench.specs.declared.sources.SlashInput.{SlashInput}
 
 -- ---- what is still to come
 

@@ -1,4 +1,5 @@
 // A source of tokens that meets want of memory.
+use crate::sources::FailingInput;
 use std::alloc::AllocError;
 use swc_context::context::{Context, EsVersion, Syntax, TokenContexts};
 use swc_context::error::Error;
@@ -6,13 +7,6 @@ use swc_context::span::BytePos;
 use swc_input::listed::TokensInput;
 use swc_input::token::TokenAndSpan;
 use swc_input::tokens::Tokens;
-
-/// A source that gives the tokens of a list and then, in place of the end, fails.
-#[derive(Drop)]
-pub(crate) struct FailingInput {
-    list: TokensInput,
-    failed: bool,
-}
 
 impl FailingInput {
     /// A source that gives the tokens of this list.
@@ -49,7 +43,7 @@ impl Iterator for FailingInput {
 
 impl Tokens for FailingInput {
     ghost use Rattle.std.proofs.Common.{refl};
-    ghost use Rattle.bench.specs.declared.failing.FailingInput.{FailingInput};
+    ghost use Rattle.bench.specs.declared.sources.FailingInput.{FailingInput};
     ghost use Rattle.bench.specs.Failing.{failing_model, with_contexts, failing_laws, failing_unmoved, failing_asked};
 
     ghost model = { failing_model (λ (s : FailingInput). s.list) (λ (s : FailingInput). s.failed) };

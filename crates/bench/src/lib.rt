@@ -20,6 +20,7 @@ mod settings;
 mod shown;
 #[cfg(test)]
 mod slashes;
+pub mod sources;
 #[cfg(test)]
 mod trees;
 #[cfg(test)]

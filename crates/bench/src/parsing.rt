@@ -1,10 +1,10 @@
 // Calls of the parser.
 use crate::calls::CALLS;
-use crate::failing::FailingInput;
 use crate::hooks::TestBodies;
 use crate::settings::{setting_of, source_of};
 use crate::shown::{Shown, show, show_faults, show_label, show_refusal};
 use crate::slashes::slashes_of;
+use crate::sources::FailingInput;
 use crate::trees::{show_id, show_numbered};
 use bench_lower::rows::{Row, Subject, answers, expect, row_of};
 use bench_lower::tokens::{fault_of, span_of};

@@ -4,6 +4,7 @@ ghost use Rattle.bench.specs.Slashes.{NextFrom, TakesAt, hinted_tokens, index_at
 ghost use Rattle.swc_input.specs.Source.{hint_brings};
 
 use crate::settings::setting_of;
+use crate::sources::SlashInput;
 use bench_lower::rows::{Row, unescaped};
 use std::alloc::{AllocError, Global};
 use std::test::Fail;
@@ -15,17 +16,6 @@ use swc_input::listed::TokensInput;
 use swc_input::token::{Token, TokenAndSpan};
 use swc_input::tokens::Tokens;
 use swc_tokens::read_tokens;
-
-/// A source that gives the tokens of a list, in which each slash stands by itself. Behind a slash at which it is told
-/// that a regular expression begins, it gives the one that begins there, if one does, and then the tokens behind that.
-#[derive(Drop)]
-pub(crate) struct SlashInput {
-    list: TokensInput,
-    regexes: Vec<TokenAndSpan>,
-    hinted: Option<TokenAndSpan>,
-    past: BytePos,
-    ended: bool,
-}
 
 impl SlashInput {
     /// A source that gives the tokens of this list, and these regular expressions in place of what they are made of.
