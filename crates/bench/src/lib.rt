@@ -7,6 +7,8 @@ mod buffers;
 #[cfg(test)]
 mod calls;
 #[cfg(test)]
+mod chains;
+#[cfg(test)]
 mod failing;
 #[cfg(test)]
 mod hooks;

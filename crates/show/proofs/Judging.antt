@@ -9,7 +9,7 @@ use Rattle.swc_bodies.specs.Keeping.{Body}
 use Rattle.swc_bodies.specs.Taking.{token_forms}
 use Rattle.swc_nodes.specs.declared.node.ExprId.{ExprId}
 use Rattle.swc_nodes.specs.declared.nodes.Nodes.{Nodes}
-use Rattle.swc_productions.specs.Parsing.{tree_of}
+use Rattle.swc_steps.specs.Parsing.{tree_of}
 use Rattle.swc_ecma_parser.specs.WholeList.{plain_list, IsHeeded, Headline}
 use Rattle.show.specs.Answers.{as_default, Judged, Shows}
 use Rattle.show.specs.declared.answer.Shown.{Shown}

@@ -15,7 +15,7 @@ use Rattle.swc_tokens.specs.Reading.{AreRead}
 use Rattle.swc_grammar.specs.Symbols.{Expr}
 use Rattle.swc_grammar.specs.Reads.{Reads}
 use Rattle.swc_nodes.specs.declared.node.ExprId.{ExprId}
-use Rattle.swc_productions.specs.Parsing.{scope_of}
+use Rattle.swc_steps.specs.Parsing.{scope_of}
 use Rattle.swc_ecma_parser.specs.WholeList.{plain_list}
 use Rattle.show.specs.declared.answer.Shown.{Shown}
 

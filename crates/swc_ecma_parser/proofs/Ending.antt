@@ -6,7 +6,7 @@ use Rattle.swc_input.specs.declared.token.TokenAndSpan.{TokenAndSpan}
 use Rattle.swc_input.specs.Source.{Model, Laws}
 use Rattle.swc_input.specs.Buffer.{Looked, current, last_position, state_of}
 use Rattle.swc_input.specs.Recording.{no_memory}
-use Rattle.swc_productions.specs.Parsing.{Looks}
+use Rattle.swc_steps.specs.Parsing.{Looks}
 use Rattle.swc_ecma_parser.specs.Calls.{SeesEnd}
 
 module _ {S : Type 0} {model : Model S} where

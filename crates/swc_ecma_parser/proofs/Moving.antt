@@ -36,10 +36,10 @@ use Rattle.swc_nodes.specs.declared.nodes.Nodes.{Nodes}
 use Rattle.swc_nodes.proofs.Chains.{chain-down, floor-under}
 use Rattle.swc_nodes.proofs.Standing.{cut_kept, grows-same}
 use Rattle.swc_nodes.proofs.Unmarked.{unmarked-node}
-use Rattle.swc_productions.specs.declared.moves.Listed.{Listed}
-use Rattle.swc_productions.specs.Parsing.{tree_of, args_at, Loud, Heard, Unheard, Parses}
+use Rattle.swc_steps.specs.declared.tokens.Listed.{Listed}
+use Rattle.swc_steps.specs.Parsing.{tree_of, args_at, Loud, Heard, Unheard, Parses}
 use Rattle.swc_productions.specs.Pieces.{tpl_at}
-use Rattle.swc_productions.proofs.Steps.{Reader, spent, heard_call, unheard_call, unheard_memory}
+use Rattle.swc_steps.proofs.Steps.{Reader, spent, heard_call, unheard_call, unheard_memory}
 use Rattle.swc_ecma_parser.specs.Calls.{tree_by, Kept}
 use Rattle.swc_ecma_parser.specs.Promise.{only_items, items_and_comma, list_tree, Unmarred, Derives, RemembersAll}
 use Rattle.swc_ecma_parser.proofs.Top.{bare, stripped, is_sound, sound}

@@ -18,9 +18,9 @@ use Rattle.swc_grammar.proofs.Cut.{cut-list, cut-of}
 use Rattle.swc_grammar.proofs.Names.{reference-sound, reference-complete, binding-sound, binding-complete, name-sound, name-complete, private-sound, private-complete, cut-name}
 use Rattle.swc_ident.specs.Verdicts.{reference_verdict, binding_verdict, name_of_any}
 use Rattle.swc_ecma_parser.specs.Promise.{Anywhere, RefersIfFree}
-use Rattle.swc_productions.proofs.Naming.{word_of}
+use Rattle.swc_steps.proofs.Naming.{word_of}
 use Rattle.swc_ecma_parser.proofs.Top.{IsSound, IsComplete}
-use Rattle.swc_productions.proofs.Words.{is_clean, binding-table, reference-table}
+use Rattle.swc_steps.proofs.Words.{is_clean, binding-table, reference-table}
 
 -- a name needs nothing of what follows it
 cut-append : {k : NameKind} {c : Scope} {n : Spelling} (own ys : List TokenAndSpan) → ReadsName k c (own ++ ys) ys n → ReadsName k c own [] n

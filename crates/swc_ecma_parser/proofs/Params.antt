@@ -8,8 +8,8 @@ use Rattle.swc_input.specs.declared.token.TokenAndSpan.{TokenAndSpan}
 use Rattle.swc_input.specs.Source.{Model}
 use Rattle.swc_grammar.specs.Scope.{Scope}
 use Rattle.swc_grammar.specs.Clean.{first}
-use Rattle.swc_productions.specs.Keys.{ends_params, no_params}
-use Rattle.swc_productions.specs.Parsing.{scope, Here, On, Unheard, seen}
+use Rattle.swc_steps.specs.Keys.{ends_params, no_params}
+use Rattle.swc_steps.specs.Parsing.{scope, Here, On, Unheard, seen}
 use Rattle.swc_ecma_parser.specs.Promise.{PromisedParams}
 
 if_none : {A : Type 0} (b : Bool) (v : A) → (if b then Some v else None) ≡ None → b ≡ false

@@ -13,11 +13,11 @@ use Rattle.swc_grammar.specs.Clean.{Out, first}
 use Rattle.swc_grammar.specs.Names.{Spelling, spelling, may_name}
 use Rattle.swc_grammar.specs.Words.{◌>>=◌, rest, begins_at, hash_by, hash_word, word}
 use Rattle.swc_ident.specs.Naming.{PrivateNames}
-use Rattle.swc_productions.specs.Links.{hash_name}
-use Rattle.swc_productions.specs.Links as links
-use Rattle.swc_productions.specs.Parsing.{Parses}
-use Rattle.swc_productions.proofs.PrivateNames.{heard_private, unheard_private}
-use Rattle.swc_productions.proofs.Steps.{heard_call, unheard_call}
+use Rattle.swc_steps.specs.Args.{hash_name}
+use Rattle.swc_steps.specs.Args as args
+use Rattle.swc_steps.specs.Parsing.{Parses}
+use Rattle.swc_steps.proofs.PrivateNames.{heard_private, unheard_private}
+use Rattle.swc_steps.proofs.Steps.{heard_call, unheard_call}
 
 -- the name, without where it ends
 abbrev alone : Scope → (Spelling × BytePos) × List TokenAndSpan → Out Spelling
@@ -32,7 +32,7 @@ if_alone : (b : Bool) (c : Scope) (o : Out Spelling) (p : Out (Spelling × ByteP
 if_alone true c o p e = e
 if_alone false c o p e = refl
 
-hash_alone : (c : Scope) (o : Option TokenAndSpan) (us : List TokenAndSpan) → hash_by c o us ≡ (links.hash_by c o us >>= alone c)
+hash_alone : (c : Scope) (o : Option TokenAndSpan) (us : List TokenAndSpan) → hash_by c o us ≡ (args.hash_by c o us >>= alone c)
 hash_alone c None us = refl
 hash_alone c (Some t) us = if_alone (is_hash t.token && begins_at t.span (first us)) c _ _ (named_alone t.span c (word may_name c us))
 

@@ -27,11 +27,11 @@ use Rattle.swc_grammar.proofs.Cut.{cut-append}
 use Rattle.swc_grammar.proofs.Good.{grouped, valid}
 use Rattle.swc_grammar.proofs.Literals.{literal-read}
 use Rattle.swc_grammar.proofs.Marks.{same-grouped, same-valid}
-use Rattle.swc_productions.specs.Parsing.{scope, recorded, Loud, Consumes, Heard, Parses, TookLiteral}
+use Rattle.swc_steps.specs.Parsing.{scope, recorded, Loud, Consumes, Heard, Parses, TookLiteral}
 use Rattle.swc_ecma_parser.specs.Promise.{Derivation, Anywhere, EndsAt, Unmarred, Derives, Sound, Complete, OneTree}
 use Rattle.swc_ecma_parser.specs.Promise.{Grouped, Valid, PromisedLit, only_items, items_and_comma, ReadsAs}
-use Rattle.swc_productions.proofs.Hearing.{same_faults}
-use Rattle.swc_productions.proofs.Steps.{Reader, consumes_of}
+use Rattle.swc_steps.proofs.Hearing.{same_faults}
+use Rattle.swc_steps.proofs.Steps.{Reader, consumes_of}
 
 -- What a clean reader reads is derived, and then also from its own tokens alone.
 pub record IsSound {A : Type 0} (derives : Derivation A) (f : Reader A) : Type 0 where

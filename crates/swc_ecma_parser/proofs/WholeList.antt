@@ -23,7 +23,7 @@ use Rattle.swc_grammar.specs.Scope.{Scope}
 use Rattle.swc_grammar.specs.Symbols.{Expr}
 use Rattle.swc_grammar.specs.Reads.{Reads, at-end}
 use Rattle.swc_nodes.specs.declared.node.ExprId.{ExprId}
-use Rattle.swc_productions.specs.Parsing.{scope_of, scope, Loud, tree_of}
+use Rattle.swc_steps.specs.Parsing.{scope_of, scope, Loud, tree_of}
 use Rattle.swc_ecma_parser.specs.Calls.{buffer_of, has_failed, nodes_of}
 use Rattle.swc_ecma_parser.specs.Promise.{Unmarred}
 use Rattle.swc_ecma_parser.specs.WholeList.{plain_list, IsHeeded, Headline, Tries, tried, refused, lost}

@@ -21,7 +21,7 @@ use Rattle.swc_nodes.specs.Slots.{Part}
 use Rattle.swc_nodes.specs.declared.commas.TrailingCommas.{TrailingCommas}
 use Rattle.swc_nodes.specs.declared.nodes.Nodes.{Nodes}
 use Rattle.swc_nodes.specs.Stands.{tree_at, bare_at}
-use Rattle.swc_productions.specs.Parsing.{is_memory, Looks}
+use Rattle.swc_steps.specs.Parsing.{is_memory, Looks}
 use Rattle.swc_ecma_parser.specs.declared.parser.Parser.{Parser}
 
 -- the buffer that a parser reads from

@@ -37,8 +37,8 @@ use Rattle.swc_nodes.specs.Stands.{count, From, Grows, SameNodes}
 use Rattle.swc_nodes.specs.declared.commas.TrailingCommas.{TrailingCommas}
 use Rattle.swc_nodes.specs.declared.node.ExprId.{ExprId}
 use Rattle.swc_nodes.specs.declared.nodes.Nodes.{Nodes}
-use Rattle.swc_productions.specs.Keys.{ends_params}
-use Rattle.swc_productions.specs.Parsing.{scope, Loud, Acts, Consumes, Here, seen, tree_of}
+use Rattle.swc_steps.specs.Keys.{ends_params}
+use Rattle.swc_steps.specs.Parsing.{scope, Loud, Acts, Consumes, Here, seen, tree_of}
 use Rattle.swc_ecma_parser.specs.Calls.{buffer_of, nodes_of, commas_of, tree_by, has_failed, wants_memory, parser_failed}
 use Rattle.swc_ecma_parser.specs.declared.parser.Parser.{Parser}
 

@@ -15,7 +15,7 @@ use Rattle.swc_grammar.specs.Symbols.{Expr}
 use Rattle.swc_grammar.specs.Reads.{Reads}
 use Rattle.swc_nodes.specs.declared.node.ExprId.{ExprId}
 use Rattle.swc_nodes.specs.declared.nodes.Nodes.{Nodes}
-use Rattle.swc_productions.specs.Parsing.{scope_of, tree_of}
+use Rattle.swc_steps.specs.Parsing.{scope_of, tree_of}
 use Rattle.swc_ecma_parser.specs.Calls.{Called, SeesEnd}
 use Rattle.swc_ecma_parser.specs.Promise.{Promised, by_number}
 use Rattle.swc_ecma_parser.specs.declared.parser.Parser.{Parser}

@@ -25,8 +25,10 @@ use swc_input::tokens::Tokens;
 use swc_nodes::commas::TrailingCommas;
 use swc_nodes::node::ExprId;
 use swc_nodes::nodes::{Nodes, NodesOf};
-use swc_productions::moves::is_out_of_memory;
-use swc_productions::productions::Productions;
+use swc_primary::primary::parse_lit;
+use swc_productions::ring::{parse_assignment_expr, parse_bin_expr, parse_expr, parse_unary_expr};
+use swc_steps::productions::Productions;
+use swc_steps::tokens::is_out_of_memory;
 
 mod names;
 pub mod object;
@@ -175,7 +177,7 @@ impl<I: Tokens, B: Bodies<I>> Parser<I, B> {
     {
         self.begin()?;
         let start = self.productions.nodes.len();
-        let answer = self.productions.parse_expr();
+        let answer = parse_expr(&mut self.productions);
         let answer = self.keep(start, answer);
         self.finish(answer)
     }
@@ -189,7 +191,7 @@ impl<I: Tokens, B: Bodies<I>> Parser<I, B> {
     {
         self.begin()?;
         let start = self.productions.nodes.len();
-        let answer = self.productions.parse_expr();
+        let answer = parse_expr(&mut self.productions);
         let answer = self.move_out(start, answer);
         self.finish(answer)
     }
@@ -219,7 +221,7 @@ impl<I: Tokens, B: Bodies<I>> Parser<I, B> {
     {
         self.begin()?;
         let start = self.productions.nodes.len();
-        let answer = self.productions.parse_assignment_expr();
+        let answer = parse_assignment_expr(&mut self.productions);
         let answer = self.move_out(start, answer);
         self.finish(answer)
     }
@@ -236,7 +238,7 @@ impl<I: Tokens, B: Bodies<I>> Parser<I, B> {
     {
         self.begin()?;
         let start = self.productions.nodes.len();
-        let answer = self.productions.parse_bin_expr();
+        let answer = parse_bin_expr(&mut self.productions);
         let answer = self.move_out(start, answer);
         self.finish(answer)
     }
@@ -270,7 +272,7 @@ impl<I: Tokens, B: Bodies<I>> Parser<I, B> {
     {
         self.begin()?;
         let start = self.productions.nodes.len();
-        let answer = self.productions.parse_unary_expr();
+        let answer = parse_unary_expr(&mut self.productions);
         let answer = self.move_out(start, answer);
         self.finish(answer)
     }
@@ -282,7 +284,7 @@ impl<I: Tokens, B: Bodies<I>> Parser<I, B> {
         ensures { Called (PromisedLit I.model B.forms) self.old result self.new }
     {
         self.begin()?;
-        let answer = self.productions.parse_lit();
+        let answer = parse_lit(&mut self.productions);
         self.finish(answer)
     }
 

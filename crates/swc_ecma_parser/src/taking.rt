@@ -11,7 +11,7 @@ use swc_ast::spanned::Spanned;
 use swc_nodes::commas::TrailingCommas;
 use swc_nodes::node::{ExprId, PropNode};
 use swc_nodes::nodes::Nodes;
-use swc_productions::moves::Listed;
+use swc_steps::tokens::Listed;
 use swc_trees::taking::{take_args, take_expr, take_key, take_prop, take_tpl};
 
 /// What holds numbers of nodes, and is moved out of them into boxes.

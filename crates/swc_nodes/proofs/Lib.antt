@@ -9,5 +9,6 @@ pub mod Sequences
 pub mod Standing
 pub mod Targets
 pub mod Unmarked
+pub mod Waiting
 pub mod Walked
 pub mod Weighed

@@ -12,5 +12,6 @@ pub mod ends;
 pub mod making;
 pub mod node;
 pub mod nodes;
+pub mod pending;
 pub mod renumbering;
 pub mod shape;

@@ -8,7 +8,7 @@ use Rattle.swc_nodes.specs.Lists.{exprs_parts}
 use Rattle.swc_nodes.specs.Stands.{Apart}
 use Rattle.swc_nodes.specs.declared.node.ExprId.{ExprId}
 use Rattle.swc_nodes.specs.declared.nodes.Nodes.{Nodes}
-use Rattle.swc_productions.specs.Parsing.{tree_of}
+use Rattle.swc_steps.specs.Parsing.{tree_of}
 
 module _ {F C K : Type 0} {fg : Ghosts F} {cg : Ghosts C} {kg : Ghosts K} where
   -- what a template holds of numbers, and what it stands for

@@ -11,6 +11,7 @@ use swc_bodies::bodies::{Bodies, ExprOf};
 use swc_context::error::{Error, PResult};
 use swc_context::span::Span;
 use swc_input::tokens::Tokens;
+use swc_productions::ring::{parse_object_prop, parse_prop_name};
 use swc_trees::letting_go::let_go_props;
 use swc_trees::making::object_lit;
 
@@ -53,7 +54,7 @@ impl<I: Tokens, B: Bodies<I>> Parser<I, B> {
     {
         self.begin()?;
         let start = self.productions.nodes.len();
-        let answer = self.productions.parse_prop_name();
+        let answer = parse_prop_name(&mut self.productions);
         let answer = self.move_out(start, answer);
         self.finish(answer)
     }
@@ -126,7 +127,7 @@ impl<I: Tokens, B: Bodies<I>> ParseObject<Box<ExprOf<B>>> for Parser<I, B> {
     {
         self.begin()?;
         let start = self.productions.nodes.len();
-        let answer = self.productions.parse_object_prop();
+        let answer = parse_object_prop(&mut self.productions);
         let answer = self.move_out(start, answer);
         self.finish(answer)
     }

@@ -8,7 +8,7 @@ use swc_ast::function::Param;
 use swc_bodies::bodies::Bodies;
 use swc_context::error::PResult;
 use swc_input::tokens::Tokens;
-use swc_productions::object::parse_formal_params;
+use swc_primary::object::parse_formal_params;
 
 impl<I: Tokens, B: Bodies<I>> Parser<I, B> {
     /// Parameters none of which stands twice (UniqueFormalParameters; ECMA-262, 15.1). As

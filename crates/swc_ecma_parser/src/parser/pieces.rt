@@ -10,7 +10,8 @@ use swc_context::error::PResult;
 use swc_context::span::Span;
 use swc_input::tokens::Tokens;
 use swc_nodes::node::ExprId;
-use swc_productions::moves::Listed;
+use swc_productions::pieces::{parse_arguments, parse_template};
+use swc_steps::tokens::Listed;
 
 /// A list in parentheses, over a hook's values, and the place of the comma behind its last item.
 pub type ArgsOrPatsOf<B> = (Vec<ExprOrSpread<Box<ExprOf<B>>>>, Option<Span>);
@@ -34,7 +35,7 @@ impl<I: Tokens, B: Bodies<I>> Parser<I, B> {
     {
         self.begin()?;
         let start = self.productions.nodes.len();
-        let answer = self.productions.parse_arguments(is_dynamic_import);
+        let answer = parse_arguments(&mut self.productions, is_dynamic_import);
         let answer = self.move_out(start, answer);
         self.finish(answer)
     }
@@ -51,7 +52,7 @@ impl<I: Tokens, B: Bodies<I>> Parser<I, B> {
     {
         self.begin()?;
         let start = self.productions.nodes.len();
-        let answer = self.productions.parse_arguments(false);
+        let answer = parse_arguments(&mut self.productions, false);
         let comma = last_comma(&answer);
         let answer = self.move_out(start, answer);
         let answer = with_comma(answer, comma);
@@ -72,7 +73,7 @@ impl<I: Tokens, B: Bodies<I>> Parser<I, B> {
     {
         self.begin()?;
         let start = self.productions.nodes.len();
-        let answer = self.productions.parse_template(is_tagged);
+        let answer = parse_template(&mut self.productions, is_tagged);
         let answer = self.move_out(start, answer);
         self.finish(answer)
     }

@@ -4,7 +4,7 @@ use Rattle.swc_grammar.specs.Symbols.{Arguments}
 use Rattle.swc_grammar.specs.Clean.{sym as at, run}
 use Rattle.swc_ast.specs.Parts.{args_tree}
 use Rattle.swc_nodes.specs.Stands.{tree_at, bare_at}
-use Rattle.swc_productions.specs.Parsing.{args_at}
+use Rattle.swc_steps.specs.Parsing.{args_at}
 use Rattle.swc_nodes.specs.Slots.{args_parts}
 use Rattle.swc_nodes.proofs.Remembered.{args-commas}
 use Rattle.swc_ecma_parser.specs.Calls.{nodes_of, commas_of, tree_by}
@@ -23,9 +23,9 @@ returns g c =
     let done = c.finish.ensures in
     let moved = c.move_out-answer.ensures in
     let read = c.parse_arguments-answer.ensures in
-    let ns = c.parse_arguments-answer.new.self.nodes in
+    let ns = c.parse_arguments-answer.new.p.nodes in
     record {
-      promised = promised c.parse_arguments-answer.new.self.input (nodes_of c.move_out-answer.new.self) (commas_of c.move_out-answer.new.self) c.move_out-answer.result c.finish.result c.in_ok-begin.ensures.runs moved.runs
+      promised = promised c.parse_arguments-answer.new.p.input (nodes_of c.move_out-answer.new.self) (commas_of c.move_out-answer.new.self) c.move_out-answer.result c.finish.result c.in_ok-begin.ensures.runs moved.runs
           done.answer (done.buffer ∙ moved.buffer) done.nodes done.commas done.fails
           (meets-as g.I.Tokens.model g.B.Bodies.is_faithful g.B.BodyForms.forms g.met.B.Bodies.lawful (args_tree boxed) leaves-items args-stops _ c.move_out-answer.result _
           (moved-by g.I.Tokens.model g.B.Bodies.is_faithful (run g.B.BodyForms.forms (at (Arguments c.args.is_dynamic_import))) ns args_at (λ l. args_tree (λ e. bare_at ns e.0) l.items) (args_tree boxed) only_items _ _ c.parse_arguments-answer.result c.move_out-answer.result read.reads

@@ -2,7 +2,7 @@ use Rattle.std.proofs.Common.{false, refl, sym, ◌∙◌}
 use Rattle.std.proofs.lemmas.Result.{err_from_is_err_and}
 use Rattle.swc_grammar.specs.Symbols.{Arguments}
 use Rattle.swc_grammar.specs.Clean.{sym as at, run}
-use Rattle.swc_productions.specs.Parsing.{args_at}
+use Rattle.swc_steps.specs.Parsing.{args_at}
 use Rattle.swc_nodes.specs.Slots.{args_parts}
 use Rattle.swc_nodes.specs.Stands.{tree_at}
 use Rattle.swc_nodes.proofs.Remembered.{args-commas}
@@ -22,9 +22,9 @@ returns g c =
     let done = c.finish.ensures in
     let moved = c.move_out-answer.ensures in
     let read = c.parse_arguments-answer.ensures in
-    let ns = c.parse_arguments-answer.new.self.nodes in
+    let ns = c.parse_arguments-answer.new.p.nodes in
     record {
-      promised = promised c.parse_arguments-answer.new.self.input (nodes_of c.move_out-answer.new.self) (commas_of c.move_out-answer.new.self) c.with_comma-answer.result c.finish.result c.in_ok-begin.ensures.runs moved.runs
+      promised = promised c.parse_arguments-answer.new.p.input (nodes_of c.move_out-answer.new.self) (commas_of c.move_out-answer.new.self) c.with_comma-answer.result c.finish.result c.in_ok-begin.ensures.runs moved.runs
           done.answer (done.buffer ∙ moved.buffer) done.nodes done.commas done.fails
           (meets-as g.I.Tokens.model g.B.Bodies.is_faithful g.B.BodyForms.forms g.met.B.Bodies.lawful boxed leaves-list args-stops _ c.with_comma-answer.result _
           (moved-by g.I.Tokens.model g.B.Bodies.is_faithful (run g.B.BodyForms.forms (at (Arguments false))) ns args_at (bare_list ns) boxed items_and_comma _ _ c.parse_arguments-answer.result c.with_comma-answer.result read.reads

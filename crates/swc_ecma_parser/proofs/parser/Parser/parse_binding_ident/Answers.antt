@@ -3,9 +3,9 @@ use Rattle.std.proofs.Common.{refl}
 use Rattle.std.proofs.lemmas.Result.{err_from_is_err_and}
 use Rattle.swc_grammar.specs.Names.{ReadsName, Binding}
 use Rattle.swc_ident.specs.Verdicts.{binding_verdict}
-use Rattle.swc_productions.specs.Parsing.{binding_spelling}
+use Rattle.swc_steps.specs.Parsing.{binding_spelling}
 use Rattle.swc_ecma_parser.specs.Promise.{Anywhere}
-use Rattle.swc_productions.proofs.Naming.{honest-binding, parses_name, word_of}
+use Rattle.swc_steps.proofs.Naming.{honest-binding, parses_name, word_of}
 use Rattle.swc_ecma_parser.proofs.Calling.{called, called-again}
 use Rattle.swc_ecma_parser.proofs.NameTop.{binding-is_complete, binding-is_sound}
 use Rattle.swc_ecma_parser.proofs.Top as top

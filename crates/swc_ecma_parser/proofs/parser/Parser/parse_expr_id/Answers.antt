@@ -3,7 +3,7 @@ use Rattle.std.proofs.lemmas.Result.{err_from_is_err_and}
 use Rattle.swc_grammar.specs.Symbols.{Expr}
 use Rattle.swc_grammar.specs.Clean.{sym as at, run}
 use Rattle.swc_nodes.specs.Slots.{one_expr}
-use Rattle.swc_productions.specs.Parsing.{tree_of}
+use Rattle.swc_steps.specs.Parsing.{tree_of}
 use Rattle.swc_ecma_parser.specs.Calls.{nodes_of, commas_of}
 use Rattle.swc_ecma_parser.proofs.Calling.{promised, promised-again}
 use Rattle.swc_ecma_parser.proofs.Moving.{kept-leaves, kept-moved, kept-parses, recalled}
@@ -18,11 +18,11 @@ returns g c =
     let done = c.finish.ensures in
     let kept = c.keep-answer.ensures in
     let read = c.parse_expr-answer.ensures in
-    let ms = c.parse_expr-answer.new.self.nodes in
+    let ms = c.parse_expr-answer.new.p.nodes in
     let ns = nodes_of c.keep-answer.new.self in
     let answer = c.parse_expr-answer.result in
     record {
-      promised = promised c.parse_expr-answer.new.self.input ns (commas_of c.keep-answer.new.self) c.keep-answer.result c.finish.result c.in_ok-begin.ensures.runs kept.runs
+      promised = promised c.parse_expr-answer.new.p.input ns (commas_of c.keep-answer.new.self) c.keep-answer.result c.finish.result c.in_ok-begin.ensures.runs kept.runs
           done.answer (done.buffer ∙ kept.buffer) done.nodes done.commas done.fails
           (meets-by-number g.I.Tokens.model g.B.Bodies.is_faithful g.B.BodyForms.forms g.met.B.Bodies.lawful (tree_of ns) expr-stops _ c.keep-answer.result _
           (kept-parses g.I.Tokens.model g.B.Bodies.is_faithful (run g.B.BodyForms.forms (at Expr)) ms ns c.len-start.result _ _ answer c.keep-answer.result read.reads kept.answer kept.nodes))

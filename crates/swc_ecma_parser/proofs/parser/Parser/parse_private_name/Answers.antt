@@ -3,7 +3,7 @@ use Rattle.std.proofs.Common.{refl}
 use Rattle.std.proofs.lemmas.Result.{err_from_is_err_and}
 use Rattle.swc_grammar.specs.Words.{hash_word}
 use Rattle.swc_grammar.specs.Names.{ReadsName, Private}
-use Rattle.swc_productions.specs.Parsing.{private_spelling}
+use Rattle.swc_steps.specs.Parsing.{private_spelling}
 use Rattle.swc_ecma_parser.specs.Promise.{Anywhere}
 use Rattle.swc_ecma_parser.proofs.PrivateNames.{parses_private}
 use Rattle.swc_ecma_parser.proofs.Calling.{called, called-again}

@@ -5,7 +5,7 @@ use Rattle.swc_grammar.specs.Clean.{sym as at, run}
 use Rattle.swc_ast.specs.Parts.{prop_name_tree}
 use Rattle.swc_nodes.specs.Stands.{tree_at, bare_at}
 use Rattle.swc_nodes.proofs.Unmarked.{unmarked-key}
-use Rattle.swc_productions.specs.Parsing.{key_at, tree_of}
+use Rattle.swc_steps.specs.Parsing.{key_at, tree_of}
 use Rattle.swc_ast.specs.Trees.{unmarked}
 use Rattle.swc_nodes.specs.Slots.{key_parts}
 use Rattle.swc_nodes.proofs.Remembered.{key-commas}
@@ -25,12 +25,12 @@ returns g c =
     let moved = c.move_out-answer.ensures in
     let read = c.parse_prop_name-answer.ensures in
     record {
-      promised = promised c.parse_prop_name-answer.new.self.input (nodes_of c.move_out-answer.new.self) (commas_of c.move_out-answer.new.self) c.move_out-answer.result c.finish.result c.in_ok-begin.ensures.runs moved.runs
+      promised = promised c.parse_prop_name-answer.new.p.input (nodes_of c.move_out-answer.new.self) (commas_of c.move_out-answer.new.self) c.move_out-answer.result c.finish.result c.in_ok-begin.ensures.runs moved.runs
           done.answer (done.buffer ∙ moved.buffer) done.nodes done.commas done.fails
           (meets-in-boxes g.I.Tokens.model g.B.Bodies.is_faithful g.B.BodyForms.forms g.met.B.Bodies.lawful (prop_name_tree boxed) key-stops _ c.move_out-answer.result _
-          (moved-parses g.I.Tokens.model g.B.Bodies.is_faithful (run g.B.BodyForms.forms (at Key)) c.parse_prop_name-answer.new.self.nodes key_at (prop_name_tree (λ e. bare_at c.parse_prop_name-answer.new.self.nodes e.0)) (prop_name_tree boxed) _ _ c.parse_prop_name-answer.result c.move_out-answer.result read.reads
-          (λ k. unmarked-key (tree_of c.parse_prop_name-answer.new.self.nodes) (λ e. bare_at c.parse_prop_name-answer.new.self.nodes e.0) (λ e. refl) k) moved.moved))
-          (recalled g.I.Tokens.model g.B.Bodies.is_faithful g.B.BodyForms.forms g.met.B.Bodies.lawful Key unmarked c.parse_prop_name-answer.new.self.nodes (key_at c.parse_prop_name-answer.new.self.nodes) (prop_name_tree (λ e. bare_at c.parse_prop_name-answer.new.self.nodes e.0)) (prop_name_tree boxed) (key_parts)
-          _ _ c.parse_prop_name-answer.result c.move_out-answer.result _ _ read.reads (λ k. unmarked-key (tree_of c.parse_prop_name-answer.new.self.nodes) (λ e. bare_at c.parse_prop_name-answer.new.self.nodes e.0) (λ e. refl) k) (λ k. key-commas (tree_at c.parse_prop_name-answer.new.self.nodes) k) (moved.moved) (moved.commas))
+          (moved-parses g.I.Tokens.model g.B.Bodies.is_faithful (run g.B.BodyForms.forms (at Key)) c.parse_prop_name-answer.new.p.nodes key_at (prop_name_tree (λ e. bare_at c.parse_prop_name-answer.new.p.nodes e.0)) (prop_name_tree boxed) _ _ c.parse_prop_name-answer.result c.move_out-answer.result read.reads
+          (λ k. unmarked-key (tree_of c.parse_prop_name-answer.new.p.nodes) (λ e. bare_at c.parse_prop_name-answer.new.p.nodes e.0) (λ e. refl) k) moved.moved))
+          (recalled g.I.Tokens.model g.B.Bodies.is_faithful g.B.BodyForms.forms g.met.B.Bodies.lawful Key unmarked c.parse_prop_name-answer.new.p.nodes (key_at c.parse_prop_name-answer.new.p.nodes) (prop_name_tree (λ e. bare_at c.parse_prop_name-answer.new.p.nodes e.0)) (prop_name_tree boxed) (key_parts)
+          _ _ c.parse_prop_name-answer.result c.move_out-answer.result _ _ read.reads (λ k. unmarked-key (tree_of c.parse_prop_name-answer.new.p.nodes) (λ e. bare_at c.parse_prop_name-answer.new.p.nodes e.0) (λ e. refl) k) (λ k. key-commas (tree_at c.parse_prop_name-answer.new.p.nodes) k) (moved.moved) (moved.commas))
           (cut-back (nodes_of c.move_out-answer.new.self) read.grows (rw (sym c.len-start.ensures) moved.nodes));
     }

@@ -23,9 +23,9 @@ returns g c =
     let done = c.finish.ensures in
     let moved = c.move_out-answer.ensures in
     let read = c.parse_template-answer.ensures in
-    let ns = c.parse_template-answer.new.self.nodes in
+    let ns = c.parse_template-answer.new.p.nodes in
     record {
-      promised = promised c.parse_template-answer.new.self.input (nodes_of c.move_out-answer.new.self) (commas_of c.move_out-answer.new.self) c.move_out-answer.result c.finish.result c.in_ok-begin.ensures.runs moved.runs
+      promised = promised c.parse_template-answer.new.p.input (nodes_of c.move_out-answer.new.self) (commas_of c.move_out-answer.new.self) c.move_out-answer.result c.finish.result c.in_ok-begin.ensures.runs moved.runs
           done.answer (done.buffer ∙ moved.buffer) done.nodes done.commas done.fails
           (meets-in-boxes g.I.Tokens.model g.B.Bodies.is_faithful g.B.BodyForms.forms g.met.B.Bodies.lawful (tpl_tree boxed) tpl-stops _ c.move_out-answer.result _
           (moved-parses g.I.Tokens.model g.B.Bodies.is_faithful (run g.B.BodyForms.forms (at (Template c.args.is_tagged))) ns tpl_at (tpl_tree (λ e. bare_at ns e.0)) (tpl_tree boxed) _ _ c.parse_template-answer.result c.move_out-answer.result read.reads

@@ -3,7 +3,7 @@ use Rattle.std.proofs.lemmas.Result.{err_from_is_err_and}
 use Rattle.swc_grammar.specs.Symbols.{Unary}
 use Rattle.swc_grammar.specs.Clean.{sym as at, run}
 use Rattle.swc_nodes.specs.Stands.{bare_at}
-use Rattle.swc_productions.specs.Parsing.{tree_of}
+use Rattle.swc_steps.specs.Parsing.{tree_of}
 use Rattle.swc_ast.specs.Trees.{unmarked}
 use Rattle.swc_nodes.specs.Slots.{one_expr}
 use Rattle.swc_ecma_parser.specs.Calls.{nodes_of, commas_of, tree_by}
@@ -22,12 +22,12 @@ returns g c =
     let moved = c.move_out-answer.ensures in
     let read = c.parse_unary_expr-answer.ensures in
     record {
-      promised = promised c.parse_unary_expr-answer.new.self.input (nodes_of c.move_out-answer.new.self) (commas_of c.move_out-answer.new.self) c.move_out-answer.result c.finish.result c.in_ok-begin.ensures.runs moved.runs
+      promised = promised c.parse_unary_expr-answer.new.p.input (nodes_of c.move_out-answer.new.self) (commas_of c.move_out-answer.new.self) c.move_out-answer.result c.finish.result c.in_ok-begin.ensures.runs moved.runs
           done.answer (done.buffer ∙ moved.buffer) done.nodes done.commas done.fails
           (meets-in-boxes g.I.Tokens.model g.B.Bodies.is_faithful g.B.BodyForms.forms g.met.B.Bodies.lawful boxed unary-stops _ c.move_out-answer.result _
-          (moved-parses g.I.Tokens.model g.B.Bodies.is_faithful (run g.B.BodyForms.forms (at Unary)) c.parse_unary_expr-answer.new.self.nodes tree_of (λ e. bare_at c.parse_unary_expr-answer.new.self.nodes e.0) boxed _ _ c.parse_unary_expr-answer.result c.move_out-answer.result read.reads
+          (moved-parses g.I.Tokens.model g.B.Bodies.is_faithful (run g.B.BodyForms.forms (at Unary)) c.parse_unary_expr-answer.new.p.nodes tree_of (λ e. bare_at c.parse_unary_expr-answer.new.p.nodes e.0) boxed _ _ c.parse_unary_expr-answer.result c.move_out-answer.result read.reads
           (λ e. refl) moved.moved))
-          (recalled g.I.Tokens.model g.B.Bodies.is_faithful g.B.BodyForms.forms g.met.B.Bodies.lawful Unary unmarked c.parse_unary_expr-answer.new.self.nodes (tree_of c.parse_unary_expr-answer.new.self.nodes) (λ e. bare_at c.parse_unary_expr-answer.new.self.nodes e.0) (boxed) (one_expr)
+          (recalled g.I.Tokens.model g.B.Bodies.is_faithful g.B.BodyForms.forms g.met.B.Bodies.lawful Unary unmarked c.parse_unary_expr-answer.new.p.nodes (tree_of c.parse_unary_expr-answer.new.p.nodes) (λ e. bare_at c.parse_unary_expr-answer.new.p.nodes e.0) (boxed) (one_expr)
           _ _ c.parse_unary_expr-answer.result c.move_out-answer.result _ _ read.reads (λ e. refl) (λ e. refl) (moved.moved) (moved.commas))
           (cut-back (nodes_of c.move_out-answer.new.self) read.grows (rw (sym c.len-start.ensures) moved.nodes));
     }

@@ -1,0 +1,4 @@
+pub mod Bases
+pub mod Links
+pub mod NextLink
+pub mod Templates

@@ -1,0 +1,63 @@
+-- Which link comes next, by the current token, and by the one behind a `?`.
+use Rattle.std.proofs.Common.{◌≡◌, Bool, true, false, Option, Some, None, Result, Ok, Err, refl, sym, ap, ◌∙◌}
+use Rattle.swc_context.specs.declared.error.Error.{Error}
+use Rattle.swc_input.specs.declared.buffer.Buffer.{Buffer}
+use Rattle.swc_input.specs.declared.token.Token.{Token}
+use Rattle.swc_input.specs.declared.token.Token.TheVariants as token
+use Rattle.swc_input.specs.declared.token.TokenAndSpan.{TokenAndSpan}
+use Rattle.swc_input.specs.Plain.{plain, plain_token}
+use Rattle.swc_input.specs.Source.{Model, Laws}
+use Rattle.swc_input.specs.Kinds.{at_token}
+use Rattle.swc_grammar.specs.Clean.{first}
+use Rattle.swc_grammar.specs.Tokens.{tk, is_dot, is_question}
+use Rattle.swc_grammar.specs.Words.{rest}
+use Rattle.swc_grammar.proofs.Only.{only-question}
+use Rattle.swc_left.specs.declared.left.Link.{Link}
+use Rattle.swc_left.specs.Links.{link_at, chain_at, link_here}
+use Rattle.swc_steps.specs.Parsing.{seen, seen_of, Told, Tells}
+use Rattle.swc_steps.proofs.Ahead.{told_here}
+
+plain_dot : (t : Token) → is_dot (plain_token t) ≡ is_dot t
+plain_dot (token.Template raw cooked) = refl
+plain_dot (token.Error e) = refl
+plain_dot t = refl
+
+pub plain_chain : (t : TokenAndSpan) → chain_at (Some (plain t)) ≡ chain_at (Some t)
+plain_chain t = rw (plain_dot t.token) refl
+
+link_plain : (b : Bool) (o u : Option TokenAndSpan) → at_token is_question o ≡ false
+    → link_at b o u ≡ link_at b o None
+link_plain b None u h = refl
+link_plain b (Some t) u h = rw h refl
+
+link_chain : (b : Bool) (o u : Option TokenAndSpan) → at_token is_question o ≡ true → link_at b o u ≡ chain_at u
+link_chain b None u h = absurd cc
+link_chain b (Some t) u h =
+    only-question (λ v. link_at b (Some (tk v t.had_line_break t.span)) u ≡ chain_at u) refl t.token h
+
+module _ {S : Type 0} {model : Model S} where
+  -- no `?` is current
+  pub tells_plain : (laws : Laws model) (b : Buffer S) (n : Bool) (k : Option Link) → k ≡ link_at n (seen b) None
+      → at_token is_question (seen b) ≡ false → Told model (link_here n) k b b
+  tells_plain laws b n k e q =
+      told_here laws b k
+      (λ ts here. ap (λ o. link_at n o (first (rest ts))) here ∙ link_plain n (seen b) (first (rest ts)) q ∙ sym e)
+
+  chained : {b c : Buffer S} {k : Option Link} (n : Bool) → Told model (λ ts. chain_at (first (rest ts))) k b c
+      → at_token is_question (seen b) ≡ true → Told model (link_here n) k b c
+  chained {b} n t q = record {
+    laws = t.laws;
+    still = t.still;
+    current = t.current;
+    lives = t.lives;
+    told = λ ts fut here.
+        ap (λ o. link_at n o (first (rest ts))) (here ∙ ap seen_of t.current)
+        ∙ link_chain n (seen b) (first (rest ts)) q ∙ t.told ts fut here;
+  }
+
+-- one is
+pub tells_chain : {S : Type 0} (model : Model S) (b c : Buffer S) (n : Bool) (r : Result (Option Link) Error)
+    → Tells model (λ ts. chain_at (first (rest ts))) b r c → at_token is_question (seen b) ≡ true
+    → Tells model (link_here n) b r c
+tells_chain model b c n (Ok k) t q = chained n t q
+tells_chain model b c n (Err e) t q = t

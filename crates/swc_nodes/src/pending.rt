@@ -1,0 +1,93 @@
+// Binary operators whose right operands are being read (ECMA-262, 13.6 to 13.13).
+ghost use Rattle.std.specs.Prelude.{◌≡◌, ◌<◌, ◌++◌, ◌∷◌, [], true, MatchResult, MatchOption};
+ghost use Rattle.swc_context.specs.Operators.{precedence_of};
+ghost use Rattle.swc_ast.specs.Trees.{min_right};
+ghost use Rattle.swc_nodes.specs.Rising.{waiting, least_above, rises};
+
+use crate::node::ExprId;
+use std::alloc::{AllocError, Global};
+use swc_context::operator::BinaryOp;
+
+/// A binary operator and its left operand, of which the right one is being read.
+#[derive(Clone, Copy)]
+pub struct PendingOperator {
+    /// The left operand.
+    pub left: ExprId,
+    pub op: BinaryOp,
+}
+
+/// Operators that wait for their right operands, each one for what the operators above it join.
+///
+/// From bottom to top their precedences rise, and only `**` stands on an operator of its own precedence, on `**`: so of
+/// all others there are never more than ten. They are one list, so however many `**` follow one another, no recursion
+/// is needed.
+pub struct PendingOperators {
+    operators: Vec<PendingOperator>,
+    ghost rising: { rises 0 operators.items ≡ true },
+}
+
+// Not derived: so letting go of the operators is a call, and is proved here alone.
+impl Drop for PendingOperators {
+    fn drop(self) {
+        let PendingOperators { operators: _ } = self;
+    }
+}
+
+impl PendingOperators {
+    ghost use Rattle.swc_nodes.specs.Pending.{all_pending};
+
+    /// Nothing is pending. Takes no memory.
+    pub fn new(alloc: Global) -> PendingOperators
+        ensures { all_pending result ≡ [] }
+    {
+        PendingOperators {
+            operators: Vec::new(alloc),
+        }
+    }
+
+    /// The precedence above which an operator belongs to the right operand of the one on top: that one's own, or one
+    /// less for `**`, which groups to the right. 0, below any operator, where nothing is pending.
+    pub fn min_prec(&self) -> u8
+        ensures { result ≡ least_above 0 (all_pending self.now) }
+    {
+        match self.operators.last() {
+            Some(operator) => right_min_prec(operator.op),
+            None => 0,
+        }
+    }
+
+    /// Puts an operator and its left operand on top: one of a precedence above `min_prec`. Refused only for want of
+    /// memory.
+    pub fn push(&mut self, left: ExprId, op: BinaryOp) -> Result<(), AllocError>
+        requires { least_above 0 (all_pending self.old) < precedence_of op }
+        ensures { MatchResult result
+            (λ u. all_pending self.new ≡ all_pending self.old ++ waiting left op ∷ [])
+            (λ e. all_pending self.new ≡ all_pending self.old) }
+    {
+        match self.operators.push(PendingOperator { left, op }) {
+            Ok(()) => Ok(()),
+            Err(_) => Err(AllocError),
+        }
+    }
+
+    /// Takes out the operator on top, the right operand of which was read; or answers nothing, where nothing is
+    /// pending.
+    pub fn pop(&mut self) -> Option<PendingOperator>
+        ensures { MatchOption result
+            ((all_pending self.old ≡ []) × (all_pending self.new ≡ []))
+            (λ operator. all_pending self.old ≡ all_pending self.new ++ operator ∷ []) }
+    {
+        self.operators.pop()
+    }
+}
+
+/// The precedence above which operators belong to the right operand.
+fn right_min_prec(op: BinaryOp) -> u8
+    ensures { result ≡ min_right op }
+{
+    match op {
+        // groups to the right
+        BinaryOp::Exp => op.precedence() - 1,
+        _ => op.precedence(),
+    }
+}

@@ -1,0 +1,6 @@
+pub mod Assignments
+pub mod InContext
+pub mod Pending
+pub mod Prefixes
+pub mod Sequences
+pub mod Updates

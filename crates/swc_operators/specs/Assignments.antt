@@ -1,0 +1,97 @@
+-- What the steps of the code read in assignment expressions and in sequences (13.14 to 13.16, 15.5), by the clean parser.
+use Rattle.std.specs.Prelude.{Bool, false, if◌then◌else◌, List, Option, Some, None}
+use Rattle.swc_context.specs.declared.operator.AssignOp.{AssignOp}
+use Rattle.swc_context.specs.Spans.{from_to}
+use Rattle.swc_context.specs.declared.span.BytePos.{BytePos}
+use Rattle.swc_context.specs.declared.span.Span.{Span}
+use Rattle.swc_input.specs.declared.token.TokenAndSpan.{TokenAndSpan}
+use Rattle.swc_input.specs.Recording.{is_some}
+use Rattle.swc_ast.specs.Targets.{is_target}
+use Rattle.swc_input.specs.Kinds.{at_token}
+use Rattle.swc_ast.specs.Tree.{Tree, Trees, nil, cons, span_of}
+use Rattle.swc_ast.specs.Trees.{to, trees_append, cond_e, assign_e, yield_e, hole_e, seq_of, is_operation}
+use Rattle.swc_bodies.specs.Readings.{Hook}
+use Rattle.swc_grammar.specs.Scope.{Scope}
+use Rattle.swc_grammar.specs.Symbols.{Assign}
+use Rattle.swc_grammar.specs.Tokens.{assign_of, is_colon, is_question, is_star, yield_ok}
+use Rattle.swc_grammar.specs.Clean.{Out, first, sym, assigns, seqs, goes_on_yield_at, run}
+use Rattle.swc_grammar.specs.Words.{◌>>=◌, rest}
+use Rattle.swc_steps.specs.Keys.{expected}
+use Rattle.swc_steps.specs.Lists.{eaten}
+use Rattle.swc_steps.specs.Readers.{begun_if, inside}
+
+-- the operator that a token is, where it writes to what stands before it: no operation is written to
+abbrev pub assign_at : {F C K : Type 0} → Option TokenAndSpan → Tree F C K → Option AssignOp
+assign_at None l = None
+assign_at (Some t) l = if is_operation l then None else assign_of t.token
+
+module _ {F C K : Type 0} (hook : Hook F C K) where
+  -- ---- sequences (13.16)
+
+  -- behind some expressions and a comma, and behind some expressions, where a comma was taken or not
+  unfoldable pub seqs_more : Trees F C K → Scope → List TokenAndSpan → Out (Tree F C K)
+  seqs_more es c ts =
+      run hook (sym Assign) c ts >>= (λ p. run hook (seqs (trees_append es (cons p.0 nil))) c p.1)
+
+  abbrev pub seqs_by : Trees F C K → Option Span → Scope → List TokenAndSpan → Out (Tree F C K)
+  seqs_by es (Some s) c ts = seqs_more es c ts
+  seqs_by es None c ts = Some (seq_of es, ts)
+
+  -- the same of a sequence that begins at a position, where that is told
+  abbrev pub seqs_from : Bool → BytePos → Trees F C K → Scope → List TokenAndSpan → Out (Tree F C K)
+  seqs_from b lo es c ts = seqs_more es c ts >>= (λ p. Some (begun_if b lo p.0, p.1))
+
+  abbrev pub seqs_from_by : Bool → BytePos → Trees F C K → Option Span → Scope → List TokenAndSpan → Out (Tree F C K)
+  seqs_from_by b lo es o c ts = seqs_by es o c ts >>= (λ p. Some (begun_if b lo p.0, p.1))
+
+  -- ---- conditionals (13.14)
+
+  -- that begin at a position: of what t tests, behind its middle e and the `:`; behind its middle; and behind the `?`
+  abbrev pub cond_close : BytePos → Tree F C K → Tree F C K → Scope → List TokenAndSpan → Out (Tree F C K)
+  cond_close lo t e c ts =
+      run hook (sym Assign) c ts >>= (λ q. Some (cond_e (from_to lo (span_of q.0).hi) t e q.0, q.1))
+
+  abbrev pub cond_colon : BytePos → Tree F C K → Tree F C K → Scope → List TokenAndSpan → Out (Tree F C K)
+  cond_colon lo t e c ts = expected is_colon c ts >>= (λ q. cond_close lo t e c q.1)
+
+  unfoldable pub cond_tail : BytePos → Tree F C K → Scope → List TokenAndSpan → Out (Tree F C K)
+  cond_tail lo t c ts = inside hook c ts >>= (λ p. cond_colon lo t p.0 c p.1)
+
+  -- behind what binary operators join, where a conditional begins at the position
+  unfoldable pub assigns_from : BytePos → Tree F C K → Scope → List TokenAndSpan → Out (Tree F C K)
+  assigns_from lo l c ts =
+      if at_token is_question (first ts) then cond_tail lo l c (rest ts) else run hook (assigns l) c ts
+
+  -- ---- assignments (13.15)
+
+  -- to l, behind the operator, and from that on
+  unfoldable pub assign_tail : AssignOp → Tree F C K → Scope → List TokenAndSpan → Out (Tree F C K)
+  assign_tail op l c ts =
+      run hook (sym Assign) c ts >>= (λ p. Some (assign_e (to (span_of l) (span_of p.0)) op l p.0, p.1))
+
+  unfoldable pub assign_expr : AssignOp → Tree F C K → Scope → List TokenAndSpan → Out (Tree F C K)
+  assign_expr op l c ts = if is_target c.context.strict l then assign_tail op l c (rest ts) else None
+
+  -- ---- `yield` (15.5)
+
+  -- its operand, behind the `*` or none, where `yield` is at s; from the `*` on; behind the word; and from that on
+  abbrev pub yield_arg : Span → Option Span → Scope → List TokenAndSpan → Out (Tree F C K)
+  yield_arg s o c ts =
+      run hook (sym Assign) c ts >>= (λ q. Some (yield_e (to s (span_of q.0)) (is_some o) q.0, q.1))
+
+  unfoldable pub yield_operand : Span → Scope → List TokenAndSpan → Out (Tree F C K)
+  yield_operand s c ts = eaten is_star c ts >>= (λ p. yield_arg s p.0 c p.1)
+
+  abbrev pub yield_go : Span → Scope → List TokenAndSpan → Out (Tree F C K)
+  yield_go s c ts =
+      if goes_on_yield_at (first ts) then yield_operand s c ts else Some (yield_e s false hole_e, ts)
+
+  unfoldable pub yield_tail : Span → Scope → List TokenAndSpan → Out (Tree F C K)
+  yield_tail s c ts = if yield_ok c.context then yield_go s c ts else None
+
+  abbrev pub yield_by : Option TokenAndSpan → Scope → List TokenAndSpan → Out (Tree F C K)
+  yield_by None c us = None
+  yield_by (Some t) c us = yield_tail t.span c us
+
+  unfoldable pub yield_expr : Scope → List TokenAndSpan → Out (Tree F C K)
+  yield_expr c ts = yield_by (first ts) c (rest ts)

@@ -1,0 +1,4 @@
+pub mod Assignments
+pub mod Pending
+pub mod Prefixes
+pub mod Updates

@@ -1,0 +1,199 @@
+// Expressions with commas between them, assignment expressions, conditionals and `yield` (ECMA-262, 13.14 to 13.16 and
+ghost use Rattle.std.specs.Prelude.{◌≡◌, ◌≢◌, ◌<◌, ◌≤◌, true, false, ◌&&◌, OnOk, IfOk, IfErr, IsSome};
+ghost use Rattle.swc_context.specs.declared.error.SyntaxError.TheVariants.{OutOfMemory};
+ghost use Rattle.swc_input.specs.Buffer.{current, context, to_come};
+ghost use Rattle.swc_input.specs.Kinds.{at_token};
+ghost use Rattle.swc_ast.specs.Targets.{is_target};
+ghost use Rattle.swc_grammar.specs.Tokens.{is_yield, yield_ok, begins_yielded, begins_yielded_word};
+ghost use Rattle.swc_grammar.specs.Clean.{goes_on_yield_at, no_error};
+ghost use Rattle.swc_nodes.specs.Slots.{expr_part, target_part};
+ghost use Rattle.swc_nodes.specs.Stands.{From};
+ghost use Rattle.swc_nodes.specs.declared.node.TargetNode.TheVariants as target;
+ghost use Rattle.swc_operators.specs.Assignments.{assign_at};
+ghost use Rattle.swc_steps.specs.Contexts.{cond_middle, cond_last};
+ghost use Rattle.swc_steps.specs.Parsing.{seen, Checks, Looks, Refuses, tree_of};
+
+use swc_bodies::bodies::Bodies;
+use swc_context::context::Context;
+use swc_context::error::{PResult, SyntaxError};
+use swc_context::operator::{AssignOp, BinOpToken};
+use swc_context::word::{Keyword, Word};
+use swc_input::buffer::Buffer;
+use swc_input::token::Token;
+use swc_input::tokens::Tokens;
+use swc_nodes::node::{ExprId, TargetNode};
+use swc_nodes::nodes::NodesOf;
+use swc_steps::productions::Productions;
+use swc_steps::tokens::{emit_err, is_after_line_break, syntax_error};
+
+/// The operator that writes which the current token is, where `left` stands before it: none behind an operation.
+pub fn cur_assign_op<I: Tokens, B: Bodies<I>>(
+    p: &Productions<I, B>,
+    left: ExprId,
+) -> Option<AssignOp>
+    requires { From 0 p.now.nodes (expr_part left) }
+    ensures value { result ≡ assign_at (seen p.now.input) (tree_of p.now.nodes left) }
+    ensures some { IsSome result → IsSome (current p.now.input) }
+{
+    match p.input.cur_debug()? {
+        Token::AssignOp(op) if !p.nodes.is_operation(left) => Some(*op),
+        _ => None,
+    }
+}
+
+/// The context of the middle of a conditional, in which `in` counts as an operator, and behind which a colon is expected.
+pub fn cond_middle(ctx: Context) -> Context
+    ensures { result ≡ cond_middle ctx }
+{
+    Context {
+        include_in_expr: true,
+        in_cond_expr: true,
+        will_expect_colon_for_cond: true,
+        ..ctx
+    }
+}
+
+/// The context of the last part of a conditional.
+pub fn cond_last(ctx: Context) -> Context
+    ensures { result ≡ cond_last ctx }
+{
+    Context {
+        in_cond_expr: true,
+        will_expect_colon_for_cond: false,
+        ..ctx
+    }
+}
+
+/// Whether `yield` is current, where it is an operator.
+pub fn is_yield_operator<I: Tokens>(input: &Buffer<I>) -> bool
+    ensures value { result ≡ (at_token is_yield (seen input.now) && (context I.model input.now).in_generator) }
+    ensures some { result ≡ true → IsSome (current input.now) }
+{
+    let ctx = input.get_ctx();
+    match input.cur_debug() {
+        Some(token) => is_yield_token(token) && ctx.in_generator,
+        None => false,
+    }
+}
+
+/// Whether the token is the word `yield`.
+fn is_yield_token(token: &Token) -> bool
+    ensures { result ≡ is_yield token.now }
+{
+    matches!(token, Token::Word(Word::Keyword(Keyword::Yield)))
+}
+
+/// Refuses `yield`, which was consumed, in parameters outside a function.
+pub fn refuse_yield_param<I: Tokens>(input: &mut Buffer<I>) -> PResult<()>
+    ensures passes { OnOk result ((input.new ≡ input.old) × (yield_ok (context I.model input.old) ≡ true)) }
+    ensures refuses { IfErr result
+        (λ e. Refuses I.model input.old e input.new × (yield_ok (context I.model input.old) ≡ false)) }
+{
+    let ctx = input.get_ctx();
+    if ctx.in_parameters && !ctx.in_function {
+        let span = input.prev_span();
+        return Err(syntax_error(input, span, SyntaxError::YieldParamInGen));
+    }
+    Ok(())
+}
+
+/// Whether an operand of `yield` begins here, on the same line. Refused only for want of memory.
+pub fn goes_on_yield<I: Tokens>(input: &mut Buffer<I>) -> PResult<bool>
+    ensures looks { Looks I.model input.old result input.new }
+    ensures value { IfOk result (λ r. r ≡ goes_on_yield_at (seen input.new)) }
+    ensures falls { OnOk result (to_come I.model input.new ≤ to_come I.model input.old) }
+{
+    if is_after_line_break(input)? {
+        return Ok(false);
+    }
+    match input.cur_debug() {
+        Some(token) => Ok(begins_operand(token)),
+        None => Ok(false),
+    }
+}
+
+/// Whether the operand of `yield` may begin with the token.
+fn begins_operand(token: &Token) -> bool
+    ensures { result ≡ begins_yielded token.now }
+{
+    match token {
+        Token::Word(word) => begins_operand_word(word),
+        Token::BinOp(op) => matches!(
+            op,
+            BinOpToken::Add | BinOpToken::Sub | BinOpToken::Mul | BinOpToken::Div
+        ),
+        Token::AssignOp(op) => matches!(op, AssignOp::DivAssign),
+        Token::LParen
+        | Token::LBracket
+        | Token::LBrace
+        | Token::Tilde
+        | Token::Bang
+        | Token::PlusPlus
+        | Token::MinusMinus
+        | Token::BackQuote
+        | Token::Hash
+        | Token::Num { .. }
+        | Token::BigInt { .. }
+        | Token::Str { .. }
+        | Token::Regex(..) => true,
+        _ => false,
+    }
+}
+
+/// Whether it may begin with the word.
+fn begins_operand_word(word: &Word) -> bool
+    ensures { result ≡ begins_yielded_word word.now }
+{
+    match word {
+        Word::Keyword(keyword) => matches!(
+            keyword,
+            Keyword::Let
+                | Keyword::This
+                | Keyword::Function
+                | Keyword::Class
+                | Keyword::New
+                | Keyword::Super
+                | Keyword::Import
+                | Keyword::Await
+                | Keyword::Yield
+                | Keyword::TypeOf
+                | Keyword::Void
+                | Keyword::Delete
+        ),
+        _ => true,
+    }
+}
+
+/// Records what can't be written to by the operator, or not by any but `=`; and refuses what can't stand before one at
+/// all. So far neither array nor object literal can.
+pub fn check_assign_target<I: Tokens, B: Bodies<I>>(
+    input: &mut Buffer<I>,
+    nodes: &NodesOf<B>,
+    op: AssignOp,
+    left: ExprId,
+) -> PResult<()>
+    requires from { From 0 nodes.now (expr_part left) }
+    requires fit { at_token no_error (seen input.old) ≡ true }
+    ensures checks { OnOk result (Checks I.model
+        (is_target (context I.model input.old).strict (tree_of nodes.now left)) input.old input.new) }
+    ensures kept { OnOk result (current input.new ≡ current input.old) }
+    ensures target { OnOk result (From 0 nodes.now (target_part (target.Simple left))) }
+    ensures refuses { IfErr result (λ e. Refuses I.model input.old e input.new × (e.kind ≢ OutOfMemory
+        → is_target (context I.model input.old).strict (tree_of nodes.now left) ≡ false)) }
+    ensures falls { OnOk result (to_come I.model input.new ≤ to_come I.model input.old) }
+{
+    let strict = input.get_ctx().strict;
+    if nodes.is_simple_target(left, strict) {
+        return Ok(());
+    }
+    let span = nodes.span(left);
+    match op {
+        AssignOp::Assign if nodes.is_array_or_object(left) => {}
+        AssignOp::Assign => emit_err(input, span, SyntaxError::TS2406)?,
+        _ => emit_err(input, span, SyntaxError::NotSimpleAssign)?,
+    }
+    if nodes.has_target(TargetNode::Simple(left)) {
+        return Ok(());
+    }
+    Err(syntax_error(input, span, SyntaxError::InvalidAssignTarget))
+}

@@ -1,0 +1,174 @@
+-- Which primary expression the current token begins, and what is left of a literal behind the token that opens it.
+use Rattle.std.proofs.Common.{◌≡◌, Bool, true, false, List, [], ◌∷◌, ◌++◌, if◌then◌else◌, Option, refl, ◌∙◌}
+use Rattle.swc_input.specs.declared.buffer.Buffer.{Buffer}
+use Rattle.swc_input.specs.declared.token.TokenAndSpan.{TokenAndSpan}
+use Rattle.std.proofs.Common.{Some, Result, ap}
+use Rattle.swc_context.specs.Contexts.{view as deciding}
+use Rattle.swc_context.specs.declared.context.Context.{Context}
+use Rattle.swc_context.specs.declared.error.Error.{Error}
+use Rattle.swc_context.specs.declared.span.BytePos.{BytePos}
+use Rattle.swc_ast.specs.Tree.{Tree}
+use Rattle.swc_bodies.specs.Readings.{Hook}
+use Rattle.swc_grammar.specs.Symbols.{Primary, Elements, Props}
+use Rattle.swc_grammar.specs.Clean.{sym as at, run}
+use Rattle.swc_grammar.specs.Words.{◌>>=◌}
+use Rattle.swc_input.specs.Plain.{plain}
+use Rattle.swc_input.specs.Source.{Model}
+use Rattle.swc_input.specs.Buffer.{held, context}
+use Rattle.swc_input.specs.Laws.{Read-same}
+use Rattle.swc_input.specs.Kinds.{at_token}
+use Rattle.swc_bodies.specs.Readings.{is_brace}
+use Rattle.swc_grammar.specs.Tokens.{include_in, is_lparen, is_lbracket, is_backquote}
+use Rattle.swc_steps.specs.Parsing.{Here, Moves, On, Parses, seen}
+use Rattle.swc_steps.specs.Lists.{elements_inside}
+use Rattle.swc_steps.proofs.Lists as list
+use Rattle.swc_steps.proofs.Rules as rule
+use Rattle.swc_steps.proofs.Steps as s
+use Rattle.swc_primary.proofs.Properties as props
+use Rattle.swc_primary.specs.declared.primary.PrimaryKind.{PrimaryKind}
+use Rattle.swc_primary.specs.declared.primary.PrimaryKind.TheVariants as kind
+use Rattle.swc_primary.specs.Openings.{primary_kind, Opens, array_from, object_from}
+
+-- ---- which of four tests holds first
+
+abbrev kind_by : Bool → Bool → Bool → Bool → PrimaryKind
+kind_by a b c d =
+    if a then kind.Paren else
+    (if b then kind.Array else (if c then kind.Object else (if d then kind.Template else kind.Plain)))
+
+paren_by : (a b c d : Bool) → kind_by a b c d ≡ kind.Paren → a ≡ true
+paren_by true b c d h = refl
+paren_by false true c d h = cc
+paren_by false false true d h = cc
+paren_by false false false true h = cc
+paren_by false false false false h = cc
+
+array_by : (a b c d : Bool) → kind_by a b c d ≡ kind.Array → b ≡ true
+array_by true b c d h = cc
+array_by false true c d h = refl
+array_by false false true d h = cc
+array_by false false false true h = cc
+array_by false false false false h = cc
+
+object_by : (a b c d : Bool) → kind_by a b c d ≡ kind.Object → c ≡ true
+object_by true b c d h = cc
+object_by false true c d h = cc
+object_by false false true d h = refl
+object_by false false false true h = cc
+object_by false false false false h = cc
+
+template_by : (a b c d : Bool) → kind_by a b c d ≡ kind.Template → d ≡ true
+template_by true b c d h = cc
+template_by false true c d h = cc
+template_by false false true d h = cc
+template_by false false false true h = refl
+template_by false false false false h = cc
+
+plain_by : (a b c d : Bool) → kind_by a b c d ≡ kind.Plain → (a ≡ false) × (b ≡ false) × (c ≡ false) × (d ≡ false)
+plain_by true b c d h = absurd cc
+plain_by false true c d h = absurd cc
+plain_by false false true d h = absurd cc
+plain_by false false false true h = absurd cc
+plain_by false false false false h = (refl, refl, refl, refl)
+
+module _ (t : Option TokenAndSpan) where
+  pub is_paren : primary_kind t ≡ kind.Paren → at_token is_lparen t ≡ true
+  is_paren h =
+      paren_by (at_token is_lparen t) (at_token is_lbracket t) (at_token is_brace t) (at_token is_backquote t) h
+
+  pub is_array : primary_kind t ≡ kind.Array → at_token is_lbracket t ≡ true
+  is_array h =
+      array_by (at_token is_lparen t) (at_token is_lbracket t) (at_token is_brace t) (at_token is_backquote t) h
+
+  pub is_object : primary_kind t ≡ kind.Object → at_token is_brace t ≡ true
+  is_object h =
+      object_by (at_token is_lparen t) (at_token is_lbracket t) (at_token is_brace t) (at_token is_backquote t) h
+
+  pub is_template : primary_kind t ≡ kind.Template → at_token is_backquote t ≡ true
+  is_template h =
+      template_by (at_token is_lparen t) (at_token is_lbracket t) (at_token is_brace t) (at_token is_backquote t) h
+
+  not_any : primary_kind t ≡ kind.Plain → (at_token is_lparen t ≡ false) × (at_token is_lbracket t ≡ false)
+      × (at_token is_brace t ≡ false) × (at_token is_backquote t ≡ false)
+  not_any h =
+      plain_by (at_token is_lparen t) (at_token is_lbracket t) (at_token is_brace t) (at_token is_backquote t) h
+
+  pub not_paren : primary_kind t ≡ kind.Plain → at_token is_lparen t ≡ false
+  not_paren h = (not_any h).0
+
+  pub not_array : primary_kind t ≡ kind.Plain → at_token is_lbracket t ≡ false
+  not_array h = (not_any h).1
+
+  pub not_object : primary_kind t ≡ kind.Plain → at_token is_brace t ≡ false
+  not_object h = (not_any h).2
+
+  pub not_template : primary_kind t ≡ kind.Plain → at_token is_backquote t ≡ false
+  not_template h = (not_any h).3
+
+-- ---- a look at what was looked at
+
+none_first : {A : Type 0} (xs ys : List A) → xs ++ ys ≡ [] → xs ≡ []
+none_first [] ys h = refl
+none_first (x ∷ xs) ys h = absurd cc
+
+pub looked : {S : Type 0} {model : Model S} {b c : Buffer S} → Here model b c → Here model c c
+looked {b = b} {c = c} h =
+    let took = h.looked.look.read.took in
+    record {
+      laws = h.laws;
+      looked = record {
+        look = record { read = Read-same h.laws c; previous = refl; quiet = λ m k. (refl, refl) };
+        same = λ t e. refl;
+        lives = λ s f. f;
+        end = h.looked.end;
+      };
+      served = record {
+        before = λ f. (f, λ n. (h.served.before f).1 (none_first (held b) took.given (took.balance ∙ n)));
+      };
+      end = h.end;
+    }
+
+-- ---- what is left of a literal behind the token that opens it
+
+module _ {S F C K : Type 0} {model : Model S} (sure : Bool) (hook : Hook F C K) where
+  pub array_begins : {a b d : Buffer S} {lo : BytePos} {ctx : Context} → Here model a b
+      → primary_kind (seen b) ≡ kind.Array → (o : Opens model include_in b lo ctx d)
+      → On model sure (run hook (at Primary))
+      (λ x ts. elements_inside hook x ts >>= (λ p. Some (array_from lo p.0, p.1))) a o.between
+  array_begins {b = b} h k o =
+      let sign = is_array (seen b) k in
+      s.on_then (s.on_seen h (λ x ts same e. list.array_lit_picked hook x ts (ap (at_token is_lbracket) e ∙ sign)))
+      (s.on_took h.laws o.took (λ x ts.
+      list.array_lit_opens hook (plain o.took.was) x ts (rule.passes_plain is_lbracket _ _ o.took.current sign)
+      ∙ list.array_lit_splits hook (plain o.took.was).span x ts
+      ∙ ap (λ v. elements_inside hook x ts >>= (λ p. Some (array_from v p.0, p.1))) o.place))
+
+  pub object_begins : {a b d : Buffer S} {lo : BytePos} {ctx : Context} → Here model a b
+      → primary_kind (seen b) ≡ kind.Object → (o : Opens model (λ x. x) b lo ctx d)
+      → On model sure (run hook (at Primary))
+      (λ x ts. run hook (at Props) x ts >>= (λ p. Some (object_from lo p.0, p.1))) a o.between
+  object_begins {b = b} h k o =
+      let sign = is_object (seen b) k in
+      s.on_then (s.on_seen h (λ x ts same e. props.object_lit_picked hook x ts (ap (at_token is_brace) e ∙ sign)))
+      (s.on_took h.laws o.took (λ x ts.
+      props.object_lit_opens hook (plain o.took.was) x ts (rule.passes_plain is_brace _ _ o.took.current sign)
+      ∙ props.object_lit_splits hook (plain o.took.was).span x ts
+      ∙ ap (λ v. run hook (at Props) x ts >>= (λ p. Some (object_from v p.0, p.1))) o.place))
+
+  -- the list in its context, which is set back behind it
+  pub elements_read : {T : Type 0} (view : T → Tree F C K) {b d e f : Buffer S} {lo : BytePos} {ctx : Context}
+      (r : Result T Error) → (o : Opens model include_in b lo ctx d)
+      → Parses model sure view (run hook (at Elements)) d r e
+      → Moves model e f → context model f ≡ ctx → Parses model sure view (elements_inside hook) o.between r f
+  elements_read view r o h m back =
+      s.parses_within model sure view (elements_inside hook) (run hook (at Elements)) r include_in (λ x. refl)
+      (λ x ts. list.inside_elements hook x ts)
+      o.moves (o.inside ∙ ap (λ x. include_in (deciding x)) o.outside) h m (back ∙ o.outside)
+
+  pub props_read : {T : Type 0} (view : T → Tree F C K) {b d e f : Buffer S} {lo : BytePos} {ctx : Context}
+      (r : Result T Error) → (o : Opens model (λ x. x) b lo ctx d)
+      → Parses model sure view (run hook (at Props)) d r e
+      → Moves model e f → context model f ≡ ctx → Parses model sure view (run hook (at Props)) o.between r f
+  props_read view r o h m back =
+      s.parses_aside model sure view (run hook (at Props)) r
+      o.moves (o.inside ∙ ap deciding o.outside) h m (back ∙ o.outside)

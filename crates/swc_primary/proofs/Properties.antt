@@ -1,0 +1,463 @@
+-- The clean parser's steps in object literals (13.2.5), as the code goes them.
+use Rattle.std.specs.Prelude.{◌≡◌, Bool, true, false, not, if◌then◌else◌, List, [], ◌∷◌, Option, Some, None}
+use Rattle.std.proofs.Common.{refl, sym, ap, ◌∙◌}
+use Rattle.swc_context.specs.Reserved.{is_reserved_word}
+use Rattle.swc_context.specs.declared.span.Span.{Span}
+use Rattle.swc_input.specs.declared.token.Token.{Token}
+use Rattle.swc_input.specs.declared.token.Token.TheVariants as token
+use Rattle.swc_input.specs.declared.token.TokenAndSpan.{TokenAndSpan}
+use Rattle.swc_input.specs.Kinds.{at_token}
+use Rattle.swc_ast.specs.Tree.{Tree, Trees, nil, cons, span_of}
+use Rattle.swc_ast.specs.Trees.{to, object_e, listed, items_of, comma_of, put_first, spread_prop_e, short_e, cover_e}
+use Rattle.swc_ast.specs.Trees.{ident_e, trees_append}
+use Rattle.swc_bodies.specs.Readings.{Hook, is_async, is_brace}
+use Rattle.swc_grammar.specs.Scope.{Scope}
+use Rattle.swc_grammar.specs.Symbols.{Assign, Primary, Props, PropsTail, Prop, Side}
+use Rattle.swc_grammar.specs.Tokens.{tk, with_in, is_dots, is_equals, is_get, is_set, is_question, is_rbrace, is_star}
+use Rattle.swc_grammar.specs.Tokens.{is_word, ends_prop, follows_key}
+use Rattle.swc_grammar.specs.Grammar.{Production, object-lit, prop-spread, prop-short, prop-cover, prop-key}
+use Rattle.swc_grammar.specs.Grammar.{prop-generator, prop-async, prop-async-generator, prop-getter}
+use Rattle.swc_grammar.specs.Names.{Spelling, may_name}
+use Rattle.swc_grammar.specs.Parts.{any_name}
+use Rattle.swc_grammar.specs.Rule.{gives, must, given, symbol, token as token_of, ◌>>=◌ as ◌▸◌, ◌>>◌}
+use Rattle.swc_grammar.specs.Clean.{Out, and_then, first, second, sym as at, exec, Choice, none, pick, chosen, plan}
+use Rattle.swc_grammar.specs.Clean.{primary, prop, prop_word, async_method, step, run}
+use Rattle.swc_grammar.specs.Words.{◌>>=◌, one, word}
+use Rattle.swc_grammar.proofs.Knot.{knot}
+use Rattle.swc_grammar.proofs.Only.{only-brace, only-rbrace}
+use Rattle.swc_grammar.proofs.Rules.{run_picked}
+use Rattle.swc_primary.specs.declared.modifiers.MethodKind.{MethodKind}
+use Rattle.swc_primary.specs.declared.modifiers.MethodKind.TheVariants as method
+use Rattle.swc_primary.specs.declared.modifiers.Modifier.{Modifier}
+use Rattle.swc_primary.specs.declared.modifiers.Modifier.TheVariants as modifier
+use Rattle.swc_primary.specs.declared.modifiers.PropKind.{PropKind}
+use Rattle.swc_primary.specs.declared.modifiers.PropKind.TheVariants as kind
+use Rattle.swc_steps.specs.Readers.{reading, by_production, inside}
+use Rattle.swc_steps.specs.Lists.{eaten, eaten_by, closed, separated, behind, put_before}
+use Rattle.swc_primary.specs.Properties.{object_lit_tail, prop_item, props_behind, props_more, props_by}
+use Rattle.swc_primary.specs.Properties.{spread_prop_tail, open_by, open_name, cover_name, cover_node, cover_tail}
+use Rattle.swc_primary.specs.Properties.{modifier_of, by_modifier, word_kind, prop_kind}
+use Rattle.swc_steps.specs.Keys.{expected, expected_by}
+use Rattle.swc_primary.specs.Methods.{modifiers, method_tail}
+use Rattle.swc_steps.proofs.Keys.{bind_none}
+use Rattle.swc_primary.proofs.Methods.{generator_splits, async_splits, async_generator_splits, getter_splits}
+use Rattle.swc_primary.proofs.Methods.{setter_not}
+use Rattle.swc_steps.proofs.Steps.{not_true, not_false}
+use Rattle.swc_steps.proofs.Lists.{calls, binds, bind_same, twice, ended}
+
+pub open_name_splits : (x : Scope) (ts : List TokenAndSpan) → open_name x ts ≡ (word may_name x ts >>= open_by x)
+unfolding open_name
+open_name_splits x ts = refl
+
+pub cover_name_splits : (x : Scope) (ts : List TokenAndSpan)
+    → cover_name x ts ≡ (open_name x ts >>= (λ p. expected is_equals x p.1 >>= (λ q. Some (p.0, q.1))))
+unfolding cover_name
+cover_name_splits x ts = refl
+
+pub open_by_well : (x : Scope) (n : Spelling) (ts : List TokenAndSpan) → not (is_reserved_word x.context n.text) ≡ true
+    → open_by x (n, ts) ≡ Some (n, ts)
+open_by_well x n ts h = rw (not_true (is_reserved_word x.context n.text) h) refl
+
+pub open_by_ill : (x : Scope) (n : Spelling) (ts : List TokenAndSpan) → not (is_reserved_word x.context n.text) ≡ false
+    → open_by x (n, ts) ≡ None
+open_by_ill x n ts h = rw (not_false (is_reserved_word x.context n.text) h) refl
+
+-- what is made of a choice
+chosen_by : {A B : Type 0} (f : A → B) (b : Bool) {x y : A} {v w : B} → f x ≡ v → f y ≡ w
+    → f (if b then x else y) ≡ (if b then v else w)
+chosen_by f true p q = p
+chosen_by f false p q = q
+
+module _ {F C K : Type 0} {c : Scope} where
+  -- which production each kind of property is
+  abbrev method_choice : MethodKind → Choice F C K Prop c
+  method_choice method.Generator = pick prop-generator
+  method_choice method.Async = pick prop-async
+  method_choice method.AsyncGenerator = pick prop-async-generator
+  method_choice method.Getter = pick prop-getter
+  method_choice method.Setter = none
+
+  abbrev kind_choice : PropKind → Choice F C K Prop c
+  kind_choice kind.Spread = pick prop-spread
+  kind_choice kind.Shorthand = pick prop-short
+  kind_choice kind.Cover = pick prop-cover
+  kind_choice kind.Key = pick prop-key
+  kind_choice (kind.Method m) = method_choice m
+  kind_choice kind.Questioned = none
+  kind_choice kind.Unfit = none
+
+  -- neither a setter nor a word that begins no method is a production
+  other_choice : (b with_star : Bool)
+      → kind_choice (by_modifier (if b then modifier.Set else modifier.Other) with_star) ≡ none
+  other_choice true with_star = refl
+  other_choice false with_star = refl
+
+  modifier_choice : (t u : Option TokenAndSpan)
+      → kind_choice (by_modifier (modifier_of t) (at_token is_star u))
+      ≡ (if at_token is_get t then pick prop-getter else (if at_token is_async t then async_method u else none))
+  modifier_choice t u =
+      chosen_by (λ m. kind_choice (by_modifier m (at_token is_star u))) (at_token is_get t) refl
+      (chosen_by (λ m. kind_choice (by_modifier m (at_token is_star u))) (at_token is_async t)
+      (chosen_by method_choice (at_token is_star u) refl refl) (other_choice (at_token is_set t) (at_token is_star u)))
+
+  word_choice : (t u : Option TokenAndSpan) → kind_choice (word_kind t u) ≡ prop_word t u
+  word_choice t u =
+      chosen_by kind_choice (at_token ends_prop u) refl (chosen_by kind_choice (at_token is_equals u) refl
+      (chosen_by kind_choice (at_token follows_key u) refl (chosen_by kind_choice (at_token is_question u) refl
+      (modifier_choice t u))))
+
+  prop_choice : (ts : List TokenAndSpan) → kind_choice (prop_kind ts) ≡ prop c ts
+  prop_choice ts =
+      chosen_by kind_choice (at_token is_dots (first ts)) refl (chosen_by kind_choice (at_token is_star (first ts)) refl
+      (chosen_by kind_choice (at_token is_word (first ts)) (word_choice (first ts) (second ts)) refl))
+
+module _ {F C K : Type 0} (hook : Hook F C K) where
+  -- ---- object literals
+
+  pub object_lit_picked : (x : Scope) (ts : List TokenAndSpan) → at_token is_brace (first ts) ≡ true
+      → run hook (at Primary) x ts ≡ by_production hook (λ c. object-lit) x ts
+  unfolding by_production reading
+  object_lit_picked x [] h = absurd cc
+  object_lit_picked x (t ∷ ts) h =
+      run_picked hook Primary x (t ∷ ts) object-lit (primary x (t ∷ ts)) refl
+      (only-brace (λ v. primary {F = F} {C = C} {K = K} x (tk v t.had_line_break t.span ∷ ts)
+      ≡ pick object-lit) refl t.token h)
+
+  pub object_lit_opens : (t : TokenAndSpan) (x : Scope) (ts : List TokenAndSpan) → is_brace t.token ≡ true
+      → by_production hook (λ c. object-lit) x (t ∷ ts) ≡ object_lit_tail hook t.span x ts
+  unfolding by_production object_lit_tail reading
+  object_lit_opens t x ts h = rw h (calls (run hook (at Props) x ts) _)
+
+  pub object_lit_splits : (s : Span) (x : Scope) (ts : List TokenAndSpan)
+      → object_lit_tail hook s x ts
+      ≡ (run hook (at Props) x ts >>= (λ p. Some (object_e (comma_of p.0) (to s (span_of p.0)) (items_of p.0), p.1)))
+  unfolding object_lit_tail
+  object_lit_splits s x ts = refl
+
+  -- the brace closes the list
+  props_close : (x : Scope) (t : TokenAndSpan) (ts : List TokenAndSpan) → is_rbrace t.token ≡ true
+      → run hook (at Props) x (t ∷ ts) ≡ Some (listed None t.span nil, ts)
+  props_close x t ts h =
+      knot hook (at Props) x (t ∷ ts)
+      ∙ only-rbrace (λ v. exec hook (run hook) (Some 5)
+      (step (at Props) x (tk v t.had_line_break t.span ∷ ts)) (tk v t.had_line_break t.span ∷ ts)
+      ≡ Some (listed None t.span nil, ts)) refl t.token h
+
+  -- behind a property: what is left behind the comma that stands there, or where none does
+  abbrev tail_left : Scope → Option Span × List TokenAndSpan → Out (Tree F C K)
+  tail_left x q = run hook (at Props) x q.1 >>= (λ p. Some (behind q.0 p.0, p.1))
+
+  tail_token : (x : Scope) (v : Token) (b : Bool) (s : Span) (us : List TokenAndSpan)
+      → run hook (at PropsTail) x (tk v b s ∷ us)
+      ≡ (separated is_rbrace x (tk v b s ∷ us) >>= tail_left x)
+  unfolding separated closed eaten
+  tail_token x token.Comma b s us =
+      knot hook (at PropsTail) x (tk token.Comma b s ∷ us) ∙ calls (run hook (at Props) x us) _
+  tail_token x token.RBrace b s us =
+      knot hook (at PropsTail) x (tk token.RBrace b s ∷ us)
+      ∙ ap (λ o. o >>= (λ p. Some (behind None p.0, p.1))) (sym (props_close x (tk token.RBrace b s) us refl))
+  tail_token x v b s us = knot hook (at PropsTail) x (tk v b s ∷ us)
+
+  tail_is : (x : Scope) (us : List TokenAndSpan)
+      → run hook (at PropsTail) x us ≡ (separated is_rbrace x us >>= tail_left x)
+  unfolding separated closed eaten
+  tail_is x [] = knot hook (at PropsTail) x []
+  tail_is x (t ∷ us) = tail_token x t.token t.had_line_break t.span us
+
+  -- behind a property and the comma that stands there, or none: the list from that property on
+  abbrev list_from : Scope → (Tree F C K × Option Span) × List TokenAndSpan → Out (Tree F C K)
+  list_from x p = run hook (at Props) x p.1 >>= (λ q. Some (put_first p.0.0 (behind p.0.1 q.0), q.1))
+
+  -- a property, and what stands behind it
+  item_more : (x : Scope) (ts : List TokenAndSpan)
+      → and_then (run hook (at Prop) x ts) (λ e us. and_then (run hook (at PropsTail) x us)
+      (λ es vs. Some (put_first e es, vs)))
+      ≡ (prop_item hook x ts >>= list_from x)
+  unfolding prop_item
+  item_more x ts =
+      calls (run hook (at Prop) x ts) _
+      ∙ bind_same (run hook (at Prop) x ts) _ _ (λ p.
+      calls (run hook (at PropsTail) x p.1) _
+      ∙ ap (λ o. o >>= (λ q. Some (put_first p.0 q.0, q.1))) (tail_is x p.1)
+      ∙ sym (binds (separated is_rbrace x p.1) (tail_left x) _)
+      ∙ bind_same (separated is_rbrace x p.1) _ _ (λ q. sym (binds (run hook (at Props) x q.1) _ _))
+      ∙ binds (separated is_rbrace x p.1) (λ q. Some ((p.0, q.0), q.1)) _)
+      ∙ binds (run hook (at Prop) x ts) _ _
+
+  -- one property, and those that are left
+  props_step : (x : Scope) (ts : List TokenAndSpan) → at_token is_rbrace (first ts) ≡ false
+      → run hook (at Props) x ts
+      ≡ (prop_item hook x ts >>= list_from x)
+  props_step x ts h = knot hook (at Props) x ts ∙ rw h (item_more x ts)
+
+  pub prop_item_splits : (x : Scope) (ts : List TokenAndSpan)
+      → prop_item hook x ts
+      ≡ (run hook (at Prop) x ts >>= (λ p. separated is_rbrace x p.1 >>= (λ q. Some ((p.0, q.0), q.1))))
+  unfolding prop_item
+  prop_item_splits x ts = refl
+
+  pub props_more_splits : (before : Trees F C K) (x : Scope) (ts : List TokenAndSpan)
+      → props_more hook before x ts
+      ≡ (prop_item hook x ts >>= (λ p. props_behind hook (trees_append before (cons p.0.0 nil)) p.0.1 x p.1))
+  unfolding props_more
+  props_more_splits before x ts = refl
+
+  -- from a property on
+  behind_more : (before : Trees F C K) (comma : Option Span) (x : Scope) (ts : List TokenAndSpan)
+      → at_token is_rbrace (first ts) ≡ false
+      → props_behind hook before comma x ts ≡ props_more hook before x ts
+  unfolding props_behind props_more
+  behind_more before comma x ts h =
+      ap (λ o. o >>= (λ p. Some (put_before before (behind comma p.0), p.1))) (props_step x ts h)
+      ∙ sym (binds (prop_item hook x ts) _ _)
+      ∙ bind_same (prop_item hook x ts) _ _ (λ p.
+      sym (binds (run hook (at Props) x p.1) _ _)
+      ∙ bind_same (run hook (at Props) x p.1) _ _ (λ q.
+      ap (λ v. Some (v, q.1)) (twice before comma p.0.0 (behind p.0.1 q.0))))
+
+  behind_token : (before : Trees F C K) (comma : Option Span) (x : Scope) (v : Token) (b : Bool) (s : Span)
+      (us : List TokenAndSpan)
+      → props_behind hook before comma x (tk v b s ∷ us)
+      ≡ (eaten is_rbrace x (tk v b s ∷ us) >>= (λ p. props_by hook before comma p.0 x p.1))
+  unfolding props_behind eaten
+  behind_token before comma x token.RBrace b s us =
+      ap (λ o. o >>= (λ p. Some (put_before before (behind comma p.0), p.1)))
+      (props_close x (tk token.RBrace b s) us refl)
+      ∙ ap (λ v. Some (v, us)) (ended before comma s)
+  behind_token before comma x v b s us = behind_more before comma x (tk v b s ∷ us) refl
+
+  pub behind_splits : (before : Trees F C K) (comma : Option Span) (x : Scope) (ts : List TokenAndSpan)
+      → props_behind hook before comma x ts
+      ≡ (eaten is_rbrace x ts >>= (λ p. props_by hook before comma p.0 x p.1))
+  unfolding eaten
+  behind_splits before comma x [] = behind_more before comma x [] refl
+  behind_splits before comma x (t ∷ ts) = behind_token before comma x t.token t.had_line_break t.span ts
+
+  -- before the first property
+  first_more : (x : Scope) (ts : List TokenAndSpan) → at_token is_rbrace (first ts) ≡ false
+      → run hook (at Props) x ts ≡ props_behind hook nil None x ts
+  unfolding props_behind
+  first_more x ts h =
+      props_step x ts h
+      ∙ bind_same (prop_item hook x ts) _ _ (λ p. binds (run hook (at Props) x p.1) _ _)
+      ∙ binds (prop_item hook x ts) _ _
+      ∙ ap (λ o. o >>= (λ p. Some (put_before nil p.0, p.1))) (sym (props_step x ts h))
+
+  first_token : (x : Scope) (v : Token) (b : Bool) (s : Span) (us : List TokenAndSpan)
+      → run hook (at Props) x (tk v b s ∷ us) ≡ props_behind hook nil None x (tk v b s ∷ us)
+  unfolding props_behind
+  first_token x token.RBrace b s us =
+      let e = props_close x (tk token.RBrace b s) us refl in
+      e ∙ ap (λ o. o >>= (λ p. Some (put_before nil p.0, p.1))) (sym e)
+  first_token x v b s us = first_more x (tk v b s ∷ us) refl
+
+  pub props_first : (x : Scope) (ts : List TokenAndSpan)
+      → run hook (at Props) x ts ≡ props_behind hook nil None x ts
+  props_first x [] = first_more x [] refl
+  props_first x (t ∷ ts) = first_token x t.token t.had_line_break t.span ts
+
+  -- ---- properties
+
+  pub spread_prop_splits : (s : Span) (x : Scope) (ts : List TokenAndSpan)
+      → spread_prop_tail hook s x ts ≡ (inside hook x ts >>= (λ p. Some (spread_prop_e s p.0, p.1)))
+  unfolding spread_prop_tail
+  spread_prop_splits s x ts = refl
+
+  -- a name alone
+  short_by : (r : Bool) (n : Spelling) (us : List TokenAndSpan)
+      → (if not r then Some (short_e {F = F} {C = C} {K = K} n.at n.text, us) else None)
+      ≡ ((if r then None else Some (n, us)) >>= (λ p. Some (short_e p.0.at p.0.text, p.1)))
+  short_by true n us = refl
+  short_by false n us = refl
+
+  short_one : (o : Option Spelling) (x : Scope) (us : List TokenAndSpan)
+      → exec hook (run hook) None (plan (given o ▸
+      (λ n. must (not (is_reserved_word x.context n.text)) >> gives (short_e {F = F} {C = C} {K = K} n.at n.text)))) us
+      ≡ ((one o us >>= open_by x) >>= (λ p. Some (short_e p.0.at p.0.text, p.1)))
+  short_one None x us = refl
+  short_one (Some n) x us = short_by (is_reserved_word x.context n.text) n us
+
+  pub short_splits : (x : Scope) (ts : List TokenAndSpan)
+      → by_production hook (λ c. prop-short) x ts
+      ≡ (open_name x ts >>= (λ p. Some (short_e p.0.at p.0.text, p.1)))
+  unfolding by_production reading open_name word
+  short_splits x [] = refl
+  short_splits x (t ∷ ts) = short_one (any_name x t.token t.span) x ts
+
+  -- a name with `=` and an expression behind it
+  cover_sign : (b : Bool) (n : Spelling) (x : Scope) (t : TokenAndSpan) (us : List TokenAndSpan)
+      → (if b then and_then (run hook (at Assign) (with_in x) us)
+      (λ e vs. Some (cover_e (to n.at (span_of e)) (ident_e n.at n.text) e, vs)) else None)
+      ≡ ((eaten_by b (t ∷ us) >>= (λ p. expected_by p.0 p.1)) >>= (λ q. cover_tail hook n x q.1))
+  unfolding cover_tail inside
+  cover_sign true n x t us = calls (run hook (at Assign) (with_in x) us) _
+  cover_sign false n x t us = refl
+
+  cover_run : (n : Spelling) (x : Scope) (us : List TokenAndSpan)
+      → exec hook (run hook) None (plan (token_of is_equals >> (symbol Assign (with_in x) ▸
+      (λ e. gives (cover_e {F = F} {C = C} {K = K} (to n.at (span_of e)) (ident_e n.at n.text) e))))) us
+      ≡ (expected is_equals x us >>= (λ q. cover_tail hook n x q.1))
+  unfolding expected eaten
+  cover_run n x [] = refl
+  cover_run n x (t ∷ us) = cover_sign (is_equals t.token) n x t us
+
+  cover_open : (r : Bool) (n : Spelling) (x : Scope) (us : List TokenAndSpan)
+      → (if not r then (expected is_equals x us >>= (λ q. cover_tail hook n x q.1)) else None)
+      ≡ ((if r then None else Some (n, us)) >>= (λ p. expected is_equals x p.1 >>= (λ q. cover_tail hook p.0 x q.1)))
+  cover_open true n x us = refl
+  cover_open false n x us = refl
+
+  cover_one : (o : Option Spelling) (x : Scope) (us : List TokenAndSpan)
+      → exec hook (run hook) None (plan (given o ▸ (λ n. must (not (is_reserved_word x.context n.text)) >> (token_of is_equals >>
+      (symbol Assign (with_in x) ▸
+      (λ e. gives (cover_e {F = F} {C = C} {K = K} (to n.at (span_of e)) (ident_e n.at n.text) e))))))) us
+      ≡ ((one o us >>= open_by x) >>= (λ p. expected is_equals x p.1 >>= (λ q. cover_tail hook p.0 x q.1)))
+  cover_one None x us = refl
+  cover_one (Some n) x us =
+      ap (λ v. if not (is_reserved_word x.context n.text) then v else None) (cover_run n x us)
+      ∙ cover_open (is_reserved_word x.context n.text) n x us
+
+  cover_opens : (x : Scope) (ts : List TokenAndSpan)
+      → by_production hook (λ c. prop-cover) x ts
+      ≡ (open_name x ts >>= (λ p. expected is_equals x p.1 >>= (λ q. cover_tail hook p.0 x q.1)))
+  unfolding by_production reading open_name word
+  cover_opens x [] = refl
+  cover_opens x (t ∷ ts) = cover_one (any_name x t.token t.span) x ts
+
+  pub cover_splits : (x : Scope) (ts : List TokenAndSpan)
+      → by_production hook (λ c. prop-cover) x ts ≡ (cover_name x ts >>= (λ p. cover_tail hook p.0 x p.1))
+  unfolding cover_name
+  cover_splits x ts =
+      cover_opens x ts
+      ∙ bind_same (open_name x ts) _ _ (λ p. binds (expected is_equals x p.1) (λ q. Some (p.0, q.1))
+      (λ r. cover_tail hook r.0 x r.1))
+      ∙ binds (open_name x ts) _ _
+
+  pub cover_tail_splits : (n : Spelling) (x : Scope) (ts : List TokenAndSpan)
+      → cover_tail hook n x ts
+      ≡ (inside hook x ts >>= (λ p. Some (cover_node n p.0, p.1)))
+  unfolding cover_tail
+  cover_tail_splits n x ts = refl
+
+  -- each property is picked by its kind
+  kind_picked : (x : Scope) (ts : List TokenAndSpan) {r : Side F C K Prop} (p : Production Prop x r) (k : PropKind)
+      → kind_choice k ≡ pick p → prop_kind ts ≡ k
+      → run hook (at Prop) x ts ≡ exec hook (run hook) (Some 4) (plan r) ts
+  kind_picked x ts p k e h =
+      run_picked hook Prop x ts p (prop x ts) refl (sym (prop_choice ts) ∙ ap kind_choice h ∙ e)
+
+  pub short_picked : (x : Scope) (ts : List TokenAndSpan) → prop_kind ts ≡ kind.Shorthand
+      → run hook (at Prop) x ts ≡ by_production hook (λ c. prop-short) x ts
+  unfolding by_production reading
+  short_picked x [] h = kind_picked x [] prop-short kind.Shorthand refl h
+  short_picked x (t ∷ ts) h = kind_picked x (t ∷ ts) prop-short kind.Shorthand refl h
+
+  pub cover_picked : (x : Scope) (ts : List TokenAndSpan) → prop_kind ts ≡ kind.Cover
+      → run hook (at Prop) x ts ≡ by_production hook (λ c. prop-cover) x ts
+  unfolding by_production reading
+  cover_picked x [] h = kind_picked x [] prop-cover kind.Cover refl h
+  cover_picked x (t ∷ ts) h = kind_picked x (t ∷ ts) prop-cover kind.Cover refl h
+
+  pub key_picked : (x : Scope) (ts : List TokenAndSpan) → prop_kind ts ≡ kind.Key
+      → run hook (at Prop) x ts ≡ by_production hook (λ c. prop-key) x ts
+  unfolding by_production reading
+  key_picked x ts h = kind_picked x ts prop-key kind.Key refl h
+
+  generator_picked : (x : Scope) (ts : List TokenAndSpan) → prop_kind ts ≡ kind.Method method.Generator
+      → run hook (at Prop) x ts ≡ by_production hook (λ c. prop-generator) x ts
+  unfolding by_production reading
+  generator_picked x [] h = kind_picked x [] prop-generator (kind.Method method.Generator) refl h
+  generator_picked x (t ∷ ts) h = kind_picked x (t ∷ ts) prop-generator (kind.Method method.Generator) refl h
+
+  getter_picked : (x : Scope) (ts : List TokenAndSpan) → prop_kind ts ≡ kind.Method method.Getter
+      → run hook (at Prop) x ts ≡ by_production hook (λ c. prop-getter) x ts
+  unfolding by_production reading
+  getter_picked x [] h = kind_picked x [] prop-getter (kind.Method method.Getter) refl h
+  getter_picked x (t ∷ ts) h = kind_picked x (t ∷ ts) prop-getter (kind.Method method.Getter) refl h
+
+  async_picked : (x : Scope) (ts : List TokenAndSpan) → prop_kind ts ≡ kind.Method method.Async
+      → run hook (at Prop) x ts ≡ by_production hook (λ c. prop-async) x ts
+  unfolding by_production reading
+  async_picked x [] h = kind_picked x [] prop-async (kind.Method method.Async) refl h
+  async_picked x (t ∷ ts) h = kind_picked x (t ∷ ts) prop-async (kind.Method method.Async) refl h
+
+  async_generator_picked : (x : Scope) (ts : List TokenAndSpan) → prop_kind ts ≡ kind.Method method.AsyncGenerator
+      → run hook (at Prop) x ts ≡ by_production hook (λ c. prop-async-generator) x ts
+  unfolding by_production reading
+  async_generator_picked x [] h = kind_picked x [] prop-async-generator (kind.Method method.AsyncGenerator) refl h
+  async_generator_picked x (t ∷ ts) h = kind_picked x (t ∷ ts) prop-async-generator (kind.Method method.AsyncGenerator) refl h
+
+  none_picked : (x : Scope) (ts : List TokenAndSpan) (k : PropKind) → prop_kind ts ≡ k
+      → kind_choice {F = F} {C = C} {K = K} {c = x} k ≡ none → run hook (at Prop) x ts ≡ None
+  none_picked x ts k h e = knot hook (at Prop) x ts ∙ ap (λ v. exec hook (run hook) (Some 4) (chosen v) ts)
+      (sym (prop_choice ts) ∙ ap kind_choice h ∙ e)
+
+-- dots stand at no other kind
+spread_by : (b : Bool) (k : PropKind) → (k ≡ kind.Spread → ⊥) → (if b then kind.Spread else k) ≡ kind.Spread → b ≡ true
+spread_by true k n h = refl
+spread_by false k n h = absurd (n h)
+
+no_modifier_spread : (m : Modifier) (with_star : Bool) → by_modifier m with_star ≡ kind.Spread → ⊥
+no_modifier_spread modifier.Get with_star h = cc
+no_modifier_spread modifier.Set with_star h = cc
+no_modifier_spread modifier.Async with_star h = cc
+no_modifier_spread modifier.Other with_star h = cc
+
+no_word_spread : (t u : Option TokenAndSpan) → word_kind t u ≡ kind.Spread → ⊥
+no_word_spread t u = by_four (at_token ends_prop u) (at_token is_equals u) (at_token follows_key u)
+    (at_token is_question u) (by_modifier (modifier_of t) (at_token is_star u))
+    (no_modifier_spread (modifier_of t) (at_token is_star u))
+  where
+    by_four : (a b c d : Bool) (k : PropKind) → (k ≡ kind.Spread → ⊥)
+        → (if a then kind.Shorthand else
+        (if b then kind.Cover else (if c then kind.Key else (if d then kind.Questioned else k)))) ≡ kind.Spread → ⊥
+    by_four true b c d k n h = cc
+    by_four false true c d k n h = cc
+    by_four false false true d k n h = cc
+    by_four false false false true k n h = cc
+    by_four false false false false k n h = n h
+
+no_other_spread : (a b : Bool) (t u : Option TokenAndSpan)
+    → (if a then kind.Method method.Generator else (if b then word_kind t u else kind.Key)) ≡ kind.Spread → ⊥
+no_other_spread true b t u h = cc
+no_other_spread false true t u h = no_word_spread t u h
+no_other_spread false false t u h = cc
+
+spread_dots : (ts : List TokenAndSpan) → prop_kind ts ≡ kind.Spread → at_token is_dots (first ts) ≡ true
+spread_dots ts h = spread_by (at_token is_dots (first ts)) _
+    (no_other_spread (at_token is_star (first ts)) (at_token is_word (first ts)) (first ts) (second ts)) h
+
+module _ {F C K : Type 0} (hook : Hook F C K) where
+  -- dots, and what is read behind them
+  spread_token : (x : Scope) (v : Token) (b : Bool) (s : Span) (us : List TokenAndSpan) → is_dots v ≡ true
+      → run hook (at Prop) x (tk v b s ∷ us) ≡ spread_prop_tail hook s x us
+  unfolding spread_prop_tail inside
+  spread_token x token.DotDotDot b s us h =
+      knot hook (at Prop) x (tk token.DotDotDot b s ∷ us) ∙ calls (run hook (at Assign) (with_in x) us) _
+  spread_token x v b s us h = absurd cc
+
+  pub spread_picked : (x : Scope) (ts : List TokenAndSpan) → prop_kind ts ≡ kind.Spread
+      → run hook (at Prop) x ts ≡ (expected is_dots x ts >>= (λ p. spread_prop_tail hook p.0 x p.1))
+  unfolding expected eaten
+  spread_picked x [] h = let d = spread_dots [] h in absurd cc
+  spread_picked x (t ∷ ts) h =
+      let d = spread_dots (t ∷ ts) h in
+      spread_token x t.token t.had_line_break t.span ts d ∙ rw d refl
+
+  -- a method by its kind; a setter is no production, and never read
+  pub method_picked : (m : MethodKind) (x : Scope) (ts : List TokenAndSpan) → prop_kind ts ≡ kind.Method m
+      → run hook (at Prop) x ts ≡ (modifiers m x ts >>= (λ p. method_tail hook m p.0 x p.1))
+  method_picked method.Generator x ts h = generator_picked hook x ts h ∙ generator_splits hook x ts
+  method_picked method.Async x ts h = async_picked hook x ts h ∙ async_splits hook x ts
+  method_picked method.AsyncGenerator x ts h = async_generator_picked hook x ts h ∙ async_generator_splits hook x ts
+  method_picked method.Getter x ts h = getter_picked hook x ts h ∙ getter_splits hook x ts
+  method_picked method.Setter x ts h =
+      none_picked hook x ts (kind.Method method.Setter) h refl
+      ∙ sym (bind_none (modifiers method.Setter x ts) _ (λ p. setter_not hook p.0 x p.1))
+
+  pub questioned_none : (x : Scope) (ts : List TokenAndSpan) → prop_kind ts ≡ kind.Questioned
+      → run hook (at Prop) x ts ≡ None
+  questioned_none x ts h = none_picked hook x ts kind.Questioned h refl
+
+  pub unfit_none : (x : Scope) (ts : List TokenAndSpan) → prop_kind ts ≡ kind.Unfit → run hook (at Prop) x ts ≡ None
+  unfit_none x ts h = none_picked hook x ts kind.Unfit h refl

@@ -1,0 +1,34 @@
+use Rattle.std.proofs.Common.{true, refl, arith}
+use Rattle.std.proofs.lemmas.Result.{err_from_is_err_and}
+use Rattle.swc_steps.specs.Parsing.{tree_of}
+use Rattle.swc_primary.proofs.ParenItems.{whole_item, item_from, item_checked, items_checked}
+use Rattle.swc_steps.proofs.Steps.{check_passes, forgoes_later}
+use Rattle.swc_primary.proofs.parens.check_item_covers.Goals as goal
+
+pub loop-item-init : goal.loop-item-init
+loop-item-init g c = (check_passes true g.met.I.Tokens.laws _ refl, omega arith)
+
+pub check_cover_names-requires : goal.check_cover_names-requires
+check_cover_names-requires g c =
+    item_from c.deref-item-items.result.now c.args.items.now.items c.loop-item.item-index _ c.deref-item-items.ensures.value
+    c.loop-item-test.true c.requires
+
+pub returns-in_err-check_cover_names-clause-checks : goal.returns-in_err-check_cover_names-clause-checks
+returns-in_err-check_cover_names-clause-checks g c =
+    let p = err_from_is_err_and c.from_residual.result c.from_residual.ensures.1 in rw (p.1, p.2)
+    (forgoes_later c.loop-item.invariant.0.leads c.in_err-check_cover_names.ensures.checks)
+
+pub loop-item-preserved : goal.loop-item-preserved
+loop-item-preserved g c = (
+  item_checked (whole_item (tree_of c.args.nodes.now)) c.deref-item-items.result.now c.loop-item.item-index _
+      c.loop-item-test.true c.loop-item.invariant.0 c.in_ok-check_cover_names.ensures.checks,
+  let a = c.loop-item.invariant.1 in let b = c.in_ok-check_cover_names.ensures.falls in omega arith,
+)
+
+pub returns-clause-checks : goal.returns-clause-checks
+returns-clause-checks g c =
+    items_checked (tree_of c.args.nodes.now) c.deref-item-items.result.now c.args.items.now.items c.loop-item.item-index
+    c.deref-item-items.ensures.value (let h = c.loop-item-test.false in omega arith) c.loop-item.invariant.0
+
+pub returns-clause-falls : goal.returns-clause-falls
+returns-clause-falls g c = c.loop-item.invariant.1

@@ -1,0 +1,45 @@
+use Rattle.std.proofs.Common.{map, sym, ap}
+use Rattle.std.proofs.lemmas.Result.{err_from_is_err_and}
+use Rattle.swc_context.specs.Spans.{from_to}
+use Rattle.swc_ast.specs.Parts.{item_trees}
+use Rattle.swc_ast.specs.Trees.{paren_ok, paren_e, held_exprs}
+use Rattle.swc_ast.specs.declared.expr.ExprOrSpread.{ExprOrSpread}
+use Rattle.swc_nodes.specs.Lists.{seq_between}
+use Rattle.swc_nodes.specs.Slots.{args_parts}
+use Rattle.swc_nodes.specs.Stands.{first_start, last_end}
+use Rattle.swc_nodes.specs.declared.node.ExprId.{ExprId}
+use Rattle.swc_nodes.proofs.Standing.{grows-same}
+use Rattle.swc_steps.specs.Parsing.{args_at, tree_of}
+use Rattle.swc_steps.proofs.Building.{made_at, made_over}
+use Rattle.swc_steps.proofs.Making as m
+use Rattle.swc_steps.proofs.Naming.{goes, stops}
+use Rattle.swc_steps.proofs.Steps as s
+use Rattle.swc_primary.proofs.primary.paren_items.Goals as goal
+
+pub returns-in_err-check_paren_items : goal.returns-in_err-check_paren_items
+returns-in_err-check_paren_items g c = λ k apart.
+    let h = c.in_err-check_paren_items.ensures.refuses in
+    let es = args_at c.args.p.now.nodes c.args.list in
+    let p = err_from_is_err_and c.from_residual.result c.from_residual.ensures.1 in rw (p.1, p.2)
+    (m.no_more (record { refuses = h.0; none = λ n sure loud ts z. stops (paren_ok es) _ (h.1 n) }) (grows-same _))
+
+pub returns-in_err-expr : goal.returns-in_err-expr
+returns-in_err-expr g c = λ k apart.
+    let p = err_from_is_err_and c.from_residual-in_err-expr.result c.from_residual-in_err-expr.ensures.1 in rw (p.1, p.2)
+    (m.no_more (s.unheard_memory (s.forgoes_later c.in_ok-check_paren_items.ensures.checks.leads
+    (s.forgoes_here g.met.I.Tokens.laws _ _ _ c.in_err-expr.ensures.refused))) c.seq_of_items-node.ensures.grows)
+
+pub returns : goal.returns
+returns g c = λ k apart.
+    let now = c.args.p.now.nodes in
+    let es = args_at now c.args.list in
+    let xs = map (λ (x : ExprOrSpread ExprId). x.expr) c.args.list.items.items in
+    let held = seq_between (first_start now xs) (last_end now xs)
+    (held_exprs (item_trees (tree_of now) c.args.list.items.items)) in
+    let over = made_over now c.seq_of_items-node.new.self k (args_parts c.args.list.items) held c.seq_of_items-node.result c.seq_of_items-node.ensures.made apart in
+    let one = made_at c.seq_of_items-node.new.self k held c.seq_of_items-node.result c.in_ok-expr.expr over c.in_ok-expr.ensures.ok in
+    m.node_on _ c.paren_expr-node.result c.made-2.result one.from.above c.paren_expr-node.ensures.made c.made-2.ensures.ok
+    c.made-2.ensures.refused c.seq_of_items-node.ensures.grows c.paren_expr-node.ensures.grows
+    (s.on_answer (ap (λ v. paren_e (from_to c.args.start.lo c.args.list.end.hi) v) (sym one.stands))
+    (s.on_checked (paren_ok es) c.in_ok-check_paren_items.ensures.checks
+    (λ x ts h. goes (paren_ok es) _ h) (λ x ts h. stops (paren_ok es) _ h)))

@@ -1,0 +1,4 @@
+pub mod Begins
+pub mod Methods
+pub mod Openings
+pub mod Properties

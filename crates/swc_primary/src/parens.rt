@@ -1,0 +1,136 @@
+// What can't stand in parentheses by itself (ECMA-262, 13.2.9), of a list as arguments have it.
+ghost use Rattle.std.specs.Prelude.{length, ◌≡◌, ◌≢◌, ◌≤◌, true, false, not, OnOk, IfErr};
+ghost use Rattle.swc_ast.specs.Parts.{item_trees};
+ghost use Rattle.swc_ast.specs.Trees.{no_cover_in, no_covers, no_spread, paren_ok};
+ghost use Rattle.swc_context.specs.declared.error.SyntaxError.TheVariants.{OutOfMemory};
+ghost use Rattle.swc_input.specs.Recording.{is_some};
+ghost use Rattle.swc_input.specs.Buffer.{to_come};
+ghost use Rattle.swc_nodes.specs.Lists.{is_cover_prop, has_cover};
+ghost use Rattle.swc_nodes.specs.Slots.{expr_part, args_parts};
+ghost use Rattle.swc_nodes.specs.Stands.{Apart, From};
+ghost use Rattle.swc_steps.specs.Parsing.{Checked, Checks, Refuses, tree_of, args_at};
+
+use swc_ast::expr::ExprOrSpread;
+use swc_bodies::bodies::Bodies;
+use swc_context::error::{PResult, SyntaxError};
+use swc_context::span::Span;
+use swc_input::buffer::Buffer;
+use swc_input::tokens::Tokens;
+use swc_nodes::node::{ExprId, PropNode};
+use swc_nodes::nodes::NodesOf;
+use swc_steps::tokens::{Listed, emit_err, syntax_error};
+
+/// Records and refuses what can't stand in parentheses, of a list from the one at `start` on.
+pub(crate) fn check_paren_items<I: Tokens, B: Bodies<I>>(
+    input: &mut Buffer<I>,
+    nodes: &NodesOf<B>,
+    start: Span,
+    list: &Listed<ExprOrSpread<ExprId>>,
+) -> PResult<()>
+    requires { Apart 0 nodes.now (args_parts list.now.items) }
+    ensures checks { OnOk result (Checks I.model (paren_ok (args_at nodes.now list.now)) input.old input.new) }
+    ensures some { OnOk result (1 ≤ length list.now.items.items) }
+    ensures refuses { IfErr result (λ e. Refuses I.model input.old e input.new
+        × (e.kind ≢ OutOfMemory → paren_ok (args_at nodes.now list.now) ≡ false)) }
+    ensures falls { OnOk result (to_come I.model input.new ≤ to_come I.model input.old) }
+{
+    check_item_covers::<I, B>(input, nodes, &list.items)?;
+    if list.items.is_empty() {
+        let span = Span::new(start.lo, list.end.hi);
+        return Err(syntax_error(input, span, SyntaxError::EmptyParenExpr));
+    }
+    check_last_comma(input, list.trailing_comma)?;
+    refuse_spread::<I, B>(input, nodes, &list.items)
+}
+
+/// Records each property `name = value` of the object literals among the items of a list, in their order.
+fn check_item_covers<I: Tokens, B: Bodies<I>>(
+    input: &mut Buffer<I>,
+    nodes: &NodesOf<B>,
+    items: &Vec<ExprOrSpread<ExprId>>,
+) -> PResult<()>
+    requires { Apart 0 nodes.now (args_parts items.now) }
+    ensures checks { Checked I.model (no_covers (item_trees (tree_of nodes.now) items.now.items))
+        input.old result input.new }
+    ensures falls { OnOk result (to_come I.model input.new ≤ to_come I.model input.old) }
+{
+    for item in items {
+        check_cover_names::<I, B>(input, nodes, item.expr)?;
+    }
+    Ok(())
+}
+
+/// Records a comma behind the last expression in parentheses.
+fn check_last_comma<I: Tokens>(input: &mut Buffer<I>, comma: Option<Span>) -> PResult<()>
+    ensures checks { Checked I.model (not (is_some comma)) input.old result input.new }
+    ensures falls { OnOk result (to_come I.model input.new ≤ to_come I.model input.old) }
+{
+    match comma {
+        Some(span) => emit_err(input, span, SyntaxError::TS1109),
+        None => Ok(()),
+    }
+}
+
+/// Refuses the first item of a list that stands behind dots, at its expression.
+fn refuse_spread<I: Tokens, B: Bodies<I>>(
+    input: &mut Buffer<I>,
+    nodes: &NodesOf<B>,
+    items: &Vec<ExprOrSpread<ExprId>>,
+) -> PResult<()>
+    requires { Apart 0 nodes.now (args_parts items.now) }
+    ensures passes { OnOk result ((input.new ≡ input.old)
+        × (no_spread (item_trees (tree_of nodes.now) items.now.items) ≡ true)) }
+    ensures refuses { IfErr result (λ e. Refuses I.model input.old e input.new
+        × (no_spread (item_trees (tree_of nodes.now) items.now.items) ≡ false)) }
+{
+    for item in items {
+        if item.spread.is_some() {
+            let span = nodes.span(item.expr);
+            return Err(syntax_error(input, span, SyntaxError::SpreadInParenExpr));
+        }
+    }
+    Ok(())
+}
+
+/// Records each property `name = value` of an object literal, in their order, at their places. Of any other expression
+/// nothing is recorded.
+fn check_cover_names<I: Tokens, B: Bodies<I>>(
+    input: &mut Buffer<I>,
+    nodes: &NodesOf<B>,
+    expr: ExprId,
+) -> PResult<()>
+    requires { From 0 nodes.now (expr_part expr) }
+    ensures checks { Checked I.model (no_cover_in (tree_of nodes.now expr)) input.old result input.new }
+    ensures falls { OnOk result (to_come I.model input.new ≤ to_come I.model input.old) }
+{
+    match nodes.props(expr) {
+        Some(props) => check_props(input, props),
+        None => Ok(()),
+    }
+}
+
+/// Records each property `name = value` of a list, in their order.
+fn check_props<I: Tokens, K>(input: &mut Buffer<I>, props: &Vec<PropNode<K>>) -> PResult<()>
+    ensures checks { Checked I.model (not (has_cover props.now.items)) input.old result input.new }
+    ensures falls { OnOk result (to_come I.model input.new ≤ to_come I.model input.old) }
+{
+    for prop in props {
+        check_prop(input, prop)?;
+    }
+    Ok(())
+}
+
+/// Records a property if it is `name = value`.
+fn check_prop<I: Tokens, K>(input: &mut Buffer<I>, prop: &PropNode<K>) -> PResult<()>
+    ensures checks { Checked I.model (not (is_cover_prop prop.now)) input.old result input.new }
+    ensures falls { OnOk result (to_come I.model input.new ≤ to_come I.model input.old) }
+{
+    match prop {
+        PropNode::Assign(cover) => emit_err(
+            input,
+            cover.span.in_order(),
+            SyntaxError::AssignProperty,
+        ),
+        _ => Ok(()),
+    }
+}

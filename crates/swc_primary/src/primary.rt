@@ -1,0 +1,243 @@
+// Expressions (ECMA-262, 13).
+ghost use Rattle.std.specs.Prelude.{ℕ, ◌≡◌, ◌<◌, ◌≤◌, true, false, not, ◌&&◌, Some, map, OnOk, IfOk};
+ghost use Rattle.swc_input.specs.Buffer.{current, to_come, context};
+ghost use Rattle.swc_input.specs.Plain.{plain_token};
+ghost use Rattle.swc_input.specs.Kinds.{at_token, is_hash};
+ghost use Rattle.swc_grammar.specs.Symbols.{Primary, Literal};
+ghost use Rattle.swc_grammar.specs.Tokens.{is_this};
+ghost use Rattle.swc_bodies.specs.Readings.{at_function, is_class};
+ghost use Rattle.swc_grammar.specs.Parts.{lit_of};
+ghost use Rattle.swc_grammar.specs.Grammar as grammar;
+ghost use Rattle.swc_grammar.specs.Clean.{sym, run, is_lit, is_identifier};
+ghost use Rattle.swc_nodes.specs.Slots.{args_parts};
+ghost use Rattle.swc_nodes.specs.Stands.{count, first_start, last_end, Apart};
+ghost use Rattle.swc_steps.specs.Args.{paren_from};
+ghost use Rattle.swc_steps.specs.Readers.{by_production};
+ghost use Rattle.swc_steps.specs.Parsing.{lit_in, seen, Here, ParsesAlone, Produces, GoesOn, Checked, TookLiteral};
+ghost use Rattle.swc_steps.specs.Parsing.{itself, tree_of, args_at};
+ghost use Rattle.swc_primary.specs.Openings.{primary_kind};
+ghost use Rattle.swc_primary.specs.declared.primary.PrimaryKind.TheVariants.{Plain};
+
+use crate::parens::check_paren_items;
+use swc_ast::expr::ExprOrSpread;
+use swc_ast::ident::Ident;
+use swc_ast::lit::{BigInt, Bool, Lit, Null, Num, Str};
+use swc_bodies::bodies::Bodies;
+use swc_context::error::{PResult, SyntaxError};
+use swc_context::span::Span;
+use swc_context::word::Word;
+use swc_input::buffer::Buffer;
+use swc_input::token::Token;
+use swc_input::tokens::Tokens;
+use swc_nodes::node::ExprId;
+use swc_steps::productions::Productions;
+use swc_steps::regex::parse_regex;
+use swc_steps::tokens::{
+    Listed, answered, bump, copy_of, emit_strict_mode_err, is_async_function, parse_ident_name,
+    parse_ident_ref, require_cur, skip, syntax_error,
+};
+
+/// An element of an array literal, or a hole.
+pub type Elem = Option<ExprOrSpread<ExprId>>;
+
+/// A primary expression (ECMA-262, 13.2), by the token that begins it, if other expressions stand in it.
+#[derive(Clone, Copy)]
+pub enum PrimaryKind {
+    /// `(`: expressions in parentheses (ECMA-262, 13.2.9).
+    Paren,
+    /// `[`: an array literal (ECMA-262, 13.2.4).
+    Array,
+    /// `{`: an object literal (ECMA-262, 13.2.5).
+    Object,
+    /// A backquote: a template (ECMA-262, 13.2.8).
+    Template,
+    /// Another token, or none.
+    Plain,
+}
+
+/// Which primary expression the current token begins.
+pub fn primary_kind<I: Tokens>(input: &Buffer<I>) -> PrimaryKind
+    ensures { result ≡ primary_kind (seen input.now) }
+{
+    match input.cur_debug() {
+        Some(Token::LParen) => PrimaryKind::Paren,
+        Some(Token::LBracket) => PrimaryKind::Array,
+        Some(Token::LBrace) => PrimaryKind::Object,
+        Some(Token::BackQuote) => PrimaryKind::Template,
+        _ => PrimaryKind::Plain,
+    }
+}
+
+/// A primary expression in which no other stands (ECMA-262, 13.2): `this`, a function, a literal, a class, an
+/// identifier, `#` and a name, or a regular expression. Another token is refused as `TS1109`, at that token.
+pub fn parse_plain_primary<I: Tokens, B: Bodies<I>>(p: &mut Productions<I, B>) -> PResult<ExprId>
+    requires looked { Here I.model p.old.input p.old.input }
+    requires plain { primary_kind (seen p.old.input) ≡ Plain }
+    ensures { Produces I.model B.is_faithful itself tree_of (run B.forms (sym Primary))
+        (count p.old.nodes) p.old result p.new }
+{
+    if p.is_this() {
+        return parse_this_expr(p);
+    }
+    if is_async_function(&mut p.input)? {
+        return parse_fn_expr(p);
+    }
+    if p.is_function() {
+        return parse_fn_expr(p);
+    }
+    if p.is_lit() {
+        let lit = parse_lit(p)?;
+        let node = p.nodes.lit(lit);
+        return p.made(node);
+    }
+    if p.is_class() {
+        return parse_class_expr(p);
+    }
+    if p.is_ident_ref() {
+        return parse_ident_expr(p);
+    }
+    if p.is_hash() {
+        return parse_private_expr(p);
+    }
+    if p.is_regex_start() {
+        return parse_regex(p);
+    }
+    let span = p.cur_span();
+    Err(syntax_error(&mut p.input, span, SyntaxError::TS1109))
+}
+
+/// `this` (ECMA-262, 13.2.1).
+pub fn parse_this_expr<I: Tokens, B: Bodies<I>>(p: &mut Productions<I, B>) -> PResult<ExprId>
+    requires { at_token is_this (seen p.old.input) ≡ true }
+    ensures { Produces I.model B.is_faithful itself tree_of (by_production B.forms (λ c. grammar.this-expr))
+        (count p.old.nodes) p.old result p.new }
+{
+    skip(&mut p.input);
+    let span = p.prev_span();
+    let node = p.nodes.this_expr(span);
+    p.made(node)
+}
+
+/// A function, which the hook reads (ECMA-262, 13.2.6): at `function`, or at `async` with `function` after it.
+pub fn parse_fn_expr<I: Tokens, B: Bodies<I>>(p: &mut Productions<I, B>) -> PResult<ExprId>
+    requires { at_function (current p.old.input) ≡ true }
+    ensures { Produces I.model B.is_faithful itself tree_of (by_production B.forms (λ c. grammar.fn-expr))
+        (count p.old.nodes) p.old result p.new }
+{
+    let answer = p.bodies.fun(&mut p.input);
+    let function = answered(&p.input, answer)?;
+    let node = p.nodes.fn_expr(function);
+    p.made(node)
+}
+
+/// A class, which the hook reads (ECMA-262, 15.7).
+pub fn parse_class_expr<I: Tokens, B: Bodies<I>>(p: &mut Productions<I, B>) -> PResult<ExprId>
+    requires { at_token is_class (current p.old.input) ≡ true }
+    ensures { Produces I.model B.is_faithful itself tree_of (by_production B.forms (λ c. grammar.class-expr))
+        (count p.old.nodes) p.old result p.new }
+{
+    let answer = p.bodies.class(&mut p.input);
+    let class = answered(&p.input, answer)?;
+    let node = p.nodes.class_expr(class);
+    p.made(node)
+}
+
+/// An identifier reference as an expression (ECMA-262, 13.1).
+pub fn parse_ident_expr<I: Tokens, B: Bodies<I>>(p: &mut Productions<I, B>) -> PResult<ExprId>
+    requires { at_token (is_identifier (context I.model p.old.input)) (seen p.old.input) ≡ true }
+    ensures { Produces I.model B.is_faithful itself tree_of (by_production B.forms (λ c. grammar.ident-expr))
+        (count p.old.nodes) p.old result p.new }
+{
+    let is_strict = p.is_strict_word();
+    let ident = parse_ident_ref(p.alloc, &mut p.input)?;
+    check_strict_word(&mut p.input, is_strict, &ident)?;
+    let node = p.nodes.ident_expr(ident);
+    p.made(node)
+}
+
+/// `#` and a name, as an expression (ECMA-262, 13.10.1).
+pub fn parse_private_expr<I: Tokens, B: Bodies<I>>(p: &mut Productions<I, B>) -> PResult<ExprId>
+    requires { at_token is_hash (seen p.old.input) ≡ true }
+    ensures { Produces I.model B.is_faithful itself tree_of (by_production B.forms (λ c. grammar.private-expr))
+        (count p.old.nodes) p.old result p.new }
+{
+    let start = p.cur_span().lo;
+    skip(&mut p.input);
+    let name = parse_ident_name(p.alloc, &mut p.input)?;
+    let node = p.nodes.private_expr(start, name);
+    p.made(node)
+}
+
+/// What stands in parentheses, of a list from the one at `start` on: one expression by itself, or a sequence. An
+/// object literal among them with a property `name = value` is recorded, and so is a comma behind the last one; an
+/// empty list is refused, and so is an expression behind dots.
+pub fn paren_items<I: Tokens, B: Bodies<I>>(
+    p: &mut Productions<I, B>,
+    start: Span,
+    list: Listed<ExprOrSpread<ExprId>>,
+) -> PResult<ExprId>
+    requires apart { Apart 0 p.old.nodes (args_parts list.items) }
+    ensures { (k : ℕ) → Apart k p.old.nodes (args_parts list.items) → GoesOn I.model B.is_faithful itself tree_of
+        (λ c ts. paren_from (first_start p.old.nodes (map (λ item. item.expr) list.items.items))
+        (last_end p.old.nodes (map (λ item. item.expr) list.items.items)) start
+        (args_at p.old.nodes list) ts) k p.old result p.new }
+{
+    check_paren_items::<I, B>(&mut p.input, &p.nodes, start, &list)?;
+    let end = list.end.hi;
+    let node = p.nodes.seq_of_items(list.items);
+    let expr = p.made(node)?;
+    let node = p.nodes.paren_expr(start.lo, end, expr);
+    p.made(node)
+}
+
+/// The literal that a token is.
+fn lit_of<I: Tokens, B: Bodies<I>>(p: &Productions<I, B>, token: Token, span: Span) -> Lit
+    requires { is_lit token ≡ true }
+    ensures { lit_of (plain_token token) span ≡ Some (lit_in p.now.nodes result) }
+{
+    match token {
+        Token::Word(Word::Null) => Lit::Null(Null { span }),
+        Token::Word(Word::True) => Lit::Bool(Bool { span, value: true }),
+        Token::Word(Word::False) => Lit::Bool(Bool { span, value: false }),
+        Token::Num { raw } => Lit::Num(Num { span, raw }),
+        Token::BigInt { raw } => Lit::BigInt(BigInt { span, raw }),
+        Token::Str { value, raw } => Lit::Str(Str { span, value, raw }),
+        _ => unreachable!(),
+    }
+}
+
+/// A literal that is no regular expression (ECMA-262, 13.2.3).
+pub fn parse_lit<I: Tokens, B: Bodies<I>>(p: &mut Productions<I, B>) -> PResult<Lit>
+    ensures parses { ParsesAlone I.model (lit_in p.old.nodes)
+        (run B.forms (sym Literal)) p.old.input result p.new.input }
+    ensures literal { IfOk result
+        (λ l. TookLiteral I.model (lit_in p.old.nodes l) p.old.input p.new.input) }
+    ensures falls { OnOk result (to_come I.model p.new.input < to_come I.model p.old.input) }
+    ensures nodes { p.new.nodes ≡ p.old.nodes }
+{
+    require_cur(&mut p.input)?;
+    if !p.is_lit() {
+        let span = p.cur_span();
+        return Err(syntax_error(&mut p.input, span, SyntaxError::TS1109));
+    }
+    let token = bump(&mut p.input);
+    let span = p.prev_span();
+    Ok(lit_of(p, token, span))
+}
+
+/// Records, for modules, an identifier that is a word of strict code.
+fn check_strict_word<I: Tokens>(
+    input: &mut Buffer<I>,
+    is_strict: bool,
+    ident: &Ident,
+) -> PResult<()>
+    ensures checks { Checked I.model
+        (not ((context I.model input.old).module && is_strict)) input.old result input.new }
+    ensures falls { OnOk result (to_come I.model input.new ≤ to_come I.model input.old) }
+{
+    if !is_strict {
+        return Ok(());
+    }
+    let sym = copy_of(input, &ident.sym)?;
+    emit_strict_mode_err(input, ident.span, SyntaxError::InvalidIdentInStrict(sym))
+}

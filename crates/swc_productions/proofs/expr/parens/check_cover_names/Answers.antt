@@ -1,8 +1,0 @@
-use Rattle.swc_ast.specs.Trees.{no_cover_in}
-use Rattle.swc_productions.specs.Parsing.{tree_of}
-use Rattle.swc_productions.proofs.Steps.{check_passes}
-use Rattle.swc_productions.proofs.expr.parens.check_cover_names.Goals as goal
-
-pub returns-in-None-clause-checks : goal.returns-in-None-clause-checks
-returns-in-None-clause-checks g c =
-    check_passes (no_cover_in (tree_of c.args.nodes.now c.args.expr)) g.met.I.Tokens.laws _ c.in-None.ensures.covers

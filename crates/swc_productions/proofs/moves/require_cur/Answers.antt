@@ -1,5 +1,0 @@
-use Rattle.swc_productions.proofs.Steps.{required}
-use Rattle.swc_productions.proofs.moves.require_cur.Goals as goal
-
-pub returns-clause-fits : goal.returns-clause-fits
-returns-clause-fits g c = required g.met.I.Tokens.laws _ _ c.require_cur.result c.require_cur.ensures.found c.require_cur.ensures.refused

@@ -1,0 +1,2147 @@
+-- What the steps of each production, one after another, ensure.
+use Rattle.std.proofs.Common.{rules, Ok, Err, map, length, length-append, ◌≤◌, [], ◌∷◌, ◌≢◌, ◌++◌, ◌&&◌, ◌||◌, true}
+use Rattle.std.proofs.Common.{false, not, Some, None, refl, sym, ap, subst, ◌∙◌, arith}
+use Rattle.std.proofs.lemmas.Result.{err_from_is_err_and}
+use Rattle.std.specs.Prelude.{slice_index_or}
+use Rattle.swc_context.specs.Contexts.{view as deciding}
+use Rattle.swc_context.specs.Spans.{from_to}
+use Rattle.swc_context.specs.declared.error.SyntaxError.TheVariants.{OutOfMemory}
+use Rattle.swc_input.specs.Plain.{plain}
+use Rattle.swc_input.specs.Kinds.{at_token}
+use Rattle.swc_input.specs.Buffer.{context}
+use Rattle.swc_grammar.specs.Tokens.{include_in, with_in, is_lparen, is_rparen, is_lbracket, is_rbracket, is_rbrace}
+use Rattle.swc_grammar.specs.Tokens.{is_comma, is_dots, is_colon, is_dot, is_new, is_backquote, is_super, is_import}
+use Rattle.swc_grammar.specs.Tokens.{is_question, is_star, is_await, is_yield, await_ok, yield_ok}
+use Rattle.swc_ast.specs.Tree.{nil, cons, node, trees, span_of, tpl as tpl_kind}
+use Rattle.swc_ast.specs.Parts.{item_of as item_tree_of, item_trees, quasi_tree}
+use Rattle.swc_nodes.specs.Lists.{elem_parts, elem_tree, elem_trees, props_parts, exprs_parts, expr_trees}
+use Rattle.swc_nodes.specs.Seats.{chain}
+use Rattle.swc_nodes.specs.Slots.{flat, if_some, item_parts, args_parts, prop_parts, key_parts, one_expr, expr_part}
+use Rattle.swc_nodes.specs.Stands.{count, seat_at, tree_at, first_at, start_at, end_at, Apart}
+use Rattle.swc_nodes.proofs.Edges.{start-later}
+use Rattle.swc_nodes.proofs.Lists.{apart-none, apart-list-more, elems-more, props-more, exprs-more, exprs-apart-more}
+use Rattle.swc_nodes.proofs.Lists.{trees-both, trees-more, exprs-later, apart-later, apart-more-one}
+use Rattle.swc_nodes.proofs.Waiting.{operands-first, operands-joined, operands-last, operands-more, operands-top}
+use Rattle.swc_nodes.specs.Pending.{all_pending, first_operand}
+use Rattle.swc_nodes.specs.Rising.{waiting}
+use Rattle.swc_grammar.specs.Symbols.{Expr, Assign, Level, Unary, Lhs, Args, Key, Parts, Props, Template}
+use Rattle.swc_ast.specs.Targets.{is_target}
+use Rattle.swc_ast.specs.Trees.{trees_append, begins_in_invalid, cover_e, ident_e, to, await_e, cond_e, assign_e}
+use Rattle.swc_ast.specs.Trees.{yield_e, hole_e, seq_of, spread_prop_e, prop_of as prop_tree, value_e, super_e}
+use Rattle.swc_ast.specs.Trees.{import_e, parts_e, tpl_e}
+use Rattle.swc_input.specs.Recording.{is_some}
+use Rattle.swc_grammar.specs.Clean.{sym as at, run, first, links, updates, climb, assigns, seqs, prefix_at, no_error}
+use Rattle.swc_grammar.specs.Clean.{goes_on_yield_at}
+use Rattle.swc_grammar.specs.Words.{◌>>=◌}
+use Rattle.swc_steps.specs.Parsing.{scope, seen, behind, tree_of, item_at, elems_at, prop_at, ident_spelling, key_at}
+use Rattle.swc_steps.specs.Parsing.{args_at, props_at, Produces, elem_of, elem_at}
+use Rattle.swc_steps.specs.Args.{paren_of, paren_expr_tail, args_behind, args_by, separated_args}
+use Rattle.swc_operators.specs.Assignments.{seqs_by, seqs_more, cond_tail, cond_colon, cond_close, seqs_from_by}
+use Rattle.swc_operators.specs.Assignments.{assign_at, assign_tail, yield_arg, yield_tail, yield_operand, assign_expr}
+use Rattle.swc_steps.specs.Readers.{begun_if, unary_op_node, unary_op_tail, nothing, inside, unary_op}
+use Rattle.swc_operators.specs.Updates.{update_at, update_node, update_tail, await_reads, await_tail, await_ident}
+use Rattle.swc_operators.specs.Updates.{await_operand, update_prefix, await_expr}
+use Rattle.swc_left.specs.Bases.{super_by, super_left, super_close, callee_node, plain_base, import_by, import_left}
+use Rattle.swc_steps.specs.Keys.{key_by, key_close}
+use Rattle.swc_left.specs.Links.{computed_close, call_node, construct_by, construct_node, construct_of, new_by}
+use Rattle.swc_left.specs.Links.{new_lhs, new_node, new_tail, link_tail, links_by}
+use Rattle.swc_left.specs.Templates.{tagged_node, template_tail, tpl_expr_close, tpl_parts_at, parts_behind, parts_by}
+use Rattle.swc_left.specs.Templates.{parts_after}
+use Rattle.swc_steps.specs.Lists.{eaten, elements_inside, element_by, elements_behind, behind_by, separated, element}
+use Rattle.swc_primary.specs.declared.object.PropHead.TheVariants as head
+use Rattle.swc_primary.specs.Properties.{props_behind, props_by, cover_node}
+use Rattle.swc_primary.specs.Methods.{behind_key, after_by, method_tree, method_close}
+use Rattle.swc_nodes.proofs.Standing.{grows-count, grows-same, grows-then}
+use Rattle.swc_nodes.proofs.Held.{apart-from, from-down, from-later, from_self, first_kept, if_from, tree-later}
+use Rattle.swc_steps.proofs.Building.{apart-down, apart-lower, apart_behind, grows-kept, made_over}
+use Rattle.swc_operators.specs.Pending.{pending_reads}
+use Rattle.swc_operators.proofs.Assignments as assign
+use Rattle.swc_operators.proofs.Pending as pending
+use Rattle.swc_steps.proofs.Args as args
+use Rattle.swc_left.proofs.Bases as base
+use Rattle.swc_primary.proofs.Begins as begins
+use Rattle.swc_steps.proofs.Endings as ending
+use Rattle.swc_steps.proofs.Keys as key
+use Rattle.swc_left.proofs.Links as link
+use Rattle.swc_steps.proofs.Lists as list
+use Rattle.swc_primary.proofs.Properties as props
+use Rattle.swc_steps.proofs.Rules as rule
+use Rattle.swc_steps.proofs.Steps as s
+use Rattle.swc_left.proofs.Templates as tpl
+use Rattle.swc_operators.proofs.Updates as update
+use Rattle.swc_steps.proofs.Making as m
+use Rattle.swc_primary.proofs.Methods as method
+use Rattle.swc_productions.proofs.ring.+productions.Goals as goal
+use Rattle.swc_primary.specs.declared.object.AfterKey.TheVariants as after_key
+use Rattle.swc_productions.proofs.ring.+productions.Goals.{parse_elements-in-Some-2}
+use Rattle.swc_productions.proofs.ring.+productions.Goals.{parse_elements-in-None-2+in_ok-item-in-None-2+in_ok-separate-in-None-2}
+use Rattle.swc_primary.specs.Openings.{array_from, object_from}
+use Rattle.swc_primary.proofs.Openings as opening
+use Rattle.swc_operators.specs.Prefixes.{await_by_name}
+use Rattle.swc_operators.proofs.Prefixes as prefix
+
+pub parse_primary_expr-returns-in_err-look : goal.parse_primary_expr-returns-in_err-look
+parse_primary_expr-returns-in_err-look g t c =
+    let p = err_from_is_err_and c.from_residual.result c.from_residual.ensures.1 in rw (p.1, p.2)
+    (m.no (s.unheard_memory c.in_err-look.ensures.looks) (grows-same _))
+
+pub parse_primary_expr-returns-in_err-list-in-Paren : goal.parse_primary_expr-returns-in_err-list-in-Paren
+parse_primary_expr-returns-in_err-list-in-Paren g t c =
+    let sign = opening.is_paren _ (sym c.primary_kind.ensures ∙ c.in-Paren.is) in
+    let first = c.skip.ensures.took.1 in
+    let start = c.cur_span-start.result in
+    let place = s.place_was first c.cur_span-start.result c.cur_span-start.ensures in
+    let begun = s.on_then (s.on_seen c.in_ok-look.ensures.looks (λ x ts same e. rule.paren_expr_picked _ x ts (ap (at_token is_lparen) e ∙ sign)))
+    (s.on_took {g = paren_expr_tail g.B.BodyForms.forms start} g.met.I.Tokens.laws first
+    (λ x ts. args.paren_expr_opens _ (plain first.was) x ts (rule.passes_plain is_lparen _ _ first.current sign) ∙ ap (λ v. paren_expr_tail g.B.BodyForms.forms v x ts) (sym place))) in
+    let p = err_from_is_err_and c.from_residual-in_err-list-in-Paren.result c.from_residual-in_err-list-in-Paren.ensures.1 in rw (p.1, p.2)
+    (m.no (s.unheard_after begun
+    (s.unheard_call (λ x p. paren_of start p.0 p.1) (λ x ts. args.paren_expr_splits _ start x ts) c.in_err-list-in-Paren.ensures.reads)) c.parse_args.ensures.grows)
+
+pub parse_primary_expr-paren_items-requires : goal.parse_primary_expr-paren_items-requires
+parse_primary_expr-paren_items-requires g t c = record { apart = apart-down (args_parts c.in_ok-list-in-Paren.list.items) c.in_ok-list-in-Paren.ensures.from }
+
+pub parse_primary_expr-returns-in_ok-list-in-Paren : goal.parse_primary_expr-returns-in_ok-list-in-Paren
+parse_primary_expr-returns-in_ok-list-in-Paren g t c =
+    let sign = opening.is_paren _ (sym c.primary_kind.ensures ∙ c.in-Paren.is) in
+    let first = c.skip.ensures.took.1 in
+    let start = c.cur_span-start.result in
+    let place = s.place_was first c.cur_span-start.result c.cur_span-start.ensures in
+    let begun = s.on_then (s.on_seen c.in_ok-look.ensures.looks (λ x ts same e. rule.paren_expr_picked _ x ts (ap (at_token is_lparen) e ∙ sign)))
+    (s.on_took {g = paren_expr_tail g.B.BodyForms.forms start} g.met.I.Tokens.laws first
+    (λ x ts. args.paren_expr_opens _ (plain first.was) x ts (rule.passes_plain is_lparen _ _ first.current sign) ∙ ap (λ v. paren_expr_tail g.B.BodyForms.forms v x ts) (sym place))) in
+    m.after {m = record c.args.p.now { input = c.skip.new.input }} c.paren_items.result begun (grows-same _)
+    (m.call_read c.paren_items.result (λ x p. paren_of start p.0 p.1) (λ x ts. args.paren_expr_splits _ start x ts)
+    c.in_ok-list-in-Paren.ensures.reads (λ x ts us h y ys. ending.items-clean _ g.met.B.Bodies.lawful start c.in_ok-list-in-Paren.list x ts us ys c.in_ok-list-in-Paren.ensures.from h) c.parse_args.ensures.grows (λ x h. h) (c.paren_items.ensures (count c.args.p.now.nodes) c.in_ok-list-in-Paren.ensures.from))
+
+pub parse_primary_expr-open_array-requires : goal.parse_primary_expr-open_array-requires
+parse_primary_expr-open_array-requires g t c = opening.is_array _ (sym c.primary_kind.ensures ∙ c.in-Array.is)
+
+pub parse_primary_expr-returns-in_err-elems-in-Array : goal.parse_primary_expr-returns-in_err-elems-in-Array
+parse_primary_expr-returns-in_err-elems-in-Array g t c =
+    let opens = c.open_array.ensures.opens in
+    let lo = c.open_array.result.0 in
+    let view = elems_at c.parse_elements-elems.new.p.nodes in
+    let begun = opening.array_begins g.B.Bodies.is_faithful g.B.BodyForms.forms c.in_ok-look.ensures.looks (sym c.primary_kind.ensures ∙ c.in-Array.is) opens in
+    let read = opening.elements_read g.B.Bodies.is_faithful g.B.BodyForms.forms view c.parse_elements-elems.result opens c.parse_elements-elems.ensures.reads c.set_ctx.ensures.moves c.set_ctx.ensures.context in
+    let p = err_from_is_err_and c.from_residual-in_err-elems-in-Array.result c.from_residual-in_err-elems-in-Array.ensures.1 in rw (p.1, p.2)
+    (m.no (s.unheard_after begun
+    (s.unheard_call (λ x p. Some (array_from lo p.0, p.1)) (λ x ts. refl) (s.parses_err g.I.Tokens.model g.B.Bodies.is_faithful view (elements_inside g.B.BodyForms.forms) _ _ c.parse_elements-elems.result _ c.in_err-elems-in-Array.was read)))
+    c.parse_elements-elems.ensures.grows)
+
+pub parse_primary_expr-array_lit-requires : goal.parse_primary_expr-array_lit-requires
+parse_primary_expr-array_lit-requires g t c =
+    record { apart = apart-down (elem_parts c.in_ok-elems-in-Array.field-0.items) (m.held_is _ c.parse_elements-elems.result c.in_ok-elems-in-Array.field-0 c.in_ok-elems-in-Array.was c.parse_elements-elems.ensures.from) }
+
+pub parse_primary_expr-returns-in_ok-elems-in-Array : goal.parse_primary_expr-returns-in_ok-elems-in-Array
+parse_primary_expr-returns-in_ok-elems-in-Array g t c =
+    let opens = c.open_array.ensures.opens in
+    let lo = c.open_array.result.0 in
+    let view = elems_at c.parse_elements-elems.new.p.nodes in
+    let begun = opening.array_begins g.B.Bodies.is_faithful g.B.BodyForms.forms c.in_ok-look.ensures.looks (sym c.primary_kind.ensures ∙ c.in-Array.is) opens in
+    let read = opening.elements_read g.B.Bodies.is_faithful g.B.BodyForms.forms view c.parse_elements-elems.result opens c.parse_elements-elems.ensures.reads c.set_ctx.ensures.moves c.set_ctx.ensures.context in
+    let heard = s.parses_ok g.I.Tokens.model g.B.Bodies.is_faithful view (elements_inside g.B.BodyForms.forms) _ _ c.parse_elements-elems.result c.in_ok-elems-in-Array.field-0 c.in_ok-elems-in-Array.was read in
+    m.after {m = record c.args.p.now { input = opens.between }} c.array_lit.result begun (grows-same _)
+    (m.call c.array_lit.result (λ x p. Some (array_from lo p.0, p.1)) (λ x ts. refl) heard c.parse_elements-elems.ensures.grows (λ x h. h)
+    (c.array_lit.ensures (count c.args.p.now.nodes) (m.held_is _ c.parse_elements-elems.result c.in_ok-elems-in-Array.field-0 c.in_ok-elems-in-Array.was c.parse_elements-elems.ensures.from)))
+
+pub parse_primary_expr-open_object-requires : goal.parse_primary_expr-open_object-requires
+parse_primary_expr-open_object-requires g t c = opening.is_object _ (sym c.primary_kind.ensures ∙ c.in-Object.is)
+
+pub parse_primary_expr-returns-in_err-props-in-Object : goal.parse_primary_expr-returns-in_err-props-in-Object
+parse_primary_expr-returns-in_err-props-in-Object g t c =
+    let opens = c.open_object.ensures.opens in
+    let lo = c.open_object.result.0 in
+    let view = props_at c.parse_props-props.new.p.nodes in
+    let begun = opening.object_begins g.B.Bodies.is_faithful g.B.BodyForms.forms c.in_ok-look.ensures.looks (sym c.primary_kind.ensures ∙ c.in-Object.is) opens in
+    let read = opening.props_read g.B.Bodies.is_faithful g.B.BodyForms.forms view c.parse_props-props.result opens c.parse_props-props.ensures.reads c.set_ctx-in-Object.ensures.moves c.set_ctx-in-Object.ensures.context in
+    let p = err_from_is_err_and c.from_residual-in_err-props-in-Object.result c.from_residual-in_err-props-in-Object.ensures.1 in rw (p.1, p.2)
+    (m.no (s.unheard_after begun
+    (s.unheard_call (λ x p. Some (object_from lo p.0, p.1)) (λ x ts. refl) (s.parses_err g.I.Tokens.model g.B.Bodies.is_faithful view (run g.B.BodyForms.forms (at Props)) _ _ c.parse_props-props.result _ c.in_err-props-in-Object.was read)))
+    c.parse_props-props.ensures.grows)
+
+pub parse_primary_expr-object_lit-requires : goal.parse_primary_expr-object_lit-requires
+parse_primary_expr-object_lit-requires g t c =
+    record { apart = apart-down (props_parts c.in_ok-props-in-Object.field-0.items) (m.held_is _ c.parse_props-props.result c.in_ok-props-in-Object.field-0 c.in_ok-props-in-Object.was c.parse_props-props.ensures.from) }
+
+pub parse_primary_expr-returns-in_ok-props-in-Object : goal.parse_primary_expr-returns-in_ok-props-in-Object
+parse_primary_expr-returns-in_ok-props-in-Object g t c =
+    let opens = c.open_object.ensures.opens in
+    let lo = c.open_object.result.0 in
+    let view = props_at c.parse_props-props.new.p.nodes in
+    let begun = opening.object_begins g.B.Bodies.is_faithful g.B.BodyForms.forms c.in_ok-look.ensures.looks (sym c.primary_kind.ensures ∙ c.in-Object.is) opens in
+    let read = opening.props_read g.B.Bodies.is_faithful g.B.BodyForms.forms view c.parse_props-props.result opens c.parse_props-props.ensures.reads c.set_ctx-in-Object.ensures.moves c.set_ctx-in-Object.ensures.context in
+    let heard = s.parses_ok g.I.Tokens.model g.B.Bodies.is_faithful view (run g.B.BodyForms.forms (at Props)) _ _ c.parse_props-props.result c.in_ok-props-in-Object.field-0 c.in_ok-props-in-Object.was read in
+    m.after {m = record c.args.p.now { input = opens.between }} c.object_lit.result begun (grows-same _)
+    (m.call c.object_lit.result (λ x p. Some (object_from lo p.0, p.1)) (λ x ts. refl) heard c.parse_props-props.ensures.grows (λ x h. h)
+    (c.object_lit.ensures (count c.args.p.now.nodes) (m.held_is _ c.parse_props-props.result c.in_ok-props-in-Object.field-0 c.in_ok-props-in-Object.was c.parse_props-props.ensures.from)))
+
+pub parse_primary_expr-returns-in_err-start-in-Template : goal.parse_primary_expr-returns-in_err-start-in-Template
+parse_primary_expr-returns-in_err-start-in-Template g t c =
+    let picked = s.on_seen {g = run g.B.BodyForms.forms (at (Template false))} c.in_ok-look.ensures.looks (λ x ts same e. rule.template_picked _ x ts (ap (at_token is_backquote) e ∙ opening.is_template _ (sym c.primary_kind.ensures ∙ c.in-Template.is))) in
+    let p = err_from_is_err_and c.from_residual-in_err-start-in-Template.result c.from_residual-in_err-start-in-Template.ensures.1 in rw (p.1, p.2)
+    (m.no (s.unheard_after picked (s.unheard_call (λ x p. template_tail _ false p.0 x p.1) (λ x ts. tpl.template_splits _ false x ts) (c.in_err-start-in-Template.ensures.expects g.B.Bodies.is_faithful))) (grows-same _))
+
+pub parse_primary_expr-returns-in_err-parts-in-Template : goal.parse_primary_expr-returns-in_err-parts-in-Template
+parse_primary_expr-returns-in_err-parts-in-Template g t c =
+    let picked = s.on_seen {g = run g.B.BodyForms.forms (at (Template false))} c.in_ok-look.ensures.looks (λ x ts same e. rule.template_picked _ x ts (ap (at_token is_backquote) e ∙ opening.is_template _ (sym c.primary_kind.ensures ∙ c.in-Template.is))) in
+    let start = c.in_ok-start-in-Template.start in
+    let p = err_from_is_err_and c.from_residual-in_err-parts-in-Template.result c.from_residual-in_err-parts-in-Template.ensures.1 in rw (p.1, p.2)
+    (m.no (s.unheard_after (s.on_then picked (s.on_call (λ x p. template_tail _ false p.0 x p.1) (λ x ts. tpl.template_splits _ false x ts) (c.in_ok-start-in-Template.ensures.expects g.B.Bodies.is_faithful).on))
+    (s.unheard_call (λ x p. Some (tpl_e (to start (span_of p.0)) p.0, p.1)) (λ x ts. refl) c.in_err-parts-in-Template.ensures.reads)) c.parse_tpl_elements.ensures.grows)
+
+pub parse_primary_expr-tpl-node-requires : goal.parse_primary_expr-tpl-node-requires
+parse_primary_expr-tpl-node-requires g t c = record { apart = apart-down (exprs_parts c.in_ok-parts-in-Template.parts.exprs) c.in_ok-parts-in-Template.ensures.from }
+
+pub parse_primary_expr-returns-in_ok-parts-in-Template : goal.parse_primary_expr-returns-in_ok-parts-in-Template
+parse_primary_expr-returns-in_ok-parts-in-Template g t c =
+    let picked = s.on_seen {g = run g.B.BodyForms.forms (at (Template false))} c.in_ok-look.ensures.looks (λ x ts same e. rule.template_picked _ x ts (ap (at_token is_backquote) e ∙ opening.is_template _ (sym c.primary_kind.ensures ∙ c.in-Template.is))) in
+    let start = c.in_ok-start-in-Template.start in
+    let parts = c.in_ok-parts-in-Template.parts in
+    let now = c.parse_tpl_elements.new.p.nodes in
+    m.node _ c.tpl-node.result c.made.result (omega arith)
+    (made_over _ _ _ (exprs_parts parts.exprs) _ c.tpl-node.result c.tpl-node.ensures.made c.in_ok-parts-in-Template.ensures.from)
+    c.made.ensures.ok c.made.ensures.refused c.parse_tpl_elements.ensures.grows c.tpl-node.ensures.grows
+    (s.heard_after picked
+    (s.heard_answer (ap (λ v. node tpl_kind (to start parts.end) v) (sym (trees-both (map quasi_tree parts.quasis.items) (map (tree_of now) parts.exprs.items))))
+    (s.heard_more (λ x p. template_tail _ false p.0 x p.1) (λ x ts. tpl.template_splits _ false x ts) (c.in_ok-start-in-Template.ensures.expects g.B.Bodies.is_faithful)
+    (s.on_call (λ x p. Some (tpl_e (to start (span_of p.0)) p.0, p.1)) (λ x ts. refl) c.in_ok-parts-in-Template.ensures.reads.on))))
+
+pub parse_primary_expr-parse_plain_primary-requires : goal.parse_primary_expr-parse_plain_primary-requires
+parse_primary_expr-parse_plain_primary-requires g t c = record { looked = opening.looked c.in_ok-look.ensures.looks; plain = sym c.primary_kind.ensures ∙ c.in-Plain.is }
+
+pub parse_primary_expr-returns-in-Plain : goal.parse_primary_expr-returns-in-Plain
+parse_primary_expr-returns-in-Plain g t c = m.after c.parse_plain_primary.result (s.on_seen c.in_ok-look.ensures.looks (λ x ts same e. refl)) (grows-same _) c.parse_plain_primary.ensures
+
+pub parse_elements-loop-items-init : goal.parse_elements-loop-items-init
+parse_elements-loop-items-init g t c = (
+  s.on_here g.met.I.Tokens.laws _ (λ x ts. list.elements_first _ x ts ∙ ap (λ v. elements_behind g.B.BodyForms.forms (trees (map (elem_tree (tree_at c.args.p.now.nodes)) v)) None x ts) (sym c.new-items.ensures.items)),
+  omega arith,
+  grows-same _,
+  record { chained = ap (λ v. chain (seat_at c.args.p.now.nodes) (count c.args.p.now.nodes) (flat (if_some item_parts) v) (count c.args.p.now.nodes)) c.new-items.ensures.items ∙ (apart-none {ns = c.args.p.now.nodes} {k = count c.args.p.now.nodes} (omega arith)).chained },
+)
+
+pub parse_elements-loop-items-preserved : goal.parse_elements-loop-items-preserved
+parse_elements-loop-items-preserved g t c =
+    let before = elem_trees (tree_at c.loop-items.p.nodes) c.loop-items.items in
+    let comma = c.loop-items.trailing_comma in
+    let none = s.eats_none g.B.Bodies.is_faithful is_rbracket _ _ _ c.in-None.is (c.in_ok-end.ensures.eats g.B.Bodies.is_faithful) in
+    let from = record c.loop-items.p { input = c.eat.new.input } in
+    let item : Produces g.I.Tokens.model g.B.Bodies.is_faithful elem_of elem_at (element g.B.BodyForms.forms) (count c.loop-items.p.nodes) from (Ok c.match-branch-4.item) c.match-branch-4.p =
+    elim c.match-branch-4.branch [
+      | parse_elements-in-Some-2 w ↦ rw (w.p-is, w.item-is) (m.yes (Ok _)
+          (s.heard_call (λ x p. element_by _ p.0 x p.1) (λ x ts. list.element_splits _ x ts) (λ x ts. refl)
+          (s.eats_some g.B.Bodies.is_faithful is_comma _ w.in-Some-2.field-0 _ _ w.in-Some-2.is (c.in_ok-eat.ensures.eats g.B.Bodies.is_faithful)))
+          (grows-same _) (apart-none (omega arith)))
+      | parse_elements-in-None-2+in_ok-item-in-None-2+in_ok-separate-in-None-2 w ↦
+          let free = s.on_call (λ x p. element_by g.B.BodyForms.forms p.0 x p.1) (λ x ts. list.element_splits _ x ts)
+          (s.eats_none g.B.Bodies.is_faithful is_comma _ _ _ w.in-None-2.is (c.in_ok-eat.ensures.eats g.B.Bodies.is_faithful)) in
+          let read = item_at w.parse_expr_or_spread.new.p.nodes w.in_ok-item-in-None-2.item in
+          rw (w.p-is, w.item-is) (m.yes (Ok _)
+          (s.heard_after free (s.heard_more (λ x p. separated is_rbracket x p.1 >>= (λ q. Some ((p.0, q.0), q.1))) (λ x ts. list.element_item_splits _ x ts) w.in_ok-item-in-None-2.ensures.reads
+          (s.on_call (λ x q. Some ((read, q.0), q.1)) (λ x ts. refl) (w.in_ok-separate-in-None-2.ensures.separates g.B.Bodies.is_faithful))))
+          w.parse_expr_or_spread.ensures.grows (apart-from (expr_part w.in_ok-item-in-None-2.item.expr) w.in_ok-item-in-None-2.ensures.from))
+    ] in
+    let more = ap (λ v. trees (map (elem_tree (tree_at c.match-branch-4.p.nodes)) v)) c.in_ok-add.ensures.added
+    ∙ elems-more c.loop-items.items.items c.match-branch-4.item.0 item.grows c.loop-items.invariant.3 in
+    let parts = apart-list-more (if_some item_parts) c.loop-items.items.items c.match-branch-4.item.0 item.grows c.loop-items.invariant.3 item.from in (
+      s.on_then c.loop-items.invariant.0 (s.on_then (s.on_call (λ x p. behind_by _ before comma p.0 x p.1) (λ x ts. list.behind_splits _ before comma x ts) none)
+          (s.on_to (s.on_call (λ x p. elements_behind _ (trees_append before (cons p.0.0 nil)) p.0.1 x p.1) (λ x ts. list.elements_more_splits _ before x ts) item.reads.on)
+          (λ x ts. ap (λ v. elements_behind g.B.BodyForms.forms v c.match-branch-4.item.1 x ts) (sym more)))),
+      let a = c.loop-items.invariant.1 in let b = item.falls in let d = c.in_ok-end.ensures.falls in omega arith,
+      grows-then c.loop-items.invariant.2 item.grows,
+      record { chained = ap (λ v. chain (seat_at c.match-branch-4.p.nodes) (count c.args.p.now.nodes) (flat (if_some item_parts) v) (count c.match-branch-4.p.nodes)) c.in_ok-add.ensures.added ∙ parts.chained },
+    )
+
+pub parse_elements-returns-in_err-end : goal.parse_elements-returns-in_err-end
+parse_elements-returns-in_err-end g t c =
+    let before = elem_trees (tree_at c.loop-items.p.nodes) c.loop-items.items in
+    let comma = c.loop-items.trailing_comma in
+    let p = err_from_is_err_and c.from_residual.result c.from_residual.ensures.1 in rw (p.1, p.2)
+    (m.no (s.unheard_after c.loop-items.invariant.0 (s.unheard_call (λ x p. behind_by _ before comma p.0 x p.1) (λ x ts. list.behind_splits _ before comma x ts) (c.in_err-end.ensures.eats g.B.Bodies.is_faithful))) c.loop-items.invariant.2)
+
+pub parse_elements-returns-in-Some : goal.parse_elements-returns-in-Some
+parse_elements-returns-in-Some g t c =
+    let before = elem_trees (tree_at c.loop-items.p.nodes) c.loop-items.items in
+    let comma = c.loop-items.trailing_comma in
+    let some = s.eats_some g.B.Bodies.is_faithful is_rbracket _ c.in-Some.end _ _ c.in-Some.is (c.in_ok-end.ensures.eats g.B.Bodies.is_faithful) in
+    m.yes (Ok _)
+    (s.heard_after c.loop-items.invariant.0 (s.heard_call (λ x p. behind_by _ before comma p.0 x p.1) (λ x ts. list.behind_splits _ before comma x ts) (λ x ts. refl) some))
+    c.loop-items.invariant.2 c.loop-items.invariant.3
+
+pub parse_elements-returns-in_err-add : goal.parse_elements-returns-in_err-add
+parse_elements-returns-in_err-add g t c =
+    let none = s.eats_none g.B.Bodies.is_faithful is_rbracket _ _ _ c.in-None.is (c.in_ok-end.ensures.eats g.B.Bodies.is_faithful) in
+    let from = record c.loop-items.p { input = c.eat.new.input } in
+    let item : Produces g.I.Tokens.model g.B.Bodies.is_faithful elem_of elem_at (element g.B.BodyForms.forms) (count c.loop-items.p.nodes) from (Ok c.match-branch-4.item) c.match-branch-4.p =
+    elim c.match-branch-4.branch [
+      | parse_elements-in-Some-2 w ↦ rw (w.p-is, w.item-is) (m.yes (Ok _)
+          (s.heard_call (λ x p. element_by _ p.0 x p.1) (λ x ts. list.element_splits _ x ts) (λ x ts. refl)
+          (s.eats_some g.B.Bodies.is_faithful is_comma _ w.in-Some-2.field-0 _ _ w.in-Some-2.is (c.in_ok-eat.ensures.eats g.B.Bodies.is_faithful)))
+          (grows-same _) (apart-none (omega arith)))
+      | parse_elements-in-None-2+in_ok-item-in-None-2+in_ok-separate-in-None-2 w ↦
+          let free = s.on_call (λ x p. element_by g.B.BodyForms.forms p.0 x p.1) (λ x ts. list.element_splits _ x ts)
+          (s.eats_none g.B.Bodies.is_faithful is_comma _ _ _ w.in-None-2.is (c.in_ok-eat.ensures.eats g.B.Bodies.is_faithful)) in
+          let read = item_at w.parse_expr_or_spread.new.p.nodes w.in_ok-item-in-None-2.item in
+          rw (w.p-is, w.item-is) (m.yes (Ok _)
+          (s.heard_after free (s.heard_more (λ x p. separated is_rbracket x p.1 >>= (λ q. Some ((p.0, q.0), q.1))) (λ x ts. list.element_item_splits _ x ts) w.in_ok-item-in-None-2.ensures.reads
+          (s.on_call (λ x q. Some ((read, q.0), q.1)) (λ x ts. refl) (w.in_ok-separate-in-None-2.ensures.separates g.B.Bodies.is_faithful))))
+          w.parse_expr_or_spread.ensures.grows (apart-from (expr_part w.in_ok-item-in-None-2.item.expr) w.in_ok-item-in-None-2.ensures.from))
+    ] in
+    let p = err_from_is_err_and c.from_residual-in_err-add.result c.from_residual-in_err-add.ensures.1 in rw (p.1, p.2)
+    (m.no (s.unheard_memory (s.forgoes_later (s.leads_then c.loop-items.invariant.0.leads (s.leads_then none.leads item.reads.on.leads)) (s.forgoes_here g.met.I.Tokens.laws _ _ _ c.in_err-add.ensures.refused))) (grows-then c.loop-items.invariant.2 item.grows))
+
+pub parse_elements-returns-in_err-eat : goal.parse_elements-returns-in_err-eat
+parse_elements-returns-in_err-eat g t c =
+    let before = elem_trees (tree_at c.loop-items.p.nodes) c.loop-items.items in
+    let comma = c.loop-items.trailing_comma in
+    let none = s.eats_none g.B.Bodies.is_faithful is_rbracket _ _ _ c.in-None.is (c.in_ok-end.ensures.eats g.B.Bodies.is_faithful) in
+    let p = err_from_is_err_and c.from_residual-in_err-eat.result c.from_residual-in_err-eat.ensures.1 in rw (p.1, p.2)
+    (m.no (s.unheard_after c.loop-items.invariant.0 (s.unheard_after (s.on_call (λ x p. behind_by _ before comma p.0 x p.1) (λ x ts. list.behind_splits _ before comma x ts) none)
+    (s.unheard_call (λ x p. elements_behind _ (trees_append before (cons p.0.0 nil)) p.0.1 x p.1) (λ x ts. list.elements_more_splits _ before x ts) (s.unheard_call (λ x p. element_by _ p.0 x p.1) (λ x ts. list.element_splits _ x ts) (c.in_err-eat.ensures.eats g.B.Bodies.is_faithful))))) c.loop-items.invariant.2)
+
+pub parse_elements-returns-in_err-item-in-None-2 : goal.parse_elements-returns-in_err-item-in-None-2
+parse_elements-returns-in_err-item-in-None-2 g t c =
+    let before = elem_trees (tree_at c.loop-items.p.nodes) c.loop-items.items in
+    let comma = c.loop-items.trailing_comma in
+    let none = s.eats_none g.B.Bodies.is_faithful is_rbracket _ _ _ c.in-None.is (c.in_ok-end.ensures.eats g.B.Bodies.is_faithful) in
+    let free = s.on_call (λ x p. element_by g.B.BodyForms.forms p.0 x p.1) (λ x ts. list.element_splits _ x ts)
+    (s.eats_none g.B.Bodies.is_faithful is_comma _ _ _ c.in-None-2.is (c.in_ok-eat.ensures.eats g.B.Bodies.is_faithful)) in
+    let p = err_from_is_err_and c.from_residual-in_err-item-in-None-2.result c.from_residual-in_err-item-in-None-2.ensures.1 in rw (p.1, p.2)
+    (m.no (s.unheard_after c.loop-items.invariant.0 (s.unheard_after (s.on_call (λ x p. behind_by _ before comma p.0 x p.1) (λ x ts. list.behind_splits _ before comma x ts) none)
+    (s.unheard_call (λ x p. elements_behind _ (trees_append before (cons p.0.0 nil)) p.0.1 x p.1) (λ x ts. list.elements_more_splits _ before x ts) (s.unheard_after free (s.unheard_call (λ x p. separated is_rbracket x p.1 >>= (λ q. Some ((p.0, q.0), q.1))) (λ x ts. list.element_item_splits _ x ts) c.in_err-item-in-None-2.ensures.reads))))) (grows-then c.loop-items.invariant.2 c.parse_expr_or_spread.ensures.grows))
+
+pub parse_elements-returns-in_err-separate-in-None-2 : goal.parse_elements-returns-in_err-separate-in-None-2
+parse_elements-returns-in_err-separate-in-None-2 g t c =
+    let before = elem_trees (tree_at c.loop-items.p.nodes) c.loop-items.items in
+    let comma = c.loop-items.trailing_comma in
+    let none = s.eats_none g.B.Bodies.is_faithful is_rbracket _ _ _ c.in-None.is (c.in_ok-end.ensures.eats g.B.Bodies.is_faithful) in
+    let free = s.on_call (λ x p. element_by g.B.BodyForms.forms p.0 x p.1) (λ x ts. list.element_splits _ x ts)
+    (s.eats_none g.B.Bodies.is_faithful is_comma _ _ _ c.in-None-2.is (c.in_ok-eat.ensures.eats g.B.Bodies.is_faithful)) in
+    let read = item_at c.parse_expr_or_spread.new.p.nodes c.in_ok-item-in-None-2.item in
+    let p = err_from_is_err_and c.from_residual-in_err-separate-in-None-2.result c.from_residual-in_err-separate-in-None-2.ensures.1 in rw (p.1, p.2)
+    (m.no (s.unheard_after c.loop-items.invariant.0 (s.unheard_after (s.on_call (λ x p. behind_by _ before comma p.0 x p.1) (λ x ts. list.behind_splits _ before comma x ts) none)
+    (s.unheard_call (λ x p. elements_behind _ (trees_append before (cons p.0.0 nil)) p.0.1 x p.1) (λ x ts. list.elements_more_splits _ before x ts) (s.unheard_after (s.on_then free (s.on_call (λ x p. separated is_rbracket x p.1 >>= (λ q. Some ((p.0, q.0), q.1))) (λ x ts. list.element_item_splits _ x ts) c.in_ok-item-in-None-2.ensures.reads.on))
+    (s.unheard_call (λ x q. Some ((read, q.0), q.1)) (λ x ts. refl) (c.in_err-separate-in-None-2.ensures.separates g.B.Bodies.is_faithful)))))) (grows-then c.loop-items.invariant.2 c.parse_expr_or_spread.ensures.grows))
+
+pub parse_expr_or_spread-returns-in_err-spread : goal.parse_expr_or_spread-returns-in_err-spread
+parse_expr_or_spread-returns-in_err-spread g t c =
+    let p = err_from_is_err_and c.from_residual.result c.from_residual.ensures.1 in rw (p.1, p.2)
+    (m.no (s.unheard_call (λ x p. run _ (at Assign) x p.1 >>= (λ q. Some (item_tree_of p.0 q.0, q.1))) (λ x ts. list.item_splits _ x ts) (c.in_err-spread.ensures.eats g.B.Bodies.is_faithful)) (grows-same _))
+
+pub parse_expr_or_spread-returns-in-Ok : goal.parse_expr_or_spread-returns-in-Ok
+parse_expr_or_spread-returns-in-Ok g t c =
+    m.yes (Ok _)
+    (s.heard_after (s.on_call (λ x p. run _ (at Assign) x p.1 >>= (λ q. Some (item_tree_of p.0 q.0, q.1))) (λ x ts. list.item_splits _ x ts) (s.eats_on g.B.Bodies.is_faithful is_dots c.in_ok-spread.spread _ _ (c.in_ok-spread.ensures.eats g.B.Bodies.is_faithful)))
+    (s.heard_call (λ x q. Some (item_tree_of c.in_ok-spread.spread q.0, q.1)) (λ x ts. refl) (λ x ts. refl) c.in-Ok.ensures.reads))
+    c.parse_assignment_expr.ensures.grows c.in-Ok.ensures.from
+
+pub parse_expr_or_spread-returns-in-Err : goal.parse_expr_or_spread-returns-in-Err
+parse_expr_or_spread-returns-in-Err g t c =
+    m.no (s.unheard_as c.label_spread.result c.label_spread.ensures.kind c.label_spread.ensures.memory
+    (s.unheard_after (s.on_call (λ x p. run _ (at Assign) x p.1 >>= (λ q. Some (item_tree_of p.0 q.0, q.1))) (λ x ts. list.item_splits _ x ts) (s.eats_on g.B.Bodies.is_faithful is_dots c.in_ok-spread.spread _ _ (c.in_ok-spread.ensures.eats g.B.Bodies.is_faithful)))
+    (s.unheard_call (λ x q. Some (item_tree_of c.in_ok-spread.spread q.0, q.1)) (λ x ts. refl) c.in-Err.ensures.reads)))
+    c.parse_assignment_expr.ensures.grows
+
+pub parse_props-loop-items-init : goal.parse_props-loop-items-init
+parse_props-loop-items-init g t c = (
+  s.on_here g.met.I.Tokens.laws _ (λ x ts. props.props_first _ x ts ∙ ap (λ v. props_behind g.B.BodyForms.forms (trees (map (prop_at c.args.p.now.nodes) v)) None x ts) (sym c.new-items.ensures.items)),
+  omega arith,
+  grows-same _,
+  record { chained = ap (λ v. chain (seat_at c.args.p.now.nodes) (count c.args.p.now.nodes) (flat prop_parts v) (count c.args.p.now.nodes)) c.new-items.ensures.items ∙ (apart-none {ns = c.args.p.now.nodes} {k = count c.args.p.now.nodes} (omega arith)).chained },
+)
+
+pub parse_props-loop-items-preserved : goal.parse_props-loop-items-preserved
+parse_props-loop-items-preserved g t c =
+    let before = trees (map (prop_at c.loop-items.p.nodes) c.loop-items.items.items) in
+    let comma = c.loop-items.trailing_comma in
+    let none = s.eats_none g.B.Bodies.is_faithful is_rbrace _ _ _ c.in-None.is (c.in_ok-end.ensures.eats g.B.Bodies.is_faithful) in
+    let item = s.heard_more (λ x p. separated is_rbrace x p.1 >>= (λ q. Some ((p.0, q.0), q.1))) (λ x ts. props.prop_item_splits _ x ts) c.in_ok-prop.ensures.reads
+    (s.on_call (λ x q. Some ((prop_at c.parse_object_prop.new.p.nodes c.in_ok-prop.prop, q.0), q.1)) (λ x ts. refl) (c.in_ok-separate.ensures.separates g.B.Bodies.is_faithful)) in
+    let more = ap (λ v. trees (map (prop_at c.parse_object_prop.new.p.nodes) v)) c.in_ok-add.ensures.added
+    ∙ props-more c.loop-items.items.items c.in_ok-prop.prop c.parse_object_prop.ensures.grows c.loop-items.invariant.3 in
+    let parts = apart-list-more prop_parts c.loop-items.items.items c.in_ok-prop.prop c.parse_object_prop.ensures.grows c.loop-items.invariant.3 c.in_ok-prop.ensures.from in (
+      s.on_then c.loop-items.invariant.0 (s.on_then (s.on_call (λ x p. props_by _ before comma p.0 x p.1) (λ x ts. props.behind_splits _ before comma x ts) none)
+          (s.on_to (s.on_call (λ x p. props_behind _ (trees_append before (cons p.0.0 nil)) p.0.1 x p.1) (λ x ts. props.props_more_splits _ before x ts) item.on)
+          (λ x ts. ap (λ v. props_behind g.B.BodyForms.forms v c.in_ok-separate.field-0 x ts) (sym more)))),
+      let a = c.loop-items.invariant.1 in let b = c.in_ok-prop.ensures.falls in let e = c.in_ok-separate.ensures.falls in let d = c.in_ok-end.ensures.falls in omega arith,
+      grows-then c.loop-items.invariant.2 c.parse_object_prop.ensures.grows,
+      record { chained = ap (λ v. chain (seat_at c.parse_object_prop.new.p.nodes) (count c.args.p.now.nodes) (flat prop_parts v) (count c.parse_object_prop.new.p.nodes)) c.in_ok-add.ensures.added ∙ parts.chained },
+    )
+
+pub parse_props-returns-in_err-end : goal.parse_props-returns-in_err-end
+parse_props-returns-in_err-end g t c =
+    let before = trees (map (prop_at c.loop-items.p.nodes) c.loop-items.items.items) in
+    let comma = c.loop-items.trailing_comma in
+    let p = err_from_is_err_and c.from_residual.result c.from_residual.ensures.1 in rw (p.1, p.2)
+    (m.no (s.unheard_after c.loop-items.invariant.0 (s.unheard_call (λ x p. props_by _ before comma p.0 x p.1) (λ x ts. props.behind_splits _ before comma x ts) (c.in_err-end.ensures.eats g.B.Bodies.is_faithful))) c.loop-items.invariant.2)
+
+pub parse_props-returns-in-Some : goal.parse_props-returns-in-Some
+parse_props-returns-in-Some g t c =
+    let before = trees (map (prop_at c.loop-items.p.nodes) c.loop-items.items.items) in
+    let comma = c.loop-items.trailing_comma in
+    let some = s.eats_some g.B.Bodies.is_faithful is_rbrace _ c.in-Some.end _ _ c.in-Some.is (c.in_ok-end.ensures.eats g.B.Bodies.is_faithful) in
+    m.yes (Ok _)
+    (s.heard_after c.loop-items.invariant.0 (s.heard_call (λ x p. props_by _ before comma p.0 x p.1) (λ x ts. props.behind_splits _ before comma x ts) (λ x ts. refl) some))
+    c.loop-items.invariant.2 c.loop-items.invariant.3
+
+pub parse_props-returns-in_err-add : goal.parse_props-returns-in_err-add
+parse_props-returns-in_err-add g t c =
+    let none = s.eats_none g.B.Bodies.is_faithful is_rbrace _ _ _ c.in-None.is (c.in_ok-end.ensures.eats g.B.Bodies.is_faithful) in
+    let item = s.heard_more (λ x p. separated is_rbrace x p.1 >>= (λ q. Some ((p.0, q.0), q.1))) (λ x ts. props.prop_item_splits _ x ts) c.in_ok-prop.ensures.reads
+    (s.on_call (λ x q. Some ((prop_at c.parse_object_prop.new.p.nodes c.in_ok-prop.prop, q.0), q.1)) (λ x ts. refl) (c.in_ok-separate.ensures.separates g.B.Bodies.is_faithful)) in
+    let p = err_from_is_err_and c.from_residual-in_err-add.result c.from_residual-in_err-add.ensures.1 in rw (p.1, p.2)
+    (m.no (s.unheard_memory (s.forgoes_later (s.leads_then c.loop-items.invariant.0.leads (s.leads_then none.leads item.on.leads)) (s.forgoes_here g.met.I.Tokens.laws _ _ _ c.in_err-add.ensures.refused))) (grows-then c.loop-items.invariant.2 c.parse_object_prop.ensures.grows))
+
+pub parse_props-returns-in_err-prop : goal.parse_props-returns-in_err-prop
+parse_props-returns-in_err-prop g t c =
+    let before = trees (map (prop_at c.loop-items.p.nodes) c.loop-items.items.items) in
+    let comma = c.loop-items.trailing_comma in
+    let none = s.eats_none g.B.Bodies.is_faithful is_rbrace _ _ _ c.in-None.is (c.in_ok-end.ensures.eats g.B.Bodies.is_faithful) in
+    let p = err_from_is_err_and c.from_residual-in_err-prop.result c.from_residual-in_err-prop.ensures.1 in rw (p.1, p.2)
+    (m.no (s.unheard_after c.loop-items.invariant.0 (s.unheard_after (s.on_call (λ x p. props_by _ before comma p.0 x p.1) (λ x ts. props.behind_splits _ before comma x ts) none)
+    (s.unheard_call (λ x p. props_behind _ (trees_append before (cons p.0.0 nil)) p.0.1 x p.1) (λ x ts. props.props_more_splits _ before x ts) (s.unheard_call (λ x p. separated is_rbrace x p.1 >>= (λ q. Some ((p.0, q.0), q.1))) (λ x ts. props.prop_item_splits _ x ts) c.in_err-prop.ensures.reads)))) (grows-then c.loop-items.invariant.2 c.parse_object_prop.ensures.grows))
+
+pub parse_props-returns-in_err-separate : goal.parse_props-returns-in_err-separate
+parse_props-returns-in_err-separate g t c =
+    let before = trees (map (prop_at c.loop-items.p.nodes) c.loop-items.items.items) in
+    let comma = c.loop-items.trailing_comma in
+    let none = s.eats_none g.B.Bodies.is_faithful is_rbrace _ _ _ c.in-None.is (c.in_ok-end.ensures.eats g.B.Bodies.is_faithful) in
+    let p = err_from_is_err_and c.from_residual-in_err-separate.result c.from_residual-in_err-separate.ensures.1 in rw (p.1, p.2)
+    (m.no (s.unheard_after c.loop-items.invariant.0 (s.unheard_after (s.on_call (λ x p. props_by _ before comma p.0 x p.1) (λ x ts. props.behind_splits _ before comma x ts) none)
+    (s.unheard_call (λ x p. props_behind _ (trees_append before (cons p.0.0 nil)) p.0.1 x p.1) (λ x ts. props.props_more_splits _ before x ts) (s.unheard_after (s.on_call (λ x p. separated is_rbrace x p.1 >>= (λ q. Some ((p.0, q.0), q.1))) (λ x ts. props.prop_item_splits _ x ts) c.in_ok-prop.ensures.reads.on)
+    (s.unheard_call (λ x q. Some ((prop_at c.parse_object_prop.new.p.nodes c.in_ok-prop.prop, q.0), q.1)) (λ x ts. refl) (c.in_err-separate.ensures.separates g.B.Bodies.is_faithful)))))) (grows-then c.loop-items.invariant.2 c.parse_object_prop.ensures.grows))
+
+pub parse_object_prop-returns-in_err-name : goal.parse_object_prop-returns-in_err-name
+parse_object_prop-returns-in_err-name g t c =
+    let p = err_from_is_err_and c.from_residual.result c.from_residual.ensures.1 in rw (p.1, p.2)
+    (m.no c.in_err-name.ensures.reads (grows-same _))
+
+pub parse_object_prop-returns-in-Shorthand : goal.parse_object_prop-returns-in-Shorthand
+parse_object_prop-returns-in-Shorthand g t c =
+    let left = begins.begun g.I.Tokens.model g.B.Bodies.is_faithful g.B.BodyForms.forms _ _ (head.Shorthand c.in-Shorthand.name) c.in-Shorthand.is c.in_ok-name.ensures.reads in
+    m.yes (Ok _) left (grows-same _) (apart-none (omega arith))
+
+pub parse_object_prop-returns-in_err-expr-in-Spread : goal.parse_object_prop-returns-in_err-expr-in-Spread
+parse_object_prop-returns-in_err-expr-in-Spread g t c =
+    let left = begins.begun g.I.Tokens.model g.B.Bodies.is_faithful g.B.BodyForms.forms _ _ (head.Spread c.in-Spread.dots) c.in-Spread.is c.in_ok-name.ensures.reads in
+    let p = err_from_is_err_and c.from_residual-in_err-expr-in-Spread.result c.from_residual-in_err-expr-in-Spread.ensures.1 in rw (p.1, p.2)
+    (m.no (s.unheard_after left
+    (s.unheard_call (λ x q. Some (spread_prop_e c.in-Spread.dots q.0, q.1)) (λ x ts. props.spread_prop_splits _ c.in-Spread.dots x ts) c.in_err-expr-in-Spread.ensures.reads))
+    c.parse_assignment_expr_with_in.ensures.grows)
+
+pub parse_object_prop-returns-in_ok-expr-in-Spread : goal.parse_object_prop-returns-in_ok-expr-in-Spread
+parse_object_prop-returns-in_ok-expr-in-Spread g t c =
+    let left = begins.begun g.I.Tokens.model g.B.Bodies.is_faithful g.B.BodyForms.forms _ _ (head.Spread c.in-Spread.dots) c.in-Spread.is c.in_ok-name.ensures.reads in
+    m.yes (Ok _)
+    (s.heard_answer (sym c.spread_prop.ensures.tree) (s.heard_after left
+    (s.heard_call (λ x q. Some (spread_prop_e c.in-Spread.dots q.0, q.1)) (λ x ts. props.spread_prop_splits _ c.in-Spread.dots x ts) (λ x ts. refl) c.in_ok-expr-in-Spread.ensures.reads)))
+    c.parse_assignment_expr_with_in.ensures.grows
+    (subst (λ ps. Apart (count c.args.p.now.nodes) c.parse_assignment_expr_with_in.new.p.nodes ps) (sym c.spread_prop.ensures.parts)
+    (apart-from (expr_part c.in_ok-expr-in-Spread.expr) c.in_ok-expr-in-Spread.ensures.from))
+
+pub parse_object_prop-returns-in_err-value-in-Cover : goal.parse_object_prop-returns-in_err-value-in-Cover
+parse_object_prop-returns-in_err-value-in-Cover g t c =
+    let n = ident_spelling c.in-Cover.name in
+    let left = begins.begun g.I.Tokens.model g.B.Bodies.is_faithful g.B.BodyForms.forms _ _ (head.Cover c.in-Cover.name) c.in-Cover.is c.in_ok-name.ensures.reads in
+    let p = err_from_is_err_and c.from_residual-in_err-value-in-Cover.result c.from_residual-in_err-value-in-Cover.ensures.1 in rw (p.1, p.2)
+    (m.no (s.unheard_after left
+    (s.unheard_call (λ x p. Some (cover_node n p.0, p.1)) (λ x ts. props.cover_tail_splits _ n x ts) c.in_err-value-in-Cover.ensures.reads)) c.parse_assignment_expr_with_in-in-Cover.ensures.grows)
+
+pub parse_object_prop-returns-in_ok-value-in-Cover : goal.parse_object_prop-returns-in_ok-value-in-Cover
+parse_object_prop-returns-in_ok-value-in-Cover g t c =
+    let n = ident_spelling c.in-Cover.name in
+    let left = begins.begun g.I.Tokens.model g.B.Bodies.is_faithful g.B.BodyForms.forms _ _ (head.Cover c.in-Cover.name) c.in-Cover.is c.in_ok-name.ensures.reads in
+    let value = c.in_ok-value-in-Cover in
+    let v = tree_of c.parse_assignment_expr_with_in-in-Cover.new.p.nodes value.value in
+    m.yes (Ok _)
+    (s.heard_answer (sym c.cover_prop.ensures.tree) (s.heard_after left
+    (s.heard_call_read (λ x p. Some (cover_node n p.0, p.1)) (λ x ts. props.cover_tail_splits _ n x ts)
+    (λ x ts us h y ys. ap (λ e. Some (cover_e (from_to n.at.lo e) (ident_e n.at n.text) v, ys))
+    (sym (ending.ended _ g.met.B.Bodies.lawful value.value Assign (with_in x) ts us value.ensures.from (sym (rule.inside_assign _ x ts) ∙ h))))
+    value.ensures.reads)))
+    c.parse_assignment_expr_with_in-in-Cover.ensures.grows
+    (subst (λ ps. Apart (count c.args.p.now.nodes) c.parse_assignment_expr_with_in-in-Cover.new.p.nodes ps) (sym c.cover_prop.ensures.parts)
+    (apart-from (expr_part c.in_ok-value-in-Cover.value) c.in_ok-value-in-Cover.ensures.from))
+
+pub parse_object_prop-returns-in_err-key-in-Key : goal.parse_object_prop-returns-in_err-key-in-Key
+parse_object_prop-returns-in_err-key-in-Key g t c =
+    let left = begins.begun g.I.Tokens.model g.B.Bodies.is_faithful g.B.BodyForms.forms _ _ head.Key c.in-Key.is c.in_ok-name.ensures.reads in
+    let p = err_from_is_err_and c.from_residual-in_err-key-in-Key.result c.from_residual-in_err-key-in-Key.ensures.1 in rw (p.1, p.2)
+    (m.no (s.unheard_after left (s.unheard_call (λ x p. behind_key _ p.0 x p.1) (λ x ts. method.key_splits _ x ts) c.in_err-key-in-Key.ensures.reads)) c.parse_prop_name.ensures.grows)
+
+pub parse_object_prop-returns-in_err-key-in-Method : goal.parse_object_prop-returns-in_err-key-in-Method
+parse_object_prop-returns-in_err-key-in-Method g t c =
+    let kind = c.in-Method.kind in
+    let start = c.in-Method.start in
+    let left = begins.begun g.I.Tokens.model g.B.Bodies.is_faithful g.B.BodyForms.forms _ _ (head.Method c.in-Method.kind c.in-Method.start) c.in-Method.is c.in_ok-name.ensures.reads in
+    let p = err_from_is_err_and c.from_residual-in_err-key-in-Method.result c.from_residual-in_err-key-in-Method.ensures.1 in rw (p.1, p.2)
+    (m.no (s.unheard_after left (s.unheard_call (λ x p. method_close _ kind start p.0 x p.1) (λ x ts. method.method_tail_splits _ kind start x ts) c.in_err-key-in-Method.ensures.reads)) c.parse_prop_name-in-Method.ensures.grows)
+
+pub parse_object_prop-returns-in_err-function-in-Method : goal.parse_object_prop-returns-in_err-function-in-Method
+parse_object_prop-returns-in_err-function-in-Method g t c =
+    let kind = c.in-Method.kind in
+    let start = c.in-Method.start in
+    let key = key_at c.parse_prop_name-in-Method.new.p.nodes c.in_ok-key-in-Method.key in
+    let left = begins.begun g.I.Tokens.model g.B.Bodies.is_faithful g.B.BodyForms.forms _ _ (head.Method c.in-Method.kind c.in-Method.start) c.in-Method.is c.in_ok-name.ensures.reads in
+    let p = err_from_is_err_and c.from_residual-in_err-function-in-Method.result c.from_residual-in_err-function-in-Method.ensures.1 in rw (p.1, p.2)
+    (m.no (s.unheard_after (s.on_then left (s.on_call (λ x p. method_close _ kind start p.0 x p.1) (λ x ts. method.method_tail_splits _ kind start x ts) c.in_ok-key-in-Method.ensures.reads.on))
+    (s.unheard_call (λ x p. Some (method_tree kind start key p.0, p.1)) (λ x ts. method.method_close_splits _ kind start key x ts) c.in_err-function-in-Method.ensures.reads)) (grows-then c.parse_prop_name-in-Method.ensures.grows c.parse_method_function.ensures.grows))
+
+pub parse_object_prop-returns-in_ok-function-in-Method : goal.parse_object_prop-returns-in_ok-function-in-Method
+parse_object_prop-returns-in_ok-function-in-Method g t c =
+    let kind = c.in-Method.kind in
+    let start = c.in-Method.start in
+    let name = c.in_ok-key-in-Method.key in
+    let key = key_at c.parse_prop_name-in-Method.new.p.nodes name in
+    let function = c.in_ok-function-in-Method.function in
+    let param = c.in_ok-function-in-Method.param in
+    let left = begins.begun g.I.Tokens.model g.B.Bodies.is_faithful g.B.BodyForms.forms _ _ (head.Method c.in-Method.kind c.in-Method.start) c.in-Method.is c.in_ok-name.ensures.reads in
+    m.yes (Ok _)
+    (s.heard_after left
+    (method.method_heard _ kind start name function param c.method_of.result c.method_of.ensures c.parse_method_function.ensures.grows c.in_ok-key-in-Method.ensures.from c.in_ok-function-in-Method.ensures.from
+    (s.heard_more (λ x p. method_close _ kind start p.0 x p.1) (λ x ts. method.method_tail_splits _ kind start x ts) c.in_ok-key-in-Method.ensures.reads
+    (s.on_call (λ x p. Some (method_tree kind start key p.0, p.1)) (λ x ts. method.method_close_splits _ kind start key x ts) c.in_ok-function-in-Method.ensures.reads.on))))
+    (grows-then c.parse_prop_name-in-Method.ensures.grows c.parse_method_function.ensures.grows)
+    (method.method_apart kind start name function param c.method_of.result c.method_of.ensures c.parse_method_function.ensures.grows c.in_ok-key-in-Method.ensures.from c.in_ok-function-in-Method.ensures.from)
+
+pub parse_object_prop-returns-in_err-eat-in-Key : goal.parse_object_prop-returns-in_err-eat-in-Key
+parse_object_prop-returns-in_err-eat-in-Key g t c =
+    let key = key_at c.parse_prop_name.new.p.nodes c.in_ok-key-in-Key.key in
+    let left = begins.begun g.I.Tokens.model g.B.Bodies.is_faithful g.B.BodyForms.forms _ _ head.Key c.in-Key.is c.in_ok-name.ensures.reads in
+    let named = s.on_then left (s.on_call (λ x p. behind_key _ p.0 x p.1) (λ x ts. method.key_splits _ x ts) c.in_ok-key-in-Key.ensures.reads.on) in
+    let p = err_from_is_err_and c.from_residual-in_err-eat-in-Key.result c.from_residual-in_err-eat-in-Key.ensures.1 in rw (p.1, p.2)
+    (m.no (s.unheard_after named
+    (s.unheard_call (λ x p. Some (prop_tree key p.0, p.1)) (λ x ts. method.behind_key_splits _ key x ts)
+    (s.unheard_call (λ x p. after_by _ p.0 x p.1) (λ x ts. method.after_splits _ x ts) (c.in_err-eat-in-Key.ensures.eats g.B.Bodies.is_faithful)))) c.parse_prop_name.ensures.grows)
+
+pub parse_object_prop-returns-in_err-value-in-Some : goal.parse_object_prop-returns-in_err-value-in-Some
+parse_object_prop-returns-in_err-value-in-Some g t c =
+    let key = key_at c.parse_prop_name.new.p.nodes c.in_ok-key-in-Key.key in
+    let left = begins.begun g.I.Tokens.model g.B.Bodies.is_faithful g.B.BodyForms.forms _ _ head.Key c.in-Key.is c.in_ok-name.ensures.reads in
+    let named = s.on_then left (s.on_call (λ x p. behind_key _ p.0 x p.1) (λ x ts. method.key_splits _ x ts) c.in_ok-key-in-Key.ensures.reads.on) in
+    let some = s.on_call (λ x p. after_by g.B.BodyForms.forms p.0 x p.1) (λ x ts. method.after_splits _ x ts)
+    (s.eats_some g.B.Bodies.is_faithful is_colon _ c.in-Some.field-0 _ _ c.in-Some.is (c.in_ok-eat-in-Key.ensures.eats g.B.Bodies.is_faithful)).on in
+    let p = err_from_is_err_and c.from_residual-in_err-value-in-Some.result c.from_residual-in_err-value-in-Some.ensures.1 in rw (p.1, p.2)
+    (m.no (s.unheard_after named
+    (s.unheard_call (λ x p. Some (prop_tree key p.0, p.1)) (λ x ts. method.behind_key_splits _ key x ts)
+    (s.unheard_after some
+    (s.unheard_call (λ x p. Some (value_e (span_of p.0) p.0, p.1)) (λ x ts. method.after_colon_splits _ x ts) c.in_err-value-in-Some.ensures.reads))))
+    (grows-then c.parse_prop_name.ensures.grows c.parse_assignment_expr_with_in-in-Some.ensures.grows))
+
+pub parse_object_prop-returns-in_ok-value-in-Some : goal.parse_object_prop-returns-in_ok-value-in-Some
+parse_object_prop-returns-in_ok-value-in-Some g t c =
+    let key = key_at c.parse_prop_name.new.p.nodes c.in_ok-key-in-Key.key in
+    let left = begins.begun g.I.Tokens.model g.B.Bodies.is_faithful g.B.BodyForms.forms _ _ head.Key c.in-Key.is c.in_ok-name.ensures.reads in
+    let some = s.on_call (λ x p. after_by g.B.BodyForms.forms p.0 x p.1) (λ x ts. method.after_splits _ x ts)
+    (s.eats_some g.B.Bodies.is_faithful is_colon _ c.in-Some.field-0 _ _ c.in-Some.is (c.in_ok-eat-in-Key.ensures.eats g.B.Bodies.is_faithful)).on in
+    let value = tree_of c.parse_assignment_expr_with_in-in-Some.new.p.nodes c.in_ok-value-in-Some.value in
+    let read = s.heard_answer (ap (λ v. value_e v value) (sym c.extent-span.ensures)) (s.heard_after some
+    (s.heard_call (λ x p. Some (value_e (span_of p.0) p.0, p.1)) (λ x ts. method.after_colon_splits _ x ts) (λ x ts. refl) c.in_ok-value-in-Some.ensures.reads)) in
+    let made = method.key_prop_made c.in_ok-key-in-Key.key (after_key.Value c.extent-span.result c.in_ok-value-in-Some.value) c.key_prop.result c.key_prop.ensures c.parse_assignment_expr_with_in-in-Some.ensures.grows c.in_ok-key-in-Key.ensures.from c.in_ok-value-in-Some.ensures.from in
+    m.yes (Ok _)
+    (s.heard_answer made.0 (s.heard_after left
+    (s.heard_more (λ x p. behind_key _ p.0 x p.1) (λ x ts. method.key_splits _ x ts) c.in_ok-key-in-Key.ensures.reads
+    (s.on_call (λ x p. Some (prop_tree key p.0, p.1)) (λ x ts. method.behind_key_splits _ key x ts) read.on))))
+    (grows-then c.parse_prop_name.ensures.grows c.parse_assignment_expr_with_in-in-Some.ensures.grows) made.1
+
+pub parse_object_prop-returns-in_err-after-in-None : goal.parse_object_prop-returns-in_err-after-in-None
+parse_object_prop-returns-in_err-after-in-None g t c =
+    let key = key_at c.parse_prop_name.new.p.nodes c.in_ok-key-in-Key.key in
+    let left = begins.begun g.I.Tokens.model g.B.Bodies.is_faithful g.B.BodyForms.forms _ _ head.Key c.in-Key.is c.in_ok-name.ensures.reads in
+    let named = s.on_then left (s.on_call (λ x p. behind_key _ p.0 x p.1) (λ x ts. method.key_splits _ x ts) c.in_ok-key-in-Key.ensures.reads.on) in
+    let none = s.on_call (λ x p. after_by g.B.BodyForms.forms p.0 x p.1) (λ x ts. method.after_splits _ x ts)
+    (s.eats_none g.B.Bodies.is_faithful is_colon _ _ _ c.in-None.is (c.in_ok-eat-in-Key.ensures.eats g.B.Bodies.is_faithful)) in
+    let p = err_from_is_err_and c.from_residual-in_err-after-in-None.result c.from_residual-in_err-after-in-None.ensures.1 in rw (p.1, p.2)
+    (m.no (s.unheard_after named
+    (s.unheard_call (λ x p. Some (prop_tree key p.0, p.1)) (λ x ts. method.behind_key_splits _ key x ts)
+    (s.unheard_after none c.in_err-after-in-None.ensures.reads))) (grows-then c.parse_prop_name.ensures.grows c.parse_key_method.ensures.grows))
+
+pub parse_object_prop-returns-in_ok-after-in-None : goal.parse_object_prop-returns-in_ok-after-in-None
+parse_object_prop-returns-in_ok-after-in-None g t c =
+    let key = key_at c.parse_prop_name.new.p.nodes c.in_ok-key-in-Key.key in
+    let left = begins.begun g.I.Tokens.model g.B.Bodies.is_faithful g.B.BodyForms.forms _ _ head.Key c.in-Key.is c.in_ok-name.ensures.reads in
+    let none = s.on_call (λ x p. after_by g.B.BodyForms.forms p.0 x p.1) (λ x ts. method.after_splits _ x ts)
+    (s.eats_none g.B.Bodies.is_faithful is_colon _ _ _ c.in-None.is (c.in_ok-eat-in-Key.ensures.eats g.B.Bodies.is_faithful)) in
+    let read = s.heard_after none c.in_ok-after-in-None.ensures.reads in
+    let made = method.key_prop_made c.in_ok-key-in-Key.key c.in_ok-after-in-None.after c.key_prop-in-None.result c.key_prop-in-None.ensures c.parse_key_method.ensures.grows c.in_ok-key-in-Key.ensures.from c.in_ok-after-in-None.ensures.from in
+    m.yes (Ok _)
+    (s.heard_answer made.0 (s.heard_after left
+    (s.heard_more (λ x p. behind_key _ p.0 x p.1) (λ x ts. method.key_splits _ x ts) c.in_ok-key-in-Key.ensures.reads
+    (s.on_call (λ x p. Some (prop_tree key p.0, p.1)) (λ x ts. method.behind_key_splits _ key x ts) read.on))))
+    (grows-then c.parse_prop_name.ensures.grows c.parse_key_method.ensures.grows) made.1
+
+pub parse_lhs_expr-returns-in_err-look : goal.parse_lhs_expr-returns-in_err-look
+parse_lhs_expr-returns-in_err-look g t c =
+    let p = err_from_is_err_and c.from_residual.result c.from_residual.ensures.1 in rw (p.1, p.2)
+    (m.no (s.unheard_memory c.in_err-look.ensures.looks) (grows-same _))
+
+pub parse_lhs_expr-returns-in_err-base : goal.parse_lhs_expr-returns-in_err-base
+parse_lhs_expr-returns-in_err-base g t c =
+    let p = err_from_is_err_and c.from_residual-in_err-base.result c.from_residual-in_err-base.ensures.1 in rw (p.1, p.2)
+    (m.no (s.unheard_after (s.on_seen {g = λ x ts. plain_base _ true x ts >>= (λ p. run _ (links true p.0) x p.1)} c.in_ok-look.ensures.looks
+    (λ x ts same e. link.lhs_splits _ true x ts (link.not_new (first ts)
+    (ap (λ o. at_token is_super o || at_token is_import o) e ∙ sym c.is_super_or_import.ensures ∙ c.if-is_super_or_import.true))))
+    (s.unheard_call (λ x p. run _ (links true p.0) x p.1) (λ x ts. refl) c.in_err-base.ensures.reads)) c.parse_base.ensures.grows)
+
+pub parse_lhs_expr-returns-then-is_super_or_import : goal.parse_lhs_expr-returns-then-is_super_or_import
+parse_lhs_expr-returns-then-is_super_or_import g t c =
+    m.after {m = record c.args.p.now { input = c.look.new.input }} c.parse_subscripts.result (s.on_seen {g = λ x ts. plain_base _ true x ts >>= (λ p. run _ (links true p.0) x p.1)} c.in_ok-look.ensures.looks
+    (λ x ts same e. link.lhs_splits _ true x ts (link.not_new (first ts)
+    (ap (λ o. at_token is_super o || at_token is_import o) e ∙ sym c.is_super_or_import.ensures ∙ c.if-is_super_or_import.true)))) (grows-same _)
+    (m.call c.parse_subscripts.result (λ x p. run _ (links true p.0) x p.1) (λ x ts. refl)
+    c.in_ok-base.ensures.reads c.parse_base.ensures.grows (λ x. from-down c.in_ok-base.ensures.from.above) c.parse_subscripts.ensures)
+
+pub parse_lhs_expr-returns-in_err-callee : goal.parse_lhs_expr-returns-in_err-callee
+parse_lhs_expr-returns-in_err-callee g t c =
+    let tree = tree_of c.parse_member_expr-member.new.p.nodes in
+    let member = s.parses_aside g.I.Tokens.model g.B.Bodies.is_faithful tree (run _ (at (Lhs false))) c.parse_member_expr-member.result
+    c.set_ctx.ensures.moves (ap deciding c.set_ctx.ensures.context ∙ ap deciding c.get_ctx-ctx.ensures) c.parse_member_expr-member.ensures.reads c.set_ctx-2.ensures.moves
+    (c.set_ctx-2.ensures.context ∙ c.get_ctx-ctx.ensures) in
+    let p = err_from_is_err_and c.from_residual-in_err-callee.result c.from_residual-in_err-callee.ensures.1 in rw (p.1, p.2)
+    (m.no (s.unheard_after (s.on_seen {g = λ x ts. run _ (at (Lhs false)) x ts >>= (λ p. run _ (links true p.0) x p.1)} c.in_ok-look.ensures.looks
+    (λ x ts same e. link.lhs_parts _ x ts (ap (λ o. at_token is_super o || at_token is_import o) e ∙ sym c.is_super_or_import.ensures ∙ c.if-is_super_or_import.false)))
+    (s.unheard_call (λ x p. run _ (links true p.0) x p.1) (λ x ts. refl)
+    (s.parses_err g.I.Tokens.model g.B.Bodies.is_faithful tree (run _ (at (Lhs false))) _ _ c.parse_member_expr-member.result _ c.in_err-callee.was member)))
+    c.parse_member_expr-member.ensures.grows)
+
+pub parse_lhs_expr-parse_subscripts-requires-2 : goal.parse_lhs_expr-parse_subscripts-requires-2
+parse_lhs_expr-parse_subscripts-requires-2 g t c =
+    let falls = c.parse_member_expr-member.ensures.falls in
+    let read = c.in_ok-callee.was in
+    let from = from-down (omega arith) (m.held_is _ c.parse_member_expr-member.result c.in_ok-callee.callee read c.parse_member_expr-member.ensures.from) in
+    λ κs outlives. (search rules, (search rules, (search rules, (search rules, (search rules, (search rules, from))))))
+
+pub parse_lhs_expr-returns : goal.parse_lhs_expr-returns
+parse_lhs_expr-returns g t c =
+    let tree = tree_of c.parse_member_expr-member.new.p.nodes in
+    let member = s.parses_aside g.I.Tokens.model g.B.Bodies.is_faithful tree (run _ (at (Lhs false))) c.parse_member_expr-member.result
+    c.set_ctx.ensures.moves (ap deciding c.set_ctx.ensures.context ∙ ap deciding c.get_ctx-ctx.ensures) c.parse_member_expr-member.ensures.reads c.set_ctx-2.ensures.moves
+    (c.set_ctx-2.ensures.context ∙ c.get_ctx-ctx.ensures) in
+    let read = s.parses_ok g.I.Tokens.model g.B.Bodies.is_faithful tree (run _ (at (Lhs false))) _ _ c.parse_member_expr-member.result c.in_ok-callee.callee c.in_ok-callee.was member in
+    let held = m.held_is _ c.parse_member_expr-member.result c.in_ok-callee.callee c.in_ok-callee.was c.parse_member_expr-member.ensures.from in
+    m.after {m = record c.args.p.now { input = c.look.new.input }} c.parse_subscripts-2.result (s.on_seen {g = λ x ts. run _ (at (Lhs false)) x ts >>= (λ p. run _ (links true p.0) x p.1)} c.in_ok-look.ensures.looks
+    (λ x ts same e. link.lhs_parts _ x ts (ap (λ o. at_token is_super o || at_token is_import o) e ∙ sym c.is_super_or_import.ensures ∙ c.if-is_super_or_import.false))) (grows-same _)
+    (m.call c.parse_subscripts-2.result (λ x p. run _ (links true p.0) x p.1) (λ x ts. refl)
+    read c.parse_member_expr-member.ensures.grows (λ x. from-down held.above) c.parse_subscripts-2.ensures)
+
+pub parse_member_expr-returns-in_err-look : goal.parse_member_expr-returns-in_err-look
+parse_member_expr-returns-in_err-look g t c =
+    let p = err_from_is_err_and c.from_residual.result c.from_residual.ensures.1 in rw (p.1, p.2)
+    (m.no (s.unheard_memory c.in_err-look.ensures.looks) (grows-same _))
+
+pub parse_member_expr-returns-in_err-base : goal.parse_member_expr-returns-in_err-base
+parse_member_expr-returns-in_err-base g t c =
+    let b = false in
+    let p = err_from_is_err_and c.from_residual-in_err-base.result c.from_residual-in_err-base.ensures.1 in rw (p.1, p.2)
+    (m.no (s.unheard_after (s.on_seen {g = λ x ts. plain_base _ b x ts >>= (λ p. run _ (links b p.0) x p.1)} c.in_ok-look.ensures.looks
+    (λ x ts same e. link.lhs_splits _ b x ts (ap (at_token is_new) e ∙ sym c.is_new.ensures.value ∙ c.if-not-is_new.true)))
+    (s.unheard_call (λ x p. run _ (links b p.0) x p.1) (λ x ts. refl) c.in_err-base.ensures.reads)) c.parse_base.ensures.grows)
+
+pub parse_member_expr-returns-then-not-is_new : goal.parse_member_expr-returns-then-not-is_new
+parse_member_expr-returns-then-not-is_new g t c =
+    let b = false in
+    m.after {m = record c.args.p.now { input = c.look.new.input }} c.parse_subscripts.result (s.on_seen {g = λ x ts. plain_base _ b x ts >>= (λ p. run _ (links b p.0) x p.1)} c.in_ok-look.ensures.looks
+    (λ x ts same e. link.lhs_splits _ b x ts (ap (at_token is_new) e ∙ sym c.is_new.ensures.value ∙ c.if-not-is_new.true))) (grows-same _)
+    (m.call c.parse_subscripts.result (λ x p. run _ (links b p.0) x p.1) (λ x ts. refl)
+    c.in_ok-base.ensures.reads c.parse_base.ensures.grows (λ x. from-down c.in_ok-base.ensures.from.above) c.parse_subscripts.ensures)
+
+pub parse_member_expr-returns-in_err-eat : goal.parse_member_expr-returns-in_err-eat
+parse_member_expr-returns-in_err-eat g t c =
+    let first = c.skip.ensures.took.1 in
+    let b = false in
+    let start = c.cur_span-start.result in
+    let place = s.place_was first start c.cur_span-start.ensures in
+    let seen = s.on_seen {f = run g.B.BodyForms.forms (at (Lhs b))} {g = new_lhs g.B.BodyForms.forms b} c.in_ok-look.ensures.looks (λ x ts same e. link.new_splits g.B.BodyForms.forms b x ts (ap (at_token is_new) e ∙ sym c.is_new.ensures.value ∙ c.if-not-is_new.false)) in
+    let behind = s.on_then seen (s.on_took {f = new_lhs g.B.BodyForms.forms b} {g = new_tail g.B.BodyForms.forms b start} g.met.I.Tokens.laws first
+    (λ x ts. link.new_opens g.B.BodyForms.forms b (plain first.was) x ts ∙ ap (λ v. new_tail g.B.BodyForms.forms b v x ts) (sym place))) in
+    let p = err_from_is_err_and c.from_residual-in_err-eat.result c.from_residual-in_err-eat.ensures.1 in rw (p.1, p.2)
+    (m.no (s.unheard_after behind
+    (s.unheard_call (λ x q. new_by _ b start q.0 x q.1) (λ x ts. refl) (c.in_err-eat.ensures.eats g.B.Bodies.is_faithful))) (grows-same _))
+
+pub parse_member_expr-returns-in_err-target-in-Some : goal.parse_member_expr-returns-in_err-target-in-Some
+parse_member_expr-returns-in_err-target-in-Some g t c =
+    let first = c.skip.ensures.took.1 in
+    let b = false in
+    let start = c.cur_span-start.result in
+    let place = s.place_was first start c.cur_span-start.ensures in
+    let seen = s.on_seen {f = run g.B.BodyForms.forms (at (Lhs b))} {g = new_lhs g.B.BodyForms.forms b} c.in_ok-look.ensures.looks (λ x ts same e. link.new_splits g.B.BodyForms.forms b x ts (ap (at_token is_new) e ∙ sym c.is_new.ensures.value ∙ c.if-not-is_new.false)) in
+    let behind = s.on_then seen (s.on_took {f = new_lhs g.B.BodyForms.forms b} {g = new_tail g.B.BodyForms.forms b start} g.met.I.Tokens.laws first
+    (λ x ts. link.new_opens g.B.BodyForms.forms b (plain first.was) x ts ∙ ap (λ v. new_tail g.B.BodyForms.forms b v x ts) (sym place))) in
+    let some = s.eats_some g.B.Bodies.is_faithful is_dot _ c.in-Some.field-0 _ _ c.in-Some.is (c.in_ok-eat.ensures.eats g.B.Bodies.is_faithful) in
+    let p = err_from_is_err_and c.from_residual-in_err-target-in-Some.result c.from_residual-in_err-target-in-Some.ensures.1 in rw (p.1, p.2)
+    (m.no (s.unheard_after (s.on_then behind (s.on_call (λ x q. new_by _ b start q.0 x q.1) (λ x ts. refl) some.on))
+    (s.unheard_call (λ x q. run _ (links b q.0) x q.1) (λ x ts. refl) c.in_err-target-in-Some.ensures.reads)) c.parse_new_target.ensures.grows)
+
+pub parse_member_expr-returns-in-Some : goal.parse_member_expr-returns-in-Some
+parse_member_expr-returns-in-Some g t c =
+    let first = c.skip.ensures.took.1 in
+    let b = false in
+    let start = c.cur_span-start.result in
+    let place = s.place_was first start c.cur_span-start.ensures in
+    let seen = s.on_seen {f = run g.B.BodyForms.forms (at (Lhs b))} {g = new_lhs g.B.BodyForms.forms b} c.in_ok-look.ensures.looks (λ x ts same e. link.new_splits g.B.BodyForms.forms b x ts (ap (at_token is_new) e ∙ sym c.is_new.ensures.value ∙ c.if-not-is_new.false)) in
+    let behind = s.on_then seen (s.on_took {f = new_lhs g.B.BodyForms.forms b} {g = new_tail g.B.BodyForms.forms b start} g.met.I.Tokens.laws first
+    (λ x ts. link.new_opens g.B.BodyForms.forms b (plain first.was) x ts ∙ ap (λ v. new_tail g.B.BodyForms.forms b v x ts) (sym place))) in
+    let some = s.eats_some g.B.Bodies.is_faithful is_dot _ c.in-Some.field-0 _ _ c.in-Some.is (c.in_ok-eat.ensures.eats g.B.Bodies.is_faithful) in
+    m.after {m = record c.args.p.now { input = c.eat.new.input }} c.parse_subscripts-in-Some.result (s.on_then behind (s.on_call (λ x q. new_by _ b start q.0 x q.1) (λ x ts. refl) some.on)) (grows-same _)
+    (m.call c.parse_subscripts-in-Some.result (λ x q. run _ (links b q.0) x q.1) (λ x ts. refl)
+    c.in_ok-target-in-Some.ensures.reads c.parse_new_target.ensures.grows (λ x. from-down c.in_ok-target-in-Some.ensures.from.above) c.parse_subscripts-in-Some.ensures)
+
+pub parse_member_expr-returns-in_err-callee : goal.parse_member_expr-returns-in_err-callee
+parse_member_expr-returns-in_err-callee g t c =
+    let first = c.skip.ensures.took.1 in
+    let b = false in
+    let start = c.cur_span-start.result in
+    let place = s.place_was first start c.cur_span-start.ensures in
+    let seen = s.on_seen {f = run g.B.BodyForms.forms (at (Lhs b))} {g = new_lhs g.B.BodyForms.forms b} c.in_ok-look.ensures.looks (λ x ts same e. link.new_splits g.B.BodyForms.forms b x ts (ap (at_token is_new) e ∙ sym c.is_new.ensures.value ∙ c.if-not-is_new.false)) in
+    let behind = s.on_then seen (s.on_took {f = new_lhs g.B.BodyForms.forms b} {g = new_tail g.B.BodyForms.forms b start} g.met.I.Tokens.laws first
+    (λ x ts. link.new_opens g.B.BodyForms.forms b (plain first.was) x ts ∙ ap (λ v. new_tail g.B.BodyForms.forms b v x ts) (sym place))) in
+    let none = s.eats_none g.B.Bodies.is_faithful is_dot _ _ _ c.in-None.is (c.in_ok-eat.ensures.eats g.B.Bodies.is_faithful) in
+    let begun = s.on_then behind (s.on_call (λ x q. new_by g.B.BodyForms.forms b start q.0 x q.1) (λ x ts. refl) none) in
+    let p = err_from_is_err_and c.from_residual-in_err-callee.result c.from_residual-in_err-callee.ensures.1 in rw (p.1, p.2)
+    (m.no (s.unheard_after begun (s.unheard_call (λ x p. construct_of _ b start p.0 x p.1) (λ x ts. link.construct_splits _ b start x ts) c.in_err-callee.ensures.reads)) c.parse_member_expr.ensures.grows)
+
+pub parse_member_expr-returns-in_err-refuse_opt_chain : goal.parse_member_expr-returns-in_err-refuse_opt_chain
+parse_member_expr-returns-in_err-refuse_opt_chain g t c =
+    let first = c.skip.ensures.took.1 in
+    let b = false in
+    let start = c.cur_span-start.result in
+    let place = s.place_was first start c.cur_span-start.ensures in
+    let seen = s.on_seen {f = run g.B.BodyForms.forms (at (Lhs b))} {g = new_lhs g.B.BodyForms.forms b} c.in_ok-look.ensures.looks (λ x ts same e. link.new_splits g.B.BodyForms.forms b x ts (ap (at_token is_new) e ∙ sym c.is_new.ensures.value ∙ c.if-not-is_new.false)) in
+    let behind = s.on_then seen (s.on_took {f = new_lhs g.B.BodyForms.forms b} {g = new_tail g.B.BodyForms.forms b start} g.met.I.Tokens.laws first
+    (λ x ts. link.new_opens g.B.BodyForms.forms b (plain first.was) x ts ∙ ap (λ v. new_tail g.B.BodyForms.forms b v x ts) (sym place))) in
+    let none = s.eats_none g.B.Bodies.is_faithful is_dot _ _ _ c.in-None.is (c.in_ok-eat.ensures.eats g.B.Bodies.is_faithful) in
+    let begun = s.on_then behind (s.on_call (λ x q. new_by g.B.BodyForms.forms b start q.0 x q.1) (λ x ts. refl) none) in
+    let p = err_from_is_err_and c.from_residual-in_err-refuse_opt_chain.result c.from_residual-in_err-refuse_opt_chain.ensures.1 in rw (p.1, p.2)
+    (m.no (s.unheard_after begun (s.unheard_after (s.on_call (λ x p. construct_of _ b start p.0 x p.1) (λ x ts. link.construct_splits _ b start x ts) c.in_ok-callee.ensures.reads.on)
+    (s.unheard_none (λ x ts. link.construct_refused _ b start _ x ts c.in_err-refuse_opt_chain.ensures.refuses.1) c.in_err-refuse_opt_chain.ensures.refuses.0))) c.parse_member_expr.ensures.grows)
+
+pub parse_member_expr-returns-in_err-eat-2 : goal.parse_member_expr-returns-in_err-eat-2
+parse_member_expr-returns-in_err-eat-2 g t c =
+    let first = c.skip.ensures.took.1 in
+    let b = false in
+    let start = c.cur_span-start.result in
+    let place = s.place_was first start c.cur_span-start.ensures in
+    let seen = s.on_seen {f = run g.B.BodyForms.forms (at (Lhs b))} {g = new_lhs g.B.BodyForms.forms b} c.in_ok-look.ensures.looks (λ x ts same e. link.new_splits g.B.BodyForms.forms b x ts (ap (at_token is_new) e ∙ sym c.is_new.ensures.value ∙ c.if-not-is_new.false)) in
+    let behind = s.on_then seen (s.on_took {f = new_lhs g.B.BodyForms.forms b} {g = new_tail g.B.BodyForms.forms b start} g.met.I.Tokens.laws first
+    (λ x ts. link.new_opens g.B.BodyForms.forms b (plain first.was) x ts ∙ ap (λ v. new_tail g.B.BodyForms.forms b v x ts) (sym place))) in
+    let none = s.eats_none g.B.Bodies.is_faithful is_dot _ _ _ c.in-None.is (c.in_ok-eat.ensures.eats g.B.Bodies.is_faithful) in
+    let begun = s.on_then behind (s.on_call (λ x q. new_by g.B.BodyForms.forms b start q.0 x q.1) (λ x ts. refl) none) in
+    let l = tree_of c.parse_member_expr.new.p.nodes c.in_ok-callee.callee in
+    let named = s.on_call (λ x p. construct_of g.B.BodyForms.forms b start p.0 x p.1) (λ x ts. link.construct_splits g.B.BodyForms.forms b start x ts) c.in_ok-callee.ensures.reads.on in
+    let passes = s.on_by (λ x ts. link.construct_passes g.B.BodyForms.forms b start l x ts c.in_ok-refuse_opt_chain.ensures.passes.1) (s.on_same {f = construct_node g.B.BodyForms.forms b start l} g.met.I.Tokens.laws c.in_ok-refuse_opt_chain.ensures.passes.0) in
+    let p = err_from_is_err_and c.from_residual-in_err-eat-2.result c.from_residual-in_err-eat-2.ensures.1 in rw (p.1, p.2)
+    (m.no (s.unheard_after begun (s.unheard_after named (s.unheard_after passes
+    (s.unheard_call (λ x q. construct_by _ b start l q.0 x q.1) (λ x ts. refl) (c.in_err-eat-2.ensures.eats g.B.Bodies.is_faithful))))) c.parse_member_expr.ensures.grows)
+
+pub parse_member_expr-returns-in_err-list-in-Some-2 : goal.parse_member_expr-returns-in_err-list-in-Some-2
+parse_member_expr-returns-in_err-list-in-Some-2 g t c =
+    let first = c.skip.ensures.took.1 in
+    let b = false in
+    let start = c.cur_span-start.result in
+    let place = s.place_was first start c.cur_span-start.ensures in
+    let seen = s.on_seen {f = run g.B.BodyForms.forms (at (Lhs b))} {g = new_lhs g.B.BodyForms.forms b} c.in_ok-look.ensures.looks (λ x ts same e. link.new_splits g.B.BodyForms.forms b x ts (ap (at_token is_new) e ∙ sym c.is_new.ensures.value ∙ c.if-not-is_new.false)) in
+    let behind = s.on_then seen (s.on_took {f = new_lhs g.B.BodyForms.forms b} {g = new_tail g.B.BodyForms.forms b start} g.met.I.Tokens.laws first
+    (λ x ts. link.new_opens g.B.BodyForms.forms b (plain first.was) x ts ∙ ap (λ v. new_tail g.B.BodyForms.forms b v x ts) (sym place))) in
+    let none = s.eats_none g.B.Bodies.is_faithful is_dot _ _ _ c.in-None.is (c.in_ok-eat.ensures.eats g.B.Bodies.is_faithful) in
+    let begun = s.on_then behind (s.on_call (λ x q. new_by g.B.BodyForms.forms b start q.0 x q.1) (λ x ts. refl) none) in
+    let l = tree_of c.parse_member_expr.new.p.nodes c.in_ok-callee.callee in
+    let named = s.on_call (λ x p. construct_of g.B.BodyForms.forms b start p.0 x p.1) (λ x ts. link.construct_splits g.B.BodyForms.forms b start x ts) c.in_ok-callee.ensures.reads.on in
+    let passes = s.on_by (λ x ts. link.construct_passes g.B.BodyForms.forms b start l x ts c.in_ok-refuse_opt_chain.ensures.passes.1) (s.on_same {f = construct_node g.B.BodyForms.forms b start l} g.met.I.Tokens.laws c.in_ok-refuse_opt_chain.ensures.passes.0) in
+    let some = s.eats_some g.B.Bodies.is_faithful is_lparen _ c.in-Some-2.field-0 _ _ c.in-Some-2.is (c.in_ok-eat-2.ensures.eats g.B.Bodies.is_faithful) in
+    let opened = s.on_then begun (s.on_then named (s.on_then passes (s.on_call (λ x q. construct_by g.B.BodyForms.forms b start l q.0 x q.1) (λ x ts. refl) some.on))) in
+    let p = err_from_is_err_and c.from_residual-in_err-list-in-Some-2.result c.from_residual-in_err-list-in-Some-2.ensures.1 in rw (p.1, p.2)
+    (m.no (s.unheard_after opened (s.unheard_call (λ x q. run _ (links b q.0) x q.1) (λ x ts. refl)
+    (s.unheard_call (λ x p. new_node start l p.0 x p.1) (λ x ts. link.new_args_splits _ start l x ts) c.in_err-list-in-Some-2.ensures.reads)))
+    (grows-then c.parse_member_expr.ensures.grows c.parse_args.ensures.grows))
+
+pub parse_member_expr-new_expr-requires : goal.parse_member_expr-new_expr-requires
+parse_member_expr-new_expr-requires g t c =
+    apart-down (one_expr c.in_ok-callee.callee ++ args_parts c.in_ok-list-in-Some-2.list.items)
+    (apart_behind c.parse_args.ensures.grows c.in_ok-callee.ensures.from c.in_ok-list-in-Some-2.ensures.from)
+
+pub parse_member_expr-returns-in_err-base-in-Some-2 : goal.parse_member_expr-returns-in_err-base-in-Some-2
+parse_member_expr-returns-in_err-base-in-Some-2 g t c =
+    let first = c.skip.ensures.took.1 in
+    let b = false in
+    let start = c.cur_span-start.result in
+    let place = s.place_was first start c.cur_span-start.ensures in
+    let seen = s.on_seen {f = run g.B.BodyForms.forms (at (Lhs b))} {g = new_lhs g.B.BodyForms.forms b} c.in_ok-look.ensures.looks (λ x ts same e. link.new_splits g.B.BodyForms.forms b x ts (ap (at_token is_new) e ∙ sym c.is_new.ensures.value ∙ c.if-not-is_new.false)) in
+    let behind = s.on_then seen (s.on_took {f = new_lhs g.B.BodyForms.forms b} {g = new_tail g.B.BodyForms.forms b start} g.met.I.Tokens.laws first
+    (λ x ts. link.new_opens g.B.BodyForms.forms b (plain first.was) x ts ∙ ap (λ v. new_tail g.B.BodyForms.forms b v x ts) (sym place))) in
+    let none = s.eats_none g.B.Bodies.is_faithful is_dot _ _ _ c.in-None.is (c.in_ok-eat.ensures.eats g.B.Bodies.is_faithful) in
+    let begun = s.on_then behind (s.on_call (λ x q. new_by g.B.BodyForms.forms b start q.0 x q.1) (λ x ts. refl) none) in
+    let l = tree_of c.parse_member_expr.new.p.nodes c.in_ok-callee.callee in
+    let named = s.on_call (λ x p. construct_of g.B.BodyForms.forms b start p.0 x p.1) (λ x ts. link.construct_splits g.B.BodyForms.forms b start x ts) c.in_ok-callee.ensures.reads.on in
+    let passes = s.on_by (λ x ts. link.construct_passes g.B.BodyForms.forms b start l x ts c.in_ok-refuse_opt_chain.ensures.passes.1) (s.on_same {f = construct_node g.B.BodyForms.forms b start l} g.met.I.Tokens.laws c.in_ok-refuse_opt_chain.ensures.passes.0) in
+    let some = s.eats_some g.B.Bodies.is_faithful is_lparen _ c.in-Some-2.field-0 _ _ c.in-Some-2.is (c.in_ok-eat-2.ensures.eats g.B.Bodies.is_faithful) in
+    let opened = s.on_then begun (s.on_then named (s.on_then passes (s.on_call (λ x q. construct_by g.B.BodyForms.forms b start l q.0 x q.1) (λ x ts. refl) some.on))) in
+    let base = m.tail {p = record c.parse_member_expr.new.p { input = c.eat-2.new.input }} (Err _) (λ v x p. new_node start v p.0 x p.1)
+    (λ x ts. link.new_args_splits g.B.BodyForms.forms start l x ts) c.in_ok-list-in-Some-2.ensures.reads c.parse_args.ensures.grows c.in_ok-callee.ensures.from c.in_err-base-in-Some-2.ensures in
+    let p = err_from_is_err_and c.from_residual-in_err-base-in-Some-2.result c.from_residual-in_err-base-in-Some-2.ensures.1 in rw (p.1, p.2)
+    (m.no (s.unheard_after opened (s.unheard_call (λ x q. run _ (links b q.0) x q.1) (λ x ts. refl) base.reads)) (grows-then c.parse_member_expr.ensures.grows base.grows))
+
+pub parse_member_expr-returns-in_ok-base-in-Some-2 : goal.parse_member_expr-returns-in_ok-base-in-Some-2
+parse_member_expr-returns-in_ok-base-in-Some-2 g t c =
+    let first = c.skip.ensures.took.1 in
+    let b = false in
+    let start = c.cur_span-start.result in
+    let place = s.place_was first start c.cur_span-start.ensures in
+    let seen = s.on_seen {f = run g.B.BodyForms.forms (at (Lhs b))} {g = new_lhs g.B.BodyForms.forms b} c.in_ok-look.ensures.looks (λ x ts same e. link.new_splits g.B.BodyForms.forms b x ts (ap (at_token is_new) e ∙ sym c.is_new.ensures.value ∙ c.if-not-is_new.false)) in
+    let behind = s.on_then seen (s.on_took {f = new_lhs g.B.BodyForms.forms b} {g = new_tail g.B.BodyForms.forms b start} g.met.I.Tokens.laws first
+    (λ x ts. link.new_opens g.B.BodyForms.forms b (plain first.was) x ts ∙ ap (λ v. new_tail g.B.BodyForms.forms b v x ts) (sym place))) in
+    let none = s.eats_none g.B.Bodies.is_faithful is_dot _ _ _ c.in-None.is (c.in_ok-eat.ensures.eats g.B.Bodies.is_faithful) in
+    let begun = s.on_then behind (s.on_call (λ x q. new_by g.B.BodyForms.forms b start q.0 x q.1) (λ x ts. refl) none) in
+    let l = tree_of c.parse_member_expr.new.p.nodes c.in_ok-callee.callee in
+    let named = s.on_call (λ x p. construct_of g.B.BodyForms.forms b start p.0 x p.1) (λ x ts. link.construct_splits g.B.BodyForms.forms b start x ts) c.in_ok-callee.ensures.reads.on in
+    let passes = s.on_by (λ x ts. link.construct_passes g.B.BodyForms.forms b start l x ts c.in_ok-refuse_opt_chain.ensures.passes.1) (s.on_same {f = construct_node g.B.BodyForms.forms b start l} g.met.I.Tokens.laws c.in_ok-refuse_opt_chain.ensures.passes.0) in
+    let some = s.eats_some g.B.Bodies.is_faithful is_lparen _ c.in-Some-2.field-0 _ _ c.in-Some-2.is (c.in_ok-eat-2.ensures.eats g.B.Bodies.is_faithful) in
+    let opened = s.on_then begun (s.on_then named (s.on_then passes (s.on_call (λ x q. construct_by g.B.BodyForms.forms b start l q.0 x q.1) (λ x ts. refl) some.on))) in
+    let base = m.tail {p = record c.parse_member_expr.new.p { input = c.eat-2.new.input }} (Ok c.in_ok-base-in-Some-2.base) (λ v x p. new_node start v p.0 x p.1)
+    (λ x ts. link.new_args_splits g.B.BodyForms.forms start l x ts) c.in_ok-list-in-Some-2.ensures.reads c.parse_args.ensures.grows c.in_ok-callee.ensures.from c.in_ok-base-in-Some-2.ensures in
+    m.after {m = record c.parse_member_expr.new.p { input = c.eat-2.new.input }} c.parse_subscripts-in-Some-2.result opened c.parse_member_expr.ensures.grows
+    (m.call {j = first_at c.new_expr.new.p.nodes c.in_ok-base-in-Some-2.base.0} c.parse_subscripts-in-Some-2.result (λ x q. run _ (links b q.0) x q.1) (λ x ts. refl)
+    base.reads base.grows (λ x. from-down (let a = c.in_ok-callee.ensures.from.above in let d = base.from.above in omega arith)) c.parse_subscripts-in-Some-2.ensures)
+
+pub parse_member_expr-returns-in-None-2 : goal.parse_member_expr-returns-in-None-2
+parse_member_expr-returns-in-None-2 g t c =
+    let first = c.skip.ensures.took.1 in
+    let b = false in
+    let start = c.cur_span-start.result in
+    let place = s.place_was first start c.cur_span-start.ensures in
+    let seen = s.on_seen {f = run g.B.BodyForms.forms (at (Lhs b))} {g = new_lhs g.B.BodyForms.forms b} c.in_ok-look.ensures.looks (λ x ts same e. link.new_splits g.B.BodyForms.forms b x ts (ap (at_token is_new) e ∙ sym c.is_new.ensures.value ∙ c.if-not-is_new.false)) in
+    let behind = s.on_then seen (s.on_took {f = new_lhs g.B.BodyForms.forms b} {g = new_tail g.B.BodyForms.forms b start} g.met.I.Tokens.laws first
+    (λ x ts. link.new_opens g.B.BodyForms.forms b (plain first.was) x ts ∙ ap (λ v. new_tail g.B.BodyForms.forms b v x ts) (sym place))) in
+    let none = s.eats_none g.B.Bodies.is_faithful is_dot _ _ _ c.in-None.is (c.in_ok-eat.ensures.eats g.B.Bodies.is_faithful) in
+    let begun = s.on_then behind (s.on_call (λ x q. new_by g.B.BodyForms.forms b start q.0 x q.1) (λ x ts. refl) none) in
+    let l = tree_of c.parse_member_expr.new.p.nodes c.in_ok-callee.callee in
+    let named = s.on_call (λ x p. construct_of g.B.BodyForms.forms b start p.0 x p.1) (λ x ts. link.construct_splits g.B.BodyForms.forms b start x ts) c.in_ok-callee.ensures.reads.on in
+    let passes = s.on_by (λ x ts. link.construct_passes g.B.BodyForms.forms b start l x ts c.in_ok-refuse_opt_chain.ensures.passes.1) (s.on_same {f = construct_node g.B.BodyForms.forms b start l} g.met.I.Tokens.laws c.in_ok-refuse_opt_chain.ensures.passes.0) in
+    let closed = s.eats_none g.B.Bodies.is_faithful is_lparen _ _ _ c.in-None-2.is (c.in_ok-eat-2.ensures.eats g.B.Bodies.is_faithful) in
+    m.node _ c.bare_new_expr-node.result c.made.result (c.in_ok-callee.ensures.from.above)
+    c.bare_new_expr-node.ensures.made c.made.ensures.ok c.made.ensures.refused c.parse_member_expr.ensures.grows c.bare_new_expr-node.ensures.grows
+    (s.heard_after begun (s.heard_more (λ x p. construct_of _ b start p.0 x p.1) (λ x ts. link.construct_splits _ b start x ts) c.in_ok-callee.ensures.reads
+    (s.on_then passes (s.on_call (λ x q. construct_by _ b start l q.0 x q.1) (λ x ts. refl) closed))))
+
+pub parse_base-returns-in_err-start : goal.parse_base-returns-in_err-start
+parse_base-returns-in_err-start g t c =
+    let b = not c.args.no_call in
+    let p = err_from_is_err_and c.from_residual.result c.from_residual.ensures.1 in rw (p.1, p.2)
+    (m.no (s.unheard_call (λ x p. super_by _ b p.0 x p.1) (λ x ts. base.plain_splits _ b x ts) (c.in_err-start.ensures.eats g.B.Bodies.is_faithful)) (grows-same _))
+
+pub parse_base-returns-in-Some : goal.parse_base-returns-in-Some
+parse_base-returns-in-Some g t c =
+    let b = not c.args.no_call in
+    let some = s.eats_some g.B.Bodies.is_faithful is_super _ c.in-Some.start _ _ c.in-Some.is (c.in_ok-start.ensures.eats g.B.Bodies.is_faithful) in
+    m.after c.parse_super.result (s.on_call (λ x p. super_by _ b p.0 x p.1) (λ x ts. base.plain_splits _ b x ts) some.on) (grows-same _) c.parse_super.ensures
+
+pub parse_base-returns-in_err-start-2 : goal.parse_base-returns-in_err-start-2
+parse_base-returns-in_err-start-2 g t c =
+    let b = not c.args.no_call in
+    let none = s.eats_none g.B.Bodies.is_faithful is_super _ _ _ c.in-None.is (c.in_ok-start.ensures.eats g.B.Bodies.is_faithful) in
+    let p = err_from_is_err_and c.from_residual-in_err-start-2.result c.from_residual-in_err-start-2.ensures.1 in rw (p.1, p.2)
+    (m.no (s.unheard_after (s.on_call (λ x p. super_by _ b p.0 x p.1) (λ x ts. base.plain_splits _ b x ts) none)
+    (s.unheard_call (λ x q. import_by _ b q.0 x q.1) (λ x ts. refl) (c.in_err-start-2.ensures.eats g.B.Bodies.is_faithful))) (grows-same _))
+
+pub parse_base-returns-in-None-2 : goal.parse_base-returns-in-None-2
+parse_base-returns-in-None-2 g t c =
+    let b = not c.args.no_call in
+    let none = s.eats_none g.B.Bodies.is_faithful is_super _ _ _ c.in-None.is (c.in_ok-start.ensures.eats g.B.Bodies.is_faithful) in
+    let no = s.eats_none g.B.Bodies.is_faithful is_import _ _ _ c.in-None-2.is (c.in_ok-start-2.ensures.eats g.B.Bodies.is_faithful) in
+    m.after c.parse_primary_expr.result (s.on_then (s.on_call (λ x p. super_by _ b p.0 x p.1) (λ x ts. base.plain_splits _ b x ts) none)
+    (s.on_call (λ x q. import_by _ b q.0 x q.1) (λ x ts. refl) no)) (grows-same _) c.parse_primary_expr.ensures
+
+pub parse_base-returns-in_err-span : goal.parse_base-returns-in_err-span
+parse_base-returns-in_err-span g t c =
+    let b = not c.args.no_call in
+    let start = c.in-Some-2.start in
+    let none = s.eats_none g.B.Bodies.is_faithful is_super _ _ _ c.in-None.is (c.in_ok-start.ensures.eats g.B.Bodies.is_faithful) in
+    let some = s.eats_some g.B.Bodies.is_faithful is_import _ start _ _ c.in-Some-2.is (c.in_ok-start-2.ensures.eats g.B.Bodies.is_faithful) in
+    let begun = s.on_then (s.on_call (λ x p. super_by g.B.BodyForms.forms b p.0 x p.1) (λ x ts. base.plain_splits g.B.BodyForms.forms b x ts) none) (s.on_call (λ x q. import_by g.B.BodyForms.forms b q.0 x q.1) (λ x ts. refl) some.on) in
+    let p = err_from_is_err_and c.from_residual-in_err-span.result c.from_residual-in_err-span.ensures.1 in rw (p.1, p.2)
+    (m.no (s.unheard_after begun (s.unheard_call (λ x p. import_left _ start p.0 x p.1) (λ x ts. base.import_splits _ b start x ts) (c.in_err-span.ensures.parses g.B.Bodies.is_faithful))) (grows-kept c.import_head.ensures.nodes))
+
+pub parse_base-returns-in-Meta : goal.parse_base-returns-in-Meta
+parse_base-returns-in-Meta g t c =
+    let b = not c.args.no_call in
+    let start = c.in-Some-2.start in
+    let none = s.eats_none g.B.Bodies.is_faithful is_super _ _ _ c.in-None.is (c.in_ok-start.ensures.eats g.B.Bodies.is_faithful) in
+    let some = s.eats_some g.B.Bodies.is_faithful is_import _ start _ _ c.in-Some-2.is (c.in_ok-start-2.ensures.eats g.B.Bodies.is_faithful) in
+    let begun = s.on_then (s.on_call (λ x p. super_by g.B.BodyForms.forms b p.0 x p.1) (λ x ts. base.plain_splits g.B.BodyForms.forms b x ts) none) (s.on_call (λ x q. import_by g.B.BodyForms.forms b q.0 x q.1) (λ x ts. refl) some.on) in
+    let kept = grows-kept c.import_head.ensures.nodes in
+    m.after {m = record c.args.p.now { input = c.eat-2.new.input }} c.import_meta.result begun (grows-same _)
+    (m.call c.import_meta.result (λ x p. import_left _ start p.0 x p.1) (λ x ts. base.import_splits _ b start x ts)
+    (s.heard_answer c.in-Meta.is (c.in_ok-span.ensures.parses g.B.Bodies.is_faithful)) kept (λ x. from-down (grows-count kept)) c.import_meta.ensures)
+
+pub parse_base-returns-in_err-list-in-Call : goal.parse_base-returns-in_err-list-in-Call
+parse_base-returns-in_err-list-in-Call g t c =
+    let b = not c.args.no_call in
+    let start = c.in-Some-2.start in
+    let i = c.in-Call.import in
+    let none = s.eats_none g.B.Bodies.is_faithful is_super _ _ _ c.in-None.is (c.in_ok-start.ensures.eats g.B.Bodies.is_faithful) in
+    let some = s.eats_some g.B.Bodies.is_faithful is_import _ start _ _ c.in-Some-2.is (c.in_ok-start-2.ensures.eats g.B.Bodies.is_faithful) in
+    let begun = s.on_then (s.on_call (λ x p. super_by g.B.BodyForms.forms b p.0 x p.1) (λ x ts. base.plain_splits g.B.BodyForms.forms b x ts) none) (s.on_call (λ x q. import_by g.B.BodyForms.forms b q.0 x q.1) (λ x ts. refl) some.on) in
+    let p = err_from_is_err_and c.from_residual-in_err-list-in-Call.result c.from_residual-in_err-list-in-Call.ensures.1 in rw (p.1, p.2)
+    (m.no (s.unheard_after begun (s.unheard_after (s.on_call (λ x p. import_left _ start p.0 x p.1) (λ x ts. base.import_splits _ b start x ts)
+    (s.heard_answer c.in-Call.is (c.in_ok-span.ensures.parses g.B.Bodies.is_faithful)).on)
+    (s.unheard_call (λ x p. callee_node start (import_e i.span i.phase) p.0 x p.1) (λ x ts. refl) c.in_err-list-in-Call.ensures.reads))) (grows-then (grows-kept c.import_head.ensures.nodes) c.parse_args.ensures.grows))
+
+pub parse_base-callee_call-requires : goal.parse_base-callee_call-requires
+parse_base-callee_call-requires g t c = apart-down (args_parts c.in_ok-list-in-Call.list.items) c.in_ok-list-in-Call.ensures.from
+
+pub parse_base-returns-in_ok-list-in-Call : goal.parse_base-returns-in_ok-list-in-Call
+parse_base-returns-in_ok-list-in-Call g t c =
+    let b = not c.args.no_call in
+    let start = c.in-Some-2.start in
+    let i = c.in-Call.import in
+    let none = s.eats_none g.B.Bodies.is_faithful is_super _ _ _ c.in-None.is (c.in_ok-start.ensures.eats g.B.Bodies.is_faithful) in
+    let some = s.eats_some g.B.Bodies.is_faithful is_import _ start _ _ c.in-Some-2.is (c.in_ok-start-2.ensures.eats g.B.Bodies.is_faithful) in
+    let begun = s.on_then (s.on_call (λ x p. super_by g.B.BodyForms.forms b p.0 x p.1) (λ x ts. base.plain_splits g.B.BodyForms.forms b x ts) none) (s.on_call (λ x q. import_by g.B.BodyForms.forms b q.0 x q.1) (λ x ts. refl) some.on) in
+    let kept = grows-kept c.import_head.ensures.nodes in
+    m.after {m = c.import_head.new.p} c.callee_call.result
+    (s.on_then begun (s.on_call (λ x p. import_left _ start p.0 x p.1) (λ x ts. base.import_splits _ b start x ts)
+    (s.heard_answer c.in-Call.is (c.in_ok-span.ensures.parses g.B.Bodies.is_faithful)).on)) kept
+    (m.call c.callee_call.result (λ x p. callee_node start (import_e i.span i.phase) p.0 x p.1) (λ x ts. refl)
+    c.in_ok-list-in-Call.ensures.reads c.parse_args.ensures.grows (λ x. from-down (grows-count kept)) (c.callee_call.ensures _ c.in_ok-list-in-Call.ensures.from))
+
+pub parse_super-returns-in_err-super_head : goal.parse_super-returns-in_err-super_head
+parse_super-returns-in_err-super_head g t c =
+    let p = err_from_is_err_and c.from_residual.result c.from_residual.ensures.1 in rw (p.1, p.2)
+    (m.no (s.unheard_call (λ x p. super_left _ c.args.start p.0 x p.1) (λ x ts. base.super_splits _ (not c.args.no_call) c.args.start x ts) (c.in_err-super_head.ensures.continues g.B.Bodies.is_faithful)) (grows-same _))
+
+pub parse_super-returns-in-Name : goal.parse_super-returns-in-Name
+parse_super-returns-in-Name g t c =
+    m.after c.parse_super_name.result (s.on_call (λ x p. super_left _ c.args.start p.0 x p.1) (λ x ts. base.super_splits _ (not c.args.no_call) c.args.start x ts)
+    (s.on_answer c.in-Name.is (c.in_ok-super_head.ensures.continues g.B.Bodies.is_faithful))) (grows-same _) c.parse_super_name.ensures
+
+pub parse_super-returns-in_err-expr-in-Computed : goal.parse_super-returns-in_err-expr-in-Computed
+parse_super-returns-in_err-expr-in-Computed g t c =
+    let q = c.in-Computed.bracket in
+    let p = err_from_is_err_and c.from_residual-in_err-expr-in-Computed.result c.from_residual-in_err-expr-in-Computed.ensures.1 in rw (p.1, p.2)
+    (m.no (s.unheard_after (s.on_call (λ x p. super_left _ c.args.start p.0 x p.1) (λ x ts. base.super_splits _ (not c.args.no_call) c.args.start x ts)
+    (s.on_answer c.in-Computed.is (c.in_ok-super_head.ensures.continues g.B.Bodies.is_faithful)))
+    (s.unheard_call (λ x p. super_close c.args.start q p.0 x p.1) (λ x ts. base.computed_splits _ c.args.start q x ts) c.in_err-expr-in-Computed.ensures.reads)) c.parse_expr_with_in.ensures.grows)
+
+pub parse_super-returns-in-Computed : goal.parse_super-returns-in-Computed
+parse_super-returns-in-Computed g t c =
+    let q = c.in-Computed.bracket in
+    m.after {m = record c.args.p.now { input = c.super_head.new.input }} c.super_computed.result
+    (s.on_call (λ x p. super_left _ c.args.start p.0 x p.1) (λ x ts. base.super_splits _ (not c.args.no_call) c.args.start x ts)
+    (s.on_answer c.in-Computed.is (c.in_ok-super_head.ensures.continues g.B.Bodies.is_faithful))) (grows-same _)
+    (m.call c.super_computed.result (λ x p. super_close c.args.start q p.0 x p.1) (λ x ts. base.computed_splits _ c.args.start q x ts)
+    c.in_ok-expr-in-Computed.ensures.reads c.parse_expr_with_in.ensures.grows (λ x. from-down c.in_ok-expr-in-Computed.ensures.from.above)
+    (m.weaker c.super_computed.result c.super_computed.ensures))
+
+pub parse_super-returns-in_err-list-in-Call : goal.parse_super-returns-in_err-list-in-Call
+parse_super-returns-in_err-list-in-Call g t c =
+    let p = err_from_is_err_and c.from_residual-in_err-list-in-Call.result c.from_residual-in_err-list-in-Call.ensures.1 in rw (p.1, p.2)
+    (m.no (s.unheard_after (s.on_call (λ x p. super_left _ c.args.start p.0 x p.1) (λ x ts. base.super_splits _ (not c.args.no_call) c.args.start x ts)
+    (s.on_answer c.in-Call.is (c.in_ok-super_head.ensures.continues g.B.Bodies.is_faithful)))
+    (s.unheard_call (λ x p. callee_node c.args.start (super_e c.args.start) p.0 x p.1) (λ x ts. base.args_splits _ c.args.start x ts) c.in_err-list-in-Call.ensures.reads)) c.parse_args.ensures.grows)
+
+pub parse_super-callee_call-requires : goal.parse_super-callee_call-requires
+parse_super-callee_call-requires g t c = apart-down (args_parts c.in_ok-list-in-Call.list.items) c.in_ok-list-in-Call.ensures.from
+
+pub parse_super-returns-in-Call : goal.parse_super-returns-in-Call
+parse_super-returns-in-Call g t c =
+    m.after {m = record c.args.p.now { input = c.super_head.new.input }} c.callee_call.result
+    (s.on_call (λ x p. super_left _ c.args.start p.0 x p.1) (λ x ts. base.super_splits _ (not c.args.no_call) c.args.start x ts)
+    (s.on_answer c.in-Call.is (c.in_ok-super_head.ensures.continues g.B.Bodies.is_faithful))) (grows-same _)
+    (m.call c.callee_call.result (λ x p. callee_node c.args.start (super_e c.args.start) p.0 x p.1) (λ x ts. base.args_splits _ c.args.start x ts)
+    c.in_ok-list-in-Call.ensures.reads c.parse_args.ensures.grows (λ x h. h) (c.callee_call.ensures _ c.in_ok-list-in-Call.ensures.from))
+
+-- neither a property nor a call: nothing is read
+pub parse_super-returns-in_err-super_chain : goal.parse_super-returns-in_err-super_chain
+parse_super-returns-in_err-super_chain g t c =
+    let other = s.on_call (λ x p. super_left g.B.BodyForms.forms c.args.start p.0 x p.1) (λ x ts. base.super_splits g.B.BodyForms.forms (not c.args.no_call) c.args.start x ts) (s.on_answer c.in-Other.is (c.in_ok-super_head.ensures.continues g.B.Bodies.is_faithful)) in
+    let p = err_from_is_err_and c.from_residual-in_err-super_chain.result c.from_residual-in_err-super_chain.ensures.1 in rw (p.1, p.2)
+    (m.no (s.unheard_after other (s.unheard_none (λ x ts. refl) c.in_err-super_chain.ensures.acts)) (grows-same _))
+
+pub parse_super-returns-in-Name-2 : goal.parse_super-returns-in-Name-2
+parse_super-returns-in-Name-2 g t c =
+    let other = s.on_call (λ x p. super_left g.B.BodyForms.forms c.args.start p.0 x p.1) (λ x ts. base.super_splits g.B.BodyForms.forms (not c.args.no_call) c.args.start x ts) (s.on_answer c.in-Other.is (c.in_ok-super_head.ensures.continues g.B.Bodies.is_faithful)) in
+    m.after c.refuse_super_name.result (s.on_then other (s.on_none {g = nothing} (λ x ts. refl) (λ x ts. refl) c.in_ok-super_chain.ensures.acts)) (grows-same _) c.refuse_super_name.ensures
+
+pub parse_super-returns-in_err-parse_expr_with_in-in-Computed-2 : goal.parse_super-returns-in_err-parse_expr_with_in-in-Computed-2
+parse_super-returns-in_err-parse_expr_with_in-in-Computed-2 g t c =
+    let other = s.on_call (λ x p. super_left g.B.BodyForms.forms c.args.start p.0 x p.1) (λ x ts. base.super_splits g.B.BodyForms.forms (not c.args.no_call) c.args.start x ts) (s.on_answer c.in-Other.is (c.in_ok-super_head.ensures.continues g.B.Bodies.is_faithful)) in
+    let p = err_from_is_err_and c.from_residual-in_err-parse_expr_with_in-in-Computed-2.result c.from_residual-in_err-parse_expr_with_in-in-Computed-2.ensures.1 in rw (p.1, p.2)
+    (m.no (s.unheard_after other (s.unheard_none (λ x ts. refl) (s.refuses_later c.in_ok-super_chain.ensures.acts c.in_err-parse_expr_with_in-in-Computed-2.ensures.reads.refuses))) c.parse_expr_with_in-in-Computed-2.ensures.grows)
+
+pub parse_super-returns-in_ok-parse_expr_with_in-in-Computed-2 : goal.parse_super-returns-in_ok-parse_expr_with_in-in-Computed-2
+parse_super-returns-in_ok-parse_expr_with_in-in-Computed-2 g t c =
+    let other = s.on_call (λ x p. super_left g.B.BodyForms.forms c.args.start p.0 x p.1) (λ x ts. base.super_splits g.B.BodyForms.forms (not c.args.no_call) c.args.start x ts) (s.on_answer c.in-Other.is (c.in_ok-super_head.ensures.continues g.B.Bodies.is_faithful)) in
+    m.no (s.unheard_after other (s.unheard_none (λ x ts. refl) (s.refuses_later (s.leads_then c.in_ok-super_chain.ensures.acts c.in_ok-parse_expr_with_in-in-Computed-2.ensures.reads.on.leads) c.refuse_super_brackets.ensures))) c.parse_expr_with_in-in-Computed-2.ensures.grows
+
+pub parse_super-returns-in_err-parse_args-in-Call-2 : goal.parse_super-returns-in_err-parse_args-in-Call-2
+parse_super-returns-in_err-parse_args-in-Call-2 g t c =
+    let other = s.on_call (λ x p. super_left g.B.BodyForms.forms c.args.start p.0 x p.1) (λ x ts. base.super_splits g.B.BodyForms.forms (not c.args.no_call) c.args.start x ts) (s.on_answer c.in-Other.is (c.in_ok-super_head.ensures.continues g.B.Bodies.is_faithful)) in
+    let p = err_from_is_err_and c.from_residual-in_err-parse_args-in-Call-2.result c.from_residual-in_err-parse_args-in-Call-2.ensures.1 in rw (p.1, p.2)
+    (m.no (s.unheard_after other (s.unheard_none (λ x ts. refl) (s.refuses_later c.in_ok-super_chain.ensures.acts c.in_err-parse_args-in-Call-2.ensures.reads.refuses))) c.parse_args-in-Call-2.ensures.grows)
+
+pub parse_super-returns-in_ok-parse_args-in-Call-2 : goal.parse_super-returns-in_ok-parse_args-in-Call-2
+parse_super-returns-in_ok-parse_args-in-Call-2 g t c =
+    let other = s.on_call (λ x p. super_left g.B.BodyForms.forms c.args.start p.0 x p.1) (λ x ts. base.super_splits g.B.BodyForms.forms (not c.args.no_call) c.args.start x ts) (s.on_answer c.in-Other.is (c.in_ok-super_head.ensures.continues g.B.Bodies.is_faithful)) in
+    m.no (s.unheard_after other (s.unheard_none (λ x ts. refl) (s.refuses_later (s.leads_then c.in_ok-super_chain.ensures.acts c.in_ok-parse_args-in-Call-2.ensures.reads.on.leads) c.refuse_super_args.ensures))) c.parse_args-in-Call-2.ensures.grows
+
+pub parse_subscripts-loop-head-init : goal.parse_subscripts-loop-head-init
+parse_subscripts-loop-head-init g t c = (s.on_here g.met.I.Tokens.laws _ (λ x ts. refl), omega arith, grows-same _, from_self c.requires.from)
+
+pub parse_subscripts-loop-head-preserved : goal.parse_subscripts-loop-head-preserved
+parse_subscripts-loop-head-preserved g t c =
+    let b = not c.args.no_call in
+    let l = tree_of c.loop-head.p.nodes c.loop-head.obj in (
+      s.on_then c.loop-head.invariant.0 (s.on_then (s.on_call (λ x p. links_by _ b p.0 l x p.1) (λ x ts. link.links_splits _ b l x ts)
+          (s.on_answer c.in-Some.is (c.in_ok-head.ensures.heads g.B.Bodies.is_faithful)))
+          (s.on_call (λ x p. run _ (links b p.0) x p.1) (λ x ts. refl) c.in_ok-obj.ensures.reads.on)),
+      let a = c.loop-head.invariant.1 in let d = c.in_ok-head.ensures.falls in let e = c.in_ok-obj.ensures.falls in omega arith,
+      grows-then c.loop-head.invariant.2 c.parse_link.ensures.grows,
+      from-down c.loop-head.invariant.3.above c.in_ok-obj.ensures.from,
+    )
+
+pub parse_subscripts-returns-in_err-head : goal.parse_subscripts-returns-in_err-head
+parse_subscripts-returns-in_err-head g t c =
+    let b = not c.args.no_call in
+    let l = tree_of c.loop-head.p.nodes c.loop-head.obj in
+    let p = err_from_is_err_and c.from_residual.result c.from_residual.ensures.1 in rw (p.1, p.2)
+    (m.no_more (s.unheard_after c.loop-head.invariant.0 (s.unheard_call (λ x p. links_by _ b p.0 l x p.1) (λ x ts. link.links_splits _ b l x ts)
+    (c.in_err-head.ensures.heads g.B.Bodies.is_faithful))) c.loop-head.invariant.2)
+
+pub parse_subscripts-returns-in-None : goal.parse_subscripts-returns-in-None
+parse_subscripts-returns-in-None g t c =
+    let b = not c.args.no_call in
+    let l = tree_of c.loop-head.p.nodes c.loop-head.obj in
+    m.on (Ok _)
+    (s.on_then c.loop-head.invariant.0 (s.on_call (λ x p. links_by _ b p.0 l x p.1) (λ x ts. link.links_splits _ b l x ts)
+    (s.on_answer c.in-None.is (c.in_ok-head.ensures.heads g.B.Bodies.is_faithful))))
+    c.loop-head.invariant.2 c.loop-head.invariant.3
+
+pub parse_subscripts-returns-in_err-obj : goal.parse_subscripts-returns-in_err-obj
+parse_subscripts-returns-in_err-obj g t c =
+    let b = not c.args.no_call in
+    let l = tree_of c.loop-head.p.nodes c.loop-head.obj in
+    let p = err_from_is_err_and c.from_residual-in_err-obj.result c.from_residual-in_err-obj.ensures.1 in rw (p.1, p.2)
+    (m.no_more (s.unheard_after c.loop-head.invariant.0 (s.unheard_after (s.on_call (λ x p. links_by _ b p.0 l x p.1) (λ x ts. link.links_splits _ b l x ts)
+    (s.on_answer c.in-Some.is (c.in_ok-head.ensures.heads g.B.Bodies.is_faithful)))
+    (s.unheard_call (λ x p. run _ (links b p.0) x p.1) (λ x ts. refl) c.in_err-obj.ensures.reads)))
+    (grows-then c.loop-head.invariant.2 c.parse_link.ensures.grows))
+
+pub parse_link-returns-in-Name : goal.parse_link-returns-in-Name
+parse_link-returns-in-Name g t c =
+    let l = tree_of c.args.p.now.nodes c.args.obj in
+    m.after c.parse_dot_member.result (s.on_here {f = link_tail _ c.args.head l} g.met.I.Tokens.laws _ (λ x ts. link.tail_name _ c.args.head c.in-Name.optional l x ts c.in-Name.is)) (grows-same _) c.parse_dot_member.ensures
+
+pub parse_link-returns-in_err-expr-in-Computed : goal.parse_link-returns-in_err-expr-in-Computed
+parse_link-returns-in_err-expr-in-Computed g t c =
+    let l = tree_of c.args.p.now.nodes c.args.obj in
+    let p = err_from_is_err_and c.from_residual.result c.from_residual.ensures.1 in rw (p.1, p.2)
+    (m.no (s.unheard_call (λ x p. computed_close c.in-Computed.optional c.in-Computed.start l p.0 x p.1)
+    (λ x ts. link.tail_computed _ c.args.head c.in-Computed.start c.in-Computed.optional l x ts c.in-Computed.is) c.in_err-expr-in-Computed.ensures.reads) c.parse_expr_with_in.ensures.grows)
+
+pub parse_link-computed_member-requires : goal.parse_link-computed_member-requires
+parse_link-computed_member-requires g t c =
+    apart-down (one_expr c.args.obj ++ one_expr c.in_ok-expr-in-Computed.expr)
+    (apart_behind c.parse_expr_with_in.ensures.grows c.requires.from (apart-from (expr_part c.in_ok-expr-in-Computed.expr) c.in_ok-expr-in-Computed.ensures.from))
+
+pub parse_link-returns-in_ok-expr-in-Computed : goal.parse_link-returns-in_ok-expr-in-Computed
+parse_link-returns-in_ok-expr-in-Computed g t c =
+    m.tail c.computed_member.result (λ v x p. computed_close c.in-Computed.optional c.in-Computed.start v p.0 x p.1)
+    (λ x ts. link.tail_computed _ c.args.head c.in-Computed.start c.in-Computed.optional _ x ts c.in-Computed.is)
+    c.in_ok-expr-in-Computed.ensures.reads c.parse_expr_with_in.ensures.grows c.requires.from (m.weaker c.computed_member.result c.computed_member.ensures)
+
+pub parse_link-returns-in_err-list-in-Call : goal.parse_link-returns-in_err-list-in-Call
+parse_link-returns-in_err-list-in-Call g t c =
+    let l = tree_of c.args.p.now.nodes c.args.obj in
+    let p = err_from_is_err_and c.from_residual-in_err-list-in-Call.result c.from_residual-in_err-list-in-Call.ensures.1 in rw (p.1, p.2)
+    (m.no (s.unheard_call (λ x p. call_node c.in-Call.optional l p.0 x p.1)
+    (λ x ts. link.tail_call _ c.args.head c.in-Call.optional l x ts c.in-Call.is) c.in_err-list-in-Call.ensures.reads) c.parse_args.ensures.grows)
+
+pub parse_link-call_expr-requires : goal.parse_link-call_expr-requires
+parse_link-call_expr-requires g t c =
+    apart-down (one_expr c.args.obj ++ args_parts c.in_ok-list-in-Call.list.items)
+    (apart_behind c.parse_args.ensures.grows c.requires.from c.in_ok-list-in-Call.ensures.from)
+
+pub parse_link-returns-in_ok-list-in-Call : goal.parse_link-returns-in_ok-list-in-Call
+parse_link-returns-in_ok-list-in-Call g t c =
+    m.tail c.call_expr.result (λ v x p. call_node c.in-Call.optional v p.0 x p.1)
+    (λ x ts. link.tail_call _ c.args.head c.in-Call.optional _ x ts c.in-Call.is)
+    c.in_ok-list-in-Call.ensures.reads c.parse_args.ensures.grows c.requires.from c.call_expr.ensures
+
+pub parse_link-returns-in_err-parts-in-Template : goal.parse_link-returns-in_err-parts-in-Template
+parse_link-returns-in_err-parts-in-Template g t c =
+    let l = tree_of c.args.p.now.nodes c.args.obj in
+    let p = err_from_is_err_and c.from_residual-in_err-parts-in-Template.result c.from_residual-in_err-parts-in-Template.ensures.1 in rw (p.1, p.2)
+    (m.no (s.unheard_call (λ x p. tagged_node c.in-Template.start l p.0 x p.1)
+    (λ x ts. link.tail_template _ c.args.head c.in-Template.start l x ts c.in-Template.is) c.in_err-parts-in-Template.ensures.reads) c.parse_tpl_elements.ensures.grows)
+
+pub parse_link-tagged_tpl-requires : goal.parse_link-tagged_tpl-requires
+parse_link-tagged_tpl-requires g t c =
+    apart-down (one_expr c.args.obj ++ exprs_parts c.in_ok-parts-in-Template.parts.exprs)
+    (apart_behind c.parse_tpl_elements.ensures.grows c.requires.from c.in_ok-parts-in-Template.ensures.from)
+
+pub parse_link-returns-in_ok-parts-in-Template : goal.parse_link-returns-in_ok-parts-in-Template
+parse_link-returns-in_ok-parts-in-Template g t c =
+    m.tail c.tagged_tpl.result (λ v x p. tagged_node c.in-Template.start v p.0 x p.1)
+    (λ x ts. link.tail_template _ c.args.head c.in-Template.start _ x ts c.in-Template.is)
+    c.in_ok-parts-in-Template.ensures.reads c.parse_tpl_elements.ensures.grows c.requires.from c.tagged_tpl.ensures
+
+pub parse_args-returns : goal.parse_args-returns
+parse_args-returns g t c =
+    m.yes c.parse_arg_list-args.result
+    (s.parses_within g.I.Tokens.model g.B.Bodies.is_faithful (args_at c.parse_arg_list-args.new.p.nodes) _ (run _ (at (Args c.args.is_dynamic_import))) c.parse_arg_list-args.result include_in (λ x. refl) (λ x ts. args.inside_args _ c.args.is_dynamic_import x ts)
+    c.set_ctx.ensures.moves (ap deciding c.set_ctx.ensures.context ∙ ap (λ x. include_in (deciding x)) c.get_ctx-ctx.ensures) c.parse_arg_list-args.ensures.reads c.set_ctx-2.ensures.moves
+    (c.set_ctx-2.ensures.context ∙ c.get_ctx-ctx.ensures))
+    c.parse_arg_list-args.ensures.grows c.parse_arg_list-args.ensures.from
+
+pub parse_arg_list-loop-items-init : goal.parse_arg_list-loop-items-init
+parse_arg_list-loop-items-init g t c = (
+  s.on_here g.met.I.Tokens.laws _ (λ x ts. args.args_first _ c.args.is_dynamic_import x ts ∙ ap (λ v. args_behind g.B.BodyForms.forms c.args.is_dynamic_import (item_trees (tree_of c.args.p.now.nodes) v) None x ts) (sym c.new-items.ensures.items)),
+  omega arith,
+  grows-same _,
+  record { chained = ap (λ v. chain (seat_at c.args.p.now.nodes) (count c.args.p.now.nodes) (flat item_parts v) (count c.args.p.now.nodes)) c.new-items.ensures.items ∙ (apart-none {ns = c.args.p.now.nodes} {k = count c.args.p.now.nodes} (omega arith)).chained },
+)
+
+pub parse_arg_list-loop-items-preserved : goal.parse_arg_list-loop-items-preserved
+parse_arg_list-loop-items-preserved g t c =
+    let before = item_trees (tree_of c.loop-items.p.nodes) c.loop-items.items.items in
+    let comma = c.loop-items.trailing_comma in
+    let none = s.eats_none g.B.Bodies.is_faithful is_rparen _ _ _ c.in-None.is (c.in_ok-end.ensures.eats g.B.Bodies.is_faithful) in
+    let item = s.heard_more (λ x p. separated_args c.args.is_dynamic_import x p.1 >>= (λ q. Some ((p.0, q.0), q.1))) (λ x ts. args.arg_item_splits _ c.args.is_dynamic_import x ts) c.in_ok-arg.ensures.reads
+    (s.on_call (λ x q. Some ((item_at c.parse_expr_or_spread.new.p.nodes c.in_ok-arg.arg, q.0), q.1)) (λ x ts. refl) (c.in_ok-separate_args.ensures.separates g.B.Bodies.is_faithful)) in
+    let more = ap (λ v. item_trees (tree_of c.parse_expr_or_spread.new.p.nodes) v) c.in_ok-add.ensures.added
+    ∙ args.items-more c.loop-items.items.items c.in_ok-arg.arg c.parse_expr_or_spread.ensures.grows c.loop-items.invariant.3 in
+    let parts = apart-list-more item_parts c.loop-items.items.items c.in_ok-arg.arg c.parse_expr_or_spread.ensures.grows c.loop-items.invariant.3 (apart-from (expr_part c.in_ok-arg.arg.expr) c.in_ok-arg.ensures.from) in (
+      s.on_then c.loop-items.invariant.0 (s.on_then (s.on_call (λ x p. args_by _ c.args.is_dynamic_import before comma p.0 x p.1) (λ x ts. args.behind_splits _ c.args.is_dynamic_import before comma x ts) none)
+          (s.on_to (s.on_call (λ x p. args_behind _ c.args.is_dynamic_import (trees_append before (cons p.0.0 nil)) p.0.1 x p.1) (λ x ts. args.args_more_splits _ c.args.is_dynamic_import before x ts) item.on)
+          (λ x ts. ap (λ v. args_behind g.B.BodyForms.forms c.args.is_dynamic_import v c.in_ok-separate_args.field-0 x ts) (sym more)))),
+      let a = c.loop-items.invariant.1 in let b = c.in_ok-arg.ensures.falls in let e = c.in_ok-separate_args.ensures.falls in let d = c.in_ok-end.ensures.falls in omega arith,
+      grows-then c.loop-items.invariant.2 c.parse_expr_or_spread.ensures.grows,
+      record { chained = ap (λ v. chain (seat_at c.parse_expr_or_spread.new.p.nodes) (count c.args.p.now.nodes) (flat item_parts v) (count c.parse_expr_or_spread.new.p.nodes)) c.in_ok-add.ensures.added ∙ parts.chained },
+    )
+
+pub parse_arg_list-returns-in_err-end : goal.parse_arg_list-returns-in_err-end
+parse_arg_list-returns-in_err-end g t c =
+    let before = item_trees (tree_of c.loop-items.p.nodes) c.loop-items.items.items in
+    let comma = c.loop-items.trailing_comma in
+    let p = err_from_is_err_and c.from_residual.result c.from_residual.ensures.1 in rw (p.1, p.2)
+    (m.no (s.unheard_after c.loop-items.invariant.0 (s.unheard_call (λ x p. args_by _ c.args.is_dynamic_import before comma p.0 x p.1) (λ x ts. args.behind_splits _ c.args.is_dynamic_import before comma x ts) (c.in_err-end.ensures.eats g.B.Bodies.is_faithful))) c.loop-items.invariant.2)
+
+pub parse_arg_list-returns-in-Some : goal.parse_arg_list-returns-in-Some
+parse_arg_list-returns-in-Some g t c =
+    let before = item_trees (tree_of c.loop-items.p.nodes) c.loop-items.items.items in
+    let comma = c.loop-items.trailing_comma in
+    let some = s.eats_some g.B.Bodies.is_faithful is_rparen _ c.in-Some.end _ _ c.in-Some.is (c.in_ok-end.ensures.eats g.B.Bodies.is_faithful) in
+    m.yes (Ok _)
+    (s.heard_after c.loop-items.invariant.0 (s.heard_call (λ x p. args_by _ c.args.is_dynamic_import before comma p.0 x p.1) (λ x ts. args.behind_splits _ c.args.is_dynamic_import before comma x ts) (λ x ts. refl) some))
+    c.loop-items.invariant.2 c.loop-items.invariant.3
+
+pub parse_arg_list-returns-in_err-add : goal.parse_arg_list-returns-in_err-add
+parse_arg_list-returns-in_err-add g t c =
+    let none = s.eats_none g.B.Bodies.is_faithful is_rparen _ _ _ c.in-None.is (c.in_ok-end.ensures.eats g.B.Bodies.is_faithful) in
+    let item = s.heard_more (λ x p. separated_args c.args.is_dynamic_import x p.1 >>= (λ q. Some ((p.0, q.0), q.1))) (λ x ts. args.arg_item_splits _ c.args.is_dynamic_import x ts) c.in_ok-arg.ensures.reads
+    (s.on_call (λ x q. Some ((item_at c.parse_expr_or_spread.new.p.nodes c.in_ok-arg.arg, q.0), q.1)) (λ x ts. refl) (c.in_ok-separate_args.ensures.separates g.B.Bodies.is_faithful)) in
+    let p = err_from_is_err_and c.from_residual-in_err-add.result c.from_residual-in_err-add.ensures.1 in rw (p.1, p.2)
+    (m.no (s.unheard_memory (s.forgoes_later (s.leads_then c.loop-items.invariant.0.leads (s.leads_then none.leads item.on.leads)) (s.forgoes_here g.met.I.Tokens.laws _ _ _ c.in_err-add.ensures.refused))) (grows-then c.loop-items.invariant.2 c.parse_expr_or_spread.ensures.grows))
+
+pub parse_arg_list-returns-in_err-arg : goal.parse_arg_list-returns-in_err-arg
+parse_arg_list-returns-in_err-arg g t c =
+    let before = item_trees (tree_of c.loop-items.p.nodes) c.loop-items.items.items in
+    let comma = c.loop-items.trailing_comma in
+    let none = s.eats_none g.B.Bodies.is_faithful is_rparen _ _ _ c.in-None.is (c.in_ok-end.ensures.eats g.B.Bodies.is_faithful) in
+    let p = err_from_is_err_and c.from_residual-in_err-arg.result c.from_residual-in_err-arg.ensures.1 in rw (p.1, p.2)
+    (m.no (s.unheard_after c.loop-items.invariant.0 (s.unheard_after (s.on_call (λ x p. args_by _ c.args.is_dynamic_import before comma p.0 x p.1) (λ x ts. args.behind_splits _ c.args.is_dynamic_import before comma x ts) none)
+    (s.unheard_call (λ x p. args_behind _ c.args.is_dynamic_import (trees_append before (cons p.0.0 nil)) p.0.1 x p.1) (λ x ts. args.args_more_splits _ c.args.is_dynamic_import before x ts) (s.unheard_call (λ x p. separated_args c.args.is_dynamic_import x p.1 >>= (λ q. Some ((p.0, q.0), q.1))) (λ x ts. args.arg_item_splits _ c.args.is_dynamic_import x ts) c.in_err-arg.ensures.reads)))) (grows-then c.loop-items.invariant.2 c.parse_expr_or_spread.ensures.grows))
+
+pub parse_arg_list-returns-in_err-separate_args : goal.parse_arg_list-returns-in_err-separate_args
+parse_arg_list-returns-in_err-separate_args g t c =
+    let before = item_trees (tree_of c.loop-items.p.nodes) c.loop-items.items.items in
+    let comma = c.loop-items.trailing_comma in
+    let none = s.eats_none g.B.Bodies.is_faithful is_rparen _ _ _ c.in-None.is (c.in_ok-end.ensures.eats g.B.Bodies.is_faithful) in
+    let p = err_from_is_err_and c.from_residual-in_err-separate_args.result c.from_residual-in_err-separate_args.ensures.1 in rw (p.1, p.2)
+    (m.no (s.unheard_after c.loop-items.invariant.0 (s.unheard_after (s.on_call (λ x p. args_by _ c.args.is_dynamic_import before comma p.0 x p.1) (λ x ts. args.behind_splits _ c.args.is_dynamic_import before comma x ts) none)
+    (s.unheard_call (λ x p. args_behind _ c.args.is_dynamic_import (trees_append before (cons p.0.0 nil)) p.0.1 x p.1) (λ x ts. args.args_more_splits _ c.args.is_dynamic_import before x ts) (s.unheard_after (s.on_call (λ x p. separated_args c.args.is_dynamic_import x p.1 >>= (λ q. Some ((p.0, q.0), q.1))) (λ x ts. args.arg_item_splits _ c.args.is_dynamic_import x ts) c.in_ok-arg.ensures.reads.on)
+    (s.unheard_call (λ x q. Some ((item_at c.parse_expr_or_spread.new.p.nodes c.in_ok-arg.arg, q.0), q.1)) (λ x ts. refl) (c.in_err-separate_args.ensures.separates g.B.Bodies.is_faithful)))))) (grows-then c.loop-items.invariant.2 c.parse_expr_or_spread.ensures.grows))
+
+pub parse_unary_expr-returns-in_err-look : goal.parse_unary_expr-returns-in_err-look
+parse_unary_expr-returns-in_err-look g t c =
+    let p = err_from_is_err_and c.from_residual.result c.from_residual.ensures.1 in rw (p.1, p.2)
+    (m.no (s.unheard_memory c.in_err-look.ensures.looks) (grows-same _))
+
+pub parse_unary_expr-returns-in_err-arg-in-Some : goal.parse_unary_expr-returns-in_err-arg-in-Some
+parse_unary_expr-returns-in_err-arg-in-Some g t c =
+    let op = c.in-Some.op in
+    let first = c.skip.ensures.took.1 in
+    let q = (plain first.was).span in
+    let p = err_from_is_err_and c.from_residual-in_err-arg-in-Some.result c.from_residual-in_err-arg-in-Some.ensures.1 in rw (p.1, p.2)
+    (m.no (s.unheard_after (s.on_seen {g = update_prefix _ op} c.in_ok-look.ensures.looks (λ x ts same e. update.update_picked _ op x ts (ap update_at e ∙ sym c.cur_update_op.ensures.value ∙ c.in-Some.is)))
+    (s.unheard_after (s.on_took {g = update_tail _ q op} g.met.I.Tokens.laws first (λ x ts. update.update_opens _ op (plain first.was) x ts))
+    (s.unheard_call (λ x p. update_node q op x p.0 p.1) (λ x ts. update.update_splits _ q op x ts) c.in_err-arg-in-Some.ensures.reads))) c.parse_unary_expr.ensures.grows)
+
+pub parse_unary_expr-returns-in-Some : goal.parse_unary_expr-returns-in-Some
+parse_unary_expr-returns-in-Some g t c =
+    let op = c.in-Some.op in
+    let first = c.skip.ensures.took.1 in
+    let q = (plain first.was).span in
+    let place = s.place_was first c.cur_span-start.result c.cur_span-start.ensures in
+    let arg = tree_of c.parse_unary_expr.new.p.nodes c.in_ok-arg-in-Some.arg in
+    m.after {m = record c.args.p.now { input = c.look.new.input }} c.update_prefix.result
+    (s.on_seen {g = update_prefix _ op} c.in_ok-look.ensures.looks (λ x ts same e. update.update_picked _ op x ts (ap update_at e ∙ sym c.cur_update_op.ensures.value ∙ c.in-Some.is))) (grows-same _)
+    (m.after {m = record c.args.p.now { input = c.skip.new.input }} c.update_prefix.result
+    (s.on_took {g = update_tail _ q op} g.met.I.Tokens.laws first (λ x ts. update.update_opens _ op (plain first.was) x ts)) (grows-same _)
+    (m.call {m = c.parse_unary_expr.new.p} c.update_prefix.result (λ x p. update_node q op x p.0 p.1) (λ x ts. update.update_splits _ q op x ts)
+    c.in_ok-arg-in-Some.ensures.reads c.parse_unary_expr.ensures.grows (λ x. from-down c.in_ok-arg-in-Some.ensures.from.above)
+    (m.on_after c.update_prefix.result (s.on_here g.met.I.Tokens.laws _ (λ x ts. ap (λ v. update_node v op x arg ts) (sym place))) (grows-same _) c.update_prefix.ensures)))
+
+pub parse_unary_expr-returns-in_err-at-in-Some-cur_prefix_op : goal.parse_unary_expr-returns-in_err-at-in-Some-cur_prefix_op
+parse_unary_expr-returns-in_err-at-in-Some-cur_prefix_op g t c =
+    let p = err_from_is_err_and c.from_residual-in_err-at-in-Some-cur_prefix_op.result c.from_residual-in_err-at-in-Some-cur_prefix_op.ensures.1 in rw (p.1, p.2)
+    (m.no (s.unheard_memory (s.forgoes_later (s.leads_then (s.here_leads c.in_ok-look.ensures.looks) (s.took_leads g.met.I.Tokens.laws c.skip-in-Some-cur_prefix_op.ensures.took.1)) c.in_err-at-in-Some-cur_prefix_op.ensures.looks)) (grows-same _))
+
+pub parse_unary_expr-returns-in-Ok : goal.parse_unary_expr-returns-in-Ok
+parse_unary_expr-returns-in-Ok g t c =
+    let op = c.in-Some-cur_prefix_op.op in
+    let first = c.skip-in-Some-cur_prefix_op.ensures.took.1 in
+    let q = (plain first.was).span in
+    let arg = tree_of c.parse_unary_expr-in-Some-cur_prefix_op.new.p.nodes c.in-Ok.arg in
+    let place = s.place_was first c.cur_span-start-in-Some-cur_prefix_op.result c.cur_span-start-in-Some-cur_prefix_op.ensures in
+    m.after {m = record c.args.p.now { input = c.look.new.input }} c.unary_expr.result
+    (s.on_seen {g = unary_op _ op} c.in_ok-look.ensures.looks (λ x ts same e. rule.unary_op_picked _ op x ts (ap prefix_at e ∙ sym c.cur_prefix_op.ensures.value ∙ c.in-Some-cur_prefix_op.is))) (grows-same _)
+    (m.after {m = record c.args.p.now { input = c.cur_pos.new.input }} c.unary_expr.result
+    (s.on_then (s.on_took {g = unary_op_tail _ q op} g.met.I.Tokens.laws first (λ x ts. rule.unary_op_opens _ op (plain first.was) x ts))
+    (s.on_seen {g = unary_op_tail _ q op} c.in_ok-at-in-Some-cur_prefix_op.ensures.looks (λ x ts same e. refl))) (grows-same _)
+    (m.call {m = c.parse_unary_expr-in-Some-cur_prefix_op.new.p} c.unary_expr.result (λ x p. unary_op_node _ q op x p.0 p.1) (λ x ts. rule.unary_op_splits _ q op x ts)
+    c.in-Ok.ensures.reads c.parse_unary_expr-in-Some-cur_prefix_op.ensures.grows (λ x. from-down c.in-Ok.ensures.from.above)
+    (m.on_after c.unary_expr.result (s.on_here g.met.I.Tokens.laws _ (λ x ts. ap (λ v. unary_op_node g.B.BodyForms.forms v op x arg ts) (sym place))) (grows-same _) c.unary_expr.ensures.reads)))
+
+pub parse_unary_expr-returns-in-Err : goal.parse_unary_expr-returns-in-Err
+parse_unary_expr-returns-in-Err g t c =
+    let op = c.in-Some-cur_prefix_op.op in
+    let first = c.skip-in-Some-cur_prefix_op.ensures.took.1 in
+    let q = (plain first.was).span in
+    let r = c.unary_expr_without_operand.result in
+    let h = c.unary_expr_without_operand.ensures in
+    let view = tree_of c.unary_expr_without_operand.new.p.nodes in
+    m.after {m = record c.args.p.now { input = c.look.new.input }} r
+    (s.on_seen {g = unary_op _ op} c.in_ok-look.ensures.looks (λ x ts same e. rule.unary_op_picked _ op x ts (ap prefix_at e ∙ sym c.cur_prefix_op.ensures.value ∙ c.in-Some-cur_prefix_op.is))) (grows-same _)
+    (m.yes r
+    (s.parses_first g.I.Tokens.model g.B.Bodies.is_faithful view _ {g = unary_op_tail _ q op} g.met.I.Tokens.laws first (λ x ts. rule.unary_op_opens _ op (plain first.was) x ts) _ r
+    (s.continues_after g.I.Tokens.model g.B.Bodies.is_faithful view _ _ r (s.on_seen {g = unary_op_tail _ q op} c.in_ok-at-in-Some-cur_prefix_op.ensures.looks (λ x ts same e. refl))
+    (s.continues_recovered g.I.Tokens.model g.B.Bodies.is_faithful view _ _ r
+    (s.unheard_call (λ x p. unary_op_node _ q op x p.0 p.1) (λ x ts. rule.unary_op_splits _ q op x ts) c.in-Err.ensures.reads) h.effect h.notes h.some)))
+    (grows-then c.parse_unary_expr-in-Some-cur_prefix_op.ensures.grows h.grows) (if_from _ _ _ (λ x. x) r (grows-count c.parse_unary_expr-in-Some-cur_prefix_op.ensures.grows) h.from))
+
+pub parse_unary_expr-returns-in_err-is_await_name : goal.parse_unary_expr-returns-in_err-is_await_name
+parse_unary_expr-returns-in_err-is_await_name g t c =
+    let first = c.skip-then-is_await.ensures.took.1 in
+    let q = (plain first.was).span in
+    let p = err_from_is_err_and c.from_residual-in_err-is_await_name.result c.from_residual-in_err-is_await_name.ensures.1 in rw (p.1, p.2)
+    (m.no (s.unheard_after (s.on_seen {g = await_expr _} c.in_ok-look.ensures.looks (λ x ts same e. update.await_picked _ x ts (ap (at_token is_await) e ∙ sym c.is_await.ensures.value ∙ c.if-is_await.true)))
+    (s.unheard_after (s.on_took {g = await_tail _ q} g.met.I.Tokens.laws first (λ x ts. update.await_opens _ (plain first.was) x ts))
+    (s.unheard_call (λ x p. await_by_name _ q p.0 x p.1) (λ x ts. prefix.await_splits _ q x ts) (c.in_err-is_await_name.ensures.names g.B.Bodies.is_faithful)))) (grows-same _))
+
+pub parse_unary_expr-returns-then-branch : goal.parse_unary_expr-returns-then-branch
+parse_unary_expr-returns-then-branch g t c =
+    let first = c.skip-then-is_await.ensures.took.1 in
+    let start = c.cur_span-start-then-is_await.result in
+    let place = s.place_was first c.cur_span-start-then-is_await.result c.cur_span-start-then-is_await.ensures in
+    let r = c.parse_await_ident.result in
+    let view = tree_of c.parse_await_ident.new.p.nodes in
+    m.after {m = record c.args.p.now { input = c.look.new.input }} r
+    (s.on_seen {g = await_expr _} c.in_ok-look.ensures.looks (λ x ts same e. update.await_picked _ x ts (ap (at_token is_await) e ∙ sym c.is_await.ensures.value ∙ c.if-is_await.true))) (grows-same _)
+    (m.yes r
+    (update.parses_first g.I.Tokens.model g.B.Bodies.is_faithful view _ (await_tail g.B.BodyForms.forms start) _ r g.met.I.Tokens.laws first
+    (λ x ts. update.await_opens _ (plain first.was) x ts ∙ ap (λ v. await_tail g.B.BodyForms.forms v x ts) (sym place))
+    (s.continues_after g.I.Tokens.model g.B.Bodies.is_faithful view (await_tail g.B.BodyForms.forms start) _ r
+    (s.on_to {h = await_ident start} (s.on_call (λ x p. await_by_name g.B.BodyForms.forms start p.0 x p.1) (λ x ts. prefix.await_splits _ start x ts) (c.in_ok-is_await_name.ensures.names g.B.Bodies.is_faithful))
+    (λ x ts. ap (λ b. await_by_name g.B.BodyForms.forms start b x ts) c.if-branch.true))
+    c.parse_await_ident.ensures.reads))
+    c.parse_await_ident.ensures.grows c.parse_await_ident.ensures.from)
+
+pub parse_unary_expr-returns-in_err-check_await : goal.parse_unary_expr-returns-in_err-check_await
+parse_unary_expr-returns-in_err-check_await g t c =
+    let p = err_from_is_err_and c.from_residual-in_err-check_await.result c.from_residual-in_err-check_await.ensures.1 in rw (p.1, p.2)
+    (m.no (s.unheard_memory (s.forgoes_later (s.leads_then (s.here_leads c.in_ok-look.ensures.looks)
+    (s.leads_then (s.took_leads g.met.I.Tokens.laws c.skip-then-is_await.ensures.took.1) (c.in_ok-is_await_name.ensures.names g.B.Bodies.is_faithful).leads)) c.in_err-check_await.ensures.checks)) (grows-same _))
+
+pub parse_unary_expr-returns-in_err-arg : goal.parse_unary_expr-returns-in_err-arg
+parse_unary_expr-returns-in_err-arg g t c =
+    let first = c.skip-then-is_await.ensures.took.1 in
+    let start = c.cur_span-start-then-is_await.result in
+    let place = s.place_was first c.cur_span-start-then-is_await.result c.cur_span-start-then-is_await.ensures in
+    let now = c.is_await_name.new.input in
+    let p = err_from_is_err_and c.from_residual-in_err-arg.result c.from_residual-in_err-arg.ensures.1 in rw (p.1, p.2)
+    (m.no (s.unheard_after (s.on_seen {g = await_expr _} c.in_ok-look.ensures.looks (λ x ts same e. update.await_picked _ x ts (ap (at_token is_await) e ∙ sym c.is_await.ensures.value ∙ c.if-is_await.true)))
+    (s.unheard_after (s.on_took {g = await_tail _ start} g.met.I.Tokens.laws first (λ x ts. update.await_opens _ (plain first.was) x ts ∙ ap (λ v. await_tail g.B.BodyForms.forms v x ts) (sym place)))
+    (s.unheard_after (s.on_to {h = await_operand _ start} (s.on_call (λ x p. await_by_name g.B.BodyForms.forms start p.0 x p.1) (λ x ts. prefix.await_splits _ start x ts) (c.in_ok-is_await_name.ensures.names g.B.Bodies.is_faithful))
+    (λ x ts. ap (λ b. await_by_name g.B.BodyForms.forms start b x ts) c.if-branch.false))
+    (s.unheard_after (s.on_checked_in {g = await_reads _ start} (await_ok (context g.I.Tokens.model now)) c.in_ok-check_await.ensures.checks
+    (λ ts h. update.await_well _ start (scope g.I.Tokens.model now) ts h)
+    (λ ts h. update.await_ill _ start (scope g.I.Tokens.model now) ts h))
+    (s.unheard_call (λ x p. Some (await_e (to start (span_of p.0)) p.0, p.1)) (λ x ts. refl) c.in_err-arg.ensures.reads))))) c.parse_unary_expr-then-is_await.ensures.grows)
+
+pub parse_unary_expr-returns-then-is_await : goal.parse_unary_expr-returns-then-is_await
+parse_unary_expr-returns-then-is_await g t c =
+    let first = c.skip-then-is_await.ensures.took.1 in
+    let start = c.cur_span-start-then-is_await.result in
+    let place = s.place_was first c.cur_span-start-then-is_await.result c.cur_span-start-then-is_await.ensures in
+    let now = c.is_await_name.new.input in
+    m.after {m = record c.args.p.now { input = c.look.new.input }} c.made.result
+    (s.on_seen {g = await_expr _} c.in_ok-look.ensures.looks (λ x ts same e. update.await_picked _ x ts (ap (at_token is_await) e ∙ sym c.is_await.ensures.value ∙ c.if-is_await.true))) (grows-same _)
+    (m.after {m = record c.args.p.now { input = now }} c.made.result
+    (s.on_then (s.on_took {g = await_tail _ start} g.met.I.Tokens.laws first (λ x ts. update.await_opens _ (plain first.was) x ts ∙ ap (λ v. await_tail g.B.BodyForms.forms v x ts) (sym place)))
+    (s.on_to {h = await_operand _ start} (s.on_call (λ x p. await_by_name g.B.BodyForms.forms start p.0 x p.1) (λ x ts. prefix.await_splits _ start x ts) (c.in_ok-is_await_name.ensures.names g.B.Bodies.is_faithful))
+    (λ x ts. ap (λ b. await_by_name g.B.BodyForms.forms start b x ts) c.if-branch.false))) (grows-same _)
+    (m.node _ c.await_expr-node.result c.made.result c.in_ok-arg.ensures.from.above c.await_expr-node.ensures.made c.made.ensures.ok c.made.ensures.refused c.parse_unary_expr-then-is_await.ensures.grows c.await_expr-node.ensures.grows
+    (s.heard_after (s.on_checked_in {g = await_reads _ start} (await_ok (context g.I.Tokens.model now)) c.in_ok-check_await.ensures.checks
+    (λ ts h. update.await_well _ start (scope g.I.Tokens.model now) ts h)
+    (λ ts h. update.await_ill _ start (scope g.I.Tokens.model now) ts h))
+    (s.heard_call_read (λ x p. Some (await_e (to start (span_of p.0)) p.0, p.1)) (λ x ts. refl)
+    (λ x ts us h y ys. ap (λ v. Some (await_e (from_to start.lo v) (tree_of c.parse_unary_expr-then-is_await.new.p.nodes c.in_ok-arg.arg), ys))
+    (sym (ending.ended _ g.met.B.Bodies.lawful c.in_ok-arg.arg Unary x ts us c.in_ok-arg.ensures.from h))) c.in_ok-arg.ensures.reads))))
+
+pub parse_unary_expr-returns-in_err-expr : goal.parse_unary_expr-returns-in_err-expr
+parse_unary_expr-returns-in_err-expr g t c =
+    let p = err_from_is_err_and c.from_residual-in_err-expr.result c.from_residual-in_err-expr.ensures.1 in rw (p.1, p.2)
+    (m.no (s.unheard_after (s.on_seen {g = λ x ts. run _ (at (Lhs true)) x ts >>= (λ p. run _ (updates p.0) x p.1)} c.in_ok-look.ensures.looks (λ x ts same e. update.operand_splits _ x ts
+    (update.no_update_first g.B.BodyForms.forms (first ts) (ap update_at e ∙ sym c.cur_update_op.ensures.value ∙ c.in-None.is))
+    (ap (at_token is_await) e ∙ sym c.is_await.ensures.value ∙ c.if-is_await.false)
+    (ap prefix_at e ∙ sym c.cur_prefix_op.ensures.value ∙ c.in-None-cur_prefix_op.is)))
+    (s.unheard_call (λ x p. run _ (updates p.0) x p.1) (λ x ts. refl) c.in_err-expr.ensures.reads)) c.parse_lhs_expr.ensures.grows)
+
+pub parse_unary_expr-returns : goal.parse_unary_expr-returns
+parse_unary_expr-returns g t c =
+    m.after {m = record c.args.p.now { input = c.look.new.input }} c.parse_update_postfix.result (s.on_seen {g = λ x ts. run _ (at (Lhs true)) x ts >>= (λ p. run _ (updates p.0) x p.1)} c.in_ok-look.ensures.looks (λ x ts same e. update.operand_splits _ x ts
+    (update.no_update_first g.B.BodyForms.forms (first ts) (ap update_at e ∙ sym c.cur_update_op.ensures.value ∙ c.in-None.is))
+    (ap (at_token is_await) e ∙ sym c.is_await.ensures.value ∙ c.if-is_await.false)
+    (ap prefix_at e ∙ sym c.cur_prefix_op.ensures.value ∙ c.in-None-cur_prefix_op.is))) (grows-same _)
+    (m.call c.parse_update_postfix.result (λ x p. run _ (updates p.0) x p.1) (λ x ts. refl)
+    c.in_ok-expr.ensures.reads c.parse_lhs_expr.ensures.grows (λ x. from-down c.in_ok-expr.ensures.from.above) c.parse_update_postfix.ensures)
+
+pub parse_bin_expr-returns-in_err-first : goal.parse_bin_expr-returns-in_err-first
+parse_bin_expr-returns-in_err-first g t c =
+    let p = err_from_is_err_and c.from_residual.result c.from_residual.ensures.1 in rw (p.1, p.2)
+    (m.no (s.unheard_memory c.in_err-first.ensures.looks) (grows-same _))
+
+pub parse_bin_expr-parse_operators-requires : goal.parse_bin_expr-parse_operators-requires
+parse_bin_expr-parse_operators-requires g t c =
+    let falls = c.in-Ok.ensures.falls in
+    let one = apart-from (expr_part c.in-Ok.left) (from-down (omega arith) c.in-Ok.ensures.from) in
+    let apart = pending.operands-as {k = 0} c.in-Ok.left (sym c.new-pending.ensures) one in
+    λ κs outlives. (search rules, (search rules, (search rules, (search rules, (search rules, (search rules, apart))))))
+
+pub parse_bin_expr-returns-in-Ok : goal.parse_bin_expr-returns-in-Ok
+parse_bin_expr-returns-in-Ok g t c =
+    let forms = g.B.BodyForms.forms in
+    let ns = c.parse_unary_expr.new.p.nodes in
+    let ws = all_pending c.new-pending.result in
+    let r = c.parse_operators.result in
+    let above = c.in-Ok.ensures.from.above in
+    let first = ap (λ e. first_at ns e.0) (pending.first_none c.in-Ok.left c.new-pending.ensures) in
+    m.after {m = record c.args.p.now { input = c.cur_pos.new.input }} r
+    (s.on_seen {g = run _ (at (Level 1))} c.in_ok-first.ensures.looks (λ x ts same e. refl)) (grows-same _)
+    (m.call {m = c.parse_unary_expr.new.p} {j = first_at ns (first_operand ws c.in-Ok.left).0} r
+    (λ x p. run _ (climb p.0 0) x p.1) (λ x ts. rule.operand_splits _ 0 x ts (omega arith))
+    c.in-Ok.ensures.reads c.parse_unary_expr.ensures.grows (λ x. from-down (omega arith))
+    (m.on_after r
+    (s.on_here g.met.I.Tokens.laws _
+    (λ x ts. pending.reads_none forms (tree_of ns) ws c.in-Ok.left x ts c.new-pending.ensures))
+    (grows-same _) c.parse_operators.ensures))
+
+pub parse_bin_expr-returns-in_err-left-in-Err : goal.parse_bin_expr-returns-in_err-left-in-Err
+parse_bin_expr-returns-in_err-left-in-Err g t c =
+    let u = pending.unheard_operand g.B.BodyForms.forms c.in_ok-first.ensures.looks c.in-Err.ensures.reads in
+    let failed = c.from_residual-in_err-left-in-Err in
+    let p = err_from_is_err_and failed.result failed.ensures.1 in
+    let h = c.in_err-left-in-Err.ensures.recovers in rw (p.1, p.2)
+    (m.no (s.unheard_doomed u h.memory h.effect) (grows-then c.parse_unary_expr.ensures.grows h.grows))
+
+pub parse_bin_expr-take_operator-requires-clause-from : goal.parse_bin_expr-take_operator-requires-clause-from
+parse_bin_expr-take_operator-requires-clause-from g t c =
+    from-down (omega arith) c.in_ok-left-in-Err.ensures.recovers.from
+
+pub parse_bin_expr-take_operator-requires-clause-tighter : goal.parse_bin_expr-take_operator-requires-clause-tighter
+parse_bin_expr-take_operator-requires-clause-tighter g t c = pending.binds_any _ c.new-pending.ensures
+
+pub parse_bin_expr-returns-in_err-take_operator-in-Err : goal.parse_bin_expr-returns-in_err-take_operator-in-Err
+parse_bin_expr-returns-in_err-take_operator-in-Err g t c =
+    let u = pending.unheard_operand g.B.BodyForms.forms c.in_ok-first.ensures.looks c.in-Err.ensures.reads in
+    let failed = c.from_residual-in_err-take_operator-in-Err in
+    let p = err_from_is_err_and failed.result failed.ensures.1 in
+    let h = c.in_ok-left-in-Err.ensures.recovers in rw (p.1, p.2)
+    (m.no
+    (s.unheard_doomed u (λ n. h.some)
+    (s.refuses_later h.effect (c.in_err-take_operator-in-Err.ensures.reads g.B.Bodies.is_faithful).refuses))
+    (grows-then c.parse_unary_expr.ensures.grows (grows-then h.grows (grows-kept c.take_operator.ensures.nodes))))
+
+pub parse_bin_expr-returns-in_err-right-in-Err : goal.parse_bin_expr-returns-in_err-right-in-Err
+parse_bin_expr-returns-in_err-right-in-Err g t c =
+    let u = pending.unheard_operand g.B.BodyForms.forms c.in_ok-first.ensures.looks c.in-Err.ensures.reads in
+    let failed = c.from_residual-in_err-right-in-Err in
+    let p = err_from_is_err_and failed.result failed.ensures.1 in
+    let h = c.in_ok-left-in-Err.ensures.recovers in
+    let took = c.in_ok-take_operator-in-Err.ensures.reads g.B.Bodies.is_faithful in rw (p.1, p.2)
+    (m.no
+    (s.unheard_doomed u (λ n. h.some)
+    (s.refuses_later (s.leads_then h.effect took.on.leads) c.in_err-right-in-Err.ensures.reads.refuses))
+    (grows-then c.parse_unary_expr.ensures.grows (grows-then h.grows
+    (grows-then (grows-kept c.take_operator.ensures.nodes) c.parse_unary_expr-in-Err.ensures.grows))))
+
+pub parse_bin_expr-parse_operators-requires-in-Err : goal.parse_bin_expr-parse_operators-requires-in-Err
+parse_bin_expr-parse_operators-requires-in-Err g t c =
+    let left = c.in_ok-left-in-Err.left in
+    let kept = grows-kept c.take_operator.ensures.nodes in
+    let from = from-later {k = 0} kept (from-down (omega arith) c.in_ok-left-in-Err.ensures.recovers.from) in
+    let two = apart-more-one {k = 0} c.parse_unary_expr-in-Err.ensures.grows (apart-from (expr_part left) from)
+    c.in_ok-right-in-Err.ensures.from in
+    let apart = pending.operands-one {k = 0} left c.in_ok-right-in-Err.right c.in_ok-left-in-Err.op
+    c.new-pending.ensures c.in_ok-take_operator-in-Err.ensures.pushed two in
+    let spent = c.in-Err.ensures.reads.refuses.spends.read.lower in
+    let recovered = c.in_ok-left-in-Err.ensures.recovers.falls in
+    let took = c.in_ok-take_operator-in-Err.ensures.falls in
+    let read = c.in_ok-right-in-Err.ensures.falls in
+    λ κs outlives. (search rules, (search rules, (search rules, (search rules, (search rules, (search rules, apart))))))
+
+pub parse_bin_expr-returns-in_ok-right-in-Err : goal.parse_bin_expr-returns-in_ok-right-in-Err
+parse_bin_expr-returns-in_ok-right-in-Err g t c =
+    let u = pending.unheard_operand g.B.BodyForms.forms c.in_ok-first.ensures.looks c.in-Err.ensures.reads in
+    let h = c.in_ok-left-in-Err.ensures.recovers in
+    let took = c.in_ok-take_operator-in-Err.ensures.reads g.B.Bodies.is_faithful in
+    let more = s.leads_then took.on.leads c.in_ok-right-in-Err.ensures.reads.on.leads in
+    let r = c.parse_operators-in-Err.result in
+    let reads = c.parse_operators-in-Err.ensures.reads in
+    let ns = c.parse_unary_expr-in-Err.new.p.nodes in
+    let vs = all_pending c.take_operator.new.pending in
+    let view = tree_of c.parse_operators-in-Err.new.p.nodes in
+    let f = pending_reads g.B.BodyForms.forms (tree_of ns) vs c.in_ok-right-in-Err.right in
+    let a = grows-count c.parse_unary_expr.ensures.grows in
+    let kept = grows-then (grows-kept c.take_operator.ensures.nodes) c.parse_unary_expr-in-Err.ensures.grows in
+    let above = (from-later kept h.from).above in
+    let first = ap (λ e. first_at ns e.0) (pending.first_one c.in_ok-left-in-Err.left c.in_ok-right-in-Err.right
+    c.in_ok-left-in-Err.op c.new-pending.ensures c.in_ok-take_operator-in-Err.ensures.pushed) in
+    m.yes r
+    (s.parses_recovered g.I.Tokens.model g.B.Bodies.is_faithful view (run _ (at (Level 1))) _ r u
+    (s.consumes_then g.I.Tokens.model g.B.Bodies.is_faithful view f h.effect more
+    (s.longer took.on.leads c.in_ok-right-in-Err.ensures.reads.on.leads took.onward) _ r reads)
+    (λ l. s.notes_then g.I.Tokens.model g.B.Bodies.is_faithful view f c.parse_unary_expr.new.p.input (h.notes l) more _
+    r reads)
+    (s.on_ok r h.some) (s.if_err (λ e. e.kind ≢ OutOfMemory) r h.some))
+    (grows-then c.parse_unary_expr.ensures.grows (grows-then h.grows
+    (grows-then kept c.parse_operators-in-Err.ensures.grows)))
+    (if_from _ (count c.args.p.now.nodes) (first_at ns (first_operand vs c.in_ok-right-in-Err.right).0) (λ x. x) r
+    (omega arith) c.parse_operators-in-Err.ensures.from)
+
+pub parse_operators-loop-pending-init : goal.parse_operators-loop-pending-init
+parse_operators-loop-pending-init g t c =
+    (s.on_here g.met.I.Tokens.laws _ (λ x ts. refl), omega arith, grows-same _, operands-first _ _ c.requires)
+
+pub parse_operators-returns-in_err-op : goal.parse_operators-returns-in_err-op
+parse_operators-returns-in_err-op g t c =
+    let p = err_from_is_err_and c.from_residual.result c.from_residual.ensures.1 in rw (p.1, p.2)
+    (m.no_more (s.unheard_after c.loop-pending.invariant.0 (s.unheard_memory c.in_err-op.ensures.looks))
+    c.loop-pending.invariant.2)
+
+pub parse_operators-take_operator-requires-clause-from : goal.parse_operators-take_operator-requires-clause-from
+parse_operators-take_operator-requires-clause-from g t c = operands-last _ _ c.loop-pending.invariant.3
+
+pub parse_operators-take_operator-requires-clause-tighter : goal.parse_operators-take_operator-requires-clause-tighter
+parse_operators-take_operator-requires-clause-tighter g t c =
+    pending.binds_tighter g.I.Tokens.model c.next_operator.new.input
+    (pending.above_is g.I.Tokens.model c.next_operator.new.input c.in-Some.is c.in_ok-op.ensures.value
+    c.min_prec.ensures)
+
+pub parse_operators-returns-in_err-take_operator-in-Some : goal.parse_operators-returns-in_err-take_operator-in-Some
+parse_operators-returns-in_err-take_operator-in-Some g t c =
+    let failed = c.from_residual-in_err-take_operator-in-Some in
+    let p = err_from_is_err_and failed.result failed.ensures.1 in
+    rw (p.1, p.2)
+    (m.no_more
+    (pending.unheard_taken g.B.BodyForms.forms (tree_of c.loop-pending.p.nodes) (all_pending c.loop-pending.pending)
+    c.loop-pending.left c.in-Some.op c.loop-pending.invariant.0 c.in_ok-op.ensures.looks
+    (pending.above_is g.I.Tokens.model c.next_operator.new.input c.in-Some.is c.in_ok-op.ensures.value
+    c.min_prec.ensures)
+    (c.in_err-take_operator-in-Some.ensures.reads g.B.Bodies.is_faithful))
+    (grows-then c.loop-pending.invariant.2 (grows-kept c.take_operator.ensures.nodes)))
+
+pub parse_operators-returns-in_err-left-in-Some : goal.parse_operators-returns-in_err-left-in-Some
+parse_operators-returns-in_err-left-in-Some g t c =
+    let tree = tree_of c.loop-pending.p.nodes in
+    let ws = all_pending c.loop-pending.pending in
+    let failed = c.from_residual-in_err-left-in-Some in
+    let p = err_from_is_err_and failed.result failed.ensures.1 in
+    rw (p.1, p.2)
+    (m.no_more
+    (pending.unheard_read g.B.BodyForms.forms tree ws c.loop-pending.left c.in-Some.op
+    (pending.on_taken g.B.BodyForms.forms tree ws c.loop-pending.left c.in-Some.op c.loop-pending.invariant.0
+    c.in_ok-op.ensures.looks
+    (pending.above_is g.I.Tokens.model c.next_operator.new.input c.in-Some.is c.in_ok-op.ensures.value
+    c.min_prec.ensures)
+    (c.in_ok-take_operator-in-Some.ensures.reads g.B.Bodies.is_faithful))
+    c.in_err-left-in-Some.ensures.reads)
+    (grows-then c.loop-pending.invariant.2
+    (grows-then (grows-kept c.take_operator.ensures.nodes) c.parse_unary_expr.ensures.grows)))
+
+pub parse_operators-loop-pending-preserved-in-Some : goal.parse_operators-loop-pending-preserved-in-Some
+parse_operators-loop-pending-preserved-in-Some g t c =
+    let ns = c.loop-pending.p.nodes in
+    let ws = all_pending c.loop-pending.pending in
+    let e = c.loop-pending.left in
+    let r = c.in_ok-left-in-Some.left in
+    let kept = grows-kept c.take_operator.ensures.nodes in
+    let grown = grows-then kept c.parse_unary_expr.ensures.grows in (
+      pending.on_read g.B.BodyForms.forms ws (all_pending c.take_operator.new.pending) e r c.in-Some.op
+          c.in_ok-take_operator-in-Some.ensures.pushed
+          (pending.on_taken g.B.BodyForms.forms (tree_of ns) ws e c.in-Some.op c.loop-pending.invariant.0
+          c.in_ok-op.ensures.looks
+          (pending.above_is g.I.Tokens.model c.next_operator.new.input c.in-Some.is c.in_ok-op.ensures.value
+          c.min_prec.ensures)
+          (c.in_ok-take_operator-in-Some.ensures.reads g.B.Bodies.is_faithful))
+          c.in_ok-left-in-Some.ensures.reads grown c.loop-pending.invariant.3,
+      let a = c.loop-pending.invariant.1 in let b = c.in_ok-op.ensures.falls in
+          let d = c.in_ok-take_operator-in-Some.ensures.falls in let f = c.in_ok-left-in-Some.ensures.falls in omega arith,
+      grows-then c.loop-pending.invariant.2 grown,
+      pending.operands-as r (sym c.in_ok-take_operator-in-Some.ensures.pushed)
+          (operands-more ws (waiting e c.in-Some.op) r c.parse_unary_expr.ensures.grows
+          (apart-later kept c.loop-pending.invariant.3) c.in_ok-left-in-Some.ensures.from),
+    )
+
+pub parse_operators-check_nullish_left-requires : goal.parse_operators-check_nullish_left-requires
+parse_operators-check_nullish_left-requires g t c = operands-last _ _ c.loop-pending.invariant.3
+
+pub parse_operators-returns-in_err-check_nullish_left-in-None
+    : goal.parse_operators-returns-in_err-check_nullish_left-in-None
+parse_operators-returns-in_err-check_nullish_left-in-None g t c =
+    let failed = c.from_residual-in_err-check_nullish_left-in-None in
+    let p = err_from_is_err_and failed.result failed.ensures.1 in
+    rw (p.1, p.2)
+    (m.no_more
+    (s.unheard_after c.loop-pending.invariant.0 (s.unheard_memory
+    (s.forgoes_later (s.here_leads c.in_ok-op.ensures.looks) c.in_err-check_nullish_left-in-None.ensures.checks)))
+    c.loop-pending.invariant.2)
+
+pub parse_operators-join_operands-requires-clause-left : goal.parse_operators-join_operands-requires-clause-left
+parse_operators-join_operands-requires-clause-left g t c =
+    (operands-top _ c.in-Some-pop.operator c.loop-pending.left
+    (pending.operands-as c.loop-pending.left c.in-Some-pop.ensures c.loop-pending.invariant.3)).0
+
+pub parse_operators-join_operands-requires-clause-right : goal.parse_operators-join_operands-requires-clause-right
+parse_operators-join_operands-requires-clause-right g t c =
+    (operands-top _ c.in-Some-pop.operator c.loop-pending.left
+    (pending.operands-as c.loop-pending.left c.in-Some-pop.ensures c.loop-pending.invariant.3)).1
+
+pub parse_operators-returns-in_err-left-in-Some-pop : goal.parse_operators-returns-in_err-left-in-Some-pop
+parse_operators-returns-in_err-left-in-Some-pop g t c =
+    let tree = tree_of c.loop-pending.p.nodes in
+    let ws = all_pending c.loop-pending.pending in
+    let failed = c.from_residual-in_err-left-in-Some-pop in
+    let p = err_from_is_err_and failed.result failed.ensures.1 in
+    rw (p.1, p.2)
+    (m.no_more
+    (pending.unheard_join g.B.BodyForms.forms tree ws (all_pending c.pop.new.self) c.in-Some-pop.operator
+    c.loop-pending.left c.in-Some-pop.ensures
+    (pending.on_left g.B.BodyForms.forms tree ws c.loop-pending.left c.loop-pending.invariant.0 c.in_ok-op.ensures.looks
+    (pending.above_is g.I.Tokens.model c.next_operator.new.input c.in-None.is c.in_ok-op.ensures.value
+    c.min_prec.ensures)
+    c.in_ok-check_nullish_left-in-None.ensures.checks)
+    c.in_err-left-in-Some-pop.ensures.reads)
+    (grows-then c.loop-pending.invariant.2 c.join_operands.ensures.grows))
+
+pub parse_operators-loop-pending-preserved : goal.parse_operators-loop-pending-preserved
+parse_operators-loop-pending-preserved g t c =
+    let tree = tree_of c.loop-pending.p.nodes in
+    let ws = all_pending c.loop-pending.pending in
+    let vs = all_pending c.pop.new.self in
+    let e = c.loop-pending.left in
+    let n = c.in_ok-left-in-Some-pop.left in (
+      pending.on_join g.B.BodyForms.forms ws vs c.in-Some-pop.operator e n c.in-Some-pop.ensures
+          (pending.on_left g.B.BodyForms.forms tree ws e c.loop-pending.invariant.0 c.in_ok-op.ensures.looks
+          (pending.above_is g.I.Tokens.model c.next_operator.new.input c.in-None.is c.in_ok-op.ensures.value
+          c.min_prec.ensures)
+          c.in_ok-check_nullish_left-in-None.ensures.checks)
+          c.in_ok-left-in-Some-pop.ensures.reads c.join_operands.ensures.grows c.loop-pending.invariant.3,
+      let a = c.loop-pending.invariant.1 in let b = c.in_ok-op.ensures.falls in
+          let d = c.in_ok-check_nullish_left-in-None.ensures.falls in let f = c.in_ok-left-in-Some-pop.ensures.falls in
+          omega arith,
+      grows-then c.loop-pending.invariant.2 c.join_operands.ensures.grows,
+      operands-joined vs c.in-Some-pop.operator e n c.join_operands.ensures.grows
+          (pending.operands-as e c.in-Some-pop.ensures c.loop-pending.invariant.3) c.in_ok-left-in-Some-pop.ensures.from,
+    )
+
+pub parse_operators-returns-in-None-pop : goal.parse_operators-returns-in-None-pop
+parse_operators-returns-in-None-pop g t c =
+    let tree = tree_of c.loop-pending.p.nodes in
+    let ws = all_pending c.loop-pending.pending in
+    m.on (Ok _)
+    (pending.on_all g.B.BodyForms.forms tree ws c.loop-pending.left c.in-None-pop.ensures.0
+    (pending.on_left g.B.BodyForms.forms tree ws c.loop-pending.left c.loop-pending.invariant.0 c.in_ok-op.ensures.looks
+    (pending.above_is g.I.Tokens.model c.next_operator.new.input c.in-None.is c.in_ok-op.ensures.value
+    c.min_prec.ensures)
+    c.in_ok-check_nullish_left-in-None.ensures.checks))
+    c.loop-pending.invariant.2
+    (pending.operand-alone c.loop-pending.left c.in-None-pop.ensures.0 c.loop-pending.invariant.3)
+
+pub parse_expr-returns-in_err-expr : goal.parse_expr-returns-in_err-expr
+parse_expr-returns-in_err-expr g t c =
+    let p = err_from_is_err_and c.from_residual.result c.from_residual.ensures.1 in rw (p.1, p.2)
+    (m.no (s.unheard_call (λ x p. run _ (seqs (cons p.0 nil)) x p.1) (λ x ts. assign.expr_splits _ x ts) c.in_err-expr.ensures.reads) c.parse_assignment_expr.ensures.grows)
+
+pub parse_expr-returns-in_err-eat : goal.parse_expr-returns-in_err-eat
+parse_expr-returns-in_err-eat g t c =
+    let e = tree_of c.parse_assignment_expr.new.p.nodes c.in_ok-expr.expr in
+    let p = err_from_is_err_and c.from_residual-in_err-eat.result c.from_residual-in_err-eat.ensures.1 in rw (p.1, p.2)
+    (m.no (s.unheard_after (s.on_call (λ x p. run _ (seqs (cons p.0 nil)) x p.1) (λ x ts. assign.expr_splits _ x ts) c.in_ok-expr.ensures.reads.on)
+    (s.unheard_call (λ x p. seqs_by _ (cons e nil) p.0 x p.1) (λ x ts. assign.seqs_splits _ (cons e nil) x ts) (c.in_err-eat.ensures.eats g.B.Bodies.is_faithful))) c.parse_assignment_expr.ensures.grows)
+
+pub parse_expr-returns-in-Some : goal.parse_expr-returns-in-Some
+parse_expr-returns-in-Some g t c =
+    let e = tree_of c.parse_assignment_expr.new.p.nodes c.in_ok-expr.expr in
+    let some = s.eats_some g.B.Bodies.is_faithful is_comma _ c.in-Some.field-0 _ _ c.in-Some.is (c.in_ok-eat.ensures.eats g.B.Bodies.is_faithful) in
+    let b = begins_in_invalid e in
+    let lo = start_at c.parse_assignment_expr.new.p.nodes c.in_ok-expr.expr.0 in
+    m.call_read {g = λ x ts. eaten is_comma x ts >>= (λ p. seqs_from_by _ b lo (cons e nil) p.0 x p.1)} {m = c.parse_assignment_expr.new.p} c.parse_seq_expr.result (λ x p. run _ (seqs (cons p.0 nil)) x p.1) (λ x ts. assign.expr_splits _ x ts) c.in_ok-expr.ensures.reads
+    (λ x ts us h y ys. assign.seqs_begun _ b lo (cons e nil) y ys (ending.valid-begins e (ending.read-valid _ g.met.B.Bodies.lawful Assign x ts us e h)))
+    c.parse_assignment_expr.ensures.grows (λ x. from-down c.in_ok-expr.ensures.from.above)
+    (m.on_after {m = record c.parse_assignment_expr.new.p { input = c.eat.new.input }} c.parse_seq_expr.result
+    (s.on_call (λ x p. seqs_from_by _ b lo (cons e nil) p.0 x p.1) (λ x ts. refl) some.on) (grows-same _)
+    (m.weaker c.parse_seq_expr.result c.parse_seq_expr.ensures))
+
+pub parse_expr-returns-in-None : goal.parse_expr-returns-in-None
+parse_expr-returns-in-None g t c =
+    let e = tree_of c.parse_assignment_expr.new.p.nodes c.in_ok-expr.expr in
+    let none = s.eats_none g.B.Bodies.is_faithful is_comma _ _ _ c.in-None.is (c.in_ok-eat.ensures.eats g.B.Bodies.is_faithful) in
+    m.yes (Ok _)
+    (s.heard_more (λ x p. run _ (seqs (cons p.0 nil)) x p.1) (λ x ts. assign.expr_splits _ x ts) c.in_ok-expr.ensures.reads
+    (s.on_call (λ x p. seqs_by _ (cons e nil) p.0 x p.1) (λ x ts. assign.seqs_splits _ (cons e nil) x ts) none))
+    c.parse_assignment_expr.ensures.grows c.in_ok-expr.ensures.from
+
+pub parse_expr_with_in-returns : goal.parse_expr_with_in-returns
+parse_expr_with_in-returns g t c =
+    m.yes c.parse_expr-expr.result
+    (s.parses_within g.I.Tokens.model g.B.Bodies.is_faithful (tree_of c.parse_expr-expr.new.p.nodes) _ (run _ (at Expr)) c.parse_expr-expr.result include_in (λ x. refl) (λ x ts. assign.inside_expr _ x ts)
+    c.set_ctx.ensures.moves (ap deciding c.set_ctx.ensures.context ∙ ap (λ x. include_in (deciding x)) c.get_ctx-ctx.ensures) c.parse_expr-expr.ensures.reads c.set_ctx-2.ensures.moves
+    (c.set_ctx-2.ensures.context ∙ c.get_ctx-ctx.ensures))
+    c.parse_expr-expr.ensures.grows c.parse_expr-expr.ensures.from
+
+pub parse_assignment_expr-returns-in_err-require_cur : goal.parse_assignment_expr-returns-in_err-require_cur
+parse_assignment_expr-returns-in_err-require_cur g t c =
+    let p = err_from_is_err_and c.from_residual.result c.from_residual.ensures.1 in rw (p.1, p.2)
+    (m.no (s.unheard_unfit g.met.I.Tokens.laws (λ x ts h. rule.assign_bad _ x ts h) c.in_err-require_cur.ensures.fits) (grows-same _))
+
+pub parse_assignment_expr-returns-then-is_yield_operator : goal.parse_assignment_expr-returns-then-is_yield_operator
+parse_assignment_expr-returns-then-is_yield_operator g t c =
+    m.after c.parse_yield_expr.result (s.on_seen c.in_ok-require_cur.ensures.fits (λ x ts same e. assign.yield_picked _ x ts
+    (ap (λ v. at_token is_yield v && x.context.in_generator) e ∙ ap (λ v. at_token is_yield (seen c.require_cur.new.input) && v.context.in_generator) same ∙ sym c.is_yield_operator.ensures.value ∙ c.if-is_yield_operator.true))) (grows-same _) c.parse_yield_expr.ensures
+
+pub parse_assignment_expr-returns-in_err-left : goal.parse_assignment_expr-returns-in_err-left
+parse_assignment_expr-returns-in_err-left g t c =
+    let p = err_from_is_err_and c.from_residual-in_err-left.result c.from_residual-in_err-left.ensures.1 in rw (p.1, p.2)
+    (m.no (s.unheard_after (s.on_seen {g = λ x ts. run _ (at (Level 1)) x ts >>= (λ p. run _ (assigns p.0) x p.1)} c.in_ok-require_cur.ensures.fits (λ x ts same e. assign.assign_splits _ x ts
+    (ap (λ v. at_token is_yield v && x.context.in_generator) e ∙ ap (λ v. at_token is_yield (seen c.require_cur.new.input) && v.context.in_generator) same ∙ sym c.is_yield_operator.ensures.value ∙ c.if-is_yield_operator.false)
+    (ap (at_token no_error) e ∙ c.in_ok-require_cur.ensures.token)))
+    (s.unheard_call (λ x p. run _ (assigns p.0) x p.1) (λ x ts. refl) c.in_err-left.ensures.reads)) c.parse_bin_expr.ensures.grows)
+
+pub parse_assignment_expr-returns : goal.parse_assignment_expr-returns
+parse_assignment_expr-returns g t c =
+    m.after {m = record c.args.p.now { input = c.require_cur.new.input }} c.finish_assignment_expr.result (s.on_seen {g = λ x ts. run _ (at (Level 1)) x ts >>= (λ p. run _ (assigns p.0) x p.1)} c.in_ok-require_cur.ensures.fits (λ x ts same e. assign.assign_splits _ x ts
+    (ap (λ v. at_token is_yield v && x.context.in_generator) e ∙ ap (λ v. at_token is_yield (seen c.require_cur.new.input) && v.context.in_generator) same ∙ sym c.is_yield_operator.ensures.value ∙ c.if-is_yield_operator.false)
+    (ap (at_token no_error) e ∙ c.in_ok-require_cur.ensures.token))) (grows-same _)
+    (m.call_read c.finish_assignment_expr.result (λ x p. run _ (assigns p.0) x p.1) (λ x ts. refl)
+    c.in_ok-left.ensures.reads (λ x ts us h y ys. assign.from_place _ _ _ y ys
+    (ending.begun _ g.met.B.Bodies.lawful c.in_ok-left.left (Level 1) x ts us c.in_ok-left.ensures.from h))
+    c.parse_bin_expr.ensures.grows (λ x. from-down c.in_ok-left.ensures.from.above) c.finish_assignment_expr.ensures)
+
+pub finish_assignment_expr-returns-in_err-look : goal.finish_assignment_expr-returns-in_err-look
+finish_assignment_expr-returns-in_err-look g t c =
+    let p = err_from_is_err_and c.from_residual.result c.from_residual.ensures.1 in rw (p.1, p.2)
+    (m.no_more (s.unheard_memory c.in_err-look.ensures.looks) (grows-same _))
+
+pub finish_assignment_expr-returns-in_err-cons : goal.finish_assignment_expr-returns-in_err-cons
+finish_assignment_expr-returns-in_err-cons g t c =
+    let l = tree_of c.args.p.now.nodes c.args.left in
+    let lo = start_at c.args.p.now.nodes c.args.left.0 in
+    let middle = assign.in_middle g.I.Tokens.model g.B.Bodies.is_faithful _ _ c.get_ctx-ctx.result c.parse_assignment_expr-middle.result c.get_ctx-ctx.ensures c.set_ctx.ensures.moves
+    (c.set_ctx.ensures.context ∙ c.cond_middle.ensures) c.parse_assignment_expr-middle.ensures.reads c.set_ctx-then-is_sign.ensures.moves c.set_ctx-then-is_sign.ensures.context in
+    let p = err_from_is_err_and c.from_residual-in_err-cons.result c.from_residual-in_err-cons.ensures.1 in rw (p.1, p.2)
+    (m.no_more (s.unheard_after (s.on_seen {g = behind (cond_tail _ lo l)} c.in_ok-look.ensures.looks (λ x ts same e. assign.from_question _ lo l x ts (ap (at_token is_question) e ∙ sym c.is_sign.ensures.value ∙ c.if-is_sign.true)))
+    (s.unheard_after (s.on_took {g = cond_tail _ lo l} g.met.I.Tokens.laws c.skip.ensures.took.1 (λ x ts. refl))
+    (s.unheard_call (λ x p. cond_colon _ lo l p.0 x p.1) (λ x ts. assign.cond_tail_splits _ lo l x ts)
+    (s.parses_err g.I.Tokens.model g.B.Bodies.is_faithful (tree_of c.parse_assignment_expr-middle.new.p.nodes) (inside _) _ _ c.parse_assignment_expr-middle.result _ c.in_err-cons.was middle))))
+    c.parse_assignment_expr-middle.ensures.grows)
+
+pub finish_assignment_expr-returns-in_err-expect : goal.finish_assignment_expr-returns-in_err-expect
+finish_assignment_expr-returns-in_err-expect g t c =
+    let l = tree_of c.args.p.now.nodes c.args.left in
+    let lo = start_at c.args.p.now.nodes c.args.left.0 in
+    let e = tree_of c.parse_assignment_expr-middle.new.p.nodes c.in_ok-cons.cons in
+    let middle = assign.in_middle g.I.Tokens.model g.B.Bodies.is_faithful _ _ c.get_ctx-ctx.result c.parse_assignment_expr-middle.result c.get_ctx-ctx.ensures c.set_ctx.ensures.moves
+    (c.set_ctx.ensures.context ∙ c.cond_middle.ensures) c.parse_assignment_expr-middle.ensures.reads c.set_ctx-then-is_sign.ensures.moves c.set_ctx-then-is_sign.ensures.context in
+    let read = s.parses_ok g.I.Tokens.model g.B.Bodies.is_faithful (tree_of c.parse_assignment_expr-middle.new.p.nodes) (inside _) _ _ c.parse_assignment_expr-middle.result c.in_ok-cons.cons c.in_ok-cons.was middle in
+    let p = err_from_is_err_and c.from_residual-in_err-expect.result c.from_residual-in_err-expect.ensures.1 in rw (p.1, p.2)
+    (m.no_more (s.unheard_after (s.on_seen {g = behind (cond_tail _ lo l)} c.in_ok-look.ensures.looks (λ x ts same e. assign.from_question _ lo l x ts (ap (at_token is_question) e ∙ sym c.is_sign.ensures.value ∙ c.if-is_sign.true)))
+    (s.unheard_after (s.on_then (s.on_took {g = cond_tail _ lo l} g.met.I.Tokens.laws c.skip.ensures.took.1 (λ x ts. refl))
+    (s.on_call (λ x p. cond_colon _ lo l p.0 x p.1) (λ x ts. assign.cond_tail_splits _ lo l x ts) read.on))
+    (s.unheard_call (λ x q. cond_close _ lo l e x q.1) (λ x ts. refl) (c.in_err-expect.ensures.expects g.B.Bodies.is_faithful)))) c.parse_assignment_expr-middle.ensures.grows)
+
+pub finish_assignment_expr-returns-in_err-alt : goal.finish_assignment_expr-returns-in_err-alt
+finish_assignment_expr-returns-in_err-alt g t c =
+    let l = tree_of c.args.p.now.nodes c.args.left in
+    let lo = start_at c.args.p.now.nodes c.args.left.0 in
+    let e = tree_of c.parse_assignment_expr-middle.new.p.nodes c.in_ok-cons.cons in
+    let middle = assign.in_middle g.I.Tokens.model g.B.Bodies.is_faithful _ _ c.get_ctx-ctx.result c.parse_assignment_expr-middle.result c.get_ctx-ctx.ensures c.set_ctx.ensures.moves
+    (c.set_ctx.ensures.context ∙ c.cond_middle.ensures) c.parse_assignment_expr-middle.ensures.reads c.set_ctx-then-is_sign.ensures.moves c.set_ctx-then-is_sign.ensures.context in
+    let read = s.parses_ok g.I.Tokens.model g.B.Bodies.is_faithful (tree_of c.parse_assignment_expr-middle.new.p.nodes) (inside _) _ _ c.parse_assignment_expr-middle.result c.in_ok-cons.cons c.in_ok-cons.was middle in
+    let kept = (c.in_ok-expect.ensures.expects g.B.Bodies.is_faithful).on.leads.read.context ∙ c.set_ctx-then-is_sign.ensures.context in
+    let last = assign.in_last g.I.Tokens.model g.B.Bodies.is_faithful _ _ c.get_ctx-ctx.result c.parse_assignment_expr-last.result (sym kept) c.set_ctx-then-is_sign-2.ensures.moves
+    (c.set_ctx-then-is_sign-2.ensures.context ∙ c.cond_last.ensures) c.parse_assignment_expr-last.ensures.reads c.set_ctx-then-is_sign-3.ensures.moves c.set_ctx-then-is_sign-3.ensures.context in
+    let p = err_from_is_err_and c.from_residual-in_err-alt.result c.from_residual-in_err-alt.ensures.1 in rw (p.1, p.2)
+    (m.no_more (s.unheard_after (s.on_seen {g = behind (cond_tail _ lo l)} c.in_ok-look.ensures.looks (λ x ts same e. assign.from_question _ lo l x ts (ap (at_token is_question) e ∙ sym c.is_sign.ensures.value ∙ c.if-is_sign.true)))
+    (s.unheard_after (s.on_then (s.on_then (s.on_took {g = cond_tail _ lo l} g.met.I.Tokens.laws c.skip.ensures.took.1 (λ x ts. refl))
+    (s.on_call (λ x p. cond_colon _ lo l p.0 x p.1) (λ x ts. assign.cond_tail_splits _ lo l x ts) read.on))
+    (s.on_call (λ x q. cond_close _ lo l e x q.1) (λ x ts. refl) (c.in_ok-expect.ensures.expects g.B.Bodies.is_faithful).on))
+    (s.unheard_call (λ x q. Some (cond_e (from_to lo (span_of q.0).hi) l e q.0, q.1)) (λ x ts. refl)
+    (s.parses_err g.I.Tokens.model g.B.Bodies.is_faithful (tree_of c.parse_assignment_expr-last.new.p.nodes) (run _ (at Assign)) _ _ c.parse_assignment_expr-last.result _ c.in_err-alt.was last))))
+    (grows-then c.parse_assignment_expr-middle.ensures.grows c.parse_assignment_expr-last.ensures.grows))
+
+pub finish_assignment_expr-set_ctx-requires-then-is_sign-2 : goal.finish_assignment_expr-set_ctx-requires-then-is_sign-2
+finish_assignment_expr-set_ctx-requires-then-is_sign-2 g t c =
+    let kept = (c.in_ok-expect.ensures.expects g.B.Bodies.is_faithful).on.leads.read.context ∙ c.set_ctx-then-is_sign.ensures.context in
+    ap (λ x. x.«module») c.cond_last.ensures ∙ ap (λ x. x.«module») (sym kept)
+
+pub finish_assignment_expr-cond_expr-node-requires-clause-test : goal.finish_assignment_expr-cond_expr-node-requires-clause-test
+finish_assignment_expr-cond_expr-node-requires-clause-test g t c =
+    from-later (grows-then c.parse_assignment_expr-middle.ensures.grows c.parse_assignment_expr-last.ensures.grows) c.requires.from
+
+pub finish_assignment_expr-cond_expr-node-requires-clause-then : goal.finish_assignment_expr-cond_expr-node-requires-clause-then
+finish_assignment_expr-cond_expr-node-requires-clause-then g t c =
+    from-down (let h = c.requires.from.within in omega arith) (from-later c.parse_assignment_expr-last.ensures.grows
+    (m.held_is _ c.parse_assignment_expr-middle.result c.in_ok-cons.cons c.in_ok-cons.was c.parse_assignment_expr-middle.ensures.from))
+
+pub finish_assignment_expr-cond_expr-node-requires-clause-other : goal.finish_assignment_expr-cond_expr-node-requires-clause-other
+finish_assignment_expr-cond_expr-node-requires-clause-other g t c =
+    let cons_from = m.held_is _ c.parse_assignment_expr-middle.result c.in_ok-cons.cons c.in_ok-cons.was c.parse_assignment_expr-middle.ensures.from in
+    from-down (let h = cons_from.within in omega arith)
+    (m.held_is _ c.parse_assignment_expr-last.result c.in_ok-alt.alt c.in_ok-alt.was c.parse_assignment_expr-last.ensures.from)
+
+pub finish_assignment_expr-returns-then-is_sign : goal.finish_assignment_expr-returns-then-is_sign
+finish_assignment_expr-returns-then-is_sign g t c =
+    let l = tree_of c.args.p.now.nodes c.args.left in
+    let lo = start_at c.args.p.now.nodes c.args.left.0 in
+    let e = tree_of c.parse_assignment_expr-middle.new.p.nodes c.in_ok-cons.cons in
+    let ns = c.parse_assignment_expr-last.new.p.nodes in
+    let a = tree_of ns c.in_ok-alt.alt in
+    let middle = assign.in_middle g.I.Tokens.model g.B.Bodies.is_faithful _ _ c.get_ctx-ctx.result c.parse_assignment_expr-middle.result c.get_ctx-ctx.ensures c.set_ctx.ensures.moves
+    (c.set_ctx.ensures.context ∙ c.cond_middle.ensures) c.parse_assignment_expr-middle.ensures.reads c.set_ctx-then-is_sign.ensures.moves c.set_ctx-then-is_sign.ensures.context in
+    let read = s.parses_ok g.I.Tokens.model g.B.Bodies.is_faithful (tree_of c.parse_assignment_expr-middle.new.p.nodes) (inside _) _ _ c.parse_assignment_expr-middle.result c.in_ok-cons.cons c.in_ok-cons.was middle in
+    let kept = (c.in_ok-expect.ensures.expects g.B.Bodies.is_faithful).on.leads.read.context ∙ c.set_ctx-then-is_sign.ensures.context in
+    let last = assign.in_last g.I.Tokens.model g.B.Bodies.is_faithful _ _ c.get_ctx-ctx.result c.parse_assignment_expr-last.result (sym kept) c.set_ctx-then-is_sign-2.ensures.moves
+    (c.set_ctx-then-is_sign-2.ensures.context ∙ c.cond_last.ensures) c.parse_assignment_expr-last.ensures.reads c.set_ctx-then-is_sign-3.ensures.moves c.set_ctx-then-is_sign-3.ensures.context in
+    let read_last = s.parses_ok g.I.Tokens.model g.B.Bodies.is_faithful (tree_of ns) (run _ (at Assign)) _ _ c.parse_assignment_expr-last.result c.in_ok-alt.alt c.in_ok-alt.was last in
+    let grows = grows-then c.parse_assignment_expr-middle.ensures.grows c.parse_assignment_expr-last.ensures.grows in
+    let place = from_to (start_at ns c.args.left.0) (span_of a).hi in
+    let whole = ap (λ v. cond_e (from_to v (span_of a).hi) l e a) (sym (start-later grows c.requires.from))
+    ∙ ap (λ v. cond_e place v e a) (sym (tree-later grows c.requires.from))
+    ∙ ap (λ v. cond_e place (tree_of ns c.args.left) v a)
+    (sym (tree-later c.parse_assignment_expr-last.ensures.grows (m.held_is _ c.parse_assignment_expr-middle.result c.in_ok-cons.cons c.in_ok-cons.was c.parse_assignment_expr-middle.ensures.from))) in
+    m.on_after {m = record c.args.p.now { input = c.look.new.input }} c.made.result (s.on_seen {g = behind (cond_tail _ lo l)} c.in_ok-look.ensures.looks (λ x ts same e. assign.from_question _ lo l x ts (ap (at_token is_question) e ∙ sym c.is_sign.ensures.value ∙ c.if-is_sign.true))) (grows-same _)
+    (m.weaker c.made.result
+    (m.node _ c.cond_expr-node.result c.made.result (first_kept grows c.requires.from) c.cond_expr-node.ensures.made c.made.ensures.ok c.made.ensures.refused grows c.cond_expr-node.ensures.grows
+    (s.heard_answer whole (s.heard_first g.met.I.Tokens.laws c.skip.ensures.took.1 (λ x ts. refl)
+    (s.on_then (s.on_call (λ x p. cond_colon _ lo l p.0 x p.1) (λ x ts. assign.cond_tail_splits _ lo l x ts) read.on)
+    (s.on_then (s.on_call (λ x q. cond_close _ lo l e x q.1) (λ x ts. refl) (c.in_ok-expect.ensures.expects g.B.Bodies.is_faithful).on)
+    (s.on_call (λ x q. Some (cond_e (from_to lo (span_of q.0).hi) l e q.0, q.1)) (λ x ts. refl) read_last.on)))))))
+
+pub finish_assignment_expr-returns-in-None : goal.finish_assignment_expr-returns-in-None
+finish_assignment_expr-returns-in-None g t c =
+    let l = tree_of c.args.p.now.nodes c.args.left in
+    let lo = start_at c.args.p.now.nodes c.args.left.0 in
+    m.on (Ok _) (s.on_seen c.in_ok-look.ensures.looks (λ x ts same e.
+    assign.from_other _ lo l x ts (ap (at_token is_question) e ∙ sym c.is_sign.ensures.value ∙ c.if-is_sign.false)
+    ∙ assign.assigns_end _ l x ts
+    (ap (at_token is_question) e ∙ sym c.is_sign.ensures.value ∙ c.if-is_sign.false)
+    (ap (λ v. assign_at v l) e ∙ sym c.cur_assign_op.ensures.value ∙ c.in-None.is))) (grows-same _) (from_self c.requires.from)
+
+pub finish_assignment_expr-returns-in_err-check_assign_target : goal.finish_assignment_expr-returns-in_err-check_assign_target
+finish_assignment_expr-returns-in_err-check_assign_target g t c =
+    let l = tree_of c.args.p.now.nodes c.args.left in
+    let lo = start_at c.args.p.now.nodes c.args.left.0 in
+    let op = c.in-Some.op in
+    let h = c.in_err-check_assign_target.ensures.refuses in
+    let p = err_from_is_err_and c.from_residual-in_err-check_assign_target.result c.from_residual-in_err-check_assign_target.ensures.1 in rw (p.1, p.2)
+    (m.no_more (s.unheard_after (s.on_seen {g = assign_expr _ op l} c.in_ok-look.ensures.looks (λ x ts same e.
+    assign.from_other _ lo l x ts (ap (at_token is_question) e ∙ sym c.is_sign.ensures.value ∙ c.if-is_sign.false)
+    ∙ assign.assigns_assign _ op l x ts (ap (λ v. assign_at v l) e ∙ sym c.cur_assign_op.ensures.value ∙ c.in-Some.is)))
+    (record { refuses = h.0; none = λ n sure loud ts k. assign.assign_ill _ op l (scope g.I.Tokens.model c.look.new.input) ts (h.1 n) })) (grows-same _))
+
+pub finish_assignment_expr-returns-in_err-right : goal.finish_assignment_expr-returns-in_err-right
+finish_assignment_expr-returns-in_err-right g t c =
+    let l = tree_of c.args.p.now.nodes c.args.left in
+    let lo = start_at c.args.p.now.nodes c.args.left.0 in
+    let op = c.in-Some.op in
+    let x0 = scope g.I.Tokens.model c.look.new.input in
+    let p = err_from_is_err_and c.from_residual-in_err-right.result c.from_residual-in_err-right.ensures.1 in rw (p.1, p.2)
+    (m.no_more (s.unheard_after (s.on_seen {g = assign_expr _ op l} c.in_ok-look.ensures.looks (λ x ts same e.
+    assign.from_other _ lo l x ts (ap (at_token is_question) e ∙ sym c.is_sign.ensures.value ∙ c.if-is_sign.false)
+    ∙ assign.assigns_assign _ op l x ts (ap (λ v. assign_at v l) e ∙ sym c.cur_assign_op.ensures.value ∙ c.in-Some.is)))
+    (s.unheard_after (s.on_then (s.on_checked_in {g = behind (assign_tail _ op l)} (is_target x0.context.strict l) c.in_ok-check_assign_target.ensures.checks
+    (λ ts h. assign.assign_well _ op l x0 ts h) (λ ts h. assign.assign_ill _ op l x0 ts h))
+    (s.on_took {g = assign_tail _ op l} g.met.I.Tokens.laws c.skip-2.ensures.took.1 (λ x ts. refl)))
+    (s.unheard_call (λ x p. Some (assign_e (to (span_of l) (span_of p.0)) op l p.0, p.1)) (λ x ts. assign.assign_tail_splits _ op l x ts) c.in_err-right.ensures.reads))) c.parse_assignment_expr.ensures.grows)
+
+pub finish_assignment_expr-assign_expr-node-requires-clause-left : goal.finish_assignment_expr-assign_expr-node-requires-clause-left
+finish_assignment_expr-assign_expr-node-requires-clause-left g t c = from-later c.parse_assignment_expr.ensures.grows c.in_ok-check_assign_target.ensures.target
+
+pub finish_assignment_expr-assign_expr-node-requires-clause-right : goal.finish_assignment_expr-assign_expr-node-requires-clause-right
+finish_assignment_expr-assign_expr-node-requires-clause-right g t c = from-down (let h = c.requires.from.within in omega arith) c.in_ok-right.ensures.from
+
+pub finish_assignment_expr-returns : goal.finish_assignment_expr-returns
+finish_assignment_expr-returns g t c =
+    let l = tree_of c.args.p.now.nodes c.args.left in
+    let lo = start_at c.args.p.now.nodes c.args.left.0 in
+    let op = c.in-Some.op in
+    let r = tree_of c.parse_assignment_expr.new.p.nodes c.in_ok-right.right in
+    let x0 = scope g.I.Tokens.model c.look.new.input in
+    let grows = c.parse_assignment_expr.ensures.grows in
+    let end = end_at c.parse_assignment_expr.new.p.nodes c.in_ok-right.right.0 in
+    let whole = ap (λ v. assign_e (from_to (span_of v).lo end) op v r) (sym (tree-later grows c.requires.from)) in
+    m.on_after {m = record c.args.p.now { input = c.look.new.input }} c.made-2.result (s.on_seen {g = assign_expr _ op l} c.in_ok-look.ensures.looks (λ x ts same e.
+    assign.from_other _ lo l x ts (ap (at_token is_question) e ∙ sym c.is_sign.ensures.value ∙ c.if-is_sign.false)
+    ∙ assign.assigns_assign _ op l x ts (ap (λ v. assign_at v l) e ∙ sym c.cur_assign_op.ensures.value ∙ c.in-Some.is))) (grows-same _)
+    (m.weaker c.made-2.result
+    (m.node _ c.assign_expr-node.result c.made-2.result (first_kept grows c.requires.from) c.assign_expr-node.ensures.made c.made-2.ensures.ok c.made-2.ensures.refused grows c.assign_expr-node.ensures.grows
+    (s.heard_answer whole (s.heard_after (s.on_checked_in {g = behind (assign_tail _ op l)} (is_target x0.context.strict l) c.in_ok-check_assign_target.ensures.checks
+    (λ ts h. assign.assign_well _ op l x0 ts h) (λ ts h. assign.assign_ill _ op l x0 ts h))
+    (s.heard_first g.met.I.Tokens.laws c.skip-2.ensures.took.1 (λ x ts. refl)
+    (s.on_call_read {g = s.give (assign_e (from_to (span_of l).lo end) op l r)} (λ x p. Some (assign_e (to (span_of l) (span_of p.0)) op l p.0, p.1)) (λ x ts. assign.assign_tail_splits _ op l x ts) c.in_ok-right.ensures.reads.on
+    (λ x ts us h y ys. ap (λ v. Some (assign_e (from_to (span_of l).lo v) op l r, ys))
+    (sym (ending.ended _ g.met.B.Bodies.lawful c.in_ok-right.right Assign x ts us c.in_ok-right.ensures.from h)))))))))
+
+pub parse_seq_expr-returns-in_err-add : goal.parse_seq_expr-returns-in_err-add
+parse_seq_expr-returns-in_err-add g t c =
+    let p = err_from_is_err_and c.from_residual.result c.from_residual.ensures.1 in rw (p.1, p.2)
+    (m.no (s.unheard_memory (s.forgoes_here g.met.I.Tokens.laws _ _ _ c.in_err-add.ensures.refused)) (grows-same _))
+
+pub parse_seq_expr-loop-exprs-init : goal.parse_seq_expr-loop-exprs-init
+parse_seq_expr-loop-exprs-init g t c =
+    let now = c.args.p.now.nodes in
+    let one = c.in_ok-add.ensures.added ∙ ap (λ v. v ++ c.args.first ∷ []) c.new-exprs.ensures.items in (
+      s.on_here g.met.I.Tokens.laws _ (λ x ts. ap (λ v. seqs_more g.B.BodyForms.forms (trees (map (λ e. tree_at now e.0) v)) x ts) (sym one)),
+      omega arith,
+      grows-same _,
+      record { chained = ap (λ v. chain (seat_at now) (first_at now c.args.first.0) (flat one_expr v) (count now)) one ∙ (apart-from (expr_part c.args.first) (from_self c.requires.from)).chained },
+      subst (λ v. 1 ≤ length v) (sym one) (omega arith),
+      ap (λ v. slice_index_or v 0 c.args.first) one,
+    )
+
+pub parse_seq_expr-returns-in_err-expr : goal.parse_seq_expr-returns-in_err-expr
+parse_seq_expr-returns-in_err-expr g t c =
+    let es = expr_trees (tree_at c.loop-exprs.p.nodes) c.loop-exprs.exprs in
+    let p = err_from_is_err_and c.from_residual-in_err-expr.result c.from_residual-in_err-expr.ensures.1 in rw (p.1, p.2)
+    (m.no (s.unheard_call (λ x p. Some (begun_if (begins_in_invalid (tree_of c.args.p.now.nodes c.args.first)) (start_at c.args.p.now.nodes c.args.first.0) p.0, p.1)) (λ x ts. refl) (s.unheard_after c.loop-exprs.invariant.0 (s.unheard_call (λ x p. run _ (seqs (trees_append es (cons p.0 nil))) x p.1) (λ x ts. assign.seqs_more_splits _ es x ts) c.in_err-expr.ensures.reads)))
+    (grows-then c.loop-exprs.invariant.2 c.parse_assignment_expr.ensures.grows))
+
+pub parse_seq_expr-returns-in_err-add-2 : goal.parse_seq_expr-returns-in_err-add-2
+parse_seq_expr-returns-in_err-add-2 g t c =
+    let p = err_from_is_err_and c.from_residual-in_err-add-2.result c.from_residual-in_err-add-2.ensures.1 in rw (p.1, p.2)
+    (m.no (s.unheard_memory (s.forgoes_later (s.leads_then c.loop-exprs.invariant.0.leads c.in_ok-expr.ensures.reads.on.leads) (s.forgoes_here g.met.I.Tokens.laws _ _ _ c.in_err-add-2.ensures.refused)))
+    (grows-then c.loop-exprs.invariant.2 c.parse_assignment_expr.ensures.grows))
+
+pub parse_seq_expr-returns-in_err-eat : goal.parse_seq_expr-returns-in_err-eat
+parse_seq_expr-returns-in_err-eat g t c =
+    let es = expr_trees (tree_at c.loop-exprs.p.nodes) c.loop-exprs.exprs in
+    let more = trees_append es (cons (tree_of c.parse_assignment_expr.new.p.nodes c.in_ok-expr.expr) nil) in
+    let p = err_from_is_err_and c.from_residual-in_err-eat.result c.from_residual-in_err-eat.ensures.1 in rw (p.1, p.2)
+    (m.no (s.unheard_call (λ x p. Some (begun_if (begins_in_invalid (tree_of c.args.p.now.nodes c.args.first)) (start_at c.args.p.now.nodes c.args.first.0) p.0, p.1)) (λ x ts. refl) (s.unheard_after c.loop-exprs.invariant.0 (s.unheard_after (s.on_call (λ x p. run _ (seqs (trees_append es (cons p.0 nil))) x p.1) (λ x ts. assign.seqs_more_splits _ es x ts) c.in_ok-expr.ensures.reads.on)
+    (s.unheard_call (λ x p. seqs_by _ more p.0 x p.1) (λ x ts. assign.seqs_splits _ more x ts) (c.in_err-eat.ensures.eats g.B.Bodies.is_faithful)))))
+    (grows-then c.loop-exprs.invariant.2 c.parse_assignment_expr.ensures.grows))
+
+pub parse_seq_expr-loop-exprs-preserved : goal.parse_seq_expr-loop-exprs-preserved
+parse_seq_expr-loop-exprs-preserved g t c =
+    let es = expr_trees (tree_at c.loop-exprs.p.nodes) c.loop-exprs.exprs in
+    let nodes = c.parse_assignment_expr.new.p.nodes in
+    let more = trees_append es (cons (tree_of nodes c.in_ok-expr.expr) nil) in
+    let grows = c.parse_assignment_expr.ensures.grows in
+    let some = s.eats_some g.B.Bodies.is_faithful is_comma _ c.in-Some.field-0 _ _ c.in-Some.is (c.in_ok-eat.ensures.eats g.B.Bodies.is_faithful) in
+    let added = ap (λ v. trees (map (λ e. tree_at nodes e.0) v)) c.in_ok-add-2.ensures.added ∙ exprs-more c.loop-exprs.exprs.items c.in_ok-expr.expr grows c.loop-exprs.invariant.3 in
+    let parts = exprs-apart-more c.loop-exprs.exprs.items c.in_ok-expr.expr grows c.loop-exprs.invariant.3 c.in_ok-expr.ensures.from in (
+      s.on_then c.loop-exprs.invariant.0 (s.on_then (s.on_call (λ x p. run _ (seqs (trees_append es (cons p.0 nil))) x p.1) (λ x ts. assign.seqs_more_splits _ es x ts) c.in_ok-expr.ensures.reads.on)
+          (s.on_to (s.on_call (λ x p. seqs_by _ more p.0 x p.1) (λ x ts. assign.seqs_splits _ more x ts) some.on)
+          (λ x ts. ap (λ v. seqs_more g.B.BodyForms.forms v x ts) (sym added)))),
+      let a = c.loop-exprs.invariant.1 in let b = c.in_ok-expr.ensures.falls in let d = c.in_ok-eat.ensures.falls in omega arith,
+      grows-then c.loop-exprs.invariant.2 grows,
+      record { chained = ap (λ v. chain (seat_at nodes) (first_at c.args.p.now.nodes c.args.first.0) (flat one_expr v) (count nodes)) c.in_ok-add-2.ensures.added ∙ parts.chained },
+      subst (λ v. 1 ≤ length v) (sym c.in_ok-add-2.ensures.added) (let h = length-append c.loop-exprs.exprs.items (c.in_ok-expr.expr ∷ []) in omega arith),
+      ap (λ v. slice_index_or v 0 c.args.first) c.in_ok-add-2.ensures.added ∙ ending.head-more c.loop-exprs.exprs.items c.in_ok-expr.expr c.args.first c.loop-exprs.invariant.4
+          ∙ c.loop-exprs.invariant.5,
+    )
+
+pub parse_seq_expr-returns-in-None : goal.parse_seq_expr-returns-in-None
+parse_seq_expr-returns-in-None g t c =
+    let old = c.args.p.now.nodes in let first = c.args.first in
+    let before = c.loop-exprs.exprs.items in let xs = c.add-in-loop-exprs.new.list.items in
+    let es = expr_trees (tree_at c.loop-exprs.p.nodes) c.loop-exprs.exprs in
+    let nodes = c.parse_assignment_expr.new.p.nodes in
+    let more = trees_append es (cons (tree_of nodes c.in_ok-expr.expr) nil) in
+    let grows = c.parse_assignment_expr.ensures.grows in
+    let none = s.eats_none g.B.Bodies.is_faithful is_comma _ _ _ c.in-None.is (c.in_ok-eat.ensures.eats g.B.Bodies.is_faithful) in
+    let added = ap (λ v. trees (map (λ e. tree_at nodes e.0) v)) c.in_ok-add-2.ensures.added ∙ exprs-more c.loop-exprs.exprs.items c.in_ok-expr.expr grows c.loop-exprs.invariant.3 in
+    let parts = exprs-apart-more c.loop-exprs.exprs.items c.in_ok-expr.expr grows c.loop-exprs.invariant.3 c.in_ok-expr.ensures.from in
+    let apart : Apart (first_at c.args.p.now.nodes c.args.first.0) nodes (exprs_parts c.add-in-loop-exprs.new.list) = record { chained = ap (λ v. chain (seat_at nodes) (first_at c.args.p.now.nodes c.args.first.0) (flat one_expr v) (count nodes)) c.in_ok-add-2.ensures.added ∙ parts.chained } in
+    m.node _ c.seq_expr-node.result c.made.result (omega arith)
+    (made_over _ _ (first_at c.args.p.now.nodes c.args.first.0) (exprs_parts c.add-in-loop-exprs.new.list) _ c.seq_expr-node.result c.seq_expr-node.ensures.made apart)
+    c.made.ensures.ok c.made.ensures.refused (grows-then c.loop-exprs.invariant.2 grows) c.seq_expr-node.ensures.grows
+    (s.heard_answer (ending.seq-begun old nodes first c.in_ok-expr.expr before xs (grows-then c.loop-exprs.invariant.2 grows) c.requires.from c.loop-exprs.invariant.4 c.loop-exprs.invariant.5 c.in_ok-add-2.ensures.added)
+    (s.heard_as (begun_if (begins_in_invalid (tree_of old first)) (start_at old first.0)) (λ x ts. refl)
+    (s.heard_after c.loop-exprs.invariant.0 (s.heard_more_read (λ x p. run _ (seqs (trees_append es (cons p.0 nil))) x p.1) (λ x ts. assign.seqs_more_splits _ es x ts) c.in_ok-expr.ensures.reads
+    (s.on_call (λ x p. seqs_by _ more p.0 x p.1) (λ x ts. assign.seqs_splits _ more x ts) none)
+    (λ x ts us h. ap seq_of (sym added) ∙ ending.seq-read old nodes first c.in_ok-expr.expr before xs (grows-then c.loop-exprs.invariant.2 grows) c.requires.from c.loop-exprs.invariant.4 c.loop-exprs.invariant.5 c.in_ok-add-2.ensures.added
+    (ending.ended _ g.met.B.Bodies.lawful c.in_ok-expr.expr Assign x ts us c.in_ok-expr.ensures.from h))))))
+
+pub parse_seq_expr-seq_expr-node-requires-clause-apart : goal.parse_seq_expr-seq_expr-node-requires-clause-apart
+parse_seq_expr-seq_expr-node-requires-clause-apart g t c =
+    let nodes = c.parse_assignment_expr.new.p.nodes in
+    let start = first_at c.args.p.now.nodes c.args.first.0 in
+    let parts = exprs-apart-more c.loop-exprs.exprs.items c.in_ok-expr.expr c.parse_assignment_expr.ensures.grows c.loop-exprs.invariant.3 c.in_ok-expr.ensures.from in
+    let apart : Apart start nodes (exprs_parts c.add-in-loop-exprs.new.list) = record { chained = ap (λ v. chain (seat_at nodes) start (flat one_expr v) (count nodes)) c.in_ok-add-2.ensures.added ∙ parts.chained } in
+    apart-down (exprs_parts c.add-in-loop-exprs.new.list) apart
+
+pub parse_yield_expr-returns-in_err-refuse_yield_param : goal.parse_yield_expr-returns-in_err-refuse_yield_param
+parse_yield_expr-returns-in_err-refuse_yield_param g t c =
+    let first = c.skip.ensures.took.1 in
+    let h = c.in_err-refuse_yield_param.ensures.refuses in
+    let p = err_from_is_err_and c.from_residual.result c.from_residual.ensures.1 in rw (p.1, p.2)
+    (m.no (s.unheard_after (s.on_took {g = yield_tail _ (plain first.was).span} g.met.I.Tokens.laws first (λ x ts. assign.yield_opens _ (plain first.was) x ts))
+    (record { refuses = h.0; none = λ n sure loud ts k. assign.yield_ill _ (plain first.was).span (scope g.I.Tokens.model c.skip.new.input) ts h.1 })) (grows-same _))
+
+pub parse_yield_expr-returns-in_err-goes_on_yield : goal.parse_yield_expr-returns-in_err-goes_on_yield
+parse_yield_expr-returns-in_err-goes_on_yield g t c =
+    let p = err_from_is_err_and c.from_residual-in_err-goes_on_yield.result c.from_residual-in_err-goes_on_yield.ensures.1 in rw (p.1, p.2)
+    (m.no (s.unheard_memory (s.forgoes_later (s.leads_then (s.took_leads g.met.I.Tokens.laws c.skip.ensures.took.1) (s.same_leads g.met.I.Tokens.laws c.in_ok-refuse_yield_param.ensures.passes.0)) c.in_err-goes_on_yield.ensures.looks)) (grows-same _))
+
+pub parse_yield_expr-returns : goal.parse_yield_expr-returns
+parse_yield_expr-returns g t c =
+    let first = c.skip.ensures.took.1 in
+    let start = c.cur_span-start.result in
+    let place = s.place_was first c.cur_span-start.result c.cur_span-start.ensures in
+    let same_at = s.leads_then (s.same_leads g.met.I.Tokens.laws c.in_ok-refuse_yield_param.ensures.passes.0) (s.here_leads c.in_ok-goes_on_yield.ensures.looks) in
+    m.node _ c.yield_alone-node.result c.made-2.result (omega arith) c.yield_alone-node.ensures.made c.made-2.ensures.ok c.made-2.ensures.refused (grows-same _) c.yield_alone-node.ensures.grows
+    (s.heard_first g.met.I.Tokens.laws first (λ x ts. assign.yield_opens _ (plain first.was) x ts ∙ ap (λ v. yield_tail g.B.BodyForms.forms v x ts) (sym place))
+    (s.on_then (s.on_same {f = yield_tail _ start} g.met.I.Tokens.laws c.in_ok-refuse_yield_param.ensures.passes.0)
+    (s.on_seen {g = s.give (yield_e start false hole_e)} c.in_ok-goes_on_yield.ensures.looks (λ x ts same e.
+    assign.yield_well _ start x ts (ap (λ v. yield_ok v.context) (same ∙ s.read_scope g.met.I.Tokens.laws same_at.read) ∙ c.in_ok-refuse_yield_param.ensures.passes.1)
+    ∙ assign.yield_stays _ start x ts (ap goes_on_yield_at e ∙ sym c.in_ok-goes_on_yield.ensures.value ∙ c.if-branch.false)))))
+
+pub parse_yield_expr-returns-in_err-star : goal.parse_yield_expr-returns-in_err-star
+parse_yield_expr-returns-in_err-star g t c =
+    let first = c.skip.ensures.took.1 in
+    let start = c.cur_span-start.result in
+    let place = s.place_was first c.cur_span-start.result c.cur_span-start.ensures in
+    let same_at = s.leads_then (s.same_leads g.met.I.Tokens.laws c.in_ok-refuse_yield_param.ensures.passes.0) (s.here_leads c.in_ok-goes_on_yield.ensures.looks) in
+    let p = err_from_is_err_and c.from_residual-in_err-star.result c.from_residual-in_err-star.ensures.1 in rw (p.1, p.2)
+    (m.no (s.unheard_after
+    (s.on_then (s.on_took {g = yield_tail _ start} g.met.I.Tokens.laws first (λ x ts. assign.yield_opens _ (plain first.was) x ts ∙ ap (λ v. yield_tail g.B.BodyForms.forms v x ts) (sym place)))
+    (s.on_then (s.on_same {f = yield_tail _ start} g.met.I.Tokens.laws c.in_ok-refuse_yield_param.ensures.passes.0)
+    (s.on_seen {g = yield_operand _ start} c.in_ok-goes_on_yield.ensures.looks (λ x ts same e.
+    assign.yield_well _ start x ts (ap (λ v. yield_ok v.context) (same ∙ s.read_scope g.met.I.Tokens.laws same_at.read) ∙ c.in_ok-refuse_yield_param.ensures.passes.1)
+    ∙ assign.yield_goes _ start x ts (ap goes_on_yield_at e ∙ sym c.in_ok-goes_on_yield.ensures.value ∙ c.if-branch.true)))))
+    (s.unheard_call (λ x p. yield_arg _ start p.0 x p.1) (λ x ts. assign.yield_operand_splits _ start x ts) (c.in_err-star.ensures.eats g.B.Bodies.is_faithful))) (grows-same _))
+
+pub parse_yield_expr-returns-in-Ok : goal.parse_yield_expr-returns-in-Ok
+parse_yield_expr-returns-in-Ok g t c =
+    let first = c.skip.ensures.took.1 in
+    let start = c.cur_span-start.result in
+    let place = s.place_was first c.cur_span-start.result c.cur_span-start.ensures in
+    let same_at = s.leads_then (s.same_leads g.met.I.Tokens.laws c.in_ok-refuse_yield_param.ensures.passes.0) (s.here_leads c.in_ok-goes_on_yield.ensures.looks) in
+    let star = c.in_ok-star.star in
+    let e = tree_of c.parse_assignment_expr.new.p.nodes c.in-Ok.arg in
+    let end = end_at c.parse_assignment_expr.new.p.nodes c.in-Ok.arg.0 in
+    let given = ap (λ b. yield_e (from_to start.lo end) b e) (sym (assign.given_some star) ∙ sym c.is_some.ensures) in
+    m.after {m = record c.args.p.now { input = c.goes_on_yield.new.input }} c.made.result
+    (s.on_then (s.on_took {g = yield_tail _ start} g.met.I.Tokens.laws first (λ x ts. assign.yield_opens _ (plain first.was) x ts ∙ ap (λ v. yield_tail g.B.BodyForms.forms v x ts) (sym place)))
+    (s.on_then (s.on_same {f = yield_tail _ start} g.met.I.Tokens.laws c.in_ok-refuse_yield_param.ensures.passes.0)
+    (s.on_seen {g = yield_operand _ start} c.in_ok-goes_on_yield.ensures.looks (λ x ts same e.
+    assign.yield_well _ start x ts (ap (λ v. yield_ok v.context) (same ∙ s.read_scope g.met.I.Tokens.laws same_at.read) ∙ c.in_ok-refuse_yield_param.ensures.passes.1)
+    ∙ assign.yield_goes _ start x ts (ap goes_on_yield_at e ∙ sym c.in_ok-goes_on_yield.ensures.value ∙ c.if-branch.true)))))
+    (grows-same _)
+    (m.node _ c.yield_expr-node.result c.made.result c.in-Ok.ensures.from.above c.yield_expr-node.ensures.made c.made.ensures.ok c.made.ensures.refused c.parse_assignment_expr.ensures.grows c.yield_expr-node.ensures.grows
+    (s.heard_answer given (s.heard_after (s.on_call (λ x p. yield_arg _ start p.0 x p.1) (λ x ts. assign.yield_operand_splits _ start x ts) (s.eats_on g.B.Bodies.is_faithful is_star star _ _ (c.in_ok-star.ensures.eats g.B.Bodies.is_faithful)))
+    (s.heard_call_read (λ x q. Some (yield_e (to start (span_of q.0)) (is_some star) q.0, q.1)) (λ x ts. refl)
+    (λ x ts us h y ys. ap (λ v. Some (yield_e (from_to start.lo v) (is_some star) e, ys))
+    (sym (ending.ended _ g.met.B.Bodies.lawful c.in-Ok.arg Assign x ts us c.in-Ok.ensures.from h))) c.in-Ok.ensures.reads))))
+
+pub parse_yield_expr-returns-in-Err : goal.parse_yield_expr-returns-in-Err
+parse_yield_expr-returns-in-Err g t c =
+    let first = c.skip.ensures.took.1 in
+    let start = c.cur_span-start.result in
+    let place = s.place_was first c.cur_span-start.result c.cur_span-start.ensures in
+    let same_at = s.leads_then (s.same_leads g.met.I.Tokens.laws c.in_ok-refuse_yield_param.ensures.passes.0) (s.here_leads c.in_ok-goes_on_yield.ensures.looks) in
+    let star = c.in_ok-star.star in
+    m.after {m = record c.args.p.now { input = c.goes_on_yield.new.input }} (Err _)
+    (s.on_then (s.on_took {g = yield_tail _ start} g.met.I.Tokens.laws first (λ x ts. assign.yield_opens _ (plain first.was) x ts ∙ ap (λ v. yield_tail g.B.BodyForms.forms v x ts) (sym place)))
+    (s.on_then (s.on_same {f = yield_tail _ start} g.met.I.Tokens.laws c.in_ok-refuse_yield_param.ensures.passes.0)
+    (s.on_seen {g = yield_operand _ start} c.in_ok-goes_on_yield.ensures.looks (λ x ts same e.
+    assign.yield_well _ start x ts (ap (λ v. yield_ok v.context) (same ∙ s.read_scope g.met.I.Tokens.laws same_at.read) ∙ c.in_ok-refuse_yield_param.ensures.passes.1)
+    ∙ assign.yield_goes _ start x ts (ap goes_on_yield_at e ∙ sym c.in_ok-goes_on_yield.ensures.value ∙ c.if-branch.true)))))
+    (grows-same _)
+    (m.no (s.unheard_as c.label_yield.result c.label_yield.ensures.kind c.label_yield.ensures.memory
+    (s.unheard_after (s.on_call (λ x p. yield_arg _ start p.0 x p.1) (λ x ts. assign.yield_operand_splits _ start x ts) (s.eats_on g.B.Bodies.is_faithful is_star star _ _ (c.in_ok-star.ensures.eats g.B.Bodies.is_faithful)))
+    (s.unheard_call (λ x q. Some (yield_e (to start (span_of q.0)) (is_some star) q.0, q.1)) (λ x ts. refl) c.in-Err.ensures.reads)))
+    c.parse_assignment_expr.ensures.grows)
+
+pub parse_assignment_expr_with_in-returns : goal.parse_assignment_expr_with_in-returns
+parse_assignment_expr_with_in-returns g t c =
+    m.yes c.parse_assignment_expr-expr.result
+    (s.parses_within g.I.Tokens.model g.B.Bodies.is_faithful (tree_of c.parse_assignment_expr-expr.new.p.nodes) _ (run _ (at Assign)) c.parse_assignment_expr-expr.result include_in (λ x. refl) (λ x ts. rule.inside_assign _ x ts)
+    c.set_ctx.ensures.moves (ap deciding c.set_ctx.ensures.context ∙ ap (λ x. include_in (deciding x)) c.get_ctx-ctx.ensures) c.parse_assignment_expr-expr.ensures.reads c.set_ctx-2.ensures.moves
+    (c.set_ctx-2.ensures.context ∙ c.get_ctx-ctx.ensures))
+    c.parse_assignment_expr-expr.ensures.grows c.parse_assignment_expr-expr.ensures.from
+
+pub parse_prop_name-returns : goal.parse_prop_name-returns
+parse_prop_name-returns g t c =
+    m.yes c.parse_key-key.result
+    (s.parses_aside g.I.Tokens.model g.B.Bodies.is_faithful (key_at c.parse_key-key.new.p.nodes) (run _ (at Key)) c.parse_key-key.result
+    c.set_ctx.ensures.moves (ap deciding c.set_ctx.ensures.context ∙ ap deciding c.get_ctx-ctx.ensures) c.parse_key-key.ensures.reads c.set_ctx-2.ensures.moves
+    (c.set_ctx-2.ensures.context ∙ c.get_ctx-ctx.ensures))
+    c.parse_key-key.ensures.grows c.parse_key-key.ensures.from
+
+pub parse_key-returns-in_err-start : goal.parse_key-returns-in_err-start
+parse_key-returns-in_err-start g t c =
+    let p = err_from_is_err_and c.from_residual.result c.from_residual.ensures.1 in rw (p.1, p.2)
+    (m.no (s.unheard_call (λ x p. key_by _ p.0 x p.1) (λ x ts. key.key_splits _ x ts) (c.in_err-start.ensures.eats g.B.Bodies.is_faithful)) (grows-same _))
+
+pub parse_key-returns-in_err-expr-in-Some : goal.parse_key-returns-in_err-expr-in-Some
+parse_key-returns-in_err-expr-in-Some g t c =
+    let some = s.on_call (λ x p. key_by g.B.BodyForms.forms p.0 x p.1) (λ x ts. key.key_splits _ x ts)
+    (s.eats_some g.B.Bodies.is_faithful is_lbracket _ c.in-Some.start _ _ c.in-Some.is (c.in_ok-start.ensures.eats g.B.Bodies.is_faithful)).on in
+    let p = err_from_is_err_and c.from_residual-in_err-expr-in-Some.result c.from_residual-in_err-expr-in-Some.ensures.1 in rw (p.1, p.2)
+    (m.no (s.unheard_after some
+    (s.unheard_call (λ x p. key_close c.in-Some.start p.0 x p.1) (λ x ts. key.computed_key_splits _ c.in-Some.start x ts) c.in_err-expr-in-Some.ensures.reads)) c.parse_assignment_expr_with_in.ensures.grows)
+
+pub parse_key-returns-in_ok-expr-in-Some : goal.parse_key-returns-in_ok-expr-in-Some
+parse_key-returns-in_ok-expr-in-Some g t c =
+    let some = s.on_call (λ x p. key_by g.B.BodyForms.forms p.0 x p.1) (λ x ts. key.key_splits _ x ts)
+    (s.eats_some g.B.Bodies.is_faithful is_lbracket _ c.in-Some.start _ _ c.in-Some.is (c.in_ok-start.ensures.eats g.B.Bodies.is_faithful)).on in
+    m.after_held c.computed_prop_name.result
+    (s.on_then some
+    (s.on_call (λ x p. key_close c.in-Some.start p.0 x p.1) (λ x ts. key.computed_key_splits _ c.in-Some.start x ts) c.in_ok-expr-in-Some.ensures.reads.on))
+    c.parse_assignment_expr_with_in.ensures.grows (λ x. apart-lower (key_parts x) c.in_ok-expr-in-Some.ensures.from.above) c.computed_prop_name.ensures
+
+pub parse_key-returns-in-None : goal.parse_key-returns-in-None
+parse_key-returns-in-None g t c =
+    m.after c.parse_plain_prop_name.result
+    (s.on_call (λ x p. key_by _ p.0 x p.1) (λ x ts. key.key_splits _ x ts)
+    (s.eats_none g.B.Bodies.is_faithful is_lbracket _ _ _ c.in-None.is (c.in_ok-start.ensures.eats g.B.Bodies.is_faithful)))
+    (grows-same _) c.parse_plain_prop_name.ensures
+
+pub parse_tpl_elements-returns : goal.parse_tpl_elements-returns
+parse_tpl_elements-returns g t c =
+    m.yes c.parse_tpl_parts-parts.result
+    (s.parses_aside g.I.Tokens.model g.B.Bodies.is_faithful (tpl_parts_at c.parse_tpl_parts-parts.new.p.nodes) (run _ (at (Parts c.args.is_tagged))) c.parse_tpl_parts-parts.result
+    c.set_ctx.ensures.moves (ap deciding c.set_ctx.ensures.context ∙ ap deciding c.get_ctx-ctx.ensures) c.parse_tpl_parts-parts.ensures.reads c.set_ctx-2.ensures.moves
+    (c.set_ctx-2.ensures.context ∙ c.get_ctx-ctx.ensures))
+    c.parse_tpl_parts-parts.ensures.grows c.parse_tpl_parts-parts.ensures.from
+
+pub parse_tpl_parts-loop-exprs-init : goal.parse_tpl_parts-loop-exprs-init
+parse_tpl_parts-loop-exprs-init g t c = (
+  s.on_here g.met.I.Tokens.laws _ (λ x ts. tpl.parts_first _ c.args.is_tagged x ts
+      ∙ ap (λ v. parts_behind g.B.BodyForms.forms c.args.is_tagged (trees (map quasi_tree v)) nil x ts) (sym c.new-quasis.ensures.items)
+      ∙ ap (λ v. parts_behind g.B.BodyForms.forms c.args.is_tagged (trees (map quasi_tree c.new-quasis.result.items)) (trees (map (tree_of c.args.p.now.nodes) v)) x ts) (sym c.new-exprs.ensures.items)),
+  omega arith,
+  grows-same _,
+  record { chained = ap (λ v. chain (seat_at c.args.p.now.nodes) (count c.args.p.now.nodes) (flat one_expr v) (count c.args.p.now.nodes)) c.new-exprs.ensures.items ∙ (apart-none {ns = c.args.p.now.nodes} {k = count c.args.p.now.nodes} (omega arith)).chained },
+)
+
+pub parse_tpl_parts-loop-exprs-preserved : goal.parse_tpl_parts-loop-exprs-preserved
+parse_tpl_parts-loop-exprs-preserved g t c =
+    let texts = trees (map quasi_tree c.loop-exprs.quasis.items) in
+    let exprs = trees (map (tree_of c.loop-exprs.p.nodes) c.loop-exprs.exprs.items) in
+    let now = trees_append texts (cons (quasi_tree c.in_ok-quasi.quasi) nil) in
+    let element = s.on_call (λ x p. parts_after g.B.BodyForms.forms c.args.is_tagged (trees_append texts (cons p.0 nil)) exprs x p.1) (λ x ts. tpl.behind_splits _ c.args.is_tagged texts exprs x ts) (c.in_ok-quasi.ensures.parses g.B.Bodies.is_faithful).on in
+    let opened = s.on_call (λ x p. parts_by g.B.BodyForms.forms c.args.is_tagged now exprs p.0 x p.1) (λ x ts. refl) (s.on_answer c.in-None.is (c.in_ok-end.ensures.ends g.B.Bodies.is_faithful).on) in
+    let added = ap (λ v. trees (map quasi_tree v)) c.in_ok-add.ensures.added ∙ trees-more quasi_tree c.loop-exprs.quasis.items c.in_ok-quasi.quasi in
+    let grows = grows-then (grows-kept c.parse_tpl_element.ensures.nodes) c.parse_expr_with_in.ensures.grows in
+    let nodes = c.parse_expr_with_in.new.p.nodes in
+    let more = ap (λ v. trees (map (tree_of nodes) v)) c.in_ok-add-2.ensures.added ∙ exprs-more c.loop-exprs.exprs.items c.in_ok-expr.expr grows c.loop-exprs.invariant.3 in
+    let parts = exprs-apart-more c.loop-exprs.exprs.items c.in_ok-expr.expr grows c.loop-exprs.invariant.3 (from-down (grows-count (grows-kept c.parse_tpl_element.ensures.nodes)) c.in_ok-expr.ensures.from) in (
+      s.on_then c.loop-exprs.invariant.0 (s.on_then element (s.on_then opened
+          (s.on_to (s.on_call (λ x p. parts_behind g.B.BodyForms.forms c.args.is_tagged now (trees_append exprs (cons p.0 nil)) x p.1) (λ x ts. refl)
+          (s.on_then (s.on_call (λ x p. tpl_expr_close g.B.BodyForms.forms p.0 x p.1) (λ x ts. refl) c.in_ok-expr.ensures.reads.on)
+          (s.on_call (λ x q. Some (tree_of nodes c.in_ok-expr.expr, q.1)) (λ x ts. refl) (c.in_ok-expect.ensures.expects g.B.Bodies.is_faithful).on)))
+          (λ x ts. tpl.behind_same g.B.BodyForms.forms c.args.is_tagged (sym added) (sym more) x ts)))),
+      let a = c.loop-exprs.invariant.1 in let b = c.in_ok-quasi.ensures.falls in let d = c.in_ok-end.ensures.falls in let e = c.in_ok-expr.ensures.falls in let f = c.in_ok-expect.ensures.falls in omega arith,
+      grows-then c.loop-exprs.invariant.2 grows,
+      record { chained = ap (λ v. chain (seat_at nodes) (count c.args.p.now.nodes) (flat one_expr v) (count nodes)) c.in_ok-add-2.ensures.added ∙ parts.chained },
+    )
+
+pub parse_tpl_parts-returns-in_err-quasi : goal.parse_tpl_parts-returns-in_err-quasi
+parse_tpl_parts-returns-in_err-quasi g t c =
+    let texts = trees (map quasi_tree c.loop-exprs.quasis.items) in
+    let exprs = trees (map (tree_of c.loop-exprs.p.nodes) c.loop-exprs.exprs.items) in
+    let p = err_from_is_err_and c.from_residual.result c.from_residual.ensures.1 in rw (p.1, p.2)
+    (m.no (s.unheard_after c.loop-exprs.invariant.0 (s.unheard_call (λ x p. parts_after g.B.BodyForms.forms c.args.is_tagged (trees_append texts (cons p.0 nil)) exprs x p.1) (λ x ts. tpl.behind_splits _ c.args.is_tagged texts exprs x ts) (c.in_err-quasi.ensures.parses g.B.Bodies.is_faithful)))
+    (grows-then c.loop-exprs.invariant.2 (grows-kept c.parse_tpl_element.ensures.nodes)))
+
+pub parse_tpl_parts-returns-in_err-add : goal.parse_tpl_parts-returns-in_err-add
+parse_tpl_parts-returns-in_err-add g t c =
+    let p = err_from_is_err_and c.from_residual-in_err-add.result c.from_residual-in_err-add.ensures.1 in rw (p.1, p.2)
+    (m.no (s.unheard_memory (s.forgoes_later (s.leads_then c.loop-exprs.invariant.0.leads (c.in_ok-quasi.ensures.parses g.B.Bodies.is_faithful).on.leads) (s.forgoes_here g.met.I.Tokens.laws _ _ _ c.in_err-add.ensures.refused)))
+    (grows-then c.loop-exprs.invariant.2 (grows-kept c.parse_tpl_element.ensures.nodes)))
+
+pub parse_tpl_parts-returns-in_err-end : goal.parse_tpl_parts-returns-in_err-end
+parse_tpl_parts-returns-in_err-end g t c =
+    let texts = trees (map quasi_tree c.loop-exprs.quasis.items) in
+    let exprs = trees (map (tree_of c.loop-exprs.p.nodes) c.loop-exprs.exprs.items) in
+    let now = trees_append texts (cons (quasi_tree c.in_ok-quasi.quasi) nil) in
+    let element = s.on_call (λ x p. parts_after g.B.BodyForms.forms c.args.is_tagged (trees_append texts (cons p.0 nil)) exprs x p.1) (λ x ts. tpl.behind_splits _ c.args.is_tagged texts exprs x ts) (c.in_ok-quasi.ensures.parses g.B.Bodies.is_faithful).on in
+    let p = err_from_is_err_and c.from_residual-in_err-end.result c.from_residual-in_err-end.ensures.1 in rw (p.1, p.2)
+    (m.no (s.unheard_after c.loop-exprs.invariant.0 (s.unheard_after element (s.unheard_call (λ x p. parts_by g.B.BodyForms.forms c.args.is_tagged now exprs p.0 x p.1) (λ x ts. refl) (c.in_err-end.ensures.ends g.B.Bodies.is_faithful))))
+    (grows-then c.loop-exprs.invariant.2 (grows-kept c.parse_tpl_element.ensures.nodes)))
+
+pub parse_tpl_parts-returns-in-Some : goal.parse_tpl_parts-returns-in-Some
+parse_tpl_parts-returns-in-Some g t c =
+    let texts = trees (map quasi_tree c.loop-exprs.quasis.items) in
+    let exprs = trees (map (tree_of c.loop-exprs.p.nodes) c.loop-exprs.exprs.items) in
+    let now = trees_append texts (cons (quasi_tree c.in_ok-quasi.quasi) nil) in
+    let element = s.on_call (λ x p. parts_after g.B.BodyForms.forms c.args.is_tagged (trees_append texts (cons p.0 nil)) exprs x p.1) (λ x ts. tpl.behind_splits _ c.args.is_tagged texts exprs x ts) (c.in_ok-quasi.ensures.parses g.B.Bodies.is_faithful).on in
+    let added = ap (λ v. trees (map quasi_tree v)) c.in_ok-add.ensures.added ∙ trees-more quasi_tree c.loop-exprs.quasis.items c.in_ok-quasi.quasi in
+    let kept = grows-kept c.parse_tpl_element.ensures.nodes in
+    let some = s.heard_answer c.in-Some.is (c.in_ok-end.ensures.ends g.B.Bodies.is_faithful) in
+    let whole = ap (λ v. parts_e c.in-Some.end v exprs) (sym added)
+    ∙ ap (λ v. parts_e c.in-Some.end (trees (map quasi_tree c.add.new.list.items)) v) (sym (exprs-later c.loop-exprs.exprs.items kept c.loop-exprs.invariant.3)) in
+    m.yes (Ok _)
+    (s.heard_answer whole (s.heard_after c.loop-exprs.invariant.0 (s.heard_after element (s.heard_call (λ x p. parts_by g.B.BodyForms.forms c.args.is_tagged now exprs p.0 x p.1) (λ x ts. refl) (λ x ts. refl) some))))
+    (grows-then c.loop-exprs.invariant.2 kept) (apart-later kept c.loop-exprs.invariant.3)
+
+pub parse_tpl_parts-returns-in_err-expr : goal.parse_tpl_parts-returns-in_err-expr
+parse_tpl_parts-returns-in_err-expr g t c =
+    let texts = trees (map quasi_tree c.loop-exprs.quasis.items) in
+    let exprs = trees (map (tree_of c.loop-exprs.p.nodes) c.loop-exprs.exprs.items) in
+    let now = trees_append texts (cons (quasi_tree c.in_ok-quasi.quasi) nil) in
+    let element = s.on_call (λ x p. parts_after g.B.BodyForms.forms c.args.is_tagged (trees_append texts (cons p.0 nil)) exprs x p.1) (λ x ts. tpl.behind_splits _ c.args.is_tagged texts exprs x ts) (c.in_ok-quasi.ensures.parses g.B.Bodies.is_faithful).on in
+    let opened = s.on_call (λ x p. parts_by g.B.BodyForms.forms c.args.is_tagged now exprs p.0 x p.1) (λ x ts. refl) (s.on_answer c.in-None.is (c.in_ok-end.ensures.ends g.B.Bodies.is_faithful).on) in
+    let p = err_from_is_err_and c.from_residual-in_err-expr.result c.from_residual-in_err-expr.ensures.1 in rw (p.1, p.2)
+    (m.no (s.unheard_after c.loop-exprs.invariant.0 (s.unheard_after element (s.unheard_after opened
+    (s.unheard_call (λ x p. parts_behind g.B.BodyForms.forms c.args.is_tagged now (trees_append exprs (cons p.0 nil)) x p.1) (λ x ts. refl)
+    (s.unheard_call (λ x p. tpl_expr_close g.B.BodyForms.forms p.0 x p.1) (λ x ts. refl) c.in_err-expr.ensures.reads)))))
+    (grows-then c.loop-exprs.invariant.2 (grows-then (grows-kept c.parse_tpl_element.ensures.nodes) c.parse_expr_with_in.ensures.grows)))
+
+pub parse_tpl_parts-returns-in_err-expect : goal.parse_tpl_parts-returns-in_err-expect
+parse_tpl_parts-returns-in_err-expect g t c =
+    let texts = trees (map quasi_tree c.loop-exprs.quasis.items) in
+    let exprs = trees (map (tree_of c.loop-exprs.p.nodes) c.loop-exprs.exprs.items) in
+    let now = trees_append texts (cons (quasi_tree c.in_ok-quasi.quasi) nil) in
+    let element = s.on_call (λ x p. parts_after g.B.BodyForms.forms c.args.is_tagged (trees_append texts (cons p.0 nil)) exprs x p.1) (λ x ts. tpl.behind_splits _ c.args.is_tagged texts exprs x ts) (c.in_ok-quasi.ensures.parses g.B.Bodies.is_faithful).on in
+    let opened = s.on_call (λ x p. parts_by g.B.BodyForms.forms c.args.is_tagged now exprs p.0 x p.1) (λ x ts. refl) (s.on_answer c.in-None.is (c.in_ok-end.ensures.ends g.B.Bodies.is_faithful).on) in
+    let e = tree_of c.parse_expr_with_in.new.p.nodes c.in_ok-expr.expr in
+    let p = err_from_is_err_and c.from_residual-in_err-expect.result c.from_residual-in_err-expect.ensures.1 in rw (p.1, p.2)
+    (m.no (s.unheard_after c.loop-exprs.invariant.0 (s.unheard_after element (s.unheard_after opened
+    (s.unheard_call (λ x p. parts_behind g.B.BodyForms.forms c.args.is_tagged now (trees_append exprs (cons p.0 nil)) x p.1) (λ x ts. refl)
+    (s.unheard_after (s.on_call (λ x p. tpl_expr_close g.B.BodyForms.forms p.0 x p.1) (λ x ts. refl) c.in_ok-expr.ensures.reads.on)
+    (s.unheard_call (λ x q. Some (e, q.1)) (λ x ts. refl) (c.in_err-expect.ensures.expects g.B.Bodies.is_faithful)))))))
+    (grows-then c.loop-exprs.invariant.2 (grows-then (grows-kept c.parse_tpl_element.ensures.nodes) c.parse_expr_with_in.ensures.grows)))
+
+pub parse_tpl_parts-returns-in_err-add-2 : goal.parse_tpl_parts-returns-in_err-add-2
+parse_tpl_parts-returns-in_err-add-2 g t c =
+    let p = err_from_is_err_and c.from_residual-in_err-add-2.result c.from_residual-in_err-add-2.ensures.1 in rw (p.1, p.2)
+    (m.no (s.unheard_memory (s.forgoes_later (s.leads_then c.loop-exprs.invariant.0.leads (s.leads_then (c.in_ok-quasi.ensures.parses g.B.Bodies.is_faithful).on.leads (s.leads_then (c.in_ok-end.ensures.ends g.B.Bodies.is_faithful).on.leads
+    (s.leads_then c.in_ok-expr.ensures.reads.on.leads (c.in_ok-expect.ensures.expects g.B.Bodies.is_faithful).on.leads))))
+    (s.forgoes_here g.met.I.Tokens.laws _ _ _ c.in_err-add-2.ensures.refused)))
+    (grows-then c.loop-exprs.invariant.2 (grows-then (grows-kept c.parse_tpl_element.ensures.nodes) c.parse_expr_with_in.ensures.grows)))

@@ -1,0 +1,198 @@
+-- Each call is made with fewer tokens to come, or on the way down to a primary expression.
+use Rattle.std.proofs.Common.{◌≡◌, ◌+◌, ◌*◌, ◌≤◌, not, map, length}
+use Rattle.std.specs.Prelude.{slice_index_or}
+use Rattle.swc_input.specs.Buffer.{to_come}
+use Rattle.swc_ast.specs.Parts.{item_trees, quasi_tree}
+use Rattle.swc_ast.specs.Tree.{nil, cons, trees}
+use Rattle.swc_grammar.specs.Symbols.{Args, Elements, Props, Parts}
+use Rattle.swc_grammar.specs.Clean.{sym, links, run}
+use Rattle.swc_nodes.specs.Slots.{expr_part, args_parts}
+use Rattle.swc_nodes.specs.Lists.{elem_parts, elem_trees, props_parts, props_trees, exprs_parts, expr_trees}
+use Rattle.swc_nodes.specs.Pending.{all_pending, operand_parts, first_operand}
+use Rattle.swc_nodes.specs.Stands.{tree_at, count, first_at, Apart, From, Grows}
+use Rattle.swc_operators.specs.Assignments.{seqs_more}
+use Rattle.swc_operators.specs.Pending.{pending_reads}
+use Rattle.swc_steps.specs.Args.{args_behind}
+use Rattle.swc_steps.specs.Lists.{elements_behind}
+use Rattle.swc_primary.specs.Properties.{props_behind}
+use Rattle.swc_steps.specs.Parsing.{On, tree_of}
+use Rattle.swc_left.specs.Templates.{parts_behind}
+use Rattle.swc_productions.proofs.ring.+productions.Given as goal
+
+abbrev pub decreases-parse_primary_expr : goal.decreases-parse_primary_expr
+decreases-parse_primary_expr g l = to_come g.I.Tokens.model l.p.now.input * 20 + 2
+
+abbrev pub decreases-parse_base : goal.decreases-parse_base
+decreases-parse_base g l = to_come g.I.Tokens.model l.p.now.input * 20 + 3
+
+abbrev pub decreases-parse_super : goal.decreases-parse_super
+decreases-parse_super g l = to_come g.I.Tokens.model l.p.now.input * 20 + 19
+
+abbrev pub decreases-parse_lhs_expr : goal.decreases-parse_lhs_expr
+decreases-parse_lhs_expr g l = to_come g.I.Tokens.model l.p.now.input * 20 + 5
+
+abbrev pub decreases-parse_member_expr : goal.decreases-parse_member_expr
+decreases-parse_member_expr g l = to_come g.I.Tokens.model l.p.now.input * 20 + 4
+
+abbrev pub decreases-parse_subscripts : goal.decreases-parse_subscripts
+decreases-parse_subscripts g l = to_come g.I.Tokens.model l.p.now.input * 20 + 3
+
+abbrev pub invariant-parse_subscripts-loop-head : goal.invariant-parse_subscripts-loop-head
+invariant-parse_subscripts-loop-head g l =
+    On g.I.Tokens.model g.B.Bodies.is_faithful
+    (run g.B.BodyForms.forms (links (not l.fn.no_call) (tree_of l.fn.p.nodes l.fn.obj)))
+    (run g.B.BodyForms.forms (links (not l.fn.no_call) (tree_of l.p.nodes l.obj)))
+    l.fn.p.input l.p.input
+    × (to_come g.I.Tokens.model l.p.input ≤ to_come g.I.Tokens.model l.fn.p.input)
+    × Grows l.fn.p.nodes l.p.nodes
+    × From (first_at l.fn.p.nodes l.fn.obj.0) l.p.nodes (expr_part l.obj)
+
+abbrev pub decreases-parse_subscripts-loop-head : goal.decreases-parse_subscripts-loop-head
+decreases-parse_subscripts-loop-head g l = to_come g.I.Tokens.model l.p.input
+
+abbrev pub decreases-parse_link : goal.decreases-parse_link
+decreases-parse_link g l = to_come g.I.Tokens.model l.p.now.input * 20 + 17
+
+abbrev pub decreases-parse_args : goal.decreases-parse_args
+decreases-parse_args g l = to_come g.I.Tokens.model l.p.now.input * 20 + 16
+
+abbrev pub decreases-parse_arg_list : goal.decreases-parse_arg_list
+decreases-parse_arg_list g l = to_come g.I.Tokens.model l.p.now.input * 20 + 15
+
+abbrev pub invariant-parse_arg_list-loop-items : goal.invariant-parse_arg_list-loop-items
+invariant-parse_arg_list-loop-items g l =
+    On g.I.Tokens.model g.B.Bodies.is_faithful
+    (run g.B.BodyForms.forms (sym (Args l.fn.is_dynamic_import)))
+    (args_behind g.B.BodyForms.forms l.fn.is_dynamic_import (item_trees (tree_of l.p.nodes) l.items.items)
+    l.trailing_comma)
+    l.fn.p.input l.p.input
+    × (to_come g.I.Tokens.model l.p.input ≤ to_come g.I.Tokens.model l.fn.p.input)
+    × Grows l.fn.p.nodes l.p.nodes
+    × Apart (count l.fn.p.nodes) l.p.nodes (args_parts l.items)
+
+abbrev pub decreases-parse_arg_list-loop-items : goal.decreases-parse_arg_list-loop-items
+decreases-parse_arg_list-loop-items g l = to_come g.I.Tokens.model l.p.input
+
+abbrev pub decreases-parse_unary_expr : goal.decreases-parse_unary_expr
+decreases-parse_unary_expr g l = to_come g.I.Tokens.model l.p.now.input * 20 + 6
+
+abbrev pub decreases-parse_operators : goal.decreases-parse_operators
+decreases-parse_operators g l = to_come g.I.Tokens.model l.p.now.input * 20 + 9
+
+abbrev pub invariant-parse_operators-loop-pending : goal.invariant-parse_operators-loop-pending
+invariant-parse_operators-loop-pending g l =
+    On g.I.Tokens.model g.B.Bodies.is_faithful
+    (pending_reads g.B.BodyForms.forms (tree_of l.fn.p.nodes) (all_pending l.fn.pending) l.fn.left)
+    (pending_reads g.B.BodyForms.forms (tree_of l.p.nodes) (all_pending l.pending) l.left)
+    l.fn.p.input l.p.input
+    × (to_come g.I.Tokens.model l.p.input ≤ to_come g.I.Tokens.model l.fn.p.input)
+    × Grows l.fn.p.nodes l.p.nodes
+    × Apart (first_at l.fn.p.nodes (first_operand (all_pending l.fn.pending) l.fn.left).0) l.p.nodes
+    (operand_parts (all_pending l.pending) l.left)
+
+abbrev pub decreases-parse_operators-loop-pending : goal.decreases-parse_operators-loop-pending
+decreases-parse_operators-loop-pending g l =
+    to_come g.I.Tokens.model l.p.input * 2 + length (all_pending l.pending)
+
+abbrev pub decreases-parse_bin_expr : goal.decreases-parse_bin_expr
+decreases-parse_bin_expr g l = to_come g.I.Tokens.model l.p.now.input * 20 + 11
+
+abbrev pub decreases-parse_expr : goal.decreases-parse_expr
+decreases-parse_expr g l = to_come g.I.Tokens.model l.p.now.input * 20 + 13
+
+abbrev pub decreases-parse_seq_expr : goal.decreases-parse_seq_expr
+decreases-parse_seq_expr g l = to_come g.I.Tokens.model l.p.now.input * 20 + 13
+
+abbrev pub invariant-parse_seq_expr-loop-exprs : goal.invariant-parse_seq_expr-loop-exprs
+invariant-parse_seq_expr-loop-exprs g l =
+    On g.I.Tokens.model g.B.Bodies.is_faithful
+    (seqs_more g.B.BodyForms.forms (cons (tree_of l.fn.p.nodes l.fn.first) nil))
+    (seqs_more g.B.BodyForms.forms (expr_trees (tree_at l.p.nodes) l.exprs))
+    l.fn.p.input l.p.input
+    × (to_come g.I.Tokens.model l.p.input ≤ to_come g.I.Tokens.model l.fn.p.input)
+    × Grows l.fn.p.nodes l.p.nodes
+    × Apart (first_at l.fn.p.nodes l.fn.first.0) l.p.nodes (exprs_parts l.exprs)
+    × (1 ≤ length l.exprs.items)
+    × (slice_index_or l.exprs.items 0 l.fn.first ≡ l.fn.first)
+
+abbrev pub decreases-parse_seq_expr-loop-exprs : goal.decreases-parse_seq_expr-loop-exprs
+decreases-parse_seq_expr-loop-exprs g l = to_come g.I.Tokens.model l.p.input
+
+abbrev pub decreases-parse_expr_with_in : goal.decreases-parse_expr_with_in
+decreases-parse_expr_with_in g l = to_come g.I.Tokens.model l.p.now.input * 20 + 14
+
+abbrev pub decreases-parse_assignment_expr : goal.decreases-parse_assignment_expr
+decreases-parse_assignment_expr g l = to_come g.I.Tokens.model l.p.now.input * 20 + 12
+
+abbrev pub decreases-parse_assignment_expr_with_in : goal.decreases-parse_assignment_expr_with_in
+decreases-parse_assignment_expr_with_in g l = to_come g.I.Tokens.model l.p.now.input * 20 + 13
+
+abbrev pub decreases-finish_assignment_expr : goal.decreases-finish_assignment_expr
+decreases-finish_assignment_expr g l = to_come g.I.Tokens.model l.p.now.input * 20 + 2
+
+abbrev pub decreases-parse_yield_expr : goal.decreases-parse_yield_expr
+decreases-parse_yield_expr g l = to_come g.I.Tokens.model l.p.now.input * 20 + 1
+
+abbrev pub decreases-parse_expr_or_spread : goal.decreases-parse_expr_or_spread
+decreases-parse_expr_or_spread g l = to_come g.I.Tokens.model l.p.now.input * 20 + 13
+
+abbrev pub decreases-parse_elements : goal.decreases-parse_elements
+decreases-parse_elements g l = to_come g.I.Tokens.model l.p.now.input * 20 + 16
+
+abbrev pub invariant-parse_elements-loop-items : goal.invariant-parse_elements-loop-items
+invariant-parse_elements-loop-items g l =
+    On g.I.Tokens.model g.B.Bodies.is_faithful
+    (run g.B.BodyForms.forms (sym Elements))
+    (elements_behind g.B.BodyForms.forms (elem_trees (tree_at l.p.nodes) l.items) l.trailing_comma)
+    l.fn.p.input l.p.input
+    × (to_come g.I.Tokens.model l.p.input ≤ to_come g.I.Tokens.model l.fn.p.input)
+    × Grows l.fn.p.nodes l.p.nodes
+    × Apart (count l.fn.p.nodes) l.p.nodes (elem_parts l.items)
+
+abbrev pub decreases-parse_elements-loop-items : goal.decreases-parse_elements-loop-items
+decreases-parse_elements-loop-items g l = to_come g.I.Tokens.model l.p.input
+
+abbrev pub decreases-parse_prop_name : goal.decreases-parse_prop_name
+decreases-parse_prop_name g l = to_come g.I.Tokens.model l.p.now.input * 20 + 16
+
+abbrev pub decreases-parse_key : goal.decreases-parse_key
+decreases-parse_key g l = to_come g.I.Tokens.model l.p.now.input * 20 + 15
+
+abbrev pub decreases-parse_object_prop : goal.decreases-parse_object_prop
+decreases-parse_object_prop g l = to_come g.I.Tokens.model l.p.now.input * 20 + 18
+
+abbrev pub decreases-parse_props : goal.decreases-parse_props
+decreases-parse_props g l = to_come g.I.Tokens.model l.p.now.input * 20 + 20
+
+abbrev pub invariant-parse_props-loop-items : goal.invariant-parse_props-loop-items
+invariant-parse_props-loop-items g l =
+    On g.I.Tokens.model g.B.Bodies.is_faithful
+    (run g.B.BodyForms.forms (sym Props))
+    (props_behind g.B.BodyForms.forms (props_trees g.B.Fun.Spanned.place g.B.Class.Spanned.place g.B.Block.Spanned.place (tree_at l.p.nodes) l.items) l.trailing_comma)
+    l.fn.p.input l.p.input
+    × (to_come g.I.Tokens.model l.p.input ≤ to_come g.I.Tokens.model l.fn.p.input)
+    × Grows l.fn.p.nodes l.p.nodes
+    × Apart (count l.fn.p.nodes) l.p.nodes (props_parts l.items)
+
+abbrev pub decreases-parse_props-loop-items : goal.decreases-parse_props-loop-items
+decreases-parse_props-loop-items g l = to_come g.I.Tokens.model l.p.input
+
+abbrev pub decreases-parse_tpl_elements : goal.decreases-parse_tpl_elements
+decreases-parse_tpl_elements g l = to_come g.I.Tokens.model l.p.now.input * 20 + 16
+
+abbrev pub decreases-parse_tpl_parts : goal.decreases-parse_tpl_parts
+decreases-parse_tpl_parts g l = to_come g.I.Tokens.model l.p.now.input * 20 + 15
+
+abbrev pub invariant-parse_tpl_parts-loop-exprs : goal.invariant-parse_tpl_parts-loop-exprs
+invariant-parse_tpl_parts-loop-exprs g l =
+    On g.I.Tokens.model g.B.Bodies.is_faithful
+    (run g.B.BodyForms.forms (sym (Parts l.fn.is_tagged)))
+    (parts_behind g.B.BodyForms.forms l.fn.is_tagged (trees (map quasi_tree l.quasis.items))
+    (trees (map (tree_of l.p.nodes) l.exprs.items)))
+    l.fn.p.input l.p.input
+    × (to_come g.I.Tokens.model l.p.input ≤ to_come g.I.Tokens.model l.fn.p.input)
+    × Grows l.fn.p.nodes l.p.nodes
+    × Apart (count l.fn.p.nodes) l.p.nodes (exprs_parts l.exprs)
+
+abbrev pub decreases-parse_tpl_parts-loop-exprs : goal.decreases-parse_tpl_parts-loop-exprs
+decreases-parse_tpl_parts-loop-exprs g l = to_come g.I.Tokens.model l.p.input

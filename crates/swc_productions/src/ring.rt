@@ -1,0 +1,822 @@
+// The ring: the productions that call one another back (ECMA-262, 13), in the order of the standard.
+ghost use Rattle.std.specs.Prelude.{◌≡◌, ◌<◌, true, false, not, None, Some, IsSome};
+ghost use Rattle.swc_ast.specs.Tree.{nil, cons};
+ghost use Rattle.swc_ast.specs.Trees.{begins_in_invalid};
+ghost use Rattle.swc_grammar.specs.Clean.{sym, links, run};
+ghost use Rattle.swc_grammar.specs.Symbols.{Lhs, Primary, Elements, Item, Props, Prop, Key, Parts, Args, Level};
+ghost use Rattle.swc_grammar.specs.Symbols.{Unary, Expr, Assign};
+ghost use Rattle.swc_input.specs.Buffer.{current};
+ghost use Rattle.swc_input.specs.Kinds.{at_token};
+ghost use Rattle.swc_left.specs.Bases.{plain_base, super_tail, super_head, import_head};
+ghost use Rattle.swc_left.specs.Links.{link_tail};
+ghost use Rattle.swc_left.specs.Templates.{tpl_parts_of, tpl_parts_at};
+ghost use Rattle.swc_nodes.specs.Pending.{all_pending, operand_parts, first_operand};
+ghost use Rattle.swc_nodes.specs.Slots.{expr_part};
+ghost use Rattle.swc_nodes.specs.Stands.{count, first_at, From, Apart, start_at};
+ghost use Rattle.swc_operators.specs.Assignments.{assigns_from, seqs_from, yield_expr};
+ghost use Rattle.swc_operators.specs.Pending.{pending_reads};
+ghost use Rattle.swc_steps.specs.Args.{args_inside};
+ghost use Rattle.swc_steps.specs.Parsing.{seen, Produces, GoesOn, itself, tree_of, item_of, item_at, elems_of};
+ghost use Rattle.swc_steps.specs.Parsing.{elems_at, key_of, key_at, prop_of, prop_at, props_of, props_at, args_of};
+ghost use Rattle.swc_steps.specs.Parsing.{args_at};
+ghost use Rattle.swc_steps.specs.Readers.{inside, whole_inside};
+
+use swc_ast::expr::{Callee, ExprOrSpread, Import, Super};
+use swc_ast::prop::PropName;
+use swc_ast::spanned::Spanned;
+use swc_bodies::bodies::Bodies;
+use swc_context::context::Context;
+use swc_context::error::PResult;
+use swc_context::span::Span;
+use swc_input::tokens::Tokens;
+use swc_left::args::separate_args;
+use swc_left::base::{
+    ImportHead, SuperChain, SuperHead, callee_call, import_head, import_meta, parse_super_name,
+    refuse_super_args, refuse_super_brackets, refuse_super_name, super_chain, super_computed,
+    super_head,
+};
+use swc_left::left::{
+    LinkHead, call_expr, computed_member, is_super_or_import, new_expr, parse_dot_member,
+    parse_link_head, parse_new_target, refuse_opt_chain,
+};
+use swc_left::tpl::{TplParts, eat_tpl_end, parse_tpl_element, tagged_tpl};
+use swc_nodes::node::{ExprId, PropNode};
+use swc_nodes::pending::PendingOperators;
+use swc_operators::assign::{
+    check_assign_target, cond_last, cond_middle, cur_assign_op, goes_on_yield, is_yield_operator,
+    refuse_yield_param,
+};
+use swc_operators::ops::{
+    check_await, check_nullish_left, check_update_target, cur_prefix_op, cur_update_op, is_await,
+    join_operands, next_operator, parse_await_ident, parse_update_postfix, recover_left,
+    take_operator, unary_expr, unary_expr_without_operand,
+};
+use swc_operators::prefix::{is_await_name, update_prefix};
+use swc_primary::literals::{array_lit, object_lit, open_array, open_object};
+use swc_primary::object::{
+    AfterKey, PropHead, computed_prop_name, cover_prop, key_prop, method_of, parse_key_method,
+    parse_method_function, parse_plain_prop_name, parse_prop_head, spread_prop,
+};
+use swc_primary::primary::{Elem, PrimaryKind, paren_items, parse_plain_primary, primary_kind};
+use swc_steps::productions::Productions;
+use swc_steps::tokens::{
+    Listed, Sign, cur_pos, eat, expect, is_sign, label_spread, label_yield, look, require_cur,
+    separate, set_ctx, skip,
+};
+
+/// The items of a list, up to the sign that closes the list: the loop of all lists. The expression reads an item, and
+/// is that item with the place of the comma behind it.
+macro_rules! listed {
+    ($p:ident, $close:expr, $item:expr) => {{
+        let mut items = Vec::new($p.alloc);
+        let mut trailing_comma = None;
+        loop {
+            match eat(&mut $p.input, $close)? {
+                Some(end) => {
+                    return Ok(Listed {
+                        items,
+                        trailing_comma,
+                        end,
+                    });
+                }
+                None => {}
+            }
+            let (item, comma) = $item;
+            $p.add(&mut items, item)?;
+            trailing_comma = comma;
+        }
+    }};
+}
+
+// ---- Expressions (ECMA-262, 13)
+
+/// A primary expression (ECMA-262, 13.2): expressions in parentheses (13.2.9), as a list like that of arguments has
+/// them; an array literal (13.2.4), among whose elements `in` counts as an operator; an object literal (13.2.5); a
+/// template without a tag (13.2.8); or one in which no other expression stands. No colon of a conditional is expected
+/// in a literal. The context is that from before, also after a refusal.
+#[cycle(productions)]
+pub fn parse_primary_expr<I: Tokens, B: Bodies<I>>(p: &mut Productions<I, B>) -> PResult<ExprId>
+    ensures { Produces I.model B.is_faithful itself tree_of (run B.forms (sym Primary))
+        (count p.old.nodes) p.old result p.new }
+{
+    look(&mut p.input)?;
+    match primary_kind(&p.input) {
+        PrimaryKind::Paren => {
+            let start = p.cur_span();
+            skip(&mut p.input);
+            let list = parse_args(p, false)?;
+            paren_items(p, start, list)
+        }
+        PrimaryKind::Array => {
+            let (start, ctx) = open_array(&mut p.input);
+            let elems = parse_elements(p);
+            set_ctx(&mut p.input, ctx);
+            array_lit(p, start, elems?)
+        }
+        PrimaryKind::Object => {
+            let (start, ctx) = open_object(&mut p.input);
+            let props = parse_props(p);
+            set_ctx(&mut p.input, ctx);
+            object_lit(p, start, props?)
+        }
+        PrimaryKind::Template => {
+            let start = expect(&mut p.input, Sign::BackQuote)?;
+            let parts = parse_tpl_elements(p, false)?;
+            let end = parts.end.hi;
+            let node = p.nodes.tpl(start.lo, end, parts.quasis, parts.exprs);
+            p.made(node)
+        }
+        PrimaryKind::Plain => parse_plain_primary(p),
+    }
+}
+
+/// The elements of an array literal (ECMA-262, 13.2.4), a comma behind each, which may be missing behind the last one,
+/// and the bracket that closes the literal. A comma where an element would stand is a hole (`None`).
+#[cycle(productions)]
+fn parse_elements<I: Tokens, B: Bodies<I>>(p: &mut Productions<I, B>) -> PResult<Listed<Elem>>
+    ensures { Produces I.model B.is_faithful elems_of elems_at (run B.forms (sym Elements))
+        (count p.old.nodes) p.old result p.new }
+{
+    listed!(
+        p,
+        Sign::RBracket,
+        {
+            match eat(&mut p.input, Sign::Comma)? {
+                Some(_) => (None, None),
+                None => {
+                    let item = parse_expr_or_spread(p)?;
+                    (Some(item), separate(&mut p.input, Sign::RBracket)?)
+                }
+            }
+        }
+    )
+}
+
+/// An item of a list (ECMA-262, 13.2.4 and 13.3.8): an assignment expression, or one behind `...`. A refusal of the
+/// latter is labelled with the place of the dots.
+#[cycle(productions)]
+pub fn parse_expr_or_spread<I: Tokens, B: Bodies<I>>(
+    p: &mut Productions<I, B>,
+) -> PResult<ExprOrSpread<ExprId>>
+    ensures { Produces I.model B.is_faithful item_of item_at (run B.forms (sym Item))
+        (count p.old.nodes) p.old result p.new }
+{
+    let spread = eat(&mut p.input, Sign::DotDotDot)?;
+    match parse_assignment_expr(p) {
+        Ok(expr) => Ok(ExprOrSpread { spread, expr }),
+        Err(error) => Err(label_spread(p.alloc, &p.input, spread, error)),
+    }
+}
+
+/// A left-hand side (ECMA-262, 13.3). What stands before its first call is read as a member expression, but for
+/// `super` and `import`: there no `<` and no `>` belong to a type. The context is that from before, also after a
+/// refusal.
+#[cycle(productions)]
+pub fn parse_lhs_expr<I: Tokens, B: Bodies<I>>(p: &mut Productions<I, B>) -> PResult<ExprId>
+    ensures { Produces I.model B.is_faithful itself tree_of (run B.forms (sym (Lhs true)))
+        (count p.old.nodes) p.old result p.new }
+{
+    look(&mut p.input)?;
+    if is_super_or_import(&p.input) {
+        let base = parse_base(p, false)?;
+        return parse_subscripts(p, base, false);
+    }
+    let ctx = p.get_ctx();
+    set_ctx(
+        &mut p.input,
+        Context {
+            should_not_lex_lt_or_gt_as_type: true,
+            ..ctx
+        },
+    );
+    let member = parse_member_expr(p);
+    set_ctx(&mut p.input, ctx);
+    let callee = member?;
+    parse_subscripts(p, callee, false)
+}
+
+/// A member expression (ECMA-262, 13.3), or `new` without arguments: a left-hand side in which a parenthesis is no
+/// link, but that of `new`. With `new` (13.3.5), what it constructs, which is no optional chain, and its arguments, and
+/// links behind these, but for calls; or no arguments. Or `new.target` (13.3.12), and its links, but for calls.
+#[cycle(productions)]
+fn parse_member_expr<I: Tokens, B: Bodies<I>>(p: &mut Productions<I, B>) -> PResult<ExprId>
+    ensures { Produces I.model B.is_faithful itself tree_of (run B.forms (sym (Lhs false)))
+        (count p.old.nodes) p.old result p.new }
+{
+    look(&mut p.input)?;
+    if !p.is_new() {
+        let base = parse_base(p, true)?;
+        return parse_subscripts(p, base, true);
+    }
+    let start = p.cur_span();
+    skip(&mut p.input);
+    match eat(&mut p.input, Sign::Dot)? {
+        Some(_) => {
+            let target = parse_new_target(p, start)?;
+            return parse_subscripts(p, target, true);
+        }
+        None => {}
+    }
+    let callee = parse_member_expr(p)?;
+    refuse_opt_chain::<I, B>(&mut p.input, &p.nodes, callee)?;
+    match eat(&mut p.input, Sign::LParen)? {
+        Some(_) => {
+            let list = parse_args(p, false)?;
+            let base = new_expr(p, start, callee, list)?;
+            parse_subscripts(p, base, true)
+        }
+        None => {
+            let node = p.nodes.bare_new_expr(start.lo, callee);
+            p.made(node)
+        }
+    }
+}
+
+/// Reads on after `obj`, through all links; with `no_call`, a parenthesis is none.
+#[cycle(productions)]
+fn parse_subscripts<I: Tokens, B: Bodies<I>>(
+    p: &mut Productions<I, B>,
+    mut obj: ExprId,
+    no_call: bool,
+) -> PResult<ExprId>
+    requires from { From 0 p.old.nodes (expr_part obj) }
+    ensures { GoesOn I.model B.is_faithful itself tree_of
+        (run B.forms (links (not no_call) (tree_of p.old.nodes obj)))
+        (first_at p.old.nodes obj.0) p.old result p.new }
+{
+    loop {
+        let head = match parse_link_head(&mut p.input, no_call)? {
+            Some(head) => head,
+            None => return Ok(obj),
+        };
+        obj = parse_link(p, obj, head)?;
+    }
+}
+
+/// A link of `obj`, behind its first tokens: a member by its name, or by an expression in which `in` counts as an
+/// operator, in brackets (ECMA-262, 13.3.2); a call (13.3.6); or a template with the tag `obj` (13.3.11).
+#[cycle(productions)]
+fn parse_link<I: Tokens, B: Bodies<I>>(
+    p: &mut Productions<I, B>,
+    obj: ExprId,
+    head: LinkHead,
+) -> PResult<ExprId>
+    requires from { From 0 p.old.nodes (expr_part obj) }
+    ensures { Produces I.model B.is_faithful itself tree_of
+        (link_tail B.forms head (tree_of p.old.nodes obj))
+        (first_at p.old.nodes obj.0) p.old result p.new }
+{
+    match head {
+        LinkHead::Name { optional } => parse_dot_member(p, obj, optional),
+        LinkHead::Computed { start, optional } => {
+            let expr = parse_expr_with_in(p)?;
+            computed_member(p, obj, start, expr, optional)
+        }
+        LinkHead::Call { optional } => {
+            let list = parse_args(p, false)?;
+            call_expr(p, obj, list, optional)
+        }
+        LinkHead::Template { start } => {
+            let parts = parse_tpl_elements(p, true)?;
+            tagged_tpl(p, obj, start, parts)
+        }
+    }
+}
+
+// ---- Object literals (ECMA-262, 13.2.5): properties, keys, and the functions of methods (15.4)
+
+/// The properties of an object literal (ECMA-262, 13.2.5), a comma behind each, which may be missing behind the last
+/// one, and the brace that closes the literal.
+#[cycle(productions)]
+pub fn parse_props<I: Tokens, B: Bodies<I>>(
+    p: &mut Productions<I, B>,
+) -> PResult<Listed<PropNode<B::Block>>>
+    ensures { Produces I.model B.is_faithful props_of props_at (run B.forms (sym Props))
+        (count p.old.nodes) p.old result p.new }
+{
+    listed!(
+        p,
+        Sign::RBrace,
+        {
+            let prop = parse_object_prop(p)?;
+            (prop, separate(&mut p.input, Sign::RBrace)?)
+        }
+    )
+}
+
+/// A property of an object literal (ECMA-262, 13.2.5): a name alone; dots, or a name with `=`, and an expression in
+/// which `in` counts as an operator; a key, and `:` and such an expression, or its method's function; or a method of
+/// another kind (15.4 to 15.6 and 15.8).
+///
+/// Another token behind a key is refused as `Unexpected`, at that token, and the end as `Eof`.
+#[cycle(productions)]
+pub fn parse_object_prop<I: Tokens, B: Bodies<I>>(
+    p: &mut Productions<I, B>,
+) -> PResult<PropNode<B::Block>>
+    ensures { Produces I.model B.is_faithful prop_of prop_at (run B.forms (sym Prop))
+        (count p.old.nodes) p.old result p.new }
+{
+    match parse_prop_head::<I, B>(p.alloc, &mut p.input)? {
+        PropHead::Shorthand(name) => Ok(PropNode::Shorthand(name)),
+        PropHead::Spread(dots) => {
+            let expr = parse_assignment_expr_with_in(p)?;
+            Ok(spread_prop(&p.nodes, dots, expr))
+        }
+        PropHead::Cover(name) => {
+            let value = parse_assignment_expr_with_in(p)?;
+            Ok(cover_prop(&p.nodes, name, value))
+        }
+        PropHead::Key => {
+            let key = parse_prop_name(p)?;
+            match eat(&mut p.input, Sign::Colon)? {
+                Some(_) => {
+                    let value = parse_assignment_expr_with_in(p)?;
+                    let span = p.nodes.extent(value);
+                    Ok(key_prop(key, AfterKey::Value { span, value }))
+                }
+                None => {
+                    let after = parse_key_method(p)?;
+                    Ok(key_prop(key, after))
+                }
+            }
+        }
+        PropHead::Method(kind, start) => {
+            let key = parse_prop_name(p)?;
+            let (function, param) = parse_method_function(p, kind, key.span())?;
+            Ok(method_of(kind, start, key, function, param))
+        }
+    }
+}
+
+/// A property's key (ECMA-262, 13.2.5): any word, a string, a number, a big integer, or an expression in brackets, in
+/// which `in` counts as an operator.
+///
+/// Another token is refused as `Unexpected`, at that token, and the end as `Eof`; a missing `]` as `Expected`. The
+/// context is that from before, also after a refusal.
+#[cycle(productions)]
+pub fn parse_prop_name<I: Tokens, B: Bodies<I>>(
+    p: &mut Productions<I, B>,
+) -> PResult<PropName<ExprId>>
+    ensures { Produces I.model B.is_faithful key_of key_at (run B.forms (sym Key))
+        (count p.old.nodes) p.old result p.new }
+{
+    let ctx = p.get_ctx();
+    set_ctx(
+        &mut p.input,
+        Context {
+            in_property_name: true,
+            ..ctx
+        },
+    );
+    let key = parse_key(p);
+    set_ctx(&mut p.input, ctx);
+    key
+}
+
+/// The same, in whatever context.
+#[cycle(productions)]
+fn parse_key<I: Tokens, B: Bodies<I>>(p: &mut Productions<I, B>) -> PResult<PropName<ExprId>>
+    ensures { Produces I.model B.is_faithful key_of key_at (run B.forms (sym Key))
+        (count p.old.nodes) p.old result p.new }
+{
+    match eat(&mut p.input, Sign::LBracket)? {
+        Some(start) => {
+            let expr = parse_assignment_expr_with_in(p)?;
+            computed_prop_name(p, start, expr)
+        }
+        None => parse_plain_prop_name(p),
+    }
+}
+
+// ---- Templates, with a tag and without (ECMA-262, 13.2.8 and 13.3.11)
+
+/// The texts of a template, behind its backquote, between each two of them an expression in which `in` counts as an
+/// operator, in braces, and the backquote that closes the template. No colon of a conditional is expected in it. The
+/// context is that from before, also after a refusal.
+#[cycle(productions)]
+pub fn parse_tpl_elements<I: Tokens, B: Bodies<I>>(
+    p: &mut Productions<I, B>,
+    is_tagged: bool,
+) -> PResult<TplParts>
+    ensures { Produces I.model B.is_faithful tpl_parts_of tpl_parts_at (run B.forms (sym (Parts is_tagged)))
+        (count p.old.nodes) p.old result p.new }
+{
+    let ctx = p.get_ctx();
+    set_ctx(
+        &mut p.input,
+        Context {
+            will_expect_colon_for_cond: false,
+            ..ctx
+        },
+    );
+    let parts = parse_tpl_parts(p, is_tagged);
+    set_ctx(&mut p.input, ctx);
+    parts
+}
+
+/// The same, in whatever context.
+#[cycle(productions)]
+fn parse_tpl_parts<I: Tokens, B: Bodies<I>>(
+    p: &mut Productions<I, B>,
+    is_tagged: bool,
+) -> PResult<TplParts>
+    ensures { Produces I.model B.is_faithful tpl_parts_of tpl_parts_at (run B.forms (sym (Parts is_tagged)))
+        (count p.old.nodes) p.old result p.new }
+{
+    let mut quasis = Vec::new(p.alloc);
+    let mut exprs = Vec::new(p.alloc);
+    loop {
+        let quasi = parse_tpl_element(p, is_tagged)?;
+        p.add(&mut quasis, quasi)?;
+        match eat_tpl_end(&mut p.input)? {
+            Some(end) => return Ok(TplParts { quasis, exprs, end }),
+            None => {}
+        }
+        let expr = parse_expr_with_in(p)?;
+        expect(&mut p.input, Sign::RBrace)?;
+        p.add(&mut exprs, expr)?;
+    }
+}
+
+// ---- Arguments (ECMA-262, 13.3.8), and those of `import` (13.3.10)
+
+/// Arguments (ECMA-262, 13.3.8), behind their parenthesis, in which `in` counts as an operator, and no colon of a
+/// conditional is expected, and the parenthesis that closes them. Those of `import`, where it `is_dynamic_import`,
+/// may have no comma behind the last one, unless import attributes are read. The context is that from before, also
+/// after a refusal.
+#[cycle(productions)]
+pub fn parse_args<I: Tokens, B: Bodies<I>>(
+    p: &mut Productions<I, B>,
+    is_dynamic_import: bool,
+) -> PResult<Listed<ExprOrSpread<ExprId>>>
+    ensures { Produces I.model B.is_faithful args_of args_at (args_inside B.forms is_dynamic_import)
+        (count p.old.nodes) p.old result p.new }
+{
+    let start = p.prev_span();
+    let ctx = p.get_ctx();
+    set_ctx(
+        &mut p.input,
+        Context {
+            include_in_expr: true,
+            will_expect_colon_for_cond: false,
+            ..ctx
+        },
+    );
+    let args = parse_arg_list(p, start, is_dynamic_import);
+    set_ctx(&mut p.input, ctx);
+    args
+}
+
+/// Arguments (ECMA-262, 13.3.8), a comma behind each, which may be missing behind the last one, and the parenthesis
+/// that closes them; the one that opens them is at `start`.
+#[cycle(productions)]
+fn parse_arg_list<I: Tokens, B: Bodies<I>>(
+    p: &mut Productions<I, B>,
+    start: Span,
+    is_dynamic_import: bool,
+) -> PResult<Listed<ExprOrSpread<ExprId>>>
+    ensures { Produces I.model B.is_faithful args_of args_at (run B.forms (sym (Args is_dynamic_import)))
+        (count p.old.nodes) p.old result p.new }
+{
+    listed!(
+        p,
+        Sign::RParen,
+        {
+            let arg = parse_expr_or_spread(p)?;
+            (arg, separate_args(&mut p.input, start, is_dynamic_import)?)
+        }
+    )
+}
+
+// ---- What left-hand sides begin with (ECMA-262, 13.3): `super`, `import`, and primary expressions
+
+/// What a left-hand side begins with (ECMA-262, 13.3), where that isn't `new`: `super`, `import`, or a primary
+/// expression. `import` begins `import.meta` (13.3.12), or a call of `import` (13.3.10) or of `import.source`. With
+/// `no_call`, a call of `super` or `import` is refused.
+#[cycle(productions)]
+pub fn parse_base<I: Tokens, B: Bodies<I>>(
+    p: &mut Productions<I, B>,
+    no_call: bool,
+) -> PResult<ExprId>
+    ensures { Produces I.model B.is_faithful itself tree_of (plain_base B.forms (not no_call))
+        (count p.old.nodes) p.old result p.new }
+{
+    match eat(&mut p.input, Sign::Super)? {
+        Some(start) => return parse_super(p, start, no_call),
+        None => {}
+    }
+    let start = match eat(&mut p.input, Sign::Import)? {
+        Some(start) => start,
+        None => return parse_primary_expr(p),
+    };
+    match import_head(p, start, no_call)? {
+        ImportHead::Meta(span) => import_meta(p, span),
+        ImportHead::Call(import) => {
+            let list = parse_args(p, true)?;
+            callee_call(p, start, Callee::Import(import), list)
+        }
+    }
+}
+
+/// A property of `super`, or a call of it (ECMA-262, 13.3.7), behind `super` at `start`. In brackets stands an
+/// expression in which `in` counts as an operator. With `no_call`, a call is refused, as anything else is: a link of an
+/// optional chain, behind what it reads, and any other token as `InvalidSuper`, with `no_call` as `InvalidSuperCall`.
+/// Of a link, arguments are refused as `SuperCallOptional`; a name or brackets as `InvalidSuper`, and where `super` may
+/// have properties, with `no_call` as `InvalidSuperCall`.
+#[cycle(productions)]
+fn parse_super<I: Tokens, B: Bodies<I>>(
+    p: &mut Productions<I, B>,
+    start: Span,
+    no_call: bool,
+) -> PResult<ExprId>
+    ensures { Produces I.model B.is_faithful itself tree_of (super_tail B.forms (not no_call) start)
+        (count p.old.nodes) p.old result p.new }
+{
+    match super_head(&mut p.input, no_call)? {
+        SuperHead::Name => return parse_super_name(p, start),
+        SuperHead::Computed(bracket) => {
+            let expr = parse_expr_with_in(p)?;
+            return super_computed(p, start, bracket, expr);
+        }
+        SuperHead::Call => {
+            let list = parse_args(p, false)?;
+            return callee_call(p, start, Callee::Super(Super { span: start }), list);
+        }
+        SuperHead::Other => {}
+    }
+    match super_chain(&mut p.input, no_call)? {
+        SuperChain::Name => refuse_super_name(p, no_call),
+        SuperChain::Computed => {
+            parse_expr_with_in(p)?;
+            Err(refuse_super_brackets(&mut p.input, no_call))
+        }
+        SuperChain::Call => {
+            parse_args(p, false)?;
+            Err(refuse_super_args(&mut p.input))
+        }
+    }
+}
+
+// ---- Binary and unary operators, `++`, `--` and `await` (ECMA-262, 13.4 to 13.13 and 15.8)
+
+/// Binary operators of any precedence (ECMA-262, 13.13). Where the left operand was refused before an operator, that
+/// is recorded, and reading goes on there; elsewhere the refusal stands, and so does want of memory.
+#[cycle(productions)]
+pub fn parse_bin_expr<I: Tokens, B: Bodies<I>>(p: &mut Productions<I, B>) -> PResult<ExprId>
+    ensures { Produces I.model B.is_faithful itself tree_of (run B.forms (sym (Level 1)))
+        (count p.old.nodes) p.old result p.new }
+{
+    let first = cur_pos(&mut p.input)?;
+    let mut pending = PendingOperators::new(p.alloc);
+    match parse_unary_expr(p) {
+        Ok(left) => parse_operators(p, pending, left),
+        Err(error) => {
+            let (left, op) = recover_left(p, error, first)?;
+            take_operator(p, &mut pending, left, op)?;
+            let right = parse_unary_expr(p)?;
+            parse_operators(p, pending, right)
+        }
+    }
+}
+
+/// Reads on behind the operand `left`, the right one of the operator on top, through all operators (ECMA-262, 13.6 to
+/// 13.13). One that binds tighter than what is pending is put on top, until its right operand was read; where none
+/// follows, the one on top is joined with its operands. So no recursion is needed, however many operators follow one
+/// another.
+#[cycle(productions)]
+fn parse_operators<I: Tokens, B: Bodies<I>>(
+    p: &mut Productions<I, B>,
+    mut pending: PendingOperators,
+    mut left: ExprId,
+) -> PResult<ExprId>
+    requires { Apart 0 p.old.nodes (operand_parts (all_pending pending) left) }
+    ensures { GoesOn I.model B.is_faithful itself tree_of
+        (pending_reads B.forms (tree_of p.old.nodes) (all_pending pending) left)
+        (first_at p.old.nodes (first_operand (all_pending pending) left).0) p.old result p.new }
+{
+    loop {
+        match next_operator(&mut p.input, pending.min_prec())? {
+            Some(op) => {
+                take_operator(p, &mut pending, left, op)?;
+                left = parse_unary_expr(p)?;
+            }
+            None => {
+                check_nullish_left::<I, B>(&mut p.input, &p.nodes, left)?;
+                match pending.pop() {
+                    Some(operator) => left = join_operands(p, operator, left)?,
+                    None => return Ok(left),
+                }
+            }
+        }
+    }
+}
+
+/// A unary expression (ECMA-262, 13.5): `++`, `--`, another prefix operator or `await`, and its operand; or a
+/// left-hand side, and `++` or `--` behind it on the same line.
+#[cycle(productions)]
+pub fn parse_unary_expr<I: Tokens, B: Bodies<I>>(p: &mut Productions<I, B>) -> PResult<ExprId>
+    ensures { Produces I.model B.is_faithful itself tree_of (run B.forms (sym Unary))
+        (count p.old.nodes) p.old result p.new }
+{
+    look(&mut p.input)?;
+    match cur_update_op(&p.input) {
+        Some(op) => {
+            let start = p.cur_span();
+            skip(&mut p.input);
+            let arg = parse_unary_expr(p)?;
+            return update_prefix(p, start, op, arg);
+        }
+        None => {}
+    }
+    match cur_prefix_op(&p.input) {
+        Some(op) => {
+            let start = p.cur_span();
+            skip(&mut p.input);
+            let at = cur_pos(&mut p.input)?;
+            return match parse_unary_expr(p) {
+                Ok(arg) => unary_expr(p, start, op, arg),
+                Err(error) => unary_expr_without_operand(p, start, op, error, at),
+            };
+        }
+        None => {}
+    }
+    if is_await(&p.input) {
+        let start = p.cur_span();
+        skip(&mut p.input);
+        if is_await_name(&mut p.input)? {
+            return parse_await_ident(p, start);
+        }
+        check_await(&mut p.input, start)?;
+        let arg = parse_unary_expr(p)?;
+        let node = p.nodes.await_expr(start.lo, arg);
+        return p.made(node);
+    }
+    let expr = parse_lhs_expr(p)?;
+    parse_update_postfix(p, expr)
+}
+
+// ---- Expressions with commas between them, assignment expressions, conditionals and `yield` (ECMA-262, 13.14 to 13.16 and
+
+/// An expression (ECMA-262, 13.16): an assignment expression, or several with commas between them.
+#[cycle(productions)]
+pub fn parse_expr<I: Tokens, B: Bodies<I>>(p: &mut Productions<I, B>) -> PResult<ExprId>
+    ensures { Produces I.model B.is_faithful itself tree_of (run B.forms (sym Expr))
+        (count p.old.nodes) p.old result p.new }
+{
+    let expr = parse_assignment_expr(p)?;
+    match eat(&mut p.input, Sign::Comma)? {
+        Some(_) => parse_seq_expr(p, expr),
+        None => Ok(expr),
+    }
+}
+
+/// A sequence (ECMA-262, 13.16), of which the first expression was read, and the comma behind it.
+#[cycle(productions)]
+fn parse_seq_expr<I: Tokens, B: Bodies<I>>(
+    p: &mut Productions<I, B>,
+    first: ExprId,
+) -> PResult<ExprId>
+    requires from { From 0 p.old.nodes (expr_part first) }
+    ensures { Produces I.model B.is_faithful itself tree_of
+        (seqs_from B.forms (begins_in_invalid (tree_of p.old.nodes first)) (start_at p.old.nodes first.0)
+        (cons (tree_of p.old.nodes first) nil))
+        (first_at p.old.nodes first.0) p.old result p.new }
+{
+    let mut exprs = Vec::new(p.alloc);
+    p.add(&mut exprs, first)?;
+    loop {
+        let expr = parse_assignment_expr(p)?;
+        p.add(&mut exprs, expr)?;
+        match eat(&mut p.input, Sign::Comma)? {
+            Some(_) => {}
+            None => {
+                let node = p.nodes.seq_expr(exprs);
+                return p.made(node);
+            }
+        }
+    }
+}
+
+/// An expression in which `in` counts as an operator.
+#[cycle(productions)]
+pub fn parse_expr_with_in<I: Tokens, B: Bodies<I>>(p: &mut Productions<I, B>) -> PResult<ExprId>
+    ensures { Produces I.model B.is_faithful itself tree_of (whole_inside B.forms)
+        (count p.old.nodes) p.old result p.new }
+{
+    let ctx = p.get_ctx();
+    set_ctx(
+        &mut p.input,
+        Context {
+            include_in_expr: true,
+            ..ctx
+        },
+    );
+    let expr = parse_expr(p);
+    set_ctx(&mut p.input, ctx);
+    expr
+}
+
+/// An assignment expression (ECMA-262, 13.15).
+#[cycle(productions)]
+pub fn parse_assignment_expr<I: Tokens, B: Bodies<I>>(p: &mut Productions<I, B>) -> PResult<ExprId>
+    ensures { Produces I.model B.is_faithful itself tree_of (run B.forms (sym Assign))
+        (count p.old.nodes) p.old result p.new }
+{
+    require_cur(&mut p.input)?;
+    if is_yield_operator(&p.input) {
+        return parse_yield_expr(p);
+    }
+    let left = parse_bin_expr(p)?;
+    finish_assignment_expr(p, left)
+}
+
+/// An assignment expression in which `in` counts as an operator.
+#[cycle(productions)]
+pub fn parse_assignment_expr_with_in<I: Tokens, B: Bodies<I>>(
+    p: &mut Productions<I, B>,
+) -> PResult<ExprId>
+    ensures { Produces I.model B.is_faithful itself tree_of (inside B.forms)
+        (count p.old.nodes) p.old result p.new }
+{
+    let ctx = p.get_ctx();
+    set_ctx(
+        &mut p.input,
+        Context {
+            include_in_expr: true,
+            ..ctx
+        },
+    );
+    let expr = parse_assignment_expr(p);
+    set_ctx(&mut p.input, ctx);
+    expr
+}
+
+/// Reads on after `left`, which is what binary operators join: the rest of a conditional (ECMA-262, 13.14), from its
+/// `?` on, or an operator that writes and what it writes (13.15). The context is that from before, also after a
+/// refusal.
+#[cycle(productions)]
+fn finish_assignment_expr<I: Tokens, B: Bodies<I>>(
+    p: &mut Productions<I, B>,
+    left: ExprId,
+) -> PResult<ExprId>
+    requires from { From 0 p.old.nodes (expr_part left) }
+    ensures { GoesOn I.model B.is_faithful itself tree_of
+        (assigns_from B.forms (start_at p.old.nodes left.0) (tree_of p.old.nodes left))
+        (first_at p.old.nodes left.0) p.old result p.new }
+{
+    look(&mut p.input)?;
+    if is_sign(&p.input, Sign::Question) {
+        skip(&mut p.input);
+        let ctx = p.get_ctx();
+        set_ctx(&mut p.input, cond_middle(ctx));
+        let middle = parse_assignment_expr(p);
+        set_ctx(&mut p.input, ctx);
+        let cons = middle?;
+        expect(&mut p.input, Sign::Colon)?;
+        set_ctx(&mut p.input, cond_last(ctx));
+        let last = parse_assignment_expr(p);
+        set_ctx(&mut p.input, ctx);
+        let alt = last?;
+        let node = p.nodes.cond_expr(left, cons, alt);
+        return p.made(node);
+    }
+    let op = match cur_assign_op(p, left) {
+        Some(op) => op,
+        None => return Ok(left),
+    };
+    check_assign_target::<I, B>(&mut p.input, &p.nodes, op, left)?;
+    skip(&mut p.input);
+    let right = parse_assignment_expr(p)?;
+    let node = p.nodes.assign_expr(op, left, right);
+    p.made(node)
+}
+
+/// `yield` (ECMA-262, 15.5), which is current, and its operand, with the `*` before it or not, where one begins on the
+/// same line. In parameters outside a function it is refused. A refusal of the operand is labelled with the place of
+/// `yield` and the `*`.
+#[cycle(productions)]
+fn parse_yield_expr<I: Tokens, B: Bodies<I>>(p: &mut Productions<I, B>) -> PResult<ExprId>
+    requires { IsSome (current p.old.input) }
+    ensures { Produces I.model B.is_faithful itself tree_of (yield_expr B.forms)
+        (count p.old.nodes) p.old result p.new }
+{
+    let start = p.cur_span();
+    skip(&mut p.input);
+    refuse_yield_param(&mut p.input)?;
+    if goes_on_yield(&mut p.input)? {
+        let star = eat(&mut p.input, Sign::Star)?;
+        let end = p.last_pos();
+        return match parse_assignment_expr(p) {
+            Ok(arg) => {
+                let node = p.nodes.yield_expr(start.lo, star.is_some(), arg);
+                p.made(node)
+            }
+            Err(error) => {
+                let span = Span::new(start.lo, end);
+                Err(label_yield(p.alloc, &p.input, span, error))
+            }
+        };
+    }
+    let node = p.nodes.yield_alone(start);
+    p.made(node)
+}

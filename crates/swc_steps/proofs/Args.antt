@@ -1,0 +1,305 @@
+-- The clean parser's steps in arguments (13.3.8) and in parentheses (13.2.9), as the code goes them.
+use Rattle.std.specs.Prelude.{◌≡◌, ℕ, Bool, true, false, ◌||◌, if◌then◌else◌, List, [], ◌∷◌, ◌++◌, Option, Some, None}
+use Rattle.std.proofs.Common.{refl, sym, ap, ◌∙◌}
+use Rattle.swc_context.specs.declared.span.Span.{Span}
+use Rattle.swc_input.specs.declared.token.Token.{Token}
+use Rattle.swc_input.specs.declared.token.Token.TheVariants as token
+use Rattle.swc_input.specs.declared.token.TokenAndSpan.{TokenAndSpan}
+use Rattle.swc_input.specs.Kinds.{at_token}
+use Rattle.swc_ast.specs.Parts.{item_tree, item_trees}
+use Rattle.swc_ast.specs.Tree.{Tree, Trees, nil, cons}
+use Rattle.swc_ast.specs.Trees.{listed, items_of, put_first, trees_append, has_items, comma_ok, behind_comma}
+use Rattle.swc_ast.specs.declared.expr.ExprOrSpread.{ExprOrSpread}
+use Rattle.swc_ast.specs.declared.spanned.Spanned.{Ghosts}
+use Rattle.swc_bodies.specs.Readings.{Hook}
+use Rattle.swc_grammar.specs.Scope.{Scope}
+use Rattle.swc_grammar.specs.Rule.{◌>>◌}
+use Rattle.swc_grammar.specs.Symbols.{Args, ArgsTail, Item}
+use Rattle.swc_grammar.specs.Tokens.{tk, with_in, is_rparen, import_comma_ok, is_lparen}
+use Rattle.swc_grammar.specs.Clean.{Out, and_then, first, sym as at, exec, step, run}
+use Rattle.swc_grammar.specs.Words.{◌>>=◌}
+use Rattle.swc_grammar.proofs.Knot.{knot}
+use Rattle.swc_grammar.proofs.Only.{only-rparen}
+use Rattle.swc_nodes.specs.Slots.{flat, item_parts}
+use Rattle.swc_nodes.specs.Stands.{Apart, Grows}
+use Rattle.swc_nodes.specs.declared.node.ExprId.{ExprId}
+use Rattle.swc_nodes.specs.declared.nodes.Nodes.{Nodes}
+use Rattle.swc_nodes.proofs.Lists.{list-more, item-same}
+use Rattle.swc_steps.specs.Args.{args_inside, arg_item, args_behind, args_more, args_by, last_by, last_comma}
+use Rattle.swc_steps.specs.Args.{comma_behind, separated_args, paren_of, paren_expr_tail}
+use Rattle.swc_steps.specs.Lists.{eaten, closed, separated, behind, put_before}
+use Rattle.swc_steps.specs.Parsing.{tree_of, item_at}
+use Rattle.swc_steps.specs.Readers.{reading, by_production}
+use Rattle.swc_steps.proofs.Lists.{calls, binds, bind_same, twice, ended}
+use Rattle.swc_grammar.specs.Grammar.{paren-expr}
+
+pub neither : (a b : Bool) → (a || b) ≡ false → (a ≡ false) × (b ≡ false)
+neither true b h = absurd cc
+neither false b h = (refl, h)
+
+-- `super` and `import` are not `new`
+-- ---- what stands behind an argument
+
+pub args_separated : (i : Bool) (x : Scope) (ts : List TokenAndSpan)
+    → separated_args i x ts ≡ (separated is_rparen x ts >>= (λ p. comma_behind i p.0 x p.1))
+unfolding separated_args
+args_separated i x ts = refl
+
+pub behind_other : (i : Bool) (o : Option Span) (x : Scope) (ts : List TokenAndSpan) → i ≡ false
+    → comma_behind i o x ts ≡ Some (o, ts)
+behind_other true o x ts h = absurd cc
+behind_other false o x ts h = refl
+
+pub behind_last : (i : Bool) (o : Option Span) (s : Span) (x : Scope) (ts : List TokenAndSpan) → i ≡ true
+    → o ≡ Some s → comma_behind i o x ts ≡ (last_comma x ts >>= (λ p. Some (Some s, p.1)))
+behind_last true o s x ts h k = rw k refl
+behind_last false o s x ts h k = absurd cc
+
+pub behind_none : (i : Bool) (o : Option Span) (x : Scope) (ts : List TokenAndSpan) → o ≡ None
+    → comma_behind i o x ts ≡ Some (None, ts)
+behind_none true o x ts k = rw k refl
+behind_none false o x ts k = rw k refl
+
+-- a comma that may be the last, or isn't, or may not
+may_last : (b : Bool) (ts : List TokenAndSpan) → last_by b true ts ≡ Some (tt, ts)
+may_last true ts = refl
+may_last false ts = refl
+
+pub last_allowed : (x : Scope) (ts : List TokenAndSpan) → import_comma_ok x ≡ true → last_comma x ts ≡ Some (tt, ts)
+unfolding last_comma
+last_allowed x ts h =
+    ap (λ m. last_by (at_token is_rparen (first ts)) m ts) h ∙ may_last (at_token is_rparen (first ts)) ts
+
+pub last_not : (x : Scope) (ts : List TokenAndSpan) → at_token is_rparen (first ts) ≡ false
+    → last_comma x ts ≡ Some (tt, ts)
+unfolding last_comma
+last_not x ts h = ap (λ b. last_by b (import_comma_ok x) ts) h
+
+pub last_refused : (x : Scope) (ts : List TokenAndSpan) → at_token is_rparen (first ts) ≡ true
+    → import_comma_ok x ≡ false → last_comma x ts ≡ None
+unfolding last_comma
+last_refused x ts h k =
+    ap (λ b. last_by b (import_comma_ok x) ts) h ∙ ap (λ m. last_by true m ts) k
+
+module _ {F C K : Type 0} where
+  -- arguments of which there is one
+  pub one_more : (e : Tree F C K) (o : Out (Tree F C K)) (k : Tree F C K → List TokenAndSpan → Out (Tree F C K))
+      → and_then (and_then o (λ es vs. Some (put_first e es, vs)))
+      (λ es vs. if has_items (items_of es) then k es vs else None)
+      ≡ and_then (and_then o (λ es vs. Some (put_first e es, vs))) k
+  one_more e None k = refl
+  one_more e (Some r) k = refl
+
+  pub full_by : (o : Out (Tree F C K)) (q : List TokenAndSpan → Out (Tree F C K))
+      (k : Tree F C K → List TokenAndSpan → Out (Tree F C K))
+      → and_then (and_then o (λ e us. and_then (q us) (λ es vs. Some (put_first e es, vs))))
+      (λ es vs. if has_items (items_of es) then k es vs else None)
+      ≡ and_then (and_then o (λ e us. and_then (q us) (λ es vs. Some (put_first e es, vs)))) k
+  full_by None q k = refl
+  full_by (Some p) q k = one_more p.0 (q p.1) k
+
+module _ {F C K : Type 0} (hook : Hook F C K) where
+  -- ---- arguments (13.3.8)
+
+  pub inside_args : (i : Bool) (x : Scope) (ts : List TokenAndSpan)
+      → args_inside hook i x ts ≡ run hook (at (Args i)) (with_in x) ts
+  unfolding args_inside
+  inside_args i x ts = refl
+
+  -- the parenthesis closes the list
+  args_close : (i : Bool) (x : Scope) (t : TokenAndSpan) (ts : List TokenAndSpan) → is_rparen t.token ≡ true
+      → run hook (at (Args i)) x (t ∷ ts) ≡ Some (listed None t.span nil, ts)
+  args_close i x t ts h =
+      knot hook (at (Args i)) x (t ∷ ts)
+      ∙ only-rparen (λ v. exec hook (run hook) (Some 17)
+      (step (at (Args i)) x (tk v t.had_line_break t.span ∷ ts)) (tk v t.had_line_break t.span ∷ ts)
+      ≡ Some (listed None t.span nil, ts)) refl t.token h
+
+  -- an argument, and then those behind it
+  args_runs : (i : Bool) (x : Scope) (ts : List TokenAndSpan) → at_token is_rparen (first ts) ≡ false
+      → run hook (at (Args i)) x ts
+      ≡ and_then (run hook (at Item) x ts) (λ e us. and_then (run hook (at (ArgsTail i)) x us)
+      (λ es vs. Some (put_first e es, vs)))
+  args_runs i x ts h = knot hook (at (Args i)) x ts ∙ rw h refl
+
+  -- so there is one, where the parenthesis doesn't close the list
+  full : (i : Bool) (x : Scope) (ts : List TokenAndSpan) (k : Tree F C K → List TokenAndSpan → Out (Tree F C K))
+      → at_token is_rparen (first ts) ≡ false
+      → and_then (run hook (at (Args i)) x ts) (λ es vs. if has_items (items_of es) then k es vs else None)
+      ≡ and_then (run hook (at (Args i)) x ts) k
+  full i x ts k h =
+      let e = args_runs i x ts h in
+      ap (λ o. and_then o (λ es vs. if has_items (items_of es) then k es vs else None)) e
+      ∙ full_by (run hook (at Item) x ts) (λ us. run hook (at (ArgsTail i)) x us) k
+      ∙ ap (λ o. and_then o k) (sym e)
+
+  -- behind an argument: what is left behind the comma that stands there, or where none does
+  abbrev tail_left : Bool → Scope → Option Span × List TokenAndSpan → Out (Tree F C K)
+  tail_left i x q = run hook (at (Args i)) x q.1 >>= (λ p. Some (behind q.0 p.0, p.1))
+
+  -- a comma at s that may be the last, or that an argument follows
+  abbrev comma_left : Bool → Span → Scope → List TokenAndSpan → Out (Tree F C K)
+  comma_left m s x us =
+      and_then (run hook (at (Args true)) x us)
+      (λ es vs. if comma_ok m es then Some (behind_comma s es, vs) else None)
+
+  abbrev comma_reads_as : Bool → Span → Scope → List TokenAndSpan → Out (Tree F C K)
+  comma_reads_as m s x us =
+      last_by (at_token is_rparen (first us)) m us >>= (λ p. Some (Some s, p.1)) >>= tail_left true x
+
+  last_open : (b : Bool) (s : Span) (x : Scope) (us : List TokenAndSpan)
+      → tail_left true x (Some s, us) ≡ (last_by b true us >>= (λ p. Some (Some s, p.1)) >>= tail_left true x)
+  last_open true s x us = refl
+  last_open false s x us = refl
+
+  comma_token : (s : Span) (x : Scope) (v : Token) (b : Bool) (q : Span) (us : List TokenAndSpan)
+      → comma_left false s x (tk v b q ∷ us) ≡ comma_reads_as false s x (tk v b q ∷ us)
+  comma_token s x token.RParen b q us =
+      ap (λ o. and_then o (λ es vs. if comma_ok false es then Some (behind_comma s es, vs) else None))
+      (args_close true x (tk token.RParen b q) us refl)
+  comma_token s x v b q us =
+      full true x (tk v b q ∷ us) (λ es vs. Some (behind_comma s es, vs)) refl
+      ∙ calls (run hook (at (Args true)) x (tk v b q ∷ us)) _
+
+  comma_reads : (m : Bool) (s : Span) (x : Scope) (us : List TokenAndSpan)
+      → comma_left m s x us ≡ comma_reads_as m s x us
+  comma_reads true s x us =
+      calls (run hook (at (Args true)) x us) (λ es vs. Some (behind_comma s es, vs))
+      ∙ last_open (at_token is_rparen (first us)) s x us
+  comma_reads false s x [] =
+      full true x [] (λ es vs. Some (behind_comma s es, vs)) refl ∙ calls (run hook (at (Args true)) x []) _
+  comma_reads false s x (t ∷ us) = comma_token s x t.token t.had_line_break t.span us
+
+  tail_token : (i : Bool) (x : Scope) (v : Token) (b : Bool) (s : Span) (us : List TokenAndSpan)
+      → run hook (at (ArgsTail i)) x (tk v b s ∷ us)
+      ≡ (separated_args i x (tk v b s ∷ us) >>= tail_left i x)
+  unfolding separated_args separated closed eaten last_comma
+  tail_token false x token.Comma b s us =
+      knot hook (at (ArgsTail false)) x (tk token.Comma b s ∷ us) ∙ calls (run hook (at (Args false)) x us) _
+  tail_token true x token.Comma b s us =
+      knot hook (at (ArgsTail true)) x (tk token.Comma b s ∷ us) ∙ comma_reads (import_comma_ok x) s x us
+  tail_token false x token.RParen b s us =
+      knot hook (at (ArgsTail false)) x (tk token.RParen b s ∷ us)
+      ∙ ap (λ o. o >>= (λ p. Some (behind None p.0, p.1))) (sym (args_close false x (tk token.RParen b s) us refl))
+  tail_token true x token.RParen b s us =
+      knot hook (at (ArgsTail true)) x (tk token.RParen b s ∷ us)
+      ∙ ap (λ o. o >>= (λ p. Some (behind None p.0, p.1))) (sym (args_close true x (tk token.RParen b s) us refl))
+  tail_token i x v b s us = knot hook (at (ArgsTail i)) x (tk v b s ∷ us)
+
+  tail_is : (i : Bool) (x : Scope) (us : List TokenAndSpan)
+      → run hook (at (ArgsTail i)) x us ≡ (separated_args i x us >>= tail_left i x)
+  unfolding separated_args separated closed eaten
+  tail_is i x [] = knot hook (at (ArgsTail i)) x []
+  tail_is i x (t ∷ us) = tail_token i x t.token t.had_line_break t.span us
+
+  -- behind an argument and the comma that stands there, or none: the list from that argument on
+  abbrev list_from : Bool → Scope → (Tree F C K × Option Span) × List TokenAndSpan → Out (Tree F C K)
+  list_from i x p = run hook (at (Args i)) x p.1 >>= (λ q. Some (put_first p.0.0 (behind p.0.1 q.0), q.1))
+
+  -- an argument, and what stands behind it
+  item_more : (i : Bool) (x : Scope) (ts : List TokenAndSpan)
+      → and_then (run hook (at Item) x ts) (λ e us. and_then (run hook (at (ArgsTail i)) x us)
+      (λ es vs. Some (put_first e es, vs)))
+      ≡ (arg_item hook i x ts >>= list_from i x)
+  unfolding arg_item
+  item_more i x ts =
+      calls (run hook (at Item) x ts) _
+      ∙ bind_same (run hook (at Item) x ts) _ _ (λ p.
+      calls (run hook (at (ArgsTail i)) x p.1) _
+      ∙ ap (λ o. o >>= (λ q. Some (put_first p.0 q.0, q.1))) (tail_is i x p.1)
+      ∙ sym (binds (separated_args i x p.1) (tail_left i x) _)
+      ∙ bind_same (separated_args i x p.1) _ _ (λ q. sym (binds (run hook (at (Args i)) x q.1) _ _))
+      ∙ binds (separated_args i x p.1) (λ q. Some ((p.0, q.0), q.1)) _)
+      ∙ binds (run hook (at Item) x ts) _ _
+
+  -- one argument, and those that are left
+  args_step : (i : Bool) (x : Scope) (ts : List TokenAndSpan) → at_token is_rparen (first ts) ≡ false
+      → run hook (at (Args i)) x ts
+      ≡ (arg_item hook i x ts >>= list_from i x)
+  args_step i x ts h = args_runs i x ts h ∙ item_more i x ts
+
+  pub arg_item_splits : (i : Bool) (x : Scope) (ts : List TokenAndSpan)
+      → arg_item hook i x ts
+      ≡ (run hook (at Item) x ts >>= (λ p. separated_args i x p.1 >>= (λ q. Some ((p.0, q.0), q.1))))
+  unfolding arg_item
+  arg_item_splits i x ts = refl
+
+  pub args_more_splits : (i : Bool) (before : Trees F C K) (x : Scope) (ts : List TokenAndSpan)
+      → args_more hook i before x ts
+      ≡ (arg_item hook i x ts >>= (λ p. args_behind hook i (trees_append before (cons p.0.0 nil)) p.0.1 x p.1))
+  unfolding args_more
+  args_more_splits i before x ts = refl
+
+  -- from an argument on
+  behind_more : (i : Bool) (before : Trees F C K) (comma : Option Span) (x : Scope) (ts : List TokenAndSpan)
+      → at_token is_rparen (first ts) ≡ false
+      → args_behind hook i before comma x ts ≡ args_more hook i before x ts
+  unfolding args_behind args_more
+  behind_more i before comma x ts h =
+      ap (λ o. o >>= (λ p. Some (put_before before (behind comma p.0), p.1))) (args_step i x ts h)
+      ∙ sym (binds (arg_item hook i x ts) _ _)
+      ∙ bind_same (arg_item hook i x ts) _ _ (λ p.
+      sym (binds (run hook (at (Args i)) x p.1) _ _)
+      ∙ bind_same (run hook (at (Args i)) x p.1) _ _ (λ q.
+      ap (λ v. Some (v, q.1)) (twice before comma p.0.0 (behind p.0.1 q.0))))
+
+  behind_token : (i : Bool) (before : Trees F C K) (comma : Option Span) (x : Scope) (v : Token) (b : Bool) (s : Span)
+      (us : List TokenAndSpan)
+      → args_behind hook i before comma x (tk v b s ∷ us)
+      ≡ (eaten is_rparen x (tk v b s ∷ us) >>= (λ p. args_by hook i before comma p.0 x p.1))
+  unfolding args_behind eaten
+  behind_token i before comma x token.RParen b s us =
+      ap (λ o. o >>= (λ p. Some (put_before before (behind comma p.0), p.1)))
+      (args_close i x (tk token.RParen b s) us refl)
+      ∙ ap (λ v. Some (v, us)) (ended before comma s)
+  behind_token i before comma x v b s us = behind_more i before comma x (tk v b s ∷ us) refl
+
+  pub behind_splits : (i : Bool) (before : Trees F C K) (comma : Option Span) (x : Scope) (ts : List TokenAndSpan)
+      → args_behind hook i before comma x ts
+      ≡ (eaten is_rparen x ts >>= (λ p. args_by hook i before comma p.0 x p.1))
+  unfolding eaten
+  behind_splits i before comma x [] = behind_more i before comma x [] refl
+  behind_splits i before comma x (t ∷ ts) = behind_token i before comma x t.token t.had_line_break t.span ts
+
+  -- before the first argument
+  first_more : (i : Bool) (x : Scope) (ts : List TokenAndSpan) → at_token is_rparen (first ts) ≡ false
+      → run hook (at (Args i)) x ts ≡ args_behind hook i nil None x ts
+  unfolding args_behind
+  first_more i x ts h =
+      args_step i x ts h
+      ∙ bind_same (arg_item hook i x ts) _ _ (λ p. binds (run hook (at (Args i)) x p.1) _ _)
+      ∙ binds (arg_item hook i x ts) _ _
+      ∙ ap (λ o. o >>= (λ p. Some (put_before nil p.0, p.1))) (sym (args_step i x ts h))
+
+  first_token : (i : Bool) (x : Scope) (v : Token) (b : Bool) (s : Span) (us : List TokenAndSpan)
+      → run hook (at (Args i)) x (tk v b s ∷ us) ≡ args_behind hook i nil None x (tk v b s ∷ us)
+  unfolding args_behind
+  first_token i x token.RParen b s us =
+      let e = args_close i x (tk token.RParen b s) us refl in
+      e ∙ ap (λ o. o >>= (λ p. Some (put_before nil p.0, p.1))) (sym e)
+  first_token i x v b s us = first_more i x (tk v b s ∷ us) refl
+
+  pub args_first : (i : Bool) (x : Scope) (ts : List TokenAndSpan)
+      → run hook (at (Args i)) x ts ≡ args_behind hook i nil None x ts
+  args_first i x [] = first_more i x [] refl
+  args_first i x (t ∷ ts) = first_token i x t.token t.had_line_break t.span ts
+
+  -- ---- parentheses (13.2.9)
+
+  pub paren_expr_opens : (t : TokenAndSpan) (x : Scope) (ts : List TokenAndSpan) → is_lparen t.token ≡ true
+      → by_production hook (λ c. paren-expr) x (t ∷ ts) ≡ paren_expr_tail hook t.span x ts
+  unfolding by_production paren_expr_tail args_inside reading
+  paren_expr_opens t x ts h = rw h (calls (run hook (at (Args false)) (with_in x) ts) _)
+
+  pub paren_expr_splits : (s : Span) (x : Scope) (ts : List TokenAndSpan)
+      → paren_expr_tail hook s x ts ≡ (args_inside hook false x ts >>= (λ p. paren_of s p.0 p.1))
+  unfolding paren_expr_tail
+  paren_expr_splits s x ts = refl
+
+module _ {F C K : Type 0} {fg : Ghosts F} {cg : Ghosts C} {kg : Ghosts K} where
+  -- items, and one that is read behind them
+  pub items-more : {ns ms : Nodes F C K fg cg kg} {k : ℕ} (xs : List (ExprOrSpread ExprId)) (x : ExprOrSpread ExprId)
+      → Grows ns ms → Apart k ns (flat item_parts xs)
+      → item_trees (tree_of ms) (xs ++ x ∷ [])
+      ≡ trees_append (item_trees (tree_of ns) xs) (cons (item_at ms x) nil)
+  items-more xs x g a = list-more item_parts (λ at x. item_tree (λ e. at e.0) x) item-same xs x g a

@@ -1,0 +1,15 @@
+pub mod Ahead
+pub mod Args
+pub mod Building
+pub mod Endings
+pub mod Hearing
+pub mod Keys
+pub mod Lists
+pub mod Making
+pub mod Naming
+pub mod PrivateNames
+pub mod Regexes
+pub mod Rules
+pub mod Signs
+pub mod Steps
+pub mod Words

@@ -1,0 +1,266 @@
+-- The clean parser's steps in lists, as the code goes them.
+use Rattle.std.specs.Prelude.{◌≡◌, Bool, true, false, List, [], ◌∷◌, Option, Some, None}
+use Rattle.std.proofs.Common.{refl, sym, ap, ◌∙◌}
+use Rattle.swc_context.specs.declared.span.Span.{Span}
+use Rattle.swc_input.specs.declared.token.Token.{Token}
+use Rattle.swc_input.specs.declared.token.Token.TheVariants as token
+use Rattle.swc_input.specs.declared.token.TokenAndSpan.{TokenAndSpan}
+use Rattle.swc_input.specs.Kinds.{at_token}
+use Rattle.swc_ast.specs.Tree.{Tree, Trees, nil, cons, span_of}
+use Rattle.swc_bodies.specs.Readings.{Hook}
+use Rattle.swc_grammar.specs.Scope.{Scope}
+use Rattle.swc_grammar.specs.Symbols.{Assign, Primary, Elements, ElementsTail, Item}
+use Rattle.swc_grammar.specs.Tokens.{tk, with_in, is_comma, is_dots, is_lbracket, is_rbracket}
+use Rattle.swc_grammar.specs.Grammar.{array-lit}
+use Rattle.swc_grammar.specs.Clean.{Out, and_then, first, sym as at, exec, pick, primary, step, run}
+use Rattle.swc_grammar.specs.Words.{◌>>=◌}
+use Rattle.swc_grammar.proofs.Knot.{knot}
+use Rattle.swc_grammar.proofs.Only.{only-lbracket, only-rbracket}
+use Rattle.swc_grammar.proofs.Rules.{run_picked}
+use Rattle.swc_steps.specs.Readers.{reading, by_production}
+use Rattle.swc_steps.specs.Lists.{eaten, closed, separated, separated_by, behind, put_before, elements_inside}
+use Rattle.swc_steps.specs.Lists.{array_lit_tail, element, element_by, element_item, elements_behind, elements_more}
+use Rattle.swc_steps.specs.Lists.{behind_by}
+use Rattle.swc_ast.specs.Parts.{item_of}
+use Rattle.swc_ast.specs.Trees.{to, array_e, listed, items_of, comma_of, put_first, trees_append}
+use Rattle.swc_nodes.proofs.Lists.{trees_append-assoc, trees_append-nil}
+
+pub eaten_not : (f : Token → Bool) (x : Scope) (ts : List TokenAndSpan) → at_token f (first ts) ≡ false
+    → eaten f x ts ≡ Some (None, ts)
+unfolding eaten
+eaten_not f x ts h = rw h refl
+
+pub eaten_takes : (f : Token → Bool) (x : Scope) (t : TokenAndSpan) (ts : List TokenAndSpan) → f t.token ≡ true
+    → eaten f x (t ∷ ts) ≡ Some (Some t.span, ts)
+unfolding eaten
+eaten_takes f x t ts h = rw h refl
+
+pub separated_splits : (f : Token → Bool) (x : Scope) (ts : List TokenAndSpan)
+    → separated f x ts ≡ (eaten is_comma x ts >>= (λ p. separated_by f p.0 x p.1))
+unfolding separated
+separated_splits f x ts = refl
+
+pub closed_not : (f : Token → Bool) (x : Scope) (ts : List TokenAndSpan) → at_token f (first ts) ≡ false
+    → closed f x ts ≡ None
+unfolding closed
+closed_not f x ts h = rw h refl
+
+pub closed_here : (f : Token → Bool) (x : Scope) (ts : List TokenAndSpan) → at_token f (first ts) ≡ true
+    → closed f x ts ≡ Some (tt, ts)
+unfolding closed
+closed_here f x ts h = rw h refl
+
+-- what a call read, and what is run behind it
+pub calls : {A B : Type 0} (o : Out A) (k : A → List TokenAndSpan → Out B) → and_then o k ≡ (o >>= (λ p. k p.0 p.1))
+calls None k = refl
+calls (Some p) k = refl
+
+-- one after another, however they are grouped
+pub binds : {A B D : Type 0} (o : Out A) (f : A × List TokenAndSpan → Out B) (k : B × List TokenAndSpan → Out D)
+    → (o >>= (λ p. f p >>= k)) ≡ ((o >>= f) >>= k)
+binds None f k = refl
+binds (Some p) f k = refl
+
+pub bind_same : {A B : Type 0} (o : Out A) (f k : A × List TokenAndSpan → Out B)
+    → ((p : A × List TokenAndSpan) → f p ≡ k p) → (o >>= f) ≡ (o >>= k)
+bind_same None f k h = refl
+bind_same (Some p) f k h = h p
+
+module _ {F C K : Type 0} where
+  -- items before items; no comma counts that an item follows
+  pub twice : (before : Trees F C K) (comma : Option Span) (e es : Tree F C K)
+      → put_before before (behind comma (put_first e es)) ≡ put_before (trees_append before (cons e nil)) es
+  twice before None e es =
+      ap (λ v. listed (comma_of es) (span_of es) v) (sym (trees_append-assoc before (cons e nil) (items_of es)))
+  twice before (Some s) e es =
+      ap (λ v. listed (comma_of es) (span_of es) v) (sym (trees_append-assoc before (cons e nil) (items_of es)))
+
+  -- where none follows, the comma behind the last is that of the list
+  pub ended : (before : Trees F C K) (comma : Option Span) (s : Span)
+      → put_before before (behind comma (listed None s nil)) ≡ listed comma s before
+  ended before None s = ap (λ v. listed None s v) (trees_append-nil before)
+  ended before (Some c) s = ap (λ v. listed (Some c) s v) (trees_append-nil before)
+
+module _ {F C K : Type 0} (hook : Hook F C K) where
+  -- ---- array literals (13.2.4)
+
+  pub array_lit_picked : (x : Scope) (ts : List TokenAndSpan) → at_token is_lbracket (first ts) ≡ true
+      → run hook (at Primary) x ts ≡ by_production hook (λ c. array-lit) x ts
+  unfolding by_production reading
+  array_lit_picked x [] h = absurd cc
+  array_lit_picked x (t ∷ ts) h =
+      run_picked hook Primary x (t ∷ ts) array-lit (primary x (t ∷ ts)) refl
+      (only-lbracket (λ v. primary {F = F} {C = C} {K = K} x (tk v t.had_line_break t.span ∷ ts)
+      ≡ pick array-lit) refl t.token h)
+
+  pub array_lit_opens : (t : TokenAndSpan) (x : Scope) (ts : List TokenAndSpan) → is_lbracket t.token ≡ true
+      → by_production hook (λ c. array-lit) x (t ∷ ts) ≡ array_lit_tail hook t.span x ts
+  unfolding by_production array_lit_tail elements_inside reading
+  array_lit_opens t x ts h = rw h (calls (run hook (at Elements) (with_in x) ts) _)
+
+  pub array_lit_splits : (s : Span) (x : Scope) (ts : List TokenAndSpan)
+      → array_lit_tail hook s x ts
+      ≡ (elements_inside hook x ts >>= (λ p. Some (array_e (comma_of p.0) (to s (span_of p.0)) (items_of p.0), p.1)))
+  unfolding array_lit_tail
+  array_lit_splits s x ts = refl
+
+  pub inside_elements : (x : Scope) (ts : List TokenAndSpan)
+      → elements_inside hook x ts ≡ run hook (at Elements) (with_in x) ts
+  unfolding elements_inside
+  inside_elements x ts = refl
+
+  -- the bracket closes the list
+  pub elements_close : (x : Scope) (t : TokenAndSpan) (ts : List TokenAndSpan) → is_rbracket t.token ≡ true
+      → run hook (at Elements) x (t ∷ ts) ≡ Some (listed None t.span nil, ts)
+  elements_close x t ts h =
+      knot hook (at Elements) x (t ∷ ts)
+      ∙ only-rbracket (λ v. exec hook (run hook) (Some 17)
+      (step (at Elements) x (tk v t.had_line_break t.span ∷ ts)) (tk v t.had_line_break t.span ∷ ts)
+      ≡ Some (listed None t.span nil, ts)) refl t.token h
+
+  -- behind an item: what is left behind the comma that stands there, or where none does
+  abbrev tail_left : Scope → Option Span × List TokenAndSpan → Out (Tree F C K)
+  tail_left x q = run hook (at Elements) x q.1 >>= (λ p. Some (behind q.0 p.0, p.1))
+
+  tail_token : (x : Scope) (v : Token) (b : Bool) (s : Span) (us : List TokenAndSpan)
+      → run hook (at ElementsTail) x (tk v b s ∷ us)
+      ≡ (separated is_rbracket x (tk v b s ∷ us) >>= tail_left x)
+  unfolding separated closed eaten
+  tail_token x token.Comma b s us =
+      knot hook (at ElementsTail) x (tk token.Comma b s ∷ us) ∙ calls (run hook (at Elements) x us) _
+  tail_token x token.RBracket b s us =
+      knot hook (at ElementsTail) x (tk token.RBracket b s ∷ us)
+      ∙ ap (λ o. o >>= (λ p. Some (behind None p.0, p.1))) (sym (elements_close x (tk token.RBracket b s) us refl))
+  tail_token x v b s us = knot hook (at ElementsTail) x (tk v b s ∷ us)
+
+  tail_is : (x : Scope) (us : List TokenAndSpan)
+      → run hook (at ElementsTail) x us ≡ (separated is_rbracket x us >>= tail_left x)
+  unfolding separated closed eaten
+  tail_is x [] = knot hook (at ElementsTail) x []
+  tail_is x (t ∷ us) = tail_token x t.token t.had_line_break t.span us
+
+  -- behind an element and the comma that stands there, or none: the list from that element on
+  abbrev list_from : Scope → (Tree F C K × Option Span) × List TokenAndSpan → Out (Tree F C K)
+  list_from x p = run hook (at Elements) x p.1 >>= (λ q. Some (put_first p.0.0 (behind p.0.1 q.0), q.1))
+
+  -- an item, and what stands behind it
+  item_more : (x : Scope) (ts : List TokenAndSpan)
+      → and_then (run hook (at Item) x ts) (λ e us. and_then (run hook (at ElementsTail) x us)
+      (λ es vs. Some (put_first e es, vs)))
+      ≡ (element_item hook x ts >>= list_from x)
+  unfolding element_item
+  item_more x ts =
+      calls (run hook (at Item) x ts) _
+      ∙ bind_same (run hook (at Item) x ts) _ _ (λ p.
+      calls (run hook (at ElementsTail) x p.1) _
+      ∙ ap (λ o. o >>= (λ q. Some (put_first p.0 q.0, q.1))) (tail_is x p.1)
+      ∙ sym (binds (separated is_rbracket x p.1) (tail_left x) _)
+      ∙ bind_same (separated is_rbracket x p.1) _ _ (λ q. sym (binds (run hook (at Elements) x q.1) _ _))
+      ∙ binds (separated is_rbracket x p.1) (λ q. Some ((p.0, q.0), q.1)) _)
+      ∙ binds (run hook (at Item) x ts) _ _
+
+  step_token : (x : Scope) (v : Token) (b : Bool) (s : Span) (us : List TokenAndSpan) → is_rbracket v ≡ false
+      → run hook (at Elements) x (tk v b s ∷ us)
+      ≡ (element hook x (tk v b s ∷ us) >>= list_from x)
+  unfolding element eaten
+  step_token x token.Comma b s us h =
+      knot hook (at Elements) x (tk token.Comma b s ∷ us) ∙ calls (run hook (at Elements) x us) _
+  step_token x token.RBracket b s us h = absurd cc
+  step_token x v b s us h = knot hook (at Elements) x (tk v b s ∷ us) ∙ item_more x (tk v b s ∷ us)
+
+  -- one element, and those that are left
+  pub elements_step : (x : Scope) (ts : List TokenAndSpan) → at_token is_rbracket (first ts) ≡ false
+      → run hook (at Elements) x ts
+      ≡ (element hook x ts >>= list_from x)
+  unfolding element eaten
+  elements_step x [] h = knot hook (at Elements) x [] ∙ item_more x []
+  elements_step x (t ∷ ts) h = step_token x t.token t.had_line_break t.span ts h
+
+  pub element_splits : (x : Scope) (ts : List TokenAndSpan)
+      → element hook x ts ≡ (eaten is_comma x ts >>= (λ p. element_by hook p.0 x p.1))
+  unfolding element
+  element_splits x ts = refl
+
+  pub element_item_splits : (x : Scope) (ts : List TokenAndSpan)
+      → element_item hook x ts
+      ≡ (run hook (at Item) x ts >>= (λ p. separated is_rbracket x p.1 >>= (λ q. Some ((p.0, q.0), q.1))))
+  unfolding element_item
+  element_item_splits x ts = refl
+
+  pub elements_more_splits : (before : Trees F C K) (x : Scope) (ts : List TokenAndSpan)
+      → elements_more hook before x ts
+      ≡ (element hook x ts >>= (λ p. elements_behind hook (trees_append before (cons p.0.0 nil)) p.0.1 x p.1))
+  unfolding elements_more
+  elements_more_splits before x ts = refl
+
+  -- from an element on
+  behind_more : (before : Trees F C K) (comma : Option Span) (x : Scope) (ts : List TokenAndSpan)
+      → at_token is_rbracket (first ts) ≡ false
+      → elements_behind hook before comma x ts ≡ elements_more hook before x ts
+  unfolding elements_behind elements_more
+  behind_more before comma x ts h =
+      ap (λ o. o >>= (λ p. Some (put_before before (behind comma p.0), p.1))) (elements_step x ts h)
+      ∙ sym (binds (element hook x ts) _ _)
+      ∙ bind_same (element hook x ts) _ _ (λ p.
+      sym (binds (run hook (at Elements) x p.1) _ _)
+      ∙ bind_same (run hook (at Elements) x p.1) _ _ (λ q.
+      ap (λ v. Some (v, q.1)) (twice before comma p.0.0 (behind p.0.1 q.0))))
+
+  behind_token : (before : Trees F C K) (comma : Option Span) (x : Scope) (v : Token) (b : Bool) (s : Span)
+      (us : List TokenAndSpan)
+      → elements_behind hook before comma x (tk v b s ∷ us)
+      ≡ (eaten is_rbracket x (tk v b s ∷ us) >>= (λ p. behind_by hook before comma p.0 x p.1))
+  unfolding elements_behind eaten
+  behind_token before comma x token.RBracket b s us =
+      ap (λ o. o >>= (λ p. Some (put_before before (behind comma p.0), p.1)))
+      (elements_close x (tk token.RBracket b s) us refl)
+      ∙ ap (λ v. Some (v, us)) (ended before comma s)
+  behind_token before comma x v b s us = behind_more before comma x (tk v b s ∷ us) refl
+
+  pub behind_splits : (before : Trees F C K) (comma : Option Span) (x : Scope) (ts : List TokenAndSpan)
+      → elements_behind hook before comma x ts
+      ≡ (eaten is_rbracket x ts >>= (λ p. behind_by hook before comma p.0 x p.1))
+  unfolding eaten
+  behind_splits before comma x [] = behind_more before comma x [] refl
+  behind_splits before comma x (t ∷ ts) = behind_token before comma x t.token t.had_line_break t.span ts
+
+  -- before the first element
+  first_more : (x : Scope) (ts : List TokenAndSpan) → at_token is_rbracket (first ts) ≡ false
+      → run hook (at Elements) x ts ≡ elements_behind hook nil None x ts
+  unfolding elements_behind
+  first_more x ts h =
+      elements_step x ts h
+      ∙ bind_same (element hook x ts) _ _ (λ p. binds (run hook (at Elements) x p.1) _ _)
+      ∙ binds (element hook x ts) _ _
+      ∙ ap (λ o. o >>= (λ p. Some (put_before nil p.0, p.1))) (sym (elements_step x ts h))
+
+  first_token : (x : Scope) (v : Token) (b : Bool) (s : Span) (us : List TokenAndSpan)
+      → run hook (at Elements) x (tk v b s ∷ us) ≡ elements_behind hook nil None x (tk v b s ∷ us)
+  unfolding elements_behind
+  first_token x token.RBracket b s us =
+      let e = elements_close x (tk token.RBracket b s) us refl in
+      e ∙ ap (λ o. o >>= (λ p. Some (put_before nil p.0, p.1))) (sym e)
+  first_token x v b s us = first_more x (tk v b s ∷ us) refl
+
+  pub elements_first : (x : Scope) (ts : List TokenAndSpan)
+      → run hook (at Elements) x ts ≡ elements_behind hook nil None x ts
+  elements_first x [] = first_more x [] refl
+  elements_first x (t ∷ ts) = first_token x t.token t.had_line_break t.span ts
+
+  -- ---- items (13.2.4, 13.3.8)
+
+  item_token : (x : Scope) (v : Token) (b : Bool) (s : Span) (us : List TokenAndSpan)
+      → run hook (at Item) x (tk v b s ∷ us)
+      ≡ (eaten is_dots x (tk v b s ∷ us) >>= (λ p. run hook (at Assign) x p.1 >>= (λ q. Some (item_of p.0 q.0, q.1))))
+  unfolding eaten
+  item_token x token.DotDotDot b s us =
+      knot hook (at Item) x (tk token.DotDotDot b s ∷ us) ∙ calls (run hook (at Assign) x us) _
+  item_token x v b s us =
+      knot hook (at Item) x (tk v b s ∷ us) ∙ calls (run hook (at Assign) x (tk v b s ∷ us)) _
+
+  pub item_splits : (x : Scope) (ts : List TokenAndSpan)
+      → run hook (at Item) x ts
+      ≡ (eaten is_dots x ts >>= (λ p. run hook (at Assign) x p.1 >>= (λ q. Some (item_of p.0 q.0, q.1))))
+  unfolding eaten
+  item_splits x [] = knot hook (at Item) x [] ∙ calls (run hook (at Assign) x []) _
+  item_splits x (t ∷ ts) = item_token x t.token t.had_line_break t.span ts

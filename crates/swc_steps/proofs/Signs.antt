@@ -1,0 +1,33 @@
+-- Tests of signs.
+use Rattle.std.proofs.Common.{◌≡◌, Bool, Option, Some, None, refl, sym, ap, ◌∙◌}
+use Rattle.swc_input.specs.declared.token.Token.{Token}
+use Rattle.swc_input.specs.declared.token.Token.TheVariants as token
+use Rattle.swc_input.specs.declared.token.TokenAndSpan.{TokenAndSpan}
+use Rattle.swc_input.specs.Buffer.{token_of}
+use Rattle.swc_input.specs.Kinds.{at_token}
+use Rattle.swc_input.specs.Plain.{plain_token}
+use Rattle.swc_steps.specs.declared.tokens.Sign.{Sign}
+use Rattle.swc_steps.specs.declared.tokens.Sign.TheVariants as sign
+use Rattle.swc_steps.specs.Lists.{is_sign_token}
+use Rattle.swc_steps.specs.Parsing.{seen_of}
+
+-- where the boxes of an error lie doesn't count
+plain_sign : (s : Sign) (t : Token) → is_sign_token s (plain_token t) ≡ is_sign_token s t
+plain_sign s (token.Template raw cooked) = by-sign s
+  where
+    by-sign : (s : Sign)
+        → is_sign_token s (plain_token (token.Template raw cooked)) ≡ is_sign_token s (token.Template raw cooked)
+    by-sign sign.Comma = refl
+    by-sign s = refl
+plain_sign s (token.Error e) = by-sign s
+  where
+    by-sign : (s : Sign) → is_sign_token s (plain_token (token.Error e)) ≡ is_sign_token s (token.Error e)
+    by-sign sign.Comma = refl
+    by-sign s = refl
+plain_sign s t = refl
+
+pub sign_seen : (s : Sign) (o : Option TokenAndSpan) (t : Token) (r : Bool) → Some t ≡ token_of o
+    → r ≡ is_sign_token s t → r ≡ at_token (is_sign_token s) (seen_of o)
+sign_seen s None t r e h = absurd cc
+sign_seen s (Some u) t r e h =
+    let same : t ≡ u.token = cc in h ∙ ap (is_sign_token s) same ∙ sym (plain_sign s u.token)

@@ -1,0 +1,86 @@
+-- What the steps of the code read in arguments (13.3.8) and in parentheses (13.2.9), by the clean parser.
+use Rattle.std.specs.Prelude.{Bool, true, false, not, ◌&&◌, if◌then◌else◌, List, Option, Some, None}
+use Rattle.swc_context.specs.declared.span.BytePos.{BytePos}
+use Rattle.swc_context.specs.declared.span.Span.{Span}
+use Rattle.swc_input.specs.declared.token.TokenAndSpan.{TokenAndSpan}
+use Rattle.swc_input.specs.Kinds.{at_token, is_hash}
+use Rattle.swc_ast.specs.Tree.{Tree, Trees, nil, cons, span_of}
+use Rattle.swc_ast.specs.Trees.{to, listed, items_of, trees_append, seq_of, held_exprs, paren_ok, paren_e}
+use Rattle.swc_bodies.specs.Readings.{Hook}
+use Rattle.swc_grammar.specs.Scope.{Scope}
+use Rattle.swc_grammar.specs.Symbols.{Args, Item}
+use Rattle.swc_grammar.specs.Tokens.{with_in, is_rparen, import_comma_ok}
+use Rattle.swc_grammar.specs.Clean.{Out, first, sym, run}
+use Rattle.swc_grammar.specs.Names.{Spelling, spelling, may_name}
+use Rattle.swc_grammar.specs.Words.{◌>>=◌, rest, begins_at, word}
+use Rattle.swc_steps.specs.Lists.{separated, behind, put_before}
+use Rattle.swc_nodes.specs.Lists.{seq_between}
+
+-- ---- names, and commas behind arguments
+
+-- a `#`, and a word that begins where it ends, with where that ends
+abbrev pub hash_by : Scope → Option TokenAndSpan → List TokenAndSpan → Out (Spelling × BytePos)
+hash_by c None us = None
+hash_by c (Some t) us = if is_hash t.token && begins_at t.span (first us) then
+    (word may_name c us >>= (λ r. Some ((spelling r.0.text (to t.span r.0.at), r.0.at.hi), r.1))) else None
+
+unfoldable pub hash_name : Scope → List TokenAndSpan → Out (Spelling × BytePos)
+hash_name c ts = hash_by c (first ts) (rest ts)
+
+-- Behind a comma: it may be the last of a list, or it isn't. Those of `import` may have none.
+abbrev pub last_by : Bool → Bool → List TokenAndSpan → Out (Unit {0})
+last_by closes may_end ts = if closes && not may_end then None else Some (tt, ts)
+
+unfoldable pub last_comma : Scope → List TokenAndSpan → Out (Unit {0})
+last_comma c ts = last_by (at_token is_rparen (first ts)) (import_comma_ok c) ts
+
+abbrev pub comma_behind : Bool → Option Span → Scope → List TokenAndSpan → Out (Option Span)
+comma_behind true (Some s) c ts = last_comma c ts >>= (λ p. Some (Some s, p.1))
+comma_behind i o c ts = Some (o, ts)
+
+-- behind an argument, of `import` or another: a comma, or nothing before the parenthesis that closes the list
+unfoldable pub separated_args : Bool → Scope → List TokenAndSpan → Out (Option Span)
+separated_args i c ts = separated is_rparen c ts >>= (λ p. comma_behind i p.0 c p.1)
+
+module _ {F C K : Type 0} where
+  -- a list in parentheses (13.2.9), which begins at s: what stands in them
+  abbrev pub paren_of : Span → Tree F C K → List TokenAndSpan → Out (Tree F C K)
+  paren_of s es ts =
+      if paren_ok es then Some (paren_e (to s (span_of es)) (seq_of (held_exprs (items_of es))), ts) else None
+
+  -- the same, where the first of its expressions begins, and the last one ends, at other positions than their places say
+  abbrev pub paren_from : BytePos → BytePos → Span → Tree F C K → List TokenAndSpan → Out (Tree F C K)
+  paren_from lo hi s es ts =
+      if paren_ok es then Some (paren_e (to s (span_of es)) (seq_between lo hi (held_exprs (items_of es))), ts) else None
+
+module _ {F C K : Type 0} (hook : Hook F C K) where
+  -- ---- arguments (13.3.8)
+
+  -- arguments, of `import` or others, among which `in` is an operator
+  unfoldable pub args_inside : Bool → Scope → List TokenAndSpan → Out (Tree F C K)
+  args_inside i c ts = run hook (sym (Args i)) (with_in c) ts
+
+  -- one argument, and the comma behind it, or before the parenthesis that closes the list
+  unfoldable pub arg_item : Bool → Scope → List TokenAndSpan → Out (Tree F C K × Option Span)
+  arg_item i c ts = run hook (sym Item) c ts >>= (λ p. separated_args i c p.1 >>= (λ q. Some ((p.0, q.0), q.1)))
+
+  -- Behind some arguments, and the comma behind the last of them: those that are left, to where the list is closed; and
+  -- from the next argument on.
+  unfoldable pub args_behind : Bool → Trees F C K → Option Span → Scope → List TokenAndSpan → Out (Tree F C K)
+  args_behind i before comma c ts =
+      run hook (sym (Args i)) c ts >>= (λ p. Some (put_before before (behind comma p.0), p.1))
+
+  unfoldable pub args_more : Bool → Trees F C K → Scope → List TokenAndSpan → Out (Tree F C K)
+  args_more i before c ts =
+      arg_item i c ts >>= (λ p. args_behind i (trees_append before (cons p.0.0 nil)) p.0.1 c p.1)
+
+  abbrev pub args_by : Bool → Trees F C K → Option Span → Option Span → Scope → List TokenAndSpan
+      → Out (Tree F C K)
+  args_by i before comma (Some s) c ts = Some (listed comma s before, ts)
+  args_by i before comma None c ts = args_more i before c ts
+
+  -- ---- parentheses (13.2.9)
+
+  -- behind the parenthesis at s
+  unfoldable pub paren_expr_tail : Span → Scope → List TokenAndSpan → Out (Tree F C K)
+  paren_expr_tail s c ts = args_inside false c ts >>= (λ p. paren_of s p.0 p.1)

@@ -1,0 +1,7 @@
+pub mod Args
+pub mod Contexts
+pub mod Keys
+pub mod Lists
+pub mod Parsing
+pub mod Readers
+pub mod Regexes

@@ -1,0 +1,114 @@
+-- What the steps of the code read in lists, by the clean parser.
+use Rattle.std.specs.Prelude.{ℕ, Bool, true, false, if◌then◌else◌, List, ◌∷◌, Option, Some, None}
+use Rattle.swc_context.specs.declared.span.Span.{Span}
+use Rattle.swc_context.specs.declared.word.Word.TheVariants as word
+use Rattle.swc_context.specs.Texts.{is_text}
+use Rattle.swc_input.specs.declared.token.Token.{Token}
+use Rattle.swc_input.specs.declared.token.Token.TheVariants as token
+use Rattle.swc_input.specs.declared.token.TokenAndSpan.{TokenAndSpan}
+use Rattle.swc_input.specs.Kinds.{at_token}
+use Rattle.swc_ast.specs.Tree.{Tree, Trees, nil, cons, span_of}
+use Rattle.swc_ast.specs.Trees.{to, array_e, hole_e, listed, items_of, comma_of, behind_comma, trees_append}
+use Rattle.swc_bodies.specs.Readings.{Hook, is_async}
+use Rattle.swc_grammar.specs.Scope.{Scope}
+use Rattle.swc_grammar.specs.Symbols.{Elements, Item}
+use Rattle.swc_grammar.specs.Tokens.{is_dot, is_target, is_super, is_import, is_meta, is_source, with_in, is_comma}
+use Rattle.swc_grammar.specs.Tokens.{is_dots, is_lparen, is_rparen, is_lbracket, is_rbracket, is_rbrace, is_equals}
+use Rattle.swc_grammar.specs.Tokens.{is_colon, is_star, is_get, is_set, is_question, is_backquote, is_dollar_brace}
+use Rattle.swc_grammar.specs.Clean.{Out, first, sym, run}
+use Rattle.swc_grammar.specs.Words.{◌>>=◌}
+use Rattle.swc_steps.specs.declared.tokens.Sign.{Sign}
+use Rattle.swc_steps.specs.declared.tokens.Sign.TheVariants as sign
+
+-- the word, which is no keyword
+abbrev pub is_named : List ℕ → Token → Bool
+is_named name (token.Word (word.Ident w)) = is_text w name
+is_named name t = false
+
+-- the tokens that are signs
+abbrev pub is_sign_token : Sign → Token → Bool
+is_sign_token sign.Comma = is_comma
+is_sign_token sign.DotDotDot = is_dots
+is_sign_token sign.LParen = is_lparen
+is_sign_token sign.RParen = is_rparen
+is_sign_token sign.LBracket = is_lbracket
+is_sign_token sign.RBracket = is_rbracket
+is_sign_token sign.RBrace = is_rbrace
+is_sign_token sign.Assign = is_equals
+is_sign_token sign.Colon = is_colon
+is_sign_token sign.Star = is_star
+is_sign_token sign.Async = is_async
+is_sign_token sign.Get = is_get
+is_sign_token sign.Set = is_set
+is_sign_token sign.Question = is_question
+is_sign_token sign.Dot = is_dot
+is_sign_token sign.Target = is_target
+is_sign_token sign.Super = is_super
+is_sign_token sign.Import = is_import
+is_sign_token sign.Meta = is_meta
+is_sign_token sign.Source = is_source
+is_sign_token sign.BackQuote = is_backquote
+is_sign_token sign.DollarLBrace = is_dollar_brace
+
+-- a token that passes a test is taken, if it stands first
+abbrev pub eaten_by : Bool → List TokenAndSpan → Out (Option Span)
+eaten_by true (t ∷ ts) = Some (Some t.span, ts)
+eaten_by b ts = Some (None, ts)
+
+unfoldable pub eaten : (Token → Bool) → Scope → List TokenAndSpan → Out (Option Span)
+eaten f c ts = eaten_by (at_token f (first ts)) ts
+
+-- behind an item of a list: a comma, or nothing before the token that closes the list
+unfoldable pub closed : (Token → Bool) → Scope → List TokenAndSpan → Out (Unit {0})
+closed f c ts = if at_token f (first ts) then Some (tt, ts) else None
+
+abbrev pub separated_by : (Token → Bool) → Option Span → Scope → List TokenAndSpan → Out (Option Span)
+separated_by f (Some s) c ts = Some (Some s, ts)
+separated_by f None c ts = closed f c ts >>= (λ p. Some (None, p.1))
+
+unfoldable pub separated : (Token → Bool) → Scope → List TokenAndSpan → Out (Option Span)
+separated f c ts = eaten is_comma c ts >>= (λ p. separated_by f p.0 c p.1)
+
+-- what is left of a list behind an item and a comma, or none
+abbrev pub behind : {F C K : Type 0} → Option Span → Tree F C K → Tree F C K
+behind None e = e
+behind (Some s) e = behind_comma s e
+
+-- items before those of a list
+abbrev pub put_before : {F C K : Type 0} → Trees F C K → Tree F C K → Tree F C K
+put_before ts e = listed (comma_of e) (span_of e) (trees_append ts (items_of e))
+
+module _ {F C K : Type 0} (hook : Hook F C K) where
+  -- ---- array literals (13.2.4)
+
+  -- elements among which `in` is an operator, and behind the bracket at s
+  unfoldable pub elements_inside : Scope → List TokenAndSpan → Out (Tree F C K)
+  elements_inside c ts = run hook (sym Elements) (with_in c) ts
+
+  unfoldable pub array_lit_tail : Span → Scope → List TokenAndSpan → Out (Tree F C K)
+  array_lit_tail s c ts = elements_inside c ts >>= (λ p. Some (array_e (comma_of p.0) (to s (span_of p.0)) (items_of p.0), p.1))
+
+  -- one element, and the comma behind it, or before the bracket that closes the list; a hole has none behind it
+  unfoldable pub element_item : Scope → List TokenAndSpan → Out (Tree F C K × Option Span)
+  element_item c ts = run hook (sym Item) c ts >>= (λ p. separated is_rbracket c p.1 >>= (λ q. Some ((p.0, q.0), q.1)))
+
+  abbrev pub element_by : Option Span → Scope → List TokenAndSpan → Out (Tree F C K × Option Span)
+  element_by None c ts = element_item c ts
+  element_by (Some s) c ts = Some ((hole_e, None), ts)
+
+  unfoldable pub element : Scope → List TokenAndSpan → Out (Tree F C K × Option Span)
+  element c ts = eaten is_comma c ts >>= (λ p. element_by p.0 c p.1)
+
+  -- Behind some elements, and the comma behind the last of them: those that are left, to where the list is closed; and from the next
+  -- element on.
+  unfoldable pub elements_behind : Trees F C K → Option Span → Scope → List TokenAndSpan → Out (Tree F C K)
+  elements_behind before comma c ts =
+      run hook (sym Elements) c ts >>= (λ p. Some (put_before before (behind comma p.0), p.1))
+
+  unfoldable pub elements_more : Trees F C K → Scope → List TokenAndSpan → Out (Tree F C K)
+  elements_more before c ts =
+      element c ts >>= (λ p. elements_behind (trees_append before (cons p.0.0 nil)) p.0.1 c p.1)
+
+  abbrev pub behind_by : Trees F C K → Option Span → Option Span → Scope → List TokenAndSpan → Out (Tree F C K)
+  behind_by before comma (Some s) c ts = Some (listed comma s before, ts)
+  behind_by before comma None c ts = elements_more before c ts

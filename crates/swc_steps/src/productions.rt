@@ -1,0 +1,309 @@
+// What all productions stand on: the buffer, the nodes and the hook.
+ghost use Rattle.std.specs.Prelude.{◌≡◌, ◌++◌, ◌∷◌, [], true, false, None, Some, Ok, IfOk, IfErr, OnOk, IsSome};
+ghost use Rattle.std.specs.Prelude.{MatchOption};
+ghost use Rattle.swc_input.specs.Buffer.{current, context, state_of, previous, last_position, Looked};
+ghost use Rattle.swc_input.specs.Buffer.{source as source_of, with_source};
+ghost use Rattle.swc_input.specs.Recording.{no_memory};
+ghost use Rattle.swc_input.specs.Kinds.{at_token, is_hash};
+ghost use Rattle.swc_grammar.specs.Tokens.{is_ref, is_lparen, is_rparen, is_lbracket, is_this, is_new, is_backquote};
+ghost use Rattle.swc_grammar.specs.Tokens.{begins_regex};
+ghost use Rattle.swc_bodies.specs.Readings.{at_function, is_function, is_class, is_brace};
+ghost use Rattle.swc_grammar.specs.Clean.{is_lit, is_identifier};
+ghost use Rattle.swc_steps.specs.Keys.{is_key_lit};
+ghost use Rattle.swc_steps.specs.Parsing.{is_strict, is_strict_in, seen, Looks};
+ghost use Rattle.std.specs.Borrow.{sem, follows};
+ghost use Rattle.swc_steps.specs.contracts.productions.Productions.{the_row};
+
+use crate::regex::{is_regex, is_slash};
+use crate::tokens::is_function;
+use std::alloc::{AllocError, Global};
+use swc_bodies::bodies::Bodies;
+use swc_context::context::Context;
+use swc_context::error::PResult;
+use swc_context::span::{BytePos, Span};
+use swc_context::word::{Keyword, Word};
+use swc_input::buffer::Buffer;
+use swc_input::token::Token;
+use swc_input::tokens::Tokens;
+use swc_nodes::node::ExprId;
+use swc_nodes::nodes::NodesOf;
+
+/// The productions of the grammar, as methods: each reads its symbol from the buffer, from the
+/// current token on, and keeps the context.
+///
+/// `Parser` of swc_ecma_parser stands over them, and says of its calls what the productions of the
+/// same names record and refuse, and where. A production doesn't ask whether an earlier one wanted
+/// memory: that is left to its caller.
+pub struct Productions<I: Tokens, B: Bodies<I>> {
+    /// Where names are put.
+    pub alloc: Global,
+    /// The tokens, and the faults that were recorded.
+    pub input: Buffer<I>,
+    /// The nodes of the trees that were read.
+    pub nodes: NodesOf<B>,
+    /// Reads functions, classes and blocks.
+    pub bodies: B,
+    /// Whether `import.` was read.
+    pub found_module_item: bool,
+}
+
+impl<I: Tokens, B: Bodies<I>> Drop for Productions<I, B> {
+    fn drop(self) {
+        let Productions {
+            alloc: _,
+            input: _,
+            nodes: _,
+            bodies: _,
+            found_module_item: _,
+        } = self;
+    }
+}
+
+impl<I: Tokens, B: Bodies<I>> Productions<I, B> {
+    /// The nodes. The rest is let go.
+    pub fn into_nodes(self) -> NodesOf<B>
+        ensures { result ≡ self.nodes }
+    {
+        let Productions {
+            alloc: _,
+            input: _,
+            nodes,
+            bodies: _,
+            found_module_item: _,
+        } = self;
+        nodes
+    }
+
+    /// Whether no token is left. Consumes nothing, and is refused where the source has failed alone.
+    pub fn is_end(&mut self) -> PResult<bool>
+        ensures looks { Looks I.model self.old.input result self.new.input }
+        ensures end { IfOk result
+            (λ r. r ≡ true → (current self.new.input ≡ None) × ((state_of I.model self.new.input).ended ≡ true)) }
+        ensures token { IfOk result (λ r. r ≡ false → IsSome (current self.new.input)) }
+        ensures refused { IfErr result (λ e. (e ≡ no_memory (last_position self.new.input))
+            × Looked I.model self.old.input self.new.input × ((state_of I.model self.new.input).failed ≡ true)) }
+        ensures nodes { self.new.nodes ≡ self.old.nodes }
+    {
+        Ok(!self.input.has_cur()?)
+    }
+
+    /// The source. What is written to it through the answer, and that alone, changes the productions.
+    pub fn source(&mut self) -> &mut I
+        ensures* lent { sem 𝓛 (follows (the_row I.row B.row B.Fun.row B.Class.row B.Block.row B.Fun.Spanned
+            B.Class.Spanned B.Block.Spanned) I.row self.entry.ghost_name result.ghost_name
+            (λ s. record self.old { input = with_source s self.old.input })) }
+        ensures value { result.now ≡ source_of self.old.input }
+    {
+        self.input.input()
+    }
+
+    /// The place of the current token, where it is known already, or else of the token consumed last.
+    pub fn cur_span(&self) -> Span
+        ensures { MatchOption (current self.now.input) (result ≡ previous self.now.input) (λ t. result ≡ t.span) }
+    {
+        self.input.cur_span()
+    }
+
+    /// Where the token consumed last ends, in bytes.
+    pub fn last_pos(&self) -> BytePos
+        ensures { result ≡ last_position self.now.input }
+    {
+        self.input.last_pos()
+    }
+
+    /// The place of the token consumed last.
+    pub fn prev_span(&self) -> Span
+        ensures { result ≡ previous self.now.input }
+    {
+        self.input.prev_span()
+    }
+
+    /// The context of the source.
+    pub fn get_ctx(&self) -> Context
+        ensures { result ≡ (state_of I.model self.now.input).context }
+    {
+        self.input.get_ctx()
+    }
+
+    /// The number of a node. Refused only for want of memory.
+    pub fn made(&self, id: Result<ExprId, AllocError>) -> PResult<ExprId>
+        ensures ok { IfOk result (λ r. id ≡ Ok r) }
+        ensures refused { IfErr result (λ e. e ≡ no_memory (last_position self.now.input)) }
+    {
+        match id {
+            Ok(id) => Ok(id),
+            Err(_) => Err(self.input.out_of_memory()),
+        }
+    }
+
+    /// Adds to a list. Refused only for want of memory.
+    pub fn add<T: Drop>(&self, list: &mut Vec<T>, item: T) -> PResult<()>
+        ensures added { OnOk result (list.new.items ≡ list.old.items ++ item ∷ []) }
+        ensures refused { IfErr result (λ e. e ≡ no_memory (last_position self.now.input)) }
+    {
+        match list.push(item) {
+            Ok(()) => Ok(()),
+            Err(_) => Err(self.input.out_of_memory()),
+        }
+    }
+
+    pub fn is_this(&self) -> bool
+        ensures value { result ≡ at_token is_this (seen self.now.input) }
+        ensures some { result ≡ true → IsSome (current self.now.input) }
+    {
+        matches!(
+            self.input.cur_debug(),
+            Some(Token::Word(Word::Keyword(Keyword::This)))
+        )
+    }
+
+    pub fn is_new(&self) -> bool
+        ensures value { result ≡ at_token is_new (seen self.now.input) }
+        ensures some { result ≡ true → IsSome (current self.now.input) }
+    {
+        matches!(
+            self.input.cur_debug(),
+            Some(Token::Word(Word::Keyword(Keyword::New)))
+        )
+    }
+
+    pub fn is_function(&self) -> bool
+        ensures value { result ≡ at_token is_function (seen self.now.input) }
+        ensures begins { result ≡ true → at_function (current self.now.input) ≡ true }
+    {
+        matches!(
+            self.input.cur_debug(),
+            Some(Token::Word(Word::Keyword(Keyword::Function)))
+        )
+    }
+
+    pub fn is_class(&self) -> bool
+        ensures value { result ≡ at_token is_class (seen self.now.input) }
+        ensures begins { result ≡ true → at_token is_class (current self.now.input) ≡ true }
+    {
+        matches!(
+            self.input.cur_debug(),
+            Some(Token::Word(Word::Keyword(Keyword::Class)))
+        )
+    }
+
+    pub fn is_lit(&self) -> bool
+        ensures value { result ≡ at_token is_lit (seen self.now.input) }
+        ensures some { result ≡ true → IsSome (current self.now.input) }
+    {
+        match self.input.cur_debug() {
+            Some(Token::Word(Word::Null | Word::True | Word::False)) => true,
+            Some(Token::Num { .. } | Token::BigInt { .. } | Token::Str { .. }) => true,
+            _ => false,
+        }
+    }
+
+    /// Whether a regular expression begins here: at `/` or `/=`, or at a whole one.
+    pub fn is_regex_start(&self) -> bool
+        ensures value { result ≡ at_token begins_regex (seen self.now.input) }
+        ensures some { result ≡ true → IsSome (current self.now.input) }
+    {
+        is_slash(&self.input) || is_regex(&self.input)
+    }
+
+    pub fn is_lparen(&self) -> bool
+        ensures value { result ≡ at_token is_lparen (seen self.now.input) }
+        ensures some { result ≡ true → IsSome (current self.now.input) }
+    {
+        matches!(self.input.cur_debug(), Some(Token::LParen))
+    }
+
+    pub fn is_backquote(&self) -> bool
+        ensures value { result ≡ at_token is_backquote (seen self.now.input) }
+        ensures some { result ≡ true → IsSome (current self.now.input) }
+    {
+        matches!(self.input.cur_debug(), Some(Token::BackQuote))
+    }
+
+    /// Whether a literal is current that is a key: a string, a number or a big integer.
+    pub fn is_key_lit(&self) -> bool
+        ensures value { result ≡ at_token is_key_lit (seen self.now.input) }
+        ensures some { result ≡ true → IsSome (current self.now.input) }
+    {
+        matches!(
+            self.input.cur_debug(),
+            Some(Token::Num { .. } | Token::BigInt { .. } | Token::Str { .. })
+        )
+    }
+
+    pub fn is_lbracket(&self) -> bool
+        ensures value { result ≡ at_token is_lbracket (seen self.now.input) }
+        ensures some { result ≡ true → IsSome (current self.now.input) }
+    {
+        matches!(self.input.cur_debug(), Some(Token::LBracket))
+    }
+
+    pub fn is_lbrace(&self) -> bool
+        ensures value { result ≡ at_token is_brace (seen self.now.input) }
+        ensures begins { result ≡ true → at_token is_brace (current self.now.input) ≡ true }
+        ensures some { result ≡ true → IsSome (current self.now.input) }
+    {
+        matches!(self.input.cur_debug(), Some(Token::LBrace))
+    }
+
+    pub fn is_rparen(&self) -> bool
+        ensures value { result ≡ at_token is_rparen (seen self.now.input) }
+        ensures some { result ≡ true → IsSome (current self.now.input) }
+    {
+        matches!(self.input.cur_debug(), Some(Token::RParen))
+    }
+
+    /// Whether a word is current that is an expression by itself.
+    pub fn is_ident_ref(&self) -> bool
+        ensures value { result ≡ at_token (is_identifier (context I.model self.now.input)) (seen self.now.input) }
+        ensures some { result ≡ true → IsSome (current self.now.input) }
+    {
+        let ctx = self.get_ctx();
+        match self.input.cur_debug() {
+            Some(Token::Word(word)) => is_identifier_word(ctx, word),
+            _ => false,
+        }
+    }
+
+    pub fn is_hash(&self) -> bool
+        ensures value { result ≡ at_token is_hash (seen self.now.input) }
+        ensures some { result ≡ true → IsSome (current self.now.input) }
+    {
+        matches!(self.input.cur_debug(), Some(Token::Hash))
+    }
+
+    /// Whether a word of strict code is current; `await` is one in a module alone.
+    pub fn is_strict_word(&self) -> bool
+        ensures value { result
+            ≡ at_token (is_strict (context I.model self.now.input).module) (seen self.now.input) }
+    {
+        let is_module = self.get_ctx().module;
+        match self.input.cur_debug() {
+            Some(Token::Word(word)) => is_strict_word(word, is_module),
+            _ => false,
+        }
+    }
+}
+
+/// Whether the word is an expression by itself.
+fn is_identifier_word(ctx: Context, word: &Word) -> bool
+    ensures { result ≡ is_ref ctx word.now }
+{
+    match word {
+        Word::Keyword(Keyword::Let) => true,
+        Word::Ident(name) => !ctx.is_reserved(word) && name.as_str() != "async",
+        _ => !ctx.is_reserved(word),
+    }
+}
+
+/// Whether the word is no identifier in strict code; in a module `await` is none either (ECMA-262, 13.1.1).
+fn is_strict_word(word: &Word, is_module: bool) -> bool
+    ensures { result ≡ is_strict_in is_module word.now }
+{
+    match word {
+        Word::Keyword(Keyword::Let | Keyword::Yield) => true,
+        Word::Keyword(Keyword::Await) => is_module,
+        Word::Ident(name) => name.is_strict_name(),
+        _ => false,
+    }
+}
