@@ -53,9 +53,9 @@ use Rattle.swc_grammar.specs.Firsts.{is_left_word, begins_operand, begins_expres
 use Rattle.swc_grammar.proofs.Answers.{both}
 use Rattle.swc_grammar.proofs.Bodies.{body-some}
 use Rattle.swc_grammar.proofs.Cut.{follows-length}
-use Rattle.swc_grammar.proofs.Only.{only-lparen, only-hash, only-this, only-lbracket, only-rbracket, only-comma, only-dots}
-use Rattle.swc_grammar.proofs.Only.{only-new, only-super, only-import}
-use Rattle.swc_grammar.proofs.Only.{only-class, only-brace, only-rbrace, only-colon, only-star, only-rparen, only-backquote}
+use Rattle.swc_grammar.proofs.Only.{backquote-is, brace-is, class-is, colon-is, comma-is, dots-is, hash-is, import-is}
+use Rattle.swc_grammar.proofs.Only.{lbracket-is, lparen-is, new-is, rbrace-is, rbracket-is, rparen-is, star-is}
+use Rattle.swc_grammar.proofs.Only.{super-is, this-is}
 
 -- X holds where the rest of a side, behind the token that it tests, can be followed
 abbrev pub Under : {F C K A : Type 0} → Type 0 → Rule Symbol (Answer F C K) Body (Value F C K) A → Type 0
@@ -132,7 +132,7 @@ function-first c (t ∷ ts) h = by-first c t.token (is-first-of-function t.token
 class-first : (c : Scope) (own : List TokenAndSpan) → begins_own is_class own ≡ true
     → at_token (begins_primary c) (first own) ≡ true
 class-first c [] h = absurd cc
-class-first c (t ∷ ts) h = by-first c t.token (only-class (λ v. is_first v ≡ true) refl t.token h)
+class-first c (t ∷ ts) h = by-first c t.token (rw (class-is t.token h) refl)
 
 passed : {A : Type 0} (b : Bool) (a x : A) → (if b then Some a else None) ≡ Some x → b ≡ true
 passed true a x h = refl
@@ -203,14 +203,14 @@ first-own P (t ∷ ts) us h k = k
 
 -- the words that begin left-hand sides
 new-first : (c : Scope) (t : Token) → is_new t ≡ true → begins_left c t ≡ true
-new-first c t h = or-right (begins_primary c t) (is_left_word t) (only-new (λ v. is_left_word v ≡ true) refl t h)
+new-first c t h = or-right (begins_primary c t) (is_left_word t) (rw (new-is t h) refl)
 
 super-first : (c : Scope) (t : Token) → is_super t ≡ true → begins_left c t ≡ true
-super-first c t h = or-right (begins_primary c t) (is_left_word t) (only-super (λ v. is_left_word v ≡ true) refl t h)
+super-first c t h = or-right (begins_primary c t) (is_left_word t) (rw (super-is t h) refl)
 
 import-first : (c : Scope) (t : Token) → is_import t ≡ true → begins_left c t ≡ true
 import-first c t h =
-    or-right (begins_primary c t) (is_left_word t) (only-import (λ v. is_left_word v ≡ true) refl t h)
+    or-right (begins_primary c t) (is_left_word t) (rw (import-is t h) refl)
 
 -- what binary operators join, and any expression
 operand-left : (c : Scope) (t : Token) → begins_left c t ≡ true → begins_operand c t ≡ true
@@ -277,47 +277,47 @@ module _ {F C K : Type 0} where
   opens (ident-expr {c = c}) =
       λ a. under-given _ (reference c a.token a.span) _ (λ n h. (reference-first c a.token a.span n h).1)
   opens lit = λ a. under-given _ (lit_of a.token a.span) _ (λ e h. lit-first a.token a.span e h)
-  opens (this-expr {c = c}) = λ a h. by-first c a.token (only-this (λ t. is_first t ≡ true) refl a.token h)
+  opens (this-expr {c = c}) = λ a h. by-first c a.token (rw (this-is a.token h) refl)
   opens (primary-literal {c = c}) = λ t h. by-first c t (lit-is-first t h)
-  opens (array-lit {c = c}) = λ a h. by-first c a.token (only-lbracket (λ t. is_first t ≡ true) refl a.token h)
-  opens (elements-end {c = c}) = λ a h. only-rbracket (λ t. starts Elements c t ≡ true) refl a.token h
-  opens (elements-hole {c = c}) = λ a h. only-comma (λ t. starts Elements c t ≡ true) refl a.token h
+  opens (array-lit {c = c}) = λ a h. by-first c a.token (rw (lbracket-is a.token h) refl)
+  opens (elements-end {c = c}) = λ a h. rw (rbracket-is a.token h) refl
+  opens (elements-hole {c = c}) = λ a h. rw (comma-is a.token h) refl
   opens (elements-more {c = c}) =
       λ t h. or-left (begins_expression c t || is_dots t) (is_comma t || is_rbracket t) h
-  opens (tail-end {c = c}) = λ a h. only-rbracket (λ t. starts ElementsTail c t ≡ true) refl a.token h
-  opens (tail-more {c = c}) = λ a h. only-comma (λ t. starts ElementsTail c t ≡ true) refl a.token h
+  opens (tail-end {c = c}) = λ a h. rw (rbracket-is a.token h) refl
+  opens (tail-more {c = c}) = λ a h. rw (comma-is a.token h) refl
   opens (item-expr {c = c}) = λ t h. or-left (begins_expression c t) (is_dots t) h
-  opens (item-spread {c = c}) = λ a h. only-dots (λ t. starts Item c t ≡ true) refl a.token h
+  opens (item-spread {c = c}) = λ a h. rw (dots-is a.token h) refl
   opens (fn-expr {c = c}) = λ own h. function-first c own h
   opens (class-expr {c = c}) = λ own h. class-first c own h
-  opens (object-lit {c = c}) = λ a h. by-first c a.token (only-brace (λ t. is_first t ≡ true) refl a.token h)
-  opens (props-end {c = c}) = λ a h. only-rbrace (λ t. starts Props c t ≡ true) refl a.token h
+  opens (object-lit {c = c}) = λ a h. by-first c a.token (rw (brace-is a.token h) refl)
+  opens (props-end {c = c}) = λ a h. rw (rbrace-is a.token h) refl
   opens props-more = λ t h. or-left (begins_prop t) (is_rbrace t) h
-  opens (props-tail-end {c = c}) = λ a h. only-rbrace (λ t. starts PropsTail c t ≡ true) refl a.token h
-  opens (props-tail-more {c = c}) = λ a h. only-comma (λ t. starts PropsTail c t ≡ true) refl a.token h
-  opens prop-spread = λ a h. only-dots (λ t. begins_prop t ≡ true) refl a.token h
+  opens (props-tail-end {c = c}) = λ a h. rw (rbrace-is a.token h) refl
+  opens (props-tail-more {c = c}) = λ a h. rw (comma-is a.token h) refl
+  opens prop-spread = λ a h. rw (dots-is a.token h) refl
   opens (prop-short {c = c}) = λ a. under-given _ (any_name c a.token a.span) _
       (λ n h r. word-prop a.token (name-first c a.token a.span n h))
   opens (prop-cover {c = c}) = λ a. under-given _ (any_name c a.token a.span) _
       (λ n h r. word-prop a.token (name-first c a.token a.span n h))
   opens prop-key = λ t h. key-prop t h
-  opens prop-generator = λ a h. only-star (λ t. begins_prop t ≡ true) refl a.token h
+  opens prop-generator = λ a h. rw (star-is a.token h) refl
   opens prop-async = λ a h. word-prop a.token (async-word a.token h)
   opens prop-async-generator = λ a h. word-prop a.token (async-word a.token h)
   opens prop-getter = λ a h. word-prop a.token (get-word a.token h)
-  opens (after-value {c = c}) = λ a h. only-colon (λ t. starts AfterKey c t ≡ true) refl a.token h
+  opens (after-value {c = c}) = λ a h. rw (colon-is a.token h) refl
   opens after-shell = λ t h. or-right (is_colon t) (is_lparen t) h
   opens shell-block = λ a h. h
   opens (key-name {c = c}) = λ a. under-given _ (any_name c a.token a.span) _
       (λ n h. word-key a.token (name-first c a.token a.span n h))
   opens key-literal =
       λ a. under-given _ (key_lit_of a.token a.span) _ (λ e h. key-lit-first a.token a.span e h)
-  opens key-computed = λ a h. only-lbracket (λ t. begins_key t ≡ true) refl a.token h
-  opens (paren-expr {c = c}) = λ a h. by-first c a.token (only-lparen (λ t. is_first t ≡ true) refl a.token h)
+  opens key-computed = λ a h. rw (lbracket-is a.token h) refl
+  opens (paren-expr {c = c}) = λ a h. by-first c a.token (rw (lparen-is a.token h) refl)
   opens (regex-alone {c = c}) =
       λ a. under-given _ (regex_of a.token a.span) _ (λ e h. by-first c a.token (regex-first a.token a.span e h))
   opens (regex-slash {c = c}) = λ a h. by-first c a.token (slash-first a.token h)
-  opens (primary-template {c = c}) = λ t h. by-first c t (only-backquote (λ v. is_first v ≡ true) refl t h)
+  opens (primary-template {c = c}) = λ t h. by-first c t (rw (backquote-is t h) refl)
   opens template = λ a h. h
   opens (parts-end {is_tagged = is_tagged}) = λ a. under-given _ (text_of is_tagged true a.token a.span) _
       (λ t h. text-first is_tagged true a.token a.span t h)
@@ -345,10 +345,10 @@ module _ {F C K : Type 0} where
   opens chain-call = λ t h. h
   opens tagged-tpl = λ t h. h
   opens arguments = λ a h. h
-  opens (args-end {c = c} {i = i}) = λ a h. only-rparen (λ t. starts (Args i) c t ≡ true) refl a.token h
+  opens (args-end {c = c} {i = i}) = λ a h. rw (rparen-is a.token h) refl
   opens (args-more {c = c}) = λ t h. or-left (begins_expression c t || is_dots t) (is_rparen t) h
-  opens (args-tail-end {c = c} {i = i}) = λ a h. only-rparen (λ t. starts (ArgsTail i) c t ≡ true) refl a.token h
-  opens (args-tail-more {c = c} {i = i}) = λ a h. only-comma (λ t. starts (ArgsTail i) c t ≡ true) refl a.token h
+  opens (args-tail-end {c = c} {i = i}) = λ a h. rw (rparen-is a.token h) refl
+  opens (args-tail-more {c = c} {i = i}) = λ a h. rw (comma-is a.token h) refl
   opens (unary-left {c = c}) = λ t h. operand-left c t h
   opens (update-postfix {c = c}) = λ t h. operand-left c t h
   opens (update-prefix {c = c}) = λ a. under-given _ (update_here a.token a.span) _
@@ -361,7 +361,7 @@ module _ {F C K : Type 0} where
   opens exp-op = λ t h. h
   opens (level-up b) = λ t h. h
   opens (bin-op b) = λ t h. h
-  opens (private-expr {c = c}) = λ a h. by-first c a.token (only-hash (λ t. is_first t ≡ true) refl a.token h)
+  opens (private-expr {c = c}) = λ a h. by-first c a.token (rw (hash-is a.token h) refl)
   opens (assign-level {c = c}) = λ t h. expression-operand c t h
   opens (cond-expr {c = c}) = λ t h. expression-operand c t h
   opens (assign-expr {c = c}) = λ t h. expression-operand c t h

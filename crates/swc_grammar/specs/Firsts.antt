@@ -1,13 +1,9 @@
 -- What a reading begins with, symbol by symbol.
-use Rattle.std.specs.Prelude.{Bool, true, false, ◌||◌, ◌&&◌, Option, Some, None, codes}
-use Rattle.swc_context.specs.declared.operator.AssignOp.TheVariants as assign
-use Rattle.swc_context.specs.declared.operator.BinOpToken.TheVariants as sign
+use Rattle.std.specs.Prelude.{Bool, true, false, ◌||◌, ◌&&◌, Option, Some, None}
 use Rattle.swc_context.specs.declared.operator.UnaryOp.{UnaryOp}
-use Rattle.swc_context.specs.Texts.{is_text}
-use Rattle.swc_context.specs.declared.word.Keyword.TheVariants as keyword
-use Rattle.swc_context.specs.declared.word.Word.TheVariants as word
 use Rattle.swc_input.specs.declared.token.Token.{Token}
 use Rattle.swc_input.specs.declared.token.Token.TheVariants as token
+use Rattle.swc_bodies.specs.Readings.{is_async}
 use Rattle.swc_grammar.specs.Scope.{Scope}
 use Rattle.swc_grammar.specs.Clean.{is_lit, is_identifier}
 use Rattle.swc_grammar.specs.Symbols.{Symbol, Level, Unary, Lhs, Left, Base, Arguments, Template, Parts}
@@ -15,7 +11,7 @@ use Rattle.swc_grammar.specs.Symbols.{Args, ArgsTail, Primary, Literal, Elements
 use Rattle.swc_grammar.specs.Symbols.{Props, PropsTail, Prop, Key, AfterKey, Shell}
 use Rattle.swc_grammar.specs.Tokens.{prefix_of, is_comma, is_rbracket, is_rbrace, is_dots, is_star, is_lparen}
 use Rattle.swc_grammar.specs.Tokens.{is_backquote, is_update, is_await, is_yield}
-use Rattle.swc_grammar.specs.Tokens.{is_rparen, ends_prop, follows_key}
+use Rattle.swc_grammar.specs.Tokens.{is_rparen, ends_prop, follows_key, opening, is_primary_opening, is_left_opening}
 
 abbrev pub is_prefix_op : Option UnaryOp → Bool
 is_prefix_op None = false
@@ -24,27 +20,9 @@ is_prefix_op (Some op) = true
 abbrev pub is_prefix : Token → Bool
 is_prefix t = is_prefix_op (prefix_of t)
 
--- a primary expression: with an identifier reference, or with one of these tokens, by one table
+-- a primary expression: with an identifier reference, or with one of these tokens
 abbrev pub is_first : Token → Bool
-is_first (token.Word word.Null) = true
-is_first (token.Word word.True) = true
-is_first (token.Word word.False) = true
-is_first (token.Word (word.Keyword keyword.This)) = true
-is_first (token.Word (word.Keyword keyword.Function)) = true
-is_first (token.Word (word.Keyword keyword.Class)) = true
-is_first (token.Word (word.Ident name)) = is_text name (codes "async")
-is_first (token.Num raw) = true
-is_first (token.BigInt raw) = true
-is_first (token.Str value raw) = true
-is_first (token.Regex exp flags) = true
-is_first (token.BinOp sign.Div) = true
-is_first (token.AssignOp assign.DivAssign) = true
-is_first token.BackQuote = true
-is_first token.LParen = true
-is_first token.LBracket = true
-is_first token.LBrace = true
-is_first token.Hash = true
-is_first t = false
+is_first t = is_primary_opening (opening t) || is_async t
 
 abbrev pub begins_primary : Scope → Token → Bool
 begins_primary c t = is_identifier c.context t || is_first t
@@ -52,10 +30,7 @@ begins_primary c t = is_identifier c.context t || is_first t
 -- a left-hand side: with `new`, `super` and `import` too; what binary operators join: with a prefix operator, `++`, `--` or
 -- `await` too; any other: with `yield` too
 abbrev pub is_left_word : Token → Bool
-is_left_word (token.Word (word.Keyword keyword.New)) = true
-is_left_word (token.Word (word.Keyword keyword.Super)) = true
-is_left_word (token.Word (word.Keyword keyword.Import)) = true
-is_left_word t = false
+is_left_word t = is_left_opening (opening t)
 
 abbrev pub begins_left : Scope → Token → Bool
 begins_left c t = begins_primary c t || is_left_word t

@@ -1,0 +1,220 @@
+-- Operators: prefixes, `await`, updates, and climbing over the levels of binary operators.
+use Rattle.std.specs.Prelude.{◌≡◌, ℕ, suc, ◌≤◌, ◌<◌, min, Bool, true, false, not, ◌||◌, List, [], ◌∷◌, ◌&&◌}
+use Rattle.std.specs.Prelude.{if◌then◌else◌, Some, None}
+use Rattle.std.proofs.Common.{refl, ap, ◌∙◌, arith}
+use Rattle.std.proofs.lemmas.Bool.{le-leb, lt-leb}
+use Rattle.swc_context.specs.Operators.{precedence_of}
+use Rattle.swc_context.specs.declared.operator.BinaryOp.{BinaryOp}
+use Rattle.swc_context.specs.declared.operator.UnaryOp.{UnaryOp}
+use Rattle.swc_context.specs.declared.operator.BinaryOp.TheVariants as binary
+use Rattle.swc_context.specs.declared.operator.BinOpToken.TheVariants as sign
+use Rattle.swc_context.specs.declared.span.Span.{Span}
+use Rattle.swc_context.specs.declared.word.Keyword.TheVariants as keyword
+use Rattle.swc_context.specs.declared.word.Word.TheVariants as word
+use Rattle.swc_input.specs.declared.token.Token.{Token}
+use Rattle.swc_input.specs.declared.token.Token.TheVariants as token
+use Rattle.swc_input.specs.declared.token.TokenAndSpan.{TokenAndSpan}
+use Rattle.swc_input.specs.Kinds.{at_token}
+use Rattle.swc_ast.specs.Tree.{Tree, span_of}
+use Rattle.swc_ast.specs.Trees.{to, bin_e, nullish_ok, logical_ok, exp_ok, is_unary, min_right}
+use Rattle.swc_bodies.specs.Readings.{Hook}
+use Rattle.swc_grammar.specs.Scope.{Scope}
+use Rattle.swc_grammar.specs.Rule.{sees}
+use Rattle.swc_grammar.specs.Tokens.{tk, binary_of, prefix_of, is_power, is_star, is_update, is_await, ends_await}
+use Rattle.swc_grammar.specs.Symbols.{Level, Unary, Lhs, Side}
+use Rattle.swc_grammar.specs.Parts.{prefix_here, update_here}
+use Rattle.swc_grammar.specs.Grammar.{Production, unary-left, unary-op, update-postfix, update-prefix, await-expr}
+use Rattle.swc_grammar.specs.Grammar.{await-ident}
+use Rattle.swc_grammar.specs.Reads.{Follows, took, held, calm, part}
+use Rattle.swc_grammar.specs.Clean.{first, sym, climb, no_link, prefix_at, updates, no_update_at, ends_unary}
+use Rattle.swc_grammar.specs.Clean.{ends_await_at, unary_by, Stop, Choice, pick, chosen, step, run}
+use Rattle.swc_grammar.specs.Firsts.{begins_left, begins_operand}
+use Rattle.swc_grammar.proofs.Good.{Good}
+use Rattle.swc_grammar.proofs.Only.{power-is}
+use Rattle.swc_grammar.proofs.Firsts.{given-held, begins, placed-op, update-first}
+use Rattle.swc_grammar.proofs.Knot.{knot}
+use Rattle.swc_grammar.proofs.Levels.{bound-some, bound-above, min-right-same}
+use Rattle.swc_grammar.proofs.Complete.Bools.{if-on, if-off, is-false, neither, is-true}
+use Rattle.swc_grammar.proofs.Complete.Sides.{Claim, Ready, ready-given, last, picks, settle, Ran, forget, side-reads}
+
+no-prefix-first : (c : Scope) (xs : List TokenAndSpan) → at_token (begins_left c) (first xs) ≡ true
+    → (prefix_at (first xs) ≡ None) × (at_token is_update (first xs) ≡ false)
+no-prefix-first c [] h = (refl, refl)
+no-prefix-first c (a ∷ us) h = by-token a.token h
+  where
+    by-token : (t : Token) → begins_left c t ≡ true → (prefix_of t ≡ None) × (is_update t ≡ false)
+    by-token (token.Word (word.Keyword keyword.Delete)) h = absurd cc
+    by-token (token.Word (word.Keyword keyword.Void)) h = absurd cc
+    by-token (token.Word (word.Keyword keyword.TypeOf)) h = absurd cc
+    by-token (token.BinOp sign.Add) h = absurd cc
+    by-token (token.BinOp sign.Sub) h = absurd cc
+    by-token token.Tilde h = absurd cc
+    by-token token.Bang h = absurd cc
+    by-token token.PlusPlus h = absurd cc
+    by-token token.MinusMinus h = absurd cc
+    by-token t h = (refl, refl)
+
+-- a prefix operator is neither `++` nor `--` nor `await`, and that is none of these
+prefix-apart : (t : Token) (op : UnaryOp) → prefix_of t ≡ Some op → (is_update t ≡ false) × (is_await t ≡ false)
+prefix-apart token.PlusPlus op h = absurd cc
+prefix-apart token.MinusMinus op h = absurd cc
+prefix-apart (token.Word (word.Keyword keyword.Await)) op h = absurd cc
+prefix-apart t op h = (refl, refl)
+
+await-apart : (t : Token) → is_await t ≡ true → is_update t ≡ false
+await-apart (token.Word w) h = refl
+await-apart t h = absurd cc
+
+-- a test of what stands first, on the list
+first-sees : (p : Token → Bool) (xs : List TokenAndSpan) → sees (λ t. p t.token) xs ≡ false
+    → at_token p (first xs) ≡ false
+first-sees p [] h = refl
+first-sees p (t ∷ ts) h = h
+
+-- what stands behind `await` and `yield`
+await-goes-on : (c : Scope) (us : List TokenAndSpan)
+    → sees (λ t. is_star t.token || (not c.context.in_async && ends_await t)) us ≡ false
+    → at_token (begins_operand c) (first us) ≡ true
+    → (at_token is_star (first us) ≡ false) × ((not c.context.in_async && ends_await_at (first us)) ≡ false)
+await-goes-on c [] w h = absurd cc
+await-goes-on c (t ∷ ts) w h = neither (is_star t.token) (not c.context.in_async && ends_await t) w
+
+await-ends : (us : List TokenAndSpan) → sees (λ t. is_star t.token || not (ends_await t)) us ≡ false
+    → (at_token is_star (first us) ≡ false) × (ends_await_at (first us) ≡ true)
+await-ends [] w = (refl, refl)
+await-ends (t ∷ ts) w =
+    let (x, y) = neither (is_star t.token) (not (ends_await t)) w in (x, is-true (ends_await t) y)
+
+-- operators
+operator-ends : (c : Scope) (a : TokenAndSpan) (us : List TokenAndSpan) (op : BinaryOp)
+    → binary_of c.context a.token ≡ Some op → ends_unary (a ∷ us) ≡ true
+operator-ends c a us op h = by-token a.token a.had_line_break a.span h
+  where
+    by-token : (t : Token) (b : Bool) (s : Span) → binary_of c.context t ≡ Some op
+        → ends_unary (tk t b s ∷ us) ≡ true
+    by-token token.BackQuote b s h = absurd cc
+    by-token token.QuestionMark b s h = absurd cc
+    by-token token.Dot b s h = absurd cc
+    by-token token.LBracket b s h = absurd cc
+    by-token token.LParen b s h = absurd cc
+    by-token token.PlusPlus b s h = absurd cc
+    by-token token.MinusMinus b s h = absurd cc
+    by-token t b s h = refl
+
+power-op : (c : Scope) (a : TokenAndSpan) → is_power a.token ≡ true → binary_of c.context a.token ≡ Some binary.Exp
+power-op c a h = rw (power-is a.token h) refl
+
+pub update-link : (a : TokenAndSpan) (us : List TokenAndSpan) → is_update a.token ≡ true → no_link true (a ∷ us) ≡ true
+update-link a us h = by-token a.token a.had_line_break a.span h
+  where
+    by-token : (t : Token) (b : Bool) (s : Span) → is_update t ≡ true → no_link true (tk t b s ∷ us) ≡ true
+    by-token token.PlusPlus b s h = refl
+    by-token token.MinusMinus b s h = refl
+    by-token t b s h = absurd cc
+
+module _ {F C K : Type 0} (hook : Hook F C K) where
+  climb-takes : (op : BinaryOp) (m : ℕ) (c : Scope) (t : TokenAndSpan) (l r : Tree F C K) (ms ys : List TokenAndSpan)
+      → binary_of c.context t.token ≡ Some op → m < precedence_of op → exp_ok op l ≡ true → nullish_ok op l r ≡ true
+      → logical_ok op l ≡ true
+      → run hook (sym (Level (suc (min_right op)))) c ms ≡ Some (r, ys)
+      → run hook (climb l m) c (t ∷ ms) ≡ run hook (climb (bin_e (to (span_of l) (span_of r)) op l r) m) c ys
+  climb-takes op m c t l r ms ys o lt x n g e =
+      knot hook (climb l m) c (t ∷ ms)
+      ∙ rw (o, lt-leb (precedence_of op) m lt, x, e, n, g)
+      (last hook None (climb (bin_e (to (span_of l) (span_of r)) op l r) m) c ys refl)
+
+  pub operand-climbs : (m : ℕ) (c : Scope) (xs ys : List TokenAndSpan) (t : Tree F C K) → m ≤ 10
+      → run hook (sym Unary) c xs ≡ Some (t, ys)
+      → run hook (sym (Level (suc m))) c xs ≡ run hook (climb t m) c ys
+  operand-climbs m c xs ys t le e =
+      knot hook (sym (Level (suc m))) c xs ∙ rw (le-leb m 10 le, e) (last hook (Some 12) (climb t m) c ys refl)
+
+  -- `++` and `--` before an operand, `await`, and prefix operators
+  await-picks : (c : Scope) (a : TokenAndSpan) (us : List TokenAndSpan) (x : Choice F C K Unary c)
+      → is_await a.token ≡ true → at_token is_star (first us) ≡ false
+      → (if not c.context.in_async && ends_await_at (first us) then pick await-ident else pick await-expr) ≡ x
+      → step (sym Unary) c (a ∷ us) ≡ chosen x
+  await-picks c a us x h s e =
+      if-off (is_update a.token) _ _ (await-apart a.token h) ∙ if-on (is_await a.token) _ _ h
+      ∙ ap chosen (if-off (at_token is_star (first us)) _ _ s ∙ e)
+
+  abbrev is_signed : {c : Scope} {r : Side F C K Unary} → Production Unary c r → Bool
+  is_signed unary-left = false
+  is_signed update-postfix = false
+  is_signed p = true
+
+  picked-unary : {c : Scope} {r : Side F C K Unary} {xs ys : List TokenAndSpan} {t : Tree F C K}
+      (p : Production Unary c r) → is_signed p ≡ true
+      → Follows hook Unary r xs ys t → step (sym Unary) c xs ≡ chosen (pick p)
+  picked-unary update-prefix y (took {a = a} d) =
+      let (x, h, k) = given-held (update_here a.token a.span) _ d in
+      if-on (is_update a.token) _ _ (update-first a.token a.span x h)
+  picked-unary {c = c} await-expr y (took {a = a} {xs = us} (held h (held k (calm w (part e d))))) =
+      let (x, n) = await-goes-on c us w (begins e) in await-picks c a us _ h x (if-off _ _ _ n)
+  picked-unary {c = c} await-ident y (took {a = a} {xs = us} (held h (held k (calm w d)))) =
+      let (x, n) = await-ends us w in
+      let (g, o) = neither c.context.in_async c.context.module (is-false (c.context.in_async || c.context.module) k) in
+      await-picks c a us _ h x (if-on (not c.context.in_async && ends_await_at (first us)) _ _ (rw (g, n) refl))
+  picked-unary {c = c} unary-op y (took {a = a} {xs = us} d) =
+      let (x, h, k) = given-held (prefix_here a.token a.span) _ d in
+      let op = placed-op (prefix_of a.token) a.span x.0 x.1 h in
+      let (u, w) = prefix-apart a.token x.0 op in
+      if-off (is_update a.token) _ _ u ∙ if-off (is_await a.token) _ _ w ∙ ap (λ v. unary_by c v) op
+  picked-unary p y d = absurd cc
+
+  ready-unary : {c : Scope} {r : Side F C K Unary} (ys : List TokenAndSpan) → Stop Unary c ys
+      → (p : Production Unary c r) → is_signed p ≡ true → Ready (Some 11) ys r
+  ready-unary ys stop update-prefix y =
+      λ a. ready-given _ _ (update_here a.token a.span) _ (λ x h. (refl, λ e. (λ n. stop, λ n. tt)))
+  ready-unary ys stop await-expr y = λ a h k. (refl, λ e. (stop, tt))
+  ready-unary ys stop await-ident y = λ a h k. tt
+  ready-unary ys stop unary-op y =
+      λ a. ready-given _ _ (prefix_here a.token a.span) _ (λ x h. (refl, λ e. (λ n. stop, λ n. tt)))
+  ready-unary ys stop p y = absurd cc
+
+  left-free : (op : BinaryOp) (l : Tree F C K) → precedence_of op ≤ 10 → exp_ok op l ≡ true
+  left-free binary.Exp l h = absurd (omega arith)
+  left-free op l h = refl
+
+  pub op-reads : (n : ℕ) (op : BinaryOp) (c : Scope) (a : TokenAndSpan) (l r : Tree F C K)
+      (xs ms ys : List TokenAndSpan)
+      → suc n ≤ 10
+      → binary_of c.context a.token ≡ Some op → precedence_of op ≡ suc n → nullish_ok op l r ≡ true
+      → logical_ok op l ≡ true
+      → Good F C K (Level (suc (suc n))) r
+      → Claim hook (Level (suc n)) c xs (a ∷ ms) l → Claim hook (Level (suc (suc n))) c ms ys r
+      → Claim hook (Level (suc n)) c xs ys (bin_e (to (span_of l) (span_of r)) op l r)
+  op-reads n op c a l r xs ms ys top o p k g w left right = λ le end b m lt.
+      let right-at : min_right op ≡ suc n = min-right-same op (omega arith) ∙ p in
+      let e : run hook (sym (Level (suc (min_right op)))) c ms ≡ Some (r, ys) =
+      rw right-at (settle hook (Level (suc (suc n))) c ms ys r w right
+      (top, end, bound-above c (min (suc n) 10) (suc n) ys (omega arith) b)) in
+      left le (operator-ends c a ms op o) (bound-some c (min (suc n) 10) (a ∷ ms) op o (omega arith)) m lt
+      ∙ climb-takes op m c a l r ms ys o (omega arith) (left-free op l (omega arith)) k g e
+
+  pub exp-reads : (c : Scope) (a : TokenAndSpan) (l r : Tree F C K) (xs ms ys : List TokenAndSpan)
+      → is_power a.token ≡ true → not (is_unary l) ≡ true → Good F C K (Level 11) r
+      → Claim hook Unary c xs (a ∷ ms) l → Claim hook (Level 11) c ms ys r
+      → Claim hook (Level 11) c xs ys (bin_e (to (span_of l) (span_of r)) binary.Exp l r)
+  exp-reads c a l r xs ms ys y x w left right = λ le end b m lt.
+      operand-climbs m c xs (a ∷ ms) l (omega arith) (left (operator-ends c a ms binary.Exp (power-op c a y)))
+      ∙ climb-takes binary.Exp m c a l r ms ys (power-op c a y) (omega arith) x refl refl
+      (settle hook (Level 11) c ms ys r w right (omega arith, end, b))
+
+  pub signed : {c : Scope} {r : Side F C K Unary} {xs ys : List TokenAndSpan} {t : Tree F C K}
+      (p : Production Unary c r) → is_signed p ≡ true → Ran hook Unary r xs ys t → Claim hook Unary c xs ys t
+  signed {c = c} {xs = xs} {ys = ys} p y d = λ stop.
+      picks hook Unary c xs p (pick p) (picked-unary p y (forget hook d)) refl
+      (side-reads hook (Some 11) d (ready-unary ys stop p y))
+
+  -- a left-hand side as an operand, and what `++` or `--` stand behind
+  pub operand-reads : (c : Scope) (xs ms : List TokenAndSpan) (l : Tree F C K)
+      → at_token (begins_left c) (first xs) ≡ true → sees (λ t. is_await t.token) xs ≡ false
+      → run hook (sym (Lhs true)) c xs ≡ Some (l, ms) → run hook (sym Unary) c xs ≡ run hook (updates l) c ms
+  operand-reads c xs ms l h w e =
+      let (p, u) = no-prefix-first c xs h in
+      knot hook (sym Unary) c xs ∙ rw (u, first-sees is_await xs w, p, e) (last hook (Some 11) (updates l) c ms refl)
+
+  pub updates-end : (c : Scope) (l : Tree F C K) (ms : List TokenAndSpan) → no_update_at (first ms) ≡ true
+      → run hook (updates l) c ms ≡ Some (l, ms)
+  updates-end c l ms h = knot hook (updates l) c ms ∙ rw h refl
