@@ -8,8 +8,8 @@ use Rattle.swc_ast.specs.Trees.{is_cover, no_cover, no_cover_in}
 use Rattle.swc_ast.specs.declared.spanned.Spanned.{Ghosts}
 use Rattle.swc_nodes.specs.Lists.{is_cover_prop, has_cover, IsObject}
 use Rattle.swc_nodes.specs.NodeTree.{prop_of}
-use Rattle.swc_nodes.specs.Slots.{prop_parts}
-use Rattle.swc_nodes.specs.Stands.{count, seat_before, tree_at, Stood}
+use Rattle.swc_nodes.specs.NodeParts.{prop_parts}
+use Rattle.swc_nodes.specs.GrowingNodes.{count, seat_before, tree_at, Stood}
 use Rattle.swc_nodes.specs.declared.node.Node.TheVariants as n
 use Rattle.swc_nodes.specs.declared.node.PropNode.{PropNode}
 use Rattle.swc_nodes.specs.declared.node.PropNode.TheVariants as prop

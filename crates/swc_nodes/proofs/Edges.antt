@@ -7,9 +7,10 @@ use Rattle.swc_ast.specs.Trees.{ends_in_invalid, begins_in_invalid}
 use Rattle.swc_ast.specs.declared.spanned.Spanned.{Ghosts}
 use Rattle.swc_nodes.specs.Operands.{left_operand, last_operand, own_start, own_end}
 use Rattle.swc_nodes.specs.NodeTree.{marked_tree}
-use Rattle.swc_nodes.specs.Seats.{Seat, start_refused, end_refused}
-use Rattle.swc_nodes.specs.Slots.{expr_part}
-use Rattle.swc_nodes.specs.Stands.{count, seat_at, seat_before, tree_at, start_at, end_at, or_position, From, Grows, Stood}
+use Rattle.swc_nodes.specs.NumberedTrees.{Seat, start_refused, end_refused}
+use Rattle.swc_nodes.specs.NodeParts.{expr_part}
+use Rattle.swc_nodes.specs.GrowingNodes.{count, seat_at, seat_before, tree_at, start_at, end_at, or_position, From}
+use Rattle.swc_nodes.specs.GrowingNodes.{Grows, Stood}
 use Rattle.swc_nodes.specs.declared.node.ExprId.{ExprId}
 use Rattle.swc_nodes.specs.declared.node.Node.{Node}
 use Rattle.swc_nodes.specs.declared.node.Node.TheVariants as n

@@ -5,9 +5,11 @@ use Rattle.swc_context.specs.declared.span.Span.{Span}
 use Rattle.swc_ast.specs.declared.spanned.Spanned.{Ghosts}
 use Rattle.swc_ast.specs.Trees.{is_logical_op, is_nullish, logical_ok, left_ok}
 use Rattle.swc_nodes.specs.NodeTree.{marked_tree}
-use Rattle.swc_nodes.specs.Seats.{floor, chain}
-use Rattle.swc_nodes.specs.Slots.{Part, View, Form, target_expr, other_expr, target_pat, other_pat, expr, pat, slots, form, view_ok, expr_part, one_expr}
-use Rattle.swc_nodes.specs.Stands.{count, seat_at, seat_before, tree_at, first_at, Apart, From, Grows, Added, Made, Stood}
+use Rattle.swc_nodes.specs.NumberedTrees.{floor, chain}
+use Rattle.swc_nodes.specs.NodeParts.{Part, View, Form, target_expr, other_expr, target_pat, other_pat, expr, pat}
+use Rattle.swc_nodes.specs.NodeParts.{slots, form, view_ok, expr_part, one_expr}
+use Rattle.swc_nodes.specs.GrowingNodes.{count, seat_at, seat_before, tree_at, first_at, Apart, From, Grows, Added}
+use Rattle.swc_nodes.specs.GrowingNodes.{Made, Stood}
 use Rattle.swc_nodes.specs.declared.node.ExprId.{ExprId}
 use Rattle.swc_nodes.specs.declared.node.Node.{Node}
 use Rattle.swc_nodes.specs.declared.node.Node.TheVariants as n

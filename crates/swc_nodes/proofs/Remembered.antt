@@ -27,9 +27,11 @@ use Rattle.swc_ast.specs.declared.prop.PropName.TheVariants as prop_name
 use Rattle.swc_ast.specs.declared.spanned.Spanned.{Ghosts}
 use Rattle.swc_nodes.specs.Commas.{comma_at, Literal, commas_in, commas_of_all, part_commas, node_comma, recalled, Recalls}
 use Rattle.swc_nodes.specs.NodeTree.{target_of, prop_of, pat_prop_of, marked_tree}
-use Rattle.swc_nodes.specs.Slots.{Part, slots, flat, if_some, one_expr, one_pat, item_parts, args_parts, key_parts, member_parts, super_parts}
-use Rattle.swc_nodes.specs.Slots.{callee_parts, base_parts, body_parts, param_parts, prop_parts, pat_prop_parts, target_part}
-use Rattle.swc_nodes.specs.Stands.{count, seat_before, tree_at, Stood}
+use Rattle.swc_nodes.specs.NodeParts.{Part, slots, flat, if_some, one_expr, one_pat, item_parts, args_parts, key_parts}
+use Rattle.swc_nodes.specs.NodeParts.{member_parts, super_parts}
+use Rattle.swc_nodes.specs.NodeParts.{callee_parts, base_parts, body_parts, param_parts, prop_parts, pat_prop_parts}
+use Rattle.swc_nodes.specs.NodeParts.{target_part}
+use Rattle.swc_nodes.specs.GrowingNodes.{count, seat_before, tree_at, Stood}
 use Rattle.swc_nodes.specs.Walking.{part_of}
 use Rattle.swc_nodes.specs.declared.apart.PartId.{PartId}
 use Rattle.swc_nodes.specs.declared.commas.TrailingCommas.{TrailingCommas}

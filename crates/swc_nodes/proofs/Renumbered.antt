@@ -9,7 +9,7 @@ use Rattle.std.specs.declared.vec.Vec.{Vec}
 use Rattle.swc_ast.specs.Tree.{Tree, args, node, no_span, Trees, trees}
 use Rattle.swc_ast.specs.Trees.{trees_append}
 use Rattle.swc_nodes.specs.Renumbering.{given, with_given, Renumbered}
-use Rattle.swc_nodes.specs.Slots.{Part, flat}
+use Rattle.swc_nodes.specs.NodeParts.{Part, flat}
 use Rattle.swc_nodes.proofs.Lists.{trees-both}
 
 -- ---- the trees of lists

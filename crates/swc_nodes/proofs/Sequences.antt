@@ -13,9 +13,10 @@ use Rattle.swc_ast.specs.Trees.{held_expr, held_exprs}
 use Rattle.swc_ast.specs.declared.expr.ExprOrSpread.{ExprOrSpread}
 use Rattle.swc_ast.specs.declared.spanned.Spanned.{Ghosts}
 use Rattle.swc_nodes.specs.Lists.{exprs_parts, expr_trees, seq_between}
-use Rattle.swc_nodes.specs.Seats.{fits, chain}
-use Rattle.swc_nodes.specs.Slots.{expr, flat, one_expr, item_parts, args_parts, expr_part}
-use Rattle.swc_nodes.specs.Stands.{count, seat_at, tree_at, start_at, end_at, first_start, last_end, Apart, From, Added, Made}
+use Rattle.swc_nodes.specs.NumberedTrees.{fits, chain}
+use Rattle.swc_nodes.specs.NodeParts.{expr, flat, one_expr, item_parts, args_parts, expr_part}
+use Rattle.swc_nodes.specs.GrowingNodes.{count, seat_at, tree_at, start_at, end_at, first_start, last_end, Apart, From}
+use Rattle.swc_nodes.specs.GrowingNodes.{Added, Made}
 use Rattle.swc_nodes.specs.declared.node.ExprId.{ExprId}
 use Rattle.swc_nodes.specs.declared.node.Node.TheVariants as n
 use Rattle.swc_nodes.specs.declared.nodes.Nodes.{Nodes}

@@ -10,9 +10,9 @@ use Rattle.swc_ast.specs.declared.spanned.Spanned.{Ghosts}
 use Rattle.swc_ast.specs.Trees.{min_right}
 use Rattle.swc_nodes.specs.Pending.{operand_parts, first_operand}
 use Rattle.swc_nodes.specs.Rising.{least_above, rises}
-use Rattle.swc_nodes.specs.Seats.{chain}
-use Rattle.swc_nodes.specs.Slots.{Part, expr_part}
-use Rattle.swc_nodes.specs.Stands.{count, seat_at, first_at, Apart, From, Grows}
+use Rattle.swc_nodes.specs.NumberedTrees.{chain}
+use Rattle.swc_nodes.specs.NodeParts.{Part, expr_part}
+use Rattle.swc_nodes.specs.GrowingNodes.{count, seat_at, first_at, Apart, From, Grows}
 use Rattle.swc_nodes.specs.declared.node.ExprId.{ExprId}
 use Rattle.swc_nodes.specs.declared.nodes.Nodes.{Nodes}
 use Rattle.swc_nodes.specs.declared.pending.PendingOperator.{PendingOperator}

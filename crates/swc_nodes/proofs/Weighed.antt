@@ -4,9 +4,9 @@ use Rattle.std.specs.List.{All, sum_by}
 use Rattle.std.proofs.lemmas.List.Elements.{All-nil, All-cons, All-append, All-same, All-pop}
 use Rattle.std.proofs.lemmas.List.Sums.{sum_by-cons, sum_by-append, sum_by_push}
 use Rattle.swc_ast.specs.declared.spanned.Spanned.{Ghosts}
-use Rattle.swc_nodes.specs.Seats.{Seat, floor, fits, chain}
-use Rattle.swc_nodes.specs.Slots.{Part, slots}
-use Rattle.swc_nodes.specs.Stands.{count, seat_at, seat_before, first_at, Apart, Stood}
+use Rattle.swc_nodes.specs.NumberedTrees.{Seat, floor, fits, chain}
+use Rattle.swc_nodes.specs.NodeParts.{Part, slots}
+use Rattle.swc_nodes.specs.GrowingNodes.{count, seat_at, seat_before, first_at, Apart, Stood}
 use Rattle.swc_nodes.specs.Weights.{ats, weight, left_over, AreNumbers}
 use Rattle.swc_nodes.specs.declared.node.Node.{Node}
 use Rattle.swc_nodes.specs.declared.nodes.Nodes.{Nodes}

@@ -4,7 +4,7 @@ use Rattle.std.specs.BTreeMap.{get}
 use Rattle.std.specs.Ordering.{nat_cmp}
 use Rattle.swc_context.specs.declared.span.Span.{Span}
 use Rattle.swc_ast.specs.Tree.{Kind, array_with, object_with, arrow, Tree, node, Trees, nil, cons}
-use Rattle.swc_nodes.specs.Slots.{Part}
+use Rattle.swc_nodes.specs.NodeParts.{Part}
 use Rattle.swc_nodes.specs.declared.commas.TrailingCommas.{TrailingCommas}
 use Rattle.swc_nodes.specs.declared.node.Node.{Node}
 use Rattle.swc_nodes.specs.declared.node.Node.TheVariants as n

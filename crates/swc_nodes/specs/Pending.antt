@@ -1,6 +1,6 @@
 -- The operators that are pending, and their left operands.
 use Rattle.std.specs.Prelude.{List, [], ◌∷◌}
-use Rattle.swc_nodes.specs.Slots.{Part, expr_part}
+use Rattle.swc_nodes.specs.NodeParts.{Part, expr_part}
 use Rattle.swc_nodes.specs.declared.node.ExprId.{ExprId}
 use Rattle.swc_nodes.specs.declared.pending.PendingOperator.{PendingOperator}
 use Rattle.swc_nodes.specs.declared.pending.PendingOperators.{PendingOperators}

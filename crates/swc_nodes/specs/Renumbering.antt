@@ -1,7 +1,7 @@
 -- Numbers of a list, in place of the places in it that a node's parts are named by.
 use Rattle.std.specs.Prelude.{◌≡◌, ℕ, List, map, get_or}
 use Rattle.swc_ast.specs.Tree.{Tree}
-use Rattle.swc_nodes.specs.Slots.{Part}
+use Rattle.swc_nodes.specs.NodeParts.{Part}
 
 -- the number at a place; a place that the list doesn't have stays
 abbrev pub given : List ℕ → ℕ → ℕ

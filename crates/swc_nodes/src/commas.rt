@@ -1,7 +1,7 @@
 // Where commas stand behind the last parts of literals.
 ghost use Rattle.std.specs.Prelude.{◌≡◌, ℕ, None, OnOk, OnErr};
 ghost use Rattle.swc_nodes.specs.Commas.{comma_at, Remembers, Recalls, node_comma, part_commas};
-ghost use Rattle.swc_nodes.specs.Stands.{tree_at, Apart};
+ghost use Rattle.swc_nodes.specs.GrowingNodes.{tree_at, Apart};
 
 use crate::apart::{Parts, parts_of};
 use crate::node::Node;

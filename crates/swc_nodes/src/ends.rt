@@ -1,8 +1,8 @@
 // Where the tokens of a node begin and end.
 ghost use Rattle.std.specs.Prelude.{◌≡◌};
 ghost use Rattle.swc_nodes.specs.Operands.{left_operand, last_operand, own_start, own_end};
-ghost use Rattle.swc_nodes.specs.Slots.{expr_part};
-ghost use Rattle.swc_nodes.specs.Stands.{start_at, end_at, From};
+ghost use Rattle.swc_nodes.specs.NodeParts.{expr_part};
+ghost use Rattle.swc_nodes.specs.GrowingNodes.{start_at, end_at, From};
 
 use crate::node::{ExprId, Node};
 use crate::nodes::Nodes;

@@ -1,7 +1,7 @@
 //! The syntax tree in one vector of nodes: each expression and each pattern is a node, which holds
 //! its parts by their numbers.
 //!
-//! What a number stands for is `tree_at`, of `specs/Stands.antt`: a tree of the same kind as a
+//! What a number stands for is `tree_at`, of `specs/GrowingNodes.antt`: a tree of the same kind as a
 //! boxed tree of swc_ast stands for.
 #![tactic(auto)]
 

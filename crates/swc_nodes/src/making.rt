@@ -8,11 +8,11 @@ ghost use Rattle.swc_ast.specs.Tree.{node, nil, cons, invalid, super, super_prop
 ghost use Rattle.swc_ast.specs.Trees as trees;
 ghost use Rattle.swc_nodes.specs.Lists.{elem_parts, elem_trees, props_parts, props_trees, exprs_parts, expr_trees};
 ghost use Rattle.swc_nodes.specs.Lists.{tpl_trees, seq_between};
-ghost use Rattle.swc_nodes.specs.Slots.{expr_part, pat_part, one_expr, member_parts, args_parts, base_parts};
-ghost use Rattle.swc_nodes.specs.Slots.{callee_parts, super_parts, target_part};
+ghost use Rattle.swc_nodes.specs.NodeParts.{expr_part, pat_part, one_expr, member_parts, args_parts, base_parts};
+ghost use Rattle.swc_nodes.specs.NodeParts.{callee_parts, super_parts, target_part};
 ghost use Rattle.swc_nodes.specs.declared.node.TargetNode.TheVariants as target;
-ghost use Rattle.swc_nodes.specs.Stands.{count, tree_at, first_at, start_at, end_at, first_start, last_end};
-ghost use Rattle.swc_nodes.specs.Stands.{Apart, From, Grows, Made};
+ghost use Rattle.swc_nodes.specs.GrowingNodes.{count, tree_at, first_at, start_at, end_at, first_start, last_end};
+ghost use Rattle.swc_nodes.specs.GrowingNodes.{Apart, From, Grows, Made};
 
 use crate::node::{ExprId, InvalidNode, Node, PatId, PropNode, TargetNode};
 use crate::nodes::Nodes;

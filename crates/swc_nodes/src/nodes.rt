@@ -1,7 +1,7 @@
 // The nodes of trees, in one vector.
 ghost use Rattle.std.specs.Prelude.{◌≡◌, ℕ, ◌<◌, ◌≤◌, ◌↔◌, true, length, IfOk, IsTrue, []};
-ghost use Rattle.swc_nodes.specs.Seats.{ordered};
-ghost use Rattle.swc_nodes.specs.Slots.{form, view_ok, expr, simple, pattern};
+ghost use Rattle.swc_nodes.specs.NumberedTrees.{ordered};
+ghost use Rattle.swc_nodes.specs.NodeParts.{form, view_ok, expr, simple, pattern};
 
 use crate::node::{ExprId, Node, PatId, TargetNode};
 use std::alloc::{AllocError, Global};
@@ -32,8 +32,8 @@ pub type NodesOf<B> = Nodes<
 >;
 
 impl<F: Spanned + Drop, C: Spanned + Drop, K: Spanned + Drop> Nodes<F, C, K> {
-    ghost use Rattle.swc_nodes.specs.Slots.{slots, expr_part, pat_part, target_part};
-    ghost use Rattle.swc_nodes.specs.Stands.{count, Apart, From, Grows, Added, Stood, Popped, CutTo};
+    ghost use Rattle.swc_nodes.specs.NodeParts.{slots, expr_part, pat_part, target_part};
+    ghost use Rattle.swc_nodes.specs.GrowingNodes.{count, Apart, From, Grows, Added, Stood, Popped, CutTo};
 
     /// No nodes. Takes no memory.
     pub fn new(alloc: Global) -> Self

@@ -6,9 +6,9 @@ ghost use Rattle.swc_ast.specs.Parts.{base_tree, body_tree, param_tree, item_tre
 ghost use Rattle.swc_ast.specs.Tree.{args, node, no_span, trees};
 ghost use Rattle.swc_nodes.specs.NodeTree.{expr_of, pat_of, target_of, prop_of, pat_prop_of, marked_tree};
 ghost use Rattle.swc_nodes.specs.Renumbering.{given, Renumbered};
-ghost use Rattle.swc_nodes.specs.Slots.{slots, form, flat, if_some, one_expr, one_pat, target_part, item_parts};
-ghost use Rattle.swc_nodes.specs.Slots.{key_parts, member_parts, super_parts, callee_parts, base_parts, body_parts};
-ghost use Rattle.swc_nodes.specs.Slots.{param_parts, prop_parts, pat_prop_parts};
+ghost use Rattle.swc_nodes.specs.NodeParts.{slots, form, flat, if_some, one_expr, one_pat, target_part, item_parts};
+ghost use Rattle.swc_nodes.specs.NodeParts.{key_parts, member_parts, super_parts, callee_parts, base_parts, body_parts};
+ghost use Rattle.swc_nodes.specs.NodeParts.{param_parts, prop_parts, pat_prop_parts};
 ghost use Rattle.swc_nodes.specs.Walking.{is_operation};
 
 use crate::node::{ExprId, Node, PatId, PatPropNode, PropNode, TargetNode};
@@ -23,7 +23,7 @@ use swc_ast::spanned::Spanned;
 trait Numbered<F: Spanned, C: Spanned, K: Spanned> {
     ghost use Rattle.std.specs.Prelude.{ℕ, List};
     ghost use Rattle.swc_ast.specs.Tree.{Tree};
-    ghost use Rattle.swc_nodes.specs.Slots.{Part};
+    ghost use Rattle.swc_nodes.specs.NodeParts.{Part};
 
     ghost parts: { Self → List Part };
 

@@ -6,9 +6,9 @@ ghost use Rattle.swc_ast.specs.Tree.{span_of};
 ghost use Rattle.swc_ast.specs.Trees.{left_ok};
 ghost use Rattle.swc_ast.specs.Trees as trees;
 ghost use Rattle.swc_nodes.specs.Lists.{has_cover, is_object, IsObject};
-ghost use Rattle.swc_nodes.specs.Slots.{expr_part, pat_part, target_part};
+ghost use Rattle.swc_nodes.specs.NodeParts.{expr_part, pat_part, target_part};
 ghost use Rattle.swc_nodes.specs.declared.node.TargetNode.TheVariants as target;
-ghost use Rattle.swc_nodes.specs.Stands.{tree_at, From};
+ghost use Rattle.swc_nodes.specs.GrowingNodes.{tree_at, From};
 
 use crate::node::{ExprId, Node, PatId, PropNode};
 use crate::nodes::Nodes;

@@ -3,7 +3,7 @@ use Rattle.std.proofs.Common.{◌≡◌, ℕ, zero, suc, ◌+◌, ◌<◌, List,
 use Rattle.std.specs.Prelude.{slice_get}
 use Rattle.std.proofs.lemmas.List.{append-nil, reverse-append}
 use Rattle.std.proofs.lemmas.Option.{slice_get_read}
-use Rattle.swc_nodes.specs.Slots.{Part, flat, if_some}
+use Rattle.swc_nodes.specs.NodeParts.{Part, flat, if_some}
 use Rattle.swc_nodes.specs.Weights.{ats}
 use Rattle.swc_nodes.proofs.Weighed.{ats-append}
 use Rattle.swc_print.specs.Numbers.{numbers}

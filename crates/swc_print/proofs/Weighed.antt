@@ -5,8 +5,8 @@ use Rattle.std.proofs.lemmas.List.Sums.{sum_by-append, sum_by_push}
 use Rattle.std.proofs.lemmas.List.Sorted.{sum_by-IsPermutation, All-permutation, IsPermutation-reverse}
 use Rattle.std.proofs.lemmas.List.{append-nil, take-append-drop, take_at}
 use Rattle.swc_ast.specs.declared.spanned.Spanned.{Ghosts}
-use Rattle.swc_nodes.specs.Slots.{Part, slots, flat, one_expr, expr_part}
-use Rattle.swc_nodes.specs.Stands.{count, seat_at, Stood}
+use Rattle.swc_nodes.specs.NodeParts.{Part, slots, flat, one_expr, expr_part}
+use Rattle.swc_nodes.specs.GrowingNodes.{count, seat_at, Stood}
 use Rattle.swc_nodes.specs.declared.node.Node.{Node}
 use Rattle.swc_nodes.specs.declared.node.Node.TheVariants as n
 use Rattle.swc_nodes.specs.declared.node.ExprId.{ExprId}

@@ -2,7 +2,7 @@
 use Rattle.std.specs.Prelude.{◌≡◌, ℕ, Bool, true, false, List, [], ◌∷◌, ◌++◌, Result, OnOk, length, take}
 use Rattle.swc_ast.specs.declared.expr.Tpl.{Tpl}
 use Rattle.swc_nodes.specs.declared.node.ExprId.{ExprId}
-use Rattle.swc_nodes.specs.Slots.{Part, slots, one_expr, flat}
+use Rattle.swc_nodes.specs.NodeParts.{Part, slots, one_expr, flat}
 use Rattle.swc_nodes.specs.Weights.{ats}
 use Rattle.swc_nodes.specs.declared.node.Node.{Node}
 use Rattle.swc_nodes.specs.declared.node.Node.TheVariants as n

@@ -1,7 +1,7 @@
 // What stands in lists: the items of arrays and arguments, parameters and properties.
 ghost use Rattle.std.specs.Prelude.{◌≡◌, ◌++◌, ◌∷◌, [], OnOk};
-ghost use Rattle.swc_nodes.specs.Slots.{one_expr, one_pat, if_some, item_parts, param_parts, prop_parts};
-ghost use Rattle.swc_nodes.specs.Slots.{pat_prop_parts, key_parts, flat};
+ghost use Rattle.swc_nodes.specs.NodeParts.{one_expr, one_pat, if_some, item_parts, param_parts, prop_parts};
+ghost use Rattle.swc_nodes.specs.NodeParts.{pat_prop_parts, key_parts, flat};
 ghost use Rattle.swc_nodes.specs.Weights.{ats};
 ghost use Rattle.swc_print.specs.Numbers.{Lays, numbers};
 
@@ -19,7 +19,7 @@ use swc_nodes::node::{ExprId, PatId, PatPropNode, PropNode};
 /// An item of a list.
 pub trait Item {
     ghost use Rattle.std.specs.Prelude.{List};
-    ghost use Rattle.swc_nodes.specs.Slots.{Part};
+    ghost use Rattle.swc_nodes.specs.NodeParts.{Part};
 
     ghost parts: { Self → List Part };
 

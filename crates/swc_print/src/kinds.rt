@@ -1,6 +1,6 @@
 // The pieces of the text of a node, by its kind.
 ghost use Rattle.std.specs.Prelude.{◌≡◌, ◌++◌, ◌∷◌, [], true, OnOk};
-ghost use Rattle.swc_nodes.specs.Slots.{target_part};
+ghost use Rattle.swc_nodes.specs.NodeParts.{target_part};
 ghost use Rattle.swc_print.specs.Numbers.{Lays, numbers, shown, is_operation, is_infix};
 
 use crate::items::put_list;

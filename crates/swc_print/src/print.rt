@@ -1,7 +1,7 @@
 // Trees as text.
 ghost use Rattle.std.specs.Prelude.{◌≡◌, ◌++◌, ◌<◌, [], OnOk, IfOk, IfErr, length, reverse};
 ghost use Rattle.std.specs.Option.{option_to_list};
-ghost use Rattle.swc_nodes.specs.Stands.{count};
+ghost use Rattle.swc_nodes.specs.GrowingNodes.{count};
 ghost use Rattle.swc_print.specs.Numbers.{numbers};
 ghost use Rattle.swc_print.specs.Memory.{want_of_memory};
 
@@ -60,8 +60,8 @@ pub trait PrintNodes {
 
 impl<F: Spanned + Drop + Kept, C: Spanned + Drop + Kept, K: Spanned + Drop + Kept> PrintNodes
     for Nodes<F, C, K> {
-    ghost use Rattle.swc_nodes.specs.Slots.{expr_part, pat_part};
-    ghost use Rattle.swc_nodes.specs.Stands.{From};
+    ghost use Rattle.swc_nodes.specs.NodeParts.{expr_part, pat_part};
+    ghost use Rattle.swc_nodes.specs.GrowingNodes.{From};
 
     ghost has_expr = { λ ns id. From 0 ns (expr_part id) };
 

@@ -2,9 +2,9 @@
 use Rattle.std.proofs.Common.{◌≡◌, ℕ, List, [], ◌∷◌, ◌++◌, refl, sym, ap, ◌∙◌, append_assoc}
 use Rattle.swc_ast.specs.Tree.{Tree, nil, cons, trees}
 use Rattle.swc_ast.specs.declared.spanned.Spanned.{Ghosts}
-use Rattle.swc_nodes.specs.Slots.{Part, flat}
+use Rattle.swc_nodes.specs.NodeParts.{Part, flat}
 use Rattle.swc_nodes.specs.NodeTree.{node_tree, marked_tree}
-use Rattle.swc_nodes.specs.Stands.{seat_at, tree_at, bare_at, node_seat}
+use Rattle.swc_nodes.specs.GrowingNodes.{seat_at, tree_at, bare_at, node_seat}
 use Rattle.swc_nodes.specs.declared.node.Node.{Node}
 use Rattle.swc_nodes.specs.declared.nodes.Nodes.{Nodes}
 use Rattle.swc_nodes.proofs.Unmarked.{unmarked-node}

@@ -8,7 +8,7 @@ use Rattle.std.specs.declared.boxed.Box.{Box}
 use Rattle.swc_context.specs.declared.span.Span.{Span}
 use Rattle.swc_ast.specs.Tree.{Tree}
 use Rattle.swc_nodes.specs.NodeTree.{node_tree}
-use Rattle.swc_nodes.specs.Slots.{Part, slots, flat}
+use Rattle.swc_nodes.specs.NodeParts.{Part, slots, flat}
 use Rattle.swc_nodes.specs.declared.node.Node.{Node}
 use Rattle.swc_trees.specs.Building.{Kind, part_kind, built_kind, built_tree, Offers, Assembled}
 use Rattle.swc_trees.specs.declared.built.Built.{Built}

@@ -32,7 +32,9 @@ use Rattle.swc_nodes.specs.declared.node.PropNode.TheVariants as prop
 use Rattle.swc_nodes.specs.declared.node.TargetNode.{TargetNode}
 use Rattle.swc_nodes.specs.declared.node.TargetNode.TheVariants as target
 use Rattle.swc_nodes.specs.NodeTree.{expr_of, pat_of, target_of, prop_of, pat_prop_of, marked_tree}
-use Rattle.swc_nodes.specs.Slots.{Part, flat, one_expr, one_pat, target_part, if_some, item_parts, args_parts, key_parts, member_parts, super_parts, callee_parts, base_parts, body_parts, param_parts, prop_parts, pat_prop_parts, slots}
+use Rattle.swc_nodes.specs.NodeParts.{Part, flat, one_expr, one_pat, target_part, if_some, item_parts, args_parts}
+use Rattle.swc_nodes.specs.NodeParts.{key_parts, member_parts, super_parts, callee_parts, base_parts, body_parts}
+use Rattle.swc_nodes.specs.NodeParts.{param_parts, prop_parts, pat_prop_parts, slots}
 use Rattle.swc_trees.proofs.Weights.{weight, weight_all, weight_of, weight-item-of, weight-behind}
 
 -- what the trees given for parts weigh together

@@ -14,9 +14,9 @@ use Rattle.swc_ast.specs.Tree.{Tree}
 use Rattle.swc_ast.specs.declared.spanned.Spanned.{Ghosts}
 use Rattle.swc_nodes.specs.NodeTree.{marked_tree}
 use Rattle.swc_nodes.specs.Renumbering.{given, with_given, Renumbered}
-use Rattle.swc_nodes.specs.Seats.{chain}
-use Rattle.swc_nodes.specs.Slots.{Part, View, slots, form, view_ok}
-use Rattle.swc_nodes.specs.Stands.{count, seat_at, tree_at, Apart, From, Grows, Added, Made}
+use Rattle.swc_nodes.specs.NumberedTrees.{chain}
+use Rattle.swc_nodes.specs.NodeParts.{Part, View, slots, form, view_ok}
+use Rattle.swc_nodes.specs.GrowingNodes.{count, seat_at, tree_at, Apart, From, Grows, Added, Made}
 use Rattle.swc_nodes.specs.declared.node.Node.{Node}
 use Rattle.swc_nodes.specs.declared.nodes.Nodes.{Nodes}
 use Rattle.swc_nodes.proofs.Chains.{both_true, chain-bound, chain-both, chain-down, chain-same, floor-above}

@@ -12,9 +12,9 @@ use Rattle.swc_ast.specs.declared.expr.Expr.{Expr}
 use Rattle.swc_ast.specs.declared.pat.Pat.{Pat}
 use Rattle.swc_ast.specs.declared.spanned.Spanned.{Ghosts}
 use Rattle.swc_nodes.specs.NodeTree.{node_tree}
-use Rattle.swc_nodes.specs.Seats.{floor}
-use Rattle.swc_nodes.specs.Slots.{Part, slots, flat}
-use Rattle.swc_nodes.specs.Stands.{count, seat_at, bare_at, first_at, Apart, Left, Popped}
+use Rattle.swc_nodes.specs.NumberedTrees.{floor}
+use Rattle.swc_nodes.specs.NodeParts.{Part, slots, flat}
+use Rattle.swc_nodes.specs.GrowingNodes.{count, seat_at, bare_at, first_at, Apart, Left, Popped}
 use Rattle.swc_nodes.specs.Walking.{part_of}
 use Rattle.swc_nodes.specs.declared.apart.PartId.{PartId}
 use Rattle.swc_nodes.specs.declared.node.Node.{Node}

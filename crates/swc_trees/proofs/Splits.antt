@@ -15,7 +15,8 @@ use Rattle.swc_ast.specs.declared.expr.Expr.{Expr}
 use Rattle.swc_ast.specs.declared.expr.SimpleAssignTarget.{SimpleAssignTarget}
 use Rattle.swc_ast.specs.declared.pat.ObjectPatProp.{ObjectPatProp}
 use Rattle.swc_ast.specs.declared.pat.Pat.{Pat}
-use Rattle.swc_nodes.specs.Slots.{Part, View, Form, target_expr, other_expr, target_pat, other_pat, pat, simple, pattern, form, view_ok, flat}
+use Rattle.swc_nodes.specs.NodeParts.{Part, View, Form, target_expr, other_expr, target_pat, other_pat, pat, simple}
+use Rattle.swc_nodes.specs.NodeParts.{pattern, form, view_ok, flat}
 use Rattle.swc_nodes.specs.declared.node.Node.{Node}
 use Rattle.swc_trees.specs.Building.{built_tree}
 use Rattle.swc_trees.specs.Moving.{IsNode}

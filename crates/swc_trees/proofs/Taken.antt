@@ -7,9 +7,9 @@ use Rattle.std.specs.declared.alloc.Global.{Global}
 use Rattle.std.specs.declared.vec.Vec.{Vec}
 use Rattle.swc_ast.specs.Tree.{Tree}
 use Rattle.swc_ast.specs.declared.spanned.Spanned.{Ghosts}
-use Rattle.swc_nodes.specs.Seats.{floor, chain}
-use Rattle.swc_nodes.specs.Slots.{Part, form, view_ok, flat}
-use Rattle.swc_nodes.specs.Stands.{count, seat_at, bare_at, first_at, Apart, Grows, Left, Popped}
+use Rattle.swc_nodes.specs.NumberedTrees.{floor, chain}
+use Rattle.swc_nodes.specs.NodeParts.{Part, form, view_ok, flat}
+use Rattle.swc_nodes.specs.GrowingNodes.{count, seat_at, bare_at, first_at, Apart, Grows, Left, Popped}
 use Rattle.swc_nodes.specs.declared.node.Node.{Node}
 use Rattle.swc_nodes.specs.declared.nodes.Nodes.{Nodes}
 use Rattle.swc_nodes.proofs.Chains.{both_true, chain-bound, chain-first, chain-second, chain-same, chain-up, floor-both}

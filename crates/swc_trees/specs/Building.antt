@@ -8,7 +8,7 @@ use Rattle.swc_ast.specs.Tree.{Tree}
 use Rattle.swc_ast.specs.TreeOf.{expr_tree, boxed_tree, pat_tree, target_tree}
 use Rattle.swc_ast.specs.declared.expr.Expr.{Expr}
 use Rattle.swc_nodes.specs.NodeTree.{node_tree, expr_of}
-use Rattle.swc_nodes.specs.Slots.{View, Part, expr, pat, simple, pattern, slots}
+use Rattle.swc_nodes.specs.NodeParts.{View, Part, expr, pat, simple, pattern, slots}
 use Rattle.swc_nodes.specs.declared.node.ExprId.{ExprId}
 use Rattle.swc_nodes.specs.declared.node.Node.{Node}
 use Rattle.swc_trees.specs.declared.built.Built.{Built}

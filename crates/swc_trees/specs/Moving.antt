@@ -14,9 +14,9 @@ use Rattle.swc_ast.specs.declared.pat.Pat.{Pat}
 use Rattle.swc_ast.specs.declared.prop.Prop.{Prop}
 use Rattle.swc_ast.specs.declared.prop.PropOrSpread.{PropOrSpread}
 use Rattle.swc_nodes.specs.NodeTree.{marked_tree, expr_of, pat_of, target_of, prop_of, pat_prop_of}
-use Rattle.swc_nodes.specs.Seats.{floor}
-use Rattle.swc_nodes.specs.Slots.{Part, View, form, view_ok, slots, prop_parts, pat_prop_parts, target_part}
-use Rattle.swc_nodes.specs.Stands.{count, seat_at, tree_at, bare_at, Apart, Grows, Left}
+use Rattle.swc_nodes.specs.NumberedTrees.{floor}
+use Rattle.swc_nodes.specs.NodeParts.{Part, View, form, view_ok, slots, prop_parts, pat_prop_parts, target_part}
+use Rattle.swc_nodes.specs.GrowingNodes.{count, seat_at, tree_at, bare_at, Apart, Grows, Left}
 use Rattle.swc_nodes.specs.declared.node.ExprId.{ExprId}
 use Rattle.swc_nodes.specs.declared.node.Node.{Node}
 use Rattle.swc_nodes.specs.declared.node.PatId.{PatId}

@@ -15,7 +15,7 @@ use Rattle.swc_ast.specs.declared.pat.Pat.{Pat}
 use Rattle.swc_ast.specs.declared.prop.Prop.{Prop}
 use Rattle.swc_ast.specs.declared.prop.PropOrSpread.{PropOrSpread}
 use Rattle.swc_nodes.specs.NodeTree.{expr_of, pat_of, prop_of, pat_prop_of}
-use Rattle.swc_nodes.specs.Slots.{Part, View, expr, pat, simple, pattern, slots, prop_parts, pat_prop_parts}
+use Rattle.swc_nodes.specs.NodeParts.{Part, View, expr, pat, simple, pattern, slots, prop_parts, pat_prop_parts}
 use Rattle.swc_nodes.specs.declared.node.ExprId.{ExprId}
 use Rattle.swc_nodes.specs.declared.node.Node.{Node}
 use Rattle.swc_nodes.specs.declared.node.PatId.{PatId}

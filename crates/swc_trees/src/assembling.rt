@@ -5,7 +5,7 @@ ghost use Rattle.std.specs.Prelude.{◌≡◌, true, IfOk};
 ghost use Rattle.swc_ast.specs.Parts.{simple_tree};
 ghost use Rattle.swc_ast.specs.TreeOf.{boxed_tree, pat_tree, target_tree};
 ghost use Rattle.swc_nodes.specs.NodeTree.{node_tree};
-ghost use Rattle.swc_nodes.specs.Slots.{expr, pat, simple, pattern, form, view_ok, slots};
+ghost use Rattle.swc_nodes.specs.NodeParts.{expr, pat, simple, pattern, form, view_ok, slots};
 ghost use Rattle.swc_trees.specs.Building.{AssemblesExpr, Offers, Assembled};
 ghost use Rattle.swc_trees.specs.Kinds.{is_operation, is_choice, is_call};
 

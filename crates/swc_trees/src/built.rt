@@ -5,7 +5,7 @@ ghost use Rattle.std.specs.Prelude.{◌≡◌, ◌∷◌, []};
 ghost use Rattle.swc_ast.specs.Parts.{or_hole};
 ghost use Rattle.swc_ast.specs.TreeOf.{pat_tree, target_tree};
 ghost use Rattle.swc_nodes.specs.NodeTree.{target_of};
-ghost use Rattle.swc_nodes.specs.Slots.{if_some, one_expr, one_pat, target_part};
+ghost use Rattle.swc_nodes.specs.NodeParts.{if_some, one_expr, one_pat, target_part};
 ghost use Rattle.swc_trees.specs.Building.{Assembles, Offers, Assembled};
 
 use swc_ast::expr::{AssignTarget, Expr};

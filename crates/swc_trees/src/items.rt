@@ -3,8 +3,8 @@ ghost use Rattle.std.specs.Prelude.{◌≡◌, ◌++◌, true, map, IfOk};
 ghost use Rattle.swc_ast.specs.Parts.{or_hole, item_tree, param_tree, function_tree};
 ghost use Rattle.swc_ast.specs.TreeOf.{boxed_tree, pat_tree, pat_prop_tree, prop_tree, prop_or_spread_tree};
 ghost use Rattle.swc_nodes.specs.NodeTree.{expr_of, pat_of, prop_of, pat_prop_of};
-ghost use Rattle.swc_nodes.specs.Slots.{flat, if_some, one_expr, one_pat, item_parts, param_parts, prop_parts};
-ghost use Rattle.swc_nodes.specs.Slots.{pat_prop_parts};
+ghost use Rattle.swc_nodes.specs.NodeParts.{flat, if_some, one_expr, one_pat, item_parts, param_parts, prop_parts};
+ghost use Rattle.swc_nodes.specs.NodeParts.{pat_prop_parts};
 ghost use Rattle.swc_trees.specs.Building.{Offers, Assembled};
 ghost use Rattle.swc_trees.specs.Kinds.{is_named};
 
@@ -23,7 +23,7 @@ use swc_nodes::node::{ExprId, PatId, PatPropNode, PropNode};
 pub(crate) trait Item<F: Spanned, C: Spanned, K: Spanned> {
     ghost use Rattle.std.specs.Prelude.{ℕ, List};
     ghost use Rattle.swc_ast.specs.Tree.{Tree};
-    ghost use Rattle.swc_nodes.specs.Slots.{Part};
+    ghost use Rattle.swc_nodes.specs.NodeParts.{Part};
 
     /// The item with its trees.
     type Whole: Drop;

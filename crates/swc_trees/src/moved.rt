@@ -3,7 +3,7 @@ ghost use Rattle.std.specs.Prelude.{◌≡◌, ℕ, [], IfOk};
 ghost use Rattle.swc_ast.specs.Parts.{lit_tree};
 ghost use Rattle.swc_ast.specs.Tree.{Tree};
 ghost use Rattle.swc_nodes.specs.NodeTree.{marked_tree};
-ghost use Rattle.swc_nodes.specs.Slots.{other_expr, form, slots};
+ghost use Rattle.swc_nodes.specs.NodeParts.{other_expr, form, slots};
 
 use std::alloc::{AllocError, Global};
 use std::mem;

@@ -8,8 +8,9 @@ ghost use Rattle.swc_ast.specs.Parts.{function_tree, rest_tree, cover_tree, spre
 ghost use Rattle.swc_ast.specs.Tree.{node, cons, nil, block, key_value, method, getter, setter, binding_prop};
 ghost use Rattle.swc_ast.specs.TreeOf.{prop_or_spread_tree, pat_prop_tree};
 ghost use Rattle.swc_nodes.specs.NodeTree.{prop_of, pat_prop_of};
-ghost use Rattle.swc_nodes.specs.Slots.{flat, if_some, one_expr, args_parts, key_parts, member_parts, super_parts};
-ghost use Rattle.swc_nodes.specs.Slots.{callee_parts, base_parts, body_parts, param_parts, prop_parts, pat_prop_parts};
+ghost use Rattle.swc_nodes.specs.NodeParts.{flat, if_some, one_expr, args_parts, key_parts, member_parts, super_parts};
+ghost use Rattle.swc_nodes.specs.NodeParts.{callee_parts, base_parts, body_parts, param_parts, prop_parts};
+ghost use Rattle.swc_nodes.specs.NodeParts.{pat_prop_parts};
 ghost use Rattle.swc_trees.specs.Boxed.{HookedProp};
 ghost use Rattle.swc_trees.specs.Splitting.{Splits, SplitsProp, SplitsPatProp};
 
@@ -32,6 +33,7 @@ use swc_ast::pat::{ObjectPatProp, Pat, RestPat};
 use swc_ast::prop::{AssignProp, ComputedPropName, Prop, PropName, PropOrSpread, SpreadElement};
 use swc_ast::spanned::Spanned;
 use swc_context::span::Span;
+use swc_nodes::aside::Aside;
 use swc_nodes::node::{ExprId, PatId, PatPropNode, PropNode};
 
 /// Splits what stands in parentheses.
@@ -328,18 +330,23 @@ fn split_hooked_prop<F: Spanned + Drop, C: Spanned + Drop, K: Spanned + Drop>(
     ensures { SplitsProp F.place C.place K.place (λ t. t.prop prop) built.old.items result built.new.items }
 {
     match prop {
-        Prop::Method { mut key, function } => split_method(alloc, built, &mut key, function),
-        Prop::Getter {
-            span,
-            mut key,
-            body,
-        } => split_getter(alloc, built, span, &mut key, body),
+        Prop::Method { key, function } => {
+            let mut key = Aside(key);
+            split_method(alloc, built, &mut key.0, function)
+        }
+        Prop::Getter { span, key, body } => {
+            let mut key = Aside(key);
+            split_getter(alloc, built, span, &mut key.0, body)
+        }
         Prop::Setter {
             span,
-            mut key,
+            key,
             mut param,
             body,
-        } => split_setter(alloc, built, span, &mut key, &mut param, body),
+        } => {
+            let mut key = Aside(key);
+            split_setter(alloc, built, span, &mut key.0, &mut param, body)
+        }
         _ => unreachable!(),
     }
 }

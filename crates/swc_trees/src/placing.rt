@@ -3,7 +3,7 @@ ghost use Rattle.std.specs.Prelude.{◌≡◌, [], ◌∷◌, map};
 ghost use Rattle.swc_ast.specs.Parts.{or_hole, item_tree, param_tree};
 ghost use Rattle.swc_ast.specs.TreeOf.{boxed_tree, pat_tree, target_tree};
 ghost use Rattle.swc_nodes.specs.NodeTree.{expr_of, pat_of, target_of};
-ghost use Rattle.swc_nodes.specs.Slots.{flat, if_some, one_expr, one_pat, item_parts, param_parts, target_part};
+ghost use Rattle.swc_nodes.specs.NodeParts.{flat, if_some, one_expr, one_pat, item_parts, param_parts, target_part};
 ghost use Rattle.swc_trees.specs.Splitting.{SplitsTo, Splits};
 
 use crate::built::Built;
@@ -67,7 +67,7 @@ pub(crate) fn place_target<F: Spanned + Drop, C: Spanned + Drop, K: Spanned + Dr
 pub(crate) trait Whole<F: Spanned, C: Spanned, K: Spanned> {
     ghost use Rattle.std.specs.Prelude.{ℕ, List};
     ghost use Rattle.swc_ast.specs.Tree.{Tree};
-    ghost use Rattle.swc_nodes.specs.Slots.{Part};
+    ghost use Rattle.swc_nodes.specs.NodeParts.{Part};
 
     /// The same with numbers.
     type Numbered: Drop;

@@ -1,8 +1,10 @@
 // Moves boxed trees into the nodes, behind all that there are. The first part of a node is put in first, as in the
 // source. What is moved leaves an empty tree behind; no text and no value of the hook is copied.
+// Only tests call this today. So what stands below it (splitting.rt, parting.rt and placing.rt, and `Node::renumber` of
+// swc_nodes) has no other use yet. Refining boxed trees to patterns will be its first caller.
 ghost use Rattle.std.specs.Prelude.{◌≡◌, [], ◌∷◌, map, IfOk};
-ghost use Rattle.swc_nodes.specs.Slots.{expr_part, pat_part};
-ghost use Rattle.swc_nodes.specs.Stands.{count, Grows, Made};
+ghost use Rattle.swc_nodes.specs.NodeParts.{expr_part, pat_part};
+ghost use Rattle.swc_nodes.specs.GrowingNodes.{count, Grows, Made};
 ghost use Rattle.swc_trees.specs.Building.{built_tree};
 ghost use Rattle.swc_trees.specs.Moving.{PutsIn, boxed_in, pat_in};
 ghost use Rattle.swc_trees.specs.Splitting.{built_view, numbered};

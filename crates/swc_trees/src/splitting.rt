@@ -6,7 +6,7 @@ ghost use Rattle.swc_ast.specs.Parts.{or_hole, item_tree, item_trees, callee_tre
 ghost use Rattle.swc_ast.specs.Parts.{rest_tree, simple_tree};
 ghost use Rattle.swc_ast.specs.Tree.{node, cons, nil, unary, update, bin, cond, assign, call, new, tagged, arrow};
 ghost use Rattle.swc_ast.specs.Tree.{await, yield, seq, default, array, object, trees};
-ghost use Rattle.swc_nodes.specs.Slots.{expr as as_expr, pat as as_pat, simple as as_simple, pattern as as_pattern};
+ghost use Rattle.swc_nodes.specs.NodeParts.{expr as as_expr, pat as as_pat, simple as as_simple, pattern as as_pattern};
 ghost use Rattle.swc_trees.specs.Boxed.{Hooked, Short};
 ghost use Rattle.swc_trees.specs.Splitting.{SplitsNode, built_view, target_view};
 ghost use Rattle.swc_trees.specs.Building.{built_tree};

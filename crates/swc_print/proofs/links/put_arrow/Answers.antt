@@ -1,4 +1,4 @@
-use Rattle.swc_nodes.specs.Slots.{one_pat, flat, body_parts}
+use Rattle.swc_nodes.specs.NodeParts.{one_pat, flat, body_parts}
 use Rattle.swc_print.proofs.Added.{both_ok}
 use Rattle.swc_print.proofs.links.put_arrow.Goals as goal
 

@@ -1,5 +1,5 @@
 use Rattle.std.proofs.Common.{◌∙◌}
-use Rattle.swc_nodes.specs.Slots.{one_expr}
+use Rattle.swc_nodes.specs.NodeParts.{one_expr}
 use Rattle.swc_print.proofs.Added.{one_more}
 use Rattle.swc_print.proofs.links.put_tpl.Goals as goal
 

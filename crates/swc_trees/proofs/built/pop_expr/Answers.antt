@@ -1,5 +1,5 @@
 use Rattle.std.proofs.Common.{rules}
-use Rattle.swc_nodes.specs.Slots.{expr_part}
+use Rattle.swc_nodes.specs.NodeParts.{expr_part}
 use Rattle.swc_trees.proofs.Assembled.{popped-kind, some-left}
 use Rattle.swc_trees.proofs.built.pop_expr.Goals as goal
 

@@ -1,5 +1,5 @@
 use Rattle.std.proofs.Common.{rules}
-use Rattle.swc_nodes.specs.Slots.{pat_part}
+use Rattle.swc_nodes.specs.NodeParts.{pat_part}
 use Rattle.swc_trees.proofs.Assembled.{popped-kind, some-left}
 use Rattle.swc_trees.proofs.built.pop_pat.Goals as goal
 

@@ -1,6 +1,6 @@
 use Rattle.std.proofs.Common.{ap}
 use Rattle.swc_ast.specs.Tree.{opt_chain, node, nil, cons}
-use Rattle.swc_nodes.specs.Slots.{base_parts}
+use Rattle.swc_nodes.specs.NodeParts.{base_parts}
 use Rattle.swc_trees.proofs.Assembled.{offers-along, made-one, ok-of}
 use Rattle.swc_trees.proofs.pieces.chain.Goals as goal
 

@@ -1,6 +1,6 @@
 use Rattle.std.proofs.Common.{ap}
 use Rattle.swc_ast.specs.Tree.{call, node}
-use Rattle.swc_nodes.specs.Slots.{one_expr, args_parts}
+use Rattle.swc_nodes.specs.NodeParts.{one_expr, args_parts}
 use Rattle.swc_trees.proofs.Assembled.{offers-first, offers-second, made-two}
 use Rattle.swc_trees.proofs.Agreed.{headed}
 use Rattle.swc_trees.proofs.pieces.chain_base.Goals as goal

@@ -1,5 +1,5 @@
 use Rattle.std.proofs.Common.{IfOk, subst, arith, rules}
-use Rattle.swc_nodes.specs.Stands.{Added}
+use Rattle.swc_nodes.specs.GrowingNodes.{Added}
 use Rattle.swc_nodes.proofs.Standing.{grows-same, grows-then}
 use Rattle.swc_trees.proofs.Puts.{split-lighter, puts-refused, puts-node, node-apart, puts-appended, putting-starts, putting-weight, putting-more, putting-ends}
 use Rattle.swc_trees.proofs.putting.+putting.Goals as goal

@@ -1,4 +1,4 @@
-use Rattle.swc_nodes.specs.Slots.{expr}
+use Rattle.swc_nodes.specs.NodeParts.{expr}
 use Rattle.swc_trees.proofs.Puts.{puts-made}
 use Rattle.swc_trees.specs.Splitting.{part}
 use Rattle.swc_trees.proofs.putting.put_expr.Goals as goal

@@ -1,4 +1,4 @@
-use Rattle.swc_nodes.specs.Slots.{pat}
+use Rattle.swc_nodes.specs.NodeParts.{pat}
 use Rattle.swc_trees.proofs.Puts.{puts-made}
 use Rattle.swc_trees.specs.Splitting.{part}
 use Rattle.swc_trees.proofs.putting.put_pat.Goals as goal

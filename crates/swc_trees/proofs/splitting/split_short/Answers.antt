@@ -3,7 +3,7 @@ use Rattle.swc_ast.proofs.Equations.{array_tree, object_tree, seq_tree, member_e
 use Rattle.swc_ast.specs.Parts.{leaf, or_hole, ident_tree, private_tree, lit_tree, paren_tree, member_tree, super_prop_tree, chain_tree, callee_tree, args_tree, item_tree, item_trees, tpl_tree}
 use Rattle.swc_ast.specs.Tree.{node, cons, nil, this, meta, invalid, unary, call, new, tagged, await, seq, array, object, trees}
 use Rattle.swc_ast.specs.TreeOf.{expr_tree, boxed_tree, prop_or_spread_tree}
-use Rattle.swc_nodes.specs.Slots.{expr, view_ok}
+use Rattle.swc_nodes.specs.NodeParts.{expr, view_ok}
 use Rattle.swc_trees.proofs.Leaves.{this_tree, meta_tree, private_expr_tree, ident_expr_tree, lit_expr_tree, invalid_tree, unary_tree, paren_expr_tree, await_tree}
 use Rattle.swc_trees.proofs.Splits.{split-none, split-one, split-tree}
 use Rattle.swc_trees.proofs.Agreed.{read-two, read-three}

@@ -1,6 +1,6 @@
 use Rattle.std.proofs.Common.{◌≡◌, [], sym, ap, subst, ◌∙◌, rules}
-use Rattle.swc_nodes.specs.Slots.{slots}
-use Rattle.swc_nodes.specs.Stands.{count, Popped}
+use Rattle.swc_nodes.specs.NodeParts.{slots}
+use Rattle.swc_nodes.specs.GrowingNodes.{count, Popped}
 use Rattle.swc_nodes.specs.Walking.{part_of}
 use Rattle.swc_trees.proofs.Rebuilt.{one, wanted, seen, apart-flat, apart-slots, taken-seen, taken-all, popped-at, parts-refused, parts-kinds, popped-built}
 use Rattle.swc_trees.proofs.Taken.{popped-view, apart-within, taking-starts, next-apart, taking-grows, taking-more, taking-ends}

@@ -1,6 +1,6 @@
 -- Each call is made with fewer nodes, or on the way from a node to its parts.
 use Rattle.std.proofs.Common.{◌+◌, ◌*◌, vec_len}
-use Rattle.swc_nodes.specs.Stands.{count}
+use Rattle.swc_nodes.specs.GrowingNodes.{count}
 use Rattle.swc_trees.proofs.Rebuilt.{one, wanted, seen}
 use Rattle.swc_trees.proofs.Taken.{Taking}
 use Rattle.swc_trees.proofs.taking.+taking.Given as goal

@@ -1,6 +1,6 @@
 use Rattle.std.proofs.Common.{◌∙◌}
 use Rattle.swc_ast.proofs.Equations.{simple_target_tree}
-use Rattle.swc_nodes.specs.Slots.{slots}
+use Rattle.swc_nodes.specs.NodeParts.{slots}
 use Rattle.swc_trees.proofs.Assembled.{ok-of}
 use Rattle.swc_trees.proofs.Rebuilt.{all-made}
 use Rattle.swc_trees.proofs.taking.assemble.Goals as goal

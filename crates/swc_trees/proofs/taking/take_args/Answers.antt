@@ -3,8 +3,8 @@ use Rattle.swc_ast.specs.Parts.{item_tree, args_tree}
 use Rattle.swc_ast.specs.Tree.{trees, node, args, no_span}
 use Rattle.swc_ast.specs.TreeOf.{boxed_tree}
 use Rattle.swc_nodes.specs.NodeTree.{expr_of}
-use Rattle.swc_nodes.specs.Slots.{args_parts}
-use Rattle.swc_nodes.specs.Stands.{bare_at}
+use Rattle.swc_nodes.specs.NodeParts.{args_parts}
+use Rattle.swc_nodes.specs.GrowingNodes.{bare_at}
 use Rattle.swc_trees.proofs.Rebuilt.{left-none, left-piece, piece-offered, piece-made}
 use Rattle.swc_trees.proofs.Taken.{if_ok-as}
 use Rattle.swc_trees.proofs.taking.take_args.Goals as goal

@@ -1,5 +1,5 @@
 use Rattle.std.proofs.Common.{sym, ap, ◌∙◌}
-use Rattle.swc_nodes.specs.Slots.{pat_part}
+use Rattle.swc_nodes.specs.NodeParts.{pat_part}
 use Rattle.swc_trees.specs.Building.{built_tree}
 use Rattle.swc_trees.proofs.Rebuilt.{as-built, no-pat}
 use Rattle.swc_trees.proofs.taking.take_pat.Goals as goal

@@ -1,6 +1,6 @@
 use Rattle.std.proofs.Common.{map, sym, ap, ◌∙◌}
 use Rattle.swc_nodes.specs.Commas.{comma_at, part_commas, recalled}
-use Rattle.swc_nodes.specs.Stands.{tree_at, Stood}
+use Rattle.swc_nodes.specs.GrowingNodes.{tree_at, Stood}
 use Rattle.swc_nodes.specs.Walking.{part_of}
 use Rattle.swc_nodes.proofs.Remembered.{taken, turn_commas}
 use Rattle.swc_nodes.proofs.Weighed.{apart_numbers, last_below, turn_less, turn_numbers}

@@ -1,6 +1,6 @@
 use Rattle.std.proofs.Common.{◌≡◌, ℕ, map}
 use Rattle.swc_nodes.specs.Commas.{comma_at, part_commas, recalled}
-use Rattle.swc_nodes.specs.Stands.{tree_at}
+use Rattle.swc_nodes.specs.GrowingNodes.{tree_at}
 use Rattle.swc_nodes.specs.Walking.{part_of}
 use Rattle.swc_nodes.specs.Weights.{ats, left_over, AreNumbers}
 use Rattle.swc_nodes.proofs.commas.TrailingCommas.remember_all.Given as goal

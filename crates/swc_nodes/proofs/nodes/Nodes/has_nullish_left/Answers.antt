@@ -1,5 +1,5 @@
 use Rattle.std.proofs.Common.{sym, ◌∙◌}
-use Rattle.swc_nodes.specs.Slots.{expr_part, one_expr}
+use Rattle.swc_nodes.specs.NodeParts.{expr_part, one_expr}
 use Rattle.swc_nodes.proofs.Held.{stood-is, stood-apart, from-apart, left-nullish}
 use Rattle.swc_nodes.proofs.nodes.Nodes.has_nullish_left.Goals as goal
 

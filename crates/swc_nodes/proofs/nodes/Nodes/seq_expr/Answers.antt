@@ -1,7 +1,7 @@
 use Rattle.std.proofs.Common.{◌≡◌, ◌-◌, ◌≤◌, length, ap, ◌∙◌, arith}
 use Rattle.std.specs.Prelude.{slice_index_or}
 use Rattle.swc_context.specs.Spans.{from_to}
-use Rattle.swc_nodes.specs.Stands.{first_start}
+use Rattle.swc_nodes.specs.GrowingNodes.{first_start}
 use Rattle.swc_nodes.proofs.Sequences.{from-nth, first-is, last-is, seq-made}
 use Rattle.swc_nodes.proofs.nodes.Nodes.seq_expr.Goals as goal
 
