@@ -3,7 +3,7 @@ use Rattle.std.proofs.Common.{◌≡◌, List, [], ◌∷◌, ◌++◌, map, ref
 use Rattle.std.specs.List.Sorted.{IsPermutation}
 use Rattle.std.proofs.lemmas.List.{map-append}
 use Rattle.std.proofs.lemmas.List.Sorted.{IsPermutation-append_right, IsPermutation-map}
-use Rattle.swc_nodes.specs.Slots.{Part}
+use Rattle.swc_nodes.specs.NodeParts.{Part}
 use Rattle.swc_nodes.specs.Walking.{part_of}
 use Rattle.swc_nodes.specs.Weights.{ats}
 use Rattle.swc_nodes.specs.declared.apart.PartId.{PartId}

@@ -2,8 +2,8 @@
 #![tactic(auto)]
 
 ghost use Rattle.std.specs.Prelude.{IfOk, IfSome};
-ghost use Rattle.swc_nodes.specs.Slots.{expr_part};
-ghost use Rattle.swc_nodes.specs.Stands.{From};
+ghost use Rattle.swc_nodes.specs.NodeParts.{expr_part};
+ghost use Rattle.swc_nodes.specs.GrowingNodes.{From};
 
 use std::alloc::{AllocError, Global};
 use std::io;

@@ -2,8 +2,8 @@
 ghost use Rattle.std.specs.Prelude.{◌≡◌, false, IfOk};
 ghost use Rattle.show.specs.Answers.{Answers, Shows};
 ghost use Rattle.show.specs.Calls as calls;
-ghost use Rattle.swc_nodes.specs.Slots.{expr_part};
-ghost use Rattle.swc_nodes.specs.Stands.{From};
+ghost use Rattle.swc_nodes.specs.NodeParts.{expr_part};
+ghost use Rattle.swc_nodes.specs.GrowingNodes.{From};
 
 use std::alloc::Global;
 use std::mem::forget;

@@ -26,9 +26,9 @@ use Rattle.swc_grammar.specs.Symbols.{Symbol}
 use Rattle.swc_grammar.specs.Words.{◌>>=◌}
 use Rattle.swc_nodes.specs.Commas.{comma_at, commas_in, part_commas, Recalls}
 use Rattle.swc_nodes.specs.Commas as recall
-use Rattle.swc_nodes.specs.Seats.{floor}
-use Rattle.swc_nodes.specs.Slots.{Part, one_expr, expr_part}
-use Rattle.swc_nodes.specs.Stands.{count, seat_at, tree_at, bare_at, Apart, From, Grows, CutTo, Left, SameNodes}
+use Rattle.swc_nodes.specs.NumberedTrees.{floor}
+use Rattle.swc_nodes.specs.NodeParts.{Part, one_expr, expr_part}
+use Rattle.swc_nodes.specs.GrowingNodes.{count, seat_at, tree_at, bare_at, Apart, From, Grows, CutTo, Left, SameNodes}
 use Rattle.swc_nodes.specs.declared.commas.TrailingCommas.{TrailingCommas}
 use Rattle.swc_nodes.specs.declared.node.ExprId.{ExprId}
 use Rattle.swc_nodes.specs.declared.node.Node.TheVariants as n

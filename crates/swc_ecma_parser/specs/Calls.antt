@@ -17,10 +17,10 @@ use Rattle.swc_ast.specs.declared.expr.Expr.{Expr}
 use Rattle.swc_ast.specs.declared.prop.PropOrSpread.{PropOrSpread}
 use Rattle.swc_ast.specs.declared.spanned.Spanned.{Ghosts}
 use Rattle.swc_nodes.specs.Commas.{Remembers, Recalls, part_commas}
-use Rattle.swc_nodes.specs.Slots.{Part}
+use Rattle.swc_nodes.specs.NodeParts.{Part}
 use Rattle.swc_nodes.specs.declared.commas.TrailingCommas.{TrailingCommas}
 use Rattle.swc_nodes.specs.declared.nodes.Nodes.{Nodes}
-use Rattle.swc_nodes.specs.Stands.{tree_at, bare_at}
+use Rattle.swc_nodes.specs.GrowingNodes.{tree_at, bare_at}
 use Rattle.swc_steps.specs.Parsing.{is_memory, Looks}
 use Rattle.swc_ecma_parser.specs.declared.parser.Parser.{Parser}
 

@@ -32,8 +32,8 @@ use Rattle.swc_grammar.specs.Reads.{Reads, ReadsUnmarked, Stops}
 use Rattle.swc_grammar.specs.Names.{Spelling, NameKind, Reference, ReadsName}
 use Rattle.swc_grammar.specs.Tokens.{ends_prop, may_be_reference}
 use Rattle.swc_nodes.specs.Commas.{commas_in, Recalls}
-use Rattle.swc_nodes.specs.Slots.{expr_part}
-use Rattle.swc_nodes.specs.Stands.{count, From, Grows, SameNodes}
+use Rattle.swc_nodes.specs.NodeParts.{expr_part}
+use Rattle.swc_nodes.specs.GrowingNodes.{count, From, Grows, SameNodes}
 use Rattle.swc_nodes.specs.declared.commas.TrailingCommas.{TrailingCommas}
 use Rattle.swc_nodes.specs.declared.node.ExprId.{ExprId}
 use Rattle.swc_nodes.specs.declared.nodes.Nodes.{Nodes}

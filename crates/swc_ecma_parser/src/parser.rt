@@ -2,9 +2,9 @@
 ghost use Rattle.std.specs.Prelude.{◌≡◌, ◌||◌, ℕ, true, false, [], None, IfErr, IfOk, OnOk, MatchResult};
 ghost use Rattle.swc_input.specs.Buffer.{last_position, previous, source, state_of, with_source, fresh};
 ghost use Rattle.swc_nodes.specs.Commas.{comma_at, part_commas, Recalls};
-ghost use Rattle.swc_nodes.specs.Seats.{floor};
-ghost use Rattle.swc_nodes.specs.Slots.{one_expr};
-ghost use Rattle.swc_nodes.specs.Stands.{count, seat_at, tree_at, bare_at, Apart, Left, CutTo};
+ghost use Rattle.swc_nodes.specs.NumberedTrees.{floor};
+ghost use Rattle.swc_nodes.specs.NodeParts.{one_expr};
+ghost use Rattle.swc_nodes.specs.GrowingNodes.{count, seat_at, tree_at, bare_at, Apart, Left, CutTo};
 ghost use Rattle.swc_grammar.specs.Symbols.{Expr, Assign, Level, Unary};
 ghost use Rattle.swc_ecma_parser.specs.Calls.{buffer_of, nodes_of, commas_of, with_buffer, with_nodes, has_failed};
 ghost use Rattle.swc_ecma_parser.specs.Calls.{wants_memory, found_import};

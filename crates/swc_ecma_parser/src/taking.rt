@@ -1,8 +1,8 @@
 // What calls move out of the nodes.
 ghost use Rattle.std.specs.Prelude.{◌≡◌, IfOk, OnOk};
 ghost use Rattle.swc_nodes.specs.Commas.{part_commas, Recalls};
-ghost use Rattle.swc_nodes.specs.Seats.{floor};
-ghost use Rattle.swc_nodes.specs.Stands.{count, seat_at, tree_at, bare_at, Apart, Left};
+ghost use Rattle.swc_nodes.specs.NumberedTrees.{floor};
+ghost use Rattle.swc_nodes.specs.GrowingNodes.{count, seat_at, tree_at, bare_at, Apart, Left};
 
 use std::alloc::{AllocError, Global};
 use swc_ast::expr::{Expr, ExprOrSpread, Tpl};
@@ -18,7 +18,7 @@ use swc_trees::taking::{take_args, take_expr, take_key, take_prop, take_tpl};
 pub(crate) trait Take<F: Spanned + Drop, C: Spanned + Drop, K: Spanned + Drop> {
     ghost use Rattle.std.specs.Prelude.{ℕ, List};
     ghost use Rattle.swc_ast.specs.Tree.{Tree};
-    ghost use Rattle.swc_nodes.specs.Slots.{Part};
+    ghost use Rattle.swc_nodes.specs.NodeParts.{Part};
 
     /// What it is in boxes.
     type Whole;
@@ -48,7 +48,7 @@ pub(crate) trait Take<F: Spanned + Drop, C: Spanned + Drop, K: Spanned + Drop> {
 impl<F: Spanned + Drop, C: Spanned + Drop, K: Spanned + Drop> Take<F, C, K> for ExprId {
     ghost use Rattle.swc_ast.specs.TreeOf.{boxed_tree};
     ghost use Rattle.swc_nodes.specs.NodeTree.{expr_of};
-    ghost use Rattle.swc_nodes.specs.Slots.{one_expr};
+    ghost use Rattle.swc_nodes.specs.NodeParts.{one_expr};
 
     type Whole = Box<Expr<F, C, K>>;
 
@@ -75,7 +75,7 @@ impl<F: Spanned + Drop, C: Spanned + Drop, K: Spanned + Drop> Take<F, C, K> for 
     ghost use Rattle.swc_ast.specs.Parts.{prop_name_tree};
     ghost use Rattle.swc_ast.specs.TreeOf.{boxed_tree};
     ghost use Rattle.swc_nodes.specs.NodeTree.{expr_of};
-    ghost use Rattle.swc_nodes.specs.Slots.{key_parts};
+    ghost use Rattle.swc_nodes.specs.NodeParts.{key_parts};
 
     type Whole = PropName<Box<Expr<F, C, K>>>;
 
@@ -101,7 +101,7 @@ impl<F: Spanned + Drop, C: Spanned + Drop, K: Spanned + Drop> Take<F, C, K> for 
 impl<F: Spanned + Drop, C: Spanned + Drop, K: Spanned + Drop> Take<F, C, K> for PropNode<K> {
     ghost use Rattle.swc_ast.specs.TreeOf.{prop_or_spread_tree};
     ghost use Rattle.swc_nodes.specs.NodeTree.{prop_of};
-    ghost use Rattle.swc_nodes.specs.Slots.{prop_parts};
+    ghost use Rattle.swc_nodes.specs.NodeParts.{prop_parts};
 
     type Whole = PropOrSpread<F, C, K>;
 
@@ -129,7 +129,7 @@ impl<F: Spanned + Drop, C: Spanned + Drop, K: Spanned + Drop> Take<F, C, K>
     ghost use Rattle.swc_ast.specs.Parts.{args_tree};
     ghost use Rattle.swc_ast.specs.TreeOf.{boxed_tree};
     ghost use Rattle.swc_nodes.specs.NodeTree.{expr_of};
-    ghost use Rattle.swc_nodes.specs.Slots.{args_parts};
+    ghost use Rattle.swc_nodes.specs.NodeParts.{args_parts};
 
     type Whole = Vec<ExprOrSpread<Box<Expr<F, C, K>>>>;
 

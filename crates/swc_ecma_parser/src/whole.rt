@@ -1,8 +1,8 @@
 // A whole list of tokens, read as one expression.
 ghost use Rattle.std.specs.Prelude.{◌≡◌, false, IfOk};
 ghost use Rattle.swc_input.specs.Listed.{listed_model};
-ghost use Rattle.swc_nodes.specs.Slots.{expr_part};
-ghost use Rattle.swc_nodes.specs.Stands.{From};
+ghost use Rattle.swc_nodes.specs.NodeParts.{expr_part};
+ghost use Rattle.swc_nodes.specs.GrowingNodes.{From};
 ghost use Rattle.swc_ecma_parser.specs.Calls.{has_failed, nodes_of};
 ghost use Rattle.swc_ecma_parser.specs.WholeList.{plain_list, IsHeeded, Headline, Tries};
 

@@ -1,4 +1,5 @@
 pub mod Bases
+pub mod Chains
 pub mod Links
 pub mod NextLink
 pub mod Templates

@@ -31,7 +31,7 @@ use Rattle.swc_grammar.specs.Words.{◌>>=◌, one, word}
 use Rattle.swc_grammar.proofs.Complete.{last}
 use Rattle.swc_grammar.proofs.Knot.{knot}
 use Rattle.swc_grammar.proofs.Members.{lhs_parts as members}
-use Rattle.swc_grammar.proofs.Only.{only-new}
+use Rattle.swc_grammar.proofs.Only.{new-is}
 use Rattle.swc_grammar.proofs.Rules.{exec-bind}
 use Rattle.swc_left.specs.declared.left.Link.{Link}
 use Rattle.swc_left.specs.declared.left.LinkHead.{LinkHead}
@@ -211,9 +211,7 @@ module _ {F C K : Type 0} (hook : Hook F C K) where
       → run hook (at (Lhs b)) x ts ≡ new_lhs hook b x ts
   unfolding new_lhs
   new_splits b x [] h = absurd cc
-  new_splits b x (t ∷ ts) h =
-      only-new (λ v. run hook (at (Lhs b)) x (tk v t.had_line_break t.span ∷ ts) ≡ new_tail hook b t.span x ts)
-      (new_first b x t.had_line_break t.span ts) t.token h
+  new_splits b x (t ∷ ts) h = rw (new-is t.token h) (new_first b x t.had_line_break t.span ts)
 
   -- ---- left-hand sides
 

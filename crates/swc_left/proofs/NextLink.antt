@@ -11,7 +11,7 @@ use Rattle.swc_input.specs.Kinds.{at_token}
 use Rattle.swc_grammar.specs.Clean.{first}
 use Rattle.swc_grammar.specs.Tokens.{tk, is_dot, is_question}
 use Rattle.swc_grammar.specs.Words.{rest}
-use Rattle.swc_grammar.proofs.Only.{only-question}
+use Rattle.swc_grammar.proofs.Only.{question-is}
 use Rattle.swc_left.specs.declared.left.Link.{Link}
 use Rattle.swc_left.specs.Links.{link_at, chain_at, link_here}
 use Rattle.swc_steps.specs.Parsing.{seen, seen_of, Told, Tells}
@@ -32,8 +32,7 @@ link_plain b (Some t) u h = rw h refl
 
 link_chain : (b : Bool) (o u : Option TokenAndSpan) → at_token is_question o ≡ true → link_at b o u ≡ chain_at u
 link_chain b None u h = absurd cc
-link_chain b (Some t) u h =
-    only-question (λ v. link_at b (Some (tk v t.had_line_break t.span)) u ≡ chain_at u) refl t.token h
+link_chain b (Some t) u h = rw (question-is t.token h) refl
 
 module _ {S : Type 0} {model : Model S} where
   -- no `?` is current

@@ -18,7 +18,7 @@ use Rattle.swc_grammar.specs.Tokens.{is_backquote, is_dollar_brace, is_rbrace}
 use Rattle.swc_grammar.specs.Clean.{Out, first, sym, run}
 use Rattle.swc_grammar.specs.Words.{◌>>=◌, rest, one}
 use Rattle.swc_nodes.specs.Lists.{exprs_parts}
-use Rattle.swc_nodes.specs.Stands.{tree_at, Apart}
+use Rattle.swc_nodes.specs.GrowingNodes.{tree_at, Apart}
 use Rattle.swc_nodes.specs.declared.nodes.Nodes.{Nodes}
 use Rattle.swc_left.specs.declared.tpl.TplParts.{TplParts}
 use Rattle.swc_steps.specs.Keys.{expected}

@@ -3,8 +3,8 @@ ghost use Rattle.std.specs.Prelude.{ℕ, ◌≡◌, ◌<◌, ◌≤◌, ◌++◌
 ghost use Rattle.swc_input.specs.Buffer.{context, current, to_come};
 ghost use Rattle.swc_ast.specs.Parts.{callee_tree};
 ghost use Rattle.swc_grammar.specs.Tokens.{super_ok};
-ghost use Rattle.swc_nodes.specs.Slots.{args_parts, callee_parts, expr_part};
-ghost use Rattle.swc_nodes.specs.Stands.{count, first_at, Apart, From};
+ghost use Rattle.swc_nodes.specs.NodeParts.{args_parts, callee_parts, expr_part};
+ghost use Rattle.swc_nodes.specs.GrowingNodes.{count, first_at, Apart, From};
 ghost use Rattle.swc_left.specs.Bases.{super_head, super_here, super_name_tail, super_close, callee_node};
 ghost use Rattle.swc_left.specs.Bases.{import_head, import_member, import_callee, import_meta_node};
 ghost use Rattle.swc_steps.specs.Parsing.{scope, ContinuesAlone, ParsesAlone, Produces, GoesOn, Checked, Acts};
@@ -12,6 +12,7 @@ ghost use Rattle.swc_steps.specs.Parsing.{Refuses, itself, tree_of, args_at};
 ghost use Rattle.swc_steps.specs.Readers.{nothing};
 
 use crate::left::{chain_behind, parse_member_name};
+use std::alloc::Global;
 use swc_ast::expr::{Callee, ExprOrSpread, Import, ImportPhase, MetaPropKind, Super, SuperProp};
 use swc_ast::prop::ComputedPropName;
 use swc_bodies::bodies::Bodies;
@@ -70,7 +71,7 @@ pub fn parse_super_name<I: Tokens, B: Bodies<I>>(
         (count p.old.nodes) p.old result p.new }
 {
     look(&mut p.input)?;
-    if p.is_hash() {
+    if is_sign(&p.input, Sign::Hash) {
         parse_private_name(p.alloc, &mut p.input)?;
         return Err(refuse_super_link(&mut p.input, true));
     }
@@ -152,7 +153,10 @@ pub fn import_head<I: Tokens, B: Bodies<I>>(
     ensures falls { OnOk result (to_come I.model p.new.input < to_come I.model p.old.input) }
 {
     match eat(&mut p.input, Sign::Dot)? {
-        Some(_) => import_member(p, start, no_call),
+        Some(_) => {
+            p.found_module_item = true;
+            import_member(p.alloc, &mut p.input, start, no_call)
+        }
         None => {
             let phase = ImportPhase::Evaluation;
             import_callee(&mut p.input, Import { span: start, phase }, no_call)
@@ -161,41 +165,39 @@ pub fn import_head<I: Tokens, B: Bodies<I>>(
 }
 
 /// The same behind the `.`. Another word there is consumed, and the token behind it refused.
-fn import_member<I: Tokens, B: Bodies<I>>(
-    p: &mut Productions<I, B>,
+fn import_member<I: Tokens>(
+    alloc: Global,
+    input: &mut Buffer<I>,
     start: Span,
     no_call: bool,
 ) -> PResult<ImportHead>
     ensures parses { ParsesAlone I.model (λ h. h) (import_member (not no_call) start)
-        p.old.input result p.new.input }
-    ensures nodes { p.new.nodes ≡ p.old.nodes }
-    ensures falls { OnOk result (to_come I.model p.new.input < to_come I.model p.old.input) }
+        input.old result input.new }
+    ensures falls { OnOk result (to_come I.model input.new < to_come I.model input.old) }
 {
-    p.found_module_item = true;
-    match eat(&mut p.input, Sign::Meta)? {
+    match eat(input, Sign::Meta)? {
         Some(end) => {
             let span = Span {
                 lo: start.lo,
                 hi: end.hi,
             };
-            check_import_meta(&mut p.input, span)?;
+            check_import_meta(input, span)?;
             return Ok(ImportHead::Meta(span));
         }
         None => {}
     }
-    match eat(&mut p.input, Sign::Source)? {
+    match eat(input, Sign::Source)? {
         Some(end) => {
             let span = Span {
                 lo: start.lo,
                 hi: end.hi,
             };
             let phase = ImportPhase::Source;
-            import_callee(&mut p.input, Import { span, phase }, no_call)
+            import_callee(input, Import { span, phase }, no_call)
         }
         None => {
-            parse_ident_name(p.alloc, &mut p.input)?;
-            let kind = SyntaxError::Unexpected(Wanted::Meta);
-            Err(unexpected(&mut p.input, kind))
+            parse_ident_name(alloc, input)?;
+            Err(unexpected(input, SyntaxError::Unexpected(Wanted::Meta)))
         }
     }
 }

@@ -9,8 +9,8 @@ ghost use Rattle.swc_ast.specs.Trees.{is_chain};
 ghost use Rattle.swc_grammar.specs.Parts.{cooked_of};
 ghost use Rattle.swc_grammar.specs.Symbols.{Template};
 ghost use Rattle.swc_nodes.specs.Lists.{exprs_parts};
-ghost use Rattle.swc_nodes.specs.Slots.{expr_part, one_expr};
-ghost use Rattle.swc_nodes.specs.Stands.{first_at, Apart, From};
+ghost use Rattle.swc_nodes.specs.NodeParts.{expr_part, one_expr};
+ghost use Rattle.swc_nodes.specs.GrowingNodes.{first_at, Apart, From};
 ghost use Rattle.swc_steps.specs.Parsing.{seen, ParsesAlone, GoesOn, Checked, itself, tree_of};
 ghost use Rattle.swc_left.specs.Templates.{is_template, tpl_element, tpl_end, tagged_node, quasi_in, tpl_parts_at};
 
@@ -26,7 +26,7 @@ use swc_input::tokens::Tokens;
 use swc_nodes::node::ExprId;
 use swc_nodes::nodes::NodesOf;
 use swc_steps::productions::Productions;
-use swc_steps::tokens::{Sign, bump, eat, emit_err, expect, look, unexpected};
+use swc_steps::tokens::{Sign, bump, eat, emit_err, expect, is_sign, look, unexpected};
 
 /// What stands between the backquotes of a template: its texts, an expression between each two of them, and the place
 /// of the backquote that closes it.
@@ -79,7 +79,7 @@ pub fn parse_tpl_element<I: Tokens, B: Bodies<I>>(
     let (raw, cooked) = template_of(token);
     let cooked = cooked_text(cooked, is_tagged)?;
     look(&mut p.input)?;
-    let tail = p.is_backquote();
+    let tail = is_sign(&p.input, Sign::BackQuote);
     Ok(TplElement {
         span,
         tail,

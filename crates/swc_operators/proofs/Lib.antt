@@ -1,4 +1,5 @@
 pub mod Assignments
+pub mod Entered
 pub mod InContext
 pub mod Pending
 pub mod Prefixes

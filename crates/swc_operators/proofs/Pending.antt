@@ -21,8 +21,8 @@ use Rattle.swc_grammar.specs.Clean.{Out, first, sym as at, climb, run, operator_
 use Rattle.swc_grammar.specs.Words.{◌>>=◌, rest}
 use Rattle.swc_nodes.specs.Pending.{operand_parts, first_operand}
 use Rattle.swc_nodes.specs.Rising.{waiting, least_above}
-use Rattle.swc_nodes.specs.Slots.{expr_part}
-use Rattle.swc_nodes.specs.Stands.{Apart, From, Grows}
+use Rattle.swc_nodes.specs.NodeParts.{expr_part}
+use Rattle.swc_nodes.specs.GrowingNodes.{Apart, From, Grows}
 use Rattle.swc_nodes.specs.declared.node.ExprId.{ExprId}
 use Rattle.swc_nodes.specs.declared.nodes.Nodes.{Nodes}
 use Rattle.swc_nodes.specs.declared.pending.PendingOperator.{PendingOperator}

@@ -12,10 +12,8 @@ use Rattle.swc_grammar.specs.Symbols.{Expr, Assign}
 use Rattle.swc_grammar.specs.Tokens.{is_comma}
 use Rattle.swc_grammar.specs.Clean.{sym as at, run, seqs}
 use Rattle.swc_grammar.specs.Words.{◌>>=◌}
-use Rattle.swc_nodes.specs.Slots.{expr_part}
-use Rattle.swc_nodes.specs.Stands.{first_at, start_at, From, Grows}
+use Rattle.swc_nodes.specs.GrowingNodes.{start_at, Grows}
 use Rattle.swc_nodes.specs.declared.node.ExprId.{ExprId}
-use Rattle.swc_nodes.proofs.Held.{from-down}
 use Rattle.swc_nodes.proofs.Standing.{grows-same}
 use Rattle.swc_steps.specs.declared.productions.Productions.{Productions}
 use Rattle.swc_steps.specs.Lists.{eaten}
@@ -32,12 +30,12 @@ module _ {S H F C K : Type 0} {fg : Ghosts F} {cg : Ghosts C} {kg : Ghosts K} {m
       → {k : ℕ} {p a q : Productions S H F C K fg cg kg} {d : Buffer S} {place : Span}
       → (e : ExprId) (r : Result ExprId Error)
       → Heard model sure (run hook (at Assign)) (tree_of a.nodes e) p.input a.input → Grows p.nodes a.nodes
-      → From k a.nodes (expr_part e) → Heard model sure (eaten is_comma) (Some place) a.input d
+      → Heard model sure (eaten is_comma) (Some place) a.input d
       → Produces model sure itself tree_of
       (seqs_from hook (begins_in_invalid (tree_of a.nodes e)) (start_at a.nodes e.0) (cons (tree_of a.nodes e) nil))
-      (first_at a.nodes e.0) (record a { input = d }) r q
+      k (record a { input = d }) r q
       → Produces model sure itself tree_of (run hook (at Expr)) k p r q
-  behind_comma hook lawful {a = a} {d = d} e r read grows from comma goes =
+  behind_comma hook lawful {a = a} {d = d} e r read grows comma goes =
       let t = tree_of a.nodes e in
       let b = begins_in_invalid t in
       let lo = start_at a.nodes e.0 in
@@ -45,7 +43,7 @@ module _ {S H F C K : Type 0} {fg : Ghosts F} {cg : Ghosts C} {kg : Ghosts K} {m
       (λ x o. run hook (seqs (cons o.0 nil)) x o.1) (λ x ts. expr_splits hook x ts) read
       (λ x ts us h y ys. seqs_begun hook b lo (cons t nil) y ys
       (valid-begins t (read-valid hook lawful Assign x ts us t h)))
-      grows (λ x. from-down from.above)
+      grows (λ x h. h)
       (m.on_after {m = record a { input = d }} r
       (s.on_call (λ x o. seqs_from_by hook b lo (cons t nil) o.0 x o.1) (λ x ts. refl) comma.on) (grows-same _)
       (m.weaker r goes))

@@ -24,8 +24,8 @@ use Rattle.swc_grammar.specs.Clean.{Out, and_then, sym as at, run}
 use Rattle.swc_grammar.specs.Words.{◌>>=◌}
 use Rattle.swc_grammar.proofs.Complete.{last}
 use Rattle.swc_grammar.proofs.Knot.{knot}
-use Rattle.swc_nodes.specs.Slots.{expr_part, key_parts, prop_parts}
-use Rattle.swc_nodes.specs.Stands.{tree_at, count, Apart, Grows}
+use Rattle.swc_nodes.specs.NodeParts.{expr_part, key_parts, prop_parts}
+use Rattle.swc_nodes.specs.GrowingNodes.{tree_at, count, Apart, Grows}
 use Rattle.swc_nodes.specs.declared.node.ExprId.{ExprId}
 use Rattle.swc_nodes.specs.declared.node.PatId.{PatId}
 use Rattle.swc_nodes.specs.declared.node.PropNode.{PropNode}

@@ -1,8 +1,13 @@
 -- Which primary expression the current token begins, and what is left of a literal behind the token that opens it.
-use Rattle.std.proofs.Common.{◌≡◌, Bool, true, false, List, [], ◌∷◌, ◌++◌, if◌then◌else◌, Option, refl, ◌∙◌}
+use Rattle.std.proofs.Common.{◌≡◌, Bool, true, false, ◌&&◌, List, [], ◌∷◌, ◌++◌, if◌then◌else◌, Option, refl, ◌∙◌}
 use Rattle.swc_input.specs.declared.buffer.Buffer.{Buffer}
 use Rattle.swc_input.specs.declared.token.TokenAndSpan.{TokenAndSpan}
-use Rattle.std.proofs.Common.{Some, Result, ap}
+use Rattle.std.proofs.Common.{Some, None, Result, ap, sym, subst}
+use Rattle.swc_context.specs.declared.atom.Atom.{Atom}
+use Rattle.swc_context.specs.declared.word.Word.TheVariants as word
+use Rattle.swc_input.specs.declared.token.Token.{Token}
+use Rattle.swc_input.specs.declared.token.Token.TheVariants as token
+use Rattle.swc_grammar.specs.Scope.{Scope}
 use Rattle.swc_context.specs.Contexts.{view as deciding}
 use Rattle.swc_context.specs.declared.context.Context.{Context}
 use Rattle.swc_context.specs.declared.error.Error.{Error}
@@ -10,16 +15,16 @@ use Rattle.swc_context.specs.declared.span.BytePos.{BytePos}
 use Rattle.swc_ast.specs.Tree.{Tree}
 use Rattle.swc_bodies.specs.Readings.{Hook}
 use Rattle.swc_grammar.specs.Symbols.{Primary, Elements, Props}
-use Rattle.swc_grammar.specs.Clean.{sym as at, run}
+use Rattle.swc_grammar.specs.Clean.{sym as at, run, first, is_lit, is_identifier}
 use Rattle.swc_grammar.specs.Words.{◌>>=◌}
 use Rattle.swc_input.specs.Plain.{plain}
 use Rattle.swc_input.specs.Source.{Model}
 use Rattle.swc_input.specs.Buffer.{held, context}
 use Rattle.swc_input.specs.Laws.{Read-same}
-use Rattle.swc_input.specs.Kinds.{at_token}
-use Rattle.swc_bodies.specs.Readings.{is_brace}
-use Rattle.swc_grammar.specs.Tokens.{include_in, is_lparen, is_lbracket, is_backquote}
-use Rattle.swc_steps.specs.Parsing.{Here, Moves, On, Parses, seen}
+use Rattle.swc_input.specs.Kinds.{at_token, is_hash}
+use Rattle.swc_bodies.specs.Readings.{is_function, is_async, is_class, is_brace}
+use Rattle.swc_grammar.specs.Tokens.{include_in, is_lparen, is_lbracket, is_backquote, is_this, begins_regex, is_reference}
+use Rattle.swc_steps.specs.Parsing.{Here, Moves, On, Parses, seen, begins_async}
 use Rattle.swc_steps.specs.Lists.{elements_inside}
 use Rattle.swc_steps.proofs.Lists as list
 use Rattle.swc_steps.proofs.Rules as rule
@@ -27,7 +32,9 @@ use Rattle.swc_steps.proofs.Steps as s
 use Rattle.swc_primary.proofs.Properties as props
 use Rattle.swc_primary.specs.declared.primary.PrimaryKind.{PrimaryKind}
 use Rattle.swc_primary.specs.declared.primary.PrimaryKind.TheVariants as kind
-use Rattle.swc_primary.specs.Openings.{primary_kind, Opens, array_from, object_from}
+use Rattle.swc_primary.specs.declared.primary.PlainKind.{PlainKind}
+use Rattle.swc_primary.specs.declared.primary.PlainKind.TheVariants as one
+use Rattle.swc_primary.specs.Openings.{primary_kind, BeginsPlain, Opens, array_from, object_from}
 
 -- ---- which of four tests holds first
 
@@ -104,6 +111,56 @@ module _ (t : Option TokenAndSpan) where
 
   pub not_template : primary_kind t ≡ kind.Plain → at_token is_backquote t ≡ false
   not_template h = (not_any h).3
+
+-- ---- a primary expression in which no other stands, by the test that its first token passes
+
+module _ {S : Type 0} (model : Model S) (b : Buffer S) where
+  pub kind_is : {j k : PlainKind} → j ≡ k → BeginsPlain (context model b) (λ f. at_token f (seen b)) j
+      → BeginsPlain (context model b) (λ f. at_token f (seen b)) k
+  kind_is e h = subst (λ v. BeginsPlain (context model b) (λ f. at_token f (seen b)) v) e h
+
+-- of what is seen, so of every list that begins with it
+pub kind_first : (k : PlainKind) (ts : List TokenAndSpan) {x y : Scope} {o : Option TokenAndSpan} → x ≡ y → first ts ≡ o
+    → BeginsPlain y.context (λ f. at_token f o) k → BeginsPlain x.context (λ f. at_token f (first ts)) k
+kind_first k ts {x} {y} {o} same e h =
+    subst (λ v. BeginsPlain v.context (λ f. at_token f (first ts)) k) (sym same)
+    (subst (λ v. BeginsPlain y.context (λ f. at_token f v) k) (sym e) h)
+
+and_false : (a : Bool) → (a && false) ≡ false
+and_false true = refl
+and_false false = refl
+
+only_async : (P : Token → Type 0) → ((w : Atom) → is_async (token.Word (word.Ident w)) ≡ true → P (token.Word (word.Ident w)))
+    → (t : Token) → is_async t ≡ true → P t
+only_async P h (token.Word (word.Ident w)) e = h w e
+only_async P h t e = absurd cc
+
+no_async : (ts : List TokenAndSpan) → at_token is_async (first ts) ≡ false → begins_async ts ≡ false
+no_async ts h = rw h refl
+
+module _ {F C K : Type 0} (hook : Hook F C K) where
+  -- nothing is read where the first token is of another kind
+  pub other_ends : (x : Scope) (ts : List TokenAndSpan) → primary_kind (first ts) ≡ kind.Plain
+      → BeginsPlain x.context (λ f. at_token f (first ts)) one.Other → run hook (at Primary) x ts ≡ None
+  other_ends x ts p h =
+      let o = first ts in
+      let (this, async, function, lit, class, name, hash, regex) = h in
+      rule.primary_ends hook x ts name lit (not_paren o p) hash this (not_array o p)
+      (rule.function_not ts function (no_async ts async)) class (not_object o p) (not_template o p) regex
+
+  -- nor at `async`, where no function follows
+  pub async_ends : (x : Scope) (ts : List TokenAndSpan) → at_token is_async (first ts) ≡ true → begins_async ts ≡ false
+      → run hook (at Primary) x ts ≡ None
+  async_ends x [] h k = absurd cc
+  async_ends x (t ∷ ts) h k =
+      let is = λ (f : Token → Bool) (g : (w : Atom) → is_async (token.Word (word.Ident w)) ≡ true → f (token.Word (word.Ident w)) ≡ false).
+      only_async (λ v. f v ≡ false) g t.token h in
+      rule.primary_ends hook x (t ∷ ts)
+      (is (is_identifier x.context) (λ w e. rw e (and_false (is_reference x.context (word.Ident w)))))
+      (is is_lit (λ w e. refl)) (is is_lparen (λ w e. refl)) (is is_hash (λ w e. refl)) (is is_this (λ w e. refl))
+      (is is_lbracket (λ w e. refl)) (rule.function_not (t ∷ ts) (is is_function (λ w e. refl)) k)
+      (is is_class (λ w e. refl)) (is is_brace (λ w e. refl)) (is is_backquote (λ w e. refl))
+      (is begins_regex (λ w e. refl))
 
 -- ---- a look at what was looked at
 

@@ -15,9 +15,9 @@ use Rattle.swc_ast.specs.Tree.{Tree}
 use Rattle.swc_ast.specs.Trees.{listed, held_expr, no_cover_in, no_covers, is_spread, no_spread, paren_ok}
 use Rattle.swc_ast.specs.declared.expr.ExprOrSpread.{ExprOrSpread}
 use Rattle.swc_ast.specs.declared.spanned.Spanned.{Ghosts}
-use Rattle.swc_nodes.specs.Seats.{fits}
-use Rattle.swc_nodes.specs.Slots.{flat, item_parts, expr_part}
-use Rattle.swc_nodes.specs.Stands.{seat_at, Apart, From}
+use Rattle.swc_nodes.specs.NumberedTrees.{fits}
+use Rattle.swc_nodes.specs.NodeParts.{flat, item_parts, expr_part}
+use Rattle.swc_nodes.specs.GrowingNodes.{seat_at, Apart, From}
 use Rattle.swc_nodes.specs.declared.node.ExprId.{ExprId}
 use Rattle.swc_nodes.specs.declared.nodes.Nodes.{Nodes}
 use Rattle.swc_nodes.proofs.Chains.{both_true}

@@ -7,8 +7,8 @@ use Rattle.swc_input.specs.declared.token.Token.{Token}
 use Rattle.swc_input.specs.declared.token.Token.TheVariants as token
 use Rattle.swc_input.specs.declared.token.TokenAndSpan.{TokenAndSpan}
 use Rattle.swc_input.specs.Kinds.{at_token}
-use Rattle.swc_ast.specs.Tree.{Tree, Trees, nil, cons, span_of}
-use Rattle.swc_ast.specs.Trees.{to, object_e, listed, items_of, comma_of, put_first, spread_prop_e, short_e, cover_e}
+use Rattle.swc_ast.specs.Tree.{Trees, nil, cons, span_of}
+use Rattle.swc_ast.specs.Trees.{to, object_e, listed, items_of, comma_of, spread_prop_e, short_e, cover_e}
 use Rattle.swc_ast.specs.Trees.{ident_e, trees_append}
 use Rattle.swc_bodies.specs.Readings.{Hook, is_async, is_brace}
 use Rattle.swc_grammar.specs.Scope.{Scope}
@@ -20,11 +20,11 @@ use Rattle.swc_grammar.specs.Grammar.{prop-generator, prop-async, prop-async-gen
 use Rattle.swc_grammar.specs.Names.{Spelling, may_name}
 use Rattle.swc_grammar.specs.Parts.{any_name}
 use Rattle.swc_grammar.specs.Rule.{gives, must, given, symbol, token as token_of, ◌>>=◌ as ◌▸◌, ◌>>◌}
-use Rattle.swc_grammar.specs.Clean.{Out, and_then, first, second, sym as at, exec, Choice, none, pick, chosen, plan}
+use Rattle.swc_grammar.specs.Clean.{and_then, first, second, sym as at, exec, Choice, none, pick, chosen, plan}
 use Rattle.swc_grammar.specs.Clean.{primary, prop, prop_word, async_method, step, run}
 use Rattle.swc_grammar.specs.Words.{◌>>=◌, one, word}
 use Rattle.swc_grammar.proofs.Knot.{knot}
-use Rattle.swc_grammar.proofs.Only.{only-brace, only-rbrace}
+use Rattle.swc_grammar.proofs.Only.{brace-is, rbrace-is}
 use Rattle.swc_grammar.proofs.Rules.{run_picked}
 use Rattle.swc_primary.specs.declared.modifiers.MethodKind.{MethodKind}
 use Rattle.swc_primary.specs.declared.modifiers.MethodKind.TheVariants as method
@@ -33,7 +33,7 @@ use Rattle.swc_primary.specs.declared.modifiers.Modifier.TheVariants as modifier
 use Rattle.swc_primary.specs.declared.modifiers.PropKind.{PropKind}
 use Rattle.swc_primary.specs.declared.modifiers.PropKind.TheVariants as kind
 use Rattle.swc_steps.specs.Readers.{reading, by_production, inside}
-use Rattle.swc_steps.specs.Lists.{eaten, eaten_by, closed, separated, behind, put_before}
+use Rattle.swc_steps.specs.Lists.{eaten, eaten_by, closed, separated, behind}
 use Rattle.swc_primary.specs.Properties.{object_lit_tail, prop_item, props_behind, props_more, props_by}
 use Rattle.swc_primary.specs.Properties.{spread_prop_tail, open_by, open_name, cover_name, cover_node, cover_tail}
 use Rattle.swc_primary.specs.Properties.{modifier_of, by_modifier, word_kind, prop_kind}
@@ -43,7 +43,8 @@ use Rattle.swc_steps.proofs.Keys.{bind_none}
 use Rattle.swc_primary.proofs.Methods.{generator_splits, async_splits, async_generator_splits, getter_splits}
 use Rattle.swc_primary.proofs.Methods.{setter_not}
 use Rattle.swc_steps.proofs.Steps.{not_true, not_false}
-use Rattle.swc_steps.proofs.Lists.{calls, binds, bind_same, twice, ended}
+use Rattle.swc_steps.proofs.Lists.{calls, binds, bind_same, tail_left, list_from, item_more, IsList}
+use Rattle.swc_steps.proofs.Lists.{list_splits, list_first}
 
 pub open_name_splits : (x : Scope) (ts : List TokenAndSpan) → open_name x ts ≡ (word may_name x ts >>= open_by x)
 unfolding open_name
@@ -120,8 +121,7 @@ module _ {F C K : Type 0} (hook : Hook F C K) where
   object_lit_picked x [] h = absurd cc
   object_lit_picked x (t ∷ ts) h =
       run_picked hook Primary x (t ∷ ts) object-lit (primary x (t ∷ ts)) refl
-      (only-brace (λ v. primary {F = F} {C = C} {K = K} x (tk v t.had_line_break t.span ∷ ts)
-      ≡ pick object-lit) refl t.token h)
+      (rw (brace-is t.token h) refl)
 
   pub object_lit_opens : (t : TokenAndSpan) (x : Scope) (ts : List TokenAndSpan) → is_brace t.token ≡ true
       → by_production hook (λ c. object-lit) x (t ∷ ts) ≡ object_lit_tail hook t.span x ts
@@ -139,17 +139,11 @@ module _ {F C K : Type 0} (hook : Hook F C K) where
       → run hook (at Props) x (t ∷ ts) ≡ Some (listed None t.span nil, ts)
   props_close x t ts h =
       knot hook (at Props) x (t ∷ ts)
-      ∙ only-rbrace (λ v. exec hook (run hook) (Some 5)
-      (step (at Props) x (tk v t.had_line_break t.span ∷ ts)) (tk v t.had_line_break t.span ∷ ts)
-      ≡ Some (listed None t.span nil, ts)) refl t.token h
-
-  -- behind a property: what is left behind the comma that stands there, or where none does
-  abbrev tail_left : Scope → Option Span × List TokenAndSpan → Out (Tree F C K)
-  tail_left x q = run hook (at Props) x q.1 >>= (λ p. Some (behind q.0 p.0, p.1))
+      ∙ rw (rbrace-is t.token h) refl
 
   tail_token : (x : Scope) (v : Token) (b : Bool) (s : Span) (us : List TokenAndSpan)
       → run hook (at PropsTail) x (tk v b s ∷ us)
-      ≡ (separated is_rbrace x (tk v b s ∷ us) >>= tail_left x)
+      ≡ (separated is_rbrace x (tk v b s ∷ us) >>= tail_left (run hook (at Props)) x)
   unfolding separated closed eaten
   tail_token x token.Comma b s us =
       knot hook (at PropsTail) x (tk token.Comma b s ∷ us) ∙ calls (run hook (at Props) x us) _
@@ -159,36 +153,20 @@ module _ {F C K : Type 0} (hook : Hook F C K) where
   tail_token x v b s us = knot hook (at PropsTail) x (tk v b s ∷ us)
 
   tail_is : (x : Scope) (us : List TokenAndSpan)
-      → run hook (at PropsTail) x us ≡ (separated is_rbrace x us >>= tail_left x)
+      → run hook (at PropsTail) x us ≡ (separated is_rbrace x us >>= tail_left (run hook (at Props)) x)
   unfolding separated closed eaten
   tail_is x [] = knot hook (at PropsTail) x []
   tail_is x (t ∷ us) = tail_token x t.token t.had_line_break t.span us
 
-  -- behind a property and the comma that stands there, or none: the list from that property on
-  abbrev list_from : Scope → (Tree F C K × Option Span) × List TokenAndSpan → Out (Tree F C K)
-  list_from x p = run hook (at Props) x p.1 >>= (λ q. Some (put_first p.0.0 (behind p.0.1 q.0), q.1))
-
-  -- a property, and what stands behind it
-  item_more : (x : Scope) (ts : List TokenAndSpan)
-      → and_then (run hook (at Prop) x ts) (λ e us. and_then (run hook (at PropsTail) x us)
-      (λ es vs. Some (put_first e es, vs)))
-      ≡ (prop_item hook x ts >>= list_from x)
-  unfolding prop_item
-  item_more x ts =
-      calls (run hook (at Prop) x ts) _
-      ∙ bind_same (run hook (at Prop) x ts) _ _ (λ p.
-      calls (run hook (at PropsTail) x p.1) _
-      ∙ ap (λ o. o >>= (λ q. Some (put_first p.0 q.0, q.1))) (tail_is x p.1)
-      ∙ sym (binds (separated is_rbrace x p.1) (tail_left x) _)
-      ∙ bind_same (separated is_rbrace x p.1) _ _ (λ q. sym (binds (run hook (at Props) x q.1) _ _))
-      ∙ binds (separated is_rbrace x p.1) (λ q. Some ((p.0, q.0), q.1)) _)
-      ∙ binds (run hook (at Prop) x ts) _ _
-
   -- one property, and those that are left
   props_step : (x : Scope) (ts : List TokenAndSpan) → at_token is_rbrace (first ts) ≡ false
       → run hook (at Props) x ts
-      ≡ (prop_item hook x ts >>= list_from x)
-  props_step x ts h = knot hook (at Props) x ts ∙ rw h (item_more x ts)
+      ≡ (prop_item hook x ts >>= list_from (run hook (at Props)) x)
+  unfolding prop_item
+  props_step x ts h =
+      knot hook (at Props) x ts
+      ∙ rw h (item_more (run hook (at Props)) (run hook (at Prop)) (run hook (at PropsTail)) (separated is_rbrace) tail_is
+      x ts)
 
   pub prop_item_splits : (x : Scope) (ts : List TokenAndSpan)
       → prop_item hook x ts
@@ -202,59 +180,21 @@ module _ {F C K : Type 0} (hook : Hook F C K) where
   unfolding props_more
   props_more_splits before x ts = refl
 
-  -- from a property on
-  behind_more : (before : Trees F C K) (comma : Option Span) (x : Scope) (ts : List TokenAndSpan)
-      → at_token is_rbrace (first ts) ≡ false
-      → props_behind hook before comma x ts ≡ props_more hook before x ts
-  unfolding props_behind props_more
-  behind_more before comma x ts h =
-      ap (λ o. o >>= (λ p. Some (put_before before (behind comma p.0), p.1))) (props_step x ts h)
-      ∙ sym (binds (prop_item hook x ts) _ _)
-      ∙ bind_same (prop_item hook x ts) _ _ (λ p.
-      sym (binds (run hook (at Props) x p.1) _ _)
-      ∙ bind_same (run hook (at Props) x p.1) _ _ (λ q.
-      ap (λ v. Some (v, q.1)) (twice before comma p.0.0 (behind p.0.1 q.0))))
-
-  behind_token : (before : Trees F C K) (comma : Option Span) (x : Scope) (v : Token) (b : Bool) (s : Span)
-      (us : List TokenAndSpan)
-      → props_behind hook before comma x (tk v b s ∷ us)
-      ≡ (eaten is_rbrace x (tk v b s ∷ us) >>= (λ p. props_by hook before comma p.0 x p.1))
-  unfolding props_behind eaten
-  behind_token before comma x token.RBrace b s us =
-      ap (λ o. o >>= (λ p. Some (put_before before (behind comma p.0), p.1)))
-      (props_close x (tk token.RBrace b s) us refl)
-      ∙ ap (λ v. Some (v, us)) (ended before comma s)
-  behind_token before comma x v b s us = behind_more before comma x (tk v b s ∷ us) refl
+  props_list : IsList is_rbrace (run hook (at Props)) (prop_item hook)
+  props_list = record { close = props_close; step = props_step }
 
   pub behind_splits : (before : Trees F C K) (comma : Option Span) (x : Scope) (ts : List TokenAndSpan)
       → props_behind hook before comma x ts
       ≡ (eaten is_rbrace x ts >>= (λ p. props_by hook before comma p.0 x p.1))
-  unfolding eaten
-  behind_splits before comma x [] = behind_more before comma x [] refl
-  behind_splits before comma x (t ∷ ts) = behind_token before comma x t.token t.had_line_break t.span ts
+  unfolding props_behind props_more
+  behind_splits before comma x ts =
+      list_splits props_list before comma (props_by hook before comma) (λ s y us. refl) (λ y us. refl) x ts
 
   -- before the first property
-  first_more : (x : Scope) (ts : List TokenAndSpan) → at_token is_rbrace (first ts) ≡ false
-      → run hook (at Props) x ts ≡ props_behind hook nil None x ts
-  unfolding props_behind
-  first_more x ts h =
-      props_step x ts h
-      ∙ bind_same (prop_item hook x ts) _ _ (λ p. binds (run hook (at Props) x p.1) _ _)
-      ∙ binds (prop_item hook x ts) _ _
-      ∙ ap (λ o. o >>= (λ p. Some (put_before nil p.0, p.1))) (sym (props_step x ts h))
-
-  first_token : (x : Scope) (v : Token) (b : Bool) (s : Span) (us : List TokenAndSpan)
-      → run hook (at Props) x (tk v b s ∷ us) ≡ props_behind hook nil None x (tk v b s ∷ us)
-  unfolding props_behind
-  first_token x token.RBrace b s us =
-      let e = props_close x (tk token.RBrace b s) us refl in
-      e ∙ ap (λ o. o >>= (λ p. Some (put_before nil p.0, p.1))) (sym e)
-  first_token x v b s us = first_more x (tk v b s ∷ us) refl
-
   pub props_first : (x : Scope) (ts : List TokenAndSpan)
       → run hook (at Props) x ts ≡ props_behind hook nil None x ts
-  props_first x [] = first_more x [] refl
-  props_first x (t ∷ ts) = first_token x t.token t.had_line_break t.span ts
+  unfolding props_behind
+  props_first x ts = list_first props_list x ts
 
   -- ---- properties
 

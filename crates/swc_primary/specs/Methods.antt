@@ -13,7 +13,7 @@ use Rattle.swc_grammar.specs.Symbols.{Key, AfterKey as Behind, Shell}
 use Rattle.swc_grammar.specs.Tokens.{is_get, is_set, is_star}
 use Rattle.swc_grammar.specs.Clean.{Out, sym, run}
 use Rattle.swc_grammar.specs.Words.{◌>>=◌}
-use Rattle.swc_nodes.specs.Slots.{Part, one_expr, flat, param_parts, expr_part}
+use Rattle.swc_nodes.specs.NodeParts.{Part, one_expr, flat, param_parts, expr_part}
 use Rattle.swc_nodes.specs.declared.node.ExprId.{ExprId}
 use Rattle.swc_nodes.specs.declared.node.PatId.{PatId}
 use Rattle.swc_nodes.specs.declared.node.PropNode.{PropNode}
@@ -25,7 +25,7 @@ use Rattle.swc_primary.specs.declared.object.AfterKey.TheVariants as after
 use Rattle.swc_steps.specs.Readers.{inside}
 use Rattle.swc_steps.specs.Keys.{expected, shell}
 use Rattle.swc_ast.specs.declared.spanned.Spanned.{Ghosts}
-use Rattle.swc_nodes.specs.Stands.{From}
+use Rattle.swc_nodes.specs.GrowingNodes.{From}
 use Rattle.swc_nodes.specs.declared.nodes.Nodes.{Nodes}
 use Rattle.swc_steps.specs.Parsing.{tree_of, shell_of, shell_at}
 

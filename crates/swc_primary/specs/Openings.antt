@@ -1,5 +1,5 @@
 -- Which primary expression a token begins (13.2), and what opening a literal does to the buffer.
-use Rattle.std.specs.Prelude.{◌≡◌, if◌then◌else◌, Option}
+use Rattle.std.specs.Prelude.{◌≡◌, Bool, true, false, if◌then◌else◌, Option}
 use Rattle.swc_context.specs.Contexts.{view as deciding}
 use Rattle.swc_context.specs.declared.context.Context.{Context}
 use Rattle.swc_context.specs.declared.span.BytePos.{BytePos}
@@ -8,15 +8,18 @@ use Rattle.swc_input.specs.declared.token.Token.{Token}
 use Rattle.swc_input.specs.declared.token.TokenAndSpan.{TokenAndSpan}
 use Rattle.swc_input.specs.Source.{Model}
 use Rattle.swc_input.specs.Buffer.{Bumped, context}
-use Rattle.swc_input.specs.Kinds.{at_token}
+use Rattle.swc_input.specs.Kinds.{at_token, is_hash}
 use Rattle.swc_ast.specs.Tree.{Tree, span_of}
 use Rattle.swc_ast.specs.Trees.{array_e, object_e, items_of, comma_of}
 use Rattle.swc_context.specs.Spans.{from_to}
-use Rattle.swc_bodies.specs.Readings.{is_brace}
-use Rattle.swc_grammar.specs.Tokens.{is_lparen, is_lbracket, is_backquote}
+use Rattle.swc_bodies.specs.Readings.{is_function, is_async, is_class, is_brace}
+use Rattle.swc_grammar.specs.Tokens.{is_lparen, is_lbracket, is_backquote, is_this, begins_regex}
+use Rattle.swc_grammar.specs.Clean.{is_lit, is_identifier}
 use Rattle.swc_steps.specs.Parsing.{Moves}
 use Rattle.swc_primary.specs.declared.primary.PrimaryKind.{PrimaryKind}
 use Rattle.swc_primary.specs.declared.primary.PrimaryKind.TheVariants as kind
+use Rattle.swc_primary.specs.declared.primary.PlainKind.{PlainKind}
+use Rattle.swc_primary.specs.declared.primary.PlainKind.TheVariants as plain
 
 -- which primary expression the token begins, of those that other expressions stand in
 abbrev pub primary_kind : Option TokenAndSpan → PrimaryKind
@@ -25,6 +28,20 @@ primary_kind t =
     (if at_token is_lbracket t then kind.Array else
     (if at_token is_brace t then kind.Object else
     (if at_token is_backquote t then kind.Template else kind.Plain)))
+
+-- by which test of the token it begins a primary expression in which no other stands
+abbrev pub BeginsPlain : Context → ((Token → Bool) → Bool) → PlainKind → Type 0
+BeginsPlain c at plain.This = at is_this ≡ true
+BeginsPlain c at plain.Async = at is_async ≡ true
+BeginsPlain c at plain.Function = at is_function ≡ true
+BeginsPlain c at plain.Literal = at is_lit ≡ true
+BeginsPlain c at plain.Class = at is_class ≡ true
+BeginsPlain c at plain.Name = at (is_identifier c) ≡ true
+BeginsPlain c at plain.Private = at is_hash ≡ true
+BeginsPlain c at plain.Regex = at begins_regex ≡ true
+BeginsPlain c at plain.Other =
+    (at is_this ≡ false) × (at is_async ≡ false) × (at is_function ≡ false) × (at is_lit ≡ false) × (at is_class ≡ false)
+    × (at (is_identifier c) ≡ false) × (at is_hash ≡ false) × (at begins_regex ≡ false)
 
 -- From b to d: the current token was consumed, which begins at lo, and then the context was set, which was ctx, to
 -- one that decides as w makes it.

@@ -5,7 +5,7 @@ ghost use Rattle.swc_input.specs.Kinds.{at_token};
 ghost use Rattle.swc_bodies.specs.Readings.{is_brace};
 ghost use Rattle.swc_grammar.specs.Tokens.{is_lbracket, include_in};
 ghost use Rattle.swc_nodes.specs.Lists.{elem_parts, props_parts};
-ghost use Rattle.swc_nodes.specs.Stands.{Apart};
+ghost use Rattle.swc_nodes.specs.GrowingNodes.{Apart};
 ghost use Rattle.swc_steps.specs.Parsing.{seen, GoesOn, itself, tree_of, elems_at, props_at};
 ghost use Rattle.swc_primary.specs.Openings.{Opens, array_from, object_from};
 

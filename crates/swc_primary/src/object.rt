@@ -12,8 +12,8 @@ ghost use Rattle.swc_grammar.specs.Symbols.{Prop, Key, Shell};
 ghost use Rattle.swc_grammar.specs.Tokens.{method_scope, method_params, method_block};
 ghost use Rattle.swc_grammar.specs.Parts.{key_lit_of};
 ghost use Rattle.swc_grammar.specs.Clean.{sym, run};
-ghost use Rattle.swc_nodes.specs.Slots.{expr_part, pat_part, key_parts, prop_parts, one_expr};
-ghost use Rattle.swc_nodes.specs.Stands.{count, first_at, end_at, From, Grows};
+ghost use Rattle.swc_nodes.specs.NodeParts.{expr_part, pat_part, key_parts, prop_parts, one_expr};
+ghost use Rattle.swc_nodes.specs.GrowingNodes.{count, first_at, end_at, From, Grows};
 ghost use Rattle.swc_steps.specs.Readers.{nothing};
 ghost use Rattle.swc_primary.specs.Properties.{open_name, cover_name};
 ghost use Rattle.swc_primary.specs.Begins.{Begins};
@@ -57,7 +57,7 @@ pub fn parse_key_method<I: Tokens, B: Bodies<I>>(
         (count p.old.nodes) p.old result p.new }
 {
     look(&mut p.input)?;
-    if !p.is_lparen() {
+    if !is_sign(&p.input, Sign::LParen) {
         return Err(unexpected(&mut p.input, SyntaxError::Unexpected(Wanted::Ident)));
     }
     let function = parse_shell(p, false, false, None)?;
@@ -219,7 +219,7 @@ fn parse_block<I: Tokens, B: Bodies<I>>(p: &mut Productions<I, B>) -> PResult<B:
     ensures nodes { p.new.nodes ≡ p.old.nodes }
 {
     look(&mut p.input)?;
-    if !p.is_lbrace() {
+    if !is_sign(&p.input, Sign::LBrace) {
         return Err(unexpected(&mut p.input, SyntaxError::Expected(Wanted::LBrace)));
     }
     let answer = p.bodies.block(&mut p.input);

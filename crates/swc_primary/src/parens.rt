@@ -6,8 +6,8 @@ ghost use Rattle.swc_context.specs.declared.error.SyntaxError.TheVariants.{OutOf
 ghost use Rattle.swc_input.specs.Recording.{is_some};
 ghost use Rattle.swc_input.specs.Buffer.{to_come};
 ghost use Rattle.swc_nodes.specs.Lists.{is_cover_prop, has_cover};
-ghost use Rattle.swc_nodes.specs.Slots.{expr_part, args_parts};
-ghost use Rattle.swc_nodes.specs.Stands.{Apart, From};
+ghost use Rattle.swc_nodes.specs.NodeParts.{expr_part, args_parts};
+ghost use Rattle.swc_nodes.specs.GrowingNodes.{Apart, From};
 ghost use Rattle.swc_steps.specs.Parsing.{Checked, Checks, Refuses, tree_of, args_at};
 
 use swc_ast::expr::ExprOrSpread;

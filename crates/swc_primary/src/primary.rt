@@ -1,36 +1,41 @@
 // Expressions (ECMA-262, 13).
-ghost use Rattle.std.specs.Prelude.{ℕ, ◌≡◌, ◌<◌, ◌≤◌, true, false, not, ◌&&◌, Some, map, OnOk, IfOk};
+ghost use Rattle.std.specs.Prelude.{ℕ, ◌≡◌, ◌<◌, ◌≤◌, true, false, not, ◌&&◌, Some, map, OnOk, IfOk, IsSome};
 ghost use Rattle.swc_input.specs.Buffer.{current, to_come, context};
 ghost use Rattle.swc_input.specs.Plain.{plain_token};
 ghost use Rattle.swc_input.specs.Kinds.{at_token, is_hash};
+ghost use Rattle.swc_input.specs.declared.token.Token.TheVariants as token;
 ghost use Rattle.swc_grammar.specs.Symbols.{Primary, Literal};
 ghost use Rattle.swc_grammar.specs.Tokens.{is_this};
 ghost use Rattle.swc_bodies.specs.Readings.{at_function, is_class};
 ghost use Rattle.swc_grammar.specs.Parts.{lit_of};
 ghost use Rattle.swc_grammar.specs.Grammar as grammar;
 ghost use Rattle.swc_grammar.specs.Clean.{sym, run, is_lit, is_identifier};
-ghost use Rattle.swc_nodes.specs.Slots.{args_parts};
-ghost use Rattle.swc_nodes.specs.Stands.{count, first_start, last_end, Apart};
+ghost use Rattle.swc_nodes.specs.NodeParts.{args_parts};
+ghost use Rattle.swc_nodes.specs.GrowingNodes.{count, first_start, last_end, Apart};
 ghost use Rattle.swc_steps.specs.Args.{paren_from};
 ghost use Rattle.swc_steps.specs.Readers.{by_production};
-ghost use Rattle.swc_steps.specs.Parsing.{lit_in, seen, Here, ParsesAlone, Produces, GoesOn, Checked, TookLiteral};
+ghost use Rattle.swc_steps.specs.Parsing.{lit_in, seen, Here, ParsesAlone, Produces, GoesOn, Checked, Refuses};
+ghost use Rattle.swc_steps.specs.Parsing.{TookLiteral};
 ghost use Rattle.swc_steps.specs.Parsing.{itself, tree_of, args_at};
-ghost use Rattle.swc_primary.specs.Openings.{primary_kind};
+ghost use Rattle.swc_primary.specs.Openings.{primary_kind, BeginsPlain};
 ghost use Rattle.swc_primary.specs.declared.primary.PrimaryKind.TheVariants.{Plain};
+ghost use Rattle.swc_primary.specs.declared.primary.PlainKind.TheVariants.{Function, Class};
 
 use crate::parens::check_paren_items;
 use swc_ast::expr::ExprOrSpread;
 use swc_ast::ident::Ident;
 use swc_ast::lit::{BigInt, Bool, Lit, Null, Num, Str};
 use swc_bodies::bodies::Bodies;
-use swc_context::error::{PResult, SyntaxError};
+use swc_context::context::Context;
+use swc_context::error::{Error, PResult, SyntaxError};
+use swc_context::operator::{AssignOp, BinOpToken};
 use swc_context::span::Span;
-use swc_context::word::Word;
+use swc_context::word::{Keyword, Word};
 use swc_input::buffer::Buffer;
 use swc_input::token::Token;
 use swc_input::tokens::Tokens;
 use swc_nodes::node::ExprId;
-use swc_steps::productions::Productions;
+use swc_steps::productions::{Productions, is_identifier_word};
 use swc_steps::regex::parse_regex;
 use swc_steps::tokens::{
     Listed, answered, bump, copy_of, emit_strict_mode_err, is_async_function, parse_ident_name,
@@ -68,6 +73,61 @@ pub fn primary_kind<I: Tokens>(input: &Buffer<I>) -> PrimaryKind
     }
 }
 
+/// A primary expression in which no other stands (ECMA-262, 13.2), by the token that begins it.
+#[derive(Clone, Copy)]
+pub enum PlainKind {
+    /// `this` (ECMA-262, 13.2.1).
+    This,
+    /// `async`, with which a function may begin (ECMA-262, 15.8).
+    Async,
+    /// `function` (ECMA-262, 15.2).
+    Function,
+    /// A literal that is no regular expression (ECMA-262, 13.2.3).
+    Literal,
+    /// `class` (ECMA-262, 15.7).
+    Class,
+    /// An identifier reference (ECMA-262, 13.1).
+    Name,
+    /// `#`, behind which a private name stands (ECMA-262, 13.10.1).
+    Private,
+    /// A regular expression, or the slash that begins one (ECMA-262, 13.2.7).
+    Regex,
+    /// Another token, or none.
+    Other,
+}
+
+/// Which primary expression in which no other stands the current token begins.
+fn plain_kind<I: Tokens>(input: &Buffer<I>) -> PlainKind
+    ensures begins { BeginsPlain (context I.model input.now) (λ f. at_token f (seen input.now)) result }
+    ensures function { result ≡ Function → at_function (current input.now) ≡ true }
+    ensures class { result ≡ Class → at_token is_class (current input.now) ≡ true }
+{
+    match input.cur_debug() {
+        Some(Token::Word(word)) => word_kind(input.get_ctx(), word),
+        Some(Token::Num { .. } | Token::BigInt { .. } | Token::Str { .. }) => PlainKind::Literal,
+        Some(Token::Hash) => PlainKind::Private,
+        Some(Token::BinOp(BinOpToken::Div) | Token::AssignOp(AssignOp::DivAssign)) =>
+            PlainKind::Regex,
+        Some(Token::Regex { .. }) => PlainKind::Regex,
+        _ => PlainKind::Other,
+    }
+}
+
+/// The same of a word.
+fn word_kind(ctx: Context, word: &Word) -> PlainKind
+    ensures { BeginsPlain ctx (λ f. f (token.Word word.now)) result }
+{
+    match word {
+        Word::Null | Word::True | Word::False => PlainKind::Literal,
+        Word::Keyword(Keyword::This) => PlainKind::This,
+        Word::Keyword(Keyword::Function) => PlainKind::Function,
+        Word::Keyword(Keyword::Class) => PlainKind::Class,
+        Word::Ident(name) if name.as_str() == "async" => PlainKind::Async,
+        _ if is_identifier_word(ctx, word) => PlainKind::Name,
+        _ => PlainKind::Other,
+    }
+}
+
 /// A primary expression in which no other stands (ECMA-262, 13.2): `this`, a function, a literal, a class, an
 /// identifier, `#` and a name, or a regular expression. Another token is refused as `TS1109`, at that token.
 pub fn parse_plain_primary<I: Tokens, B: Bodies<I>>(p: &mut Productions<I, B>) -> PResult<ExprId>
@@ -76,34 +136,36 @@ pub fn parse_plain_primary<I: Tokens, B: Bodies<I>>(p: &mut Productions<I, B>) -
     ensures { Produces I.model B.is_faithful itself tree_of (run B.forms (sym Primary))
         (count p.old.nodes) p.old result p.new }
 {
-    if p.is_this() {
-        return parse_this_expr(p);
+    match plain_kind(&p.input) {
+        PlainKind::This => parse_this_expr(p),
+        PlainKind::Async => {
+            if is_async_function(&mut p.input)? {
+                parse_fn_expr(p)
+            } else {
+                Err(no_primary(&mut p.input))
+            }
+        }
+        PlainKind::Function => parse_fn_expr(p),
+        PlainKind::Literal => {
+            let lit = parse_lit(p)?;
+            let node = p.nodes.lit(lit);
+            p.made(node)
+        }
+        PlainKind::Class => parse_class_expr(p),
+        PlainKind::Name => parse_ident_expr(p),
+        PlainKind::Private => parse_private_expr(p),
+        PlainKind::Regex => parse_regex(p),
+        PlainKind::Other => Err(no_primary(&mut p.input)),
     }
-    if is_async_function(&mut p.input)? {
-        return parse_fn_expr(p);
-    }
-    if p.is_function() {
-        return parse_fn_expr(p);
-    }
-    if p.is_lit() {
-        let lit = parse_lit(p)?;
-        let node = p.nodes.lit(lit);
-        return p.made(node);
-    }
-    if p.is_class() {
-        return parse_class_expr(p);
-    }
-    if p.is_ident_ref() {
-        return parse_ident_expr(p);
-    }
-    if p.is_hash() {
-        return parse_private_expr(p);
-    }
-    if p.is_regex_start() {
-        return parse_regex(p);
-    }
-    let span = p.cur_span();
-    Err(syntax_error(&mut p.input, span, SyntaxError::TS1109))
+}
+
+/// The refusal of a token that begins no primary expression, at that token.
+fn no_primary<I: Tokens>(input: &mut Buffer<I>) -> Error
+    ensures refuses { Refuses I.model input.old result input.new }
+    ensures falls { to_come I.model input.new ≤ to_come I.model input.old }
+{
+    let span = input.cur_span();
+    syntax_error(input, span, SyntaxError::TS1109)
 }
 
 /// `this` (ECMA-262, 13.2.1).
@@ -190,6 +252,18 @@ pub fn paren_items<I: Tokens, B: Bodies<I>>(
     p.made(node)
 }
 
+/// Whether a literal is current that is no regular expression.
+fn is_lit<I: Tokens>(input: &Buffer<I>) -> bool
+    ensures value { result ≡ at_token is_lit (seen input.now) }
+    ensures some { result ≡ true → IsSome (current input.now) }
+{
+    match input.cur_debug() {
+        Some(Token::Word(Word::Null | Word::True | Word::False)) => true,
+        Some(Token::Num { .. } | Token::BigInt { .. } | Token::Str { .. }) => true,
+        _ => false,
+    }
+}
+
 /// The literal that a token is.
 fn lit_of<I: Tokens, B: Bodies<I>>(p: &Productions<I, B>, token: Token, span: Span) -> Lit
     requires { is_lit token ≡ true }
@@ -216,9 +290,8 @@ pub fn parse_lit<I: Tokens, B: Bodies<I>>(p: &mut Productions<I, B>) -> PResult<
     ensures nodes { p.new.nodes ≡ p.old.nodes }
 {
     require_cur(&mut p.input)?;
-    if !p.is_lit() {
-        let span = p.cur_span();
-        return Err(syntax_error(&mut p.input, span, SyntaxError::TS1109));
+    if !is_lit(&p.input) {
+        return Err(no_primary(&mut p.input));
     }
     let token = bump(&mut p.input);
     let span = p.prev_span();

@@ -1,7 +1,7 @@
 // Pieces of expressions that are read by themselves: arguments with their parentheses, and templates of which no node
 ghost use Rattle.swc_grammar.specs.Symbols.{Arguments, Template};
 ghost use Rattle.swc_grammar.specs.Clean.{sym, run};
-ghost use Rattle.swc_nodes.specs.Stands.{count};
+ghost use Rattle.swc_nodes.specs.GrowingNodes.{count};
 ghost use Rattle.swc_steps.specs.Parsing.{Produces, args_of, args_at};
 ghost use Rattle.swc_productions.specs.Pieces.{tpl_of, tpl_at};
 

@@ -1,27 +1,25 @@
 // The ring: the productions that call one another back (ECMA-262, 13), in the order of the standard.
-ghost use Rattle.std.specs.Prelude.{◌≡◌, ◌<◌, true, false, not, None, Some, IsSome};
-ghost use Rattle.swc_ast.specs.Tree.{nil, cons};
-ghost use Rattle.swc_ast.specs.Trees.{begins_in_invalid};
+ghost use Rattle.std.specs.Prelude.{◌≡◌, ◌<◌, true, false, not, None, Some};
 ghost use Rattle.swc_grammar.specs.Clean.{sym, links, run};
-ghost use Rattle.swc_grammar.specs.Symbols.{Lhs, Primary, Elements, Item, Props, Prop, Key, Parts, Args, Level};
+ghost use Rattle.swc_grammar.specs.Symbols.{Lhs, Primary, Elements, Item, Props, Prop, Key, Parts, Level};
 ghost use Rattle.swc_grammar.specs.Symbols.{Unary, Expr, Assign};
-ghost use Rattle.swc_input.specs.Buffer.{current};
 ghost use Rattle.swc_input.specs.Kinds.{at_token};
 ghost use Rattle.swc_left.specs.Bases.{plain_base, super_tail, super_head, import_head};
-ghost use Rattle.swc_left.specs.Links.{link_tail};
 ghost use Rattle.swc_left.specs.Templates.{tpl_parts_of, tpl_parts_at};
 ghost use Rattle.swc_nodes.specs.Pending.{all_pending, operand_parts, first_operand};
-ghost use Rattle.swc_nodes.specs.Slots.{expr_part};
-ghost use Rattle.swc_nodes.specs.Stands.{count, first_at, From, Apart, start_at};
-ghost use Rattle.swc_operators.specs.Assignments.{assigns_from, seqs_from, yield_expr};
+ghost use Rattle.swc_nodes.specs.NodeParts.{expr_part};
+ghost use Rattle.swc_nodes.specs.GrowingNodes.{count, first_at, From, Apart, start_at};
+ghost use Rattle.swc_operators.specs.Assignments.{assigns_from};
 ghost use Rattle.swc_operators.specs.Pending.{pending_reads};
 ghost use Rattle.swc_steps.specs.Args.{args_inside};
 ghost use Rattle.swc_steps.specs.Parsing.{seen, Produces, GoesOn, itself, tree_of, item_of, item_at, elems_of};
 ghost use Rattle.swc_steps.specs.Parsing.{elems_at, key_of, key_at, prop_of, prop_at, props_of, props_at, args_of};
 ghost use Rattle.swc_steps.specs.Parsing.{args_at};
-ghost use Rattle.swc_steps.specs.Readers.{inside, whole_inside};
 
-use swc_ast::expr::{Callee, ExprOrSpread, Import, Super};
+use swc_ast::expr::Callee;
+use swc_ast::expr::ExprOrSpread;
+use swc_ast::expr::Import;
+use swc_ast::expr::Super;
 use swc_ast::prop::PropName;
 use swc_ast::spanned::Spanned;
 use swc_bodies::bodies::Bodies;
@@ -30,39 +28,97 @@ use swc_context::error::PResult;
 use swc_context::span::Span;
 use swc_input::tokens::Tokens;
 use swc_left::args::separate_args;
-use swc_left::base::{
-    ImportHead, SuperChain, SuperHead, callee_call, import_head, import_meta, parse_super_name,
-    refuse_super_args, refuse_super_brackets, refuse_super_name, super_chain, super_computed,
-    super_head,
-};
-use swc_left::left::{
-    LinkHead, call_expr, computed_member, is_super_or_import, new_expr, parse_dot_member,
-    parse_link_head, parse_new_target, refuse_opt_chain,
-};
-use swc_left::tpl::{TplParts, eat_tpl_end, parse_tpl_element, tagged_tpl};
-use swc_nodes::node::{ExprId, PropNode};
+use swc_left::base::ImportHead;
+use swc_left::base::SuperChain;
+use swc_left::base::SuperHead;
+use swc_left::base::callee_call;
+use swc_left::base::import_head;
+use swc_left::base::import_meta;
+use swc_left::base::parse_super_name;
+use swc_left::base::refuse_super_args;
+use swc_left::base::refuse_super_brackets;
+use swc_left::base::refuse_super_name;
+use swc_left::base::super_chain;
+use swc_left::base::super_computed;
+use swc_left::base::super_head;
+use swc_left::left::LinkHead;
+use swc_left::left::call_expr;
+use swc_left::left::computed_member;
+use swc_left::left::is_super_or_import;
+use swc_left::left::new_expr;
+use swc_left::left::parse_dot_member;
+use swc_left::left::parse_link_head;
+use swc_left::left::parse_new_target;
+use swc_left::left::refuse_opt_chain;
+use swc_left::tpl::TplParts;
+use swc_left::tpl::eat_tpl_end;
+use swc_left::tpl::parse_tpl_element;
+use swc_left::tpl::tagged_tpl;
+use swc_nodes::node::ExprId;
+use swc_nodes::node::PropNode;
 use swc_nodes::pending::PendingOperators;
-use swc_operators::assign::{
-    check_assign_target, cond_last, cond_middle, cur_assign_op, goes_on_yield, is_yield_operator,
-    refuse_yield_param,
-};
-use swc_operators::ops::{
-    check_await, check_nullish_left, check_update_target, cur_prefix_op, cur_update_op, is_await,
-    join_operands, next_operator, parse_await_ident, parse_update_postfix, recover_left,
-    take_operator, unary_expr, unary_expr_without_operand,
-};
-use swc_operators::prefix::{is_await_name, update_prefix};
-use swc_primary::literals::{array_lit, object_lit, open_array, open_object};
-use swc_primary::object::{
-    AfterKey, PropHead, computed_prop_name, cover_prop, key_prop, method_of, parse_key_method,
-    parse_method_function, parse_plain_prop_name, parse_prop_head, spread_prop,
-};
-use swc_primary::primary::{Elem, PrimaryKind, paren_items, parse_plain_primary, primary_kind};
+use swc_operators::assign::check_assign_target;
+use swc_operators::assign::cond_last;
+use swc_operators::assign::cond_middle;
+use swc_operators::assign::cur_assign_op;
+use swc_operators::assign::goes_on_yield;
+use swc_operators::assign::is_yield_operator;
+use swc_operators::assign::refuse_yield_param;
+use swc_operators::ops::check_await;
+use swc_operators::ops::check_nullish_left;
+use swc_operators::ops::check_update_target;
+use swc_operators::ops::cur_prefix_op;
+use swc_operators::ops::cur_update_op;
+use swc_operators::ops::is_await;
+use swc_operators::ops::join_operands;
+use swc_operators::ops::next_operator;
+use swc_operators::ops::parse_await_ident;
+use swc_operators::ops::parse_update_postfix;
+use swc_operators::ops::recover_left;
+use swc_operators::ops::take_operator;
+use swc_operators::ops::unary_expr;
+use swc_operators::ops::unary_expr_without_operand;
+use swc_operators::prefix::is_await_name;
+use swc_operators::prefix::update_prefix;
+use swc_operators::within::enter_args;
+use swc_operators::within::enter_prop_name;
+use swc_operators::within::enter_tpl;
+use swc_operators::within::include_in;
+use swc_operators::within::leave;
+use swc_primary::literals::array_lit;
+use swc_primary::literals::object_lit;
+use swc_primary::literals::open_array;
+use swc_primary::literals::open_object;
+use swc_primary::object::AfterKey;
+use swc_primary::object::PropHead;
+use swc_primary::object::computed_prop_name;
+use swc_primary::object::cover_prop;
+use swc_primary::object::key_prop;
+use swc_primary::object::method_of;
+use swc_primary::object::parse_key_method;
+use swc_primary::object::parse_method_function;
+use swc_primary::object::parse_plain_prop_name;
+use swc_primary::object::parse_prop_head;
+use swc_primary::object::spread_prop;
+use swc_primary::primary::Elem;
+use swc_primary::primary::PrimaryKind;
+use swc_primary::primary::paren_items;
+use swc_primary::primary::parse_plain_primary;
+use swc_primary::primary::primary_kind;
 use swc_steps::productions::Productions;
-use swc_steps::tokens::{
-    Listed, Sign, cur_pos, eat, expect, is_sign, label_spread, label_yield, look, require_cur,
-    separate, set_ctx, skip,
-};
+use swc_steps::tokens::Listed;
+use swc_steps::tokens::Sign;
+use swc_steps::tokens::cur_pos;
+use swc_steps::tokens::eat;
+use swc_steps::tokens::expect;
+use swc_steps::tokens::is_sign;
+use swc_steps::tokens::label_spread;
+use swc_steps::tokens::label_yield;
+use swc_steps::tokens::look;
+use swc_steps::tokens::require_cur;
+use swc_steps::tokens::separate;
+use swc_steps::tokens::set_ctx;
+use swc_steps::tokens::skip;
 
 /// The items of a list, up to the sign that closes the list: the loop of all lists. The expression reads an item, and
 /// is that item with the place of the comma behind it.
@@ -86,6 +142,28 @@ macro_rules! listed {
             trailing_comma = comma;
         }
     }};
+}
+
+/// What is read in the context in which `in` counts as an operator (ECMA-262, 13.10), and set back behind it.
+macro_rules! with_in {
+    ($p:ident, $read:ident) => {{
+        let before = include_in(&mut $p.input);
+        let read = $read($p);
+        leave(&mut $p.input, before, read)
+    }};
+}
+
+/// What was answered; a refusal is handed on once the context from before is set back.
+macro_rules! held {
+    ($p:ident, $before:ident, $answer:expr) => {
+        match $answer {
+            Ok(value) => value,
+            Err(error) => {
+                set_ctx(&mut $p.input, $before);
+                return Err(error);
+            }
+        }
+    };
 }
 
 // ---- Expressions (ECMA-262, 13)
@@ -232,7 +310,9 @@ fn parse_member_expr<I: Tokens, B: Bodies<I>>(p: &mut Productions<I, B>) -> PRes
     }
 }
 
-/// Reads on after `obj`, through all links; with `no_call`, a parenthesis is none.
+/// Reads on after `obj`, through all links: a member by its name, or by an expression in which `in` counts as an
+/// operator, in brackets (ECMA-262, 13.3.2); a call (13.3.6), but with `no_call`; or a template with the tag `obj`
+/// (13.3.11).
 #[cycle(productions)]
 fn parse_subscripts<I: Tokens, B: Bodies<I>>(
     p: &mut Productions<I, B>,
@@ -249,36 +329,20 @@ fn parse_subscripts<I: Tokens, B: Bodies<I>>(
             Some(head) => head,
             None => return Ok(obj),
         };
-        obj = parse_link(p, obj, head)?;
-    }
-}
-
-/// A link of `obj`, behind its first tokens: a member by its name, or by an expression in which `in` counts as an
-/// operator, in brackets (ECMA-262, 13.3.2); a call (13.3.6); or a template with the tag `obj` (13.3.11).
-#[cycle(productions)]
-fn parse_link<I: Tokens, B: Bodies<I>>(
-    p: &mut Productions<I, B>,
-    obj: ExprId,
-    head: LinkHead,
-) -> PResult<ExprId>
-    requires from { From 0 p.old.nodes (expr_part obj) }
-    ensures { Produces I.model B.is_faithful itself tree_of
-        (link_tail B.forms head (tree_of p.old.nodes obj))
-        (first_at p.old.nodes obj.0) p.old result p.new }
-{
-    match head {
-        LinkHead::Name { optional } => parse_dot_member(p, obj, optional),
-        LinkHead::Computed { start, optional } => {
-            let expr = parse_expr_with_in(p)?;
-            computed_member(p, obj, start, expr, optional)
-        }
-        LinkHead::Call { optional } => {
-            let list = parse_args(p, false)?;
-            call_expr(p, obj, list, optional)
-        }
-        LinkHead::Template { start } => {
-            let parts = parse_tpl_elements(p, true)?;
-            tagged_tpl(p, obj, start, parts)
+        match head {
+            LinkHead::Name { optional } => obj = parse_dot_member(p, obj, optional)?,
+            LinkHead::Computed { start, optional } => {
+                let expr = with_in!(p, parse_expr)?;
+                obj = computed_member(p, obj, start, expr, optional)?;
+            }
+            LinkHead::Call { optional } => {
+                let list = parse_args(p, false)?;
+                obj = call_expr(p, obj, list, optional)?;
+            }
+            LinkHead::Template { start } => {
+                let parts = parse_tpl_elements(p, true)?;
+                obj = tagged_tpl(p, obj, start, parts)?;
+            }
         }
     }
 }
@@ -319,18 +383,18 @@ pub fn parse_object_prop<I: Tokens, B: Bodies<I>>(
     match parse_prop_head::<I, B>(p.alloc, &mut p.input)? {
         PropHead::Shorthand(name) => Ok(PropNode::Shorthand(name)),
         PropHead::Spread(dots) => {
-            let expr = parse_assignment_expr_with_in(p)?;
+            let expr = with_in!(p, parse_assignment_expr)?;
             Ok(spread_prop(&p.nodes, dots, expr))
         }
         PropHead::Cover(name) => {
-            let value = parse_assignment_expr_with_in(p)?;
+            let value = with_in!(p, parse_assignment_expr)?;
             Ok(cover_prop(&p.nodes, name, value))
         }
         PropHead::Key => {
             let key = parse_prop_name(p)?;
             match eat(&mut p.input, Sign::Colon)? {
                 Some(_) => {
-                    let value = parse_assignment_expr_with_in(p)?;
+                    let value = with_in!(p, parse_assignment_expr)?;
                     let span = p.nodes.extent(value);
                     Ok(key_prop(key, AfterKey::Value { span, value }))
                 }
@@ -360,31 +424,19 @@ pub fn parse_prop_name<I: Tokens, B: Bodies<I>>(
     ensures { Produces I.model B.is_faithful key_of key_at (run B.forms (sym Key))
         (count p.old.nodes) p.old result p.new }
 {
-    let ctx = p.get_ctx();
-    set_ctx(
-        &mut p.input,
-        Context {
-            in_property_name: true,
-            ..ctx
-        },
-    );
-    let key = parse_key(p);
-    set_ctx(&mut p.input, ctx);
-    key
-}
-
-/// The same, in whatever context.
-#[cycle(productions)]
-fn parse_key<I: Tokens, B: Bodies<I>>(p: &mut Productions<I, B>) -> PResult<PropName<ExprId>>
-    ensures { Produces I.model B.is_faithful key_of key_at (run B.forms (sym Key))
-        (count p.old.nodes) p.old result p.new }
-{
-    match eat(&mut p.input, Sign::LBracket)? {
+    let before = enter_prop_name(&mut p.input);
+    match held!(p, before, eat(&mut p.input, Sign::LBracket)) {
         Some(start) => {
-            let expr = parse_assignment_expr_with_in(p)?;
-            computed_prop_name(p, start, expr)
+            let expr = held!(p, before, with_in!(p, parse_assignment_expr));
+            let key = computed_prop_name(p, start, expr);
+            set_ctx(&mut p.input, before);
+            key
         }
-        None => parse_plain_prop_name(p),
+        None => {
+            let key = parse_plain_prop_name(p);
+            set_ctx(&mut p.input, before);
+            key
+        }
     }
 }
 
@@ -401,47 +453,30 @@ pub fn parse_tpl_elements<I: Tokens, B: Bodies<I>>(
     ensures { Produces I.model B.is_faithful tpl_parts_of tpl_parts_at (run B.forms (sym (Parts is_tagged)))
         (count p.old.nodes) p.old result p.new }
 {
-    let ctx = p.get_ctx();
-    set_ctx(
-        &mut p.input,
-        Context {
-            will_expect_colon_for_cond: false,
-            ..ctx
-        },
-    );
-    let parts = parse_tpl_parts(p, is_tagged);
-    set_ctx(&mut p.input, ctx);
-    parts
-}
-
-/// The same, in whatever context.
-#[cycle(productions)]
-fn parse_tpl_parts<I: Tokens, B: Bodies<I>>(
-    p: &mut Productions<I, B>,
-    is_tagged: bool,
-) -> PResult<TplParts>
-    ensures { Produces I.model B.is_faithful tpl_parts_of tpl_parts_at (run B.forms (sym (Parts is_tagged)))
-        (count p.old.nodes) p.old result p.new }
-{
+    let before = enter_tpl(&mut p.input);
     let mut quasis = Vec::new(p.alloc);
     let mut exprs = Vec::new(p.alloc);
     loop {
-        let quasi = parse_tpl_element(p, is_tagged)?;
-        p.add(&mut quasis, quasi)?;
-        match eat_tpl_end(&mut p.input)? {
-            Some(end) => return Ok(TplParts { quasis, exprs, end }),
+        let quasi = held!(p, before, parse_tpl_element(p, is_tagged));
+        held!(p, before, p.add(&mut quasis, quasi));
+        match held!(p, before, eat_tpl_end(&mut p.input)) {
+            Some(end) => {
+                set_ctx(&mut p.input, before);
+                return Ok(TplParts { quasis, exprs, end });
+            }
             None => {}
         }
-        let expr = parse_expr_with_in(p)?;
-        expect(&mut p.input, Sign::RBrace)?;
-        p.add(&mut exprs, expr)?;
+        let expr = held!(p, before, with_in!(p, parse_expr));
+        held!(p, before, expect(&mut p.input, Sign::RBrace));
+        held!(p, before, p.add(&mut exprs, expr));
     }
 }
 
 // ---- Arguments (ECMA-262, 13.3.8), and those of `import` (13.3.10)
 
 /// Arguments (ECMA-262, 13.3.8), behind their parenthesis, in which `in` counts as an operator, and no colon of a
-/// conditional is expected, and the parenthesis that closes them. Those of `import`, where it `is_dynamic_import`,
+/// conditional is expected, a comma behind each, which may be missing behind the last one, and the parenthesis that
+/// closes them. Those of `import`, where it `is_dynamic_import`,
 /// may have no comma behind the last one, unless import attributes are read. The context is that from before, also
 /// after a refusal.
 #[cycle(productions)]
@@ -453,39 +488,30 @@ pub fn parse_args<I: Tokens, B: Bodies<I>>(
         (count p.old.nodes) p.old result p.new }
 {
     let start = p.prev_span();
-    let ctx = p.get_ctx();
-    set_ctx(
-        &mut p.input,
-        Context {
-            include_in_expr: true,
-            will_expect_colon_for_cond: false,
-            ..ctx
-        },
-    );
-    let args = parse_arg_list(p, start, is_dynamic_import);
-    set_ctx(&mut p.input, ctx);
-    args
-}
-
-/// Arguments (ECMA-262, 13.3.8), a comma behind each, which may be missing behind the last one, and the parenthesis
-/// that closes them; the one that opens them is at `start`.
-#[cycle(productions)]
-fn parse_arg_list<I: Tokens, B: Bodies<I>>(
-    p: &mut Productions<I, B>,
-    start: Span,
-    is_dynamic_import: bool,
-) -> PResult<Listed<ExprOrSpread<ExprId>>>
-    ensures { Produces I.model B.is_faithful args_of args_at (run B.forms (sym (Args is_dynamic_import)))
-        (count p.old.nodes) p.old result p.new }
-{
-    listed!(
-        p,
-        Sign::RParen,
-        {
-            let arg = parse_expr_or_spread(p)?;
-            (arg, separate_args(&mut p.input, start, is_dynamic_import)?)
+    let before = enter_args(&mut p.input);
+    let mut items = Vec::new(p.alloc);
+    let mut trailing_comma = None;
+    loop {
+        match held!(p, before, eat(&mut p.input, Sign::RParen)) {
+            Some(end) => {
+                set_ctx(&mut p.input, before);
+                return Ok(Listed {
+                    items,
+                    trailing_comma,
+                    end,
+                });
+            }
+            None => {}
         }
-    )
+        let arg = held!(p, before, parse_expr_or_spread(p));
+        let comma = held!(
+            p,
+            before,
+            separate_args(&mut p.input, start, is_dynamic_import)
+        );
+        held!(p, before, p.add(&mut items, arg));
+        trailing_comma = comma;
+    }
 }
 
 // ---- What left-hand sides begin with (ECMA-262, 13.3): `super`, `import`, and primary expressions
@@ -535,7 +561,7 @@ fn parse_super<I: Tokens, B: Bodies<I>>(
     match super_head(&mut p.input, no_call)? {
         SuperHead::Name => return parse_super_name(p, start),
         SuperHead::Computed(bracket) => {
-            let expr = parse_expr_with_in(p)?;
+            let expr = with_in!(p, parse_expr)?;
             return super_computed(p, start, bracket, expr);
         }
         SuperHead::Call => {
@@ -547,7 +573,7 @@ fn parse_super<I: Tokens, B: Bodies<I>>(
     match super_chain(&mut p.input, no_call)? {
         SuperChain::Name => refuse_super_name(p, no_call),
         SuperChain::Computed => {
-            parse_expr_with_in(p)?;
+            with_in!(p, parse_expr)?;
             Err(refuse_super_brackets(&mut p.input, no_call))
         }
         SuperChain::Call => {
@@ -655,7 +681,8 @@ pub fn parse_unary_expr<I: Tokens, B: Bodies<I>>(p: &mut Productions<I, B>) -> P
     parse_update_postfix(p, expr)
 }
 
-// ---- Expressions with commas between them, assignment expressions, conditionals and `yield` (ECMA-262, 13.14 to 13.16 and
+// ---- Expressions with commas between them, assignment expressions, conditionals and `yield` (ECMA-262, 13.14 to 13.16
+// and 15.5)
 
 /// An expression (ECMA-262, 13.16): an assignment expression, or several with commas between them.
 #[cycle(productions)]
@@ -663,25 +690,11 @@ pub fn parse_expr<I: Tokens, B: Bodies<I>>(p: &mut Productions<I, B>) -> PResult
     ensures { Produces I.model B.is_faithful itself tree_of (run B.forms (sym Expr))
         (count p.old.nodes) p.old result p.new }
 {
-    let expr = parse_assignment_expr(p)?;
+    let first = parse_assignment_expr(p)?;
     match eat(&mut p.input, Sign::Comma)? {
-        Some(_) => parse_seq_expr(p, expr),
-        None => Ok(expr),
+        Some(_) => {}
+        None => return Ok(first),
     }
-}
-
-/// A sequence (ECMA-262, 13.16), of which the first expression was read, and the comma behind it.
-#[cycle(productions)]
-fn parse_seq_expr<I: Tokens, B: Bodies<I>>(
-    p: &mut Productions<I, B>,
-    first: ExprId,
-) -> PResult<ExprId>
-    requires from { From 0 p.old.nodes (expr_part first) }
-    ensures { Produces I.model B.is_faithful itself tree_of
-        (seqs_from B.forms (begins_in_invalid (tree_of p.old.nodes first)) (start_at p.old.nodes first.0)
-        (cons (tree_of p.old.nodes first) nil))
-        (first_at p.old.nodes first.0) p.old result p.new }
-{
     let mut exprs = Vec::new(p.alloc);
     p.add(&mut exprs, first)?;
     loop {
@@ -697,58 +710,38 @@ fn parse_seq_expr<I: Tokens, B: Bodies<I>>(
     }
 }
 
-/// An expression in which `in` counts as an operator.
-#[cycle(productions)]
-pub fn parse_expr_with_in<I: Tokens, B: Bodies<I>>(p: &mut Productions<I, B>) -> PResult<ExprId>
-    ensures { Produces I.model B.is_faithful itself tree_of (whole_inside B.forms)
-        (count p.old.nodes) p.old result p.new }
-{
-    let ctx = p.get_ctx();
-    set_ctx(
-        &mut p.input,
-        Context {
-            include_in_expr: true,
-            ..ctx
-        },
-    );
-    let expr = parse_expr(p);
-    set_ctx(&mut p.input, ctx);
-    expr
-}
-
-/// An assignment expression (ECMA-262, 13.15).
+/// An assignment expression (ECMA-262, 13.15); or `yield` (15.5), and its operand, with the `*` before it or not, where
+/// one begins on the same line. In parameters outside a function `yield` is refused. A refusal of its operand is
+/// labelled with the place of `yield` and the `*`.
 #[cycle(productions)]
 pub fn parse_assignment_expr<I: Tokens, B: Bodies<I>>(p: &mut Productions<I, B>) -> PResult<ExprId>
     ensures { Produces I.model B.is_faithful itself tree_of (run B.forms (sym Assign))
         (count p.old.nodes) p.old result p.new }
 {
     require_cur(&mut p.input)?;
-    if is_yield_operator(&p.input) {
-        return parse_yield_expr(p);
+    if !is_yield_operator(&p.input) {
+        let left = parse_bin_expr(p)?;
+        return finish_assignment_expr(p, left);
     }
-    let left = parse_bin_expr(p)?;
-    finish_assignment_expr(p, left)
-}
-
-/// An assignment expression in which `in` counts as an operator.
-#[cycle(productions)]
-pub fn parse_assignment_expr_with_in<I: Tokens, B: Bodies<I>>(
-    p: &mut Productions<I, B>,
-) -> PResult<ExprId>
-    ensures { Produces I.model B.is_faithful itself tree_of (inside B.forms)
-        (count p.old.nodes) p.old result p.new }
-{
-    let ctx = p.get_ctx();
-    set_ctx(
-        &mut p.input,
-        Context {
-            include_in_expr: true,
-            ..ctx
-        },
-    );
-    let expr = parse_assignment_expr(p);
-    set_ctx(&mut p.input, ctx);
-    expr
+    let start = p.cur_span();
+    skip(&mut p.input);
+    refuse_yield_param(&mut p.input)?;
+    if !goes_on_yield(&mut p.input)? {
+        let node = p.nodes.yield_alone(start);
+        return p.made(node);
+    }
+    let star = eat(&mut p.input, Sign::Star)?;
+    let end = p.last_pos();
+    match parse_assignment_expr(p) {
+        Ok(arg) => {
+            let node = p.nodes.yield_expr(start.lo, star.is_some(), arg);
+            p.made(node)
+        }
+        Err(error) => {
+            let span = Span::new(start.lo, end);
+            Err(label_yield(p.alloc, &p.input, span, error))
+        }
+    }
 }
 
 /// Reads on after `left`, which is what binary operators join: the rest of a conditional (ECMA-262, 13.14), from its
@@ -788,35 +781,5 @@ fn finish_assignment_expr<I: Tokens, B: Bodies<I>>(
     skip(&mut p.input);
     let right = parse_assignment_expr(p)?;
     let node = p.nodes.assign_expr(op, left, right);
-    p.made(node)
-}
-
-/// `yield` (ECMA-262, 15.5), which is current, and its operand, with the `*` before it or not, where one begins on the
-/// same line. In parameters outside a function it is refused. A refusal of the operand is labelled with the place of
-/// `yield` and the `*`.
-#[cycle(productions)]
-fn parse_yield_expr<I: Tokens, B: Bodies<I>>(p: &mut Productions<I, B>) -> PResult<ExprId>
-    requires { IsSome (current p.old.input) }
-    ensures { Produces I.model B.is_faithful itself tree_of (yield_expr B.forms)
-        (count p.old.nodes) p.old result p.new }
-{
-    let start = p.cur_span();
-    skip(&mut p.input);
-    refuse_yield_param(&mut p.input)?;
-    if goes_on_yield(&mut p.input)? {
-        let star = eat(&mut p.input, Sign::Star)?;
-        let end = p.last_pos();
-        return match parse_assignment_expr(p) {
-            Ok(arg) => {
-                let node = p.nodes.yield_expr(start.lo, star.is_some(), arg);
-                p.made(node)
-            }
-            Err(error) => {
-                let span = Span::new(start.lo, end);
-                Err(label_yield(p.alloc, &p.input, span, error))
-            }
-        };
-    }
-    let node = p.nodes.yield_alone(start);
     p.made(node)
 }

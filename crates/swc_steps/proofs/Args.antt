@@ -19,18 +19,18 @@ use Rattle.swc_grammar.specs.Tokens.{tk, with_in, is_rparen, import_comma_ok, is
 use Rattle.swc_grammar.specs.Clean.{Out, and_then, first, sym as at, exec, step, run}
 use Rattle.swc_grammar.specs.Words.{◌>>=◌}
 use Rattle.swc_grammar.proofs.Knot.{knot}
-use Rattle.swc_grammar.proofs.Only.{only-rparen}
-use Rattle.swc_nodes.specs.Slots.{flat, item_parts}
-use Rattle.swc_nodes.specs.Stands.{Apart, Grows}
+use Rattle.swc_grammar.proofs.Only.{rparen-is}
+use Rattle.swc_nodes.specs.NodeParts.{flat, item_parts}
+use Rattle.swc_nodes.specs.GrowingNodes.{Apart, Grows}
 use Rattle.swc_nodes.specs.declared.node.ExprId.{ExprId}
 use Rattle.swc_nodes.specs.declared.nodes.Nodes.{Nodes}
 use Rattle.swc_nodes.proofs.Lists.{list-more, item-same}
 use Rattle.swc_steps.specs.Args.{args_inside, arg_item, args_behind, args_more, args_by, last_by, last_comma}
 use Rattle.swc_steps.specs.Args.{comma_behind, separated_args, paren_of, paren_expr_tail}
-use Rattle.swc_steps.specs.Lists.{eaten, closed, separated, behind, put_before}
+use Rattle.swc_steps.specs.Lists.{eaten, closed, separated, behind}
 use Rattle.swc_steps.specs.Parsing.{tree_of, item_at}
 use Rattle.swc_steps.specs.Readers.{reading, by_production}
-use Rattle.swc_steps.proofs.Lists.{calls, binds, bind_same, twice, ended}
+use Rattle.swc_steps.proofs.Lists.{calls, tail_left, list_from, item_more, IsList, list_splits, list_first}
 use Rattle.swc_grammar.specs.Grammar.{paren-expr}
 
 pub neither : (a b : Bool) → (a || b) ≡ false → (a ≡ false) × (b ≡ false)
@@ -111,9 +111,7 @@ module _ {F C K : Type 0} (hook : Hook F C K) where
       → run hook (at (Args i)) x (t ∷ ts) ≡ Some (listed None t.span nil, ts)
   args_close i x t ts h =
       knot hook (at (Args i)) x (t ∷ ts)
-      ∙ only-rparen (λ v. exec hook (run hook) (Some 17)
-      (step (at (Args i)) x (tk v t.had_line_break t.span ∷ ts)) (tk v t.had_line_break t.span ∷ ts)
-      ≡ Some (listed None t.span nil, ts)) refl t.token h
+      ∙ rw (rparen-is t.token h) refl
 
   -- an argument, and then those behind it
   args_runs : (i : Bool) (x : Scope) (ts : List TokenAndSpan) → at_token is_rparen (first ts) ≡ false
@@ -133,10 +131,6 @@ module _ {F C K : Type 0} (hook : Hook F C K) where
       ∙ full_by (run hook (at Item) x ts) (λ us. run hook (at (ArgsTail i)) x us) k
       ∙ ap (λ o. and_then o k) (sym e)
 
-  -- behind an argument: what is left behind the comma that stands there, or where none does
-  abbrev tail_left : Bool → Scope → Option Span × List TokenAndSpan → Out (Tree F C K)
-  tail_left i x q = run hook (at (Args i)) x q.1 >>= (λ p. Some (behind q.0 p.0, p.1))
-
   -- a comma at s that may be the last, or that an argument follows
   abbrev comma_left : Bool → Span → Scope → List TokenAndSpan → Out (Tree F C K)
   comma_left m s x us =
@@ -145,10 +139,12 @@ module _ {F C K : Type 0} (hook : Hook F C K) where
 
   abbrev comma_reads_as : Bool → Span → Scope → List TokenAndSpan → Out (Tree F C K)
   comma_reads_as m s x us =
-      last_by (at_token is_rparen (first us)) m us >>= (λ p. Some (Some s, p.1)) >>= tail_left true x
+      last_by (at_token is_rparen (first us)) m us >>= (λ p. Some (Some s, p.1))
+      >>= tail_left (run hook (at (Args true))) x
 
   last_open : (b : Bool) (s : Span) (x : Scope) (us : List TokenAndSpan)
-      → tail_left true x (Some s, us) ≡ (last_by b true us >>= (λ p. Some (Some s, p.1)) >>= tail_left true x)
+      → tail_left (run hook (at (Args true))) x (Some s, us)
+      ≡ (last_by b true us >>= (λ p. Some (Some s, p.1)) >>= tail_left (run hook (at (Args true))) x)
   last_open true s x us = refl
   last_open false s x us = refl
 
@@ -172,7 +168,7 @@ module _ {F C K : Type 0} (hook : Hook F C K) where
 
   tail_token : (i : Bool) (x : Scope) (v : Token) (b : Bool) (s : Span) (us : List TokenAndSpan)
       → run hook (at (ArgsTail i)) x (tk v b s ∷ us)
-      ≡ (separated_args i x (tk v b s ∷ us) >>= tail_left i x)
+      ≡ (separated_args i x (tk v b s ∷ us) >>= tail_left (run hook (at (Args i))) x)
   unfolding separated_args separated closed eaten last_comma
   tail_token false x token.Comma b s us =
       knot hook (at (ArgsTail false)) x (tk token.Comma b s ∷ us) ∙ calls (run hook (at (Args false)) x us) _
@@ -187,36 +183,20 @@ module _ {F C K : Type 0} (hook : Hook F C K) where
   tail_token i x v b s us = knot hook (at (ArgsTail i)) x (tk v b s ∷ us)
 
   tail_is : (i : Bool) (x : Scope) (us : List TokenAndSpan)
-      → run hook (at (ArgsTail i)) x us ≡ (separated_args i x us >>= tail_left i x)
+      → run hook (at (ArgsTail i)) x us ≡ (separated_args i x us >>= tail_left (run hook (at (Args i))) x)
   unfolding separated_args separated closed eaten
   tail_is i x [] = knot hook (at (ArgsTail i)) x []
   tail_is i x (t ∷ us) = tail_token i x t.token t.had_line_break t.span us
 
-  -- behind an argument and the comma that stands there, or none: the list from that argument on
-  abbrev list_from : Bool → Scope → (Tree F C K × Option Span) × List TokenAndSpan → Out (Tree F C K)
-  list_from i x p = run hook (at (Args i)) x p.1 >>= (λ q. Some (put_first p.0.0 (behind p.0.1 q.0), q.1))
-
-  -- an argument, and what stands behind it
-  item_more : (i : Bool) (x : Scope) (ts : List TokenAndSpan)
-      → and_then (run hook (at Item) x ts) (λ e us. and_then (run hook (at (ArgsTail i)) x us)
-      (λ es vs. Some (put_first e es, vs)))
-      ≡ (arg_item hook i x ts >>= list_from i x)
-  unfolding arg_item
-  item_more i x ts =
-      calls (run hook (at Item) x ts) _
-      ∙ bind_same (run hook (at Item) x ts) _ _ (λ p.
-      calls (run hook (at (ArgsTail i)) x p.1) _
-      ∙ ap (λ o. o >>= (λ q. Some (put_first p.0 q.0, q.1))) (tail_is i x p.1)
-      ∙ sym (binds (separated_args i x p.1) (tail_left i x) _)
-      ∙ bind_same (separated_args i x p.1) _ _ (λ q. sym (binds (run hook (at (Args i)) x q.1) _ _))
-      ∙ binds (separated_args i x p.1) (λ q. Some ((p.0, q.0), q.1)) _)
-      ∙ binds (run hook (at Item) x ts) _ _
-
   -- one argument, and those that are left
   args_step : (i : Bool) (x : Scope) (ts : List TokenAndSpan) → at_token is_rparen (first ts) ≡ false
       → run hook (at (Args i)) x ts
-      ≡ (arg_item hook i x ts >>= list_from i x)
-  args_step i x ts h = args_runs i x ts h ∙ item_more i x ts
+      ≡ (arg_item hook i x ts >>= list_from (run hook (at (Args i))) x)
+  unfolding arg_item
+  args_step i x ts h =
+      args_runs i x ts h
+      ∙ item_more (run hook (at (Args i))) (run hook (at Item)) (run hook (at (ArgsTail i))) (separated_args i) (tail_is i)
+      x ts
 
   pub arg_item_splits : (i : Bool) (x : Scope) (ts : List TokenAndSpan)
       → arg_item hook i x ts
@@ -230,59 +210,21 @@ module _ {F C K : Type 0} (hook : Hook F C K) where
   unfolding args_more
   args_more_splits i before x ts = refl
 
-  -- from an argument on
-  behind_more : (i : Bool) (before : Trees F C K) (comma : Option Span) (x : Scope) (ts : List TokenAndSpan)
-      → at_token is_rparen (first ts) ≡ false
-      → args_behind hook i before comma x ts ≡ args_more hook i before x ts
-  unfolding args_behind args_more
-  behind_more i before comma x ts h =
-      ap (λ o. o >>= (λ p. Some (put_before before (behind comma p.0), p.1))) (args_step i x ts h)
-      ∙ sym (binds (arg_item hook i x ts) _ _)
-      ∙ bind_same (arg_item hook i x ts) _ _ (λ p.
-      sym (binds (run hook (at (Args i)) x p.1) _ _)
-      ∙ bind_same (run hook (at (Args i)) x p.1) _ _ (λ q.
-      ap (λ v. Some (v, q.1)) (twice before comma p.0.0 (behind p.0.1 q.0))))
-
-  behind_token : (i : Bool) (before : Trees F C K) (comma : Option Span) (x : Scope) (v : Token) (b : Bool) (s : Span)
-      (us : List TokenAndSpan)
-      → args_behind hook i before comma x (tk v b s ∷ us)
-      ≡ (eaten is_rparen x (tk v b s ∷ us) >>= (λ p. args_by hook i before comma p.0 x p.1))
-  unfolding args_behind eaten
-  behind_token i before comma x token.RParen b s us =
-      ap (λ o. o >>= (λ p. Some (put_before before (behind comma p.0), p.1)))
-      (args_close i x (tk token.RParen b s) us refl)
-      ∙ ap (λ v. Some (v, us)) (ended before comma s)
-  behind_token i before comma x v b s us = behind_more i before comma x (tk v b s ∷ us) refl
+  args_list : (i : Bool) → IsList is_rparen (run hook (at (Args i))) (arg_item hook i)
+  args_list i = record { close = args_close i; step = args_step i }
 
   pub behind_splits : (i : Bool) (before : Trees F C K) (comma : Option Span) (x : Scope) (ts : List TokenAndSpan)
       → args_behind hook i before comma x ts
       ≡ (eaten is_rparen x ts >>= (λ p. args_by hook i before comma p.0 x p.1))
-  unfolding eaten
-  behind_splits i before comma x [] = behind_more i before comma x [] refl
-  behind_splits i before comma x (t ∷ ts) = behind_token i before comma x t.token t.had_line_break t.span ts
+  unfolding args_behind args_more
+  behind_splits i before comma x ts =
+      list_splits (args_list i) before comma (args_by hook i before comma) (λ s y us. refl) (λ y us. refl) x ts
 
   -- before the first argument
-  first_more : (i : Bool) (x : Scope) (ts : List TokenAndSpan) → at_token is_rparen (first ts) ≡ false
-      → run hook (at (Args i)) x ts ≡ args_behind hook i nil None x ts
-  unfolding args_behind
-  first_more i x ts h =
-      args_step i x ts h
-      ∙ bind_same (arg_item hook i x ts) _ _ (λ p. binds (run hook (at (Args i)) x p.1) _ _)
-      ∙ binds (arg_item hook i x ts) _ _
-      ∙ ap (λ o. o >>= (λ p. Some (put_before nil p.0, p.1))) (sym (args_step i x ts h))
-
-  first_token : (i : Bool) (x : Scope) (v : Token) (b : Bool) (s : Span) (us : List TokenAndSpan)
-      → run hook (at (Args i)) x (tk v b s ∷ us) ≡ args_behind hook i nil None x (tk v b s ∷ us)
-  unfolding args_behind
-  first_token i x token.RParen b s us =
-      let e = args_close i x (tk token.RParen b s) us refl in
-      e ∙ ap (λ o. o >>= (λ p. Some (put_before nil p.0, p.1))) (sym e)
-  first_token i x v b s us = first_more i x (tk v b s ∷ us) refl
-
   pub args_first : (i : Bool) (x : Scope) (ts : List TokenAndSpan)
       → run hook (at (Args i)) x ts ≡ args_behind hook i nil None x ts
-  args_first i x [] = first_more i x [] refl
-  args_first i x (t ∷ ts) = first_token i x t.token t.had_line_break t.span ts
+  unfolding args_behind
+  args_first i x ts = list_first (args_list i) x ts
 
   -- ---- parentheses (13.2.9)
 

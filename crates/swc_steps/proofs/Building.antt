@@ -4,8 +4,8 @@ use Rattle.std.specs.declared.alloc.AllocError.{AllocError}
 use Rattle.swc_context.specs.declared.error.Error.{Error}
 use Rattle.swc_ast.specs.Tree.{Tree}
 use Rattle.swc_ast.specs.declared.spanned.Spanned.{Ghosts}
-use Rattle.swc_nodes.specs.Slots.{Part, expr_part, one_expr}
-use Rattle.swc_nodes.specs.Stands.{count, seat_at, first_at, Apart, From, Grows, Made}
+use Rattle.swc_nodes.specs.NodeParts.{Part, expr_part, one_expr}
+use Rattle.swc_nodes.specs.GrowingNodes.{count, seat_at, first_at, Apart, From, Grows, Made}
 use Rattle.swc_nodes.specs.declared.node.ExprId.{ExprId}
 use Rattle.swc_nodes.specs.declared.nodes.Nodes.{Nodes}
 use Rattle.swc_nodes.proofs.Chains.{both_true, fitting, chain-cons, chain-down}

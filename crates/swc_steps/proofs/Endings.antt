@@ -20,9 +20,9 @@ use Rattle.swc_grammar.specs.Tokens.{with_in}
 use Rattle.swc_grammar.proofs.Good.{valid}
 use Rattle.swc_grammar.proofs.Sound.{sound}
 use Rattle.swc_nodes.specs.Lists.{seq_between}
-use Rattle.swc_nodes.specs.Seats.{fits, chain}
-use Rattle.swc_nodes.specs.Slots.{Part, flat, one_expr, expr_part, args_parts}
-use Rattle.swc_nodes.specs.Stands.{count, seat_at, start_at, end_at, first_start, last_end, Apart, From, Grows}
+use Rattle.swc_nodes.specs.NumberedTrees.{fits, chain}
+use Rattle.swc_nodes.specs.NodeParts.{Part, flat, one_expr, expr_part, args_parts}
+use Rattle.swc_nodes.specs.GrowingNodes.{count, seat_at, start_at, end_at, first_start, last_end, Apart, From, Grows}
 use Rattle.swc_nodes.specs.declared.node.ExprId.{ExprId}
 use Rattle.swc_nodes.specs.declared.nodes.Nodes.{Nodes}
 use Rattle.swc_nodes.proofs.Chains.{both_true, true_both}

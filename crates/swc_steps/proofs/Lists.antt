@@ -15,10 +15,10 @@ use Rattle.swc_grammar.specs.Grammar.{array-lit}
 use Rattle.swc_grammar.specs.Clean.{Out, and_then, first, sym as at, exec, pick, primary, step, run}
 use Rattle.swc_grammar.specs.Words.{◌>>=◌}
 use Rattle.swc_grammar.proofs.Knot.{knot}
-use Rattle.swc_grammar.proofs.Only.{only-lbracket, only-rbracket}
+use Rattle.swc_grammar.proofs.Only.{lbracket-is, rbracket-is}
 use Rattle.swc_grammar.proofs.Rules.{run_picked}
 use Rattle.swc_steps.specs.Readers.{reading, by_production}
-use Rattle.swc_steps.specs.Lists.{eaten, closed, separated, separated_by, behind, put_before, elements_inside}
+use Rattle.swc_steps.specs.Lists.{eaten, eaten_by, closed, separated, separated_by, behind, put_before, elements_inside}
 use Rattle.swc_steps.specs.Lists.{array_lit_tail, element, element_by, element_item, elements_behind, elements_more}
 use Rattle.swc_steps.specs.Lists.{behind_by}
 use Rattle.swc_ast.specs.Parts.{item_of}
@@ -81,6 +81,102 @@ module _ {F C K : Type 0} where
   ended before None s = ap (λ v. listed None s v) (trees_append-nil before)
   ended before (Some c) s = ap (λ v. listed (Some c) s v) (trees_append-nil before)
 
+-- ---- any list that a symbol reads, to the token that closes it
+
+module _ {F C K : Type 0} (all : Scope → List TokenAndSpan → Out (Tree F C K)) where
+  -- behind an item: what is left behind the comma that stands there, or where none does
+  abbrev pub tail_left : Scope → Option Span × List TokenAndSpan → Out (Tree F C K)
+  tail_left x q = all x q.1 >>= (λ p. Some (behind q.0 p.0, p.1))
+
+  -- behind an item and the comma that stands there, or none: the list from that item on
+  abbrev pub list_from : Scope → (Tree F C K × Option Span) × List TokenAndSpan → Out (Tree F C K)
+  list_from x p = all x p.1 >>= (λ q. Some (put_first p.0.0 (behind p.0.1 q.0), q.1))
+
+  -- behind some items, and the comma behind the last of them: those that are left; and from the next item on
+  abbrev pub left_behind : Trees F C K → Option Span → Scope → List TokenAndSpan → Out (Tree F C K)
+  left_behind before comma x ts = all x ts >>= (λ p. Some (put_before before (behind comma p.0), p.1))
+
+  abbrev pub left_from : (Scope → List TokenAndSpan → Out (Tree F C K × Option Span)) → Trees F C K
+      → Scope → List TokenAndSpan → Out (Tree F C K)
+  left_from one before x ts = one x ts >>= (λ p. left_behind (trees_append before (cons p.0.0 nil)) p.0.1 x p.1)
+
+  -- an item, and what stands behind it
+  pub item_more : (item tail : Scope → List TokenAndSpan → Out (Tree F C K))
+      (separates : Scope → List TokenAndSpan → Out (Option Span))
+      → ((x : Scope) (us : List TokenAndSpan) → tail x us ≡ (separates x us >>= tail_left x))
+      → (x : Scope) (ts : List TokenAndSpan)
+      → and_then (item x ts) (λ e us. and_then (tail x us) (λ es vs. Some (put_first e es, vs)))
+      ≡ ((item x ts >>= (λ p. separates x p.1 >>= (λ q. Some ((p.0, q.0), q.1)))) >>= list_from x)
+  item_more item tail separates tail_is x ts =
+      calls (item x ts) _
+      ∙ bind_same (item x ts) _ _ (λ p.
+      calls (tail x p.1) _
+      ∙ ap (λ o. o >>= (λ q. Some (put_first p.0 q.0, q.1))) (tail_is x p.1)
+      ∙ sym (binds (separates x p.1) (tail_left x) _)
+      ∙ bind_same (separates x p.1) _ _ (λ q. sym (binds (all x q.1) _ _))
+      ∙ binds (separates x p.1) (λ q. Some ((p.0, q.0), q.1)) _)
+      ∙ binds (item x ts) _ _
+
+-- `all` reads a list, and `one` an item of it with the comma behind it
+pub record IsList {F C K : Type 0} (closes : Token → Bool) (all : Scope → List TokenAndSpan → Out (Tree F C K))
+    (one : Scope → List TokenAndSpan → Out (Tree F C K × Option Span)) : Type 0 where
+  pub close : (x : Scope) (t : TokenAndSpan) (ts : List TokenAndSpan) → closes t.token ≡ true
+      → all x (t ∷ ts) ≡ Some (listed None t.span nil, ts)
+  pub step : (x : Scope) (ts : List TokenAndSpan) → at_token closes (first ts) ≡ false
+      → all x ts ≡ (one x ts >>= list_from all x)
+
+module _ {F C K : Type 0} {closes : Token → Bool} {all : Scope → List TokenAndSpan → Out (Tree F C K)}
+    {one : Scope → List TokenAndSpan → Out (Tree F C K × Option Span)} (list : IsList closes all one) where
+  -- from an item on
+  behind_more : (before : Trees F C K) (comma : Option Span) (x : Scope) (ts : List TokenAndSpan)
+      → at_token closes (first ts) ≡ false → left_behind all before comma x ts ≡ left_from all one before x ts
+  behind_more before comma x ts h =
+      ap (λ o. o >>= (λ p. Some (put_before before (behind comma p.0), p.1))) (list.step x ts h)
+      ∙ sym (binds (one x ts) _ _)
+      ∙ bind_same (one x ts) _ _ (λ p.
+      sym (binds (all x p.1) _ _)
+      ∙ bind_same (all x p.1) _ _ (λ q.
+      ap (λ v. Some (v, q.1)) (twice before comma p.0.0 (behind p.0.1 q.0))))
+
+  behind_by_test : (before : Trees F C K) (comma : Option Span)
+      (by : Option Span → Scope → List TokenAndSpan → Out (Tree F C K))
+      → ((s : Span) (x : Scope) (ts : List TokenAndSpan) → Some (listed comma s before, ts) ≡ by (Some s) x ts)
+      → ((x : Scope) (ts : List TokenAndSpan) → left_from all one before x ts ≡ by None x ts)
+      → (b : Bool) (x : Scope) (ts : List TokenAndSpan) → at_token closes (first ts) ≡ b
+      → left_behind all before comma x ts ≡ (eaten_by b ts >>= (λ p. by p.0 x p.1))
+  behind_by_test before comma by ends goes true x [] h = absurd cc
+  behind_by_test before comma by ends goes true x (t ∷ ts) h =
+      ap (λ o. o >>= (λ p. Some (put_before before (behind comma p.0), p.1))) (list.close x t ts h)
+      ∙ ap (λ v. Some (v, ts)) (ended before comma t.span) ∙ ends t.span x ts
+  behind_by_test before comma by ends goes false x ts h = behind_more before comma x ts h ∙ goes x ts
+
+  -- behind some items the list is closed, or goes on
+  pub list_splits : (before : Trees F C K) (comma : Option Span)
+      (by : Option Span → Scope → List TokenAndSpan → Out (Tree F C K))
+      → ((s : Span) (x : Scope) (ts : List TokenAndSpan) → Some (listed comma s before, ts) ≡ by (Some s) x ts)
+      → ((x : Scope) (ts : List TokenAndSpan) → left_from all one before x ts ≡ by None x ts)
+      → (x : Scope) (ts : List TokenAndSpan)
+      → left_behind all before comma x ts ≡ (eaten closes x ts >>= (λ p. by p.0 x p.1))
+  unfolding eaten
+  list_splits before comma by ends goes x ts =
+      behind_by_test before comma by ends goes (at_token closes (first ts)) x ts refl
+
+  -- before the first item
+  first_by_test : (b : Bool) (x : Scope) (ts : List TokenAndSpan) → at_token closes (first ts) ≡ b
+      → all x ts ≡ left_behind all nil None x ts
+  first_by_test true x [] h = absurd cc
+  first_by_test true x (t ∷ ts) h =
+      let e = list.close x t ts h in
+      e ∙ ap (λ o. o >>= (λ p. Some (put_before nil p.0, p.1))) (sym e)
+  first_by_test false x ts h =
+      list.step x ts h
+      ∙ bind_same (one x ts) _ _ (λ p. binds (all x p.1) _ _)
+      ∙ binds (one x ts) _ _
+      ∙ ap (λ o. o >>= (λ p. Some (put_before nil p.0, p.1))) (sym (list.step x ts h))
+
+  pub list_first : (x : Scope) (ts : List TokenAndSpan) → all x ts ≡ left_behind all nil None x ts
+  list_first x ts = first_by_test (at_token closes (first ts)) x ts refl
+
 module _ {F C K : Type 0} (hook : Hook F C K) where
   -- ---- array literals (13.2.4)
 
@@ -90,8 +186,7 @@ module _ {F C K : Type 0} (hook : Hook F C K) where
   array_lit_picked x [] h = absurd cc
   array_lit_picked x (t ∷ ts) h =
       run_picked hook Primary x (t ∷ ts) array-lit (primary x (t ∷ ts)) refl
-      (only-lbracket (λ v. primary {F = F} {C = C} {K = K} x (tk v t.had_line_break t.span ∷ ts)
-      ≡ pick array-lit) refl t.token h)
+      (rw (lbracket-is t.token h) refl)
 
   pub array_lit_opens : (t : TokenAndSpan) (x : Scope) (ts : List TokenAndSpan) → is_lbracket t.token ≡ true
       → by_production hook (λ c. array-lit) x (t ∷ ts) ≡ array_lit_tail hook t.span x ts
@@ -114,17 +209,11 @@ module _ {F C K : Type 0} (hook : Hook F C K) where
       → run hook (at Elements) x (t ∷ ts) ≡ Some (listed None t.span nil, ts)
   elements_close x t ts h =
       knot hook (at Elements) x (t ∷ ts)
-      ∙ only-rbracket (λ v. exec hook (run hook) (Some 17)
-      (step (at Elements) x (tk v t.had_line_break t.span ∷ ts)) (tk v t.had_line_break t.span ∷ ts)
-      ≡ Some (listed None t.span nil, ts)) refl t.token h
-
-  -- behind an item: what is left behind the comma that stands there, or where none does
-  abbrev tail_left : Scope → Option Span × List TokenAndSpan → Out (Tree F C K)
-  tail_left x q = run hook (at Elements) x q.1 >>= (λ p. Some (behind q.0 p.0, p.1))
+      ∙ rw (rbracket-is t.token h) refl
 
   tail_token : (x : Scope) (v : Token) (b : Bool) (s : Span) (us : List TokenAndSpan)
       → run hook (at ElementsTail) x (tk v b s ∷ us)
-      ≡ (separated is_rbracket x (tk v b s ∷ us) >>= tail_left x)
+      ≡ (separated is_rbracket x (tk v b s ∷ us) >>= tail_left (run hook (at Elements)) x)
   unfolding separated closed eaten
   tail_token x token.Comma b s us =
       knot hook (at ElementsTail) x (tk token.Comma b s ∷ us) ∙ calls (run hook (at Elements) x us) _
@@ -134,46 +223,36 @@ module _ {F C K : Type 0} (hook : Hook F C K) where
   tail_token x v b s us = knot hook (at ElementsTail) x (tk v b s ∷ us)
 
   tail_is : (x : Scope) (us : List TokenAndSpan)
-      → run hook (at ElementsTail) x us ≡ (separated is_rbracket x us >>= tail_left x)
+      → run hook (at ElementsTail) x us ≡ (separated is_rbracket x us >>= tail_left (run hook (at Elements)) x)
   unfolding separated closed eaten
   tail_is x [] = knot hook (at ElementsTail) x []
   tail_is x (t ∷ us) = tail_token x t.token t.had_line_break t.span us
 
-  -- behind an element and the comma that stands there, or none: the list from that element on
-  abbrev list_from : Scope → (Tree F C K × Option Span) × List TokenAndSpan → Out (Tree F C K)
-  list_from x p = run hook (at Elements) x p.1 >>= (λ q. Some (put_first p.0.0 (behind p.0.1 q.0), q.1))
-
-  -- an item, and what stands behind it
-  item_more : (x : Scope) (ts : List TokenAndSpan)
+  -- an item, and those that are left
+  item_step : (x : Scope) (ts : List TokenAndSpan)
       → and_then (run hook (at Item) x ts) (λ e us. and_then (run hook (at ElementsTail) x us)
       (λ es vs. Some (put_first e es, vs)))
-      ≡ (element_item hook x ts >>= list_from x)
+      ≡ (element_item hook x ts >>= list_from (run hook (at Elements)) x)
   unfolding element_item
-  item_more x ts =
-      calls (run hook (at Item) x ts) _
-      ∙ bind_same (run hook (at Item) x ts) _ _ (λ p.
-      calls (run hook (at ElementsTail) x p.1) _
-      ∙ ap (λ o. o >>= (λ q. Some (put_first p.0 q.0, q.1))) (tail_is x p.1)
-      ∙ sym (binds (separated is_rbracket x p.1) (tail_left x) _)
-      ∙ bind_same (separated is_rbracket x p.1) _ _ (λ q. sym (binds (run hook (at Elements) x q.1) _ _))
-      ∙ binds (separated is_rbracket x p.1) (λ q. Some ((p.0, q.0), q.1)) _)
-      ∙ binds (run hook (at Item) x ts) _ _
+  item_step x ts =
+      item_more (run hook (at Elements)) (run hook (at Item)) (run hook (at ElementsTail)) (separated is_rbracket) tail_is
+      x ts
 
   step_token : (x : Scope) (v : Token) (b : Bool) (s : Span) (us : List TokenAndSpan) → is_rbracket v ≡ false
       → run hook (at Elements) x (tk v b s ∷ us)
-      ≡ (element hook x (tk v b s ∷ us) >>= list_from x)
+      ≡ (element hook x (tk v b s ∷ us) >>= list_from (run hook (at Elements)) x)
   unfolding element eaten
   step_token x token.Comma b s us h =
       knot hook (at Elements) x (tk token.Comma b s ∷ us) ∙ calls (run hook (at Elements) x us) _
   step_token x token.RBracket b s us h = absurd cc
-  step_token x v b s us h = knot hook (at Elements) x (tk v b s ∷ us) ∙ item_more x (tk v b s ∷ us)
+  step_token x v b s us h = knot hook (at Elements) x (tk v b s ∷ us) ∙ item_step x (tk v b s ∷ us)
 
   -- one element, and those that are left
   pub elements_step : (x : Scope) (ts : List TokenAndSpan) → at_token is_rbracket (first ts) ≡ false
       → run hook (at Elements) x ts
-      ≡ (element hook x ts >>= list_from x)
+      ≡ (element hook x ts >>= list_from (run hook (at Elements)) x)
   unfolding element eaten
-  elements_step x [] h = knot hook (at Elements) x [] ∙ item_more x []
+  elements_step x [] h = knot hook (at Elements) x [] ∙ item_step x []
   elements_step x (t ∷ ts) h = step_token x t.token t.had_line_break t.span ts h
 
   pub element_splits : (x : Scope) (ts : List TokenAndSpan)
@@ -193,59 +272,21 @@ module _ {F C K : Type 0} (hook : Hook F C K) where
   unfolding elements_more
   elements_more_splits before x ts = refl
 
-  -- from an element on
-  behind_more : (before : Trees F C K) (comma : Option Span) (x : Scope) (ts : List TokenAndSpan)
-      → at_token is_rbracket (first ts) ≡ false
-      → elements_behind hook before comma x ts ≡ elements_more hook before x ts
-  unfolding elements_behind elements_more
-  behind_more before comma x ts h =
-      ap (λ o. o >>= (λ p. Some (put_before before (behind comma p.0), p.1))) (elements_step x ts h)
-      ∙ sym (binds (element hook x ts) _ _)
-      ∙ bind_same (element hook x ts) _ _ (λ p.
-      sym (binds (run hook (at Elements) x p.1) _ _)
-      ∙ bind_same (run hook (at Elements) x p.1) _ _ (λ q.
-      ap (λ v. Some (v, q.1)) (twice before comma p.0.0 (behind p.0.1 q.0))))
-
-  behind_token : (before : Trees F C K) (comma : Option Span) (x : Scope) (v : Token) (b : Bool) (s : Span)
-      (us : List TokenAndSpan)
-      → elements_behind hook before comma x (tk v b s ∷ us)
-      ≡ (eaten is_rbracket x (tk v b s ∷ us) >>= (λ p. behind_by hook before comma p.0 x p.1))
-  unfolding elements_behind eaten
-  behind_token before comma x token.RBracket b s us =
-      ap (λ o. o >>= (λ p. Some (put_before before (behind comma p.0), p.1)))
-      (elements_close x (tk token.RBracket b s) us refl)
-      ∙ ap (λ v. Some (v, us)) (ended before comma s)
-  behind_token before comma x v b s us = behind_more before comma x (tk v b s ∷ us) refl
+  elements_list : IsList is_rbracket (run hook (at Elements)) (element hook)
+  elements_list = record { close = elements_close; step = elements_step }
 
   pub behind_splits : (before : Trees F C K) (comma : Option Span) (x : Scope) (ts : List TokenAndSpan)
       → elements_behind hook before comma x ts
       ≡ (eaten is_rbracket x ts >>= (λ p. behind_by hook before comma p.0 x p.1))
-  unfolding eaten
-  behind_splits before comma x [] = behind_more before comma x [] refl
-  behind_splits before comma x (t ∷ ts) = behind_token before comma x t.token t.had_line_break t.span ts
+  unfolding elements_behind elements_more
+  behind_splits before comma x ts =
+      list_splits elements_list before comma (behind_by hook before comma) (λ s y us. refl) (λ y us. refl) x ts
 
   -- before the first element
-  first_more : (x : Scope) (ts : List TokenAndSpan) → at_token is_rbracket (first ts) ≡ false
-      → run hook (at Elements) x ts ≡ elements_behind hook nil None x ts
-  unfolding elements_behind
-  first_more x ts h =
-      elements_step x ts h
-      ∙ bind_same (element hook x ts) _ _ (λ p. binds (run hook (at Elements) x p.1) _ _)
-      ∙ binds (element hook x ts) _ _
-      ∙ ap (λ o. o >>= (λ p. Some (put_before nil p.0, p.1))) (sym (elements_step x ts h))
-
-  first_token : (x : Scope) (v : Token) (b : Bool) (s : Span) (us : List TokenAndSpan)
-      → run hook (at Elements) x (tk v b s ∷ us) ≡ elements_behind hook nil None x (tk v b s ∷ us)
-  unfolding elements_behind
-  first_token x token.RBracket b s us =
-      let e = elements_close x (tk token.RBracket b s) us refl in
-      e ∙ ap (λ o. o >>= (λ p. Some (put_before nil p.0, p.1))) (sym e)
-  first_token x v b s us = first_more x (tk v b s ∷ us) refl
-
   pub elements_first : (x : Scope) (ts : List TokenAndSpan)
       → run hook (at Elements) x ts ≡ elements_behind hook nil None x ts
-  elements_first x [] = first_more x [] refl
-  elements_first x (t ∷ ts) = first_token x t.token t.had_line_break t.span ts
+  unfolding elements_behind
+  elements_first x ts = list_first elements_list x ts
 
   -- ---- items (13.2.4, 13.3.8)
 

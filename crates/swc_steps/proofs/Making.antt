@@ -1,5 +1,6 @@
 -- Productions: what is read, and the nodes that were made.
-use Rattle.std.proofs.Common.{◌≡◌, ◌≢◌, ℕ, Bool, ◌≤◌, Some, Result, Ok, Err, IfOk, IfErr, List, ap, subst}
+use Rattle.std.proofs.Common.{◌≡◌, ◌≢◌, ℕ, Bool, ◌≤◌, Some, Result, Ok, Err, IfOk, IfErr, IsErrAnd}
+use Rattle.std.proofs.Common.{List, ap, subst}
 use Rattle.std.specs.declared.alloc.AllocError.{AllocError}
 use Rattle.swc_context.specs.declared.error.Error.{Error}
 use Rattle.swc_context.specs.declared.error.SyntaxError.{SyntaxError}
@@ -14,8 +15,8 @@ use Rattle.swc_ast.specs.declared.spanned.Spanned.{Ghosts}
 use Rattle.swc_grammar.specs.Scope.{Scope}
 use Rattle.swc_grammar.specs.Clean.{Out}
 use Rattle.swc_grammar.specs.Words.{◌>>=◌}
-use Rattle.swc_nodes.specs.Slots.{expr_part}
-use Rattle.swc_nodes.specs.Stands.{first_at, From, Grows, Made}
+use Rattle.swc_nodes.specs.NodeParts.{expr_part}
+use Rattle.swc_nodes.specs.GrowingNodes.{first_at, From, Grows, Made}
 use Rattle.swc_nodes.specs.declared.node.ExprId.{ExprId}
 use Rattle.swc_nodes.specs.declared.nodes.Nodes.{Nodes}
 use Rattle.swc_nodes.proofs.Held.{first_kept, from-down, tree-later}
@@ -43,6 +44,17 @@ module _ {S H F C K : Type 0} {fg : Ghosts F} {cg : Ghosts C} {kg : Ghosts K} {m
 
   pub no_more : {p q : Productions S H F C K fg cg kg} {e : Error} → Unheard model sure f p.input e q.input → Grows p.nodes q.nodes → GoesOn model sure held view f k p (Err e) q
   no_more u g = record { reads = u; falls = tt; grows = g; from = tt }
+
+  -- refused, as a `?` passes it on
+  pub refused : {p q : Productions S H F C K fg cg kg} {e : Error} {r : Result T Error} → IsErrAnd r (λ x. x ≡ e)
+      → Unheard model sure f p.input e q.input → Grows p.nodes q.nodes → Produces model sure held view f k p r q
+  refused {r = Ok x} h u g = absurd h
+  refused {r = Err x} h u g = rw h (no u g)
+
+  pub refused_more : {p q : Productions S H F C K fg cg kg} {e : Error} {r : Result T Error} → IsErrAnd r (λ x. x ≡ e)
+      → Unheard model sure f p.input e q.input → Grows p.nodes q.nodes → GoesOn model sure held view f k p r q
+  refused_more {r = Ok x} h u g = absurd h
+  refused_more {r = Err x} h u g = rw h (no_more u g)
 
   -- read
   pub yes : {p q : Productions S H F C K fg cg kg} (r : Result T Error) → Parses model sure (view q.nodes) f p.input r q.input → Grows p.nodes q.nodes → IfOk r (λ t. held k q.nodes t) → Produces model sure held view f k p r q

@@ -41,7 +41,7 @@ use Rattle.swc_grammar.proofs.Bodies.{hears, hears-place, hears-run}
 use Rattle.swc_grammar.proofs.Complete.{last, lit-picks, fn-picks, class-picks}
 use Rattle.swc_grammar.proofs.Knot.{knot}
 use Rattle.swc_grammar.proofs.Levels.{right-low}
-use Rattle.swc_grammar.proofs.Only.{only-this, only-lparen, only-hash, only-backquote}
+use Rattle.swc_grammar.proofs.Only.{backquote-is, hash-is, lparen-is, this-is}
 use Rattle.swc_grammar.proofs.Rules.{exec-bind, run_picked}
 use Rattle.swc_steps.proofs.Lists.{calls}
 use Rattle.swc_steps.specs.Parsing.{is_strict, is_strict_in, begins_async, seen_of}
@@ -167,8 +167,7 @@ module _ {F C K : Type 0} (hook : Hook F C K) where
   paren_expr_picked x [] h = absurd cc
   paren_expr_picked x (t ∷ ts) h =
       run_picked hook Primary x (t ∷ ts) paren-expr (primary x (t ∷ ts)) refl
-      (only-lparen (λ v. primary {F = F} {C = C} {K = K} x (tk v t.had_line_break t.span ∷ ts)
-      ≡ pick paren-expr) refl t.token h)
+      (rw (lparen-is t.token h) refl)
 
   pub private_expr_picked : (x : Scope) (ts : List TokenAndSpan) → at_token is_hash (first ts) ≡ true
       → run hook (at Primary) x ts ≡ by_production hook (λ c. private-expr) x ts
@@ -176,8 +175,7 @@ module _ {F C K : Type 0} (hook : Hook F C K) where
   private_expr_picked x [] h = absurd cc
   private_expr_picked x (t ∷ ts) h =
       run_picked hook Primary x (t ∷ ts) private-expr (primary x (t ∷ ts)) refl
-      (only-hash (λ v. primary {F = F} {C = C} {K = K} x (tk v t.had_line_break t.span ∷ ts)
-      ≡ pick private-expr) refl t.token h)
+      (rw (hash-is t.token h) refl)
 
   pub this_expr_picked : (x : Scope) (ts : List TokenAndSpan) → at_token is_this (first ts) ≡ true
       → run hook (at Primary) x ts ≡ by_production hook (λ c. this-expr) x ts
@@ -185,16 +183,14 @@ module _ {F C K : Type 0} (hook : Hook F C K) where
   this_expr_picked x [] h = absurd cc
   this_expr_picked x (t ∷ ts) h =
       run_picked hook Primary x (t ∷ ts) this-expr (primary x (t ∷ ts)) refl
-      (only-this (λ v. primary {F = F} {C = C} {K = K} x (tk v t.had_line_break t.span ∷ ts)
-      ≡ pick this-expr) refl t.token h)
+      (rw (this-is t.token h) refl)
 
   pub template_picked : (x : Scope) (ts : List TokenAndSpan) → at_token is_backquote (first ts) ≡ true
       → run hook (at Primary) x ts ≡ run hook (at (Template false)) x ts
   template_picked x [] h = absurd cc
   template_picked x (t ∷ ts) h =
       run_picked hook Primary x (t ∷ ts) primary-template (primary x (t ∷ ts)) refl
-      (only-backquote (λ v. primary {F = F} {C = C} {K = K} x (tk v t.had_line_break t.span ∷ ts)
-      ≡ pick primary-template) refl t.token h)
+      (rw (backquote-is t.token h) refl)
       ∙ last hook (Some 8) (at (Template false)) x (t ∷ ts) refl
 
   pub fn_expr_picked : (x : Scope) (ts : List TokenAndSpan) → begins_function ts ≡ true

@@ -1,5 +1,5 @@
 -- Tests of signs.
-use Rattle.std.proofs.Common.{◌≡◌, Bool, Option, Some, None, refl, sym, ap, ◌∙◌}
+use Rattle.std.proofs.Common.{◌≡◌, Bool, true, Option, Some, None, refl, sym, ap, ◌∙◌}
 use Rattle.swc_input.specs.declared.token.Token.{Token}
 use Rattle.swc_input.specs.declared.token.Token.TheVariants as token
 use Rattle.swc_input.specs.declared.token.TokenAndSpan.{TokenAndSpan}
@@ -31,3 +31,9 @@ pub sign_seen : (s : Sign) (o : Option TokenAndSpan) (t : Token) (r : Bool) → 
 sign_seen s None t r e h = absurd cc
 sign_seen s (Some u) t r e h =
     let same : t ≡ u.token = cc in h ∙ ap (is_sign_token s) same ∙ sym (plain_sign s u.token)
+
+-- the sign that is seen is the current token
+pub sign_here : (s : Sign) (o : Option TokenAndSpan) → at_token (is_sign_token s) (seen_of o) ≡ true
+    → at_token (is_sign_token s) o ≡ true
+sign_here s None h = cc
+sign_here s (Some u) h = sym (plain_sign s u.token) ∙ h

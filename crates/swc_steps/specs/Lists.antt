@@ -6,15 +6,16 @@ use Rattle.swc_context.specs.Texts.{is_text}
 use Rattle.swc_input.specs.declared.token.Token.{Token}
 use Rattle.swc_input.specs.declared.token.Token.TheVariants as token
 use Rattle.swc_input.specs.declared.token.TokenAndSpan.{TokenAndSpan}
-use Rattle.swc_input.specs.Kinds.{at_token}
+use Rattle.swc_input.specs.Kinds.{at_token, is_hash}
 use Rattle.swc_ast.specs.Tree.{Tree, Trees, nil, cons, span_of}
 use Rattle.swc_ast.specs.Trees.{to, array_e, hole_e, listed, items_of, comma_of, behind_comma, trees_append}
-use Rattle.swc_bodies.specs.Readings.{Hook, is_async}
+use Rattle.swc_bodies.specs.Readings.{Hook, is_async, is_brace}
 use Rattle.swc_grammar.specs.Scope.{Scope}
 use Rattle.swc_grammar.specs.Symbols.{Elements, Item}
 use Rattle.swc_grammar.specs.Tokens.{is_dot, is_target, is_super, is_import, is_meta, is_source, with_in, is_comma}
 use Rattle.swc_grammar.specs.Tokens.{is_dots, is_lparen, is_rparen, is_lbracket, is_rbracket, is_rbrace, is_equals}
 use Rattle.swc_grammar.specs.Tokens.{is_colon, is_star, is_get, is_set, is_question, is_backquote, is_dollar_brace}
+use Rattle.swc_grammar.specs.Tokens.{is_new}
 use Rattle.swc_grammar.specs.Clean.{Out, first, sym, run}
 use Rattle.swc_grammar.specs.Words.{◌>>=◌}
 use Rattle.swc_steps.specs.declared.tokens.Sign.{Sign}
@@ -33,6 +34,7 @@ is_sign_token sign.LParen = is_lparen
 is_sign_token sign.RParen = is_rparen
 is_sign_token sign.LBracket = is_lbracket
 is_sign_token sign.RBracket = is_rbracket
+is_sign_token sign.LBrace = is_brace
 is_sign_token sign.RBrace = is_rbrace
 is_sign_token sign.Assign = is_equals
 is_sign_token sign.Colon = is_colon
@@ -43,6 +45,8 @@ is_sign_token sign.Set = is_set
 is_sign_token sign.Question = is_question
 is_sign_token sign.Dot = is_dot
 is_sign_token sign.Target = is_target
+is_sign_token sign.Hash = is_hash
+is_sign_token sign.New = is_new
 is_sign_token sign.Super = is_super
 is_sign_token sign.Import = is_import
 is_sign_token sign.Meta = is_meta

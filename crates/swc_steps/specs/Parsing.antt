@@ -43,9 +43,10 @@ use Rattle.swc_grammar.specs.Words.{rest}
 use Rattle.swc_grammar.specs.Names.{Spelling, spelling}
 use Rattle.swc_grammar.specs.Tokens.{is_strict_word}
 use Rattle.swc_nodes.specs.Lists.{elem_parts, elem_tree, elem_trees, props_parts, props_trees}
-use Rattle.swc_nodes.specs.Slots.{expr_part, flat, if_some, item_parts, args_parts, key_parts, member_parts, one_pat}
-use Rattle.swc_nodes.specs.Slots.{param_parts, prop_parts}
-use Rattle.swc_nodes.specs.Stands.{tree_at, count, From, Apart, Grows}
+use Rattle.swc_nodes.specs.NodeParts.{expr_part, flat, if_some, item_parts, args_parts, key_parts, member_parts}
+use Rattle.swc_nodes.specs.NodeParts.{one_pat}
+use Rattle.swc_nodes.specs.NodeParts.{param_parts, prop_parts}
+use Rattle.swc_nodes.specs.GrowingNodes.{tree_at, count, From, Apart, Grows}
 use Rattle.swc_nodes.specs.declared.node.ExprId.{ExprId}
 use Rattle.swc_nodes.specs.declared.node.PatId.{PatId}
 use Rattle.swc_nodes.specs.NodeTree.{prop_of as prop_tree}

@@ -4,18 +4,13 @@ ghost use Rattle.std.specs.Prelude.{MatchOption};
 ghost use Rattle.swc_input.specs.Buffer.{current, context, state_of, previous, last_position, Looked};
 ghost use Rattle.swc_input.specs.Buffer.{source as source_of, with_source};
 ghost use Rattle.swc_input.specs.Recording.{no_memory};
-ghost use Rattle.swc_input.specs.Kinds.{at_token, is_hash};
-ghost use Rattle.swc_grammar.specs.Tokens.{is_ref, is_lparen, is_rparen, is_lbracket, is_this, is_new, is_backquote};
-ghost use Rattle.swc_grammar.specs.Tokens.{begins_regex};
-ghost use Rattle.swc_bodies.specs.Readings.{at_function, is_function, is_class, is_brace};
-ghost use Rattle.swc_grammar.specs.Clean.{is_lit, is_identifier};
+ghost use Rattle.swc_input.specs.Kinds.{at_token};
+ghost use Rattle.swc_grammar.specs.Tokens.{is_ref, is_new};
 ghost use Rattle.swc_steps.specs.Keys.{is_key_lit};
 ghost use Rattle.swc_steps.specs.Parsing.{is_strict, is_strict_in, seen, Looks};
 ghost use Rattle.std.specs.Borrow.{sem, follows};
 ghost use Rattle.swc_steps.specs.contracts.productions.Productions.{the_row};
 
-use crate::regex::{is_regex, is_slash};
-use crate::tokens::is_function;
 use std::alloc::{AllocError, Global};
 use swc_bodies::bodies::Bodies;
 use swc_context::context::Context;
@@ -147,16 +142,6 @@ impl<I: Tokens, B: Bodies<I>> Productions<I, B> {
         }
     }
 
-    pub fn is_this(&self) -> bool
-        ensures value { result ≡ at_token is_this (seen self.now.input) }
-        ensures some { result ≡ true → IsSome (current self.now.input) }
-    {
-        matches!(
-            self.input.cur_debug(),
-            Some(Token::Word(Word::Keyword(Keyword::This)))
-        )
-    }
-
     pub fn is_new(&self) -> bool
         ensures value { result ≡ at_token is_new (seen self.now.input) }
         ensures some { result ≡ true → IsSome (current self.now.input) }
@@ -165,59 +150,6 @@ impl<I: Tokens, B: Bodies<I>> Productions<I, B> {
             self.input.cur_debug(),
             Some(Token::Word(Word::Keyword(Keyword::New)))
         )
-    }
-
-    pub fn is_function(&self) -> bool
-        ensures value { result ≡ at_token is_function (seen self.now.input) }
-        ensures begins { result ≡ true → at_function (current self.now.input) ≡ true }
-    {
-        matches!(
-            self.input.cur_debug(),
-            Some(Token::Word(Word::Keyword(Keyword::Function)))
-        )
-    }
-
-    pub fn is_class(&self) -> bool
-        ensures value { result ≡ at_token is_class (seen self.now.input) }
-        ensures begins { result ≡ true → at_token is_class (current self.now.input) ≡ true }
-    {
-        matches!(
-            self.input.cur_debug(),
-            Some(Token::Word(Word::Keyword(Keyword::Class)))
-        )
-    }
-
-    pub fn is_lit(&self) -> bool
-        ensures value { result ≡ at_token is_lit (seen self.now.input) }
-        ensures some { result ≡ true → IsSome (current self.now.input) }
-    {
-        match self.input.cur_debug() {
-            Some(Token::Word(Word::Null | Word::True | Word::False)) => true,
-            Some(Token::Num { .. } | Token::BigInt { .. } | Token::Str { .. }) => true,
-            _ => false,
-        }
-    }
-
-    /// Whether a regular expression begins here: at `/` or `/=`, or at a whole one.
-    pub fn is_regex_start(&self) -> bool
-        ensures value { result ≡ at_token begins_regex (seen self.now.input) }
-        ensures some { result ≡ true → IsSome (current self.now.input) }
-    {
-        is_slash(&self.input) || is_regex(&self.input)
-    }
-
-    pub fn is_lparen(&self) -> bool
-        ensures value { result ≡ at_token is_lparen (seen self.now.input) }
-        ensures some { result ≡ true → IsSome (current self.now.input) }
-    {
-        matches!(self.input.cur_debug(), Some(Token::LParen))
-    }
-
-    pub fn is_backquote(&self) -> bool
-        ensures value { result ≡ at_token is_backquote (seen self.now.input) }
-        ensures some { result ≡ true → IsSome (current self.now.input) }
-    {
-        matches!(self.input.cur_debug(), Some(Token::BackQuote))
     }
 
     /// Whether a literal is current that is a key: a string, a number or a big integer.
@@ -229,47 +161,6 @@ impl<I: Tokens, B: Bodies<I>> Productions<I, B> {
             self.input.cur_debug(),
             Some(Token::Num { .. } | Token::BigInt { .. } | Token::Str { .. })
         )
-    }
-
-    pub fn is_lbracket(&self) -> bool
-        ensures value { result ≡ at_token is_lbracket (seen self.now.input) }
-        ensures some { result ≡ true → IsSome (current self.now.input) }
-    {
-        matches!(self.input.cur_debug(), Some(Token::LBracket))
-    }
-
-    pub fn is_lbrace(&self) -> bool
-        ensures value { result ≡ at_token is_brace (seen self.now.input) }
-        ensures begins { result ≡ true → at_token is_brace (current self.now.input) ≡ true }
-        ensures some { result ≡ true → IsSome (current self.now.input) }
-    {
-        matches!(self.input.cur_debug(), Some(Token::LBrace))
-    }
-
-    pub fn is_rparen(&self) -> bool
-        ensures value { result ≡ at_token is_rparen (seen self.now.input) }
-        ensures some { result ≡ true → IsSome (current self.now.input) }
-    {
-        matches!(self.input.cur_debug(), Some(Token::RParen))
-    }
-
-    /// Whether a word is current that is an expression by itself.
-    pub fn is_ident_ref(&self) -> bool
-        ensures value { result ≡ at_token (is_identifier (context I.model self.now.input)) (seen self.now.input) }
-        ensures some { result ≡ true → IsSome (current self.now.input) }
-    {
-        let ctx = self.get_ctx();
-        match self.input.cur_debug() {
-            Some(Token::Word(word)) => is_identifier_word(ctx, word),
-            _ => false,
-        }
-    }
-
-    pub fn is_hash(&self) -> bool
-        ensures value { result ≡ at_token is_hash (seen self.now.input) }
-        ensures some { result ≡ true → IsSome (current self.now.input) }
-    {
-        matches!(self.input.cur_debug(), Some(Token::Hash))
     }
 
     /// Whether a word of strict code is current; `await` is one in a module alone.
@@ -286,7 +177,7 @@ impl<I: Tokens, B: Bodies<I>> Productions<I, B> {
 }
 
 /// Whether the word is an expression by itself.
-fn is_identifier_word(ctx: Context, word: &Word) -> bool
+pub fn is_identifier_word(ctx: Context, word: &Word) -> bool
     ensures { result ≡ is_ref ctx word.now }
 {
     match word {

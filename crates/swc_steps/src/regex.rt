@@ -6,7 +6,7 @@ ghost use Rattle.swc_input.specs.Kinds.{at_token};
 ghost use Rattle.swc_grammar.specs.Tokens.{begins_regex, is_slash, is_regex};
 ghost use Rattle.swc_grammar.specs.Parts.{is_flag, flags_ok};
 ghost use Rattle.swc_grammar.specs.Words.{rest};
-ghost use Rattle.swc_nodes.specs.Stands.{count};
+ghost use Rattle.swc_nodes.specs.GrowingNodes.{count};
 ghost use Rattle.swc_steps.specs.Parsing.{seen, ParsesAlone, Produces, Checked, itself, tree_of, Heard};
 ghost use Rattle.swc_steps.specs.Regexes.{regex_expr, regex_in, regex_alone, regex_text};
 ghost use Rattle.swc_context.specs.declared.span.Span.{Span};
@@ -41,7 +41,7 @@ pub fn parse_regex<I: Tokens, B: Bodies<I>>(p: &mut Productions<I, B>) -> PResul
 }
 
 /// Whether `/` or `/=` is current.
-pub(crate) fn is_slash<I: Tokens>(input: &Buffer<I>) -> bool
+fn is_slash<I: Tokens>(input: &Buffer<I>) -> bool
     ensures value { result ≡ at_token is_slash (seen input.now) }
     ensures some { result ≡ true → IsSome (current input.now) }
 {
@@ -52,7 +52,7 @@ pub(crate) fn is_slash<I: Tokens>(input: &Buffer<I>) -> bool
 }
 
 /// Whether a whole regular expression is current.
-pub(crate) fn is_regex<I: Tokens>(input: &Buffer<I>) -> bool
+fn is_regex<I: Tokens>(input: &Buffer<I>) -> bool
     ensures value { result ≡ at_token is_regex (seen input.now) }
     ensures some { result ≡ true → IsSome (current input.now) }
 {

@@ -121,7 +121,7 @@ fn peek_function<I: Tokens>(input: &mut Buffer<I>) -> Option<bool>
     }
 }
 
-pub(crate) fn is_function(token: &Token) -> bool
+fn is_function(token: &Token) -> bool
     ensures { result ≡ is_function token.now }
 {
     matches!(token, Token::Word(Word::Keyword(Keyword::Function)))
@@ -320,6 +320,8 @@ pub enum Sign {
     LBracket,
     /// `]`
     RBracket,
+    /// `{`
+    LBrace,
     /// `}`
     RBrace,
     /// `=`
@@ -340,6 +342,10 @@ pub enum Sign {
     Dot,
     /// `target`
     Target,
+    /// `#`
+    Hash,
+    /// `new`
+    New,
     /// `super`
     Super,
     /// `import`
@@ -376,6 +382,7 @@ fn spells(sign: Sign, token: &Token) -> bool
         Sign::RParen => matches!(token, Token::RParen),
         Sign::LBracket => matches!(token, Token::LBracket),
         Sign::RBracket => matches!(token, Token::RBracket),
+        Sign::LBrace => matches!(token, Token::LBrace),
         Sign::RBrace => matches!(token, Token::RBrace),
         Sign::Assign => matches!(token, Token::AssignOp(AssignOp::Assign)),
         Sign::Colon => matches!(token, Token::Colon),
@@ -386,6 +393,8 @@ fn spells(sign: Sign, token: &Token) -> bool
         Sign::Question => matches!(token, Token::QuestionMark),
         Sign::Dot => matches!(token, Token::Dot),
         Sign::Target => is_name(token, "target"),
+        Sign::Hash => matches!(token, Token::Hash),
+        Sign::New => matches!(token, Token::Word(Word::Keyword(Keyword::New))),
         Sign::Super => matches!(token, Token::Word(Word::Keyword(Keyword::Super))),
         Sign::Import => matches!(token, Token::Word(Word::Keyword(Keyword::Import))),
         Sign::Meta => is_name(token, "meta"),
@@ -429,6 +438,7 @@ fn wanted(sign: Sign) -> Wanted {
         Sign::RParen => Wanted::RParen,
         Sign::LBracket => Wanted::LBracket,
         Sign::RBracket => Wanted::RBracket,
+        Sign::LBrace => Wanted::LBrace,
         Sign::RBrace => Wanted::RBrace,
         Sign::Assign => Wanted::Assign,
         Sign::Colon => Wanted::Colon,
@@ -439,6 +449,8 @@ fn wanted(sign: Sign) -> Wanted {
         Sign::Question => Wanted::QuestionMark,
         Sign::Dot => Wanted::Dot,
         Sign::Target => Wanted::Target,
+        Sign::Hash => Wanted::Hash,
+        Sign::New => Wanted::Keyword(Keyword::New),
         Sign::Super => Wanted::Keyword(Keyword::Super),
         Sign::Import => Wanted::Keyword(Keyword::Import),
         Sign::Meta => Wanted::Meta,

@@ -1,6 +1,6 @@
 use Rattle.std.proofs.Common.{◌<◌, refl, sym}
 use Rattle.std.proofs.lemmas.List.Sorted.{sum_by-IsPermutation, All-permutation}
-use Rattle.swc_nodes.specs.Stands.{count, seat_at, Stood}
+use Rattle.swc_nodes.specs.GrowingNodes.{count, seat_at, Stood}
 use Rattle.swc_nodes.specs.Walking.{part_of}
 use Rattle.swc_nodes.specs.Weights.{weight}
 use Rattle.swc_nodes.proofs.Remembered.{taken}

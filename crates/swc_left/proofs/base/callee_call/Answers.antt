@@ -1,5 +1,5 @@
 use Rattle.std.proofs.Common.{◌++◌, refl, arith}
-use Rattle.swc_nodes.specs.Slots.{args_parts, callee_parts}
+use Rattle.swc_nodes.specs.NodeParts.{args_parts, callee_parts}
 use Rattle.swc_steps.proofs.Building.{made_over}
 use Rattle.swc_steps.proofs.Making as m
 use Rattle.swc_steps.proofs.Steps as s

@@ -1,7 +1,6 @@
 use Rattle.std.proofs.Common.{not}
 use Rattle.std.proofs.lemmas.Result.{err_from_is_err_and}
 use Rattle.swc_grammar.specs.Tokens.{is_dot}
-use Rattle.swc_left.specs.Bases.{import_dot}
 use Rattle.swc_left.proofs.Bases as base
 use Rattle.swc_steps.proofs.Steps as s
 use Rattle.swc_left.proofs.base.import_head.Goals as goal
@@ -10,18 +9,18 @@ pub returns-in_err-eat-clause-parses : goal.returns-in_err-eat-clause-parses
 returns-in_err-eat-clause-parses g c =
     let b = not c.args.no_call in
     let p = err_from_is_err_and c.from_residual.result c.from_residual.ensures.1 in λ sure. rw (p.1, p.2)
-    (s.unheard_call (λ x p. import_dot b c.args.start p.0 x p.1) (λ x ts. base.import_begins b c.args.start x ts) (c.in_err-eat.ensures.eats sure))
+    (s.unheard_call _ (base.import_begins b c.args.start) (c.in_err-eat.ensures.eats sure))
 
 pub returns-in-Some-clause-parses : goal.returns-in-Some-clause-parses
 returns-in-Some-clause-parses g c = λ sure.
     let b = not c.args.no_call in
     let some = s.eats_some sure is_dot _ c.in-Some.field-0 _ _ c.in-Some.is (c.in_ok-eat.ensures.eats sure) in
     s.parses_after g.I.Tokens.model sure (λ h. h) _ _ c.import_member.result
-    (s.on_call (λ x p. import_dot b c.args.start p.0 x p.1) (λ x ts. base.import_begins b c.args.start x ts) some.on) (c.import_member.ensures.parses sure)
+    (s.on_call _ (base.import_begins b c.args.start) some.on) (c.import_member.ensures.parses sure)
 
 pub returns-in-None-clause-parses : goal.returns-in-None-clause-parses
 returns-in-None-clause-parses g c = λ sure.
     let b = not c.args.no_call in
     let none = s.eats_none sure is_dot _ _ _ c.in-None.is (c.in_ok-eat.ensures.eats sure) in
     s.parses_after g.I.Tokens.model sure (λ h. h) _ _ c.import_callee.result
-    (s.on_call (λ x p. import_dot b c.args.start p.0 x p.1) (λ x ts. base.import_begins b c.args.start x ts) none) (c.import_callee.ensures.parses sure)
+    (s.on_call _ (base.import_begins b c.args.start) none) (c.import_callee.ensures.parses sure)

@@ -1,7 +1,7 @@
 use Rattle.std.proofs.Common.{not, refl}
 use Rattle.std.proofs.lemmas.Result.{err_from_is_err_and}
 use Rattle.swc_grammar.specs.Tokens.{is_meta, is_source}
-use Rattle.swc_left.specs.Bases.{import_callee, import_meta, import_source}
+use Rattle.swc_left.specs.Bases.{import_callee, import_source}
 use Rattle.swc_left.proofs.Bases as base
 use Rattle.swc_steps.proofs.Steps as s
 use Rattle.swc_left.proofs.base.import_member.Goals as goal
@@ -10,7 +10,7 @@ pub returns-in_err-end-clause-parses : goal.returns-in_err-end-clause-parses
 returns-in_err-end-clause-parses g c =
     let b = not c.args.no_call in
     let p = err_from_is_err_and c.from_residual.result c.from_residual.ensures.1 in λ sure. rw (p.1, p.2)
-    (s.unheard_call (λ x p. import_meta b c.args.start p.0 x p.1) (λ x ts. base.member_begins b c.args.start x ts) (c.in_err-end.ensures.eats sure))
+    (s.unheard_call _ (base.member_begins b c.args.start) (c.in_err-end.ensures.eats sure))
 
 pub returns-in_err-check_import_meta-in-Some-clause-parses : goal.returns-in_err-check_import_meta-in-Some-clause-parses
 returns-in_err-check_import_meta-in-Some-clause-parses g c =
@@ -23,7 +23,7 @@ returns-in-Some-clause-parses g c = λ sure.
     let b = not c.args.no_call in
     let end = c.in-Some.end in
     let some = s.eats_some sure is_meta _ end _ _ c.in-Some.is (c.in_ok-end.ensures.eats sure) in
-    s.heard_more (λ x p. import_meta b c.args.start p.0 x p.1) (λ x ts. base.member_begins b c.args.start x ts) some
+    s.heard_more _ (base.member_begins b c.args.start) some
     (s.on_checked_in _ c.in_ok-check_import_meta-in-Some.ensures.checks (λ ts h. rw h refl) (λ ts h. rw h refl))
 
 pub returns-in_err-end-2-clause-parses : goal.returns-in_err-end-2-clause-parses
@@ -31,7 +31,7 @@ returns-in_err-end-2-clause-parses g c =
     let b = not c.args.no_call in
     let p = err_from_is_err_and c.from_residual-in_err-end-2.result c.from_residual-in_err-end-2.ensures.1 in λ sure.
     let none = s.eats_none sure is_meta _ _ _ c.in-None.is (c.in_ok-end.ensures.eats sure) in rw (p.1, p.2)
-    (s.unheard_after (s.on_call (λ x p. import_meta b c.args.start p.0 x p.1) (λ x ts. base.member_begins b c.args.start x ts) none)
+    (s.unheard_after (s.on_call _ (base.member_begins b c.args.start) none)
     (s.unheard_call (λ x q. import_source b c.args.start q.0 x q.1) (λ x ts. refl) (c.in_err-end-2.ensures.eats sure)))
 
 pub returns-in-Some-2-clause-parses : goal.returns-in-Some-2-clause-parses
@@ -41,7 +41,7 @@ returns-in-Some-2-clause-parses g c = λ sure.
     let none = s.eats_none sure is_meta _ _ _ c.in-None.is (c.in_ok-end.ensures.eats sure) in
     let some = s.eats_some sure is_source _ end _ _ c.in-Some-2.is (c.in_ok-end-2.ensures.eats sure) in
     s.parses_after g.I.Tokens.model sure (λ h. h) _ _ c.import_callee.result
-    (s.on_then (s.on_call (λ x p. import_meta b c.args.start p.0 x p.1) (λ x ts. base.member_begins b c.args.start x ts) none)
+    (s.on_then (s.on_call _ (base.member_begins b c.args.start) none)
     (s.on_call (λ x q. import_source b c.args.start q.0 x q.1) (λ x ts. refl) some.on))
     (c.import_callee.ensures.parses sure)
 
@@ -51,7 +51,7 @@ returns-in_err-parse_ident_name-in-None-2-clause-parses g c =
     let p = err_from_is_err_and c.from_residual-in_err-parse_ident_name-in-None-2.result c.from_residual-in_err-parse_ident_name-in-None-2.ensures.1 in λ sure.
     let none = s.eats_none sure is_meta _ _ _ c.in-None.is (c.in_ok-end.ensures.eats sure) in
     let no = s.eats_none sure is_source _ _ _ c.in-None-2.is (c.in_ok-end-2.ensures.eats sure) in rw (p.1, p.2)
-    (s.unheard_after (s.on_then (s.on_call (λ x p. import_meta b c.args.start p.0 x p.1) (λ x ts. base.member_begins b c.args.start x ts) none)
+    (s.unheard_after (s.on_then (s.on_call _ (base.member_begins b c.args.start) none)
     (s.on_call (λ x q. import_source b c.args.start q.0 x q.1) (λ x ts. refl) no))
     (s.unheard_none (λ x ts. refl) (c.in_err-parse_ident_name-in-None-2.ensures.parses sure).refuses))
 
@@ -60,6 +60,6 @@ returns-in_ok-parse_ident_name-in-None-2-clause-parses g c = λ sure.
     let b = not c.args.no_call in
     let none = s.eats_none sure is_meta _ _ _ c.in-None.is (c.in_ok-end.ensures.eats sure) in
     let no = s.eats_none sure is_source _ _ _ c.in-None-2.is (c.in_ok-end-2.ensures.eats sure) in
-    s.unheard_after (s.on_then (s.on_call (λ x p. import_meta b c.args.start p.0 x p.1) (λ x ts. base.member_begins b c.args.start x ts) none)
+    s.unheard_after (s.on_then (s.on_call _ (base.member_begins b c.args.start) none)
     (s.on_call (λ x q. import_source b c.args.start q.0 x q.1) (λ x ts. refl) no))
     (s.unheard_none (λ x ts. refl) (s.refuses_later (c.in_ok-parse_ident_name-in-None-2.ensures.parses sure).on.leads c.unexpected.ensures.refuses))

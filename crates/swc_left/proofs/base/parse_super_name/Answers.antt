@@ -1,10 +1,9 @@
 use Rattle.std.proofs.Common.{[], Some, refl, sym, ap, ◌∙◌, arith}
-use Rattle.std.proofs.lemmas.Result.{err_from_is_err_and}
 use Rattle.swc_input.specs.Kinds.{at_token, is_hash}
-use Rattle.swc_nodes.specs.Stands.{count}
+use Rattle.swc_nodes.specs.GrowingNodes.{count}
 use Rattle.swc_nodes.proofs.Lists.{apart-none}
 use Rattle.swc_nodes.proofs.Standing.{grows-same}
-use Rattle.swc_left.specs.Bases.{allowed, super_named, super_name_tail}
+use Rattle.swc_left.specs.Bases.{super_named, super_name_tail}
 use Rattle.swc_left.proofs.Bases as base
 use Rattle.swc_steps.proofs.Building.{made_over}
 use Rattle.swc_steps.proofs.Making as m
@@ -13,35 +12,35 @@ use Rattle.swc_left.proofs.base.parse_super_name.Goals as goal
 
 pub returns-in_err-look : goal.returns-in_err-look
 returns-in_err-look g c =
-    let p = err_from_is_err_and c.from_residual.result c.from_residual.ensures.1 in rw (p.1, p.2)
-    (m.no (s.unheard_memory c.in_err-look.ensures.looks) (grows-same _))
+    m.refused c.from_residual.ensures.1
+    (s.unheard_memory c.in_err-look.ensures.looks) (grows-same _)
 
 pub returns-in_err-parse_private_name : goal.returns-in_err-parse_private_name
 returns-in_err-parse_private_name g c =
-    let p = err_from_is_err_and c.from_residual-in_err-parse_private_name.result c.from_residual-in_err-parse_private_name.ensures.1 in rw (p.1, p.2)
-    (m.no (s.unheard_at c.in_ok-look.ensures.looks
-    (λ x ts same e. base.no_hash_name c.args.start x ts (ap (at_token is_hash) e ∙ sym c.is_hash.ensures.value ∙ c.if-is_hash.true))
-    (c.in_err-parse_private_name.ensures.parses g.B.Bodies.is_faithful).refuses) (grows-same _))
+    m.refused c.from_residual-in_err-parse_private_name.ensures.1
+    (s.unheard_at c.in_ok-look.ensures.looks
+    (λ x ts same e. base.no_hash_name c.args.start x ts (ap (at_token is_hash) e ∙ sym c.is_sign.ensures.value ∙ c.if-is_sign.true))
+    (c.in_err-parse_private_name.ensures.parses g.B.Bodies.is_faithful).refuses) (grows-same _)
 
-pub returns-then-is_hash : goal.returns-then-is_hash
-returns-then-is_hash g c =
+pub returns-then-is_sign : goal.returns-then-is_sign
+returns-then-is_sign g c =
     m.no (s.unheard_at c.in_ok-look.ensures.looks
-    (λ x ts same e. base.no_hash_name c.args.start x ts (ap (at_token is_hash) e ∙ sym c.is_hash.ensures.value ∙ c.if-is_hash.true))
+    (λ x ts same e. base.no_hash_name c.args.start x ts (ap (at_token is_hash) e ∙ sym c.is_sign.ensures.value ∙ c.if-is_sign.true))
     (s.refuses_later (c.in_ok-parse_private_name.ensures.parses g.B.Bodies.is_faithful).on.leads c.refuse_super_link.ensures)) (grows-same _)
 
 pub returns-in_err-name : goal.returns-in_err-name
 returns-in_err-name g c =
-    let p = err_from_is_err_and c.from_residual-in_err-name.result c.from_residual-in_err-name.ensures.1 in rw (p.1, p.2)
-    (m.no (s.unheard_after (s.on_seen {g = super_name_tail c.args.start} c.in_ok-look.ensures.looks (λ x ts same e. refl))
-    (s.unheard_call (λ x p. allowed (super_named c.args.start p.0.at p.0.text) x p.1) (λ x ts. base.name_splits c.args.start x ts) (c.in_err-name.ensures.parses g.B.Bodies.is_faithful))) (grows-same _))
+    m.refused c.from_residual-in_err-name.ensures.1
+    (s.unheard_after (s.on_seen {g = super_name_tail c.args.start} c.in_ok-look.ensures.looks (λ x ts same e. refl))
+    (s.unheard_call _ (base.name_splits c.args.start) (c.in_err-name.ensures.parses g.B.Bodies.is_faithful))) (grows-same _)
 
 pub returns-in_err-require_super : goal.returns-in_err-require_super
 returns-in_err-require_super g c =
     let name = c.in_ok-name.name in
-    let p = err_from_is_err_and c.from_residual-in_err-require_super.result c.from_residual-in_err-require_super.ensures.1 in rw (p.1, p.2)
-    (m.no (s.unheard_after (s.on_then (s.on_seen {g = super_name_tail c.args.start} c.in_ok-look.ensures.looks (λ x ts same e. refl))
-    (s.on_call (λ x p. allowed (super_named c.args.start p.0.at p.0.text) x p.1) (λ x ts. base.name_splits c.args.start x ts) (c.in_ok-name.ensures.parses g.B.Bodies.is_faithful).on))
-    (s.unheard_call (λ x q. Some (super_named c.args.start name.span name.sym, q.1)) (λ x ts. refl) (c.in_err-require_super.ensures.passes g.B.Bodies.is_faithful))) (grows-same _))
+    m.refused c.from_residual-in_err-require_super.ensures.1
+    (s.unheard_after (s.on_then (s.on_seen {g = super_name_tail c.args.start} c.in_ok-look.ensures.looks (λ x ts same e. refl))
+    (s.on_call _ (base.name_splits c.args.start) (c.in_ok-name.ensures.parses g.B.Bodies.is_faithful).on))
+    (s.unheard_call (λ x q. Some (super_named c.args.start name.span name.sym, q.1)) (λ x ts. refl) (c.in_err-require_super.ensures.passes g.B.Bodies.is_faithful))) (grows-same _)
 
 pub super_prop_expr-node-requires : goal.super_prop_expr-node-requires
 super_prop_expr-node-requires g c = record { apart = apart-none (omega arith) }
@@ -53,5 +52,5 @@ returns g c =
     (made_over _ _ _ [] _ c.super_prop_expr-node.result c.super_prop_expr-node.ensures.made (apart-none (omega arith)))
     c.made.ensures.ok c.made.ensures.refused (grows-same _) c.super_prop_expr-node.ensures.grows
     (s.heard_after (s.on_seen {g = super_name_tail c.args.start} c.in_ok-look.ensures.looks (λ x ts same e. refl))
-    (s.heard_more (λ x p. allowed (super_named c.args.start p.0.at p.0.text) x p.1) (λ x ts. base.name_splits c.args.start x ts) (c.in_ok-name.ensures.parses g.B.Bodies.is_faithful)
+    (s.heard_more _ (base.name_splits c.args.start) (c.in_ok-name.ensures.parses g.B.Bodies.is_faithful)
     (s.on_call (λ x q. Some (super_named c.args.start name.span name.sym, q.1)) (λ x ts. refl) (c.in_ok-require_super.ensures.passes g.B.Bodies.is_faithful))))

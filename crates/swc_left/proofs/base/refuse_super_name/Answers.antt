@@ -1,13 +1,12 @@
 use Rattle.std.proofs.Common.{refl}
-use Rattle.std.proofs.lemmas.Result.{err_from_is_err_and}
 use Rattle.swc_steps.proofs.Making as m
 use Rattle.swc_steps.proofs.Steps as s
 use Rattle.swc_left.proofs.base.refuse_super_name.Goals as goal
 
 pub returns-in_err-parse_member_name : goal.returns-in_err-parse_member_name
 returns-in_err-parse_member_name g c =
-    let p = err_from_is_err_and c.from_residual.result c.from_residual.ensures.1 in rw (p.1, p.2)
-    (m.no (s.unheard_none (λ x ts. refl) c.in_err-parse_member_name.ensures.reads.refuses) c.parse_member_name.ensures.grows)
+    m.refused c.from_residual.ensures.1
+    (s.unheard_none (λ x ts. refl) c.in_err-parse_member_name.ensures.reads.refuses) c.parse_member_name.ensures.grows
 
 pub returns : goal.returns
 returns g c =

@@ -1,6 +1,5 @@
 use Rattle.std.proofs.Common.{Some, refl, arith}
-use Rattle.std.proofs.lemmas.Result.{err_from_is_err_and}
-use Rattle.swc_nodes.specs.Slots.{one_expr, expr_part}
+use Rattle.swc_nodes.specs.NodeParts.{one_expr, expr_part}
 use Rattle.swc_nodes.proofs.Held.{apart-from, from_self}
 use Rattle.swc_nodes.proofs.Standing.{grows-same}
 use Rattle.swc_left.specs.Bases.{allowed, super_in}
@@ -13,15 +12,15 @@ use Rattle.swc_left.proofs.base.super_computed.Goals as goal
 pub returns-in_err-end : goal.returns-in_err-end
 returns-in_err-end g c =
     let e = tree_of c.args.p.now.nodes c.args.expr in
-    let p = err_from_is_err_and c.from_residual.result c.from_residual.ensures.1 in rw (p.1, p.2)
-    (m.no (s.unheard_call (λ x q. allowed (super_in c.args.start c.args.bracket q.0 e) x q.1) (λ x ts. refl) (c.in_err-end.ensures.expects g.B.Bodies.is_faithful)) (grows-same _))
+    m.refused c.from_residual.ensures.1
+    (s.unheard_call (λ x q. allowed (super_in c.args.start c.args.bracket q.0 e) x q.1) (λ x ts. refl) (c.in_err-end.ensures.expects g.B.Bodies.is_faithful)) (grows-same _)
 
 pub returns-in_err-require_super : goal.returns-in_err-require_super
 returns-in_err-require_super g c =
     let e = tree_of c.args.p.now.nodes c.args.expr in
-    let p = err_from_is_err_and c.from_residual-in_err-require_super.result c.from_residual-in_err-require_super.ensures.1 in rw (p.1, p.2)
-    (m.no (s.unheard_after (s.on_call (λ x q. allowed (super_in c.args.start c.args.bracket q.0 e) x q.1) (λ x ts. refl) (c.in_ok-end.ensures.expects g.B.Bodies.is_faithful).on)
-    (s.unheard_call (λ x q. Some (super_in c.args.start c.args.bracket c.in_ok-end.end e, q.1)) (λ x ts. refl) (c.in_err-require_super.ensures.passes g.B.Bodies.is_faithful))) (grows-same _))
+    m.refused c.from_residual-in_err-require_super.ensures.1
+    (s.unheard_after (s.on_call (λ x q. allowed (super_in c.args.start c.args.bracket q.0 e) x q.1) (λ x ts. refl) (c.in_ok-end.ensures.expects g.B.Bodies.is_faithful).on)
+    (s.unheard_call (λ x q. Some (super_in c.args.start c.args.bracket c.in_ok-end.end e, q.1)) (λ x ts. refl) (c.in_err-require_super.ensures.passes g.B.Bodies.is_faithful))) (grows-same _)
 
 pub super_prop_expr-node-requires : goal.super_prop_expr-node-requires
 super_prop_expr-node-requires g c = record { apart = apart-down (one_expr c.args.expr) (apart-from (expr_part c.args.expr) c.requires) }

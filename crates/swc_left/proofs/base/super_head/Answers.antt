@@ -1,7 +1,7 @@
 use Rattle.std.proofs.Common.{not, refl, ap}
 use Rattle.std.proofs.lemmas.Result.{err_from_is_err_and}
 use Rattle.swc_grammar.specs.Tokens.{is_dot, is_lbracket, is_lparen}
-use Rattle.swc_left.specs.Bases.{head_dot, head_bracket, head_paren}
+use Rattle.swc_left.specs.Bases.{head_bracket, head_paren}
 use Rattle.swc_left.proofs.Bases as base
 use Rattle.swc_steps.proofs.Steps as s
 use Rattle.swc_left.proofs.base.super_head.Goals as goal
@@ -10,20 +10,20 @@ pub returns-in_err-eat-clause-continues : goal.returns-in_err-eat-clause-continu
 returns-in_err-eat-clause-continues g c =
     let b = not c.args.no_call in
     let p = err_from_is_err_and c.from_residual.result c.from_residual.ensures.1 in λ sure. rw (p.1, p.2)
-    (s.unheard_call (λ x p. head_dot b p.0 x p.1) (λ x ts. base.super_begins b x ts) (c.in_err-eat.ensures.eats sure))
+    (s.unheard_call _ (base.super_begins b) (c.in_err-eat.ensures.eats sure))
 
 pub returns-in-Some-clause-continues : goal.returns-in-Some-clause-continues
 returns-in-Some-clause-continues g c = λ sure.
     let b = not c.args.no_call in
     let some = s.eats_some sure is_dot _ c.in-Some.field-0 _ _ c.in-Some.is (c.in_ok-eat.ensures.eats sure) in
-    s.on_call (λ x p. head_dot b p.0 x p.1) (λ x ts. base.super_begins b x ts) some.on
+    s.on_call _ (base.super_begins b) some.on
 
 pub returns-in_err-bracket-clause-continues : goal.returns-in_err-bracket-clause-continues
 returns-in_err-bracket-clause-continues g c =
     let b = not c.args.no_call in
     let p = err_from_is_err_and c.from_residual-in_err-bracket.result c.from_residual-in_err-bracket.ensures.1 in λ sure.
     let none = s.eats_none sure is_dot _ _ _ c.in-None.is (c.in_ok-eat.ensures.eats sure) in rw (p.1, p.2)
-    (s.unheard_after (s.on_call (λ x p. head_dot b p.0 x p.1) (λ x ts. base.super_begins b x ts) none)
+    (s.unheard_after (s.on_call _ (base.super_begins b) none)
     (s.unheard_call (λ x q. head_bracket b q.0 x q.1) (λ x ts. refl) (c.in_err-bracket.ensures.eats sure)))
 
 pub returns-in-Some-2-clause-continues : goal.returns-in-Some-2-clause-continues
@@ -31,7 +31,7 @@ returns-in-Some-2-clause-continues g c = λ sure.
     let b = not c.args.no_call in
     let none = s.eats_none sure is_dot _ _ _ c.in-None.is (c.in_ok-eat.ensures.eats sure) in
     let some = s.eats_some sure is_lbracket _ c.in-Some-2.bracket _ _ c.in-Some-2.is (c.in_ok-bracket.ensures.eats sure) in
-    s.on_then (s.on_call (λ x p. head_dot b p.0 x p.1) (λ x ts. base.super_begins b x ts) none)
+    s.on_then (s.on_call _ (base.super_begins b) none)
     (s.on_call (λ x q. head_bracket b q.0 x q.1) (λ x ts. refl) some.on)
 
 pub returns-then-no_call-clause-continues : goal.returns-then-no_call-clause-continues
@@ -39,7 +39,7 @@ returns-then-no_call-clause-continues g c = λ sure.
     let b = not c.args.no_call in
     let none = s.eats_none sure is_dot _ _ _ c.in-None.is (c.in_ok-eat.ensures.eats sure) in
     let no = s.eats_none sure is_lbracket _ _ _ c.in-None-2.is (c.in_ok-bracket.ensures.eats sure) in
-    s.on_to (s.on_then (s.on_call (λ x p. head_dot b p.0 x p.1) (λ x ts. base.super_begins b x ts) none)
+    s.on_to (s.on_then (s.on_call _ (base.super_begins b) none)
     (s.on_call (λ x q. head_bracket b q.0 x q.1) (λ x ts. refl) no)) (λ x ts. base.super_no_call b x ts (ap not c.if-no_call.true))
 
 pub returns-in_err-eat-2-clause-continues : goal.returns-in_err-eat-2-clause-continues
@@ -48,7 +48,7 @@ returns-in_err-eat-2-clause-continues g c =
     let p = err_from_is_err_and c.from_residual-in_err-eat-2.result c.from_residual-in_err-eat-2.ensures.1 in λ sure.
     let none = s.eats_none sure is_dot _ _ _ c.in-None.is (c.in_ok-eat.ensures.eats sure) in
     let no = s.eats_none sure is_lbracket _ _ _ c.in-None-2.is (c.in_ok-bracket.ensures.eats sure) in rw (p.1, p.2)
-    (s.unheard_after (s.on_then (s.on_call (λ x p. head_dot b p.0 x p.1) (λ x ts. base.super_begins b x ts) none)
+    (s.unheard_after (s.on_then (s.on_call _ (base.super_begins b) none)
     (s.on_call (λ x q. head_bracket b q.0 x q.1) (λ x ts. refl) no))
     (s.unheard_call (λ x q. head_paren q.0 x q.1) (λ x ts. base.super_calls b x ts (ap not c.if-no_call.false)) (c.in_err-eat-2.ensures.eats sure)))
 
@@ -58,7 +58,7 @@ returns-in-Some-3-clause-continues g c = λ sure.
     let none = s.eats_none sure is_dot _ _ _ c.in-None.is (c.in_ok-eat.ensures.eats sure) in
     let no = s.eats_none sure is_lbracket _ _ _ c.in-None-2.is (c.in_ok-bracket.ensures.eats sure) in
     let some = s.eats_some sure is_lparen _ c.in-Some-3.field-0 _ _ c.in-Some-3.is (c.in_ok-eat-2.ensures.eats sure) in
-    s.on_then (s.on_then (s.on_call (λ x p. head_dot b p.0 x p.1) (λ x ts. base.super_begins b x ts) none)
+    s.on_then (s.on_then (s.on_call _ (base.super_begins b) none)
     (s.on_call (λ x q. head_bracket b q.0 x q.1) (λ x ts. refl) no))
     (s.on_call (λ x q. head_paren q.0 x q.1) (λ x ts. base.super_calls b x ts (ap not c.if-no_call.false)) some.on)
 
@@ -68,6 +68,6 @@ returns-in-None-3-clause-continues g c = λ sure.
     let none = s.eats_none sure is_dot _ _ _ c.in-None.is (c.in_ok-eat.ensures.eats sure) in
     let no = s.eats_none sure is_lbracket _ _ _ c.in-None-2.is (c.in_ok-bracket.ensures.eats sure) in
     let last = s.eats_none sure is_lparen _ _ _ c.in-None-3.is (c.in_ok-eat-2.ensures.eats sure) in
-    s.on_then (s.on_then (s.on_call (λ x p. head_dot b p.0 x p.1) (λ x ts. base.super_begins b x ts) none)
+    s.on_then (s.on_then (s.on_call _ (base.super_begins b) none)
     (s.on_call (λ x q. head_bracket b q.0 x q.1) (λ x ts. refl) no))
     (s.on_call (λ x q. head_paren q.0 x q.1) (λ x ts. base.super_calls b x ts (ap not c.if-no_call.false)) last)

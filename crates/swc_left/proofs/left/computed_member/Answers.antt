@@ -1,8 +1,7 @@
 use Rattle.std.proofs.Common.{◌++◌, Some, refl, arith}
-use Rattle.std.proofs.lemmas.Result.{err_from_is_err_and}
 use Rattle.swc_ast.specs.Tree.{span_of}
 use Rattle.swc_ast.specs.Trees.{to, computed_e, member_e, link_e}
-use Rattle.swc_nodes.specs.Slots.{expr_part, one_expr}
+use Rattle.swc_nodes.specs.NodeParts.{expr_part, one_expr}
 use Rattle.swc_nodes.proofs.Held.{from-apart}
 use Rattle.swc_nodes.proofs.Standing.{grows-same}
 use Rattle.swc_steps.specs.Parsing.{tree_of}
@@ -15,8 +14,8 @@ pub returns-in_err-end : goal.returns-in_err-end
 returns-in_err-end g c =
     let l = tree_of c.args.p.now.nodes c.args.obj in
     let e = tree_of c.args.p.now.nodes c.args.expr in
-    let p = err_from_is_err_and c.from_residual.result c.from_residual.ensures.1 in rw (p.1, p.2)
-    (m.no (s.unheard_call (λ x q. Some (link_e c.args.optional l (member_e (to (span_of l) q.0) l (computed_e (to c.args.start q.0) e)), q.1)) (λ x ts. refl) (c.in_err-end.ensures.expects g.B.Bodies.is_faithful)) (grows-same _))
+    m.refused c.from_residual.ensures.1
+    (s.unheard_call (λ x q. Some (link_e c.args.optional l (member_e (to (span_of l) q.0) l (computed_e (to c.args.start q.0) e)), q.1)) (λ x ts. refl) (c.in_err-end.ensures.expects g.B.Bodies.is_faithful)) (grows-same _)
 
 pub member_expr-node-requires-clause-from : goal.member_expr-node-requires-clause-from
 member_expr-node-requires-clause-from g c = from-apart (expr_part c.args.obj) (one_expr c.args.expr) c.requires

@@ -1,10 +1,9 @@
-use Rattle.std.proofs.Common.{◌++◌, Some, refl, sym, ap, arith}
-use Rattle.std.proofs.lemmas.Result.{err_from_is_err_and}
+use Rattle.std.proofs.Common.{◌++◌, refl, sym, ap, arith}
 use Rattle.swc_context.specs.Spans.{from_to}
 use Rattle.swc_ast.specs.Parts.{member_prop_tree}
 use Rattle.swc_ast.specs.Tree.{span_of}
 use Rattle.swc_ast.specs.Trees.{member_e, link_e}
-use Rattle.swc_nodes.specs.Slots.{one_expr, member_parts}
+use Rattle.swc_nodes.specs.NodeParts.{one_expr, member_parts}
 use Rattle.swc_nodes.proofs.Held.{from-later, tree-later}
 use Rattle.swc_steps.specs.Parsing.{tree_of}
 use Rattle.swc_steps.proofs.Building.{apart-down, apart_behind, made_over}
@@ -16,8 +15,8 @@ use Rattle.swc_left.proofs.left.parse_dot_member.Goals as goal
 pub returns-in_err-prop : goal.returns-in_err-prop
 returns-in_err-prop g c =
     let l = tree_of c.args.p.now.nodes c.args.obj in
-    let p = err_from_is_err_and c.from_residual.result c.from_residual.ensures.1 in rw (p.1, p.2)
-    (m.no (s.unheard_call (λ x p. Some (link_e c.args.optional l (member_e (from_to (span_of l).lo p.0.1) l p.0.0), p.1)) (λ x ts. link.dot_splits c.args.optional l x ts) c.in_err-prop.ensures.reads) c.parse_member_name.ensures.grows)
+    m.refused c.from_residual.ensures.1
+    (s.unheard_call _ (link.dot_splits c.args.optional l) c.in_err-prop.ensures.reads) c.parse_member_name.ensures.grows
 
 pub member_expr-node-requires-clause-from : goal.member_expr-node-requires-clause-from
 member_expr-node-requires-clause-from g c = from-later c.parse_member_name.ensures.grows c.requires.from
@@ -34,4 +33,4 @@ returns g c =
     m.node _ c.member_expr-node.result c.made.result (omega arith)
     (made_over _ _ _ (one_expr c.args.obj ++ member_parts c.in_ok-prop.prop) _ c.member_expr-node.result c.member_expr-node.ensures.made
     (apart_behind c.parse_member_name.ensures.grows c.requires.from c.in_ok-prop.ensures.from)) c.made.ensures.ok c.made.ensures.refused c.parse_member_name.ensures.grows c.member_expr-node.ensures.grows
-    (s.heard_answer whole (s.heard_call (λ x p. Some (link_e c.args.optional l (member_e (from_to (span_of l).lo p.0.1) l p.0.0), p.1)) (λ x ts. link.dot_splits c.args.optional l x ts) (λ x ts. refl) c.in_ok-prop.ensures.reads))
+    (s.heard_answer whole (s.heard_call _ (link.dot_splits c.args.optional l) (λ x ts. refl) c.in_ok-prop.ensures.reads))

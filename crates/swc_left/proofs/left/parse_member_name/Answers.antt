@@ -1,5 +1,4 @@
 use Rattle.std.proofs.Common.{Ok, Some, refl, sym, ap, ◌∙◌, arith}
-use Rattle.std.proofs.lemmas.Result.{err_from_is_err_and}
 use Rattle.swc_input.specs.Kinds.{at_token, is_hash}
 use Rattle.swc_ast.specs.Trees.{name_e, private_e}
 use Rattle.swc_grammar.specs.Names.{may_name}
@@ -14,35 +13,35 @@ use Rattle.swc_left.proofs.left.parse_member_name.Goals as goal
 
 pub returns-in_err-look : goal.returns-in_err-look
 returns-in_err-look g c =
-    let p = err_from_is_err_and c.from_residual.result c.from_residual.ensures.1 in rw (p.1, p.2)
-    (m.no (s.unheard_memory c.in_err-look.ensures.looks) (grows-same _))
+    m.refused c.from_residual.ensures.1
+    (s.unheard_memory c.in_err-look.ensures.looks) (grows-same _)
 
 pub returns-in_err-name : goal.returns-in_err-name
 returns-in_err-name g c =
-    let p = err_from_is_err_and c.from_residual-in_err-name.result c.from_residual-in_err-name.ensures.1 in rw (p.1, p.2)
-    (m.no (s.unheard_after (s.on_seen {g = λ x ts. hash_name x ts >>= (λ p. Some ((private_e p.0.0.at p.0.0.text, p.0.1), p.1))} c.in_ok-look.ensures.looks
-    (λ x ts same e. link.member_private x ts (ap (at_token is_hash) e ∙ sym c.is_hash.ensures.value ∙ c.if-is_hash.true)))
-    (s.unheard_call (λ x p. Some ((private_e p.0.0.at p.0.0.text, p.0.1), p.1)) (λ x ts. refl) (c.in_err-name.ensures.parses g.B.Bodies.is_faithful))) (grows-same _))
+    m.refused c.from_residual-in_err-name.ensures.1
+    (s.unheard_after (s.on_seen {g = λ x ts. hash_name x ts >>= (λ p. Some ((private_e p.0.0.at p.0.0.text, p.0.1), p.1))} c.in_ok-look.ensures.looks
+    (λ x ts same e. link.member_private x ts (ap (at_token is_hash) e ∙ sym c.is_sign.ensures.value ∙ c.if-is_sign.true)))
+    (s.unheard_call (λ x p. Some ((private_e p.0.0.at p.0.0.text, p.0.1), p.1)) (λ x ts. refl) (c.in_err-name.ensures.parses g.B.Bodies.is_faithful))) (grows-same _)
 
-pub returns-then-is_hash : goal.returns-then-is_hash
-returns-then-is_hash g c =
+pub returns-then-is_sign : goal.returns-then-is_sign
+returns-then-is_sign g c =
     m.yes (Ok _)
     (s.heard_after (s.on_seen {g = λ x ts. hash_name x ts >>= (λ p. Some ((private_e p.0.0.at p.0.0.text, p.0.1), p.1))} c.in_ok-look.ensures.looks
-    (λ x ts same e. link.member_private x ts (ap (at_token is_hash) e ∙ sym c.is_hash.ensures.value ∙ c.if-is_hash.true)))
+    (λ x ts same e. link.member_private x ts (ap (at_token is_hash) e ∙ sym c.is_sign.ensures.value ∙ c.if-is_sign.true)))
     (s.heard_call (λ x p. Some ((private_e p.0.0.at p.0.0.text, p.0.1), p.1)) (λ x ts. refl) (λ x ts. refl) (c.in_ok-name.ensures.parses g.B.Bodies.is_faithful)))
     (grows-same _) (apart-none (omega arith))
 
 pub returns-in_err-name-2 : goal.returns-in_err-name-2
 returns-in_err-name-2 g c =
-    let p = err_from_is_err_and c.from_residual-in_err-name-2.result c.from_residual-in_err-name-2.ensures.1 in rw (p.1, p.2)
-    (m.no (s.unheard_after (s.on_seen {g = λ x ts. word may_name x ts >>= (λ p. Some ((name_e p.0.at p.0.text, p.0.at.hi), p.1))} c.in_ok-look.ensures.looks
-    (λ x ts same e. link.member_word x ts (ap (at_token is_hash) e ∙ sym c.is_hash.ensures.value ∙ c.if-is_hash.false)))
-    (s.unheard_call (λ x p. Some ((name_e p.0.at p.0.text, p.0.at.hi), p.1)) (λ x ts. refl) (c.in_err-name-2.ensures.parses g.B.Bodies.is_faithful))) (grows-same _))
+    m.refused c.from_residual-in_err-name-2.ensures.1
+    (s.unheard_after (s.on_seen {g = λ x ts. word may_name x ts >>= (λ p. Some ((name_e p.0.at p.0.text, p.0.at.hi), p.1))} c.in_ok-look.ensures.looks
+    (λ x ts same e. link.member_word x ts (ap (at_token is_hash) e ∙ sym c.is_sign.ensures.value ∙ c.if-is_sign.false)))
+    (s.unheard_call (λ x p. Some ((name_e p.0.at p.0.text, p.0.at.hi), p.1)) (λ x ts. refl) (c.in_err-name-2.ensures.parses g.B.Bodies.is_faithful))) (grows-same _)
 
 pub returns : goal.returns
 returns g c =
     m.yes (Ok _)
     (s.heard_after (s.on_seen {g = λ x ts. word may_name x ts >>= (λ p. Some ((name_e p.0.at p.0.text, p.0.at.hi), p.1))} c.in_ok-look.ensures.looks
-    (λ x ts same e. link.member_word x ts (ap (at_token is_hash) e ∙ sym c.is_hash.ensures.value ∙ c.if-is_hash.false)))
+    (λ x ts same e. link.member_word x ts (ap (at_token is_hash) e ∙ sym c.is_sign.ensures.value ∙ c.if-is_sign.false)))
     (s.heard_call (λ x p. Some ((name_e p.0.at p.0.text, p.0.at.hi), p.1)) (λ x ts. refl) (λ x ts. refl) (c.in_ok-name-2.ensures.parses g.B.Bodies.is_faithful)))
     (grows-same _) (apart-none (omega arith))

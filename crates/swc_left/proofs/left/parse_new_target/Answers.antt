@@ -1,8 +1,6 @@
-use Rattle.std.proofs.Common.{if◌then◌else◌, Some, None, refl, arith}
-use Rattle.std.proofs.lemmas.Result.{err_from_is_err_and}
+use Rattle.std.proofs.Common.{if◌then◌else◌, refl, arith}
 use Rattle.swc_input.specs.Buffer.{context}
 use Rattle.swc_ast.specs.declared.expr.MetaPropKind.TheVariants as kind
-use Rattle.swc_ast.specs.Trees.{to, meta_e}
 use Rattle.swc_grammar.specs.Tokens.{new_target_ok}
 use Rattle.swc_nodes.proofs.Standing.{grows-same}
 use Rattle.swc_left.proofs.Links as link
@@ -12,16 +10,16 @@ use Rattle.swc_left.proofs.left.parse_new_target.Goals as goal
 
 pub returns-in_err-end : goal.returns-in_err-end
 returns-in_err-end g c =
-    let p = err_from_is_err_and c.from_residual.result c.from_residual.ensures.1 in rw (p.1, p.2)
-    (m.no (s.unheard_call (λ x p. if new_target_ok x.context then Some (meta_e (to c.args.start p.0) kind.NewTarget, p.1) else None) (λ x ts. link.target_splits c.args.start x ts) (c.in_err-end.ensures.expects g.B.Bodies.is_faithful)) (grows-same _))
+    m.refused c.from_residual.ensures.1
+    (s.unheard_call _ (link.target_splits c.args.start) (c.in_err-end.ensures.expects g.B.Bodies.is_faithful)) (grows-same _)
 
 pub returns-in_err-check_new_target : goal.returns-in_err-check_new_target
 returns-in_err-check_new_target g c =
-    let p = err_from_is_err_and c.from_residual-in_err-check_new_target.result c.from_residual-in_err-check_new_target.ensures.1 in rw (p.1, p.2)
-    (m.no (s.unheard_memory (s.forgoes_later (c.in_ok-end.ensures.expects g.B.Bodies.is_faithful).on.leads c.in_err-check_new_target.ensures.checks)) (grows-same _))
+    m.refused c.from_residual-in_err-check_new_target.ensures.1
+    (s.unheard_memory (s.forgoes_later (c.in_ok-end.ensures.expects g.B.Bodies.is_faithful).on.leads c.in_err-check_new_target.ensures.checks)) (grows-same _)
 
 pub returns : goal.returns
 returns g c =
     m.node _ c.meta_prop-node.result c.made.result (omega arith) c.meta_prop-node.ensures.made c.made.ensures.ok c.made.ensures.refused (grows-same _) c.meta_prop-node.ensures.grows
-    (s.heard_more (λ x p. if new_target_ok x.context then Some (meta_e (to c.args.start p.0) kind.NewTarget, p.1) else None) (λ x ts. link.target_splits c.args.start x ts) (c.in_ok-end.ensures.expects g.B.Bodies.is_faithful)
+    (s.heard_more _ (link.target_splits c.args.start) (c.in_ok-end.ensures.expects g.B.Bodies.is_faithful)
     (s.on_checked_in (new_target_ok (context g.I.Tokens.model c.expect_or.new.input)) c.in_ok-check_new_target.ensures.checks (λ ts h. rw h refl) (λ ts h. rw h refl)))

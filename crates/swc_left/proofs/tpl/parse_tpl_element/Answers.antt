@@ -44,7 +44,7 @@ pub returns-clause-parses : goal.returns-clause-parses
 returns-clause-parses g c = λ sure.
     let took = c.bump-token.ensures.took in
     let text = c.template_of-raw.result in
-    let tail = c.is_backquote-tail.result in
+    let tail = c.is_sign-tail.result in
     s.heard_answer (ap (λ v. text_e v tail c.in_ok-cooked.cooked text.0)
     (sym (c.prev_span-span.ensures ∙ s.last_was took)))
     (s.heard_after (s.on_seen {f = tpl_element c.args.is_tagged} {g = tpl_element c.args.is_tagged}
@@ -53,4 +53,4 @@ returns-clause-parses g c = λ sure.
     (λ x ts. tpl.element_opens c.args.is_tagged (plain took.was) x ts)
     (s.on_seen c.in_ok-look-2.ensures.looks (λ x ts same e.
     tpl.element_takes c.args.is_tagged tail text.0 text.1 c.in_ok-cooked.cooked took c.template_of-raw.ensures
-    c.in_ok-cooked.ensures.means ts (ap (at_token is_backquote) e ∙ sym c.is_backquote-tail.ensures.value)))))
+    c.in_ok-cooked.ensures.means ts (ap (at_token is_backquote) e ∙ sym c.is_sign-tail.ensures.value)))))

@@ -1,10 +1,9 @@
 use Rattle.std.proofs.Common.{map, not, ◌++◌, sym, ap, arith}
-use Rattle.std.proofs.lemmas.Result.{err_from_is_err_and}
 use Rattle.swc_ast.specs.Parts.{quasi_tree}
 use Rattle.swc_ast.specs.Tree.{node, span_of, tpl as tpl_kind}
 use Rattle.swc_ast.specs.Trees.{to, tagged_e, is_chain}
 use Rattle.swc_nodes.specs.Lists.{exprs_parts}
-use Rattle.swc_nodes.specs.Slots.{expr_part, one_expr}
+use Rattle.swc_nodes.specs.NodeParts.{expr_part, one_expr}
 use Rattle.swc_nodes.proofs.Held.{from-apart}
 use Rattle.swc_nodes.proofs.Lists.{trees-both}
 use Rattle.swc_nodes.proofs.Standing.{grows-same}
@@ -21,8 +20,8 @@ check_tag-requires g c = from-apart (expr_part c.args.tag) (exprs_parts c.args.p
 
 pub returns-in_err-check_tag : goal.returns-in_err-check_tag
 returns-in_err-check_tag g c =
-    let p = err_from_is_err_and c.from_residual.result c.from_residual.ensures.1 in rw (p.1, p.2)
-    (m.no_more (s.unheard_memory c.in_err-check_tag.ensures.checks) (grows-same _))
+    m.refused_more c.from_residual.ensures.1
+    (s.unheard_memory c.in_err-check_tag.ensures.checks) (grows-same _)
 
 pub tagged_tpl-node-requires-clause-from : goal.tagged_tpl-node-requires-clause-from
 tagged_tpl-node-requires-clause-from g c = from-apart (expr_part c.args.tag) (exprs_parts c.args.parts.exprs) c.requires

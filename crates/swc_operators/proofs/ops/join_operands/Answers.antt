@@ -13,8 +13,8 @@ use Rattle.swc_operators.proofs.ops.join_operands.Goals as goal
 
 pub returns-in_err-check_operands : goal.returns-in_err-check_operands
 returns-in_err-check_operands g c =
-    let p = err_from_is_err_and c.from_residual.result c.from_residual.ensures.1 in rw (p.1, p.2)
-    (m.no_more (s.unheard_memory c.in_err-check_operands.ensures.checks) (grows-same _))
+    m.refused_more c.from_residual.ensures.1
+    (s.unheard_memory c.in_err-check_operands.ensures.checks) (grows-same _)
 
 pub returns-in_err-node : goal.returns-in_err-node
 returns-in_err-node g c =

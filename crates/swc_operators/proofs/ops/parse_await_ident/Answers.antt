@@ -1,5 +1,4 @@
 use Rattle.std.proofs.Common.{sym, ap, arith}
-use Rattle.std.proofs.lemmas.Result.{err_from_is_err_and}
 use Rattle.swc_input.specs.Buffer.{context}
 use Rattle.swc_ast.specs.Trees.{ident_e}
 use Rattle.swc_grammar.specs.Tokens.{await_ident_ok}
@@ -12,14 +11,14 @@ use Rattle.swc_operators.proofs.ops.parse_await_ident.Goals as goal
 
 pub returns-in_err-check_await_ident : goal.returns-in_err-check_await_ident
 returns-in_err-check_await_ident g c =
-    let p = err_from_is_err_and c.from_residual.result c.from_residual.ensures.1 in rw (p.1, p.2)
-    (m.no_more (s.unheard_memory c.in_err-check_await_ident.ensures.checks) (grows-same _))
+    m.refused_more c.from_residual.ensures.1
+    (s.unheard_memory c.in_err-check_await_ident.ensures.checks) (grows-same _)
 
 pub returns-in_err-sym : goal.returns-in_err-sym
 returns-in_err-sym g c =
-    let p = err_from_is_err_and c.from_residual-in_err-sym.result c.from_residual-in_err-sym.ensures.1 in rw (p.1, p.2)
-    (m.no_more (s.unheard_memory (s.forgoes_later c.in_ok-check_await_ident.ensures.checks.leads
-    (s.forgoes_here g.met.I.Tokens.laws _ _ _ c.in_err-sym.ensures.refused))) (grows-same _))
+    m.refused_more c.from_residual-in_err-sym.ensures.1
+    (s.unheard_memory (s.forgoes_later c.in_ok-check_await_ident.ensures.checks.leads
+    (s.forgoes_here g.met.I.Tokens.laws _ _ _ c.in_err-sym.ensures.refused))) (grows-same _)
 
 pub returns : goal.returns
 returns g c =

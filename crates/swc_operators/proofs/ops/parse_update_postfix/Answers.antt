@@ -1,5 +1,4 @@
 use Rattle.std.proofs.Common.{Ok, false, refl, sym, ap, ◌∙◌, arith}
-use Rattle.std.proofs.lemmas.Result.{err_from_is_err_and}
 use Rattle.swc_context.specs.Spans.{from_to}
 use Rattle.swc_ast.specs.Targets.{is_target}
 use Rattle.swc_ast.specs.Tree.{span_of}
@@ -15,8 +14,8 @@ use Rattle.swc_operators.proofs.ops.parse_update_postfix.Goals as goal
 
 pub returns-in_err-op : goal.returns-in_err-op
 returns-in_err-op g c =
-    let p = err_from_is_err_and c.from_residual.result c.from_residual.ensures.1 in rw (p.1, p.2)
-    (m.no_more (s.unheard_memory c.in_err-op.ensures.looks) (grows-same _))
+    m.refused_more c.from_residual.ensures.1
+    (s.unheard_memory c.in_err-op.ensures.looks) (grows-same _)
 
 pub returns-in-None : goal.returns-in-None
 returns-in-None g c =
@@ -26,8 +25,8 @@ returns-in-None g c =
 
 pub returns-in_err-check_update_target : goal.returns-in_err-check_update_target
 returns-in_err-check_update_target g c =
-    let p = err_from_is_err_and c.from_residual-in_err-check_update_target.result c.from_residual-in_err-check_update_target.ensures.1 in rw (p.1, p.2)
-    (m.no_more (s.unheard_memory (s.forgoes_later (s.here_leads c.in_ok-op.ensures.looks) c.in_err-check_update_target.ensures.checks)) (grows-same _))
+    m.refused_more c.from_residual-in_err-check_update_target.ensures.1
+    (s.unheard_memory (s.forgoes_later (s.here_leads c.in_ok-op.ensures.looks) c.in_err-check_update_target.ensures.checks)) (grows-same _)
 
 pub returns : goal.returns
 returns g c =

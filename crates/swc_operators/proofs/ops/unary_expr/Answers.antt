@@ -11,8 +11,8 @@ use Rattle.swc_operators.proofs.ops.unary_expr.Goals as goal
 
 pub returns-in_err-check_delete-clause-reads : goal.returns-in_err-check_delete-clause-reads
 returns-in_err-check_delete-clause-reads g c =
-    let p = err_from_is_err_and c.from_residual.result c.from_residual.ensures.1 in rw (p.1, p.2)
-    (m.no_more (s.unheard_memory c.in_err-check_delete.ensures.checks) (grows-same _))
+    m.refused_more c.from_residual.ensures.1
+    (s.unheard_memory c.in_err-check_delete.ensures.checks) (grows-same _)
 
 pub returns-in_err-check_delete-clause-memory : goal.returns-in_err-check_delete-clause-memory
 returns-in_err-check_delete-clause-memory g c =

@@ -1,5 +1,4 @@
 use Rattle.std.proofs.Common.{arith}
-use Rattle.std.proofs.lemmas.Result.{err_from_is_err_and}
 use Rattle.swc_input.specs.Buffer.{context}
 use Rattle.swc_ast.specs.Targets.{is_target}
 use Rattle.swc_nodes.proofs.Standing.{grows-same}
@@ -11,8 +10,8 @@ use Rattle.swc_operators.proofs.prefix.update_prefix.Goals as goal
 
 pub returns-in_err-check_update_target : goal.returns-in_err-check_update_target
 returns-in_err-check_update_target g c =
-    let p = err_from_is_err_and c.from_residual.result c.from_residual.ensures.1 in rw (p.1, p.2)
-    (m.no_more (s.unheard_memory c.in_err-check_update_target.ensures.checks) (grows-same _))
+    m.refused_more c.from_residual.ensures.1
+    (s.unheard_memory c.in_err-check_update_target.ensures.checks) (grows-same _)
 
 pub returns : goal.returns
 returns g c =

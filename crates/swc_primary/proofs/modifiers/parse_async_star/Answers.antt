@@ -1,8 +1,6 @@
 use Rattle.std.proofs.Common.{Some, refl}
 use Rattle.std.proofs.lemmas.Result.{err_from_is_err_and}
-use Rattle.swc_grammar.specs.Tokens.{is_star}
 use Rattle.swc_grammar.specs.Words.{◌>>=◌}
-use Rattle.swc_steps.specs.Keys.{expected}
 use Rattle.swc_primary.proofs.Methods.{async_star_splits}
 use Rattle.swc_steps.proofs.Steps as s
 use Rattle.swc_primary.proofs.modifiers.parse_async_star.Goals as goal
@@ -10,7 +8,7 @@ use Rattle.swc_primary.proofs.modifiers.parse_async_star.Goals as goal
 pub returns-in_err-start-clause-parses : goal.returns-in_err-start-clause-parses
 returns-in_err-start-clause-parses g c =
     let p = err_from_is_err_and c.from_residual.result c.from_residual.ensures.1 in λ sure. rw (p.1, p.2)
-    (s.unheard_call (λ x q. expected is_star x q.1 >>= (λ r. Some (q.0, r.1))) (λ x ts. async_star_splits x ts)
+    (s.unheard_call _ async_star_splits
     (c.in_err-start.ensures.expects sure))
 
 pub returns-in_err-expect-clause-parses : goal.returns-in_err-expect-clause-parses
@@ -18,12 +16,12 @@ returns-in_err-expect-clause-parses g c =
     let p = err_from_is_err_and c.from_residual-in_err-expect.result c.from_residual-in_err-expect.ensures.1 in
     λ sure. rw (p.1, p.2)
     (s.unheard_after
-    (s.on_call (λ x q. expected is_star x q.1 >>= (λ r. Some (q.0, r.1))) (λ x ts. async_star_splits x ts)
+    (s.on_call _ async_star_splits
     (c.in_ok-start.ensures.expects sure).on)
     (s.unheard_call (λ x r. Some (c.in_ok-start.start, r.1)) (λ x ts. refl) (c.in_err-expect.ensures.expects sure)))
 
 pub returns-clause-parses : goal.returns-clause-parses
 returns-clause-parses g c = λ sure.
-    s.heard_more (λ x q. expected is_star x q.1 >>= (λ r. Some (q.0, r.1))) (λ x ts. async_star_splits x ts)
+    s.heard_more _ async_star_splits
     (c.in_ok-start.ensures.expects sure)
     (s.on_call (λ x r. Some (c.in_ok-start.start, r.1)) (λ x ts. refl) (c.in_ok-expect.ensures.expects sure).on)

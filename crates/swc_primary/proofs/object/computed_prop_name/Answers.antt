@@ -1,7 +1,6 @@
 use Rattle.std.proofs.Common.{Ok, Some, refl}
-use Rattle.std.proofs.lemmas.Result.{err_from_is_err_and}
 use Rattle.swc_ast.specs.Trees.{to, computed_e}
-use Rattle.swc_nodes.specs.Slots.{expr_part}
+use Rattle.swc_nodes.specs.NodeParts.{expr_part}
 use Rattle.swc_nodes.proofs.Held.{apart-from, from_self}
 use Rattle.swc_nodes.proofs.Standing.{grows-same}
 use Rattle.swc_steps.specs.Parsing.{tree_of}
@@ -12,9 +11,9 @@ use Rattle.swc_primary.proofs.object.computed_prop_name.Goals as goal
 pub returns-in_err-end : goal.returns-in_err-end
 returns-in_err-end g c =
     let e = tree_of c.args.p.now.nodes c.args.expr in
-    let p = err_from_is_err_and c.from_residual.result c.from_residual.ensures.1 in rw (p.1, p.2)
-    (m.no (s.unheard_call (λ x q. Some (computed_e (to c.args.start q.0) e, q.1)) (λ x ts. refl)
-    (c.in_err-end.ensures.expects g.B.Bodies.is_faithful)) (grows-same _))
+    m.refused c.from_residual.ensures.1
+    (s.unheard_call (λ x q. Some (computed_e (to c.args.start q.0) e, q.1)) (λ x ts. refl)
+    (c.in_err-end.ensures.expects g.B.Bodies.is_faithful)) (grows-same _)
 
 pub returns : goal.returns
 returns g c =

@@ -5,6 +5,9 @@ use Rattle.swc_bodies.specs.Readings.{is_brace}
 use Rattle.swc_steps.specs.Parsing.{by_hook}
 use Rattle.swc_steps.proofs.Hearing as hearing
 use Rattle.swc_steps.proofs.Keys as key
+use Rattle.swc_input.specs.Buffer.{current}
+use Rattle.swc_steps.specs.declared.tokens.Sign.TheVariants.{LBrace}
+use Rattle.swc_steps.proofs.Signs.{sign_here}
 use Rattle.swc_steps.proofs.Steps as s
 use Rattle.swc_primary.proofs.object.parse_block.Goals as goal
 
@@ -13,11 +16,11 @@ returns-in_err-look-clause-reads g c =
     let p = err_from_is_err_and c.from_residual.result c.from_residual.ensures.1 in rw (p.1, p.2)
     (s.unheard_memory c.in_err-look.ensures.looks)
 
-pub returns-then-not-is_lbrace-clause-reads : goal.returns-then-not-is_lbrace-clause-reads
-returns-then-not-is_lbrace-clause-reads g c =
+pub returns-then-not-is_sign-clause-reads : goal.returns-then-not-is_sign-clause-reads
+returns-then-not-is_sign-clause-reads g c =
     s.unheard_at c.in_ok-look.ensures.looks
     (λ x ts same e. key.block_not _ g.met.B.Bodies.lawful x ts
-    (ap (at_token is_brace) e ∙ sym c.is_lbrace.ensures.value ∙ c.if-not-is_lbrace.true)) c.unexpected.ensures.refuses
+    (ap (at_token is_brace) e ∙ sym c.is_sign.ensures.value ∙ c.if-not-is_sign.true)) c.unexpected.ensures.refuses
 
 pub returns-clause-reads : goal.returns-clause-reads
 returns-clause-reads g c =
@@ -25,3 +28,7 @@ returns-clause-reads g c =
     (s.on_seen {g = by_hook g.B.BodyForms.forms.block} c.in_ok-look.ensures.looks (λ x ts same e. refl))
     (hearing.hook_parses g.I.Tokens.model g.met.I.Tokens.laws _ g.met.B.Bodies.lawful.block.viewed g.B.Bodies.is_faithful _ c.block-answer.result c.answered.result
     c.block-answer.ensures.hooked c.block-answer.ensures.faithful c.answered.ensures.runs c.answered.ensures.fails)
+
+pub block-answer-requires : goal.block-answer-requires
+block-answer-requires g c =
+    sign_here LBrace (current c.look.new.input) (sym c.is_sign.ensures.value ∙ c.if-not-is_sign.false)

@@ -1,8 +1,6 @@
 use Rattle.std.proofs.Common.{Some, refl}
 use Rattle.std.proofs.lemmas.Result.{err_from_is_err_and}
-use Rattle.swc_grammar.specs.Tokens.{is_equals}
 use Rattle.swc_grammar.specs.Words.{◌>>=◌}
-use Rattle.swc_steps.specs.Keys.{expected}
 use Rattle.swc_steps.specs.Parsing.{ident_spelling}
 use Rattle.swc_primary.proofs.Properties.{cover_name_splits}
 use Rattle.swc_steps.proofs.Steps as s
@@ -11,7 +9,7 @@ use Rattle.swc_primary.proofs.object.parse_cover_name.Goals as goal
 pub returns-in_err-name-clause-parses : goal.returns-in_err-name-clause-parses
 returns-in_err-name-clause-parses g c =
     let p = err_from_is_err_and c.from_residual.result c.from_residual.ensures.1 in λ sure. rw (p.1, p.2)
-    (s.unheard_call (λ x q. expected is_equals x q.1 >>= (λ r. Some (q.0, r.1))) (λ x ts. cover_name_splits x ts)
+    (s.unheard_call _ cover_name_splits
     (c.in_err-name.ensures.parses sure))
 
 pub returns-in_err-expect-clause-parses : goal.returns-in_err-expect-clause-parses
@@ -20,13 +18,13 @@ returns-in_err-expect-clause-parses g c =
     let p = err_from_is_err_and c.from_residual-in_err-expect.result c.from_residual-in_err-expect.ensures.1 in
     λ sure. rw (p.1, p.2)
     (s.unheard_after
-    (s.on_call (λ x q. expected is_equals x q.1 >>= (λ r. Some (q.0, r.1))) (λ x ts. cover_name_splits x ts)
+    (s.on_call _ cover_name_splits
     (c.in_ok-name.ensures.parses sure).on)
     (s.unheard_call (λ x r. Some (name, r.1)) (λ x ts. refl) (c.in_err-expect.ensures.expects sure)))
 
 pub returns-clause-parses : goal.returns-clause-parses
 returns-clause-parses g c = λ sure.
     let name = ident_spelling c.in_ok-name.name in
-    s.heard_more (λ x q. expected is_equals x q.1 >>= (λ r. Some (q.0, r.1))) (λ x ts. cover_name_splits x ts)
+    s.heard_more _ cover_name_splits
     (c.in_ok-name.ensures.parses sure)
     (s.on_call (λ x r. Some (name, r.1)) (λ x ts. refl) (c.in_ok-expect.ensures.expects sure).on)

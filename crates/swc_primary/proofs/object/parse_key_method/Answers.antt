@@ -1,5 +1,4 @@
 use Rattle.std.proofs.Common.{Ok, false, refl, sym, ap, ◌∙◌}
-use Rattle.std.proofs.lemmas.Result.{err_from_is_err_and}
 use Rattle.swc_input.specs.Kinds.{at_token}
 use Rattle.swc_grammar.specs.Tokens.{is_lparen}
 use Rattle.swc_nodes.proofs.Standing.{grows-same}
@@ -10,18 +9,18 @@ use Rattle.swc_primary.proofs.object.parse_key_method.Goals as goal
 
 pub returns-in_err-look : goal.returns-in_err-look
 returns-in_err-look g c =
-    let p = err_from_is_err_and c.from_residual.result c.from_residual.ensures.1 in rw (p.1, p.2)
-    (m.no (s.unheard_memory c.in_err-look.ensures.looks) (grows-same _))
+    m.refused c.from_residual.ensures.1
+    (s.unheard_memory c.in_err-look.ensures.looks) (grows-same _)
 
-pub returns-then-not-is_lparen : goal.returns-then-not-is_lparen
-returns-then-not-is_lparen g c =
+pub returns-then-not-is_sign : goal.returns-then-not-is_sign
+returns-then-not-is_sign g c =
     m.no (s.unheard_at c.in_ok-look.ensures.looks (λ x ts same e. key.shell_not _ false false x ts
-    (ap (at_token is_lparen) e ∙ sym c.is_lparen.ensures.value ∙ c.if-not-is_lparen.true)) c.unexpected.ensures.refuses) (grows-same _)
+    (ap (at_token is_lparen) e ∙ sym c.is_sign.ensures.value ∙ c.if-not-is_sign.true)) c.unexpected.ensures.refuses) (grows-same _)
 
 pub returns-in_err-function : goal.returns-in_err-function
 returns-in_err-function g c =
-    let p = err_from_is_err_and c.from_residual-in_err-function.result c.from_residual-in_err-function.ensures.1 in rw (p.1, p.2)
-    (m.no (s.unheard_after (s.on_seen c.in_ok-look.ensures.looks (λ x ts same e. refl)) c.in_err-function.ensures.reads) c.parse_shell.ensures.grows)
+    m.refused c.from_residual-in_err-function.ensures.1
+    (s.unheard_after (s.on_seen c.in_ok-look.ensures.looks (λ x ts same e. refl)) c.in_err-function.ensures.reads) c.parse_shell.ensures.grows
 
 pub returns : goal.returns
 returns g c =

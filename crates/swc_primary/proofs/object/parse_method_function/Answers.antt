@@ -1,5 +1,4 @@
 use Rattle.std.proofs.Common.{Ok, sym, ◌∙◌}
-use Rattle.std.proofs.lemmas.Result.{err_from_is_err_and}
 use Rattle.swc_nodes.proofs.Lists.{apart-none}
 use Rattle.swc_nodes.proofs.Standing.{grows-count, grows-same}
 use Rattle.swc_steps.proofs.Making as m
@@ -15,9 +14,9 @@ returns-then-is_setter g c =
 
 pub returns-in_err-function : goal.returns-in_err-function
 returns-in_err-function g c =
-    let p = err_from_is_err_and c.from_residual.result c.from_residual.ensures.1 in rw (p.1, p.2)
-    (m.no (s.unheard_after (s.on_here g.met.I.Tokens.laws _ (λ x ts. method.function_other _ c.args.kind _ _ x ts
-    (sym c.is_setter.ensures ∙ c.if-is_setter.false) c.is_async.ensures c.is_generator.ensures)) c.in_err-function.ensures.reads) c.parse_shell.ensures.grows)
+    m.refused c.from_residual.ensures.1
+    (s.unheard_after (s.on_here g.met.I.Tokens.laws _ (λ x ts. method.function_other _ c.args.kind _ _ x ts
+    (sym c.is_setter.ensures ∙ c.if-is_setter.false) c.is_async.ensures c.is_generator.ensures)) c.in_err-function.ensures.reads) c.parse_shell.ensures.grows
 
 pub returns : goal.returns
 returns g c =

@@ -5,8 +5,8 @@ use Rattle.swc_input.specs.Kinds.{at_token}
 use Rattle.swc_ast.specs.Trees.{name_e}
 use Rattle.swc_grammar.specs.Tokens.{is_word}
 use Rattle.swc_grammar.specs.Parts.{key_lit_of}
-use Rattle.swc_nodes.specs.Seats.{chain}
-use Rattle.swc_nodes.specs.Stands.{count, seat_at}
+use Rattle.swc_nodes.specs.NumberedTrees.{chain}
+use Rattle.swc_nodes.specs.GrowingNodes.{count, seat_at}
 use Rattle.swc_nodes.proofs.Lists.{apart-none}
 use Rattle.swc_nodes.proofs.Standing.{grows-same}
 use Rattle.swc_steps.specs.Keys.{name_key, is_key_lit}
@@ -18,9 +18,9 @@ use Rattle.swc_primary.proofs.object.parse_plain_prop_name.Goals as goal
 
 pub returns-in_err-require_cur : goal.returns-in_err-require_cur
 returns-in_err-require_cur g c =
-    let p = err_from_is_err_and c.from_residual.result c.from_residual.ensures.1 in rw (p.1, p.2)
-    (m.no (s.unheard_unfit g.met.I.Tokens.laws (λ x ts h. key.plain_key_unfit x ts h) c.in_err-require_cur.ensures.fits)
-    (grows-same _))
+    m.refused c.from_residual.ensures.1
+    (s.unheard_unfit g.met.I.Tokens.laws (λ x ts h. key.plain_key_unfit x ts h) c.in_err-require_cur.ensures.fits)
+    (grows-same _)
 
 pub returns-in_err-name : goal.returns-in_err-name
 returns-in_err-name g c =

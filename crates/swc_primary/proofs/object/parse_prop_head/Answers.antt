@@ -1,8 +1,7 @@
-use Rattle.std.proofs.Common.{Some, refl, ◌∙◌}
+use Rattle.std.proofs.Common.{refl, ◌∙◌}
 use Rattle.std.proofs.lemmas.Result.{err_from_is_err_and}
-use Rattle.swc_ast.specs.Trees.{short_e}
 use Rattle.swc_primary.specs.Methods.{method_tail}
-use Rattle.swc_primary.specs.Properties.{cover_tail, spread_prop_tail}
+use Rattle.swc_primary.specs.Properties.{spread_prop_tail}
 use Rattle.swc_primary.proofs.Begins.{begins_faulty}
 use Rattle.swc_primary.proofs.Properties as props
 use Rattle.swc_steps.proofs.Steps as s
@@ -25,14 +24,14 @@ returns-in_err-name-in-Shorthand-clause-reads g c =
     (λ x ts same e told. props.short_picked g.B.BodyForms.forms x ts (told ∙ c.in-Shorthand.is)) in
     let p = err_from_is_err_and c.from_residual-in_err-name-in-Shorthand.result c.from_residual-in_err-name-in-Shorthand.ensures.1 in
     rw (p.1, p.2)
-    (s.unheard_after told (s.unheard_call (λ x p. Some (short_e p.0.at p.0.text, p.1)) (λ x ts. props.short_splits _ x ts)
+    (s.unheard_after told (s.unheard_call _ (props.short_splits _)
     (c.in_err-name-in-Shorthand.ensures.parses g.B.Bodies.is_faithful)))
 
 pub returns-in_ok-name-in-Shorthand-clause-reads : goal.returns-in_ok-name-in-Shorthand-clause-reads
 returns-in_ok-name-in-Shorthand-clause-reads g c =
     let told = s.on_told c.in_ok-look.ensures.looks c.in_ok-prop_kind.ensures.tells
     (λ x ts same e told. props.short_picked g.B.BodyForms.forms x ts (told ∙ c.in-Shorthand.is)) in
-    s.heard_after told (s.heard_call (λ x p. Some (short_e p.0.at p.0.text, p.1)) (λ x ts. props.short_splits _ x ts) (λ x ts. refl)
+    s.heard_after told (s.heard_call _ (props.short_splits _) (λ x ts. refl)
     (c.in_ok-name-in-Shorthand.ensures.parses g.B.Bodies.is_faithful))
 
 pub returns-in_err-dots-in-Spread-clause-reads : goal.returns-in_err-dots-in-Spread-clause-reads
@@ -57,14 +56,14 @@ returns-in_err-name-in-Cover-clause-reads g c =
     (λ x ts same e told. props.cover_picked g.B.BodyForms.forms x ts (told ∙ c.in-Cover.is)) in
     let p = err_from_is_err_and c.from_residual-in_err-name-in-Cover.result c.from_residual-in_err-name-in-Cover.ensures.1 in
     rw (p.1, p.2)
-    (s.unheard_after told (s.unheard_call (λ x p. cover_tail _ p.0 x p.1) (λ x ts. props.cover_splits _ x ts)
+    (s.unheard_after told (s.unheard_call _ (props.cover_splits _)
     (c.in_err-name-in-Cover.ensures.parses g.B.Bodies.is_faithful)))
 
 pub returns-in_ok-name-in-Cover-clause-reads : goal.returns-in_ok-name-in-Cover-clause-reads
 returns-in_ok-name-in-Cover-clause-reads g c =
     let told = s.on_told c.in_ok-look.ensures.looks c.in_ok-prop_kind.ensures.tells
     (λ x ts same e told. props.cover_picked g.B.BodyForms.forms x ts (told ∙ c.in-Cover.is)) in
-    s.on_then told (s.on_call (λ x p. cover_tail _ p.0 x p.1) (λ x ts. props.cover_splits _ x ts)
+    s.on_then told (s.on_call _ (props.cover_splits _)
     (c.in_ok-name-in-Cover.ensures.parses g.B.Bodies.is_faithful).on)
 
 pub returns-in-Key-clause-reads : goal.returns-in-Key-clause-reads

@@ -1,6 +1,5 @@
 use Rattle.std.proofs.Common.{Ok, refl}
-use Rattle.std.proofs.lemmas.Result.{err_from_is_err_and}
-use Rattle.swc_nodes.specs.Slots.{pat_part}
+use Rattle.swc_nodes.specs.NodeParts.{pat_part}
 use Rattle.swc_nodes.proofs.Held.{apart-from, from-down}
 use Rattle.swc_nodes.proofs.Lists.{apart-later}
 use Rattle.swc_nodes.proofs.Standing.{grows-count, grows-then}
@@ -10,14 +9,14 @@ use Rattle.swc_primary.proofs.object.parse_setter_function.Goals as goal
 
 pub returns-in_err-function : goal.returns-in_err-function
 returns-in_err-function g c =
-    let p = err_from_is_err_and c.from_residual.result c.from_residual.ensures.1 in rw (p.1, p.2)
-    (m.no (s.unheard_none (λ x ts. refl) c.in_err-function.ensures.reads.refuses) c.parse_shell.ensures.grows)
+    m.refused c.from_residual.ensures.1
+    (s.unheard_none (λ x ts. refl) c.in_err-function.ensures.reads.refuses) c.parse_shell.ensures.grows
 
 pub returns-in_err-param : goal.returns-in_err-param
 returns-in_err-param g c =
-    let p = err_from_is_err_and c.from_residual-in_err-param.result c.from_residual-in_err-param.ensures.1 in rw (p.1, p.2)
-    (m.no (s.unheard_memory (s.forgoes_later c.in_ok-function.ensures.reads.on.leads c.in_err-param.ensures.tries))
-    (grows-then c.parse_shell.ensures.grows c.setter_param.ensures.grows))
+    m.refused c.from_residual-in_err-param.ensures.1
+    (s.unheard_memory (s.forgoes_later c.in_ok-function.ensures.reads.on.leads c.in_err-param.ensures.tries))
+    (grows-then c.parse_shell.ensures.grows c.setter_param.ensures.grows)
 
 pub returns : goal.returns
 returns g c =

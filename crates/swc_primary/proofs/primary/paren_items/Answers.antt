@@ -1,12 +1,11 @@
 use Rattle.std.proofs.Common.{map, sym, ap}
-use Rattle.std.proofs.lemmas.Result.{err_from_is_err_and}
 use Rattle.swc_context.specs.Spans.{from_to}
 use Rattle.swc_ast.specs.Parts.{item_trees}
 use Rattle.swc_ast.specs.Trees.{paren_ok, paren_e, held_exprs}
 use Rattle.swc_ast.specs.declared.expr.ExprOrSpread.{ExprOrSpread}
 use Rattle.swc_nodes.specs.Lists.{seq_between}
-use Rattle.swc_nodes.specs.Slots.{args_parts}
-use Rattle.swc_nodes.specs.Stands.{first_start, last_end}
+use Rattle.swc_nodes.specs.NodeParts.{args_parts}
+use Rattle.swc_nodes.specs.GrowingNodes.{first_start, last_end}
 use Rattle.swc_nodes.specs.declared.node.ExprId.{ExprId}
 use Rattle.swc_nodes.proofs.Standing.{grows-same}
 use Rattle.swc_steps.specs.Parsing.{args_at, tree_of}
@@ -20,14 +19,14 @@ pub returns-in_err-check_paren_items : goal.returns-in_err-check_paren_items
 returns-in_err-check_paren_items g c = λ k apart.
     let h = c.in_err-check_paren_items.ensures.refuses in
     let es = args_at c.args.p.now.nodes c.args.list in
-    let p = err_from_is_err_and c.from_residual.result c.from_residual.ensures.1 in rw (p.1, p.2)
-    (m.no_more (record { refuses = h.0; none = λ n sure loud ts z. stops (paren_ok es) _ (h.1 n) }) (grows-same _))
+    m.refused_more c.from_residual.ensures.1
+    (record { refuses = h.0; none = λ n sure loud ts z. stops (paren_ok es) _ (h.1 n) }) (grows-same _)
 
 pub returns-in_err-expr : goal.returns-in_err-expr
 returns-in_err-expr g c = λ k apart.
-    let p = err_from_is_err_and c.from_residual-in_err-expr.result c.from_residual-in_err-expr.ensures.1 in rw (p.1, p.2)
-    (m.no_more (s.unheard_memory (s.forgoes_later c.in_ok-check_paren_items.ensures.checks.leads
-    (s.forgoes_here g.met.I.Tokens.laws _ _ _ c.in_err-expr.ensures.refused))) c.seq_of_items-node.ensures.grows)
+    m.refused_more c.from_residual-in_err-expr.ensures.1
+    (s.unheard_memory (s.forgoes_later c.in_ok-check_paren_items.ensures.checks.leads
+    (s.forgoes_here g.met.I.Tokens.laws _ _ _ c.in_err-expr.ensures.refused))) c.seq_of_items-node.ensures.grows
 
 pub returns : goal.returns
 returns g c = λ k apart.

@@ -1,5 +1,4 @@
-use Rattle.std.proofs.Common.{Ok, Err, Some, arith}
-use Rattle.std.proofs.lemmas.Result.{err_from_is_err_and}
+use Rattle.std.proofs.Common.{Ok, Err, arith}
 use Rattle.swc_ast.specs.Trees.{class_e}
 use Rattle.swc_nodes.proofs.Standing.{grows-same}
 use Rattle.swc_steps.proofs.Hearing as hearing
@@ -10,10 +9,10 @@ use Rattle.swc_primary.proofs.primary.parse_class_expr.Goals as goal
 
 pub returns-in_err-class : goal.returns-in_err-class
 returns-in_err-class g c =
-    let p = err_from_is_err_and c.from_residual.result c.from_residual.ensures.1 in rw (p.1, p.2)
-    (m.no (s.unheard_call (λ x p. Some (class_e (g.B.Class.Spanned.place p.0) p.0, p.1)) (λ x ts. rule.class_expr_hears _ g.met.B.Bodies.lawful x ts)
+    m.refused c.from_residual.ensures.1
+    (s.unheard_call _ (rule.class_expr_hears _ g.met.B.Bodies.lawful)
     (hearing.hook_parses g.I.Tokens.model g.met.I.Tokens.laws _ g.met.B.Bodies.lawful.class.viewed g.B.Bodies.is_faithful _ c.class-answer.result (Err c.in_err-class.field-0.0)
-    c.class-answer.ensures.hooked c.class-answer.ensures.faithful c.in_err-class.ensures.runs c.in_err-class.ensures.fails)) (grows-same _))
+    c.class-answer.ensures.hooked c.class-answer.ensures.faithful c.in_err-class.ensures.runs c.in_err-class.ensures.fails)) (grows-same _)
 
 pub returns : goal.returns
 returns g c =

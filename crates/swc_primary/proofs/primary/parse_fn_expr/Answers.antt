@@ -1,5 +1,4 @@
-use Rattle.std.proofs.Common.{Ok, Err, Some, arith}
-use Rattle.std.proofs.lemmas.Result.{err_from_is_err_and}
+use Rattle.std.proofs.Common.{Ok, Err, arith}
 use Rattle.swc_ast.specs.Trees.{fn_e}
 use Rattle.swc_nodes.proofs.Standing.{grows-same}
 use Rattle.swc_steps.proofs.Hearing as hearing
@@ -10,10 +9,10 @@ use Rattle.swc_primary.proofs.primary.parse_fn_expr.Goals as goal
 
 pub returns-in_err-function : goal.returns-in_err-function
 returns-in_err-function g c =
-    let p = err_from_is_err_and c.from_residual.result c.from_residual.ensures.1 in rw (p.1, p.2)
-    (m.no (s.unheard_call (λ x p. Some (fn_e (g.B.Fun.Spanned.place p.0) p.0, p.1)) (λ x ts. rule.fn_expr_hears _ g.met.B.Bodies.lawful x ts)
+    m.refused c.from_residual.ensures.1
+    (s.unheard_call _ (rule.fn_expr_hears _ g.met.B.Bodies.lawful)
     (hearing.hook_parses g.I.Tokens.model g.met.I.Tokens.laws _ g.met.B.Bodies.lawful.fun.viewed g.B.Bodies.is_faithful _ c.fun-answer.result (Err c.in_err-function.field-0.0)
-    c.fun-answer.ensures.hooked c.fun-answer.ensures.faithful c.in_err-function.ensures.runs c.in_err-function.ensures.fails)) (grows-same _))
+    c.fun-answer.ensures.hooked c.fun-answer.ensures.faithful c.in_err-function.ensures.runs c.in_err-function.ensures.fails)) (grows-same _)
 
 pub returns : goal.returns
 returns g c =

@@ -3,7 +3,6 @@ use Rattle.swc_input.specs.Buffer.{context}
 use Rattle.swc_ast.specs.Trees.{ident_e}
 use Rattle.swc_nodes.proofs.Standing.{grows-same}
 use Rattle.std.proofs.Common.{Some, ◌&&◌, refl, sym, ap, ◌∙◌, arith}
-use Rattle.std.proofs.lemmas.Result.{err_from_is_err_and}
 use Rattle.swc_grammar.specs.Clean.{first, is_identifier}
 use Rattle.swc_steps.specs.Parsing.{scope, seen, is_strict}
 use Rattle.swc_steps.proofs.Rules as rule
@@ -13,15 +12,15 @@ use Rattle.swc_primary.proofs.primary.parse_ident_expr.Goals as goal
 
 pub returns-in_err-ident : goal.returns-in_err-ident
 returns-in_err-ident g c =
-    let p = err_from_is_err_and c.from_residual.result c.from_residual.ensures.1 in rw (p.1, p.2)
-    (m.no (s.unheard_after (s.on_seen (s.here_now g.met.I.Tokens.laws _ (s.seen_some (is_identifier (context g.I.Tokens.model c.args.p.now.input)) c.args.p.now.input c.requires))
+    m.refused c.from_residual.ensures.1
+    (s.unheard_after (s.on_seen (s.here_now g.met.I.Tokens.laws _ (s.seen_some (is_identifier (context g.I.Tokens.model c.args.p.now.input)) c.args.p.now.input c.requires))
     (λ x ts same e. rule.ident_expr_named _ x ts (ap (λ v. at_token (is_identifier v.context) (first ts)) same ∙ ap (at_token (is_identifier (context g.I.Tokens.model c.args.p.now.input))) e ∙ c.requires)))
-    (s.unheard_call (λ x p. Some (ident_e p.0.at p.0.text, p.1)) (λ x ts. refl) (c.in_err-ident.ensures.parses g.B.Bodies.is_faithful))) (grows-same _))
+    (s.unheard_call (λ x p. Some (ident_e p.0.at p.0.text, p.1)) (λ x ts. refl) (c.in_err-ident.ensures.parses g.B.Bodies.is_faithful))) (grows-same _)
 
 pub returns-in_err-check_strict_word : goal.returns-in_err-check_strict_word
 returns-in_err-check_strict_word g c =
-    let p = err_from_is_err_and c.from_residual-in_err-check_strict_word.result c.from_residual-in_err-check_strict_word.ensures.1 in rw (p.1, p.2)
-    (m.no (s.unheard_memory (s.forgoes_later (c.in_ok-ident.ensures.parses g.B.Bodies.is_faithful).on.leads c.in_err-check_strict_word.ensures.checks)) (grows-same _))
+    m.refused c.from_residual-in_err-check_strict_word.ensures.1
+    (s.unheard_memory (s.forgoes_later (c.in_ok-ident.ensures.parses g.B.Bodies.is_faithful).on.leads c.in_err-check_strict_word.ensures.checks)) (grows-same _)
 
 pub returns : goal.returns
 returns g c =

@@ -16,7 +16,7 @@ returns-in_err-require_cur-clause-parses g c =
 
 pub returns-then-not-is_lit-clause-parses : goal.returns-then-not-is_lit-clause-parses
 returns-then-not-is_lit-clause-parses g c = λ sure.
-    s.unheard_at c.in_ok-require_cur.ensures.fits (λ x ts same e. rule.lit_not _ x ts (ap (at_token is_lit) e ∙ sym c.is_lit.ensures.value ∙ c.if-not-is_lit.true)) c.syntax_error.ensures.refuses
+    s.unheard_at c.in_ok-require_cur.ensures.fits (λ x ts same e. rule.lit_not _ x ts (ap (at_token is_lit) e ∙ sym c.is_lit.ensures.value ∙ c.if-not-is_lit.true)) c.no_primary.ensures.refuses
 
 pub returns-clause-parses : goal.returns-clause-parses
 returns-clause-parses g c = λ sure.

@@ -1,8 +1,7 @@
 use Rattle.swc_context.specs.Spans.{from_to}
 use Rattle.swc_ast.specs.Trees.{to, private_e}
 use Rattle.swc_nodes.proofs.Standing.{grows-same}
-use Rattle.std.proofs.Common.{◌≡◌, Some, sym, ap, arith}
-use Rattle.std.proofs.lemmas.Result.{err_from_is_err_and}
+use Rattle.std.proofs.Common.{◌≡◌, sym, ap, arith}
 use Rattle.swc_input.specs.Plain.{plain}
 use Rattle.swc_input.specs.Kinds.{is_hash}
 use Rattle.swc_steps.specs.Readers.{private_expr_tail}
@@ -13,9 +12,9 @@ use Rattle.swc_primary.proofs.primary.parse_private_expr.Goals as goal
 
 pub returns-in_err-name : goal.returns-in_err-name
 returns-in_err-name g c =
-    let p = err_from_is_err_and c.from_residual.result c.from_residual.ensures.1 in rw (p.1, p.2)
-    (m.no (s.unheard_after (s.on_took {g = private_expr_tail _ (plain c.skip.ensures.took.1.was).span} g.met.I.Tokens.laws c.skip.ensures.took.1 (λ x ts. rule.private_expr_opens _ (plain c.skip.ensures.took.1.was) x ts (rule.passes_plain is_hash _ _ c.skip.ensures.took.1.current c.requires)))
-    (s.unheard_call (λ x p. Some (private_e (to (plain c.skip.ensures.took.1.was).span p.0.at) p.0.text, p.1)) (λ x ts. rule.private_expr_splits _ (plain c.skip.ensures.took.1.was).span x ts) (c.in_err-name.ensures.parses g.B.Bodies.is_faithful))) (grows-same _))
+    m.refused c.from_residual.ensures.1
+    (s.unheard_after (s.on_took {g = private_expr_tail _ (plain c.skip.ensures.took.1.was).span} g.met.I.Tokens.laws c.skip.ensures.took.1 (λ x ts. rule.private_expr_opens _ (plain c.skip.ensures.took.1.was) x ts (rule.passes_plain is_hash _ _ c.skip.ensures.took.1.current c.requires)))
+    (s.unheard_call _ (rule.private_expr_splits _ (plain c.skip.ensures.took.1.was).span) (c.in_err-name.ensures.parses g.B.Bodies.is_faithful))) (grows-same _)
 
 pub returns : goal.returns
 returns g c =
@@ -25,4 +24,4 @@ returns g c =
     ap (λ v. private_e (from_to v name.span.hi) name.sym) (ap (λ v. v.lo) (sym (s.place_was first c.cur_span.result c.cur_span.ensures))) in
     m.node _ c.private_expr-node.result c.made.result (omega arith) c.private_expr-node.ensures.made c.made.ensures.ok c.made.ensures.refused (grows-same _) c.private_expr-node.ensures.grows
     (s.heard_answer whole (s.heard_first {g = private_expr_tail _ (plain c.skip.ensures.took.1.was).span} g.met.I.Tokens.laws first (λ x ts. rule.private_expr_opens _ (plain first.was) x ts (rule.passes_plain is_hash _ _ first.current c.requires))
-    (s.on_call (λ x p. Some (private_e (to (plain c.skip.ensures.took.1.was).span p.0.at) p.0.text, p.1)) (λ x ts. rule.private_expr_splits _ (plain c.skip.ensures.took.1.was).span x ts) (c.in_ok-name.ensures.parses g.B.Bodies.is_faithful).on)))
+    (s.on_call _ (rule.private_expr_splits _ (plain c.skip.ensures.took.1.was).span) (c.in_ok-name.ensures.parses g.B.Bodies.is_faithful).on)))

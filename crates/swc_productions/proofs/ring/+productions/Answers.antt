@@ -15,9 +15,9 @@ use Rattle.swc_grammar.specs.Tokens.{is_question, is_star, is_await, is_yield, a
 use Rattle.swc_ast.specs.Tree.{nil, cons, node, trees, span_of, tpl as tpl_kind}
 use Rattle.swc_ast.specs.Parts.{item_of as item_tree_of, item_trees, quasi_tree}
 use Rattle.swc_nodes.specs.Lists.{elem_parts, elem_tree, elem_trees, props_parts, exprs_parts, expr_trees}
-use Rattle.swc_nodes.specs.Seats.{chain}
-use Rattle.swc_nodes.specs.Slots.{flat, if_some, item_parts, args_parts, prop_parts, key_parts, one_expr, expr_part}
-use Rattle.swc_nodes.specs.Stands.{count, seat_at, tree_at, first_at, start_at, end_at, Apart}
+use Rattle.swc_nodes.specs.NumberedTrees.{chain}
+use Rattle.swc_nodes.specs.NodeParts.{flat, if_some, item_parts, args_parts, prop_parts, key_parts, one_expr, expr_part}
+use Rattle.swc_nodes.specs.GrowingNodes.{count, seat_at, tree_at, first_at, start_at, end_at, Apart}
 use Rattle.swc_nodes.proofs.Edges.{start-later}
 use Rattle.swc_nodes.proofs.Lists.{apart-none, apart-list-more, elems-more, props-more, exprs-more, exprs-apart-more}
 use Rattle.swc_nodes.proofs.Lists.{trees-both, trees-more, exprs-later, apart-later, apart-more-one}
@@ -37,7 +37,7 @@ use Rattle.swc_steps.specs.Parsing.{scope, seen, behind, tree_of, item_at, elems
 use Rattle.swc_steps.specs.Parsing.{args_at, props_at, Produces, elem_of, elem_at}
 use Rattle.swc_steps.specs.Args.{paren_of, paren_expr_tail, args_behind, args_by, separated_args}
 use Rattle.swc_operators.specs.Assignments.{seqs_by, seqs_more, cond_tail, cond_colon, cond_close, seqs_from_by}
-use Rattle.swc_operators.specs.Assignments.{assign_at, assign_tail, yield_arg, yield_tail, yield_operand, assign_expr}
+use Rattle.swc_operators.specs.Assignments.{assign_at, assign_tail, yield_arg, yield_tail, yield_operand, assign_expr, yield_expr}
 use Rattle.swc_steps.specs.Readers.{begun_if, unary_op_node, unary_op_tail, nothing, inside, unary_op}
 use Rattle.swc_operators.specs.Updates.{update_at, update_node, update_tail, await_reads, await_tail, await_ident}
 use Rattle.swc_operators.specs.Updates.{await_operand, update_prefix, await_expr}
@@ -56,9 +56,13 @@ use Rattle.swc_nodes.proofs.Held.{apart-from, from-down, from-later, from_self, 
 use Rattle.swc_steps.proofs.Building.{apart-down, apart-lower, apart_behind, grows-kept, made_over}
 use Rattle.swc_operators.specs.Pending.{pending_reads}
 use Rattle.swc_operators.proofs.Assignments as assign
+use Rattle.swc_operators.proofs.InContext.{assign_within, expr_within}
+use Rattle.swc_operators.proofs.Sequences.{behind_comma}
 use Rattle.swc_operators.proofs.Pending as pending
+use Rattle.swc_operators.proofs.Entered as entered
 use Rattle.swc_steps.proofs.Args as args
 use Rattle.swc_left.proofs.Bases as base
+use Rattle.swc_left.proofs.Chains as chain
 use Rattle.swc_primary.proofs.Begins as begins
 use Rattle.swc_steps.proofs.Endings as ending
 use Rattle.swc_steps.proofs.Keys as key
@@ -424,45 +428,49 @@ parse_object_prop-returns-in-Shorthand g t c =
 
 pub parse_object_prop-returns-in_err-expr-in-Spread : goal.parse_object_prop-returns-in_err-expr-in-Spread
 parse_object_prop-returns-in_err-expr-in-Spread g t c =
+    let inner = assign_within g.B.BodyForms.forms c.include_in-before.ensures.before c.include_in-before.ensures.moves c.include_in-before.ensures.context c.parse_assignment_expr-read.ensures c.in_err-expr-in-Spread.ensures.answer c.in_err-expr-in-Spread.ensures.moves c.in_err-expr-in-Spread.ensures.context in
     let left = begins.begun g.I.Tokens.model g.B.Bodies.is_faithful g.B.BodyForms.forms _ _ (head.Spread c.in-Spread.dots) c.in-Spread.is c.in_ok-name.ensures.reads in
     let p = err_from_is_err_and c.from_residual-in_err-expr-in-Spread.result c.from_residual-in_err-expr-in-Spread.ensures.1 in rw (p.1, p.2)
     (m.no (s.unheard_after left
-    (s.unheard_call (λ x q. Some (spread_prop_e c.in-Spread.dots q.0, q.1)) (λ x ts. props.spread_prop_splits _ c.in-Spread.dots x ts) c.in_err-expr-in-Spread.ensures.reads))
-    c.parse_assignment_expr_with_in.ensures.grows)
+    (s.unheard_call (λ x q. Some (spread_prop_e c.in-Spread.dots q.0, q.1)) (λ x ts. props.spread_prop_splits _ c.in-Spread.dots x ts) inner.reads))
+    inner.grows)
 
 pub parse_object_prop-returns-in_ok-expr-in-Spread : goal.parse_object_prop-returns-in_ok-expr-in-Spread
 parse_object_prop-returns-in_ok-expr-in-Spread g t c =
+    let inner = assign_within g.B.BodyForms.forms {o = Ok c.in_ok-expr-in-Spread.expr} c.include_in-before.ensures.before c.include_in-before.ensures.moves c.include_in-before.ensures.context c.parse_assignment_expr-read.ensures c.in_ok-expr-in-Spread.ensures.answer c.in_ok-expr-in-Spread.ensures.moves c.in_ok-expr-in-Spread.ensures.context in
     let left = begins.begun g.I.Tokens.model g.B.Bodies.is_faithful g.B.BodyForms.forms _ _ (head.Spread c.in-Spread.dots) c.in-Spread.is c.in_ok-name.ensures.reads in
     m.yes (Ok _)
     (s.heard_answer (sym c.spread_prop.ensures.tree) (s.heard_after left
-    (s.heard_call (λ x q. Some (spread_prop_e c.in-Spread.dots q.0, q.1)) (λ x ts. props.spread_prop_splits _ c.in-Spread.dots x ts) (λ x ts. refl) c.in_ok-expr-in-Spread.ensures.reads)))
-    c.parse_assignment_expr_with_in.ensures.grows
-    (subst (λ ps. Apart (count c.args.p.now.nodes) c.parse_assignment_expr_with_in.new.p.nodes ps) (sym c.spread_prop.ensures.parts)
-    (apart-from (expr_part c.in_ok-expr-in-Spread.expr) c.in_ok-expr-in-Spread.ensures.from))
+    (s.heard_call (λ x q. Some (spread_prop_e c.in-Spread.dots q.0, q.1)) (λ x ts. props.spread_prop_splits _ c.in-Spread.dots x ts) (λ x ts. refl) inner.reads)))
+    inner.grows
+    (subst (λ ps. Apart (count c.args.p.now.nodes) c.parse_assignment_expr-read.new.p.nodes ps) (sym c.spread_prop.ensures.parts)
+    (apart-from (expr_part c.in_ok-expr-in-Spread.expr) inner.from))
 
 pub parse_object_prop-returns-in_err-value-in-Cover : goal.parse_object_prop-returns-in_err-value-in-Cover
 parse_object_prop-returns-in_err-value-in-Cover g t c =
+    let inner = assign_within g.B.BodyForms.forms c.include_in-before-in-Cover.ensures.before c.include_in-before-in-Cover.ensures.moves c.include_in-before-in-Cover.ensures.context c.parse_assignment_expr-read-in-Cover.ensures c.in_err-value-in-Cover.ensures.answer c.in_err-value-in-Cover.ensures.moves c.in_err-value-in-Cover.ensures.context in
     let n = ident_spelling c.in-Cover.name in
     let left = begins.begun g.I.Tokens.model g.B.Bodies.is_faithful g.B.BodyForms.forms _ _ (head.Cover c.in-Cover.name) c.in-Cover.is c.in_ok-name.ensures.reads in
     let p = err_from_is_err_and c.from_residual-in_err-value-in-Cover.result c.from_residual-in_err-value-in-Cover.ensures.1 in rw (p.1, p.2)
     (m.no (s.unheard_after left
-    (s.unheard_call (λ x p. Some (cover_node n p.0, p.1)) (λ x ts. props.cover_tail_splits _ n x ts) c.in_err-value-in-Cover.ensures.reads)) c.parse_assignment_expr_with_in-in-Cover.ensures.grows)
+    (s.unheard_call (λ x p. Some (cover_node n p.0, p.1)) (λ x ts. props.cover_tail_splits _ n x ts) inner.reads)) inner.grows)
 
 pub parse_object_prop-returns-in_ok-value-in-Cover : goal.parse_object_prop-returns-in_ok-value-in-Cover
 parse_object_prop-returns-in_ok-value-in-Cover g t c =
+    let inner = assign_within g.B.BodyForms.forms {o = Ok c.in_ok-value-in-Cover.value} c.include_in-before-in-Cover.ensures.before c.include_in-before-in-Cover.ensures.moves c.include_in-before-in-Cover.ensures.context c.parse_assignment_expr-read-in-Cover.ensures c.in_ok-value-in-Cover.ensures.answer c.in_ok-value-in-Cover.ensures.moves c.in_ok-value-in-Cover.ensures.context in
     let n = ident_spelling c.in-Cover.name in
     let left = begins.begun g.I.Tokens.model g.B.Bodies.is_faithful g.B.BodyForms.forms _ _ (head.Cover c.in-Cover.name) c.in-Cover.is c.in_ok-name.ensures.reads in
     let value = c.in_ok-value-in-Cover in
-    let v = tree_of c.parse_assignment_expr_with_in-in-Cover.new.p.nodes value.value in
+    let v = tree_of c.parse_assignment_expr-read-in-Cover.new.p.nodes value.value in
     m.yes (Ok _)
     (s.heard_answer (sym c.cover_prop.ensures.tree) (s.heard_after left
     (s.heard_call_read (λ x p. Some (cover_node n p.0, p.1)) (λ x ts. props.cover_tail_splits _ n x ts)
     (λ x ts us h y ys. ap (λ e. Some (cover_e (from_to n.at.lo e) (ident_e n.at n.text) v, ys))
-    (sym (ending.ended _ g.met.B.Bodies.lawful value.value Assign (with_in x) ts us value.ensures.from (sym (rule.inside_assign _ x ts) ∙ h))))
-    value.ensures.reads)))
-    c.parse_assignment_expr_with_in-in-Cover.ensures.grows
-    (subst (λ ps. Apart (count c.args.p.now.nodes) c.parse_assignment_expr_with_in-in-Cover.new.p.nodes ps) (sym c.cover_prop.ensures.parts)
-    (apart-from (expr_part c.in_ok-value-in-Cover.value) c.in_ok-value-in-Cover.ensures.from))
+    (sym (ending.ended _ g.met.B.Bodies.lawful value.value Assign (with_in x) ts us inner.from (sym (rule.inside_assign _ x ts) ∙ h))))
+    inner.reads)))
+    inner.grows
+    (subst (λ ps. Apart (count c.args.p.now.nodes) c.parse_assignment_expr-read-in-Cover.new.p.nodes ps) (sym c.cover_prop.ensures.parts)
+    (apart-from (expr_part c.in_ok-value-in-Cover.value) inner.from))
 
 pub parse_object_prop-returns-in_err-key-in-Key : goal.parse_object_prop-returns-in_err-key-in-Key
 parse_object_prop-returns-in_err-key-in-Key g t c =
@@ -517,6 +525,7 @@ parse_object_prop-returns-in_err-eat-in-Key g t c =
 
 pub parse_object_prop-returns-in_err-value-in-Some : goal.parse_object_prop-returns-in_err-value-in-Some
 parse_object_prop-returns-in_err-value-in-Some g t c =
+    let inner = assign_within g.B.BodyForms.forms c.include_in-before-in-Some.ensures.before c.include_in-before-in-Some.ensures.moves c.include_in-before-in-Some.ensures.context c.parse_assignment_expr-read-in-Some.ensures c.in_err-value-in-Some.ensures.answer c.in_err-value-in-Some.ensures.moves c.in_err-value-in-Some.ensures.context in
     let key = key_at c.parse_prop_name.new.p.nodes c.in_ok-key-in-Key.key in
     let left = begins.begun g.I.Tokens.model g.B.Bodies.is_faithful g.B.BodyForms.forms _ _ head.Key c.in-Key.is c.in_ok-name.ensures.reads in
     let named = s.on_then left (s.on_call (λ x p. behind_key _ p.0 x p.1) (λ x ts. method.key_splits _ x ts) c.in_ok-key-in-Key.ensures.reads.on) in
@@ -526,24 +535,25 @@ parse_object_prop-returns-in_err-value-in-Some g t c =
     (m.no (s.unheard_after named
     (s.unheard_call (λ x p. Some (prop_tree key p.0, p.1)) (λ x ts. method.behind_key_splits _ key x ts)
     (s.unheard_after some
-    (s.unheard_call (λ x p. Some (value_e (span_of p.0) p.0, p.1)) (λ x ts. method.after_colon_splits _ x ts) c.in_err-value-in-Some.ensures.reads))))
-    (grows-then c.parse_prop_name.ensures.grows c.parse_assignment_expr_with_in-in-Some.ensures.grows))
+    (s.unheard_call (λ x p. Some (value_e (span_of p.0) p.0, p.1)) (λ x ts. method.after_colon_splits _ x ts) inner.reads))))
+    (grows-then c.parse_prop_name.ensures.grows inner.grows))
 
 pub parse_object_prop-returns-in_ok-value-in-Some : goal.parse_object_prop-returns-in_ok-value-in-Some
 parse_object_prop-returns-in_ok-value-in-Some g t c =
+    let inner = assign_within g.B.BodyForms.forms {o = Ok c.in_ok-value-in-Some.value} c.include_in-before-in-Some.ensures.before c.include_in-before-in-Some.ensures.moves c.include_in-before-in-Some.ensures.context c.parse_assignment_expr-read-in-Some.ensures c.in_ok-value-in-Some.ensures.answer c.in_ok-value-in-Some.ensures.moves c.in_ok-value-in-Some.ensures.context in
     let key = key_at c.parse_prop_name.new.p.nodes c.in_ok-key-in-Key.key in
     let left = begins.begun g.I.Tokens.model g.B.Bodies.is_faithful g.B.BodyForms.forms _ _ head.Key c.in-Key.is c.in_ok-name.ensures.reads in
     let some = s.on_call (λ x p. after_by g.B.BodyForms.forms p.0 x p.1) (λ x ts. method.after_splits _ x ts)
     (s.eats_some g.B.Bodies.is_faithful is_colon _ c.in-Some.field-0 _ _ c.in-Some.is (c.in_ok-eat-in-Key.ensures.eats g.B.Bodies.is_faithful)).on in
-    let value = tree_of c.parse_assignment_expr_with_in-in-Some.new.p.nodes c.in_ok-value-in-Some.value in
+    let value = tree_of c.parse_assignment_expr-read-in-Some.new.p.nodes c.in_ok-value-in-Some.value in
     let read = s.heard_answer (ap (λ v. value_e v value) (sym c.extent-span.ensures)) (s.heard_after some
-    (s.heard_call (λ x p. Some (value_e (span_of p.0) p.0, p.1)) (λ x ts. method.after_colon_splits _ x ts) (λ x ts. refl) c.in_ok-value-in-Some.ensures.reads)) in
-    let made = method.key_prop_made c.in_ok-key-in-Key.key (after_key.Value c.extent-span.result c.in_ok-value-in-Some.value) c.key_prop.result c.key_prop.ensures c.parse_assignment_expr_with_in-in-Some.ensures.grows c.in_ok-key-in-Key.ensures.from c.in_ok-value-in-Some.ensures.from in
+    (s.heard_call (λ x p. Some (value_e (span_of p.0) p.0, p.1)) (λ x ts. method.after_colon_splits _ x ts) (λ x ts. refl) inner.reads)) in
+    let made = method.key_prop_made c.in_ok-key-in-Key.key (after_key.Value c.extent-span.result c.in_ok-value-in-Some.value) c.key_prop.result c.key_prop.ensures inner.grows c.in_ok-key-in-Key.ensures.from inner.from in
     m.yes (Ok _)
     (s.heard_answer made.0 (s.heard_after left
     (s.heard_more (λ x p. behind_key _ p.0 x p.1) (λ x ts. method.key_splits _ x ts) c.in_ok-key-in-Key.ensures.reads
     (s.on_call (λ x p. Some (prop_tree key p.0, p.1)) (λ x ts. method.behind_key_splits _ key x ts) read.on))))
-    (grows-then c.parse_prop_name.ensures.grows c.parse_assignment_expr_with_in-in-Some.ensures.grows) made.1
+    (grows-then c.parse_prop_name.ensures.grows inner.grows) made.1
 
 pub parse_object_prop-returns-in_err-after-in-None : goal.parse_object_prop-returns-in_err-after-in-None
 parse_object_prop-returns-in_err-after-in-None g t c =
@@ -916,20 +926,22 @@ parse_super-returns-in-Name g t c =
 
 pub parse_super-returns-in_err-expr-in-Computed : goal.parse_super-returns-in_err-expr-in-Computed
 parse_super-returns-in_err-expr-in-Computed g t c =
+    let inner = expr_within g.B.BodyForms.forms c.include_in-before.ensures.before c.include_in-before.ensures.moves c.include_in-before.ensures.context c.parse_expr-read.ensures c.in_err-expr-in-Computed.ensures.answer c.in_err-expr-in-Computed.ensures.moves c.in_err-expr-in-Computed.ensures.context in
     let q = c.in-Computed.bracket in
     let p = err_from_is_err_and c.from_residual-in_err-expr-in-Computed.result c.from_residual-in_err-expr-in-Computed.ensures.1 in rw (p.1, p.2)
     (m.no (s.unheard_after (s.on_call (λ x p. super_left _ c.args.start p.0 x p.1) (λ x ts. base.super_splits _ (not c.args.no_call) c.args.start x ts)
     (s.on_answer c.in-Computed.is (c.in_ok-super_head.ensures.continues g.B.Bodies.is_faithful)))
-    (s.unheard_call (λ x p. super_close c.args.start q p.0 x p.1) (λ x ts. base.computed_splits _ c.args.start q x ts) c.in_err-expr-in-Computed.ensures.reads)) c.parse_expr_with_in.ensures.grows)
+    (s.unheard_call (λ x p. super_close c.args.start q p.0 x p.1) (λ x ts. base.computed_splits _ c.args.start q x ts) inner.reads)) inner.grows)
 
 pub parse_super-returns-in-Computed : goal.parse_super-returns-in-Computed
 parse_super-returns-in-Computed g t c =
+    let inner = expr_within g.B.BodyForms.forms {o = Ok c.in_ok-expr-in-Computed.expr} c.include_in-before.ensures.before c.include_in-before.ensures.moves c.include_in-before.ensures.context c.parse_expr-read.ensures c.in_ok-expr-in-Computed.ensures.answer c.in_ok-expr-in-Computed.ensures.moves c.in_ok-expr-in-Computed.ensures.context in
     let q = c.in-Computed.bracket in
     m.after {m = record c.args.p.now { input = c.super_head.new.input }} c.super_computed.result
     (s.on_call (λ x p. super_left _ c.args.start p.0 x p.1) (λ x ts. base.super_splits _ (not c.args.no_call) c.args.start x ts)
     (s.on_answer c.in-Computed.is (c.in_ok-super_head.ensures.continues g.B.Bodies.is_faithful))) (grows-same _)
     (m.call c.super_computed.result (λ x p. super_close c.args.start q p.0 x p.1) (λ x ts. base.computed_splits _ c.args.start q x ts)
-    c.in_ok-expr-in-Computed.ensures.reads c.parse_expr_with_in.ensures.grows (λ x. from-down c.in_ok-expr-in-Computed.ensures.from.above)
+    inner.reads inner.grows (λ x. from-down inner.from.above)
     (m.weaker c.super_computed.result c.super_computed.ensures))
 
 pub parse_super-returns-in_err-list-in-Call : goal.parse_super-returns-in_err-list-in-Call
@@ -962,16 +974,18 @@ parse_super-returns-in-Name-2 g t c =
     let other = s.on_call (λ x p. super_left g.B.BodyForms.forms c.args.start p.0 x p.1) (λ x ts. base.super_splits g.B.BodyForms.forms (not c.args.no_call) c.args.start x ts) (s.on_answer c.in-Other.is (c.in_ok-super_head.ensures.continues g.B.Bodies.is_faithful)) in
     m.after c.refuse_super_name.result (s.on_then other (s.on_none {g = nothing} (λ x ts. refl) (λ x ts. refl) c.in_ok-super_chain.ensures.acts)) (grows-same _) c.refuse_super_name.ensures
 
-pub parse_super-returns-in_err-parse_expr_with_in-in-Computed-2 : goal.parse_super-returns-in_err-parse_expr_with_in-in-Computed-2
-parse_super-returns-in_err-parse_expr_with_in-in-Computed-2 g t c =
+pub parse_super-returns-in_err-leave-in-Computed-2 : goal.parse_super-returns-in_err-leave-in-Computed-2
+parse_super-returns-in_err-leave-in-Computed-2 g t c =
+    let inner = expr_within g.B.BodyForms.forms c.include_in-before-in-Computed-2.ensures.before c.include_in-before-in-Computed-2.ensures.moves c.include_in-before-in-Computed-2.ensures.context c.parse_expr-read-in-Computed-2.ensures c.in_err-leave-in-Computed-2.ensures.answer c.in_err-leave-in-Computed-2.ensures.moves c.in_err-leave-in-Computed-2.ensures.context in
     let other = s.on_call (λ x p. super_left g.B.BodyForms.forms c.args.start p.0 x p.1) (λ x ts. base.super_splits g.B.BodyForms.forms (not c.args.no_call) c.args.start x ts) (s.on_answer c.in-Other.is (c.in_ok-super_head.ensures.continues g.B.Bodies.is_faithful)) in
-    let p = err_from_is_err_and c.from_residual-in_err-parse_expr_with_in-in-Computed-2.result c.from_residual-in_err-parse_expr_with_in-in-Computed-2.ensures.1 in rw (p.1, p.2)
-    (m.no (s.unheard_after other (s.unheard_none (λ x ts. refl) (s.refuses_later c.in_ok-super_chain.ensures.acts c.in_err-parse_expr_with_in-in-Computed-2.ensures.reads.refuses))) c.parse_expr_with_in-in-Computed-2.ensures.grows)
+    let p = err_from_is_err_and c.from_residual-in_err-leave-in-Computed-2.result c.from_residual-in_err-leave-in-Computed-2.ensures.1 in rw (p.1, p.2)
+    (m.no (s.unheard_after other (s.unheard_none (λ x ts. refl) (s.refuses_later c.in_ok-super_chain.ensures.acts inner.reads.refuses))) inner.grows)
 
-pub parse_super-returns-in_ok-parse_expr_with_in-in-Computed-2 : goal.parse_super-returns-in_ok-parse_expr_with_in-in-Computed-2
-parse_super-returns-in_ok-parse_expr_with_in-in-Computed-2 g t c =
+pub parse_super-returns-in_ok-leave-in-Computed-2 : goal.parse_super-returns-in_ok-leave-in-Computed-2
+parse_super-returns-in_ok-leave-in-Computed-2 g t c =
+    let inner = expr_within g.B.BodyForms.forms c.include_in-before-in-Computed-2.ensures.before c.include_in-before-in-Computed-2.ensures.moves c.include_in-before-in-Computed-2.ensures.context c.parse_expr-read-in-Computed-2.ensures c.in_ok-leave-in-Computed-2.ensures.answer c.in_ok-leave-in-Computed-2.ensures.moves c.in_ok-leave-in-Computed-2.ensures.context in
     let other = s.on_call (λ x p. super_left g.B.BodyForms.forms c.args.start p.0 x p.1) (λ x ts. base.super_splits g.B.BodyForms.forms (not c.args.no_call) c.args.start x ts) (s.on_answer c.in-Other.is (c.in_ok-super_head.ensures.continues g.B.Bodies.is_faithful)) in
-    m.no (s.unheard_after other (s.unheard_none (λ x ts. refl) (s.refuses_later (s.leads_then c.in_ok-super_chain.ensures.acts c.in_ok-parse_expr_with_in-in-Computed-2.ensures.reads.on.leads) c.refuse_super_brackets.ensures))) c.parse_expr_with_in-in-Computed-2.ensures.grows
+    m.no (s.unheard_after other (s.unheard_none (λ x ts. refl) (s.refuses_later (s.leads_then c.in_ok-super_chain.ensures.acts inner.reads.on.leads) c.refuse_super_brackets.ensures))) inner.grows
 
 pub parse_super-returns-in_err-parse_args-in-Call-2 : goal.parse_super-returns-in_err-parse_args-in-Call-2
 parse_super-returns-in_err-parse_args-in-Call-2 g t c =
@@ -986,18 +1000,6 @@ parse_super-returns-in_ok-parse_args-in-Call-2 g t c =
 
 pub parse_subscripts-loop-head-init : goal.parse_subscripts-loop-head-init
 parse_subscripts-loop-head-init g t c = (s.on_here g.met.I.Tokens.laws _ (λ x ts. refl), omega arith, grows-same _, from_self c.requires.from)
-
-pub parse_subscripts-loop-head-preserved : goal.parse_subscripts-loop-head-preserved
-parse_subscripts-loop-head-preserved g t c =
-    let b = not c.args.no_call in
-    let l = tree_of c.loop-head.p.nodes c.loop-head.obj in (
-      s.on_then c.loop-head.invariant.0 (s.on_then (s.on_call (λ x p. links_by _ b p.0 l x p.1) (λ x ts. link.links_splits _ b l x ts)
-          (s.on_answer c.in-Some.is (c.in_ok-head.ensures.heads g.B.Bodies.is_faithful)))
-          (s.on_call (λ x p. run _ (links b p.0) x p.1) (λ x ts. refl) c.in_ok-obj.ensures.reads.on)),
-      let a = c.loop-head.invariant.1 in let d = c.in_ok-head.ensures.falls in let e = c.in_ok-obj.ensures.falls in omega arith,
-      grows-then c.loop-head.invariant.2 c.parse_link.ensures.grows,
-      from-down c.loop-head.invariant.3.above c.in_ok-obj.ensures.from,
-    )
 
 pub parse_subscripts-returns-in_err-head : goal.parse_subscripts-returns-in_err-head
 parse_subscripts-returns-in_err-head g t c =
@@ -1016,151 +1018,232 @@ parse_subscripts-returns-in-None g t c =
     (s.on_answer c.in-None.is (c.in_ok-head.ensures.heads g.B.Bodies.is_faithful))))
     c.loop-head.invariant.2 c.loop-head.invariant.3
 
-pub parse_subscripts-returns-in_err-obj : goal.parse_subscripts-returns-in_err-obj
-parse_subscripts-returns-in_err-obj g t c =
-    let b = not c.args.no_call in
+pub parse_subscripts-returns-in_err-obj-in-Name : goal.parse_subscripts-returns-in_err-obj-in-Name
+parse_subscripts-returns-in_err-obj-in-Name g t c =
+    let p = err_from_is_err_and c.from_residual-in_err-obj-in-Name.result c.from_residual-in_err-obj-in-Name.ensures.1 in rw (p.1, p.2)
+    (chain.not_linked g.B.BodyForms.forms c.args.p.now c.loop-head.p _ c.loop-head.invariant c.in-Some.is
+    (c.in_ok-head.ensures.heads g.B.Bodies.is_faithful)
+    (m.after (Err _) (s.on_here {f = link_tail _ c.in-Some.head (tree_of c.loop-head.p.nodes c.loop-head.obj)} g.met.I.Tokens.laws _
+    (λ x ts. link.tail_name _ c.in-Some.head c.in-Name.optional _ x ts c.in-Name.is)) (grows-same _) c.in_err-obj-in-Name.ensures))
+
+pub parse_subscripts-loop-head-preserved-in-Name : goal.parse_subscripts-loop-head-preserved-in-Name
+parse_subscripts-loop-head-preserved-in-Name g t c =
+    chain.linked g.B.BodyForms.forms c.args.p.now c.loop-head.p _ c.loop-head.invariant c.in-Some.is
+    (c.in_ok-head.ensures.heads g.B.Bodies.is_faithful) c.in_ok-head.ensures.falls
+    (m.after (Ok _) (s.on_here {f = link_tail _ c.in-Some.head (tree_of c.loop-head.p.nodes c.loop-head.obj)} g.met.I.Tokens.laws _
+    (λ x ts. link.tail_name _ c.in-Some.head c.in-Name.optional _ x ts c.in-Name.is)) (grows-same _) c.in_ok-obj-in-Name.ensures)
+
+pub parse_subscripts-returns-in_err-expr-in-Computed : goal.parse_subscripts-returns-in_err-expr-in-Computed
+parse_subscripts-returns-in_err-expr-in-Computed g t c =
+    let inner = expr_within g.B.BodyForms.forms c.include_in-before.ensures.before c.include_in-before.ensures.moves c.include_in-before.ensures.context c.parse_expr-read.ensures c.in_err-expr-in-Computed.ensures.answer c.in_err-expr-in-Computed.ensures.moves c.in_err-expr-in-Computed.ensures.context in
     let l = tree_of c.loop-head.p.nodes c.loop-head.obj in
-    let p = err_from_is_err_and c.from_residual-in_err-obj.result c.from_residual-in_err-obj.ensures.1 in rw (p.1, p.2)
-    (m.no_more (s.unheard_after c.loop-head.invariant.0 (s.unheard_after (s.on_call (λ x p. links_by _ b p.0 l x p.1) (λ x ts. link.links_splits _ b l x ts)
-    (s.on_answer c.in-Some.is (c.in_ok-head.ensures.heads g.B.Bodies.is_faithful)))
-    (s.unheard_call (λ x p. run _ (links b p.0) x p.1) (λ x ts. refl) c.in_err-obj.ensures.reads)))
-    (grows-then c.loop-head.invariant.2 c.parse_link.ensures.grows))
-
-pub parse_link-returns-in-Name : goal.parse_link-returns-in-Name
-parse_link-returns-in-Name g t c =
-    let l = tree_of c.args.p.now.nodes c.args.obj in
-    m.after c.parse_dot_member.result (s.on_here {f = link_tail _ c.args.head l} g.met.I.Tokens.laws _ (λ x ts. link.tail_name _ c.args.head c.in-Name.optional l x ts c.in-Name.is)) (grows-same _) c.parse_dot_member.ensures
-
-pub parse_link-returns-in_err-expr-in-Computed : goal.parse_link-returns-in_err-expr-in-Computed
-parse_link-returns-in_err-expr-in-Computed g t c =
-    let l = tree_of c.args.p.now.nodes c.args.obj in
-    let p = err_from_is_err_and c.from_residual.result c.from_residual.ensures.1 in rw (p.1, p.2)
+    let p = err_from_is_err_and c.from_residual-in_err-expr-in-Computed.result c.from_residual-in_err-expr-in-Computed.ensures.1 in rw (p.1, p.2)
+    (chain.not_linked g.B.BodyForms.forms c.args.p.now c.loop-head.p _ c.loop-head.invariant c.in-Some.is
+    (c.in_ok-head.ensures.heads g.B.Bodies.is_faithful)
     (m.no (s.unheard_call (λ x p. computed_close c.in-Computed.optional c.in-Computed.start l p.0 x p.1)
-    (λ x ts. link.tail_computed _ c.args.head c.in-Computed.start c.in-Computed.optional l x ts c.in-Computed.is) c.in_err-expr-in-Computed.ensures.reads) c.parse_expr_with_in.ensures.grows)
+    (λ x ts. link.tail_computed _ c.in-Some.head c.in-Computed.start c.in-Computed.optional l x ts c.in-Computed.is) inner.reads) inner.grows))
 
-pub parse_link-computed_member-requires : goal.parse_link-computed_member-requires
-parse_link-computed_member-requires g t c =
-    apart-down (one_expr c.args.obj ++ one_expr c.in_ok-expr-in-Computed.expr)
-    (apart_behind c.parse_expr_with_in.ensures.grows c.requires.from (apart-from (expr_part c.in_ok-expr-in-Computed.expr) c.in_ok-expr-in-Computed.ensures.from))
+pub parse_subscripts-computed_member-requires : goal.parse_subscripts-computed_member-requires
+parse_subscripts-computed_member-requires g t c =
+    let inner = expr_within g.B.BodyForms.forms {o = Ok c.in_ok-expr-in-Computed.expr} c.include_in-before.ensures.before c.include_in-before.ensures.moves c.include_in-before.ensures.context c.parse_expr-read.ensures c.in_ok-expr-in-Computed.ensures.answer c.in_ok-expr-in-Computed.ensures.moves c.in_ok-expr-in-Computed.ensures.context in
+    apart-down (one_expr c.loop-head.obj ++ one_expr c.in_ok-expr-in-Computed.expr)
+    (apart_behind inner.grows c.loop-head.invariant.3 (apart-from (expr_part c.in_ok-expr-in-Computed.expr) inner.from))
 
-pub parse_link-returns-in_ok-expr-in-Computed : goal.parse_link-returns-in_ok-expr-in-Computed
-parse_link-returns-in_ok-expr-in-Computed g t c =
-    m.tail c.computed_member.result (λ v x p. computed_close c.in-Computed.optional c.in-Computed.start v p.0 x p.1)
-    (λ x ts. link.tail_computed _ c.args.head c.in-Computed.start c.in-Computed.optional _ x ts c.in-Computed.is)
-    c.in_ok-expr-in-Computed.ensures.reads c.parse_expr_with_in.ensures.grows c.requires.from (m.weaker c.computed_member.result c.computed_member.ensures)
+pub parse_subscripts-returns-in_err-obj-in-Computed : goal.parse_subscripts-returns-in_err-obj-in-Computed
+parse_subscripts-returns-in_err-obj-in-Computed g t c =
+    let inner = expr_within g.B.BodyForms.forms {o = Ok c.in_ok-expr-in-Computed.expr} c.include_in-before.ensures.before c.include_in-before.ensures.moves c.include_in-before.ensures.context c.parse_expr-read.ensures c.in_ok-expr-in-Computed.ensures.answer c.in_ok-expr-in-Computed.ensures.moves c.in_ok-expr-in-Computed.ensures.context in
+    let p = err_from_is_err_and c.from_residual-in_err-obj-in-Computed.result c.from_residual-in_err-obj-in-Computed.ensures.1 in rw (p.1, p.2)
+    (chain.not_linked g.B.BodyForms.forms c.args.p.now c.loop-head.p _ c.loop-head.invariant c.in-Some.is
+    (c.in_ok-head.ensures.heads g.B.Bodies.is_faithful)
+    (m.tail (Err _) (λ v x p. computed_close c.in-Computed.optional c.in-Computed.start v p.0 x p.1)
+    (λ x ts. link.tail_computed _ c.in-Some.head c.in-Computed.start c.in-Computed.optional _ x ts c.in-Computed.is)
+    inner.reads inner.grows c.loop-head.invariant.3 (m.weaker (Err _) c.in_err-obj-in-Computed.ensures)))
 
-pub parse_link-returns-in_err-list-in-Call : goal.parse_link-returns-in_err-list-in-Call
-parse_link-returns-in_err-list-in-Call g t c =
-    let l = tree_of c.args.p.now.nodes c.args.obj in
+pub parse_subscripts-loop-head-preserved-in-Computed : goal.parse_subscripts-loop-head-preserved-in-Computed
+parse_subscripts-loop-head-preserved-in-Computed g t c =
+    let inner = expr_within g.B.BodyForms.forms {o = Ok c.in_ok-expr-in-Computed.expr} c.include_in-before.ensures.before c.include_in-before.ensures.moves c.include_in-before.ensures.context c.parse_expr-read.ensures c.in_ok-expr-in-Computed.ensures.answer c.in_ok-expr-in-Computed.ensures.moves c.in_ok-expr-in-Computed.ensures.context in
+    chain.linked g.B.BodyForms.forms c.args.p.now c.loop-head.p _ c.loop-head.invariant c.in-Some.is
+    (c.in_ok-head.ensures.heads g.B.Bodies.is_faithful) c.in_ok-head.ensures.falls
+    (m.tail (Ok _) (λ v x p. computed_close c.in-Computed.optional c.in-Computed.start v p.0 x p.1)
+    (λ x ts. link.tail_computed _ c.in-Some.head c.in-Computed.start c.in-Computed.optional _ x ts c.in-Computed.is)
+    inner.reads inner.grows c.loop-head.invariant.3 (m.weaker (Ok _) c.in_ok-obj-in-Computed.ensures))
+
+pub parse_subscripts-returns-in_err-list-in-Call : goal.parse_subscripts-returns-in_err-list-in-Call
+parse_subscripts-returns-in_err-list-in-Call g t c =
+    let l = tree_of c.loop-head.p.nodes c.loop-head.obj in
     let p = err_from_is_err_and c.from_residual-in_err-list-in-Call.result c.from_residual-in_err-list-in-Call.ensures.1 in rw (p.1, p.2)
+    (chain.not_linked g.B.BodyForms.forms c.args.p.now c.loop-head.p _ c.loop-head.invariant c.in-Some.is
+    (c.in_ok-head.ensures.heads g.B.Bodies.is_faithful)
     (m.no (s.unheard_call (λ x p. call_node c.in-Call.optional l p.0 x p.1)
-    (λ x ts. link.tail_call _ c.args.head c.in-Call.optional l x ts c.in-Call.is) c.in_err-list-in-Call.ensures.reads) c.parse_args.ensures.grows)
+    (λ x ts. link.tail_call _ c.in-Some.head c.in-Call.optional l x ts c.in-Call.is) c.in_err-list-in-Call.ensures.reads) c.parse_args.ensures.grows))
 
-pub parse_link-call_expr-requires : goal.parse_link-call_expr-requires
-parse_link-call_expr-requires g t c =
-    apart-down (one_expr c.args.obj ++ args_parts c.in_ok-list-in-Call.list.items)
-    (apart_behind c.parse_args.ensures.grows c.requires.from c.in_ok-list-in-Call.ensures.from)
+pub parse_subscripts-call_expr-requires : goal.parse_subscripts-call_expr-requires
+parse_subscripts-call_expr-requires g t c =
+    apart-down (one_expr c.loop-head.obj ++ args_parts c.in_ok-list-in-Call.list.items)
+    (apart_behind c.parse_args.ensures.grows c.loop-head.invariant.3 c.in_ok-list-in-Call.ensures.from)
 
-pub parse_link-returns-in_ok-list-in-Call : goal.parse_link-returns-in_ok-list-in-Call
-parse_link-returns-in_ok-list-in-Call g t c =
-    m.tail c.call_expr.result (λ v x p. call_node c.in-Call.optional v p.0 x p.1)
-    (λ x ts. link.tail_call _ c.args.head c.in-Call.optional _ x ts c.in-Call.is)
-    c.in_ok-list-in-Call.ensures.reads c.parse_args.ensures.grows c.requires.from c.call_expr.ensures
+pub parse_subscripts-returns-in_err-obj-in-Call : goal.parse_subscripts-returns-in_err-obj-in-Call
+parse_subscripts-returns-in_err-obj-in-Call g t c =
+    let p = err_from_is_err_and c.from_residual-in_err-obj-in-Call.result c.from_residual-in_err-obj-in-Call.ensures.1 in rw (p.1, p.2)
+    (chain.not_linked g.B.BodyForms.forms c.args.p.now c.loop-head.p _ c.loop-head.invariant c.in-Some.is
+    (c.in_ok-head.ensures.heads g.B.Bodies.is_faithful)
+    (m.tail (Err _) (λ v x p. call_node c.in-Call.optional v p.0 x p.1)
+    (λ x ts. link.tail_call _ c.in-Some.head c.in-Call.optional _ x ts c.in-Call.is)
+    c.in_ok-list-in-Call.ensures.reads c.parse_args.ensures.grows c.loop-head.invariant.3 c.in_err-obj-in-Call.ensures))
 
-pub parse_link-returns-in_err-parts-in-Template : goal.parse_link-returns-in_err-parts-in-Template
-parse_link-returns-in_err-parts-in-Template g t c =
-    let l = tree_of c.args.p.now.nodes c.args.obj in
+pub parse_subscripts-loop-head-preserved-in-Call : goal.parse_subscripts-loop-head-preserved-in-Call
+parse_subscripts-loop-head-preserved-in-Call g t c =
+    chain.linked g.B.BodyForms.forms c.args.p.now c.loop-head.p _ c.loop-head.invariant c.in-Some.is
+    (c.in_ok-head.ensures.heads g.B.Bodies.is_faithful) c.in_ok-head.ensures.falls
+    (m.tail (Ok _) (λ v x p. call_node c.in-Call.optional v p.0 x p.1)
+    (λ x ts. link.tail_call _ c.in-Some.head c.in-Call.optional _ x ts c.in-Call.is)
+    c.in_ok-list-in-Call.ensures.reads c.parse_args.ensures.grows c.loop-head.invariant.3 c.in_ok-obj-in-Call.ensures)
+
+pub parse_subscripts-returns-in_err-parts-in-Template : goal.parse_subscripts-returns-in_err-parts-in-Template
+parse_subscripts-returns-in_err-parts-in-Template g t c =
+    let l = tree_of c.loop-head.p.nodes c.loop-head.obj in
     let p = err_from_is_err_and c.from_residual-in_err-parts-in-Template.result c.from_residual-in_err-parts-in-Template.ensures.1 in rw (p.1, p.2)
+    (chain.not_linked g.B.BodyForms.forms c.args.p.now c.loop-head.p _ c.loop-head.invariant c.in-Some.is
+    (c.in_ok-head.ensures.heads g.B.Bodies.is_faithful)
     (m.no (s.unheard_call (λ x p. tagged_node c.in-Template.start l p.0 x p.1)
-    (λ x ts. link.tail_template _ c.args.head c.in-Template.start l x ts c.in-Template.is) c.in_err-parts-in-Template.ensures.reads) c.parse_tpl_elements.ensures.grows)
+    (λ x ts. link.tail_template _ c.in-Some.head c.in-Template.start l x ts c.in-Template.is) c.in_err-parts-in-Template.ensures.reads) c.parse_tpl_elements.ensures.grows))
 
-pub parse_link-tagged_tpl-requires : goal.parse_link-tagged_tpl-requires
-parse_link-tagged_tpl-requires g t c =
-    apart-down (one_expr c.args.obj ++ exprs_parts c.in_ok-parts-in-Template.parts.exprs)
-    (apart_behind c.parse_tpl_elements.ensures.grows c.requires.from c.in_ok-parts-in-Template.ensures.from)
+pub parse_subscripts-tagged_tpl-requires : goal.parse_subscripts-tagged_tpl-requires
+parse_subscripts-tagged_tpl-requires g t c =
+    apart-down (one_expr c.loop-head.obj ++ exprs_parts c.in_ok-parts-in-Template.parts.exprs)
+    (apart_behind c.parse_tpl_elements.ensures.grows c.loop-head.invariant.3 c.in_ok-parts-in-Template.ensures.from)
 
-pub parse_link-returns-in_ok-parts-in-Template : goal.parse_link-returns-in_ok-parts-in-Template
-parse_link-returns-in_ok-parts-in-Template g t c =
-    m.tail c.tagged_tpl.result (λ v x p. tagged_node c.in-Template.start v p.0 x p.1)
-    (λ x ts. link.tail_template _ c.args.head c.in-Template.start _ x ts c.in-Template.is)
-    c.in_ok-parts-in-Template.ensures.reads c.parse_tpl_elements.ensures.grows c.requires.from c.tagged_tpl.ensures
+pub parse_subscripts-returns-in_err-obj-in-Template : goal.parse_subscripts-returns-in_err-obj-in-Template
+parse_subscripts-returns-in_err-obj-in-Template g t c =
+    let p = err_from_is_err_and c.from_residual-in_err-obj-in-Template.result c.from_residual-in_err-obj-in-Template.ensures.1 in rw (p.1, p.2)
+    (chain.not_linked g.B.BodyForms.forms c.args.p.now c.loop-head.p _ c.loop-head.invariant c.in-Some.is
+    (c.in_ok-head.ensures.heads g.B.Bodies.is_faithful)
+    (m.tail (Err _) (λ v x p. tagged_node c.in-Template.start v p.0 x p.1)
+    (λ x ts. link.tail_template _ c.in-Some.head c.in-Template.start _ x ts c.in-Template.is)
+    c.in_ok-parts-in-Template.ensures.reads c.parse_tpl_elements.ensures.grows c.loop-head.invariant.3 c.in_err-obj-in-Template.ensures))
 
-pub parse_args-returns : goal.parse_args-returns
-parse_args-returns g t c =
-    m.yes c.parse_arg_list-args.result
-    (s.parses_within g.I.Tokens.model g.B.Bodies.is_faithful (args_at c.parse_arg_list-args.new.p.nodes) _ (run _ (at (Args c.args.is_dynamic_import))) c.parse_arg_list-args.result include_in (λ x. refl) (λ x ts. args.inside_args _ c.args.is_dynamic_import x ts)
-    c.set_ctx.ensures.moves (ap deciding c.set_ctx.ensures.context ∙ ap (λ x. include_in (deciding x)) c.get_ctx-ctx.ensures) c.parse_arg_list-args.ensures.reads c.set_ctx-2.ensures.moves
-    (c.set_ctx-2.ensures.context ∙ c.get_ctx-ctx.ensures))
-    c.parse_arg_list-args.ensures.grows c.parse_arg_list-args.ensures.from
+pub parse_subscripts-loop-head-preserved : goal.parse_subscripts-loop-head-preserved
+parse_subscripts-loop-head-preserved g t c =
+    chain.linked g.B.BodyForms.forms c.args.p.now c.loop-head.p _ c.loop-head.invariant c.in-Some.is
+    (c.in_ok-head.ensures.heads g.B.Bodies.is_faithful) c.in_ok-head.ensures.falls
+    (m.tail (Ok _) (λ v x p. tagged_node c.in-Template.start v p.0 x p.1)
+    (λ x ts. link.tail_template _ c.in-Some.head c.in-Template.start _ x ts c.in-Template.is)
+    c.in_ok-parts-in-Template.ensures.reads c.parse_tpl_elements.ensures.grows c.loop-head.invariant.3 c.in_ok-obj-in-Template.ensures)
 
-pub parse_arg_list-loop-items-init : goal.parse_arg_list-loop-items-init
-parse_arg_list-loop-items-init g t c = (
-  s.on_here g.met.I.Tokens.laws _ (λ x ts. args.args_first _ c.args.is_dynamic_import x ts ∙ ap (λ v. args_behind g.B.BodyForms.forms c.args.is_dynamic_import (item_trees (tree_of c.args.p.now.nodes) v) None x ts) (sym c.new-items.ensures.items)),
-  omega arith,
+pub parse_args-loop-value-init : goal.parse_args-loop-value-init
+parse_args-loop-value-init g t c = (
+  entered.entered g.met.I.Tokens.laws c.enter_args-before.ensures.moves c.enter_args-before.ensures.context (λ x ts. args.args_first _ c.args.is_dynamic_import x ts ∙ ap (λ v. args_behind g.B.BodyForms.forms c.args.is_dynamic_import (item_trees (tree_of c.args.p.now.nodes) v) None x ts) (sym c.new-items.ensures.items)),
+  let a = c.enter_args-before.ensures.stays in omega arith,
   grows-same _,
   record { chained = ap (λ v. chain (seat_at c.args.p.now.nodes) (count c.args.p.now.nodes) (flat item_parts v) (count c.args.p.now.nodes)) c.new-items.ensures.items ∙ (apart-none {ns = c.args.p.now.nodes} {k = count c.args.p.now.nodes} (omega arith)).chained },
 )
 
-pub parse_arg_list-loop-items-preserved : goal.parse_arg_list-loop-items-preserved
-parse_arg_list-loop-items-preserved g t c =
-    let before = item_trees (tree_of c.loop-items.p.nodes) c.loop-items.items.items in
-    let comma = c.loop-items.trailing_comma in
-    let none = s.eats_none g.B.Bodies.is_faithful is_rparen _ _ _ c.in-None.is (c.in_ok-end.ensures.eats g.B.Bodies.is_faithful) in
-    let item = s.heard_more (λ x p. separated_args c.args.is_dynamic_import x p.1 >>= (λ q. Some ((p.0, q.0), q.1))) (λ x ts. args.arg_item_splits _ c.args.is_dynamic_import x ts) c.in_ok-arg.ensures.reads
-    (s.on_call (λ x q. Some ((item_at c.parse_expr_or_spread.new.p.nodes c.in_ok-arg.arg, q.0), q.1)) (λ x ts. refl) (c.in_ok-separate_args.ensures.separates g.B.Bodies.is_faithful)) in
-    let more = ap (λ v. item_trees (tree_of c.parse_expr_or_spread.new.p.nodes) v) c.in_ok-add.ensures.added
-    ∙ args.items-more c.loop-items.items.items c.in_ok-arg.arg c.parse_expr_or_spread.ensures.grows c.loop-items.invariant.3 in
-    let parts = apart-list-more item_parts c.loop-items.items.items c.in_ok-arg.arg c.parse_expr_or_spread.ensures.grows c.loop-items.invariant.3 (apart-from (expr_part c.in_ok-arg.arg.expr) c.in_ok-arg.ensures.from) in (
-      s.on_then c.loop-items.invariant.0 (s.on_then (s.on_call (λ x p. args_by _ c.args.is_dynamic_import before comma p.0 x p.1) (λ x ts. args.behind_splits _ c.args.is_dynamic_import before comma x ts) none)
+pub parse_args-loop-value-preserved : goal.parse_args-loop-value-preserved
+parse_args-loop-value-preserved g t c =
+    let before = item_trees (tree_of c.loop-value.p.nodes) c.loop-value.items.items in
+    let comma = c.loop-value.trailing_comma in
+    let none = s.eats_none g.B.Bodies.is_faithful is_rparen _ _ _ c.in-None.is (c.in-Ok.ensures.eats g.B.Bodies.is_faithful) in
+    let item = s.heard_more (λ x p. separated_args c.args.is_dynamic_import x p.1 >>= (λ q. Some ((p.0, q.0), q.1))) (λ x ts. args.arg_item_splits _ c.args.is_dynamic_import x ts) c.in-Ok-parse_expr_or_spread.ensures.reads
+    (s.on_call (λ x q. Some ((item_at c.parse_expr_or_spread.new.p.nodes c.in-Ok-parse_expr_or_spread.value, q.0), q.1)) (λ x ts. refl) (c.in-Ok-separate_args.ensures.separates g.B.Bodies.is_faithful)) in
+    let more = ap (λ v. item_trees (tree_of c.parse_expr_or_spread.new.p.nodes) v) c.in-Ok-add.ensures.added
+    ∙ args.items-more c.loop-value.items.items c.in-Ok-parse_expr_or_spread.value c.parse_expr_or_spread.ensures.grows c.loop-value.invariant.3 in
+    let parts = apart-list-more item_parts c.loop-value.items.items c.in-Ok-parse_expr_or_spread.value c.parse_expr_or_spread.ensures.grows c.loop-value.invariant.3 (apart-from (expr_part c.in-Ok-parse_expr_or_spread.value.expr) c.in-Ok-parse_expr_or_spread.ensures.from) in (
+      entered.further c.loop-value.invariant.0 (s.on_then (s.on_call (λ x p. args_by _ c.args.is_dynamic_import before comma p.0 x p.1) (λ x ts. args.behind_splits _ c.args.is_dynamic_import before comma x ts) none)
           (s.on_to (s.on_call (λ x p. args_behind _ c.args.is_dynamic_import (trees_append before (cons p.0.0 nil)) p.0.1 x p.1) (λ x ts. args.args_more_splits _ c.args.is_dynamic_import before x ts) item.on)
-          (λ x ts. ap (λ v. args_behind g.B.BodyForms.forms c.args.is_dynamic_import v c.in_ok-separate_args.field-0 x ts) (sym more)))),
-      let a = c.loop-items.invariant.1 in let b = c.in_ok-arg.ensures.falls in let e = c.in_ok-separate_args.ensures.falls in let d = c.in_ok-end.ensures.falls in omega arith,
-      grows-then c.loop-items.invariant.2 c.parse_expr_or_spread.ensures.grows,
-      record { chained = ap (λ v. chain (seat_at c.parse_expr_or_spread.new.p.nodes) (count c.args.p.now.nodes) (flat item_parts v) (count c.parse_expr_or_spread.new.p.nodes)) c.in_ok-add.ensures.added ∙ parts.chained },
+          (λ x ts. ap (λ v. args_behind g.B.BodyForms.forms c.args.is_dynamic_import v c.in-Ok-separate_args.value x ts) (sym more)))),
+      let a = c.loop-value.invariant.1 in let b = c.in-Ok-parse_expr_or_spread.ensures.falls in let e = c.in-Ok-separate_args.ensures.falls in let d = c.in-Ok.ensures.falls in omega arith,
+      grows-then c.loop-value.invariant.2 c.parse_expr_or_spread.ensures.grows,
+      record { chained = ap (λ v. chain (seat_at c.parse_expr_or_spread.new.p.nodes) (count c.args.p.now.nodes) (flat item_parts v) (count c.parse_expr_or_spread.new.p.nodes)) c.in-Ok-add.ensures.added ∙ parts.chained },
     )
 
-pub parse_arg_list-returns-in_err-end : goal.parse_arg_list-returns-in_err-end
-parse_arg_list-returns-in_err-end g t c =
-    let before = item_trees (tree_of c.loop-items.p.nodes) c.loop-items.items.items in
-    let comma = c.loop-items.trailing_comma in
-    let p = err_from_is_err_and c.from_residual.result c.from_residual.ensures.1 in rw (p.1, p.2)
-    (m.no (s.unheard_after c.loop-items.invariant.0 (s.unheard_call (λ x p. args_by _ c.args.is_dynamic_import before comma p.0 x p.1) (λ x ts. args.behind_splits _ c.args.is_dynamic_import before comma x ts) (c.in_err-end.ensures.eats g.B.Bodies.is_faithful))) c.loop-items.invariant.2)
+pub parse_args-returns-in-Err : goal.parse_args-returns-in-Err
+parse_args-returns-in-Err g t c =
+    let before = item_trees (tree_of c.loop-value.p.nodes) c.loop-value.items.items in
+    let comma = c.loop-value.trailing_comma in
+    entered.args_left {q = record c.loop-value.p { input = c.eat.new.input }}
+    _ _ c.enter_args-before.ensures.before c.loop-value.invariant.0
+    (m.no (s.unheard_after c.loop-value.invariant.0.on (s.unheard_call (λ x p. args_by _ c.args.is_dynamic_import before comma p.0 x p.1) (λ x ts. args.behind_splits _ c.args.is_dynamic_import before comma x ts) (c.in-Err.ensures.eats g.B.Bodies.is_faithful))) c.loop-value.invariant.2)
+    c.set_ctx.ensures.moves c.set_ctx.ensures.context
 
-pub parse_arg_list-returns-in-Some : goal.parse_arg_list-returns-in-Some
-parse_arg_list-returns-in-Some g t c =
-    let before = item_trees (tree_of c.loop-items.p.nodes) c.loop-items.items.items in
-    let comma = c.loop-items.trailing_comma in
-    let some = s.eats_some g.B.Bodies.is_faithful is_rparen _ c.in-Some.end _ _ c.in-Some.is (c.in_ok-end.ensures.eats g.B.Bodies.is_faithful) in
-    m.yes (Ok _)
-    (s.heard_after c.loop-items.invariant.0 (s.heard_call (λ x p. args_by _ c.args.is_dynamic_import before comma p.0 x p.1) (λ x ts. args.behind_splits _ c.args.is_dynamic_import before comma x ts) (λ x ts. refl) some))
-    c.loop-items.invariant.2 c.loop-items.invariant.3
+pub parse_args-returns-in-Some : goal.parse_args-returns-in-Some
+parse_args-returns-in-Some g t c =
+    let before = item_trees (tree_of c.loop-value.p.nodes) c.loop-value.items.items in
+    let comma = c.loop-value.trailing_comma in
+    let some = s.eats_some g.B.Bodies.is_faithful is_rparen _ c.in-Some.end _ _ c.in-Some.is (c.in-Ok.ensures.eats g.B.Bodies.is_faithful) in
+    entered.args_left {q = record c.loop-value.p { input = c.eat.new.input }}
+    _ _ c.enter_args-before.ensures.before c.loop-value.invariant.0
+    (m.yes (Ok _)
+    (s.heard_after c.loop-value.invariant.0.on (s.heard_call (λ x p. args_by _ c.args.is_dynamic_import before comma p.0 x p.1) (λ x ts. args.behind_splits _ c.args.is_dynamic_import before comma x ts) (λ x ts. refl) some))
+    c.loop-value.invariant.2 c.loop-value.invariant.3)
+    c.set_ctx-in-Some.ensures.moves c.set_ctx-in-Some.ensures.context
 
-pub parse_arg_list-returns-in_err-add : goal.parse_arg_list-returns-in_err-add
-parse_arg_list-returns-in_err-add g t c =
-    let none = s.eats_none g.B.Bodies.is_faithful is_rparen _ _ _ c.in-None.is (c.in_ok-end.ensures.eats g.B.Bodies.is_faithful) in
-    let item = s.heard_more (λ x p. separated_args c.args.is_dynamic_import x p.1 >>= (λ q. Some ((p.0, q.0), q.1))) (λ x ts. args.arg_item_splits _ c.args.is_dynamic_import x ts) c.in_ok-arg.ensures.reads
-    (s.on_call (λ x q. Some ((item_at c.parse_expr_or_spread.new.p.nodes c.in_ok-arg.arg, q.0), q.1)) (λ x ts. refl) (c.in_ok-separate_args.ensures.separates g.B.Bodies.is_faithful)) in
-    let p = err_from_is_err_and c.from_residual-in_err-add.result c.from_residual-in_err-add.ensures.1 in rw (p.1, p.2)
-    (m.no (s.unheard_memory (s.forgoes_later (s.leads_then c.loop-items.invariant.0.leads (s.leads_then none.leads item.on.leads)) (s.forgoes_here g.met.I.Tokens.laws _ _ _ c.in_err-add.ensures.refused))) (grows-then c.loop-items.invariant.2 c.parse_expr_or_spread.ensures.grows))
+pub parse_args-returns-in-Err-parse_expr_or_spread : goal.parse_args-returns-in-Err-parse_expr_or_spread
+parse_args-returns-in-Err-parse_expr_or_spread g t c =
+    let before = item_trees (tree_of c.loop-value.p.nodes) c.loop-value.items.items in
+    let comma = c.loop-value.trailing_comma in
+    let none = s.eats_none g.B.Bodies.is_faithful is_rparen _ _ _ c.in-None.is (c.in-Ok.ensures.eats g.B.Bodies.is_faithful) in
+    entered.args_left {q = c.parse_expr_or_spread.new.p}
+    _ _ c.enter_args-before.ensures.before c.loop-value.invariant.0
+    (m.no (s.unheard_after c.loop-value.invariant.0.on (s.unheard_after (s.on_call (λ x p. args_by _ c.args.is_dynamic_import before comma p.0 x p.1) (λ x ts. args.behind_splits _ c.args.is_dynamic_import before comma x ts) none)
+    (s.unheard_call (λ x p. args_behind _ c.args.is_dynamic_import (trees_append before (cons p.0.0 nil)) p.0.1 x p.1) (λ x ts. args.args_more_splits _ c.args.is_dynamic_import before x ts) (s.unheard_call (λ x p. separated_args c.args.is_dynamic_import x p.1 >>= (λ q. Some ((p.0, q.0), q.1))) (λ x ts. args.arg_item_splits _ c.args.is_dynamic_import x ts) c.in-Err-parse_expr_or_spread.ensures.reads)))) (grows-then c.loop-value.invariant.2 c.parse_expr_or_spread.ensures.grows))
+    c.set_ctx-in-Err-parse_expr_or_spread.ensures.moves c.set_ctx-in-Err-parse_expr_or_spread.ensures.context
 
-pub parse_arg_list-returns-in_err-arg : goal.parse_arg_list-returns-in_err-arg
-parse_arg_list-returns-in_err-arg g t c =
-    let before = item_trees (tree_of c.loop-items.p.nodes) c.loop-items.items.items in
-    let comma = c.loop-items.trailing_comma in
-    let none = s.eats_none g.B.Bodies.is_faithful is_rparen _ _ _ c.in-None.is (c.in_ok-end.ensures.eats g.B.Bodies.is_faithful) in
-    let p = err_from_is_err_and c.from_residual-in_err-arg.result c.from_residual-in_err-arg.ensures.1 in rw (p.1, p.2)
-    (m.no (s.unheard_after c.loop-items.invariant.0 (s.unheard_after (s.on_call (λ x p. args_by _ c.args.is_dynamic_import before comma p.0 x p.1) (λ x ts. args.behind_splits _ c.args.is_dynamic_import before comma x ts) none)
-    (s.unheard_call (λ x p. args_behind _ c.args.is_dynamic_import (trees_append before (cons p.0.0 nil)) p.0.1 x p.1) (λ x ts. args.args_more_splits _ c.args.is_dynamic_import before x ts) (s.unheard_call (λ x p. separated_args c.args.is_dynamic_import x p.1 >>= (λ q. Some ((p.0, q.0), q.1))) (λ x ts. args.arg_item_splits _ c.args.is_dynamic_import x ts) c.in_err-arg.ensures.reads)))) (grows-then c.loop-items.invariant.2 c.parse_expr_or_spread.ensures.grows))
+pub parse_args-returns-in-Err-separate_args : goal.parse_args-returns-in-Err-separate_args
+parse_args-returns-in-Err-separate_args g t c =
+    let before = item_trees (tree_of c.loop-value.p.nodes) c.loop-value.items.items in
+    let comma = c.loop-value.trailing_comma in
+    let none = s.eats_none g.B.Bodies.is_faithful is_rparen _ _ _ c.in-None.is (c.in-Ok.ensures.eats g.B.Bodies.is_faithful) in
+    entered.args_left {q = record c.parse_expr_or_spread.new.p { input = c.separate_args.new.input }}
+    _ _ c.enter_args-before.ensures.before c.loop-value.invariant.0
+    (m.no (s.unheard_after c.loop-value.invariant.0.on (s.unheard_after (s.on_call (λ x p. args_by _ c.args.is_dynamic_import before comma p.0 x p.1) (λ x ts. args.behind_splits _ c.args.is_dynamic_import before comma x ts) none)
+    (s.unheard_call (λ x p. args_behind _ c.args.is_dynamic_import (trees_append before (cons p.0.0 nil)) p.0.1 x p.1) (λ x ts. args.args_more_splits _ c.args.is_dynamic_import before x ts) (s.unheard_after (s.on_call (λ x p. separated_args c.args.is_dynamic_import x p.1 >>= (λ q. Some ((p.0, q.0), q.1))) (λ x ts. args.arg_item_splits _ c.args.is_dynamic_import x ts) c.in-Ok-parse_expr_or_spread.ensures.reads.on)
+    (s.unheard_call (λ x q. Some ((item_at c.parse_expr_or_spread.new.p.nodes c.in-Ok-parse_expr_or_spread.value, q.0), q.1)) (λ x ts. refl) (c.in-Err-separate_args.ensures.separates g.B.Bodies.is_faithful)))))) (grows-then c.loop-value.invariant.2 c.parse_expr_or_spread.ensures.grows))
+    c.set_ctx-in-Err-separate_args.ensures.moves c.set_ctx-in-Err-separate_args.ensures.context
 
-pub parse_arg_list-returns-in_err-separate_args : goal.parse_arg_list-returns-in_err-separate_args
-parse_arg_list-returns-in_err-separate_args g t c =
-    let before = item_trees (tree_of c.loop-items.p.nodes) c.loop-items.items.items in
-    let comma = c.loop-items.trailing_comma in
-    let none = s.eats_none g.B.Bodies.is_faithful is_rparen _ _ _ c.in-None.is (c.in_ok-end.ensures.eats g.B.Bodies.is_faithful) in
-    let p = err_from_is_err_and c.from_residual-in_err-separate_args.result c.from_residual-in_err-separate_args.ensures.1 in rw (p.1, p.2)
-    (m.no (s.unheard_after c.loop-items.invariant.0 (s.unheard_after (s.on_call (λ x p. args_by _ c.args.is_dynamic_import before comma p.0 x p.1) (λ x ts. args.behind_splits _ c.args.is_dynamic_import before comma x ts) none)
-    (s.unheard_call (λ x p. args_behind _ c.args.is_dynamic_import (trees_append before (cons p.0.0 nil)) p.0.1 x p.1) (λ x ts. args.args_more_splits _ c.args.is_dynamic_import before x ts) (s.unheard_after (s.on_call (λ x p. separated_args c.args.is_dynamic_import x p.1 >>= (λ q. Some ((p.0, q.0), q.1))) (λ x ts. args.arg_item_splits _ c.args.is_dynamic_import x ts) c.in_ok-arg.ensures.reads.on)
-    (s.unheard_call (λ x q. Some ((item_at c.parse_expr_or_spread.new.p.nodes c.in_ok-arg.arg, q.0), q.1)) (λ x ts. refl) (c.in_err-separate_args.ensures.separates g.B.Bodies.is_faithful)))))) (grows-then c.loop-items.invariant.2 c.parse_expr_or_spread.ensures.grows))
+pub parse_args-returns-in-Err-add : goal.parse_args-returns-in-Err-add
+parse_args-returns-in-Err-add g t c =
+    let none = s.eats_none g.B.Bodies.is_faithful is_rparen _ _ _ c.in-None.is (c.in-Ok.ensures.eats g.B.Bodies.is_faithful) in
+    let item = s.heard_more (λ x p. separated_args c.args.is_dynamic_import x p.1 >>= (λ q. Some ((p.0, q.0), q.1))) (λ x ts. args.arg_item_splits _ c.args.is_dynamic_import x ts) c.in-Ok-parse_expr_or_spread.ensures.reads
+    (s.on_call (λ x q. Some ((item_at c.parse_expr_or_spread.new.p.nodes c.in-Ok-parse_expr_or_spread.value, q.0), q.1)) (λ x ts. refl) (c.in-Ok-separate_args.ensures.separates g.B.Bodies.is_faithful)) in
+    entered.args_left {q = record c.parse_expr_or_spread.new.p { input = c.separate_args.new.input }}
+    _ _ c.enter_args-before.ensures.before c.loop-value.invariant.0
+    (m.no (s.unheard_memory (s.forgoes_later (s.leads_then c.loop-value.invariant.0.on.leads (s.leads_then none.leads item.on.leads)) (s.forgoes_here g.met.I.Tokens.laws _ _ _ c.in-Err-add.ensures.refused))) (grows-then c.loop-value.invariant.2 c.parse_expr_or_spread.ensures.grows))
+    c.set_ctx-in-Err-add.ensures.moves c.set_ctx-in-Err-add.ensures.context
+
+pub parse_args-set_ctx-requires : goal.parse_args-set_ctx-requires
+parse_args-set_ctx-requires g t c =
+    entered.text c.eat.new.input (λ x. refl)
+    c.enter_args-before.ensures.before c.loop-value.invariant.0
+    ((c.in-Err.ensures.eats g.B.Bodies.is_faithful).refuses.spends.read.context)
+
+pub parse_args-set_ctx-requires-in-Some : goal.parse_args-set_ctx-requires-in-Some
+parse_args-set_ctx-requires-in-Some g t c =
+    entered.text c.eat.new.input (λ x. refl)
+    c.enter_args-before.ensures.before c.loop-value.invariant.0
+    ((s.eats_some g.B.Bodies.is_faithful is_rparen _ c.in-Some.end _ _ c.in-Some.is (c.in-Ok.ensures.eats g.B.Bodies.is_faithful)).on.leads.read.context)
+
+pub parse_args-set_ctx-requires-in-Err-parse_expr_or_spread : goal.parse_args-set_ctx-requires-in-Err-parse_expr_or_spread
+parse_args-set_ctx-requires-in-Err-parse_expr_or_spread g t c =
+    entered.text c.parse_expr_or_spread.new.p.input (λ x. refl)
+    c.enter_args-before.ensures.before c.loop-value.invariant.0
+    (c.in-Err-parse_expr_or_spread.ensures.reads.refuses.spends.read.context
+    ∙ (s.eats_none g.B.Bodies.is_faithful is_rparen _ _ _ c.in-None.is (c.in-Ok.ensures.eats g.B.Bodies.is_faithful)).leads.read.context)
+
+pub parse_args-set_ctx-requires-in-Err-separate_args : goal.parse_args-set_ctx-requires-in-Err-separate_args
+parse_args-set_ctx-requires-in-Err-separate_args g t c =
+    entered.text c.separate_args.new.input (λ x. refl)
+    c.enter_args-before.ensures.before c.loop-value.invariant.0
+    ((c.in-Err-separate_args.ensures.separates g.B.Bodies.is_faithful).refuses.spends.read.context
+    ∙ c.in-Ok-parse_expr_or_spread.ensures.reads.on.leads.read.context
+    ∙ (s.eats_none g.B.Bodies.is_faithful is_rparen _ _ _ c.in-None.is (c.in-Ok.ensures.eats g.B.Bodies.is_faithful)).leads.read.context)
+
+pub parse_args-set_ctx-requires-in-Err-add : goal.parse_args-set_ctx-requires-in-Err-add
+parse_args-set_ctx-requires-in-Err-add g t c =
+    entered.text c.separate_args.new.input (λ x. refl)
+    c.enter_args-before.ensures.before c.loop-value.invariant.0
+    ((c.in-Ok-separate_args.ensures.separates g.B.Bodies.is_faithful).leads.read.context
+    ∙ c.in-Ok-parse_expr_or_spread.ensures.reads.on.leads.read.context
+    ∙ (s.eats_none g.B.Bodies.is_faithful is_rparen _ _ _ c.in-None.is (c.in-Ok.ensures.eats g.B.Bodies.is_faithful)).leads.read.context)
 
 pub parse_unary_expr-returns-in_err-look : goal.parse_unary_expr-returns-in_err-look
 parse_unary_expr-returns-in_err-look g t c =
@@ -1579,75 +1662,260 @@ parse_operators-returns-in-None-pop g t c =
     c.loop-pending.invariant.2
     (pending.operand-alone c.loop-pending.left c.in-None-pop.ensures.0 c.loop-pending.invariant.3)
 
-pub parse_expr-returns-in_err-expr : goal.parse_expr-returns-in_err-expr
-parse_expr-returns-in_err-expr g t c =
+pub parse_expr-returns-in_err-first : goal.parse_expr-returns-in_err-first
+parse_expr-returns-in_err-first g t c =
     let p = err_from_is_err_and c.from_residual.result c.from_residual.ensures.1 in rw (p.1, p.2)
-    (m.no (s.unheard_call (λ x p. run _ (seqs (cons p.0 nil)) x p.1) (λ x ts. assign.expr_splits _ x ts) c.in_err-expr.ensures.reads) c.parse_assignment_expr.ensures.grows)
+    (m.no (s.unheard_call (λ x p. run _ (seqs (cons p.0 nil)) x p.1) (λ x ts. assign.expr_splits _ x ts) c.in_err-first.ensures.reads) c.parse_assignment_expr.ensures.grows)
 
 pub parse_expr-returns-in_err-eat : goal.parse_expr-returns-in_err-eat
 parse_expr-returns-in_err-eat g t c =
-    let e = tree_of c.parse_assignment_expr.new.p.nodes c.in_ok-expr.expr in
+    let e = tree_of c.parse_assignment_expr.new.p.nodes c.in_ok-first.first in
     let p = err_from_is_err_and c.from_residual-in_err-eat.result c.from_residual-in_err-eat.ensures.1 in rw (p.1, p.2)
-    (m.no (s.unheard_after (s.on_call (λ x p. run _ (seqs (cons p.0 nil)) x p.1) (λ x ts. assign.expr_splits _ x ts) c.in_ok-expr.ensures.reads.on)
+    (m.no (s.unheard_after (s.on_call (λ x p. run _ (seqs (cons p.0 nil)) x p.1) (λ x ts. assign.expr_splits _ x ts) c.in_ok-first.ensures.reads.on)
     (s.unheard_call (λ x p. seqs_by _ (cons e nil) p.0 x p.1) (λ x ts. assign.seqs_splits _ (cons e nil) x ts) (c.in_err-eat.ensures.eats g.B.Bodies.is_faithful))) c.parse_assignment_expr.ensures.grows)
-
-pub parse_expr-returns-in-Some : goal.parse_expr-returns-in-Some
-parse_expr-returns-in-Some g t c =
-    let e = tree_of c.parse_assignment_expr.new.p.nodes c.in_ok-expr.expr in
-    let some = s.eats_some g.B.Bodies.is_faithful is_comma _ c.in-Some.field-0 _ _ c.in-Some.is (c.in_ok-eat.ensures.eats g.B.Bodies.is_faithful) in
-    let b = begins_in_invalid e in
-    let lo = start_at c.parse_assignment_expr.new.p.nodes c.in_ok-expr.expr.0 in
-    m.call_read {g = λ x ts. eaten is_comma x ts >>= (λ p. seqs_from_by _ b lo (cons e nil) p.0 x p.1)} {m = c.parse_assignment_expr.new.p} c.parse_seq_expr.result (λ x p. run _ (seqs (cons p.0 nil)) x p.1) (λ x ts. assign.expr_splits _ x ts) c.in_ok-expr.ensures.reads
-    (λ x ts us h y ys. assign.seqs_begun _ b lo (cons e nil) y ys (ending.valid-begins e (ending.read-valid _ g.met.B.Bodies.lawful Assign x ts us e h)))
-    c.parse_assignment_expr.ensures.grows (λ x. from-down c.in_ok-expr.ensures.from.above)
-    (m.on_after {m = record c.parse_assignment_expr.new.p { input = c.eat.new.input }} c.parse_seq_expr.result
-    (s.on_call (λ x p. seqs_from_by _ b lo (cons e nil) p.0 x p.1) (λ x ts. refl) some.on) (grows-same _)
-    (m.weaker c.parse_seq_expr.result c.parse_seq_expr.ensures))
 
 pub parse_expr-returns-in-None : goal.parse_expr-returns-in-None
 parse_expr-returns-in-None g t c =
-    let e = tree_of c.parse_assignment_expr.new.p.nodes c.in_ok-expr.expr in
+    let e = tree_of c.parse_assignment_expr.new.p.nodes c.in_ok-first.first in
     let none = s.eats_none g.B.Bodies.is_faithful is_comma _ _ _ c.in-None.is (c.in_ok-eat.ensures.eats g.B.Bodies.is_faithful) in
     m.yes (Ok _)
-    (s.heard_more (λ x p. run _ (seqs (cons p.0 nil)) x p.1) (λ x ts. assign.expr_splits _ x ts) c.in_ok-expr.ensures.reads
+    (s.heard_more (λ x p. run _ (seqs (cons p.0 nil)) x p.1) (λ x ts. assign.expr_splits _ x ts) c.in_ok-first.ensures.reads
     (s.on_call (λ x p. seqs_by _ (cons e nil) p.0 x p.1) (λ x ts. assign.seqs_splits _ (cons e nil) x ts) none))
-    c.parse_assignment_expr.ensures.grows c.in_ok-expr.ensures.from
+    c.parse_assignment_expr.ensures.grows c.in_ok-first.ensures.from
 
-pub parse_expr_with_in-returns : goal.parse_expr_with_in-returns
-parse_expr_with_in-returns g t c =
-    m.yes c.parse_expr-expr.result
-    (s.parses_within g.I.Tokens.model g.B.Bodies.is_faithful (tree_of c.parse_expr-expr.new.p.nodes) _ (run _ (at Expr)) c.parse_expr-expr.result include_in (λ x. refl) (λ x ts. assign.inside_expr _ x ts)
-    c.set_ctx.ensures.moves (ap deciding c.set_ctx.ensures.context ∙ ap (λ x. include_in (deciding x)) c.get_ctx-ctx.ensures) c.parse_expr-expr.ensures.reads c.set_ctx-2.ensures.moves
-    (c.set_ctx-2.ensures.context ∙ c.get_ctx-ctx.ensures))
-    c.parse_expr-expr.ensures.grows c.parse_expr-expr.ensures.from
+pub parse_expr-returns-in_err-add : goal.parse_expr-returns-in_err-add
+parse_expr-returns-in_err-add g t c =
+    let some = s.eats_some g.B.Bodies.is_faithful is_comma _ c.in-Some.field-0 _ _ c.in-Some.is (c.in_ok-eat.ensures.eats g.B.Bodies.is_faithful) in
+    let p = err_from_is_err_and c.from_residual-in_err-add.result c.from_residual-in_err-add.ensures.1 in rw (p.1, p.2)
+    (m.no (s.unheard_memory (s.forgoes_later (s.leads_then c.in_ok-first.ensures.reads.on.leads some.on.leads) (s.forgoes_here g.met.I.Tokens.laws _ _ _ c.in_err-add.ensures.refused))) c.parse_assignment_expr.ensures.grows)
+
+pub parse_expr-loop-exprs-init : goal.parse_expr-loop-exprs-init
+parse_expr-loop-exprs-init g t c =
+    let now = c.parse_assignment_expr.new.p.nodes in
+    let first = c.in_ok-first.first in
+    let one = c.in_ok-add.ensures.added ∙ ap (λ v. v ++ first ∷ []) c.new-exprs.ensures.items in (
+      s.on_here g.met.I.Tokens.laws _ (λ x ts. refl),
+      let a = c.in_ok-first.ensures.falls in let b = c.in_ok-eat.ensures.falls in omega arith,
+      grows-same _,
+      record { chained = ap (λ v. chain (seat_at now) (count c.args.p.now.nodes) (flat one_expr v) (count now)) one ∙ (apart-from (expr_part first) c.in_ok-first.ensures.from).chained },
+      subst (λ v. 1 ≤ length v) (sym one) (omega arith),
+      λ d. refl,
+    )
+
+pub parse_expr-returns-in_err-expr : goal.parse_expr-returns-in_err-expr
+parse_expr-returns-in_err-expr g t c =
+    let old = c.parse_assignment_expr.new.p.nodes in let first = c.in_ok-first.first in
+    let one = c.in_ok-add.ensures.added ∙ ap (λ v. v ++ first ∷ []) c.new-exprs.ensures.items in
+    let on = s.on_by (λ x ts. ap (λ v. seqs_more g.B.BodyForms.forms (trees (map (λ e. tree_at old e.0) v)) x ts) (sym one)) c.loop-exprs.invariant.0 in
+    let comma = s.eats_some g.B.Bodies.is_faithful is_comma _ c.in-Some.field-0 _ _ c.in-Some.is (c.in_ok-eat.ensures.eats g.B.Bodies.is_faithful) in
+    let es = expr_trees (tree_at c.loop-exprs.p.nodes) c.loop-exprs.exprs in
+    let p = err_from_is_err_and c.from_residual-in_err-expr.result c.from_residual-in_err-expr.ensures.1 in rw (p.1, p.2)
+    (behind_comma g.B.BodyForms.forms g.met.B.Bodies.lawful {a = c.parse_assignment_expr.new.p} first (Err _) c.in_ok-first.ensures.reads c.parse_assignment_expr.ensures.grows comma
+    (m.no (s.unheard_call (λ x p. Some (begun_if (begins_in_invalid (tree_of old first)) (start_at old first.0) p.0, p.1)) (λ x ts. refl) (s.unheard_after on (s.unheard_call (λ x p. run _ (seqs (trees_append es (cons p.0 nil))) x p.1) (λ x ts. assign.seqs_more_splits _ es x ts) c.in_err-expr.ensures.reads)))
+    (grows-then c.loop-exprs.invariant.2 c.parse_assignment_expr-in-loop-exprs.ensures.grows)))
+
+pub parse_expr-returns-in_err-add-2 : goal.parse_expr-returns-in_err-add-2
+parse_expr-returns-in_err-add-2 g t c =
+    let comma = s.eats_some g.B.Bodies.is_faithful is_comma _ c.in-Some.field-0 _ _ c.in-Some.is (c.in_ok-eat.ensures.eats g.B.Bodies.is_faithful) in
+    let p = err_from_is_err_and c.from_residual-in_err-add-2.result c.from_residual-in_err-add-2.ensures.1 in rw (p.1, p.2)
+    (m.no (s.unheard_memory (s.forgoes_later (s.leads_then (s.leads_then c.in_ok-first.ensures.reads.on.leads comma.on.leads) (s.leads_then c.loop-exprs.invariant.0.leads c.in_ok-expr.ensures.reads.on.leads)) (s.forgoes_here g.met.I.Tokens.laws _ _ _ c.in_err-add-2.ensures.refused)))
+    (grows-then c.parse_assignment_expr.ensures.grows (grows-then c.loop-exprs.invariant.2 c.parse_assignment_expr-in-loop-exprs.ensures.grows)))
+
+pub parse_expr-returns-in_err-eat-2 : goal.parse_expr-returns-in_err-eat-2
+parse_expr-returns-in_err-eat-2 g t c =
+    let old = c.parse_assignment_expr.new.p.nodes in let first = c.in_ok-first.first in
+    let one = c.in_ok-add.ensures.added ∙ ap (λ v. v ++ first ∷ []) c.new-exprs.ensures.items in
+    let on = s.on_by (λ x ts. ap (λ v. seqs_more g.B.BodyForms.forms (trees (map (λ e. tree_at old e.0) v)) x ts) (sym one)) c.loop-exprs.invariant.0 in
+    let comma = s.eats_some g.B.Bodies.is_faithful is_comma _ c.in-Some.field-0 _ _ c.in-Some.is (c.in_ok-eat.ensures.eats g.B.Bodies.is_faithful) in
+    let es = expr_trees (tree_at c.loop-exprs.p.nodes) c.loop-exprs.exprs in
+    let more = trees_append es (cons (tree_of c.parse_assignment_expr-in-loop-exprs.new.p.nodes c.in_ok-expr.expr) nil) in
+    let p = err_from_is_err_and c.from_residual-in_err-eat-2.result c.from_residual-in_err-eat-2.ensures.1 in rw (p.1, p.2)
+    (behind_comma g.B.BodyForms.forms g.met.B.Bodies.lawful {a = c.parse_assignment_expr.new.p} first (Err _) c.in_ok-first.ensures.reads c.parse_assignment_expr.ensures.grows comma
+    (m.no (s.unheard_call (λ x p. Some (begun_if (begins_in_invalid (tree_of old first)) (start_at old first.0) p.0, p.1)) (λ x ts. refl) (s.unheard_after on (s.unheard_after (s.on_call (λ x p. run _ (seqs (trees_append es (cons p.0 nil))) x p.1) (λ x ts. assign.seqs_more_splits _ es x ts) c.in_ok-expr.ensures.reads.on)
+    (s.unheard_call (λ x p. seqs_by _ more p.0 x p.1) (λ x ts. assign.seqs_splits _ more x ts) (c.in_err-eat-2.ensures.eats g.B.Bodies.is_faithful)))))
+    (grows-then c.loop-exprs.invariant.2 c.parse_assignment_expr-in-loop-exprs.ensures.grows)))
+
+pub parse_expr-loop-exprs-preserved : goal.parse_expr-loop-exprs-preserved
+parse_expr-loop-exprs-preserved g t c =
+    let es = expr_trees (tree_at c.loop-exprs.p.nodes) c.loop-exprs.exprs in
+    let nodes = c.parse_assignment_expr-in-loop-exprs.new.p.nodes in
+    let more = trees_append es (cons (tree_of nodes c.in_ok-expr.expr) nil) in
+    let grows = c.parse_assignment_expr-in-loop-exprs.ensures.grows in
+    let some = s.eats_some g.B.Bodies.is_faithful is_comma _ c.in-Some-2.field-0 _ _ c.in-Some-2.is (c.in_ok-eat-2.ensures.eats g.B.Bodies.is_faithful) in
+    let added = ap (λ v. trees (map (λ e. tree_at nodes e.0) v)) c.in_ok-add-2.ensures.added ∙ exprs-more c.loop-exprs.exprs.items c.in_ok-expr.expr grows c.loop-exprs.invariant.3 in
+    let parts = exprs-apart-more c.loop-exprs.exprs.items c.in_ok-expr.expr grows c.loop-exprs.invariant.3 c.in_ok-expr.ensures.from in (
+      s.on_then c.loop-exprs.invariant.0 (s.on_then (s.on_call (λ x p. run _ (seqs (trees_append es (cons p.0 nil))) x p.1) (λ x ts. assign.seqs_more_splits _ es x ts) c.in_ok-expr.ensures.reads.on)
+          (s.on_to (s.on_call (λ x p. seqs_by _ more p.0 x p.1) (λ x ts. assign.seqs_splits _ more x ts) some.on)
+          (λ x ts. ap (λ v. seqs_more g.B.BodyForms.forms v x ts) (sym added)))),
+      let a = c.loop-exprs.invariant.1 in let b = c.in_ok-expr.ensures.falls in let d = c.in_ok-eat-2.ensures.falls in omega arith,
+      grows-then c.loop-exprs.invariant.2 grows,
+      record { chained = ap (λ v. chain (seat_at nodes) (count c.args.p.now.nodes) (flat one_expr v) (count nodes)) c.in_ok-add-2.ensures.added ∙ parts.chained },
+      subst (λ v. 1 ≤ length v) (sym c.in_ok-add-2.ensures.added) (let h = length-append c.loop-exprs.exprs.items (c.in_ok-expr.expr ∷ []) in omega arith),
+      λ d. ap (λ v. slice_index_or v 0 d) c.in_ok-add-2.ensures.added ∙ ending.head-more c.loop-exprs.exprs.items c.in_ok-expr.expr d c.loop-exprs.invariant.4
+          ∙ c.loop-exprs.invariant.5 d,
+    )
+
+pub parse_expr-returns-in-None-2 : goal.parse_expr-returns-in-None-2
+parse_expr-returns-in-None-2 g t c =
+    let old = c.parse_assignment_expr.new.p.nodes in let first = c.in_ok-first.first in
+    let one = c.in_ok-add.ensures.added ∙ ap (λ v. v ++ first ∷ []) c.new-exprs.ensures.items in
+    let on = s.on_by (λ x ts. ap (λ v. seqs_more g.B.BodyForms.forms (trees (map (λ e. tree_at old e.0) v)) x ts) (sym one)) c.loop-exprs.invariant.0 in
+    let comma = s.eats_some g.B.Bodies.is_faithful is_comma _ c.in-Some.field-0 _ _ c.in-Some.is (c.in_ok-eat.ensures.eats g.B.Bodies.is_faithful) in
+    let head = c.loop-exprs.invariant.5 first ∙ ap (λ v. slice_index_or v 0 first) one in
+    let before = c.loop-exprs.exprs.items in let xs = c.add-in-loop-exprs.new.list.items in
+    let es = expr_trees (tree_at c.loop-exprs.p.nodes) c.loop-exprs.exprs in
+    let nodes = c.parse_assignment_expr-in-loop-exprs.new.p.nodes in
+    let k = count c.args.p.now.nodes in
+    let held = from-down {k = 0} (omega arith) c.in_ok-first.ensures.from in
+    let more = trees_append es (cons (tree_of nodes c.in_ok-expr.expr) nil) in
+    let grows = c.parse_assignment_expr-in-loop-exprs.ensures.grows in
+    let none = s.eats_none g.B.Bodies.is_faithful is_comma _ _ _ c.in-None-2.is (c.in_ok-eat-2.ensures.eats g.B.Bodies.is_faithful) in
+    let added = ap (λ v. trees (map (λ e. tree_at nodes e.0) v)) c.in_ok-add-2.ensures.added ∙ exprs-more c.loop-exprs.exprs.items c.in_ok-expr.expr grows c.loop-exprs.invariant.3 in
+    let parts = exprs-apart-more c.loop-exprs.exprs.items c.in_ok-expr.expr grows c.loop-exprs.invariant.3 c.in_ok-expr.ensures.from in
+    let apart : Apart k nodes (exprs_parts c.add-in-loop-exprs.new.list) = record { chained = ap (λ v. chain (seat_at nodes) k (flat one_expr v) (count nodes)) c.in_ok-add-2.ensures.added ∙ parts.chained } in
+    let same : k ≤ k = omega arith in
+    behind_comma g.B.BodyForms.forms g.met.B.Bodies.lawful {a = c.parse_assignment_expr.new.p} first c.made.result c.in_ok-first.ensures.reads c.parse_assignment_expr.ensures.grows comma
+    (m.node {j = k} _ c.seq_expr-node.result c.made.result same
+    (made_over _ _ k (exprs_parts c.add-in-loop-exprs.new.list) _ c.seq_expr-node.result c.seq_expr-node.ensures.made apart)
+    c.made.ensures.ok c.made.ensures.refused (grows-then c.loop-exprs.invariant.2 grows) c.seq_expr-node.ensures.grows
+    (s.heard_answer (ending.seq-begun old nodes first c.in_ok-expr.expr before xs (grows-then c.loop-exprs.invariant.2 grows) held c.loop-exprs.invariant.4 head c.in_ok-add-2.ensures.added)
+    (s.heard_as (begun_if (begins_in_invalid (tree_of old first)) (start_at old first.0)) (λ x ts. refl)
+    (s.heard_after on (s.heard_more_read (λ x p. run _ (seqs (trees_append es (cons p.0 nil))) x p.1) (λ x ts. assign.seqs_more_splits _ es x ts) c.in_ok-expr.ensures.reads
+    (s.on_call (λ x p. seqs_by _ more p.0 x p.1) (λ x ts. assign.seqs_splits _ more x ts) none)
+    (λ x ts us h. ap seq_of (sym added) ∙ ending.seq-read old nodes first c.in_ok-expr.expr before xs (grows-then c.loop-exprs.invariant.2 grows) held c.loop-exprs.invariant.4 head c.in_ok-add-2.ensures.added
+    (ending.ended _ g.met.B.Bodies.lawful c.in_ok-expr.expr Assign x ts us c.in_ok-expr.ensures.from h)))))))
+
+pub parse_expr-seq_expr-node-requires-clause-apart : goal.parse_expr-seq_expr-node-requires-clause-apart
+parse_expr-seq_expr-node-requires-clause-apart g t c =
+    let nodes = c.parse_assignment_expr-in-loop-exprs.new.p.nodes in
+    let k = count c.args.p.now.nodes in
+    let parts = exprs-apart-more c.loop-exprs.exprs.items c.in_ok-expr.expr c.parse_assignment_expr-in-loop-exprs.ensures.grows c.loop-exprs.invariant.3 c.in_ok-expr.ensures.from in
+    let apart : Apart k nodes (exprs_parts c.add-in-loop-exprs.new.list) = record { chained = ap (λ v. chain (seat_at nodes) k (flat one_expr v) (count nodes)) c.in_ok-add-2.ensures.added ∙ parts.chained } in
+    apart-down (exprs_parts c.add-in-loop-exprs.new.list) apart
 
 pub parse_assignment_expr-returns-in_err-require_cur : goal.parse_assignment_expr-returns-in_err-require_cur
 parse_assignment_expr-returns-in_err-require_cur g t c =
     let p = err_from_is_err_and c.from_residual.result c.from_residual.ensures.1 in rw (p.1, p.2)
     (m.no (s.unheard_unfit g.met.I.Tokens.laws (λ x ts h. rule.assign_bad _ x ts h) c.in_err-require_cur.ensures.fits) (grows-same _))
 
-pub parse_assignment_expr-returns-then-is_yield_operator : goal.parse_assignment_expr-returns-then-is_yield_operator
-parse_assignment_expr-returns-then-is_yield_operator g t c =
-    m.after c.parse_yield_expr.result (s.on_seen c.in_ok-require_cur.ensures.fits (λ x ts same e. assign.yield_picked _ x ts
-    (ap (λ v. at_token is_yield v && x.context.in_generator) e ∙ ap (λ v. at_token is_yield (seen c.require_cur.new.input) && v.context.in_generator) same ∙ sym c.is_yield_operator.ensures.value ∙ c.if-is_yield_operator.true))) (grows-same _) c.parse_yield_expr.ensures
-
 pub parse_assignment_expr-returns-in_err-left : goal.parse_assignment_expr-returns-in_err-left
 parse_assignment_expr-returns-in_err-left g t c =
     let p = err_from_is_err_and c.from_residual-in_err-left.result c.from_residual-in_err-left.ensures.1 in rw (p.1, p.2)
     (m.no (s.unheard_after (s.on_seen {g = λ x ts. run _ (at (Level 1)) x ts >>= (λ p. run _ (assigns p.0) x p.1)} c.in_ok-require_cur.ensures.fits (λ x ts same e. assign.assign_splits _ x ts
-    (ap (λ v. at_token is_yield v && x.context.in_generator) e ∙ ap (λ v. at_token is_yield (seen c.require_cur.new.input) && v.context.in_generator) same ∙ sym c.is_yield_operator.ensures.value ∙ c.if-is_yield_operator.false)
+    (ap (λ v. at_token is_yield v && x.context.in_generator) e ∙ ap (λ v. at_token is_yield (seen c.require_cur.new.input) && v.context.in_generator) same ∙ sym c.is_yield_operator.ensures.value ∙ c.if-not-is_yield_operator.true)
     (ap (at_token no_error) e ∙ c.in_ok-require_cur.ensures.token)))
     (s.unheard_call (λ x p. run _ (assigns p.0) x p.1) (λ x ts. refl) c.in_err-left.ensures.reads)) c.parse_bin_expr.ensures.grows)
 
-pub parse_assignment_expr-returns : goal.parse_assignment_expr-returns
-parse_assignment_expr-returns g t c =
+pub parse_assignment_expr-returns-then-not-is_yield_operator : goal.parse_assignment_expr-returns-then-not-is_yield_operator
+parse_assignment_expr-returns-then-not-is_yield_operator g t c =
     m.after {m = record c.args.p.now { input = c.require_cur.new.input }} c.finish_assignment_expr.result (s.on_seen {g = λ x ts. run _ (at (Level 1)) x ts >>= (λ p. run _ (assigns p.0) x p.1)} c.in_ok-require_cur.ensures.fits (λ x ts same e. assign.assign_splits _ x ts
-    (ap (λ v. at_token is_yield v && x.context.in_generator) e ∙ ap (λ v. at_token is_yield (seen c.require_cur.new.input) && v.context.in_generator) same ∙ sym c.is_yield_operator.ensures.value ∙ c.if-is_yield_operator.false)
+    (ap (λ v. at_token is_yield v && x.context.in_generator) e ∙ ap (λ v. at_token is_yield (seen c.require_cur.new.input) && v.context.in_generator) same ∙ sym c.is_yield_operator.ensures.value ∙ c.if-not-is_yield_operator.true)
     (ap (at_token no_error) e ∙ c.in_ok-require_cur.ensures.token))) (grows-same _)
     (m.call_read c.finish_assignment_expr.result (λ x p. run _ (assigns p.0) x p.1) (λ x ts. refl)
     c.in_ok-left.ensures.reads (λ x ts us h y ys. assign.from_place _ _ _ y ys
     (ending.begun _ g.met.B.Bodies.lawful c.in_ok-left.left (Level 1) x ts us c.in_ok-left.ensures.from h))
     c.parse_bin_expr.ensures.grows (λ x. from-down c.in_ok-left.ensures.from.above) c.finish_assignment_expr.ensures)
+
+pub parse_assignment_expr-returns-in_err-refuse_yield_param : goal.parse_assignment_expr-returns-in_err-refuse_yield_param
+parse_assignment_expr-returns-in_err-refuse_yield_param g t c =
+    let seen = s.on_seen {g = yield_expr g.B.BodyForms.forms} c.in_ok-require_cur.ensures.fits (λ x ts same e. assign.yield_picked _ x ts
+    (ap (λ v. at_token is_yield v && x.context.in_generator) e ∙ ap (λ v. at_token is_yield (seen c.require_cur.new.input) && v.context.in_generator) same ∙ sym c.is_yield_operator.ensures.value ∙ c.if-not-is_yield_operator.false)) in
+    let first = c.skip.ensures.took.1 in
+    let h = c.in_err-refuse_yield_param.ensures.refuses in
+    let p = err_from_is_err_and c.from_residual-in_err-refuse_yield_param.result c.from_residual-in_err-refuse_yield_param.ensures.1 in rw (p.1, p.2)
+    (m.after {m = record c.args.p.now { input = c.require_cur.new.input }} (Err _) seen (grows-same _)
+    (m.no (s.unheard_after (s.on_took {g = yield_tail _ (plain first.was).span} g.met.I.Tokens.laws first (λ x ts. assign.yield_opens _ (plain first.was) x ts))
+    (record { refuses = h.0; none = λ n sure loud ts k. assign.yield_ill _ (plain first.was).span (scope g.I.Tokens.model c.skip.new.input) ts h.1 })) (grows-same _)))
+
+pub parse_assignment_expr-returns-in_err-goes_on_yield : goal.parse_assignment_expr-returns-in_err-goes_on_yield
+parse_assignment_expr-returns-in_err-goes_on_yield g t c =
+    let seen = s.on_seen {g = yield_expr g.B.BodyForms.forms} c.in_ok-require_cur.ensures.fits (λ x ts same e. assign.yield_picked _ x ts
+    (ap (λ v. at_token is_yield v && x.context.in_generator) e ∙ ap (λ v. at_token is_yield (seen c.require_cur.new.input) && v.context.in_generator) same ∙ sym c.is_yield_operator.ensures.value ∙ c.if-not-is_yield_operator.false)) in
+    let p = err_from_is_err_and c.from_residual-in_err-goes_on_yield.result c.from_residual-in_err-goes_on_yield.ensures.1 in rw (p.1, p.2)
+    (m.after {m = record c.args.p.now { input = c.require_cur.new.input }} (Err _) seen (grows-same _)
+    (m.no (s.unheard_memory (s.forgoes_later (s.leads_then (s.took_leads g.met.I.Tokens.laws c.skip.ensures.took.1) (s.same_leads g.met.I.Tokens.laws c.in_ok-refuse_yield_param.ensures.passes.0)) c.in_err-goes_on_yield.ensures.looks)) (grows-same _)))
+
+pub parse_assignment_expr-returns-then-not-branch : goal.parse_assignment_expr-returns-then-not-branch
+parse_assignment_expr-returns-then-not-branch g t c =
+    let seen = s.on_seen {g = yield_expr g.B.BodyForms.forms} c.in_ok-require_cur.ensures.fits (λ x ts same e. assign.yield_picked _ x ts
+    (ap (λ v. at_token is_yield v && x.context.in_generator) e ∙ ap (λ v. at_token is_yield (seen c.require_cur.new.input) && v.context.in_generator) same ∙ sym c.is_yield_operator.ensures.value ∙ c.if-not-is_yield_operator.false)) in
+    let first = c.skip.ensures.took.1 in
+    let start = c.cur_span-start.result in
+    let place = s.place_was first c.cur_span-start.result c.cur_span-start.ensures in
+    let same_at = s.leads_then (s.same_leads g.met.I.Tokens.laws c.in_ok-refuse_yield_param.ensures.passes.0) (s.here_leads c.in_ok-goes_on_yield.ensures.looks) in
+    m.after {m = record c.args.p.now { input = c.require_cur.new.input }} c.made.result seen (grows-same _)
+    (m.node _ c.yield_alone-node.result c.made.result (omega arith) c.yield_alone-node.ensures.made c.made.ensures.ok c.made.ensures.refused (grows-same _) c.yield_alone-node.ensures.grows
+    (s.heard_first g.met.I.Tokens.laws first (λ x ts. assign.yield_opens _ (plain first.was) x ts ∙ ap (λ v. yield_tail g.B.BodyForms.forms v x ts) (sym place))
+    (s.on_then (s.on_same {f = yield_tail _ start} g.met.I.Tokens.laws c.in_ok-refuse_yield_param.ensures.passes.0)
+    (s.on_seen {g = s.give (yield_e start false hole_e)} c.in_ok-goes_on_yield.ensures.looks (λ x ts same e.
+    assign.yield_well _ start x ts (ap (λ v. yield_ok v.context) (same ∙ s.read_scope g.met.I.Tokens.laws same_at.read) ∙ c.in_ok-refuse_yield_param.ensures.passes.1)
+    ∙ assign.yield_stays _ start x ts (ap goes_on_yield_at e ∙ sym c.in_ok-goes_on_yield.ensures.value ∙ c.if-not-branch.true))))))
+
+pub parse_assignment_expr-returns-in_err-star : goal.parse_assignment_expr-returns-in_err-star
+parse_assignment_expr-returns-in_err-star g t c =
+    let seen = s.on_seen {g = yield_expr g.B.BodyForms.forms} c.in_ok-require_cur.ensures.fits (λ x ts same e. assign.yield_picked _ x ts
+    (ap (λ v. at_token is_yield v && x.context.in_generator) e ∙ ap (λ v. at_token is_yield (seen c.require_cur.new.input) && v.context.in_generator) same ∙ sym c.is_yield_operator.ensures.value ∙ c.if-not-is_yield_operator.false)) in
+    let first = c.skip.ensures.took.1 in
+    let start = c.cur_span-start.result in
+    let place = s.place_was first c.cur_span-start.result c.cur_span-start.ensures in
+    let same_at = s.leads_then (s.same_leads g.met.I.Tokens.laws c.in_ok-refuse_yield_param.ensures.passes.0) (s.here_leads c.in_ok-goes_on_yield.ensures.looks) in
+    let p = err_from_is_err_and c.from_residual-in_err-star.result c.from_residual-in_err-star.ensures.1 in rw (p.1, p.2)
+    (m.after {m = record c.args.p.now { input = c.require_cur.new.input }} (Err _) seen (grows-same _)
+    (m.no (s.unheard_after
+    (s.on_then (s.on_took {g = yield_tail _ start} g.met.I.Tokens.laws first (λ x ts. assign.yield_opens _ (plain first.was) x ts ∙ ap (λ v. yield_tail g.B.BodyForms.forms v x ts) (sym place)))
+    (s.on_then (s.on_same {f = yield_tail _ start} g.met.I.Tokens.laws c.in_ok-refuse_yield_param.ensures.passes.0)
+    (s.on_seen {g = yield_operand _ start} c.in_ok-goes_on_yield.ensures.looks (λ x ts same e.
+    assign.yield_well _ start x ts (ap (λ v. yield_ok v.context) (same ∙ s.read_scope g.met.I.Tokens.laws same_at.read) ∙ c.in_ok-refuse_yield_param.ensures.passes.1)
+    ∙ assign.yield_goes _ start x ts (ap goes_on_yield_at e ∙ sym c.in_ok-goes_on_yield.ensures.value ∙ c.if-not-branch.false)))))
+    (s.unheard_call (λ x p. yield_arg _ start p.0 x p.1) (λ x ts. assign.yield_operand_splits _ start x ts) (c.in_err-star.ensures.eats g.B.Bodies.is_faithful))) (grows-same _)))
+
+pub parse_assignment_expr-returns-in-Ok : goal.parse_assignment_expr-returns-in-Ok
+parse_assignment_expr-returns-in-Ok g t c =
+    let seen = s.on_seen {g = yield_expr g.B.BodyForms.forms} c.in_ok-require_cur.ensures.fits (λ x ts same e. assign.yield_picked _ x ts
+    (ap (λ v. at_token is_yield v && x.context.in_generator) e ∙ ap (λ v. at_token is_yield (seen c.require_cur.new.input) && v.context.in_generator) same ∙ sym c.is_yield_operator.ensures.value ∙ c.if-not-is_yield_operator.false)) in
+    let first = c.skip.ensures.took.1 in
+    let start = c.cur_span-start.result in
+    let place = s.place_was first c.cur_span-start.result c.cur_span-start.ensures in
+    let same_at = s.leads_then (s.same_leads g.met.I.Tokens.laws c.in_ok-refuse_yield_param.ensures.passes.0) (s.here_leads c.in_ok-goes_on_yield.ensures.looks) in
+    let star = c.in_ok-star.star in
+    let e = tree_of c.parse_assignment_expr.new.p.nodes c.in-Ok.arg in
+    let end = end_at c.parse_assignment_expr.new.p.nodes c.in-Ok.arg.0 in
+    let given = ap (λ b. yield_e (from_to start.lo end) b e) (sym (assign.given_some star) ∙ sym c.is_some.ensures) in
+    m.after {m = record c.args.p.now { input = c.require_cur.new.input }} c.made-in-Ok.result seen (grows-same _)
+    (m.after {p = record c.args.p.now { input = c.require_cur.new.input }} {m = record c.args.p.now { input = c.goes_on_yield.new.input }} c.made-in-Ok.result
+    (s.on_then (s.on_took {g = yield_tail _ start} g.met.I.Tokens.laws first (λ x ts. assign.yield_opens _ (plain first.was) x ts ∙ ap (λ v. yield_tail g.B.BodyForms.forms v x ts) (sym place)))
+    (s.on_then (s.on_same {f = yield_tail _ start} g.met.I.Tokens.laws c.in_ok-refuse_yield_param.ensures.passes.0)
+    (s.on_seen {g = yield_operand _ start} c.in_ok-goes_on_yield.ensures.looks (λ x ts same e.
+    assign.yield_well _ start x ts (ap (λ v. yield_ok v.context) (same ∙ s.read_scope g.met.I.Tokens.laws same_at.read) ∙ c.in_ok-refuse_yield_param.ensures.passes.1)
+    ∙ assign.yield_goes _ start x ts (ap goes_on_yield_at e ∙ sym c.in_ok-goes_on_yield.ensures.value ∙ c.if-not-branch.false)))))
+    (grows-same _)
+    (m.node _ c.yield_expr-node.result c.made-in-Ok.result c.in-Ok.ensures.from.above c.yield_expr-node.ensures.made c.made-in-Ok.ensures.ok c.made-in-Ok.ensures.refused c.parse_assignment_expr.ensures.grows c.yield_expr-node.ensures.grows
+    (s.heard_answer given (s.heard_after (s.on_call (λ x p. yield_arg _ start p.0 x p.1) (λ x ts. assign.yield_operand_splits _ start x ts) (s.eats_on g.B.Bodies.is_faithful is_star star _ _ (c.in_ok-star.ensures.eats g.B.Bodies.is_faithful)))
+    (s.heard_call_read (λ x q. Some (yield_e (to start (span_of q.0)) (is_some star) q.0, q.1)) (λ x ts. refl)
+    (λ x ts us h y ys. ap (λ v. Some (yield_e (from_to start.lo v) (is_some star) e, ys))
+    (sym (ending.ended _ g.met.B.Bodies.lawful c.in-Ok.arg Assign x ts us c.in-Ok.ensures.from h))) c.in-Ok.ensures.reads)))))
+
+pub parse_assignment_expr-returns-in-Err : goal.parse_assignment_expr-returns-in-Err
+parse_assignment_expr-returns-in-Err g t c =
+    let seen = s.on_seen {g = yield_expr g.B.BodyForms.forms} c.in_ok-require_cur.ensures.fits (λ x ts same e. assign.yield_picked _ x ts
+    (ap (λ v. at_token is_yield v && x.context.in_generator) e ∙ ap (λ v. at_token is_yield (seen c.require_cur.new.input) && v.context.in_generator) same ∙ sym c.is_yield_operator.ensures.value ∙ c.if-not-is_yield_operator.false)) in
+    let first = c.skip.ensures.took.1 in
+    let start = c.cur_span-start.result in
+    let place = s.place_was first c.cur_span-start.result c.cur_span-start.ensures in
+    let same_at = s.leads_then (s.same_leads g.met.I.Tokens.laws c.in_ok-refuse_yield_param.ensures.passes.0) (s.here_leads c.in_ok-goes_on_yield.ensures.looks) in
+    let star = c.in_ok-star.star in
+    m.after {m = record c.args.p.now { input = c.require_cur.new.input }} (Err _) seen (grows-same _)
+    (m.after {p = record c.args.p.now { input = c.require_cur.new.input }} {m = record c.args.p.now { input = c.goes_on_yield.new.input }} (Err _)
+    (s.on_then (s.on_took {g = yield_tail _ start} g.met.I.Tokens.laws first (λ x ts. assign.yield_opens _ (plain first.was) x ts ∙ ap (λ v. yield_tail g.B.BodyForms.forms v x ts) (sym place)))
+    (s.on_then (s.on_same {f = yield_tail _ start} g.met.I.Tokens.laws c.in_ok-refuse_yield_param.ensures.passes.0)
+    (s.on_seen {g = yield_operand _ start} c.in_ok-goes_on_yield.ensures.looks (λ x ts same e.
+    assign.yield_well _ start x ts (ap (λ v. yield_ok v.context) (same ∙ s.read_scope g.met.I.Tokens.laws same_at.read) ∙ c.in_ok-refuse_yield_param.ensures.passes.1)
+    ∙ assign.yield_goes _ start x ts (ap goes_on_yield_at e ∙ sym c.in_ok-goes_on_yield.ensures.value ∙ c.if-not-branch.false)))))
+    (grows-same _)
+    (m.no (s.unheard_as c.label_yield.result c.label_yield.ensures.kind c.label_yield.ensures.memory
+    (s.unheard_after (s.on_call (λ x p. yield_arg _ start p.0 x p.1) (λ x ts. assign.yield_operand_splits _ start x ts) (s.eats_on g.B.Bodies.is_faithful is_star star _ _ (c.in_ok-star.ensures.eats g.B.Bodies.is_faithful)))
+    (s.unheard_call (λ x q. Some (yield_e (to start (span_of q.0)) (is_some star) q.0, q.1)) (λ x ts. refl) c.in-Err.ensures.reads)))
+    c.parse_assignment_expr.ensures.grows))
 
 pub finish_assignment_expr-returns-in_err-look : goal.finish_assignment_expr-returns-in_err-look
 finish_assignment_expr-returns-in_err-look g t c =
@@ -1814,334 +2082,242 @@ finish_assignment_expr-returns g t c =
     (λ x ts us h y ys. ap (λ v. Some (assign_e (from_to (span_of l).lo v) op l r, ys))
     (sym (ending.ended _ g.met.B.Bodies.lawful c.in_ok-right.right Assign x ts us c.in_ok-right.ensures.from h)))))))))
 
-pub parse_seq_expr-returns-in_err-add : goal.parse_seq_expr-returns-in_err-add
-parse_seq_expr-returns-in_err-add g t c =
-    let p = err_from_is_err_and c.from_residual.result c.from_residual.ensures.1 in rw (p.1, p.2)
-    (m.no (s.unheard_memory (s.forgoes_here g.met.I.Tokens.laws _ _ _ c.in_err-add.ensures.refused)) (grows-same _))
+pub parse_prop_name-returns-in-Err : goal.parse_prop_name-returns-in-Err
+parse_prop_name-returns-in-Err g t c =
+    entered.aside {q = record c.args.p.now { input = c.eat.new.input }}
+    c.enter_prop_name-before.ensures.before c.enter_prop_name-before.ensures.moves c.enter_prop_name-before.ensures.context
+    (m.no (s.unheard_call (λ x p. key_by _ p.0 x p.1) (λ x ts. key.key_splits _ x ts) (c.in-Err.ensures.eats g.B.Bodies.is_faithful)) (grows-same _))
+    c.set_ctx.ensures.moves c.set_ctx.ensures.context
 
-pub parse_seq_expr-loop-exprs-init : goal.parse_seq_expr-loop-exprs-init
-parse_seq_expr-loop-exprs-init g t c =
-    let now = c.args.p.now.nodes in
-    let one = c.in_ok-add.ensures.added ∙ ap (λ v. v ++ c.args.first ∷ []) c.new-exprs.ensures.items in (
-      s.on_here g.met.I.Tokens.laws _ (λ x ts. ap (λ v. seqs_more g.B.BodyForms.forms (trees (map (λ e. tree_at now e.0) v)) x ts) (sym one)),
-      omega arith,
-      grows-same _,
-      record { chained = ap (λ v. chain (seat_at now) (first_at now c.args.first.0) (flat one_expr v) (count now)) one ∙ (apart-from (expr_part c.args.first) (from_self c.requires.from)).chained },
-      subst (λ v. 1 ≤ length v) (sym one) (omega arith),
-      ap (λ v. slice_index_or v 0 c.args.first) one,
-    )
-
-pub parse_seq_expr-returns-in_err-expr : goal.parse_seq_expr-returns-in_err-expr
-parse_seq_expr-returns-in_err-expr g t c =
-    let es = expr_trees (tree_at c.loop-exprs.p.nodes) c.loop-exprs.exprs in
-    let p = err_from_is_err_and c.from_residual-in_err-expr.result c.from_residual-in_err-expr.ensures.1 in rw (p.1, p.2)
-    (m.no (s.unheard_call (λ x p. Some (begun_if (begins_in_invalid (tree_of c.args.p.now.nodes c.args.first)) (start_at c.args.p.now.nodes c.args.first.0) p.0, p.1)) (λ x ts. refl) (s.unheard_after c.loop-exprs.invariant.0 (s.unheard_call (λ x p. run _ (seqs (trees_append es (cons p.0 nil))) x p.1) (λ x ts. assign.seqs_more_splits _ es x ts) c.in_err-expr.ensures.reads)))
-    (grows-then c.loop-exprs.invariant.2 c.parse_assignment_expr.ensures.grows))
-
-pub parse_seq_expr-returns-in_err-add-2 : goal.parse_seq_expr-returns-in_err-add-2
-parse_seq_expr-returns-in_err-add-2 g t c =
-    let p = err_from_is_err_and c.from_residual-in_err-add-2.result c.from_residual-in_err-add-2.ensures.1 in rw (p.1, p.2)
-    (m.no (s.unheard_memory (s.forgoes_later (s.leads_then c.loop-exprs.invariant.0.leads c.in_ok-expr.ensures.reads.on.leads) (s.forgoes_here g.met.I.Tokens.laws _ _ _ c.in_err-add-2.ensures.refused)))
-    (grows-then c.loop-exprs.invariant.2 c.parse_assignment_expr.ensures.grows))
-
-pub parse_seq_expr-returns-in_err-eat : goal.parse_seq_expr-returns-in_err-eat
-parse_seq_expr-returns-in_err-eat g t c =
-    let es = expr_trees (tree_at c.loop-exprs.p.nodes) c.loop-exprs.exprs in
-    let more = trees_append es (cons (tree_of c.parse_assignment_expr.new.p.nodes c.in_ok-expr.expr) nil) in
-    let p = err_from_is_err_and c.from_residual-in_err-eat.result c.from_residual-in_err-eat.ensures.1 in rw (p.1, p.2)
-    (m.no (s.unheard_call (λ x p. Some (begun_if (begins_in_invalid (tree_of c.args.p.now.nodes c.args.first)) (start_at c.args.p.now.nodes c.args.first.0) p.0, p.1)) (λ x ts. refl) (s.unheard_after c.loop-exprs.invariant.0 (s.unheard_after (s.on_call (λ x p. run _ (seqs (trees_append es (cons p.0 nil))) x p.1) (λ x ts. assign.seqs_more_splits _ es x ts) c.in_ok-expr.ensures.reads.on)
-    (s.unheard_call (λ x p. seqs_by _ more p.0 x p.1) (λ x ts. assign.seqs_splits _ more x ts) (c.in_err-eat.ensures.eats g.B.Bodies.is_faithful)))))
-    (grows-then c.loop-exprs.invariant.2 c.parse_assignment_expr.ensures.grows))
-
-pub parse_seq_expr-loop-exprs-preserved : goal.parse_seq_expr-loop-exprs-preserved
-parse_seq_expr-loop-exprs-preserved g t c =
-    let es = expr_trees (tree_at c.loop-exprs.p.nodes) c.loop-exprs.exprs in
-    let nodes = c.parse_assignment_expr.new.p.nodes in
-    let more = trees_append es (cons (tree_of nodes c.in_ok-expr.expr) nil) in
-    let grows = c.parse_assignment_expr.ensures.grows in
-    let some = s.eats_some g.B.Bodies.is_faithful is_comma _ c.in-Some.field-0 _ _ c.in-Some.is (c.in_ok-eat.ensures.eats g.B.Bodies.is_faithful) in
-    let added = ap (λ v. trees (map (λ e. tree_at nodes e.0) v)) c.in_ok-add-2.ensures.added ∙ exprs-more c.loop-exprs.exprs.items c.in_ok-expr.expr grows c.loop-exprs.invariant.3 in
-    let parts = exprs-apart-more c.loop-exprs.exprs.items c.in_ok-expr.expr grows c.loop-exprs.invariant.3 c.in_ok-expr.ensures.from in (
-      s.on_then c.loop-exprs.invariant.0 (s.on_then (s.on_call (λ x p. run _ (seqs (trees_append es (cons p.0 nil))) x p.1) (λ x ts. assign.seqs_more_splits _ es x ts) c.in_ok-expr.ensures.reads.on)
-          (s.on_to (s.on_call (λ x p. seqs_by _ more p.0 x p.1) (λ x ts. assign.seqs_splits _ more x ts) some.on)
-          (λ x ts. ap (λ v. seqs_more g.B.BodyForms.forms v x ts) (sym added)))),
-      let a = c.loop-exprs.invariant.1 in let b = c.in_ok-expr.ensures.falls in let d = c.in_ok-eat.ensures.falls in omega arith,
-      grows-then c.loop-exprs.invariant.2 grows,
-      record { chained = ap (λ v. chain (seat_at nodes) (first_at c.args.p.now.nodes c.args.first.0) (flat one_expr v) (count nodes)) c.in_ok-add-2.ensures.added ∙ parts.chained },
-      subst (λ v. 1 ≤ length v) (sym c.in_ok-add-2.ensures.added) (let h = length-append c.loop-exprs.exprs.items (c.in_ok-expr.expr ∷ []) in omega arith),
-      ap (λ v. slice_index_or v 0 c.args.first) c.in_ok-add-2.ensures.added ∙ ending.head-more c.loop-exprs.exprs.items c.in_ok-expr.expr c.args.first c.loop-exprs.invariant.4
-          ∙ c.loop-exprs.invariant.5,
-    )
-
-pub parse_seq_expr-returns-in-None : goal.parse_seq_expr-returns-in-None
-parse_seq_expr-returns-in-None g t c =
-    let old = c.args.p.now.nodes in let first = c.args.first in
-    let before = c.loop-exprs.exprs.items in let xs = c.add-in-loop-exprs.new.list.items in
-    let es = expr_trees (tree_at c.loop-exprs.p.nodes) c.loop-exprs.exprs in
-    let nodes = c.parse_assignment_expr.new.p.nodes in
-    let more = trees_append es (cons (tree_of nodes c.in_ok-expr.expr) nil) in
-    let grows = c.parse_assignment_expr.ensures.grows in
-    let none = s.eats_none g.B.Bodies.is_faithful is_comma _ _ _ c.in-None.is (c.in_ok-eat.ensures.eats g.B.Bodies.is_faithful) in
-    let added = ap (λ v. trees (map (λ e. tree_at nodes e.0) v)) c.in_ok-add-2.ensures.added ∙ exprs-more c.loop-exprs.exprs.items c.in_ok-expr.expr grows c.loop-exprs.invariant.3 in
-    let parts = exprs-apart-more c.loop-exprs.exprs.items c.in_ok-expr.expr grows c.loop-exprs.invariant.3 c.in_ok-expr.ensures.from in
-    let apart : Apart (first_at c.args.p.now.nodes c.args.first.0) nodes (exprs_parts c.add-in-loop-exprs.new.list) = record { chained = ap (λ v. chain (seat_at nodes) (first_at c.args.p.now.nodes c.args.first.0) (flat one_expr v) (count nodes)) c.in_ok-add-2.ensures.added ∙ parts.chained } in
-    m.node _ c.seq_expr-node.result c.made.result (omega arith)
-    (made_over _ _ (first_at c.args.p.now.nodes c.args.first.0) (exprs_parts c.add-in-loop-exprs.new.list) _ c.seq_expr-node.result c.seq_expr-node.ensures.made apart)
-    c.made.ensures.ok c.made.ensures.refused (grows-then c.loop-exprs.invariant.2 grows) c.seq_expr-node.ensures.grows
-    (s.heard_answer (ending.seq-begun old nodes first c.in_ok-expr.expr before xs (grows-then c.loop-exprs.invariant.2 grows) c.requires.from c.loop-exprs.invariant.4 c.loop-exprs.invariant.5 c.in_ok-add-2.ensures.added)
-    (s.heard_as (begun_if (begins_in_invalid (tree_of old first)) (start_at old first.0)) (λ x ts. refl)
-    (s.heard_after c.loop-exprs.invariant.0 (s.heard_more_read (λ x p. run _ (seqs (trees_append es (cons p.0 nil))) x p.1) (λ x ts. assign.seqs_more_splits _ es x ts) c.in_ok-expr.ensures.reads
-    (s.on_call (λ x p. seqs_by _ more p.0 x p.1) (λ x ts. assign.seqs_splits _ more x ts) none)
-    (λ x ts us h. ap seq_of (sym added) ∙ ending.seq-read old nodes first c.in_ok-expr.expr before xs (grows-then c.loop-exprs.invariant.2 grows) c.requires.from c.loop-exprs.invariant.4 c.loop-exprs.invariant.5 c.in_ok-add-2.ensures.added
-    (ending.ended _ g.met.B.Bodies.lawful c.in_ok-expr.expr Assign x ts us c.in_ok-expr.ensures.from h))))))
-
-pub parse_seq_expr-seq_expr-node-requires-clause-apart : goal.parse_seq_expr-seq_expr-node-requires-clause-apart
-parse_seq_expr-seq_expr-node-requires-clause-apart g t c =
-    let nodes = c.parse_assignment_expr.new.p.nodes in
-    let start = first_at c.args.p.now.nodes c.args.first.0 in
-    let parts = exprs-apart-more c.loop-exprs.exprs.items c.in_ok-expr.expr c.parse_assignment_expr.ensures.grows c.loop-exprs.invariant.3 c.in_ok-expr.ensures.from in
-    let apart : Apart start nodes (exprs_parts c.add-in-loop-exprs.new.list) = record { chained = ap (λ v. chain (seat_at nodes) start (flat one_expr v) (count nodes)) c.in_ok-add-2.ensures.added ∙ parts.chained } in
-    apart-down (exprs_parts c.add-in-loop-exprs.new.list) apart
-
-pub parse_yield_expr-returns-in_err-refuse_yield_param : goal.parse_yield_expr-returns-in_err-refuse_yield_param
-parse_yield_expr-returns-in_err-refuse_yield_param g t c =
-    let first = c.skip.ensures.took.1 in
-    let h = c.in_err-refuse_yield_param.ensures.refuses in
-    let p = err_from_is_err_and c.from_residual.result c.from_residual.ensures.1 in rw (p.1, p.2)
-    (m.no (s.unheard_after (s.on_took {g = yield_tail _ (plain first.was).span} g.met.I.Tokens.laws first (λ x ts. assign.yield_opens _ (plain first.was) x ts))
-    (record { refuses = h.0; none = λ n sure loud ts k. assign.yield_ill _ (plain first.was).span (scope g.I.Tokens.model c.skip.new.input) ts h.1 })) (grows-same _))
-
-pub parse_yield_expr-returns-in_err-goes_on_yield : goal.parse_yield_expr-returns-in_err-goes_on_yield
-parse_yield_expr-returns-in_err-goes_on_yield g t c =
-    let p = err_from_is_err_and c.from_residual-in_err-goes_on_yield.result c.from_residual-in_err-goes_on_yield.ensures.1 in rw (p.1, p.2)
-    (m.no (s.unheard_memory (s.forgoes_later (s.leads_then (s.took_leads g.met.I.Tokens.laws c.skip.ensures.took.1) (s.same_leads g.met.I.Tokens.laws c.in_ok-refuse_yield_param.ensures.passes.0)) c.in_err-goes_on_yield.ensures.looks)) (grows-same _))
-
-pub parse_yield_expr-returns : goal.parse_yield_expr-returns
-parse_yield_expr-returns g t c =
-    let first = c.skip.ensures.took.1 in
-    let start = c.cur_span-start.result in
-    let place = s.place_was first c.cur_span-start.result c.cur_span-start.ensures in
-    let same_at = s.leads_then (s.same_leads g.met.I.Tokens.laws c.in_ok-refuse_yield_param.ensures.passes.0) (s.here_leads c.in_ok-goes_on_yield.ensures.looks) in
-    m.node _ c.yield_alone-node.result c.made-2.result (omega arith) c.yield_alone-node.ensures.made c.made-2.ensures.ok c.made-2.ensures.refused (grows-same _) c.yield_alone-node.ensures.grows
-    (s.heard_first g.met.I.Tokens.laws first (λ x ts. assign.yield_opens _ (plain first.was) x ts ∙ ap (λ v. yield_tail g.B.BodyForms.forms v x ts) (sym place))
-    (s.on_then (s.on_same {f = yield_tail _ start} g.met.I.Tokens.laws c.in_ok-refuse_yield_param.ensures.passes.0)
-    (s.on_seen {g = s.give (yield_e start false hole_e)} c.in_ok-goes_on_yield.ensures.looks (λ x ts same e.
-    assign.yield_well _ start x ts (ap (λ v. yield_ok v.context) (same ∙ s.read_scope g.met.I.Tokens.laws same_at.read) ∙ c.in_ok-refuse_yield_param.ensures.passes.1)
-    ∙ assign.yield_stays _ start x ts (ap goes_on_yield_at e ∙ sym c.in_ok-goes_on_yield.ensures.value ∙ c.if-branch.false)))))
-
-pub parse_yield_expr-returns-in_err-star : goal.parse_yield_expr-returns-in_err-star
-parse_yield_expr-returns-in_err-star g t c =
-    let first = c.skip.ensures.took.1 in
-    let start = c.cur_span-start.result in
-    let place = s.place_was first c.cur_span-start.result c.cur_span-start.ensures in
-    let same_at = s.leads_then (s.same_leads g.met.I.Tokens.laws c.in_ok-refuse_yield_param.ensures.passes.0) (s.here_leads c.in_ok-goes_on_yield.ensures.looks) in
-    let p = err_from_is_err_and c.from_residual-in_err-star.result c.from_residual-in_err-star.ensures.1 in rw (p.1, p.2)
-    (m.no (s.unheard_after
-    (s.on_then (s.on_took {g = yield_tail _ start} g.met.I.Tokens.laws first (λ x ts. assign.yield_opens _ (plain first.was) x ts ∙ ap (λ v. yield_tail g.B.BodyForms.forms v x ts) (sym place)))
-    (s.on_then (s.on_same {f = yield_tail _ start} g.met.I.Tokens.laws c.in_ok-refuse_yield_param.ensures.passes.0)
-    (s.on_seen {g = yield_operand _ start} c.in_ok-goes_on_yield.ensures.looks (λ x ts same e.
-    assign.yield_well _ start x ts (ap (λ v. yield_ok v.context) (same ∙ s.read_scope g.met.I.Tokens.laws same_at.read) ∙ c.in_ok-refuse_yield_param.ensures.passes.1)
-    ∙ assign.yield_goes _ start x ts (ap goes_on_yield_at e ∙ sym c.in_ok-goes_on_yield.ensures.value ∙ c.if-branch.true)))))
-    (s.unheard_call (λ x p. yield_arg _ start p.0 x p.1) (λ x ts. assign.yield_operand_splits _ start x ts) (c.in_err-star.ensures.eats g.B.Bodies.is_faithful))) (grows-same _))
-
-pub parse_yield_expr-returns-in-Ok : goal.parse_yield_expr-returns-in-Ok
-parse_yield_expr-returns-in-Ok g t c =
-    let first = c.skip.ensures.took.1 in
-    let start = c.cur_span-start.result in
-    let place = s.place_was first c.cur_span-start.result c.cur_span-start.ensures in
-    let same_at = s.leads_then (s.same_leads g.met.I.Tokens.laws c.in_ok-refuse_yield_param.ensures.passes.0) (s.here_leads c.in_ok-goes_on_yield.ensures.looks) in
-    let star = c.in_ok-star.star in
-    let e = tree_of c.parse_assignment_expr.new.p.nodes c.in-Ok.arg in
-    let end = end_at c.parse_assignment_expr.new.p.nodes c.in-Ok.arg.0 in
-    let given = ap (λ b. yield_e (from_to start.lo end) b e) (sym (assign.given_some star) ∙ sym c.is_some.ensures) in
-    m.after {m = record c.args.p.now { input = c.goes_on_yield.new.input }} c.made.result
-    (s.on_then (s.on_took {g = yield_tail _ start} g.met.I.Tokens.laws first (λ x ts. assign.yield_opens _ (plain first.was) x ts ∙ ap (λ v. yield_tail g.B.BodyForms.forms v x ts) (sym place)))
-    (s.on_then (s.on_same {f = yield_tail _ start} g.met.I.Tokens.laws c.in_ok-refuse_yield_param.ensures.passes.0)
-    (s.on_seen {g = yield_operand _ start} c.in_ok-goes_on_yield.ensures.looks (λ x ts same e.
-    assign.yield_well _ start x ts (ap (λ v. yield_ok v.context) (same ∙ s.read_scope g.met.I.Tokens.laws same_at.read) ∙ c.in_ok-refuse_yield_param.ensures.passes.1)
-    ∙ assign.yield_goes _ start x ts (ap goes_on_yield_at e ∙ sym c.in_ok-goes_on_yield.ensures.value ∙ c.if-branch.true)))))
-    (grows-same _)
-    (m.node _ c.yield_expr-node.result c.made.result c.in-Ok.ensures.from.above c.yield_expr-node.ensures.made c.made.ensures.ok c.made.ensures.refused c.parse_assignment_expr.ensures.grows c.yield_expr-node.ensures.grows
-    (s.heard_answer given (s.heard_after (s.on_call (λ x p. yield_arg _ start p.0 x p.1) (λ x ts. assign.yield_operand_splits _ start x ts) (s.eats_on g.B.Bodies.is_faithful is_star star _ _ (c.in_ok-star.ensures.eats g.B.Bodies.is_faithful)))
-    (s.heard_call_read (λ x q. Some (yield_e (to start (span_of q.0)) (is_some star) q.0, q.1)) (λ x ts. refl)
-    (λ x ts us h y ys. ap (λ v. Some (yield_e (from_to start.lo v) (is_some star) e, ys))
-    (sym (ending.ended _ g.met.B.Bodies.lawful c.in-Ok.arg Assign x ts us c.in-Ok.ensures.from h))) c.in-Ok.ensures.reads))))
-
-pub parse_yield_expr-returns-in-Err : goal.parse_yield_expr-returns-in-Err
-parse_yield_expr-returns-in-Err g t c =
-    let first = c.skip.ensures.took.1 in
-    let start = c.cur_span-start.result in
-    let place = s.place_was first c.cur_span-start.result c.cur_span-start.ensures in
-    let same_at = s.leads_then (s.same_leads g.met.I.Tokens.laws c.in_ok-refuse_yield_param.ensures.passes.0) (s.here_leads c.in_ok-goes_on_yield.ensures.looks) in
-    let star = c.in_ok-star.star in
-    m.after {m = record c.args.p.now { input = c.goes_on_yield.new.input }} (Err _)
-    (s.on_then (s.on_took {g = yield_tail _ start} g.met.I.Tokens.laws first (λ x ts. assign.yield_opens _ (plain first.was) x ts ∙ ap (λ v. yield_tail g.B.BodyForms.forms v x ts) (sym place)))
-    (s.on_then (s.on_same {f = yield_tail _ start} g.met.I.Tokens.laws c.in_ok-refuse_yield_param.ensures.passes.0)
-    (s.on_seen {g = yield_operand _ start} c.in_ok-goes_on_yield.ensures.looks (λ x ts same e.
-    assign.yield_well _ start x ts (ap (λ v. yield_ok v.context) (same ∙ s.read_scope g.met.I.Tokens.laws same_at.read) ∙ c.in_ok-refuse_yield_param.ensures.passes.1)
-    ∙ assign.yield_goes _ start x ts (ap goes_on_yield_at e ∙ sym c.in_ok-goes_on_yield.ensures.value ∙ c.if-branch.true)))))
-    (grows-same _)
-    (m.no (s.unheard_as c.label_yield.result c.label_yield.ensures.kind c.label_yield.ensures.memory
-    (s.unheard_after (s.on_call (λ x p. yield_arg _ start p.0 x p.1) (λ x ts. assign.yield_operand_splits _ start x ts) (s.eats_on g.B.Bodies.is_faithful is_star star _ _ (c.in_ok-star.ensures.eats g.B.Bodies.is_faithful)))
-    (s.unheard_call (λ x q. Some (yield_e (to start (span_of q.0)) (is_some star) q.0, q.1)) (λ x ts. refl) c.in-Err.ensures.reads)))
-    c.parse_assignment_expr.ensures.grows)
-
-pub parse_assignment_expr_with_in-returns : goal.parse_assignment_expr_with_in-returns
-parse_assignment_expr_with_in-returns g t c =
-    m.yes c.parse_assignment_expr-expr.result
-    (s.parses_within g.I.Tokens.model g.B.Bodies.is_faithful (tree_of c.parse_assignment_expr-expr.new.p.nodes) _ (run _ (at Assign)) c.parse_assignment_expr-expr.result include_in (λ x. refl) (λ x ts. rule.inside_assign _ x ts)
-    c.set_ctx.ensures.moves (ap deciding c.set_ctx.ensures.context ∙ ap (λ x. include_in (deciding x)) c.get_ctx-ctx.ensures) c.parse_assignment_expr-expr.ensures.reads c.set_ctx-2.ensures.moves
-    (c.set_ctx-2.ensures.context ∙ c.get_ctx-ctx.ensures))
-    c.parse_assignment_expr-expr.ensures.grows c.parse_assignment_expr-expr.ensures.from
-
-pub parse_prop_name-returns : goal.parse_prop_name-returns
-parse_prop_name-returns g t c =
-    m.yes c.parse_key-key.result
-    (s.parses_aside g.I.Tokens.model g.B.Bodies.is_faithful (key_at c.parse_key-key.new.p.nodes) (run _ (at Key)) c.parse_key-key.result
-    c.set_ctx.ensures.moves (ap deciding c.set_ctx.ensures.context ∙ ap deciding c.get_ctx-ctx.ensures) c.parse_key-key.ensures.reads c.set_ctx-2.ensures.moves
-    (c.set_ctx-2.ensures.context ∙ c.get_ctx-ctx.ensures))
-    c.parse_key-key.ensures.grows c.parse_key-key.ensures.from
-
-pub parse_key-returns-in_err-start : goal.parse_key-returns-in_err-start
-parse_key-returns-in_err-start g t c =
-    let p = err_from_is_err_and c.from_residual.result c.from_residual.ensures.1 in rw (p.1, p.2)
-    (m.no (s.unheard_call (λ x p. key_by _ p.0 x p.1) (λ x ts. key.key_splits _ x ts) (c.in_err-start.ensures.eats g.B.Bodies.is_faithful)) (grows-same _))
-
-pub parse_key-returns-in_err-expr-in-Some : goal.parse_key-returns-in_err-expr-in-Some
-parse_key-returns-in_err-expr-in-Some g t c =
+pub parse_prop_name-returns-in-Err-2 : goal.parse_prop_name-returns-in-Err-2
+parse_prop_name-returns-in-Err-2 g t c =
+    let inner = assign_within g.B.BodyForms.forms c.include_in-before.ensures.before c.include_in-before.ensures.moves c.include_in-before.ensures.context c.parse_assignment_expr-read.ensures c.in-Err-2.ensures.answer c.in-Err-2.ensures.moves c.in-Err-2.ensures.context in
     let some = s.on_call (λ x p. key_by g.B.BodyForms.forms p.0 x p.1) (λ x ts. key.key_splits _ x ts)
-    (s.eats_some g.B.Bodies.is_faithful is_lbracket _ c.in-Some.start _ _ c.in-Some.is (c.in_ok-start.ensures.eats g.B.Bodies.is_faithful)).on in
-    let p = err_from_is_err_and c.from_residual-in_err-expr-in-Some.result c.from_residual-in_err-expr-in-Some.ensures.1 in rw (p.1, p.2)
+    (s.eats_some g.B.Bodies.is_faithful is_lbracket _ c.in-Some.start _ _ c.in-Some.is (c.in-Ok.ensures.eats g.B.Bodies.is_faithful)).on in
+    entered.aside {q = record c.parse_assignment_expr-read.new.p { input = c.leave.new.input }}
+    c.enter_prop_name-before.ensures.before c.enter_prop_name-before.ensures.moves c.enter_prop_name-before.ensures.context
     (m.no (s.unheard_after some
-    (s.unheard_call (λ x p. key_close c.in-Some.start p.0 x p.1) (λ x ts. key.computed_key_splits _ c.in-Some.start x ts) c.in_err-expr-in-Some.ensures.reads)) c.parse_assignment_expr_with_in.ensures.grows)
+    (s.unheard_call (λ x p. key_close c.in-Some.start p.0 x p.1) (λ x ts. key.computed_key_splits _ c.in-Some.start x ts) inner.reads)) inner.grows)
+    c.set_ctx-in-Err-2.ensures.moves c.set_ctx-in-Err-2.ensures.context
 
-pub parse_key-returns-in_ok-expr-in-Some : goal.parse_key-returns-in_ok-expr-in-Some
-parse_key-returns-in_ok-expr-in-Some g t c =
+pub parse_prop_name-returns-in-Ok-2 : goal.parse_prop_name-returns-in-Ok-2
+parse_prop_name-returns-in-Ok-2 g t c =
+    let inner = assign_within g.B.BodyForms.forms {o = Ok c.in-Ok-2.value} c.include_in-before.ensures.before c.include_in-before.ensures.moves c.include_in-before.ensures.context c.parse_assignment_expr-read.ensures c.in-Ok-2.ensures.answer c.in-Ok-2.ensures.moves c.in-Ok-2.ensures.context in
     let some = s.on_call (λ x p. key_by g.B.BodyForms.forms p.0 x p.1) (λ x ts. key.key_splits _ x ts)
-    (s.eats_some g.B.Bodies.is_faithful is_lbracket _ c.in-Some.start _ _ c.in-Some.is (c.in_ok-start.ensures.eats g.B.Bodies.is_faithful)).on in
-    m.after_held c.computed_prop_name.result
+    (s.eats_some g.B.Bodies.is_faithful is_lbracket _ c.in-Some.start _ _ c.in-Some.is (c.in-Ok.ensures.eats g.B.Bodies.is_faithful)).on in
+    entered.aside {q = c.computed_prop_name-key.new.p}
+    c.enter_prop_name-before.ensures.before c.enter_prop_name-before.ensures.moves c.enter_prop_name-before.ensures.context
+    (m.after_held c.computed_prop_name-key.result
     (s.on_then some
-    (s.on_call (λ x p. key_close c.in-Some.start p.0 x p.1) (λ x ts. key.computed_key_splits _ c.in-Some.start x ts) c.in_ok-expr-in-Some.ensures.reads.on))
-    c.parse_assignment_expr_with_in.ensures.grows (λ x. apart-lower (key_parts x) c.in_ok-expr-in-Some.ensures.from.above) c.computed_prop_name.ensures
+    (s.on_call (λ x p. key_close c.in-Some.start p.0 x p.1) (λ x ts. key.computed_key_splits _ c.in-Some.start x ts) inner.reads.on))
+    inner.grows (λ x. apart-lower (key_parts x) inner.from.above) c.computed_prop_name-key.ensures)
+    c.set_ctx-in-Some.ensures.moves c.set_ctx-in-Some.ensures.context
 
-pub parse_key-returns-in-None : goal.parse_key-returns-in-None
-parse_key-returns-in-None g t c =
-    m.after c.parse_plain_prop_name.result
+pub parse_prop_name-returns-in-None : goal.parse_prop_name-returns-in-None
+parse_prop_name-returns-in-None g t c =
+    entered.aside {q = c.parse_plain_prop_name-key.new.p}
+    c.enter_prop_name-before.ensures.before c.enter_prop_name-before.ensures.moves c.enter_prop_name-before.ensures.context
+    (m.after c.parse_plain_prop_name-key.result
     (s.on_call (λ x p. key_by _ p.0 x p.1) (λ x ts. key.key_splits _ x ts)
-    (s.eats_none g.B.Bodies.is_faithful is_lbracket _ _ _ c.in-None.is (c.in_ok-start.ensures.eats g.B.Bodies.is_faithful)))
-    (grows-same _) c.parse_plain_prop_name.ensures
+    (s.eats_none g.B.Bodies.is_faithful is_lbracket _ _ _ c.in-None.is (c.in-Ok.ensures.eats g.B.Bodies.is_faithful)))
+    (grows-same _) c.parse_plain_prop_name-key.ensures)
+    c.set_ctx-in-None.ensures.moves c.set_ctx-in-None.ensures.context
 
-pub parse_tpl_elements-returns : goal.parse_tpl_elements-returns
-parse_tpl_elements-returns g t c =
-    m.yes c.parse_tpl_parts-parts.result
-    (s.parses_aside g.I.Tokens.model g.B.Bodies.is_faithful (tpl_parts_at c.parse_tpl_parts-parts.new.p.nodes) (run _ (at (Parts c.args.is_tagged))) c.parse_tpl_parts-parts.result
-    c.set_ctx.ensures.moves (ap deciding c.set_ctx.ensures.context ∙ ap deciding c.get_ctx-ctx.ensures) c.parse_tpl_parts-parts.ensures.reads c.set_ctx-2.ensures.moves
-    (c.set_ctx-2.ensures.context ∙ c.get_ctx-ctx.ensures))
-    c.parse_tpl_parts-parts.ensures.grows c.parse_tpl_parts-parts.ensures.from
+pub parse_prop_name-set_ctx-requires : goal.parse_prop_name-set_ctx-requires
+parse_prop_name-set_ctx-requires g t c =
+    c.enter_prop_name-before.ensures.«module» ∙ sym (ap (λ x. x.«module»)
+    ((c.in-Err.ensures.eats g.B.Bodies.is_faithful).refuses.spends.read.context))
 
-pub parse_tpl_parts-loop-exprs-init : goal.parse_tpl_parts-loop-exprs-init
-parse_tpl_parts-loop-exprs-init g t c = (
-  s.on_here g.met.I.Tokens.laws _ (λ x ts. tpl.parts_first _ c.args.is_tagged x ts
+pub parse_prop_name-set_ctx-requires-in-Err-2 : goal.parse_prop_name-set_ctx-requires-in-Err-2
+parse_prop_name-set_ctx-requires-in-Err-2 g t c =
+    let inner = assign_within g.B.BodyForms.forms c.include_in-before.ensures.before c.include_in-before.ensures.moves c.include_in-before.ensures.context c.parse_assignment_expr-read.ensures c.in-Err-2.ensures.answer c.in-Err-2.ensures.moves c.in-Err-2.ensures.context in
+    c.enter_prop_name-before.ensures.«module» ∙ sym (ap (λ x. x.«module»)
+    (inner.reads.refuses.spends.read.context
+    ∙ (s.eats_some g.B.Bodies.is_faithful is_lbracket _ c.in-Some.start _ _ c.in-Some.is (c.in-Ok.ensures.eats g.B.Bodies.is_faithful)).on.leads.read.context))
+
+pub parse_prop_name-set_ctx-requires-in-Some : goal.parse_prop_name-set_ctx-requires-in-Some
+parse_prop_name-set_ctx-requires-in-Some g t c =
+    let inner = assign_within g.B.BodyForms.forms {o = Ok c.in-Ok-2.value} c.include_in-before.ensures.before c.include_in-before.ensures.moves c.include_in-before.ensures.context c.parse_assignment_expr-read.ensures c.in-Ok-2.ensures.answer c.in-Ok-2.ensures.moves c.in-Ok-2.ensures.context in
+    c.enter_prop_name-before.ensures.«module» ∙ sym (ap (λ x. x.«module»)
+    (key.parses_context g.I.Tokens.model g.B.Bodies.is_faithful _ _ _ _ c.computed_prop_name-key.result c.computed_prop_name-key.ensures.reads
+    ∙ inner.reads.on.leads.read.context ∙ (s.eats_some g.B.Bodies.is_faithful is_lbracket _ c.in-Some.start _ _ c.in-Some.is (c.in-Ok.ensures.eats g.B.Bodies.is_faithful)).on.leads.read.context))
+
+pub parse_prop_name-set_ctx-requires-in-None : goal.parse_prop_name-set_ctx-requires-in-None
+parse_prop_name-set_ctx-requires-in-None g t c =
+    c.enter_prop_name-before.ensures.«module» ∙ sym (ap (λ x. x.«module»)
+    (key.parses_context g.I.Tokens.model g.B.Bodies.is_faithful _ _ _ _ c.parse_plain_prop_name-key.result c.parse_plain_prop_name-key.ensures.reads
+    ∙ (s.eats_none g.B.Bodies.is_faithful is_lbracket _ _ _ c.in-None.is (c.in-Ok.ensures.eats g.B.Bodies.is_faithful)).leads.read.context))
+
+pub parse_tpl_elements-loop-value-init : goal.parse_tpl_elements-loop-value-init
+parse_tpl_elements-loop-value-init g t c = (
+  entered.entered g.met.I.Tokens.laws c.enter_tpl-before.ensures.moves c.enter_tpl-before.ensures.context (λ x ts. tpl.parts_first _ c.args.is_tagged x ts
       ∙ ap (λ v. parts_behind g.B.BodyForms.forms c.args.is_tagged (trees (map quasi_tree v)) nil x ts) (sym c.new-quasis.ensures.items)
       ∙ ap (λ v. parts_behind g.B.BodyForms.forms c.args.is_tagged (trees (map quasi_tree c.new-quasis.result.items)) (trees (map (tree_of c.args.p.now.nodes) v)) x ts) (sym c.new-exprs.ensures.items)),
-  omega arith,
+  let a = c.enter_tpl-before.ensures.stays in omega arith,
   grows-same _,
   record { chained = ap (λ v. chain (seat_at c.args.p.now.nodes) (count c.args.p.now.nodes) (flat one_expr v) (count c.args.p.now.nodes)) c.new-exprs.ensures.items ∙ (apart-none {ns = c.args.p.now.nodes} {k = count c.args.p.now.nodes} (omega arith)).chained },
 )
 
-pub parse_tpl_parts-loop-exprs-preserved : goal.parse_tpl_parts-loop-exprs-preserved
-parse_tpl_parts-loop-exprs-preserved g t c =
-    let texts = trees (map quasi_tree c.loop-exprs.quasis.items) in
-    let exprs = trees (map (tree_of c.loop-exprs.p.nodes) c.loop-exprs.exprs.items) in
-    let now = trees_append texts (cons (quasi_tree c.in_ok-quasi.quasi) nil) in
-    let element = s.on_call (λ x p. parts_after g.B.BodyForms.forms c.args.is_tagged (trees_append texts (cons p.0 nil)) exprs x p.1) (λ x ts. tpl.behind_splits _ c.args.is_tagged texts exprs x ts) (c.in_ok-quasi.ensures.parses g.B.Bodies.is_faithful).on in
-    let opened = s.on_call (λ x p. parts_by g.B.BodyForms.forms c.args.is_tagged now exprs p.0 x p.1) (λ x ts. refl) (s.on_answer c.in-None.is (c.in_ok-end.ensures.ends g.B.Bodies.is_faithful).on) in
-    let added = ap (λ v. trees (map quasi_tree v)) c.in_ok-add.ensures.added ∙ trees-more quasi_tree c.loop-exprs.quasis.items c.in_ok-quasi.quasi in
-    let grows = grows-then (grows-kept c.parse_tpl_element.ensures.nodes) c.parse_expr_with_in.ensures.grows in
-    let nodes = c.parse_expr_with_in.new.p.nodes in
-    let more = ap (λ v. trees (map (tree_of nodes) v)) c.in_ok-add-2.ensures.added ∙ exprs-more c.loop-exprs.exprs.items c.in_ok-expr.expr grows c.loop-exprs.invariant.3 in
-    let parts = exprs-apart-more c.loop-exprs.exprs.items c.in_ok-expr.expr grows c.loop-exprs.invariant.3 (from-down (grows-count (grows-kept c.parse_tpl_element.ensures.nodes)) c.in_ok-expr.ensures.from) in (
-      s.on_then c.loop-exprs.invariant.0 (s.on_then element (s.on_then opened
+pub parse_tpl_elements-loop-value-preserved : goal.parse_tpl_elements-loop-value-preserved
+parse_tpl_elements-loop-value-preserved g t c =
+    let inner = expr_within g.B.BodyForms.forms {o = Ok c.in-Ok-2.value} c.include_in-before.ensures.before c.include_in-before.ensures.moves c.include_in-before.ensures.context c.parse_expr-read.ensures c.in-Ok-2.ensures.answer c.in-Ok-2.ensures.moves c.in-Ok-2.ensures.context in
+    let texts = trees (map quasi_tree c.loop-value.quasis.items) in
+    let exprs = trees (map (tree_of c.loop-value.p.nodes) c.loop-value.exprs.items) in
+    let now = trees_append texts (cons (quasi_tree c.in-Ok.value) nil) in
+    let element = s.on_call (λ x p. parts_after g.B.BodyForms.forms c.args.is_tagged (trees_append texts (cons p.0 nil)) exprs x p.1) (λ x ts. tpl.behind_splits _ c.args.is_tagged texts exprs x ts) (c.in-Ok.ensures.parses g.B.Bodies.is_faithful).on in
+    let opened = s.on_call (λ x p. parts_by g.B.BodyForms.forms c.args.is_tagged now exprs p.0 x p.1) (λ x ts. refl) (s.on_answer c.in-None.is (c.in-Ok-eat_tpl_end.ensures.ends g.B.Bodies.is_faithful).on) in
+    let added = ap (λ v. trees (map quasi_tree v)) c.in-Ok-add.ensures.added ∙ trees-more quasi_tree c.loop-value.quasis.items c.in-Ok.value in
+    let grows = grows-then (grows-kept c.parse_tpl_element.ensures.nodes) inner.grows in
+    let nodes = c.parse_expr-read.new.p.nodes in
+    let more = ap (λ v. trees (map (tree_of nodes) v)) c.in-Ok-add-2.ensures.added ∙ exprs-more c.loop-value.exprs.items c.in-Ok-2.value grows c.loop-value.invariant.3 in
+    let parts = exprs-apart-more c.loop-value.exprs.items c.in-Ok-2.value grows c.loop-value.invariant.3 (from-down (grows-count (grows-kept c.parse_tpl_element.ensures.nodes)) inner.from) in (
+      entered.further c.loop-value.invariant.0 (s.on_then element (s.on_then opened
           (s.on_to (s.on_call (λ x p. parts_behind g.B.BodyForms.forms c.args.is_tagged now (trees_append exprs (cons p.0 nil)) x p.1) (λ x ts. refl)
-          (s.on_then (s.on_call (λ x p. tpl_expr_close g.B.BodyForms.forms p.0 x p.1) (λ x ts. refl) c.in_ok-expr.ensures.reads.on)
-          (s.on_call (λ x q. Some (tree_of nodes c.in_ok-expr.expr, q.1)) (λ x ts. refl) (c.in_ok-expect.ensures.expects g.B.Bodies.is_faithful).on)))
+          (s.on_then (s.on_call (λ x p. tpl_expr_close g.B.BodyForms.forms p.0 x p.1) (λ x ts. refl) inner.reads.on)
+          (s.on_call (λ x q. Some (tree_of nodes c.in-Ok-2.value, q.1)) (λ x ts. refl) (c.in-Ok-expect.ensures.expects g.B.Bodies.is_faithful).on)))
           (λ x ts. tpl.behind_same g.B.BodyForms.forms c.args.is_tagged (sym added) (sym more) x ts)))),
-      let a = c.loop-exprs.invariant.1 in let b = c.in_ok-quasi.ensures.falls in let d = c.in_ok-end.ensures.falls in let e = c.in_ok-expr.ensures.falls in let f = c.in_ok-expect.ensures.falls in omega arith,
-      grows-then c.loop-exprs.invariant.2 grows,
-      record { chained = ap (λ v. chain (seat_at nodes) (count c.args.p.now.nodes) (flat one_expr v) (count nodes)) c.in_ok-add-2.ensures.added ∙ parts.chained },
+      let a = c.loop-value.invariant.1 in let b = c.in-Ok.ensures.falls in let d = c.in-Ok-eat_tpl_end.ensures.falls in let e = inner.falls in let f = c.in-Ok-expect.ensures.falls in omega arith,
+      grows-then c.loop-value.invariant.2 grows,
+      record { chained = ap (λ v. chain (seat_at nodes) (count c.args.p.now.nodes) (flat one_expr v) (count nodes)) c.in-Ok-add-2.ensures.added ∙ parts.chained },
     )
 
-pub parse_tpl_parts-returns-in_err-quasi : goal.parse_tpl_parts-returns-in_err-quasi
-parse_tpl_parts-returns-in_err-quasi g t c =
-    let texts = trees (map quasi_tree c.loop-exprs.quasis.items) in
-    let exprs = trees (map (tree_of c.loop-exprs.p.nodes) c.loop-exprs.exprs.items) in
-    let p = err_from_is_err_and c.from_residual.result c.from_residual.ensures.1 in rw (p.1, p.2)
-    (m.no (s.unheard_after c.loop-exprs.invariant.0 (s.unheard_call (λ x p. parts_after g.B.BodyForms.forms c.args.is_tagged (trees_append texts (cons p.0 nil)) exprs x p.1) (λ x ts. tpl.behind_splits _ c.args.is_tagged texts exprs x ts) (c.in_err-quasi.ensures.parses g.B.Bodies.is_faithful)))
-    (grows-then c.loop-exprs.invariant.2 (grows-kept c.parse_tpl_element.ensures.nodes)))
+pub parse_tpl_elements-returns-in-Err : goal.parse_tpl_elements-returns-in-Err
+parse_tpl_elements-returns-in-Err g t c =
+    let texts = trees (map quasi_tree c.loop-value.quasis.items) in
+    let exprs = trees (map (tree_of c.loop-value.p.nodes) c.loop-value.exprs.items) in
+    entered.left {q = c.parse_tpl_element.new.p}
+    c.enter_tpl-before.ensures.before c.loop-value.invariant.0
+    (m.no (s.unheard_after c.loop-value.invariant.0.on (s.unheard_call (λ x p. parts_after g.B.BodyForms.forms c.args.is_tagged (trees_append texts (cons p.0 nil)) exprs x p.1) (λ x ts. tpl.behind_splits _ c.args.is_tagged texts exprs x ts) (c.in-Err.ensures.parses g.B.Bodies.is_faithful)))
+    (grows-then c.loop-value.invariant.2 (grows-kept c.parse_tpl_element.ensures.nodes)))
+    c.set_ctx.ensures.moves c.set_ctx.ensures.context
 
-pub parse_tpl_parts-returns-in_err-add : goal.parse_tpl_parts-returns-in_err-add
-parse_tpl_parts-returns-in_err-add g t c =
-    let p = err_from_is_err_and c.from_residual-in_err-add.result c.from_residual-in_err-add.ensures.1 in rw (p.1, p.2)
-    (m.no (s.unheard_memory (s.forgoes_later (s.leads_then c.loop-exprs.invariant.0.leads (c.in_ok-quasi.ensures.parses g.B.Bodies.is_faithful).on.leads) (s.forgoes_here g.met.I.Tokens.laws _ _ _ c.in_err-add.ensures.refused)))
-    (grows-then c.loop-exprs.invariant.2 (grows-kept c.parse_tpl_element.ensures.nodes)))
+pub parse_tpl_elements-returns-in-Err-add : goal.parse_tpl_elements-returns-in-Err-add
+parse_tpl_elements-returns-in-Err-add g t c =
+    entered.left {q = c.parse_tpl_element.new.p}
+    c.enter_tpl-before.ensures.before c.loop-value.invariant.0
+    (m.no (s.unheard_memory (s.forgoes_later (s.leads_then c.loop-value.invariant.0.on.leads (c.in-Ok.ensures.parses g.B.Bodies.is_faithful).on.leads) (s.forgoes_here g.met.I.Tokens.laws _ _ _ c.in-Err-add.ensures.refused)))
+    (grows-then c.loop-value.invariant.2 (grows-kept c.parse_tpl_element.ensures.nodes)))
+    c.set_ctx-in-Err-add.ensures.moves c.set_ctx-in-Err-add.ensures.context
 
-pub parse_tpl_parts-returns-in_err-end : goal.parse_tpl_parts-returns-in_err-end
-parse_tpl_parts-returns-in_err-end g t c =
-    let texts = trees (map quasi_tree c.loop-exprs.quasis.items) in
-    let exprs = trees (map (tree_of c.loop-exprs.p.nodes) c.loop-exprs.exprs.items) in
-    let now = trees_append texts (cons (quasi_tree c.in_ok-quasi.quasi) nil) in
-    let element = s.on_call (λ x p. parts_after g.B.BodyForms.forms c.args.is_tagged (trees_append texts (cons p.0 nil)) exprs x p.1) (λ x ts. tpl.behind_splits _ c.args.is_tagged texts exprs x ts) (c.in_ok-quasi.ensures.parses g.B.Bodies.is_faithful).on in
-    let p = err_from_is_err_and c.from_residual-in_err-end.result c.from_residual-in_err-end.ensures.1 in rw (p.1, p.2)
-    (m.no (s.unheard_after c.loop-exprs.invariant.0 (s.unheard_after element (s.unheard_call (λ x p. parts_by g.B.BodyForms.forms c.args.is_tagged now exprs p.0 x p.1) (λ x ts. refl) (c.in_err-end.ensures.ends g.B.Bodies.is_faithful))))
-    (grows-then c.loop-exprs.invariant.2 (grows-kept c.parse_tpl_element.ensures.nodes)))
+pub parse_tpl_elements-returns-in-Err-eat_tpl_end : goal.parse_tpl_elements-returns-in-Err-eat_tpl_end
+parse_tpl_elements-returns-in-Err-eat_tpl_end g t c =
+    let texts = trees (map quasi_tree c.loop-value.quasis.items) in
+    let exprs = trees (map (tree_of c.loop-value.p.nodes) c.loop-value.exprs.items) in
+    let now = trees_append texts (cons (quasi_tree c.in-Ok.value) nil) in
+    let element = s.on_call (λ x p. parts_after g.B.BodyForms.forms c.args.is_tagged (trees_append texts (cons p.0 nil)) exprs x p.1) (λ x ts. tpl.behind_splits _ c.args.is_tagged texts exprs x ts) (c.in-Ok.ensures.parses g.B.Bodies.is_faithful).on in
+    entered.left {q = record c.parse_tpl_element.new.p { input = c.eat_tpl_end.new.input }}
+    c.enter_tpl-before.ensures.before c.loop-value.invariant.0
+    (m.no (s.unheard_after c.loop-value.invariant.0.on (s.unheard_after element (s.unheard_call (λ x p. parts_by g.B.BodyForms.forms c.args.is_tagged now exprs p.0 x p.1) (λ x ts. refl) (c.in-Err-eat_tpl_end.ensures.ends g.B.Bodies.is_faithful))))
+    (grows-then c.loop-value.invariant.2 (grows-kept c.parse_tpl_element.ensures.nodes)))
+    c.set_ctx-in-Err-eat_tpl_end.ensures.moves c.set_ctx-in-Err-eat_tpl_end.ensures.context
 
-pub parse_tpl_parts-returns-in-Some : goal.parse_tpl_parts-returns-in-Some
-parse_tpl_parts-returns-in-Some g t c =
-    let texts = trees (map quasi_tree c.loop-exprs.quasis.items) in
-    let exprs = trees (map (tree_of c.loop-exprs.p.nodes) c.loop-exprs.exprs.items) in
-    let now = trees_append texts (cons (quasi_tree c.in_ok-quasi.quasi) nil) in
-    let element = s.on_call (λ x p. parts_after g.B.BodyForms.forms c.args.is_tagged (trees_append texts (cons p.0 nil)) exprs x p.1) (λ x ts. tpl.behind_splits _ c.args.is_tagged texts exprs x ts) (c.in_ok-quasi.ensures.parses g.B.Bodies.is_faithful).on in
-    let added = ap (λ v. trees (map quasi_tree v)) c.in_ok-add.ensures.added ∙ trees-more quasi_tree c.loop-exprs.quasis.items c.in_ok-quasi.quasi in
+pub parse_tpl_elements-returns-in-Some : goal.parse_tpl_elements-returns-in-Some
+parse_tpl_elements-returns-in-Some g t c =
+    let texts = trees (map quasi_tree c.loop-value.quasis.items) in
+    let exprs = trees (map (tree_of c.loop-value.p.nodes) c.loop-value.exprs.items) in
+    let now = trees_append texts (cons (quasi_tree c.in-Ok.value) nil) in
+    let element = s.on_call (λ x p. parts_after g.B.BodyForms.forms c.args.is_tagged (trees_append texts (cons p.0 nil)) exprs x p.1) (λ x ts. tpl.behind_splits _ c.args.is_tagged texts exprs x ts) (c.in-Ok.ensures.parses g.B.Bodies.is_faithful).on in
+    let added = ap (λ v. trees (map quasi_tree v)) c.in-Ok-add.ensures.added ∙ trees-more quasi_tree c.loop-value.quasis.items c.in-Ok.value in
     let kept = grows-kept c.parse_tpl_element.ensures.nodes in
-    let some = s.heard_answer c.in-Some.is (c.in_ok-end.ensures.ends g.B.Bodies.is_faithful) in
+    let some = s.heard_answer c.in-Some.is (c.in-Ok-eat_tpl_end.ensures.ends g.B.Bodies.is_faithful) in
     let whole = ap (λ v. parts_e c.in-Some.end v exprs) (sym added)
-    ∙ ap (λ v. parts_e c.in-Some.end (trees (map quasi_tree c.add.new.list.items)) v) (sym (exprs-later c.loop-exprs.exprs.items kept c.loop-exprs.invariant.3)) in
-    m.yes (Ok _)
-    (s.heard_answer whole (s.heard_after c.loop-exprs.invariant.0 (s.heard_after element (s.heard_call (λ x p. parts_by g.B.BodyForms.forms c.args.is_tagged now exprs p.0 x p.1) (λ x ts. refl) (λ x ts. refl) some))))
-    (grows-then c.loop-exprs.invariant.2 kept) (apart-later kept c.loop-exprs.invariant.3)
+    ∙ ap (λ v. parts_e c.in-Some.end (trees (map quasi_tree c.add.new.list.items)) v) (sym (exprs-later c.loop-value.exprs.items kept c.loop-value.invariant.3)) in
+    entered.left {q = record c.parse_tpl_element.new.p { input = c.eat_tpl_end.new.input }}
+    c.enter_tpl-before.ensures.before c.loop-value.invariant.0
+    (m.yes (Ok _)
+    (s.heard_answer whole (s.heard_after c.loop-value.invariant.0.on (s.heard_after element (s.heard_call (λ x p. parts_by g.B.BodyForms.forms c.args.is_tagged now exprs p.0 x p.1) (λ x ts. refl) (λ x ts. refl) some))))
+    (grows-then c.loop-value.invariant.2 kept) (apart-later kept c.loop-value.invariant.3))
+    c.set_ctx-in-Some.ensures.moves c.set_ctx-in-Some.ensures.context
 
-pub parse_tpl_parts-returns-in_err-expr : goal.parse_tpl_parts-returns-in_err-expr
-parse_tpl_parts-returns-in_err-expr g t c =
-    let texts = trees (map quasi_tree c.loop-exprs.quasis.items) in
-    let exprs = trees (map (tree_of c.loop-exprs.p.nodes) c.loop-exprs.exprs.items) in
-    let now = trees_append texts (cons (quasi_tree c.in_ok-quasi.quasi) nil) in
-    let element = s.on_call (λ x p. parts_after g.B.BodyForms.forms c.args.is_tagged (trees_append texts (cons p.0 nil)) exprs x p.1) (λ x ts. tpl.behind_splits _ c.args.is_tagged texts exprs x ts) (c.in_ok-quasi.ensures.parses g.B.Bodies.is_faithful).on in
-    let opened = s.on_call (λ x p. parts_by g.B.BodyForms.forms c.args.is_tagged now exprs p.0 x p.1) (λ x ts. refl) (s.on_answer c.in-None.is (c.in_ok-end.ensures.ends g.B.Bodies.is_faithful).on) in
-    let p = err_from_is_err_and c.from_residual-in_err-expr.result c.from_residual-in_err-expr.ensures.1 in rw (p.1, p.2)
-    (m.no (s.unheard_after c.loop-exprs.invariant.0 (s.unheard_after element (s.unheard_after opened
+pub parse_tpl_elements-returns-in-Err-2 : goal.parse_tpl_elements-returns-in-Err-2
+parse_tpl_elements-returns-in-Err-2 g t c =
+    let inner = expr_within g.B.BodyForms.forms c.include_in-before.ensures.before c.include_in-before.ensures.moves c.include_in-before.ensures.context c.parse_expr-read.ensures c.in-Err-2.ensures.answer c.in-Err-2.ensures.moves c.in-Err-2.ensures.context in
+    let texts = trees (map quasi_tree c.loop-value.quasis.items) in
+    let exprs = trees (map (tree_of c.loop-value.p.nodes) c.loop-value.exprs.items) in
+    let now = trees_append texts (cons (quasi_tree c.in-Ok.value) nil) in
+    let element = s.on_call (λ x p. parts_after g.B.BodyForms.forms c.args.is_tagged (trees_append texts (cons p.0 nil)) exprs x p.1) (λ x ts. tpl.behind_splits _ c.args.is_tagged texts exprs x ts) (c.in-Ok.ensures.parses g.B.Bodies.is_faithful).on in
+    let opened = s.on_call (λ x p. parts_by g.B.BodyForms.forms c.args.is_tagged now exprs p.0 x p.1) (λ x ts. refl) (s.on_answer c.in-None.is (c.in-Ok-eat_tpl_end.ensures.ends g.B.Bodies.is_faithful).on) in
+    entered.left {q = record c.parse_expr-read.new.p { input = c.leave.new.input }}
+    c.enter_tpl-before.ensures.before c.loop-value.invariant.0
+    (m.no (s.unheard_after c.loop-value.invariant.0.on (s.unheard_after element (s.unheard_after opened
     (s.unheard_call (λ x p. parts_behind g.B.BodyForms.forms c.args.is_tagged now (trees_append exprs (cons p.0 nil)) x p.1) (λ x ts. refl)
-    (s.unheard_call (λ x p. tpl_expr_close g.B.BodyForms.forms p.0 x p.1) (λ x ts. refl) c.in_err-expr.ensures.reads)))))
-    (grows-then c.loop-exprs.invariant.2 (grows-then (grows-kept c.parse_tpl_element.ensures.nodes) c.parse_expr_with_in.ensures.grows)))
+    (s.unheard_call (λ x p. tpl_expr_close g.B.BodyForms.forms p.0 x p.1) (λ x ts. refl) inner.reads)))))
+    (grows-then c.loop-value.invariant.2 (grows-then (grows-kept c.parse_tpl_element.ensures.nodes) inner.grows)))
+    c.set_ctx-in-Err-2.ensures.moves c.set_ctx-in-Err-2.ensures.context
 
-pub parse_tpl_parts-returns-in_err-expect : goal.parse_tpl_parts-returns-in_err-expect
-parse_tpl_parts-returns-in_err-expect g t c =
-    let texts = trees (map quasi_tree c.loop-exprs.quasis.items) in
-    let exprs = trees (map (tree_of c.loop-exprs.p.nodes) c.loop-exprs.exprs.items) in
-    let now = trees_append texts (cons (quasi_tree c.in_ok-quasi.quasi) nil) in
-    let element = s.on_call (λ x p. parts_after g.B.BodyForms.forms c.args.is_tagged (trees_append texts (cons p.0 nil)) exprs x p.1) (λ x ts. tpl.behind_splits _ c.args.is_tagged texts exprs x ts) (c.in_ok-quasi.ensures.parses g.B.Bodies.is_faithful).on in
-    let opened = s.on_call (λ x p. parts_by g.B.BodyForms.forms c.args.is_tagged now exprs p.0 x p.1) (λ x ts. refl) (s.on_answer c.in-None.is (c.in_ok-end.ensures.ends g.B.Bodies.is_faithful).on) in
-    let e = tree_of c.parse_expr_with_in.new.p.nodes c.in_ok-expr.expr in
-    let p = err_from_is_err_and c.from_residual-in_err-expect.result c.from_residual-in_err-expect.ensures.1 in rw (p.1, p.2)
-    (m.no (s.unheard_after c.loop-exprs.invariant.0 (s.unheard_after element (s.unheard_after opened
+pub parse_tpl_elements-returns-in-Err-expect : goal.parse_tpl_elements-returns-in-Err-expect
+parse_tpl_elements-returns-in-Err-expect g t c =
+    let inner = expr_within g.B.BodyForms.forms {o = Ok c.in-Ok-2.value} c.include_in-before.ensures.before c.include_in-before.ensures.moves c.include_in-before.ensures.context c.parse_expr-read.ensures c.in-Ok-2.ensures.answer c.in-Ok-2.ensures.moves c.in-Ok-2.ensures.context in
+    let texts = trees (map quasi_tree c.loop-value.quasis.items) in
+    let exprs = trees (map (tree_of c.loop-value.p.nodes) c.loop-value.exprs.items) in
+    let now = trees_append texts (cons (quasi_tree c.in-Ok.value) nil) in
+    let element = s.on_call (λ x p. parts_after g.B.BodyForms.forms c.args.is_tagged (trees_append texts (cons p.0 nil)) exprs x p.1) (λ x ts. tpl.behind_splits _ c.args.is_tagged texts exprs x ts) (c.in-Ok.ensures.parses g.B.Bodies.is_faithful).on in
+    let opened = s.on_call (λ x p. parts_by g.B.BodyForms.forms c.args.is_tagged now exprs p.0 x p.1) (λ x ts. refl) (s.on_answer c.in-None.is (c.in-Ok-eat_tpl_end.ensures.ends g.B.Bodies.is_faithful).on) in
+    let e = tree_of c.parse_expr-read.new.p.nodes c.in-Ok-2.value in
+    entered.left {q = record c.parse_expr-read.new.p { input = c.expect.new.input }}
+    c.enter_tpl-before.ensures.before c.loop-value.invariant.0
+    (m.no (s.unheard_after c.loop-value.invariant.0.on (s.unheard_after element (s.unheard_after opened
     (s.unheard_call (λ x p. parts_behind g.B.BodyForms.forms c.args.is_tagged now (trees_append exprs (cons p.0 nil)) x p.1) (λ x ts. refl)
-    (s.unheard_after (s.on_call (λ x p. tpl_expr_close g.B.BodyForms.forms p.0 x p.1) (λ x ts. refl) c.in_ok-expr.ensures.reads.on)
-    (s.unheard_call (λ x q. Some (e, q.1)) (λ x ts. refl) (c.in_err-expect.ensures.expects g.B.Bodies.is_faithful)))))))
-    (grows-then c.loop-exprs.invariant.2 (grows-then (grows-kept c.parse_tpl_element.ensures.nodes) c.parse_expr_with_in.ensures.grows)))
+    (s.unheard_after (s.on_call (λ x p. tpl_expr_close g.B.BodyForms.forms p.0 x p.1) (λ x ts. refl) inner.reads.on)
+    (s.unheard_call (λ x q. Some (e, q.1)) (λ x ts. refl) (c.in-Err-expect.ensures.expects g.B.Bodies.is_faithful)))))))
+    (grows-then c.loop-value.invariant.2 (grows-then (grows-kept c.parse_tpl_element.ensures.nodes) inner.grows)))
+    c.set_ctx-in-Err-expect.ensures.moves c.set_ctx-in-Err-expect.ensures.context
 
-pub parse_tpl_parts-returns-in_err-add-2 : goal.parse_tpl_parts-returns-in_err-add-2
-parse_tpl_parts-returns-in_err-add-2 g t c =
-    let p = err_from_is_err_and c.from_residual-in_err-add-2.result c.from_residual-in_err-add-2.ensures.1 in rw (p.1, p.2)
-    (m.no (s.unheard_memory (s.forgoes_later (s.leads_then c.loop-exprs.invariant.0.leads (s.leads_then (c.in_ok-quasi.ensures.parses g.B.Bodies.is_faithful).on.leads (s.leads_then (c.in_ok-end.ensures.ends g.B.Bodies.is_faithful).on.leads
-    (s.leads_then c.in_ok-expr.ensures.reads.on.leads (c.in_ok-expect.ensures.expects g.B.Bodies.is_faithful).on.leads))))
-    (s.forgoes_here g.met.I.Tokens.laws _ _ _ c.in_err-add-2.ensures.refused)))
-    (grows-then c.loop-exprs.invariant.2 (grows-then (grows-kept c.parse_tpl_element.ensures.nodes) c.parse_expr_with_in.ensures.grows)))
+pub parse_tpl_elements-returns-in-Err-add-2 : goal.parse_tpl_elements-returns-in-Err-add-2
+parse_tpl_elements-returns-in-Err-add-2 g t c =
+    let inner = expr_within g.B.BodyForms.forms {o = Ok c.in-Ok-2.value} c.include_in-before.ensures.before c.include_in-before.ensures.moves c.include_in-before.ensures.context c.parse_expr-read.ensures c.in-Ok-2.ensures.answer c.in-Ok-2.ensures.moves c.in-Ok-2.ensures.context in
+    entered.left {q = record c.parse_expr-read.new.p { input = c.expect.new.input }}
+    c.enter_tpl-before.ensures.before c.loop-value.invariant.0
+    (m.no (s.unheard_memory (s.forgoes_later (s.leads_then c.loop-value.invariant.0.on.leads (s.leads_then (c.in-Ok.ensures.parses g.B.Bodies.is_faithful).on.leads (s.leads_then (c.in-Ok-eat_tpl_end.ensures.ends g.B.Bodies.is_faithful).on.leads
+    (s.leads_then inner.reads.on.leads (c.in-Ok-expect.ensures.expects g.B.Bodies.is_faithful).on.leads))))
+    (s.forgoes_here g.met.I.Tokens.laws _ _ _ c.in-Err-add-2.ensures.refused)))
+    (grows-then c.loop-value.invariant.2 (grows-then (grows-kept c.parse_tpl_element.ensures.nodes) inner.grows)))
+    c.set_ctx-in-Err-add-2.ensures.moves c.set_ctx-in-Err-add-2.ensures.context
+
+pub parse_tpl_elements-set_ctx-requires : goal.parse_tpl_elements-set_ctx-requires
+parse_tpl_elements-set_ctx-requires g t c =
+    entered.text c.parse_tpl_element.new.p.input (λ x. refl)
+    c.enter_tpl-before.ensures.before c.loop-value.invariant.0
+    ((c.in-Err.ensures.parses g.B.Bodies.is_faithful).refuses.spends.read.context)
+
+pub parse_tpl_elements-set_ctx-requires-in-Err-add : goal.parse_tpl_elements-set_ctx-requires-in-Err-add
+parse_tpl_elements-set_ctx-requires-in-Err-add g t c =
+    entered.text c.parse_tpl_element.new.p.input (λ x. refl)
+    c.enter_tpl-before.ensures.before c.loop-value.invariant.0
+    ((c.in-Ok.ensures.parses g.B.Bodies.is_faithful).on.leads.read.context)
+
+pub parse_tpl_elements-set_ctx-requires-in-Err-eat_tpl_end : goal.parse_tpl_elements-set_ctx-requires-in-Err-eat_tpl_end
+parse_tpl_elements-set_ctx-requires-in-Err-eat_tpl_end g t c =
+    entered.text c.eat_tpl_end.new.input (λ x. refl)
+    c.enter_tpl-before.ensures.before c.loop-value.invariant.0
+    ((c.in-Err-eat_tpl_end.ensures.ends g.B.Bodies.is_faithful).refuses.spends.read.context ∙ (c.in-Ok.ensures.parses g.B.Bodies.is_faithful).on.leads.read.context)
+
+pub parse_tpl_elements-set_ctx-requires-in-Some : goal.parse_tpl_elements-set_ctx-requires-in-Some
+parse_tpl_elements-set_ctx-requires-in-Some g t c =
+    entered.text c.eat_tpl_end.new.input (λ x. refl)
+    c.enter_tpl-before.ensures.before c.loop-value.invariant.0
+    ((c.in-Ok-eat_tpl_end.ensures.ends g.B.Bodies.is_faithful).on.leads.read.context ∙ (c.in-Ok.ensures.parses g.B.Bodies.is_faithful).on.leads.read.context)
+
+pub parse_tpl_elements-set_ctx-requires-in-Err-2 : goal.parse_tpl_elements-set_ctx-requires-in-Err-2
+parse_tpl_elements-set_ctx-requires-in-Err-2 g t c =
+    let inner = expr_within g.B.BodyForms.forms c.include_in-before.ensures.before c.include_in-before.ensures.moves c.include_in-before.ensures.context c.parse_expr-read.ensures c.in-Err-2.ensures.answer c.in-Err-2.ensures.moves c.in-Err-2.ensures.context in
+    entered.text c.leave.new.input (λ x. refl)
+    c.enter_tpl-before.ensures.before c.loop-value.invariant.0
+    (inner.reads.refuses.spends.read.context
+    ∙ (c.in-Ok-eat_tpl_end.ensures.ends g.B.Bodies.is_faithful).on.leads.read.context ∙ (c.in-Ok.ensures.parses g.B.Bodies.is_faithful).on.leads.read.context)
+
+pub parse_tpl_elements-set_ctx-requires-in-Err-expect : goal.parse_tpl_elements-set_ctx-requires-in-Err-expect
+parse_tpl_elements-set_ctx-requires-in-Err-expect g t c =
+    let inner = expr_within g.B.BodyForms.forms {o = Ok c.in-Ok-2.value} c.include_in-before.ensures.before c.include_in-before.ensures.moves c.include_in-before.ensures.context c.parse_expr-read.ensures c.in-Ok-2.ensures.answer c.in-Ok-2.ensures.moves c.in-Ok-2.ensures.context in
+    entered.text c.expect.new.input (λ x. refl)
+    c.enter_tpl-before.ensures.before c.loop-value.invariant.0
+    ((c.in-Err-expect.ensures.expects g.B.Bodies.is_faithful).refuses.spends.read.context
+    ∙ inner.reads.on.leads.read.context ∙ (c.in-Ok-eat_tpl_end.ensures.ends g.B.Bodies.is_faithful).on.leads.read.context ∙ (c.in-Ok.ensures.parses g.B.Bodies.is_faithful).on.leads.read.context)
+
+pub parse_tpl_elements-set_ctx-requires-in-Err-add-2 : goal.parse_tpl_elements-set_ctx-requires-in-Err-add-2
+parse_tpl_elements-set_ctx-requires-in-Err-add-2 g t c =
+    let inner = expr_within g.B.BodyForms.forms {o = Ok c.in-Ok-2.value} c.include_in-before.ensures.before c.include_in-before.ensures.moves c.include_in-before.ensures.context c.parse_expr-read.ensures c.in-Ok-2.ensures.answer c.in-Ok-2.ensures.moves c.in-Ok-2.ensures.context in
+    entered.text c.expect.new.input (λ x. refl)
+    c.enter_tpl-before.ensures.before c.loop-value.invariant.0
+    ((c.in-Ok-expect.ensures.expects g.B.Bodies.is_faithful).on.leads.read.context
+    ∙ inner.reads.on.leads.read.context ∙ (c.in-Ok-eat_tpl_end.ensures.ends g.B.Bodies.is_faithful).on.leads.read.context ∙ (c.in-Ok.ensures.parses g.B.Bodies.is_faithful).on.leads.read.context)

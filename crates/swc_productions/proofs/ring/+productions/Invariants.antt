@@ -3,14 +3,17 @@ use Rattle.std.proofs.Common.{◌≡◌, ◌+◌, ◌*◌, ◌≤◌, not, map, 
 use Rattle.std.specs.Prelude.{slice_index_or}
 use Rattle.swc_input.specs.Buffer.{to_come}
 use Rattle.swc_ast.specs.Parts.{item_trees, quasi_tree}
-use Rattle.swc_ast.specs.Tree.{nil, cons, trees}
+use Rattle.swc_ast.specs.Tree.{nil, trees}
 use Rattle.swc_grammar.specs.Symbols.{Args, Elements, Props, Parts}
+use Rattle.swc_grammar.specs.Tokens.{include_in}
 use Rattle.swc_grammar.specs.Clean.{sym, links, run}
-use Rattle.swc_nodes.specs.Slots.{expr_part, args_parts}
+use Rattle.swc_nodes.specs.NodeParts.{expr_part, args_parts}
 use Rattle.swc_nodes.specs.Lists.{elem_parts, elem_trees, props_parts, props_trees, exprs_parts, expr_trees}
+use Rattle.swc_nodes.specs.declared.node.ExprId.{ExprId}
 use Rattle.swc_nodes.specs.Pending.{all_pending, operand_parts, first_operand}
-use Rattle.swc_nodes.specs.Stands.{tree_at, count, first_at, Apart, From, Grows}
+use Rattle.swc_nodes.specs.GrowingNodes.{tree_at, count, first_at, Apart, From, Grows}
 use Rattle.swc_operators.specs.Assignments.{seqs_more}
+use Rattle.swc_operators.specs.Entered.{Entered}
 use Rattle.swc_operators.specs.Pending.{pending_reads}
 use Rattle.swc_steps.specs.Args.{args_behind}
 use Rattle.swc_steps.specs.Lists.{elements_behind}
@@ -50,18 +53,12 @@ invariant-parse_subscripts-loop-head g l =
 abbrev pub decreases-parse_subscripts-loop-head : goal.decreases-parse_subscripts-loop-head
 decreases-parse_subscripts-loop-head g l = to_come g.I.Tokens.model l.p.input
 
-abbrev pub decreases-parse_link : goal.decreases-parse_link
-decreases-parse_link g l = to_come g.I.Tokens.model l.p.now.input * 20 + 17
-
 abbrev pub decreases-parse_args : goal.decreases-parse_args
 decreases-parse_args g l = to_come g.I.Tokens.model l.p.now.input * 20 + 16
 
-abbrev pub decreases-parse_arg_list : goal.decreases-parse_arg_list
-decreases-parse_arg_list g l = to_come g.I.Tokens.model l.p.now.input * 20 + 15
-
-abbrev pub invariant-parse_arg_list-loop-items : goal.invariant-parse_arg_list-loop-items
-invariant-parse_arg_list-loop-items g l =
-    On g.I.Tokens.model g.B.Bodies.is_faithful
+abbrev pub invariant-parse_args-loop-value : goal.invariant-parse_args-loop-value
+invariant-parse_args-loop-value g l =
+    Entered g.I.Tokens.model g.B.Bodies.is_faithful include_in
     (run g.B.BodyForms.forms (sym (Args l.fn.is_dynamic_import)))
     (args_behind g.B.BodyForms.forms l.fn.is_dynamic_import (item_trees (tree_of l.p.nodes) l.items.items)
     l.trailing_comma)
@@ -70,8 +67,8 @@ invariant-parse_arg_list-loop-items g l =
     × Grows l.fn.p.nodes l.p.nodes
     × Apart (count l.fn.p.nodes) l.p.nodes (args_parts l.items)
 
-abbrev pub decreases-parse_arg_list-loop-items : goal.decreases-parse_arg_list-loop-items
-decreases-parse_arg_list-loop-items g l = to_come g.I.Tokens.model l.p.input
+abbrev pub decreases-parse_args-loop-value : goal.decreases-parse_args-loop-value
+decreases-parse_args-loop-value g l = to_come g.I.Tokens.model l.p.input
 
 abbrev pub decreases-parse_unary_expr : goal.decreases-parse_unary_expr
 decreases-parse_unary_expr g l = to_come g.I.Tokens.model l.p.now.input * 20 + 6
@@ -100,38 +97,26 @@ decreases-parse_bin_expr g l = to_come g.I.Tokens.model l.p.now.input * 20 + 11
 abbrev pub decreases-parse_expr : goal.decreases-parse_expr
 decreases-parse_expr g l = to_come g.I.Tokens.model l.p.now.input * 20 + 13
 
-abbrev pub decreases-parse_seq_expr : goal.decreases-parse_seq_expr
-decreases-parse_seq_expr g l = to_come g.I.Tokens.model l.p.now.input * 20 + 13
-
-abbrev pub invariant-parse_seq_expr-loop-exprs : goal.invariant-parse_seq_expr-loop-exprs
-invariant-parse_seq_expr-loop-exprs g l =
+abbrev pub invariant-parse_expr-loop-exprs : goal.invariant-parse_expr-loop-exprs
+invariant-parse_expr-loop-exprs g l =
     On g.I.Tokens.model g.B.Bodies.is_faithful
-    (seqs_more g.B.BodyForms.forms (cons (tree_of l.fn.p.nodes l.fn.first) nil))
+    (seqs_more g.B.BodyForms.forms (expr_trees (tree_at l.initial.p.nodes) l.initial.exprs))
     (seqs_more g.B.BodyForms.forms (expr_trees (tree_at l.p.nodes) l.exprs))
-    l.fn.p.input l.p.input
+    l.initial.p.input l.p.input
     × (to_come g.I.Tokens.model l.p.input ≤ to_come g.I.Tokens.model l.fn.p.input)
-    × Grows l.fn.p.nodes l.p.nodes
-    × Apart (first_at l.fn.p.nodes l.fn.first.0) l.p.nodes (exprs_parts l.exprs)
+    × Grows l.initial.p.nodes l.p.nodes
+    × Apart (count l.fn.p.nodes) l.p.nodes (exprs_parts l.exprs)
     × (1 ≤ length l.exprs.items)
-    × (slice_index_or l.exprs.items 0 l.fn.first ≡ l.fn.first)
+    × ((d : ExprId) → slice_index_or l.exprs.items 0 d ≡ slice_index_or l.initial.exprs.items 0 d)
 
-abbrev pub decreases-parse_seq_expr-loop-exprs : goal.decreases-parse_seq_expr-loop-exprs
-decreases-parse_seq_expr-loop-exprs g l = to_come g.I.Tokens.model l.p.input
-
-abbrev pub decreases-parse_expr_with_in : goal.decreases-parse_expr_with_in
-decreases-parse_expr_with_in g l = to_come g.I.Tokens.model l.p.now.input * 20 + 14
+abbrev pub decreases-parse_expr-loop-exprs : goal.decreases-parse_expr-loop-exprs
+decreases-parse_expr-loop-exprs g l = to_come g.I.Tokens.model l.p.input
 
 abbrev pub decreases-parse_assignment_expr : goal.decreases-parse_assignment_expr
 decreases-parse_assignment_expr g l = to_come g.I.Tokens.model l.p.now.input * 20 + 12
 
-abbrev pub decreases-parse_assignment_expr_with_in : goal.decreases-parse_assignment_expr_with_in
-decreases-parse_assignment_expr_with_in g l = to_come g.I.Tokens.model l.p.now.input * 20 + 13
-
 abbrev pub decreases-finish_assignment_expr : goal.decreases-finish_assignment_expr
 decreases-finish_assignment_expr g l = to_come g.I.Tokens.model l.p.now.input * 20 + 2
-
-abbrev pub decreases-parse_yield_expr : goal.decreases-parse_yield_expr
-decreases-parse_yield_expr g l = to_come g.I.Tokens.model l.p.now.input * 20 + 1
 
 abbrev pub decreases-parse_expr_or_spread : goal.decreases-parse_expr_or_spread
 decreases-parse_expr_or_spread g l = to_come g.I.Tokens.model l.p.now.input * 20 + 13
@@ -155,9 +140,6 @@ decreases-parse_elements-loop-items g l = to_come g.I.Tokens.model l.p.input
 abbrev pub decreases-parse_prop_name : goal.decreases-parse_prop_name
 decreases-parse_prop_name g l = to_come g.I.Tokens.model l.p.now.input * 20 + 16
 
-abbrev pub decreases-parse_key : goal.decreases-parse_key
-decreases-parse_key g l = to_come g.I.Tokens.model l.p.now.input * 20 + 15
-
 abbrev pub decreases-parse_object_prop : goal.decreases-parse_object_prop
 decreases-parse_object_prop g l = to_come g.I.Tokens.model l.p.now.input * 20 + 18
 
@@ -180,12 +162,9 @@ decreases-parse_props-loop-items g l = to_come g.I.Tokens.model l.p.input
 abbrev pub decreases-parse_tpl_elements : goal.decreases-parse_tpl_elements
 decreases-parse_tpl_elements g l = to_come g.I.Tokens.model l.p.now.input * 20 + 16
 
-abbrev pub decreases-parse_tpl_parts : goal.decreases-parse_tpl_parts
-decreases-parse_tpl_parts g l = to_come g.I.Tokens.model l.p.now.input * 20 + 15
-
-abbrev pub invariant-parse_tpl_parts-loop-exprs : goal.invariant-parse_tpl_parts-loop-exprs
-invariant-parse_tpl_parts-loop-exprs g l =
-    On g.I.Tokens.model g.B.Bodies.is_faithful
+abbrev pub invariant-parse_tpl_elements-loop-value : goal.invariant-parse_tpl_elements-loop-value
+invariant-parse_tpl_elements-loop-value g l =
+    Entered g.I.Tokens.model g.B.Bodies.is_faithful (λ x. x)
     (run g.B.BodyForms.forms (sym (Parts l.fn.is_tagged)))
     (parts_behind g.B.BodyForms.forms l.fn.is_tagged (trees (map quasi_tree l.quasis.items))
     (trees (map (tree_of l.p.nodes) l.exprs.items)))
@@ -194,5 +173,5 @@ invariant-parse_tpl_parts-loop-exprs g l =
     × Grows l.fn.p.nodes l.p.nodes
     × Apart (count l.fn.p.nodes) l.p.nodes (exprs_parts l.exprs)
 
-abbrev pub decreases-parse_tpl_parts-loop-exprs : goal.decreases-parse_tpl_parts-loop-exprs
-decreases-parse_tpl_parts-loop-exprs g l = to_come g.I.Tokens.model l.p.input
+abbrev pub decreases-parse_tpl_elements-loop-value : goal.decreases-parse_tpl_elements-loop-value
+decreases-parse_tpl_elements-loop-value g l = to_come g.I.Tokens.model l.p.input

@@ -1,4 +1,4 @@
-use Rattle.std.proofs.Common.{Some, refl, ap, sym, ◌∙◌}
+use Rattle.std.proofs.Common.{refl, ap, sym, ◌∙◌}
 use Rattle.std.proofs.lemmas.Result.{err_from_is_err_and}
 use Rattle.swc_input.specs.Plain.{plain}
 use Rattle.swc_input.specs.Kinds.{at_token}
@@ -40,5 +40,5 @@ returns-clause-parses g c = λ sure.
     (s.on_seen {f = regex_tail slash.was.span} {g = regex_tail slash.was.span} c.in_ok-look.ensures.looks (λ x ts same e. refl))
     (s.heard_after
     (on_still {f = regex_tail slash.was.span} g.met.I.Tokens.laws c.end_hint.ensures.still c.end_hint.ensures.lives)
-    (s.heard_call (λ x p. Some (from_slash slash.was.span p.0, p.1)) (λ x ts. tail_splits slash.was.span x ts) (λ x ts. refl)
+    (s.heard_call _ (tail_splits slash.was.span) (λ x ts. refl)
     (c.bump_regex-regex.ensures.heard sure)))))

@@ -1,6 +1,5 @@
 use Rattle.std.proofs.Common.{true, refl}
 use Rattle.std.proofs.lemmas.Result.{err_from_is_err_and}
-use Rattle.swc_steps.specs.Keys.{expected_by}
 use Rattle.swc_steps.specs.Lists.{is_sign_token}
 use Rattle.swc_steps.proofs.Keys.{expected_splits}
 use Rattle.swc_steps.proofs.Steps as s
@@ -9,12 +8,12 @@ use Rattle.swc_steps.proofs.tokens.expect_or.Goals as goal
 pub returns-in_err-span-clause-expects : goal.returns-in_err-span-clause-expects
 returns-in_err-span-clause-expects g c =
     let p = err_from_is_err_and c.from_residual.result c.from_residual.ensures.1 in λ sure. rw (p.1, p.2)
-    (s.unheard_call (λ x q. expected_by q.0 q.1) (λ x ts. expected_splits (is_sign_token c.args.sign) x ts)
+    (s.unheard_call _ (expected_splits (is_sign_token c.args.sign))
     (c.in_err-span.ensures.eats sure))
 
 pub returns-in-Some-clause-expects : goal.returns-in-Some-clause-expects
 returns-in-Some-clause-expects g c = λ sure.
-    s.heard_call (λ x q. expected_by q.0 q.1) (λ x ts. expected_splits (is_sign_token c.args.sign) x ts) (λ x ts. refl)
+    s.heard_call _ (expected_splits (is_sign_token c.args.sign)) (λ x ts. refl)
     (s.eats_some sure (is_sign_token c.args.sign) _ c.in-Some.span _ _ c.in-Some.is (c.in_ok-span.ensures.eats sure))
 
 pub returns-in-Some-clause-falls : goal.returns-in-Some-clause-falls
@@ -26,6 +25,6 @@ returns-in-Some-clause-falls g c =
 pub returns-in-None-clause-expects : goal.returns-in-None-clause-expects
 returns-in-None-clause-expects g c = λ sure.
     s.unheard_after
-    (s.on_call (λ x q. expected_by q.0 q.1) (λ x ts. expected_splits (is_sign_token c.args.sign) x ts)
+    (s.on_call _ (expected_splits (is_sign_token c.args.sign))
     (s.eats_none sure (is_sign_token c.args.sign) _ _ _ c.in-None.is (c.in_ok-span.ensures.eats sure)))
     (s.unheard_none (λ x ts. refl) c.unexpected.ensures.refuses)

@@ -3,9 +3,9 @@ use Rattle.std.proofs.lemmas.Result.{err_from_is_err_and}
 use Rattle.swc_grammar.specs.Symbols.{Arguments}
 use Rattle.swc_grammar.specs.Clean.{sym as at, run}
 use Rattle.swc_ast.specs.Parts.{args_tree}
-use Rattle.swc_nodes.specs.Stands.{tree_at, bare_at}
+use Rattle.swc_nodes.specs.GrowingNodes.{tree_at, bare_at}
 use Rattle.swc_steps.specs.Parsing.{args_at}
-use Rattle.swc_nodes.specs.Slots.{args_parts}
+use Rattle.swc_nodes.specs.NodeParts.{args_parts}
 use Rattle.swc_nodes.proofs.Remembered.{args-commas}
 use Rattle.swc_ecma_parser.specs.Calls.{nodes_of, commas_of, tree_by}
 use Rattle.swc_ecma_parser.specs.Promise.{only_items}

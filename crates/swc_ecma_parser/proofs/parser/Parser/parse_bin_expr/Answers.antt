@@ -2,10 +2,10 @@ use Rattle.std.proofs.Common.{refl, sym, ◌∙◌}
 use Rattle.std.proofs.lemmas.Result.{err_from_is_err_and}
 use Rattle.swc_grammar.specs.Symbols.{Level}
 use Rattle.swc_grammar.specs.Clean.{sym as at, run}
-use Rattle.swc_nodes.specs.Stands.{bare_at}
+use Rattle.swc_nodes.specs.GrowingNodes.{bare_at}
 use Rattle.swc_steps.specs.Parsing.{tree_of}
 use Rattle.swc_ast.specs.Trees.{unmarked}
-use Rattle.swc_nodes.specs.Slots.{one_expr}
+use Rattle.swc_nodes.specs.NodeParts.{one_expr}
 use Rattle.swc_ecma_parser.specs.Calls.{nodes_of, commas_of, tree_by}
 use Rattle.swc_ecma_parser.proofs.Calling.{promised, promised-again}
 use Rattle.swc_ecma_parser.proofs.Moving.{moved-parses, cut-back, recalled}

@@ -3,11 +3,11 @@ use Rattle.std.proofs.lemmas.Result.{err_from_is_err_and}
 use Rattle.swc_grammar.specs.Symbols.{Key}
 use Rattle.swc_grammar.specs.Clean.{sym as at, run}
 use Rattle.swc_ast.specs.Parts.{prop_name_tree}
-use Rattle.swc_nodes.specs.Stands.{tree_at, bare_at}
+use Rattle.swc_nodes.specs.GrowingNodes.{tree_at, bare_at}
 use Rattle.swc_nodes.proofs.Unmarked.{unmarked-key}
 use Rattle.swc_steps.specs.Parsing.{key_at, tree_of}
 use Rattle.swc_ast.specs.Trees.{unmarked}
-use Rattle.swc_nodes.specs.Slots.{key_parts}
+use Rattle.swc_nodes.specs.NodeParts.{key_parts}
 use Rattle.swc_nodes.proofs.Remembered.{key-commas}
 use Rattle.swc_ecma_parser.specs.Calls.{nodes_of, commas_of, tree_by}
 use Rattle.swc_ecma_parser.proofs.Calling.{promised, promised-again}

@@ -3,7 +3,7 @@ use Rattle.std.proofs.lemmas.Result.{err_from_is_err_and}
 use Rattle.swc_grammar.specs.Symbols.{Template}
 use Rattle.swc_grammar.specs.Clean.{sym as at, run}
 use Rattle.swc_ast.specs.Parts.{tpl_tree}
-use Rattle.swc_nodes.specs.Stands.{tree_at, bare_at}
+use Rattle.swc_nodes.specs.GrowingNodes.{tree_at, bare_at}
 use Rattle.swc_productions.specs.Pieces.{tpl_at}
 use Rattle.swc_ast.specs.Trees.{unmarked}
 use Rattle.swc_nodes.specs.Lists.{exprs_parts}

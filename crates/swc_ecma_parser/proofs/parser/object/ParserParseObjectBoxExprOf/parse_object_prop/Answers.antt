@@ -4,11 +4,11 @@ use Rattle.swc_grammar.specs.Symbols.{Prop}
 use Rattle.swc_grammar.specs.Clean.{sym as at, run}
 use Rattle.swc_ast.specs.TreeOf.{prop_or_spread_tree}
 use Rattle.swc_nodes.specs.NodeTree.{prop_of as prop_tree}
-use Rattle.swc_nodes.specs.Stands.{tree_at, bare_at}
+use Rattle.swc_nodes.specs.GrowingNodes.{tree_at, bare_at}
 use Rattle.swc_nodes.proofs.Unmarked.{unmarked-prop}
 use Rattle.swc_steps.specs.Parsing.{prop_at}
 use Rattle.swc_ast.specs.Trees.{unmarked}
-use Rattle.swc_nodes.specs.Slots.{prop_parts}
+use Rattle.swc_nodes.specs.NodeParts.{prop_parts}
 use Rattle.swc_nodes.proofs.Remembered.{prop-commas}
 use Rattle.swc_ecma_parser.specs.Calls.{nodes_of, commas_of, tree_by}
 use Rattle.swc_ecma_parser.proofs.Calling.{promised, promised-again}
