@@ -238,6 +238,16 @@ parse_expr | script | a ? b : c | Cond(a, b, c) 0..9 | none | end
 parse_expr | script | a\n? b\n: c | Cond(a, b, c) 0..9 | none | end
 parse_expr | script | a ? b : c ? d : e | Cond(a, b, Cond(c, d, e)) 0..17 | none | end
 parse_expr | script | a ? b ? c : d : e | Cond(a, Cond(b, c, d), e) 0..17 | none | end
+parse_expr | script | a ?? b || c + d | Bin(||, Bin(??, a, b), Bin(+, c, d)) 0..15 | NullishCoalescingWithLogicalOp 0..15, NullishCoalescingWithLogicalOp 0..15 | end
+parse_expr | script | a ?? b ?? c || d | Bin(||, Bin(??, Bin(??, a, b), c), d) 0..16 | NullishCoalescingWithLogicalOp 0..16, NullishCoalescingWithLogicalOp 0..16 | end
+parse_expr | script | a && b ?? c || d | Bin(||, Bin(??, Bin(&&, a, b), c), d) 0..16 | NullishCoalescingWithLogicalOp 0..6, NullishCoalescingWithLogicalOp 0..16, NullishCoalescingWithLogicalOp 0..16 | end
+parse_expr | script | a ?? b || c ?? d | Bin(??, Bin(||, Bin(??, a, b), c), d) 0..16 | NullishCoalescingWithLogicalOp 0..11, NullishCoalescingWithLogicalOp 0..11 | end
+parse_expr | script | a || b ?? c ?? d | Bin(??, Bin(??, Bin(||, a, b), c), d) 0..16 | NullishCoalescingWithLogicalOp 0..6 | end
+parse_expr | script | a ?? b || c * d || e | Bin(||, Bin(||, Bin(??, a, b), Bin(*, c, d)), e) 0..20 | NullishCoalescingWithLogicalOp 0..15 | end
+parse_expr | script | a ?? b || c ? d : e | Cond(Bin(||, Bin(??, a, b), c), d, e) 0..19 | NullishCoalescingWithLogicalOp 0..11, NullishCoalescingWithLogicalOp 0..11 | end
+parse_expr | script | [a ?? b || c] || d | Bin(||, Array[Bin(||, Bin(??, a, b), c)], d) 0..18 | NullishCoalescingWithLogicalOp 1..12, NullishCoalescingWithLogicalOp 1..12 | end
+parse_bin_expr | script without_in | a ?? b || c in d | Bin(||, Bin(??, a, b), c) 0..11 | NullishCoalescingWithLogicalOp 0..11, NullishCoalescingWithLogicalOp 0..11 | 12..14
+parse_expr | script no_early_errors | a ?? b || c | Bin(||, Bin(??, a, b), c) 0..11 | none | end
 parse_expr | script | a || b ? c && d : e ?? f | Cond(Bin(||, a, b), Bin(&&, c, d), Bin(??, e, f)) 0..24 | none | end
 parse_expr | script | -a ? b : c | Cond(Unary(-, a), b, c) 0..10 | none | end
 parse_expr | script | a ? b = c : d += e | Cond(a, Assign(=, b, c), Assign(+=, d, e)) 0..18 | none | end

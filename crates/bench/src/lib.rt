@@ -13,6 +13,8 @@ mod failing;
 #[cfg(test)]
 mod hooks;
 #[cfg(test)]
+mod noting;
+#[cfg(test)]
 mod parsing;
 #[cfg(test)]
 mod program;

@@ -1,0 +1,203 @@
+// The contexts in which a source is asked for tokens.
+ghost use Rattle.std.specs.Prelude.{◌≡◌};
+
+use crate::hooks::TestBodies;
+use crate::settings::source_of;
+use crate::sources::{Note, NotingInput};
+use bench_lower::rows::{Row, expect, row_of};
+use std::alloc::{AllocError, Global};
+use std::test::Fail;
+use swc_context::context::{Context, EsVersion, Syntax, TokenContexts};
+use swc_context::error::Error;
+use swc_context::span::BytePos;
+use swc_ecma_parser::parser::Parser;
+use swc_input::listed::TokensInput;
+use swc_input::token::TokenAndSpan;
+use swc_input::tokens::Tokens;
+
+/// A text that is read as an expression, and each token that was asked for, with the flags that were on then: `cond`
+/// (`in_cond_expr`), `colon` (`will_expect_colon_for_cond`), `no_type` (`should_not_lex_lt_or_gt_as_type`) and `key`
+/// (`in_property_name`). These decide nothing in the parser, so no other test sees them.
+///
+/// A token is asked for at the first look at it. At a `?` behind a name that is a look for the `.` of an optional chain:
+/// so what most rows have before a `?` ends with `++`. In the last two rows an operand is refused, and reading goes on in
+/// the context from before.
+const CONTEXTS: &str =
+    r"parse_expr | script | a ? b : c | a; ? no_type; b no_type; : cond colon no_type; c cond
+parse_expr | script | a++ ? b : c | a; ++ no_type; ?; b cond colon; : cond colon no_type; c cond
+parse_expr | script | a++ ? b++ ? c : d : e | a; ++ no_type; ?; b cond colon; ++ cond colon no_type; ? cond colon; c cond colon; : cond colon no_type; d cond; : cond no_type; e cond
+parse_expr | script | a++ ? (b) : c | a; ++ no_type; ?; ( cond colon; b cond no_type; ) cond no_type; : cond colon no_type; c cond
+parse_expr | script | a++ ? f(b) : [c, d] | a; ++ no_type; ?; f cond colon; ( cond colon no_type; b cond; ) cond no_type; : cond colon; [ cond; c cond no_type; , cond no_type; d cond no_type; ] cond no_type
+parse_expr | script | a++ ? {b: c, [d]: e, f} : g | a; ++ no_type; ?; { cond colon; b cond no_type; : cond no_type; c cond no_type; , cond no_type; [ cond no_type; d cond no_type key; ] cond no_type key; : cond no_type; e cond no_type; , cond no_type; f cond no_type; } cond no_type; : cond colon no_type; g cond
+parse_expr | script | a++ ? `b${c}d` : e | a; ++ no_type; ?; ` cond colon; b cond no_type; ${ cond no_type; c cond no_type; } cond no_type; d cond no_type; ` cond no_type; : cond colon no_type; e cond
+parse_expr | script | a++ ? f`b` : c | a; ++ no_type; ?; f cond colon; ` cond colon no_type; b cond no_type; ` cond no_type; : cond colon no_type; c cond
+parse_expr | script | {[a ? b : c]: d} | {; [ no_type; a no_type key; ? no_type key; b no_type key; : cond colon no_type key; c cond no_type key; ] cond no_type key; : no_type; d no_type; } no_type
+parse_expr | script | new a(b).c[d](e) | new; a no_type; ( no_type; b no_type; ) no_type; . no_type; c no_type; [ no_type; d no_type; ] no_type; ( no_type; e; ) no_type
+parse_expr | script method | super.a(b) | super; .; a; (; b; ) no_type
+parse_expr | module | import.meta[a] | import; .; meta; [; a; ] no_type
+parse_expr | script | -[a++ ? -b ** + c | -; [; a no_type; ++ no_type; ? no_type; - cond colon no_type; b cond colon no_type; ** cond colon no_type; + cond colon no_type; c
+parse_expr | script | -{[-b ** + c | -; {; [ no_type; - no_type key; b no_type key; ** no_type key; + no_type key; c
+";
+
+impl NotingInput {
+    /// A source that gives the tokens of this list, and has noted nothing.
+    fn new(alloc: Global, list: TokensInput) -> NotingInput {
+        NotingInput {
+            list,
+            notes: Vec::new(alloc),
+        }
+    }
+
+    /// Notes the token, unless memory is wanted.
+    fn note(&mut self, token: &TokenAndSpan)
+        ensures { self.new.list ≡ self.old.list }
+    {
+        let note = Note {
+            span: token.span,
+            context: self.list.ctx(),
+        };
+        let _ = self.notes.push(note);
+    }
+}
+
+impl Iterator for NotingInput {
+    ghost use Rattle.std.specs.Iterator.{at_most};
+    ghost use Rattle.std.specs.Prelude.{length};
+    ghost use Rattle.bench.specs.Noting.{NextNoting};
+
+    type Item = TokenAndSpan;
+
+    ghost next_gives = { NextNoting };
+
+    ghost remaining = { λ s. at_most (length s.list.rest.items) };
+
+    fn next(&mut self) -> Option<TokenAndSpan> {
+        let token = self.list.next()?;
+        self.note(&token);
+        Some(token)
+    }
+}
+
+impl Tokens for NotingInput {
+    ghost use Rattle.std.proofs.Common.{refl};
+    ghost use Rattle.bench.specs.Noting.{noting_model, with_contexts, noting_laws, noting_unmoved, noting_asked};
+
+    ghost model = { noting_model };
+
+    ghost with_contexts = { with_contexts };
+
+    ghost laws = { noting_laws };
+
+    ghost unmoved = { noting_unmoved };
+
+    ghost may_ask = { λ s. tt };
+
+    ghost ends = { λ s. refl };
+
+    ghost asked = { noting_asked };
+
+    fn set_ctx(&mut self, ctx: Context) -> Result<(), AllocError> {
+        self.list.set_ctx(ctx)
+    }
+
+    fn ctx(&self) -> Context {
+        self.list.ctx()
+    }
+
+    fn syntax(&self) -> Syntax {
+        self.list.syntax()
+    }
+
+    fn target(&self) -> EsVersion {
+        self.list.target()
+    }
+
+    fn start_pos(&self) -> BytePos {
+        self.list.start_pos()
+    }
+
+    fn set_expr_allowed(&mut self, allow: bool) {
+        self.list.set_expr_allowed(allow);
+    }
+
+    fn set_next_regexp(&mut self, start: Option<BytePos>) {
+        self.list.set_next_regexp(start);
+    }
+
+    fn token_context(&self) -> &TokenContexts {
+        self.list.token_context()
+    }
+
+    fn token_context_mut(&mut self) -> &mut TokenContexts {
+        self.list.token_context_mut()
+    }
+
+    fn set_token_context(&mut self, contexts: TokenContexts) {
+        self.list.set_token_context(contexts);
+    }
+
+    fn add_error(&mut self, error: Error) -> Result<(), AllocError> {
+        self.list.add_error(error)
+    }
+
+    fn add_module_mode_error(&mut self, error: Error) -> Result<(), AllocError> {
+        self.list.add_module_mode_error(error)
+    }
+
+    fn take_errors(&mut self) -> Vec<Error> {
+        self.list.take_errors()
+    }
+
+    fn failed(&self) -> bool {
+        false
+    }
+}
+
+/// Writes the token at the note's place in the text, and the flags that were on.
+fn show_note(out: &mut String, text: &str, note: Note) -> Result<(), Fail> {
+    let Note { span, context } = note;
+    let token = text.get(span.lo.0 as usize..span.hi.0 as usize);
+    out.push_str(token.ok_or("no token")?)?;
+    let flags = [
+        (context.in_cond_expr, " cond"),
+        (context.will_expect_colon_for_cond, " colon"),
+        (context.should_not_lex_lt_or_gt_as_type, " no_type"),
+        (context.in_property_name, " key"),
+    ];
+    for (on, word) in flags {
+        if on {
+            out.push_str(word)?;
+        }
+    }
+    Ok(())
+}
+
+fn show_notes(out: &mut String, text: &str, notes: &[Note]) -> Result<(), Fail> {
+    for (at, note) in notes.iter().enumerate() {
+        if at > 0 {
+            out.push_str("; ")?;
+        }
+        show_note(out, text, *note)?;
+    }
+    Ok(())
+}
+
+/// The notes of a source of the row's tokens, once an expression was read from it.
+fn found(alloc: Global, row: Row<'_>) -> Result<String, Fail> {
+    let mut out = String::new(alloc);
+    let source = NotingInput::new(alloc, source_of(alloc, row)?);
+    let hook = TestBodies::of_setting(row.setting);
+    let mut parser = Parser::new_from(alloc, source, hook);
+    let _answer = parser.parse_expr_id();
+    show_notes(&mut out, row.text, &parser.input().notes)?;
+    Ok(out)
+}
+
+#[test]
+fn contexts_at_tokens(rt: HostRuntime) -> Result<(), Fail> {
+    for line in CONTEXTS.lines() {
+        let row = row_of(line).ok_or(line)?;
+        expect(line, &found(rt.alloc(), row)?, row.answer)?;
+    }
+    Ok(())
+}
