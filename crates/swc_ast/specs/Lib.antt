@@ -1,4 +1,5 @@
 pub mod Parts
+pub mod Patterns
 pub mod Spans
 pub mod Targets
 pub mod Tree

@@ -4,7 +4,8 @@
 //! All types with parts are generic over three types that a caller brings: `F` for functions, `C`
 //! for classes and `K` for the blocks of functions. What a tree stands for in contracts is one
 //! uniform tree, of `specs/Tree.antt`, that `specs/TreeOf.antt` gives; `specs/Trees.antt` has its
-//! nodes as the grammar writes them, and the early errors that look at such a tree alone.
+//! nodes as the grammar writes them, and the early errors that look at such a tree alone;
+//! `specs/Patterns.antt` has those of patterns.
 #![tactic(auto)]
 
 pub mod expr;

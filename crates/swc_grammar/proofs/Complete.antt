@@ -8,6 +8,7 @@ mod Primaries
 mod LeftSides
 mod Operators
 mod Assignments
+mod Patterns
 use Rattle.std.specs.Prelude.{◌≡◌, zero, suc, min, true, false, List, ◌∷◌, Some, None}
 use Rattle.std.proofs.Common.{refl, ap, ◌∙◌, arith}
 use Rattle.std.proofs.lemmas.Bool.{eqb-true, ltb-true}
@@ -22,6 +23,8 @@ use Rattle.swc_grammar.specs.Tokens.{with_in, is_lparen, is_lbracket}
 use Rattle.swc_grammar.specs.Symbols.{Symbol, Expr, Exprs, Assign, Level, Unary, Lhs, Left, Arguments, Args, ArgsTail}
 use Rattle.swc_grammar.specs.Symbols.{Primary, Literal, Template, Parts, Base, Elements, ElementsTail, Item, Props}
 use Rattle.swc_grammar.specs.Symbols.{PropsTail, Prop, Key, AfterKey, Shell, Answer, Side}
+use Rattle.swc_grammar.specs.Symbols.{Pat, Element, Rest, PatElements, PatElementsTail, PatProps, PatPropsTail, PatProp}
+use Rattle.swc_grammar.specs.Symbols.{Params, ParamsTail}
 use Rattle.swc_grammar.specs.Parts.{any_name, lit_of, update_here, assign_here, operator_here}
 use Rattle.swc_grammar.specs.Grammar.{Production, lit, unary-left, unary-op, exp-unary, left-base, member-name}
 use Rattle.swc_grammar.specs.Grammar.{member-private, member-computed, call, lhs-left, new-bare, left-new, chain-name}
@@ -29,22 +32,27 @@ use Rattle.swc_grammar.specs.Grammar.{chain-private, chain-computed, chain-call,
 use Rattle.swc_grammar.specs.Grammar.{exp-op, shell-block, level-up, bin-op, assign-level, update-postfix}
 use Rattle.swc_grammar.specs.Grammar.{update-prefix, await-expr, await-ident, cond-expr, assign-expr, yield-alone}
 use Rattle.swc_grammar.specs.Grammar.{yield-expr, yield-star, exprs-one, exprs-more, seq-expr}
-use Rattle.swc_grammar.specs.Reads.{Reads, by, Follows, gave, took, held, calm, part, heard}
+use Rattle.swc_grammar.specs.Grammar.{element-pat, element-default, pat-rest}
+use Rattle.swc_grammar.specs.Reads.{Reads}
 use Rattle.swc_grammar.specs.Clean.{first, sym, links, exec, constructs, no_link, call_args, args, args_tail, tpl}
 use Rattle.swc_grammar.specs.Clean.{parts, base, updates, assigns, seqs, no_update_at, ends_unary, no_assign_at}
 use Rattle.swc_grammar.specs.Clean.{update_tail, cond_tail, assign_tail, Stop, primary, literal, elements}
 use Rattle.swc_grammar.specs.Clean.{elements_tail, item, props, props_tail, prop, key, after_key, shell, run}
+use Rattle.swc_grammar.specs.Clean.{defaults, default_tail, pick, pat, pat_elements, pat_tail, pat_props}
+use Rattle.swc_grammar.specs.Clean.{pat_props_tail, pat_prop, params, params_tail}
 use Rattle.swc_grammar.proofs.Good.{good}
 use Rattle.swc_grammar.proofs.Answers.{both}
 use Rattle.swc_grammar.proofs.Only.{backquote-is, lbracket-is, lparen-is}
 use Rattle.swc_grammar.proofs.Firsts.{begins, update-first}
+use Rattle.swc_grammar.proofs.Induct.{ran-took, ran-held, ran-calm, ran-part, every}
 use Rattle.swc_grammar.proofs.Knot.{knot}
 use Rattle.swc_grammar.proofs.Levels.{bound-above}
 use Rattle.swc_grammar.proofs.Complete.Bools.{if-off, is-false}
 use Rattle.swc_grammar.proofs.Complete.Stops.{expr-stop, quiet-rbracket, quiet-colon, quiet-comma}
-pub use Rattle.swc_grammar.proofs.Complete.Stops.{stops-assign, stops-expr, stops-unary, stops-level}
-use Rattle.swc_grammar.proofs.Complete.Sides.{Claim, ready-given, climb-ends, settle, next-passes, Ran, ran-gave}
-use Rattle.swc_grammar.proofs.Complete.Sides.{ran-took, ran-held, ran-calm, ran-part, ran-heard, forget, given-ran}
+pub use Rattle.swc_grammar.proofs.Complete.Stops.{stops-assign, stops-expr, stops-unary, stops-level, stops-element}
+pub use Rattle.swc_grammar.proofs.Complete.Stops.{stops-pat-prop}
+use Rattle.swc_grammar.proofs.Complete.Sides.{Claim, ready-given, climb-ends, settle, next-passes, Ran, forget}
+use Rattle.swc_grammar.proofs.Complete.Sides.{given-ran}
 use Rattle.swc_grammar.proofs.Complete.Sides.{must-ran, part-ran, gave-ran, side-reads}
 pub use Rattle.swc_grammar.proofs.Complete.Sides.{last, picks}
 use Rattle.swc_grammar.proofs.Complete.Lists.{picked-args, picked-args-tail, picked-elements, picked-tail, picked-item}
@@ -61,6 +69,11 @@ use Rattle.swc_grammar.proofs.Complete.Operators.{operand-climbs, op-reads, exp-
 use Rattle.swc_grammar.proofs.Complete.Operators.{updates-end, update-link}
 use Rattle.swc_grammar.proofs.Complete.Assignments.{no-dot-expr, yielded, level-reads, assigns-end, question-ends}
 use Rattle.swc_grammar.proofs.Complete.Assignments.{question-bound, assign-token, target-apart}
+use Rattle.swc_grammar.proofs.Complete.Patterns.{picked-pat, picked-pat-elements, picked-pat-tail, picked-pat-props}
+use Rattle.swc_grammar.proofs.Complete.Patterns.{picked-pat-props-tail, picked-pat-prop, picked-params}
+use Rattle.swc_grammar.proofs.Complete.Patterns.{picked-params-tail, ready-pat, ready-pat-elements, ready-pat-tail}
+use Rattle.swc_grammar.proofs.Complete.Patterns.{ready-pat-props, ready-pat-props-tail, ready-pat-prop, ready-params}
+use Rattle.swc_grammar.proofs.Complete.Patterns.{ready-params-tail, element-reads, no-equals}
 
 module _ {F C K : Type 0} (hook : Hook F C K) where
   -- one clause a production
@@ -193,7 +206,7 @@ module _ {F C K : Type 0} (hook : Hook F C K) where
       (side-reads hook (Some 3) d (ready-after hook {c = c} ys stop p))
   claim-by {c = c} {xs = xs} (shell-block {is_async = is_async} {is_generator = is_generator}) d = λ stop.
       picks hook (Shell is_async is_generator) c xs shell-block (shell is_async is_generator c xs) refl refl
-      (side-reads hook (Some 2) d (λ a h b k v s. tt))
+      (side-reads hook (Some 2) d (λ a h. (refl, λ ps. (λ own us b. tt, λ v s. tt))))
   claim-by {c = c} {xs = xs} lit d = λ stop.
       picks hook Literal c xs lit (literal c xs) refl refl
       (side-reads hook (Some 6) d (λ a. ready-given _ _ (lit_of a.token a.span) _ (λ e h. tt)))
@@ -262,20 +275,46 @@ module _ {F C K : Type 0} (hook : Hook F C K) where
       gave-ran hook (λ u us. Claim hook Expr c xs us u) d
       (λ stop. let (e, n) = expr-stop c ms stop in
       h e ∙ knot hook (seqs (items_of es)) c ms ∙ rw n refl)
+  claim-by {c = c} element-pat (ran-part {e = p} {xs = xs} {ms = ms} dp h d) =
+      gave-ran hook (λ u us. Claim hook Element c xs us u) d
+      (λ stop. element-reads hook c xs ms p (h tt) ∙ knot hook (defaults p) c ms ∙ rw (no-equals ms stop.0) refl)
+  claim-by {c = c} element-default
+      (ran-part {e = p} {xs = xs} dp h (ran-took {a = a} {xs = us} (ran-held q (ran-part dm k d)))) = λ stop.
+      element-reads hook c xs (a ∷ us) p (h tt)
+      ∙ knot hook (defaults p) c (a ∷ us)
+      ∙ rw q (side-reads hook {r = default_tail c p} (Some 1) (ran-took {a = a} (ran-held q (ran-part dm k d)))
+      (λ b i. (refl, λ m. (stop, tt))))
+  claim-by {s = Pat} {c = c} {xs = xs} {ys = ys} p d = λ stop.
+      picks hook Pat c xs p (pat c xs) refl (picked-pat hook p (forget hook d))
+      (side-reads hook (Some 2) d (ready-pat hook {c = c} ys p))
+  claim-by {c = c} {xs = xs} pat-rest d = λ stop.
+      picks hook Rest c xs (pat-rest {c = c}) (pick pat-rest) refl refl
+      (side-reads hook (Some 2) d (λ a h. (refl, λ p. (tt, tt))))
+  claim-by {s = PatElements} {c = c} {xs = xs} {ys = ys} p d = λ stop.
+      picks hook PatElements c xs p (pat_elements c xs) refl (picked-pat-elements hook p (forget hook d))
+      (side-reads hook (Some 4) d (ready-pat-elements hook {c = c} ys p))
+  claim-by {s = PatElementsTail} {c = c} {xs = xs} {ys = ys} p d = λ stop.
+      picks hook PatElementsTail c xs p (pat_tail c xs) refl (picked-pat-tail hook p (forget hook d))
+      (side-reads hook (Some 2) d (ready-pat-tail hook {c = c} ys p))
+  claim-by {s = PatProps} {c = c} {xs = xs} {ys = ys} p d = λ stop.
+      picks hook PatProps c xs p (pat_props c xs) refl (picked-pat-props hook p (forget hook d))
+      (side-reads hook (Some 5) d (ready-pat-props hook {c = c} ys p))
+  claim-by {s = PatPropsTail} {c = c} {xs = xs} {ys = ys} p d = λ stop.
+      picks hook PatPropsTail c xs p (pat_props_tail c xs) refl (picked-pat-props-tail hook p (forget hook d))
+      (side-reads hook (Some 2) d (ready-pat-props-tail hook {c = c} ys p))
+  claim-by {s = PatProp} {c = c} {xs = xs} {ys = ys} p d = λ stop.
+      picks hook PatProp c xs p (pat_prop c xs) refl (picked-pat-prop hook p stop (forget hook d))
+      (side-reads hook (Some 4) d (ready-pat-prop hook {c = c} ys stop p))
+  claim-by {s = Params} {c = c} {xs = xs} {ys = ys} p d = λ stop.
+      picks hook Params c xs p (params c xs) refl (picked-params hook p (forget hook d))
+      (side-reads hook (Some 4) d (ready-params hook {c = c} ys p))
+  claim-by {s = ParamsTail} {c = c} {xs = xs} {ys = ys} p d = λ stop.
+      picks hook ParamsTail c xs p (params_tail c xs) refl (picked-params-tail hook p (forget hook d))
+      (side-reads hook (Some 2) d (ready-params-tail hook {c = c} ys p))
 
-  mutual
-    claim : {s : Symbol} {c : Scope} {xs ys : List TokenAndSpan} {t : Answer F C K s} → Reads hook s c xs ys t
-        → Claim hook s c xs ys t
-    claim (by p d) = claim-by p (ran d)
-
-    ran : {s : Symbol} {r : Side F C K s} {xs ys : List TokenAndSpan} {t : Answer F C K s} → Follows hook s r xs ys t
-        → Ran hook s r xs ys t
-    ran gave = ran-gave
-    ran (took d) = ran-took (ran d)
-    ran (held h d) = ran-held h (ran d)
-    ran (calm h d) = ran-calm h (ran d)
-    ran (part e d) = ran-part e (claim e) (ran d)
-    ran (heard h d) = ran-heard h (ran d)
+  claim : {s : Symbol} {c : Scope} {xs ys : List TokenAndSpan} {t : Answer F C K s} → Reads hook s c xs ys t
+      → Claim hook s c xs ys t
+  claim d = every hook (Claim hook) (λ s c r xs ys t p e. claim-by p e) d
 
   -- what the grammar derives is read, where nothing goes on
   pub complete : {s : Symbol} {c : Scope} {xs ys : List TokenAndSpan} {t : Answer F C K s} → Reads hook s c xs ys t

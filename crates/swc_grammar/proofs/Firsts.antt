@@ -18,18 +18,17 @@ use Rattle.swc_input.specs.Kinds.{at_token}
 use Rattle.swc_ast.specs.Tree.{Tree}
 use Rattle.swc_grammar.specs.Scope.{Scope}
 use Rattle.swc_grammar.specs.Rule.{Rule, gives, never, take, check, peek, read, hear, given, ◌>>=◌}
-use Rattle.swc_bodies.specs.Readings.{Hook, is_function, is_async, is_class, is_function_here, begins as begins_own}
-use Rattle.swc_bodies.specs.Readings.{begins_function}
-use Rattle.swc_grammar.specs.Symbols.{Symbol, Expr, Exprs, Assign, Level, Unary, Left, Args, ArgsTail, Primary, Literal}
-use Rattle.swc_grammar.specs.Symbols.{Elements, ElementsTail}
-use Rattle.swc_grammar.specs.Symbols.{Item, Props, PropsTail, AfterKey, Answer, Body, Value}
+use Rattle.swc_bodies.specs.Readings.{Hook, is_brace, is_function, is_async, is_class, is_function_here}
+use Rattle.swc_bodies.specs.Readings.{begins as begins_own, begins_function}
+use Rattle.swc_grammar.specs.Symbols.{Symbol, Answer, Body, Value}
 use Rattle.swc_grammar.specs.Symbols.{begins_body, Side}
-use Rattle.swc_grammar.specs.Names.{Spelling, may_refer}
-use Rattle.swc_grammar.specs.Tokens.{tk, binary_of, prefix_of, is_reference, ref_ok, is_put_off, is_comma, is_rbracket}
+use Rattle.swc_grammar.specs.Names.{Spelling, may_refer, may_bind}
+use Rattle.swc_grammar.specs.Tokens.{prefix_of, is_reference, ref_ok, is_put_off, is_comma, is_rbracket, is_lbracket}
 use Rattle.swc_grammar.specs.Tokens.{is_dots, is_rbrace, is_colon, is_lparen, is_rparen, is_star, is_word, is_get}
-use Rattle.swc_grammar.specs.Tokens.{is_new, is_super, is_import, is_slash, is_update, update_of, is_await, is_yield, yield_ok}
-use Rattle.swc_grammar.specs.Parts.{reference, any_name, lit_of, regex_of, text_of, key_lit_of, with_place, prefix_here}
-use Rattle.swc_grammar.specs.Parts.{update_here}
+use Rattle.swc_grammar.specs.Tokens.{is_set, is_new, is_super, is_import, is_slash, is_update, is_await, is_yield}
+use Rattle.swc_grammar.specs.Tokens.{yield_ok, opening, is_operand_opening, is_yield_opening}
+use Rattle.swc_grammar.specs.Parts.{reference, binding, any_name, lit_of, regex_of, text_of, key_lit_of, with_place}
+use Rattle.swc_grammar.specs.Parts.{prefix_here, update_here}
 use Rattle.swc_grammar.specs.Grammar.{Production, ident-expr, lit, paren-expr, unary-left, unary-op, exp-unary}
 use Rattle.swc_grammar.specs.Grammar.{base-primary, super-name, super-computed, super-call, import-meta, import-call}
 use Rattle.swc_grammar.specs.Grammar.{import-source, left-base, member-name, member-private, member-computed, call, args-end}
@@ -41,15 +40,22 @@ use Rattle.swc_grammar.specs.Grammar.{this-expr, array-lit, elements-end, elemen
 use Rattle.swc_grammar.specs.Grammar.{tail-more, item-expr, item-spread, fn-expr, class-expr}
 use Rattle.swc_grammar.specs.Grammar.{object-lit, props-end, props-more, props-tail-end, props-tail-more}
 use Rattle.swc_grammar.specs.Grammar.{prop-spread, prop-short, prop-cover, prop-key, prop-generator, prop-async}
-use Rattle.swc_grammar.specs.Grammar.{prop-async-generator, prop-getter, after-value, after-shell, shell-block}
-use Rattle.swc_grammar.specs.Grammar.{key-name, key-literal, key-computed}
+use Rattle.swc_grammar.specs.Grammar.{prop-async-generator, prop-getter, prop-setter, after-value, after-shell}
+use Rattle.swc_grammar.specs.Grammar.{shell-block, key-name, key-literal, key-computed}
 use Rattle.swc_grammar.specs.Grammar.{level-up, bin-op, private-expr, assign-level}
 use Rattle.swc_grammar.specs.Grammar.{update-postfix, update-prefix, await-expr, await-ident, cond-expr, assign-expr}
 use Rattle.swc_grammar.specs.Grammar.{yield-alone, yield-expr, yield-star, exprs-one, exprs-more, seq-expr}
+use Rattle.swc_grammar.specs.Grammar.{pat-bind, pat-array, pat-object, element-pat, element-default, pat-rest}
+use Rattle.swc_grammar.specs.Grammar.{pat-elements-end, pat-elements-hole, pat-elements-more, pat-elements-rest}
+use Rattle.swc_grammar.specs.Grammar.{pat-tail-end, pat-tail-more, pat-props-end, pat-props-more, pat-props-rest}
+use Rattle.swc_grammar.specs.Grammar.{pat-props-tail-end, pat-props-tail-more, pat-prop-key, pat-prop-short}
+use Rattle.swc_grammar.specs.Grammar.{pat-prop-default, params-end, params-more, params-rest, params-tail-end}
+use Rattle.swc_grammar.specs.Grammar.{params-tail-more}
 use Rattle.swc_grammar.specs.Reads.{Reads, by, Follows, gave, took, held, calm, part, heard}
 use Rattle.swc_grammar.specs.Clean.{first, is_lit, is_identifier}
-use Rattle.swc_grammar.specs.Firsts.{is_prefix_op, is_prefix, is_first, starts, begins_primary, begins_left}
-use Rattle.swc_grammar.specs.Firsts.{is_left_word, begins_operand, begins_expression, begins_key, begins_prop, is_text_token}
+use Rattle.swc_grammar.specs.Firsts.{is_first, starts, begins_primary, begins_left, is_left_word, begins_operand}
+use Rattle.swc_grammar.specs.Firsts.{begins_expression, begins_key, begins_prop, is_text_token, begins_pat}
+use Rattle.swc_grammar.specs.Firsts.{is_name_bound}
 use Rattle.swc_grammar.proofs.Answers.{both}
 use Rattle.swc_grammar.proofs.Bodies.{body-some}
 use Rattle.swc_grammar.proofs.Cut.{follows-length}
@@ -73,11 +79,11 @@ Opens P (peek p r) = Opens P r
 Opens P (read s c f) = (t : Token) → starts s c t ≡ true → P t ≡ true
 Opens P (hear b c f) = (own : List TokenAndSpan) → begins_body b own ≡ true → at_token P (first own) ≡ true
 
-or-left : (a b : Bool) → a ≡ true → (a || b) ≡ true
+pub or-left : (a b : Bool) → a ≡ true → (a || b) ≡ true
 or-left true b h = refl
 or-left false b h = absurd cc
 
-or-right : (a b : Bool) → b ≡ true → (a || b) ≡ true
+pub or-right : (a b : Bool) → b ≡ true → (a || b) ≡ true
 or-right true b h = refl
 or-right false b h = h
 
@@ -147,10 +153,6 @@ placed-op {A = A} (Some op') s op s' h =
     let same : x ≡ y = cc in
     ap (λ v. Some v.0) same
 
-pub placed-is : (o : Option UnaryOp) (s : Span) (x : UnaryOp × Span) → with_place o s ≡ Some x → is_prefix_op o ≡ true
-placed-is None s x h = absurd cc
-placed-is (Some op) s x h = refl
-
 at-every : (Q P : Token → Bool) (o : Option TokenAndSpan) → ((t : Token) → Q t ≡ true → P t ≡ true)
     → at_token Q o ≡ true → at_token P o ≡ true
 at-every Q P None f h = absurd cc
@@ -165,6 +167,16 @@ reference-first c (token.Word w) s n h =
     let own : is_identifier c.context (token.Word w) ≡ true = rw (d, b) refl in
     (own, or-left (is_identifier c.context (token.Word w)) (is_first (token.Word w)) own)
 reference-first c t s n h = absurd cc
+
+-- patterns
+pub binding-first : (c : Scope) (t : Token) (s : Span) (n : Spelling) → binding c t s ≡ Some n → begins_pat c t ≡ true
+binding-first c (token.Word w) s n h =
+    or-left (may_bind c.context w) (is_lbracket (token.Word w) || is_brace (token.Word w))
+    (passed (may_bind c.context w) _ n h)
+binding-first c t s n h = absurd cc
+
+pat-sign : (c : Scope) (t : Token) → (is_lbracket t || is_brace t) ≡ true → begins_pat c t ≡ true
+pat-sign c t h = or-right (is_name_bound c t) (is_lbracket t || is_brace t) h
 
 -- keys and properties
 pub name-first : (c : Scope) (t : Token) (s : Span) (n : Spelling) → any_name c t s ≡ Some n → is_word t ≡ true
@@ -193,6 +205,10 @@ pub get-word : (t : Token) → is_get t ≡ true → is_word t ≡ true
 get-word (token.Word w) h = refl
 get-word t h = absurd cc
 
+pub set-word : (t : Token) → is_set t ≡ true → is_word t ≡ true
+set-word (token.Word w) h = refl
+set-word t h = absurd cc
+
 word-prop : (t : Token) → is_word t ≡ true → begins_prop t ≡ true
 word-prop t h = key-prop t (word-key t h)
 
@@ -214,38 +230,58 @@ import-first c t h =
 
 -- what binary operators join, and any expression
 operand-left : (c : Scope) (t : Token) → begins_left c t ≡ true → begins_operand c t ≡ true
-operand-left c t h = or-left (begins_left c t) (is_prefix t || (is_update t || is_await t)) h
+operand-left c t h = or-left (begins_left c t) (is_operand_opening (opening t)) h
 
-operand-prefix : (c : Scope) (t : Token) → is_prefix t ≡ true → begins_operand c t ≡ true
-operand-prefix c t h =
-    or-right (begins_left c t) (is_prefix t || (is_update t || is_await t))
-    (or-left (is_prefix t) (is_update t || is_await t) h)
+by-operand : (c : Scope) (t : Token) → is_operand_opening (opening t) ≡ true → begins_operand c t ≡ true
+by-operand c t h = or-right (begins_left c t) (is_operand_opening (opening t)) h
 
-operand-sign : (c : Scope) (t : Token) → (is_update t || is_await t) ≡ true → begins_operand c t ≡ true
-operand-sign c t h =
-    or-right (begins_left c t) (is_prefix t || (is_update t || is_await t))
-    (or-right (is_prefix t) (is_update t || is_await t) h)
+pub prefix-opens : (t : Token) (op : UnaryOp) → prefix_of t ≡ Some op → is_operand_opening (opening t) ≡ true
+prefix-opens (token.Word (word.Keyword keyword.Delete)) op h = refl
+prefix-opens (token.Word (word.Keyword keyword.Void)) op h = refl
+prefix-opens (token.Word (word.Keyword keyword.TypeOf)) op h = refl
+prefix-opens (token.BinOp sign.Add) op h = refl
+prefix-opens (token.BinOp sign.Sub) op h = refl
+prefix-opens token.Tilde op h = refl
+prefix-opens token.Bang op h = refl
+prefix-opens t op h = absurd cc
+
+operand-prefix : (c : Scope) (t : Token) (s : Span) (x : UnaryOp × Span) → prefix_here t s ≡ Some x
+    → begins_operand c t ≡ true
+operand-prefix c t s x h = by-operand c t (prefix-opens t x.0 (placed-op (prefix_of t) s x.0 x.1 h))
 
 pub update-first : (t : Token) (s : Span) (x : UpdateOp × Span) → update_here t s ≡ Some x → is_update t ≡ true
 update-first token.PlusPlus s x h = refl
 update-first token.MinusMinus s x h = refl
 update-first t s x h = absurd cc
 
+update-opens : (t : Token) → is_update t ≡ true → is_operand_opening (opening t) ≡ true
+update-opens token.PlusPlus h = refl
+update-opens token.MinusMinus h = refl
+update-opens t h = absurd cc
+
 operand-update : (c : Scope) (t : Token) (s : Span) (x : UpdateOp × Span) → update_here t s ≡ Some x
     → begins_operand c t ≡ true
-operand-update c t s x h = operand-sign c t (or-left (is_update t) (is_await t) (update-first t s x h))
+operand-update c t s x h = by-operand c t (update-opens t (update-first t s x h))
 
 operand-await : (c : Scope) (t : Token) → is_await t ≡ true → begins_operand c t ≡ true
-operand-await c t h = operand-sign c t (or-right (is_update t) (is_await t) h)
+operand-await c t h = by-operand c t (await-opens t h)
+  where
+    await-opens : (t : Token) → is_await t ≡ true → is_operand_opening (opening t) ≡ true
+    await-opens (token.Word (word.Keyword keyword.Await)) h = refl
+    await-opens t h = absurd cc
 
 expression-operand : (c : Scope) (t : Token) → begins_operand c t ≡ true → begins_expression c t ≡ true
-expression-operand c t h = or-left (begins_operand c t) (is_yield t && c.context.in_generator) h
+expression-operand c t h = or-left (begins_operand c t) (is_yield_opening (opening t) && c.context.in_generator) h
 
 expression-yield : (c : Scope) (t : Token) → is_yield t ≡ true → (c.context.in_generator && yield_ok c.context) ≡ true
     → begins_expression c t ≡ true
 expression-yield c t h k =
     let (g, o) = both c.context.in_generator (yield_ok c.context) k in
-    or-right (begins_operand c t) (is_yield t && c.context.in_generator) (rw (h, g) refl)
+    or-right (begins_operand c t) (is_yield_opening (opening t) && c.context.in_generator) (rw (yield-opens t h, g) refl)
+  where
+    yield-opens : (t : Token) → is_yield t ≡ true → is_yield_opening (opening t) ≡ true
+    yield-opens (token.Word (word.Keyword keyword.Yield)) h = refl
+    yield-opens t h = absurd cc
 
 module _ {F C K : Type 0} where
   pub under-given : {A D : Type 0} (X : Type 0) (o : Option A) (k : A → Rule Symbol (Answer F C K) Body (Value F C K) D)
@@ -305,6 +341,7 @@ module _ {F C K : Type 0} where
   opens prop-async = λ a h. word-prop a.token (async-word a.token h)
   opens prop-async-generator = λ a h. word-prop a.token (async-word a.token h)
   opens prop-getter = λ a h. word-prop a.token (get-word a.token h)
+  opens prop-setter = λ a h. word-prop a.token (set-word a.token h)
   opens (after-value {c = c}) = λ a h. rw (colon-is a.token h) refl
   opens after-shell = λ t h. or-right (is_colon t) (is_lparen t) h
   opens shell-block = λ a h. h
@@ -356,7 +393,7 @@ module _ {F C K : Type 0} where
   opens (await-expr {c = c}) = λ a h k. operand-await c a.token h
   opens (await-ident {c = c}) = λ a h k. operand-await c a.token h
   opens (unary-op {c = c}) = λ a. under-given _ (prefix_here a.token a.span) _
-      (λ x h. operand-prefix c a.token (placed-is (prefix_of a.token) a.span x h))
+      (λ x h. operand-prefix c a.token a.span x h)
   opens exp-unary = λ t h. h
   opens exp-op = λ t h. h
   opens (level-up b) = λ t h. h
@@ -371,6 +408,38 @@ module _ {F C K : Type 0} where
   opens exprs-one = λ t h. h
   opens exprs-more = λ t h. h
   opens seq-expr = λ t h. h
+  opens (pat-bind {c = c}) = λ a. under-given _ (binding c a.token a.span) _ (λ n h. binding-first c a.token a.span n h)
+  opens (pat-array {c = c}) = λ a h. pat-sign c a.token (rw (lbracket-is a.token h) refl)
+  opens (pat-object {c = c}) = λ a h. pat-sign c a.token (rw (brace-is a.token h) refl)
+  opens element-pat = λ t h. h
+  opens element-default = λ t h. h
+  opens pat-rest = λ a h. h
+  opens (pat-elements-end {c = c}) = λ a h. rw (rbracket-is a.token h) refl
+  opens (pat-elements-hole {c = c}) = λ a h. rw (comma-is a.token h) refl
+  opens (pat-elements-more {c = c}) = λ t h.
+      or-left (begins_pat c t || is_dots t) (is_comma t || is_rbracket t) (or-left (begins_pat c t) (is_dots t) h)
+  opens (pat-elements-rest {c = c}) = λ t h.
+      or-left (begins_pat c t || is_dots t) (is_comma t || is_rbracket t) (or-right (begins_pat c t) (is_dots t) h)
+  opens (pat-tail-end {c = c}) = λ a h. rw (rbracket-is a.token h) refl
+  opens (pat-tail-more {c = c}) = λ a h. rw (comma-is a.token h) refl
+  opens (pat-props-end {c = c}) = λ a h. rw (rbrace-is a.token h) refl
+  opens pat-props-more = λ t h. or-left (begins_key t || is_dots t) (is_rbrace t) (or-left (begins_key t) (is_dots t) h)
+  opens pat-props-rest = λ t h.
+      or-left (begins_key t || is_dots t) (is_rbrace t) (or-right (begins_key t) (is_dots t) h)
+  opens (pat-props-tail-end {c = c}) = λ a h. rw (rbrace-is a.token h) refl
+  opens (pat-props-tail-more {c = c}) = λ a h. rw (comma-is a.token h) refl
+  opens pat-prop-key = λ t h. h
+  opens (pat-prop-short {c = c}) = λ a. under-given _ (any_name c a.token a.span) _
+      (λ n h r. word-key a.token (name-first c a.token a.span n h))
+  opens (pat-prop-default {c = c}) = λ a. under-given _ (any_name c a.token a.span) _
+      (λ n h. word-key a.token (name-first c a.token a.span n h))
+  opens (params-end {c = c}) = λ a h. rw (rparen-is a.token h) refl
+  opens (params-more {c = c}) = λ t h.
+      or-left (begins_pat c t || is_dots t) (is_rparen t) (or-left (begins_pat c t) (is_dots t) h)
+  opens (params-rest {c = c}) = λ t h.
+      or-left (begins_pat c t || is_dots t) (is_rparen t) (or-right (begins_pat c t) (is_dots t) h)
+  opens (params-tail-end {c = c}) = λ a h. rw (rparen-is a.token h) refl
+  opens (params-tail-more {c = c}) = λ a h. rw (comma-is a.token h) refl
 
   mutual
     pub begins : {hook : Hook F C K} {s : Symbol} {c : Scope} {xs ys : List TokenAndSpan} {t : Answer F C K s}
@@ -423,6 +492,7 @@ module _ {F C K : Type 0} where
   leads prop-async = tt
   leads prop-async-generator = tt
   leads prop-getter = tt
+  leads prop-setter = tt
   leads after-value = tt
   leads after-shell = tt
   leads shell-block = tt
@@ -482,6 +552,31 @@ module _ {F C K : Type 0} where
   leads exprs-one = tt
   leads exprs-more = tt
   leads seq-expr = tt
+  leads pat-bind = tt
+  leads pat-array = tt
+  leads pat-object = tt
+  leads element-pat = tt
+  leads element-default = tt
+  leads pat-rest = tt
+  leads pat-elements-end = tt
+  leads pat-elements-hole = tt
+  leads pat-elements-more = tt
+  leads pat-elements-rest = tt
+  leads pat-tail-end = tt
+  leads pat-tail-more = tt
+  leads pat-props-end = tt
+  leads pat-props-more = tt
+  leads pat-props-rest = tt
+  leads pat-props-tail-end = tt
+  leads pat-props-tail-more = tt
+  leads pat-prop-key = tt
+  leads pat-prop-short = tt
+  leads pat-prop-default = tt
+  leads params-end = tt
+  leads params-more = tt
+  leads params-rest = tt
+  leads params-tail-end = tt
+  leads params-tail-more = tt
 
   mutual
     pub takes : {hook : Hook F C K} {s : Symbol} {c : Scope} {xs ys : List TokenAndSpan} {t : Answer F C K s}

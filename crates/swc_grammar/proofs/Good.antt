@@ -13,15 +13,17 @@ use Rattle.swc_context.specs.declared.word.Word.TheVariants as word
 use Rattle.swc_input.specs.declared.token.Token.{Token}
 use Rattle.swc_input.specs.declared.token.Token.TheVariants as token
 use Rattle.swc_input.specs.declared.token.TokenAndSpan.{TokenAndSpan}
+use Rattle.swc_ast.specs.Patterns.{put_element}
 use Rattle.swc_ast.specs.Tree.{Kind, Tree, node, Trees, nil, cons, span_of}
 use Rattle.swc_ast.specs.Tree.{unary as unary_kind, bin as bin_kind, update as update_kind, cond as cond_kind}
-use Rattle.swc_ast.specs.Tree.{await as await_kind, assign as assign_kind, item, spread}
+use Rattle.swc_ast.specs.Tree.{await as await_kind, assign as assign_kind, item, spread, param}
 use Rattle.swc_ast.specs.Trees.{to, bin_e, tightness, least_left, min_right, exp_ok, is_unary, nullish_ok}
 use Rattle.swc_ast.specs.Trees.{logical_ok}
 use Rattle.swc_ast.specs.Trees.{is_valid, are_valid, is_invalid, is_grouped, are_grouped, grouped_at, items_of}
 use Rattle.swc_ast.specs.Trees.{at_place, method_e, value_e, prop_of, regex_e, text_e, trees_append, texts_of, exprs_of}
-use Rattle.swc_ast.specs.Trees.{held_expr, held_exprs, seq_of, paren_e}
-use Rattle.swc_ast.specs.Trees.{is_chain, chain_e, link_e, member_e, call_e, name_e, private_e, computed_e, left_ok}
+use Rattle.swc_ast.specs.Trees.{held_expr, held_exprs, seq_of, paren_e, params_e, pattern_of, setter_parts}
+use Rattle.swc_ast.specs.Trees.{is_chain, chain_e, link_e, member_e, call_e, name_e, private_e, computed_e}
+use Rattle.swc_ast.specs.Trees.{hole_e, left_ok}
 use Rattle.swc_grammar.specs.Scope.{Scope}
 use Rattle.swc_grammar.specs.Rule.{Rule, gives, never, take, check, peek, read, hear, given, ◌>>=◌}
 use Rattle.swc_bodies.specs.Readings.{Hook}
@@ -42,12 +44,19 @@ use Rattle.swc_grammar.specs.Grammar.{this-expr, array-lit, elements-end, elemen
 use Rattle.swc_grammar.specs.Grammar.{tail-more, item-expr, item-spread, fn-expr, class-expr}
 use Rattle.swc_grammar.specs.Grammar.{object-lit, props-end, props-more, props-tail-end, props-tail-more}
 use Rattle.swc_grammar.specs.Grammar.{prop-spread, prop-short, prop-cover, prop-key, prop-generator, prop-async}
-use Rattle.swc_grammar.specs.Grammar.{prop-async-generator, prop-getter, after-value, after-shell, shell-block}
-use Rattle.swc_grammar.specs.Grammar.{key-name, key-literal, key-computed}
+use Rattle.swc_grammar.specs.Grammar.{prop-async-generator, prop-getter, prop-setter, after-value, after-shell}
+use Rattle.swc_grammar.specs.Grammar.{shell-block, key-name, key-literal, key-computed}
 use Rattle.swc_grammar.specs.Grammar.{level-up, bin-op, private-expr, assign-level}
 use Rattle.swc_grammar.specs.Grammar.{update-postfix, update-prefix, await-expr, await-ident, cond-expr, assign-expr}
 use Rattle.swc_grammar.specs.Grammar.{yield-alone, yield-expr, yield-star, exprs-one, exprs-more, seq-expr}
+use Rattle.swc_grammar.specs.Grammar.{pat-bind, pat-array, pat-object, element-pat, element-default, pat-rest}
+use Rattle.swc_grammar.specs.Grammar.{pat-elements-end, pat-elements-hole, pat-elements-more, pat-elements-rest}
+use Rattle.swc_grammar.specs.Grammar.{pat-tail-end, pat-tail-more, pat-props-end, pat-props-more, pat-props-rest}
+use Rattle.swc_grammar.specs.Grammar.{pat-props-tail-end, pat-props-tail-more, pat-prop-key, pat-prop-short}
+use Rattle.swc_grammar.specs.Grammar.{pat-prop-default, params-end, params-more, params-rest, params-tail-end}
+use Rattle.swc_grammar.specs.Grammar.{params-tail-more}
 use Rattle.swc_grammar.specs.Reads.{Reads, by, Follows, gave, took, held, calm, part, heard}
+use Rattle.swc_grammar.specs.Parts.{binding}
 use Rattle.swc_grammar.proofs.Answers.{inj, both, only}
 
 -- how loosely a symbol's trees may hold together
@@ -203,6 +212,36 @@ module _ {F C K : Type 0} where
       leaf _ (rw (g.valid, moved-valid at f d.valid) refl) refl
       (rw (g.grouped, moved-grouped at f d.grouped) refl) (omega arith)
 
+  params-valid : (ps : Trees F C K) → are_valid ps ≡ true → are_valid (params_e ps) ≡ true
+  params-valid nil h = refl
+  params-valid (cons p ps) h = let (x, y) = both (is_valid p) (are_valid ps) h in rw (x, params-valid ps y) refl
+
+  params-grouped : (ps : Trees F C K) → are_grouped ps ≡ true → are_grouped (params_e ps) ≡ true
+  params-grouped nil h = refl
+  params-grouped (cons p ps) h = let (x, y) = both (is_grouped p) (are_grouped ps) h in rw (x, params-grouped ps y) refl
+
+  pattern-valid : (p : Tree F C K) → is_valid p ≡ true → is_valid (pattern_of p) ≡ true
+  pattern-valid (node param s (cons p ts)) h = (both (is_valid p) (are_valid ts) h).0
+  pattern-valid t h = h
+
+  pattern-grouped : (p : Tree F C K) → is_grouped p ≡ true → is_grouped (pattern_of p) ≡ true
+  pattern-grouped (node param s (cons p ts)) h = (both (is_grouped p) (are_grouped ts) h).0
+  pattern-grouped t h = h
+
+  setter-valid : (ts : Trees F C K) → are_valid ts ≡ true → are_valid (setter_parts ts) ≡ true
+  setter-valid nil h = refl
+  setter-valid (cons b nil) h = h
+  setter-valid (cons b (cons p ps)) h =
+      let (x, y) = both (is_valid b) (are_valid (cons p ps)) h in
+      rw (pattern-valid p (both (is_valid p) (are_valid ps) y).0, x) refl
+
+  setter-grouped : (ts : Trees F C K) → are_grouped ts ≡ true → are_grouped (setter_parts ts) ≡ true
+  setter-grouped nil h = refl
+  setter-grouped (cons b nil) h = h
+  setter-grouped (cons b (cons p ps)) h =
+      let (x, y) = both (is_grouped b) (are_grouped (cons p ps)) h in
+      rw (pattern-grouped p (both (is_grouped p) (are_grouped ps) y).0, x) refl
+
   prop-good : (k x : Tree F C K) → Good F C K Key k → Good F C K AfterKey x → Good F C K Prop (prop_of k x)
   prop-good k (value_e s e) g d =
       let (v, w) = both (is_valid e) true d.valid in
@@ -344,6 +383,15 @@ module _ {F C K : Type 0} where
       (leaf (call_e s l (items_of es)) (rw (g.valid, items-valid es k.valid) refl) refl
       (rw (g.grouped, items-grouped es k.grouped) refl) (omega arith))
 
+  -- elements behind a hole
+  put-valid : (ps : Trees F C K) → are_valid ps ≡ true → are_valid (put_element true hole_e ps) ≡ true
+  put-valid nil h = refl
+  put-valid (cons p ps) h = h
+
+  put-grouped : (ps : Trees F C K) → are_grouped ps ≡ true → are_grouped (put_element true hole_e ps) ≡ true
+  put-grouped nil h = refl
+  put-grouped (cons p ps) h = h
+
   -- one clause a production
   keeps : {s : Symbol} {c : Scope} {r : Side F C K s} → Production s c r → Keeps (Good F C K s) r
   keeps (ident-expr {c = c}) =
@@ -378,12 +426,17 @@ module _ {F C K : Type 0} where
   keeps prop-generator = λ a h k g f d. method-good _ k f g d
   keeps prop-async = λ a h k g f d. method-good _ k f g d
   keeps prop-async-generator = λ a h b j k g f d. method-good _ k f g d
-  keeps prop-getter = λ a h k g f d.
+  keeps prop-getter = λ a h k g f d n.
       leaf _ (rw (g.valid, items-valid f d.valid) refl) refl (rw (g.grouped, items-grouped f d.grouped) refl)
       (omega arith)
+  keeps prop-setter = λ a h k g f d n.
+      leaf _ (rw (g.valid, setter-valid (items_of f) (items-valid f d.valid)) refl) refl
+      (rw (g.grouped, setter-grouped (items_of f) (items-grouped f d.grouped)) refl) (omega arith)
   keeps after-value = λ a h e g. leaf _ (rw g.valid refl) refl (rw g.grouped refl) (omega arith)
   keeps after-shell = λ f g. looser (omega arith) g
-  keeps shell-block = λ a h b k v s. leaf _ refl refl refl (omega arith)
+  keeps shell-block = λ a h ps g v s.
+      leaf _ (params-valid (items_of ps) (items-valid ps g.valid)) refl
+      (params-grouped (items_of ps) (items-grouped ps g.grouped)) (omega arith)
   keeps (key-name {c = c}) =
       λ a. keeps-given _ (any_name c a.token a.span) _ (λ n h. leaf _ refl refl refl (omega arith))
   keeps key-literal = λ a. keeps-given _ (key_lit_of a.token a.span) _ (λ e h. key-lit-good a.token a.span e h)
@@ -473,6 +526,44 @@ module _ {F C K : Type 0} where
       (append-grouped (items_of es) (cons e nil) (items-grouped es g.grouped) (rw d.grouped refl)) (omega arith)
   keeps seq-expr = λ es g.
       seq-good (items_of es) (items-valid es g.valid) (items-grouped es g.grouped)
+  keeps (pat-bind {c = c}) =
+      λ a. keeps-given _ (binding c a.token a.span) _ (λ n h. leaf _ refl refl refl (omega arith))
+  keeps pat-array = λ a h es g. leaf _ (items-valid es g.valid) refl (items-grouped es g.grouped) (omega arith)
+  keeps pat-object = λ a h es g. leaf _ (items-valid es g.valid) refl (items-grouped es g.grouped) (omega arith)
+  keeps element-pat = λ p g. looser (omega arith) g
+  keeps element-default = λ p g a h e d.
+      leaf _ (rw (g.valid, d.valid) refl) refl (rw (g.grouped, d.grouped) refl) (omega arith)
+  keeps pat-rest = λ a h p g. leaf _ (rw g.valid refl) refl (rw g.grouped refl) (omega arith)
+  keeps pat-elements-end = λ a h. leaf _ refl refl refl (omega arith)
+  keeps pat-elements-hole = λ a h es g.
+      leaf _ (put-valid (items_of es) (items-valid es g.valid)) refl
+      (put-grouped (items_of es) (items-grouped es g.grouped)) (omega arith)
+  keeps pat-elements-more = λ e g es k.
+      leaf _ (rw (g.valid, items-valid es k.valid) refl) refl (rw (g.grouped, items-grouped es k.grouped) refl)
+      (omega arith)
+  keeps pat-elements-rest = λ e g a h. leaf _ (rw g.valid refl) refl (rw g.grouped refl) (omega arith)
+  keeps pat-tail-end = λ a h. leaf _ refl refl refl (omega arith)
+  keeps pat-tail-more = λ a h es g. looser (omega arith) g
+  keeps pat-props-end = λ a h. leaf _ refl refl refl (omega arith)
+  keeps pat-props-more = λ e g es k.
+      leaf _ (rw (g.valid, items-valid es k.valid) refl) refl (rw (g.grouped, items-grouped es k.grouped) refl)
+      (omega arith)
+  keeps pat-props-rest = λ e g i a h. leaf _ (rw g.valid refl) refl (rw g.grouped refl) (omega arith)
+  keeps pat-props-tail-end = λ a h. leaf _ refl refl refl (omega arith)
+  keeps pat-props-tail-more = λ a h es g. looser (omega arith) g
+  keeps pat-prop-key = λ k g a h p d.
+      leaf _ (rw (g.valid, d.valid) refl) refl (rw (g.grouped, d.grouped) refl) (omega arith)
+  keeps (pat-prop-short {c = c}) =
+      λ a. keeps-given _ (any_name c a.token a.span) _ (λ n h r. leaf _ refl refl refl (omega arith))
+  keeps (pat-prop-default {c = c}) = λ a. keeps-given _ (any_name c a.token a.span) _
+      (λ n h b k e g. leaf _ (rw g.valid refl) refl (rw g.grouped refl) (omega arith))
+  keeps params-end = λ a h. leaf _ refl refl refl (omega arith)
+  keeps params-more = λ e g es k.
+      leaf _ (rw (g.valid, items-valid es k.valid) refl) refl (rw (g.grouped, items-grouped es k.grouped) refl)
+      (omega arith)
+  keeps params-rest = λ e g a h. leaf _ (rw g.valid refl) refl (rw g.grouped refl) (omega arith)
+  keeps params-tail-end = λ a h. leaf _ refl refl refl (omega arith)
+  keeps params-tail-more = λ a h es g. looser (omega arith) g
 
   mutual
     pub good : {hook : Hook F C K} {s : Symbol} {c : Scope} {xs ys : List TokenAndSpan} {t : Answer F C K s}

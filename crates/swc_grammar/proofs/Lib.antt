@@ -1,4 +1,6 @@
+mod MethodRows
 mod Parts
+mod PatternRows
 mod Refused
 mod Rows
 pub mod Answers
@@ -8,16 +10,21 @@ pub mod Bodies
 pub mod Complete
 pub mod Computed
 pub mod Cut
+pub mod Direct
 pub mod Firsts
 pub mod Good
+pub mod Induct
 pub mod Knot
 pub mod Levels
 pub mod Literals
+pub mod MarkedBinds
 pub mod Marks
 pub mod Members
+pub mod MethodBinds
 pub mod Names
 pub mod One
 pub mod Only
+pub mod Openings
 pub mod Rules
 pub mod Sound
 pub mod Texts

@@ -1,7 +1,7 @@
 -- A left-hand side that begins with neither `super` nor `import` is read in two steps: first one that holds no calls, as
 -- a member expression or `new`, and then links that may be calls.
 use Rattle.std.specs.Prelude.{◌≡◌, ℕ, zero, suc, ◌≤◌, ◌<◌, Bool, true, false, not, ◌&&◌, if◌then◌else◌, List, [], ◌∷◌}
-use Rattle.std.specs.Prelude.{Option, Some, None, length}
+use Rattle.std.specs.Prelude.{Some, None, length}
 use Rattle.std.proofs.Common.{refl, sym as flip, ap, subst, ◌∙◌, arith}
 use Rattle.swc_context.specs.declared.span.Span.{Span}
 use Rattle.swc_input.specs.declared.token.TokenAndSpan.{TokenAndSpan}
@@ -10,7 +10,7 @@ use Rattle.swc_ast.specs.Tree.{Tree, span_of}
 use Rattle.swc_ast.specs.Trees.{to, new_e, bare_new_e, is_chain, items_of}
 use Rattle.swc_bodies.specs.Readings.{Hook}
 use Rattle.swc_grammar.specs.Scope.{Scope}
-use Rattle.swc_grammar.specs.Rule.{gives, take, read, symbol}
+use Rattle.swc_grammar.specs.Rule.{take, read, symbol}
 use Rattle.swc_grammar.specs.Symbols.{Lhs, Left, Base, Args, Side}
 use Rattle.swc_grammar.specs.Tokens.{with_in, is_dot, is_lbracket, is_backquote, is_question, is_lparen, is_super, is_import, is_new}
 use Rattle.swc_grammar.specs.Grammar.{Production, new-target, base-primary}

@@ -32,12 +32,18 @@ use Rattle.swc_grammar.specs.Symbols.{Literal, Template, Parts, Base}
 use Rattle.swc_grammar.specs.Symbols.{Elements, ElementsTail}
 use Rattle.swc_grammar.specs.Symbols.{Item, Props, PropsTail, Prop, Key, AfterKey, Shell, Answer, Body, Value}
 use Rattle.swc_grammar.specs.Symbols.{reading_of, Side}
+use Rattle.swc_grammar.specs.Symbols.{Pat, Element, Rest, PatElements, PatElementsTail, PatProps, PatPropsTail}
+use Rattle.swc_grammar.specs.Symbols.{PatProp, Params, ParamsTail}
 use Rattle.swc_grammar.specs.Grammar.{exp-unary, exp-op, level-up, bin-op, lhs-left, left-base, new-bare, left-new}
 use Rattle.swc_grammar.specs.Grammar.{unary-left, update-postfix, update-prefix, unary-op, assign-level, cond-expr}
 use Rattle.swc_grammar.specs.Grammar.{assign-expr, exprs-one, exprs-more, seq-expr}
+use Rattle.swc_grammar.specs.Grammar.{element-pat, element-default, pat-rest}
 use Rattle.swc_grammar.specs.Reads.{Hears, Reads, by, Follows, gave, took, held, calm, part, heard}
 use Rattle.swc_grammar.specs.Clean.{first, Call, sym, links, climb, Ans, Plan, plan, Runs, rank_of, rank, allowed, exec}
 use Rattle.swc_grammar.specs.Clean.{constructs, Link, no_more, more, linked, link, base, constructed, constructed_with}
+use Rattle.swc_grammar.specs.Tokens.{is_equals}
+use Rattle.swc_grammar.specs.Clean.{defaults, default_tail, pat, pat_elements, pat_tail, pat_props}
+use Rattle.swc_grammar.specs.Clean.{pat_props_tail, pat_prop, params, params_tail}
 use Rattle.swc_grammar.specs.Clean.{begins_new, lhs, call_args, args, args_tail, tpl, parts}
 use Rattle.swc_grammar.specs.Clean.{updates, assigns, seqs, second, begins_yield, no_update_at, no_error, prefix_at}
 use Rattle.swc_grammar.specs.Clean.{update_tail, cond_tail, assign_tail, exprs_next, exprs_tail, yield_by, await_by, unary_by}
@@ -90,6 +96,8 @@ Means hook (assigns e) c ts r =
 Means {F = F} {C = C} {K = K} hook (seqs es) c ts r =
     (xs : List TokenAndSpan) (t : Tree F C K) → items_of t ≡ es → Reads hook Exprs c xs ts t
     → Reads hook Expr c xs r.1 r.0
+Means hook (defaults p) c ts r =
+    (xs : List TokenAndSpan) → Reads hook Pat c xs ts p → Reads hook Element c xs r.1 r.0
 Means hook (climb l m) c ts r =
     m ≤ 10 → (xs : List TokenAndSpan) → OnLeft hook c m xs ts l
     → Reads hook (Level (suc m)) c xs r.1 r.0 × Bound c m r.1
@@ -200,6 +208,14 @@ module _ {F C K : Type 0} (hook : Hook F C K)
       (by unary-left (calm (sees-first is_await xs n) (part d gave))))
       (λ z k. by update-postfix
       (calm (sees-first is_await xs n) (part d (side-sound (Some 1) (update_tail c l) ts r k))))
+
+  defaults-sound : (c : Scope) (e : Tree F C K) (xs ts : List TokenAndSpan) (r : Tree F C K × List TokenAndSpan)
+      → Reads hook Pat c xs ts e → exec hook p (Some 1) (step (defaults e) c ts) ts ≡ Some r
+      → Reads hook Element c xs r.1 r.0
+  defaults-sound c e xs ts r d h = choose (at_token is_equals (first ts)) _ _
+      (λ v. exec hook p (Some 1) v ts ≡ Some r) h
+      (λ z k. by element-default (part d (side-sound (Some 1) (default_tail c e) ts r k)))
+      (λ z k. subst (λ v. Reads hook Element c xs v.1 v.0) (inj (e, ts) r k) (by element-pat (part d gave)))
 
   assigns-sound : (c : Scope) (e : Tree F C K) (xs ts : List TokenAndSpan) (r : Tree F C K × List TokenAndSpan)
       → Reads hook (Level 1) c xs ts e → exec hook p (Some 1) (step (assigns e) c ts) ts ≡ Some r
@@ -434,6 +450,19 @@ module _ {F C K : Type 0} (hook : Hook F C K)
   step-sound (sym AfterKey) c ts r h = choice-sound (Some 3) (after_key c ts) ts r h
   step-sound (sym (Shell is_async is_generator)) c ts r h =
       choice-sound (Some 2) (shell is_async is_generator c ts) ts r h
+  step-sound (sym Pat) c ts r h = choice-sound (Some 2) (pat c ts) ts r h
+  step-sound (sym Element) c ts r h =
+      let (q, a, b) = call-sound (Some 3) (sym Pat) c (λ e. read (defaults e) c (λ v. gives v)) ts r h in
+      last-sound (Some 3) (defaults q.0) c q.1 r b ts a
+  step-sound (sym Rest) c ts r h = choice-sound (Some 2) (pick pat-rest) ts r h
+  step-sound (sym PatElements) c ts r h = choice-sound (Some 4) (pat_elements c ts) ts r h
+  step-sound (sym PatElementsTail) c ts r h = choice-sound (Some 2) (pat_tail c ts) ts r h
+  step-sound (sym PatProps) c ts r h = choice-sound (Some 5) (pat_props c ts) ts r h
+  step-sound (sym PatPropsTail) c ts r h = choice-sound (Some 2) (pat_props_tail c ts) ts r h
+  step-sound (sym PatProp) c ts r h = choice-sound (Some 4) (pat_prop c ts) ts r h
+  step-sound (sym Params) c ts r h = choice-sound (Some 4) (params c ts) ts r h
+  step-sound (sym ParamsTail) c ts r h = choice-sound (Some 2) (params_tail c ts) ts r h
+  step-sound (defaults e) c ts r h = λ xs d. defaults-sound c e xs ts r d h
   step-sound (constructs b s l) c ts r h = λ a xs y at n d. constructs-sound (Some 1) b c a s l xs ts r y at n d h
   step-sound (links b l) c ts r h = λ xs d. link-sound (Some 1) (link b c ts) l xs ts r d h
   step-sound (updates l) c ts r h = λ xs n d. updates-sound c l xs ts r n d h

@@ -15,6 +15,7 @@ use Rattle.swc_input.specs.declared.token.Token.TheVariants as token
 use Rattle.swc_input.specs.declared.token.TokenAndSpan.{TokenAndSpan}
 use Rattle.swc_input.specs.Kinds.{at_token, is_hash}
 use Rattle.swc_ast.specs.Targets.{is_target as is_simple_target}
+use Rattle.swc_ast.specs.Patterns.{default_p}
 use Rattle.swc_ast.specs.Tree.{Tree, Trees, nil, cons, span_of}
 use Rattle.swc_ast.specs.Trees.{to, bin_e, new_e, bare_new_e, is_chain, items_of, nullish_ok, left_ok, exp_ok}
 use Rattle.swc_ast.specs.Trees.{min_right, trees_append, update_e, cond_e, assign_e, exprs_e, seq_of, is_operation}
@@ -27,10 +28,12 @@ use Rattle.swc_grammar.specs.Symbols.{Literal, Template, Parts, Base}
 use Rattle.swc_grammar.specs.Symbols.{Elements, ElementsTail}
 use Rattle.swc_grammar.specs.Symbols.{Item, Props, PropsTail, Prop, Key, AfterKey, Shell, Answer, Body, Value}
 use Rattle.swc_grammar.specs.Symbols.{reading_of, Side}
+use Rattle.swc_grammar.specs.Symbols.{Pat, Element, Rest, PatElements, PatElementsTail, PatProps, PatPropsTail}
+use Rattle.swc_grammar.specs.Symbols.{PatProp, Params, ParamsTail}
 use Rattle.swc_grammar.specs.Grammar.{Production, ident-expr, lit, paren-expr, unary-op, private-expr}
 use Rattle.swc_grammar.specs.Grammar.{update-prefix, await-expr, await-ident, yield-alone, yield-expr, yield-star}
 use Rattle.swc_grammar.specs.Grammar.{member-name, member-private, member-computed, call, args-end, args-more}
-use Rattle.swc_grammar.specs.Grammar.{args-tail-end, args-tail-more, left-base, new-target, chain-name, chain-private}
+use Rattle.swc_grammar.specs.Grammar.{args-tail-end, args-tail-more, new-target, chain-name, chain-private}
 use Rattle.swc_grammar.specs.Grammar.{chain-computed, chain-call, tagged-tpl, arguments, primary-template, template, parts-end}
 use Rattle.swc_grammar.specs.Grammar.{parts-more, regex-alone, regex-slash, base-primary, super-name, super-computed}
 use Rattle.swc_grammar.specs.Grammar.{super-call, import-meta, import-call, import-source}
@@ -38,10 +41,15 @@ use Rattle.swc_grammar.specs.Grammar.{primary-literal, this-expr, array-lit, fn-
 use Rattle.swc_grammar.specs.Grammar.{elements-end, elements-hole, elements-more, tail-end, tail-more, item-expr}
 use Rattle.swc_grammar.specs.Grammar.{item-spread, object-lit, props-end, props-more, props-tail-end, props-tail-more}
 use Rattle.swc_grammar.specs.Grammar.{prop-spread, prop-short, prop-cover, prop-key, prop-generator, prop-async}
-use Rattle.swc_grammar.specs.Grammar.{prop-async-generator, prop-getter, after-value, after-shell, shell-block}
-use Rattle.swc_grammar.specs.Grammar.{key-name, key-literal, key-computed}
+use Rattle.swc_grammar.specs.Grammar.{prop-async-generator, prop-getter, prop-setter, after-value, after-shell}
+use Rattle.swc_grammar.specs.Grammar.{shell-block, key-name, key-literal, key-computed}
+use Rattle.swc_grammar.specs.Grammar.{pat-bind, pat-array, pat-object, pat-rest, pat-elements-end, pat-elements-hole}
+use Rattle.swc_grammar.specs.Grammar.{pat-elements-more, pat-elements-rest, pat-tail-end, pat-tail-more}
+use Rattle.swc_grammar.specs.Grammar.{pat-props-end, pat-props-more, pat-props-rest, pat-props-tail-end}
+use Rattle.swc_grammar.specs.Grammar.{pat-props-tail-more, pat-prop-key, pat-prop-short, pat-prop-default, params-end}
+use Rattle.swc_grammar.specs.Grammar.{params-more, params-rest, params-tail-end, params-tail-more}
 use Rattle.swc_grammar.specs.Tokens.{is_ref, at_word, binary_where, prefix_of, is_lparen, is_this, is_lbracket, is_rbracket, is_comma}
-use Rattle.swc_grammar.specs.Tokens.{is_dots, is_rbrace, is_colon, is_star, is_equals, is_word, is_get, with_in}
+use Rattle.swc_grammar.specs.Tokens.{is_dots, is_rbrace, is_colon, is_star, is_equals, is_word, is_get, is_set, with_in}
 use Rattle.swc_grammar.specs.Tokens.{is_super, is_import, is_source, is_update, is_assign, is_await, is_yield}
 use Rattle.swc_grammar.specs.Tokens.{ends_await, yield_ok, goes_on_yield}
 use Rattle.swc_grammar.specs.Parts.{update_here, assign_here}
@@ -88,6 +96,7 @@ pub data Call (F C K : Type 0) : Type 0 where
   climb : Tree F C K → ℕ → Call F C K
   assigns : Tree F C K → Call F C K
   seqs : Trees F C K → Call F C K
+  defaults : Tree F C K → Call F C K
 
 -- what a call gives
 abbrev pub Ans : (F C K : Type 0) → Call F C K → Type 0
@@ -98,6 +107,7 @@ Ans F C K (updates l) = Tree F C K
 Ans F C K (climb l m) = Tree F C K
 Ans F C K (assigns e) = Tree F C K
 Ans F C K (seqs es) = Tree F C K
+Ans F C K (defaults p) = Tree F C K
 
 -- what is run: a right-hand side, with calls in place of symbols
 abbrev pub Plan : (F C K : Type 0) → Type 0 → Type 0
@@ -138,6 +148,16 @@ rank_of Prop = 4
 rank_of Key = 3
 rank_of AfterKey = 3
 rank_of (Shell is_async is_generator) = 2
+rank_of Pat = 2
+rank_of Element = 3
+rank_of Rest = 2
+rank_of PatElements = 4
+rank_of PatElementsTail = 2
+rank_of PatProps = 5
+rank_of PatPropsTail = 2
+rank_of PatProp = 4
+rank_of Params = 4
+rank_of ParamsTail = 2
 
 abbrev pub rank : {F C K : Type 0} → Call F C K → ℕ
 rank (sym s) = rank_of s
@@ -147,6 +167,7 @@ rank (updates l) = 1
 rank (climb l m) = 1
 rank (assigns e) = 1
 rank (seqs es) = 1
+rank (defaults p) = 1
 
 abbrev pub measure : {F C K : Type 0} → Call F C K → List TokenAndSpan → ℕ
 measure k ts = 20 * length ts + rank k
@@ -273,7 +294,18 @@ Stop (Level zero) c ys = ⊥
 Stop (Level (suc n)) c ys = (n ≤ 10) × (ends_unary ys ≡ true) × Bound c n ys
 Stop Expr c ys = ((ends_assign ys && not (at_token is_comma (first ys))) ≡ true) × Bound c 0 ys
 Stop Exprs c ys = ⊥
-Stop s c ys = (ends_assign ys ≡ true) × Bound c 0 ys
+Stop Pat c ys = Unit {0}
+Stop Element c ys = (ends_assign ys ≡ true) × Bound (with_in c) 0 ys
+Stop Rest c ys = Unit {0}
+Stop PatElements c ys = Unit {0}
+Stop PatElementsTail c ys = Unit {0}
+Stop PatProps c ys = Unit {0}
+Stop PatPropsTail c ys = Unit {0}
+Stop PatProp c ys = (ends_assign ys ≡ true) × Bound (with_in c) 0 ys × (at_token is_colon (first ys) ≡ false)
+Stop Params c ys = Unit {0}
+Stop ParamsTail c ys = Unit {0}
+Stop Assign c ys = (ends_assign ys ≡ true) × Bound c 0 ys
+Stop Item c ys = (ends_assign ys ≡ true) × Bound c 0 ys
 
 -- a choice: none of a symbol's productions, or one
 pub data Choice (F C K : Type 0) (s : Symbol) (c : Scope) : Type 0 where
@@ -313,6 +345,12 @@ module _ {F C K : Type 0} where
     must (is_simple_target c.context.strict l)
     r ← symbol Assign c
     gives (assign_e (to (span_of l) (span_of r)) op l r)
+
+  abbrev pub default_tail : Scope → Tree F C K → Side F C K Element
+  default_tail c p = do
+    a_token is_equals
+    e ← symbol Assign (with_in c)
+    gives (default_p (to (span_of p) (span_of e)) p e)
 
   abbrev pub exprs_next : Scope → Trees F C K → TokenAndSpan → Side F C K Exprs
   exprs_next c es t = do
@@ -497,7 +535,8 @@ module _ {F C K : Type 0} where
       (if at_token follows_key u then pick prop-key else
       (if at_token is_question u then none else
       (if at_token is_get t then pick prop-getter else
-      (if at_token is_async t then async_method u else none)))))
+      (if at_token is_set t then pick prop-setter else
+      (if at_token is_async t then async_method u else none))))))
 
   abbrev pub prop : (c : Scope) → List TokenAndSpan → Choice F C K Prop c
   prop c ts =
@@ -516,6 +555,51 @@ module _ {F C K : Type 0} where
   abbrev pub shell : (is_async is_generator : Bool) (c : Scope) → List TokenAndSpan
       → Choice F C K (Shell is_async is_generator) c
   shell is_async is_generator c ts = pick shell-block
+
+  -- patterns
+  abbrev pub pat : (c : Scope) → List TokenAndSpan → Choice F C K Pat c
+  pat c ts =
+      if at_token is_lbracket (first ts) then pick pat-array else
+      (if at_token is_brace (first ts) then pick pat-object else pick pat-bind)
+
+  abbrev pub element : Scope → Plan F C K (Tree F C K)
+  element c = do
+    p ← symbol (sym Pat) c
+    symbol (defaults p) c
+
+  abbrev pub pat_elements : (c : Scope) → List TokenAndSpan → Choice F C K PatElements c
+  pat_elements c ts =
+      if at_token is_comma (first ts) then pick pat-elements-hole else
+      (if at_token is_rbracket (first ts) then pick pat-elements-end else
+      (if at_token is_dots (first ts) then pick pat-elements-rest else pick pat-elements-more))
+
+  abbrev pub pat_tail : (c : Scope) → List TokenAndSpan → Choice F C K PatElementsTail c
+  pat_tail c ts = if at_token is_comma (first ts) then pick pat-tail-more else pick pat-tail-end
+
+  abbrev pub pat_props : (c : Scope) → List TokenAndSpan → Choice F C K PatProps c
+  pat_props c ts =
+      if at_token is_rbrace (first ts) then pick pat-props-end else
+      (if at_token is_dots (first ts) then pick pat-props-rest else pick pat-props-more)
+
+  abbrev pub pat_props_tail : (c : Scope) → List TokenAndSpan → Choice F C K PatPropsTail c
+  pat_props_tail c ts = if at_token is_comma (first ts) then pick pat-props-tail-more else pick pat-props-tail-end
+
+  -- a property that begins with a word, by the token behind it
+  abbrev pub pat_prop_word : {c : Scope} → Option TokenAndSpan → Choice F C K PatProp c
+  pat_prop_word u =
+      if at_token is_colon u then pick pat-prop-key else
+      (if at_token is_equals u then pick pat-prop-default else pick pat-prop-short)
+
+  abbrev pub pat_prop : (c : Scope) → List TokenAndSpan → Choice F C K PatProp c
+  pat_prop c ts = if at_token is_word (first ts) then pat_prop_word (second ts) else pick pat-prop-key
+
+  abbrev pub params : (c : Scope) → List TokenAndSpan → Choice F C K Params c
+  params c ts =
+      if at_token is_rparen (first ts) then pick params-end else
+      (if at_token is_dots (first ts) then pick params-rest else pick params-more)
+
+  abbrev pub params_tail : (c : Scope) → List TokenAndSpan → Choice F C K ParamsTail c
+  params_tail c ts = if at_token is_comma (first ts) then pick params-tail-more else pick params-tail-end
 
   -- behind an operator: what stands right of it, and their node, with the least precedence to go on with
   abbrev pub bin_op : BinaryOp → Tree F C K → ℕ → Scope → Plan F C K (Tree F C K × Option ℕ)
@@ -565,6 +649,17 @@ module _ {F C K : Type 0} where
   step (sym Key) c ts = chosen (key c ts)
   step (sym AfterKey) c ts = chosen (after_key c ts)
   step (sym (Shell is_async is_generator)) c ts = chosen (shell is_async is_generator c ts)
+  step (sym Pat) c ts = chosen (pat c ts)
+  step (sym Element) c ts = element c
+  step (sym Rest) c ts = chosen (pick (pat-rest {c = c}))
+  step (sym PatElements) c ts = chosen (pat_elements c ts)
+  step (sym PatElementsTail) c ts = chosen (pat_tail c ts)
+  step (sym PatProps) c ts = chosen (pat_props c ts)
+  step (sym PatPropsTail) c ts = chosen (pat_props_tail c ts)
+  step (sym PatProp) c ts = chosen (pat_prop c ts)
+  step (sym Params) c ts = chosen (params c ts)
+  step (sym ParamsTail) c ts = chosen (params_tail c ts)
+  step (defaults p) c ts = if at_token is_equals (first ts) then plan (default_tail c p) else gives p
   step (links b l) c ts = linked (link b c ts) l
   step (constructs b s l) c ts =
       if at_token is_lparen (first ts) then constructed_with b s l c else gives (bare_new_e (to s (span_of l)) l)

@@ -1,24 +1,19 @@
 -- What a reading begins with, symbol by symbol.
-use Rattle.std.specs.Prelude.{Bool, true, false, ◌||◌, ◌&&◌, Option, Some, None}
-use Rattle.swc_context.specs.declared.operator.UnaryOp.{UnaryOp}
+use Rattle.std.specs.Prelude.{Bool, true, false, ◌||◌, ◌&&◌}
 use Rattle.swc_input.specs.declared.token.Token.{Token}
 use Rattle.swc_input.specs.declared.token.Token.TheVariants as token
-use Rattle.swc_bodies.specs.Readings.{is_async}
+use Rattle.swc_bodies.specs.Readings.{is_async, is_brace}
 use Rattle.swc_grammar.specs.Scope.{Scope}
 use Rattle.swc_grammar.specs.Clean.{is_lit, is_identifier}
 use Rattle.swc_grammar.specs.Symbols.{Symbol, Level, Unary, Lhs, Left, Base, Arguments, Template, Parts}
 use Rattle.swc_grammar.specs.Symbols.{Args, ArgsTail, Primary, Literal, Elements, ElementsTail, Item}
+use Rattle.swc_grammar.specs.Symbols.{Pat, Element, Rest, PatElements, PatElementsTail, PatProps, PatPropsTail, PatProp}
+use Rattle.swc_grammar.specs.Symbols.{Params, ParamsTail}
+use Rattle.swc_grammar.specs.Names.{may_bind}
 use Rattle.swc_grammar.specs.Symbols.{Props, PropsTail, Prop, Key, AfterKey, Shell}
-use Rattle.swc_grammar.specs.Tokens.{prefix_of, is_comma, is_rbracket, is_rbrace, is_dots, is_star, is_lparen}
-use Rattle.swc_grammar.specs.Tokens.{is_backquote, is_update, is_await, is_yield}
-use Rattle.swc_grammar.specs.Tokens.{is_rparen, ends_prop, follows_key, opening, is_primary_opening, is_left_opening}
-
-abbrev pub is_prefix_op : Option UnaryOp → Bool
-is_prefix_op None = false
-is_prefix_op (Some op) = true
-
-abbrev pub is_prefix : Token → Bool
-is_prefix t = is_prefix_op (prefix_of t)
+use Rattle.swc_grammar.specs.Tokens.{is_comma, is_rbracket, is_rbrace, is_dots, is_star, is_lparen, is_lbracket}
+use Rattle.swc_grammar.specs.Tokens.{is_backquote, is_rparen, ends_prop, follows_key}
+use Rattle.swc_grammar.specs.Tokens.{opening, is_primary_opening, is_left_opening, is_operand_opening, is_yield_opening}
 
 -- a primary expression: with an identifier reference, or with one of these tokens
 abbrev pub is_first : Token → Bool
@@ -36,10 +31,10 @@ abbrev pub begins_left : Scope → Token → Bool
 begins_left c t = begins_primary c t || is_left_word t
 
 abbrev pub begins_operand : Scope → Token → Bool
-begins_operand c t = begins_left c t || (is_prefix t || (is_update t || is_await t))
+begins_operand c t = begins_left c t || is_operand_opening (opening t)
 
 abbrev pub begins_expression : Scope → Token → Bool
-begins_expression c t = begins_operand c t || (is_yield t && c.context.in_generator)
+begins_expression c t = begins_operand c t || (is_yield_opening (opening t) && c.context.in_generator)
 
 -- a text of a template
 abbrev pub is_text_token : Token → Bool
@@ -57,6 +52,14 @@ begins_key t = false
 
 abbrev pub begins_prop : Token → Bool
 begins_prop t = begins_key t || (is_dots t || is_star t)
+
+-- a pattern: with a name that may be bound, a bracket or a brace
+abbrev pub is_name_bound : Scope → Token → Bool
+is_name_bound c (token.Word w) = may_bind c.context w
+is_name_bound c t = false
+
+abbrev pub begins_pat : Scope → Token → Bool
+begins_pat c t = is_name_bound c t || (is_lbracket t || is_brace t)
 
 abbrev pub starts : Symbol → Scope → Token → Bool
 starts (Level k) c t = begins_operand c t
@@ -80,4 +83,14 @@ starts Prop c t = begins_prop t
 starts Key c t = begins_key t
 starts AfterKey c t = follows_key t
 starts (Shell is_async is_generator) c t = is_lparen t
+starts Pat c t = begins_pat c t
+starts Element c t = begins_pat c t
+starts Rest c t = is_dots t
+starts PatElements c t = (begins_pat c t || is_dots t) || (is_comma t || is_rbracket t)
+starts PatElementsTail c t = is_comma t || is_rbracket t
+starts PatProps c t = (begins_key t || is_dots t) || is_rbrace t
+starts PatPropsTail c t = ends_prop t
+starts PatProp c t = begins_key t
+starts Params c t = (begins_pat c t || is_dots t) || is_rparen t
+starts ParamsTail c t = is_comma t || is_rparen t
 starts s c t = begins_expression c t

@@ -7,7 +7,9 @@ use Rattle.swc_context.specs.Reserved.{is_reserved_word}
 use Rattle.swc_context.specs.declared.operator.BinaryOp.TheVariants as binary
 use Rattle.swc_input.specs.Kinds.{is_hash}
 use Rattle.swc_ast.specs.Targets.{is_target as is_simple_target}
-use Rattle.swc_ast.specs.Tree.{nil, cons, span_of}
+use Rattle.swc_ast.specs.Patterns.{array_p, object_p, default_p, rest_p, name_p, put_element, holds_ident}
+use Rattle.swc_ast.specs.Tree.{node, nil, cons, span_of, dots}
+use Rattle.swc_ast.specs.Trees.{key_value_e, params_e, setter_e, getter_ok, setter_ok}
 use Rattle.swc_ast.specs.Trees.{to, ident_e, this_e, array_e, listed, items_of, comma_of, put_first, behind_comma}
 use Rattle.swc_ast.specs.Trees.{hole_e, item_e, spread_e, fn_e}
 use Rattle.swc_ast.specs.Trees.{class_e, private_e, unary_e, paren_e, bin_e, object_e, name_e, computed_e}
@@ -26,13 +28,16 @@ use Rattle.swc_grammar.specs.Symbols.{Symbol, Expr, Exprs, Assign, Level, Unary,
 use Rattle.swc_grammar.specs.Symbols.{Literal, Template, Parts, Base}
 use Rattle.swc_grammar.specs.Symbols.{Elements, ElementsTail}
 use Rattle.swc_grammar.specs.Symbols.{Item, Props, PropsTail, Prop, Key, AfterKey, Shell, Side, function, class, block}
+use Rattle.swc_grammar.specs.Symbols.{Pat, Element, Rest, PatElements, PatElementsTail, PatProps, PatPropsTail, PatProp}
+use Rattle.swc_grammar.specs.Symbols.{Params, ParamsTail}
 use Rattle.swc_grammar.specs.Names.{is_joined}
 use Rattle.swc_grammar.specs.Tokens.{with_in, is_this, is_lparen, is_rparen, is_lbracket, is_rbracket, is_comma, is_dots}
 use Rattle.swc_grammar.specs.Tokens.{is_dot, is_question, is_backquote, is_dollar_brace, is_slash, is_new, is_target, new_target_ok}
 use Rattle.swc_grammar.specs.Tokens.{is_super, is_import, is_meta, is_source, super_ok, import_comma_ok}
 use Rattle.swc_grammar.specs.Tokens.{is_await, is_yield, await_ok, await_ident_ok, ends_await, yield_ok, goes_on_yield}
-use Rattle.swc_grammar.specs.Tokens.{is_power, is_rbrace, is_colon, is_star, is_equals, is_get, method_block}
-use Rattle.swc_grammar.specs.Parts.{reference, any_name, lit_of, regex_of, text_of, key_lit_of, prefix_here}
+use Rattle.swc_grammar.specs.Tokens.{is_power, is_rbrace, is_colon, is_star, is_equals, is_get, is_set}
+use Rattle.swc_grammar.specs.Tokens.{method_params, method_block}
+use Rattle.swc_grammar.specs.Parts.{reference, binding, any_name, lit_of, regex_of, text_of, key_lit_of, prefix_here}
 use Rattle.swc_grammar.specs.Parts.{update_here, assign_here, operator_here}
 
 pub data Production {F C K : Type 0} : (s : Symbol) → Scope → Side F C K s → Type 0 where
@@ -141,7 +146,7 @@ pub data Production {F C K : Type 0} : (s : Symbol) → Scope → Side F C K s �
     k ← symbol Key c
     x ← symbol AfterKey c
     gives (prop_of k x))
-  -- Methods (15.4), of which setters aren't in it yet, and generators and async ones (15.5, 15.6, 15.8)
+  -- Methods (15.4), and generators and async ones (15.5, 15.6, 15.8). A getter has no parameter, and a setter one.
   prop-generator : {c : Scope} → Production Prop c (do
     s ← token is_star
     k ← symbol Key c
@@ -162,7 +167,14 @@ pub data Production {F C K : Type 0} : (s : Symbol) → Scope → Side F C K s �
     s ← token is_get
     k ← symbol Key c
     f ← symbol (Shell false false) c
+    must (getter_ok f)
     gives (getter_e (to s (span_of f)) k f))
+  prop-setter : {c : Scope} → Production Prop c (do
+    s ← token is_set
+    k ← symbol Key c
+    f ← symbol (Shell false false) c
+    must (setter_ok f)
+    gives (setter_e (to s (span_of f)) k f))
   after-value : {c : Scope} → Production AfterKey c (do
     token is_colon
     e ← symbol Assign (with_in c)
@@ -170,9 +182,9 @@ pub data Production {F C K : Type 0} : (s : Symbol) → Scope → Side F C K s �
   after-shell : {c : Scope} → Production AfterKey c (symbol (Shell false false) c)
   shell-block : {c : Scope} {is_async is_generator : Bool} → Production (Shell is_async is_generator) c (do
     s ← token is_lparen
-    token is_rparen
+    ps ← symbol Params (in_context (method_params is_async is_generator) c)
     (v, s') ← body block (in_context (method_block is_async is_generator) c)
-    gives (function_e (to s s') is_async is_generator (block_e s' v)))
+    gives (function_e (to s s') is_async is_generator (block_e s' v) (params_e (items_of ps))))
   -- Keys (PropertyName, 13.2.5)
   key-name : {c : Scope} → Production Key c (do
     n ← one (any_name c)
@@ -447,3 +459,103 @@ pub data Production {F C K : Type 0} : (s : Symbol) → Scope → Side F C K s �
   seq-expr : {c : Scope} → Production Expr c (do
     es ← symbol Exprs c
     gives (seq_of (items_of es)))
+  -- Binding patterns (14.3.3)
+  pat-bind : {c : Scope} → Production Pat c (do
+    n ← one (binding c)
+    gives (ident_e n.at n.text))
+  pat-array : {c : Scope} → Production Pat c (do
+    s ← token is_lbracket
+    es ← symbol PatElements c
+    gives (array_p (to s (span_of es)) (items_of es)))
+  pat-object : {c : Scope} → Production Pat c (do
+    s ← token is_brace
+    ps ← symbol PatProps c
+    gives (object_p (to s (span_of ps)) (items_of ps)))
+  -- with an initialiser (SingleNameBinding, BindingElement), in which `in` is an operator; and behind dots
+  element-pat : {c : Scope} → Production Element c (symbol Pat c)
+  element-default : {c : Scope} → Production Element c (do
+    p ← symbol Pat c
+    token is_equals
+    e ← symbol Assign (with_in c)
+    gives (default_p (to (span_of p) (span_of e)) p e))
+  pat-rest : {c : Scope} → Production Rest c (do
+    s ← token is_dots
+    p ← symbol Pat c
+    gives (rest_p (to s (span_of p)) (node dots s nil) p))
+  -- ArrayBindingPattern: holes at the end leave nothing, and a rest stands directly before the bracket
+  pat-elements-end : {c : Scope} → Production PatElements c (do
+    s ← token is_rbracket
+    gives (listed None s nil))
+  pat-elements-hole : {c : Scope} → Production PatElements c (do
+    token is_comma
+    es ← symbol PatElements c
+    gives (listed None (span_of es) (put_element true hole_e (items_of es))))
+  pat-elements-more : {c : Scope} → Production PatElements c (do
+    p ← symbol Element c
+    es ← symbol PatElementsTail c
+    gives (put_first p es))
+  pat-elements-rest : {c : Scope} → Production PatElements c (do
+    p ← symbol Rest c
+    s ← token is_rbracket
+    gives (listed None s (cons p nil)))
+  pat-tail-end : {c : Scope} → Production PatElementsTail c (do
+    s ← token is_rbracket
+    gives (listed None s nil))
+  pat-tail-more : {c : Scope} → Production PatElementsTail c (do
+    token is_comma
+    es ← symbol PatElements c
+    gives es)
+  -- ObjectBindingPattern: what a rest binds is a name
+  pat-props-end : {c : Scope} → Production PatProps c (do
+    s ← token is_rbrace
+    gives (listed None s nil))
+  pat-props-more : {c : Scope} → Production PatProps c (do
+    p ← symbol PatProp c
+    ps ← symbol PatPropsTail c
+    gives (put_first p ps))
+  pat-props-rest : {c : Scope} → Production PatProps c (do
+    p ← symbol Rest c
+    must (holds_ident p)
+    s ← token is_rbrace
+    gives (listed None s (cons p nil)))
+  pat-props-tail-end : {c : Scope} → Production PatPropsTail c (do
+    s ← token is_rbrace
+    gives (listed None s nil))
+  pat-props-tail-more : {c : Scope} → Production PatPropsTail c (do
+    token is_comma
+    ps ← symbol PatProps c
+    gives ps)
+  -- BindingProperty. A name alone is no reserved word; before `=` that isn't looked at.
+  pat-prop-key : {c : Scope} → Production PatProp c (do
+    k ← symbol Key c
+    token is_colon
+    p ← symbol Element c
+    gives (key_value_e (to (span_of k) (span_of p)) k p))
+  pat-prop-short : {c : Scope} → Production PatProp c (do
+    n ← one (any_name c)
+    must (not (is_reserved_word c.context n.text))
+    gives (name_p n.at (ident_e n.at n.text) hole_e))
+  pat-prop-default : {c : Scope} → Production PatProp c (do
+    n ← one (any_name c)
+    token is_equals
+    e ← symbol Assign (with_in c)
+    gives (name_p (to n.at (span_of e)) (ident_e n.at n.text) e))
+  -- FormalParameters (15.1)
+  params-end : {c : Scope} → Production Params c (do
+    s ← token is_rparen
+    gives (listed None s nil))
+  params-more : {c : Scope} → Production Params c (do
+    p ← symbol Element c
+    ps ← symbol ParamsTail c
+    gives (put_first p ps))
+  params-rest : {c : Scope} → Production Params c (do
+    p ← symbol Rest c
+    s ← token is_rparen
+    gives (listed None s (cons p nil)))
+  params-tail-end : {c : Scope} → Production ParamsTail c (do
+    s ← token is_rparen
+    gives (listed None s nil))
+  params-tail-more : {c : Scope} → Production ParamsTail c (do
+    token is_comma
+    ps ← symbol Params c
+    gives ps)

@@ -4,6 +4,7 @@ pub mod Firsts
 pub mod Grammar
 pub mod Names
 pub mod Parts
+pub mod Patterns
 pub mod Reads
 pub mod Rule
 pub mod Scope

@@ -15,12 +15,16 @@ use Rattle.swc_input.specs.Recording.{is_some}
 use Rattle.swc_ast.specs.Tree.{Tree}
 use Rattle.swc_ast.specs.Trees.{null_e, boolean_e, num_e, big_e, str_e, regex_e, text_e}
 use Rattle.swc_grammar.specs.Scope.{Scope}
-use Rattle.swc_grammar.specs.Names.{Spelling, may_refer, may_name, spelled}
+use Rattle.swc_grammar.specs.Names.{Spelling, may_refer, may_bind, may_name, spelled}
 use Rattle.swc_grammar.specs.Tokens.{is_put_off, binary_of, prefix_of, update_of, assign_of}
 
 -- an identifier reference (13.1) that is an expression by itself
 abbrev pub reference : Scope → Token → Span → Option Spelling
 reference c = spelled (λ w. may_refer c.context w && not (is_put_off w))
+
+-- a binding identifier (13.1)
+abbrev pub binding : Scope → Token → Span → Option Spelling
+binding c = spelled (may_bind c.context)
 
 -- a name, which may be any word (12.7)
 abbrev pub any_name : Scope → Token → Span → Option Spelling

@@ -44,6 +44,20 @@ pub data Symbol : Type 0 where
   AfterKey : Symbol
   -- the parameters and the body of a method (15.4): is it async, and is it a generator
   Shell : Bool → Bool → Symbol
+  -- a binding pattern (14.3.3), and one with its initialiser or without; one behind dots
+  Pat : Symbol
+  Element : Symbol
+  Rest : Symbol
+  -- behind the bracket of an array pattern, through the one that closes it: elements, and the same behind one of them;
+  -- behind the brace of an object pattern: properties, and the same behind one of them; a property
+  PatElements : Symbol
+  PatElementsTail : Symbol
+  PatProps : Symbol
+  PatPropsTail : Symbol
+  PatProp : Symbol
+  -- behind the parenthesis of parameters (15.1), through the one that closes it; and the same behind one of them
+  Params : Symbol
+  ParamsTail : Symbol
 
 -- What a symbol gives. A list gives one node that holds its items, at the place of the token that closes it (`listed`).
 abbrev pub Answer : (F C K : Type 0) → Symbol → Type 0

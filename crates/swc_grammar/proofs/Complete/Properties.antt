@@ -13,19 +13,20 @@ use Rattle.swc_ast.specs.Tree.{Tree}
 use Rattle.swc_bodies.specs.Readings.{Hook, is_async}
 use Rattle.swc_grammar.specs.Scope.{Scope}
 use Rattle.swc_grammar.specs.Tokens.{tk, with_in, is_rbrace, is_lparen, is_colon, is_star, is_equals, is_question}
-use Rattle.swc_grammar.specs.Tokens.{is_word, is_get, ends_prop, follows_key}
+use Rattle.swc_grammar.specs.Tokens.{is_word, is_get, is_set, ends_prop, follows_key}
 use Rattle.swc_grammar.specs.Symbols.{Props, PropsTail, Prop, Key, AfterKey, Side}
 use Rattle.swc_grammar.specs.Parts.{any_name, key_lit_of}
 use Rattle.swc_grammar.specs.Grammar.{Production, props-end, props-more, props-tail-end, props-tail-more, prop-spread}
 use Rattle.swc_grammar.specs.Grammar.{prop-short, prop-cover, prop-key, prop-generator, prop-async}
-use Rattle.swc_grammar.specs.Grammar.{prop-async-generator, prop-getter, after-value, after-shell, key-name}
+use Rattle.swc_grammar.specs.Grammar.{prop-async-generator, prop-getter, prop-setter, after-value, after-shell}
+use Rattle.swc_grammar.specs.Grammar.{key-name}
 use Rattle.swc_grammar.specs.Grammar.{key-literal, key-computed}
 use Rattle.swc_grammar.specs.Reads.{Reads, by, Follows, took, held, part}
 use Rattle.swc_grammar.specs.Clean.{first, Stop, Choice, pick, props, props_tail, prop, key, after_key, prop_word}
 use Rattle.swc_grammar.specs.Firsts.{begins_key, begins_prop}
 use Rattle.swc_grammar.proofs.Answers.{both}
 use Rattle.swc_grammar.proofs.Only.{colon-is, comma-is, dots-is, equals-is, lbracket-is, lparen-is, rbrace-is, star-is}
-use Rattle.swc_grammar.proofs.Firsts.{given-held, begins, name-first, async-word, get-word}
+use Rattle.swc_grammar.proofs.Firsts.{given-held, begins, name-first, async-word, get-word, set-word}
 use Rattle.swc_grammar.proofs.Complete.Bools.{or-right}
 use Rattle.swc_grammar.proofs.Complete.Stops.{ends-prop-stop, expr-stop, quiet-rbracket}
 use Rattle.swc_grammar.proofs.Complete.Sides.{Ready, ready-given, gave-all, checked-gave, next-passes, checked-next}
@@ -89,6 +90,29 @@ not-get (x ∷ xs) h =
 not-get-token : (t : Token) → is_async t ≡ true → is_get t ≡ false
 not-get-token (token.Word (word.Ident w)) h = not-get w h
 not-get-token t h = absurd cc
+
+-- nor are `set` and `async` one, or `set` and `get`
+not-set : (w : List ℕ) → is_text w (codes "async") ≡ true → is_text w (codes "set") ≡ false
+not-set [] h = absurd cc
+not-set (x ∷ xs) h =
+    let (a, rest) = both _ _ h in
+    let same : x ≡ 97 = eqb-true x 97 a in
+    rw same refl
+
+not-set-token : (t : Token) → is_async t ≡ true → is_set t ≡ false
+not-set-token (token.Word (word.Ident w)) h = not-set w h
+not-set-token t h = absurd cc
+
+set-not-get : (w : List ℕ) → is_text w (codes "set") ≡ true → is_text w (codes "get") ≡ false
+set-not-get [] h = absurd cc
+set-not-get (x ∷ xs) h =
+    let (a, rest) = both _ _ h in
+    let same : x ≡ 115 = eqb-true x 115 a in
+    rw same refl
+
+set-not-get-token : (t : Token) → is_set t ≡ true → is_get t ≡ false
+set-not-get-token (token.Word (word.Ident w)) h = set-not-get w h
+set-not-get-token t h = absurd cc
 
 -- properties, keys and methods
 not-brace-first : (xs : List TokenAndSpan) → at_token begins_prop (first xs) ≡ true
@@ -164,20 +188,27 @@ module _ {F C K : Type 0} (hook : Hook F C K) where
   async-picks c a us h g =
       let (m, n) = key-begins-method (first us) g in
       let (x, y, z, q) = method-apart (first us) m in
-      word-picks c a us (pick prop-async) (async-word a.token h) (rw (x, y, z, q, not-get-token a.token h, h, n) refl)
+      word-picks c a us (pick prop-async) (async-word a.token h)
+      (rw (x, y, z, q, not-get-token a.token h, not-set-token a.token h, h, n) refl)
 
   async-star-picks : (c : Scope) (a : TokenAndSpan) (us : List TokenAndSpan) → is_async a.token ≡ true
       → at_token is_star (first us) ≡ true → prop {F = F} {C = C} {K = K} c (a ∷ us) ≡ pick prop-async-generator
   async-star-picks c a us h g =
       let (x, y, z, q) = method-apart (first us) (star-begins-method (first us) g) in
       word-picks c a us (pick prop-async-generator) (async-word a.token h)
-      (rw (x, y, z, q, not-get-token a.token h, h, g) refl)
+      (rw (x, y, z, q, not-get-token a.token h, not-set-token a.token h, h, g) refl)
 
   get-picks : (c : Scope) (a : TokenAndSpan) (us : List TokenAndSpan) → is_get a.token ≡ true
       → at_token begins_key (first us) ≡ true → prop {F = F} {C = C} {K = K} c (a ∷ us) ≡ pick prop-getter
   get-picks c a us h g =
       let (x, y, z, q) = method-apart (first us) (key-begins-method (first us) g).0 in
       word-picks c a us (pick prop-getter) (get-word a.token h) (rw (x, y, z, q, h) refl)
+
+  set-picks : (c : Scope) (a : TokenAndSpan) (us : List TokenAndSpan) → is_set a.token ≡ true
+      → at_token begins_key (first us) ≡ true → prop {F = F} {C = C} {K = K} c (a ∷ us) ≡ pick prop-setter
+  set-picks c a us h g =
+      let (x, y, z, q) = method-apart (first us) (key-begins-method (first us) g).0 in
+      word-picks c a us (pick prop-setter) (set-word a.token h) (rw (x, y, z, q, set-not-get-token a.token h, h) refl)
 
   -- a key is a word, or the property is picked by its first token
   key-picks : {c : Scope} {xs ms : List TokenAndSpan} {k : Tree F C K} → Reads hook Key c xs ms k
@@ -220,6 +251,8 @@ module _ {F C K : Type 0} (hook : Hook F C K) where
       async-star-picks c a us h (next-passes hook is_star d)
   picked-prop {c = c} prop-getter stop (took {a = a} {xs = us} (held h (part e d))) =
       get-picks c a us h (begins e)
+  picked-prop {c = c} prop-setter stop (took {a = a} {xs = us} (held h (part e d))) =
+      set-picks c a us h (begins e)
 
   pub ready-props : {c : Scope} {r : Side F C K Props} (ys : List TokenAndSpan) → Production Props c r
       → Ready (Some 5) ys r
@@ -242,7 +275,8 @@ module _ {F C K : Type 0} (hook : Hook F C K) where
   ready-prop ys stop prop-generator = λ a h. (refl, λ k. (λ b us g. tt, (refl, λ f. (tt, tt))))
   ready-prop ys stop prop-async = λ a h. (refl, λ k. (λ b us g. tt, (refl, λ f. (tt, tt))))
   ready-prop ys stop prop-async-generator = λ a h b j. (refl, λ k. (λ d us g. tt, (refl, λ f. (tt, tt))))
-  ready-prop ys stop prop-getter = λ a h. (refl, λ k. (λ b us g. tt, (refl, λ f. (tt, tt))))
+  ready-prop ys stop prop-getter = λ a h. (refl, λ k. (λ b us g. tt, (refl, λ f. (λ n. tt, λ n. tt))))
+  ready-prop ys stop prop-setter = λ a h. (refl, λ k. (λ b us g. tt, (refl, λ f. (λ n. tt, λ n. tt))))
 
   pub ready-key : {c : Scope} {r : Side F C K Key} (ys : List TokenAndSpan) → Production Key c r → Ready (Some 3) ys r
   ready-key ys (key-name {c = c}) = λ a. ready-given _ _ (any_name c a.token a.span) _ (λ n h. tt)

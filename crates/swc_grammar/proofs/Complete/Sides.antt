@@ -10,20 +10,22 @@ use Rattle.swc_input.specs.declared.token.TokenAndSpan.{TokenAndSpan}
 use Rattle.swc_input.specs.Kinds.{at_token}
 use Rattle.swc_ast.specs.Tree.{Tree}
 use Rattle.swc_ast.specs.Trees.{items_of, left_ok}
-use Rattle.swc_bodies.specs.Readings.{whole_span, Hook}
+use Rattle.swc_bodies.specs.Readings.{Hook}
 use Rattle.swc_grammar.specs.Scope.{Scope}
 use Rattle.swc_grammar.specs.Rule.{Rule, gives, never, take, check, peek, read, hear, sees, given, ◌>>=◌}
 use Rattle.swc_grammar.specs.Symbols.{Symbol, Expr, Exprs, Assign, Level, Lhs, Left, Answer, Body, Value, begins_body}
 use Rattle.swc_grammar.specs.Symbols.{Side}
 use Rattle.swc_grammar.specs.Grammar.{Production}
-use Rattle.swc_grammar.specs.Reads.{Hears, Reads, Follows, gave, took, held, calm, part, heard}
+use Rattle.swc_grammar.specs.Reads.{Reads, Follows, gave, took, held, calm, part, heard}
 use Rattle.swc_grammar.specs.Clean.{Out, and_then, first, Call, sym, links, climb, plan, rank_of, rank, allowed, exec}
 use Rattle.swc_grammar.specs.Clean.{operator_at, seqs, ends_unary, Bound, Stop, Choice, pick, chosen, turn, turned}
 use Rattle.swc_grammar.specs.Clean.{step, run}
 use Rattle.swc_grammar.specs.Firsts.{starts}
 use Rattle.swc_grammar.proofs.Bodies.{hears-run}
 use Rattle.swc_grammar.proofs.Good.{Good, good}
-use Rattle.swc_grammar.proofs.Firsts.{Under, under-held, given-held, begins}
+use Rattle.swc_grammar.proofs.Firsts.{Under, under-held, begins}
+use Rattle.swc_grammar.proofs.Induct.{Ran as RanOf, forget as forget-of, given-ran as given-of}
+use Rattle.swc_grammar.proofs.Induct.{ran-gave, ran-took, ran-held, ran-calm, ran-part, ran-heard}
 use Rattle.swc_grammar.proofs.Knot.{knot}
 use Rattle.swc_grammar.proofs.Levels.{bound-above}
 
@@ -144,37 +146,17 @@ module _ {F C K : Type 0} (hook : Hook F C K) where
   checked-next p (held h d) = next-passes p d
 
   -- a side followed, with the claim of each part
-  pub data Ran : (s : Symbol) → Side F C K s → List TokenAndSpan → List TokenAndSpan → Answer F C K s → Type 0 where
-    ran-gave : {s : Symbol} {t : Answer F C K s} {ys : List TokenAndSpan} → Ran s (gives t) ys ys t
-    ran-took : {s : Symbol} {f : TokenAndSpan → Side F C K s} {a : TokenAndSpan} {xs ys : List TokenAndSpan}
-        {t : Answer F C K s} → Ran s (f a) xs ys t → Ran s (take f) (a ∷ xs) ys t
-    ran-held : {s : Symbol} {b : Bool} {r : Side F C K s} {xs ys : List TokenAndSpan} {t : Answer F C K s}
-        → b ≡ true → Ran s r xs ys t → Ran s (check b r) xs ys t
-    ran-calm : {s : Symbol} {p : TokenAndSpan → Bool} {r : Side F C K s} {xs ys : List TokenAndSpan}
-        {t : Answer F C K s}
-        → sees p xs ≡ false → Ran s r xs ys t → Ran s (peek p r) xs ys t
-    ran-part : {s s' : Symbol} {c : Scope} {f : Answer F C K s' → Side F C K s} {e : Answer F C K s'}
-        {xs ms ys : List TokenAndSpan}
-        {t : Answer F C K s} → Reads hook s' c xs ms e → Claim hook s' c xs ms e → Ran s (f e) ms ys t
-        → Ran s (read s' c f) xs ys t
-    ran-heard : {s : Symbol} {b : Body} {c : Scope} {f : Value F C K b → Span → Side F C K s} {v : Value F C K b}
-        {xs ms ys : List TokenAndSpan} {t : Answer F C K s}
-        → (h : Hears hook b c xs v ms) → Ran s (f v (whole_span h.own)) ms ys t → Ran s (hear b c f) xs ys t
+  abbrev pub Ran : (s : Symbol) → Side F C K s → List TokenAndSpan → List TokenAndSpan → Answer F C K s → Type 0
+  Ran s r xs ys t = RanOf hook (Claim hook) s r xs ys t
 
   pub forget : {s : Symbol} {r : Side F C K s} {xs ys : List TokenAndSpan} {t : Answer F C K s} → Ran s r xs ys t
       → Follows hook s r xs ys t
-  forget ran-gave = gave
-  forget (ran-took d) = took (forget d)
-  forget (ran-held h d) = held h (forget d)
-  forget (ran-calm h d) = calm h (forget d)
-  forget (ran-part e k d) = part e (forget d)
-  forget (ran-heard h d) = heard h (forget d)
+  forget d = forget-of hook (Claim hook) d
 
   pub given-ran : {s : Symbol} {A : Type 0} {xs ys : List TokenAndSpan} {t : Answer F C K s}
       (o : Option A) (k : A → Side F C K s)
       → Ran s (given o >>= k) xs ys t → (x : A) × (o ≡ Some x) × Ran s (k x) xs ys t
-  given-ran None k d = let (x, h, e) = given-held None k (forget d) in absurd cc
-  given-ran (Some x) k d = (x, refl, d)
+  given-ran o k d = given-of hook (Claim hook) o k d
 
   pub must-ran : {s : Symbol} {b : Bool} {r : Side F C K s} {xs ys : List TokenAndSpan} {t : Answer F C K s}
       → Ran s (check b r) xs ys t → (b ≡ true) × Ran s r xs ys t

@@ -1,5 +1,5 @@
 -- Where the reading of a symbol stops: at hard stops, and before the tokens that close lists.
-use Rattle.std.specs.Prelude.{◌≡◌, Bool, true, false, not, ◌||◌, List, [], ◌∷◌, None}
+use Rattle.std.specs.Prelude.{◌≡◌, Bool, true, false, not, ◌||◌, ◌&&◌, List, [], ◌∷◌, None}
 use Rattle.std.proofs.Common.{refl, arith}
 use Rattle.swc_context.specs.declared.span.Span.{Span}
 use Rattle.swc_context.specs.declared.word.Keyword.TheVariants as keyword
@@ -10,8 +10,8 @@ use Rattle.swc_input.specs.declared.token.TokenAndSpan.{TokenAndSpan}
 use Rattle.swc_input.specs.Kinds.{at_token}
 use Rattle.swc_grammar.specs.Scope.{Scope}
 use Rattle.swc_grammar.specs.Tokens.{tk, binary_of, is_closer, is_word_apart, is_stop, is_comma, is_rbracket, is_rbrace}
-use Rattle.swc_grammar.specs.Tokens.{is_colon, ends_prop}
-use Rattle.swc_grammar.specs.Symbols.{Symbol, Expr, Assign, Level, Unary, ArgsTail, ElementsTail, Item}
+use Rattle.swc_grammar.specs.Tokens.{is_colon, ends_prop, with_in}
+use Rattle.swc_grammar.specs.Symbols.{Symbol, Expr, Assign, Level, Unary, ArgsTail, ElementsTail, Item, Element, PatProp}
 use Rattle.swc_grammar.specs.Reads.{is_stop_for, Stops, at-end, at-stop}
 use Rattle.swc_grammar.specs.Clean.{first, ends_unary, no_assign_at, ends_assign, Bound, Stop}
 use Rattle.swc_grammar.specs.Firsts.{starts}
@@ -48,7 +48,17 @@ ends-token t us h = by-token t.token t.had_line_break t.span h
 
 stop-any : (s : Symbol) (t : TokenAndSpan) → is_stop_for s t ≡ true → (is_comma t.token || is_stop t) ≡ true
 stop-any Expr t h = or-right (is_comma t.token) (is_stop t) h
-stop-any s t h = h
+stop-any Assign t h = h
+stop-any (Level n) t h = h
+stop-any Unary t h = h
+stop-any Element t h = h
+stop-any PatProp t h = less-colon (is_comma t.token) (is_stop t) (is_colon t.token) h
+  where
+    less-colon : (a b c : Bool) → (a || (b && not c)) ≡ true → (a || b) ≡ true
+    less-colon true b c h = refl
+    less-colon false true c h = refl
+    less-colon false false c h = absurd cc
+stop-any s t h = absurd cc
 
 stops-bound : {ys : List TokenAndSpan} (s : Symbol) (c : Scope) → Stops s ys → Bound c 0 ys
 stops-bound s c at-end = λ op e. absurd cc
@@ -76,6 +86,21 @@ stops-expr c h = (rw (stops-end Expr h, stops-comma h) refl, stops-bound Expr c 
 
 pub stops-unary : {ys : List TokenAndSpan} (s : Symbol) (c : Scope) → Stops s ys → Stop Unary c ys
 stops-unary {ys = ys} s c h = (both (ends_unary ys) (no_assign_at (first ys)) (stops-end s h)).0
+
+pub stops-element : {ys : List TokenAndSpan} (c : Scope) → Stops Element ys → Stop Element c ys
+stops-element c h = (stops-end Element h, stops-bound Element (with_in c) h)
+
+stops-colon : {ys : List TokenAndSpan} → Stops PatProp ys → at_token is_colon (first ys) ≡ false
+stops-colon at-end = refl
+stops-colon (at-stop {t = t} h) = by-token t.token t.had_line_break h
+  where
+    by-token : (u : Token) (d : Bool) → (is_comma u || ((is_closer u || is_word_apart u d) && not (is_colon u))) ≡ true
+        → is_colon u ≡ false
+    by-token token.Colon d h = absurd cc
+    by-token u d h = refl
+
+pub stops-pat-prop : {ys : List TokenAndSpan} (c : Scope) → Stops PatProp ys → Stop PatProp c ys
+stops-pat-prop c h = (stops-end PatProp h, stops-bound PatProp (with_in c) h, stops-colon h)
 
 pub stops-level : {ys : List TokenAndSpan} (s : Symbol) (c : Scope) → Stops s ys → Stop (Level 1) c ys
 stops-level s c h = (omega arith, stops-unary s c h, stops-bound s c h)
