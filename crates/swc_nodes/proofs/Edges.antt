@@ -1,6 +1,5 @@
 -- Where nodes begin and end: where their operands do, and where a tree says it.
-use Rattle.std.proofs.Common.{◌≡◌, ℕ, zero, suc, ◌<◌, ◌≤◌, Bool, true, false, ◌&&◌, List, [], ◌∷◌, Option, Some, None, refl, sym, ap, subst, ◌∙◌, arith}
-use Rattle.swc_context.specs.declared.span.BytePos.{BytePos}
+use Rattle.std.proofs.Common.{◌≡◌, ℕ, zero, suc, ◌<◌, true, false, [], ◌∷◌, Some, None, refl, sym, ap, subst, ◌∙◌, arith}
 use Rattle.swc_context.specs.declared.span.Span.{Span}
 use Rattle.swc_ast.specs.Tree.{Tree, span_of}
 use Rattle.swc_ast.specs.Trees.{ends_in_invalid, begins_in_invalid}

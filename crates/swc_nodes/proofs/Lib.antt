@@ -3,6 +3,7 @@ pub mod Covers
 pub mod Edges
 pub mod Held
 pub mod Lists
+pub mod PatternParts
 pub mod Remembered
 pub mod Renumbered
 pub mod Sequences

@@ -157,10 +157,10 @@ module _ {F C K : Type 0} (fun_at : F → Span) (class_at : C → Span) (block_a
   prop-commas (prop.Getter s k b) = key-commas at k
   prop-commas (prop.Setter s k p b) = both at (key_parts k) (one_pat p) _ _ (key-commas at k) refl
 
-  pat_prop_commas : (p : PatPropNode) → commas_in (pat_prop_of fun_at class_at block_at at p) ≡ commas_now (pat_prop_parts p)
-  pat_prop_commas (pat_prop.KeyValue s k v) = both at (key_parts k) (one_pat v) _ _ (key-commas at k) refl
-  pat_prop_commas (pat_prop.Assign s k v) = append-nil _ ∙ if_there at (λ (e : ExprId). at e.0) one_expr (λ e. refl) v
-  pat_prop_commas (pat_prop.Rest s d p) = append-nil (commas_in (at p.0))
+  pub pat-prop-commas : (p : PatPropNode) → commas_in (pat_prop_of fun_at class_at block_at at p) ≡ commas_now (pat_prop_parts p)
+  pat-prop-commas (pat_prop.KeyValue s k v) = both at (key_parts k) (one_pat v) _ _ (key-commas at k) refl
+  pat-prop-commas (pat_prop.Assign s k v) = append-nil _ ∙ if_there at (λ (e : ExprId). at e.0) one_expr (λ e. refl) v
+  pat-prop-commas (pat_prop.Rest s d p) = append-nil (commas_in (at p.0))
 
   pub node-commas : (x : Node F C K) → commas_in (marked_tree fun_at class_at block_at at x) ≡ node_comma x ++ commas_now (slots x)
   node-commas (n.Array s elems comma) =
@@ -185,7 +185,7 @@ module _ {F C K : Type 0} (fun_at : F → Span) (class_at : C → Span) (block_a
       ap (λ v. (s.lo.0, None) ∷ v)
       (listed at (or_hole (λ (p : PatId). at p.0)) (if_some one_pat) (if_there at (λ (p : PatId). at p.0) one_pat (λ p. refl)) elems.items)
   node-commas (n.PatObject s props) =
-      ap (λ v. (s.lo.0, None) ∷ v) (listed at (pat_prop_of fun_at class_at block_at at) pat_prop_parts pat_prop_commas props.items)
+      ap (λ v. (s.lo.0, None) ∷ v) (listed at (pat_prop_of fun_at class_at block_at at) pat_prop_parts pat-prop-commas props.items)
   node-commas (n.PatRest s d p) = append-nil (commas_in (at p.0))
   node-commas x = refl
 

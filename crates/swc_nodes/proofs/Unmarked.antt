@@ -139,7 +139,7 @@ module _ {F C K : Type 0} (fun_at : F → Span) (class_at : C → Span) (block_a
   unmarked-prop (prop.Getter s k b) = rw (unmarked-key expr_now expr_bare expr-same k) refl
   unmarked-prop (prop.Setter s k p b) = rw (unmarked-key expr_now expr_bare expr-same k) refl
 
-  unmarked-pat-prop : (p : PatPropNode) → unmarked (pat_prop_of fun_at class_at block_at at p) ≡ pat_prop_of fun_at class_at block_at bare p
+  pub unmarked-pat-prop : (p : PatPropNode) → unmarked (pat_prop_of fun_at class_at block_at at p) ≡ pat_prop_of fun_at class_at block_at bare p
   unmarked-pat-prop (pat_prop.KeyValue s k v) = rw (unmarked-key expr_now expr_bare expr-same k) refl
   unmarked-pat-prop (pat_prop.Assign s k v) = rw (unmarked-if expr_now expr_bare expr-same v) refl
   unmarked-pat-prop (pat_prop.Rest s d p) = refl

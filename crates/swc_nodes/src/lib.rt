@@ -12,6 +12,7 @@ pub mod ends;
 pub mod making;
 pub mod node;
 pub mod nodes;
+pub mod patterns;
 pub mod pending;
 pub mod renumbering;
 pub mod shape;

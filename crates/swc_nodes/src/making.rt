@@ -8,17 +8,17 @@ ghost use Rattle.swc_ast.specs.Tree.{node, nil, cons, invalid, super, super_prop
 ghost use Rattle.swc_ast.specs.Trees as trees;
 ghost use Rattle.swc_nodes.specs.Lists.{elem_parts, elem_trees, props_parts, props_trees, exprs_parts, expr_trees};
 ghost use Rattle.swc_nodes.specs.Lists.{tpl_trees, seq_between};
-ghost use Rattle.swc_nodes.specs.NodeParts.{expr_part, pat_part, one_expr, member_parts, args_parts, base_parts};
+ghost use Rattle.swc_nodes.specs.NodeParts.{expr_part, one_expr, member_parts, args_parts, base_parts};
 ghost use Rattle.swc_nodes.specs.NodeParts.{callee_parts, super_parts, target_part};
 ghost use Rattle.swc_nodes.specs.declared.node.TargetNode.TheVariants as target;
 ghost use Rattle.swc_nodes.specs.GrowingNodes.{count, tree_at, first_at, start_at, end_at, first_start, last_end};
 ghost use Rattle.swc_nodes.specs.GrowingNodes.{Apart, From, Grows, Made};
 
-use crate::node::{ExprId, InvalidNode, Node, PatId, PropNode, TargetNode};
+use crate::node::{ExprId, InvalidNode, Node, PropNode, TargetNode};
 use crate::nodes::Nodes;
 use std::alloc::{AllocError, Global};
 use swc_ast::expr::{
-    Callee, ExprOrSpread, Invalid, MemberExpr, MemberProp, MetaPropExpr, MetaPropKind, OptCall,
+    Callee, ExprOrSpread, MemberExpr, MemberProp, MetaPropExpr, MetaPropKind, OptCall,
     OptChainBase, OptChainExpr, ParenExpr, Super, SuperProp, SuperPropExpr, ThisExpr, Tpl,
     TplElement,
 };
@@ -561,8 +561,8 @@ impl<F: Spanned + Drop, C: Spanned + Drop, K: Spanned + Drop> Nodes<F, C, K> {
         })?))
     }
 
-    /// `yield`, with a `*` behind it where it is to `delegate`, and its operand (ECMA-262, 15.5); from `start`, a position
-    /// in bytes.
+    /// `yield`, with a `*` behind it where it is to `delegate`, and its operand (ECMA-262, 15.5); from `start`, a
+    /// position in bytes.
     pub fn yield_expr(
         &mut self,
         start: BytePos,
@@ -638,7 +638,8 @@ impl<F: Spanned + Drop, C: Spanned + Drop, K: Spanned + Drop> Nodes<F, C, K> {
         Ok(ExprId(self.push(Node::PrivateName(PrivateName { span, name }))?))
     }
 
-    /// What stands in for an operand that was refused, which begins at `first`, and before which a token ends at `last`.
+    /// What stands in for an operand that was refused, which begins at `first`, and before which a token ends at
+    /// `last`.
     pub fn invalid(
         &mut self,
         span: Span,
@@ -651,14 +652,6 @@ impl<F: Spanned + Drop, C: Spanned + Drop, K: Spanned + Drop> Nodes<F, C, K> {
         ensures end { IfOk result (λ id. end_at self.new id.0 ≡ last) }
     {
         Ok(ExprId(self.push(Node::Invalid(InvalidNode { span, first, last }))?))
-    }
-
-    /// What stands in for a pattern that is missing.
-    pub fn invalid_pat(&mut self, span: Span) -> Result<PatId, AllocError>
-        ensures grows { Grows self.old self.new }
-        ensures made { IfOk result (λ id. Made (count self.old) self.new (pat_part id) (leaf invalid span)) }
-    {
-        Ok(PatId(self.push(Node::PatInvalid(Invalid { span }))?))
     }
 }
 

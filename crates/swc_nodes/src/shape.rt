@@ -25,8 +25,8 @@ impl<F: Spanned + Drop, C: Spanned + Drop, K: Spanned + Drop> Nodes<F, C, K> {
         self.extent(id).in_order()
     }
 
-    /// Where an expression lies, as its tokens have it: from where the first one begins to where the last one ends. Where
-    /// a source gives tokens out of order, the end may be the smaller one.
+    /// Where an expression lies, as its tokens have it: from where the first one begins to where the last one ends.
+    /// Where a source gives tokens out of order, the end may be the smaller one.
     pub fn extent(&self, id: ExprId) -> Span
         requires { From 0 self.now (expr_part id) }
         ensures { result ≡ span_of (tree_at self.now id.0) }
@@ -74,12 +74,53 @@ impl<F: Spanned + Drop, C: Spanned + Drop, K: Spanned + Drop> Nodes<F, C, K> {
         }
     }
 
+    /// The place of a pattern, the smaller end first.
+    pub fn pat_span(&self, id: PatId) -> Span
+        requires { From 0 self.now (pat_part id) }
+        ensures { result ≡ in_order (span_of (tree_at self.now id.0)) }
+    {
+        self.pat_extent(id).in_order()
+    }
+
+    /// Where a pattern lies, as its tokens have it, like `extent`. An expression that is assigned to lies there itself.
+    pub fn pat_extent(&self, id: PatId) -> Span
+        requires { From 0 self.now (pat_part id) }
+        ensures { result ≡ span_of (tree_at self.now id.0) }
+    {
+        match self.get(id.0) {
+            Node::PatArray { span, .. }
+            | Node::PatObject { span, .. }
+            | Node::PatRest { span, .. }
+            | Node::PatAssign { span, .. } => *span,
+            Node::PatIdent(name) => name.id.span,
+            Node::PatExpr(expr) => self.extent(*expr),
+            Node::PatInvalid(missing) => missing.span,
+            _ => unreachable!(),
+        }
+    }
+
     /// Whether the expression is an identifier.
     pub fn is_ident(&self, id: ExprId) -> bool
         requires { From 0 self.now (expr_part id) }
         ensures { result ≡ trees.is_ident (tree_at self.now id.0) }
     {
         matches!(self.get(id.0), Node::Ident(_))
+    }
+
+    /// Whether the pattern is an identifier.
+    pub fn is_ident_pat(&self, id: PatId) -> bool
+        requires { From 0 self.now (pat_part id) }
+        ensures { result ≡ trees.is_ident (tree_at self.now id.0) }
+    {
+        matches!(self.get(id.0), Node::PatIdent(_))
+    }
+
+    /// Whether the pattern is a rest.
+    pub fn is_rest_pat(&self, id: PatId) -> bool
+        requires { From 0 self.now (pat_part id) }
+        ensures { result ≡ trees.is_rest (tree_at self.now id.0) }
+    {
+        matches!(self.get(id.0), Node::PatRest { .. })
     }
 
     /// Whether the expression is one of a prefix operator or of `await`.
@@ -129,7 +170,8 @@ impl<F: Spanned + Drop, C: Spanned + Drop, K: Spanned + Drop> Nodes<F, C, K> {
         }
     }
 
-    /// Whether the expression is an array or an object literal, which may be assigned to as a pattern, and not as it stands.
+    /// Whether the expression is an array or an object literal, which may be assigned to as a pattern, and not as it
+    /// stands.
     pub fn is_array_or_object(&self, id: ExprId) -> bool
         requires { From 0 self.now (expr_part id) }
         ensures { result ≡ true → From 0 self.now (target_part (target.Simple id)) → ⊥ }

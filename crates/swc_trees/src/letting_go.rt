@@ -1,7 +1,7 @@
 // Letting go of boxed trees. A crate that is handed one lets it go here, so that this is proved once.
 use swc_ast::expr::{Expr, ExprOrSpread};
 use swc_ast::function::Param;
-use swc_ast::pat::Pat;
+use swc_ast::pat::{ObjectPatProp, Pat};
 use swc_ast::prop::PropOrSpread;
 use swc_ast::spanned::Spanned;
 
@@ -19,6 +19,11 @@ pub fn let_go_props<F: Spanned + Drop, C: Spanned + Drop, K: Spanned + Drop>(
 /// Lets go of a property of an object literal, and of all that it holds.
 pub fn let_go_prop<F: Spanned + Drop, C: Spanned + Drop, K: Spanned + Drop>(
     _prop: PropOrSpread<F, C, K>,
+) {}
+
+/// Lets go of the properties of an object pattern, and of all that they hold.
+pub fn let_go_pat_props<F: Spanned + Drop, C: Spanned + Drop, K: Spanned + Drop>(
+    _props: Vec<ObjectPatProp<F, C, K>>,
 ) {}
 
 /// Lets go of parameters, and of all that they hold.

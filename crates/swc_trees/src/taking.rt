@@ -1,17 +1,18 @@
 // Moves boxed trees out of the nodes. The last part of a node is taken first, so that all that a
 // node holds leaves it by a plain move.
 ghost use Rattle.std.specs.Prelude.{◌≡◌, ℕ, true, [], ◌∷◌, map, IfOk};
-ghost use Rattle.swc_ast.specs.Parts.{prop_name_tree, args_tree, tpl_tree};
+ghost use Rattle.swc_ast.specs.Parts.{prop_name_tree, args_tree, param_tree, tpl_tree};
 ghost use Rattle.swc_ast.specs.Tree.{Tree};
 ghost use Rattle.swc_nodes.specs.Lists.{exprs_parts};
 ghost use Rattle.swc_nodes.specs.NodeTree.{node_tree};
 ghost use Rattle.swc_nodes.specs.NumberedTrees.{floor};
 ghost use Rattle.swc_nodes.specs.NodeParts.{form, view_ok, slots, expr_part, pat_part, key_parts, prop_parts};
-ghost use Rattle.swc_nodes.specs.NodeParts.{args_parts};
+ghost use Rattle.swc_nodes.specs.NodeParts.{args_parts, flat, param_parts, pat_prop_parts};
 ghost use Rattle.swc_nodes.specs.GrowingNodes.{count, seat_at, bare_at, first_at, Apart, From, Left};
 ghost use Rattle.swc_nodes.specs.Walking.{part_of};
 ghost use Rattle.swc_trees.specs.Building.{part_kind, built_kind, built_tree, Stand, IsFor, AreFor};
 ghost use Rattle.swc_trees.specs.Moving.{TakesOut, boxed_in, pat_in, prop_or_spread_in, prop_node_as};
+ghost use Rattle.swc_trees.specs.Moving.{pat_prop_in, pat_prop_node_as};
 
 use crate::assembling::{assemble_expr, assemble_pat, assemble_pattern, assemble_simple};
 use crate::built::Built;
@@ -20,12 +21,13 @@ use crate::pieces::template;
 use crate::refusable::{boxed, push_to, reversed};
 use std::alloc::{AllocError, Global};
 use swc_ast::expr::{AssignTarget, Expr, ExprOrSpread, Tpl};
-use swc_ast::pat::Pat;
+use swc_ast::function::Param;
+use swc_ast::pat::{ObjectPatProp, Pat};
 use swc_ast::prop::{ComputedPropName, PropName, PropOrSpread};
 use swc_ast::spanned::Spanned;
 use swc_nodes::apart::{PartId, parts_of};
 use swc_nodes::aside::Aside;
-use swc_nodes::node::{ExprId, Node, PatId, PropNode, TargetNode};
+use swc_nodes::node::{ExprId, Node, PatId, PatPropNode, PropNode, TargetNode};
 use swc_nodes::nodes::Nodes;
 
 /// Moves an expression out of the nodes, and lets go of all behind it.
@@ -98,6 +100,39 @@ pub fn take_prop<F: Spanned + Drop, C: Spanned + Drop, K: Spanned + Drop>(
     let parts = parts_of(alloc, &prop.0)?;
     let mut built = take_all(nodes, alloc, parts)?;
     prop.into_inner().assemble(alloc, &mut built)
+}
+
+/// Moves a property of an object pattern out of the nodes, and lets go of all behind it.
+pub fn take_pat_prop<F: Spanned + Drop, C: Spanned + Drop, K: Spanned + Drop>(
+    nodes: &mut Nodes<F, C, K>,
+    alloc: Global,
+    prop: PatPropNode,
+) -> Result<ObjectPatProp<F, C, K>, AllocError>
+    requires { Apart 0 nodes.old (pat_prop_parts prop) }
+    ensures left { Left (floor (seat_at nodes.old) (count nodes.old) (pat_prop_parts prop)) nodes.old nodes.new }
+    ensures moved { IfOk result
+        (λ p. pat_prop_in nodes.old p ≡ pat_prop_node_as nodes.old (bare_at nodes.old) prop) }
+{
+    let parts = parts_of(alloc, &prop)?;
+    let mut built = take_all(nodes, alloc, parts)?;
+    prop.assemble(alloc, &mut built)
+}
+
+/// Moves formal parameters out of the nodes, and lets go of all behind them.
+pub fn take_params<F: Spanned + Drop, C: Spanned + Drop, K: Spanned + Drop>(
+    nodes: &mut Nodes<F, C, K>,
+    alloc: Global,
+    params: Vec<Param<PatId>>,
+) -> Result<Vec<Param<Pat<F, C, K>>>, AllocError>
+    requires { Apart 0 nodes.old (flat param_parts params.items) }
+    ensures left { Left (floor (seat_at nodes.old) (count nodes.old) (flat param_parts params.items))
+        nodes.old nodes.new }
+    ensures moved { IfOk result (λ ps. map (param_tree (pat_in nodes.old)) ps.items
+        ≡ map (param_tree (λ id. bare_at nodes.old id.0)) params.items) }
+{
+    let parts = parts_of(alloc, &params)?;
+    let mut built = take_all(nodes, alloc, parts)?;
+    all(alloc, &mut built, params)
 }
 
 /// Moves arguments of a call out of the nodes, and lets go of all behind them.

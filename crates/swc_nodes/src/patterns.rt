@@ -1,0 +1,218 @@
+// Makes the nodes of binding patterns and of formal parameters, and says where they stand.
+ghost use Rattle.std.specs.Prelude.{◌≡◌, ℕ, ◌+◌, ◌++◌, None, IfOk};
+ghost use Rattle.swc_context.specs.Spans.{from_to};
+ghost use Rattle.swc_ast.specs.Parts.{leaf, binding_tree, prop_name_tree, param_tree};
+ghost use Rattle.swc_ast.specs.Patterns as patterns;
+ghost use Rattle.swc_ast.specs.Spans.{prop_name_span};
+ghost use Rattle.swc_ast.specs.Tree.{node, nil, cons, dots as dots_kind, invalid, param as param_kind, span_of};
+ghost use Rattle.swc_ast.specs.Trees as trees;
+ghost use Rattle.swc_nodes.specs.Lists.{pat_elem_parts, pat_elem_trees, pat_props_parts, pat_props_trees};
+ghost use Rattle.swc_nodes.specs.Lists.{first_param_pat};
+ghost use Rattle.swc_nodes.specs.NodeParts.{expr_part, pat_part, one_expr, one_pat, key_parts, pat_prop_parts};
+ghost use Rattle.swc_nodes.specs.NodeParts.{param_parts};
+ghost use Rattle.swc_nodes.specs.NodeTree.{pat_prop_of};
+ghost use Rattle.swc_nodes.specs.GrowingNodes.{count, tree_at, first_at, end_at, Apart, From, Grows, Made};
+ghost use Rattle.swc_nodes.specs.declared.node.PatPropNode.TheVariants as pat_prop;
+
+use crate::node::{ExprId, Node, PatId, PatPropNode};
+use crate::nodes::Nodes;
+use std::alloc::AllocError;
+use swc_ast::expr::Invalid;
+use swc_ast::function::Param;
+use swc_ast::ident::BindingIdent;
+use swc_ast::prop::PropName;
+use swc_ast::spanned::Spanned;
+use swc_context::span::{BytePos, Span};
+
+impl<F: Spanned + Drop, C: Spanned + Drop, K: Spanned + Drop> Nodes<F, C, K> {
+    /// An identifier that is bound (ECMA-262, 14.3.3).
+    pub fn ident_pat(&mut self, ident: BindingIdent) -> Result<PatId, AllocError>
+        ensures grows { Grows self.old self.new }
+        ensures made { IfOk result (λ id. Made (count self.old) self.new (pat_part id) (binding_tree ident)) }
+    {
+        Ok(PatId(self.push(Node::PatIdent(ident))?))
+    }
+
+    /// An array pattern (ECMA-262, 14.3.3) from `start` to `end`, positions in bytes, with a `None` for each hole.
+    ///
+    /// The elements are taken as they stand: holes at the end are dropped before. All that is reached from an element
+    /// lies behind the element before it (`are_pat_elems_apart`).
+    pub fn array_pat(
+        &mut self,
+        start: BytePos,
+        end: BytePos,
+        elems: Vec<Option<PatId>>,
+    ) -> Result<PatId, AllocError>
+        requires apart { Apart 0 self.old (pat_elem_parts elems) }
+        ensures grows { Grows self.old self.new }
+        ensures made { IfOk result (λ id. (k : ℕ) → Apart k self.old (pat_elem_parts elems)
+            → Made k self.new (pat_part id)
+            (patterns.array_p (from_to start end) (pat_elem_trees (tree_at self.old) elems))) }
+    {
+        let span = Span { lo: start, hi: end };
+        Ok(PatId(self.push(Node::PatArray { span, elems })?))
+    }
+
+    /// An object pattern (ECMA-262, 14.3.3) from `start` to `end`, positions in bytes.
+    ///
+    /// All that is reached from a part of a property lies behind the part before it (`are_pat_props_apart`).
+    pub fn object_pat(
+        &mut self,
+        start: BytePos,
+        end: BytePos,
+        props: Vec<PatPropNode>,
+    ) -> Result<PatId, AllocError>
+        requires apart { Apart 0 self.old (pat_props_parts props) }
+        ensures grows { Grows self.old self.new }
+        ensures made { IfOk result (λ id. (k : ℕ) → Apart k self.old (pat_props_parts props)
+            → Made k self.new (pat_part id)
+            (patterns.object_p (from_to start end)
+            (pat_props_trees F.place C.place K.place (tree_at self.old) props))) }
+    {
+        let span = Span { lo: start, hi: end };
+        Ok(PatId(self.push(Node::PatObject { span, props })?))
+    }
+
+    /// A pattern with its initialiser (ECMA-262, 14.3.3) from `start`, a position in bytes, to where the last token of
+    /// `value` ends.
+    ///
+    /// All that is reached from `value` lies behind `left`.
+    pub fn default_pat(
+        &mut self,
+        start: BytePos,
+        left: PatId,
+        value: ExprId,
+    ) -> Result<PatId, AllocError>
+        requires left { From 0 self.old (pat_part left) }
+        requires right { From (left.0 + 1) self.old (expr_part value) }
+        ensures grows { Grows self.old self.new }
+        ensures made { IfOk result (λ id. Made (first_at self.old left.0) self.new (pat_part id)
+            (patterns.default_p (from_to start (end_at self.old value.0))
+            (tree_at self.old left.0) (tree_at self.old value.0))) }
+    {
+        let span = Span {
+            lo: start,
+            hi: self.end(value),
+        };
+        Ok(PatId(self.push(Node::PatAssign {
+            span,
+            left,
+            right: value,
+        })?))
+    }
+
+    /// A rest (ECMA-262, 14.3.3 and 15.1): dots, and the pattern behind them.
+    pub fn rest_pat(&mut self, dots: Span, arg: PatId) -> Result<PatId, AllocError>
+        requires { From 0 self.old (pat_part arg) }
+        ensures grows { Grows self.old self.new }
+        ensures made { IfOk result (λ id. Made (first_at self.old arg.0) self.new (pat_part id)
+            (patterns.rest_p (trees.to dots (span_of (tree_at self.old arg.0))) (leaf dots_kind dots)
+            (tree_at self.old arg.0))) }
+    {
+        let span = Span {
+            lo: dots.lo,
+            hi: self.pat_extent(arg).hi,
+        };
+        Ok(PatId(self.push(Node::PatRest {
+            span,
+            dot3_token: dots,
+            arg,
+        })?))
+    }
+
+    /// What stands in for a pattern that is missing.
+    pub fn invalid_pat(&mut self, span: Span) -> Result<PatId, AllocError>
+        ensures grows { Grows self.old self.new }
+        ensures made { IfOk result (λ id. Made (count self.old) self.new (pat_part id) (leaf invalid span)) }
+    {
+        Ok(PatId(self.push(Node::PatInvalid(Invalid { span }))?))
+    }
+
+    /// A property of an object pattern: a key, and the pattern behind its colon (ECMA-262, 14.3.3).
+    pub fn key_pat_prop(&self, key: PropName<ExprId>, value: PatId) -> PatPropNode
+        requires { From 0 self.now (pat_part value) }
+        ensures tree { pat_prop_of F.place C.place K.place (tree_at self.now) result
+            ≡ trees.key_value_e (trees.to (prop_name_span key) (span_of (tree_at self.now value.0)))
+            (prop_name_tree (λ e. tree_at self.now e.0) key) (tree_at self.now value.0) }
+        ensures parts { pat_prop_parts result ≡ key_parts key ++ one_pat value }
+    {
+        let span = Span {
+            lo: key.span().lo,
+            hi: self.pat_extent(value).hi,
+        };
+        PatPropNode::KeyValue { span, key, value }
+    }
+
+    /// A property of an object pattern: a name, and the initialiser behind its `=` (ECMA-262, 14.3.3). It ends with the
+    /// last token of that.
+    pub fn default_pat_prop(&self, name: BindingIdent, value: ExprId) -> PatPropNode
+        requires { From 0 self.now (expr_part value) }
+        ensures tree { pat_prop_of F.place C.place K.place (tree_at self.now) result
+            ≡ patterns.name_p (from_to name.id.span.lo (end_at self.now value.0)) (binding_tree name)
+            (tree_at self.now value.0) }
+        ensures parts { pat_prop_parts result ≡ one_expr value }
+    {
+        let span = Span {
+            lo: name.id.span.lo,
+            hi: self.end(value),
+        };
+        let value = Some(value);
+        PatPropNode::Assign {
+            span,
+            key: name,
+            value,
+        }
+    }
+
+    /// The rest of an object pattern (ECMA-262, 14.3.3): dots, and the pattern behind them.
+    pub fn rest_pat_prop(&self, dots: Span, arg: PatId) -> PatPropNode
+        requires { From 0 self.now (pat_part arg) }
+        ensures tree { pat_prop_of F.place C.place K.place (tree_at self.now) result
+            ≡ patterns.rest_p (trees.to dots (span_of (tree_at self.now arg.0))) (leaf dots_kind dots)
+            (tree_at self.now arg.0) }
+        ensures parts { pat_prop_parts result ≡ one_pat arg }
+    {
+        let span = Span {
+            lo: dots.lo,
+            hi: self.pat_extent(arg).hi,
+        };
+        PatPropNode::Rest {
+            span,
+            dot3_token: dots,
+            arg,
+        }
+    }
+
+    /// A parameter (ECMA-262, 15.1): a pattern, at its place.
+    pub fn param(&self, pat: PatId) -> Param<PatId>
+        requires { From 0 self.now (pat_part pat) }
+        ensures tree { param_tree (λ p. tree_at self.now p.0) result
+            ≡ node param_kind (span_of (tree_at self.now pat.0)) (cons (tree_at self.now pat.0) nil) }
+        ensures parts { param_parts result ≡ one_pat pat }
+    {
+        let span = self.pat_extent(pat);
+        Param { span, pat }
+    }
+}
+
+/// The pattern of the first parameter, if there is one: a setter has that one alone (ECMA-262, 15.4).
+pub fn first_param_pat(params: &Vec<Param<PatId>>) -> Option<PatId>
+    ensures { result ≡ first_param_pat params.now.items }
+{
+    match params.first() {
+        Some(param) => Some(param.pat),
+        None => None,
+    }
+}
+
+/// A property of an object pattern: a name alone, which is bound itself (ECMA-262, 14.3.3).
+pub fn name_pat_prop(name: BindingIdent) -> PatPropNode
+    ensures { result ≡ pat_prop.Assign name.id.span name None }
+{
+    let (span, value) = (name.id.span, None);
+    PatPropNode::Assign {
+        span,
+        key: name,
+        value,
+    }
+}
