@@ -9,7 +9,7 @@ use Rattle.swc_input.specs.Plain.{plain, plain_token}
 use Rattle.swc_input.specs.Source.{Model, Laws}
 use Rattle.swc_input.specs.Kinds.{at_token}
 use Rattle.swc_grammar.specs.Clean.{first}
-use Rattle.swc_grammar.specs.Tokens.{tk, is_dot, is_question}
+use Rattle.swc_grammar.specs.Tokens.{is_dot, is_question}
 use Rattle.swc_grammar.specs.Words.{rest}
 use Rattle.swc_grammar.proofs.Only.{question-is}
 use Rattle.swc_left.specs.declared.left.Link.{Link}

@@ -15,8 +15,9 @@ use Rattle.swc_input.specs.Laws.{held_some}
 use Rattle.swc_input.specs.Plain.{plain, plain_cooked, plain_token}
 use Rattle.swc_input.specs.Recording.{counted_kind}
 use Rattle.swc_input.specs.Source.{Model, Laws}
+use Rattle.swc_ast.specs.Parts.{quasi_tree}
 use Rattle.swc_ast.specs.Tree.{Tree, Trees, nil, cons, span_of}
-use Rattle.swc_ast.specs.Trees.{to, trees_append, text_e, parts_e, put_part, texts_of, exprs_of, tpl_e, tagged_e}
+use Rattle.swc_ast.specs.Trees.{to, trees_append, parts_e, put_part, texts_of, exprs_of, tpl_e, tagged_e}
 use Rattle.swc_ast.specs.Trees.{is_chain}
 use Rattle.swc_bodies.specs.Readings.{Hook}
 use Rattle.swc_grammar.specs.Scope.{Scope}
@@ -33,7 +34,9 @@ use Rattle.swc_steps.specs.Keys.{expected}
 use Rattle.swc_steps.specs.Lists.{eaten}
 use Rattle.swc_steps.specs.Parsing.{Refuses, seen, seen_of}
 use Rattle.swc_steps.specs.Readers.{whole_inside}
-use Rattle.swc_left.specs.Templates.{is_template, text_at, tpl_element, parts_before, tagged_node, tpl_end_by}
+use Rattle.swc_ast.specs.declared.expr.TplElement.{TplElement}
+use Rattle.swc_left.specs.Templates.{is_template, quasi_with, quasi_by, quasi_of, text_at, tpl_element, parts_before}
+use Rattle.swc_left.specs.Templates.{tagged_node, tpl_end_by}
 use Rattle.swc_left.specs.Templates.{tpl_end, tpl_expr_close, tpl_expr_tail, parts_behind, parts_by, parts_after}
 use Rattle.swc_left.specs.Templates.{template_tail}
 use Rattle.swc_steps.proofs.Keys.{then_calls, then_token}
@@ -65,55 +68,68 @@ pub end_splits : (x : Scope) (ts : List TokenAndSpan)
 unfolding tpl_end
 end_splits x ts = refl
 
+-- ---- texts
+
+quasi_none : (is_tagged is_last : Bool) (t : Token) (s : Span) → is_template t ≡ false
+    → quasi_of is_tagged is_last t s ≡ None
+quasi_none is_tagged is_last (token.Template raw cooked) s h = absurd cc
+quasi_none is_tagged is_last t s h = refl
+
+pub element_not : (is_tagged : Bool) (x : Scope) (ts : List TokenAndSpan) → at_token is_template (first ts) ≡ false
+    → tpl_element is_tagged x ts ≡ None
+unfolding tpl_element
+element_not is_tagged x [] h = refl
+element_not is_tagged x (t ∷ ts) h =
+    ap (λ o. one o ts) (quasi_none is_tagged (at_token is_backquote (first ts)) t.token t.span h)
+
+-- the token that was consumed
+quasi_was : {S : Type 0} {model : Model S} {b c : Buffer S} {k : Token} (is_tagged is_last : Bool) (raw : List ℕ)
+    (cooked : Result (List ℕ) Error) (h : Bumped model b k c) → k ≡ token.Template raw cooked
+    → quasi_of is_tagged is_last (plain h.was).token (plain h.was).span
+    ≡ quasi_by is_last h.was.span raw (cooked_of is_tagged cooked)
+quasi_was is_tagged is_last raw cooked h e =
+    ap (λ v. quasi_of is_tagged is_last (plain_token v) h.was.span) (sym h.token ∙ e)
+    ∙ ap (λ v. quasi_by is_last h.was.span raw v) (cooked_plain is_tagged cooked)
+
+pub element_bad : {S : Type 0} {model : Model S} {b c : Buffer S} {k : Token} (is_tagged : Bool) (raw : List ℕ)
+    (cooked : Result (List ℕ) Error) (h : Bumped model b k c) → k ≡ token.Template raw cooked
+    → cooked_of is_tagged cooked ≡ None → (x : Scope) (ts : List TokenAndSpan) → first ts ≡ seen b
+    → tpl_element is_tagged x ts ≡ None
+unfolding tpl_element
+element_bad is_tagged raw cooked h e none x ts same =
+    let is_last = at_token is_backquote (first (rest ts)) in
+    ap (λ o. text_at is_tagged o (rest ts)) (same ∙ ap seen_of h.current)
+    ∙ ap (λ o. one o (rest ts))
+    (quasi_was is_tagged is_last raw cooked h e ∙ ap (λ v. quasi_by is_last h.was.span raw v) none)
+
+pub element_opens : (is_tagged : Bool) (t : TokenAndSpan) (x : Scope) (ts : List TokenAndSpan)
+    → tpl_element is_tagged x (t ∷ ts) ≡ text_at is_tagged (Some t) ts
+unfolding tpl_element
+element_opens is_tagged t x ts = refl
+
+pub element_takes : {S : Type 0} {model : Model S} {b c : Buffer S} {k : Token} (is_tagged is_last : Bool) (raw : List ℕ)
+    (cooked : Result (List ℕ) Error) (text : Option (List ℕ)) (h : Bumped model b k c) → k ≡ token.Template raw cooked
+    → cooked_of is_tagged cooked ≡ Some text → (ts : List TokenAndSpan) → at_token is_backquote (first ts) ≡ is_last
+    → text_at is_tagged (Some (plain h.was)) ts ≡ Some (quasi_with h.was.span is_last text raw, ts)
+element_takes is_tagged is_last raw cooked text h e good ts last =
+    ap (λ v. one (quasi_of is_tagged v (plain h.was).token (plain h.was).span) ts) last
+    ∙ ap (λ o. one o ts)
+    (quasi_was is_tagged is_last raw cooked h e ∙ ap (λ v. quasi_by is_last h.was.span raw v) good)
+
 module _ {F C K : Type 0} where
-  -- ---- texts
+  -- the trees of texts, as the grammar has them
+  abbrev text_tree : Option TplElement → Option (Tree F C K)
+  text_tree None = None
+  text_tree (Some q) = Some (quasi_tree q)
 
-  text_none : (is_tagged is_last : Bool) (t : Token) (s : Span) → is_template t ≡ false
-      → text_of {F = F} {C = C} {K = K} is_tagged is_last t s ≡ None
-  text_none is_tagged is_last (token.Template raw cooked) s h = absurd cc
-  text_none is_tagged is_last t s h = refl
-
-  pub element_not : (is_tagged : Bool) (x : Scope) (ts : List TokenAndSpan) → at_token is_template (first ts) ≡ false
-      → tpl_element {F = F} {C = C} {K = K} is_tagged x ts ≡ None
-  unfolding tpl_element
-  element_not is_tagged x [] h = refl
-  element_not is_tagged x (t ∷ ts) h =
-      ap (λ o. one o ts) (text_none is_tagged (at_token is_backquote (first ts)) t.token t.span h)
-
-  -- the token that was consumed
-  text_was : {S : Type 0} {model : Model S} {b c : Buffer S} {k : Token} (is_tagged is_last : Bool) (raw : List ℕ)
-      (cooked : Result (List ℕ) Error) (h : Bumped model b k c) → k ≡ token.Template raw cooked
-      → text_of {F = F} {C = C} {K = K} is_tagged is_last (plain h.was).token (plain h.was).span
-      ≡ text_by is_last h.was.span raw (cooked_of is_tagged cooked)
-  text_was is_tagged is_last raw cooked h e =
-      ap (λ v. text_of is_tagged is_last (plain_token v) h.was.span) (sym h.token ∙ e)
-      ∙ ap (λ v. text_by is_last h.was.span raw v) (cooked_plain is_tagged cooked)
-
-  pub element_bad : {S : Type 0} {model : Model S} {b c : Buffer S} {k : Token} (is_tagged : Bool) (raw : List ℕ)
-      (cooked : Result (List ℕ) Error) (h : Bumped model b k c) → k ≡ token.Template raw cooked
-      → cooked_of is_tagged cooked ≡ None → (x : Scope) (ts : List TokenAndSpan) → first ts ≡ seen b
-      → tpl_element {F = F} {C = C} {K = K} is_tagged x ts ≡ None
-  unfolding tpl_element
-  element_bad is_tagged raw cooked h e none x ts same =
-      let is_last = at_token is_backquote (first (rest ts)) in
-      ap (λ o. text_at is_tagged o (rest ts)) (same ∙ ap seen_of h.current)
-      ∙ ap (λ o. one o (rest ts))
-      (text_was is_tagged is_last raw cooked h e ∙ ap (λ v. text_by is_last h.was.span raw v) none)
-
-  pub element_opens : (is_tagged : Bool) (t : TokenAndSpan) (x : Scope) (ts : List TokenAndSpan)
-      → tpl_element {F = F} {C = C} {K = K} is_tagged x (t ∷ ts) ≡ text_at is_tagged (Some t) ts
-  unfolding tpl_element
-  element_opens is_tagged t x ts = refl
-
-  pub element_takes : {S : Type 0} {model : Model S} {b c : Buffer S} {k : Token} (is_tagged is_last : Bool) (raw : List ℕ)
-      (cooked : Result (List ℕ) Error) (text : Option (List ℕ)) (h : Bumped model b k c) → k ≡ token.Template raw cooked
-      → cooked_of is_tagged cooked ≡ Some text → (ts : List TokenAndSpan) → at_token is_backquote (first ts) ≡ is_last
-      → text_at {F = F} {C = C} {K = K} is_tagged (Some (plain h.was)) ts
-      ≡ Some (text_e h.was.span is_last text raw, ts)
-  element_takes is_tagged is_last raw cooked text h e good ts last =
-      ap (λ v. one (text_of is_tagged v (plain h.was).token (plain h.was).span) ts) last
-      ∙ ap (λ o. one o ts)
-      (text_was is_tagged is_last raw cooked h e ∙ ap (λ v. text_by is_last h.was.span raw v) good)
+  text_is : (is_tagged is_last : Bool) (t : Token) (s : Span)
+      → text_of is_tagged is_last t s ≡ text_tree (quasi_of is_tagged is_last t s)
+  text_is is_tagged is_last (token.Template raw cooked) s = by_meaning (cooked_of is_tagged cooked)
+    where
+      by_meaning : (o : Option (Option (List ℕ))) → text_by is_last s raw o ≡ text_tree (quasi_by is_last s raw o)
+      by_meaning None = refl
+      by_meaning (Some text) = refl
+  text_is is_tagged is_last t s = refl
 
   -- ---- texts and expressions put before those of a template
 
@@ -135,8 +151,8 @@ module _ {F C K : Type 0} (hook : Hook F C K) where
       tpl_expr_tail hook x us
       >>= (λ r. run hook (at (Parts is_tagged)) x r.1 >>= (λ w. Some (put_part t r.0 w.0, w.1)))
 
-  abbrev parts_from : Bool → Scope → Tree F C K × List TokenAndSpan → Out (Tree F C K)
-  parts_from is_tagged x p = tpl_end x p.1 >>= (λ q. parts_left is_tagged p.0 q.0 x q.1)
+  abbrev parts_from : Bool → Scope → TplElement × List TokenAndSpan → Out (Tree F C K)
+  parts_from is_tagged x p = tpl_end x p.1 >>= (λ q. parts_left is_tagged (quasi_tree p.0) q.0 x q.1)
 
   -- the sides behind a text: the backquote that closes the template, or an expression and what follows it
   abbrev end_side : (is_tagged : Bool) → Tree F C K → Side F C K (Parts is_tagged)
@@ -150,13 +166,13 @@ module _ {F C K : Type 0} (hook : Hook F C K) where
   more_side is_tagged t x =
       take (λ v. check (is_dollar_brace v.token) (read Expr (with_in x) (λ e. parts_side is_tagged t e x)))
 
-  end_first : (is_tagged : Bool) (o : Option (Tree F C K)) (x : Scope) (u : TokenAndSpan) (us : List TokenAndSpan)
+  end_first : (is_tagged : Bool) (o : Option TplElement) (x : Scope) (u : TokenAndSpan) (us : List TokenAndSpan)
       → is_backquote u.token ≡ true
-      → exec hook (run hook) None (plan (given o ▸ end_side is_tagged)) (u ∷ us)
+      → exec hook (run hook) None (plan (given (text_tree o) ▸ end_side is_tagged)) (u ∷ us)
       ≡ (one o (u ∷ us) >>= parts_from is_tagged x)
   unfolding eaten tpl_end
   end_first is_tagged None x u us h = refl
-  end_first is_tagged (Some t) x u us h = rw h refl
+  end_first is_tagged (Some q) x u us h = rw h refl
 
   -- behind the expression
   parts_rest : (is_tagged : Bool) (t e : Tree F C K) (x : Scope) (us : List TokenAndSpan)
@@ -205,13 +221,33 @@ module _ {F C K : Type 0} (hook : Hook F C K) where
       opens (u ∷ us) = then_token is_dollar_brace x (u ∷ us) (λ q vs. and_then (run hook (at Expr) (with_in x) vs)
           (λ e ws. exec hook (run hook) None (plan (parts_side is_tagged t e x)) ws))
 
-  more_first : (is_tagged : Bool) (o : Option (Tree F C K)) (x : Scope) (us : List TokenAndSpan)
+  more_first : (is_tagged : Bool) (o : Option TplElement) (x : Scope) (us : List TokenAndSpan)
       → at_token is_backquote (first us) ≡ false
-      → exec hook (run hook) None (plan (given o ▸ (λ t. more_side is_tagged t x))) us
+      → exec hook (run hook) None (plan (given (text_tree o) ▸ (λ t. more_side is_tagged t x))) us
       ≡ (one o us >>= parts_from is_tagged x)
   unfolding eaten tpl_end
   more_first is_tagged None x us h = refl
-  more_first is_tagged (Some t) x us h = rw h (more_rest is_tagged t x us)
+  more_first is_tagged (Some q) x us h = rw h (more_rest is_tagged (quasi_tree q) x us)
+
+  -- the same from the token on
+  end_text : (is_tagged is_last : Bool) (t : TokenAndSpan) (x : Scope) (u : TokenAndSpan) (us : List TokenAndSpan)
+      → is_backquote u.token ≡ true
+      → exec hook (run hook) None (plan (given (text_of is_tagged is_last t.token t.span) ▸ end_side is_tagged)) (u ∷ us)
+      ≡ (one (quasi_of is_tagged is_last t.token t.span) (u ∷ us) >>= parts_from is_tagged x)
+  end_text is_tagged is_last t x u us h =
+      ap (λ o. exec hook (run hook) None (plan (given o ▸ end_side is_tagged)) (u ∷ us))
+      (text_is is_tagged is_last t.token t.span)
+      ∙ end_first is_tagged (quasi_of is_tagged is_last t.token t.span) x u us h
+
+  more_text : (is_tagged is_last : Bool) (t : TokenAndSpan) (x : Scope) (us : List TokenAndSpan)
+      → at_token is_backquote (first us) ≡ false
+      → exec hook (run hook) None
+      (plan (given (text_of is_tagged is_last t.token t.span) ▸ (λ e. more_side is_tagged e x))) us
+      ≡ (one (quasi_of is_tagged is_last t.token t.span) us >>= parts_from is_tagged x)
+  more_text is_tagged is_last t x us h =
+      ap (λ o. exec hook (run hook) None (plan (given o ▸ (λ e. more_side is_tagged e x))) us)
+      (text_is is_tagged is_last t.token t.span)
+      ∙ more_first is_tagged (quasi_of is_tagged is_last t.token t.span) x us h
 
   -- one text, and what stands behind it
   parts_step : (is_tagged : Bool) (x : Scope) (ts : List TokenAndSpan)
@@ -220,7 +256,7 @@ module _ {F C K : Type 0} (hook : Hook F C K) where
   parts_step is_tagged x [] = knot hook (at (Parts is_tagged)) x []
   parts_step is_tagged x (t ∷ []) =
       knot hook (at (Parts is_tagged)) x (t ∷ [])
-      ∙ more_first is_tagged (text_of is_tagged false t.token t.span) x [] refl
+      ∙ more_text is_tagged false t x [] refl
   parts_step is_tagged x (t ∷ (u ∷ us)) =
       knot hook (at (Parts is_tagged)) x (t ∷ (u ∷ us)) ∙ by_test (is_backquote u.token) refl
     where
@@ -228,17 +264,17 @@ module _ {F C K : Type 0} (hook : Hook F C K) where
           → exec hook (run hook) (Some 6)
           (chosen (if is_backquote u.token then pick (parts-end {c = x} {is_tagged = is_tagged}) else pick parts-more))
           (t ∷ (u ∷ us))
-          ≡ (one (text_of is_tagged (is_backquote u.token) t.token t.span) (u ∷ us) >>= parts_from is_tagged x)
+          ≡ (one (quasi_of is_tagged (is_backquote u.token) t.token t.span) (u ∷ us) >>= parts_from is_tagged x)
       by_test true e =
           ap (λ b. exec hook (run hook) (Some 6)
           (chosen (if b then pick (parts-end {c = x} {is_tagged = is_tagged}) else pick parts-more)) (t ∷ (u ∷ us))) e
-          ∙ end_first is_tagged (text_of is_tagged true t.token t.span) x u us e
-          ∙ ap (λ b. one (text_of is_tagged b t.token t.span) (u ∷ us) >>= parts_from is_tagged x) (sym e)
+          ∙ end_text is_tagged true t x u us e
+          ∙ ap (λ b. one (quasi_of is_tagged b t.token t.span) (u ∷ us) >>= parts_from is_tagged x) (sym e)
       by_test false e =
           ap (λ b. exec hook (run hook) (Some 6)
           (chosen (if b then pick (parts-end {c = x} {is_tagged = is_tagged}) else pick parts-more)) (t ∷ (u ∷ us))) e
-          ∙ more_first is_tagged (text_of is_tagged false t.token t.span) x (u ∷ us) e
-          ∙ ap (λ b. one (text_of is_tagged b t.token t.span) (u ∷ us) >>= parts_from is_tagged x) (sym e)
+          ∙ more_text is_tagged false t x (u ∷ us) e
+          ∙ ap (λ b. one (quasi_of is_tagged b t.token t.span) (u ∷ us) >>= parts_from is_tagged x) (sym e)
 
   left_behind : (is_tagged : Bool) (texts exprs : Trees F C K) (t : Tree F C K) (o : Option Span) (x : Scope)
       (us : List TokenAndSpan)
@@ -258,14 +294,14 @@ module _ {F C K : Type 0} (hook : Hook F C K) where
   pub behind_splits : (is_tagged : Bool) (texts exprs : Trees F C K) (x : Scope) (ts : List TokenAndSpan)
       → parts_behind hook is_tagged texts exprs x ts
       ≡ (tpl_element is_tagged x ts
-      >>= (λ p. parts_after hook is_tagged (trees_append texts (cons p.0 nil)) exprs x p.1))
+      >>= (λ p. parts_after hook is_tagged (trees_append texts (cons (quasi_tree p.0) nil)) exprs x p.1))
   unfolding parts_behind
   behind_splits is_tagged texts exprs x ts =
       ap (λ o. o >>= (λ p. Some (parts_before texts exprs p.0, p.1))) (parts_step is_tagged x ts)
       ∙ sym (binds (tpl_element is_tagged x ts) _ _)
       ∙ bind_same (tpl_element is_tagged x ts) _ _ (λ p.
       sym (binds (tpl_end x p.1) _ _)
-      ∙ bind_same (tpl_end x p.1) _ _ (λ q. left_behind is_tagged texts exprs p.0 q.0 x q.1))
+      ∙ bind_same (tpl_end x p.1) _ _ (λ q. left_behind is_tagged texts exprs (quasi_tree p.0) q.0 x q.1))
 
   left_first : (is_tagged : Bool) (t : Tree F C K) (o : Option Span) (x : Scope) (us : List TokenAndSpan)
       → parts_left is_tagged t o x us
@@ -282,7 +318,7 @@ module _ {F C K : Type 0} (hook : Hook F C K) where
   parts_first is_tagged x ts =
       parts_step is_tagged x ts
       ∙ bind_same (tpl_element is_tagged x ts) _ _ (λ p.
-      bind_same (tpl_end x p.1) _ _ (λ q. left_first is_tagged p.0 q.0 x q.1)
+      bind_same (tpl_end x p.1) _ _ (λ q. left_first is_tagged (quasi_tree p.0) q.0 x q.1)
       ∙ binds (tpl_end x p.1) _ _)
       ∙ binds (tpl_element is_tagged x ts) _ _
       ∙ ap (λ o. o >>= (λ p. Some (parts_before nil nil p.0, p.1))) (sym (parts_step is_tagged x ts))

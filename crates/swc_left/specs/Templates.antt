@@ -12,7 +12,7 @@ use Rattle.swc_ast.specs.declared.expr.TplElement.{TplElement}
 use Rattle.swc_ast.specs.declared.spanned.Spanned.{Ghosts}
 use Rattle.swc_bodies.specs.Readings.{Hook}
 use Rattle.swc_grammar.specs.Scope.{Scope}
-use Rattle.swc_grammar.specs.Parts.{text_of}
+use Rattle.swc_grammar.specs.Parts.{cooked_of}
 use Rattle.swc_grammar.specs.Symbols.{Parts}
 use Rattle.swc_grammar.specs.Tokens.{is_backquote, is_dollar_brace, is_rbrace}
 use Rattle.swc_grammar.specs.Clean.{Out, first, sym, run}
@@ -38,15 +38,27 @@ tpl_end_by None c ts = expected is_dollar_brace c ts >>= (λ p. Some (None, p.1)
 unfoldable pub tpl_end : Scope → List TokenAndSpan → Out (Option Span)
 tpl_end c ts = eaten is_backquote c ts >>= (λ p. tpl_end_by p.0 c p.1)
 
+-- A text by itself, which is the last one or not, and what its token is: as `text_of` of the grammar has its tree.
+abbrev pub quasi_with : Span → Bool → Option (List ℕ) → List ℕ → TplElement
+quasi_with s is_last cooked raw = record { span = s; tail = is_last; cooked = cooked; raw = raw }
+
+abbrev pub quasi_by : Bool → Span → List ℕ → Option (Option (List ℕ)) → Option TplElement
+quasi_by is_last s raw None = None
+quasi_by is_last s raw (Some cooked) = Some (quasi_with s is_last cooked raw)
+
+abbrev pub quasi_of : Bool → Bool → Token → Span → Option TplElement
+quasi_of is_tagged is_last (token.Template raw cooked) s = quasi_by is_last s raw (cooked_of is_tagged cooked)
+quasi_of is_tagged is_last t s = None
+
+-- a text, which is the last one where a backquote stands behind it
+abbrev pub text_at : Bool → Option TokenAndSpan → List TokenAndSpan → Out TplElement
+text_at is_tagged None us = None
+text_at is_tagged (Some t) us = one (quasi_of is_tagged (at_token is_backquote (first us)) t.token t.span) us
+
+unfoldable pub tpl_element : Bool → Scope → List TokenAndSpan → Out TplElement
+tpl_element is_tagged c ts = text_at is_tagged (first ts) (rest ts)
+
 module _ {F C K : Type 0} where
-  -- a text, which is the last one where a backquote stands behind it
-  abbrev pub text_at : Bool → Option TokenAndSpan → List TokenAndSpan → Out (Tree F C K)
-  text_at is_tagged None us = None
-  text_at is_tagged (Some t) us = one (text_of is_tagged (at_token is_backquote (first us)) t.token t.span) us
-
-  unfoldable pub tpl_element : Bool → Scope → List TokenAndSpan → Out (Tree F C K)
-  tpl_element is_tagged c ts = text_at is_tagged (first ts) (rest ts)
-
   -- texts and expressions before those of a template
   abbrev pub parts_before : Trees F C K → Trees F C K → Tree F C K → Tree F C K
   parts_before texts exprs ps =
@@ -92,10 +104,6 @@ module _ {F C K : Type 0} (hook : Hook F C K) where
   tagged_tail s l c ts = run hook (sym (Parts true)) c ts >>= (λ p. tagged_node s l p.0 c p.1)
 
 module _ {F C K : Type 0} {fg : Ghosts F} {cg : Ghosts C} {kg : Ghosts K} where
-  -- what a text stands for
-  abbrev pub quasi_in : Nodes F C K fg cg kg → TplElement → Tree F C K
-  quasi_in ns q = quasi_tree q
-
   -- what the parts of a template hold of numbers, and what they stand for
   abbrev pub tpl_parts_of : ℕ → Nodes F C K fg cg kg → TplParts → Type 0
   tpl_parts_of k ns p = Apart k ns (exprs_parts p.exprs)

@@ -320,8 +320,9 @@ fn refuse_super_link<I: Tokens>(input: &mut Buffer<I>, no_call: bool) -> Error
     syntax_error(input, span, SyntaxError::InvalidSuper)
 }
 
-/// Refuses brackets behind `super` and `?.`, behind the expression in them: as `InvalidSuper`, and where `super` may have
-/// properties, with `no_call` as `InvalidSuperCall`; another token than the one that closes them where that is expected.
+/// Refuses brackets behind `super` and `?.`, behind the expression in them: as `InvalidSuper`, and where `super` may
+/// have properties, with `no_call` as `InvalidSuperCall`; another token than the one that closes them where that is
+/// expected.
 pub fn refuse_super_brackets<I: Tokens>(input: &mut Buffer<I>, no_call: bool) -> Error
     ensures { Refuses I.model input.old result input.new }
 {

@@ -181,8 +181,8 @@ pub fn is_super_or_import<I: Tokens>(input: &Buffer<I>) -> bool
     is_sign(input, Sign::Super) || is_sign(input, Sign::Import)
 }
 
-/// Consumes the first tokens of the link that comes next, and answers what they begin; or nothing, where none comes next.
-/// With `no_call`, a parenthesis begins none.
+/// Consumes the first tokens of the link that comes next, and answers what they begin; or nothing, where none comes
+/// next. With `no_call`, a parenthesis begins none.
 pub fn parse_link_head<I: Tokens>(input: &mut Buffer<I>, no_call: bool) -> PResult<Option<LinkHead>>
     ensures heads { ContinuesAlone I.model (λ h. h) (link_head (not no_call)) input.old result input.new }
     ensures falls { OnOk result (to_come I.model input.new ≤ to_come I.model input.old) }
@@ -217,8 +217,8 @@ fn open_link<I: Tokens>(input: &mut Buffer<I>, link: Link) -> PResult<LinkHead>
     }
 }
 
-/// Consumes the first tokens of a link of an optional chain (ECMA-262, 13.3.9), behind its `?`: the `.`, and the bracket
-/// or the parenthesis behind it. Where neither is there, a name has to be.
+/// Consumes the first tokens of a link of an optional chain (ECMA-262, 13.3.9), behind its `?`: the `.`, and the
+/// bracket or the parenthesis behind it. Where neither is there, a name has to be.
 fn open_chain<I: Tokens>(input: &mut Buffer<I>) -> PResult<LinkHead>
     ensures heads { ParsesAlone I.model (λ h. h) chain_head input.old result input.new }
     ensures falls { OnOk result (to_come I.model input.new < to_come I.model input.old) }

@@ -1,4 +1,5 @@
-//! What left-hand sides, arguments and templates (ECMA-262, 13.3 and 13.2.8) begin and end with, and what is checked in them.
+//! What left-hand sides, arguments and templates (ECMA-262, 13.3 and 13.2.8) begin and end with, and what is checked
+//! in them.
 #![tactic(auto)]
 
 pub mod args;

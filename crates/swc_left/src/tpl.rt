@@ -12,7 +12,7 @@ ghost use Rattle.swc_nodes.specs.Lists.{exprs_parts};
 ghost use Rattle.swc_nodes.specs.NodeParts.{expr_part, one_expr};
 ghost use Rattle.swc_nodes.specs.GrowingNodes.{first_at, Apart, From};
 ghost use Rattle.swc_steps.specs.Parsing.{seen, ParsesAlone, GoesOn, Checked, itself, tree_of};
-ghost use Rattle.swc_left.specs.Templates.{is_template, tpl_element, tpl_end, tagged_node, quasi_in, tpl_parts_at};
+ghost use Rattle.swc_left.specs.Templates.{is_template, tpl_element, tpl_end, tagged_node, tpl_parts_at};
 
 use swc_ast::expr::TplElement;
 use swc_bodies::bodies::Bodies;
@@ -60,26 +60,21 @@ pub fn tagged_tpl<I: Tokens, B: Bodies<I>>(
 
 /// A text of a template (ECMA-262, 12.9.6), the last one where a backquote stands behind it. Without a tag a bad
 /// escape in it is refused.
-pub fn parse_tpl_element<I: Tokens, B: Bodies<I>>(
-    p: &mut Productions<I, B>,
-    is_tagged: bool,
-) -> PResult<TplElement>
-    ensures parses { ParsesAlone I.model (quasi_in p.old.nodes) (tpl_element is_tagged)
-        p.old.input result p.new.input }
-    ensures falls { OnOk result (to_come I.model p.new.input < to_come I.model p.old.input) }
-    ensures nodes { p.new.nodes ≡ p.old.nodes }
+pub fn parse_tpl_element<I: Tokens>(input: &mut Buffer<I>, is_tagged: bool) -> PResult<TplElement>
+    ensures parses { ParsesAlone I.model (λ quasi. quasi) (tpl_element is_tagged) input.old result input.new }
+    ensures falls { OnOk result (to_come I.model input.new < to_come I.model input.old) }
 {
-    look(&mut p.input)?;
-    if !is_template(&p.input) {
+    look(input)?;
+    if !is_template(input) {
         let kind = SyntaxError::Unexpected(Wanted::TplToken);
-        return Err(unexpected(&mut p.input, kind));
+        return Err(unexpected(input, kind));
     }
-    let token = bump(&mut p.input);
-    let span = p.prev_span();
+    let token = bump(input);
+    let span = input.prev_span();
     let (raw, cooked) = template_of(token);
     let cooked = cooked_text(cooked, is_tagged)?;
-    look(&mut p.input)?;
-    let tail = is_sign(&p.input, Sign::BackQuote);
+    look(input)?;
+    let tail = is_sign(input, Sign::BackQuote);
     Ok(TplElement {
         span,
         tail,
@@ -88,8 +83,8 @@ pub fn parse_tpl_element<I: Tokens, B: Bodies<I>>(
     })
 }
 
-/// Consumes what stands behind a text of a template: the backquote that closes the template, whose place is answered, or
-/// the `${` of an expression.
+/// Consumes what stands behind a text of a template: the backquote that closes the template, whose place is answered,
+/// or the `${` of an expression.
 pub fn eat_tpl_end<I: Tokens>(input: &mut Buffer<I>) -> PResult<Option<Span>>
     ensures ends { ParsesAlone I.model (λ o. o) tpl_end input.old result input.new }
     ensures falls { OnOk result (to_come I.model input.new < to_come I.model input.old) }

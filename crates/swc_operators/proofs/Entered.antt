@@ -1,27 +1,31 @@
 -- What is read in a context that was set, and set back behind it.
-use Rattle.std.proofs.Common.{◌≡◌, ℕ, Bool, List, Result, Ok, Err, refl, sym, ap, ◌∙◌}
+use Rattle.std.proofs.Common.{◌≡◌, ℕ, Bool, List, Option, Result, refl, sym, ap, ◌∙◌, arith}
 use Rattle.swc_context.specs.Contexts.{view as deciding}
 use Rattle.swc_context.specs.declared.context.Context.{Context}
 use Rattle.swc_context.specs.declared.error.Error.{Error}
+use Rattle.swc_context.specs.declared.span.Span.{Span}
 use Rattle.swc_input.specs.declared.buffer.Buffer.{Buffer}
 use Rattle.swc_input.specs.declared.token.TokenAndSpan.{TokenAndSpan}
 use Rattle.swc_input.specs.Buffer.{context}
 use Rattle.swc_input.specs.Source.{Model, Laws}
-use Rattle.swc_ast.specs.Tree.{Tree}
+use Rattle.swc_ast.specs.Tree.{Tree, Trees}
 use Rattle.swc_ast.specs.declared.spanned.Spanned.{Ghosts}
 use Rattle.swc_bodies.specs.Readings.{Hook}
 use Rattle.swc_grammar.specs.Scope.{Scope}
 use Rattle.swc_grammar.specs.Symbols.{Args}
 use Rattle.swc_grammar.specs.Tokens.{include_in}
 use Rattle.swc_grammar.specs.Clean.{sym as at, run}
+use Rattle.swc_nodes.specs.NodeParts.{Part}
 use Rattle.swc_nodes.specs.declared.nodes.Nodes.{Nodes}
 use Rattle.swc_steps.specs.declared.productions.Productions.{Productions}
 use Rattle.swc_steps.specs.Args.{args_inside}
+use Rattle.swc_steps.specs.Lists.{left_behind}
+use Rattle.swc_steps.specs.Loops.{ItemsRead}
 use Rattle.swc_steps.specs.Parsing.{Moves, On, Produces}
 use Rattle.swc_steps.proofs.Args.{inside_args}
 use Rattle.swc_steps.proofs.Steps.{Reader, on_here, on_then}
 use Rattle.swc_operators.proofs.InContext.{within}
-use Rattle.swc_operators.specs.Entered.{Entered}
+use Rattle.swc_operators.specs.Entered.{Entered, EnteredList}
 
 module _ {S A : Type 0} {model : Model S} {sure : Bool} {w : Context → Context} {f g : Reader A} {b c : Buffer S} where
   -- it was set
@@ -42,6 +46,46 @@ module _ {S A : Type 0} {model : Model S} {sure : Bool} {w : Context → Context
       ap (λ v. v.«module») before
       ∙ sym (ap (λ v. v.«module») (now ∙ x.on.leads.read.context)
       ∙ ap (λ v. v.«module») x.inside ∙ same (deciding (context model b)))
+
+module _ {S H F C K : Type 0} {fg : Ghosts F} {cg : Ghosts C} {kg : Ghosts K} {model : Model S} {sure : Bool}
+    {w : Context → Context} {all : Reader (Tree F C K)} {items : Trees F C K} {parts : List Part}
+    {comma : Option Span} {p q : Productions S H F C K fg cg kg} where
+  -- of a list: it was set, and then items were read
+  pub list_entered : {b : Buffer S} → Moves model p.input b
+      → deciding (context model b) ≡ w (deciding (context model p.input))
+      → ItemsRead model sure all items parts comma (record p { input = b }) q
+      → EnteredList model sure w all items parts comma p q
+  list_entered {b = b} moves inside list = record {
+    at = b;
+    moves = moves;
+    inside = inside;
+    list = list;
+    falls = let a = list.falls in let e = moves.stays in omega arith;
+  }
+
+  pub list_further : {more : Trees F C K} {all_parts : List Part} {last : Option Span}
+      {r : Productions S H F C K fg cg kg} (x : EnteredList model sure w all items parts comma p q)
+      → ItemsRead model sure all more all_parts last (record p { input = x.at }) r
+      → EnteredList model sure w all more all_parts last p r
+  list_further x list = record {
+    at = x.at;
+    moves = x.moves;
+    inside = x.inside;
+    list = list;
+    falls = let a = list.falls in let e = x.moves.stays in omega arith;
+  }
+
+  -- the text is of the kind that it was
+  pub list_text : {ctx : Context} (d : Buffer S) → ((v : Context) → (w v).«module» ≡ v.«module»)
+      → ctx ≡ context model p.input → (x : EnteredList model sure w all items parts comma p q)
+      → context model d ≡ context model x.at → ctx.«module» ≡ (context model d).«module»
+  list_text d same before x now =
+      ap (λ v. v.«module») before
+      ∙ sym (ap (λ v. v.«module») now ∙ ap (λ v. v.«module») x.inside ∙ same (deciding (context model p.input)))
+
+  abbrev pub around : EnteredList model sure w all items parts comma p q
+      → Entered model sure w all (left_behind all items comma) p.input q.input
+  around x = record { at = x.at; moves = x.moves; inside = x.inside; on = x.list.on }
 
 module _ {S H F C K : Type 0} {fg : Ghosts F} {cg : Ghosts C} {kg : Ghosts K} {model : Model S} {sure : Bool}
     {T A : Type 0} {held : ℕ → Nodes F C K fg cg kg → T → Type 0}

@@ -1,5 +1,5 @@
 -- What `await` is, once it was consumed, as the code finds it.
-use Rattle.std.proofs.Common.{◌≡◌, Bool, true, false, not, ◌&&◌, if◌then◌else◌, List, Option, Some, None, Result}
+use Rattle.std.proofs.Common.{◌≡◌, Bool, true, false, not, ◌&&◌, if◌then◌else◌, List, Some, None, Result}
 use Rattle.std.proofs.Common.{Ok, Err, IfOk, refl, sym, ap, ◌∙◌}
 use Rattle.swc_context.specs.declared.error.Error.{Error}
 use Rattle.swc_context.specs.declared.span.Span.{Span}
@@ -8,11 +8,10 @@ use Rattle.swc_input.specs.declared.token.TokenAndSpan.{TokenAndSpan}
 use Rattle.swc_input.specs.Buffer.{context}
 use Rattle.swc_input.specs.Kinds.{at_token}
 use Rattle.swc_input.specs.Source.{Model}
-use Rattle.swc_ast.specs.Tree.{Tree}
 use Rattle.swc_bodies.specs.Readings.{Hook}
 use Rattle.swc_grammar.specs.Scope.{Scope}
 use Rattle.swc_grammar.specs.Tokens.{is_star}
-use Rattle.swc_grammar.specs.Clean.{Out, first, ends_await_at}
+use Rattle.swc_grammar.specs.Clean.{first, ends_await_at}
 use Rattle.swc_grammar.specs.Words.{◌>>=◌}
 use Rattle.swc_operators.specs.Prefixes.{await_is_name, await_names, await_by_name}
 use Rattle.swc_operators.specs.Updates.{await_tail, await_go}

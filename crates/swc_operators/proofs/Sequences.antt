@@ -1,10 +1,10 @@
 -- A sequence (13.16), from the comma behind its first expression on.
-use Rattle.std.proofs.Common.{◌≡◌, ℕ, Bool, List, Some, Result, refl}
+use Rattle.std.proofs.Common.{ℕ, Bool, Some, Result, refl}
 use Rattle.swc_context.specs.declared.error.Error.{Error}
 use Rattle.swc_context.specs.declared.span.Span.{Span}
 use Rattle.swc_input.specs.declared.buffer.Buffer.{Buffer}
 use Rattle.swc_input.specs.Source.{Model}
-use Rattle.swc_ast.specs.Tree.{Tree, nil, cons}
+use Rattle.swc_ast.specs.Tree.{nil, cons}
 use Rattle.swc_ast.specs.Trees.{begins_in_invalid}
 use Rattle.swc_ast.specs.declared.spanned.Spanned.{Ghosts}
 use Rattle.swc_bodies.specs.Readings.{Hook, LawfulHook}

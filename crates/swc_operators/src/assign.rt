@@ -1,10 +1,12 @@
 // Expressions with commas between them, assignment expressions, conditionals and `yield` (ECMA-262, 13.14 to 13.16 and
-ghost use Rattle.std.specs.Prelude.{◌≡◌, ◌≢◌, ◌<◌, ◌≤◌, true, false, ◌&&◌, OnOk, IfOk, IfErr, IsSome};
+ghost use Rattle.std.specs.Prelude.{◌≡◌, ◌≢◌, ◌<◌, ◌≤◌, true, false, ◌&&◌, ◌||◌, OnOk, IfOk, IfErr, IsSome};
 ghost use Rattle.swc_context.specs.declared.error.SyntaxError.TheVariants.{OutOfMemory};
 ghost use Rattle.swc_input.specs.Buffer.{current, context, to_come};
 ghost use Rattle.swc_input.specs.Kinds.{at_token};
 ghost use Rattle.swc_ast.specs.Targets.{is_target};
-ghost use Rattle.swc_grammar.specs.Tokens.{is_yield, yield_ok, begins_yielded, begins_yielded_word};
+ghost use Rattle.swc_grammar.specs.Tokens.{is_yield, yield_ok, opening, word_opening, is_opening, opens_at_times};
+ghost use Rattle.swc_grammar.specs.Firsts.{begins_expression};
+ghost use Rattle.swc_grammar.specs.Scope.{Scope};
 ghost use Rattle.swc_grammar.specs.Clean.{goes_on_yield_at, no_error};
 ghost use Rattle.swc_nodes.specs.NodeParts.{expr_part, target_part};
 ghost use Rattle.swc_nodes.specs.GrowingNodes.{From};
@@ -41,7 +43,8 @@ pub fn cur_assign_op<I: Tokens, B: Bodies<I>>(
     }
 }
 
-/// The context of the middle of a conditional, in which `in` counts as an operator, and behind which a colon is expected.
+/// The context of the middle of a conditional, in which `in` counts as an operator, and behind which a colon is
+/// expected.
 pub fn cond_middle(ctx: Context) -> Context
     ensures { result ≡ cond_middle ctx }
 {
@@ -112,12 +115,23 @@ pub fn goes_on_yield<I: Tokens>(input: &mut Buffer<I>) -> PResult<bool>
     }
 }
 
-/// Whether the operand of `yield` may begin with the token.
+/// Whether the operand of `yield` may begin with the token: `*`, a name, or a token with which an expression begins in
+/// some context.
 fn begins_operand(token: &Token) -> bool
-    ensures { result ≡ begins_yielded token.now }
+    ensures table { result ≡ is_opening (opening token.now) }
+    ensures all { (c : Scope) → begins_expression c token.now ≡ true → result ≡ true }
+    ensures only { (c : Scope) → result ≡ true
+        → (begins_expression c token.now || opens_at_times (opening token.now)) ≡ true }
+{
+    is_opening(token)
+}
+
+/// Whether the table of what begins what has the token.
+fn is_opening(token: &Token) -> bool
+    ensures { result ≡ is_opening (opening token.now) }
 {
     match token {
-        Token::Word(word) => begins_operand_word(word),
+        Token::Word(word) => is_opening_word(word),
         Token::BinOp(op) => matches!(
             op,
             BinOpToken::Add | BinOpToken::Sub | BinOpToken::Mul | BinOpToken::Div
@@ -140,9 +154,9 @@ fn begins_operand(token: &Token) -> bool
     }
 }
 
-/// Whether it may begin with the word.
-fn begins_operand_word(word: &Word) -> bool
-    ensures { result ≡ begins_yielded_word word.now }
+/// Whether it has the word.
+fn is_opening_word(word: &Word) -> bool
+    ensures { result ≡ is_opening (word_opening word.now) }
 {
     match word {
         Word::Keyword(keyword) => matches!(

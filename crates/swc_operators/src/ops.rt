@@ -312,8 +312,8 @@ fn is_await_token(token: &Token) -> bool
     matches!(token, Token::Word(Word::Keyword(Keyword::Await)))
 }
 
-/// Whether `await`, which was consumed, is an identifier: outside async code, where no operand follows. Refused only for
-/// want of memory.
+/// Whether `await`, which was consumed, is an identifier: outside async code, where no operand follows. Refused only
+/// for want of memory.
 pub fn is_await_ident<I: Tokens>(input: &mut Buffer<I>) -> PResult<bool>
     ensures looks { Looks I.model input.old result input.new }
     ensures value { IfOk result

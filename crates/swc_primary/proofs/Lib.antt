@@ -1,7 +1,9 @@
 pub mod Begins
 pub mod Covers
-pub mod Methods
+pub mod Functions
+pub mod Keyed
 pub mod Openings
 pub mod ParenItems
+pub mod Placed
 pub mod PropKinds
 pub mod Properties

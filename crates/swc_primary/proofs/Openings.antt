@@ -12,7 +12,11 @@ use Rattle.swc_context.specs.Contexts.{view as deciding}
 use Rattle.swc_context.specs.declared.context.Context.{Context}
 use Rattle.swc_context.specs.declared.error.Error.{Error}
 use Rattle.swc_context.specs.declared.span.BytePos.{BytePos}
+use Rattle.swc_context.specs.declared.span.Span.{Span}
+use Rattle.swc_ast.specs.Parts.{lit_tree}
 use Rattle.swc_ast.specs.Tree.{Tree}
+use Rattle.swc_ast.specs.declared.lit.Lit.{Lit}
+use Rattle.swc_grammar.specs.Parts.{lit_of}
 use Rattle.swc_bodies.specs.Readings.{Hook}
 use Rattle.swc_grammar.specs.Symbols.{Primary, Elements, Props}
 use Rattle.swc_grammar.specs.Clean.{sym as at, run, first, is_lit, is_identifier}
@@ -34,7 +38,27 @@ use Rattle.swc_primary.specs.declared.primary.PrimaryKind.{PrimaryKind}
 use Rattle.swc_primary.specs.declared.primary.PrimaryKind.TheVariants as kind
 use Rattle.swc_primary.specs.declared.primary.PlainKind.{PlainKind}
 use Rattle.swc_primary.specs.declared.primary.PlainKind.TheVariants as one
-use Rattle.swc_primary.specs.Openings.{primary_kind, BeginsPlain, Opens, array_from, object_from}
+use Rattle.swc_primary.specs.Openings.{primary_kind, literal, BeginsPlain, Opens, array_from, object_from}
+
+-- ---- literals
+
+abbrev literal_in : {F C K : Type 0} → Option Lit → Option (Tree F C K)
+literal_in None = None
+literal_in (Some l) = Some (lit_tree l)
+
+literal_is : {F C K : Type 0} (t : Token) (s : Span) → lit_of {F = F} {C = C} {K = K} t s ≡ literal_in (literal t s)
+literal_is (token.Word word.Null) s = refl
+literal_is (token.Word word.True) s = refl
+literal_is (token.Word word.False) s = refl
+literal_is (token.Num raw) s = refl
+literal_is (token.BigInt raw) s = refl
+literal_is (token.Str value raw) s = refl
+literal_is t s = refl
+
+-- the tree of the literal that a token is
+pub literal_tree : {F C K : Type 0} (t : Token) (s : Span) (l : Lit) → literal t s ≡ Some l
+    → lit_of {F = F} {C = C} {K = K} t s ≡ Some (lit_tree l)
+literal_tree t s l h = literal_is t s ∙ ap literal_in h
 
 -- ---- which of four tests holds first
 

@@ -7,16 +7,16 @@ use Rattle.swc_input.specs.declared.token.Token.{Token}
 use Rattle.swc_input.specs.declared.token.Token.TheVariants as token
 use Rattle.swc_input.specs.declared.token.TokenAndSpan.{TokenAndSpan}
 use Rattle.swc_input.specs.Kinds.{at_token}
-use Rattle.swc_ast.specs.Tree.{Trees, nil, cons, span_of}
+use Rattle.swc_ast.specs.Tree.{nil, span_of}
 use Rattle.swc_ast.specs.Trees.{to, object_e, listed, items_of, comma_of, spread_prop_e, short_e, cover_e}
-use Rattle.swc_ast.specs.Trees.{ident_e, trees_append}
+use Rattle.swc_ast.specs.Trees.{ident_e}
 use Rattle.swc_bodies.specs.Readings.{Hook, is_async, is_brace}
 use Rattle.swc_grammar.specs.Scope.{Scope}
 use Rattle.swc_grammar.specs.Symbols.{Assign, Primary, Props, PropsTail, Prop, Side}
 use Rattle.swc_grammar.specs.Tokens.{tk, with_in, is_dots, is_equals, is_get, is_set, is_question, is_rbrace, is_star}
 use Rattle.swc_grammar.specs.Tokens.{is_word, ends_prop, follows_key}
 use Rattle.swc_grammar.specs.Grammar.{Production, object-lit, prop-spread, prop-short, prop-cover, prop-key}
-use Rattle.swc_grammar.specs.Grammar.{prop-generator, prop-async, prop-async-generator, prop-getter}
+use Rattle.swc_grammar.specs.Grammar.{prop-generator, prop-async, prop-async-generator, prop-getter, prop-setter}
 use Rattle.swc_grammar.specs.Names.{Spelling, may_name}
 use Rattle.swc_grammar.specs.Parts.{any_name}
 use Rattle.swc_grammar.specs.Rule.{gives, must, given, symbol, token as token_of, ◌>>=◌ as ◌▸◌, ◌>>◌}
@@ -34,17 +34,15 @@ use Rattle.swc_primary.specs.declared.modifiers.PropKind.{PropKind}
 use Rattle.swc_primary.specs.declared.modifiers.PropKind.TheVariants as kind
 use Rattle.swc_steps.specs.Readers.{reading, by_production, inside}
 use Rattle.swc_steps.specs.Lists.{eaten, eaten_by, closed, separated, behind}
-use Rattle.swc_primary.specs.Properties.{object_lit_tail, prop_item, props_behind, props_more, props_by}
+use Rattle.swc_primary.specs.Properties.{object_lit_tail, prop_item}
 use Rattle.swc_primary.specs.Properties.{spread_prop_tail, open_by, open_name, cover_name, cover_node, cover_tail}
 use Rattle.swc_primary.specs.Properties.{modifier_of, by_modifier, word_kind, prop_kind}
 use Rattle.swc_steps.specs.Keys.{expected, expected_by}
 use Rattle.swc_primary.specs.Methods.{modifiers, method_tail}
-use Rattle.swc_steps.proofs.Keys.{bind_none}
-use Rattle.swc_primary.proofs.Methods.{generator_splits, async_splits, async_generator_splits, getter_splits}
-use Rattle.swc_primary.proofs.Methods.{setter_not}
+use Rattle.swc_primary.proofs.Keyed.{generator_splits, async_splits, async_generator_splits, getter_splits}
+use Rattle.swc_primary.proofs.Keyed.{setter_splits}
 use Rattle.swc_steps.proofs.Steps.{not_true, not_false}
 use Rattle.swc_steps.proofs.Lists.{calls, binds, bind_same, tail_left, list_from, item_more, IsList}
-use Rattle.swc_steps.proofs.Lists.{list_splits, list_first}
 
 pub open_name_splits : (x : Scope) (ts : List TokenAndSpan) → open_name x ts ≡ (word may_name x ts >>= open_by x)
 unfolding open_name
@@ -76,7 +74,7 @@ module _ {F C K : Type 0} {c : Scope} where
   method_choice method.Async = pick prop-async
   method_choice method.AsyncGenerator = pick prop-async-generator
   method_choice method.Getter = pick prop-getter
-  method_choice method.Setter = none
+  method_choice method.Setter = pick prop-setter
 
   abbrev kind_choice : PropKind → Choice F C K Prop c
   kind_choice kind.Spread = pick prop-spread
@@ -87,19 +85,15 @@ module _ {F C K : Type 0} {c : Scope} where
   kind_choice kind.Questioned = none
   kind_choice kind.Unfit = none
 
-  -- neither a setter nor a word that begins no method is a production
-  other_choice : (b with_star : Bool)
-      → kind_choice (by_modifier (if b then modifier.Set else modifier.Other) with_star) ≡ none
-  other_choice true with_star = refl
-  other_choice false with_star = refl
-
   modifier_choice : (t u : Option TokenAndSpan)
       → kind_choice (by_modifier (modifier_of t) (at_token is_star u))
-      ≡ (if at_token is_get t then pick prop-getter else (if at_token is_async t then async_method u else none))
+      ≡ (if at_token is_get t then pick prop-getter else
+      (if at_token is_set t then pick prop-setter else (if at_token is_async t then async_method u else none)))
   modifier_choice t u =
       chosen_by (λ m. kind_choice (by_modifier m (at_token is_star u))) (at_token is_get t) refl
+      (chosen_by (λ m. kind_choice (by_modifier m (at_token is_star u))) (at_token is_set t) refl
       (chosen_by (λ m. kind_choice (by_modifier m (at_token is_star u))) (at_token is_async t)
-      (chosen_by method_choice (at_token is_star u) refl refl) (other_choice (at_token is_set t) (at_token is_star u)))
+      (chosen_by method_choice (at_token is_star u) refl refl) refl))
 
   word_choice : (t u : Option TokenAndSpan) → kind_choice (word_kind t u) ≡ prop_word t u
   word_choice t u =
@@ -162,39 +156,13 @@ module _ {F C K : Type 0} (hook : Hook F C K) where
   props_step : (x : Scope) (ts : List TokenAndSpan) → at_token is_rbrace (first ts) ≡ false
       → run hook (at Props) x ts
       ≡ (prop_item hook x ts >>= list_from (run hook (at Props)) x)
-  unfolding prop_item
   props_step x ts h =
       knot hook (at Props) x ts
       ∙ rw h (item_more (run hook (at Props)) (run hook (at Prop)) (run hook (at PropsTail)) (separated is_rbrace) tail_is
       x ts)
 
-  pub prop_item_splits : (x : Scope) (ts : List TokenAndSpan)
-      → prop_item hook x ts
-      ≡ (run hook (at Prop) x ts >>= (λ p. separated is_rbrace x p.1 >>= (λ q. Some ((p.0, q.0), q.1))))
-  unfolding prop_item
-  prop_item_splits x ts = refl
-
-  pub props_more_splits : (before : Trees F C K) (x : Scope) (ts : List TokenAndSpan)
-      → props_more hook before x ts
-      ≡ (prop_item hook x ts >>= (λ p. props_behind hook (trees_append before (cons p.0.0 nil)) p.0.1 x p.1))
-  unfolding props_more
-  props_more_splits before x ts = refl
-
-  props_list : IsList is_rbrace (run hook (at Props)) (prop_item hook)
+  pub props_list : IsList is_rbrace (run hook (at Props)) (prop_item hook)
   props_list = record { close = props_close; step = props_step }
-
-  pub behind_splits : (before : Trees F C K) (comma : Option Span) (x : Scope) (ts : List TokenAndSpan)
-      → props_behind hook before comma x ts
-      ≡ (eaten is_rbrace x ts >>= (λ p. props_by hook before comma p.0 x p.1))
-  unfolding props_behind props_more
-  behind_splits before comma x ts =
-      list_splits props_list before comma (props_by hook before comma) (λ s y us. refl) (λ y us. refl) x ts
-
-  -- before the first property
-  pub props_first : (x : Scope) (ts : List TokenAndSpan)
-      → run hook (at Props) x ts ≡ props_behind hook nil None x ts
-  unfolding props_behind
-  props_first x ts = list_first props_list x ts
 
   -- ---- properties
 
@@ -315,6 +283,12 @@ module _ {F C K : Type 0} (hook : Hook F C K) where
   getter_picked x [] h = kind_picked x [] prop-getter (kind.Method method.Getter) refl h
   getter_picked x (t ∷ ts) h = kind_picked x (t ∷ ts) prop-getter (kind.Method method.Getter) refl h
 
+  setter_picked : (x : Scope) (ts : List TokenAndSpan) → prop_kind ts ≡ kind.Method method.Setter
+      → run hook (at Prop) x ts ≡ by_production hook (λ c. prop-setter) x ts
+  unfolding by_production reading
+  setter_picked x [] h = kind_picked x [] prop-setter (kind.Method method.Setter) refl h
+  setter_picked x (t ∷ ts) h = kind_picked x (t ∷ ts) prop-setter (kind.Method method.Setter) refl h
+
   async_picked : (x : Scope) (ts : List TokenAndSpan) → prop_kind ts ≡ kind.Method method.Async
       → run hook (at Prop) x ts ≡ by_production hook (λ c. prop-async) x ts
   unfolding by_production reading
@@ -384,16 +358,14 @@ module _ {F C K : Type 0} (hook : Hook F C K) where
       let d = spread_dots (t ∷ ts) h in
       spread_token x t.token t.had_line_break t.span ts d ∙ rw d refl
 
-  -- a method by its kind; a setter is no production, and never read
+  -- a method by its kind
   pub method_picked : (m : MethodKind) (x : Scope) (ts : List TokenAndSpan) → prop_kind ts ≡ kind.Method m
       → run hook (at Prop) x ts ≡ (modifiers m x ts >>= (λ p. method_tail hook m p.0 x p.1))
   method_picked method.Generator x ts h = generator_picked hook x ts h ∙ generator_splits hook x ts
   method_picked method.Async x ts h = async_picked hook x ts h ∙ async_splits hook x ts
   method_picked method.AsyncGenerator x ts h = async_generator_picked hook x ts h ∙ async_generator_splits hook x ts
   method_picked method.Getter x ts h = getter_picked hook x ts h ∙ getter_splits hook x ts
-  method_picked method.Setter x ts h =
-      none_picked hook x ts (kind.Method method.Setter) h refl
-      ∙ sym (bind_none (modifiers method.Setter x ts) _ (λ p. setter_not hook p.0 x p.1))
+  method_picked method.Setter x ts h = setter_picked hook x ts h ∙ setter_splits hook x ts
 
   pub questioned_none : (x : Scope) (ts : List TokenAndSpan) → prop_kind ts ≡ kind.Questioned
       → run hook (at Prop) x ts ≡ None

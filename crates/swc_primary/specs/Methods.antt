@@ -1,35 +1,44 @@
 -- What the steps of the code read in properties that have a key, methods among them, by the clean parser.
-use Rattle.std.specs.Prelude.{Bool, true, false, List, Option, Some, None, ℕ}
+use Rattle.std.specs.Prelude.{◌≡◌, Bool, true, false, not, if◌then◌else◌, List, [], ◌∷◌, Option, Some, None, ℕ, ◌&&◌}
+use Rattle.std.specs.declared.alloc.Global.{Global}
+use Rattle.std.specs.declared.vec.Vec.{Vec}
+use Rattle.swc_context.specs.Contexts.{view as deciding}
+use Rattle.swc_context.specs.declared.context.Context.{Context}
+use Rattle.swc_context.specs.declared.error.Error.{Error}
 use Rattle.swc_context.specs.declared.span.Span.{Span}
+use Rattle.swc_input.specs.declared.buffer.Buffer.{Buffer}
 use Rattle.swc_input.specs.declared.token.TokenAndSpan.{TokenAndSpan}
+use Rattle.swc_input.specs.Buffer.{context}
+use Rattle.swc_input.specs.Source.{Model}
 use Rattle.swc_ast.specs.Spans.{prop_name_span}
-use Rattle.swc_ast.specs.Tree.{Tree, span_of}
-use Rattle.swc_ast.specs.Trees.{to, value_e, prop_of, method_e, getter_e}
+use Rattle.swc_ast.specs.Tree.{Tree, node, Trees, nil, cons, span_of}
+use Rattle.swc_ast.specs.Tree.{getter}
+use Rattle.swc_ast.specs.Trees.{to, value_e, prop_of, method_e, setter_e, items_of, has_items, is_rest}
+use Rattle.swc_ast.specs.Trees.{function_e, block_e, params_e, getter_ok, setter_ok}
 use Rattle.swc_ast.specs.declared.function.Function.{Function}
+use Rattle.swc_ast.specs.declared.function.Param.{Param}
 use Rattle.swc_ast.specs.declared.prop.PropName.{PropName}
+use Rattle.swc_ast.specs.declared.spanned.Spanned.{Ghosts}
 use Rattle.swc_bodies.specs.Readings.{Hook, is_async}
-use Rattle.swc_grammar.specs.Scope.{Scope}
-use Rattle.swc_grammar.specs.Symbols.{Key, AfterKey as Behind, Shell}
-use Rattle.swc_grammar.specs.Tokens.{is_get, is_set, is_star}
+use Rattle.swc_grammar.specs.Scope.{Scope, in_context}
+use Rattle.swc_grammar.specs.Symbols.{Key, AfterKey as Behind, Shell, Params}
+use Rattle.swc_grammar.specs.Tokens.{is_get, is_set, is_star, is_lparen, is_rparen, method_params}
 use Rattle.swc_grammar.specs.Clean.{Out, sym, run}
 use Rattle.swc_grammar.specs.Words.{◌>>=◌}
-use Rattle.swc_nodes.specs.NodeParts.{Part, one_expr, flat, param_parts, expr_part}
+use Rattle.swc_nodes.specs.Lists.{first_param_pat}
 use Rattle.swc_nodes.specs.declared.node.ExprId.{ExprId}
 use Rattle.swc_nodes.specs.declared.node.PatId.{PatId}
 use Rattle.swc_nodes.specs.declared.node.PropNode.{PropNode}
 use Rattle.swc_nodes.specs.declared.node.PropNode.TheVariants as prop
+use Rattle.swc_nodes.specs.declared.nodes.Nodes.{Nodes}
+use Rattle.swc_patterns.specs.Answers.{pat_at}
 use Rattle.swc_primary.specs.declared.modifiers.MethodKind.{MethodKind}
 use Rattle.swc_primary.specs.declared.modifiers.MethodKind.TheVariants as kind
-use Rattle.swc_primary.specs.declared.object.AfterKey.{AfterKey}
-use Rattle.swc_primary.specs.declared.object.AfterKey.TheVariants as after
+use Rattle.swc_steps.specs.Keys.{expected, method_body}
+use Rattle.swc_steps.specs.Parsing.{shell_of, Heard, Moves, Unheard}
 use Rattle.swc_steps.specs.Readers.{inside}
-use Rattle.swc_steps.specs.Keys.{expected, shell}
-use Rattle.swc_ast.specs.declared.spanned.Spanned.{Ghosts}
-use Rattle.swc_nodes.specs.GrowingNodes.{From}
-use Rattle.swc_nodes.specs.declared.nodes.Nodes.{Nodes}
-use Rattle.swc_steps.specs.Parsing.{tree_of, shell_of, shell_at}
 
--- which kinds of methods are async, generators and setters
+-- which kinds of methods are async and generators; and of a method with or without a kind
 abbrev pub of_async : MethodKind → Bool
 of_async kind.Async = true
 of_async kind.AsyncGenerator = true
@@ -40,11 +49,22 @@ of_generator kind.Generator = true
 of_generator kind.AsyncGenerator = true
 of_generator m = false
 
-abbrev pub of_setter : MethodKind → Bool
-of_setter kind.Setter = true
-of_setter m = false
+abbrev pub async_in : Option MethodKind → Bool
+async_in None = false
+async_in (Some m) = of_async m
 
--- The node of a key and of what stands behind it; of a method that begins at s, and of a getter and a setter.
+abbrev pub generator_in : Option MethodKind → Bool
+generator_in None = false
+generator_in (Some m) = of_generator m
+
+abbrev pub is_setter_in : Option MethodKind → Bool
+is_setter_in (Some kind.Setter) = true
+is_setter_in o = false
+
+-- The node of a key and of what stands behind it: a value that lies at s; of a method that begins at s, and of a getter and a setter.
+abbrev pub value_behind : {K : Type 0} → PropName ExprId → Span → ExprId → PropNode K
+value_behind k s e = prop.KeyValue (to (prop_name_span k) s) k e
+
 abbrev pub method_behind : {K : Type 0} → Span → PropName ExprId → Function PatId K → PropNode K
 method_behind s k f = prop.Method k (record f { span = to s f.span })
 
@@ -54,29 +74,52 @@ getter_behind s k f = prop.Getter (to s f.span) k f.body
 abbrev pub setter_behind : {K : Type 0} → Span → PropName ExprId → PatId → Function PatId K → PropNode K
 setter_behind s k p f = prop.Setter (to s f.span) k p f.body
 
--- the node of a method of a kind, which begins at s; of a setter with its parameter
+-- the node of a method of a kind, which begins at s; of a setter with the pattern of the first parameter
 abbrev pub setter_node : {K : Type 0} → Span → PropName ExprId → Function PatId K → Option PatId → PropNode K
 setter_node s k f None = method_behind s k f
 setter_node s k f (Some p) = setter_behind s k p f
 
-abbrev pub method_node : {K : Type 0} → MethodKind → Span → PropName ExprId → Function PatId K → Option PatId → PropNode K
-method_node kind.Getter s k f o = getter_behind s k f
-method_node kind.Setter s k f o = setter_node s k f o
-method_node m s k f o = method_behind s k f
+abbrev pub method_node : {K : Type 0} → Option MethodKind → Span → PropName ExprId → Function PatId K → PropNode K
+method_node (Some kind.Getter) s k f = getter_behind s k f
+method_node (Some kind.Setter) s k f = setter_node s k f (first_param_pat f.params.items)
+method_node m s k f = method_behind s k f
 
--- the tree of a method of a kind, but of a setter, which is never read
-abbrev pub method_tree : {F C K : Type 0} → MethodKind → Span → Tree F C K → Tree F C K → Tree F C K
-method_tree kind.Getter s k f = getter_e (to s (span_of f)) k f
+-- the tree of a method of a kind; of a getter whose function has parameters, which is never read, without them
+abbrev pub only_first : {F C K : Type 0} → Trees F C K → Trees F C K
+only_first nil = nil
+only_first (cons t ts) = cons t nil
+
+abbrev pub method_tree : {F C K : Type 0} → Option MethodKind → Span → Tree F C K → Tree F C K → Tree F C K
+method_tree (Some kind.Getter) s k f = node getter (to s (span_of f)) (cons k (only_first (items_of f)))
+method_tree (Some kind.Setter) s k f = setter_e (to s (span_of f)) k f
 method_tree m s k f = method_e (to s (span_of f)) k f
 
-abbrev pub prop_behind : {K : Type 0} → PropName ExprId → AfterKey K → PropNode K
-prop_behind k (after.Value s e) = prop.KeyValue (to (prop_name_span k) s) k e
-prop_behind k (after.Method f) = method_behind (prop_name_span k) k f
+-- The parameters of a method of a kind (15.4): a getter has none, and a setter one, which is no rest. The same of its function.
+abbrev pub one_pattern : {F C K : Type 0} → Trees F C K → Bool
+one_pattern nil = false
+one_pattern (cons p ps) = not (has_items ps) && not (is_rest p)
 
--- what stands behind a key reaches
-abbrev pub after_parts : {K : Type 0} → AfterKey K → List Part
-after_parts (after.Value s e) = one_expr e
-after_parts (after.Method f) = flat param_parts f.params.items
+abbrev pub accessor_ok : {F C K : Type 0} → Option MethodKind → Trees F C K → Bool
+accessor_ok (Some kind.Getter) ps = not (has_items ps)
+accessor_ok (Some kind.Setter) ps = one_pattern ps
+accessor_ok m ps = true
+
+-- as the code has it: whether there is just one parameter, and whether a setter has none
+abbrev pub just_one : List (Param PatId) → Bool
+just_one (p ∷ []) = true
+just_one ps = false
+
+abbrev pub misses_by : Option MethodKind → Option PatId → Bool
+misses_by (Some kind.Setter) None = true
+misses_by m p = false
+
+abbrev pub misses_param : Option MethodKind → List (Param PatId) → Bool
+misses_param m ps = misses_by m (first_param_pat ps)
+
+abbrev pub function_ok : {F C K : Type 0} → Option MethodKind → Tree F C K → Bool
+function_ok (Some kind.Getter) f = getter_ok f
+function_ok (Some kind.Setter) f = setter_ok f
+function_ok m f = true
 
 -- what a method of a kind begins with, before its key
 unfoldable pub async_star : Scope → List TokenAndSpan → Out Span
@@ -88,6 +131,29 @@ modifiers kind.Async c ts = expected is_async c ts
 modifiers kind.AsyncGenerator c ts = async_star c ts
 modifiers kind.Getter c ts = expected is_get c ts
 modifiers kind.Setter c ts = expected is_set c ts
+
+-- the scope of a method's parameters
+abbrev pub in_params : Option MethodKind → Scope → Scope
+in_params m c = in_context (method_params (async_in m) (generator_in m)) c
+
+-- the function of a method whose parameters begin at s and are ps, by its block, which lies where it says
+abbrev pub method_function_node : {F C K : Type 0} → (K → Span) → Option MethodKind → Span → Trees F C K → K → Tree F C K
+method_function_node block_at m s ps v =
+    function_e (to s (block_at v)) (async_in m) (generator_in m) (block_e (block_at v) v) (params_e ps)
+
+abbrev pub method_function_of : {K : Type 0} → (K → Span) → Option MethodKind → Span → Vec (Param PatId) Global → K
+    → Function PatId K
+method_function_of block_at m s ps v = record {
+  span = to s (block_at v);
+  params = ps;
+  is_async = async_in m;
+  is_generator = generator_in m;
+  body = v;
+}
+
+-- the function of a method of a kind that was read, where its parameters are what they have to be
+abbrev pub method_by : {F C K : Type 0} → Option MethodKind → Tree F C K × List TokenAndSpan → Out (Tree F C K)
+method_by m p = if function_ok m p.0 then Some p else None
 
 module _ {F C K : Type 0} (hook : Hook F C K) where
   -- ---- a key, and what stands behind it (13.2.5)
@@ -106,23 +172,61 @@ module _ {F C K : Type 0} (hook : Hook F C K) where
 
   -- ---- methods (15.4)
 
+  module _ (block_at : K → Span) (m : Option MethodKind) where
+    -- A method's function, in the scope of its parameters, which begin at s: behind the parameters ps and their closing
+    -- parenthesis, where they are as they have to be; before that parenthesis; behind the opening one; and from that one on.
+    abbrev pub method_block_by : Bool → Span → Trees F C K → Scope → List TokenAndSpan → Out (Tree F C K)
+    method_block_by false s ps c ts = None
+    method_block_by true s ps c ts =
+        method_body hook (async_in m) (generator_in m) c ts
+        >>= (λ p. Some (method_function_node block_at m s ps p.0, p.1))
+
+    abbrev pub method_end : Span → Trees F C K → Scope → List TokenAndSpan → Out (Tree F C K)
+    method_end s ps c ts = method_block_by (accessor_ok m ps) s ps c ts
+
+    unfoldable pub method_close : Span → Trees F C K → Scope → List TokenAndSpan → Out (Tree F C K)
+    method_close s ps c ts = expected is_rparen c ts >>= (λ p. method_end s ps c p.1)
+
+    unfoldable pub method_left : Span → Scope → List TokenAndSpan → Out (Tree F C K)
+    method_left s c ts = run hook (sym Params) c ts >>= (λ p. method_end s (items_of p.0) c p.1)
+
+    unfoldable pub method_inside : Scope → List TokenAndSpan → Out (Tree F C K)
+    method_inside c ts = expected is_lparen c ts >>= (λ p. method_left p.0 c p.1)
+
   -- the function of a method of a kind
-  abbrev pub method_function : MethodKind → Scope → List TokenAndSpan → Out (Tree F C K)
-  method_function m c ts = shell hook (of_setter m) (of_async m) (of_generator m) c ts
+  unfoldable pub method_function : Option MethodKind → Scope → List TokenAndSpan → Out (Tree F C K)
+  method_function m c ts = run hook (sym (Shell (async_in m) (generator_in m))) c ts >>= (λ p. method_by m p)
 
   -- a method of a kind that begins at s, from its key on, and behind the key k
-  unfoldable pub method_close : MethodKind → Span → Tree F C K → Scope → List TokenAndSpan → Out (Tree F C K)
-  method_close m s k c ts = method_function m c ts >>= (λ p. Some (method_tree m s k p.0, p.1))
+  unfoldable pub method_behind_key : Option MethodKind → Span → Tree F C K → Scope → List TokenAndSpan → Out (Tree F C K)
+  method_behind_key m s k c ts = method_function m c ts >>= (λ p. Some (method_tree m s k p.0, p.1))
 
   unfoldable pub method_tail : MethodKind → Span → Scope → List TokenAndSpan → Out (Tree F C K)
-  method_tail m s c ts = run hook (sym Key) c ts >>= (λ p. method_close m s p.0 c p.1)
+  method_tail m s c ts = run hook (sym Key) c ts >>= (λ p. method_behind_key (Some m) s p.0 c p.1)
+
+module _ {S : Type 0} (model : Model S) where
+  -- From b to d: the context was set, to that of a method's parameters, and then the parenthesis at s was read, which opens
+  -- them.
+  pub record Opened (m : Option MethodKind) (b : Buffer S) (s : Span) (ctx : Context) (d : Buffer S) : Type 0 where
+    pub at : Buffer S
+    pub moves : Moves model b at
+    pub inside : deciding (context model at) ≡ method_params (async_in m) (generator_in m) (deciding (context model b))
+    pub before : ctx ≡ context model b
+    pub read : (sure : Bool) → Heard model sure (expected is_lparen) s at d
+
+  -- no such parenthesis was read, and the context is that from before
+  abbrev pub NotOpened : Buffer S → Error → Buffer S → Type 0
+  NotOpened b e d = (sure : Bool) → Unheard model sure (expected is_lparen) b e d
 
 module _ {F C K : Type 0} {fg : Ghosts F} {cg : Ghosts C} {kg : Ghosts K} where
-  -- what stands behind a key: which numbers it holds, and its tree
-  abbrev pub after_of : ℕ → Nodes F C K fg cg kg → AfterKey K → Type 0
-  after_of k ns (after.Value s e) = From k ns (expr_part e)
-  after_of k ns (after.Method f) = shell_of k ns f
+  -- whether the first of the parameters is a rest
+  abbrev pub is_rest_at : Nodes F C K fg cg kg → Option PatId → Bool
+  is_rest_at ns None = false
+  is_rest_at ns (Some p) = is_rest (pat_at ns p)
 
-  abbrev pub after_at : Nodes F C K fg cg kg → AfterKey K → Tree F C K
-  after_at ns (after.Value s e) = value_e s (tree_of ns e)
-  after_at ns (after.Method f) = shell_at ns f
+  abbrev pub begins_rest : Nodes F C K fg cg kg → List (Param PatId) → Bool
+  begins_rest ns ps = is_rest_at ns (first_param_pat ps)
+
+  -- of the function of a method of a kind, which holds a parameter if it is a setter's
+  abbrev pub method_shell : Option MethodKind → ℕ → Nodes F C K fg cg kg → Function PatId K → Type 0
+  method_shell m k ns f = shell_of k ns f × (misses_param m f.params.items ≡ false)

@@ -1,15 +1,20 @@
 -- Which primary expression a token begins (13.2), and what opening a literal does to the buffer.
-use Rattle.std.specs.Prelude.{◌≡◌, Bool, true, false, if◌then◌else◌, Option}
+use Rattle.std.specs.Prelude.{◌≡◌, Bool, true, false, if◌then◌else◌, Option, Some, None}
 use Rattle.swc_context.specs.Contexts.{view as deciding}
 use Rattle.swc_context.specs.declared.context.Context.{Context}
 use Rattle.swc_context.specs.declared.span.BytePos.{BytePos}
+use Rattle.swc_context.specs.declared.span.Span.{Span}
+use Rattle.swc_context.specs.declared.word.Word.TheVariants as word
 use Rattle.swc_input.specs.declared.buffer.Buffer.{Buffer}
 use Rattle.swc_input.specs.declared.token.Token.{Token}
+use Rattle.swc_input.specs.declared.token.Token.TheVariants as token
 use Rattle.swc_input.specs.declared.token.TokenAndSpan.{TokenAndSpan}
 use Rattle.swc_input.specs.Source.{Model}
 use Rattle.swc_input.specs.Buffer.{Bumped, context}
 use Rattle.swc_input.specs.Kinds.{at_token, is_hash}
 use Rattle.swc_ast.specs.Tree.{Tree, span_of}
+use Rattle.swc_ast.specs.declared.lit.Lit.{Lit}
+use Rattle.swc_ast.specs.declared.lit.Lit.TheVariants as lit
 use Rattle.swc_ast.specs.Trees.{array_e, object_e, items_of, comma_of}
 use Rattle.swc_context.specs.Spans.{from_to}
 use Rattle.swc_bodies.specs.Readings.{is_function, is_async, is_class, is_brace}
@@ -28,6 +33,16 @@ primary_kind t =
     (if at_token is_lbracket t then kind.Array else
     (if at_token is_brace t then kind.Object else
     (if at_token is_backquote t then kind.Template else kind.Plain)))
+
+-- the literal that a token is: as `lit_of` of the grammar has its tree
+abbrev pub literal : Token → Span → Option Lit
+literal (token.Word word.Null) s = Some (lit.Null (record { span = s }))
+literal (token.Word word.True) s = Some (lit.Bool (record { span = s; value = true }))
+literal (token.Word word.False) s = Some (lit.Bool (record { span = s; value = false }))
+literal (token.Num raw) s = Some (lit.Num (record { span = s; raw = raw }))
+literal (token.BigInt raw) s = Some (lit.BigInt (record { span = s; raw = raw }))
+literal (token.Str value raw) s = Some (lit.Str (record { span = s; value = value; raw = raw }))
+literal t s = None
 
 -- by which test of the token it begins a primary expression in which no other stands
 abbrev pub BeginsPlain : Context → ((Token → Bool) → Bool) → PlainKind → Type 0

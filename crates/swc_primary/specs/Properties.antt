@@ -5,9 +5,8 @@ use Rattle.swc_context.specs.declared.span.Span.{Span}
 use Rattle.swc_input.specs.declared.token.Token.{Token}
 use Rattle.swc_input.specs.declared.token.TokenAndSpan.{TokenAndSpan}
 use Rattle.swc_input.specs.Kinds.{at_token}
-use Rattle.swc_ast.specs.Tree.{Tree, Trees, nil, cons, span_of}
-use Rattle.swc_ast.specs.Trees.{to, object_e, listed, items_of, comma_of, spread_prop_e, cover_e, ident_e}
-use Rattle.swc_ast.specs.Trees.{trees_append}
+use Rattle.swc_ast.specs.Tree.{Tree, span_of}
+use Rattle.swc_ast.specs.Trees.{to, object_e, items_of, comma_of, spread_prop_e, cover_e, ident_e}
 use Rattle.swc_bodies.specs.Readings.{Hook, is_async}
 use Rattle.swc_grammar.specs.Scope.{Scope}
 use Rattle.swc_grammar.specs.Symbols.{Props, Prop}
@@ -24,7 +23,7 @@ use Rattle.swc_primary.specs.declared.modifiers.PropKind.{PropKind}
 use Rattle.swc_primary.specs.declared.modifiers.PropKind.TheVariants as kind
 use Rattle.swc_steps.specs.Keys.{expected}
 use Rattle.swc_steps.specs.Readers.{inside}
-use Rattle.swc_steps.specs.Lists.{separated, behind, put_before}
+use Rattle.swc_steps.specs.Lists.{separated, with_comma}
 
 -- a name that isn't reserved where it stands, and so may stand for its value too
 abbrev pub open_by : Scope → Spelling × List TokenAndSpan → Out Spelling
@@ -37,12 +36,13 @@ open_name c ts = word may_name c ts >>= open_by c
 unfoldable pub cover_name : Scope → List TokenAndSpan → Out Spelling
 cover_name c ts = open_name c ts >>= (λ p. expected is_equals c p.1 >>= (λ q. Some (p.0, q.1)))
 
--- what a property is, by the tokens that it begins with; of one that begins with a word, by the word and the token behind it
+-- what a property is, by the tokens that it begins with; of one that begins with a word, by the word and the token
+-- behind it
 abbrev pub modifier_of : Option TokenAndSpan → Modifier
 modifier_of t =
     if at_token is_get t then modifier.Get else
-    (if at_token is_async t then modifier.Async else
-    (if at_token is_set t then modifier.Set else modifier.Other))
+    (if at_token is_set t then modifier.Set else
+    (if at_token is_async t then modifier.Async else modifier.Other))
 
 abbrev pub async_kind : Bool → MethodKind
 async_kind with_star = if with_star then method.AsyncGenerator else method.Async
@@ -90,25 +90,12 @@ cover_node n v = cover_e (to n.at (span_of v)) (ident_e n.at n.text) v
 module _ {F C K : Type 0} (hook : Hook F C K) where
   -- behind the brace at s
   unfoldable pub object_lit_tail : Span → Scope → List TokenAndSpan → Out (Tree F C K)
-  object_lit_tail s c ts = run hook (sym Props) c ts >>= (λ p. Some (object_e (comma_of p.0) (to s (span_of p.0)) (items_of p.0), p.1))
+  object_lit_tail s c ts =
+      run hook (sym Props) c ts >>= (λ p. Some (object_e (comma_of p.0) (to s (span_of p.0)) (items_of p.0), p.1))
 
   -- one property, and the comma behind it, or before the brace that closes the list
-  unfoldable pub prop_item : Scope → List TokenAndSpan → Out (Tree F C K × Option Span)
-  prop_item c ts = run hook (sym Prop) c ts >>= (λ p. separated is_rbrace c p.1 >>= (λ q. Some ((p.0, q.0), q.1)))
-
-  -- Behind some properties, and the comma behind the last of them: those that are left, to where the list is closed; and from the next
-  -- property on.
-  unfoldable pub props_behind : Trees F C K → Option Span → Scope → List TokenAndSpan → Out (Tree F C K)
-  props_behind before comma c ts =
-      run hook (sym Props) c ts >>= (λ p. Some (put_before before (behind comma p.0), p.1))
-
-  unfoldable pub props_more : Trees F C K → Scope → List TokenAndSpan → Out (Tree F C K)
-  props_more before c ts =
-      prop_item c ts >>= (λ p. props_behind (trees_append before (cons p.0.0 nil)) p.0.1 c p.1)
-
-  abbrev pub props_by : Trees F C K → Option Span → Option Span → Scope → List TokenAndSpan → Out (Tree F C K)
-  props_by before comma (Some s) c ts = Some (listed comma s before, ts)
-  props_by before comma None c ts = props_more before c ts
+  abbrev pub prop_item : Scope → List TokenAndSpan → Out (Tree F C K × Option Span)
+  prop_item = with_comma (run hook (sym Prop)) (separated is_rbrace)
 
   -- behind the dots of a property at s
   unfoldable pub spread_prop_tail : Span → Scope → List TokenAndSpan → Out (Tree F C K)

@@ -2,6 +2,7 @@
 #![tactic(auto)]
 
 pub mod literals;
+pub mod methods;
 pub mod modifiers;
 pub mod object;
 pub mod parens;

@@ -7,7 +7,7 @@ ghost use Rattle.swc_grammar.specs.Words.{rest};
 ghost use Rattle.swc_grammar.specs.Tokens.{is_word};
 ghost use Rattle.swc_steps.specs.Parsing.{seen, ParsesAlone, Tells};
 ghost use Rattle.swc_primary.specs.Properties.{prop_kind, sign_kind, by_modifier, kind_at, kind_of, modifier_of};
-ghost use Rattle.swc_primary.specs.Methods.{of_async, of_generator, of_setter, async_star, modifiers};
+ghost use Rattle.swc_primary.specs.Methods.{of_async, of_generator, async_star, modifiers};
 
 use swc_context::error::PResult;
 use swc_context::operator::{AssignOp, BinOpToken};
@@ -78,12 +78,6 @@ impl MethodKind {
     {
         matches!(self, MethodKind::Generator | MethodKind::AsyncGenerator)
     }
-
-    pub fn is_setter(self) -> bool
-        ensures { result ≡ of_setter self }
-    {
-        matches!(self, MethodKind::Setter)
-    }
 }
 
 /// What the property is that the current token begins, by that token and the one behind it. Refused only for want of
@@ -112,10 +106,10 @@ pub(crate) fn modifier_here<I: Tokens>(input: &Buffer<I>) -> Modifier
 {
     if is_sign(input, Sign::Get) {
         Modifier::Get
-    } else if is_sign(input, Sign::Async) {
-        Modifier::Async
     } else if is_sign(input, Sign::Set) {
         Modifier::Set
+    } else if is_sign(input, Sign::Async) {
+        Modifier::Async
     } else {
         Modifier::Other
     }

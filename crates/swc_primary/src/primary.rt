@@ -7,7 +7,6 @@ ghost use Rattle.swc_input.specs.declared.token.Token.TheVariants as token;
 ghost use Rattle.swc_grammar.specs.Symbols.{Primary, Literal};
 ghost use Rattle.swc_grammar.specs.Tokens.{is_this};
 ghost use Rattle.swc_bodies.specs.Readings.{at_function, is_class};
-ghost use Rattle.swc_grammar.specs.Parts.{lit_of};
 ghost use Rattle.swc_grammar.specs.Grammar as grammar;
 ghost use Rattle.swc_grammar.specs.Clean.{sym, run, is_lit, is_identifier};
 ghost use Rattle.swc_nodes.specs.NodeParts.{args_parts};
@@ -17,7 +16,7 @@ ghost use Rattle.swc_steps.specs.Readers.{by_production};
 ghost use Rattle.swc_steps.specs.Parsing.{lit_in, seen, Here, ParsesAlone, Produces, GoesOn, Checked, Refuses};
 ghost use Rattle.swc_steps.specs.Parsing.{TookLiteral};
 ghost use Rattle.swc_steps.specs.Parsing.{itself, tree_of, args_at};
-ghost use Rattle.swc_primary.specs.Openings.{primary_kind, BeginsPlain};
+ghost use Rattle.swc_primary.specs.Openings.{primary_kind, literal, BeginsPlain};
 ghost use Rattle.swc_primary.specs.declared.primary.PrimaryKind.TheVariants.{Plain};
 ghost use Rattle.swc_primary.specs.declared.primary.PlainKind.TheVariants.{Function, Class};
 
@@ -35,7 +34,7 @@ use swc_input::buffer::Buffer;
 use swc_input::token::Token;
 use swc_input::tokens::Tokens;
 use swc_nodes::node::ExprId;
-use swc_steps::productions::{Productions, is_identifier_word};
+use swc_steps::productions::{Productions, is_identifier_word, is_strict_word};
 use swc_steps::regex::parse_regex;
 use swc_steps::tokens::{
     Listed, answered, bump, copy_of, emit_strict_mode_err, is_async_function, parse_ident_name,
@@ -210,7 +209,7 @@ pub fn parse_ident_expr<I: Tokens, B: Bodies<I>>(p: &mut Productions<I, B>) -> P
     ensures { Produces I.model B.is_faithful itself tree_of (by_production B.forms (λ c. grammar.ident-expr))
         (count p.old.nodes) p.old result p.new }
 {
-    let is_strict = p.is_strict_word();
+    let is_strict = is_strict_word(&p.input);
     let ident = parse_ident_ref(p.alloc, &mut p.input)?;
     check_strict_word(&mut p.input, is_strict, &ident)?;
     let node = p.nodes.ident_expr(ident);
@@ -265,9 +264,9 @@ fn is_lit<I: Tokens>(input: &Buffer<I>) -> bool
 }
 
 /// The literal that a token is.
-fn lit_of<I: Tokens, B: Bodies<I>>(p: &Productions<I, B>, token: Token, span: Span) -> Lit
+fn lit_of(token: Token, span: Span) -> Lit
     requires { is_lit token ≡ true }
-    ensures { lit_of (plain_token token) span ≡ Some (lit_in p.now.nodes result) }
+    ensures { literal (plain_token token) span ≡ Some result }
 {
     match token {
         Token::Word(Word::Null) => Lit::Null(Null { span }),
@@ -295,7 +294,7 @@ pub fn parse_lit<I: Tokens, B: Bodies<I>>(p: &mut Productions<I, B>) -> PResult<
     }
     let token = bump(&mut p.input);
     let span = p.prev_span();
-    Ok(lit_of(p, token, span))
+    Ok(lit_of(token, span))
 }
 
 /// Records, for modules, an identifier that is a word of strict code.

@@ -6,20 +6,28 @@ ghost use Rattle.swc_grammar.specs.Symbols.{Unary, Expr, Assign};
 ghost use Rattle.swc_input.specs.Kinds.{at_token};
 ghost use Rattle.swc_left.specs.Bases.{plain_base, super_tail, super_head, import_head};
 ghost use Rattle.swc_left.specs.Templates.{tpl_parts_of, tpl_parts_at};
+ghost use Rattle.swc_patterns.specs.Answers.{Leaves, pat_itself, pat_at, pat_elems_of, pat_elems_at, pat_prop_of};
+ghost use Rattle.swc_patterns.specs.Answers.{pat_prop_at, pat_props_of, pat_props_at, params_of, params_at};
+ghost use Rattle.swc_patterns.specs.Objects.{pat_prop_item, props_done};
+ghost use Rattle.swc_patterns.specs.Params.{params_close};
+ghost use Rattle.swc_grammar.specs.Symbols.{Pat, Element, PatElements, PatProps, Params};
 ghost use Rattle.swc_nodes.specs.Pending.{all_pending, operand_parts, first_operand};
 ghost use Rattle.swc_nodes.specs.NodeParts.{expr_part};
 ghost use Rattle.swc_nodes.specs.GrowingNodes.{count, first_at, From, Apart, start_at};
 ghost use Rattle.swc_operators.specs.Assignments.{assigns_from};
 ghost use Rattle.swc_operators.specs.Pending.{pending_reads};
+ghost use Rattle.swc_primary.specs.Methods.{method_function, method_shell};
 ghost use Rattle.swc_steps.specs.Args.{args_inside};
 ghost use Rattle.swc_steps.specs.Parsing.{seen, Produces, GoesOn, itself, tree_of, item_of, item_at, elems_of};
 ghost use Rattle.swc_steps.specs.Parsing.{elems_at, key_of, key_at, prop_of, prop_at, props_of, props_at, args_of};
-ghost use Rattle.swc_steps.specs.Parsing.{args_at};
+ghost use Rattle.swc_steps.specs.Parsing.{args_at, shell_at};
 
 use swc_ast::expr::Callee;
 use swc_ast::expr::ExprOrSpread;
 use swc_ast::expr::Import;
 use swc_ast::expr::Super;
+use swc_ast::function::Function;
+use swc_ast::function::Param;
 use swc_ast::prop::PropName;
 use swc_ast::spanned::Spanned;
 use swc_bodies::bodies::Bodies;
@@ -55,7 +63,10 @@ use swc_left::tpl::eat_tpl_end;
 use swc_left::tpl::parse_tpl_element;
 use swc_left::tpl::tagged_tpl;
 use swc_nodes::node::ExprId;
+use swc_nodes::node::PatId;
+use swc_nodes::node::PatPropNode;
 use swc_nodes::node::PropNode;
+use swc_nodes::patterns::name_pat_prop;
 use swc_nodes::pending::PendingOperators;
 use swc_operators::assign::check_assign_target;
 use swc_operators::assign::cond_last;
@@ -85,18 +96,35 @@ use swc_operators::within::enter_prop_name;
 use swc_operators::within::enter_tpl;
 use swc_operators::within::include_in;
 use swc_operators::within::leave;
+use swc_patterns::object::AfterPatKey;
+use swc_patterns::object::after_pat_key;
+use swc_patterns::object::object_pat;
+use swc_patterns::params::NextParam;
+use swc_patterns::params::next_param;
+use swc_patterns::params::param_of;
+use swc_patterns::params::rest_default;
+use swc_patterns::pat::NextElement;
+use swc_patterns::pat::PatKind;
+use swc_patterns::pat::array_pat;
+use swc_patterns::pat::default_pat;
+use swc_patterns::pat::next_element;
+use swc_patterns::pat::parse_plain_pat;
+use swc_patterns::pat::pat_kind;
+use swc_patterns::pat::rest_pat;
+use swc_patterns::rest::SeenRest;
+use swc_patterns::rest::separate_item;
 use swc_primary::literals::array_lit;
 use swc_primary::literals::object_lit;
 use swc_primary::literals::open_array;
 use swc_primary::literals::open_object;
-use swc_primary::object::AfterKey;
+use swc_primary::methods::close_method;
+use swc_primary::methods::method_of;
+use swc_primary::methods::open_params;
+use swc_primary::modifiers::MethodKind;
 use swc_primary::object::PropHead;
 use swc_primary::object::computed_prop_name;
 use swc_primary::object::cover_prop;
 use swc_primary::object::key_prop;
-use swc_primary::object::method_of;
-use swc_primary::object::parse_key_method;
-use swc_primary::object::parse_method_function;
 use swc_primary::object::parse_plain_prop_name;
 use swc_primary::object::parse_prop_head;
 use swc_primary::object::spread_prop;
@@ -120,26 +148,24 @@ use swc_steps::tokens::separate;
 use swc_steps::tokens::set_ctx;
 use swc_steps::tokens::skip;
 
-/// The items of a list, up to the sign that closes the list: the loop of all lists. The expression reads an item, and
-/// is that item with the place of the comma behind it.
+/// The items of a list, up to the sign that closes the list: the loop of all lists. The expression reads an item, adds
+/// it to the items, and is the place of the comma behind it.
 macro_rules! listed {
-    ($p:ident, $close:expr, $item:expr) => {{
-        let mut items = Vec::new($p.alloc);
+    ($p:ident, $close:expr, $items:ident, $comma:expr) => {{
+        let mut $items = Vec::new($p.alloc);
         let mut trailing_comma = None;
         loop {
             match eat(&mut $p.input, $close)? {
                 Some(end) => {
                     return Ok(Listed {
-                        items,
+                        items: $items,
                         trailing_comma,
                         end,
                     });
                 }
                 None => {}
             }
-            let (item, comma) = $item;
-            $p.add(&mut items, item)?;
-            trailing_comma = comma;
+            trailing_comma = $comma;
         }
     }};
 }
@@ -218,12 +244,17 @@ fn parse_elements<I: Tokens, B: Bodies<I>>(p: &mut Productions<I, B>) -> PResult
     listed!(
         p,
         Sign::RBracket,
+        items,
         {
             match eat(&mut p.input, Sign::Comma)? {
-                Some(_) => (None, None),
+                Some(_) => {
+                    p.add(&mut items, None)?;
+                    None
+                }
                 None => {
                     let item = parse_expr_or_spread(p)?;
-                    (Some(item), separate(&mut p.input, Sign::RBracket)?)
+                    p.add(&mut items, Some(item))?;
+                    separate(&mut p.input, Sign::RBracket)?
                 }
             }
         }
@@ -282,7 +313,7 @@ fn parse_member_expr<I: Tokens, B: Bodies<I>>(p: &mut Productions<I, B>) -> PRes
         (count p.old.nodes) p.old result p.new }
 {
     look(&mut p.input)?;
-    if !p.is_new() {
+    if !is_sign(&p.input, Sign::New) {
         let base = parse_base(p, true)?;
         return parse_subscripts(p, base, true);
     }
@@ -361,9 +392,11 @@ pub fn parse_props<I: Tokens, B: Bodies<I>>(
     listed!(
         p,
         Sign::RBrace,
+        items,
         {
             let prop = parse_object_prop(p)?;
-            (prop, separate(&mut p.input, Sign::RBrace)?)
+            p.add(&mut items, prop)?;
+            separate(&mut p.input, Sign::RBrace)?
         }
     )
 }
@@ -395,21 +428,40 @@ pub fn parse_object_prop<I: Tokens, B: Bodies<I>>(
             match eat(&mut p.input, Sign::Colon)? {
                 Some(_) => {
                     let value = with_in!(p, parse_assignment_expr)?;
-                    let span = p.nodes.extent(value);
-                    Ok(key_prop(key, AfterKey::Value { span, value }))
+                    Ok(key_prop(&p.nodes, key, value))
                 }
                 None => {
-                    let after = parse_key_method(p)?;
-                    Ok(key_prop(key, after))
+                    let start = key.span();
+                    let function = parse_method(p, None, start)?;
+                    Ok(method_of(None, start, key, function))
                 }
             }
         }
         PropHead::Method(kind, start) => {
             let key = parse_prop_name(p)?;
-            let (function, param) = parse_method_function(p, kind, key.span())?;
-            Ok(method_of(kind, start, key, function, param))
+            let function = parse_method(p, Some(kind), key.span())?;
+            Ok(method_of(Some(kind), start, key, function))
         }
     }
+}
+
+/// The function of a method (ECMA-262, 15.4 to 15.6 and 15.8), behind its key at `key`: parameters, which are read in a
+/// context of their own, and a block. Nothing stood before the key where the method is of no kind. The context is that
+/// from before, also after a refusal.
+#[cycle(productions)]
+fn parse_method<I: Tokens, B: Bodies<I>>(
+    p: &mut Productions<I, B>,
+    kind: Option<MethodKind>,
+    key: Span,
+) -> PResult<Function<PatId, B::Block>>
+    ensures { Produces I.model B.is_faithful (method_shell kind) shell_at (method_function B.forms kind)
+        (count p.old.nodes) p.old result p.new }
+{
+    let (start, before) = open_params(&mut p.input, kind)?;
+    let params = held!(p, before, parse_formal_params(p));
+    let method = close_method(p, kind, key, start, params);
+    set_ctx(&mut p.input, before);
+    method
 }
 
 /// A property's key (ECMA-262, 13.2.5): any word, a string, a number, a big integer, or an expression in brackets, in
@@ -433,7 +485,7 @@ pub fn parse_prop_name<I: Tokens, B: Bodies<I>>(
             key
         }
         None => {
-            let key = parse_plain_prop_name(p);
+            let key = parse_plain_prop_name(p.alloc, &mut p.input);
             set_ctx(&mut p.input, before);
             key
         }
@@ -457,7 +509,7 @@ pub fn parse_tpl_elements<I: Tokens, B: Bodies<I>>(
     let mut quasis = Vec::new(p.alloc);
     let mut exprs = Vec::new(p.alloc);
     loop {
-        let quasi = held!(p, before, parse_tpl_element(p, is_tagged));
+        let quasi = held!(p, before, parse_tpl_element(&mut p.input, is_tagged));
         held!(p, before, p.add(&mut quasis, quasi));
         match held!(p, before, eat_tpl_end(&mut p.input)) {
             Some(end) => {
@@ -476,9 +528,8 @@ pub fn parse_tpl_elements<I: Tokens, B: Bodies<I>>(
 
 /// Arguments (ECMA-262, 13.3.8), behind their parenthesis, in which `in` counts as an operator, and no colon of a
 /// conditional is expected, a comma behind each, which may be missing behind the last one, and the parenthesis that
-/// closes them. Those of `import`, where it `is_dynamic_import`,
-/// may have no comma behind the last one, unless import attributes are read. The context is that from before, also
-/// after a refusal.
+/// closes them. Those of `import`, where it `is_dynamic_import`, may have no comma behind the last one, unless import
+/// attributes are read. The context is that from before, also after a refusal.
 #[cycle(productions)]
 pub fn parse_args<I: Tokens, B: Bodies<I>>(
     p: &mut Productions<I, B>,
@@ -504,13 +555,12 @@ pub fn parse_args<I: Tokens, B: Bodies<I>>(
             None => {}
         }
         let arg = held!(p, before, parse_expr_or_spread(p));
-        let comma = held!(
+        held!(p, before, p.add(&mut items, arg));
+        trailing_comma = held!(
             p,
             before,
             separate_args(&mut p.input, start, is_dynamic_import)
         );
-        held!(p, before, p.add(&mut items, arg));
-        trailing_comma = comma;
     }
 }
 
@@ -782,4 +832,175 @@ fn finish_assignment_expr<I: Tokens, B: Bodies<I>>(
     let right = parse_assignment_expr(p)?;
     let node = p.nodes.assign_expr(op, left, right);
     p.made(node)
+}
+
+// ---- Binding patterns (ECMA-262, 14.3.3) and formal parameters (15.1)
+
+/// A binding pattern (ECMA-262, 14.3.3): an identifier that is bound (13.1), an array pattern or an object pattern,
+/// among whose properties no colon of a conditional is expected. Another token is refused as `Unexpected`, at that
+/// token, and the end as `Eof`. The context is that from before, also after a refusal.
+#[cycle(productions)]
+pub fn parse_pat<I: Tokens, B: Bodies<I>>(p: &mut Productions<I, B>) -> PResult<PatId>
+    ensures { Produces I.model B.is_faithful pat_itself pat_at (run B.forms (sym Pat))
+        (count p.old.nodes) p.old result p.new }
+{
+    look(&mut p.input)?;
+    match pat_kind(&p.input) {
+        PatKind::Array => {
+            let start = p.cur_span();
+            skip(&mut p.input);
+            let elems = parse_pat_elements(p)?;
+            array_pat(p, start, elems)
+        }
+        PatKind::Object => {
+            let (start, ctx) = open_object(&mut p.input);
+            let props = parse_pat_props(p);
+            set_ctx(&mut p.input, ctx);
+            object_pat(p, start, props?)
+        }
+        PatKind::Plain => parse_plain_pat(p),
+    }
+}
+
+/// A binding pattern, and its initialiser or none (ECMA-262, 14.3.3), in which `in` counts as an operator.
+#[cycle(productions)]
+pub fn parse_binding_element<I: Tokens, B: Bodies<I>>(p: &mut Productions<I, B>) -> PResult<PatId>
+    ensures { Produces I.model B.is_faithful pat_itself pat_at (run B.forms (sym Element))
+        (count p.old.nodes) p.old result p.new }
+{
+    let left = parse_pat(p)?;
+    match eat(&mut p.input, Sign::Assign)? {
+        Some(_) => {
+            let value = with_in!(p, parse_assignment_expr)?;
+            default_pat(p, left, value)
+        }
+        None => Ok(left),
+    }
+}
+
+/// The elements of an array pattern (ECMA-262, 14.3.3), a comma behind each, which may be missing behind the last one,
+/// and the bracket that closes the pattern. A comma where an element would stand is a hole (`None`).
+#[cycle(productions)]
+fn parse_pat_elements<I: Tokens, B: Bodies<I>>(
+    p: &mut Productions<I, B>,
+) -> PResult<Listed<Option<PatId>>>
+    ensures { Produces I.model B.is_faithful pat_elems_of pat_elems_at (run B.forms (sym PatElements))
+        (count p.old.nodes) p.old result p.new }
+{
+    let mut items = Vec::new(p.alloc);
+    let mut rest = SeenRest::No;
+    loop {
+        match next_element(&mut p.input, rest)? {
+            NextElement::End(end) => {
+                return Ok(Listed {
+                    items,
+                    trailing_comma: None,
+                    end,
+                });
+            }
+            NextElement::Hole => {
+                p.add(&mut items, None)?;
+                rest = rest.passed();
+            }
+            NextElement::Item(dots) => {
+                let pat = match dots {
+                    Some(dots) => {
+                        let arg = parse_pat(p)?;
+                        rest_pat(p, dots, arg)?
+                    }
+                    None => parse_binding_element(p)?,
+                };
+                p.add(&mut items, Some(pat))?;
+                rest = separate_item(&mut p.input, Sign::RBracket, dots, rest)?;
+            }
+        }
+    }
+}
+
+/// The properties of an object pattern (ECMA-262, 14.3.3), and rests among them, wherever they stand, a comma behind
+/// each, which may be missing behind the last one, and the brace that closes the pattern.
+#[cycle(productions)]
+fn parse_pat_props<I: Tokens, B: Bodies<I>>(
+    p: &mut Productions<I, B>,
+) -> PResult<Listed<PatPropNode>>
+    ensures { Leaves I.model B.is_faithful pat_props_of (run B.forms (sym PatProps))
+        (λ ns l. props_done (pat_props_at ns l)) (count p.old.nodes) p.old result p.new }
+{
+    listed!(
+        p,
+        Sign::RBrace,
+        items,
+        {
+            let prop = parse_object_pat_prop(p)?;
+            p.add(&mut items, prop)?;
+            separate(&mut p.input, Sign::RBrace)?
+        }
+    )
+}
+
+/// A property of an object pattern (ECMA-262, 14.3.3): a rest over any pattern; a key, and behind its `:` an element; a
+/// name alone; or a name, and behind its `=` an initialiser, in which `in` counts as an operator.
+#[cycle(productions)]
+pub fn parse_object_pat_prop<I: Tokens, B: Bodies<I>>(
+    p: &mut Productions<I, B>,
+) -> PResult<PatPropNode>
+    ensures { Produces I.model B.is_faithful pat_prop_of pat_prop_at (pat_prop_item B.forms)
+        (count p.old.nodes) p.old result p.new }
+{
+    match eat(&mut p.input, Sign::DotDotDot)? {
+        Some(dots) => {
+            let arg = parse_pat(p)?;
+            return Ok(p.nodes.rest_pat_prop(dots, arg));
+        }
+        None => {}
+    }
+    let key = parse_prop_name(p)?;
+    match after_pat_key(&mut p.input, key)? {
+        AfterPatKey::Value(key) => {
+            let value = parse_binding_element(p)?;
+            Ok(p.nodes.key_pat_prop(key, value))
+        }
+        AfterPatKey::Default(name) => {
+            let value = with_in!(p, parse_assignment_expr)?;
+            Ok(p.nodes.default_pat_prop(name, value))
+        }
+        AfterPatKey::Name(name) => Ok(name_pat_prop(name)),
+    }
+}
+
+/// Formal parameters (ECMA-262, 15.1), a comma behind each, which may be missing behind the last one, up to the
+/// parenthesis that closes them, which stays, or to the end where a parameter could begin. A rest may have an
+/// initialiser, which is recorded.
+#[cycle(productions)]
+pub fn parse_formal_params<I: Tokens, B: Bodies<I>>(
+    p: &mut Productions<I, B>,
+) -> PResult<Vec<Param<PatId>>>
+    ensures { Leaves I.model B.is_faithful params_of (run B.forms (sym Params))
+        (λ ns ps. params_close (params_at ns ps)) (count p.old.nodes) p.old result p.new }
+{
+    let mut params = Vec::new(p.alloc);
+    let mut rest = SeenRest::No;
+    loop {
+        match next_param(&mut p.input, rest)? {
+            NextParam::End => return Ok(params),
+            NextParam::Item(dots) => {
+                let pat = match dots {
+                    Some(dots) => {
+                        let arg = parse_pat(p)?;
+                        match eat(&mut p.input, Sign::Assign)? {
+                            Some(_) => {
+                                let value = parse_assignment_expr(p)?;
+                                rest_default(p, dots, arg, value)?
+                            }
+                            None => rest_pat(p, dots, arg)?,
+                        }
+                    }
+                    None => parse_binding_element(p)?,
+                };
+                let param = param_of(p, pat);
+                p.add(&mut params, param)?;
+                rest = separate_item(&mut p.input, Sign::RParen, dots, rest)?;
+            }
+        }
+    }
 }

@@ -1,36 +1,26 @@
 -- The clean parser's steps in arguments (13.3.8) and in parentheses (13.2.9), as the code goes them.
-use Rattle.std.specs.Prelude.{◌≡◌, ℕ, Bool, true, false, ◌||◌, if◌then◌else◌, List, [], ◌∷◌, ◌++◌, Option, Some, None}
+use Rattle.std.specs.Prelude.{◌≡◌, Bool, true, false, ◌||◌, if◌then◌else◌, List, [], ◌∷◌, Option, Some, None}
 use Rattle.std.proofs.Common.{refl, sym, ap, ◌∙◌}
 use Rattle.swc_context.specs.declared.span.Span.{Span}
 use Rattle.swc_input.specs.declared.token.Token.{Token}
 use Rattle.swc_input.specs.declared.token.Token.TheVariants as token
 use Rattle.swc_input.specs.declared.token.TokenAndSpan.{TokenAndSpan}
 use Rattle.swc_input.specs.Kinds.{at_token}
-use Rattle.swc_ast.specs.Parts.{item_tree, item_trees}
-use Rattle.swc_ast.specs.Tree.{Tree, Trees, nil, cons}
-use Rattle.swc_ast.specs.Trees.{listed, items_of, put_first, trees_append, has_items, comma_ok, behind_comma}
-use Rattle.swc_ast.specs.declared.expr.ExprOrSpread.{ExprOrSpread}
-use Rattle.swc_ast.specs.declared.spanned.Spanned.{Ghosts}
+use Rattle.swc_ast.specs.Tree.{Tree, nil}
+use Rattle.swc_ast.specs.Trees.{listed, items_of, put_first, has_items, comma_ok, behind_comma}
 use Rattle.swc_bodies.specs.Readings.{Hook}
 use Rattle.swc_grammar.specs.Scope.{Scope}
-use Rattle.swc_grammar.specs.Rule.{◌>>◌}
 use Rattle.swc_grammar.specs.Symbols.{Args, ArgsTail, Item}
 use Rattle.swc_grammar.specs.Tokens.{tk, with_in, is_rparen, import_comma_ok, is_lparen}
-use Rattle.swc_grammar.specs.Clean.{Out, and_then, first, sym as at, exec, step, run}
+use Rattle.swc_grammar.specs.Clean.{Out, and_then, first, sym as at, run}
 use Rattle.swc_grammar.specs.Words.{◌>>=◌}
 use Rattle.swc_grammar.proofs.Knot.{knot}
 use Rattle.swc_grammar.proofs.Only.{rparen-is}
-use Rattle.swc_nodes.specs.NodeParts.{flat, item_parts}
-use Rattle.swc_nodes.specs.GrowingNodes.{Apart, Grows}
-use Rattle.swc_nodes.specs.declared.node.ExprId.{ExprId}
-use Rattle.swc_nodes.specs.declared.nodes.Nodes.{Nodes}
-use Rattle.swc_nodes.proofs.Lists.{list-more, item-same}
-use Rattle.swc_steps.specs.Args.{args_inside, arg_item, args_behind, args_more, args_by, last_by, last_comma}
-use Rattle.swc_steps.specs.Args.{comma_behind, separated_args, paren_of, paren_expr_tail}
+use Rattle.swc_steps.specs.Args.{args_inside, arg_item, last_by, last_comma, comma_behind, separated_args, paren_of}
+use Rattle.swc_steps.specs.Args.{paren_expr_tail}
 use Rattle.swc_steps.specs.Lists.{eaten, closed, separated, behind}
-use Rattle.swc_steps.specs.Parsing.{tree_of, item_at}
 use Rattle.swc_steps.specs.Readers.{reading, by_production}
-use Rattle.swc_steps.proofs.Lists.{calls, tail_left, list_from, item_more, IsList, list_splits, list_first}
+use Rattle.swc_steps.proofs.Lists.{calls, tail_left, list_from, item_more, IsList}
 use Rattle.swc_grammar.specs.Grammar.{paren-expr}
 
 pub neither : (a b : Bool) → (a || b) ≡ false → (a ≡ false) × (b ≡ false)
@@ -192,39 +182,13 @@ module _ {F C K : Type 0} (hook : Hook F C K) where
   args_step : (i : Bool) (x : Scope) (ts : List TokenAndSpan) → at_token is_rparen (first ts) ≡ false
       → run hook (at (Args i)) x ts
       ≡ (arg_item hook i x ts >>= list_from (run hook (at (Args i))) x)
-  unfolding arg_item
   args_step i x ts h =
       args_runs i x ts h
       ∙ item_more (run hook (at (Args i))) (run hook (at Item)) (run hook (at (ArgsTail i))) (separated_args i) (tail_is i)
       x ts
 
-  pub arg_item_splits : (i : Bool) (x : Scope) (ts : List TokenAndSpan)
-      → arg_item hook i x ts
-      ≡ (run hook (at Item) x ts >>= (λ p. separated_args i x p.1 >>= (λ q. Some ((p.0, q.0), q.1))))
-  unfolding arg_item
-  arg_item_splits i x ts = refl
-
-  pub args_more_splits : (i : Bool) (before : Trees F C K) (x : Scope) (ts : List TokenAndSpan)
-      → args_more hook i before x ts
-      ≡ (arg_item hook i x ts >>= (λ p. args_behind hook i (trees_append before (cons p.0.0 nil)) p.0.1 x p.1))
-  unfolding args_more
-  args_more_splits i before x ts = refl
-
-  args_list : (i : Bool) → IsList is_rparen (run hook (at (Args i))) (arg_item hook i)
+  pub args_list : (i : Bool) → IsList is_rparen (run hook (at (Args i))) (arg_item hook i)
   args_list i = record { close = args_close i; step = args_step i }
-
-  pub behind_splits : (i : Bool) (before : Trees F C K) (comma : Option Span) (x : Scope) (ts : List TokenAndSpan)
-      → args_behind hook i before comma x ts
-      ≡ (eaten is_rparen x ts >>= (λ p. args_by hook i before comma p.0 x p.1))
-  unfolding args_behind args_more
-  behind_splits i before comma x ts =
-      list_splits (args_list i) before comma (args_by hook i before comma) (λ s y us. refl) (λ y us. refl) x ts
-
-  -- before the first argument
-  pub args_first : (i : Bool) (x : Scope) (ts : List TokenAndSpan)
-      → run hook (at (Args i)) x ts ≡ args_behind hook i nil None x ts
-  unfolding args_behind
-  args_first i x ts = list_first (args_list i) x ts
 
   -- ---- parentheses (13.2.9)
 
@@ -237,11 +201,3 @@ module _ {F C K : Type 0} (hook : Hook F C K) where
       → paren_expr_tail hook s x ts ≡ (args_inside hook false x ts >>= (λ p. paren_of s p.0 p.1))
   unfolding paren_expr_tail
   paren_expr_splits s x ts = refl
-
-module _ {F C K : Type 0} {fg : Ghosts F} {cg : Ghosts C} {kg : Ghosts K} where
-  -- items, and one that is read behind them
-  pub items-more : {ns ms : Nodes F C K fg cg kg} {k : ℕ} (xs : List (ExprOrSpread ExprId)) (x : ExprOrSpread ExprId)
-      → Grows ns ms → Apart k ns (flat item_parts xs)
-      → item_trees (tree_of ms) (xs ++ x ∷ [])
-      ≡ trees_append (item_trees (tree_of ns) xs) (cons (item_at ms x) nil)
-  items-more xs x g a = list-more item_parts (λ at x. item_tree (λ e. at e.0) x) item-same xs x g a

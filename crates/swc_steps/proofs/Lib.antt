@@ -5,6 +5,7 @@ pub mod Endings
 pub mod Hearing
 pub mod Keys
 pub mod Lists
+pub mod Loops
 pub mod Making
 pub mod Naming
 pub mod PrivateNames

@@ -12,15 +12,15 @@ use Rattle.swc_grammar.specs.Scope.{Scope}
 use Rattle.swc_grammar.specs.Symbols.{Assign, Primary, Elements, ElementsTail, Item}
 use Rattle.swc_grammar.specs.Tokens.{tk, with_in, is_comma, is_dots, is_lbracket, is_rbracket}
 use Rattle.swc_grammar.specs.Grammar.{array-lit}
-use Rattle.swc_grammar.specs.Clean.{Out, and_then, first, sym as at, exec, pick, primary, step, run}
+use Rattle.swc_grammar.specs.Clean.{Out, and_then, first, sym as at, primary, run}
 use Rattle.swc_grammar.specs.Words.{◌>>=◌}
 use Rattle.swc_grammar.proofs.Knot.{knot}
 use Rattle.swc_grammar.proofs.Only.{lbracket-is, rbracket-is}
 use Rattle.swc_grammar.proofs.Rules.{run_picked}
 use Rattle.swc_steps.specs.Readers.{reading, by_production}
-use Rattle.swc_steps.specs.Lists.{eaten, eaten_by, closed, separated, separated_by, behind, put_before, elements_inside}
-use Rattle.swc_steps.specs.Lists.{array_lit_tail, element, element_by, element_item, elements_behind, elements_more}
-use Rattle.swc_steps.specs.Lists.{behind_by}
+use Rattle.swc_steps.specs.Lists.{eaten, eaten_by, closed, separated, separated_by, behind, put_before, with_comma}
+use Rattle.swc_steps.specs.Lists.{or_elided, elided_by, left_behind, left_from, left_by, elements_inside, array_lit_tail}
+use Rattle.swc_steps.specs.Lists.{element, element_item}
 use Rattle.swc_ast.specs.Parts.{item_of}
 use Rattle.swc_ast.specs.Trees.{to, array_e, listed, items_of, comma_of, put_first, trees_append}
 use Rattle.swc_nodes.proofs.Lists.{trees_append-assoc, trees_append-nil}
@@ -92,21 +92,14 @@ module _ {F C K : Type 0} (all : Scope → List TokenAndSpan → Out (Tree F C K
   abbrev pub list_from : Scope → (Tree F C K × Option Span) × List TokenAndSpan → Out (Tree F C K)
   list_from x p = all x p.1 >>= (λ q. Some (put_first p.0.0 (behind p.0.1 q.0), q.1))
 
-  -- behind some items, and the comma behind the last of them: those that are left; and from the next item on
-  abbrev pub left_behind : Trees F C K → Option Span → Scope → List TokenAndSpan → Out (Tree F C K)
-  left_behind before comma x ts = all x ts >>= (λ p. Some (put_before before (behind comma p.0), p.1))
-
-  abbrev pub left_from : (Scope → List TokenAndSpan → Out (Tree F C K × Option Span)) → Trees F C K
-      → Scope → List TokenAndSpan → Out (Tree F C K)
-  left_from one before x ts = one x ts >>= (λ p. left_behind (trees_append before (cons p.0.0 nil)) p.0.1 x p.1)
-
   -- an item, and what stands behind it
   pub item_more : (item tail : Scope → List TokenAndSpan → Out (Tree F C K))
       (separates : Scope → List TokenAndSpan → Out (Option Span))
       → ((x : Scope) (us : List TokenAndSpan) → tail x us ≡ (separates x us >>= tail_left x))
       → (x : Scope) (ts : List TokenAndSpan)
       → and_then (item x ts) (λ e us. and_then (tail x us) (λ es vs. Some (put_first e es, vs)))
-      ≡ ((item x ts >>= (λ p. separates x p.1 >>= (λ q. Some ((p.0, q.0), q.1)))) >>= list_from x)
+      ≡ (with_comma item separates x ts >>= list_from x)
+  unfolding with_comma
   item_more item tail separates tail_is x ts =
       calls (item x ts) _
       ∙ bind_same (item x ts) _ _ (λ p.
@@ -130,6 +123,7 @@ module _ {F C K : Type 0} {closes : Token → Bool} {all : Scope → List TokenA
   -- from an item on
   behind_more : (before : Trees F C K) (comma : Option Span) (x : Scope) (ts : List TokenAndSpan)
       → at_token closes (first ts) ≡ false → left_behind all before comma x ts ≡ left_from all one before x ts
+  unfolding left_behind left_from
   behind_more before comma x ts h =
       ap (λ o. o >>= (λ p. Some (put_before before (behind comma p.0), p.1))) (list.step x ts h)
       ∙ sym (binds (one x ts) _ _)
@@ -138,32 +132,27 @@ module _ {F C K : Type 0} {closes : Token → Bool} {all : Scope → List TokenA
       ∙ bind_same (all x p.1) _ _ (λ q.
       ap (λ v. Some (v, q.1)) (twice before comma p.0.0 (behind p.0.1 q.0))))
 
-  behind_by_test : (before : Trees F C K) (comma : Option Span)
-      (by : Option Span → Scope → List TokenAndSpan → Out (Tree F C K))
-      → ((s : Span) (x : Scope) (ts : List TokenAndSpan) → Some (listed comma s before, ts) ≡ by (Some s) x ts)
-      → ((x : Scope) (ts : List TokenAndSpan) → left_from all one before x ts ≡ by None x ts)
-      → (b : Bool) (x : Scope) (ts : List TokenAndSpan) → at_token closes (first ts) ≡ b
-      → left_behind all before comma x ts ≡ (eaten_by b ts >>= (λ p. by p.0 x p.1))
-  behind_by_test before comma by ends goes true x [] h = absurd cc
-  behind_by_test before comma by ends goes true x (t ∷ ts) h =
+  behind_by_test : (before : Trees F C K) (comma : Option Span) (b : Bool) (x : Scope) (ts : List TokenAndSpan)
+      → at_token closes (first ts) ≡ b
+      → left_behind all before comma x ts ≡ (eaten_by b ts >>= (λ p. left_by all one before comma p.0 x p.1))
+  unfolding left_behind
+  behind_by_test before comma true x [] h = absurd cc
+  behind_by_test before comma true x (t ∷ ts) h =
       ap (λ o. o >>= (λ p. Some (put_before before (behind comma p.0), p.1))) (list.close x t ts h)
-      ∙ ap (λ v. Some (v, ts)) (ended before comma t.span) ∙ ends t.span x ts
-  behind_by_test before comma by ends goes false x ts h = behind_more before comma x ts h ∙ goes x ts
+      ∙ ap (λ v. Some (v, ts)) (ended before comma t.span)
+  behind_by_test before comma false x ts h = behind_more before comma x ts h
 
   -- behind some items the list is closed, or goes on
-  pub list_splits : (before : Trees F C K) (comma : Option Span)
-      (by : Option Span → Scope → List TokenAndSpan → Out (Tree F C K))
-      → ((s : Span) (x : Scope) (ts : List TokenAndSpan) → Some (listed comma s before, ts) ≡ by (Some s) x ts)
-      → ((x : Scope) (ts : List TokenAndSpan) → left_from all one before x ts ≡ by None x ts)
-      → (x : Scope) (ts : List TokenAndSpan)
-      → left_behind all before comma x ts ≡ (eaten closes x ts >>= (λ p. by p.0 x p.1))
+  pub list_splits : (before : Trees F C K) (comma : Option Span) (x : Scope) (ts : List TokenAndSpan)
+      → left_behind all before comma x ts
+      ≡ (eaten closes x ts >>= (λ p. left_by all one before comma p.0 x p.1))
   unfolding eaten
-  list_splits before comma by ends goes x ts =
-      behind_by_test before comma by ends goes (at_token closes (first ts)) x ts refl
+  list_splits before comma x ts = behind_by_test before comma (at_token closes (first ts)) x ts refl
 
   -- before the first item
   first_by_test : (b : Bool) (x : Scope) (ts : List TokenAndSpan) → at_token closes (first ts) ≡ b
       → all x ts ≡ left_behind all nil None x ts
+  unfolding left_behind
   first_by_test true x [] h = absurd cc
   first_by_test true x (t ∷ ts) h =
       let e = list.close x t ts h in
@@ -176,6 +165,30 @@ module _ {F C K : Type 0} {closes : Token → Bool} {all : Scope → List TokenA
 
   pub list_first : (x : Scope) (ts : List TokenAndSpan) → all x ts ≡ left_behind all nil None x ts
   list_first x ts = first_by_test (at_token closes (first ts)) x ts refl
+
+-- ---- the parts of a list
+
+module _ {F C K : Type 0} where
+  pub with_comma_splits : (item : Scope → List TokenAndSpan → Out (Tree F C K))
+      (separates : Scope → List TokenAndSpan → Out (Option Span)) (x : Scope) (ts : List TokenAndSpan)
+      → with_comma item separates x ts
+      ≡ (item x ts >>= (λ p. separates x p.1 >>= (λ q. Some ((p.0, q.0), q.1))))
+  unfolding with_comma
+  with_comma_splits item separates x ts = refl
+
+  pub elided_splits : (one : Scope → List TokenAndSpan → Out (Tree F C K × Option Span)) (x : Scope)
+      (ts : List TokenAndSpan)
+      → or_elided one x ts ≡ (eaten is_comma x ts >>= (λ p. elided_by one p.0 x p.1))
+  unfolding or_elided
+  elided_splits one x ts = refl
+
+  pub left_splits : (all : Scope → List TokenAndSpan → Out (Tree F C K))
+      (one : Scope → List TokenAndSpan → Out (Tree F C K × Option Span)) (before : Trees F C K) (x : Scope)
+      (ts : List TokenAndSpan)
+      → left_from all one before x ts
+      ≡ (one x ts >>= (λ p. left_behind all (trees_append before (cons p.0.0 nil)) p.0.1 x p.1))
+  unfolding left_from
+  left_splits all one before x ts = refl
 
 module _ {F C K : Type 0} (hook : Hook F C K) where
   -- ---- array literals (13.2.4)
@@ -233,7 +246,6 @@ module _ {F C K : Type 0} (hook : Hook F C K) where
       → and_then (run hook (at Item) x ts) (λ e us. and_then (run hook (at ElementsTail) x us)
       (λ es vs. Some (put_first e es, vs)))
       ≡ (element_item hook x ts >>= list_from (run hook (at Elements)) x)
-  unfolding element_item
   item_step x ts =
       item_more (run hook (at Elements)) (run hook (at Item)) (run hook (at ElementsTail)) (separated is_rbracket) tail_is
       x ts
@@ -241,7 +253,7 @@ module _ {F C K : Type 0} (hook : Hook F C K) where
   step_token : (x : Scope) (v : Token) (b : Bool) (s : Span) (us : List TokenAndSpan) → is_rbracket v ≡ false
       → run hook (at Elements) x (tk v b s ∷ us)
       ≡ (element hook x (tk v b s ∷ us) >>= list_from (run hook (at Elements)) x)
-  unfolding element eaten
+  unfolding or_elided eaten
   step_token x token.Comma b s us h =
       knot hook (at Elements) x (tk token.Comma b s ∷ us) ∙ calls (run hook (at Elements) x us) _
   step_token x token.RBracket b s us h = absurd cc
@@ -251,42 +263,12 @@ module _ {F C K : Type 0} (hook : Hook F C K) where
   pub elements_step : (x : Scope) (ts : List TokenAndSpan) → at_token is_rbracket (first ts) ≡ false
       → run hook (at Elements) x ts
       ≡ (element hook x ts >>= list_from (run hook (at Elements)) x)
-  unfolding element eaten
+  unfolding or_elided eaten
   elements_step x [] h = knot hook (at Elements) x [] ∙ item_step x []
   elements_step x (t ∷ ts) h = step_token x t.token t.had_line_break t.span ts h
 
-  pub element_splits : (x : Scope) (ts : List TokenAndSpan)
-      → element hook x ts ≡ (eaten is_comma x ts >>= (λ p. element_by hook p.0 x p.1))
-  unfolding element
-  element_splits x ts = refl
-
-  pub element_item_splits : (x : Scope) (ts : List TokenAndSpan)
-      → element_item hook x ts
-      ≡ (run hook (at Item) x ts >>= (λ p. separated is_rbracket x p.1 >>= (λ q. Some ((p.0, q.0), q.1))))
-  unfolding element_item
-  element_item_splits x ts = refl
-
-  pub elements_more_splits : (before : Trees F C K) (x : Scope) (ts : List TokenAndSpan)
-      → elements_more hook before x ts
-      ≡ (element hook x ts >>= (λ p. elements_behind hook (trees_append before (cons p.0.0 nil)) p.0.1 x p.1))
-  unfolding elements_more
-  elements_more_splits before x ts = refl
-
-  elements_list : IsList is_rbracket (run hook (at Elements)) (element hook)
+  pub elements_list : IsList is_rbracket (run hook (at Elements)) (element hook)
   elements_list = record { close = elements_close; step = elements_step }
-
-  pub behind_splits : (before : Trees F C K) (comma : Option Span) (x : Scope) (ts : List TokenAndSpan)
-      → elements_behind hook before comma x ts
-      ≡ (eaten is_rbracket x ts >>= (λ p. behind_by hook before comma p.0 x p.1))
-  unfolding elements_behind elements_more
-  behind_splits before comma x ts =
-      list_splits elements_list before comma (behind_by hook before comma) (λ s y us. refl) (λ y us. refl) x ts
-
-  -- before the first element
-  pub elements_first : (x : Scope) (ts : List TokenAndSpan)
-      → run hook (at Elements) x ts ≡ elements_behind hook nil None x ts
-  unfolding elements_behind
-  elements_first x ts = list_first elements_list x ts
 
   -- ---- items (13.2.4, 13.3.8)
 

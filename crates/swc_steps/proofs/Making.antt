@@ -45,16 +45,25 @@ module _ {S H F C K : Type 0} {fg : Ghosts F} {cg : Ghosts C} {kg : Ghosts K} {m
   pub no_more : {p q : Productions S H F C K fg cg kg} {e : Error} → Unheard model sure f p.input e q.input → Grows p.nodes q.nodes → GoesOn model sure held view f k p (Err e) q
   no_more u g = record { reads = u; falls = tt; grows = g; from = tt }
 
-  -- refused, as a `?` passes it on
+  -- what a `?` passes on
+  pub passed : {p q : Productions S H F C K fg cg kg} {e : Error} {r : Result T Error} → IsErrAnd r (λ x. x ≡ e)
+      → Produces model sure held view f k p (Err e) q → Produces model sure held view f k p r q
+  passed {r = Ok x} h done = absurd h
+  passed {r = Err x} h done = rw h done
+
+  pub passed_more : {p q : Productions S H F C K fg cg kg} {e : Error} {r : Result T Error} → IsErrAnd r (λ x. x ≡ e)
+      → GoesOn model sure held view f k p (Err e) q → GoesOn model sure held view f k p r q
+  passed_more {r = Ok x} h done = absurd h
+  passed_more {r = Err x} h done = rw h done
+
+  -- refused so
   pub refused : {p q : Productions S H F C K fg cg kg} {e : Error} {r : Result T Error} → IsErrAnd r (λ x. x ≡ e)
       → Unheard model sure f p.input e q.input → Grows p.nodes q.nodes → Produces model sure held view f k p r q
-  refused {r = Ok x} h u g = absurd h
-  refused {r = Err x} h u g = rw h (no u g)
+  refused h u g = passed h (no u g)
 
   pub refused_more : {p q : Productions S H F C K fg cg kg} {e : Error} {r : Result T Error} → IsErrAnd r (λ x. x ≡ e)
       → Unheard model sure f p.input e q.input → Grows p.nodes q.nodes → GoesOn model sure held view f k p r q
-  refused_more {r = Ok x} h u g = absurd h
-  refused_more {r = Err x} h u g = rw h (no_more u g)
+  refused_more h u g = passed_more h (no_more u g)
 
   -- read
   pub yes : {p q : Productions S H F C K fg cg kg} (r : Result T Error) → Parses model sure (view q.nodes) f p.input r q.input → Grows p.nodes q.nodes → IfOk r (λ t. held k q.nodes t) → Produces model sure held view f k p r q

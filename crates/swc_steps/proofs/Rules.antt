@@ -25,7 +25,7 @@ use Rattle.swc_grammar.specs.Rule.{gives, take, check, read, given, ◌>>=◌ as
 use Rattle.swc_bodies.specs.Readings.{Hook, LawfulHook, begins, begins_function, is_class, is_function, is_async}
 use Rattle.swc_bodies.specs.Readings.{is_brace, is_function_here}
 use Rattle.swc_grammar.specs.Symbols.{Assign, Level, Unary, Primary, Literal, Template, Side, function, class}
-use Rattle.swc_grammar.specs.Tokens.{is_backquote, is_slash, is_regex, begins_regex, tk, with_in, is_reference}
+use Rattle.swc_grammar.specs.Tokens.{is_backquote, is_slash, is_regex, begins_regex, with_in, is_reference}
 use Rattle.swc_grammar.specs.Tokens.{is_strict_word, ref_ok, is_put_off, prefix_of, is_lparen, is_this, is_lbracket}
 use Rattle.swc_grammar.specs.Tokens.{is_update, is_await, is_yield}
 use Rattle.swc_grammar.specs.Names.{Spelling, spelling, may_refer, may_name, spelled}

@@ -22,7 +22,7 @@ pub use Rattle.swc_steps.proofs.Steps.Tokens.{on_here, on_by, on_seen, on_told, 
 pub use Rattle.swc_steps.proofs.Steps.Tokens.{heard_after, heard_then, on_to, heard_took, heard_first, on_none}
 pub use Rattle.swc_steps.proofs.Steps.Tokens.{on_answer, heard_answer}
 pub use Rattle.swc_steps.proofs.Steps.Calls.{on_call, unheard_call, heard_call, heard_more, heard_as, on_call_read}
-pub use Rattle.swc_steps.proofs.Steps.Calls.{heard_call_read, heard_more_read}
+pub use Rattle.swc_steps.proofs.Steps.Calls.{heard_call_read, heard_more_read, on_within_call}
 pub use Rattle.swc_steps.proofs.Steps.Refusals.{on_doomed, unheard_doomed, unheard_after, unheard_looked}
 pub use Rattle.swc_steps.proofs.Steps.Refusals.{unheard_none, unheard_at, unheard_told, unheard_memory, unheard_as}
 pub use Rattle.swc_steps.proofs.Steps.Refusals.{unheard_unfit, continues_recovered, parses_recovered}
@@ -33,4 +33,4 @@ pub use Rattle.swc_steps.proofs.Steps.Results.{parses_after, continues_after, pa
 pub use Rattle.swc_steps.proofs.Steps.Results.{consumes_then, continues_of, parses_ok, parses_err, node_parses}
 pub use Rattle.swc_steps.proofs.Steps.Results.{node_continues, parses_call, parses_call_read, tries_then, eats_acts}
 pub use Rattle.swc_steps.proofs.Steps.Results.{eats_none, eats_some, eats_on}
-pub use Rattle.swc_steps.proofs.Steps.Contexts.{moved, within, on_within, parses_within, parses_aside}
+pub use Rattle.swc_steps.proofs.Steps.Contexts.{moved, within, on_within, on_aside, parses_within, parses_aside}

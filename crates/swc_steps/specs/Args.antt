@@ -4,8 +4,8 @@ use Rattle.swc_context.specs.declared.span.BytePos.{BytePos}
 use Rattle.swc_context.specs.declared.span.Span.{Span}
 use Rattle.swc_input.specs.declared.token.TokenAndSpan.{TokenAndSpan}
 use Rattle.swc_input.specs.Kinds.{at_token, is_hash}
-use Rattle.swc_ast.specs.Tree.{Tree, Trees, nil, cons, span_of}
-use Rattle.swc_ast.specs.Trees.{to, listed, items_of, trees_append, seq_of, held_exprs, paren_ok, paren_e}
+use Rattle.swc_ast.specs.Tree.{Tree, span_of}
+use Rattle.swc_ast.specs.Trees.{to, items_of, seq_of, held_exprs, paren_ok, paren_e}
 use Rattle.swc_bodies.specs.Readings.{Hook}
 use Rattle.swc_grammar.specs.Scope.{Scope}
 use Rattle.swc_grammar.specs.Symbols.{Args, Item}
@@ -13,7 +13,7 @@ use Rattle.swc_grammar.specs.Tokens.{with_in, is_rparen, import_comma_ok}
 use Rattle.swc_grammar.specs.Clean.{Out, first, sym, run}
 use Rattle.swc_grammar.specs.Names.{Spelling, spelling, may_name}
 use Rattle.swc_grammar.specs.Words.{◌>>=◌, rest, begins_at, word}
-use Rattle.swc_steps.specs.Lists.{separated, behind, put_before}
+use Rattle.swc_steps.specs.Lists.{separated, with_comma}
 use Rattle.swc_nodes.specs.Lists.{seq_between}
 
 -- ---- names, and commas behind arguments
@@ -61,23 +61,8 @@ module _ {F C K : Type 0} (hook : Hook F C K) where
   args_inside i c ts = run hook (sym (Args i)) (with_in c) ts
 
   -- one argument, and the comma behind it, or before the parenthesis that closes the list
-  unfoldable pub arg_item : Bool → Scope → List TokenAndSpan → Out (Tree F C K × Option Span)
-  arg_item i c ts = run hook (sym Item) c ts >>= (λ p. separated_args i c p.1 >>= (λ q. Some ((p.0, q.0), q.1)))
-
-  -- Behind some arguments, and the comma behind the last of them: those that are left, to where the list is closed; and
-  -- from the next argument on.
-  unfoldable pub args_behind : Bool → Trees F C K → Option Span → Scope → List TokenAndSpan → Out (Tree F C K)
-  args_behind i before comma c ts =
-      run hook (sym (Args i)) c ts >>= (λ p. Some (put_before before (behind comma p.0), p.1))
-
-  unfoldable pub args_more : Bool → Trees F C K → Scope → List TokenAndSpan → Out (Tree F C K)
-  args_more i before c ts =
-      arg_item i c ts >>= (λ p. args_behind i (trees_append before (cons p.0.0 nil)) p.0.1 c p.1)
-
-  abbrev pub args_by : Bool → Trees F C K → Option Span → Option Span → Scope → List TokenAndSpan
-      → Out (Tree F C K)
-  args_by i before comma (Some s) c ts = Some (listed comma s before, ts)
-  args_by i before comma None c ts = args_more i before c ts
+  abbrev pub arg_item : Bool → Scope → List TokenAndSpan → Out (Tree F C K × Option Span)
+  arg_item i = with_comma (run hook (sym Item)) (separated_args i)
 
   -- ---- parentheses (13.2.9)
 

@@ -82,6 +82,39 @@ behind (Some s) e = behind_comma s e
 abbrev pub put_before : {F C K : Type 0} → Trees F C K → Tree F C K → Tree F C K
 put_before ts e = listed (comma_of e) (span_of e) (trees_append ts (items_of e))
 
+module _ {F C K : Type 0} where
+  -- an item, and the comma behind it, or none
+  unfoldable pub with_comma : (Scope → List TokenAndSpan → Out (Tree F C K))
+      → (Scope → List TokenAndSpan → Out (Option Span)) → Scope → List TokenAndSpan → Out (Tree F C K × Option Span)
+  with_comma item separates c ts = item c ts >>= (λ p. separates c p.1 >>= (λ q. Some ((p.0, q.0), q.1)))
+
+  -- the same, or a hole, which is a comma, and has none behind it
+  abbrev pub elided_by : (Scope → List TokenAndSpan → Out (Tree F C K × Option Span)) → Option Span → Scope
+      → List TokenAndSpan → Out (Tree F C K × Option Span)
+  elided_by one None c ts = one c ts
+  elided_by one (Some s) c ts = Some ((hole_e, None), ts)
+
+  unfoldable pub or_elided : (Scope → List TokenAndSpan → Out (Tree F C K × Option Span)) → Scope → List TokenAndSpan
+      → Out (Tree F C K × Option Span)
+  or_elided one c ts = eaten is_comma c ts >>= (λ p. elided_by one p.0 c p.1)
+
+-- of a list that `all` reads, and of which `one` reads an item with the comma behind it
+module _ {F C K : Type 0} (all : Scope → List TokenAndSpan → Out (Tree F C K)) where
+  -- Behind some items, and the comma behind the last of them: those that are left, to where the list is closed; and
+  -- from the next item on.
+  unfoldable pub left_behind : Trees F C K → Option Span → Scope → List TokenAndSpan → Out (Tree F C K)
+  left_behind before comma c ts = all c ts >>= (λ p. Some (put_before before (behind comma p.0), p.1))
+
+  unfoldable pub left_from : (Scope → List TokenAndSpan → Out (Tree F C K × Option Span)) → Trees F C K → Scope
+      → List TokenAndSpan → Out (Tree F C K)
+  left_from one before c ts =
+      one c ts >>= (λ p. left_behind (trees_append before (cons p.0.0 nil)) p.0.1 c p.1)
+
+  abbrev pub left_by : (Scope → List TokenAndSpan → Out (Tree F C K × Option Span)) → Trees F C K → Option Span
+      → Option Span → Scope → List TokenAndSpan → Out (Tree F C K)
+  left_by one before comma (Some s) c ts = Some (listed comma s before, ts)
+  left_by one before comma None c ts = left_from one before c ts
+
 module _ {F C K : Type 0} (hook : Hook F C K) where
   -- ---- array literals (13.2.4)
 
@@ -90,29 +123,12 @@ module _ {F C K : Type 0} (hook : Hook F C K) where
   elements_inside c ts = run hook (sym Elements) (with_in c) ts
 
   unfoldable pub array_lit_tail : Span → Scope → List TokenAndSpan → Out (Tree F C K)
-  array_lit_tail s c ts = elements_inside c ts >>= (λ p. Some (array_e (comma_of p.0) (to s (span_of p.0)) (items_of p.0), p.1))
+  array_lit_tail s c ts =
+      elements_inside c ts >>= (λ p. Some (array_e (comma_of p.0) (to s (span_of p.0)) (items_of p.0), p.1))
 
-  -- one element, and the comma behind it, or before the bracket that closes the list; a hole has none behind it
-  unfoldable pub element_item : Scope → List TokenAndSpan → Out (Tree F C K × Option Span)
-  element_item c ts = run hook (sym Item) c ts >>= (λ p. separated is_rbracket c p.1 >>= (λ q. Some ((p.0, q.0), q.1)))
+  -- one element, and the comma behind it, or before the bracket that closes the list
+  abbrev pub element_item : Scope → List TokenAndSpan → Out (Tree F C K × Option Span)
+  element_item = with_comma (run hook (sym Item)) (separated is_rbracket)
 
-  abbrev pub element_by : Option Span → Scope → List TokenAndSpan → Out (Tree F C K × Option Span)
-  element_by None c ts = element_item c ts
-  element_by (Some s) c ts = Some ((hole_e, None), ts)
-
-  unfoldable pub element : Scope → List TokenAndSpan → Out (Tree F C K × Option Span)
-  element c ts = eaten is_comma c ts >>= (λ p. element_by p.0 c p.1)
-
-  -- Behind some elements, and the comma behind the last of them: those that are left, to where the list is closed; and from the next
-  -- element on.
-  unfoldable pub elements_behind : Trees F C K → Option Span → Scope → List TokenAndSpan → Out (Tree F C K)
-  elements_behind before comma c ts =
-      run hook (sym Elements) c ts >>= (λ p. Some (put_before before (behind comma p.0), p.1))
-
-  unfoldable pub elements_more : Trees F C K → Scope → List TokenAndSpan → Out (Tree F C K)
-  elements_more before c ts =
-      element c ts >>= (λ p. elements_behind (trees_append before (cons p.0.0 nil)) p.0.1 c p.1)
-
-  abbrev pub behind_by : Trees F C K → Option Span → Option Span → Scope → List TokenAndSpan → Out (Tree F C K)
-  behind_by before comma (Some s) c ts = Some (listed comma s before, ts)
-  behind_by before comma None c ts = elements_more before c ts
+  abbrev pub element : Scope → List TokenAndSpan → Out (Tree F C K × Option Span)
+  element = or_elided element_item

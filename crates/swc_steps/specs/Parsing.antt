@@ -37,14 +37,13 @@ use Rattle.swc_ast.specs.declared.prop.PropName.{PropName}
 use Rattle.swc_ast.specs.declared.spanned.Spanned.{Ghosts}
 use Rattle.swc_grammar.specs.Scope.{Scope}
 use Rattle.swc_grammar.specs.Parts.{lit_of}
-use Rattle.swc_grammar.specs.Clean.{Out, no_error, first, sym}
+use Rattle.swc_grammar.specs.Clean.{Out, no_error, first}
 use Rattle.swc_bodies.specs.Readings.{Reading, is_async, is_function_here}
 use Rattle.swc_grammar.specs.Words.{rest}
 use Rattle.swc_grammar.specs.Names.{Spelling, spelling}
 use Rattle.swc_grammar.specs.Tokens.{is_strict_word}
 use Rattle.swc_nodes.specs.Lists.{elem_parts, elem_tree, elem_trees, props_parts, props_trees}
 use Rattle.swc_nodes.specs.NodeParts.{expr_part, flat, if_some, item_parts, args_parts, key_parts, member_parts}
-use Rattle.swc_nodes.specs.NodeParts.{one_pat}
 use Rattle.swc_nodes.specs.NodeParts.{param_parts, prop_parts}
 use Rattle.swc_nodes.specs.GrowingNodes.{tree_at, count, From, Apart, Grows}
 use Rattle.swc_nodes.specs.declared.node.ExprId.{ExprId}
@@ -304,17 +303,13 @@ module _ {F C K : Type 0} {fg : Ghosts F} {cg : Ghosts C} {kg : Ghosts K} where
   abbrev pub member_name_of : ℕ → Nodes F C K fg cg kg → MemberProp ExprId × BytePos → Type 0
   member_name_of k ns p = Apart k ns (member_parts p.0)
 
-  -- of a key, of a method's function, which has no parameters so far, of a property, with the place of the
-  -- comma behind it or not, and of all properties of an object literal
+  -- of a key, of a method's function, of a property, with the place of the comma behind it or not, and of all
+  -- properties of an object literal
   abbrev pub key_of : ℕ → Nodes F C K fg cg kg → PropName ExprId → Type 0
   key_of k ns x = Apart k ns (key_parts x)
 
   abbrev pub shell_of : ℕ → Nodes F C K fg cg kg → Function PatId K → Type 0
-  shell_of k ns f = Apart k ns (flat param_parts f.params.items) × (f.params.items ≡ [])
-
-  -- of that function, and of a setter's parameter
-  abbrev pub function_of : ℕ → Nodes F C K fg cg kg → Function PatId K × Option PatId → Type 0
-  function_of k ns p = shell_of k ns p.0 × Apart k ns (if_some one_pat p.1)
+  shell_of k ns f = Apart k ns (flat param_parts f.params.items)
 
   abbrev pub prop_of : ℕ → Nodes F C K fg cg kg → PropNode K → Type 0
   prop_of k ns x = Apart k ns (prop_parts x)
@@ -353,9 +348,6 @@ module _ {F C K : Type 0} {fg : Ghosts F} {cg : Ghosts C} {kg : Ghosts K} where
 
   abbrev pub shell_at : Nodes F C K fg cg kg → Function PatId K → Tree F C K
   shell_at ns f = function_tree kg.place (λ p. tree_at ns p.0) f
-
-  abbrev pub function_at : Nodes F C K fg cg kg → Function PatId K × Option PatId → Tree F C K
-  function_at ns p = shell_at ns p.0
 
   abbrev pub prop_at : Nodes F C K fg cg kg → PropNode K → Tree F C K
   prop_at ns x = prop_tree fg.place cg.place kg.place (tree_at ns) x

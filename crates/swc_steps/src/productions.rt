@@ -5,7 +5,7 @@ ghost use Rattle.swc_input.specs.Buffer.{current, context, state_of, previous, l
 ghost use Rattle.swc_input.specs.Buffer.{source as source_of, with_source};
 ghost use Rattle.swc_input.specs.Recording.{no_memory};
 ghost use Rattle.swc_input.specs.Kinds.{at_token};
-ghost use Rattle.swc_grammar.specs.Tokens.{is_ref, is_new};
+ghost use Rattle.swc_grammar.specs.Tokens.{is_ref};
 ghost use Rattle.swc_steps.specs.Keys.{is_key_lit};
 ghost use Rattle.swc_steps.specs.Parsing.{is_strict, is_strict_in, seen, Looks};
 ghost use Rattle.std.specs.Borrow.{sem, follows};
@@ -141,38 +141,27 @@ impl<I: Tokens, B: Bodies<I>> Productions<I, B> {
             Err(_) => Err(self.input.out_of_memory()),
         }
     }
+}
 
-    pub fn is_new(&self) -> bool
-        ensures value { result ≡ at_token is_new (seen self.now.input) }
-        ensures some { result ≡ true → IsSome (current self.now.input) }
-    {
-        matches!(
-            self.input.cur_debug(),
-            Some(Token::Word(Word::Keyword(Keyword::New)))
-        )
-    }
+/// Whether a literal is current that is a key: a string, a number or a big integer.
+pub fn is_key_lit<I: Tokens>(input: &Buffer<I>) -> bool
+    ensures value { result ≡ at_token is_key_lit (seen input.now) }
+    ensures some { result ≡ true → IsSome (current input.now) }
+{
+    matches!(
+        input.cur_debug(),
+        Some(Token::Num { .. } | Token::BigInt { .. } | Token::Str { .. })
+    )
+}
 
-    /// Whether a literal is current that is a key: a string, a number or a big integer.
-    pub fn is_key_lit(&self) -> bool
-        ensures value { result ≡ at_token is_key_lit (seen self.now.input) }
-        ensures some { result ≡ true → IsSome (current self.now.input) }
-    {
-        matches!(
-            self.input.cur_debug(),
-            Some(Token::Num { .. } | Token::BigInt { .. } | Token::Str { .. })
-        )
-    }
-
-    /// Whether a word of strict code is current; `await` is one in a module alone.
-    pub fn is_strict_word(&self) -> bool
-        ensures value { result
-            ≡ at_token (is_strict (context I.model self.now.input).module) (seen self.now.input) }
-    {
-        let is_module = self.get_ctx().module;
-        match self.input.cur_debug() {
-            Some(Token::Word(word)) => is_strict_word(word, is_module),
-            _ => false,
-        }
+/// Whether a word of strict code is current; `await` is one in a module alone.
+pub fn is_strict_word<I: Tokens>(input: &Buffer<I>) -> bool
+    ensures value { result ≡ at_token (is_strict (context I.model input.now).module) (seen input.now) }
+{
+    let is_module = input.get_ctx().module;
+    match input.cur_debug() {
+        Some(Token::Word(word)) => is_strict_text(word, is_module),
+        _ => false,
     }
 }
 
@@ -188,7 +177,7 @@ pub fn is_identifier_word(ctx: Context, word: &Word) -> bool
 }
 
 /// Whether the word is no identifier in strict code; in a module `await` is none either (ECMA-262, 13.1.1).
-fn is_strict_word(word: &Word, is_module: bool) -> bool
+fn is_strict_text(word: &Word, is_module: bool) -> bool
     ensures { result ≡ is_strict_in is_module word.now }
 {
     match word {

@@ -22,6 +22,19 @@ module _ {S : Type 0} {model : Model S} {sure : Bool} where
     faulty = λ y l lt ts h. step (scope model b) ts ∙ ap (λ v. v >>= k (scope model b)) (o.faulty y l lt ts h);
   }
 
+  -- the same, where r reads what is left of q
+  pub on_within_call : {A B : Type 0} {f g : Reader A} {q r : Reader B} {b c : Buffer S}
+      (k : Scope → B × List TokenAndSpan → Out A) → ((x : Scope) (ts : List TokenAndSpan) → f x ts ≡ (q x ts >>= k x))
+      → ((x : Scope) (ts : List TokenAndSpan) → g x ts ≡ (r x ts >>= k x)) → On model sure q r b c → On model sure f g b c
+  on_within_call {r = r} {b = b} {c = c} k step last o = record {
+    leads = o.leads;
+    clean = λ l s ys f.
+        step (scope model b) (o.leads.taken ++ ys) ∙ ap (λ v. v >>= k (scope model b)) (o.clean l s ys f)
+        ∙ ap (λ x. r (scope model c) ys >>= k x) (sym (read_scope o.leads.laws o.leads.read))
+        ∙ sym (last (scope model c) ys);
+    faulty = λ y l lt ts h. step (scope model b) ts ∙ ap (λ v. v >>= k (scope model b)) (o.faulty y l lt ts h);
+  }
+
   pub unheard_call : {A B : Type 0} {f : Reader A} {q : Reader B} {b c : Buffer S} {e : Error} (k : Scope → B × List TokenAndSpan → Out A) → ((x : Scope) (ts : List TokenAndSpan) → f x ts ≡ (q x ts >>= k x)) →
       Unheard model sure q b e c → Unheard model sure f b e c
   unheard_call {b = b} k step u = record { refuses = u.refuses; none = λ n y l ts h. step (scope model b) ts ∙ ap (λ v. v >>= k (scope model b)) (u.none n y l ts h) }

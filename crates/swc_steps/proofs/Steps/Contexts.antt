@@ -104,6 +104,31 @@ module _ {S : Type 0} {model : Model S} {sure : Bool} where
             ap (λ x. f (scope model b) x) v.2 ∙ step (scope model b) v.0 ∙ ap (λ x. q x v.0) (sym (moved_scope w m to)) ∙ o.faulty y (loud l) lt1 v.0 v.1;
       }
 
+  -- what f leaves in a context that differs in flags which decide nothing, it leaves in this one
+  pub on_aside : {A : Type 0} {f g : Reader A} {b c d e : Buffer S} → Moves model b c
+      → deciding (context model c) ≡ deciding (context model b) → On model sure f g c d → Moves model d e
+      → context model e ≡ context model b → On model sure f g b e
+  unfolding within within_spent spent
+  on_aside {f = f} {g = g} {b = b} {c = c} {d = d} {e = e} m to o n back =
+      let loud = λ (l : Loud model b). loud_within m (ap (λ x. x.ignore_error) to) l in
+      let same = ap deciding back ∙ sym to ∙ sym (ap deciding o.leads.read.context) in
+      let en = ap length n.errors in
+      let em = ap length m.errors in
+      record {
+        leads = within m o.leads n back;
+        clean = λ l s ys fut.
+            let s1 : recorded model d ≡ recorded model c = omega arith in
+            ap (λ v. f (scope model b) v) (append_assoc o.leads.taken [] ys)
+            ∙ ap (λ x. f x (o.leads.taken ++ ys)) (sym (moved_scope (λ x. x) m to))
+            ∙ o.clean (loud l) s1 ys (Future-before m.laws d e [] ys n.took fut)
+            ∙ ap (λ x. g x ys) (sym (moved_scope (λ x. x) n same));
+        faulty = λ y l lt ts k.
+            let lt1 : recorded model c < recorded model d = omega arith in
+            let v = Known-after m.laws b c [] ts m.took k in
+            ap (λ x. f (scope model b) x) v.2 ∙ ap (λ x. f x v.0) (sym (moved_scope (λ x. x) m to))
+            ∙ o.faulty y (loud l) lt1 v.0 v.1;
+      }
+
   unheard_within : {A : Type 0} {f q : Reader A} {b c d e : Buffer S} {x : Error} (w : Context → Context) → ((x : Context) → (w x).ignore_error ≡ x.ignore_error) → ((x : Scope) (ts : List TokenAndSpan) → f x ts ≡ q (in_context w x) ts) →
       Moves model b c → deciding (context model c) ≡ w (deciding (context model b)) → Unheard model sure q c x d → Moves model d e → context model e ≡ context model b → Unheard model sure f b x e
   unheard_within {f = f} {q = q} {b = b} {c = c} w quiet step m to u n back = record {

@@ -1,7 +1,7 @@
 use Rattle.std.proofs.Common.{not, refl}
 use Rattle.std.proofs.lemmas.Result.{err_from_is_err_and}
 use Rattle.swc_grammar.specs.Tokens.{is_meta, is_source}
-use Rattle.swc_left.specs.Bases.{import_callee, import_source}
+use Rattle.swc_left.specs.Bases.{import_source}
 use Rattle.swc_left.proofs.Bases as base
 use Rattle.swc_steps.proofs.Steps as s
 use Rattle.swc_left.proofs.base.import_member.Goals as goal

@@ -1,6 +1,5 @@
-use Rattle.std.proofs.Common.{if◌then◌else◌, refl, arith}
+use Rattle.std.proofs.Common.{refl, arith}
 use Rattle.swc_input.specs.Buffer.{context}
-use Rattle.swc_ast.specs.declared.expr.MetaPropKind.TheVariants as kind
 use Rattle.swc_grammar.specs.Tokens.{new_target_ok}
 use Rattle.swc_nodes.proofs.Standing.{grows-same}
 use Rattle.swc_left.proofs.Links as link

@@ -2,9 +2,8 @@ use Rattle.std.proofs.Common.{Some, refl, sym, ap, ◌∙◌}
 use Rattle.std.proofs.lemmas.Result.{err_from_is_err_and}
 use Rattle.swc_input.specs.Plain.{plain}
 use Rattle.swc_input.specs.Kinds.{at_token}
-use Rattle.swc_ast.specs.Trees.{text_e}
 use Rattle.swc_grammar.specs.Tokens.{is_backquote}
-use Rattle.swc_left.specs.Templates.{is_template, text_at, tpl_element}
+use Rattle.swc_left.specs.Templates.{is_template, quasi_with, text_at, tpl_element}
 use Rattle.swc_steps.proofs.Steps as s
 use Rattle.swc_left.proofs.Templates as tpl
 use Rattle.swc_left.proofs.tpl.parse_tpl_element.Goals as goal
@@ -45,7 +44,7 @@ returns-clause-parses g c = λ sure.
     let took = c.bump-token.ensures.took in
     let text = c.template_of-raw.result in
     let tail = c.is_sign-tail.result in
-    s.heard_answer (ap (λ v. text_e v tail c.in_ok-cooked.cooked text.0)
+    s.heard_answer (ap (λ v. quasi_with v tail c.in_ok-cooked.cooked text.0)
     (sym (c.prev_span-span.ensures ∙ s.last_was took)))
     (s.heard_after (s.on_seen {f = tpl_element c.args.is_tagged} {g = tpl_element c.args.is_tagged}
     c.in_ok-look.ensures.looks (λ x ts same e. refl))

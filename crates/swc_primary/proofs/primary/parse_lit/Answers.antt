@@ -7,6 +7,7 @@ use Rattle.swc_grammar.specs.Clean.{is_lit}
 use Rattle.swc_steps.specs.Parsing.{lit_in}
 use Rattle.swc_steps.proofs.Steps as s
 use Rattle.swc_steps.proofs.Rules as rule
+use Rattle.swc_primary.proofs.Openings.{literal_tree}
 use Rattle.swc_primary.proofs.primary.parse_lit.Goals as goal
 
 pub returns-in_err-require_cur-clause-parses : goal.returns-in_err-require_cur-clause-parses
@@ -23,9 +24,11 @@ returns-clause-parses g c = λ sure.
     let took = c.bump-token.ensures.took in
     let e = lit_in c.args.p.now.nodes c.lit_of.result in
     s.heard_after (s.on_seen c.in_ok-require_cur.ensures.fits (λ x ts same h. refl))
-    (s.heard_took g.met.I.Tokens.laws took (λ x ts. rule.lit_takes _ e x (plain took.was) ts (s.at_was lit_of e took c.prev_span-span.result c.prev_span-span.ensures c.lit_of.ensures)))
+    (s.heard_took g.met.I.Tokens.laws took (λ x ts. rule.lit_takes _ e x (plain took.was) ts (s.at_was lit_of e took c.prev_span-span.result c.prev_span-span.ensures
+    (literal_tree _ _ c.lit_of.result c.lit_of.ensures))))
 
 pub returns-clause-literal : goal.returns-clause-literal
 returns-clause-literal g c =
     s.literal_took c.in_ok-require_cur.ensures.fits c.bump-token.ensures.took
-    (s.at_was lit_of (lit_in c.args.p.now.nodes c.lit_of.result) c.bump-token.ensures.took c.prev_span-span.result c.prev_span-span.ensures c.lit_of.ensures)
+    (s.at_was lit_of (lit_in c.args.p.now.nodes c.lit_of.result) c.bump-token.ensures.took c.prev_span-span.result c.prev_span-span.ensures
+    (literal_tree _ _ c.lit_of.result c.lit_of.ensures))

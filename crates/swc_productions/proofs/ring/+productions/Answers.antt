@@ -1,62 +1,64 @@
 -- What the steps of each production, one after another, ensure.
 use Rattle.std.proofs.Common.{rules, Ok, Err, map, length, length-append, ◌≤◌, [], ◌∷◌, ◌≢◌, ◌++◌, ◌&&◌, ◌||◌, true}
-use Rattle.std.proofs.Common.{false, not, Some, None, refl, sym, ap, subst, ◌∙◌, arith}
-use Rattle.std.proofs.lemmas.Result.{err_from_is_err_and}
+use Rattle.std.proofs.Common.{false, not, Some, refl, sym, ap, subst, ◌∙◌, arith}
 use Rattle.std.specs.Prelude.{slice_index_or}
 use Rattle.swc_context.specs.Contexts.{view as deciding}
 use Rattle.swc_context.specs.Spans.{from_to}
 use Rattle.swc_context.specs.declared.error.SyntaxError.TheVariants.{OutOfMemory}
+use Rattle.swc_grammar.specs.Tokens.{method_params}
+use Rattle.swc_nodes.specs.NodeParts.{param_parts}
+use Rattle.swc_ast.specs.Trees.{items_of}
+use Rattle.swc_patterns.specs.Answers.{params_at}
+use Rattle.swc_patterns.specs.Answers.{placed}
+use Rattle.swc_nodes.specs.GrowingNodes.{From}
+use Rattle.swc_primary.proofs.Placed.{params-more as placed-more}
 use Rattle.swc_input.specs.Plain.{plain}
 use Rattle.swc_input.specs.Kinds.{at_token}
 use Rattle.swc_input.specs.Buffer.{context}
-use Rattle.swc_grammar.specs.Tokens.{include_in, with_in, is_lparen, is_rparen, is_lbracket, is_rbracket, is_rbrace}
+use Rattle.swc_grammar.specs.Tokens.{with_in, is_lparen, is_lbracket}
 use Rattle.swc_grammar.specs.Tokens.{is_comma, is_dots, is_colon, is_dot, is_new, is_backquote, is_super, is_import}
 use Rattle.swc_grammar.specs.Tokens.{is_question, is_star, is_await, is_yield, await_ok, yield_ok}
 use Rattle.swc_ast.specs.Tree.{nil, cons, node, trees, span_of, tpl as tpl_kind}
-use Rattle.swc_ast.specs.Parts.{item_of as item_tree_of, item_trees, quasi_tree}
-use Rattle.swc_nodes.specs.Lists.{elem_parts, elem_tree, elem_trees, props_parts, exprs_parts, expr_trees}
+use Rattle.swc_ast.specs.Parts.{item_of as item_tree_of, item_tree, quasi_tree}
+use Rattle.swc_nodes.specs.Lists.{elem_parts, props_parts, exprs_parts, expr_trees}
 use Rattle.swc_nodes.specs.NumberedTrees.{chain}
-use Rattle.swc_nodes.specs.NodeParts.{flat, if_some, item_parts, args_parts, prop_parts, key_parts, one_expr, expr_part}
+use Rattle.swc_nodes.specs.NodeParts.{flat, item_parts, args_parts, key_parts, one_expr, expr_part}
 use Rattle.swc_nodes.specs.GrowingNodes.{count, seat_at, tree_at, first_at, start_at, end_at, Apart}
 use Rattle.swc_nodes.proofs.Edges.{start-later}
-use Rattle.swc_nodes.proofs.Lists.{apart-none, apart-list-more, elems-more, props-more, exprs-more, exprs-apart-more}
+use Rattle.swc_nodes.proofs.Lists.{apart-none, elem-same, item-same, prop-same, exprs-more, exprs-apart-more}
 use Rattle.swc_nodes.proofs.Lists.{trees-both, trees-more, exprs-later, apart-later, apart-more-one}
 use Rattle.swc_nodes.proofs.Waiting.{operands-first, operands-joined, operands-last, operands-more, operands-top}
 use Rattle.swc_nodes.specs.Pending.{all_pending, first_operand}
 use Rattle.swc_nodes.specs.Rising.{waiting}
-use Rattle.swc_grammar.specs.Symbols.{Expr, Assign, Level, Unary, Lhs, Args, Key, Parts, Props, Template}
+use Rattle.swc_grammar.specs.Symbols.{Assign, Level, Unary, Lhs, Props, Template}
 use Rattle.swc_ast.specs.Targets.{is_target}
 use Rattle.swc_ast.specs.Trees.{trees_append, begins_in_invalid, cover_e, ident_e, to, await_e, cond_e, assign_e}
-use Rattle.swc_ast.specs.Trees.{yield_e, hole_e, seq_of, spread_prop_e, prop_of as prop_tree, value_e, super_e}
+use Rattle.swc_ast.specs.Trees.{yield_e, hole_e, seq_of}
 use Rattle.swc_ast.specs.Trees.{import_e, parts_e, tpl_e}
 use Rattle.swc_input.specs.Recording.{is_some}
-use Rattle.swc_grammar.specs.Clean.{sym as at, run, first, links, updates, climb, assigns, seqs, prefix_at, no_error}
+use Rattle.swc_grammar.specs.Clean.{sym as at, run, first, links, updates, climb, assigns, prefix_at, no_error}
 use Rattle.swc_grammar.specs.Clean.{goes_on_yield_at}
 use Rattle.swc_grammar.specs.Words.{◌>>=◌}
-use Rattle.swc_steps.specs.Parsing.{scope, seen, behind, tree_of, item_at, elems_at, prop_at, ident_spelling, key_at}
-use Rattle.swc_steps.specs.Parsing.{args_at, props_at, Produces, elem_of, elem_at}
-use Rattle.swc_steps.specs.Args.{paren_of, paren_expr_tail, args_behind, args_by, separated_args}
-use Rattle.swc_operators.specs.Assignments.{seqs_by, seqs_more, cond_tail, cond_colon, cond_close, seqs_from_by}
-use Rattle.swc_operators.specs.Assignments.{assign_at, assign_tail, yield_arg, yield_tail, yield_operand, assign_expr, yield_expr}
+use Rattle.swc_steps.specs.Parsing.{scope, seen, behind, tree_of, elems_at, ident_spelling, key_at}
+use Rattle.swc_steps.specs.Parsing.{props_at}
+use Rattle.swc_steps.specs.Args.{paren_expr_tail}
+use Rattle.swc_operators.specs.Assignments.{seqs_more, cond_tail, cond_close}
+use Rattle.swc_operators.specs.Assignments.{assign_at, assign_tail, yield_tail, yield_operand, assign_expr, yield_expr}
 use Rattle.swc_steps.specs.Readers.{begun_if, unary_op_node, unary_op_tail, nothing, inside, unary_op}
 use Rattle.swc_operators.specs.Updates.{update_at, update_node, update_tail, await_reads, await_tail, await_ident}
 use Rattle.swc_operators.specs.Updates.{await_operand, update_prefix, await_expr}
-use Rattle.swc_left.specs.Bases.{super_by, super_left, super_close, callee_node, plain_base, import_by, import_left}
-use Rattle.swc_steps.specs.Keys.{key_by, key_close}
-use Rattle.swc_left.specs.Links.{computed_close, call_node, construct_by, construct_node, construct_of, new_by}
-use Rattle.swc_left.specs.Links.{new_lhs, new_node, new_tail, link_tail, links_by}
-use Rattle.swc_left.specs.Templates.{tagged_node, template_tail, tpl_expr_close, tpl_parts_at, parts_behind, parts_by}
-use Rattle.swc_left.specs.Templates.{parts_after}
-use Rattle.swc_steps.specs.Lists.{eaten, elements_inside, element_by, elements_behind, behind_by, separated, element}
+use Rattle.swc_left.specs.Bases.{callee_node, plain_base, import_by}
+use Rattle.swc_left.specs.Links.{computed_close, call_node, construct_by, construct_node, new_by}
+use Rattle.swc_left.specs.Links.{new_lhs, new_node, new_tail, link_tail}
+use Rattle.swc_left.specs.Templates.{tagged_node, tpl_expr_close, parts_behind, parts_by}
+use Rattle.swc_steps.specs.Lists.{elements_inside, element_item}
 use Rattle.swc_primary.specs.declared.object.PropHead.TheVariants as head
-use Rattle.swc_primary.specs.Properties.{props_behind, props_by, cover_node}
-use Rattle.swc_primary.specs.Methods.{behind_key, after_by, method_tree, method_close}
 use Rattle.swc_nodes.proofs.Standing.{grows-count, grows-same, grows-then}
 use Rattle.swc_nodes.proofs.Held.{apart-from, from-down, from-later, from_self, first_kept, if_from, tree-later}
 use Rattle.swc_steps.proofs.Building.{apart-down, apart-lower, apart_behind, grows-kept, made_over}
 use Rattle.swc_operators.specs.Pending.{pending_reads}
 use Rattle.swc_operators.proofs.Assignments as assign
-use Rattle.swc_operators.proofs.InContext.{assign_within, expr_within}
+use Rattle.swc_operators.proofs.InContext.{assign_within, expr_within, within}
 use Rattle.swc_operators.proofs.Sequences.{behind_comma}
 use Rattle.swc_operators.proofs.Pending as pending
 use Rattle.swc_operators.proofs.Entered as entered
@@ -68,26 +70,62 @@ use Rattle.swc_steps.proofs.Endings as ending
 use Rattle.swc_steps.proofs.Keys as key
 use Rattle.swc_left.proofs.Links as link
 use Rattle.swc_steps.proofs.Lists as list
+use Rattle.swc_steps.proofs.Loops as loop
 use Rattle.swc_primary.proofs.Properties as props
 use Rattle.swc_steps.proofs.Rules as rule
 use Rattle.swc_steps.proofs.Steps as s
 use Rattle.swc_left.proofs.Templates as tpl
 use Rattle.swc_operators.proofs.Updates as update
 use Rattle.swc_steps.proofs.Making as m
-use Rattle.swc_primary.proofs.Methods as method
+use Rattle.swc_primary.specs.Methods.{async_in, generator_in, method_end, method_inside, method_function}
+use Rattle.swc_primary.proofs.Functions as function
+use Rattle.swc_primary.proofs.Keyed as method
 use Rattle.swc_productions.proofs.ring.+productions.Goals as goal
-use Rattle.swc_primary.specs.declared.object.AfterKey.TheVariants as after_key
-use Rattle.swc_productions.proofs.ring.+productions.Goals.{parse_elements-in-Some-2}
-use Rattle.swc_productions.proofs.ring.+productions.Goals.{parse_elements-in-None-2+in_ok-item-in-None-2+in_ok-separate-in-None-2}
 use Rattle.swc_primary.specs.Openings.{array_from, object_from}
 use Rattle.swc_primary.proofs.Openings as opening
 use Rattle.swc_operators.specs.Prefixes.{await_by_name}
 use Rattle.swc_operators.proofs.Prefixes as prefix
+use Rattle.swc_patterns.proofs.PropNodes as pat_node
+use Rattle.swc_patterns.proofs.PropReads as pat_prop
+use Rattle.swc_patterns.proofs.ObjectLists as pat_props
+use Rattle.swc_patterns.proofs.PartlyRead as partly
+use Rattle.std.proofs.Common.{◌≡◌}
+use Rattle.swc_ast.specs.Patterns.{default_p}
+use Rattle.swc_grammar.specs.Tokens.{is_equals}
+use Rattle.swc_nodes.specs.Lists.{pat_elem_parts, pat_props_parts}
+use Rattle.swc_nodes.specs.NodeParts.{one_pat, pat_part}
+use Rattle.swc_patterns.proofs.Lists.{holed-more, params-more}
+use Rattle.swc_patterns.proofs.Rests.{passed_stage}
+use Rattle.swc_patterns.specs.Answers.{pat_at, pat_props_at, if_there, pat_itself}
+use Rattle.swc_patterns.specs.Arrays.{default_by, pat_kind, array_from as array_pat_from, array_pat_tail, elements_left}
+use Rattle.swc_patterns.specs.Arrays.{is_item, item_read}
+use Rattle.swc_patterns.specs.Objects.{props_done}
+use Rattle.swc_patterns.specs.Params.{params_left, param_read}
+use Rattle.swc_patterns.specs.Rests.{going, stage_of}
+use Rattle.swc_patterns.proofs.ElementTurns as elem_turn
+use Rattle.swc_patterns.proofs.FormalParams as formal
+use Rattle.swc_patterns.proofs.Leaving as leaving
+use Rattle.swc_patterns.specs.declared.pat.NextElement.TheVariants as next_element
+use Rattle.swc_patterns.specs.declared.params.NextParam.TheVariants as next_param
+use Rattle.swc_patterns.proofs.ParamTurns as param_turn
+use Rattle.swc_patterns.proofs.Arrays as pat_array
+use Rattle.swc_patterns.proofs.Beginnings as pat_begins
+use Rattle.swc_patterns.proofs.Initialisers as pat_init
+use Rattle.swc_productions.proofs.ring.+productions.Goals.{parse_pat_elements-in-Some+in_ok-arg-in-Some+in_ok-pat-in-Some}
+use Rattle.swc_productions.proofs.ring.+productions.Goals.{parse_pat_elements-in-None+in_ok-pat-in-None}
+use Rattle.swc_productions.proofs.ring.+productions.Goals.{parse_formal_params-in-Some+in_ok-arg-in-Some+in_ok-eat-in-Some+in-Some-2+in_ok-value-in-Some-2+in_ok-pat-in-Some-2}
+use Rattle.swc_productions.proofs.ring.+productions.Goals.{parse_formal_params-in-Some+in_ok-arg-in-Some+in_ok-eat-in-Some+in-None-2+in_ok-pat-in-None-2}
+use Rattle.swc_productions.proofs.ring.+productions.Goals.{parse_formal_params-in-None+in_ok-pat-in-None}
+use Rattle.std.proofs.Common.{None}
+use Rattle.swc_nodes.proofs.Lists.{apart-list-more}
+use Rattle.swc_steps.specs.Parsing.{Produces}
+use Rattle.swc_nodes.specs.NodeParts.{if_some}
+use Rattle.swc_steps.specs.Lists.{eaten}
 
 pub parse_primary_expr-returns-in_err-look : goal.parse_primary_expr-returns-in_err-look
 parse_primary_expr-returns-in_err-look g t c =
-    let p = err_from_is_err_and c.from_residual.result c.from_residual.ensures.1 in rw (p.1, p.2)
-    (m.no (s.unheard_memory c.in_err-look.ensures.looks) (grows-same _))
+    m.refused c.from_residual.ensures.1
+    (s.unheard_memory c.in_err-look.ensures.looks) (grows-same _)
 
 pub parse_primary_expr-returns-in_err-list-in-Paren : goal.parse_primary_expr-returns-in_err-list-in-Paren
 parse_primary_expr-returns-in_err-list-in-Paren g t c =
@@ -98,9 +136,9 @@ parse_primary_expr-returns-in_err-list-in-Paren g t c =
     let begun = s.on_then (s.on_seen c.in_ok-look.ensures.looks (λ x ts same e. rule.paren_expr_picked _ x ts (ap (at_token is_lparen) e ∙ sign)))
     (s.on_took {g = paren_expr_tail g.B.BodyForms.forms start} g.met.I.Tokens.laws first
     (λ x ts. args.paren_expr_opens _ (plain first.was) x ts (rule.passes_plain is_lparen _ _ first.current sign) ∙ ap (λ v. paren_expr_tail g.B.BodyForms.forms v x ts) (sym place))) in
-    let p = err_from_is_err_and c.from_residual-in_err-list-in-Paren.result c.from_residual-in_err-list-in-Paren.ensures.1 in rw (p.1, p.2)
-    (m.no (s.unheard_after begun
-    (s.unheard_call (λ x p. paren_of start p.0 p.1) (λ x ts. args.paren_expr_splits _ start x ts) c.in_err-list-in-Paren.ensures.reads)) c.parse_args.ensures.grows)
+    m.refused c.from_residual-in_err-list-in-Paren.ensures.1
+    (s.unheard_after begun
+    (s.unheard_call _ (args.paren_expr_splits _ start) c.in_err-list-in-Paren.ensures.reads)) c.parse_args.ensures.grows
 
 pub parse_primary_expr-paren_items-requires : goal.parse_primary_expr-paren_items-requires
 parse_primary_expr-paren_items-requires g t c = record { apart = apart-down (args_parts c.in_ok-list-in-Paren.list.items) c.in_ok-list-in-Paren.ensures.from }
@@ -115,7 +153,7 @@ parse_primary_expr-returns-in_ok-list-in-Paren g t c =
     (s.on_took {g = paren_expr_tail g.B.BodyForms.forms start} g.met.I.Tokens.laws first
     (λ x ts. args.paren_expr_opens _ (plain first.was) x ts (rule.passes_plain is_lparen _ _ first.current sign) ∙ ap (λ v. paren_expr_tail g.B.BodyForms.forms v x ts) (sym place))) in
     m.after {m = record c.args.p.now { input = c.skip.new.input }} c.paren_items.result begun (grows-same _)
-    (m.call_read c.paren_items.result (λ x p. paren_of start p.0 p.1) (λ x ts. args.paren_expr_splits _ start x ts)
+    (m.call_read c.paren_items.result _ (args.paren_expr_splits _ start)
     c.in_ok-list-in-Paren.ensures.reads (λ x ts us h y ys. ending.items-clean _ g.met.B.Bodies.lawful start c.in_ok-list-in-Paren.list x ts us ys c.in_ok-list-in-Paren.ensures.from h) c.parse_args.ensures.grows (λ x h. h) (c.paren_items.ensures (count c.args.p.now.nodes) c.in_ok-list-in-Paren.ensures.from))
 
 pub parse_primary_expr-open_array-requires : goal.parse_primary_expr-open_array-requires
@@ -128,10 +166,10 @@ parse_primary_expr-returns-in_err-elems-in-Array g t c =
     let view = elems_at c.parse_elements-elems.new.p.nodes in
     let begun = opening.array_begins g.B.Bodies.is_faithful g.B.BodyForms.forms c.in_ok-look.ensures.looks (sym c.primary_kind.ensures ∙ c.in-Array.is) opens in
     let read = opening.elements_read g.B.Bodies.is_faithful g.B.BodyForms.forms view c.parse_elements-elems.result opens c.parse_elements-elems.ensures.reads c.set_ctx.ensures.moves c.set_ctx.ensures.context in
-    let p = err_from_is_err_and c.from_residual-in_err-elems-in-Array.result c.from_residual-in_err-elems-in-Array.ensures.1 in rw (p.1, p.2)
-    (m.no (s.unheard_after begun
+    m.refused c.from_residual-in_err-elems-in-Array.ensures.1
+    (s.unheard_after begun
     (s.unheard_call (λ x p. Some (array_from lo p.0, p.1)) (λ x ts. refl) (s.parses_err g.I.Tokens.model g.B.Bodies.is_faithful view (elements_inside g.B.BodyForms.forms) _ _ c.parse_elements-elems.result _ c.in_err-elems-in-Array.was read)))
-    c.parse_elements-elems.ensures.grows)
+    c.parse_elements-elems.ensures.grows
 
 pub parse_primary_expr-array_lit-requires : goal.parse_primary_expr-array_lit-requires
 parse_primary_expr-array_lit-requires g t c =
@@ -159,10 +197,10 @@ parse_primary_expr-returns-in_err-props-in-Object g t c =
     let view = props_at c.parse_props-props.new.p.nodes in
     let begun = opening.object_begins g.B.Bodies.is_faithful g.B.BodyForms.forms c.in_ok-look.ensures.looks (sym c.primary_kind.ensures ∙ c.in-Object.is) opens in
     let read = opening.props_read g.B.Bodies.is_faithful g.B.BodyForms.forms view c.parse_props-props.result opens c.parse_props-props.ensures.reads c.set_ctx-in-Object.ensures.moves c.set_ctx-in-Object.ensures.context in
-    let p = err_from_is_err_and c.from_residual-in_err-props-in-Object.result c.from_residual-in_err-props-in-Object.ensures.1 in rw (p.1, p.2)
-    (m.no (s.unheard_after begun
+    m.refused c.from_residual-in_err-props-in-Object.ensures.1
+    (s.unheard_after begun
     (s.unheard_call (λ x p. Some (object_from lo p.0, p.1)) (λ x ts. refl) (s.parses_err g.I.Tokens.model g.B.Bodies.is_faithful view (run g.B.BodyForms.forms (at Props)) _ _ c.parse_props-props.result _ c.in_err-props-in-Object.was read)))
-    c.parse_props-props.ensures.grows)
+    c.parse_props-props.ensures.grows
 
 pub parse_primary_expr-object_lit-requires : goal.parse_primary_expr-object_lit-requires
 parse_primary_expr-object_lit-requires g t c =
@@ -183,16 +221,16 @@ parse_primary_expr-returns-in_ok-props-in-Object g t c =
 pub parse_primary_expr-returns-in_err-start-in-Template : goal.parse_primary_expr-returns-in_err-start-in-Template
 parse_primary_expr-returns-in_err-start-in-Template g t c =
     let picked = s.on_seen {g = run g.B.BodyForms.forms (at (Template false))} c.in_ok-look.ensures.looks (λ x ts same e. rule.template_picked _ x ts (ap (at_token is_backquote) e ∙ opening.is_template _ (sym c.primary_kind.ensures ∙ c.in-Template.is))) in
-    let p = err_from_is_err_and c.from_residual-in_err-start-in-Template.result c.from_residual-in_err-start-in-Template.ensures.1 in rw (p.1, p.2)
-    (m.no (s.unheard_after picked (s.unheard_call (λ x p. template_tail _ false p.0 x p.1) (λ x ts. tpl.template_splits _ false x ts) (c.in_err-start-in-Template.ensures.expects g.B.Bodies.is_faithful))) (grows-same _))
+    m.refused c.from_residual-in_err-start-in-Template.ensures.1
+    (s.unheard_after picked (s.unheard_call _ (tpl.template_splits _ false) (c.in_err-start-in-Template.ensures.expects g.B.Bodies.is_faithful))) (grows-same _)
 
 pub parse_primary_expr-returns-in_err-parts-in-Template : goal.parse_primary_expr-returns-in_err-parts-in-Template
 parse_primary_expr-returns-in_err-parts-in-Template g t c =
     let picked = s.on_seen {g = run g.B.BodyForms.forms (at (Template false))} c.in_ok-look.ensures.looks (λ x ts same e. rule.template_picked _ x ts (ap (at_token is_backquote) e ∙ opening.is_template _ (sym c.primary_kind.ensures ∙ c.in-Template.is))) in
     let start = c.in_ok-start-in-Template.start in
-    let p = err_from_is_err_and c.from_residual-in_err-parts-in-Template.result c.from_residual-in_err-parts-in-Template.ensures.1 in rw (p.1, p.2)
-    (m.no (s.unheard_after (s.on_then picked (s.on_call (λ x p. template_tail _ false p.0 x p.1) (λ x ts. tpl.template_splits _ false x ts) (c.in_ok-start-in-Template.ensures.expects g.B.Bodies.is_faithful).on))
-    (s.unheard_call (λ x p. Some (tpl_e (to start (span_of p.0)) p.0, p.1)) (λ x ts. refl) c.in_err-parts-in-Template.ensures.reads)) c.parse_tpl_elements.ensures.grows)
+    m.refused c.from_residual-in_err-parts-in-Template.ensures.1
+    (s.unheard_after (s.on_then picked (s.on_call _ (tpl.template_splits _ false) (c.in_ok-start-in-Template.ensures.expects g.B.Bodies.is_faithful).on))
+    (s.unheard_call (λ x p. Some (tpl_e (to start (span_of p.0)) p.0, p.1)) (λ x ts. refl) c.in_err-parts-in-Template.ensures.reads)) c.parse_tpl_elements.ensures.grows
 
 pub parse_primary_expr-tpl-node-requires : goal.parse_primary_expr-tpl-node-requires
 parse_primary_expr-tpl-node-requires g t c = record { apart = apart-down (exprs_parts c.in_ok-parts-in-Template.parts.exprs) c.in_ok-parts-in-Template.ensures.from }
@@ -208,7 +246,7 @@ parse_primary_expr-returns-in_ok-parts-in-Template g t c =
     c.made.ensures.ok c.made.ensures.refused c.parse_tpl_elements.ensures.grows c.tpl-node.ensures.grows
     (s.heard_after picked
     (s.heard_answer (ap (λ v. node tpl_kind (to start parts.end) v) (sym (trees-both (map quasi_tree parts.quasis.items) (map (tree_of now) parts.exprs.items))))
-    (s.heard_more (λ x p. template_tail _ false p.0 x p.1) (λ x ts. tpl.template_splits _ false x ts) (c.in_ok-start-in-Template.ensures.expects g.B.Bodies.is_faithful)
+    (s.heard_more _ (tpl.template_splits _ false) (c.in_ok-start-in-Template.ensures.expects g.B.Bodies.is_faithful)
     (s.on_call (λ x p. Some (tpl_e (to start (span_of p.0)) p.0, p.1)) (λ x ts. refl) c.in_ok-parts-in-Template.ensures.reads.on))))
 
 pub parse_primary_expr-parse_plain_primary-requires : goal.parse_primary_expr-parse_plain_primary-requires
@@ -218,208 +256,146 @@ pub parse_primary_expr-returns-in-Plain : goal.parse_primary_expr-returns-in-Pla
 parse_primary_expr-returns-in-Plain g t c = m.after c.parse_plain_primary.result (s.on_seen c.in_ok-look.ensures.looks (λ x ts same e. refl)) (grows-same _) c.parse_plain_primary.ensures
 
 pub parse_elements-loop-items-init : goal.parse_elements-loop-items-init
-parse_elements-loop-items-init g t c = (
-  s.on_here g.met.I.Tokens.laws _ (λ x ts. list.elements_first _ x ts ∙ ap (λ v. elements_behind g.B.BodyForms.forms (trees (map (elem_tree (tree_at c.args.p.now.nodes)) v)) None x ts) (sym c.new-items.ensures.items)),
-  omega arith,
-  grows-same _,
-  record { chained = ap (λ v. chain (seat_at c.args.p.now.nodes) (count c.args.p.now.nodes) (flat (if_some item_parts) v) (count c.args.p.now.nodes)) c.new-items.ensures.items ∙ (apart-none {ns = c.args.p.now.nodes} {k = count c.args.p.now.nodes} (omega arith)).chained },
-)
+parse_elements-loop-items-init g t c =
+    loop.started (list.elements_list _) _ _ _ _ g.met.I.Tokens.laws c.new-items.ensures.items
+
+pub parse_elements-loop-items-preserved-in_ok-add-in-Some-2 : goal.parse_elements-loop-items-preserved-in_ok-add-in-Some-2
+parse_elements-loop-items-preserved-in_ok-add-in-Some-2 g t c =
+    let inv = c.loop-items.invariant in
+    let more = loop.goes_on (list.elements_list _) inv c.in-None.is (c.in_ok-end.ensures.eats _) in
+    loop.added _ _ _ _ elem-same inv more
+    (loop.hole (element_item g.B.BodyForms.forms) c.in-Some-2.is (c.in_ok-eat.ensures.eats _)) (grows-same _)
+    (apart-none (omega arith)) c.in_ok-add-in-Some-2.ensures.added
 
 pub parse_elements-loop-items-preserved : goal.parse_elements-loop-items-preserved
 parse_elements-loop-items-preserved g t c =
-    let before = elem_trees (tree_at c.loop-items.p.nodes) c.loop-items.items in
-    let comma = c.loop-items.trailing_comma in
-    let none = s.eats_none g.B.Bodies.is_faithful is_rbracket _ _ _ c.in-None.is (c.in_ok-end.ensures.eats g.B.Bodies.is_faithful) in
-    let from = record c.loop-items.p { input = c.eat.new.input } in
-    let item : Produces g.I.Tokens.model g.B.Bodies.is_faithful elem_of elem_at (element g.B.BodyForms.forms) (count c.loop-items.p.nodes) from (Ok c.match-branch-4.item) c.match-branch-4.p =
-    elim c.match-branch-4.branch [
-      | parse_elements-in-Some-2 w ↦ rw (w.p-is, w.item-is) (m.yes (Ok _)
-          (s.heard_call (λ x p. element_by _ p.0 x p.1) (λ x ts. list.element_splits _ x ts) (λ x ts. refl)
-          (s.eats_some g.B.Bodies.is_faithful is_comma _ w.in-Some-2.field-0 _ _ w.in-Some-2.is (c.in_ok-eat.ensures.eats g.B.Bodies.is_faithful)))
-          (grows-same _) (apart-none (omega arith)))
-      | parse_elements-in-None-2+in_ok-item-in-None-2+in_ok-separate-in-None-2 w ↦
-          let free = s.on_call (λ x p. element_by g.B.BodyForms.forms p.0 x p.1) (λ x ts. list.element_splits _ x ts)
-          (s.eats_none g.B.Bodies.is_faithful is_comma _ _ _ w.in-None-2.is (c.in_ok-eat.ensures.eats g.B.Bodies.is_faithful)) in
-          let read = item_at w.parse_expr_or_spread.new.p.nodes w.in_ok-item-in-None-2.item in
-          rw (w.p-is, w.item-is) (m.yes (Ok _)
-          (s.heard_after free (s.heard_more (λ x p. separated is_rbracket x p.1 >>= (λ q. Some ((p.0, q.0), q.1))) (λ x ts. list.element_item_splits _ x ts) w.in_ok-item-in-None-2.ensures.reads
-          (s.on_call (λ x q. Some ((read, q.0), q.1)) (λ x ts. refl) (w.in_ok-separate-in-None-2.ensures.separates g.B.Bodies.is_faithful))))
-          w.parse_expr_or_spread.ensures.grows (apart-from (expr_part w.in_ok-item-in-None-2.item.expr) w.in_ok-item-in-None-2.ensures.from))
-    ] in
-    let more = ap (λ v. trees (map (elem_tree (tree_at c.match-branch-4.p.nodes)) v)) c.in_ok-add.ensures.added
-    ∙ elems-more c.loop-items.items.items c.match-branch-4.item.0 item.grows c.loop-items.invariant.3 in
-    let parts = apart-list-more (if_some item_parts) c.loop-items.items.items c.match-branch-4.item.0 item.grows c.loop-items.invariant.3 item.from in (
-      s.on_then c.loop-items.invariant.0 (s.on_then (s.on_call (λ x p. behind_by _ before comma p.0 x p.1) (λ x ts. list.behind_splits _ before comma x ts) none)
-          (s.on_to (s.on_call (λ x p. elements_behind _ (trees_append before (cons p.0.0 nil)) p.0.1 x p.1) (λ x ts. list.elements_more_splits _ before x ts) item.reads.on)
-          (λ x ts. ap (λ v. elements_behind g.B.BodyForms.forms v c.match-branch-4.item.1 x ts) (sym more)))),
-      let a = c.loop-items.invariant.1 in let b = item.falls in let d = c.in_ok-end.ensures.falls in omega arith,
-      grows-then c.loop-items.invariant.2 item.grows,
-      record { chained = ap (λ v. chain (seat_at c.match-branch-4.p.nodes) (count c.args.p.now.nodes) (flat (if_some item_parts) v) (count c.match-branch-4.p.nodes)) c.in_ok-add.ensures.added ∙ parts.chained },
-    )
+    let inv = c.loop-items.invariant in
+    let more = loop.goes_on (list.elements_list _) inv c.in-None.is (c.in_ok-end.ensures.eats _) in
+    let filled = loop.filled _ _ more c.in-None-2.is (c.in_ok-eat.ensures.eats _) in
+    let read = c.in_ok-item-in-None-2 in
+    loop.added _ _ _ _ elem-same inv filled
+    (loop.separated read.ensures.reads (c.in_ok-trailing_comma-in-None-2.ensures.separates _))
+    c.parse_expr_or_spread.ensures.grows (apart-from (expr_part read.item.expr) read.ensures.from)
+    c.in_ok-add-in-None-2.ensures.added
 
 pub parse_elements-returns-in_err-end : goal.parse_elements-returns-in_err-end
 parse_elements-returns-in_err-end g t c =
-    let before = elem_trees (tree_at c.loop-items.p.nodes) c.loop-items.items in
-    let comma = c.loop-items.trailing_comma in
-    let p = err_from_is_err_and c.from_residual.result c.from_residual.ensures.1 in rw (p.1, p.2)
-    (m.no (s.unheard_after c.loop-items.invariant.0 (s.unheard_call (λ x p. behind_by _ before comma p.0 x p.1) (λ x ts. list.behind_splits _ before comma x ts) (c.in_err-end.ensures.eats g.B.Bodies.is_faithful))) c.loop-items.invariant.2)
+    let inv = c.loop-items.invariant in
+    m.refused c.from_residual.ensures.1 (loop.end_refused (list.elements_list _) inv (c.in_err-end.ensures.eats _)) inv.grows
 
 pub parse_elements-returns-in-Some : goal.parse_elements-returns-in-Some
 parse_elements-returns-in-Some g t c =
-    let before = elem_trees (tree_at c.loop-items.p.nodes) c.loop-items.items in
-    let comma = c.loop-items.trailing_comma in
-    let some = s.eats_some g.B.Bodies.is_faithful is_rbracket _ c.in-Some.end _ _ c.in-Some.is (c.in_ok-end.ensures.eats g.B.Bodies.is_faithful) in
-    m.yes (Ok _)
-    (s.heard_after c.loop-items.invariant.0 (s.heard_call (λ x p. behind_by _ before comma p.0 x p.1) (λ x ts. list.behind_splits _ before comma x ts) (λ x ts. refl) some))
-    c.loop-items.invariant.2 c.loop-items.invariant.3
-
-pub parse_elements-returns-in_err-add : goal.parse_elements-returns-in_err-add
-parse_elements-returns-in_err-add g t c =
-    let none = s.eats_none g.B.Bodies.is_faithful is_rbracket _ _ _ c.in-None.is (c.in_ok-end.ensures.eats g.B.Bodies.is_faithful) in
-    let from = record c.loop-items.p { input = c.eat.new.input } in
-    let item : Produces g.I.Tokens.model g.B.Bodies.is_faithful elem_of elem_at (element g.B.BodyForms.forms) (count c.loop-items.p.nodes) from (Ok c.match-branch-4.item) c.match-branch-4.p =
-    elim c.match-branch-4.branch [
-      | parse_elements-in-Some-2 w ↦ rw (w.p-is, w.item-is) (m.yes (Ok _)
-          (s.heard_call (λ x p. element_by _ p.0 x p.1) (λ x ts. list.element_splits _ x ts) (λ x ts. refl)
-          (s.eats_some g.B.Bodies.is_faithful is_comma _ w.in-Some-2.field-0 _ _ w.in-Some-2.is (c.in_ok-eat.ensures.eats g.B.Bodies.is_faithful)))
-          (grows-same _) (apart-none (omega arith)))
-      | parse_elements-in-None-2+in_ok-item-in-None-2+in_ok-separate-in-None-2 w ↦
-          let free = s.on_call (λ x p. element_by g.B.BodyForms.forms p.0 x p.1) (λ x ts. list.element_splits _ x ts)
-          (s.eats_none g.B.Bodies.is_faithful is_comma _ _ _ w.in-None-2.is (c.in_ok-eat.ensures.eats g.B.Bodies.is_faithful)) in
-          let read = item_at w.parse_expr_or_spread.new.p.nodes w.in_ok-item-in-None-2.item in
-          rw (w.p-is, w.item-is) (m.yes (Ok _)
-          (s.heard_after free (s.heard_more (λ x p. separated is_rbracket x p.1 >>= (λ q. Some ((p.0, q.0), q.1))) (λ x ts. list.element_item_splits _ x ts) w.in_ok-item-in-None-2.ensures.reads
-          (s.on_call (λ x q. Some ((read, q.0), q.1)) (λ x ts. refl) (w.in_ok-separate-in-None-2.ensures.separates g.B.Bodies.is_faithful))))
-          w.parse_expr_or_spread.ensures.grows (apart-from (expr_part w.in_ok-item-in-None-2.item.expr) w.in_ok-item-in-None-2.ensures.from))
-    ] in
-    let p = err_from_is_err_and c.from_residual-in_err-add.result c.from_residual-in_err-add.ensures.1 in rw (p.1, p.2)
-    (m.no (s.unheard_memory (s.forgoes_later (s.leads_then c.loop-items.invariant.0.leads (s.leads_then none.leads item.reads.on.leads)) (s.forgoes_here g.met.I.Tokens.laws _ _ _ c.in_err-add.ensures.refused))) (grows-then c.loop-items.invariant.2 item.grows))
+    let inv = c.loop-items.invariant in
+    m.yes (Ok _) (loop.closed (list.elements_list _) inv c.in-Some.is (c.in_ok-end.ensures.eats _)) inv.grows inv.apart
 
 pub parse_elements-returns-in_err-eat : goal.parse_elements-returns-in_err-eat
 parse_elements-returns-in_err-eat g t c =
-    let before = elem_trees (tree_at c.loop-items.p.nodes) c.loop-items.items in
-    let comma = c.loop-items.trailing_comma in
-    let none = s.eats_none g.B.Bodies.is_faithful is_rbracket _ _ _ c.in-None.is (c.in_ok-end.ensures.eats g.B.Bodies.is_faithful) in
-    let p = err_from_is_err_and c.from_residual-in_err-eat.result c.from_residual-in_err-eat.ensures.1 in rw (p.1, p.2)
-    (m.no (s.unheard_after c.loop-items.invariant.0 (s.unheard_after (s.on_call (λ x p. behind_by _ before comma p.0 x p.1) (λ x ts. list.behind_splits _ before comma x ts) none)
-    (s.unheard_call (λ x p. elements_behind _ (trees_append before (cons p.0.0 nil)) p.0.1 x p.1) (λ x ts. list.elements_more_splits _ before x ts) (s.unheard_call (λ x p. element_by _ p.0 x p.1) (λ x ts. list.element_splits _ x ts) (c.in_err-eat.ensures.eats g.B.Bodies.is_faithful))))) c.loop-items.invariant.2)
+    let inv = c.loop-items.invariant in
+    let more = loop.goes_on (list.elements_list _) inv c.in-None.is (c.in_ok-end.ensures.eats _) in
+    m.refused c.from_residual-in_err-eat.ensures.1 (loop.comma_refused _ _ more (c.in_err-eat.ensures.eats _)) inv.grows
+
+pub parse_elements-returns-in_err-add-in-Some-2 : goal.parse_elements-returns-in_err-add-in-Some-2
+parse_elements-returns-in_err-add-in-Some-2 g t c =
+    let inv = c.loop-items.invariant in
+    let more = loop.goes_on (list.elements_list _) inv c.in-None.is (c.in_ok-end.ensures.eats _) in
+    m.refused c.from_residual-in_err-add-in-Some-2.ensures.1
+    (loop.unkept _ more
+    (loop.hole (element_item g.B.BodyForms.forms) c.in-Some-2.is (c.in_ok-eat.ensures.eats g.B.Bodies.is_faithful))
+    c.in_err-add-in-Some-2.ensures.refused) inv.grows
 
 pub parse_elements-returns-in_err-item-in-None-2 : goal.parse_elements-returns-in_err-item-in-None-2
 parse_elements-returns-in_err-item-in-None-2 g t c =
-    let before = elem_trees (tree_at c.loop-items.p.nodes) c.loop-items.items in
-    let comma = c.loop-items.trailing_comma in
-    let none = s.eats_none g.B.Bodies.is_faithful is_rbracket _ _ _ c.in-None.is (c.in_ok-end.ensures.eats g.B.Bodies.is_faithful) in
-    let free = s.on_call (λ x p. element_by g.B.BodyForms.forms p.0 x p.1) (λ x ts. list.element_splits _ x ts)
-    (s.eats_none g.B.Bodies.is_faithful is_comma _ _ _ c.in-None-2.is (c.in_ok-eat.ensures.eats g.B.Bodies.is_faithful)) in
-    let p = err_from_is_err_and c.from_residual-in_err-item-in-None-2.result c.from_residual-in_err-item-in-None-2.ensures.1 in rw (p.1, p.2)
-    (m.no (s.unheard_after c.loop-items.invariant.0 (s.unheard_after (s.on_call (λ x p. behind_by _ before comma p.0 x p.1) (λ x ts. list.behind_splits _ before comma x ts) none)
-    (s.unheard_call (λ x p. elements_behind _ (trees_append before (cons p.0.0 nil)) p.0.1 x p.1) (λ x ts. list.elements_more_splits _ before x ts) (s.unheard_after free (s.unheard_call (λ x p. separated is_rbracket x p.1 >>= (λ q. Some ((p.0, q.0), q.1))) (λ x ts. list.element_item_splits _ x ts) c.in_err-item-in-None-2.ensures.reads))))) (grows-then c.loop-items.invariant.2 c.parse_expr_or_spread.ensures.grows))
+    let inv = c.loop-items.invariant in
+    let more = loop.goes_on (list.elements_list _) inv c.in-None.is (c.in_ok-end.ensures.eats _) in
+    let filled = loop.filled _ _ more c.in-None-2.is (c.in_ok-eat.ensures.eats _) in
+    m.refused c.from_residual-in_err-item-in-None-2.ensures.1
+    (loop.item_refused _ _ filled c.in_err-item-in-None-2.ensures.reads)
+    (grows-then inv.grows c.parse_expr_or_spread.ensures.grows)
 
-pub parse_elements-returns-in_err-separate-in-None-2 : goal.parse_elements-returns-in_err-separate-in-None-2
-parse_elements-returns-in_err-separate-in-None-2 g t c =
-    let before = elem_trees (tree_at c.loop-items.p.nodes) c.loop-items.items in
-    let comma = c.loop-items.trailing_comma in
-    let none = s.eats_none g.B.Bodies.is_faithful is_rbracket _ _ _ c.in-None.is (c.in_ok-end.ensures.eats g.B.Bodies.is_faithful) in
-    let free = s.on_call (λ x p. element_by g.B.BodyForms.forms p.0 x p.1) (λ x ts. list.element_splits _ x ts)
-    (s.eats_none g.B.Bodies.is_faithful is_comma _ _ _ c.in-None-2.is (c.in_ok-eat.ensures.eats g.B.Bodies.is_faithful)) in
-    let read = item_at c.parse_expr_or_spread.new.p.nodes c.in_ok-item-in-None-2.item in
-    let p = err_from_is_err_and c.from_residual-in_err-separate-in-None-2.result c.from_residual-in_err-separate-in-None-2.ensures.1 in rw (p.1, p.2)
-    (m.no (s.unheard_after c.loop-items.invariant.0 (s.unheard_after (s.on_call (λ x p. behind_by _ before comma p.0 x p.1) (λ x ts. list.behind_splits _ before comma x ts) none)
-    (s.unheard_call (λ x p. elements_behind _ (trees_append before (cons p.0.0 nil)) p.0.1 x p.1) (λ x ts. list.elements_more_splits _ before x ts) (s.unheard_after (s.on_then free (s.on_call (λ x p. separated is_rbracket x p.1 >>= (λ q. Some ((p.0, q.0), q.1))) (λ x ts. list.element_item_splits _ x ts) c.in_ok-item-in-None-2.ensures.reads.on))
-    (s.unheard_call (λ x q. Some ((read, q.0), q.1)) (λ x ts. refl) (c.in_err-separate-in-None-2.ensures.separates g.B.Bodies.is_faithful)))))) (grows-then c.loop-items.invariant.2 c.parse_expr_or_spread.ensures.grows))
+pub parse_elements-returns-in_err-add-in-None-2 : goal.parse_elements-returns-in_err-add-in-None-2
+parse_elements-returns-in_err-add-in-None-2 g t c =
+    let inv = c.loop-items.invariant in
+    let more = loop.goes_on (list.elements_list _) inv c.in-None.is (c.in_ok-end.ensures.eats _) in
+    let filled = loop.filled _ _ more c.in-None-2.is (c.in_ok-eat.ensures.eats _) in
+    m.refused c.from_residual-in_err-add-in-None-2.ensures.1
+    (loop.unkept _ filled c.in_ok-item-in-None-2.ensures.reads c.in_err-add-in-None-2.ensures.refused)
+    (grows-then inv.grows c.parse_expr_or_spread.ensures.grows)
+
+pub parse_elements-returns-in_err-trailing_comma-in-None-2 : goal.parse_elements-returns-in_err-trailing_comma-in-None-2
+parse_elements-returns-in_err-trailing_comma-in-None-2 g t c =
+    let inv = c.loop-items.invariant in
+    let more = loop.goes_on (list.elements_list _) inv c.in-None.is (c.in_ok-end.ensures.eats _) in
+    let filled = loop.filled _ _ more c.in-None-2.is (c.in_ok-eat.ensures.eats _) in
+    m.refused c.from_residual-in_err-trailing_comma-in-None-2.ensures.1
+    (loop.comma_behind_refused _ _ filled c.in_ok-item-in-None-2.ensures.reads
+    (c.in_err-trailing_comma-in-None-2.ensures.separates _))
+    (grows-then inv.grows c.parse_expr_or_spread.ensures.grows)
 
 pub parse_expr_or_spread-returns-in_err-spread : goal.parse_expr_or_spread-returns-in_err-spread
 parse_expr_or_spread-returns-in_err-spread g t c =
-    let p = err_from_is_err_and c.from_residual.result c.from_residual.ensures.1 in rw (p.1, p.2)
-    (m.no (s.unheard_call (λ x p. run _ (at Assign) x p.1 >>= (λ q. Some (item_tree_of p.0 q.0, q.1))) (λ x ts. list.item_splits _ x ts) (c.in_err-spread.ensures.eats g.B.Bodies.is_faithful)) (grows-same _))
+    m.refused c.from_residual.ensures.1
+    (s.unheard_call _ (list.item_splits _) (c.in_err-spread.ensures.eats g.B.Bodies.is_faithful)) (grows-same _)
 
 pub parse_expr_or_spread-returns-in-Ok : goal.parse_expr_or_spread-returns-in-Ok
 parse_expr_or_spread-returns-in-Ok g t c =
     m.yes (Ok _)
-    (s.heard_after (s.on_call (λ x p. run _ (at Assign) x p.1 >>= (λ q. Some (item_tree_of p.0 q.0, q.1))) (λ x ts. list.item_splits _ x ts) (s.eats_on g.B.Bodies.is_faithful is_dots c.in_ok-spread.spread _ _ (c.in_ok-spread.ensures.eats g.B.Bodies.is_faithful)))
+    (s.heard_after (s.on_call _ (list.item_splits _) (s.eats_on g.B.Bodies.is_faithful is_dots c.in_ok-spread.spread _ _ (c.in_ok-spread.ensures.eats g.B.Bodies.is_faithful)))
     (s.heard_call (λ x q. Some (item_tree_of c.in_ok-spread.spread q.0, q.1)) (λ x ts. refl) (λ x ts. refl) c.in-Ok.ensures.reads))
     c.parse_assignment_expr.ensures.grows c.in-Ok.ensures.from
 
 pub parse_expr_or_spread-returns-in-Err : goal.parse_expr_or_spread-returns-in-Err
 parse_expr_or_spread-returns-in-Err g t c =
     m.no (s.unheard_as c.label_spread.result c.label_spread.ensures.kind c.label_spread.ensures.memory
-    (s.unheard_after (s.on_call (λ x p. run _ (at Assign) x p.1 >>= (λ q. Some (item_tree_of p.0 q.0, q.1))) (λ x ts. list.item_splits _ x ts) (s.eats_on g.B.Bodies.is_faithful is_dots c.in_ok-spread.spread _ _ (c.in_ok-spread.ensures.eats g.B.Bodies.is_faithful)))
+    (s.unheard_after (s.on_call _ (list.item_splits _) (s.eats_on g.B.Bodies.is_faithful is_dots c.in_ok-spread.spread _ _ (c.in_ok-spread.ensures.eats g.B.Bodies.is_faithful)))
     (s.unheard_call (λ x q. Some (item_tree_of c.in_ok-spread.spread q.0, q.1)) (λ x ts. refl) c.in-Err.ensures.reads)))
     c.parse_assignment_expr.ensures.grows
 
 pub parse_props-loop-items-init : goal.parse_props-loop-items-init
-parse_props-loop-items-init g t c = (
-  s.on_here g.met.I.Tokens.laws _ (λ x ts. props.props_first _ x ts ∙ ap (λ v. props_behind g.B.BodyForms.forms (trees (map (prop_at c.args.p.now.nodes) v)) None x ts) (sym c.new-items.ensures.items)),
-  omega arith,
-  grows-same _,
-  record { chained = ap (λ v. chain (seat_at c.args.p.now.nodes) (count c.args.p.now.nodes) (flat prop_parts v) (count c.args.p.now.nodes)) c.new-items.ensures.items ∙ (apart-none {ns = c.args.p.now.nodes} {k = count c.args.p.now.nodes} (omega arith)).chained },
-)
+parse_props-loop-items-init g t c =
+    loop.started (props.props_list _) _ _ c.args.p.now _ g.met.I.Tokens.laws c.new-items.ensures.items
 
 pub parse_props-loop-items-preserved : goal.parse_props-loop-items-preserved
 parse_props-loop-items-preserved g t c =
-    let before = trees (map (prop_at c.loop-items.p.nodes) c.loop-items.items.items) in
-    let comma = c.loop-items.trailing_comma in
-    let none = s.eats_none g.B.Bodies.is_faithful is_rbrace _ _ _ c.in-None.is (c.in_ok-end.ensures.eats g.B.Bodies.is_faithful) in
-    let item = s.heard_more (λ x p. separated is_rbrace x p.1 >>= (λ q. Some ((p.0, q.0), q.1))) (λ x ts. props.prop_item_splits _ x ts) c.in_ok-prop.ensures.reads
-    (s.on_call (λ x q. Some ((prop_at c.parse_object_prop.new.p.nodes c.in_ok-prop.prop, q.0), q.1)) (λ x ts. refl) (c.in_ok-separate.ensures.separates g.B.Bodies.is_faithful)) in
-    let more = ap (λ v. trees (map (prop_at c.parse_object_prop.new.p.nodes) v)) c.in_ok-add.ensures.added
-    ∙ props-more c.loop-items.items.items c.in_ok-prop.prop c.parse_object_prop.ensures.grows c.loop-items.invariant.3 in
-    let parts = apart-list-more prop_parts c.loop-items.items.items c.in_ok-prop.prop c.parse_object_prop.ensures.grows c.loop-items.invariant.3 c.in_ok-prop.ensures.from in (
-      s.on_then c.loop-items.invariant.0 (s.on_then (s.on_call (λ x p. props_by _ before comma p.0 x p.1) (λ x ts. props.behind_splits _ before comma x ts) none)
-          (s.on_to (s.on_call (λ x p. props_behind _ (trees_append before (cons p.0.0 nil)) p.0.1 x p.1) (λ x ts. props.props_more_splits _ before x ts) item.on)
-          (λ x ts. ap (λ v. props_behind g.B.BodyForms.forms v c.in_ok-separate.field-0 x ts) (sym more)))),
-      let a = c.loop-items.invariant.1 in let b = c.in_ok-prop.ensures.falls in let e = c.in_ok-separate.ensures.falls in let d = c.in_ok-end.ensures.falls in omega arith,
-      grows-then c.loop-items.invariant.2 c.parse_object_prop.ensures.grows,
-      record { chained = ap (λ v. chain (seat_at c.parse_object_prop.new.p.nodes) (count c.args.p.now.nodes) (flat prop_parts v) (count c.parse_object_prop.new.p.nodes)) c.in_ok-add.ensures.added ∙ parts.chained },
-    )
+    let more = loop.goes_on (props.props_list _) c.loop-items.invariant c.in-None.is (c.in_ok-end.ensures.eats _) in
+    loop.added _ _ _ _ (prop-same g.B.Fun.Spanned.place g.B.Class.Spanned.place g.B.Block.Spanned.place)
+    c.loop-items.invariant more
+    (loop.separated c.in_ok-prop.ensures.reads (c.in_ok-trailing_comma.ensures.separates _))
+    c.parse_object_prop.ensures.grows c.in_ok-prop.ensures.from c.in_ok-add.ensures.added
 
 pub parse_props-returns-in_err-end : goal.parse_props-returns-in_err-end
 parse_props-returns-in_err-end g t c =
-    let before = trees (map (prop_at c.loop-items.p.nodes) c.loop-items.items.items) in
-    let comma = c.loop-items.trailing_comma in
-    let p = err_from_is_err_and c.from_residual.result c.from_residual.ensures.1 in rw (p.1, p.2)
-    (m.no (s.unheard_after c.loop-items.invariant.0 (s.unheard_call (λ x p. props_by _ before comma p.0 x p.1) (λ x ts. props.behind_splits _ before comma x ts) (c.in_err-end.ensures.eats g.B.Bodies.is_faithful))) c.loop-items.invariant.2)
+    m.refused c.from_residual.ensures.1
+    (loop.end_refused (props.props_list _) c.loop-items.invariant (c.in_err-end.ensures.eats _)) c.loop-items.invariant.grows
 
 pub parse_props-returns-in-Some : goal.parse_props-returns-in-Some
 parse_props-returns-in-Some g t c =
-    let before = trees (map (prop_at c.loop-items.p.nodes) c.loop-items.items.items) in
-    let comma = c.loop-items.trailing_comma in
-    let some = s.eats_some g.B.Bodies.is_faithful is_rbrace _ c.in-Some.end _ _ c.in-Some.is (c.in_ok-end.ensures.eats g.B.Bodies.is_faithful) in
-    m.yes (Ok _)
-    (s.heard_after c.loop-items.invariant.0 (s.heard_call (λ x p. props_by _ before comma p.0 x p.1) (λ x ts. props.behind_splits _ before comma x ts) (λ x ts. refl) some))
-    c.loop-items.invariant.2 c.loop-items.invariant.3
-
-pub parse_props-returns-in_err-add : goal.parse_props-returns-in_err-add
-parse_props-returns-in_err-add g t c =
-    let none = s.eats_none g.B.Bodies.is_faithful is_rbrace _ _ _ c.in-None.is (c.in_ok-end.ensures.eats g.B.Bodies.is_faithful) in
-    let item = s.heard_more (λ x p. separated is_rbrace x p.1 >>= (λ q. Some ((p.0, q.0), q.1))) (λ x ts. props.prop_item_splits _ x ts) c.in_ok-prop.ensures.reads
-    (s.on_call (λ x q. Some ((prop_at c.parse_object_prop.new.p.nodes c.in_ok-prop.prop, q.0), q.1)) (λ x ts. refl) (c.in_ok-separate.ensures.separates g.B.Bodies.is_faithful)) in
-    let p = err_from_is_err_and c.from_residual-in_err-add.result c.from_residual-in_err-add.ensures.1 in rw (p.1, p.2)
-    (m.no (s.unheard_memory (s.forgoes_later (s.leads_then c.loop-items.invariant.0.leads (s.leads_then none.leads item.on.leads)) (s.forgoes_here g.met.I.Tokens.laws _ _ _ c.in_err-add.ensures.refused))) (grows-then c.loop-items.invariant.2 c.parse_object_prop.ensures.grows))
+    m.yes (Ok _) (loop.closed (props.props_list _) c.loop-items.invariant c.in-Some.is (c.in_ok-end.ensures.eats _))
+    c.loop-items.invariant.grows c.loop-items.invariant.apart
 
 pub parse_props-returns-in_err-prop : goal.parse_props-returns-in_err-prop
 parse_props-returns-in_err-prop g t c =
-    let before = trees (map (prop_at c.loop-items.p.nodes) c.loop-items.items.items) in
-    let comma = c.loop-items.trailing_comma in
-    let none = s.eats_none g.B.Bodies.is_faithful is_rbrace _ _ _ c.in-None.is (c.in_ok-end.ensures.eats g.B.Bodies.is_faithful) in
-    let p = err_from_is_err_and c.from_residual-in_err-prop.result c.from_residual-in_err-prop.ensures.1 in rw (p.1, p.2)
-    (m.no (s.unheard_after c.loop-items.invariant.0 (s.unheard_after (s.on_call (λ x p. props_by _ before comma p.0 x p.1) (λ x ts. props.behind_splits _ before comma x ts) none)
-    (s.unheard_call (λ x p. props_behind _ (trees_append before (cons p.0.0 nil)) p.0.1 x p.1) (λ x ts. props.props_more_splits _ before x ts) (s.unheard_call (λ x p. separated is_rbrace x p.1 >>= (λ q. Some ((p.0, q.0), q.1))) (λ x ts. props.prop_item_splits _ x ts) c.in_err-prop.ensures.reads)))) (grows-then c.loop-items.invariant.2 c.parse_object_prop.ensures.grows))
+    let more = loop.goes_on (props.props_list _) c.loop-items.invariant c.in-None.is (c.in_ok-end.ensures.eats _) in
+    m.refused c.from_residual-in_err-prop.ensures.1 (loop.item_refused _ _ more c.in_err-prop.ensures.reads)
+    (grows-then c.loop-items.invariant.grows c.parse_object_prop.ensures.grows)
 
-pub parse_props-returns-in_err-separate : goal.parse_props-returns-in_err-separate
-parse_props-returns-in_err-separate g t c =
-    let before = trees (map (prop_at c.loop-items.p.nodes) c.loop-items.items.items) in
-    let comma = c.loop-items.trailing_comma in
-    let none = s.eats_none g.B.Bodies.is_faithful is_rbrace _ _ _ c.in-None.is (c.in_ok-end.ensures.eats g.B.Bodies.is_faithful) in
-    let p = err_from_is_err_and c.from_residual-in_err-separate.result c.from_residual-in_err-separate.ensures.1 in rw (p.1, p.2)
-    (m.no (s.unheard_after c.loop-items.invariant.0 (s.unheard_after (s.on_call (λ x p. props_by _ before comma p.0 x p.1) (λ x ts. props.behind_splits _ before comma x ts) none)
-    (s.unheard_call (λ x p. props_behind _ (trees_append before (cons p.0.0 nil)) p.0.1 x p.1) (λ x ts. props.props_more_splits _ before x ts) (s.unheard_after (s.on_call (λ x p. separated is_rbrace x p.1 >>= (λ q. Some ((p.0, q.0), q.1))) (λ x ts. props.prop_item_splits _ x ts) c.in_ok-prop.ensures.reads.on)
-    (s.unheard_call (λ x q. Some ((prop_at c.parse_object_prop.new.p.nodes c.in_ok-prop.prop, q.0), q.1)) (λ x ts. refl) (c.in_err-separate.ensures.separates g.B.Bodies.is_faithful)))))) (grows-then c.loop-items.invariant.2 c.parse_object_prop.ensures.grows))
+pub parse_props-returns-in_err-add : goal.parse_props-returns-in_err-add
+parse_props-returns-in_err-add g t c =
+    let more = loop.goes_on (props.props_list _) c.loop-items.invariant c.in-None.is (c.in_ok-end.ensures.eats _) in
+    m.refused c.from_residual-in_err-add.ensures.1
+    (loop.unkept _ more c.in_ok-prop.ensures.reads c.in_err-add.ensures.refused)
+    (grows-then c.loop-items.invariant.grows c.parse_object_prop.ensures.grows)
+
+pub parse_props-returns-in_err-trailing_comma : goal.parse_props-returns-in_err-trailing_comma
+parse_props-returns-in_err-trailing_comma g t c =
+    let more = loop.goes_on (props.props_list _) c.loop-items.invariant c.in-None.is (c.in_ok-end.ensures.eats _) in
+    m.refused c.from_residual-in_err-trailing_comma.ensures.1
+    (loop.comma_behind_refused _ _ more c.in_ok-prop.ensures.reads (c.in_err-trailing_comma.ensures.separates _))
+    (grows-then c.loop-items.invariant.grows c.parse_object_prop.ensures.grows)
 
 pub parse_object_prop-returns-in_err-name : goal.parse_object_prop-returns-in_err-name
 parse_object_prop-returns-in_err-name g t c =
-    let p = err_from_is_err_and c.from_residual.result c.from_residual.ensures.1 in rw (p.1, p.2)
-    (m.no c.in_err-name.ensures.reads (grows-same _))
+    m.refused c.from_residual.ensures.1
+    c.in_err-name.ensures.reads (grows-same _)
 
 pub parse_object_prop-returns-in-Shorthand : goal.parse_object_prop-returns-in-Shorthand
 parse_object_prop-returns-in-Shorthand g t c =
@@ -430,10 +406,10 @@ pub parse_object_prop-returns-in_err-expr-in-Spread : goal.parse_object_prop-ret
 parse_object_prop-returns-in_err-expr-in-Spread g t c =
     let inner = assign_within g.B.BodyForms.forms c.include_in-before.ensures.before c.include_in-before.ensures.moves c.include_in-before.ensures.context c.parse_assignment_expr-read.ensures c.in_err-expr-in-Spread.ensures.answer c.in_err-expr-in-Spread.ensures.moves c.in_err-expr-in-Spread.ensures.context in
     let left = begins.begun g.I.Tokens.model g.B.Bodies.is_faithful g.B.BodyForms.forms _ _ (head.Spread c.in-Spread.dots) c.in-Spread.is c.in_ok-name.ensures.reads in
-    let p = err_from_is_err_and c.from_residual-in_err-expr-in-Spread.result c.from_residual-in_err-expr-in-Spread.ensures.1 in rw (p.1, p.2)
-    (m.no (s.unheard_after left
-    (s.unheard_call (λ x q. Some (spread_prop_e c.in-Spread.dots q.0, q.1)) (λ x ts. props.spread_prop_splits _ c.in-Spread.dots x ts) inner.reads))
-    inner.grows)
+    m.refused c.from_residual-in_err-expr-in-Spread.ensures.1
+    (s.unheard_after left
+    (s.unheard_call _ (props.spread_prop_splits _ c.in-Spread.dots) inner.reads))
+    inner.grows
 
 pub parse_object_prop-returns-in_ok-expr-in-Spread : goal.parse_object_prop-returns-in_ok-expr-in-Spread
 parse_object_prop-returns-in_ok-expr-in-Spread g t c =
@@ -441,7 +417,7 @@ parse_object_prop-returns-in_ok-expr-in-Spread g t c =
     let left = begins.begun g.I.Tokens.model g.B.Bodies.is_faithful g.B.BodyForms.forms _ _ (head.Spread c.in-Spread.dots) c.in-Spread.is c.in_ok-name.ensures.reads in
     m.yes (Ok _)
     (s.heard_answer (sym c.spread_prop.ensures.tree) (s.heard_after left
-    (s.heard_call (λ x q. Some (spread_prop_e c.in-Spread.dots q.0, q.1)) (λ x ts. props.spread_prop_splits _ c.in-Spread.dots x ts) (λ x ts. refl) inner.reads)))
+    (s.heard_call _ (props.spread_prop_splits _ c.in-Spread.dots) (λ x ts. refl) inner.reads)))
     inner.grows
     (subst (λ ps. Apart (count c.args.p.now.nodes) c.parse_assignment_expr-read.new.p.nodes ps) (sym c.spread_prop.ensures.parts)
     (apart-from (expr_part c.in_ok-expr-in-Spread.expr) inner.from))
@@ -451,9 +427,9 @@ parse_object_prop-returns-in_err-value-in-Cover g t c =
     let inner = assign_within g.B.BodyForms.forms c.include_in-before-in-Cover.ensures.before c.include_in-before-in-Cover.ensures.moves c.include_in-before-in-Cover.ensures.context c.parse_assignment_expr-read-in-Cover.ensures c.in_err-value-in-Cover.ensures.answer c.in_err-value-in-Cover.ensures.moves c.in_err-value-in-Cover.ensures.context in
     let n = ident_spelling c.in-Cover.name in
     let left = begins.begun g.I.Tokens.model g.B.Bodies.is_faithful g.B.BodyForms.forms _ _ (head.Cover c.in-Cover.name) c.in-Cover.is c.in_ok-name.ensures.reads in
-    let p = err_from_is_err_and c.from_residual-in_err-value-in-Cover.result c.from_residual-in_err-value-in-Cover.ensures.1 in rw (p.1, p.2)
-    (m.no (s.unheard_after left
-    (s.unheard_call (λ x p. Some (cover_node n p.0, p.1)) (λ x ts. props.cover_tail_splits _ n x ts) inner.reads)) inner.grows)
+    m.refused c.from_residual-in_err-value-in-Cover.ensures.1
+    (s.unheard_after left
+    (s.unheard_call _ (props.cover_tail_splits _ n) inner.reads)) inner.grows
 
 pub parse_object_prop-returns-in_ok-value-in-Cover : goal.parse_object_prop-returns-in_ok-value-in-Cover
 parse_object_prop-returns-in_ok-value-in-Cover g t c =
@@ -464,7 +440,7 @@ parse_object_prop-returns-in_ok-value-in-Cover g t c =
     let v = tree_of c.parse_assignment_expr-read-in-Cover.new.p.nodes value.value in
     m.yes (Ok _)
     (s.heard_answer (sym c.cover_prop.ensures.tree) (s.heard_after left
-    (s.heard_call_read (λ x p. Some (cover_node n p.0, p.1)) (λ x ts. props.cover_tail_splits _ n x ts)
+    (s.heard_call_read _ (props.cover_tail_splits _ n)
     (λ x ts us h y ys. ap (λ e. Some (cover_e (from_to n.at.lo e) (ident_e n.at n.text) v, ys))
     (sym (ending.ended _ g.met.B.Bodies.lawful value.value Assign (with_in x) ts us inner.from (sym (rule.inside_assign _ x ts) ∙ h))))
     inner.reads)))
@@ -475,16 +451,16 @@ parse_object_prop-returns-in_ok-value-in-Cover g t c =
 pub parse_object_prop-returns-in_err-key-in-Key : goal.parse_object_prop-returns-in_err-key-in-Key
 parse_object_prop-returns-in_err-key-in-Key g t c =
     let left = begins.begun g.I.Tokens.model g.B.Bodies.is_faithful g.B.BodyForms.forms _ _ head.Key c.in-Key.is c.in_ok-name.ensures.reads in
-    let p = err_from_is_err_and c.from_residual-in_err-key-in-Key.result c.from_residual-in_err-key-in-Key.ensures.1 in rw (p.1, p.2)
-    (m.no (s.unheard_after left (s.unheard_call (λ x p. behind_key _ p.0 x p.1) (λ x ts. method.key_splits _ x ts) c.in_err-key-in-Key.ensures.reads)) c.parse_prop_name.ensures.grows)
+    m.refused c.from_residual-in_err-key-in-Key.ensures.1
+    (s.unheard_after left (s.unheard_call _ (method.key_splits _) c.in_err-key-in-Key.ensures.reads)) c.parse_prop_name.ensures.grows
 
 pub parse_object_prop-returns-in_err-key-in-Method : goal.parse_object_prop-returns-in_err-key-in-Method
 parse_object_prop-returns-in_err-key-in-Method g t c =
     let kind = c.in-Method.kind in
     let start = c.in-Method.start in
     let left = begins.begun g.I.Tokens.model g.B.Bodies.is_faithful g.B.BodyForms.forms _ _ (head.Method c.in-Method.kind c.in-Method.start) c.in-Method.is c.in_ok-name.ensures.reads in
-    let p = err_from_is_err_and c.from_residual-in_err-key-in-Method.result c.from_residual-in_err-key-in-Method.ensures.1 in rw (p.1, p.2)
-    (m.no (s.unheard_after left (s.unheard_call (λ x p. method_close _ kind start p.0 x p.1) (λ x ts. method.method_tail_splits _ kind start x ts) c.in_err-key-in-Method.ensures.reads)) c.parse_prop_name-in-Method.ensures.grows)
+    m.refused c.from_residual-in_err-key-in-Method.ensures.1
+    (s.unheard_after left (s.unheard_call _ (method.method_tail_splits _ kind start) c.in_err-key-in-Method.ensures.reads)) c.parse_prop_name-in-Method.ensures.grows
 
 pub parse_object_prop-returns-in_err-function-in-Method : goal.parse_object_prop-returns-in_err-function-in-Method
 parse_object_prop-returns-in_err-function-in-Method g t c =
@@ -492,9 +468,9 @@ parse_object_prop-returns-in_err-function-in-Method g t c =
     let start = c.in-Method.start in
     let key = key_at c.parse_prop_name-in-Method.new.p.nodes c.in_ok-key-in-Method.key in
     let left = begins.begun g.I.Tokens.model g.B.Bodies.is_faithful g.B.BodyForms.forms _ _ (head.Method c.in-Method.kind c.in-Method.start) c.in-Method.is c.in_ok-name.ensures.reads in
-    let p = err_from_is_err_and c.from_residual-in_err-function-in-Method.result c.from_residual-in_err-function-in-Method.ensures.1 in rw (p.1, p.2)
-    (m.no (s.unheard_after (s.on_then left (s.on_call (λ x p. method_close _ kind start p.0 x p.1) (λ x ts. method.method_tail_splits _ kind start x ts) c.in_ok-key-in-Method.ensures.reads.on))
-    (s.unheard_call (λ x p. Some (method_tree kind start key p.0, p.1)) (λ x ts. method.method_close_splits _ kind start key x ts) c.in_err-function-in-Method.ensures.reads)) (grows-then c.parse_prop_name-in-Method.ensures.grows c.parse_method_function.ensures.grows))
+    m.refused c.from_residual-in_err-function-in-Method.ensures.1
+    (s.unheard_after (s.on_then left (s.on_call _ (method.method_tail_splits _ kind start) c.in_ok-key-in-Method.ensures.reads.on))
+    (s.unheard_call _ (method.method_behind_splits _ (Some kind) start key) c.in_err-function-in-Method.ensures.reads)) (grows-then c.parse_prop_name-in-Method.ensures.grows c.parse_method-in-Method.ensures.grows)
 
 pub parse_object_prop-returns-in_ok-function-in-Method : goal.parse_object_prop-returns-in_ok-function-in-Method
 parse_object_prop-returns-in_ok-function-in-Method g t c =
@@ -502,97 +478,163 @@ parse_object_prop-returns-in_ok-function-in-Method g t c =
     let start = c.in-Method.start in
     let name = c.in_ok-key-in-Method.key in
     let key = key_at c.parse_prop_name-in-Method.new.p.nodes name in
-    let function = c.in_ok-function-in-Method.function in
-    let param = c.in_ok-function-in-Method.param in
+    let fun = c.in_ok-function-in-Method.function in
+    let read = c.in_ok-function-in-Method.ensures in
+    let grown = c.parse_method-in-Method.ensures.grows in
     let left = begins.begun g.I.Tokens.model g.B.Bodies.is_faithful g.B.BodyForms.forms _ _ (head.Method c.in-Method.kind c.in-Method.start) c.in-Method.is c.in_ok-name.ensures.reads in
     m.yes (Ok _)
     (s.heard_after left
-    (method.method_heard _ kind start name function param c.method_of.result c.method_of.ensures c.parse_method_function.ensures.grows c.in_ok-key-in-Method.ensures.from c.in_ok-function-in-Method.ensures.from
-    (s.heard_more (λ x p. method_close _ kind start p.0 x p.1) (λ x ts. method.method_tail_splits _ kind start x ts) c.in_ok-key-in-Method.ensures.reads
-    (s.on_call (λ x p. Some (method_tree kind start key p.0, p.1)) (λ x ts. method.method_close_splits _ kind start key x ts) c.in_ok-function-in-Method.ensures.reads.on))))
-    (grows-then c.parse_prop_name-in-Method.ensures.grows c.parse_method_function.ensures.grows)
-    (method.method_apart kind start name function param c.method_of.result c.method_of.ensures c.parse_method_function.ensures.grows c.in_ok-key-in-Method.ensures.from c.in_ok-function-in-Method.ensures.from)
+    (s.heard_answer (method.method_made (Some kind) start name fun c.method_of-in-Method.result c.method_of-in-Method.ensures grown c.in_ok-key-in-Method.ensures.from read.from.1)
+    (s.heard_more _ (method.method_tail_splits _ kind start) c.in_ok-key-in-Method.ensures.reads
+    (s.on_call _ (method.method_behind_splits _ (Some kind) start key) read.reads.on))))
+    (grows-then c.parse_prop_name-in-Method.ensures.grows grown)
+    (method.method_apart (Some kind) start name fun c.method_of-in-Method.result c.method_of-in-Method.ensures grown c.in_ok-key-in-Method.ensures.from read.from.0)
 
 pub parse_object_prop-returns-in_err-eat-in-Key : goal.parse_object_prop-returns-in_err-eat-in-Key
 parse_object_prop-returns-in_err-eat-in-Key g t c =
     let key = key_at c.parse_prop_name.new.p.nodes c.in_ok-key-in-Key.key in
     let left = begins.begun g.I.Tokens.model g.B.Bodies.is_faithful g.B.BodyForms.forms _ _ head.Key c.in-Key.is c.in_ok-name.ensures.reads in
-    let named = s.on_then left (s.on_call (λ x p. behind_key _ p.0 x p.1) (λ x ts. method.key_splits _ x ts) c.in_ok-key-in-Key.ensures.reads.on) in
-    let p = err_from_is_err_and c.from_residual-in_err-eat-in-Key.result c.from_residual-in_err-eat-in-Key.ensures.1 in rw (p.1, p.2)
-    (m.no (s.unheard_after named
-    (s.unheard_call (λ x p. Some (prop_tree key p.0, p.1)) (λ x ts. method.behind_key_splits _ key x ts)
-    (s.unheard_call (λ x p. after_by _ p.0 x p.1) (λ x ts. method.after_splits _ x ts) (c.in_err-eat-in-Key.ensures.eats g.B.Bodies.is_faithful)))) c.parse_prop_name.ensures.grows)
+    let named = s.on_then left (s.on_call _ (method.key_splits _) c.in_ok-key-in-Key.ensures.reads.on) in
+    m.refused c.from_residual-in_err-eat-in-Key.ensures.1
+    (s.unheard_after named
+    (s.unheard_call _ (method.behind_key_splits _ key)
+    (s.unheard_call _ (method.after_splits _) (c.in_err-eat-in-Key.ensures.eats g.B.Bodies.is_faithful)))) c.parse_prop_name.ensures.grows
 
 pub parse_object_prop-returns-in_err-value-in-Some : goal.parse_object_prop-returns-in_err-value-in-Some
 parse_object_prop-returns-in_err-value-in-Some g t c =
     let inner = assign_within g.B.BodyForms.forms c.include_in-before-in-Some.ensures.before c.include_in-before-in-Some.ensures.moves c.include_in-before-in-Some.ensures.context c.parse_assignment_expr-read-in-Some.ensures c.in_err-value-in-Some.ensures.answer c.in_err-value-in-Some.ensures.moves c.in_err-value-in-Some.ensures.context in
     let key = key_at c.parse_prop_name.new.p.nodes c.in_ok-key-in-Key.key in
     let left = begins.begun g.I.Tokens.model g.B.Bodies.is_faithful g.B.BodyForms.forms _ _ head.Key c.in-Key.is c.in_ok-name.ensures.reads in
-    let named = s.on_then left (s.on_call (λ x p. behind_key _ p.0 x p.1) (λ x ts. method.key_splits _ x ts) c.in_ok-key-in-Key.ensures.reads.on) in
-    let some = s.on_call (λ x p. after_by g.B.BodyForms.forms p.0 x p.1) (λ x ts. method.after_splits _ x ts)
+    let named = s.on_then left (s.on_call _ (method.key_splits _) c.in_ok-key-in-Key.ensures.reads.on) in
+    let some = s.on_call _ (method.after_splits g.B.BodyForms.forms)
     (s.eats_some g.B.Bodies.is_faithful is_colon _ c.in-Some.field-0 _ _ c.in-Some.is (c.in_ok-eat-in-Key.ensures.eats g.B.Bodies.is_faithful)).on in
-    let p = err_from_is_err_and c.from_residual-in_err-value-in-Some.result c.from_residual-in_err-value-in-Some.ensures.1 in rw (p.1, p.2)
-    (m.no (s.unheard_after named
-    (s.unheard_call (λ x p. Some (prop_tree key p.0, p.1)) (λ x ts. method.behind_key_splits _ key x ts)
+    m.refused c.from_residual-in_err-value-in-Some.ensures.1
+    (s.unheard_after named
+    (s.unheard_call _ (method.behind_key_splits _ key)
     (s.unheard_after some
-    (s.unheard_call (λ x p. Some (value_e (span_of p.0) p.0, p.1)) (λ x ts. method.after_colon_splits _ x ts) inner.reads))))
-    (grows-then c.parse_prop_name.ensures.grows inner.grows))
+    (s.unheard_call _ (method.after_colon_splits _) inner.reads))))
+    (grows-then c.parse_prop_name.ensures.grows inner.grows)
 
 pub parse_object_prop-returns-in_ok-value-in-Some : goal.parse_object_prop-returns-in_ok-value-in-Some
 parse_object_prop-returns-in_ok-value-in-Some g t c =
     let inner = assign_within g.B.BodyForms.forms {o = Ok c.in_ok-value-in-Some.value} c.include_in-before-in-Some.ensures.before c.include_in-before-in-Some.ensures.moves c.include_in-before-in-Some.ensures.context c.parse_assignment_expr-read-in-Some.ensures c.in_ok-value-in-Some.ensures.answer c.in_ok-value-in-Some.ensures.moves c.in_ok-value-in-Some.ensures.context in
     let key = key_at c.parse_prop_name.new.p.nodes c.in_ok-key-in-Key.key in
     let left = begins.begun g.I.Tokens.model g.B.Bodies.is_faithful g.B.BodyForms.forms _ _ head.Key c.in-Key.is c.in_ok-name.ensures.reads in
-    let some = s.on_call (λ x p. after_by g.B.BodyForms.forms p.0 x p.1) (λ x ts. method.after_splits _ x ts)
+    let some = s.on_call _ (method.after_splits g.B.BodyForms.forms)
     (s.eats_some g.B.Bodies.is_faithful is_colon _ c.in-Some.field-0 _ _ c.in-Some.is (c.in_ok-eat-in-Key.ensures.eats g.B.Bodies.is_faithful)).on in
-    let value = tree_of c.parse_assignment_expr-read-in-Some.new.p.nodes c.in_ok-value-in-Some.value in
-    let read = s.heard_answer (ap (λ v. value_e v value) (sym c.extent-span.ensures)) (s.heard_after some
-    (s.heard_call (λ x p. Some (value_e (span_of p.0) p.0, p.1)) (λ x ts. method.after_colon_splits _ x ts) (λ x ts. refl) inner.reads)) in
-    let made = method.key_prop_made c.in_ok-key-in-Key.key (after_key.Value c.extent-span.result c.in_ok-value-in-Some.value) c.key_prop.result c.key_prop.ensures inner.grows c.in_ok-key-in-Key.ensures.from inner.from in
+    let read = s.heard_after some (s.heard_call _ (method.after_colon_splits _) (λ x ts. refl) inner.reads) in
+    let made = method.key_prop_made c.in_ok-key-in-Key.key c.in_ok-value-in-Some.value c.key_prop.result c.key_prop.ensures inner.grows c.in_ok-key-in-Key.ensures.from inner.from in
     m.yes (Ok _)
     (s.heard_answer made.0 (s.heard_after left
-    (s.heard_more (λ x p. behind_key _ p.0 x p.1) (λ x ts. method.key_splits _ x ts) c.in_ok-key-in-Key.ensures.reads
-    (s.on_call (λ x p. Some (prop_tree key p.0, p.1)) (λ x ts. method.behind_key_splits _ key x ts) read.on))))
+    (s.heard_more _ (method.key_splits _) c.in_ok-key-in-Key.ensures.reads
+    (s.on_call _ (method.behind_key_splits _ key) read.on))))
     (grows-then c.parse_prop_name.ensures.grows inner.grows) made.1
 
-pub parse_object_prop-returns-in_err-after-in-None : goal.parse_object_prop-returns-in_err-after-in-None
-parse_object_prop-returns-in_err-after-in-None g t c =
+pub parse_object_prop-returns-in_err-function-in-None : goal.parse_object_prop-returns-in_err-function-in-None
+parse_object_prop-returns-in_err-function-in-None g t c =
     let key = key_at c.parse_prop_name.new.p.nodes c.in_ok-key-in-Key.key in
     let left = begins.begun g.I.Tokens.model g.B.Bodies.is_faithful g.B.BodyForms.forms _ _ head.Key c.in-Key.is c.in_ok-name.ensures.reads in
-    let named = s.on_then left (s.on_call (λ x p. behind_key _ p.0 x p.1) (λ x ts. method.key_splits _ x ts) c.in_ok-key-in-Key.ensures.reads.on) in
-    let none = s.on_call (λ x p. after_by g.B.BodyForms.forms p.0 x p.1) (λ x ts. method.after_splits _ x ts)
+    let named = s.on_then left (s.on_call _ (method.key_splits _) c.in_ok-key-in-Key.ensures.reads.on) in
+    let none = s.on_call _ (method.after_splits g.B.BodyForms.forms)
     (s.eats_none g.B.Bodies.is_faithful is_colon _ _ _ c.in-None.is (c.in_ok-eat-in-Key.ensures.eats g.B.Bodies.is_faithful)) in
-    let p = err_from_is_err_and c.from_residual-in_err-after-in-None.result c.from_residual-in_err-after-in-None.ensures.1 in rw (p.1, p.2)
-    (m.no (s.unheard_after named
-    (s.unheard_call (λ x p. Some (prop_tree key p.0, p.1)) (λ x ts. method.behind_key_splits _ key x ts)
-    (s.unheard_after none c.in_err-after-in-None.ensures.reads))) (grows-then c.parse_prop_name.ensures.grows c.parse_key_method.ensures.grows))
+    let same = s.on_here g.met.I.Tokens.laws c.eat.new.input (function.plain_function g.B.BodyForms.forms) in
+    m.refused c.from_residual-in_err-function-in-None.ensures.1
+    (s.unheard_after named
+    (s.unheard_call _ (method.behind_key_splits _ key)
+    (s.unheard_after (s.on_then none same) c.in_err-function-in-None.ensures.reads))) (grows-then c.parse_prop_name.ensures.grows c.parse_method.ensures.grows)
 
-pub parse_object_prop-returns-in_ok-after-in-None : goal.parse_object_prop-returns-in_ok-after-in-None
-parse_object_prop-returns-in_ok-after-in-None g t c =
-    let key = key_at c.parse_prop_name.new.p.nodes c.in_ok-key-in-Key.key in
+pub parse_object_prop-returns-in_ok-function-in-None : goal.parse_object_prop-returns-in_ok-function-in-None
+parse_object_prop-returns-in_ok-function-in-None g t c =
+    let name = c.in_ok-key-in-Key.key in
+    let key = key_at c.parse_prop_name.new.p.nodes name in
+    let fun = c.in_ok-function-in-None.function in
+    let answer = c.in_ok-function-in-None.ensures in
+    let grown = c.parse_method.ensures.grows in
     let left = begins.begun g.I.Tokens.model g.B.Bodies.is_faithful g.B.BodyForms.forms _ _ head.Key c.in-Key.is c.in_ok-name.ensures.reads in
-    let none = s.on_call (λ x p. after_by g.B.BodyForms.forms p.0 x p.1) (λ x ts. method.after_splits _ x ts)
+    let none = s.on_call _ (method.after_splits g.B.BodyForms.forms)
     (s.eats_none g.B.Bodies.is_faithful is_colon _ _ _ c.in-None.is (c.in_ok-eat-in-Key.ensures.eats g.B.Bodies.is_faithful)) in
-    let read = s.heard_after none c.in_ok-after-in-None.ensures.reads in
-    let made = method.key_prop_made c.in_ok-key-in-Key.key c.in_ok-after-in-None.after c.key_prop-in-None.result c.key_prop-in-None.ensures c.parse_key_method.ensures.grows c.in_ok-key-in-Key.ensures.from c.in_ok-after-in-None.ensures.from in
+    let same = s.on_here g.met.I.Tokens.laws c.eat.new.input (function.plain_function g.B.BodyForms.forms) in
+    let read = s.heard_after (s.on_then none same) answer.reads in
     m.yes (Ok _)
-    (s.heard_answer made.0 (s.heard_after left
-    (s.heard_more (λ x p. behind_key _ p.0 x p.1) (λ x ts. method.key_splits _ x ts) c.in_ok-key-in-Key.ensures.reads
-    (s.on_call (λ x p. Some (prop_tree key p.0, p.1)) (λ x ts. method.behind_key_splits _ key x ts) read.on))))
-    (grows-then c.parse_prop_name.ensures.grows c.parse_key_method.ensures.grows) made.1
+    (s.heard_answer (method.plain_made c.span-start.result name fun c.method_of.result c.span-start.ensures c.method_of.ensures grown c.in_ok-key-in-Key.ensures.from)
+    (s.heard_after left
+    (s.heard_more _ (method.key_splits _) c.in_ok-key-in-Key.ensures.reads
+    (s.on_call _ (method.behind_key_splits _ key) read.on))))
+    (grows-then c.parse_prop_name.ensures.grows grown)
+    (method.method_apart None c.span-start.result name fun c.method_of.result c.method_of.ensures grown c.in_ok-key-in-Key.ensures.from answer.from.0)
+
+pub parse_method-returns-in_err-start : goal.parse_method-returns-in_err-start
+parse_method-returns-in_err-start g t c =
+    m.refused c.from_residual.ensures.1
+    (s.unheard_call _ (function.function_opens g.B.BodyForms.forms g.met.B.Bodies.lawful c.args.kind)
+    (c.in_err-start.ensures.opened g.B.Bodies.is_faithful))
+    (grows-same _)
+
+pub parse_method-returns-in-Err : goal.parse_method-returns-in-Err
+parse_method-returns-in-Err g t c =
+    let hook = g.B.BodyForms.forms in
+    let place = g.B.Block.Spanned.place in
+    let kind = c.args.kind in
+    let start = c.in_ok-start.start in
+    let opened = c.in_ok-start.ensures.opened in
+    within {f = method_function hook kind} {g = method_inside hook place kind} {q = c.parse_formal_params.new.p}
+    (method_params (async_in kind) (generator_in kind)) (λ x. refl)
+    (function.function_inside hook g.met.B.Bodies.lawful kind) opened.before opened.moves opened.inside
+    (m.no
+    (s.unheard_after (s.on_call _ (function.inside_splits hook place kind) (opened.read g.B.Bodies.is_faithful).on)
+    (s.unheard_call _ (function.left_splits hook place kind start) c.in-Err.ensures.reads))
+    c.in-Err.ensures.grows)
+    refl c.set_ctx.ensures.moves c.set_ctx.ensures.context
+
+pub parse_method-returns : goal.parse_method-returns
+parse_method-returns g t c =
+    let hook = g.B.BodyForms.forms in
+    let place = g.B.Block.Spanned.place in
+    let kind = c.args.kind in
+    let start = c.in_ok-start.start in
+    let opened = c.in_ok-start.ensures.opened in
+    let ps = params_at c.parse_formal_params.new.p.nodes c.in-Ok.value in
+    let left = s.on_then
+    (function.on_then_both (λ x p. method_end hook place kind start (items_of p.0) x p.1)
+    (function.left_splits hook place kind start) c.in-Ok.ensures.reads)
+    (s.on_here g.met.I.Tokens.laws _ (function.close_is hook place kind start ps)) in
+    within {f = method_function hook kind} {g = method_inside hook place kind} {q = c.close_method-method.new.p}
+    (method_params (async_in kind) (generator_in kind)) (λ x. refl)
+    (function.function_inside hook g.met.B.Bodies.lawful kind) opened.before opened.moves opened.inside
+    (m.call {m = record c.args.p.now { input = c.open_params.new.input }} c.close_method-method.result
+    _ (function.inside_splits hook place kind) (opened.read g.B.Bodies.is_faithful) (grows-same _) (λ x h. h)
+    (m.on_after {m = c.parse_formal_params.new.p} c.close_method-method.result left c.in-Ok.ensures.grows
+    (c.close_method-method.ensures (count c.args.p.now.nodes) c.in-Ok.ensures.from)))
+    refl c.set_ctx-2.ensures.moves c.set_ctx-2.ensures.context
+
+pub parse_method-close_method-method-requires : goal.parse_method-close_method-method-requires
+parse_method-close_method-method-requires g t c = record {
+  params = (apart-down (flat param_parts c.in-Ok.value.items) c.in-Ok.ensures.from.0, c.in-Ok.ensures.from.1);
+}
+
+pub parse_method-set_ctx-requires : goal.parse_method-set_ctx-requires
+parse_method-set_ctx-requires g t c =
+    c.in_ok-start.ensures.«module» ∙ sym (ap (λ x. x.«module») c.in-Err.ensures.reads.refuses.spends.read.context)
+
+pub parse_method-set_ctx-requires-2 : goal.parse_method-set_ctx-requires-2
+parse_method-set_ctx-requires-2 g t c =
+    c.in_ok-start.ensures.«module» ∙ sym (ap (λ x. x.«module»)
+    (function.continues_context g.I.Tokens.model g.B.Bodies.is_faithful _ _ _ _ c.close_method-method.result
+    (c.close_method-method.ensures (count c.args.p.now.nodes) c.in-Ok.ensures.from).reads
+    ∙ c.in-Ok.ensures.reads.leads.read.context))
 
 pub parse_lhs_expr-returns-in_err-look : goal.parse_lhs_expr-returns-in_err-look
 parse_lhs_expr-returns-in_err-look g t c =
-    let p = err_from_is_err_and c.from_residual.result c.from_residual.ensures.1 in rw (p.1, p.2)
-    (m.no (s.unheard_memory c.in_err-look.ensures.looks) (grows-same _))
+    m.refused c.from_residual.ensures.1
+    (s.unheard_memory c.in_err-look.ensures.looks) (grows-same _)
 
 pub parse_lhs_expr-returns-in_err-base : goal.parse_lhs_expr-returns-in_err-base
 parse_lhs_expr-returns-in_err-base g t c =
-    let p = err_from_is_err_and c.from_residual-in_err-base.result c.from_residual-in_err-base.ensures.1 in rw (p.1, p.2)
-    (m.no (s.unheard_after (s.on_seen {g = λ x ts. plain_base _ true x ts >>= (λ p. run _ (links true p.0) x p.1)} c.in_ok-look.ensures.looks
+    m.refused c.from_residual-in_err-base.ensures.1
+    (s.unheard_after (s.on_seen {g = λ x ts. plain_base _ true x ts >>= (λ p. run _ (links true p.0) x p.1)} c.in_ok-look.ensures.looks
     (λ x ts same e. link.lhs_splits _ true x ts (link.not_new (first ts)
     (ap (λ o. at_token is_super o || at_token is_import o) e ∙ sym c.is_super_or_import.ensures ∙ c.if-is_super_or_import.true))))
-    (s.unheard_call (λ x p. run _ (links true p.0) x p.1) (λ x ts. refl) c.in_err-base.ensures.reads)) c.parse_base.ensures.grows)
+    (s.unheard_call (λ x p. run _ (links true p.0) x p.1) (λ x ts. refl) c.in_err-base.ensures.reads)) c.parse_base.ensures.grows
 
 pub parse_lhs_expr-returns-then-is_super_or_import : goal.parse_lhs_expr-returns-then-is_super_or_import
 parse_lhs_expr-returns-then-is_super_or_import g t c =
@@ -608,12 +650,12 @@ parse_lhs_expr-returns-in_err-callee g t c =
     let member = s.parses_aside g.I.Tokens.model g.B.Bodies.is_faithful tree (run _ (at (Lhs false))) c.parse_member_expr-member.result
     c.set_ctx.ensures.moves (ap deciding c.set_ctx.ensures.context ∙ ap deciding c.get_ctx-ctx.ensures) c.parse_member_expr-member.ensures.reads c.set_ctx-2.ensures.moves
     (c.set_ctx-2.ensures.context ∙ c.get_ctx-ctx.ensures) in
-    let p = err_from_is_err_and c.from_residual-in_err-callee.result c.from_residual-in_err-callee.ensures.1 in rw (p.1, p.2)
-    (m.no (s.unheard_after (s.on_seen {g = λ x ts. run _ (at (Lhs false)) x ts >>= (λ p. run _ (links true p.0) x p.1)} c.in_ok-look.ensures.looks
+    m.refused c.from_residual-in_err-callee.ensures.1
+    (s.unheard_after (s.on_seen {g = λ x ts. run _ (at (Lhs false)) x ts >>= (λ p. run _ (links true p.0) x p.1)} c.in_ok-look.ensures.looks
     (λ x ts same e. link.lhs_parts _ x ts (ap (λ o. at_token is_super o || at_token is_import o) e ∙ sym c.is_super_or_import.ensures ∙ c.if-is_super_or_import.false)))
     (s.unheard_call (λ x p. run _ (links true p.0) x p.1) (λ x ts. refl)
     (s.parses_err g.I.Tokens.model g.B.Bodies.is_faithful tree (run _ (at (Lhs false))) _ _ c.parse_member_expr-member.result _ c.in_err-callee.was member)))
-    c.parse_member_expr-member.ensures.grows)
+    c.parse_member_expr-member.ensures.grows
 
 pub parse_lhs_expr-parse_subscripts-requires-2 : goal.parse_lhs_expr-parse_subscripts-requires-2
 parse_lhs_expr-parse_subscripts-requires-2 g t c =
@@ -637,22 +679,22 @@ parse_lhs_expr-returns g t c =
 
 pub parse_member_expr-returns-in_err-look : goal.parse_member_expr-returns-in_err-look
 parse_member_expr-returns-in_err-look g t c =
-    let p = err_from_is_err_and c.from_residual.result c.from_residual.ensures.1 in rw (p.1, p.2)
-    (m.no (s.unheard_memory c.in_err-look.ensures.looks) (grows-same _))
+    m.refused c.from_residual.ensures.1
+    (s.unheard_memory c.in_err-look.ensures.looks) (grows-same _)
 
 pub parse_member_expr-returns-in_err-base : goal.parse_member_expr-returns-in_err-base
 parse_member_expr-returns-in_err-base g t c =
     let b = false in
-    let p = err_from_is_err_and c.from_residual-in_err-base.result c.from_residual-in_err-base.ensures.1 in rw (p.1, p.2)
-    (m.no (s.unheard_after (s.on_seen {g = λ x ts. plain_base _ b x ts >>= (λ p. run _ (links b p.0) x p.1)} c.in_ok-look.ensures.looks
-    (λ x ts same e. link.lhs_splits _ b x ts (ap (at_token is_new) e ∙ sym c.is_new.ensures.value ∙ c.if-not-is_new.true)))
-    (s.unheard_call (λ x p. run _ (links b p.0) x p.1) (λ x ts. refl) c.in_err-base.ensures.reads)) c.parse_base.ensures.grows)
+    m.refused c.from_residual-in_err-base.ensures.1
+    (s.unheard_after (s.on_seen {g = λ x ts. plain_base _ b x ts >>= (λ p. run _ (links b p.0) x p.1)} c.in_ok-look.ensures.looks
+    (λ x ts same e. link.lhs_splits _ b x ts (ap (at_token is_new) e ∙ sym c.is_sign.ensures.value ∙ c.if-not-is_sign.true)))
+    (s.unheard_call (λ x p. run _ (links b p.0) x p.1) (λ x ts. refl) c.in_err-base.ensures.reads)) c.parse_base.ensures.grows
 
-pub parse_member_expr-returns-then-not-is_new : goal.parse_member_expr-returns-then-not-is_new
-parse_member_expr-returns-then-not-is_new g t c =
+pub parse_member_expr-returns-then-not-is_sign : goal.parse_member_expr-returns-then-not-is_sign
+parse_member_expr-returns-then-not-is_sign g t c =
     let b = false in
     m.after {m = record c.args.p.now { input = c.look.new.input }} c.parse_subscripts.result (s.on_seen {g = λ x ts. plain_base _ b x ts >>= (λ p. run _ (links b p.0) x p.1)} c.in_ok-look.ensures.looks
-    (λ x ts same e. link.lhs_splits _ b x ts (ap (at_token is_new) e ∙ sym c.is_new.ensures.value ∙ c.if-not-is_new.true))) (grows-same _)
+    (λ x ts same e. link.lhs_splits _ b x ts (ap (at_token is_new) e ∙ sym c.is_sign.ensures.value ∙ c.if-not-is_sign.true))) (grows-same _)
     (m.call c.parse_subscripts.result (λ x p. run _ (links b p.0) x p.1) (λ x ts. refl)
     c.in_ok-base.ensures.reads c.parse_base.ensures.grows (λ x. from-down c.in_ok-base.ensures.from.above) c.parse_subscripts.ensures)
 
@@ -662,12 +704,12 @@ parse_member_expr-returns-in_err-eat g t c =
     let b = false in
     let start = c.cur_span-start.result in
     let place = s.place_was first start c.cur_span-start.ensures in
-    let seen = s.on_seen {f = run g.B.BodyForms.forms (at (Lhs b))} {g = new_lhs g.B.BodyForms.forms b} c.in_ok-look.ensures.looks (λ x ts same e. link.new_splits g.B.BodyForms.forms b x ts (ap (at_token is_new) e ∙ sym c.is_new.ensures.value ∙ c.if-not-is_new.false)) in
+    let seen = s.on_seen {f = run g.B.BodyForms.forms (at (Lhs b))} {g = new_lhs g.B.BodyForms.forms b} c.in_ok-look.ensures.looks (λ x ts same e. link.new_splits g.B.BodyForms.forms b x ts (ap (at_token is_new) e ∙ sym c.is_sign.ensures.value ∙ c.if-not-is_sign.false)) in
     let behind = s.on_then seen (s.on_took {f = new_lhs g.B.BodyForms.forms b} {g = new_tail g.B.BodyForms.forms b start} g.met.I.Tokens.laws first
     (λ x ts. link.new_opens g.B.BodyForms.forms b (plain first.was) x ts ∙ ap (λ v. new_tail g.B.BodyForms.forms b v x ts) (sym place))) in
-    let p = err_from_is_err_and c.from_residual-in_err-eat.result c.from_residual-in_err-eat.ensures.1 in rw (p.1, p.2)
-    (m.no (s.unheard_after behind
-    (s.unheard_call (λ x q. new_by _ b start q.0 x q.1) (λ x ts. refl) (c.in_err-eat.ensures.eats g.B.Bodies.is_faithful))) (grows-same _))
+    m.refused c.from_residual-in_err-eat.ensures.1
+    (s.unheard_after behind
+    (s.unheard_call (λ x q. new_by _ b start q.0 x q.1) (λ x ts. refl) (c.in_err-eat.ensures.eats g.B.Bodies.is_faithful))) (grows-same _)
 
 pub parse_member_expr-returns-in_err-target-in-Some : goal.parse_member_expr-returns-in_err-target-in-Some
 parse_member_expr-returns-in_err-target-in-Some g t c =
@@ -675,13 +717,13 @@ parse_member_expr-returns-in_err-target-in-Some g t c =
     let b = false in
     let start = c.cur_span-start.result in
     let place = s.place_was first start c.cur_span-start.ensures in
-    let seen = s.on_seen {f = run g.B.BodyForms.forms (at (Lhs b))} {g = new_lhs g.B.BodyForms.forms b} c.in_ok-look.ensures.looks (λ x ts same e. link.new_splits g.B.BodyForms.forms b x ts (ap (at_token is_new) e ∙ sym c.is_new.ensures.value ∙ c.if-not-is_new.false)) in
+    let seen = s.on_seen {f = run g.B.BodyForms.forms (at (Lhs b))} {g = new_lhs g.B.BodyForms.forms b} c.in_ok-look.ensures.looks (λ x ts same e. link.new_splits g.B.BodyForms.forms b x ts (ap (at_token is_new) e ∙ sym c.is_sign.ensures.value ∙ c.if-not-is_sign.false)) in
     let behind = s.on_then seen (s.on_took {f = new_lhs g.B.BodyForms.forms b} {g = new_tail g.B.BodyForms.forms b start} g.met.I.Tokens.laws first
     (λ x ts. link.new_opens g.B.BodyForms.forms b (plain first.was) x ts ∙ ap (λ v. new_tail g.B.BodyForms.forms b v x ts) (sym place))) in
     let some = s.eats_some g.B.Bodies.is_faithful is_dot _ c.in-Some.field-0 _ _ c.in-Some.is (c.in_ok-eat.ensures.eats g.B.Bodies.is_faithful) in
-    let p = err_from_is_err_and c.from_residual-in_err-target-in-Some.result c.from_residual-in_err-target-in-Some.ensures.1 in rw (p.1, p.2)
-    (m.no (s.unheard_after (s.on_then behind (s.on_call (λ x q. new_by _ b start q.0 x q.1) (λ x ts. refl) some.on))
-    (s.unheard_call (λ x q. run _ (links b q.0) x q.1) (λ x ts. refl) c.in_err-target-in-Some.ensures.reads)) c.parse_new_target.ensures.grows)
+    m.refused c.from_residual-in_err-target-in-Some.ensures.1
+    (s.unheard_after (s.on_then behind (s.on_call (λ x q. new_by _ b start q.0 x q.1) (λ x ts. refl) some.on))
+    (s.unheard_call (λ x q. run _ (links b q.0) x q.1) (λ x ts. refl) c.in_err-target-in-Some.ensures.reads)) c.parse_new_target.ensures.grows
 
 pub parse_member_expr-returns-in-Some : goal.parse_member_expr-returns-in-Some
 parse_member_expr-returns-in-Some g t c =
@@ -689,7 +731,7 @@ parse_member_expr-returns-in-Some g t c =
     let b = false in
     let start = c.cur_span-start.result in
     let place = s.place_was first start c.cur_span-start.ensures in
-    let seen = s.on_seen {f = run g.B.BodyForms.forms (at (Lhs b))} {g = new_lhs g.B.BodyForms.forms b} c.in_ok-look.ensures.looks (λ x ts same e. link.new_splits g.B.BodyForms.forms b x ts (ap (at_token is_new) e ∙ sym c.is_new.ensures.value ∙ c.if-not-is_new.false)) in
+    let seen = s.on_seen {f = run g.B.BodyForms.forms (at (Lhs b))} {g = new_lhs g.B.BodyForms.forms b} c.in_ok-look.ensures.looks (λ x ts same e. link.new_splits g.B.BodyForms.forms b x ts (ap (at_token is_new) e ∙ sym c.is_sign.ensures.value ∙ c.if-not-is_sign.false)) in
     let behind = s.on_then seen (s.on_took {f = new_lhs g.B.BodyForms.forms b} {g = new_tail g.B.BodyForms.forms b start} g.met.I.Tokens.laws first
     (λ x ts. link.new_opens g.B.BodyForms.forms b (plain first.was) x ts ∙ ap (λ v. new_tail g.B.BodyForms.forms b v x ts) (sym place))) in
     let some = s.eats_some g.B.Bodies.is_faithful is_dot _ c.in-Some.field-0 _ _ c.in-Some.is (c.in_ok-eat.ensures.eats g.B.Bodies.is_faithful) in
@@ -703,13 +745,13 @@ parse_member_expr-returns-in_err-callee g t c =
     let b = false in
     let start = c.cur_span-start.result in
     let place = s.place_was first start c.cur_span-start.ensures in
-    let seen = s.on_seen {f = run g.B.BodyForms.forms (at (Lhs b))} {g = new_lhs g.B.BodyForms.forms b} c.in_ok-look.ensures.looks (λ x ts same e. link.new_splits g.B.BodyForms.forms b x ts (ap (at_token is_new) e ∙ sym c.is_new.ensures.value ∙ c.if-not-is_new.false)) in
+    let seen = s.on_seen {f = run g.B.BodyForms.forms (at (Lhs b))} {g = new_lhs g.B.BodyForms.forms b} c.in_ok-look.ensures.looks (λ x ts same e. link.new_splits g.B.BodyForms.forms b x ts (ap (at_token is_new) e ∙ sym c.is_sign.ensures.value ∙ c.if-not-is_sign.false)) in
     let behind = s.on_then seen (s.on_took {f = new_lhs g.B.BodyForms.forms b} {g = new_tail g.B.BodyForms.forms b start} g.met.I.Tokens.laws first
     (λ x ts. link.new_opens g.B.BodyForms.forms b (plain first.was) x ts ∙ ap (λ v. new_tail g.B.BodyForms.forms b v x ts) (sym place))) in
     let none = s.eats_none g.B.Bodies.is_faithful is_dot _ _ _ c.in-None.is (c.in_ok-eat.ensures.eats g.B.Bodies.is_faithful) in
     let begun = s.on_then behind (s.on_call (λ x q. new_by g.B.BodyForms.forms b start q.0 x q.1) (λ x ts. refl) none) in
-    let p = err_from_is_err_and c.from_residual-in_err-callee.result c.from_residual-in_err-callee.ensures.1 in rw (p.1, p.2)
-    (m.no (s.unheard_after begun (s.unheard_call (λ x p. construct_of _ b start p.0 x p.1) (λ x ts. link.construct_splits _ b start x ts) c.in_err-callee.ensures.reads)) c.parse_member_expr.ensures.grows)
+    m.refused c.from_residual-in_err-callee.ensures.1
+    (s.unheard_after begun (s.unheard_call _ (link.construct_splits _ b start) c.in_err-callee.ensures.reads)) c.parse_member_expr.ensures.grows
 
 pub parse_member_expr-returns-in_err-refuse_opt_chain : goal.parse_member_expr-returns-in_err-refuse_opt_chain
 parse_member_expr-returns-in_err-refuse_opt_chain g t c =
@@ -717,14 +759,14 @@ parse_member_expr-returns-in_err-refuse_opt_chain g t c =
     let b = false in
     let start = c.cur_span-start.result in
     let place = s.place_was first start c.cur_span-start.ensures in
-    let seen = s.on_seen {f = run g.B.BodyForms.forms (at (Lhs b))} {g = new_lhs g.B.BodyForms.forms b} c.in_ok-look.ensures.looks (λ x ts same e. link.new_splits g.B.BodyForms.forms b x ts (ap (at_token is_new) e ∙ sym c.is_new.ensures.value ∙ c.if-not-is_new.false)) in
+    let seen = s.on_seen {f = run g.B.BodyForms.forms (at (Lhs b))} {g = new_lhs g.B.BodyForms.forms b} c.in_ok-look.ensures.looks (λ x ts same e. link.new_splits g.B.BodyForms.forms b x ts (ap (at_token is_new) e ∙ sym c.is_sign.ensures.value ∙ c.if-not-is_sign.false)) in
     let behind = s.on_then seen (s.on_took {f = new_lhs g.B.BodyForms.forms b} {g = new_tail g.B.BodyForms.forms b start} g.met.I.Tokens.laws first
     (λ x ts. link.new_opens g.B.BodyForms.forms b (plain first.was) x ts ∙ ap (λ v. new_tail g.B.BodyForms.forms b v x ts) (sym place))) in
     let none = s.eats_none g.B.Bodies.is_faithful is_dot _ _ _ c.in-None.is (c.in_ok-eat.ensures.eats g.B.Bodies.is_faithful) in
     let begun = s.on_then behind (s.on_call (λ x q. new_by g.B.BodyForms.forms b start q.0 x q.1) (λ x ts. refl) none) in
-    let p = err_from_is_err_and c.from_residual-in_err-refuse_opt_chain.result c.from_residual-in_err-refuse_opt_chain.ensures.1 in rw (p.1, p.2)
-    (m.no (s.unheard_after begun (s.unheard_after (s.on_call (λ x p. construct_of _ b start p.0 x p.1) (λ x ts. link.construct_splits _ b start x ts) c.in_ok-callee.ensures.reads.on)
-    (s.unheard_none (λ x ts. link.construct_refused _ b start _ x ts c.in_err-refuse_opt_chain.ensures.refuses.1) c.in_err-refuse_opt_chain.ensures.refuses.0))) c.parse_member_expr.ensures.grows)
+    m.refused c.from_residual-in_err-refuse_opt_chain.ensures.1
+    (s.unheard_after begun (s.unheard_after (s.on_call _ (link.construct_splits _ b start) c.in_ok-callee.ensures.reads.on)
+    (s.unheard_none (λ x ts. link.construct_refused _ b start _ x ts c.in_err-refuse_opt_chain.ensures.refuses.1) c.in_err-refuse_opt_chain.ensures.refuses.0))) c.parse_member_expr.ensures.grows
 
 pub parse_member_expr-returns-in_err-eat-2 : goal.parse_member_expr-returns-in_err-eat-2
 parse_member_expr-returns-in_err-eat-2 g t c =
@@ -732,17 +774,17 @@ parse_member_expr-returns-in_err-eat-2 g t c =
     let b = false in
     let start = c.cur_span-start.result in
     let place = s.place_was first start c.cur_span-start.ensures in
-    let seen = s.on_seen {f = run g.B.BodyForms.forms (at (Lhs b))} {g = new_lhs g.B.BodyForms.forms b} c.in_ok-look.ensures.looks (λ x ts same e. link.new_splits g.B.BodyForms.forms b x ts (ap (at_token is_new) e ∙ sym c.is_new.ensures.value ∙ c.if-not-is_new.false)) in
+    let seen = s.on_seen {f = run g.B.BodyForms.forms (at (Lhs b))} {g = new_lhs g.B.BodyForms.forms b} c.in_ok-look.ensures.looks (λ x ts same e. link.new_splits g.B.BodyForms.forms b x ts (ap (at_token is_new) e ∙ sym c.is_sign.ensures.value ∙ c.if-not-is_sign.false)) in
     let behind = s.on_then seen (s.on_took {f = new_lhs g.B.BodyForms.forms b} {g = new_tail g.B.BodyForms.forms b start} g.met.I.Tokens.laws first
     (λ x ts. link.new_opens g.B.BodyForms.forms b (plain first.was) x ts ∙ ap (λ v. new_tail g.B.BodyForms.forms b v x ts) (sym place))) in
     let none = s.eats_none g.B.Bodies.is_faithful is_dot _ _ _ c.in-None.is (c.in_ok-eat.ensures.eats g.B.Bodies.is_faithful) in
     let begun = s.on_then behind (s.on_call (λ x q. new_by g.B.BodyForms.forms b start q.0 x q.1) (λ x ts. refl) none) in
     let l = tree_of c.parse_member_expr.new.p.nodes c.in_ok-callee.callee in
-    let named = s.on_call (λ x p. construct_of g.B.BodyForms.forms b start p.0 x p.1) (λ x ts. link.construct_splits g.B.BodyForms.forms b start x ts) c.in_ok-callee.ensures.reads.on in
+    let named = s.on_call _ (link.construct_splits g.B.BodyForms.forms b start) c.in_ok-callee.ensures.reads.on in
     let passes = s.on_by (λ x ts. link.construct_passes g.B.BodyForms.forms b start l x ts c.in_ok-refuse_opt_chain.ensures.passes.1) (s.on_same {f = construct_node g.B.BodyForms.forms b start l} g.met.I.Tokens.laws c.in_ok-refuse_opt_chain.ensures.passes.0) in
-    let p = err_from_is_err_and c.from_residual-in_err-eat-2.result c.from_residual-in_err-eat-2.ensures.1 in rw (p.1, p.2)
-    (m.no (s.unheard_after begun (s.unheard_after named (s.unheard_after passes
-    (s.unheard_call (λ x q. construct_by _ b start l q.0 x q.1) (λ x ts. refl) (c.in_err-eat-2.ensures.eats g.B.Bodies.is_faithful))))) c.parse_member_expr.ensures.grows)
+    m.refused c.from_residual-in_err-eat-2.ensures.1
+    (s.unheard_after begun (s.unheard_after named (s.unheard_after passes
+    (s.unheard_call (λ x q. construct_by _ b start l q.0 x q.1) (λ x ts. refl) (c.in_err-eat-2.ensures.eats g.B.Bodies.is_faithful))))) c.parse_member_expr.ensures.grows
 
 pub parse_member_expr-returns-in_err-list-in-Some-2 : goal.parse_member_expr-returns-in_err-list-in-Some-2
 parse_member_expr-returns-in_err-list-in-Some-2 g t c =
@@ -750,20 +792,20 @@ parse_member_expr-returns-in_err-list-in-Some-2 g t c =
     let b = false in
     let start = c.cur_span-start.result in
     let place = s.place_was first start c.cur_span-start.ensures in
-    let seen = s.on_seen {f = run g.B.BodyForms.forms (at (Lhs b))} {g = new_lhs g.B.BodyForms.forms b} c.in_ok-look.ensures.looks (λ x ts same e. link.new_splits g.B.BodyForms.forms b x ts (ap (at_token is_new) e ∙ sym c.is_new.ensures.value ∙ c.if-not-is_new.false)) in
+    let seen = s.on_seen {f = run g.B.BodyForms.forms (at (Lhs b))} {g = new_lhs g.B.BodyForms.forms b} c.in_ok-look.ensures.looks (λ x ts same e. link.new_splits g.B.BodyForms.forms b x ts (ap (at_token is_new) e ∙ sym c.is_sign.ensures.value ∙ c.if-not-is_sign.false)) in
     let behind = s.on_then seen (s.on_took {f = new_lhs g.B.BodyForms.forms b} {g = new_tail g.B.BodyForms.forms b start} g.met.I.Tokens.laws first
     (λ x ts. link.new_opens g.B.BodyForms.forms b (plain first.was) x ts ∙ ap (λ v. new_tail g.B.BodyForms.forms b v x ts) (sym place))) in
     let none = s.eats_none g.B.Bodies.is_faithful is_dot _ _ _ c.in-None.is (c.in_ok-eat.ensures.eats g.B.Bodies.is_faithful) in
     let begun = s.on_then behind (s.on_call (λ x q. new_by g.B.BodyForms.forms b start q.0 x q.1) (λ x ts. refl) none) in
     let l = tree_of c.parse_member_expr.new.p.nodes c.in_ok-callee.callee in
-    let named = s.on_call (λ x p. construct_of g.B.BodyForms.forms b start p.0 x p.1) (λ x ts. link.construct_splits g.B.BodyForms.forms b start x ts) c.in_ok-callee.ensures.reads.on in
+    let named = s.on_call _ (link.construct_splits g.B.BodyForms.forms b start) c.in_ok-callee.ensures.reads.on in
     let passes = s.on_by (λ x ts. link.construct_passes g.B.BodyForms.forms b start l x ts c.in_ok-refuse_opt_chain.ensures.passes.1) (s.on_same {f = construct_node g.B.BodyForms.forms b start l} g.met.I.Tokens.laws c.in_ok-refuse_opt_chain.ensures.passes.0) in
     let some = s.eats_some g.B.Bodies.is_faithful is_lparen _ c.in-Some-2.field-0 _ _ c.in-Some-2.is (c.in_ok-eat-2.ensures.eats g.B.Bodies.is_faithful) in
     let opened = s.on_then begun (s.on_then named (s.on_then passes (s.on_call (λ x q. construct_by g.B.BodyForms.forms b start l q.0 x q.1) (λ x ts. refl) some.on))) in
-    let p = err_from_is_err_and c.from_residual-in_err-list-in-Some-2.result c.from_residual-in_err-list-in-Some-2.ensures.1 in rw (p.1, p.2)
-    (m.no (s.unheard_after opened (s.unheard_call (λ x q. run _ (links b q.0) x q.1) (λ x ts. refl)
-    (s.unheard_call (λ x p. new_node start l p.0 x p.1) (λ x ts. link.new_args_splits _ start l x ts) c.in_err-list-in-Some-2.ensures.reads)))
-    (grows-then c.parse_member_expr.ensures.grows c.parse_args.ensures.grows))
+    m.refused c.from_residual-in_err-list-in-Some-2.ensures.1
+    (s.unheard_after opened (s.unheard_call (λ x q. run _ (links b q.0) x q.1) (λ x ts. refl)
+    (s.unheard_call _ (link.new_args_splits _ start l) c.in_err-list-in-Some-2.ensures.reads)))
+    (grows-then c.parse_member_expr.ensures.grows c.parse_args.ensures.grows)
 
 pub parse_member_expr-new_expr-requires : goal.parse_member_expr-new_expr-requires
 parse_member_expr-new_expr-requires g t c =
@@ -776,20 +818,20 @@ parse_member_expr-returns-in_err-base-in-Some-2 g t c =
     let b = false in
     let start = c.cur_span-start.result in
     let place = s.place_was first start c.cur_span-start.ensures in
-    let seen = s.on_seen {f = run g.B.BodyForms.forms (at (Lhs b))} {g = new_lhs g.B.BodyForms.forms b} c.in_ok-look.ensures.looks (λ x ts same e. link.new_splits g.B.BodyForms.forms b x ts (ap (at_token is_new) e ∙ sym c.is_new.ensures.value ∙ c.if-not-is_new.false)) in
+    let seen = s.on_seen {f = run g.B.BodyForms.forms (at (Lhs b))} {g = new_lhs g.B.BodyForms.forms b} c.in_ok-look.ensures.looks (λ x ts same e. link.new_splits g.B.BodyForms.forms b x ts (ap (at_token is_new) e ∙ sym c.is_sign.ensures.value ∙ c.if-not-is_sign.false)) in
     let behind = s.on_then seen (s.on_took {f = new_lhs g.B.BodyForms.forms b} {g = new_tail g.B.BodyForms.forms b start} g.met.I.Tokens.laws first
     (λ x ts. link.new_opens g.B.BodyForms.forms b (plain first.was) x ts ∙ ap (λ v. new_tail g.B.BodyForms.forms b v x ts) (sym place))) in
     let none = s.eats_none g.B.Bodies.is_faithful is_dot _ _ _ c.in-None.is (c.in_ok-eat.ensures.eats g.B.Bodies.is_faithful) in
     let begun = s.on_then behind (s.on_call (λ x q. new_by g.B.BodyForms.forms b start q.0 x q.1) (λ x ts. refl) none) in
     let l = tree_of c.parse_member_expr.new.p.nodes c.in_ok-callee.callee in
-    let named = s.on_call (λ x p. construct_of g.B.BodyForms.forms b start p.0 x p.1) (λ x ts. link.construct_splits g.B.BodyForms.forms b start x ts) c.in_ok-callee.ensures.reads.on in
+    let named = s.on_call _ (link.construct_splits g.B.BodyForms.forms b start) c.in_ok-callee.ensures.reads.on in
     let passes = s.on_by (λ x ts. link.construct_passes g.B.BodyForms.forms b start l x ts c.in_ok-refuse_opt_chain.ensures.passes.1) (s.on_same {f = construct_node g.B.BodyForms.forms b start l} g.met.I.Tokens.laws c.in_ok-refuse_opt_chain.ensures.passes.0) in
     let some = s.eats_some g.B.Bodies.is_faithful is_lparen _ c.in-Some-2.field-0 _ _ c.in-Some-2.is (c.in_ok-eat-2.ensures.eats g.B.Bodies.is_faithful) in
     let opened = s.on_then begun (s.on_then named (s.on_then passes (s.on_call (λ x q. construct_by g.B.BodyForms.forms b start l q.0 x q.1) (λ x ts. refl) some.on))) in
     let base = m.tail {p = record c.parse_member_expr.new.p { input = c.eat-2.new.input }} (Err _) (λ v x p. new_node start v p.0 x p.1)
-    (λ x ts. link.new_args_splits g.B.BodyForms.forms start l x ts) c.in_ok-list-in-Some-2.ensures.reads c.parse_args.ensures.grows c.in_ok-callee.ensures.from c.in_err-base-in-Some-2.ensures in
-    let p = err_from_is_err_and c.from_residual-in_err-base-in-Some-2.result c.from_residual-in_err-base-in-Some-2.ensures.1 in rw (p.1, p.2)
-    (m.no (s.unheard_after opened (s.unheard_call (λ x q. run _ (links b q.0) x q.1) (λ x ts. refl) base.reads)) (grows-then c.parse_member_expr.ensures.grows base.grows))
+    (link.new_args_splits g.B.BodyForms.forms start l) c.in_ok-list-in-Some-2.ensures.reads c.parse_args.ensures.grows c.in_ok-callee.ensures.from c.in_err-base-in-Some-2.ensures in
+    m.refused c.from_residual-in_err-base-in-Some-2.ensures.1
+    (s.unheard_after opened (s.unheard_call (λ x q. run _ (links b q.0) x q.1) (λ x ts. refl) base.reads)) (grows-then c.parse_member_expr.ensures.grows base.grows)
 
 pub parse_member_expr-returns-in_ok-base-in-Some-2 : goal.parse_member_expr-returns-in_ok-base-in-Some-2
 parse_member_expr-returns-in_ok-base-in-Some-2 g t c =
@@ -797,18 +839,18 @@ parse_member_expr-returns-in_ok-base-in-Some-2 g t c =
     let b = false in
     let start = c.cur_span-start.result in
     let place = s.place_was first start c.cur_span-start.ensures in
-    let seen = s.on_seen {f = run g.B.BodyForms.forms (at (Lhs b))} {g = new_lhs g.B.BodyForms.forms b} c.in_ok-look.ensures.looks (λ x ts same e. link.new_splits g.B.BodyForms.forms b x ts (ap (at_token is_new) e ∙ sym c.is_new.ensures.value ∙ c.if-not-is_new.false)) in
+    let seen = s.on_seen {f = run g.B.BodyForms.forms (at (Lhs b))} {g = new_lhs g.B.BodyForms.forms b} c.in_ok-look.ensures.looks (λ x ts same e. link.new_splits g.B.BodyForms.forms b x ts (ap (at_token is_new) e ∙ sym c.is_sign.ensures.value ∙ c.if-not-is_sign.false)) in
     let behind = s.on_then seen (s.on_took {f = new_lhs g.B.BodyForms.forms b} {g = new_tail g.B.BodyForms.forms b start} g.met.I.Tokens.laws first
     (λ x ts. link.new_opens g.B.BodyForms.forms b (plain first.was) x ts ∙ ap (λ v. new_tail g.B.BodyForms.forms b v x ts) (sym place))) in
     let none = s.eats_none g.B.Bodies.is_faithful is_dot _ _ _ c.in-None.is (c.in_ok-eat.ensures.eats g.B.Bodies.is_faithful) in
     let begun = s.on_then behind (s.on_call (λ x q. new_by g.B.BodyForms.forms b start q.0 x q.1) (λ x ts. refl) none) in
     let l = tree_of c.parse_member_expr.new.p.nodes c.in_ok-callee.callee in
-    let named = s.on_call (λ x p. construct_of g.B.BodyForms.forms b start p.0 x p.1) (λ x ts. link.construct_splits g.B.BodyForms.forms b start x ts) c.in_ok-callee.ensures.reads.on in
+    let named = s.on_call _ (link.construct_splits g.B.BodyForms.forms b start) c.in_ok-callee.ensures.reads.on in
     let passes = s.on_by (λ x ts. link.construct_passes g.B.BodyForms.forms b start l x ts c.in_ok-refuse_opt_chain.ensures.passes.1) (s.on_same {f = construct_node g.B.BodyForms.forms b start l} g.met.I.Tokens.laws c.in_ok-refuse_opt_chain.ensures.passes.0) in
     let some = s.eats_some g.B.Bodies.is_faithful is_lparen _ c.in-Some-2.field-0 _ _ c.in-Some-2.is (c.in_ok-eat-2.ensures.eats g.B.Bodies.is_faithful) in
     let opened = s.on_then begun (s.on_then named (s.on_then passes (s.on_call (λ x q. construct_by g.B.BodyForms.forms b start l q.0 x q.1) (λ x ts. refl) some.on))) in
     let base = m.tail {p = record c.parse_member_expr.new.p { input = c.eat-2.new.input }} (Ok c.in_ok-base-in-Some-2.base) (λ v x p. new_node start v p.0 x p.1)
-    (λ x ts. link.new_args_splits g.B.BodyForms.forms start l x ts) c.in_ok-list-in-Some-2.ensures.reads c.parse_args.ensures.grows c.in_ok-callee.ensures.from c.in_ok-base-in-Some-2.ensures in
+    (link.new_args_splits g.B.BodyForms.forms start l) c.in_ok-list-in-Some-2.ensures.reads c.parse_args.ensures.grows c.in_ok-callee.ensures.from c.in_ok-base-in-Some-2.ensures in
     m.after {m = record c.parse_member_expr.new.p { input = c.eat-2.new.input }} c.parse_subscripts-in-Some-2.result opened c.parse_member_expr.ensures.grows
     (m.call {j = first_at c.new_expr.new.p.nodes c.in_ok-base-in-Some-2.base.0} c.parse_subscripts-in-Some-2.result (λ x q. run _ (links b q.0) x q.1) (λ x ts. refl)
     base.reads base.grows (λ x. from-down (let a = c.in_ok-callee.ensures.from.above in let d = base.from.above in omega arith)) c.parse_subscripts-in-Some-2.ensures)
@@ -819,46 +861,46 @@ parse_member_expr-returns-in-None-2 g t c =
     let b = false in
     let start = c.cur_span-start.result in
     let place = s.place_was first start c.cur_span-start.ensures in
-    let seen = s.on_seen {f = run g.B.BodyForms.forms (at (Lhs b))} {g = new_lhs g.B.BodyForms.forms b} c.in_ok-look.ensures.looks (λ x ts same e. link.new_splits g.B.BodyForms.forms b x ts (ap (at_token is_new) e ∙ sym c.is_new.ensures.value ∙ c.if-not-is_new.false)) in
+    let seen = s.on_seen {f = run g.B.BodyForms.forms (at (Lhs b))} {g = new_lhs g.B.BodyForms.forms b} c.in_ok-look.ensures.looks (λ x ts same e. link.new_splits g.B.BodyForms.forms b x ts (ap (at_token is_new) e ∙ sym c.is_sign.ensures.value ∙ c.if-not-is_sign.false)) in
     let behind = s.on_then seen (s.on_took {f = new_lhs g.B.BodyForms.forms b} {g = new_tail g.B.BodyForms.forms b start} g.met.I.Tokens.laws first
     (λ x ts. link.new_opens g.B.BodyForms.forms b (plain first.was) x ts ∙ ap (λ v. new_tail g.B.BodyForms.forms b v x ts) (sym place))) in
     let none = s.eats_none g.B.Bodies.is_faithful is_dot _ _ _ c.in-None.is (c.in_ok-eat.ensures.eats g.B.Bodies.is_faithful) in
     let begun = s.on_then behind (s.on_call (λ x q. new_by g.B.BodyForms.forms b start q.0 x q.1) (λ x ts. refl) none) in
     let l = tree_of c.parse_member_expr.new.p.nodes c.in_ok-callee.callee in
-    let named = s.on_call (λ x p. construct_of g.B.BodyForms.forms b start p.0 x p.1) (λ x ts. link.construct_splits g.B.BodyForms.forms b start x ts) c.in_ok-callee.ensures.reads.on in
+    let named = s.on_call _ (link.construct_splits g.B.BodyForms.forms b start) c.in_ok-callee.ensures.reads.on in
     let passes = s.on_by (λ x ts. link.construct_passes g.B.BodyForms.forms b start l x ts c.in_ok-refuse_opt_chain.ensures.passes.1) (s.on_same {f = construct_node g.B.BodyForms.forms b start l} g.met.I.Tokens.laws c.in_ok-refuse_opt_chain.ensures.passes.0) in
     let closed = s.eats_none g.B.Bodies.is_faithful is_lparen _ _ _ c.in-None-2.is (c.in_ok-eat-2.ensures.eats g.B.Bodies.is_faithful) in
     m.node _ c.bare_new_expr-node.result c.made.result (c.in_ok-callee.ensures.from.above)
     c.bare_new_expr-node.ensures.made c.made.ensures.ok c.made.ensures.refused c.parse_member_expr.ensures.grows c.bare_new_expr-node.ensures.grows
-    (s.heard_after begun (s.heard_more (λ x p. construct_of _ b start p.0 x p.1) (λ x ts. link.construct_splits _ b start x ts) c.in_ok-callee.ensures.reads
+    (s.heard_after begun (s.heard_more _ (link.construct_splits _ b start) c.in_ok-callee.ensures.reads
     (s.on_then passes (s.on_call (λ x q. construct_by _ b start l q.0 x q.1) (λ x ts. refl) closed))))
 
 pub parse_base-returns-in_err-start : goal.parse_base-returns-in_err-start
 parse_base-returns-in_err-start g t c =
     let b = not c.args.no_call in
-    let p = err_from_is_err_and c.from_residual.result c.from_residual.ensures.1 in rw (p.1, p.2)
-    (m.no (s.unheard_call (λ x p. super_by _ b p.0 x p.1) (λ x ts. base.plain_splits _ b x ts) (c.in_err-start.ensures.eats g.B.Bodies.is_faithful)) (grows-same _))
+    m.refused c.from_residual.ensures.1
+    (s.unheard_call _ (base.plain_splits _ b) (c.in_err-start.ensures.eats g.B.Bodies.is_faithful)) (grows-same _)
 
 pub parse_base-returns-in-Some : goal.parse_base-returns-in-Some
 parse_base-returns-in-Some g t c =
     let b = not c.args.no_call in
     let some = s.eats_some g.B.Bodies.is_faithful is_super _ c.in-Some.start _ _ c.in-Some.is (c.in_ok-start.ensures.eats g.B.Bodies.is_faithful) in
-    m.after c.parse_super.result (s.on_call (λ x p. super_by _ b p.0 x p.1) (λ x ts. base.plain_splits _ b x ts) some.on) (grows-same _) c.parse_super.ensures
+    m.after c.parse_super.result (s.on_call _ (base.plain_splits _ b) some.on) (grows-same _) c.parse_super.ensures
 
 pub parse_base-returns-in_err-start-2 : goal.parse_base-returns-in_err-start-2
 parse_base-returns-in_err-start-2 g t c =
     let b = not c.args.no_call in
     let none = s.eats_none g.B.Bodies.is_faithful is_super _ _ _ c.in-None.is (c.in_ok-start.ensures.eats g.B.Bodies.is_faithful) in
-    let p = err_from_is_err_and c.from_residual-in_err-start-2.result c.from_residual-in_err-start-2.ensures.1 in rw (p.1, p.2)
-    (m.no (s.unheard_after (s.on_call (λ x p. super_by _ b p.0 x p.1) (λ x ts. base.plain_splits _ b x ts) none)
-    (s.unheard_call (λ x q. import_by _ b q.0 x q.1) (λ x ts. refl) (c.in_err-start-2.ensures.eats g.B.Bodies.is_faithful))) (grows-same _))
+    m.refused c.from_residual-in_err-start-2.ensures.1
+    (s.unheard_after (s.on_call _ (base.plain_splits _ b) none)
+    (s.unheard_call (λ x q. import_by _ b q.0 x q.1) (λ x ts. refl) (c.in_err-start-2.ensures.eats g.B.Bodies.is_faithful))) (grows-same _)
 
 pub parse_base-returns-in-None-2 : goal.parse_base-returns-in-None-2
 parse_base-returns-in-None-2 g t c =
     let b = not c.args.no_call in
     let none = s.eats_none g.B.Bodies.is_faithful is_super _ _ _ c.in-None.is (c.in_ok-start.ensures.eats g.B.Bodies.is_faithful) in
     let no = s.eats_none g.B.Bodies.is_faithful is_import _ _ _ c.in-None-2.is (c.in_ok-start-2.ensures.eats g.B.Bodies.is_faithful) in
-    m.after c.parse_primary_expr.result (s.on_then (s.on_call (λ x p. super_by _ b p.0 x p.1) (λ x ts. base.plain_splits _ b x ts) none)
+    m.after c.parse_primary_expr.result (s.on_then (s.on_call _ (base.plain_splits _ b) none)
     (s.on_call (λ x q. import_by _ b q.0 x q.1) (λ x ts. refl) no)) (grows-same _) c.parse_primary_expr.ensures
 
 pub parse_base-returns-in_err-span : goal.parse_base-returns-in_err-span
@@ -867,9 +909,9 @@ parse_base-returns-in_err-span g t c =
     let start = c.in-Some-2.start in
     let none = s.eats_none g.B.Bodies.is_faithful is_super _ _ _ c.in-None.is (c.in_ok-start.ensures.eats g.B.Bodies.is_faithful) in
     let some = s.eats_some g.B.Bodies.is_faithful is_import _ start _ _ c.in-Some-2.is (c.in_ok-start-2.ensures.eats g.B.Bodies.is_faithful) in
-    let begun = s.on_then (s.on_call (λ x p. super_by g.B.BodyForms.forms b p.0 x p.1) (λ x ts. base.plain_splits g.B.BodyForms.forms b x ts) none) (s.on_call (λ x q. import_by g.B.BodyForms.forms b q.0 x q.1) (λ x ts. refl) some.on) in
-    let p = err_from_is_err_and c.from_residual-in_err-span.result c.from_residual-in_err-span.ensures.1 in rw (p.1, p.2)
-    (m.no (s.unheard_after begun (s.unheard_call (λ x p. import_left _ start p.0 x p.1) (λ x ts. base.import_splits _ b start x ts) (c.in_err-span.ensures.parses g.B.Bodies.is_faithful))) (grows-kept c.import_head.ensures.nodes))
+    let begun = s.on_then (s.on_call _ (base.plain_splits g.B.BodyForms.forms b) none) (s.on_call (λ x q. import_by g.B.BodyForms.forms b q.0 x q.1) (λ x ts. refl) some.on) in
+    m.refused c.from_residual-in_err-span.ensures.1
+    (s.unheard_after begun (s.unheard_call _ (base.import_splits _ b start) (c.in_err-span.ensures.parses g.B.Bodies.is_faithful))) (grows-kept c.import_head.ensures.nodes)
 
 pub parse_base-returns-in-Meta : goal.parse_base-returns-in-Meta
 parse_base-returns-in-Meta g t c =
@@ -877,10 +919,10 @@ parse_base-returns-in-Meta g t c =
     let start = c.in-Some-2.start in
     let none = s.eats_none g.B.Bodies.is_faithful is_super _ _ _ c.in-None.is (c.in_ok-start.ensures.eats g.B.Bodies.is_faithful) in
     let some = s.eats_some g.B.Bodies.is_faithful is_import _ start _ _ c.in-Some-2.is (c.in_ok-start-2.ensures.eats g.B.Bodies.is_faithful) in
-    let begun = s.on_then (s.on_call (λ x p. super_by g.B.BodyForms.forms b p.0 x p.1) (λ x ts. base.plain_splits g.B.BodyForms.forms b x ts) none) (s.on_call (λ x q. import_by g.B.BodyForms.forms b q.0 x q.1) (λ x ts. refl) some.on) in
+    let begun = s.on_then (s.on_call _ (base.plain_splits g.B.BodyForms.forms b) none) (s.on_call (λ x q. import_by g.B.BodyForms.forms b q.0 x q.1) (λ x ts. refl) some.on) in
     let kept = grows-kept c.import_head.ensures.nodes in
     m.after {m = record c.args.p.now { input = c.eat-2.new.input }} c.import_meta.result begun (grows-same _)
-    (m.call c.import_meta.result (λ x p. import_left _ start p.0 x p.1) (λ x ts. base.import_splits _ b start x ts)
+    (m.call c.import_meta.result _ (base.import_splits _ b start)
     (s.heard_answer c.in-Meta.is (c.in_ok-span.ensures.parses g.B.Bodies.is_faithful)) kept (λ x. from-down (grows-count kept)) c.import_meta.ensures)
 
 pub parse_base-returns-in_err-list-in-Call : goal.parse_base-returns-in_err-list-in-Call
@@ -890,11 +932,11 @@ parse_base-returns-in_err-list-in-Call g t c =
     let i = c.in-Call.import in
     let none = s.eats_none g.B.Bodies.is_faithful is_super _ _ _ c.in-None.is (c.in_ok-start.ensures.eats g.B.Bodies.is_faithful) in
     let some = s.eats_some g.B.Bodies.is_faithful is_import _ start _ _ c.in-Some-2.is (c.in_ok-start-2.ensures.eats g.B.Bodies.is_faithful) in
-    let begun = s.on_then (s.on_call (λ x p. super_by g.B.BodyForms.forms b p.0 x p.1) (λ x ts. base.plain_splits g.B.BodyForms.forms b x ts) none) (s.on_call (λ x q. import_by g.B.BodyForms.forms b q.0 x q.1) (λ x ts. refl) some.on) in
-    let p = err_from_is_err_and c.from_residual-in_err-list-in-Call.result c.from_residual-in_err-list-in-Call.ensures.1 in rw (p.1, p.2)
-    (m.no (s.unheard_after begun (s.unheard_after (s.on_call (λ x p. import_left _ start p.0 x p.1) (λ x ts. base.import_splits _ b start x ts)
+    let begun = s.on_then (s.on_call _ (base.plain_splits g.B.BodyForms.forms b) none) (s.on_call (λ x q. import_by g.B.BodyForms.forms b q.0 x q.1) (λ x ts. refl) some.on) in
+    m.refused c.from_residual-in_err-list-in-Call.ensures.1
+    (s.unheard_after begun (s.unheard_after (s.on_call _ (base.import_splits _ b start)
     (s.heard_answer c.in-Call.is (c.in_ok-span.ensures.parses g.B.Bodies.is_faithful)).on)
-    (s.unheard_call (λ x p. callee_node start (import_e i.span i.phase) p.0 x p.1) (λ x ts. refl) c.in_err-list-in-Call.ensures.reads))) (grows-then (grows-kept c.import_head.ensures.nodes) c.parse_args.ensures.grows))
+    (s.unheard_call (λ x p. callee_node start (import_e i.span i.phase) p.0 x p.1) (λ x ts. refl) c.in_err-list-in-Call.ensures.reads))) (grows-then (grows-kept c.import_head.ensures.nodes) c.parse_args.ensures.grows)
 
 pub parse_base-callee_call-requires : goal.parse_base-callee_call-requires
 parse_base-callee_call-requires g t c = apart-down (args_parts c.in_ok-list-in-Call.list.items) c.in_ok-list-in-Call.ensures.from
@@ -906,50 +948,50 @@ parse_base-returns-in_ok-list-in-Call g t c =
     let i = c.in-Call.import in
     let none = s.eats_none g.B.Bodies.is_faithful is_super _ _ _ c.in-None.is (c.in_ok-start.ensures.eats g.B.Bodies.is_faithful) in
     let some = s.eats_some g.B.Bodies.is_faithful is_import _ start _ _ c.in-Some-2.is (c.in_ok-start-2.ensures.eats g.B.Bodies.is_faithful) in
-    let begun = s.on_then (s.on_call (λ x p. super_by g.B.BodyForms.forms b p.0 x p.1) (λ x ts. base.plain_splits g.B.BodyForms.forms b x ts) none) (s.on_call (λ x q. import_by g.B.BodyForms.forms b q.0 x q.1) (λ x ts. refl) some.on) in
+    let begun = s.on_then (s.on_call _ (base.plain_splits g.B.BodyForms.forms b) none) (s.on_call (λ x q. import_by g.B.BodyForms.forms b q.0 x q.1) (λ x ts. refl) some.on) in
     let kept = grows-kept c.import_head.ensures.nodes in
     m.after {m = c.import_head.new.p} c.callee_call.result
-    (s.on_then begun (s.on_call (λ x p. import_left _ start p.0 x p.1) (λ x ts. base.import_splits _ b start x ts)
+    (s.on_then begun (s.on_call _ (base.import_splits _ b start)
     (s.heard_answer c.in-Call.is (c.in_ok-span.ensures.parses g.B.Bodies.is_faithful)).on)) kept
     (m.call c.callee_call.result (λ x p. callee_node start (import_e i.span i.phase) p.0 x p.1) (λ x ts. refl)
     c.in_ok-list-in-Call.ensures.reads c.parse_args.ensures.grows (λ x. from-down (grows-count kept)) (c.callee_call.ensures _ c.in_ok-list-in-Call.ensures.from))
 
 pub parse_super-returns-in_err-super_head : goal.parse_super-returns-in_err-super_head
 parse_super-returns-in_err-super_head g t c =
-    let p = err_from_is_err_and c.from_residual.result c.from_residual.ensures.1 in rw (p.1, p.2)
-    (m.no (s.unheard_call (λ x p. super_left _ c.args.start p.0 x p.1) (λ x ts. base.super_splits _ (not c.args.no_call) c.args.start x ts) (c.in_err-super_head.ensures.continues g.B.Bodies.is_faithful)) (grows-same _))
+    m.refused c.from_residual.ensures.1
+    (s.unheard_call _ (base.super_splits _ (not c.args.no_call) c.args.start) (c.in_err-super_head.ensures.continues g.B.Bodies.is_faithful)) (grows-same _)
 
 pub parse_super-returns-in-Name : goal.parse_super-returns-in-Name
 parse_super-returns-in-Name g t c =
-    m.after c.parse_super_name.result (s.on_call (λ x p. super_left _ c.args.start p.0 x p.1) (λ x ts. base.super_splits _ (not c.args.no_call) c.args.start x ts)
+    m.after c.parse_super_name.result (s.on_call _ (base.super_splits _ (not c.args.no_call) c.args.start)
     (s.on_answer c.in-Name.is (c.in_ok-super_head.ensures.continues g.B.Bodies.is_faithful))) (grows-same _) c.parse_super_name.ensures
 
 pub parse_super-returns-in_err-expr-in-Computed : goal.parse_super-returns-in_err-expr-in-Computed
 parse_super-returns-in_err-expr-in-Computed g t c =
     let inner = expr_within g.B.BodyForms.forms c.include_in-before.ensures.before c.include_in-before.ensures.moves c.include_in-before.ensures.context c.parse_expr-read.ensures c.in_err-expr-in-Computed.ensures.answer c.in_err-expr-in-Computed.ensures.moves c.in_err-expr-in-Computed.ensures.context in
     let q = c.in-Computed.bracket in
-    let p = err_from_is_err_and c.from_residual-in_err-expr-in-Computed.result c.from_residual-in_err-expr-in-Computed.ensures.1 in rw (p.1, p.2)
-    (m.no (s.unheard_after (s.on_call (λ x p. super_left _ c.args.start p.0 x p.1) (λ x ts. base.super_splits _ (not c.args.no_call) c.args.start x ts)
+    m.refused c.from_residual-in_err-expr-in-Computed.ensures.1
+    (s.unheard_after (s.on_call _ (base.super_splits _ (not c.args.no_call) c.args.start)
     (s.on_answer c.in-Computed.is (c.in_ok-super_head.ensures.continues g.B.Bodies.is_faithful)))
-    (s.unheard_call (λ x p. super_close c.args.start q p.0 x p.1) (λ x ts. base.computed_splits _ c.args.start q x ts) inner.reads)) inner.grows)
+    (s.unheard_call _ (base.computed_splits _ c.args.start q) inner.reads)) inner.grows
 
 pub parse_super-returns-in-Computed : goal.parse_super-returns-in-Computed
 parse_super-returns-in-Computed g t c =
     let inner = expr_within g.B.BodyForms.forms {o = Ok c.in_ok-expr-in-Computed.expr} c.include_in-before.ensures.before c.include_in-before.ensures.moves c.include_in-before.ensures.context c.parse_expr-read.ensures c.in_ok-expr-in-Computed.ensures.answer c.in_ok-expr-in-Computed.ensures.moves c.in_ok-expr-in-Computed.ensures.context in
     let q = c.in-Computed.bracket in
     m.after {m = record c.args.p.now { input = c.super_head.new.input }} c.super_computed.result
-    (s.on_call (λ x p. super_left _ c.args.start p.0 x p.1) (λ x ts. base.super_splits _ (not c.args.no_call) c.args.start x ts)
+    (s.on_call _ (base.super_splits _ (not c.args.no_call) c.args.start)
     (s.on_answer c.in-Computed.is (c.in_ok-super_head.ensures.continues g.B.Bodies.is_faithful))) (grows-same _)
-    (m.call c.super_computed.result (λ x p. super_close c.args.start q p.0 x p.1) (λ x ts. base.computed_splits _ c.args.start q x ts)
+    (m.call c.super_computed.result _ (base.computed_splits _ c.args.start q)
     inner.reads inner.grows (λ x. from-down inner.from.above)
     (m.weaker c.super_computed.result c.super_computed.ensures))
 
 pub parse_super-returns-in_err-list-in-Call : goal.parse_super-returns-in_err-list-in-Call
 parse_super-returns-in_err-list-in-Call g t c =
-    let p = err_from_is_err_and c.from_residual-in_err-list-in-Call.result c.from_residual-in_err-list-in-Call.ensures.1 in rw (p.1, p.2)
-    (m.no (s.unheard_after (s.on_call (λ x p. super_left _ c.args.start p.0 x p.1) (λ x ts. base.super_splits _ (not c.args.no_call) c.args.start x ts)
+    m.refused c.from_residual-in_err-list-in-Call.ensures.1
+    (s.unheard_after (s.on_call _ (base.super_splits _ (not c.args.no_call) c.args.start)
     (s.on_answer c.in-Call.is (c.in_ok-super_head.ensures.continues g.B.Bodies.is_faithful)))
-    (s.unheard_call (λ x p. callee_node c.args.start (super_e c.args.start) p.0 x p.1) (λ x ts. base.args_splits _ c.args.start x ts) c.in_err-list-in-Call.ensures.reads)) c.parse_args.ensures.grows)
+    (s.unheard_call _ (base.args_splits _ c.args.start) c.in_err-list-in-Call.ensures.reads)) c.parse_args.ensures.grows
 
 pub parse_super-callee_call-requires : goal.parse_super-callee_call-requires
 parse_super-callee_call-requires g t c = apart-down (args_parts c.in_ok-list-in-Call.list.items) c.in_ok-list-in-Call.ensures.from
@@ -957,45 +999,45 @@ parse_super-callee_call-requires g t c = apart-down (args_parts c.in_ok-list-in-
 pub parse_super-returns-in-Call : goal.parse_super-returns-in-Call
 parse_super-returns-in-Call g t c =
     m.after {m = record c.args.p.now { input = c.super_head.new.input }} c.callee_call.result
-    (s.on_call (λ x p. super_left _ c.args.start p.0 x p.1) (λ x ts. base.super_splits _ (not c.args.no_call) c.args.start x ts)
+    (s.on_call _ (base.super_splits _ (not c.args.no_call) c.args.start)
     (s.on_answer c.in-Call.is (c.in_ok-super_head.ensures.continues g.B.Bodies.is_faithful))) (grows-same _)
-    (m.call c.callee_call.result (λ x p. callee_node c.args.start (super_e c.args.start) p.0 x p.1) (λ x ts. base.args_splits _ c.args.start x ts)
+    (m.call c.callee_call.result _ (base.args_splits _ c.args.start)
     c.in_ok-list-in-Call.ensures.reads c.parse_args.ensures.grows (λ x h. h) (c.callee_call.ensures _ c.in_ok-list-in-Call.ensures.from))
 
 -- neither a property nor a call: nothing is read
 pub parse_super-returns-in_err-super_chain : goal.parse_super-returns-in_err-super_chain
 parse_super-returns-in_err-super_chain g t c =
-    let other = s.on_call (λ x p. super_left g.B.BodyForms.forms c.args.start p.0 x p.1) (λ x ts. base.super_splits g.B.BodyForms.forms (not c.args.no_call) c.args.start x ts) (s.on_answer c.in-Other.is (c.in_ok-super_head.ensures.continues g.B.Bodies.is_faithful)) in
-    let p = err_from_is_err_and c.from_residual-in_err-super_chain.result c.from_residual-in_err-super_chain.ensures.1 in rw (p.1, p.2)
-    (m.no (s.unheard_after other (s.unheard_none (λ x ts. refl) c.in_err-super_chain.ensures.acts)) (grows-same _))
+    let other = s.on_call _ (base.super_splits g.B.BodyForms.forms (not c.args.no_call) c.args.start) (s.on_answer c.in-Other.is (c.in_ok-super_head.ensures.continues g.B.Bodies.is_faithful)) in
+    m.refused c.from_residual-in_err-super_chain.ensures.1
+    (s.unheard_after other (s.unheard_none (λ x ts. refl) c.in_err-super_chain.ensures.acts)) (grows-same _)
 
 pub parse_super-returns-in-Name-2 : goal.parse_super-returns-in-Name-2
 parse_super-returns-in-Name-2 g t c =
-    let other = s.on_call (λ x p. super_left g.B.BodyForms.forms c.args.start p.0 x p.1) (λ x ts. base.super_splits g.B.BodyForms.forms (not c.args.no_call) c.args.start x ts) (s.on_answer c.in-Other.is (c.in_ok-super_head.ensures.continues g.B.Bodies.is_faithful)) in
+    let other = s.on_call _ (base.super_splits g.B.BodyForms.forms (not c.args.no_call) c.args.start) (s.on_answer c.in-Other.is (c.in_ok-super_head.ensures.continues g.B.Bodies.is_faithful)) in
     m.after c.refuse_super_name.result (s.on_then other (s.on_none {g = nothing} (λ x ts. refl) (λ x ts. refl) c.in_ok-super_chain.ensures.acts)) (grows-same _) c.refuse_super_name.ensures
 
 pub parse_super-returns-in_err-leave-in-Computed-2 : goal.parse_super-returns-in_err-leave-in-Computed-2
 parse_super-returns-in_err-leave-in-Computed-2 g t c =
     let inner = expr_within g.B.BodyForms.forms c.include_in-before-in-Computed-2.ensures.before c.include_in-before-in-Computed-2.ensures.moves c.include_in-before-in-Computed-2.ensures.context c.parse_expr-read-in-Computed-2.ensures c.in_err-leave-in-Computed-2.ensures.answer c.in_err-leave-in-Computed-2.ensures.moves c.in_err-leave-in-Computed-2.ensures.context in
-    let other = s.on_call (λ x p. super_left g.B.BodyForms.forms c.args.start p.0 x p.1) (λ x ts. base.super_splits g.B.BodyForms.forms (not c.args.no_call) c.args.start x ts) (s.on_answer c.in-Other.is (c.in_ok-super_head.ensures.continues g.B.Bodies.is_faithful)) in
-    let p = err_from_is_err_and c.from_residual-in_err-leave-in-Computed-2.result c.from_residual-in_err-leave-in-Computed-2.ensures.1 in rw (p.1, p.2)
-    (m.no (s.unheard_after other (s.unheard_none (λ x ts. refl) (s.refuses_later c.in_ok-super_chain.ensures.acts inner.reads.refuses))) inner.grows)
+    let other = s.on_call _ (base.super_splits g.B.BodyForms.forms (not c.args.no_call) c.args.start) (s.on_answer c.in-Other.is (c.in_ok-super_head.ensures.continues g.B.Bodies.is_faithful)) in
+    m.refused c.from_residual-in_err-leave-in-Computed-2.ensures.1
+    (s.unheard_after other (s.unheard_none (λ x ts. refl) (s.refuses_later c.in_ok-super_chain.ensures.acts inner.reads.refuses))) inner.grows
 
 pub parse_super-returns-in_ok-leave-in-Computed-2 : goal.parse_super-returns-in_ok-leave-in-Computed-2
 parse_super-returns-in_ok-leave-in-Computed-2 g t c =
     let inner = expr_within g.B.BodyForms.forms c.include_in-before-in-Computed-2.ensures.before c.include_in-before-in-Computed-2.ensures.moves c.include_in-before-in-Computed-2.ensures.context c.parse_expr-read-in-Computed-2.ensures c.in_ok-leave-in-Computed-2.ensures.answer c.in_ok-leave-in-Computed-2.ensures.moves c.in_ok-leave-in-Computed-2.ensures.context in
-    let other = s.on_call (λ x p. super_left g.B.BodyForms.forms c.args.start p.0 x p.1) (λ x ts. base.super_splits g.B.BodyForms.forms (not c.args.no_call) c.args.start x ts) (s.on_answer c.in-Other.is (c.in_ok-super_head.ensures.continues g.B.Bodies.is_faithful)) in
+    let other = s.on_call _ (base.super_splits g.B.BodyForms.forms (not c.args.no_call) c.args.start) (s.on_answer c.in-Other.is (c.in_ok-super_head.ensures.continues g.B.Bodies.is_faithful)) in
     m.no (s.unheard_after other (s.unheard_none (λ x ts. refl) (s.refuses_later (s.leads_then c.in_ok-super_chain.ensures.acts inner.reads.on.leads) c.refuse_super_brackets.ensures))) inner.grows
 
 pub parse_super-returns-in_err-parse_args-in-Call-2 : goal.parse_super-returns-in_err-parse_args-in-Call-2
 parse_super-returns-in_err-parse_args-in-Call-2 g t c =
-    let other = s.on_call (λ x p. super_left g.B.BodyForms.forms c.args.start p.0 x p.1) (λ x ts. base.super_splits g.B.BodyForms.forms (not c.args.no_call) c.args.start x ts) (s.on_answer c.in-Other.is (c.in_ok-super_head.ensures.continues g.B.Bodies.is_faithful)) in
-    let p = err_from_is_err_and c.from_residual-in_err-parse_args-in-Call-2.result c.from_residual-in_err-parse_args-in-Call-2.ensures.1 in rw (p.1, p.2)
-    (m.no (s.unheard_after other (s.unheard_none (λ x ts. refl) (s.refuses_later c.in_ok-super_chain.ensures.acts c.in_err-parse_args-in-Call-2.ensures.reads.refuses))) c.parse_args-in-Call-2.ensures.grows)
+    let other = s.on_call _ (base.super_splits g.B.BodyForms.forms (not c.args.no_call) c.args.start) (s.on_answer c.in-Other.is (c.in_ok-super_head.ensures.continues g.B.Bodies.is_faithful)) in
+    m.refused c.from_residual-in_err-parse_args-in-Call-2.ensures.1
+    (s.unheard_after other (s.unheard_none (λ x ts. refl) (s.refuses_later c.in_ok-super_chain.ensures.acts c.in_err-parse_args-in-Call-2.ensures.reads.refuses))) c.parse_args-in-Call-2.ensures.grows
 
 pub parse_super-returns-in_ok-parse_args-in-Call-2 : goal.parse_super-returns-in_ok-parse_args-in-Call-2
 parse_super-returns-in_ok-parse_args-in-Call-2 g t c =
-    let other = s.on_call (λ x p. super_left g.B.BodyForms.forms c.args.start p.0 x p.1) (λ x ts. base.super_splits g.B.BodyForms.forms (not c.args.no_call) c.args.start x ts) (s.on_answer c.in-Other.is (c.in_ok-super_head.ensures.continues g.B.Bodies.is_faithful)) in
+    let other = s.on_call _ (base.super_splits g.B.BodyForms.forms (not c.args.no_call) c.args.start) (s.on_answer c.in-Other.is (c.in_ok-super_head.ensures.continues g.B.Bodies.is_faithful)) in
     m.no (s.unheard_after other (s.unheard_none (λ x ts. refl) (s.refuses_later (s.leads_then c.in_ok-super_chain.ensures.acts c.in_ok-parse_args-in-Call-2.ensures.reads.on.leads) c.refuse_super_args.ensures))) c.parse_args-in-Call-2.ensures.grows
 
 pub parse_subscripts-loop-head-init : goal.parse_subscripts-loop-head-init
@@ -1005,22 +1047,22 @@ pub parse_subscripts-returns-in_err-head : goal.parse_subscripts-returns-in_err-
 parse_subscripts-returns-in_err-head g t c =
     let b = not c.args.no_call in
     let l = tree_of c.loop-head.p.nodes c.loop-head.obj in
-    let p = err_from_is_err_and c.from_residual.result c.from_residual.ensures.1 in rw (p.1, p.2)
-    (m.no_more (s.unheard_after c.loop-head.invariant.0 (s.unheard_call (λ x p. links_by _ b p.0 l x p.1) (λ x ts. link.links_splits _ b l x ts)
-    (c.in_err-head.ensures.heads g.B.Bodies.is_faithful))) c.loop-head.invariant.2)
+    m.refused_more c.from_residual.ensures.1
+    (s.unheard_after c.loop-head.invariant.0 (s.unheard_call _ (link.links_splits _ b l)
+    (c.in_err-head.ensures.heads g.B.Bodies.is_faithful))) c.loop-head.invariant.2
 
 pub parse_subscripts-returns-in-None : goal.parse_subscripts-returns-in-None
 parse_subscripts-returns-in-None g t c =
     let b = not c.args.no_call in
     let l = tree_of c.loop-head.p.nodes c.loop-head.obj in
     m.on (Ok _)
-    (s.on_then c.loop-head.invariant.0 (s.on_call (λ x p. links_by _ b p.0 l x p.1) (λ x ts. link.links_splits _ b l x ts)
+    (s.on_then c.loop-head.invariant.0 (s.on_call _ (link.links_splits _ b l)
     (s.on_answer c.in-None.is (c.in_ok-head.ensures.heads g.B.Bodies.is_faithful))))
     c.loop-head.invariant.2 c.loop-head.invariant.3
 
 pub parse_subscripts-returns-in_err-obj-in-Name : goal.parse_subscripts-returns-in_err-obj-in-Name
 parse_subscripts-returns-in_err-obj-in-Name g t c =
-    let p = err_from_is_err_and c.from_residual-in_err-obj-in-Name.result c.from_residual-in_err-obj-in-Name.ensures.1 in rw (p.1, p.2)
+    m.passed_more c.from_residual-in_err-obj-in-Name.ensures.1
     (chain.not_linked g.B.BodyForms.forms c.args.p.now c.loop-head.p _ c.loop-head.invariant c.in-Some.is
     (c.in_ok-head.ensures.heads g.B.Bodies.is_faithful)
     (m.after (Err _) (s.on_here {f = link_tail _ c.in-Some.head (tree_of c.loop-head.p.nodes c.loop-head.obj)} g.met.I.Tokens.laws _
@@ -1037,7 +1079,7 @@ pub parse_subscripts-returns-in_err-expr-in-Computed : goal.parse_subscripts-ret
 parse_subscripts-returns-in_err-expr-in-Computed g t c =
     let inner = expr_within g.B.BodyForms.forms c.include_in-before.ensures.before c.include_in-before.ensures.moves c.include_in-before.ensures.context c.parse_expr-read.ensures c.in_err-expr-in-Computed.ensures.answer c.in_err-expr-in-Computed.ensures.moves c.in_err-expr-in-Computed.ensures.context in
     let l = tree_of c.loop-head.p.nodes c.loop-head.obj in
-    let p = err_from_is_err_and c.from_residual-in_err-expr-in-Computed.result c.from_residual-in_err-expr-in-Computed.ensures.1 in rw (p.1, p.2)
+    m.passed_more c.from_residual-in_err-expr-in-Computed.ensures.1
     (chain.not_linked g.B.BodyForms.forms c.args.p.now c.loop-head.p _ c.loop-head.invariant c.in-Some.is
     (c.in_ok-head.ensures.heads g.B.Bodies.is_faithful)
     (m.no (s.unheard_call (λ x p. computed_close c.in-Computed.optional c.in-Computed.start l p.0 x p.1)
@@ -1052,7 +1094,7 @@ parse_subscripts-computed_member-requires g t c =
 pub parse_subscripts-returns-in_err-obj-in-Computed : goal.parse_subscripts-returns-in_err-obj-in-Computed
 parse_subscripts-returns-in_err-obj-in-Computed g t c =
     let inner = expr_within g.B.BodyForms.forms {o = Ok c.in_ok-expr-in-Computed.expr} c.include_in-before.ensures.before c.include_in-before.ensures.moves c.include_in-before.ensures.context c.parse_expr-read.ensures c.in_ok-expr-in-Computed.ensures.answer c.in_ok-expr-in-Computed.ensures.moves c.in_ok-expr-in-Computed.ensures.context in
-    let p = err_from_is_err_and c.from_residual-in_err-obj-in-Computed.result c.from_residual-in_err-obj-in-Computed.ensures.1 in rw (p.1, p.2)
+    m.passed_more c.from_residual-in_err-obj-in-Computed.ensures.1
     (chain.not_linked g.B.BodyForms.forms c.args.p.now c.loop-head.p _ c.loop-head.invariant c.in-Some.is
     (c.in_ok-head.ensures.heads g.B.Bodies.is_faithful)
     (m.tail (Err _) (λ v x p. computed_close c.in-Computed.optional c.in-Computed.start v p.0 x p.1)
@@ -1071,7 +1113,7 @@ parse_subscripts-loop-head-preserved-in-Computed g t c =
 pub parse_subscripts-returns-in_err-list-in-Call : goal.parse_subscripts-returns-in_err-list-in-Call
 parse_subscripts-returns-in_err-list-in-Call g t c =
     let l = tree_of c.loop-head.p.nodes c.loop-head.obj in
-    let p = err_from_is_err_and c.from_residual-in_err-list-in-Call.result c.from_residual-in_err-list-in-Call.ensures.1 in rw (p.1, p.2)
+    m.passed_more c.from_residual-in_err-list-in-Call.ensures.1
     (chain.not_linked g.B.BodyForms.forms c.args.p.now c.loop-head.p _ c.loop-head.invariant c.in-Some.is
     (c.in_ok-head.ensures.heads g.B.Bodies.is_faithful)
     (m.no (s.unheard_call (λ x p. call_node c.in-Call.optional l p.0 x p.1)
@@ -1084,7 +1126,7 @@ parse_subscripts-call_expr-requires g t c =
 
 pub parse_subscripts-returns-in_err-obj-in-Call : goal.parse_subscripts-returns-in_err-obj-in-Call
 parse_subscripts-returns-in_err-obj-in-Call g t c =
-    let p = err_from_is_err_and c.from_residual-in_err-obj-in-Call.result c.from_residual-in_err-obj-in-Call.ensures.1 in rw (p.1, p.2)
+    m.passed_more c.from_residual-in_err-obj-in-Call.ensures.1
     (chain.not_linked g.B.BodyForms.forms c.args.p.now c.loop-head.p _ c.loop-head.invariant c.in-Some.is
     (c.in_ok-head.ensures.heads g.B.Bodies.is_faithful)
     (m.tail (Err _) (λ v x p. call_node c.in-Call.optional v p.0 x p.1)
@@ -1102,7 +1144,7 @@ parse_subscripts-loop-head-preserved-in-Call g t c =
 pub parse_subscripts-returns-in_err-parts-in-Template : goal.parse_subscripts-returns-in_err-parts-in-Template
 parse_subscripts-returns-in_err-parts-in-Template g t c =
     let l = tree_of c.loop-head.p.nodes c.loop-head.obj in
-    let p = err_from_is_err_and c.from_residual-in_err-parts-in-Template.result c.from_residual-in_err-parts-in-Template.ensures.1 in rw (p.1, p.2)
+    m.passed_more c.from_residual-in_err-parts-in-Template.ensures.1
     (chain.not_linked g.B.BodyForms.forms c.args.p.now c.loop-head.p _ c.loop-head.invariant c.in-Some.is
     (c.in_ok-head.ensures.heads g.B.Bodies.is_faithful)
     (m.no (s.unheard_call (λ x p. tagged_node c.in-Template.start l p.0 x p.1)
@@ -1115,7 +1157,7 @@ parse_subscripts-tagged_tpl-requires g t c =
 
 pub parse_subscripts-returns-in_err-obj-in-Template : goal.parse_subscripts-returns-in_err-obj-in-Template
 parse_subscripts-returns-in_err-obj-in-Template g t c =
-    let p = err_from_is_err_and c.from_residual-in_err-obj-in-Template.result c.from_residual-in_err-obj-in-Template.ensures.1 in rw (p.1, p.2)
+    m.passed_more c.from_residual-in_err-obj-in-Template.ensures.1
     (chain.not_linked g.B.BodyForms.forms c.args.p.now c.loop-head.p _ c.loop-head.invariant c.in-Some.is
     (c.in_ok-head.ensures.heads g.B.Bodies.is_faithful)
     (m.tail (Err _) (λ v x p. tagged_node c.in-Template.start v p.0 x p.1)
@@ -1131,134 +1173,118 @@ parse_subscripts-loop-head-preserved g t c =
     c.in_ok-parts-in-Template.ensures.reads c.parse_tpl_elements.ensures.grows c.loop-head.invariant.3 c.in_ok-obj-in-Template.ensures)
 
 pub parse_args-loop-value-init : goal.parse_args-loop-value-init
-parse_args-loop-value-init g t c = (
-  entered.entered g.met.I.Tokens.laws c.enter_args-before.ensures.moves c.enter_args-before.ensures.context (λ x ts. args.args_first _ c.args.is_dynamic_import x ts ∙ ap (λ v. args_behind g.B.BodyForms.forms c.args.is_dynamic_import (item_trees (tree_of c.args.p.now.nodes) v) None x ts) (sym c.new-items.ensures.items)),
-  let a = c.enter_args-before.ensures.stays in omega arith,
-  grows-same _,
-  record { chained = ap (λ v. chain (seat_at c.args.p.now.nodes) (count c.args.p.now.nodes) (flat item_parts v) (count c.args.p.now.nodes)) c.new-items.ensures.items ∙ (apart-none {ns = c.args.p.now.nodes} {k = count c.args.p.now.nodes} (omega arith)).chained },
-)
+parse_args-loop-value-init g t c =
+    entered.list_entered c.enter_args-before.ensures.moves c.enter_args-before.ensures.context
+    (loop.started (args.args_list _ c.args.is_dynamic_import) _ item_parts _ _ g.met.I.Tokens.laws c.new-items.ensures.items)
 
 pub parse_args-loop-value-preserved : goal.parse_args-loop-value-preserved
 parse_args-loop-value-preserved g t c =
-    let before = item_trees (tree_of c.loop-value.p.nodes) c.loop-value.items.items in
-    let comma = c.loop-value.trailing_comma in
-    let none = s.eats_none g.B.Bodies.is_faithful is_rparen _ _ _ c.in-None.is (c.in-Ok.ensures.eats g.B.Bodies.is_faithful) in
-    let item = s.heard_more (λ x p. separated_args c.args.is_dynamic_import x p.1 >>= (λ q. Some ((p.0, q.0), q.1))) (λ x ts. args.arg_item_splits _ c.args.is_dynamic_import x ts) c.in-Ok-parse_expr_or_spread.ensures.reads
-    (s.on_call (λ x q. Some ((item_at c.parse_expr_or_spread.new.p.nodes c.in-Ok-parse_expr_or_spread.value, q.0), q.1)) (λ x ts. refl) (c.in-Ok-separate_args.ensures.separates g.B.Bodies.is_faithful)) in
-    let more = ap (λ v. item_trees (tree_of c.parse_expr_or_spread.new.p.nodes) v) c.in-Ok-add.ensures.added
-    ∙ args.items-more c.loop-value.items.items c.in-Ok-parse_expr_or_spread.value c.parse_expr_or_spread.ensures.grows c.loop-value.invariant.3 in
-    let parts = apart-list-more item_parts c.loop-value.items.items c.in-Ok-parse_expr_or_spread.value c.parse_expr_or_spread.ensures.grows c.loop-value.invariant.3 (apart-from (expr_part c.in-Ok-parse_expr_or_spread.value.expr) c.in-Ok-parse_expr_or_spread.ensures.from) in (
-      entered.further c.loop-value.invariant.0 (s.on_then (s.on_call (λ x p. args_by _ c.args.is_dynamic_import before comma p.0 x p.1) (λ x ts. args.behind_splits _ c.args.is_dynamic_import before comma x ts) none)
-          (s.on_to (s.on_call (λ x p. args_behind _ c.args.is_dynamic_import (trees_append before (cons p.0.0 nil)) p.0.1 x p.1) (λ x ts. args.args_more_splits _ c.args.is_dynamic_import before x ts) item.on)
-          (λ x ts. ap (λ v. args_behind g.B.BodyForms.forms c.args.is_dynamic_import v c.in-Ok-separate_args.value x ts) (sym more)))),
-      let a = c.loop-value.invariant.1 in let b = c.in-Ok-parse_expr_or_spread.ensures.falls in let e = c.in-Ok-separate_args.ensures.falls in let d = c.in-Ok.ensures.falls in omega arith,
-      grows-then c.loop-value.invariant.2 c.parse_expr_or_spread.ensures.grows,
-      record { chained = ap (λ v. chain (seat_at c.parse_expr_or_spread.new.p.nodes) (count c.args.p.now.nodes) (flat item_parts v) (count c.parse_expr_or_spread.new.p.nodes)) c.in-Ok-add.ensures.added ∙ parts.chained },
-    )
+    let inv = c.loop-value.invariant in
+    let more = loop.goes_on (args.args_list _ c.args.is_dynamic_import) inv.list c.in-None.is (c.in-Ok.ensures.eats _) in
+    entered.list_further inv
+    (loop.added item_parts (λ at x. item_tree (λ e. at e.0) x) _ _ item-same inv.list more
+    (loop.separated c.in-Ok-parse_expr_or_spread.ensures.reads (c.in-Ok-separate_args.ensures.separates _))
+    c.parse_expr_or_spread.ensures.grows
+    (apart-from (expr_part c.in-Ok-parse_expr_or_spread.value.expr) c.in-Ok-parse_expr_or_spread.ensures.from)
+    c.in-Ok-add.ensures.added)
 
 pub parse_args-returns-in-Err : goal.parse_args-returns-in-Err
 parse_args-returns-in-Err g t c =
-    let before = item_trees (tree_of c.loop-value.p.nodes) c.loop-value.items.items in
-    let comma = c.loop-value.trailing_comma in
+    let inv = c.loop-value.invariant in
     entered.args_left {q = record c.loop-value.p { input = c.eat.new.input }}
-    _ _ c.enter_args-before.ensures.before c.loop-value.invariant.0
-    (m.no (s.unheard_after c.loop-value.invariant.0.on (s.unheard_call (λ x p. args_by _ c.args.is_dynamic_import before comma p.0 x p.1) (λ x ts. args.behind_splits _ c.args.is_dynamic_import before comma x ts) (c.in-Err.ensures.eats g.B.Bodies.is_faithful))) c.loop-value.invariant.2)
+    _ _ c.enter_args-before.ensures.before (entered.around inv)
+    (m.no (loop.end_refused (args.args_list _ c.args.is_dynamic_import) inv.list (c.in-Err.ensures.eats _)) inv.list.grows)
     c.set_ctx.ensures.moves c.set_ctx.ensures.context
 
 pub parse_args-returns-in-Some : goal.parse_args-returns-in-Some
 parse_args-returns-in-Some g t c =
-    let before = item_trees (tree_of c.loop-value.p.nodes) c.loop-value.items.items in
-    let comma = c.loop-value.trailing_comma in
-    let some = s.eats_some g.B.Bodies.is_faithful is_rparen _ c.in-Some.end _ _ c.in-Some.is (c.in-Ok.ensures.eats g.B.Bodies.is_faithful) in
+    let inv = c.loop-value.invariant in
     entered.args_left {q = record c.loop-value.p { input = c.eat.new.input }}
-    _ _ c.enter_args-before.ensures.before c.loop-value.invariant.0
+    _ _ c.enter_args-before.ensures.before (entered.around inv)
     (m.yes (Ok _)
-    (s.heard_after c.loop-value.invariant.0.on (s.heard_call (λ x p. args_by _ c.args.is_dynamic_import before comma p.0 x p.1) (λ x ts. args.behind_splits _ c.args.is_dynamic_import before comma x ts) (λ x ts. refl) some))
-    c.loop-value.invariant.2 c.loop-value.invariant.3)
+    (loop.closed (args.args_list _ c.args.is_dynamic_import) inv.list c.in-Some.is (c.in-Ok.ensures.eats _))
+    inv.list.grows inv.list.apart)
     c.set_ctx-in-Some.ensures.moves c.set_ctx-in-Some.ensures.context
 
 pub parse_args-returns-in-Err-parse_expr_or_spread : goal.parse_args-returns-in-Err-parse_expr_or_spread
 parse_args-returns-in-Err-parse_expr_or_spread g t c =
-    let before = item_trees (tree_of c.loop-value.p.nodes) c.loop-value.items.items in
-    let comma = c.loop-value.trailing_comma in
-    let none = s.eats_none g.B.Bodies.is_faithful is_rparen _ _ _ c.in-None.is (c.in-Ok.ensures.eats g.B.Bodies.is_faithful) in
+    let inv = c.loop-value.invariant in
+    let more = loop.goes_on (args.args_list _ c.args.is_dynamic_import) inv.list c.in-None.is (c.in-Ok.ensures.eats _) in
     entered.args_left {q = c.parse_expr_or_spread.new.p}
-    _ _ c.enter_args-before.ensures.before c.loop-value.invariant.0
-    (m.no (s.unheard_after c.loop-value.invariant.0.on (s.unheard_after (s.on_call (λ x p. args_by _ c.args.is_dynamic_import before comma p.0 x p.1) (λ x ts. args.behind_splits _ c.args.is_dynamic_import before comma x ts) none)
-    (s.unheard_call (λ x p. args_behind _ c.args.is_dynamic_import (trees_append before (cons p.0.0 nil)) p.0.1 x p.1) (λ x ts. args.args_more_splits _ c.args.is_dynamic_import before x ts) (s.unheard_call (λ x p. separated_args c.args.is_dynamic_import x p.1 >>= (λ q. Some ((p.0, q.0), q.1))) (λ x ts. args.arg_item_splits _ c.args.is_dynamic_import x ts) c.in-Err-parse_expr_or_spread.ensures.reads)))) (grows-then c.loop-value.invariant.2 c.parse_expr_or_spread.ensures.grows))
+    _ _ c.enter_args-before.ensures.before (entered.around inv)
+    (m.no (loop.item_refused _ _ more c.in-Err-parse_expr_or_spread.ensures.reads)
+    (grows-then inv.list.grows c.parse_expr_or_spread.ensures.grows))
     c.set_ctx-in-Err-parse_expr_or_spread.ensures.moves c.set_ctx-in-Err-parse_expr_or_spread.ensures.context
-
-pub parse_args-returns-in-Err-separate_args : goal.parse_args-returns-in-Err-separate_args
-parse_args-returns-in-Err-separate_args g t c =
-    let before = item_trees (tree_of c.loop-value.p.nodes) c.loop-value.items.items in
-    let comma = c.loop-value.trailing_comma in
-    let none = s.eats_none g.B.Bodies.is_faithful is_rparen _ _ _ c.in-None.is (c.in-Ok.ensures.eats g.B.Bodies.is_faithful) in
-    entered.args_left {q = record c.parse_expr_or_spread.new.p { input = c.separate_args.new.input }}
-    _ _ c.enter_args-before.ensures.before c.loop-value.invariant.0
-    (m.no (s.unheard_after c.loop-value.invariant.0.on (s.unheard_after (s.on_call (λ x p. args_by _ c.args.is_dynamic_import before comma p.0 x p.1) (λ x ts. args.behind_splits _ c.args.is_dynamic_import before comma x ts) none)
-    (s.unheard_call (λ x p. args_behind _ c.args.is_dynamic_import (trees_append before (cons p.0.0 nil)) p.0.1 x p.1) (λ x ts. args.args_more_splits _ c.args.is_dynamic_import before x ts) (s.unheard_after (s.on_call (λ x p. separated_args c.args.is_dynamic_import x p.1 >>= (λ q. Some ((p.0, q.0), q.1))) (λ x ts. args.arg_item_splits _ c.args.is_dynamic_import x ts) c.in-Ok-parse_expr_or_spread.ensures.reads.on)
-    (s.unheard_call (λ x q. Some ((item_at c.parse_expr_or_spread.new.p.nodes c.in-Ok-parse_expr_or_spread.value, q.0), q.1)) (λ x ts. refl) (c.in-Err-separate_args.ensures.separates g.B.Bodies.is_faithful)))))) (grows-then c.loop-value.invariant.2 c.parse_expr_or_spread.ensures.grows))
-    c.set_ctx-in-Err-separate_args.ensures.moves c.set_ctx-in-Err-separate_args.ensures.context
 
 pub parse_args-returns-in-Err-add : goal.parse_args-returns-in-Err-add
 parse_args-returns-in-Err-add g t c =
-    let none = s.eats_none g.B.Bodies.is_faithful is_rparen _ _ _ c.in-None.is (c.in-Ok.ensures.eats g.B.Bodies.is_faithful) in
-    let item = s.heard_more (λ x p. separated_args c.args.is_dynamic_import x p.1 >>= (λ q. Some ((p.0, q.0), q.1))) (λ x ts. args.arg_item_splits _ c.args.is_dynamic_import x ts) c.in-Ok-parse_expr_or_spread.ensures.reads
-    (s.on_call (λ x q. Some ((item_at c.parse_expr_or_spread.new.p.nodes c.in-Ok-parse_expr_or_spread.value, q.0), q.1)) (λ x ts. refl) (c.in-Ok-separate_args.ensures.separates g.B.Bodies.is_faithful)) in
-    entered.args_left {q = record c.parse_expr_or_spread.new.p { input = c.separate_args.new.input }}
-    _ _ c.enter_args-before.ensures.before c.loop-value.invariant.0
-    (m.no (s.unheard_memory (s.forgoes_later (s.leads_then c.loop-value.invariant.0.on.leads (s.leads_then none.leads item.on.leads)) (s.forgoes_here g.met.I.Tokens.laws _ _ _ c.in-Err-add.ensures.refused))) (grows-then c.loop-value.invariant.2 c.parse_expr_or_spread.ensures.grows))
+    let inv = c.loop-value.invariant in
+    let more = loop.goes_on (args.args_list _ c.args.is_dynamic_import) inv.list c.in-None.is (c.in-Ok.ensures.eats _) in
+    entered.args_left {q = c.parse_expr_or_spread.new.p}
+    _ _ c.enter_args-before.ensures.before (entered.around inv)
+    (m.no (loop.unkept _ more c.in-Ok-parse_expr_or_spread.ensures.reads c.in-Err-add.ensures.refused)
+    (grows-then inv.list.grows c.parse_expr_or_spread.ensures.grows))
     c.set_ctx-in-Err-add.ensures.moves c.set_ctx-in-Err-add.ensures.context
+
+pub parse_args-returns-in-Err-separate_args : goal.parse_args-returns-in-Err-separate_args
+parse_args-returns-in-Err-separate_args g t c =
+    let inv = c.loop-value.invariant in
+    let more = loop.goes_on (args.args_list _ c.args.is_dynamic_import) inv.list c.in-None.is (c.in-Ok.ensures.eats _) in
+    entered.args_left {q = record c.parse_expr_or_spread.new.p { input = c.separate_args.new.input }}
+    _ _ c.enter_args-before.ensures.before (entered.around inv)
+    (m.no (loop.comma_behind_refused _ _ more c.in-Ok-parse_expr_or_spread.ensures.reads
+    (c.in-Err-separate_args.ensures.separates _))
+    (grows-then inv.list.grows c.parse_expr_or_spread.ensures.grows))
+    c.set_ctx-in-Err-separate_args.ensures.moves c.set_ctx-in-Err-separate_args.ensures.context
 
 pub parse_args-set_ctx-requires : goal.parse_args-set_ctx-requires
 parse_args-set_ctx-requires g t c =
-    entered.text c.eat.new.input (λ x. refl)
-    c.enter_args-before.ensures.before c.loop-value.invariant.0
-    ((c.in-Err.ensures.eats g.B.Bodies.is_faithful).refuses.spends.read.context)
+    let inv = c.loop-value.invariant in
+    entered.list_text c.eat.new.input (λ x. refl) c.enter_args-before.ensures.before inv
+    (loop.end_refused (args.args_list _ c.args.is_dynamic_import) inv.list (c.in-Err.ensures.eats g.B.Bodies.is_faithful)).refuses.spends.read.context
 
 pub parse_args-set_ctx-requires-in-Some : goal.parse_args-set_ctx-requires-in-Some
 parse_args-set_ctx-requires-in-Some g t c =
-    entered.text c.eat.new.input (λ x. refl)
-    c.enter_args-before.ensures.before c.loop-value.invariant.0
-    ((s.eats_some g.B.Bodies.is_faithful is_rparen _ c.in-Some.end _ _ c.in-Some.is (c.in-Ok.ensures.eats g.B.Bodies.is_faithful)).on.leads.read.context)
+    let inv = c.loop-value.invariant in
+    entered.list_text c.eat.new.input (λ x. refl) c.enter_args-before.ensures.before inv
+    (loop.closed (args.args_list _ c.args.is_dynamic_import) inv.list c.in-Some.is (c.in-Ok.ensures.eats g.B.Bodies.is_faithful)).on.leads.read.context
 
 pub parse_args-set_ctx-requires-in-Err-parse_expr_or_spread : goal.parse_args-set_ctx-requires-in-Err-parse_expr_or_spread
 parse_args-set_ctx-requires-in-Err-parse_expr_or_spread g t c =
-    entered.text c.parse_expr_or_spread.new.p.input (λ x. refl)
-    c.enter_args-before.ensures.before c.loop-value.invariant.0
-    (c.in-Err-parse_expr_or_spread.ensures.reads.refuses.spends.read.context
-    ∙ (s.eats_none g.B.Bodies.is_faithful is_rparen _ _ _ c.in-None.is (c.in-Ok.ensures.eats g.B.Bodies.is_faithful)).leads.read.context)
-
-pub parse_args-set_ctx-requires-in-Err-separate_args : goal.parse_args-set_ctx-requires-in-Err-separate_args
-parse_args-set_ctx-requires-in-Err-separate_args g t c =
-    entered.text c.separate_args.new.input (λ x. refl)
-    c.enter_args-before.ensures.before c.loop-value.invariant.0
-    ((c.in-Err-separate_args.ensures.separates g.B.Bodies.is_faithful).refuses.spends.read.context
-    ∙ c.in-Ok-parse_expr_or_spread.ensures.reads.on.leads.read.context
-    ∙ (s.eats_none g.B.Bodies.is_faithful is_rparen _ _ _ c.in-None.is (c.in-Ok.ensures.eats g.B.Bodies.is_faithful)).leads.read.context)
+    let inv = c.loop-value.invariant in
+    let more = loop.goes_on (args.args_list _ c.args.is_dynamic_import) inv.list c.in-None.is (c.in-Ok.ensures.eats g.B.Bodies.is_faithful) in
+    entered.list_text c.parse_expr_or_spread.new.p.input (λ x. refl) c.enter_args-before.ensures.before inv
+    (loop.item_refused _ _ more c.in-Err-parse_expr_or_spread.ensures.reads).refuses.spends.read.context
 
 pub parse_args-set_ctx-requires-in-Err-add : goal.parse_args-set_ctx-requires-in-Err-add
 parse_args-set_ctx-requires-in-Err-add g t c =
-    entered.text c.separate_args.new.input (λ x. refl)
-    c.enter_args-before.ensures.before c.loop-value.invariant.0
-    ((c.in-Ok-separate_args.ensures.separates g.B.Bodies.is_faithful).leads.read.context
-    ∙ c.in-Ok-parse_expr_or_spread.ensures.reads.on.leads.read.context
-    ∙ (s.eats_none g.B.Bodies.is_faithful is_rparen _ _ _ c.in-None.is (c.in-Ok.ensures.eats g.B.Bodies.is_faithful)).leads.read.context)
+    let inv = c.loop-value.invariant in
+    let more = loop.goes_on (args.args_list _ c.args.is_dynamic_import) inv.list c.in-None.is (c.in-Ok.ensures.eats g.B.Bodies.is_faithful) in
+    entered.list_text c.parse_expr_or_spread.new.p.input (λ x. refl) c.enter_args-before.ensures.before inv
+    (loop.unkept _ more c.in-Ok-parse_expr_or_spread.ensures.reads c.in-Err-add.ensures.refused).refuses.spends.read.context
+
+pub parse_args-set_ctx-requires-in-Err-separate_args : goal.parse_args-set_ctx-requires-in-Err-separate_args
+parse_args-set_ctx-requires-in-Err-separate_args g t c =
+    let inv = c.loop-value.invariant in
+    let more = loop.goes_on (args.args_list _ c.args.is_dynamic_import) inv.list c.in-None.is (c.in-Ok.ensures.eats g.B.Bodies.is_faithful) in
+    entered.list_text c.separate_args.new.input (λ x. refl) c.enter_args-before.ensures.before inv
+    (loop.comma_behind_refused _ _ more c.in-Ok-parse_expr_or_spread.ensures.reads
+    (c.in-Err-separate_args.ensures.separates g.B.Bodies.is_faithful)).refuses.spends.read.context
 
 pub parse_unary_expr-returns-in_err-look : goal.parse_unary_expr-returns-in_err-look
 parse_unary_expr-returns-in_err-look g t c =
-    let p = err_from_is_err_and c.from_residual.result c.from_residual.ensures.1 in rw (p.1, p.2)
-    (m.no (s.unheard_memory c.in_err-look.ensures.looks) (grows-same _))
+    m.refused c.from_residual.ensures.1
+    (s.unheard_memory c.in_err-look.ensures.looks) (grows-same _)
 
 pub parse_unary_expr-returns-in_err-arg-in-Some : goal.parse_unary_expr-returns-in_err-arg-in-Some
 parse_unary_expr-returns-in_err-arg-in-Some g t c =
     let op = c.in-Some.op in
     let first = c.skip.ensures.took.1 in
     let q = (plain first.was).span in
-    let p = err_from_is_err_and c.from_residual-in_err-arg-in-Some.result c.from_residual-in_err-arg-in-Some.ensures.1 in rw (p.1, p.2)
-    (m.no (s.unheard_after (s.on_seen {g = update_prefix _ op} c.in_ok-look.ensures.looks (λ x ts same e. update.update_picked _ op x ts (ap update_at e ∙ sym c.cur_update_op.ensures.value ∙ c.in-Some.is)))
-    (s.unheard_after (s.on_took {g = update_tail _ q op} g.met.I.Tokens.laws first (λ x ts. update.update_opens _ op (plain first.was) x ts))
-    (s.unheard_call (λ x p. update_node q op x p.0 p.1) (λ x ts. update.update_splits _ q op x ts) c.in_err-arg-in-Some.ensures.reads))) c.parse_unary_expr.ensures.grows)
+    m.refused c.from_residual-in_err-arg-in-Some.ensures.1
+    (s.unheard_after (s.on_seen {g = update_prefix _ op} c.in_ok-look.ensures.looks (λ x ts same e. update.update_picked _ op x ts (ap update_at e ∙ sym c.cur_update_op.ensures.value ∙ c.in-Some.is)))
+    (s.unheard_after (s.on_took {g = update_tail _ q op} g.met.I.Tokens.laws first (update.update_opens _ op (plain first.was)))
+    (s.unheard_call _ (update.update_splits _ q op) c.in_err-arg-in-Some.ensures.reads))) c.parse_unary_expr.ensures.grows
 
 pub parse_unary_expr-returns-in-Some : goal.parse_unary_expr-returns-in-Some
 parse_unary_expr-returns-in-Some g t c =
@@ -1270,15 +1296,15 @@ parse_unary_expr-returns-in-Some g t c =
     m.after {m = record c.args.p.now { input = c.look.new.input }} c.update_prefix.result
     (s.on_seen {g = update_prefix _ op} c.in_ok-look.ensures.looks (λ x ts same e. update.update_picked _ op x ts (ap update_at e ∙ sym c.cur_update_op.ensures.value ∙ c.in-Some.is))) (grows-same _)
     (m.after {m = record c.args.p.now { input = c.skip.new.input }} c.update_prefix.result
-    (s.on_took {g = update_tail _ q op} g.met.I.Tokens.laws first (λ x ts. update.update_opens _ op (plain first.was) x ts)) (grows-same _)
-    (m.call {m = c.parse_unary_expr.new.p} c.update_prefix.result (λ x p. update_node q op x p.0 p.1) (λ x ts. update.update_splits _ q op x ts)
+    (s.on_took {g = update_tail _ q op} g.met.I.Tokens.laws first (update.update_opens _ op (plain first.was))) (grows-same _)
+    (m.call {m = c.parse_unary_expr.new.p} c.update_prefix.result _ (update.update_splits _ q op)
     c.in_ok-arg-in-Some.ensures.reads c.parse_unary_expr.ensures.grows (λ x. from-down c.in_ok-arg-in-Some.ensures.from.above)
     (m.on_after c.update_prefix.result (s.on_here g.met.I.Tokens.laws _ (λ x ts. ap (λ v. update_node v op x arg ts) (sym place))) (grows-same _) c.update_prefix.ensures)))
 
 pub parse_unary_expr-returns-in_err-at-in-Some-cur_prefix_op : goal.parse_unary_expr-returns-in_err-at-in-Some-cur_prefix_op
 parse_unary_expr-returns-in_err-at-in-Some-cur_prefix_op g t c =
-    let p = err_from_is_err_and c.from_residual-in_err-at-in-Some-cur_prefix_op.result c.from_residual-in_err-at-in-Some-cur_prefix_op.ensures.1 in rw (p.1, p.2)
-    (m.no (s.unheard_memory (s.forgoes_later (s.leads_then (s.here_leads c.in_ok-look.ensures.looks) (s.took_leads g.met.I.Tokens.laws c.skip-in-Some-cur_prefix_op.ensures.took.1)) c.in_err-at-in-Some-cur_prefix_op.ensures.looks)) (grows-same _))
+    m.refused c.from_residual-in_err-at-in-Some-cur_prefix_op.ensures.1
+    (s.unheard_memory (s.forgoes_later (s.leads_then (s.here_leads c.in_ok-look.ensures.looks) (s.took_leads g.met.I.Tokens.laws c.skip-in-Some-cur_prefix_op.ensures.took.1)) c.in_err-at-in-Some-cur_prefix_op.ensures.looks)) (grows-same _)
 
 pub parse_unary_expr-returns-in-Ok : goal.parse_unary_expr-returns-in-Ok
 parse_unary_expr-returns-in-Ok g t c =
@@ -1290,9 +1316,9 @@ parse_unary_expr-returns-in-Ok g t c =
     m.after {m = record c.args.p.now { input = c.look.new.input }} c.unary_expr.result
     (s.on_seen {g = unary_op _ op} c.in_ok-look.ensures.looks (λ x ts same e. rule.unary_op_picked _ op x ts (ap prefix_at e ∙ sym c.cur_prefix_op.ensures.value ∙ c.in-Some-cur_prefix_op.is))) (grows-same _)
     (m.after {m = record c.args.p.now { input = c.cur_pos.new.input }} c.unary_expr.result
-    (s.on_then (s.on_took {g = unary_op_tail _ q op} g.met.I.Tokens.laws first (λ x ts. rule.unary_op_opens _ op (plain first.was) x ts))
+    (s.on_then (s.on_took {g = unary_op_tail _ q op} g.met.I.Tokens.laws first (rule.unary_op_opens _ op (plain first.was)))
     (s.on_seen {g = unary_op_tail _ q op} c.in_ok-at-in-Some-cur_prefix_op.ensures.looks (λ x ts same e. refl))) (grows-same _)
-    (m.call {m = c.parse_unary_expr-in-Some-cur_prefix_op.new.p} c.unary_expr.result (λ x p. unary_op_node _ q op x p.0 p.1) (λ x ts. rule.unary_op_splits _ q op x ts)
+    (m.call {m = c.parse_unary_expr-in-Some-cur_prefix_op.new.p} c.unary_expr.result _ (rule.unary_op_splits _ q op)
     c.in-Ok.ensures.reads c.parse_unary_expr-in-Some-cur_prefix_op.ensures.grows (λ x. from-down c.in-Ok.ensures.from.above)
     (m.on_after c.unary_expr.result (s.on_here g.met.I.Tokens.laws _ (λ x ts. ap (λ v. unary_op_node g.B.BodyForms.forms v op x arg ts) (sym place))) (grows-same _) c.unary_expr.ensures.reads)))
 
@@ -1307,20 +1333,20 @@ parse_unary_expr-returns-in-Err g t c =
     m.after {m = record c.args.p.now { input = c.look.new.input }} r
     (s.on_seen {g = unary_op _ op} c.in_ok-look.ensures.looks (λ x ts same e. rule.unary_op_picked _ op x ts (ap prefix_at e ∙ sym c.cur_prefix_op.ensures.value ∙ c.in-Some-cur_prefix_op.is))) (grows-same _)
     (m.yes r
-    (s.parses_first g.I.Tokens.model g.B.Bodies.is_faithful view _ {g = unary_op_tail _ q op} g.met.I.Tokens.laws first (λ x ts. rule.unary_op_opens _ op (plain first.was) x ts) _ r
+    (s.parses_first g.I.Tokens.model g.B.Bodies.is_faithful view _ {g = unary_op_tail _ q op} g.met.I.Tokens.laws first (rule.unary_op_opens _ op (plain first.was)) _ r
     (s.continues_after g.I.Tokens.model g.B.Bodies.is_faithful view _ _ r (s.on_seen {g = unary_op_tail _ q op} c.in_ok-at-in-Some-cur_prefix_op.ensures.looks (λ x ts same e. refl))
     (s.continues_recovered g.I.Tokens.model g.B.Bodies.is_faithful view _ _ r
-    (s.unheard_call (λ x p. unary_op_node _ q op x p.0 p.1) (λ x ts. rule.unary_op_splits _ q op x ts) c.in-Err.ensures.reads) h.effect h.notes h.some)))
+    (s.unheard_call _ (rule.unary_op_splits _ q op) c.in-Err.ensures.reads) h.effect h.notes h.some)))
     (grows-then c.parse_unary_expr-in-Some-cur_prefix_op.ensures.grows h.grows) (if_from _ _ _ (λ x. x) r (grows-count c.parse_unary_expr-in-Some-cur_prefix_op.ensures.grows) h.from))
 
 pub parse_unary_expr-returns-in_err-is_await_name : goal.parse_unary_expr-returns-in_err-is_await_name
 parse_unary_expr-returns-in_err-is_await_name g t c =
     let first = c.skip-then-is_await.ensures.took.1 in
     let q = (plain first.was).span in
-    let p = err_from_is_err_and c.from_residual-in_err-is_await_name.result c.from_residual-in_err-is_await_name.ensures.1 in rw (p.1, p.2)
-    (m.no (s.unheard_after (s.on_seen {g = await_expr _} c.in_ok-look.ensures.looks (λ x ts same e. update.await_picked _ x ts (ap (at_token is_await) e ∙ sym c.is_await.ensures.value ∙ c.if-is_await.true)))
-    (s.unheard_after (s.on_took {g = await_tail _ q} g.met.I.Tokens.laws first (λ x ts. update.await_opens _ (plain first.was) x ts))
-    (s.unheard_call (λ x p. await_by_name _ q p.0 x p.1) (λ x ts. prefix.await_splits _ q x ts) (c.in_err-is_await_name.ensures.names g.B.Bodies.is_faithful)))) (grows-same _))
+    m.refused c.from_residual-in_err-is_await_name.ensures.1
+    (s.unheard_after (s.on_seen {g = await_expr _} c.in_ok-look.ensures.looks (λ x ts same e. update.await_picked _ x ts (ap (at_token is_await) e ∙ sym c.is_await.ensures.value ∙ c.if-is_await.true)))
+    (s.unheard_after (s.on_took {g = await_tail _ q} g.met.I.Tokens.laws first (update.await_opens _ (plain first.was)))
+    (s.unheard_call _ (prefix.await_splits _ q) (c.in_err-is_await_name.ensures.names g.B.Bodies.is_faithful)))) (grows-same _)
 
 pub parse_unary_expr-returns-then-branch : goal.parse_unary_expr-returns-then-branch
 parse_unary_expr-returns-then-branch g t c =
@@ -1335,16 +1361,16 @@ parse_unary_expr-returns-then-branch g t c =
     (update.parses_first g.I.Tokens.model g.B.Bodies.is_faithful view _ (await_tail g.B.BodyForms.forms start) _ r g.met.I.Tokens.laws first
     (λ x ts. update.await_opens _ (plain first.was) x ts ∙ ap (λ v. await_tail g.B.BodyForms.forms v x ts) (sym place))
     (s.continues_after g.I.Tokens.model g.B.Bodies.is_faithful view (await_tail g.B.BodyForms.forms start) _ r
-    (s.on_to {h = await_ident start} (s.on_call (λ x p. await_by_name g.B.BodyForms.forms start p.0 x p.1) (λ x ts. prefix.await_splits _ start x ts) (c.in_ok-is_await_name.ensures.names g.B.Bodies.is_faithful))
+    (s.on_to {h = await_ident start} (s.on_call _ (prefix.await_splits g.B.BodyForms.forms start) (c.in_ok-is_await_name.ensures.names g.B.Bodies.is_faithful))
     (λ x ts. ap (λ b. await_by_name g.B.BodyForms.forms start b x ts) c.if-branch.true))
     c.parse_await_ident.ensures.reads))
     c.parse_await_ident.ensures.grows c.parse_await_ident.ensures.from)
 
 pub parse_unary_expr-returns-in_err-check_await : goal.parse_unary_expr-returns-in_err-check_await
 parse_unary_expr-returns-in_err-check_await g t c =
-    let p = err_from_is_err_and c.from_residual-in_err-check_await.result c.from_residual-in_err-check_await.ensures.1 in rw (p.1, p.2)
-    (m.no (s.unheard_memory (s.forgoes_later (s.leads_then (s.here_leads c.in_ok-look.ensures.looks)
-    (s.leads_then (s.took_leads g.met.I.Tokens.laws c.skip-then-is_await.ensures.took.1) (c.in_ok-is_await_name.ensures.names g.B.Bodies.is_faithful).leads)) c.in_err-check_await.ensures.checks)) (grows-same _))
+    m.refused c.from_residual-in_err-check_await.ensures.1
+    (s.unheard_memory (s.forgoes_later (s.leads_then (s.here_leads c.in_ok-look.ensures.looks)
+    (s.leads_then (s.took_leads g.met.I.Tokens.laws c.skip-then-is_await.ensures.took.1) (c.in_ok-is_await_name.ensures.names g.B.Bodies.is_faithful).leads)) c.in_err-check_await.ensures.checks)) (grows-same _)
 
 pub parse_unary_expr-returns-in_err-arg : goal.parse_unary_expr-returns-in_err-arg
 parse_unary_expr-returns-in_err-arg g t c =
@@ -1352,15 +1378,15 @@ parse_unary_expr-returns-in_err-arg g t c =
     let start = c.cur_span-start-then-is_await.result in
     let place = s.place_was first c.cur_span-start-then-is_await.result c.cur_span-start-then-is_await.ensures in
     let now = c.is_await_name.new.input in
-    let p = err_from_is_err_and c.from_residual-in_err-arg.result c.from_residual-in_err-arg.ensures.1 in rw (p.1, p.2)
-    (m.no (s.unheard_after (s.on_seen {g = await_expr _} c.in_ok-look.ensures.looks (λ x ts same e. update.await_picked _ x ts (ap (at_token is_await) e ∙ sym c.is_await.ensures.value ∙ c.if-is_await.true)))
+    m.refused c.from_residual-in_err-arg.ensures.1
+    (s.unheard_after (s.on_seen {g = await_expr _} c.in_ok-look.ensures.looks (λ x ts same e. update.await_picked _ x ts (ap (at_token is_await) e ∙ sym c.is_await.ensures.value ∙ c.if-is_await.true)))
     (s.unheard_after (s.on_took {g = await_tail _ start} g.met.I.Tokens.laws first (λ x ts. update.await_opens _ (plain first.was) x ts ∙ ap (λ v. await_tail g.B.BodyForms.forms v x ts) (sym place)))
-    (s.unheard_after (s.on_to {h = await_operand _ start} (s.on_call (λ x p. await_by_name g.B.BodyForms.forms start p.0 x p.1) (λ x ts. prefix.await_splits _ start x ts) (c.in_ok-is_await_name.ensures.names g.B.Bodies.is_faithful))
+    (s.unheard_after (s.on_to {h = await_operand _ start} (s.on_call _ (prefix.await_splits g.B.BodyForms.forms start) (c.in_ok-is_await_name.ensures.names g.B.Bodies.is_faithful))
     (λ x ts. ap (λ b. await_by_name g.B.BodyForms.forms start b x ts) c.if-branch.false))
     (s.unheard_after (s.on_checked_in {g = await_reads _ start} (await_ok (context g.I.Tokens.model now)) c.in_ok-check_await.ensures.checks
     (λ ts h. update.await_well _ start (scope g.I.Tokens.model now) ts h)
     (λ ts h. update.await_ill _ start (scope g.I.Tokens.model now) ts h))
-    (s.unheard_call (λ x p. Some (await_e (to start (span_of p.0)) p.0, p.1)) (λ x ts. refl) c.in_err-arg.ensures.reads))))) c.parse_unary_expr-then-is_await.ensures.grows)
+    (s.unheard_call (λ x p. Some (await_e (to start (span_of p.0)) p.0, p.1)) (λ x ts. refl) c.in_err-arg.ensures.reads))))) c.parse_unary_expr-then-is_await.ensures.grows
 
 pub parse_unary_expr-returns-then-is_await : goal.parse_unary_expr-returns-then-is_await
 parse_unary_expr-returns-then-is_await g t c =
@@ -1372,7 +1398,7 @@ parse_unary_expr-returns-then-is_await g t c =
     (s.on_seen {g = await_expr _} c.in_ok-look.ensures.looks (λ x ts same e. update.await_picked _ x ts (ap (at_token is_await) e ∙ sym c.is_await.ensures.value ∙ c.if-is_await.true))) (grows-same _)
     (m.after {m = record c.args.p.now { input = now }} c.made.result
     (s.on_then (s.on_took {g = await_tail _ start} g.met.I.Tokens.laws first (λ x ts. update.await_opens _ (plain first.was) x ts ∙ ap (λ v. await_tail g.B.BodyForms.forms v x ts) (sym place)))
-    (s.on_to {h = await_operand _ start} (s.on_call (λ x p. await_by_name g.B.BodyForms.forms start p.0 x p.1) (λ x ts. prefix.await_splits _ start x ts) (c.in_ok-is_await_name.ensures.names g.B.Bodies.is_faithful))
+    (s.on_to {h = await_operand _ start} (s.on_call _ (prefix.await_splits g.B.BodyForms.forms start) (c.in_ok-is_await_name.ensures.names g.B.Bodies.is_faithful))
     (λ x ts. ap (λ b. await_by_name g.B.BodyForms.forms start b x ts) c.if-branch.false))) (grows-same _)
     (m.node _ c.await_expr-node.result c.made.result c.in_ok-arg.ensures.from.above c.await_expr-node.ensures.made c.made.ensures.ok c.made.ensures.refused c.parse_unary_expr-then-is_await.ensures.grows c.await_expr-node.ensures.grows
     (s.heard_after (s.on_checked_in {g = await_reads _ start} (await_ok (context g.I.Tokens.model now)) c.in_ok-check_await.ensures.checks
@@ -1384,12 +1410,12 @@ parse_unary_expr-returns-then-is_await g t c =
 
 pub parse_unary_expr-returns-in_err-expr : goal.parse_unary_expr-returns-in_err-expr
 parse_unary_expr-returns-in_err-expr g t c =
-    let p = err_from_is_err_and c.from_residual-in_err-expr.result c.from_residual-in_err-expr.ensures.1 in rw (p.1, p.2)
-    (m.no (s.unheard_after (s.on_seen {g = λ x ts. run _ (at (Lhs true)) x ts >>= (λ p. run _ (updates p.0) x p.1)} c.in_ok-look.ensures.looks (λ x ts same e. update.operand_splits _ x ts
+    m.refused c.from_residual-in_err-expr.ensures.1
+    (s.unheard_after (s.on_seen {g = λ x ts. run _ (at (Lhs true)) x ts >>= (λ p. run _ (updates p.0) x p.1)} c.in_ok-look.ensures.looks (λ x ts same e. update.operand_splits _ x ts
     (update.no_update_first g.B.BodyForms.forms (first ts) (ap update_at e ∙ sym c.cur_update_op.ensures.value ∙ c.in-None.is))
     (ap (at_token is_await) e ∙ sym c.is_await.ensures.value ∙ c.if-is_await.false)
     (ap prefix_at e ∙ sym c.cur_prefix_op.ensures.value ∙ c.in-None-cur_prefix_op.is)))
-    (s.unheard_call (λ x p. run _ (updates p.0) x p.1) (λ x ts. refl) c.in_err-expr.ensures.reads)) c.parse_lhs_expr.ensures.grows)
+    (s.unheard_call (λ x p. run _ (updates p.0) x p.1) (λ x ts. refl) c.in_err-expr.ensures.reads)) c.parse_lhs_expr.ensures.grows
 
 pub parse_unary_expr-returns : goal.parse_unary_expr-returns
 parse_unary_expr-returns g t c =
@@ -1402,8 +1428,8 @@ parse_unary_expr-returns g t c =
 
 pub parse_bin_expr-returns-in_err-first : goal.parse_bin_expr-returns-in_err-first
 parse_bin_expr-returns-in_err-first g t c =
-    let p = err_from_is_err_and c.from_residual.result c.from_residual.ensures.1 in rw (p.1, p.2)
-    (m.no (s.unheard_memory c.in_err-first.ensures.looks) (grows-same _))
+    m.refused c.from_residual.ensures.1
+    (s.unheard_memory c.in_err-first.ensures.looks) (grows-same _)
 
 pub parse_bin_expr-parse_operators-requires : goal.parse_bin_expr-parse_operators-requires
 parse_bin_expr-parse_operators-requires g t c =
@@ -1433,10 +1459,9 @@ parse_bin_expr-returns-in-Ok g t c =
 pub parse_bin_expr-returns-in_err-left-in-Err : goal.parse_bin_expr-returns-in_err-left-in-Err
 parse_bin_expr-returns-in_err-left-in-Err g t c =
     let u = pending.unheard_operand g.B.BodyForms.forms c.in_ok-first.ensures.looks c.in-Err.ensures.reads in
-    let failed = c.from_residual-in_err-left-in-Err in
-    let p = err_from_is_err_and failed.result failed.ensures.1 in
-    let h = c.in_err-left-in-Err.ensures.recovers in rw (p.1, p.2)
-    (m.no (s.unheard_doomed u h.memory h.effect) (grows-then c.parse_unary_expr.ensures.grows h.grows))
+    let h = c.in_err-left-in-Err.ensures.recovers in
+    m.refused c.from_residual-in_err-left-in-Err.ensures.1
+    (s.unheard_doomed u h.memory h.effect) (grows-then c.parse_unary_expr.ensures.grows h.grows)
 
 pub parse_bin_expr-take_operator-requires-clause-from : goal.parse_bin_expr-take_operator-requires-clause-from
 parse_bin_expr-take_operator-requires-clause-from g t c =
@@ -1448,26 +1473,22 @@ parse_bin_expr-take_operator-requires-clause-tighter g t c = pending.binds_any _
 pub parse_bin_expr-returns-in_err-take_operator-in-Err : goal.parse_bin_expr-returns-in_err-take_operator-in-Err
 parse_bin_expr-returns-in_err-take_operator-in-Err g t c =
     let u = pending.unheard_operand g.B.BodyForms.forms c.in_ok-first.ensures.looks c.in-Err.ensures.reads in
-    let failed = c.from_residual-in_err-take_operator-in-Err in
-    let p = err_from_is_err_and failed.result failed.ensures.1 in
-    let h = c.in_ok-left-in-Err.ensures.recovers in rw (p.1, p.2)
-    (m.no
+    let h = c.in_ok-left-in-Err.ensures.recovers in
+    m.refused c.from_residual-in_err-take_operator-in-Err.ensures.1
     (s.unheard_doomed u (λ n. h.some)
     (s.refuses_later h.effect (c.in_err-take_operator-in-Err.ensures.reads g.B.Bodies.is_faithful).refuses))
-    (grows-then c.parse_unary_expr.ensures.grows (grows-then h.grows (grows-kept c.take_operator.ensures.nodes))))
+    (grows-then c.parse_unary_expr.ensures.grows (grows-then h.grows (grows-kept c.take_operator.ensures.nodes)))
 
 pub parse_bin_expr-returns-in_err-right-in-Err : goal.parse_bin_expr-returns-in_err-right-in-Err
 parse_bin_expr-returns-in_err-right-in-Err g t c =
     let u = pending.unheard_operand g.B.BodyForms.forms c.in_ok-first.ensures.looks c.in-Err.ensures.reads in
-    let failed = c.from_residual-in_err-right-in-Err in
-    let p = err_from_is_err_and failed.result failed.ensures.1 in
     let h = c.in_ok-left-in-Err.ensures.recovers in
-    let took = c.in_ok-take_operator-in-Err.ensures.reads g.B.Bodies.is_faithful in rw (p.1, p.2)
-    (m.no
+    let took = c.in_ok-take_operator-in-Err.ensures.reads g.B.Bodies.is_faithful in
+    m.refused c.from_residual-in_err-right-in-Err.ensures.1
     (s.unheard_doomed u (λ n. h.some)
     (s.refuses_later (s.leads_then h.effect took.on.leads) c.in_err-right-in-Err.ensures.reads.refuses))
     (grows-then c.parse_unary_expr.ensures.grows (grows-then h.grows
-    (grows-then (grows-kept c.take_operator.ensures.nodes) c.parse_unary_expr-in-Err.ensures.grows))))
+    (grows-then (grows-kept c.take_operator.ensures.nodes) c.parse_unary_expr-in-Err.ensures.grows)))
 
 pub parse_bin_expr-parse_operators-requires-in-Err : goal.parse_bin_expr-parse_operators-requires-in-Err
 parse_bin_expr-parse_operators-requires-in-Err g t c =
@@ -1519,9 +1540,9 @@ parse_operators-loop-pending-init g t c =
 
 pub parse_operators-returns-in_err-op : goal.parse_operators-returns-in_err-op
 parse_operators-returns-in_err-op g t c =
-    let p = err_from_is_err_and c.from_residual.result c.from_residual.ensures.1 in rw (p.1, p.2)
-    (m.no_more (s.unheard_after c.loop-pending.invariant.0 (s.unheard_memory c.in_err-op.ensures.looks))
-    c.loop-pending.invariant.2)
+    m.refused_more c.from_residual.ensures.1
+    (s.unheard_after c.loop-pending.invariant.0 (s.unheard_memory c.in_err-op.ensures.looks))
+    c.loop-pending.invariant.2
 
 pub parse_operators-take_operator-requires-clause-from : goal.parse_operators-take_operator-requires-clause-from
 parse_operators-take_operator-requires-clause-from g t c = operands-last _ _ c.loop-pending.invariant.3
@@ -1534,25 +1555,19 @@ parse_operators-take_operator-requires-clause-tighter g t c =
 
 pub parse_operators-returns-in_err-take_operator-in-Some : goal.parse_operators-returns-in_err-take_operator-in-Some
 parse_operators-returns-in_err-take_operator-in-Some g t c =
-    let failed = c.from_residual-in_err-take_operator-in-Some in
-    let p = err_from_is_err_and failed.result failed.ensures.1 in
-    rw (p.1, p.2)
-    (m.no_more
+    m.refused_more c.from_residual-in_err-take_operator-in-Some.ensures.1
     (pending.unheard_taken g.B.BodyForms.forms (tree_of c.loop-pending.p.nodes) (all_pending c.loop-pending.pending)
     c.loop-pending.left c.in-Some.op c.loop-pending.invariant.0 c.in_ok-op.ensures.looks
     (pending.above_is g.I.Tokens.model c.next_operator.new.input c.in-Some.is c.in_ok-op.ensures.value
     c.min_prec.ensures)
     (c.in_err-take_operator-in-Some.ensures.reads g.B.Bodies.is_faithful))
-    (grows-then c.loop-pending.invariant.2 (grows-kept c.take_operator.ensures.nodes)))
+    (grows-then c.loop-pending.invariant.2 (grows-kept c.take_operator.ensures.nodes))
 
 pub parse_operators-returns-in_err-left-in-Some : goal.parse_operators-returns-in_err-left-in-Some
 parse_operators-returns-in_err-left-in-Some g t c =
     let tree = tree_of c.loop-pending.p.nodes in
     let ws = all_pending c.loop-pending.pending in
-    let failed = c.from_residual-in_err-left-in-Some in
-    let p = err_from_is_err_and failed.result failed.ensures.1 in
-    rw (p.1, p.2)
-    (m.no_more
+    m.refused_more c.from_residual-in_err-left-in-Some.ensures.1
     (pending.unheard_read g.B.BodyForms.forms tree ws c.loop-pending.left c.in-Some.op
     (pending.on_taken g.B.BodyForms.forms tree ws c.loop-pending.left c.in-Some.op c.loop-pending.invariant.0
     c.in_ok-op.ensures.looks
@@ -1561,7 +1576,7 @@ parse_operators-returns-in_err-left-in-Some g t c =
     (c.in_ok-take_operator-in-Some.ensures.reads g.B.Bodies.is_faithful))
     c.in_err-left-in-Some.ensures.reads)
     (grows-then c.loop-pending.invariant.2
-    (grows-then (grows-kept c.take_operator.ensures.nodes) c.parse_unary_expr.ensures.grows)))
+    (grows-then (grows-kept c.take_operator.ensures.nodes) c.parse_unary_expr.ensures.grows))
 
 pub parse_operators-loop-pending-preserved-in-Some : goal.parse_operators-loop-pending-preserved-in-Some
 parse_operators-loop-pending-preserved-in-Some g t c =
@@ -1593,13 +1608,10 @@ parse_operators-check_nullish_left-requires g t c = operands-last _ _ c.loop-pen
 pub parse_operators-returns-in_err-check_nullish_left-in-None
     : goal.parse_operators-returns-in_err-check_nullish_left-in-None
 parse_operators-returns-in_err-check_nullish_left-in-None g t c =
-    let failed = c.from_residual-in_err-check_nullish_left-in-None in
-    let p = err_from_is_err_and failed.result failed.ensures.1 in
-    rw (p.1, p.2)
-    (m.no_more
+    m.refused_more c.from_residual-in_err-check_nullish_left-in-None.ensures.1
     (s.unheard_after c.loop-pending.invariant.0 (s.unheard_memory
     (s.forgoes_later (s.here_leads c.in_ok-op.ensures.looks) c.in_err-check_nullish_left-in-None.ensures.checks)))
-    c.loop-pending.invariant.2)
+    c.loop-pending.invariant.2
 
 pub parse_operators-join_operands-requires-clause-left : goal.parse_operators-join_operands-requires-clause-left
 parse_operators-join_operands-requires-clause-left g t c =
@@ -1615,10 +1627,7 @@ pub parse_operators-returns-in_err-left-in-Some-pop : goal.parse_operators-retur
 parse_operators-returns-in_err-left-in-Some-pop g t c =
     let tree = tree_of c.loop-pending.p.nodes in
     let ws = all_pending c.loop-pending.pending in
-    let failed = c.from_residual-in_err-left-in-Some-pop in
-    let p = err_from_is_err_and failed.result failed.ensures.1 in
-    rw (p.1, p.2)
-    (m.no_more
+    m.refused_more c.from_residual-in_err-left-in-Some-pop.ensures.1
     (pending.unheard_join g.B.BodyForms.forms tree ws (all_pending c.pop.new.self) c.in-Some-pop.operator
     c.loop-pending.left c.in-Some-pop.ensures
     (pending.on_left g.B.BodyForms.forms tree ws c.loop-pending.left c.loop-pending.invariant.0 c.in_ok-op.ensures.looks
@@ -1626,7 +1635,7 @@ parse_operators-returns-in_err-left-in-Some-pop g t c =
     c.min_prec.ensures)
     c.in_ok-check_nullish_left-in-None.ensures.checks)
     c.in_err-left-in-Some-pop.ensures.reads)
-    (grows-then c.loop-pending.invariant.2 c.join_operands.ensures.grows))
+    (grows-then c.loop-pending.invariant.2 c.join_operands.ensures.grows)
 
 pub parse_operators-loop-pending-preserved : goal.parse_operators-loop-pending-preserved
 parse_operators-loop-pending-preserved g t c =
@@ -1664,30 +1673,30 @@ parse_operators-returns-in-None-pop g t c =
 
 pub parse_expr-returns-in_err-first : goal.parse_expr-returns-in_err-first
 parse_expr-returns-in_err-first g t c =
-    let p = err_from_is_err_and c.from_residual.result c.from_residual.ensures.1 in rw (p.1, p.2)
-    (m.no (s.unheard_call (λ x p. run _ (seqs (cons p.0 nil)) x p.1) (λ x ts. assign.expr_splits _ x ts) c.in_err-first.ensures.reads) c.parse_assignment_expr.ensures.grows)
+    m.refused c.from_residual.ensures.1
+    (s.unheard_call _ (assign.expr_splits _) c.in_err-first.ensures.reads) c.parse_assignment_expr.ensures.grows
 
 pub parse_expr-returns-in_err-eat : goal.parse_expr-returns-in_err-eat
 parse_expr-returns-in_err-eat g t c =
     let e = tree_of c.parse_assignment_expr.new.p.nodes c.in_ok-first.first in
-    let p = err_from_is_err_and c.from_residual-in_err-eat.result c.from_residual-in_err-eat.ensures.1 in rw (p.1, p.2)
-    (m.no (s.unheard_after (s.on_call (λ x p. run _ (seqs (cons p.0 nil)) x p.1) (λ x ts. assign.expr_splits _ x ts) c.in_ok-first.ensures.reads.on)
-    (s.unheard_call (λ x p. seqs_by _ (cons e nil) p.0 x p.1) (λ x ts. assign.seqs_splits _ (cons e nil) x ts) (c.in_err-eat.ensures.eats g.B.Bodies.is_faithful))) c.parse_assignment_expr.ensures.grows)
+    m.refused c.from_residual-in_err-eat.ensures.1
+    (s.unheard_after (s.on_call _ (assign.expr_splits _) c.in_ok-first.ensures.reads.on)
+    (s.unheard_call _ (assign.seqs_splits _ (cons e nil)) (c.in_err-eat.ensures.eats g.B.Bodies.is_faithful))) c.parse_assignment_expr.ensures.grows
 
 pub parse_expr-returns-in-None : goal.parse_expr-returns-in-None
 parse_expr-returns-in-None g t c =
     let e = tree_of c.parse_assignment_expr.new.p.nodes c.in_ok-first.first in
     let none = s.eats_none g.B.Bodies.is_faithful is_comma _ _ _ c.in-None.is (c.in_ok-eat.ensures.eats g.B.Bodies.is_faithful) in
     m.yes (Ok _)
-    (s.heard_more (λ x p. run _ (seqs (cons p.0 nil)) x p.1) (λ x ts. assign.expr_splits _ x ts) c.in_ok-first.ensures.reads
-    (s.on_call (λ x p. seqs_by _ (cons e nil) p.0 x p.1) (λ x ts. assign.seqs_splits _ (cons e nil) x ts) none))
+    (s.heard_more _ (assign.expr_splits _) c.in_ok-first.ensures.reads
+    (s.on_call _ (assign.seqs_splits _ (cons e nil)) none))
     c.parse_assignment_expr.ensures.grows c.in_ok-first.ensures.from
 
 pub parse_expr-returns-in_err-add : goal.parse_expr-returns-in_err-add
 parse_expr-returns-in_err-add g t c =
     let some = s.eats_some g.B.Bodies.is_faithful is_comma _ c.in-Some.field-0 _ _ c.in-Some.is (c.in_ok-eat.ensures.eats g.B.Bodies.is_faithful) in
-    let p = err_from_is_err_and c.from_residual-in_err-add.result c.from_residual-in_err-add.ensures.1 in rw (p.1, p.2)
-    (m.no (s.unheard_memory (s.forgoes_later (s.leads_then c.in_ok-first.ensures.reads.on.leads some.on.leads) (s.forgoes_here g.met.I.Tokens.laws _ _ _ c.in_err-add.ensures.refused))) c.parse_assignment_expr.ensures.grows)
+    m.refused c.from_residual-in_err-add.ensures.1
+    (s.unheard_memory (s.forgoes_later (s.leads_then c.in_ok-first.ensures.reads.on.leads some.on.leads) (s.forgoes_here g.met.I.Tokens.laws _ _ _ c.in_err-add.ensures.refused))) c.parse_assignment_expr.ensures.grows
 
 pub parse_expr-loop-exprs-init : goal.parse_expr-loop-exprs-init
 parse_expr-loop-exprs-init g t c =
@@ -1709,17 +1718,17 @@ parse_expr-returns-in_err-expr g t c =
     let on = s.on_by (λ x ts. ap (λ v. seqs_more g.B.BodyForms.forms (trees (map (λ e. tree_at old e.0) v)) x ts) (sym one)) c.loop-exprs.invariant.0 in
     let comma = s.eats_some g.B.Bodies.is_faithful is_comma _ c.in-Some.field-0 _ _ c.in-Some.is (c.in_ok-eat.ensures.eats g.B.Bodies.is_faithful) in
     let es = expr_trees (tree_at c.loop-exprs.p.nodes) c.loop-exprs.exprs in
-    let p = err_from_is_err_and c.from_residual-in_err-expr.result c.from_residual-in_err-expr.ensures.1 in rw (p.1, p.2)
+    m.passed c.from_residual-in_err-expr.ensures.1
     (behind_comma g.B.BodyForms.forms g.met.B.Bodies.lawful {a = c.parse_assignment_expr.new.p} first (Err _) c.in_ok-first.ensures.reads c.parse_assignment_expr.ensures.grows comma
-    (m.no (s.unheard_call (λ x p. Some (begun_if (begins_in_invalid (tree_of old first)) (start_at old first.0) p.0, p.1)) (λ x ts. refl) (s.unheard_after on (s.unheard_call (λ x p. run _ (seqs (trees_append es (cons p.0 nil))) x p.1) (λ x ts. assign.seqs_more_splits _ es x ts) c.in_err-expr.ensures.reads)))
+    (m.no (s.unheard_call (λ x p. Some (begun_if (begins_in_invalid (tree_of old first)) (start_at old first.0) p.0, p.1)) (λ x ts. refl) (s.unheard_after on (s.unheard_call _ (assign.seqs_more_splits _ es) c.in_err-expr.ensures.reads)))
     (grows-then c.loop-exprs.invariant.2 c.parse_assignment_expr-in-loop-exprs.ensures.grows)))
 
 pub parse_expr-returns-in_err-add-2 : goal.parse_expr-returns-in_err-add-2
 parse_expr-returns-in_err-add-2 g t c =
     let comma = s.eats_some g.B.Bodies.is_faithful is_comma _ c.in-Some.field-0 _ _ c.in-Some.is (c.in_ok-eat.ensures.eats g.B.Bodies.is_faithful) in
-    let p = err_from_is_err_and c.from_residual-in_err-add-2.result c.from_residual-in_err-add-2.ensures.1 in rw (p.1, p.2)
-    (m.no (s.unheard_memory (s.forgoes_later (s.leads_then (s.leads_then c.in_ok-first.ensures.reads.on.leads comma.on.leads) (s.leads_then c.loop-exprs.invariant.0.leads c.in_ok-expr.ensures.reads.on.leads)) (s.forgoes_here g.met.I.Tokens.laws _ _ _ c.in_err-add-2.ensures.refused)))
-    (grows-then c.parse_assignment_expr.ensures.grows (grows-then c.loop-exprs.invariant.2 c.parse_assignment_expr-in-loop-exprs.ensures.grows)))
+    m.refused c.from_residual-in_err-add-2.ensures.1
+    (s.unheard_memory (s.forgoes_later (s.leads_then (s.leads_then c.in_ok-first.ensures.reads.on.leads comma.on.leads) (s.leads_then c.loop-exprs.invariant.0.leads c.in_ok-expr.ensures.reads.on.leads)) (s.forgoes_here g.met.I.Tokens.laws _ _ _ c.in_err-add-2.ensures.refused)))
+    (grows-then c.parse_assignment_expr.ensures.grows (grows-then c.loop-exprs.invariant.2 c.parse_assignment_expr-in-loop-exprs.ensures.grows))
 
 pub parse_expr-returns-in_err-eat-2 : goal.parse_expr-returns-in_err-eat-2
 parse_expr-returns-in_err-eat-2 g t c =
@@ -1729,10 +1738,10 @@ parse_expr-returns-in_err-eat-2 g t c =
     let comma = s.eats_some g.B.Bodies.is_faithful is_comma _ c.in-Some.field-0 _ _ c.in-Some.is (c.in_ok-eat.ensures.eats g.B.Bodies.is_faithful) in
     let es = expr_trees (tree_at c.loop-exprs.p.nodes) c.loop-exprs.exprs in
     let more = trees_append es (cons (tree_of c.parse_assignment_expr-in-loop-exprs.new.p.nodes c.in_ok-expr.expr) nil) in
-    let p = err_from_is_err_and c.from_residual-in_err-eat-2.result c.from_residual-in_err-eat-2.ensures.1 in rw (p.1, p.2)
+    m.passed c.from_residual-in_err-eat-2.ensures.1
     (behind_comma g.B.BodyForms.forms g.met.B.Bodies.lawful {a = c.parse_assignment_expr.new.p} first (Err _) c.in_ok-first.ensures.reads c.parse_assignment_expr.ensures.grows comma
-    (m.no (s.unheard_call (λ x p. Some (begun_if (begins_in_invalid (tree_of old first)) (start_at old first.0) p.0, p.1)) (λ x ts. refl) (s.unheard_after on (s.unheard_after (s.on_call (λ x p. run _ (seqs (trees_append es (cons p.0 nil))) x p.1) (λ x ts. assign.seqs_more_splits _ es x ts) c.in_ok-expr.ensures.reads.on)
-    (s.unheard_call (λ x p. seqs_by _ more p.0 x p.1) (λ x ts. assign.seqs_splits _ more x ts) (c.in_err-eat-2.ensures.eats g.B.Bodies.is_faithful)))))
+    (m.no (s.unheard_call (λ x p. Some (begun_if (begins_in_invalid (tree_of old first)) (start_at old first.0) p.0, p.1)) (λ x ts. refl) (s.unheard_after on (s.unheard_after (s.on_call _ (assign.seqs_more_splits _ es) c.in_ok-expr.ensures.reads.on)
+    (s.unheard_call _ (assign.seqs_splits _ more) (c.in_err-eat-2.ensures.eats g.B.Bodies.is_faithful)))))
     (grows-then c.loop-exprs.invariant.2 c.parse_assignment_expr-in-loop-exprs.ensures.grows)))
 
 pub parse_expr-loop-exprs-preserved : goal.parse_expr-loop-exprs-preserved
@@ -1744,8 +1753,8 @@ parse_expr-loop-exprs-preserved g t c =
     let some = s.eats_some g.B.Bodies.is_faithful is_comma _ c.in-Some-2.field-0 _ _ c.in-Some-2.is (c.in_ok-eat-2.ensures.eats g.B.Bodies.is_faithful) in
     let added = ap (λ v. trees (map (λ e. tree_at nodes e.0) v)) c.in_ok-add-2.ensures.added ∙ exprs-more c.loop-exprs.exprs.items c.in_ok-expr.expr grows c.loop-exprs.invariant.3 in
     let parts = exprs-apart-more c.loop-exprs.exprs.items c.in_ok-expr.expr grows c.loop-exprs.invariant.3 c.in_ok-expr.ensures.from in (
-      s.on_then c.loop-exprs.invariant.0 (s.on_then (s.on_call (λ x p. run _ (seqs (trees_append es (cons p.0 nil))) x p.1) (λ x ts. assign.seqs_more_splits _ es x ts) c.in_ok-expr.ensures.reads.on)
-          (s.on_to (s.on_call (λ x p. seqs_by _ more p.0 x p.1) (λ x ts. assign.seqs_splits _ more x ts) some.on)
+      s.on_then c.loop-exprs.invariant.0 (s.on_then (s.on_call _ (assign.seqs_more_splits _ es) c.in_ok-expr.ensures.reads.on)
+          (s.on_to (s.on_call _ (assign.seqs_splits _ more) some.on)
           (λ x ts. ap (λ v. seqs_more g.B.BodyForms.forms v x ts) (sym added)))),
       let a = c.loop-exprs.invariant.1 in let b = c.in_ok-expr.ensures.falls in let d = c.in_ok-eat-2.ensures.falls in omega arith,
       grows-then c.loop-exprs.invariant.2 grows,
@@ -1780,8 +1789,8 @@ parse_expr-returns-in-None-2 g t c =
     c.made.ensures.ok c.made.ensures.refused (grows-then c.loop-exprs.invariant.2 grows) c.seq_expr-node.ensures.grows
     (s.heard_answer (ending.seq-begun old nodes first c.in_ok-expr.expr before xs (grows-then c.loop-exprs.invariant.2 grows) held c.loop-exprs.invariant.4 head c.in_ok-add-2.ensures.added)
     (s.heard_as (begun_if (begins_in_invalid (tree_of old first)) (start_at old first.0)) (λ x ts. refl)
-    (s.heard_after on (s.heard_more_read (λ x p. run _ (seqs (trees_append es (cons p.0 nil))) x p.1) (λ x ts. assign.seqs_more_splits _ es x ts) c.in_ok-expr.ensures.reads
-    (s.on_call (λ x p. seqs_by _ more p.0 x p.1) (λ x ts. assign.seqs_splits _ more x ts) none)
+    (s.heard_after on (s.heard_more_read _ (assign.seqs_more_splits _ es) c.in_ok-expr.ensures.reads
+    (s.on_call _ (assign.seqs_splits _ more) none)
     (λ x ts us h. ap seq_of (sym added) ∙ ending.seq-read old nodes first c.in_ok-expr.expr before xs (grows-then c.loop-exprs.invariant.2 grows) held c.loop-exprs.invariant.4 head c.in_ok-add-2.ensures.added
     (ending.ended _ g.met.B.Bodies.lawful c.in_ok-expr.expr Assign x ts us c.in_ok-expr.ensures.from h)))))))
 
@@ -1795,16 +1804,16 @@ parse_expr-seq_expr-node-requires-clause-apart g t c =
 
 pub parse_assignment_expr-returns-in_err-require_cur : goal.parse_assignment_expr-returns-in_err-require_cur
 parse_assignment_expr-returns-in_err-require_cur g t c =
-    let p = err_from_is_err_and c.from_residual.result c.from_residual.ensures.1 in rw (p.1, p.2)
-    (m.no (s.unheard_unfit g.met.I.Tokens.laws (λ x ts h. rule.assign_bad _ x ts h) c.in_err-require_cur.ensures.fits) (grows-same _))
+    m.refused c.from_residual.ensures.1
+    (s.unheard_unfit g.met.I.Tokens.laws (λ x ts h. rule.assign_bad _ x ts h) c.in_err-require_cur.ensures.fits) (grows-same _)
 
 pub parse_assignment_expr-returns-in_err-left : goal.parse_assignment_expr-returns-in_err-left
 parse_assignment_expr-returns-in_err-left g t c =
-    let p = err_from_is_err_and c.from_residual-in_err-left.result c.from_residual-in_err-left.ensures.1 in rw (p.1, p.2)
-    (m.no (s.unheard_after (s.on_seen {g = λ x ts. run _ (at (Level 1)) x ts >>= (λ p. run _ (assigns p.0) x p.1)} c.in_ok-require_cur.ensures.fits (λ x ts same e. assign.assign_splits _ x ts
+    m.refused c.from_residual-in_err-left.ensures.1
+    (s.unheard_after (s.on_seen {g = λ x ts. run _ (at (Level 1)) x ts >>= (λ p. run _ (assigns p.0) x p.1)} c.in_ok-require_cur.ensures.fits (λ x ts same e. assign.assign_splits _ x ts
     (ap (λ v. at_token is_yield v && x.context.in_generator) e ∙ ap (λ v. at_token is_yield (seen c.require_cur.new.input) && v.context.in_generator) same ∙ sym c.is_yield_operator.ensures.value ∙ c.if-not-is_yield_operator.true)
     (ap (at_token no_error) e ∙ c.in_ok-require_cur.ensures.token)))
-    (s.unheard_call (λ x p. run _ (assigns p.0) x p.1) (λ x ts. refl) c.in_err-left.ensures.reads)) c.parse_bin_expr.ensures.grows)
+    (s.unheard_call (λ x p. run _ (assigns p.0) x p.1) (λ x ts. refl) c.in_err-left.ensures.reads)) c.parse_bin_expr.ensures.grows
 
 pub parse_assignment_expr-returns-then-not-is_yield_operator : goal.parse_assignment_expr-returns-then-not-is_yield_operator
 parse_assignment_expr-returns-then-not-is_yield_operator g t c =
@@ -1822,16 +1831,16 @@ parse_assignment_expr-returns-in_err-refuse_yield_param g t c =
     (ap (λ v. at_token is_yield v && x.context.in_generator) e ∙ ap (λ v. at_token is_yield (seen c.require_cur.new.input) && v.context.in_generator) same ∙ sym c.is_yield_operator.ensures.value ∙ c.if-not-is_yield_operator.false)) in
     let first = c.skip.ensures.took.1 in
     let h = c.in_err-refuse_yield_param.ensures.refuses in
-    let p = err_from_is_err_and c.from_residual-in_err-refuse_yield_param.result c.from_residual-in_err-refuse_yield_param.ensures.1 in rw (p.1, p.2)
+    m.passed c.from_residual-in_err-refuse_yield_param.ensures.1
     (m.after {m = record c.args.p.now { input = c.require_cur.new.input }} (Err _) seen (grows-same _)
-    (m.no (s.unheard_after (s.on_took {g = yield_tail _ (plain first.was).span} g.met.I.Tokens.laws first (λ x ts. assign.yield_opens _ (plain first.was) x ts))
+    (m.no (s.unheard_after (s.on_took {g = yield_tail _ (plain first.was).span} g.met.I.Tokens.laws first (assign.yield_opens _ (plain first.was)))
     (record { refuses = h.0; none = λ n sure loud ts k. assign.yield_ill _ (plain first.was).span (scope g.I.Tokens.model c.skip.new.input) ts h.1 })) (grows-same _)))
 
 pub parse_assignment_expr-returns-in_err-goes_on_yield : goal.parse_assignment_expr-returns-in_err-goes_on_yield
 parse_assignment_expr-returns-in_err-goes_on_yield g t c =
     let seen = s.on_seen {g = yield_expr g.B.BodyForms.forms} c.in_ok-require_cur.ensures.fits (λ x ts same e. assign.yield_picked _ x ts
     (ap (λ v. at_token is_yield v && x.context.in_generator) e ∙ ap (λ v. at_token is_yield (seen c.require_cur.new.input) && v.context.in_generator) same ∙ sym c.is_yield_operator.ensures.value ∙ c.if-not-is_yield_operator.false)) in
-    let p = err_from_is_err_and c.from_residual-in_err-goes_on_yield.result c.from_residual-in_err-goes_on_yield.ensures.1 in rw (p.1, p.2)
+    m.passed c.from_residual-in_err-goes_on_yield.ensures.1
     (m.after {m = record c.args.p.now { input = c.require_cur.new.input }} (Err _) seen (grows-same _)
     (m.no (s.unheard_memory (s.forgoes_later (s.leads_then (s.took_leads g.met.I.Tokens.laws c.skip.ensures.took.1) (s.same_leads g.met.I.Tokens.laws c.in_ok-refuse_yield_param.ensures.passes.0)) c.in_err-goes_on_yield.ensures.looks)) (grows-same _)))
 
@@ -1859,7 +1868,7 @@ parse_assignment_expr-returns-in_err-star g t c =
     let start = c.cur_span-start.result in
     let place = s.place_was first c.cur_span-start.result c.cur_span-start.ensures in
     let same_at = s.leads_then (s.same_leads g.met.I.Tokens.laws c.in_ok-refuse_yield_param.ensures.passes.0) (s.here_leads c.in_ok-goes_on_yield.ensures.looks) in
-    let p = err_from_is_err_and c.from_residual-in_err-star.result c.from_residual-in_err-star.ensures.1 in rw (p.1, p.2)
+    m.passed c.from_residual-in_err-star.ensures.1
     (m.after {m = record c.args.p.now { input = c.require_cur.new.input }} (Err _) seen (grows-same _)
     (m.no (s.unheard_after
     (s.on_then (s.on_took {g = yield_tail _ start} g.met.I.Tokens.laws first (λ x ts. assign.yield_opens _ (plain first.was) x ts ∙ ap (λ v. yield_tail g.B.BodyForms.forms v x ts) (sym place)))
@@ -1867,7 +1876,7 @@ parse_assignment_expr-returns-in_err-star g t c =
     (s.on_seen {g = yield_operand _ start} c.in_ok-goes_on_yield.ensures.looks (λ x ts same e.
     assign.yield_well _ start x ts (ap (λ v. yield_ok v.context) (same ∙ s.read_scope g.met.I.Tokens.laws same_at.read) ∙ c.in_ok-refuse_yield_param.ensures.passes.1)
     ∙ assign.yield_goes _ start x ts (ap goes_on_yield_at e ∙ sym c.in_ok-goes_on_yield.ensures.value ∙ c.if-not-branch.false)))))
-    (s.unheard_call (λ x p. yield_arg _ start p.0 x p.1) (λ x ts. assign.yield_operand_splits _ start x ts) (c.in_err-star.ensures.eats g.B.Bodies.is_faithful))) (grows-same _)))
+    (s.unheard_call _ (assign.yield_operand_splits _ start) (c.in_err-star.ensures.eats g.B.Bodies.is_faithful))) (grows-same _)))
 
 pub parse_assignment_expr-returns-in-Ok : goal.parse_assignment_expr-returns-in-Ok
 parse_assignment_expr-returns-in-Ok g t c =
@@ -1890,7 +1899,7 @@ parse_assignment_expr-returns-in-Ok g t c =
     ∙ assign.yield_goes _ start x ts (ap goes_on_yield_at e ∙ sym c.in_ok-goes_on_yield.ensures.value ∙ c.if-not-branch.false)))))
     (grows-same _)
     (m.node _ c.yield_expr-node.result c.made-in-Ok.result c.in-Ok.ensures.from.above c.yield_expr-node.ensures.made c.made-in-Ok.ensures.ok c.made-in-Ok.ensures.refused c.parse_assignment_expr.ensures.grows c.yield_expr-node.ensures.grows
-    (s.heard_answer given (s.heard_after (s.on_call (λ x p. yield_arg _ start p.0 x p.1) (λ x ts. assign.yield_operand_splits _ start x ts) (s.eats_on g.B.Bodies.is_faithful is_star star _ _ (c.in_ok-star.ensures.eats g.B.Bodies.is_faithful)))
+    (s.heard_answer given (s.heard_after (s.on_call _ (assign.yield_operand_splits _ start) (s.eats_on g.B.Bodies.is_faithful is_star star _ _ (c.in_ok-star.ensures.eats g.B.Bodies.is_faithful)))
     (s.heard_call_read (λ x q. Some (yield_e (to start (span_of q.0)) (is_some star) q.0, q.1)) (λ x ts. refl)
     (λ x ts us h y ys. ap (λ v. Some (yield_e (from_to start.lo v) (is_some star) e, ys))
     (sym (ending.ended _ g.met.B.Bodies.lawful c.in-Ok.arg Assign x ts us c.in-Ok.ensures.from h))) c.in-Ok.ensures.reads)))))
@@ -1913,14 +1922,14 @@ parse_assignment_expr-returns-in-Err g t c =
     ∙ assign.yield_goes _ start x ts (ap goes_on_yield_at e ∙ sym c.in_ok-goes_on_yield.ensures.value ∙ c.if-not-branch.false)))))
     (grows-same _)
     (m.no (s.unheard_as c.label_yield.result c.label_yield.ensures.kind c.label_yield.ensures.memory
-    (s.unheard_after (s.on_call (λ x p. yield_arg _ start p.0 x p.1) (λ x ts. assign.yield_operand_splits _ start x ts) (s.eats_on g.B.Bodies.is_faithful is_star star _ _ (c.in_ok-star.ensures.eats g.B.Bodies.is_faithful)))
+    (s.unheard_after (s.on_call _ (assign.yield_operand_splits _ start) (s.eats_on g.B.Bodies.is_faithful is_star star _ _ (c.in_ok-star.ensures.eats g.B.Bodies.is_faithful)))
     (s.unheard_call (λ x q. Some (yield_e (to start (span_of q.0)) (is_some star) q.0, q.1)) (λ x ts. refl) c.in-Err.ensures.reads)))
     c.parse_assignment_expr.ensures.grows))
 
 pub finish_assignment_expr-returns-in_err-look : goal.finish_assignment_expr-returns-in_err-look
 finish_assignment_expr-returns-in_err-look g t c =
-    let p = err_from_is_err_and c.from_residual.result c.from_residual.ensures.1 in rw (p.1, p.2)
-    (m.no_more (s.unheard_memory c.in_err-look.ensures.looks) (grows-same _))
+    m.refused_more c.from_residual.ensures.1
+    (s.unheard_memory c.in_err-look.ensures.looks) (grows-same _)
 
 pub finish_assignment_expr-returns-in_err-cons : goal.finish_assignment_expr-returns-in_err-cons
 finish_assignment_expr-returns-in_err-cons g t c =
@@ -1928,12 +1937,12 @@ finish_assignment_expr-returns-in_err-cons g t c =
     let lo = start_at c.args.p.now.nodes c.args.left.0 in
     let middle = assign.in_middle g.I.Tokens.model g.B.Bodies.is_faithful _ _ c.get_ctx-ctx.result c.parse_assignment_expr-middle.result c.get_ctx-ctx.ensures c.set_ctx.ensures.moves
     (c.set_ctx.ensures.context ∙ c.cond_middle.ensures) c.parse_assignment_expr-middle.ensures.reads c.set_ctx-then-is_sign.ensures.moves c.set_ctx-then-is_sign.ensures.context in
-    let p = err_from_is_err_and c.from_residual-in_err-cons.result c.from_residual-in_err-cons.ensures.1 in rw (p.1, p.2)
-    (m.no_more (s.unheard_after (s.on_seen {g = behind (cond_tail _ lo l)} c.in_ok-look.ensures.looks (λ x ts same e. assign.from_question _ lo l x ts (ap (at_token is_question) e ∙ sym c.is_sign.ensures.value ∙ c.if-is_sign.true)))
+    m.refused_more c.from_residual-in_err-cons.ensures.1
+    (s.unheard_after (s.on_seen {g = behind (cond_tail _ lo l)} c.in_ok-look.ensures.looks (λ x ts same e. assign.from_question _ lo l x ts (ap (at_token is_question) e ∙ sym c.is_sign.ensures.value ∙ c.if-is_sign.true)))
     (s.unheard_after (s.on_took {g = cond_tail _ lo l} g.met.I.Tokens.laws c.skip.ensures.took.1 (λ x ts. refl))
-    (s.unheard_call (λ x p. cond_colon _ lo l p.0 x p.1) (λ x ts. assign.cond_tail_splits _ lo l x ts)
+    (s.unheard_call _ (assign.cond_tail_splits _ lo l)
     (s.parses_err g.I.Tokens.model g.B.Bodies.is_faithful (tree_of c.parse_assignment_expr-middle.new.p.nodes) (inside _) _ _ c.parse_assignment_expr-middle.result _ c.in_err-cons.was middle))))
-    c.parse_assignment_expr-middle.ensures.grows)
+    c.parse_assignment_expr-middle.ensures.grows
 
 pub finish_assignment_expr-returns-in_err-expect : goal.finish_assignment_expr-returns-in_err-expect
 finish_assignment_expr-returns-in_err-expect g t c =
@@ -1943,11 +1952,11 @@ finish_assignment_expr-returns-in_err-expect g t c =
     let middle = assign.in_middle g.I.Tokens.model g.B.Bodies.is_faithful _ _ c.get_ctx-ctx.result c.parse_assignment_expr-middle.result c.get_ctx-ctx.ensures c.set_ctx.ensures.moves
     (c.set_ctx.ensures.context ∙ c.cond_middle.ensures) c.parse_assignment_expr-middle.ensures.reads c.set_ctx-then-is_sign.ensures.moves c.set_ctx-then-is_sign.ensures.context in
     let read = s.parses_ok g.I.Tokens.model g.B.Bodies.is_faithful (tree_of c.parse_assignment_expr-middle.new.p.nodes) (inside _) _ _ c.parse_assignment_expr-middle.result c.in_ok-cons.cons c.in_ok-cons.was middle in
-    let p = err_from_is_err_and c.from_residual-in_err-expect.result c.from_residual-in_err-expect.ensures.1 in rw (p.1, p.2)
-    (m.no_more (s.unheard_after (s.on_seen {g = behind (cond_tail _ lo l)} c.in_ok-look.ensures.looks (λ x ts same e. assign.from_question _ lo l x ts (ap (at_token is_question) e ∙ sym c.is_sign.ensures.value ∙ c.if-is_sign.true)))
+    m.refused_more c.from_residual-in_err-expect.ensures.1
+    (s.unheard_after (s.on_seen {g = behind (cond_tail _ lo l)} c.in_ok-look.ensures.looks (λ x ts same e. assign.from_question _ lo l x ts (ap (at_token is_question) e ∙ sym c.is_sign.ensures.value ∙ c.if-is_sign.true)))
     (s.unheard_after (s.on_then (s.on_took {g = cond_tail _ lo l} g.met.I.Tokens.laws c.skip.ensures.took.1 (λ x ts. refl))
-    (s.on_call (λ x p. cond_colon _ lo l p.0 x p.1) (λ x ts. assign.cond_tail_splits _ lo l x ts) read.on))
-    (s.unheard_call (λ x q. cond_close _ lo l e x q.1) (λ x ts. refl) (c.in_err-expect.ensures.expects g.B.Bodies.is_faithful)))) c.parse_assignment_expr-middle.ensures.grows)
+    (s.on_call _ (assign.cond_tail_splits _ lo l) read.on))
+    (s.unheard_call (λ x q. cond_close _ lo l e x q.1) (λ x ts. refl) (c.in_err-expect.ensures.expects g.B.Bodies.is_faithful)))) c.parse_assignment_expr-middle.ensures.grows
 
 pub finish_assignment_expr-returns-in_err-alt : goal.finish_assignment_expr-returns-in_err-alt
 finish_assignment_expr-returns-in_err-alt g t c =
@@ -1960,14 +1969,14 @@ finish_assignment_expr-returns-in_err-alt g t c =
     let kept = (c.in_ok-expect.ensures.expects g.B.Bodies.is_faithful).on.leads.read.context ∙ c.set_ctx-then-is_sign.ensures.context in
     let last = assign.in_last g.I.Tokens.model g.B.Bodies.is_faithful _ _ c.get_ctx-ctx.result c.parse_assignment_expr-last.result (sym kept) c.set_ctx-then-is_sign-2.ensures.moves
     (c.set_ctx-then-is_sign-2.ensures.context ∙ c.cond_last.ensures) c.parse_assignment_expr-last.ensures.reads c.set_ctx-then-is_sign-3.ensures.moves c.set_ctx-then-is_sign-3.ensures.context in
-    let p = err_from_is_err_and c.from_residual-in_err-alt.result c.from_residual-in_err-alt.ensures.1 in rw (p.1, p.2)
-    (m.no_more (s.unheard_after (s.on_seen {g = behind (cond_tail _ lo l)} c.in_ok-look.ensures.looks (λ x ts same e. assign.from_question _ lo l x ts (ap (at_token is_question) e ∙ sym c.is_sign.ensures.value ∙ c.if-is_sign.true)))
+    m.refused_more c.from_residual-in_err-alt.ensures.1
+    (s.unheard_after (s.on_seen {g = behind (cond_tail _ lo l)} c.in_ok-look.ensures.looks (λ x ts same e. assign.from_question _ lo l x ts (ap (at_token is_question) e ∙ sym c.is_sign.ensures.value ∙ c.if-is_sign.true)))
     (s.unheard_after (s.on_then (s.on_then (s.on_took {g = cond_tail _ lo l} g.met.I.Tokens.laws c.skip.ensures.took.1 (λ x ts. refl))
-    (s.on_call (λ x p. cond_colon _ lo l p.0 x p.1) (λ x ts. assign.cond_tail_splits _ lo l x ts) read.on))
+    (s.on_call _ (assign.cond_tail_splits _ lo l) read.on))
     (s.on_call (λ x q. cond_close _ lo l e x q.1) (λ x ts. refl) (c.in_ok-expect.ensures.expects g.B.Bodies.is_faithful).on))
     (s.unheard_call (λ x q. Some (cond_e (from_to lo (span_of q.0).hi) l e q.0, q.1)) (λ x ts. refl)
     (s.parses_err g.I.Tokens.model g.B.Bodies.is_faithful (tree_of c.parse_assignment_expr-last.new.p.nodes) (run _ (at Assign)) _ _ c.parse_assignment_expr-last.result _ c.in_err-alt.was last))))
-    (grows-then c.parse_assignment_expr-middle.ensures.grows c.parse_assignment_expr-last.ensures.grows))
+    (grows-then c.parse_assignment_expr-middle.ensures.grows c.parse_assignment_expr-last.ensures.grows)
 
 pub finish_assignment_expr-set_ctx-requires-then-is_sign-2 : goal.finish_assignment_expr-set_ctx-requires-then-is_sign-2
 finish_assignment_expr-set_ctx-requires-then-is_sign-2 g t c =
@@ -2013,7 +2022,7 @@ finish_assignment_expr-returns-then-is_sign g t c =
     (m.weaker c.made.result
     (m.node _ c.cond_expr-node.result c.made.result (first_kept grows c.requires.from) c.cond_expr-node.ensures.made c.made.ensures.ok c.made.ensures.refused grows c.cond_expr-node.ensures.grows
     (s.heard_answer whole (s.heard_first g.met.I.Tokens.laws c.skip.ensures.took.1 (λ x ts. refl)
-    (s.on_then (s.on_call (λ x p. cond_colon _ lo l p.0 x p.1) (λ x ts. assign.cond_tail_splits _ lo l x ts) read.on)
+    (s.on_then (s.on_call _ (assign.cond_tail_splits _ lo l) read.on)
     (s.on_then (s.on_call (λ x q. cond_close _ lo l e x q.1) (λ x ts. refl) (c.in_ok-expect.ensures.expects g.B.Bodies.is_faithful).on)
     (s.on_call (λ x q. Some (cond_e (from_to lo (span_of q.0).hi) l e q.0, q.1)) (λ x ts. refl) read_last.on)))))))
 
@@ -2033,11 +2042,11 @@ finish_assignment_expr-returns-in_err-check_assign_target g t c =
     let lo = start_at c.args.p.now.nodes c.args.left.0 in
     let op = c.in-Some.op in
     let h = c.in_err-check_assign_target.ensures.refuses in
-    let p = err_from_is_err_and c.from_residual-in_err-check_assign_target.result c.from_residual-in_err-check_assign_target.ensures.1 in rw (p.1, p.2)
-    (m.no_more (s.unheard_after (s.on_seen {g = assign_expr _ op l} c.in_ok-look.ensures.looks (λ x ts same e.
+    m.refused_more c.from_residual-in_err-check_assign_target.ensures.1
+    (s.unheard_after (s.on_seen {g = assign_expr _ op l} c.in_ok-look.ensures.looks (λ x ts same e.
     assign.from_other _ lo l x ts (ap (at_token is_question) e ∙ sym c.is_sign.ensures.value ∙ c.if-is_sign.false)
     ∙ assign.assigns_assign _ op l x ts (ap (λ v. assign_at v l) e ∙ sym c.cur_assign_op.ensures.value ∙ c.in-Some.is)))
-    (record { refuses = h.0; none = λ n sure loud ts k. assign.assign_ill _ op l (scope g.I.Tokens.model c.look.new.input) ts (h.1 n) })) (grows-same _))
+    (record { refuses = h.0; none = λ n sure loud ts k. assign.assign_ill _ op l (scope g.I.Tokens.model c.look.new.input) ts (h.1 n) })) (grows-same _)
 
 pub finish_assignment_expr-returns-in_err-right : goal.finish_assignment_expr-returns-in_err-right
 finish_assignment_expr-returns-in_err-right g t c =
@@ -2045,14 +2054,14 @@ finish_assignment_expr-returns-in_err-right g t c =
     let lo = start_at c.args.p.now.nodes c.args.left.0 in
     let op = c.in-Some.op in
     let x0 = scope g.I.Tokens.model c.look.new.input in
-    let p = err_from_is_err_and c.from_residual-in_err-right.result c.from_residual-in_err-right.ensures.1 in rw (p.1, p.2)
-    (m.no_more (s.unheard_after (s.on_seen {g = assign_expr _ op l} c.in_ok-look.ensures.looks (λ x ts same e.
+    m.refused_more c.from_residual-in_err-right.ensures.1
+    (s.unheard_after (s.on_seen {g = assign_expr _ op l} c.in_ok-look.ensures.looks (λ x ts same e.
     assign.from_other _ lo l x ts (ap (at_token is_question) e ∙ sym c.is_sign.ensures.value ∙ c.if-is_sign.false)
     ∙ assign.assigns_assign _ op l x ts (ap (λ v. assign_at v l) e ∙ sym c.cur_assign_op.ensures.value ∙ c.in-Some.is)))
     (s.unheard_after (s.on_then (s.on_checked_in {g = behind (assign_tail _ op l)} (is_target x0.context.strict l) c.in_ok-check_assign_target.ensures.checks
     (λ ts h. assign.assign_well _ op l x0 ts h) (λ ts h. assign.assign_ill _ op l x0 ts h))
     (s.on_took {g = assign_tail _ op l} g.met.I.Tokens.laws c.skip-2.ensures.took.1 (λ x ts. refl)))
-    (s.unheard_call (λ x p. Some (assign_e (to (span_of l) (span_of p.0)) op l p.0, p.1)) (λ x ts. assign.assign_tail_splits _ op l x ts) c.in_err-right.ensures.reads))) c.parse_assignment_expr.ensures.grows)
+    (s.unheard_call _ (assign.assign_tail_splits _ op l) c.in_err-right.ensures.reads))) c.parse_assignment_expr.ensures.grows
 
 pub finish_assignment_expr-assign_expr-node-requires-clause-left : goal.finish_assignment_expr-assign_expr-node-requires-clause-left
 finish_assignment_expr-assign_expr-node-requires-clause-left g t c = from-later c.parse_assignment_expr.ensures.grows c.in_ok-check_assign_target.ensures.target
@@ -2078,7 +2087,7 @@ finish_assignment_expr-returns g t c =
     (s.heard_answer whole (s.heard_after (s.on_checked_in {g = behind (assign_tail _ op l)} (is_target x0.context.strict l) c.in_ok-check_assign_target.ensures.checks
     (λ ts h. assign.assign_well _ op l x0 ts h) (λ ts h. assign.assign_ill _ op l x0 ts h))
     (s.heard_first g.met.I.Tokens.laws c.skip-2.ensures.took.1 (λ x ts. refl)
-    (s.on_call_read {g = s.give (assign_e (from_to (span_of l).lo end) op l r)} (λ x p. Some (assign_e (to (span_of l) (span_of p.0)) op l p.0, p.1)) (λ x ts. assign.assign_tail_splits _ op l x ts) c.in_ok-right.ensures.reads.on
+    (s.on_call_read {g = s.give (assign_e (from_to (span_of l).lo end) op l r)} _ (assign.assign_tail_splits _ op l) c.in_ok-right.ensures.reads.on
     (λ x ts us h y ys. ap (λ v. Some (assign_e (from_to (span_of l).lo v) op l r, ys))
     (sym (ending.ended _ g.met.B.Bodies.lawful c.in_ok-right.right Assign x ts us c.in_ok-right.ensures.from h)))))))))
 
@@ -2086,41 +2095,41 @@ pub parse_prop_name-returns-in-Err : goal.parse_prop_name-returns-in-Err
 parse_prop_name-returns-in-Err g t c =
     entered.aside {q = record c.args.p.now { input = c.eat.new.input }}
     c.enter_prop_name-before.ensures.before c.enter_prop_name-before.ensures.moves c.enter_prop_name-before.ensures.context
-    (m.no (s.unheard_call (λ x p. key_by _ p.0 x p.1) (λ x ts. key.key_splits _ x ts) (c.in-Err.ensures.eats g.B.Bodies.is_faithful)) (grows-same _))
+    (m.no (s.unheard_call _ (key.key_splits _) (c.in-Err.ensures.eats g.B.Bodies.is_faithful)) (grows-same _))
     c.set_ctx.ensures.moves c.set_ctx.ensures.context
 
 pub parse_prop_name-returns-in-Err-2 : goal.parse_prop_name-returns-in-Err-2
 parse_prop_name-returns-in-Err-2 g t c =
     let inner = assign_within g.B.BodyForms.forms c.include_in-before.ensures.before c.include_in-before.ensures.moves c.include_in-before.ensures.context c.parse_assignment_expr-read.ensures c.in-Err-2.ensures.answer c.in-Err-2.ensures.moves c.in-Err-2.ensures.context in
-    let some = s.on_call (λ x p. key_by g.B.BodyForms.forms p.0 x p.1) (λ x ts. key.key_splits _ x ts)
+    let some = s.on_call _ (key.key_splits g.B.BodyForms.forms)
     (s.eats_some g.B.Bodies.is_faithful is_lbracket _ c.in-Some.start _ _ c.in-Some.is (c.in-Ok.ensures.eats g.B.Bodies.is_faithful)).on in
     entered.aside {q = record c.parse_assignment_expr-read.new.p { input = c.leave.new.input }}
     c.enter_prop_name-before.ensures.before c.enter_prop_name-before.ensures.moves c.enter_prop_name-before.ensures.context
     (m.no (s.unheard_after some
-    (s.unheard_call (λ x p. key_close c.in-Some.start p.0 x p.1) (λ x ts. key.computed_key_splits _ c.in-Some.start x ts) inner.reads)) inner.grows)
+    (s.unheard_call _ (key.computed_key_splits _ c.in-Some.start) inner.reads)) inner.grows)
     c.set_ctx-in-Err-2.ensures.moves c.set_ctx-in-Err-2.ensures.context
 
 pub parse_prop_name-returns-in-Ok-2 : goal.parse_prop_name-returns-in-Ok-2
 parse_prop_name-returns-in-Ok-2 g t c =
     let inner = assign_within g.B.BodyForms.forms {o = Ok c.in-Ok-2.value} c.include_in-before.ensures.before c.include_in-before.ensures.moves c.include_in-before.ensures.context c.parse_assignment_expr-read.ensures c.in-Ok-2.ensures.answer c.in-Ok-2.ensures.moves c.in-Ok-2.ensures.context in
-    let some = s.on_call (λ x p. key_by g.B.BodyForms.forms p.0 x p.1) (λ x ts. key.key_splits _ x ts)
+    let some = s.on_call _ (key.key_splits g.B.BodyForms.forms)
     (s.eats_some g.B.Bodies.is_faithful is_lbracket _ c.in-Some.start _ _ c.in-Some.is (c.in-Ok.ensures.eats g.B.Bodies.is_faithful)).on in
     entered.aside {q = c.computed_prop_name-key.new.p}
     c.enter_prop_name-before.ensures.before c.enter_prop_name-before.ensures.moves c.enter_prop_name-before.ensures.context
     (m.after_held c.computed_prop_name-key.result
     (s.on_then some
-    (s.on_call (λ x p. key_close c.in-Some.start p.0 x p.1) (λ x ts. key.computed_key_splits _ c.in-Some.start x ts) inner.reads.on))
+    (s.on_call _ (key.computed_key_splits _ c.in-Some.start) inner.reads.on))
     inner.grows (λ x. apart-lower (key_parts x) inner.from.above) c.computed_prop_name-key.ensures)
     c.set_ctx-in-Some.ensures.moves c.set_ctx-in-Some.ensures.context
 
 pub parse_prop_name-returns-in-None : goal.parse_prop_name-returns-in-None
 parse_prop_name-returns-in-None g t c =
-    entered.aside {q = c.parse_plain_prop_name-key.new.p}
+    entered.aside {q = record c.args.p.now { input = c.parse_plain_prop_name-key.new.input }}
     c.enter_prop_name-before.ensures.before c.enter_prop_name-before.ensures.moves c.enter_prop_name-before.ensures.context
     (m.after c.parse_plain_prop_name-key.result
-    (s.on_call (λ x p. key_by _ p.0 x p.1) (λ x ts. key.key_splits _ x ts)
+    (s.on_call _ (key.key_splits _)
     (s.eats_none g.B.Bodies.is_faithful is_lbracket _ _ _ c.in-None.is (c.in-Ok.ensures.eats g.B.Bodies.is_faithful)))
-    (grows-same _) c.parse_plain_prop_name-key.ensures)
+    (grows-same _) (key.plain_key_produces c.parse_plain_prop_name-key.result (c.parse_plain_prop_name-key.ensures.parses g.B.Bodies.is_faithful) c.parse_plain_prop_name-key.ensures.parts))
     c.set_ctx-in-None.ensures.moves c.set_ctx-in-None.ensures.context
 
 pub parse_prop_name-set_ctx-requires : goal.parse_prop_name-set_ctx-requires
@@ -2145,7 +2154,7 @@ parse_prop_name-set_ctx-requires-in-Some g t c =
 pub parse_prop_name-set_ctx-requires-in-None : goal.parse_prop_name-set_ctx-requires-in-None
 parse_prop_name-set_ctx-requires-in-None g t c =
     c.enter_prop_name-before.ensures.«module» ∙ sym (ap (λ x. x.«module»)
-    (key.parses_context g.I.Tokens.model g.B.Bodies.is_faithful _ _ _ _ c.parse_plain_prop_name-key.result c.parse_plain_prop_name-key.ensures.reads
+    (key.parses_context g.I.Tokens.model g.B.Bodies.is_faithful _ _ _ _ c.parse_plain_prop_name-key.result (c.parse_plain_prop_name-key.ensures.parses g.B.Bodies.is_faithful)
     ∙ (s.eats_none g.B.Bodies.is_faithful is_lbracket _ _ _ c.in-None.is (c.in-Ok.ensures.eats g.B.Bodies.is_faithful)).leads.read.context))
 
 pub parse_tpl_elements-loop-value-init : goal.parse_tpl_elements-loop-value-init
@@ -2164,18 +2173,18 @@ parse_tpl_elements-loop-value-preserved g t c =
     let texts = trees (map quasi_tree c.loop-value.quasis.items) in
     let exprs = trees (map (tree_of c.loop-value.p.nodes) c.loop-value.exprs.items) in
     let now = trees_append texts (cons (quasi_tree c.in-Ok.value) nil) in
-    let element = s.on_call (λ x p. parts_after g.B.BodyForms.forms c.args.is_tagged (trees_append texts (cons p.0 nil)) exprs x p.1) (λ x ts. tpl.behind_splits _ c.args.is_tagged texts exprs x ts) (c.in-Ok.ensures.parses g.B.Bodies.is_faithful).on in
+    let element = s.on_call _ (tpl.behind_splits g.B.BodyForms.forms c.args.is_tagged texts exprs) (c.in-Ok.ensures.parses g.B.Bodies.is_faithful).on in
     let opened = s.on_call (λ x p. parts_by g.B.BodyForms.forms c.args.is_tagged now exprs p.0 x p.1) (λ x ts. refl) (s.on_answer c.in-None.is (c.in-Ok-eat_tpl_end.ensures.ends g.B.Bodies.is_faithful).on) in
     let added = ap (λ v. trees (map quasi_tree v)) c.in-Ok-add.ensures.added ∙ trees-more quasi_tree c.loop-value.quasis.items c.in-Ok.value in
-    let grows = grows-then (grows-kept c.parse_tpl_element.ensures.nodes) inner.grows in
+    let grows = inner.grows in
     let nodes = c.parse_expr-read.new.p.nodes in
     let more = ap (λ v. trees (map (tree_of nodes) v)) c.in-Ok-add-2.ensures.added ∙ exprs-more c.loop-value.exprs.items c.in-Ok-2.value grows c.loop-value.invariant.3 in
-    let parts = exprs-apart-more c.loop-value.exprs.items c.in-Ok-2.value grows c.loop-value.invariant.3 (from-down (grows-count (grows-kept c.parse_tpl_element.ensures.nodes)) inner.from) in (
+    let parts = exprs-apart-more c.loop-value.exprs.items c.in-Ok-2.value grows c.loop-value.invariant.3 inner.from in (
       entered.further c.loop-value.invariant.0 (s.on_then element (s.on_then opened
           (s.on_to (s.on_call (λ x p. parts_behind g.B.BodyForms.forms c.args.is_tagged now (trees_append exprs (cons p.0 nil)) x p.1) (λ x ts. refl)
           (s.on_then (s.on_call (λ x p. tpl_expr_close g.B.BodyForms.forms p.0 x p.1) (λ x ts. refl) inner.reads.on)
           (s.on_call (λ x q. Some (tree_of nodes c.in-Ok-2.value, q.1)) (λ x ts. refl) (c.in-Ok-expect.ensures.expects g.B.Bodies.is_faithful).on)))
-          (λ x ts. tpl.behind_same g.B.BodyForms.forms c.args.is_tagged (sym added) (sym more) x ts)))),
+          (tpl.behind_same g.B.BodyForms.forms c.args.is_tagged (sym added) (sym more))))),
       let a = c.loop-value.invariant.1 in let b = c.in-Ok.ensures.falls in let d = c.in-Ok-eat_tpl_end.ensures.falls in let e = inner.falls in let f = c.in-Ok-expect.ensures.falls in omega arith,
       grows-then c.loop-value.invariant.2 grows,
       record { chained = ap (λ v. chain (seat_at nodes) (count c.args.p.now.nodes) (flat one_expr v) (count nodes)) c.in-Ok-add-2.ensures.added ∙ parts.chained },
@@ -2185,18 +2194,18 @@ pub parse_tpl_elements-returns-in-Err : goal.parse_tpl_elements-returns-in-Err
 parse_tpl_elements-returns-in-Err g t c =
     let texts = trees (map quasi_tree c.loop-value.quasis.items) in
     let exprs = trees (map (tree_of c.loop-value.p.nodes) c.loop-value.exprs.items) in
-    entered.left {q = c.parse_tpl_element.new.p}
+    entered.left {q = record c.loop-value.p { input = c.parse_tpl_element.new.input }}
     c.enter_tpl-before.ensures.before c.loop-value.invariant.0
-    (m.no (s.unheard_after c.loop-value.invariant.0.on (s.unheard_call (λ x p. parts_after g.B.BodyForms.forms c.args.is_tagged (trees_append texts (cons p.0 nil)) exprs x p.1) (λ x ts. tpl.behind_splits _ c.args.is_tagged texts exprs x ts) (c.in-Err.ensures.parses g.B.Bodies.is_faithful)))
-    (grows-then c.loop-value.invariant.2 (grows-kept c.parse_tpl_element.ensures.nodes)))
+    (m.no (s.unheard_after c.loop-value.invariant.0.on (s.unheard_call _ (tpl.behind_splits g.B.BodyForms.forms c.args.is_tagged texts exprs) (c.in-Err.ensures.parses g.B.Bodies.is_faithful)))
+    c.loop-value.invariant.2)
     c.set_ctx.ensures.moves c.set_ctx.ensures.context
 
 pub parse_tpl_elements-returns-in-Err-add : goal.parse_tpl_elements-returns-in-Err-add
 parse_tpl_elements-returns-in-Err-add g t c =
-    entered.left {q = c.parse_tpl_element.new.p}
+    entered.left {q = record c.loop-value.p { input = c.parse_tpl_element.new.input }}
     c.enter_tpl-before.ensures.before c.loop-value.invariant.0
     (m.no (s.unheard_memory (s.forgoes_later (s.leads_then c.loop-value.invariant.0.on.leads (c.in-Ok.ensures.parses g.B.Bodies.is_faithful).on.leads) (s.forgoes_here g.met.I.Tokens.laws _ _ _ c.in-Err-add.ensures.refused)))
-    (grows-then c.loop-value.invariant.2 (grows-kept c.parse_tpl_element.ensures.nodes)))
+    c.loop-value.invariant.2)
     c.set_ctx-in-Err-add.ensures.moves c.set_ctx-in-Err-add.ensures.context
 
 pub parse_tpl_elements-returns-in-Err-eat_tpl_end : goal.parse_tpl_elements-returns-in-Err-eat_tpl_end
@@ -2204,11 +2213,11 @@ parse_tpl_elements-returns-in-Err-eat_tpl_end g t c =
     let texts = trees (map quasi_tree c.loop-value.quasis.items) in
     let exprs = trees (map (tree_of c.loop-value.p.nodes) c.loop-value.exprs.items) in
     let now = trees_append texts (cons (quasi_tree c.in-Ok.value) nil) in
-    let element = s.on_call (λ x p. parts_after g.B.BodyForms.forms c.args.is_tagged (trees_append texts (cons p.0 nil)) exprs x p.1) (λ x ts. tpl.behind_splits _ c.args.is_tagged texts exprs x ts) (c.in-Ok.ensures.parses g.B.Bodies.is_faithful).on in
-    entered.left {q = record c.parse_tpl_element.new.p { input = c.eat_tpl_end.new.input }}
+    let element = s.on_call _ (tpl.behind_splits g.B.BodyForms.forms c.args.is_tagged texts exprs) (c.in-Ok.ensures.parses g.B.Bodies.is_faithful).on in
+    entered.left {q = record c.loop-value.p { input = c.eat_tpl_end.new.input }}
     c.enter_tpl-before.ensures.before c.loop-value.invariant.0
     (m.no (s.unheard_after c.loop-value.invariant.0.on (s.unheard_after element (s.unheard_call (λ x p. parts_by g.B.BodyForms.forms c.args.is_tagged now exprs p.0 x p.1) (λ x ts. refl) (c.in-Err-eat_tpl_end.ensures.ends g.B.Bodies.is_faithful))))
-    (grows-then c.loop-value.invariant.2 (grows-kept c.parse_tpl_element.ensures.nodes)))
+    c.loop-value.invariant.2)
     c.set_ctx-in-Err-eat_tpl_end.ensures.moves c.set_ctx-in-Err-eat_tpl_end.ensures.context
 
 pub parse_tpl_elements-returns-in-Some : goal.parse_tpl_elements-returns-in-Some
@@ -2216,17 +2225,15 @@ parse_tpl_elements-returns-in-Some g t c =
     let texts = trees (map quasi_tree c.loop-value.quasis.items) in
     let exprs = trees (map (tree_of c.loop-value.p.nodes) c.loop-value.exprs.items) in
     let now = trees_append texts (cons (quasi_tree c.in-Ok.value) nil) in
-    let element = s.on_call (λ x p. parts_after g.B.BodyForms.forms c.args.is_tagged (trees_append texts (cons p.0 nil)) exprs x p.1) (λ x ts. tpl.behind_splits _ c.args.is_tagged texts exprs x ts) (c.in-Ok.ensures.parses g.B.Bodies.is_faithful).on in
+    let element = s.on_call _ (tpl.behind_splits g.B.BodyForms.forms c.args.is_tagged texts exprs) (c.in-Ok.ensures.parses g.B.Bodies.is_faithful).on in
     let added = ap (λ v. trees (map quasi_tree v)) c.in-Ok-add.ensures.added ∙ trees-more quasi_tree c.loop-value.quasis.items c.in-Ok.value in
-    let kept = grows-kept c.parse_tpl_element.ensures.nodes in
     let some = s.heard_answer c.in-Some.is (c.in-Ok-eat_tpl_end.ensures.ends g.B.Bodies.is_faithful) in
-    let whole = ap (λ v. parts_e c.in-Some.end v exprs) (sym added)
-    ∙ ap (λ v. parts_e c.in-Some.end (trees (map quasi_tree c.add.new.list.items)) v) (sym (exprs-later c.loop-value.exprs.items kept c.loop-value.invariant.3)) in
-    entered.left {q = record c.parse_tpl_element.new.p { input = c.eat_tpl_end.new.input }}
+    let whole = ap (λ v. parts_e c.in-Some.end v exprs) (sym added) in
+    entered.left {q = record c.loop-value.p { input = c.eat_tpl_end.new.input }}
     c.enter_tpl-before.ensures.before c.loop-value.invariant.0
     (m.yes (Ok _)
     (s.heard_answer whole (s.heard_after c.loop-value.invariant.0.on (s.heard_after element (s.heard_call (λ x p. parts_by g.B.BodyForms.forms c.args.is_tagged now exprs p.0 x p.1) (λ x ts. refl) (λ x ts. refl) some))))
-    (grows-then c.loop-value.invariant.2 kept) (apart-later kept c.loop-value.invariant.3))
+    c.loop-value.invariant.2 c.loop-value.invariant.3)
     c.set_ctx-in-Some.ensures.moves c.set_ctx-in-Some.ensures.context
 
 pub parse_tpl_elements-returns-in-Err-2 : goal.parse_tpl_elements-returns-in-Err-2
@@ -2235,14 +2242,14 @@ parse_tpl_elements-returns-in-Err-2 g t c =
     let texts = trees (map quasi_tree c.loop-value.quasis.items) in
     let exprs = trees (map (tree_of c.loop-value.p.nodes) c.loop-value.exprs.items) in
     let now = trees_append texts (cons (quasi_tree c.in-Ok.value) nil) in
-    let element = s.on_call (λ x p. parts_after g.B.BodyForms.forms c.args.is_tagged (trees_append texts (cons p.0 nil)) exprs x p.1) (λ x ts. tpl.behind_splits _ c.args.is_tagged texts exprs x ts) (c.in-Ok.ensures.parses g.B.Bodies.is_faithful).on in
+    let element = s.on_call _ (tpl.behind_splits g.B.BodyForms.forms c.args.is_tagged texts exprs) (c.in-Ok.ensures.parses g.B.Bodies.is_faithful).on in
     let opened = s.on_call (λ x p. parts_by g.B.BodyForms.forms c.args.is_tagged now exprs p.0 x p.1) (λ x ts. refl) (s.on_answer c.in-None.is (c.in-Ok-eat_tpl_end.ensures.ends g.B.Bodies.is_faithful).on) in
     entered.left {q = record c.parse_expr-read.new.p { input = c.leave.new.input }}
     c.enter_tpl-before.ensures.before c.loop-value.invariant.0
     (m.no (s.unheard_after c.loop-value.invariant.0.on (s.unheard_after element (s.unheard_after opened
     (s.unheard_call (λ x p. parts_behind g.B.BodyForms.forms c.args.is_tagged now (trees_append exprs (cons p.0 nil)) x p.1) (λ x ts. refl)
     (s.unheard_call (λ x p. tpl_expr_close g.B.BodyForms.forms p.0 x p.1) (λ x ts. refl) inner.reads)))))
-    (grows-then c.loop-value.invariant.2 (grows-then (grows-kept c.parse_tpl_element.ensures.nodes) inner.grows)))
+    (grows-then c.loop-value.invariant.2 inner.grows))
     c.set_ctx-in-Err-2.ensures.moves c.set_ctx-in-Err-2.ensures.context
 
 pub parse_tpl_elements-returns-in-Err-expect : goal.parse_tpl_elements-returns-in-Err-expect
@@ -2251,7 +2258,7 @@ parse_tpl_elements-returns-in-Err-expect g t c =
     let texts = trees (map quasi_tree c.loop-value.quasis.items) in
     let exprs = trees (map (tree_of c.loop-value.p.nodes) c.loop-value.exprs.items) in
     let now = trees_append texts (cons (quasi_tree c.in-Ok.value) nil) in
-    let element = s.on_call (λ x p. parts_after g.B.BodyForms.forms c.args.is_tagged (trees_append texts (cons p.0 nil)) exprs x p.1) (λ x ts. tpl.behind_splits _ c.args.is_tagged texts exprs x ts) (c.in-Ok.ensures.parses g.B.Bodies.is_faithful).on in
+    let element = s.on_call _ (tpl.behind_splits g.B.BodyForms.forms c.args.is_tagged texts exprs) (c.in-Ok.ensures.parses g.B.Bodies.is_faithful).on in
     let opened = s.on_call (λ x p. parts_by g.B.BodyForms.forms c.args.is_tagged now exprs p.0 x p.1) (λ x ts. refl) (s.on_answer c.in-None.is (c.in-Ok-eat_tpl_end.ensures.ends g.B.Bodies.is_faithful).on) in
     let e = tree_of c.parse_expr-read.new.p.nodes c.in-Ok-2.value in
     entered.left {q = record c.parse_expr-read.new.p { input = c.expect.new.input }}
@@ -2260,7 +2267,7 @@ parse_tpl_elements-returns-in-Err-expect g t c =
     (s.unheard_call (λ x p. parts_behind g.B.BodyForms.forms c.args.is_tagged now (trees_append exprs (cons p.0 nil)) x p.1) (λ x ts. refl)
     (s.unheard_after (s.on_call (λ x p. tpl_expr_close g.B.BodyForms.forms p.0 x p.1) (λ x ts. refl) inner.reads.on)
     (s.unheard_call (λ x q. Some (e, q.1)) (λ x ts. refl) (c.in-Err-expect.ensures.expects g.B.Bodies.is_faithful)))))))
-    (grows-then c.loop-value.invariant.2 (grows-then (grows-kept c.parse_tpl_element.ensures.nodes) inner.grows)))
+    (grows-then c.loop-value.invariant.2 inner.grows))
     c.set_ctx-in-Err-expect.ensures.moves c.set_ctx-in-Err-expect.ensures.context
 
 pub parse_tpl_elements-returns-in-Err-add-2 : goal.parse_tpl_elements-returns-in-Err-add-2
@@ -2271,18 +2278,18 @@ parse_tpl_elements-returns-in-Err-add-2 g t c =
     (m.no (s.unheard_memory (s.forgoes_later (s.leads_then c.loop-value.invariant.0.on.leads (s.leads_then (c.in-Ok.ensures.parses g.B.Bodies.is_faithful).on.leads (s.leads_then (c.in-Ok-eat_tpl_end.ensures.ends g.B.Bodies.is_faithful).on.leads
     (s.leads_then inner.reads.on.leads (c.in-Ok-expect.ensures.expects g.B.Bodies.is_faithful).on.leads))))
     (s.forgoes_here g.met.I.Tokens.laws _ _ _ c.in-Err-add-2.ensures.refused)))
-    (grows-then c.loop-value.invariant.2 (grows-then (grows-kept c.parse_tpl_element.ensures.nodes) inner.grows)))
+    (grows-then c.loop-value.invariant.2 inner.grows))
     c.set_ctx-in-Err-add-2.ensures.moves c.set_ctx-in-Err-add-2.ensures.context
 
 pub parse_tpl_elements-set_ctx-requires : goal.parse_tpl_elements-set_ctx-requires
 parse_tpl_elements-set_ctx-requires g t c =
-    entered.text c.parse_tpl_element.new.p.input (λ x. refl)
+    entered.text c.parse_tpl_element.new.input (λ x. refl)
     c.enter_tpl-before.ensures.before c.loop-value.invariant.0
     ((c.in-Err.ensures.parses g.B.Bodies.is_faithful).refuses.spends.read.context)
 
 pub parse_tpl_elements-set_ctx-requires-in-Err-add : goal.parse_tpl_elements-set_ctx-requires-in-Err-add
 parse_tpl_elements-set_ctx-requires-in-Err-add g t c =
-    entered.text c.parse_tpl_element.new.p.input (λ x. refl)
+    entered.text c.parse_tpl_element.new.input (λ x. refl)
     c.enter_tpl-before.ensures.before c.loop-value.invariant.0
     ((c.in-Ok.ensures.parses g.B.Bodies.is_faithful).on.leads.read.context)
 
@@ -2321,3 +2328,618 @@ parse_tpl_elements-set_ctx-requires-in-Err-add-2 g t c =
     c.enter_tpl-before.ensures.before c.loop-value.invariant.0
     ((c.in-Ok-expect.ensures.expects g.B.Bodies.is_faithful).on.leads.read.context
     ∙ inner.reads.on.leads.read.context ∙ (c.in-Ok-eat_tpl_end.ensures.ends g.B.Bodies.is_faithful).on.leads.read.context ∙ (c.in-Ok.ensures.parses g.B.Bodies.is_faithful).on.leads.read.context)
+
+pub parse_object_pat_prop-returns-in_err-dots : goal.parse_object_pat_prop-returns-in_err-dots
+parse_object_pat_prop-returns-in_err-dots g t c =
+    m.refused c.from_residual.ensures.1 (pat_prop.dots_refused _ (c.in_err-dots.ensures.eats _)) (grows-same _)
+
+pub parse_object_pat_prop-returns-in_err-arg-in-Some : goal.parse_object_pat_prop-returns-in_err-arg-in-Some
+parse_object_pat_prop-returns-in_err-arg-in-Some g t c =
+    m.refused c.from_residual-in_err-arg-in-Some.ensures.1
+    (pat_prop.rest_refused _ c.in-Some.is (c.in_ok-dots.ensures.eats _) c.in_err-arg-in-Some.ensures.reads)
+    c.parse_pat.ensures.grows
+
+pub parse_object_pat_prop-returns-in-Some : goal.parse_object_pat_prop-returns-in-Some
+parse_object_pat_prop-returns-in-Some g t c =
+    m.yes (Ok _)
+    (s.heard_answer (sym c.rest_pat_prop.ensures.tree)
+    (pat_prop.rest_read _ c.in-Some.is (c.in_ok-dots.ensures.eats _) c.in_ok-arg-in-Some.ensures.reads))
+    c.parse_pat.ensures.grows
+    (pat_node.rest_made c.rest_pat_prop.result c.in_ok-arg-in-Some.arg c.rest_pat_prop.ensures.parts
+    c.in_ok-arg-in-Some.ensures.from)
+
+pub parse_object_pat_prop-returns-in_err-key : goal.parse_object_pat_prop-returns-in_err-key
+parse_object_pat_prop-returns-in_err-key g t c =
+    m.refused c.from_residual-in_err-key.ensures.1
+    (pat_prop.key_refused _ c.in-None.is (c.in_ok-dots.ensures.eats _) c.in_err-key.ensures.reads)
+    c.parse_prop_name.ensures.grows
+
+pub parse_object_pat_prop-returns-in_err-key-2 : goal.parse_object_pat_prop-returns-in_err-key-2
+parse_object_pat_prop-returns-in_err-key-2 g t c =
+    let named = pat_prop.key_read _ c.in-None.is (c.in_ok-dots.ensures.eats _) c.in_ok-key.ensures.reads in
+    m.refused c.from_residual-in_err-key-2.ensures.1
+    (pat_prop.behind_refused _ (tree_of c.parse_prop_name.new.p.nodes) c.in_ok-key.key named (c.in_err-key-2.ensures.after _))
+    c.parse_prop_name.ensures.grows
+
+pub parse_object_pat_prop-returns-in_err-value-in-Value : goal.parse_object_pat_prop-returns-in_err-value-in-Value
+parse_object_pat_prop-returns-in_err-value-in-Value g t c =
+    let named = pat_prop.key_read _ c.in-None.is (c.in_ok-dots.ensures.eats _) c.in_ok-key.ensures.reads in
+    m.refused c.from_residual-in_err-value-in-Value.ensures.1
+    (pat_prop.value_refused _ (tree_of c.parse_prop_name.new.p.nodes) c.in_ok-key.key named c.in-Value.key c.in-Value.is
+    (c.in_ok-key-2.ensures.after _) c.in_err-value-in-Value.ensures.reads)
+    (grows-then c.parse_prop_name.ensures.grows c.parse_binding_element.ensures.grows)
+
+pub parse_object_pat_prop-returns-in_ok-value-in-Value : goal.parse_object_pat_prop-returns-in_ok-value-in-Value
+parse_object_pat_prop-returns-in_ok-value-in-Value g t c =
+    let key = c.in_ok-key.key in
+    let named = pat_prop.key_read _ c.in-None.is (c.in_ok-dots.ensures.eats _) c.in_ok-key.ensures.reads in
+    let made = pat_node.value_made key c.in-Value.key c.in_ok-value-in-Value.value c.key_pat_prop.result
+    (pat_node.same_key _ key c.in-Value.key c.in-Value.is c.in_ok-key-2.ensures.kept)
+    c.key_pat_prop.ensures.tree c.key_pat_prop.ensures.parts c.parse_binding_element.ensures.grows
+    c.in_ok-key.ensures.from c.in_ok-value-in-Value.ensures.from in
+    m.yes (Ok _)
+    (s.heard_answer made.0
+    (pat_prop.value_read _ (tree_of c.parse_prop_name.new.p.nodes) key named c.in-Value.key c.in-Value.is
+    (c.in_ok-key-2.ensures.after _) c.in_ok-value-in-Value.ensures.reads))
+    (grows-then c.parse_prop_name.ensures.grows c.parse_binding_element.ensures.grows) made.1
+
+pub parse_object_pat_prop-returns-in_err-value-in-Default : goal.parse_object_pat_prop-returns-in_err-value-in-Default
+parse_object_pat_prop-returns-in_err-value-in-Default g t c =
+    let inner = assign_within g.B.BodyForms.forms c.include_in-before.ensures.before c.include_in-before.ensures.moves c.include_in-before.ensures.context c.parse_assignment_expr-read.ensures c.in_err-value-in-Default.ensures.answer c.in_err-value-in-Default.ensures.moves c.in_err-value-in-Default.ensures.context in
+    let named = pat_prop.key_read _ c.in-None.is (c.in_ok-dots.ensures.eats _) c.in_ok-key.ensures.reads in
+    m.refused c.from_residual-in_err-value-in-Default.ensures.1
+    (pat_prop.default_refused _ (tree_of c.parse_prop_name.new.p.nodes) c.in_ok-key.key named c.in-Default.name
+    c.in-Default.is (c.in_ok-key-2.ensures.after _) inner.reads)
+    (grows-then c.parse_prop_name.ensures.grows inner.grows)
+
+pub parse_object_pat_prop-returns-in_ok-value-in-Default : goal.parse_object_pat_prop-returns-in_ok-value-in-Default
+parse_object_pat_prop-returns-in_ok-value-in-Default g t c =
+    let value = c.in_ok-value-in-Default.value in
+    let inner = assign_within g.B.BodyForms.forms {o = Ok value} c.include_in-before.ensures.before c.include_in-before.ensures.moves c.include_in-before.ensures.context c.parse_assignment_expr-read.ensures c.in_ok-value-in-Default.ensures.answer c.in_ok-value-in-Default.ensures.moves c.in_ok-value-in-Default.ensures.context in
+    let ns = c.parse_prop_name.new.p.nodes in
+    let named = pat_prop.key_read _ c.in-None.is (c.in_ok-dots.ensures.eats _) c.in_ok-key.ensures.reads in
+    let equals = pat_prop.behind_read _ (tree_of ns) c.in_ok-key.key named _ c.in-Default.is (c.in_ok-key-2.ensures.after _) in
+    m.yes (Ok _)
+    (pat_node.default_read _ g.met.B.Bodies.lawful (key_at ns c.in_ok-key.key) c.in-Default.name value
+    c.default_pat_prop.result equals inner c.default_pat_prop.ensures.tree)
+    (grows-then c.parse_prop_name.ensures.grows inner.grows)
+    (pat_node.default_apart c.default_pat_prop.result value c.default_pat_prop.ensures.parts
+    c.parse_prop_name.ensures.grows inner.from)
+
+pub parse_object_pat_prop-returns-in-Name : goal.parse_object_pat_prop-returns-in-Name
+parse_object_pat_prop-returns-in-Name g t c =
+    let ns = c.parse_prop_name.new.p.nodes in
+    m.yes (Ok _)
+    (s.heard_answer (pat_node.name_made ns c.in-Name.name c.name_pat_prop.result c.name_pat_prop.ensures)
+    (pat_prop.name_read _ (tree_of ns) c.in_ok-key.key c.in-Name.name c.in-None.is (c.in_ok-dots.ensures.eats _)
+    c.in_ok-key.ensures.reads c.in-Name.is (c.in_ok-key-2.ensures.after _)))
+    c.parse_prop_name.ensures.grows
+    (pat_node.name_apart c.in-Name.name c.name_pat_prop.result c.name_pat_prop.ensures c.parse_prop_name.ensures.grows)
+
+pub parse_pat_props-loop-items-init : goal.parse_pat_props-loop-items-init
+parse_pat_props-loop-items-init g t c = pat_props.started _ c.args.p.now _ g.met.I.Tokens.laws c.new-items.ensures.items
+
+pub parse_pat_props-loop-items-preserved : goal.parse_pat_props-loop-items-preserved
+parse_pat_props-loop-items-preserved g t c =
+    let more = pat_props.goes_on _ c.loop-items.invariant c.in-None.is (c.in_ok-end.ensures.eats _) in
+    pat_props.added _ c.loop-items.invariant _ _ more c.in_ok-prop.ensures.reads (c.in_ok-trailing_comma.ensures.separates _)
+    c.parse_object_pat_prop.ensures.grows c.in_ok-prop.ensures.from c.in_ok-add.ensures.added
+
+pub parse_pat_props-returns-in_err-end : goal.parse_pat_props-returns-in_err-end
+parse_pat_props-returns-in_err-end g t c =
+    partly.refused c.from_residual.ensures.1
+    (pat_props.end_refused _ c.loop-items.invariant (c.in_err-end.ensures.eats _)) c.loop-items.invariant.grows
+
+pub parse_pat_props-returns-in-Some : goal.parse_pat_props-returns-in-Some
+parse_pat_props-returns-in-Some g t c =
+    partly.left _ (pat_props.closed _ c.loop-items.invariant c.in-Some.is (c.in_ok-end.ensures.eats _))
+    c.loop-items.invariant.grows c.loop-items.invariant.apart
+
+pub parse_pat_props-returns-in_err-prop : goal.parse_pat_props-returns-in_err-prop
+parse_pat_props-returns-in_err-prop g t c =
+    let more = pat_props.goes_on _ c.loop-items.invariant c.in-None.is (c.in_ok-end.ensures.eats _) in
+    partly.refused c.from_residual-in_err-prop.ensures.1 (pat_props.prop_refused _ _ more c.in_err-prop.ensures.reads)
+    (grows-then c.loop-items.invariant.grows c.parse_object_pat_prop.ensures.grows)
+
+pub parse_pat_props-returns-in_err-add : goal.parse_pat_props-returns-in_err-add
+parse_pat_props-returns-in_err-add g t c =
+    let more = pat_props.goes_on _ c.loop-items.invariant c.in-None.is (c.in_ok-end.ensures.eats _) in
+    partly.refused c.from_residual-in_err-add.ensures.1
+    (pat_props.unkept _ _ more _ c.in_ok-prop.ensures.reads c.in_err-add.ensures.refused)
+    (grows-then c.loop-items.invariant.grows c.parse_object_pat_prop.ensures.grows)
+
+pub parse_pat_props-returns-in_err-trailing_comma : goal.parse_pat_props-returns-in_err-trailing_comma
+parse_pat_props-returns-in_err-trailing_comma g t c =
+    let more = pat_props.goes_on _ c.loop-items.invariant c.in-None.is (c.in_ok-end.ensures.eats _) in
+    partly.refused c.from_residual-in_err-trailing_comma.ensures.1
+    (pat_props.comma_refused _ _ more c.in_ok-prop.ensures.reads (c.in_err-trailing_comma.ensures.separates _))
+    (grows-then c.loop-items.invariant.grows c.parse_object_pat_prop.ensures.grows)
+
+pub parse_binding_element-returns-in_err-left : goal.parse_binding_element-returns-in_err-left
+parse_binding_element-returns-in_err-left g t c =
+    m.refused c.from_residual.ensures.1
+    (s.unheard_call (λ x p. eaten is_equals x p.1 >>= (λ q. default_by g.B.BodyForms.forms p.0 q.0 x q.1)) (λ x ts. pat_array.element_splits _ x ts) c.in_err-left.ensures.reads)
+    c.parse_pat.ensures.grows
+
+pub parse_binding_element-returns-in_err-eat : goal.parse_binding_element-returns-in_err-eat
+parse_binding_element-returns-in_err-eat g t c =
+    let left = pat_at c.parse_pat.new.p.nodes c.in_ok-left.left in
+    m.refused c.from_residual-in_err-eat.ensures.1
+    (s.unheard_after (s.on_call (λ x p. eaten is_equals x p.1 >>= (λ q. default_by g.B.BodyForms.forms p.0 q.0 x q.1)) (λ x ts. pat_array.element_splits _ x ts) c.in_ok-left.ensures.reads.on)
+    (s.unheard_call (λ x q. default_by _ left q.0 x q.1) (λ x ts. refl) (c.in_err-eat.ensures.eats g.B.Bodies.is_faithful)))
+    c.parse_pat.ensures.grows
+
+pub parse_binding_element-returns-in_err-value-in-Some : goal.parse_binding_element-returns-in_err-value-in-Some
+parse_binding_element-returns-in_err-value-in-Some g t c =
+    let inner = assign_within g.B.BodyForms.forms c.include_in-before.ensures.before c.include_in-before.ensures.moves c.include_in-before.ensures.context c.parse_assignment_expr-read.ensures c.in_err-value-in-Some.ensures.answer c.in_err-value-in-Some.ensures.moves c.in_err-value-in-Some.ensures.context in
+    let left = pat_at c.parse_pat.new.p.nodes c.in_ok-left.left in
+    let some = s.eats_some g.B.Bodies.is_faithful is_equals _ c.in-Some.field-0 _ _ c.in-Some.is (c.in_ok-eat.ensures.eats g.B.Bodies.is_faithful) in
+    m.refused c.from_residual-in_err-value-in-Some.ensures.1
+    (s.unheard_after (s.on_then (s.on_call (λ x p. eaten is_equals x p.1 >>= (λ q. default_by g.B.BodyForms.forms p.0 q.0 x q.1)) (λ x ts. pat_array.element_splits _ x ts) c.in_ok-left.ensures.reads.on)
+    (s.on_call (λ x q. default_by g.B.BodyForms.forms left q.0 x q.1) (λ x ts. refl) some.on))
+    (s.unheard_call (λ x p. Some (default_p (to (span_of left) (span_of p.0)) left p.0, p.1)) (λ x ts. pat_init.default_value_splits _ left x ts) inner.reads))
+    (grows-then c.parse_pat.ensures.grows inner.grows)
+
+pub parse_binding_element-default_pat-requires-clause-left : goal.parse_binding_element-default_pat-requires-clause-left
+parse_binding_element-default_pat-requires-clause-left g t c = from-down (omega arith) (from-later c.parse_assignment_expr-read.ensures.grows c.in_ok-left.ensures.from)
+
+pub parse_binding_element-returns-in_ok-value-in-Some : goal.parse_binding_element-returns-in_ok-value-in-Some
+parse_binding_element-returns-in_ok-value-in-Some g t c =
+    let inner = assign_within g.B.BodyForms.forms {o = Ok c.in_ok-value-in-Some.value} c.include_in-before.ensures.before c.include_in-before.ensures.moves c.include_in-before.ensures.context c.parse_assignment_expr-read.ensures c.in_ok-value-in-Some.ensures.answer c.in_ok-value-in-Some.ensures.moves c.in_ok-value-in-Some.ensures.context in
+    let left = pat_at c.parse_pat.new.p.nodes c.in_ok-left.left in
+    let some = s.eats_some g.B.Bodies.is_faithful is_equals _ c.in-Some.field-0 _ _ c.in-Some.is (c.in_ok-eat.ensures.eats g.B.Bodies.is_faithful) in
+    m.call {m = c.parse_pat.new.p} c.default_pat.result (λ x p. eaten is_equals x p.1 >>= (λ q. default_by g.B.BodyForms.forms p.0 q.0 x q.1)) (λ x ts. pat_array.element_splits _ x ts)
+    c.in_ok-left.ensures.reads c.parse_pat.ensures.grows (λ x h. h)
+    (m.on_after {m = record c.parse_pat.new.p { input = c.eat.new.input }} c.default_pat.result
+    (s.on_call (λ x q. default_by g.B.BodyForms.forms left q.0 x q.1) (λ x ts. refl) some.on) (grows-same _)
+    (pat_init.default_read _ g.met.B.Bodies.lawful c.in_ok-left.left c.in_ok-value-in-Some.value c.default_pat.result c.in_ok-left.ensures.from inner c.default_pat.ensures))
+
+pub parse_binding_element-returns-in-None : goal.parse_binding_element-returns-in-None
+parse_binding_element-returns-in-None g t c =
+    let left = pat_at c.parse_pat.new.p.nodes c.in_ok-left.left in
+    let none = s.eats_none g.B.Bodies.is_faithful is_equals _ _ _ c.in-None.is (c.in_ok-eat.ensures.eats g.B.Bodies.is_faithful) in
+    m.yes (Ok _)
+    (s.heard_more (λ x p. eaten is_equals x p.1 >>= (λ q. default_by g.B.BodyForms.forms p.0 q.0 x q.1)) (λ x ts. pat_array.element_splits _ x ts) c.in_ok-left.ensures.reads
+    (s.on_call (λ x q. default_by g.B.BodyForms.forms left q.0 x q.1) (λ x ts. refl) none))
+    c.parse_pat.ensures.grows c.in_ok-left.ensures.from
+
+pub parse_pat-returns-in_err-look : goal.parse_pat-returns-in_err-look
+parse_pat-returns-in_err-look g t c =
+    m.refused c.from_residual.ensures.1 (s.unheard_memory c.in_err-look.ensures.looks) (grows-same _)
+
+pub parse_pat-returns-in_err-elems-in-Array : goal.parse_pat-returns-in_err-elems-in-Array
+parse_pat-returns-in_err-elems-in-Array g t c =
+    let sign = pat_begins.is_array _ (sym c.pat_kind.ensures ∙ c.in-Array.is) in
+    let first = c.skip.ensures.took.1 in
+    let start = c.cur_span-start.result in
+    let place = s.place_was first c.cur_span-start.result c.cur_span-start.ensures in
+    m.refused c.from_residual-in_err-elems-in-Array.ensures.1
+    (s.unheard_after (s.on_then (s.on_seen c.in_ok-look.ensures.looks (λ x ts same e. pat_array.pat_array_picked _ x ts (ap (at_token is_lbracket) e ∙ sign)))
+    (s.on_took {g = array_pat_tail g.B.BodyForms.forms start} g.met.I.Tokens.laws first
+    (λ x ts. pat_array.pat_array_opens _ (plain first.was) x ts (rule.passes_plain is_lbracket _ _ first.current sign) ∙ ap (λ v. array_pat_tail g.B.BodyForms.forms v x ts) (sym place))))
+    (s.unheard_call (λ x p. Some (array_pat_from start p.0, p.1)) (λ x ts. pat_array.array_pat_splits _ start x ts) c.in_err-elems-in-Array.ensures.reads))
+    c.parse_pat_elements.ensures.grows
+
+pub parse_pat-array_pat-requires : goal.parse_pat-array_pat-requires
+parse_pat-array_pat-requires g t c = record { apart = apart-down (pat_elem_parts c.in_ok-elems-in-Array.elems.items) c.in_ok-elems-in-Array.ensures.from }
+
+pub parse_pat-returns-in_ok-elems-in-Array : goal.parse_pat-returns-in_ok-elems-in-Array
+parse_pat-returns-in_ok-elems-in-Array g t c =
+    let sign = pat_begins.is_array _ (sym c.pat_kind.ensures ∙ c.in-Array.is) in
+    let first = c.skip.ensures.took.1 in
+    let start = c.cur_span-start.result in
+    let place = s.place_was first c.cur_span-start.result c.cur_span-start.ensures in
+    let begun = s.on_then (s.on_seen c.in_ok-look.ensures.looks (λ x ts same e. pat_array.pat_array_picked _ x ts (ap (at_token is_lbracket) e ∙ sign)))
+    (s.on_took {g = array_pat_tail g.B.BodyForms.forms start} g.met.I.Tokens.laws first
+    (λ x ts. pat_array.pat_array_opens _ (plain first.was) x ts (rule.passes_plain is_lbracket _ _ first.current sign) ∙ ap (λ v. array_pat_tail g.B.BodyForms.forms v x ts) (sym place))) in
+    m.after {m = record c.args.p.now { input = c.skip.new.input }} c.array_pat.result begun (grows-same _)
+    (m.call c.array_pat.result (λ x p. Some (array_pat_from start p.0, p.1)) (λ x ts. pat_array.array_pat_splits _ start x ts)
+    c.in_ok-elems-in-Array.ensures.reads c.parse_pat_elements.ensures.grows (λ x h. h)
+    (c.array_pat.ensures (count c.args.p.now.nodes) c.in_ok-elems-in-Array.ensures.from))
+
+pub parse_pat-returns-in_err-props-in-Object : goal.parse_pat-returns-in_err-props-in-Object
+parse_pat-returns-in_err-props-in-Object g t c =
+    let opens = c.open_object.ensures.opens in
+    m.refused c.from_residual-in_err-props-in-Object.ensures.1
+    (pat_begins.object_refused g.B.BodyForms.forms c.in_ok-look.ensures.looks (sym c.pat_kind.ensures ∙ c.in-Object.is) opens.took
+    (leaving.unheard_aside opens.moves (opens.inside ∙ ap deciding opens.outside)
+    (leaving.leaves_err (λ l. props_done (pat_props_at c.parse_pat_props-props.new.p.nodes l)) c.parse_pat_props-props.result _ c.in_err-props-in-Object.was c.parse_pat_props-props.ensures.reads)
+    c.set_ctx.ensures.moves (c.set_ctx.ensures.context ∙ opens.outside)))
+    c.parse_pat_props-props.ensures.grows
+
+pub parse_pat-object_pat-requires : goal.parse_pat-object_pat-requires
+parse_pat-object_pat-requires g t c =
+    record { apart = apart-down (pat_props_parts c.in_ok-props-in-Object.field-0.items) (m.held_is _ c.parse_pat_props-props.result c.in_ok-props-in-Object.field-0 c.in_ok-props-in-Object.was c.parse_pat_props-props.ensures.from) }
+
+pub parse_pat-returns-in_ok-props-in-Object : goal.parse_pat-returns-in_ok-props-in-Object
+parse_pat-returns-in_ok-props-in-Object g t c =
+    let opens = c.open_object.ensures.opens in
+    let ns = c.parse_pat_props-props.new.p.nodes in
+    let list = c.in_ok-props-in-Object.field-0 in
+    let apart = m.held_is _ c.parse_pat_props-props.result list c.in_ok-props-in-Object.was c.parse_pat_props-props.ensures.from in
+    let made = c.object_pat.ensures (count c.args.p.now.nodes) apart in
+    m.yes c.object_pat.result
+    (pat_begins.object_reads g.B.BodyForms.forms (pat_at c.object_pat.new.p.nodes) (pat_props_at ns list) c.object_pat.result c.object_pat.new.p.input c.in_ok-look.ensures.looks (sym c.pat_kind.ensures ∙ c.in-Object.is) opens.took opens.place
+    (s.on_aside opens.moves (opens.inside ∙ ap deciding opens.outside)
+    (leaving.leaves_ok (λ l. props_done (pat_props_at ns l)) c.parse_pat_props-props.result list c.in_ok-props-in-Object.was c.parse_pat_props-props.ensures.reads)
+    c.set_ctx.ensures.moves (c.set_ctx.ensures.context ∙ opens.outside)) made.reads)
+    (grows-then c.parse_pat_props-props.ensures.grows made.grows) made.from
+
+pub parse_pat-returns-in-Plain : goal.parse_pat-returns-in-Plain
+parse_pat-returns-in-Plain g t c =
+    m.after c.parse_plain_pat.result
+    (s.on_seen c.in_ok-look.ensures.looks (λ x ts same e. pat_array.pat_plain _ x ts (ap pat_kind e ∙ sym c.pat_kind.ensures ∙ c.in-Plain.is)))
+    (grows-same _) c.parse_plain_pat.ensures
+
+pub parse_pat_elements-loop-items-init : goal.parse_pat_elements-loop-items-init
+parse_pat_elements-loop-items-init g t c = (
+  s.on_here g.met.I.Tokens.laws _ (λ x ts. pat_array.elements_first _ x ts ∙ ap (λ v. elements_left g.B.BodyForms.forms going (map (if_there c.args.p.now.nodes) v) x ts) (sym c.new-items.ensures.items)),
+  omega arith,
+  grows-same _,
+  record { chained = ap (λ v. chain (seat_at c.args.p.now.nodes) (count c.args.p.now.nodes) (flat (if_some one_pat) v) (count c.args.p.now.nodes)) c.new-items.ensures.items ∙ (apart-none {ns = c.args.p.now.nodes} {k = count c.args.p.now.nodes} (omega arith)).chained },
+)
+
+pub parse_pat_elements-returns-in_err-end : goal.parse_pat_elements-returns-in_err-end
+parse_pat_elements-returns-in_err-end g t c =
+    let stage = stage_of c.loop-items.rest in
+    let before = map (if_there c.loop-items.p.nodes) c.loop-items.items.items in
+    m.refused c.from_residual.ensures.1
+    (elem_turn.not_turned g.B.BodyForms.forms stage before c.loop-items.invariant.0 (c.in_err-end.ensures.next g.B.Bodies.is_faithful)) c.loop-items.invariant.2
+
+pub parse_pat_elements-returns-in-End : goal.parse_pat_elements-returns-in-End
+parse_pat_elements-returns-in-End g t c =
+    let stage = stage_of c.loop-items.rest in
+    let before = map (if_there c.loop-items.p.nodes) c.loop-items.items.items in
+    m.yes (Ok _)
+    (elem_turn.ended g.B.BodyForms.forms stage before c.loop-items.invariant.0 c.in-End.end c.in-End.is (c.in_ok-end.ensures.ate (ap is_item c.in-End.is) g.B.Bodies.is_faithful))
+    c.loop-items.invariant.2 c.loop-items.invariant.3
+
+pub parse_pat_elements-returns-in_err-add-in-Hole : goal.parse_pat_elements-returns-in_err-add-in-Hole
+parse_pat_elements-returns-in_err-add-in-Hole g t c =
+    let stage = stage_of c.loop-items.rest in
+    let before = map (if_there c.loop-items.p.nodes) c.loop-items.items.items in
+    let read = elem_turn.holed g.B.BodyForms.forms stage before c.loop-items.invariant.0 c.in-Hole.is (c.in_ok-end.ensures.next g.B.Bodies.is_faithful) in
+    m.refused c.from_residual-in_err-add-in-Hole.ensures.1
+    (s.unheard_memory (s.forgoes_later read.leads (s.forgoes_here g.met.I.Tokens.laws _ _ _ c.in_err-add-in-Hole.ensures.refused))) c.loop-items.invariant.2
+
+pub parse_pat_elements-loop-items-smaller-in-Hole : goal.parse_pat_elements-loop-items-smaller-in-Hole
+parse_pat_elements-loop-items-smaller-in-Hole g t c =
+    (c.in_ok-end.ensures.ate (ap is_item c.in-Hole.is) g.B.Bodies.is_faithful).onward.less
+
+pub parse_pat_elements-loop-items-preserved-in-Hole : goal.parse_pat_elements-loop-items-preserved-in-Hole
+parse_pat_elements-loop-items-preserved-in-Hole g t c =
+    let stage = stage_of c.loop-items.rest in
+    let before = map (if_there c.loop-items.p.nodes) c.loop-items.items.items in
+    let ns = c.loop-items.p.nodes in
+    let read = elem_turn.holed g.B.BodyForms.forms stage before c.loop-items.invariant.0 c.in-Hole.is (c.in_ok-end.ensures.next g.B.Bodies.is_faithful) in
+    let rest = ap stage_of c.passed-rest.ensures ∙ passed_stage c.loop-items.rest in
+    let more = ap (map (if_there ns)) c.in_ok-add-in-Hole.ensures.added ∙ holed-more c.loop-items.items.items None (grows-same ns) c.loop-items.invariant.3 in
+    let parts = apart-list-more (if_some one_pat) c.loop-items.items.items None (grows-same ns) c.loop-items.invariant.3 (apart-none (omega arith)) in (
+      s.on_to read (λ x ts. ap (λ v. elements_left g.B.BodyForms.forms v (before ++ None ∷ []) x ts) (sym rest) ∙ ap (λ v. elements_left g.B.BodyForms.forms (stage_of c.passed-rest.result) v x ts) (sym more)),
+      let a = c.loop-items.invariant.1 in let b = c.in_ok-end.ensures.falls in omega arith,
+      c.loop-items.invariant.2,
+      record { chained = ap (λ v. chain (seat_at ns) (count c.args.p.now.nodes) (flat (if_some one_pat) v) (count ns)) c.in_ok-add-in-Hole.ensures.added ∙ parts.chained },
+    )
+
+pub parse_pat_elements-returns-in_err-arg-in-Some : goal.parse_pat_elements-returns-in_err-arg-in-Some
+parse_pat_elements-returns-in_err-arg-in-Some g t c =
+    let stage = stage_of c.loop-items.rest in
+    let before = map (if_there c.loop-items.p.nodes) c.loop-items.items.items in
+    let turned = elem_turn.turned g.B.BodyForms.forms stage before c.loop-items.invariant.0 (next_element.Item (Some c.in-Some.dots)) (c.in-Item.is ∙ ap (λ o. next_element.Item o) c.in-Some.is) (c.in_ok-end.ensures.next g.B.Bodies.is_faithful) in
+    m.refused c.from_residual-in_err-arg-in-Some.ensures.1
+    (elem_turn.no_item g.B.BodyForms.forms stage before (Some c.in-Some.dots) turned (elem_turn.no_rest g.B.BodyForms.forms c.in-Some.dots c.in_err-arg-in-Some.ensures.reads))
+    (grows-then c.loop-items.invariant.2 c.parse_pat.ensures.grows)
+
+pub parse_pat_elements-returns-in_err-pat-in-Some : goal.parse_pat_elements-returns-in_err-pat-in-Some
+parse_pat_elements-returns-in_err-pat-in-Some g t c =
+    let stage = stage_of c.loop-items.rest in
+    let before = map (if_there c.loop-items.p.nodes) c.loop-items.items.items in
+    let turned = elem_turn.turned g.B.BodyForms.forms stage before c.loop-items.invariant.0 (next_element.Item (Some c.in-Some.dots)) (c.in-Item.is ∙ ap (λ o. next_element.Item o) c.in-Some.is) (c.in_ok-end.ensures.next g.B.Bodies.is_faithful) in
+    m.refused c.from_residual-in_err-pat-in-Some.ensures.1
+    (elem_turn.no_item g.B.BodyForms.forms stage before (Some c.in-Some.dots) turned
+    (s.unheard_after (elem_turn.rest_begun g.B.BodyForms.forms c.in-Some.dots c.in_ok-arg-in-Some.ensures.reads.on) c.in_err-pat-in-Some.ensures.reads))
+    (grows-then c.loop-items.invariant.2 (grows-then c.parse_pat.ensures.grows c.rest_pat.ensures.grows))
+
+pub parse_pat_elements-returns-in_err-pat-in-None : goal.parse_pat_elements-returns-in_err-pat-in-None
+parse_pat_elements-returns-in_err-pat-in-None g t c =
+    let stage = stage_of c.loop-items.rest in
+    let before = map (if_there c.loop-items.p.nodes) c.loop-items.items.items in
+    let turned = elem_turn.turned g.B.BodyForms.forms stage before c.loop-items.invariant.0 (next_element.Item None) (c.in-Item.is ∙ ap (λ o. next_element.Item o) c.in-None.is) (c.in_ok-end.ensures.next g.B.Bodies.is_faithful) in
+    m.refused c.from_residual-in_err-pat-in-None.ensures.1
+    (elem_turn.no_item g.B.BodyForms.forms stage before None turned c.in_err-pat-in-None.ensures.reads)
+    (grows-then c.loop-items.invariant.2 c.parse_binding_element.ensures.grows)
+
+pub parse_pat_elements-returns-in_err-add-in-Item : goal.parse_pat_elements-returns-in_err-add-in-Item
+parse_pat_elements-returns-in_err-add-in-Item g t c =
+    let stage = stage_of c.loop-items.rest in
+    let before = map (if_there c.loop-items.p.nodes) c.loop-items.items.items in
+    let dots = c.match-dots.dots in
+    let same : c.match-dots.dots ≡ c.in-Item.dots =
+    elim c.match-dots.branch [
+      | parse_pat_elements-in-Some+in_ok-arg-in-Some+in_ok-pat-in-Some w ↦ w.dots-is ∙ sym w.in-Some.is
+      | parse_pat_elements-in-None+in_ok-pat-in-None w ↦ w.dots-is
+    ] in
+    let turned = elem_turn.turned g.B.BodyForms.forms stage before c.loop-items.invariant.0 (next_element.Item dots) (c.in-Item.is ∙ ap (λ o. next_element.Item o) (sym same)) (c.in_ok-end.ensures.next g.B.Bodies.is_faithful) in
+    let from = record c.loop-items.p { input = c.next_element.new.input } in
+    let item : Produces g.I.Tokens.model g.B.Bodies.is_faithful pat_itself pat_at (item_read g.B.BodyForms.forms dots) (count c.loop-items.p.nodes) from (Ok c.match-dots.pat) c.match-dots.p =
+    elim c.match-dots.branch [
+      | parse_pat_elements-in-Some+in_ok-arg-in-Some+in_ok-pat-in-Some w ↦ rw (w.p-is, w.pat-is, w.dots-is)
+          (elem_turn.rest_item g.B.BodyForms.forms w.in-Some.dots w.parse_pat.new.p w.in_ok-arg-in-Some.arg (Ok _) w.in_ok-arg-in-Some.ensures.reads w.parse_pat.ensures.grows w.in_ok-arg-in-Some.ensures.from
+          (record { reads = w.in_ok-pat-in-Some.ensures.reads; falls = w.in_ok-pat-in-Some.ensures.falls; grows = w.rest_pat.ensures.grows; from = w.in_ok-pat-in-Some.ensures.from }))
+      | parse_pat_elements-in-None+in_ok-pat-in-None w ↦ rw (w.p-is, w.pat-is, w.dots-is ∙ w.in-None.is)
+          (m.yes (Ok _) w.in_ok-pat-in-None.ensures.reads w.parse_binding_element.ensures.grows w.in_ok-pat-in-None.ensures.from)
+    ] in
+    let read = elem_turn.item g.B.BodyForms.forms stage before dots turned item.reads.on in
+    m.refused c.from_residual-in_err-add-in-Item.ensures.1
+    (s.unheard_memory (s.forgoes_later read.leads (s.forgoes_here g.met.I.Tokens.laws _ _ _ c.in_err-add-in-Item.ensures.refused)))
+    (grows-then c.loop-items.invariant.2 item.grows)
+
+pub parse_pat_elements-returns-in_err-rest-in-Item : goal.parse_pat_elements-returns-in_err-rest-in-Item
+parse_pat_elements-returns-in_err-rest-in-Item g t c =
+    let stage = stage_of c.loop-items.rest in
+    let before = map (if_there c.loop-items.p.nodes) c.loop-items.items.items in
+    let dots = c.match-dots.dots in
+    let same : c.match-dots.dots ≡ c.in-Item.dots =
+    elim c.match-dots.branch [
+      | parse_pat_elements-in-Some+in_ok-arg-in-Some+in_ok-pat-in-Some w ↦ w.dots-is ∙ sym w.in-Some.is
+      | parse_pat_elements-in-None+in_ok-pat-in-None w ↦ w.dots-is
+    ] in
+    let turned = elem_turn.turned g.B.BodyForms.forms stage before c.loop-items.invariant.0 (next_element.Item dots) (c.in-Item.is ∙ ap (λ o. next_element.Item o) (sym same)) (c.in_ok-end.ensures.next g.B.Bodies.is_faithful) in
+    let from = record c.loop-items.p { input = c.next_element.new.input } in
+    let item : Produces g.I.Tokens.model g.B.Bodies.is_faithful pat_itself pat_at (item_read g.B.BodyForms.forms dots) (count c.loop-items.p.nodes) from (Ok c.match-dots.pat) c.match-dots.p =
+    elim c.match-dots.branch [
+      | parse_pat_elements-in-Some+in_ok-arg-in-Some+in_ok-pat-in-Some w ↦ rw (w.p-is, w.pat-is, w.dots-is)
+          (elem_turn.rest_item g.B.BodyForms.forms w.in-Some.dots w.parse_pat.new.p w.in_ok-arg-in-Some.arg (Ok _) w.in_ok-arg-in-Some.ensures.reads w.parse_pat.ensures.grows w.in_ok-arg-in-Some.ensures.from
+          (record { reads = w.in_ok-pat-in-Some.ensures.reads; falls = w.in_ok-pat-in-Some.ensures.falls; grows = w.rest_pat.ensures.grows; from = w.in_ok-pat-in-Some.ensures.from }))
+      | parse_pat_elements-in-None+in_ok-pat-in-None w ↦ rw (w.p-is, w.pat-is, w.dots-is ∙ w.in-None.is)
+          (m.yes (Ok _) w.in_ok-pat-in-None.ensures.reads w.parse_binding_element.ensures.grows w.in_ok-pat-in-None.ensures.from)
+    ] in
+    let read = elem_turn.item g.B.BodyForms.forms stage before dots turned item.reads.on in
+    m.refused c.from_residual-in_err-rest-in-Item.ensures.1
+    (elem_turn.not_separated g.B.BodyForms.forms (is_some dots) stage (before ++ Some (pat_at c.match-dots.p.nodes c.match-dots.pat) ∷ []) read (c.in_err-rest-in-Item.ensures.separates g.B.Bodies.is_faithful))
+    (grows-then c.loop-items.invariant.2 item.grows)
+
+pub parse_pat_elements-loop-items-preserved : goal.parse_pat_elements-loop-items-preserved
+parse_pat_elements-loop-items-preserved g t c =
+    let stage = stage_of c.loop-items.rest in
+    let before = map (if_there c.loop-items.p.nodes) c.loop-items.items.items in
+    let dots = c.match-dots.dots in
+    let same : c.match-dots.dots ≡ c.in-Item.dots =
+    elim c.match-dots.branch [
+      | parse_pat_elements-in-Some+in_ok-arg-in-Some+in_ok-pat-in-Some w ↦ w.dots-is ∙ sym w.in-Some.is
+      | parse_pat_elements-in-None+in_ok-pat-in-None w ↦ w.dots-is
+    ] in
+    let turned = elem_turn.turned g.B.BodyForms.forms stage before c.loop-items.invariant.0 (next_element.Item dots) (c.in-Item.is ∙ ap (λ o. next_element.Item o) (sym same)) (c.in_ok-end.ensures.next g.B.Bodies.is_faithful) in
+    let from = record c.loop-items.p { input = c.next_element.new.input } in
+    let item : Produces g.I.Tokens.model g.B.Bodies.is_faithful pat_itself pat_at (item_read g.B.BodyForms.forms dots) (count c.loop-items.p.nodes) from (Ok c.match-dots.pat) c.match-dots.p =
+    elim c.match-dots.branch [
+      | parse_pat_elements-in-Some+in_ok-arg-in-Some+in_ok-pat-in-Some w ↦ rw (w.p-is, w.pat-is, w.dots-is)
+          (elem_turn.rest_item g.B.BodyForms.forms w.in-Some.dots w.parse_pat.new.p w.in_ok-arg-in-Some.arg (Ok _) w.in_ok-arg-in-Some.ensures.reads w.parse_pat.ensures.grows w.in_ok-arg-in-Some.ensures.from
+          (record { reads = w.in_ok-pat-in-Some.ensures.reads; falls = w.in_ok-pat-in-Some.ensures.falls; grows = w.rest_pat.ensures.grows; from = w.in_ok-pat-in-Some.ensures.from }))
+      | parse_pat_elements-in-None+in_ok-pat-in-None w ↦ rw (w.p-is, w.pat-is, w.dots-is ∙ w.in-None.is)
+          (m.yes (Ok _) w.in_ok-pat-in-None.ensures.reads w.parse_binding_element.ensures.grows w.in_ok-pat-in-None.ensures.from)
+    ] in
+    let ns = c.match-dots.p.nodes in
+    let pat = c.match-dots.pat in
+    let read = elem_turn.item g.B.BodyForms.forms stage before dots turned item.reads.on in
+    let more = ap (map (if_there ns)) c.in_ok-add-in-Item.ensures.added ∙ holed-more c.loop-items.items.items (Some pat) item.grows c.loop-items.invariant.3 in
+    let parts = apart-list-more (if_some one_pat) c.loop-items.items.items (Some pat) item.grows c.loop-items.invariant.3 (apart-from (pat_part pat) item.from) in (
+      s.on_to (elem_turn.separated g.B.BodyForms.forms (is_some dots) stage (before ++ Some (pat_at ns pat) ∷ []) read (c.in_ok-rest-in-Item.ensures.separates g.B.Bodies.is_faithful))
+          (λ x ts. ap (λ v. elements_left g.B.BodyForms.forms (stage_of c.in_ok-rest-in-Item.rest) v x ts) (sym more)),
+      let a = c.loop-items.invariant.1 in let b = c.in_ok-end.ensures.falls in let d = item.falls in let e = c.in_ok-rest-in-Item.ensures.falls in omega arith,
+      grows-then c.loop-items.invariant.2 item.grows,
+      record { chained = ap (λ v. chain (seat_at ns) (count c.args.p.now.nodes) (flat (if_some one_pat) v) (count ns)) c.in_ok-add-in-Item.ensures.added ∙ parts.chained },
+    )
+
+pub parse_formal_params-loop-params-init : goal.parse_formal_params-loop-params-init
+parse_formal_params-loop-params-init g t c = (
+  s.on_here g.met.I.Tokens.laws _ (λ x ts. formal.params_first _ x ts ∙ ap (λ v. params_left g.B.BodyForms.forms going (trees (map (λ p. pat_at c.args.p.now.nodes p.pat) v)) x ts) (sym c.new-params.ensures.items)),
+  omega arith,
+  grows-same _,
+  record { chained = ap (λ v. chain (seat_at c.args.p.now.nodes) (count c.args.p.now.nodes) (flat param_parts v) (count c.args.p.now.nodes)) c.new-params.ensures.items ∙ (apart-none {ns = c.args.p.now.nodes} {k = count c.args.p.now.nodes} (omega arith)).chained },
+  subst (λ v. placed c.args.p.now.nodes v) (sym c.new-params.ensures.items) tt,
+)
+
+pub parse_formal_params-returns-in_err-next_param : goal.parse_formal_params-returns-in_err-next_param
+parse_formal_params-returns-in_err-next_param g t c =
+    let stage = stage_of c.loop-params.rest in
+    let before = params_at c.loop-params.p.nodes c.loop-params.params in
+    leaving.leaves_none c.from_residual.result c.from_residual.ensures.1
+    (param_turn.not_turned g.B.BodyForms.forms stage before c.loop-params.invariant.0 (c.in_err-next_param.ensures.next g.B.Bodies.is_faithful)) c.loop-params.invariant.2
+
+pub parse_formal_params-returns-in-End : goal.parse_formal_params-returns-in-End
+parse_formal_params-returns-in-End g t c =
+    let stage = stage_of c.loop-params.rest in
+    let before = params_at c.loop-params.p.nodes c.loop-params.params in
+    leaving.leaves c.loop-params.params
+    (param_turn.ended g.B.BodyForms.forms stage before c.loop-params.invariant.0 c.in-End.is (c.in_ok-next_param.ensures.next g.B.Bodies.is_faithful))
+    c.loop-params.invariant.2 (c.loop-params.invariant.3, c.loop-params.invariant.4)
+
+pub parse_formal_params-returns-in_err-arg-in-Some : goal.parse_formal_params-returns-in_err-arg-in-Some
+parse_formal_params-returns-in_err-arg-in-Some g t c =
+    let stage = stage_of c.loop-params.rest in
+    let before = params_at c.loop-params.p.nodes c.loop-params.params in
+    let turned = param_turn.turned g.B.BodyForms.forms stage before c.loop-params.invariant.0 (next_param.Item (Some c.in-Some.dots)) (c.in-Item.is ∙ ap (λ o. next_param.Item o) c.in-Some.is) (c.in_ok-next_param.ensures.next g.B.Bodies.is_faithful) in
+    leaving.leaves_none c.from_residual-in_err-arg-in-Some.result c.from_residual-in_err-arg-in-Some.ensures.1
+    (param_turn.no_item g.B.BodyForms.forms stage before (Some c.in-Some.dots) turned (param_turn.no_rest g.B.BodyForms.forms c.in-Some.dots c.in_err-arg-in-Some.ensures.reads))
+    (grows-then c.loop-params.invariant.2 c.parse_pat.ensures.grows)
+
+pub parse_formal_params-returns-in_err-eat-in-Some : goal.parse_formal_params-returns-in_err-eat-in-Some
+parse_formal_params-returns-in_err-eat-in-Some g t c =
+    let stage = stage_of c.loop-params.rest in
+    let before = params_at c.loop-params.p.nodes c.loop-params.params in
+    let turned = param_turn.turned g.B.BodyForms.forms stage before c.loop-params.invariant.0 (next_param.Item (Some c.in-Some.dots)) (c.in-Item.is ∙ ap (λ o. next_param.Item o) c.in-Some.is) (c.in_ok-next_param.ensures.next g.B.Bodies.is_faithful) in
+    leaving.leaves_none c.from_residual-in_err-eat-in-Some.result c.from_residual-in_err-eat-in-Some.ensures.1
+    (param_turn.no_item g.B.BodyForms.forms stage before (Some c.in-Some.dots) turned (s.unheard_after (param_turn.rest_begun g.B.BodyForms.forms c.in-Some.dots c.in_ok-arg-in-Some.ensures.reads.on)
+    (param_turn.rest_unlooked c.in-Some.dots (pat_at c.parse_pat.new.p.nodes c.in_ok-arg-in-Some.arg) (c.in_err-eat-in-Some.ensures.eats g.B.Bodies.is_faithful))))
+    (grows-then c.loop-params.invariant.2 c.parse_pat.ensures.grows)
+
+pub parse_formal_params-returns-in_err-value-in-Some-2 : goal.parse_formal_params-returns-in_err-value-in-Some-2
+parse_formal_params-returns-in_err-value-in-Some-2 g t c =
+    let stage = stage_of c.loop-params.rest in
+    let before = params_at c.loop-params.p.nodes c.loop-params.params in
+    let turned = param_turn.turned g.B.BodyForms.forms stage before c.loop-params.invariant.0 (next_param.Item (Some c.in-Some.dots)) (c.in-Item.is ∙ ap (λ o. next_param.Item o) c.in-Some.is) (c.in_ok-next_param.ensures.next g.B.Bodies.is_faithful) in
+    leaving.leaves_none c.from_residual-in_err-value-in-Some-2.result c.from_residual-in_err-value-in-Some-2.ensures.1
+    (param_turn.no_item g.B.BodyForms.forms stage before (Some c.in-Some.dots) turned (s.unheard_after (param_turn.rest_begun g.B.BodyForms.forms c.in-Some.dots c.in_ok-arg-in-Some.ensures.reads.on)
+    (s.unheard_after (param_turn.rest_ill c.in-Some.dots (pat_at c.parse_pat.new.p.nodes c.in_ok-arg-in-Some.arg) (s.eats_some g.B.Bodies.is_faithful is_equals _ c.in-Some-2.field-0 _ _ c.in-Some-2.is (c.in_ok-eat-in-Some.ensures.eats g.B.Bodies.is_faithful)).on)
+    (s.unheard_none (λ x ts. refl) c.in_err-value-in-Some-2.ensures.reads.refuses))))
+    (grows-then c.loop-params.invariant.2 (grows-then c.parse_pat.ensures.grows c.parse_assignment_expr.ensures.grows))
+
+pub parse_formal_params-rest_default-requires-clause-left : goal.parse_formal_params-rest_default-requires-clause-left
+parse_formal_params-rest_default-requires-clause-left g t c =
+    from-down (omega arith) (from-later c.parse_assignment_expr.ensures.grows c.in_ok-arg-in-Some.ensures.from)
+
+pub parse_formal_params-returns-in_err-pat-in-Some-2 : goal.parse_formal_params-returns-in_err-pat-in-Some-2
+parse_formal_params-returns-in_err-pat-in-Some-2 g t c =
+    let stage = stage_of c.loop-params.rest in
+    let before = params_at c.loop-params.p.nodes c.loop-params.params in
+    let turned = param_turn.turned g.B.BodyForms.forms stage before c.loop-params.invariant.0 (next_param.Item (Some c.in-Some.dots)) (c.in-Item.is ∙ ap (λ o. next_param.Item o) c.in-Some.is) (c.in_ok-next_param.ensures.next g.B.Bodies.is_faithful) in
+    leaving.leaves_none c.from_residual-in_err-pat-in-Some-2.result c.from_residual-in_err-pat-in-Some-2.ensures.1
+    (param_turn.no_item g.B.BodyForms.forms stage before (Some c.in-Some.dots) turned (s.unheard_after (param_turn.rest_begun g.B.BodyForms.forms c.in-Some.dots c.in_ok-arg-in-Some.ensures.reads.on)
+    (s.unheard_after (param_turn.rest_faulty c.in-Some.dots (pat_at c.parse_pat.new.p.nodes c.in_ok-arg-in-Some.arg) (s.eats_some g.B.Bodies.is_faithful is_equals _ c.in-Some-2.field-0 _ _ c.in-Some-2.is (c.in_ok-eat-in-Some.ensures.eats g.B.Bodies.is_faithful)).on c.in_ok-value-in-Some-2.ensures.reads.on.leads)
+    c.in_err-pat-in-Some-2.ensures.reads)))
+    (grows-then c.loop-params.invariant.2 (grows-then c.parse_pat.ensures.grows (grows-then c.parse_assignment_expr.ensures.grows c.rest_default.ensures.grows)))
+
+pub parse_formal_params-returns-in_err-pat-in-None-2 : goal.parse_formal_params-returns-in_err-pat-in-None-2
+parse_formal_params-returns-in_err-pat-in-None-2 g t c =
+    let stage = stage_of c.loop-params.rest in
+    let before = params_at c.loop-params.p.nodes c.loop-params.params in
+    let turned = param_turn.turned g.B.BodyForms.forms stage before c.loop-params.invariant.0 (next_param.Item (Some c.in-Some.dots)) (c.in-Item.is ∙ ap (λ o. next_param.Item o) c.in-Some.is) (c.in_ok-next_param.ensures.next g.B.Bodies.is_faithful) in
+    let none = s.eats_none g.B.Bodies.is_faithful is_equals _ _ _ c.in-None-2.is (c.in_ok-eat-in-Some.ensures.eats g.B.Bodies.is_faithful) in
+    leaving.leaves_none c.from_residual-in_err-pat-in-None-2.result c.from_residual-in_err-pat-in-None-2.ensures.1
+    (param_turn.no_item g.B.BodyForms.forms stage before (Some c.in-Some.dots) turned (s.unheard_after (param_turn.rest_begun g.B.BodyForms.forms c.in-Some.dots c.in_ok-arg-in-Some.ensures.reads.on)
+    (s.unheard_after (param_turn.rest_bare c.in-Some.dots (pat_at c.parse_pat.new.p.nodes c.in_ok-arg-in-Some.arg) none) c.in_err-pat-in-None-2.ensures.reads)))
+    (grows-then c.loop-params.invariant.2 (grows-then c.parse_pat.ensures.grows c.rest_pat.ensures.grows))
+
+pub parse_formal_params-returns-in_err-pat-in-None : goal.parse_formal_params-returns-in_err-pat-in-None
+parse_formal_params-returns-in_err-pat-in-None g t c =
+    let stage = stage_of c.loop-params.rest in
+    let before = params_at c.loop-params.p.nodes c.loop-params.params in
+    let turned = param_turn.turned g.B.BodyForms.forms stage before c.loop-params.invariant.0 (next_param.Item None) (c.in-Item.is ∙ ap (λ o. next_param.Item o) c.in-None.is) (c.in_ok-next_param.ensures.next g.B.Bodies.is_faithful) in
+    leaving.leaves_none c.from_residual-in_err-pat-in-None.result c.from_residual-in_err-pat-in-None.ensures.1
+    (param_turn.no_item g.B.BodyForms.forms stage before None turned c.in_err-pat-in-None.ensures.reads)
+    (grows-then c.loop-params.invariant.2 c.parse_binding_element.ensures.grows)
+
+pub parse_formal_params-returns-in_err-add-in-Item : goal.parse_formal_params-returns-in_err-add-in-Item
+parse_formal_params-returns-in_err-add-in-Item g t c =
+    let stage = stage_of c.loop-params.rest in
+    let before = params_at c.loop-params.p.nodes c.loop-params.params in
+    let dots = c.match-dots.dots in
+    let same : c.match-dots.dots ≡ c.in-Item.dots =
+    elim c.match-dots.branch [
+      | parse_formal_params-in-Some+in_ok-arg-in-Some+in_ok-eat-in-Some+in-Some-2+in_ok-value-in-Some-2+in_ok-pat-in-Some-2 w ↦ w.dots-is ∙ sym w.in-Some.is
+      | parse_formal_params-in-Some+in_ok-arg-in-Some+in_ok-eat-in-Some+in-None-2+in_ok-pat-in-None-2 w ↦ w.dots-is ∙ sym w.in-Some.is
+      | parse_formal_params-in-None+in_ok-pat-in-None w ↦ w.dots-is
+    ] in
+    let turned = param_turn.turned g.B.BodyForms.forms stage before c.loop-params.invariant.0 (next_param.Item dots) (c.in-Item.is ∙ ap (λ o. next_param.Item o) (sym same)) (c.in_ok-next_param.ensures.next g.B.Bodies.is_faithful) in
+    let from = record c.loop-params.p { input = c.next_param.new.input } in
+    let item : Produces g.I.Tokens.model g.B.Bodies.is_faithful pat_itself pat_at (param_read g.B.BodyForms.forms dots) (count c.loop-params.p.nodes) from (Ok c.match-dots.pat) c.match-dots.p =
+    elim c.match-dots.branch [
+      | parse_formal_params-in-Some+in_ok-arg-in-Some+in_ok-eat-in-Some+in-Some-2+in_ok-value-in-Some-2+in_ok-pat-in-Some-2 w ↦
+          let arg = w.in_ok-arg-in-Some.arg in
+          let t = pat_at w.parse_pat.new.p.nodes arg in
+          rw (w.p-is, w.pat-is, w.dots-is)
+          (param_turn.rest_param g.B.BodyForms.forms w.in-Some.dots {n = w.parse_assignment_expr.new.p} w.parse_pat.new.p arg (Ok _) w.in_ok-arg-in-Some.ensures.reads w.parse_pat.ensures.grows w.in_ok-arg-in-Some.ensures.from
+          (param_turn.rest_faulty w.in-Some.dots t (s.eats_some g.B.Bodies.is_faithful is_equals _ w.in-Some-2.field-0 _ _ w.in-Some-2.is (w.in_ok-eat-in-Some.ensures.eats g.B.Bodies.is_faithful)).on w.in_ok-value-in-Some-2.ensures.reads.on.leads)
+          w.parse_assignment_expr.ensures.grows (record { reads = w.in_ok-pat-in-Some-2.ensures.reads; falls = w.in_ok-pat-in-Some-2.ensures.falls; grows = w.rest_default.ensures.grows; from = w.in_ok-pat-in-Some-2.ensures.from }))
+      | parse_formal_params-in-Some+in_ok-arg-in-Some+in_ok-eat-in-Some+in-None-2+in_ok-pat-in-None-2 w ↦
+          let arg = w.in_ok-arg-in-Some.arg in
+          let t = pat_at w.parse_pat.new.p.nodes arg in
+          let none = s.eats_none g.B.Bodies.is_faithful is_equals _ _ _ w.in-None-2.is (w.in_ok-eat-in-Some.ensures.eats g.B.Bodies.is_faithful) in
+          rw (w.p-is, w.pat-is, w.dots-is)
+          (param_turn.rest_param g.B.BodyForms.forms w.in-Some.dots {n = record w.parse_pat.new.p { input = w.eat.new.input }} w.parse_pat.new.p arg (Ok _) w.in_ok-arg-in-Some.ensures.reads w.parse_pat.ensures.grows w.in_ok-arg-in-Some.ensures.from
+          (param_turn.rest_bare w.in-Some.dots t none) (grows-same _) (record { reads = w.in_ok-pat-in-None-2.ensures.reads; falls = w.in_ok-pat-in-None-2.ensures.falls; grows = w.rest_pat.ensures.grows; from = w.in_ok-pat-in-None-2.ensures.from }))
+      | parse_formal_params-in-None+in_ok-pat-in-None w ↦ rw (w.p-is, w.pat-is, w.dots-is ∙ w.in-None.is)
+          (m.yes (Ok _) w.in_ok-pat-in-None.ensures.reads w.parse_binding_element.ensures.grows w.in_ok-pat-in-None.ensures.from)
+    ] in
+    let read = param_turn.item g.B.BodyForms.forms stage before dots turned item.reads.on in
+    leaving.leaves_none c.from_residual-in_err-add-in-Item.result c.from_residual-in_err-add-in-Item.ensures.1
+    (s.unheard_memory (s.forgoes_later read.leads (s.forgoes_here g.met.I.Tokens.laws _ _ _ c.in_err-add-in-Item.ensures.refused)))
+    (grows-then c.loop-params.invariant.2 item.grows)
+
+pub parse_formal_params-returns-in_err-rest-in-Item : goal.parse_formal_params-returns-in_err-rest-in-Item
+parse_formal_params-returns-in_err-rest-in-Item g t c =
+    let stage = stage_of c.loop-params.rest in
+    let before = params_at c.loop-params.p.nodes c.loop-params.params in
+    let dots = c.match-dots.dots in
+    let same : c.match-dots.dots ≡ c.in-Item.dots =
+    elim c.match-dots.branch [
+      | parse_formal_params-in-Some+in_ok-arg-in-Some+in_ok-eat-in-Some+in-Some-2+in_ok-value-in-Some-2+in_ok-pat-in-Some-2 w ↦ w.dots-is ∙ sym w.in-Some.is
+      | parse_formal_params-in-Some+in_ok-arg-in-Some+in_ok-eat-in-Some+in-None-2+in_ok-pat-in-None-2 w ↦ w.dots-is ∙ sym w.in-Some.is
+      | parse_formal_params-in-None+in_ok-pat-in-None w ↦ w.dots-is
+    ] in
+    let turned = param_turn.turned g.B.BodyForms.forms stage before c.loop-params.invariant.0 (next_param.Item dots) (c.in-Item.is ∙ ap (λ o. next_param.Item o) (sym same)) (c.in_ok-next_param.ensures.next g.B.Bodies.is_faithful) in
+    let from = record c.loop-params.p { input = c.next_param.new.input } in
+    let item : Produces g.I.Tokens.model g.B.Bodies.is_faithful pat_itself pat_at (param_read g.B.BodyForms.forms dots) (count c.loop-params.p.nodes) from (Ok c.match-dots.pat) c.match-dots.p =
+    elim c.match-dots.branch [
+      | parse_formal_params-in-Some+in_ok-arg-in-Some+in_ok-eat-in-Some+in-Some-2+in_ok-value-in-Some-2+in_ok-pat-in-Some-2 w ↦
+          let arg = w.in_ok-arg-in-Some.arg in
+          let t = pat_at w.parse_pat.new.p.nodes arg in
+          rw (w.p-is, w.pat-is, w.dots-is)
+          (param_turn.rest_param g.B.BodyForms.forms w.in-Some.dots {n = w.parse_assignment_expr.new.p} w.parse_pat.new.p arg (Ok _) w.in_ok-arg-in-Some.ensures.reads w.parse_pat.ensures.grows w.in_ok-arg-in-Some.ensures.from
+          (param_turn.rest_faulty w.in-Some.dots t (s.eats_some g.B.Bodies.is_faithful is_equals _ w.in-Some-2.field-0 _ _ w.in-Some-2.is (w.in_ok-eat-in-Some.ensures.eats g.B.Bodies.is_faithful)).on w.in_ok-value-in-Some-2.ensures.reads.on.leads)
+          w.parse_assignment_expr.ensures.grows (record { reads = w.in_ok-pat-in-Some-2.ensures.reads; falls = w.in_ok-pat-in-Some-2.ensures.falls; grows = w.rest_default.ensures.grows; from = w.in_ok-pat-in-Some-2.ensures.from }))
+      | parse_formal_params-in-Some+in_ok-arg-in-Some+in_ok-eat-in-Some+in-None-2+in_ok-pat-in-None-2 w ↦
+          let arg = w.in_ok-arg-in-Some.arg in
+          let t = pat_at w.parse_pat.new.p.nodes arg in
+          let none = s.eats_none g.B.Bodies.is_faithful is_equals _ _ _ w.in-None-2.is (w.in_ok-eat-in-Some.ensures.eats g.B.Bodies.is_faithful) in
+          rw (w.p-is, w.pat-is, w.dots-is)
+          (param_turn.rest_param g.B.BodyForms.forms w.in-Some.dots {n = record w.parse_pat.new.p { input = w.eat.new.input }} w.parse_pat.new.p arg (Ok _) w.in_ok-arg-in-Some.ensures.reads w.parse_pat.ensures.grows w.in_ok-arg-in-Some.ensures.from
+          (param_turn.rest_bare w.in-Some.dots t none) (grows-same _) (record { reads = w.in_ok-pat-in-None-2.ensures.reads; falls = w.in_ok-pat-in-None-2.ensures.falls; grows = w.rest_pat.ensures.grows; from = w.in_ok-pat-in-None-2.ensures.from }))
+      | parse_formal_params-in-None+in_ok-pat-in-None w ↦ rw (w.p-is, w.pat-is, w.dots-is ∙ w.in-None.is)
+          (m.yes (Ok _) w.in_ok-pat-in-None.ensures.reads w.parse_binding_element.ensures.grows w.in_ok-pat-in-None.ensures.from)
+    ] in
+    let read = param_turn.item g.B.BodyForms.forms stage before dots turned item.reads.on in
+    leaving.leaves_none c.from_residual-in_err-rest-in-Item.result c.from_residual-in_err-rest-in-Item.ensures.1
+    (param_turn.not_separated g.B.BodyForms.forms (is_some dots) stage (trees_append before (cons (pat_at c.match-dots.p.nodes c.match-dots.pat) nil)) read (c.in_err-rest-in-Item.ensures.separates g.B.Bodies.is_faithful))
+    (grows-then c.loop-params.invariant.2 item.grows)
+
+pub parse_formal_params-loop-params-preserved : goal.parse_formal_params-loop-params-preserved
+parse_formal_params-loop-params-preserved g t c =
+    let stage = stage_of c.loop-params.rest in
+    let before = params_at c.loop-params.p.nodes c.loop-params.params in
+    let dots = c.match-dots.dots in
+    let same : c.match-dots.dots ≡ c.in-Item.dots =
+    elim c.match-dots.branch [
+      | parse_formal_params-in-Some+in_ok-arg-in-Some+in_ok-eat-in-Some+in-Some-2+in_ok-value-in-Some-2+in_ok-pat-in-Some-2 w ↦ w.dots-is ∙ sym w.in-Some.is
+      | parse_formal_params-in-Some+in_ok-arg-in-Some+in_ok-eat-in-Some+in-None-2+in_ok-pat-in-None-2 w ↦ w.dots-is ∙ sym w.in-Some.is
+      | parse_formal_params-in-None+in_ok-pat-in-None w ↦ w.dots-is
+    ] in
+    let turned = param_turn.turned g.B.BodyForms.forms stage before c.loop-params.invariant.0 (next_param.Item dots) (c.in-Item.is ∙ ap (λ o. next_param.Item o) (sym same)) (c.in_ok-next_param.ensures.next g.B.Bodies.is_faithful) in
+    let from = record c.loop-params.p { input = c.next_param.new.input } in
+    let item : Produces g.I.Tokens.model g.B.Bodies.is_faithful pat_itself pat_at (param_read g.B.BodyForms.forms dots) (count c.loop-params.p.nodes) from (Ok c.match-dots.pat) c.match-dots.p =
+    elim c.match-dots.branch [
+      | parse_formal_params-in-Some+in_ok-arg-in-Some+in_ok-eat-in-Some+in-Some-2+in_ok-value-in-Some-2+in_ok-pat-in-Some-2 w ↦
+          let arg = w.in_ok-arg-in-Some.arg in
+          let t = pat_at w.parse_pat.new.p.nodes arg in
+          rw (w.p-is, w.pat-is, w.dots-is)
+          (param_turn.rest_param g.B.BodyForms.forms w.in-Some.dots {n = w.parse_assignment_expr.new.p} w.parse_pat.new.p arg (Ok _) w.in_ok-arg-in-Some.ensures.reads w.parse_pat.ensures.grows w.in_ok-arg-in-Some.ensures.from
+          (param_turn.rest_faulty w.in-Some.dots t (s.eats_some g.B.Bodies.is_faithful is_equals _ w.in-Some-2.field-0 _ _ w.in-Some-2.is (w.in_ok-eat-in-Some.ensures.eats g.B.Bodies.is_faithful)).on w.in_ok-value-in-Some-2.ensures.reads.on.leads)
+          w.parse_assignment_expr.ensures.grows (record { reads = w.in_ok-pat-in-Some-2.ensures.reads; falls = w.in_ok-pat-in-Some-2.ensures.falls; grows = w.rest_default.ensures.grows; from = w.in_ok-pat-in-Some-2.ensures.from }))
+      | parse_formal_params-in-Some+in_ok-arg-in-Some+in_ok-eat-in-Some+in-None-2+in_ok-pat-in-None-2 w ↦
+          let arg = w.in_ok-arg-in-Some.arg in
+          let t = pat_at w.parse_pat.new.p.nodes arg in
+          let none = s.eats_none g.B.Bodies.is_faithful is_equals _ _ _ w.in-None-2.is (w.in_ok-eat-in-Some.ensures.eats g.B.Bodies.is_faithful) in
+          rw (w.p-is, w.pat-is, w.dots-is)
+          (param_turn.rest_param g.B.BodyForms.forms w.in-Some.dots {n = record w.parse_pat.new.p { input = w.eat.new.input }} w.parse_pat.new.p arg (Ok _) w.in_ok-arg-in-Some.ensures.reads w.parse_pat.ensures.grows w.in_ok-arg-in-Some.ensures.from
+          (param_turn.rest_bare w.in-Some.dots t none) (grows-same _) (record { reads = w.in_ok-pat-in-None-2.ensures.reads; falls = w.in_ok-pat-in-None-2.ensures.falls; grows = w.rest_pat.ensures.grows; from = w.in_ok-pat-in-None-2.ensures.from }))
+      | parse_formal_params-in-None+in_ok-pat-in-None w ↦ rw (w.p-is, w.pat-is, w.dots-is ∙ w.in-None.is)
+          (m.yes (Ok _) w.in_ok-pat-in-None.ensures.reads w.parse_binding_element.ensures.grows w.in_ok-pat-in-None.ensures.from)
+    ] in
+    let ns = c.match-dots.p.nodes in
+    let pat = c.match-dots.pat in
+    let param = c.param_of-param.result in
+    let read = param_turn.item g.B.BodyForms.forms stage before dots turned item.reads.on in
+    let more = ap (λ v. trees (map (λ p. pat_at ns p.pat) v)) c.in_ok-add-in-Item.ensures.added
+    ∙ params-more c.loop-params.params.items param item.grows c.loop-params.invariant.3
+    ∙ ap (λ v. trees_append before (cons (pat_at ns v) nil)) c.param_of-param.ensures.pat in
+    let last = subst (λ v. From (count c.loop-params.p.nodes) ns (pat_part v)) (sym c.param_of-param.ensures.pat) item.from in
+    let parts = placed-more c.loop-params.params.items param item.grows (c.loop-params.invariant.3, c.loop-params.invariant.4) last
+    (c.param_of-param.ensures.span ∙ ap (λ v. span_of (pat_at ns v)) (sym c.param_of-param.ensures.pat)) in (
+      s.on_to (param_turn.separated g.B.BodyForms.forms (is_some dots) stage (trees_append before (cons (pat_at ns pat) nil)) read (c.in_ok-rest-in-Item.ensures.separates g.B.Bodies.is_faithful))
+          (λ x ts. ap (λ v. params_left g.B.BodyForms.forms (stage_of c.in_ok-rest-in-Item.rest) v x ts) (sym more)),
+      let a = c.loop-params.invariant.1 in let b = c.in_ok-next_param.ensures.falls in let d = item.falls in let e = c.in_ok-rest-in-Item.ensures.falls in omega arith,
+      grows-then c.loop-params.invariant.2 item.grows,
+      record { chained = ap (λ v. chain (seat_at ns) (count c.args.p.now.nodes) (flat param_parts v) (count ns)) c.in_ok-add-in-Item.ensures.added ∙ parts.0.chained },
+      subst (λ v. placed ns v) (sym c.in_ok-add-in-Item.ensures.added) parts.1,
+    )

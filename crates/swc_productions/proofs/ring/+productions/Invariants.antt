@@ -3,7 +3,7 @@ use Rattle.std.proofs.Common.{◌≡◌, ◌+◌, ◌*◌, ◌≤◌, not, map, 
 use Rattle.std.specs.Prelude.{slice_index_or}
 use Rattle.swc_input.specs.Buffer.{to_come}
 use Rattle.swc_ast.specs.Parts.{item_trees, quasi_tree}
-use Rattle.swc_ast.specs.Tree.{nil, trees}
+use Rattle.swc_ast.specs.Tree.{trees}
 use Rattle.swc_grammar.specs.Symbols.{Args, Elements, Props, Parts}
 use Rattle.swc_grammar.specs.Tokens.{include_in}
 use Rattle.swc_grammar.specs.Clean.{sym, links, run}
@@ -13,14 +13,20 @@ use Rattle.swc_nodes.specs.declared.node.ExprId.{ExprId}
 use Rattle.swc_nodes.specs.Pending.{all_pending, operand_parts, first_operand}
 use Rattle.swc_nodes.specs.GrowingNodes.{tree_at, count, first_at, Apart, From, Grows}
 use Rattle.swc_operators.specs.Assignments.{seqs_more}
-use Rattle.swc_operators.specs.Entered.{Entered}
+use Rattle.swc_operators.specs.Entered.{Entered, EnteredList}
 use Rattle.swc_operators.specs.Pending.{pending_reads}
-use Rattle.swc_steps.specs.Args.{args_behind}
-use Rattle.swc_steps.specs.Lists.{elements_behind}
-use Rattle.swc_primary.specs.Properties.{props_behind}
+use Rattle.swc_steps.specs.Loops.{ItemsRead}
 use Rattle.swc_steps.specs.Parsing.{On, tree_of}
 use Rattle.swc_left.specs.Templates.{parts_behind}
 use Rattle.swc_productions.proofs.ring.+productions.Given as goal
+use Rattle.swc_patterns.specs.Loops.{PatPropsRead}
+use Rattle.swc_grammar.specs.Symbols.{PatElements, Params}
+use Rattle.swc_nodes.specs.Lists.{pat_elem_parts}
+use Rattle.swc_nodes.specs.NodeParts.{flat, param_parts}
+use Rattle.swc_patterns.specs.Answers.{if_there, params_at, placed}
+use Rattle.swc_patterns.specs.Arrays.{elements_left}
+use Rattle.swc_patterns.specs.Params.{params_left}
+use Rattle.swc_patterns.specs.Rests.{stage_of}
 
 abbrev pub decreases-parse_primary_expr : goal.decreases-parse_primary_expr
 decreases-parse_primary_expr g l = to_come g.I.Tokens.model l.p.now.input * 20 + 2
@@ -58,14 +64,9 @@ decreases-parse_args g l = to_come g.I.Tokens.model l.p.now.input * 20 + 16
 
 abbrev pub invariant-parse_args-loop-value : goal.invariant-parse_args-loop-value
 invariant-parse_args-loop-value g l =
-    Entered g.I.Tokens.model g.B.Bodies.is_faithful include_in
+    EnteredList g.I.Tokens.model g.B.Bodies.is_faithful include_in
     (run g.B.BodyForms.forms (sym (Args l.fn.is_dynamic_import)))
-    (args_behind g.B.BodyForms.forms l.fn.is_dynamic_import (item_trees (tree_of l.p.nodes) l.items.items)
-    l.trailing_comma)
-    l.fn.p.input l.p.input
-    × (to_come g.I.Tokens.model l.p.input ≤ to_come g.I.Tokens.model l.fn.p.input)
-    × Grows l.fn.p.nodes l.p.nodes
-    × Apart (count l.fn.p.nodes) l.p.nodes (args_parts l.items)
+    (item_trees (tree_of l.p.nodes) l.items.items) (args_parts l.items) l.trailing_comma l.fn.p l.p
 
 abbrev pub decreases-parse_args-loop-value : goal.decreases-parse_args-loop-value
 decreases-parse_args-loop-value g l = to_come g.I.Tokens.model l.p.input
@@ -126,13 +127,8 @@ decreases-parse_elements g l = to_come g.I.Tokens.model l.p.now.input * 20 + 16
 
 abbrev pub invariant-parse_elements-loop-items : goal.invariant-parse_elements-loop-items
 invariant-parse_elements-loop-items g l =
-    On g.I.Tokens.model g.B.Bodies.is_faithful
-    (run g.B.BodyForms.forms (sym Elements))
-    (elements_behind g.B.BodyForms.forms (elem_trees (tree_at l.p.nodes) l.items) l.trailing_comma)
-    l.fn.p.input l.p.input
-    × (to_come g.I.Tokens.model l.p.input ≤ to_come g.I.Tokens.model l.fn.p.input)
-    × Grows l.fn.p.nodes l.p.nodes
-    × Apart (count l.fn.p.nodes) l.p.nodes (elem_parts l.items)
+    ItemsRead g.I.Tokens.model g.B.Bodies.is_faithful (run g.B.BodyForms.forms (sym Elements))
+    (elem_trees (tree_at l.p.nodes) l.items) (elem_parts l.items) l.trailing_comma l.fn.p l.p
 
 abbrev pub decreases-parse_elements-loop-items : goal.decreases-parse_elements-loop-items
 decreases-parse_elements-loop-items g l = to_come g.I.Tokens.model l.p.input
@@ -143,18 +139,17 @@ decreases-parse_prop_name g l = to_come g.I.Tokens.model l.p.now.input * 20 + 16
 abbrev pub decreases-parse_object_prop : goal.decreases-parse_object_prop
 decreases-parse_object_prop g l = to_come g.I.Tokens.model l.p.now.input * 20 + 18
 
+abbrev pub decreases-parse_method : goal.decreases-parse_method
+decreases-parse_method g l = to_come g.I.Tokens.model l.p.now.input * 20 + 16
+
 abbrev pub decreases-parse_props : goal.decreases-parse_props
 decreases-parse_props g l = to_come g.I.Tokens.model l.p.now.input * 20 + 20
 
 abbrev pub invariant-parse_props-loop-items : goal.invariant-parse_props-loop-items
 invariant-parse_props-loop-items g l =
-    On g.I.Tokens.model g.B.Bodies.is_faithful
-    (run g.B.BodyForms.forms (sym Props))
-    (props_behind g.B.BodyForms.forms (props_trees g.B.Fun.Spanned.place g.B.Class.Spanned.place g.B.Block.Spanned.place (tree_at l.p.nodes) l.items) l.trailing_comma)
-    l.fn.p.input l.p.input
-    × (to_come g.I.Tokens.model l.p.input ≤ to_come g.I.Tokens.model l.fn.p.input)
-    × Grows l.fn.p.nodes l.p.nodes
-    × Apart (count l.fn.p.nodes) l.p.nodes (props_parts l.items)
+    ItemsRead g.I.Tokens.model g.B.Bodies.is_faithful (run g.B.BodyForms.forms (sym Props))
+    (props_trees g.B.Fun.Spanned.place g.B.Class.Spanned.place g.B.Block.Spanned.place (tree_at l.p.nodes) l.items)
+    (props_parts l.items) l.trailing_comma l.fn.p l.p
 
 abbrev pub decreases-parse_props-loop-items : goal.decreases-parse_props-loop-items
 decreases-parse_props-loop-items g l = to_come g.I.Tokens.model l.p.input
@@ -175,3 +170,55 @@ invariant-parse_tpl_elements-loop-value g l =
 
 abbrev pub decreases-parse_tpl_elements-loop-value : goal.decreases-parse_tpl_elements-loop-value
 decreases-parse_tpl_elements-loop-value g l = to_come g.I.Tokens.model l.p.input
+
+abbrev pub decreases-parse_object_pat_prop : goal.decreases-parse_object_pat_prop
+decreases-parse_object_pat_prop g l = to_come g.I.Tokens.model l.p.now.input * 20 + 17
+
+abbrev pub invariant-parse_pat_props-loop-items : goal.invariant-parse_pat_props-loop-items
+invariant-parse_pat_props-loop-items g l =
+    PatPropsRead g.I.Tokens.model g.B.Bodies.is_faithful g.B.BodyForms.forms l.items.items l.trailing_comma l.fn.p l.p
+
+abbrev pub decreases-parse_pat_props-loop-items : goal.decreases-parse_pat_props-loop-items
+decreases-parse_pat_props-loop-items g l = to_come g.I.Tokens.model l.p.input
+
+abbrev pub decreases-parse_pat_props : goal.decreases-parse_pat_props
+decreases-parse_pat_props g l = to_come g.I.Tokens.model l.p.now.input * 20 + 18
+
+abbrev pub decreases-parse_binding_element : goal.decreases-parse_binding_element
+decreases-parse_binding_element g l = to_come g.I.Tokens.model l.p.now.input * 20 + 2
+
+abbrev pub decreases-parse_pat : goal.decreases-parse_pat
+decreases-parse_pat g l = to_come g.I.Tokens.model l.p.now.input * 20 + 1
+
+abbrev pub decreases-parse_pat_elements : goal.decreases-parse_pat_elements
+decreases-parse_pat_elements g l = to_come g.I.Tokens.model l.p.now.input * 20 + 3
+
+abbrev pub invariant-parse_pat_elements-loop-items : goal.invariant-parse_pat_elements-loop-items
+invariant-parse_pat_elements-loop-items g l =
+    On g.I.Tokens.model g.B.Bodies.is_faithful
+    (run g.B.BodyForms.forms (sym PatElements))
+    (elements_left g.B.BodyForms.forms (stage_of l.rest) (map (if_there l.p.nodes) l.items.items))
+    l.fn.p.input l.p.input
+    × (to_come g.I.Tokens.model l.p.input ≤ to_come g.I.Tokens.model l.fn.p.input)
+    × Grows l.fn.p.nodes l.p.nodes
+    × Apart (count l.fn.p.nodes) l.p.nodes (pat_elem_parts l.items)
+
+abbrev pub decreases-parse_pat_elements-loop-items : goal.decreases-parse_pat_elements-loop-items
+decreases-parse_pat_elements-loop-items g l = to_come g.I.Tokens.model l.p.input
+
+abbrev pub decreases-parse_formal_params : goal.decreases-parse_formal_params
+decreases-parse_formal_params g l = to_come g.I.Tokens.model l.p.now.input * 20 + 3
+
+abbrev pub invariant-parse_formal_params-loop-params : goal.invariant-parse_formal_params-loop-params
+invariant-parse_formal_params-loop-params g l =
+    On g.I.Tokens.model g.B.Bodies.is_faithful
+    (run g.B.BodyForms.forms (sym Params))
+    (params_left g.B.BodyForms.forms (stage_of l.rest) (params_at l.p.nodes l.params))
+    l.fn.p.input l.p.input
+    × (to_come g.I.Tokens.model l.p.input ≤ to_come g.I.Tokens.model l.fn.p.input)
+    × Grows l.fn.p.nodes l.p.nodes
+    × Apart (count l.fn.p.nodes) l.p.nodes (flat param_parts l.params.items)
+    × placed l.p.nodes l.params.items
+
+abbrev pub decreases-parse_formal_params-loop-params : goal.decreases-parse_formal_params-loop-params
+decreases-parse_formal_params-loop-params g l = to_come g.I.Tokens.model l.p.input

@@ -1,0 +1,6 @@
+pub mod Answers
+pub mod Arrays
+pub mod Loops
+pub mod Objects
+pub mod Params
+pub mod Rests
