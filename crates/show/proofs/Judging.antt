@@ -4,22 +4,22 @@ use Rattle.swc_context.specs.declared.context.Context.{Context}
 use Rattle.swc_context.specs.declared.context.Syntax.{Syntax}
 use Rattle.swc_context.specs.declared.error.Error.{Error}
 use Rattle.swc_input.specs.declared.token.TokenAndSpan.{TokenAndSpan}
+use Rattle.swc_ast.specs.Tree.{Tree}
 use Rattle.swc_ast.specs.declared.spanned.Spanned.{Ghosts}
 use Rattle.swc_bodies.specs.Keeping.{Body}
 use Rattle.swc_bodies.specs.Taking.{token_forms}
-use Rattle.swc_nodes.specs.declared.node.ExprId.{ExprId}
+use Rattle.swc_grammar.specs.Symbols.{Symbol}
 use Rattle.swc_nodes.specs.declared.nodes.Nodes.{Nodes}
-use Rattle.swc_steps.specs.Parsing.{tree_of}
 use Rattle.swc_ecma_parser.specs.WholeList.{plain_list, IsHeeded, Headline}
 use Rattle.show.specs.Answers.{as_default, Judged, Shows}
 use Rattle.show.specs.declared.answer.Shown.{Shown}
 
-module _ {fg cg kg : Ghosts Body} (c : Context) (ts : List TokenAndSpan) (nodes : Nodes Body Body Body fg cg kg)
-    (recorded : List Error) where
-  pub judged_of : (read : Result (ExprId × Bool) Error) (shown : Result Shown Error)
-      → Headline true token_forms c as_default (plain_list ts) read nodes recorded → Shows read shown → Judged c ts shown recorded
-  judged_of (Ok r) (Ok s) h same = record {
-    sound = λ whole none. record { tree = tree_of nodes r.0; reads = h.sound (sym same ∙ whole) none };
+module _ {N : Type 0} {fg cg kg : Ghosts Body} (s : Symbol) (tree : Nodes Body Body Body fg cg kg → N → Tree Body Body Body)
+    (c : Context) (ts : List TokenAndSpan) (nodes : Nodes Body Body Body fg cg kg) (recorded : List Error) where
+  pub judged_of : (read : Result (N × Bool) Error) (shown : Result Shown Error)
+      → Headline true token_forms s tree c as_default (plain_list ts) read nodes recorded → Shows read shown → Judged s c ts shown recorded
+  judged_of (Ok r) (Ok v) h same = record {
+    sound = λ whole none. record { tree = tree nodes r.0; reads = h.sound (sym same ∙ whole) none };
     complete = λ d. let found = h.complete refl d.tree d.reads in (same ∙ found.1, found.2);
   }
   judged_of (Ok r) (Err e) h wanting = record {
@@ -27,16 +27,16 @@ module _ {fg cg kg : Ghosts Body} (c : Context) (ts : List TokenAndSpan) (nodes 
     complete = λ d. wanting;
   }
   judged_of (Err e) shown h same =
-      subst (λ v. Judged c ts v recorded) (sym same) (record {
+      subst (λ v. Judged s c ts v recorded) (sym same) (record {
         sound = tt;
         complete = λ d. h.complete refl d.tree d.reads;
       })
 
   -- the same where faults are recorded, by the syntax in which the program reads
-  pub judged_by : (x : Syntax) {read : Result (ExprId × Bool) Error} {shown : Result Shown Error} → x ≡ as_default
+  pub judged_by : (x : Syntax) {read : Result (N × Bool) Error} {shown : Result Shown Error} → x ≡ as_default
       → c.ignore_error ≡ false
-      → (IsHeeded c x → Headline true token_forms c x (plain_list ts) read nodes recorded) → Shows read shown
-      → Judged c ts shown recorded
+      → (IsHeeded c x → Headline true token_forms s tree c x (plain_list ts) read nodes recorded) → Shows read shown
+      → Judged s c ts shown recorded
   judged_by x {read} {shown} same heeded h shows =
-      let headed = λ (y : Syntax). IsHeeded c y → Headline true token_forms c y (plain_list ts) read nodes recorded in
+      let headed = λ (y : Syntax). IsHeeded c y → Headline true token_forms s tree c y (plain_list ts) read nodes recorded in
       judged_of read shown (subst headed same h (heeded, refl)) shows

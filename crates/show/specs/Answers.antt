@@ -12,12 +12,13 @@ use Rattle.swc_bodies.specs.Taking.{token_forms}
 use Rattle.swc_tokens.specs.Faults.{lex_fault, between, IsRefusal}
 use Rattle.swc_tokens.specs.Nesting.{AreNested}
 use Rattle.swc_tokens.specs.Reading.{AreRead}
-use Rattle.swc_grammar.specs.Symbols.{Expr}
+use Rattle.swc_grammar.specs.Symbols.{Symbol, Expr, Pat}
 use Rattle.swc_grammar.specs.Reads.{Reads}
-use Rattle.swc_nodes.specs.declared.node.ExprId.{ExprId}
 use Rattle.swc_steps.specs.Parsing.{scope_of}
 use Rattle.swc_ecma_parser.specs.WholeList.{plain_list}
 use Rattle.show.specs.declared.answer.Shown.{Shown}
+use Rattle.show.specs.declared.answer.What.{What}
+use Rattle.show.specs.declared.answer.What.TheVariants as kind
 
 -- the syntax in which the program reads
 abbrev pub as_default : Syntax
@@ -33,27 +34,32 @@ pub record IsTokenFault (text : List ℕ) (e : Error) : Type 0 where
   pub too_long : 4294967295 < length text → e ≡ lex_fault (between 0 0)
   pub inside : length text ≤ 4294967295 → IsRefusal text e
 
--- a tree that the written grammar derives from all of the tokens; four flags of the context decide nothing (`view`)
-pub record Derived (c : Context) (ts : List TokenAndSpan) : Type 0 where
+-- as which symbol a text is read
+abbrev pub symbol_of : What → Symbol
+symbol_of kind.Expr = Expr
+symbol_of kind.Pat = Pat
+
+-- a tree of the symbol that the written grammar derives from all of the tokens; four flags of the context decide nothing (`view`)
+pub record Derived (s : Symbol) (c : Context) (ts : List TokenAndSpan) : Type 0 where
   pub tree : Tree Body Body Body
-  pub reads : Reads token_forms Expr (scope_of (view c) as_default) (plain_list ts) [] tree
+  pub reads : Reads token_forms s (scope_of (view c) as_default) (plain_list ts) [] tree
 
 -- what is answered of a text's tokens, and recorded
-pub record Judged (c : Context) (ts : List TokenAndSpan) (shown : Result Shown Error) (recorded : List Error) : Type 0 where
+pub record Judged (s : Symbol) (c : Context) (ts : List TokenAndSpan) (shown : Result Shown Error) (recorded : List Error) : Type 0 where
   -- Where no token is left and nothing was recorded, the written grammar derives a tree from all of them.
-  pub sound : IfOk shown (λ s. s.unread ≡ false → recorded ≡ [] → Derived c ts)
+  pub sound : IfOk shown (λ v. v.unread ≡ false → recorded ≡ [] → Derived s c ts)
   -- Where it derives a tree from all of them, that is so, or memory was wanted.
-  pub complete : Derived c ts
-      → MatchResult shown (λ s. (s.unread ≡ false) × (recorded ≡ [])) (λ e. e.kind ≡ OutOfMemory)
+  pub complete : Derived s c ts
+      → MatchResult shown (λ v. (v.unread ≡ false) × (recorded ≡ [])) (λ e. e.kind ≡ OutOfMemory)
 
--- what is answered of a text in a context, and recorded
-pub data Answers (c : Context) (text : List ℕ) : Result Shown Error → List Error → Type 0 where
+-- what is answered of a text that is read as the symbol in a context, and recorded
+pub data Answers (s : Symbol) (c : Context) (text : List ℕ) : Result Shown Error → List Error → Type 0 where
   -- The text's tokens can't be read.
-  refused : {e : Error} → IsTokenFault text e → Answers c text (Err e) []
-  -- They were read as an expression.
+  refused : {e : Error} → IsTokenFault text e → Answers s c text (Err e) []
+  -- They were read.
   judged : {ts : List TokenAndSpan} {shown : Result Shown Error} {recorded : List Error} → AreTokens text ts
-      → Judged c ts shown recorded → Answers c text shown recorded
+      → Judged s c ts shown recorded → Answers s c text shown recorded
 
 -- what was read is shown: whether tokens are left behind it, or the refusal; there may be no memory for its text
-abbrev pub Shows : Result (ExprId × Bool) Error → Result Shown Error → Type 0
-Shows read shown = MatchResult read (λ r. MatchResult shown (λ s. s.unread ≡ r.1) (λ e. e.kind ≡ OutOfMemory)) (λ e. shown ≡ Err e)
+abbrev pub Shows : {N : Type 0} → Result (N × Bool) Error → Result Shown Error → Type 0
+Shows read shown = MatchResult read (λ r. MatchResult shown (λ v. v.unread ≡ r.1) (λ e. e.kind ≡ OutOfMemory)) (λ e. shown ≡ Err e)

@@ -4,7 +4,10 @@ use Rattle.swc_context.specs.Contexts.{script_context, module_context, strict_co
 use Rattle.swc_context.specs.Texts.{is_text}
 use Rattle.swc_context.specs.declared.context.Context.{Context}
 use Rattle.swc_context.specs.declared.error.Error.{Error}
+use Rattle.swc_grammar.specs.Symbols.{Symbol}
 use Rattle.show.specs.declared.answer.Shown.{Shown}
+use Rattle.show.specs.declared.answer.What.{What}
+use Rattle.show.specs.declared.answer.What.TheVariants as kind
 use Rattle.show.specs.Answers.{Answers}
 
 -- the context of a mode
@@ -17,17 +20,28 @@ context_of_mode mode =
     else (if is_text mode (codes "async") then Some async_context
     else None))))
 
--- the context of what is to be read, which so far is `expr`, and a mode
-abbrev pub context_of_words : List ℕ → List ℕ → Option Context
-context_of_words what mode = if is_text what (codes "expr") then context_of_mode mode else None
+-- what is asked for in a mode
+abbrev pub asked_with : What → Option Context → Option (What × Context)
+asked_with what None = None
+asked_with what (Some c) = Some (what, c)
 
--- the context that the arguments ask for
-abbrev pub context_of : List (List ℕ) → Option Context
-context_of (what ∷ mode ∷ []) = context_of_words what mode
-context_of arguments = None
+abbrev pub asked_in : What → List ℕ → Option (What × Context)
+asked_in what mode = asked_with what (context_of_mode mode)
+
+-- by two words: `expr` or `pat`, and a mode
+abbrev pub asked_by_words : List ℕ → List ℕ → Option (What × Context)
+asked_by_words what mode =
+    if is_text what (codes "expr") then asked_in kind.Expr mode
+    else (if is_text what (codes "pat") then asked_in kind.Pat mode
+    else None)
+
+-- by the arguments
+abbrev pub asked_by : List (List ℕ) → Option (What × Context)
+asked_by (what ∷ mode ∷ []) = asked_by_words what mode
+asked_by arguments = None
 
 abbrev pub Asks : List (List ℕ) → Type 0
-Asks arguments = IsSome (context_of arguments)
+Asks arguments = IsSome (asked_by arguments)
 
 -- the status of what was read, or refused, with the faults that were recorded
 abbrev pub status : {S : Type 0} → Result S Error → List Error → ℕ
@@ -35,10 +49,10 @@ status (Err e) es = 2
 status (Ok s) [] = 0
 status (Ok s) (e ∷ es) = 1
 
--- the status of a run in a context, over an input that gives these bytes, where they are known
-pub data Runs (c : Context) (given : Option (List ℕ)) : ℕ → Type 0 where
+-- the status of a run that reads a symbol in a context, over an input that gives these bytes, where they are known
+pub data Runs (s : Symbol) (c : Context) (given : Option (List ℕ)) : ℕ → Type 0 where
   -- The input couldn't be read, or the answer couldn't be written.
-  fails : Runs c given 3
+  fails : Runs s c given 3
   -- What the input gave was answered.
   answers : {text : List ℕ} {shown : Result Shown Error} {recorded : List Error} → IfSome given (λ bytes. text ≡ bytes)
-      → Answers c text shown recorded → Runs c given (status shown recorded)
+      → Answers s c text shown recorded → Runs s c given (status shown recorded)

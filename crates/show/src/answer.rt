@@ -1,8 +1,9 @@
 // What the parser makes of a source text.
 ghost use Rattle.std.specs.Prelude.{◌≡◌, false, IfOk};
-ghost use Rattle.show.specs.Answers.{Answers, Shows};
+ghost use Rattle.show.specs.Answers.{Answers, Judged, Shows, symbol_of};
 ghost use Rattle.show.specs.Calls as calls;
-ghost use Rattle.swc_nodes.specs.NodeParts.{expr_part};
+ghost use Rattle.swc_grammar.specs.Symbols.{Expr, Pat};
+ghost use Rattle.swc_nodes.specs.NodeParts.{expr_part, pat_part};
 ghost use Rattle.swc_nodes.specs.GrowingNodes.{From};
 
 use std::alloc::Global;
@@ -10,11 +11,21 @@ use std::mem::forget;
 use swc_bodies::token_bodies::TokenBodies;
 use swc_context::context::{Context, EsVersion, Syntax};
 use swc_context::error::{Error, PResult};
-use swc_ecma_parser::whole::{Whole, parse_whole_expr};
-use swc_nodes::node::ExprId;
+use swc_ecma_parser::whole::{Whole, parse_whole_expr, parse_whole_pat};
+use swc_input::token::TokenAndSpan;
+use swc_nodes::node::{ExprId, PatId};
 use swc_nodes::nodes::NodesOf;
 use swc_print::print::PrintNodes;
 use swc_tokens::read_tokens;
+
+/// What a text is read as.
+#[derive(Clone, Copy)]
+pub enum What {
+    /// An expression.
+    Expr,
+    /// A binding pattern.
+    Pat,
+}
 
 /// A tree, printed.
 #[derive(Drop)]
@@ -50,29 +61,13 @@ impl Answer {
     }
 }
 
-/// Reads the text as an expression. A fault of the reader of tokens is a refusal.
-pub fn answer_to(alloc: Global, text: &[u8], ctx: Context) -> Answer
-    ensures { ctx.ignore_error ≡ false → Answers ctx text.now result.shown result.recorded.items }
+/// Reads the text as an expression or a pattern. A fault of the reader of tokens is a refusal.
+pub fn answer_to(alloc: Global, text: &[u8], what: What, ctx: Context) -> Answer
+    ensures { ctx.ignore_error ≡ false
+        → Answers (symbol_of what) ctx text.now result.shown result.recorded.items }
 {
     match read_tokens(alloc, text) {
-        Ok(tokens) => {
-            let Whole {
-                read,
-                nodes,
-                recorded,
-            } = parse_whole_expr(
-                alloc,
-                tokens,
-                ctx,
-                Syntax::default(),
-                EsVersion::default(),
-                TokenBodies::new(alloc),
-            );
-            let shown = show(alloc, &nodes, read);
-            // The program ends soon: its memory goes back as a whole, faster than a node at a time.
-            forget(nodes);
-            Answer { shown, recorded }
-        }
+        Ok(tokens) => answer_to_tokens(alloc, tokens, what, ctx),
         Err(fault) => Answer {
             shown: Err(fault),
             recorded: Vec::new(alloc),
@@ -80,16 +75,76 @@ pub fn answer_to(alloc: Global, text: &[u8], ctx: Context) -> Answer
     }
 }
 
-/// What was read, printed.
-fn show(
-    alloc: Global,
-    nodes: &NodesOf<TokenBodies>,
-    read: PResult<(ExprId, bool)>,
-) -> PResult<Shown>
+/// Reads the tokens as an expression or a pattern.
+fn answer_to_tokens(alloc: Global, tokens: Vec<TokenAndSpan>, what: What, ctx: Context) -> Answer
+    ensures { ctx.ignore_error ≡ false
+        → Judged (symbol_of what) ctx tokens.items result.shown result.recorded.items }
+{
+    match what {
+        What::Expr => answer_expr(alloc, tokens, ctx),
+        What::Pat => answer_pat(alloc, tokens, ctx),
+    }
+}
+
+/// Reads the tokens as an expression.
+fn answer_expr(alloc: Global, tokens: Vec<TokenAndSpan>, ctx: Context) -> Answer
+    ensures { ctx.ignore_error ≡ false → Judged Expr ctx tokens.items result.shown result.recorded.items }
+{
+    let Whole {
+        read,
+        nodes,
+        recorded,
+    } = parse_whole_expr(
+        alloc,
+        tokens,
+        ctx,
+        Syntax::default(),
+        EsVersion::default(),
+        TokenBodies::new(alloc),
+    );
+    let shown = show_expr(&nodes, read);
+    // The program ends soon: its memory goes back as a whole, faster than a node at a time.
+    forget(nodes);
+    Answer { shown, recorded }
+}
+
+/// Reads the tokens as a binding pattern.
+fn answer_pat(alloc: Global, tokens: Vec<TokenAndSpan>, ctx: Context) -> Answer
+    ensures { ctx.ignore_error ≡ false → Judged Pat ctx tokens.items result.shown result.recorded.items }
+{
+    let Whole {
+        read,
+        nodes,
+        recorded,
+    } = parse_whole_pat(
+        alloc,
+        tokens,
+        ctx,
+        Syntax::default(),
+        EsVersion::default(),
+        TokenBodies::new(alloc),
+    );
+    let shown = show_pat(&nodes, read);
+    forget(nodes);
+    Answer { shown, recorded }
+}
+
+/// An expression that was read, printed.
+fn show_expr(nodes: &NodesOf<TokenBodies>, read: PResult<(ExprId, bool)>) -> PResult<Shown>
     requires { IfOk read (λ r. From 0 nodes.now (expr_part r.0)) }
     ensures { Shows read result }
 {
     let (expr, unread) = read?;
     let tree = nodes.print_expr(expr)?;
+    Ok(Shown { tree, unread })
+}
+
+/// A pattern that was read, printed.
+fn show_pat(nodes: &NodesOf<TokenBodies>, read: PResult<(PatId, bool)>) -> PResult<Shown>
+    requires { IfOk read (λ r. From 0 nodes.now (pat_part r.0)) }
+    ensures { Shows read result }
+{
+    let (pat, unread) = read?;
+    let tree = nodes.print_pat(pat)?;
     Ok(Shown { tree, unread })
 }

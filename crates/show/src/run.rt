@@ -1,9 +1,10 @@
 // The program.
 ghost use Rattle.std.specs.Prelude.{◌≡◌, ◌≢◌, ◌≤◌, map, IfSome};
-ghost use Rattle.show.specs.Calls.{Asks, context_of, Runs};
+ghost use Rattle.show.specs.Answers.{symbol_of};
+ghost use Rattle.show.specs.Calls.{Asks, asked_by, Runs};
 
 use crate::answer::{Answer, answer_to};
-use crate::arguments::context_of;
+use crate::arguments::asked_by;
 use std::alloc::Global;
 use std::io;
 use std::io::{Read, Write};
@@ -29,12 +30,13 @@ pub fn run<R: Read, W: Write, C: Write>(
     output: &mut W,
     complaints: &mut C,
 ) -> u8
-    ensures status { IfSome (context_of (map (λ a. a.now) arguments.now)) (λ c. Runs c (R.remaining input.old) result) }
+    ensures status { IfSome (asked_by (map (λ a. a.now) arguments.now))
+        (λ a. Runs (symbol_of a.0) a.1 (R.remaining input.old) result) }
     ensures bad_call { ¬ Asks (map (λ a. a.now) arguments.now) → result ≡ 3 }
     ensures unread { ¬ Asks (map (λ a. a.now) arguments.now) → input.new ≡ input.old }
     ensures unwritten { ¬ Asks (map (λ a. a.now) arguments.now) → output.new ≡ output.old }
 {
-    let Some(ctx) = context_of(arguments) else {
+    let Some((what, ctx)) = asked_by(arguments) else {
         let _ = writeln!(complaints, "{USAGE}");
         return BAD_CALL;
     };
@@ -43,7 +45,7 @@ pub fn run<R: Read, W: Write, C: Write>(
         let _ = writeln!(complaints, "{UNREADABLE}");
         return BAD_CALL;
     }
-    let answer = answer_to(alloc, &text, ctx);
+    let answer = answer_to(alloc, &text, what, ctx);
     match write_answer(output, &answer) {
         Ok(()) => answer.status(),
         Err(_) => BAD_CALL,

@@ -60,7 +60,7 @@ module _ {S H T F C K : Type 0} {fg : Ghosts F} {cg : Ghosts C} {kg : Ghosts K} 
   -- the buffer, the nodes and the commas before the parser remembers want of memory
   pub promised : {p q : Parser S H F C K fg cg kg} {f : Bool} (b : Buffer S) (ns : Nodes F C K fg cg kg) (cs : TrailingCommas) (a r : Result T Error) → has_failed p ≡ false → f ≡ has_failed p →
       r ≡ a → buffer_of q ≡ b → nodes_of q ≡ ns → commas_of q ≡ cs → has_failed q ≡ (f || wants_memory a) → Meets model sure (answer.derives hook s) (answer.tree ns) s (buffer_of p) a b
-      → MatchResult a (λ x. RemembersAll model hook answer.strip s (answer.tree ns x) (buffer_of p) b (commas_of p) cs) (λ x. x.kind ≢ OutOfMemory → cs ≡ commas_of p)
+      → MatchResult a (λ x. RemembersAll model (answer.marked hook s) answer.strip (answer.tree ns x) (buffer_of p) b (commas_of p) cs) (λ x. x.kind ≢ OutOfMemory → cs ≡ commas_of p)
       → answer.leaves (nodes_of p) a ns → Promised model sure hook answer s p r q
   promised {p} {q} b ns cs a r runs same e buffer nodes commas fails done remembers leaves =
       let left : answer.leaves (nodes_of p) r (nodes_of q) = rw (e, nodes) leaves in

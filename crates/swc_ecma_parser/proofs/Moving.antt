@@ -27,7 +27,7 @@ use Rattle.swc_grammar.specs.Words.{◌>>=◌}
 use Rattle.swc_nodes.specs.Commas.{comma_at, commas_in, part_commas, Recalls}
 use Rattle.swc_nodes.specs.Commas as recall
 use Rattle.swc_nodes.specs.NumberedTrees.{floor}
-use Rattle.swc_nodes.specs.NodeParts.{Part, one_expr, expr_part}
+use Rattle.swc_nodes.specs.NodeParts.{Part}
 use Rattle.swc_nodes.specs.GrowingNodes.{count, seat_at, tree_at, bare_at, Apart, From, Grows, CutTo, Left, SameNodes}
 use Rattle.swc_nodes.specs.declared.commas.TrailingCommas.{TrailingCommas}
 use Rattle.swc_nodes.specs.declared.node.ExprId.{ExprId}
@@ -37,12 +37,12 @@ use Rattle.swc_nodes.proofs.Chains.{chain-down, floor-under}
 use Rattle.swc_nodes.proofs.Standing.{cut_kept, grows-same}
 use Rattle.swc_nodes.proofs.Unmarked.{unmarked-node}
 use Rattle.swc_steps.specs.declared.tokens.Listed.{Listed}
-use Rattle.swc_steps.specs.Parsing.{tree_of, args_at, Loud, Heard, Unheard, Parses}
+use Rattle.swc_steps.specs.Parsing.{args_at, Loud, Heard, Unheard, Parses}
 use Rattle.swc_productions.specs.Pieces.{tpl_at}
 use Rattle.swc_steps.proofs.Steps.{Reader, spent, heard_call, unheard_call, unheard_memory}
 use Rattle.swc_ecma_parser.specs.Calls.{tree_by, Kept}
-use Rattle.swc_ecma_parser.specs.Promise.{only_items, items_and_comma, list_tree, Unmarred, Derives, RemembersAll}
-use Rattle.swc_ecma_parser.proofs.Top.{bare, stripped, is_sound, sound}
+use Rattle.swc_ecma_parser.specs.Promise.{Derivation, only_items, items_and_comma, list_tree, Unmarred, Derives, RemembersAll}
+use Rattle.swc_ecma_parser.proofs.Top.{IsSound, bare, stripped, is_sound, sound}
 
 module _ {F C K : Type 0} {fg : Ghosts F} {cg : Ghosts C} {kg : Ghosts K} where
   -- nodes were appended, and cut off again
@@ -57,40 +57,40 @@ module _ {F C K : Type 0} {fg : Ghosts F} {cg : Ghosts C} {kg : Ghosts K} where
   pub apart-taken : {X : Type 0} {ns : Nodes F C K fg cg kg} {x : X} (parts : X → List Part) (k : ℕ) (answer : Result X Error) → answer ≡ Ok x → IfOk answer (λ y. Apart k ns (parts y)) → Apart 0 ns (parts x)
   apart-taken {ns = ns} {x = x} parts k answer e h = apart-low (parts x) (subst (λ r. IfOk r (λ y. Apart k ns (parts y))) e h)
 
-  -- one number of an answer
-  pub apart-kept : (ns : Nodes F C K fg cg kg) (k : ℕ) (answer : Result ExprId Error) → IfOk answer (λ id. Apart k ns (one_expr id)) → IfOk answer (λ id. Apart 0 ns (one_expr id))
-  apart-kept ns k (Ok id) a = apart-low (one_expr id) a
-  apart-kept ns k (Err e) a = tt
+  -- the number of an answer
+  pub apart-kept : {X : Type 0} (parts : X → List Part) (ns : Nodes F C K fg cg kg) (k : ℕ) (answer : Result X Error) → IfOk answer (λ id. Apart k ns (parts id)) → IfOk answer (λ id. Apart 0 ns (parts id))
+  apart-kept parts ns k (Ok id) a = apart-low (parts id) a
+  apart-kept parts ns k (Err e) a = tt
 
   -- nothing was taken out
   pub left-same : (ns : Nodes F C K fg cg kg) (ps : List Part) → Apart 0 ns ps → Left (floor (seat_at ns) (count ns) ps) ns ns
   left-same ns ps a = record { grows = grows-same ns; above = floor-under (seat_at ns) 0 ps (count ns) a.chained }
 
   -- after a refusal alone
-  pub kept-leaves : {ns ms : Nodes F C K fg cg kg} (ls : Nodes F C K fg cg kg) (at : BytePos) (answer r : Result ExprId Error) → Grows ns ms → IfOk answer (λ id. From (count ns) ms (expr_part id)) →
-      Kept at answer r → MatchResult r (λ id. ls ≡ ms) (λ e. CutTo (count ns) ms ls) → MatchResult r (λ id. Grows ns ls × From (count ns) ls (expr_part id)) (λ e. SameNodes ns ls)
-  kept-leaves {ns} {ms} ls at (Ok id) (Ok j) g f k e =
-      subst (λ v. Grows ns v × From (count ns) v (expr_part j)) (sym e) (g, subst (λ y. From (count ns) ms (expr_part y)) (sym k) f)
-  kept-leaves ls at (Err x) (Ok j) g f k e = absurd cc
-  kept-leaves ls at (Ok id) (Err x) g f k e = cut-back ls g e
-  kept-leaves ls at (Err y) (Err x) g f k e = cut-back ls g e
+  pub kept-leaves : {X : Type 0} (part : X → Part) {ns ms : Nodes F C K fg cg kg} (ls : Nodes F C K fg cg kg) (at : BytePos) (answer r : Result X Error) → Grows ns ms → IfOk answer (λ id. From (count ns) ms (part id)) →
+      Kept at answer r → MatchResult r (λ id. ls ≡ ms) (λ e. CutTo (count ns) ms ls) → MatchResult r (λ id. Grows ns ls × From (count ns) ls (part id)) (λ e. SameNodes ns ls)
+  kept-leaves part {ns} {ms} ls at (Ok id) (Ok j) g f k e =
+      subst (λ v. Grows ns v × From (count ns) v (part j)) (sym e) (g, subst (λ y. From (count ns) ms (part y)) (sym k) f)
+  kept-leaves part ls at (Err x) (Ok j) g f k e = absurd cc
+  kept-leaves part ls at (Ok id) (Err x) g f k e = cut-back ls g e
+  kept-leaves part ls at (Err y) (Err x) g f k e = cut-back ls g e
 
   -- the answer stands for what the number stood for
-  pub kept-moved : (ms ns : Nodes F C K fg cg kg) (at : BytePos) (k : ℕ) (answer r : Result ExprId Error) → Kept at answer r → MatchResult r (λ id. ns ≡ ms) (λ e. CutTo k ms ns) →
-      MatchResult answer (λ x. MatchResult r (λ y. tree_of ns y ≡ tree_of ms x) (λ e. e ≡ no_memory at)) (λ e. r ≡ Err e)
-  kept-moved ms ns at k (Ok x) (Ok y) same e = ap (λ v. tree_of v y) e ∙ ap (λ v. tree_of ms v) same
-  kept-moved ms ns at k (Ok x) (Err e) same cut = same
-  kept-moved ms ns at k (Err x) r same e = same
+  pub kept-moved : {X : Type 0} (by : Nodes F C K fg cg kg → X → Tree F C K) (ms ns : Nodes F C K fg cg kg) (at : BytePos) (k : ℕ) (answer r : Result X Error) → Kept at answer r → MatchResult r (λ id. ns ≡ ms) (λ e. CutTo k ms ns) →
+      MatchResult answer (λ x. MatchResult r (λ y. by ns y ≡ by ms x) (λ e. e ≡ no_memory at)) (λ e. r ≡ Err e)
+  kept-moved by ms ns at k (Ok x) (Ok y) same e = ap (λ v. by v y) e ∙ ap (λ v. by ms v) same
+  kept-moved by ms ns at k (Ok x) (Err e) same cut = same
+  kept-moved by ms ns at k (Err x) r same e = same
 
-module _ {S F C K : Type 0} {fg : Ghosts F} {cg : Ghosts C} {kg : Ghosts K} (model : Model S) (sure : Bool) (f : Reader (Tree F C K)) where
+module _ {S F C K X : Type 0} {fg : Ghosts F} {cg : Ghosts C} {kg : Ghosts K} (model : Model S) (sure : Bool) (f : Reader (Tree F C K)) (by : Nodes F C K fg cg kg → X → Tree F C K) where
   -- what is answered by number, or memory was wanted
-  pub kept-parses : (ms ns : Nodes F C K fg cg kg) (k : ℕ) (b c : Buffer S) (answer r : Result ExprId Error) → Parses model sure (tree_of ms) f b answer c → Kept (last_position c) answer r →
-      MatchResult r (λ id. ns ≡ ms) (λ e. CutTo k ms ns) → Parses model sure (tree_of ns) f b r c
+  pub kept-parses : (ms ns : Nodes F C K fg cg kg) (k : ℕ) (b c : Buffer S) (answer r : Result X Error) → Parses model sure (by ms) f b answer c → Kept (last_position c) answer r →
+      MatchResult r (λ id. ns ≡ ms) (λ e. CutTo k ms ns) → Parses model sure (by ns) f b r c
   kept-parses ms ns k b c (Ok x) (Ok y) h same e =
-      subst (λ v. Heard model sure f v b c) (sym (ap (λ v. tree_of v y) e ∙ ap (λ v. tree_of ms v) same)) h
+      subst (λ v. Heard model sure f v b c) (sym (ap (λ v. by v y) e ∙ ap (λ v. by ms v) same)) h
   kept-parses ms ns k b c (Ok x) (Err e) h same cut =
       subst (λ v. Unheard model sure f b v c) (sym same) (unheard_memory (record { spends = spent h.on.leads; kind = refl }))
-  kept-parses ms ns k b c (Err x) r h same e = subst (λ v. Parses model sure (tree_of ns) f b v c) (sym same) h
+  kept-parses ms ns k b c (Err x) r h same e = subst (λ v. Parses model sure (by ns) f b v c) (sym same) h
 
 module _ {S F C K X T : Type 0} {fg : Ghosts F} {cg : Ghosts C} {kg : Ghosts K} (model : Model S) (sure : Bool) (f : Reader (Tree F C K)) (ns : Nodes F C K fg cg kg) (by : Nodes F C K fg cg kg → X → Tree F C K) (bare_by : X → Tree F C K) (view : T → Tree F C K) where
   -- what is answered in boxes stands for what the numbers stood for, as `strip` leaves it, or memory was wanted
@@ -156,26 +156,37 @@ module _ {F C K : Type 0} {fg : Ghosts F} {cg : Ghosts C} {kg : Ghosts K} (ns : 
 
 -- ---- what is remembered of the commas of an answer's literals
 
-module _ {S F C K X T : Type 0} {fg : Ghosts F} {cg : Ghosts C} {kg : Ghosts K} (model : Model S) (sure : Bool) (hook : Hook F C K)
-    (laws : LawfulHook fg.place cg.place kg.place hook) (s : Symbol) (strip : Tree F C K → Tree F C K)
+module _ {S F C K X T : Type 0} {fg : Ghosts F} {cg : Ghosts C} {kg : Ghosts K} (model : Model S) (sure : Bool)
+    (derives : Derivation (Tree F C K)) (f : Reader (Tree F C K)) (is : IsSound derives f) (strip : Tree F C K → Tree F C K)
     (ns : Nodes F C K fg cg kg) (by : X → Tree F C K) (bare_by : X → Tree F C K) (view : T → Tree F C K) (parts : X → List Part) where
-  derived : (x : X) (b c : Buffer S) → Parses model sure by (run hook (clean.sym s)) b (Ok x) c → Loud model b → Unmarred model b c
-      → Derives model (Reads hook s) (λ (m : Tree F C K). m) (by x) b c
+  derived : (x : X) (b c : Buffer S) → Parses model sure by f b (Ok x) c → Loud model b → Unmarred model b c
+      → Derives model derives (λ (m : Tree F C K). m) (by x) b c
   derived x b c h loud same =
-      let d = sound model sure (Reads hook s) by (run hook (clean.sym s)) (is_sound hook laws s) b (Ok x) c h loud same in
+      let d = sound model sure derives by f is b (Ok x) c h loud same in
       record { consumed = d.consumed; read = d.read; front = d.front; whole = d.whole }
 
-  pub recalled : (b c : Buffer S) (answer : Result X Error) (r : Result T Error) (old new : TrailingCommas) → Parses model sure by (run hook (clean.sym s)) b answer c
+  pub recalled-by : (b c : Buffer S) (answer : Result X Error) (r : Result T Error) (old new : TrailingCommas) → Parses model sure by f b answer c
       → ((x : X) → strip (by x) ≡ bare_by x) → ((x : X) → commas_in (by x) ≡ part_commas (tree_at ns) (parts x))
       → MatchResult answer (λ x. MatchResult r (λ t. view t ≡ bare_by x) (λ e. e ≡ no_memory (last_position c))) (λ e. r ≡ Err e)
       → MatchResult answer (λ x. OnOk r (Recalls (part_commas (tree_at ns) (parts x)) old new)) (λ e. new ≡ old)
-      → MatchResult r (λ t. RemembersAll model hook strip s (view t) b c old new) (λ e. e.kind ≢ OutOfMemory → new ≡ old)
-  recalled b c (Ok x) (Ok t) old new h same each m q = record {
+      → MatchResult r (λ t. RemembersAll model derives strip (view t) b c old new) (λ e. e.kind ≢ OutOfMemory → new ≡ old)
+  recalled-by b c (Ok x) (Ok t) old new h same each m q = record {
     marked = by x;
     same = same x ∙ sym m;
     derived = derived x b c h;
     recalls = λ k. q k ∙ ap (λ ls. recall.recalled ls k (comma_at old k)) (sym (each x));
   }
-  recalled b c (Ok x) (Err e) old new h same each m q = λ n. absurd (n (ap (λ v. v.kind) m))
-  recalled b c (Err x) (Ok t) old new h same each m q = absurd cc
-  recalled b c (Err x) (Err e) old new h same each m q = λ n. q
+  recalled-by b c (Ok x) (Err e) old new h same each m q = λ n. absurd (n (ap (λ v. v.kind) m))
+  recalled-by b c (Err x) (Ok t) old new h same each m q = absurd cc
+  recalled-by b c (Err x) (Err e) old new h same each m q = λ n. q
+
+module _ {S F C K X T : Type 0} {fg : Ghosts F} {cg : Ghosts C} {kg : Ghosts K} (model : Model S) (sure : Bool) (hook : Hook F C K)
+    (laws : LawfulHook fg.place cg.place kg.place hook) (s : Symbol) where
+  -- of a symbol
+  pub recalled : (strip : Tree F C K → Tree F C K) (ns : Nodes F C K fg cg kg) (by : X → Tree F C K) (bare_by : X → Tree F C K) (view : T → Tree F C K) (parts : X → List Part)
+      → (b c : Buffer S) (answer : Result X Error) (r : Result T Error) (old new : TrailingCommas) → Parses model sure by (run hook (clean.sym s)) b answer c
+      → ((x : X) → strip (by x) ≡ bare_by x) → ((x : X) → commas_in (by x) ≡ part_commas (tree_at ns) (parts x))
+      → MatchResult answer (λ x. MatchResult r (λ t. view t ≡ bare_by x) (λ e. e ≡ no_memory (last_position c))) (λ e. r ≡ Err e)
+      → MatchResult answer (λ x. OnOk r (Recalls (part_commas (tree_at ns) (parts x)) old new)) (λ e. new ≡ old)
+      → MatchResult r (λ t. RemembersAll model (Reads hook s) strip (view t) b c old new) (λ e. e.kind ≢ OutOfMemory → new ≡ old)
+  recalled = recalled-by model sure (Reads hook s) (run hook (clean.sym s)) (is_sound hook laws s)

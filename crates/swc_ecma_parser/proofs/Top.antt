@@ -16,13 +16,13 @@ use Rattle.swc_ast.specs.Tree.{Tree, node}
 use Rattle.swc_ast.specs.Trees.{is_grouped, are_grouped, grouped_at, is_valid, are_valid, is_invalid, unmarked, items_of}
 use Rattle.swc_bodies.specs.Readings.{Hook, LawfulHook}
 use Rattle.swc_grammar.specs.Scope.{Scope}
-use Rattle.swc_grammar.specs.Symbols.{Symbol, Expr, Assign, Level, Unary, Key, Prop, Literal, Arguments, Template}
+use Rattle.swc_grammar.specs.Symbols.{Symbol, Expr, Assign, Level, Unary, Key, Prop, Literal, Arguments, Template, Pat, Element}
 use Rattle.swc_grammar.specs.Reads as grammar
 use Rattle.swc_grammar.specs.Clean.{Out, sym as at, Stop, run}
 use Rattle.swc_grammar.specs.Words.{◌>>=◌}
 use Rattle.swc_grammar.proofs.Sound as clean
 use Rattle.swc_grammar.proofs.Complete as clean_all
-use Rattle.swc_grammar.proofs.Complete.{stops-expr, stops-assign, stops-level, stops-unary}
+use Rattle.swc_grammar.proofs.Complete.{stops-expr, stops-assign, stops-level, stops-unary, stops-element}
 use Rattle.swc_grammar.proofs.Cut.{cut-append}
 use Rattle.swc_grammar.proofs.Good.{grouped, valid}
 use Rattle.swc_grammar.proofs.Literals.{literal-read}
@@ -51,7 +51,7 @@ pub record Meets {S F C K T : Type 0} (model : Model S) (sure : Bool) (derives :
 pub record IsComplete {A : Type 0} (derives : Derivation A) (stops : List TokenAndSpan → Type 0) (f : Reader A) : Type 0 where
   pub complete : (c : Scope) (ts ys : List TokenAndSpan) (t : A) → derives c ts ys t → stops ys → f c ts ≡ Some (t, ys)
 
-parts : {A B : Type 0} (p q : A × B) → Some p ≡ Some q → (p.0 ≡ q.0) × (p.1 ≡ q.1)
+pub parts : {A B : Type 0} (p q : A × B) → Some p ≡ Some q → (p.0 ≡ q.0) × (p.1 ≡ q.1)
 parts p q h = let e : p ≡ q = cc in (ap (λ v. v.0) e, ap (λ v. v.1) e)
 
 -- a reader without the marks of commas
@@ -62,7 +62,7 @@ bare f c ts = f c ts >>= (λ p. Some (unmarked p.0, p.1))
 abbrev pub stripped : {F C K : Type 0} → (Tree F C K → Tree F C K) → Reader (Tree F C K) → Reader (Tree F C K)
 stripped strip f c ts = f c ts >>= (λ p. Some (strip p.0, p.1))
 
-stripped_from : {F C K : Type 0} (strip : Tree F C K → Tree F C K) (o : Out (Tree F C K)) (t : Tree F C K) (ys : List TokenAndSpan)
+pub stripped_from : {F C K : Type 0} (strip : Tree F C K → Tree F C K) (o : Out (Tree F C K)) (t : Tree F C K) (ys : List TokenAndSpan)
     → (o >>= (λ p. Some (strip p.0, p.1))) ≡ Some (t, ys)
     → (m : Tree F C K) × (o ≡ Some (m, ys)) × (strip m ≡ t)
 stripped_from strip None t ys h = absurd cc
@@ -107,11 +107,11 @@ module _ {F C K : Type 0} (hook : Hook F C K) where
   }
 
 -- what holds of each tree that is derived
-record Well {F C K : Type 0} (derives : Derivation (Tree F C K)) : Type 0 where
+pub record Well {F C K : Type 0} (derives : Derivation (Tree F C K)) : Type 0 where
   pub grouped : (c : Scope) (xs ys : List TokenAndSpan) (t : Tree F C K) → derives c xs ys t → is_grouped t ≡ true
   pub valid : (c : Scope) (xs ys : List TokenAndSpan) (t : Tree F C K) → derives c xs ys t → is_valid t ≡ true
 
-right_of : (a b : Bool) → (a && b) ≡ true → b ≡ true
+pub right_of : (a b : Bool) → (a && b) ≡ true → b ≡ true
 right_of true b h = h
 right_of false b h = cc
 
@@ -140,10 +140,10 @@ module _ {F C K : Type 0} where
   }
 
 module _ {F C K : Type 0} (hook : Hook F C K) where
-  well : (s : Symbol) → Well (grammar.Reads hook s)
+  pub well : (s : Symbol) → Well (grammar.Reads hook s)
   well s = record { grouped = λ c xs ys t d. grouped d; valid = λ c xs ys t d. valid d }
 
-  well_bare : (s : Symbol) → Well (grammar.ReadsUnmarked hook s)
+  pub well_bare : (s : Symbol) → Well (grammar.ReadsUnmarked hook s)
   well_bare s = record {
     grouped = λ c xs ys t d. ap (λ v. is_grouped v) (sym d.same) ∙ same-grouped d.marked ∙ grouped d.read;
     valid = λ c xs ys t d. ap (λ v. is_valid v) (sym d.same) ∙ same-valid d.marked ∙ valid d.read;
@@ -155,14 +155,14 @@ module _ {F C K : Type 0} (hook : Hook F C K) where
     valid = λ c xs ys t d. ap (λ v. is_valid v) (sym d.same) ∙ leaves.valid d.marked (valid d.read);
   }
 
-as_many : {es fs : List Error} → Keeps es fs → (length es < length fs → ⊥) → length fs ≡ length es
+pub as_many : {es fs : List Error} → Keeps es fs → (length es < length fs → ⊥) → length fs ≡ length es
 as_many {es} {fs} h none =
     let a = ap length h.added in
     let l = length-append es h.more in
     ⊎_elim (λ lt. absurd (none lt)) (λ ge. omega arith) (cases_lt (length es) (length fs))
 
 -- whether a kind is want of memory can be told
-memory : (k : SyntaxError) → (k ≢ OutOfMemory → ⊥) → k ≡ OutOfMemory
+pub memory : (k : SyntaxError) → (k ≢ OutOfMemory → ⊥) → k ≡ OutOfMemory
 memory OutOfMemory h = refl
 memory k h = absurd (h (λ e. cc))
 
@@ -231,9 +231,15 @@ tpl-stops = record { stop = λ c ys e. tt }
 pub prop-stops : Stopping Prop
 prop-stops = record { stop = λ c ys e. e }
 
+pub pat-stops : Stopping Pat
+pat-stops = record { stop = λ c ys e. tt }
+
+pub element-stops : Stopping Element
+element-stops = record { stop = λ c ys e. stops-element c e }
+
 module _ {S F C K T : Type 0} (model : Model S) (sure : Bool) (hook : Hook F C K)
     {fun_at : F → Span} {class_at : C → Span} {block_at : K → Span} (laws : LawfulHook fun_at class_at block_at hook) (view : T → Tree F C K) where
-  meets : (s : Symbol) (derives : Derivation (Tree F C K)) (f : Reader (Tree F C K)) → IsSound derives f → IsComplete derives (EndsAt s) f → Well derives →
+  pub meets : (s : Symbol) (derives : Derivation (Tree F C K)) (f : Reader (Tree F C K)) → IsSound derives f → IsComplete derives (EndsAt s) f → Well derives →
       (b : Buffer S) (r : Result T Error) (c : Buffer S) → Parses model sure view f b r c → Meets model sure derives view s b r c
   meets s derives f is_sound is_complete all b r c h = record {
     reads = consumes_of model sure view f b c r h;

@@ -1,4 +1,4 @@
--- From one expression read, and the end looked for, to the headline.
+-- From one tree read, and the end looked for, to the headline.
 use Rattle.std.proofs.Common.{◌≡◌, Bool, true, false, not, ◌||◌, List, [], ◌∷◌, ◌++◌, Option, Some, None, Result, IfOk, IsSome, MatchResult, refl, sym, ap, subst, ◌∙◌}
 use Rattle.std.proofs.lemmas.List.{append-nil}
 use Rattle.swc_context.specs.Contexts.{view}
@@ -20,12 +20,13 @@ use Rattle.swc_ast.specs.Tree.{Tree}
 use Rattle.swc_ast.specs.declared.spanned.Spanned.{Ghosts}
 use Rattle.swc_bodies.specs.Readings.{Hook}
 use Rattle.swc_grammar.specs.Scope.{Scope}
-use Rattle.swc_grammar.specs.Symbols.{Expr}
-use Rattle.swc_grammar.specs.Reads.{Reads, at-end}
-use Rattle.swc_nodes.specs.declared.node.ExprId.{ExprId}
-use Rattle.swc_steps.specs.Parsing.{scope_of, scope, Loud, tree_of}
+use Rattle.swc_grammar.specs.Symbols.{Symbol}
+use Rattle.swc_grammar.specs.Reads.{Reads}
+use Rattle.swc_nodes.specs.NodeParts.{Part}
+use Rattle.swc_nodes.specs.declared.nodes.Nodes.{Nodes}
+use Rattle.swc_steps.specs.Parsing.{scope_of, scope, Loud}
 use Rattle.swc_ecma_parser.specs.Calls.{buffer_of, has_failed, nodes_of}
-use Rattle.swc_ecma_parser.specs.Promise.{Unmarred}
+use Rattle.swc_ecma_parser.specs.Promise.{EndsAt, Unmarred}
 use Rattle.swc_ecma_parser.specs.WholeList.{plain_list, IsHeeded, Headline, Tries, tried, refused, lost}
 use Rattle.swc_ecma_parser.specs.declared.parser.Parser.{Parser}
 
@@ -63,10 +64,11 @@ module _ {S : Type 0} {model : Model S} (laws : Laws model) where
       let w = look_known [] l k in
       none_current c.cur (given_one c.next) (nil_left (held c) w.more w.begins) some
 
-module _ {S H F C K : Type 0} {fg : Ghosts F} {cg : Ghosts C} {kg : Ghosts K} {model : Model S} {sure : Bool} {hook : Hook F C K} (laws : Laws model) where
-  whole-sound : {p q : Parser S H F C K fg cg kg} {r : Result (ExprId × Bool) Error} (ts : List TokenAndSpan) → Tries model sure hook p r q → has_failed p ≡ false
+module _ {S H N F C K : Type 0} {fg : Ghosts F} {cg : Ghosts C} {kg : Ghosts K} {model : Model S} {sure : Bool} {hook : Hook F C K}
+    (tree : Nodes F C K fg cg kg → N → Tree F C K) (part : N → Part) (s : Symbol) (laws : Laws model) where
+  whole-sound : {p q : Parser S H F C K fg cg kg} {r : Result (N × Bool) Error} (ts : List TokenAndSpan) → Tries model sure hook tree part s p r q → has_failed p ≡ false
       → Known model (buffer_of p) ts → Loud model (buffer_of p) → (model.state (source (buffer_of p))).errors ≡ []
-      → IfOk r (λ x. x.1 ≡ false → (model.state (source (buffer_of q))).errors ≡ [] → Reads hook Expr (scope model (buffer_of p)) ts [] (tree_of (nodes_of q) x.0))
+      → IfOk r (λ x. x.1 ≡ false → (model.state (source (buffer_of q))).errors ≡ [] → Reads hook s (scope model (buffer_of p)) ts [] (tree (nodes_of q) x.0))
   whole-sound {p} ts (tried {id = id} {v = v} {q = q} {r = r} h c) runs k loud clean = λ all none.
       let sees = c.effect (h.fails runs) in
       let d0 = h.reads runs in
@@ -77,24 +79,24 @@ module _ {S H F C K : Type 0} {fg : Ghosts F} {cg : Ghosts C} {kg : Ghosts K} {m
       let end = sees.end (was_not v all) in
       let rest = none_left laws x.0 sees.looks.looked x.1 end.0 end.1 in
       let whole : ts ≡ d.consumed = x.2 ∙ ap (λ l. d.consumed ++ l) rest ∙ append-nil d.consumed in
-      let P : List TokenAndSpan → Type 0 = λ l. Reads hook Expr (scope model (buffer_of p)) l [] (tree_of (nodes_of r) id) in
+      let P : List TokenAndSpan → Type 0 = λ l. Reads hook s (scope model (buffer_of p)) l [] (tree (nodes_of r) id) in
       subst P (sym whole) (rw (c.nodes) d.whole)
   whole-sound ts (refused h) runs k loud clean = tt
   whole-sound ts (lost h c) runs k loud clean = tt
 
-  whole-complete : {p q : Parser S H F C K fg cg kg} {r : Result (ExprId × Bool) Error} (ts : List TokenAndSpan) (t : Tree F C K) → Tries model sure hook p r q → has_failed p ≡ false
-      → Known model (buffer_of p) ts → Loud model (buffer_of p) → (model.state (source (buffer_of p))).errors ≡ [] → sure ≡ true → Reads hook Expr (scope model (buffer_of p)) ts [] t
-      → MatchResult r (λ x. (tree_of (nodes_of q) x.0 ≡ t) × (x.1 ≡ false) × ((model.state (source (buffer_of q))).errors ≡ [])) (λ e. e.kind ≡ OutOfMemory)
-  whole-complete {p} ts t (tried {id = id} {v = true} {q = q} {r = r} h c) runs k loud clean y d =
+  whole-complete : EndsAt s [] → {p q : Parser S H F C K fg cg kg} {r : Result (N × Bool) Error} (ts : List TokenAndSpan) (t : Tree F C K) → Tries model sure hook tree part s p r q → has_failed p ≡ false
+      → Known model (buffer_of p) ts → Loud model (buffer_of p) → (model.state (source (buffer_of p))).errors ≡ [] → sure ≡ true → Reads hook s (scope model (buffer_of p)) ts [] t
+      → MatchResult r (λ x. (tree (nodes_of q) x.0 ≡ t) × (x.1 ≡ false) × ((model.state (source (buffer_of q))).errors ≡ [])) (λ e. e.kind ≡ OutOfMemory)
+  whole-complete stops {p} ts t (tried {id = id} {v = true} {q = q} {r = r} h c) runs k loud clean y d =
       let sees = c.effect (h.fails runs) in
-      let w = h.complete runs y loud ts [] t k d at-end in
-      (ap (λ ns. tree_of ns id) c.nodes ∙ w.0, refl, look_quiet laws sees.looks.looked w.1 ∙ w.2 ∙ clean)
-  whole-complete {p} ts t (tried {id = id} {v = false} {q = q} {r = r} h c) runs k loud clean y d =
+      let w = h.complete runs y loud ts [] t k d stops in
+      (ap (λ ns. tree ns id) c.nodes ∙ w.0, refl, look_quiet laws sees.looks.looked w.1 ∙ w.2 ∙ clean)
+  whole-complete stops {p} ts t (tried {id = id} {v = false} {q = q} {r = r} h c) runs k loud clean y d =
       let sees = c.effect (h.fails runs) in
-      let w = h.complete runs y loud ts [] t k d at-end in
+      let w = h.complete runs y loud ts [] t k d stops in
       absurd (none_here laws sees.looks.looked w.1 (sees.token refl))
-  whole-complete ts t (refused h) runs k loud clean y d = h.complete runs y loud ts [] t k d at-end
-  whole-complete ts t (lost h c) runs k loud clean y d = (c.effect (h.fails runs)).looks.kind
+  whole-complete stops ts t (refused h) runs k loud clean y d = h.complete runs y loud ts [] t k d stops
+  whole-complete stops ts t (lost h c) runs k loud clean y d = (c.effect (h.fails runs)).looks.kind
 
 -- a new buffer over a list
 module _ (input : TokensInput) (at : BytePos) (ts : List TokenAndSpan) (c : Context) (x : Syntax) (v : EsVersion) where
@@ -104,19 +106,20 @@ module _ (input : TokensInput) (at : BytePos) (ts : List TokenAndSpan) (c : Cont
   fresh-loud : listed_state input ≡ new_state ts c x v → IsHeeded c x → Loud listed_model (fresh input at)
   fresh-loud is heeded = ap (λ s. is_silent s) is ∙ heeds c.ignore_error x.early_errors heeded.0 heeded.1
 
-module _ {H F C K : Type 0} {fg : Ghosts F} {cg : Ghosts C} {kg : Ghosts K} {sure : Bool} {hook : Hook F C K} where
+module _ {H N F C K : Type 0} {fg : Ghosts F} {cg : Ghosts C} {kg : Ghosts K} {sure : Bool} {hook : Hook F C K}
+    (tree : Nodes F C K fg cg kg → N → Tree F C K) (part : N → Part) (s : Symbol) (stops : EndsAt s []) where
   -- by a new parser
-  pub headline : {p q : Parser TokensInput H F C K fg cg kg} {r : Result (ExprId × Bool) Error} (input : TokensInput) (at : BytePos) (ts : List TokenAndSpan) (c : Context) (x : Syntax) (v : EsVersion)
-      → listed_state input ≡ new_state ts c x v → buffer_of p ≡ fresh input at → has_failed p ≡ false → IsHeeded c x → Tries listed_model sure hook p r q
-      → Headline sure hook c x (plain_list ts) r (nodes_of q) (listed_state (source (buffer_of q))).errors
+  pub headline : {p q : Parser TokensInput H F C K fg cg kg} {r : Result (N × Bool) Error} (input : TokensInput) (at : BytePos) (ts : List TokenAndSpan) (c : Context) (x : Syntax) (v : EsVersion)
+      → listed_state input ≡ new_state ts c x v → buffer_of p ≡ fresh input at → has_failed p ≡ false → IsHeeded c x → Tries listed_model sure hook tree part s p r q
+      → Headline sure hook s tree c x (plain_list ts) r (nodes_of q) (listed_state (source (buffer_of q))).errors
   headline {p} {q} {r} input at ts c x v is new runs heeded t =
       let known : Known listed_model (buffer_of p) (plain_list ts) = rw (new) (fresh-known input at ts c x v is) in
       let loud : Loud listed_model (buffer_of p) = rw (new) (fresh-loud input at ts c x v is heeded) in
       let clean : (listed_state (source (buffer_of p))).errors ≡ [] = ap (λ b. (listed_state (source b)).errors) new ∙ ap (λ s. s.errors) is in
       let same : scope listed_model (buffer_of p) ≡ scope_of (view c) x = ap (λ b. scope listed_model b) new ∙ ap (λ s. scope_of (view s.context) s.syntax) is in
-      let S : Scope → Type 0 = λ k. IfOk r (λ y. y.1 ≡ false → (listed_state (source (buffer_of q))).errors ≡ [] → Reads hook Expr k (plain_list ts) [] (tree_of (nodes_of q) y.0)) in
+      let S : Scope → Type 0 = λ k. IfOk r (λ y. y.1 ≡ false → (listed_state (source (buffer_of q))).errors ≡ [] → Reads hook s k (plain_list ts) [] (tree (nodes_of q) y.0)) in
       record {
-        sound = subst S same (whole-sound listed_laws (plain_list ts) t runs known loud clean);
-        complete = λ y e d. whole-complete listed_laws (plain_list ts) e t runs known loud clean y
-            (let D : Scope → Type 0 = λ k. Reads hook Expr k (plain_list ts) [] e in subst D (sym same) d);
+        sound = subst S same (whole-sound tree part s listed_laws (plain_list ts) t runs known loud clean);
+        complete = λ y e d. whole-complete tree part s listed_laws stops (plain_list ts) e t runs known loud clean y
+            (let D : Scope → Type 0 = λ k. Reads hook s k (plain_list ts) [] e in subst D (sym same) d);
       }

@@ -2,6 +2,7 @@
 use Rattle.std.specs.Prelude.{◌≡◌, ℕ, List, map, Bool, true, false, None, Some, IsSome, Option, Result, Ok, Err, IfOk, IfErr, IsOk, OnOk, MatchResult}
 use Rattle.std.specs.declared.alloc.Global.{Global}
 use Rattle.std.specs.declared.boxed.Box.{Box}
+use Rattle.std.specs.declared.vec.Vec.{Vec}
 use Rattle.swc_context.specs.declared.error.Error.{Error}
 use Rattle.swc_context.specs.declared.error.SyntaxError.TheVariants.{ParserFailed}
 use Rattle.swc_context.specs.declared.span.BytePos.{BytePos}
@@ -11,9 +12,13 @@ use Rattle.swc_input.specs.declared.token.TokenAndSpan.{TokenAndSpan}
 use Rattle.swc_input.specs.Source.{Model}
 use Rattle.swc_input.specs.Buffer.{ReadSome, Looked, current, last_position, previous, state_of}
 use Rattle.swc_input.specs.Recording.{no_memory}
-use Rattle.swc_ast.specs.Tree.{Tree, object, node, trees}
-use Rattle.swc_ast.specs.TreeOf.{boxed_tree, prop_or_spread_tree}
+use Rattle.swc_ast.specs.Parts.{param_tree}
+use Rattle.swc_ast.specs.Tree.{Tree, object, node, trees, args, no_span}
+use Rattle.swc_ast.specs.TreeOf.{boxed_tree, pat_tree, pat_prop_tree, prop_or_spread_tree}
 use Rattle.swc_ast.specs.declared.expr.Expr.{Expr}
+use Rattle.swc_ast.specs.declared.function.Param.{Param}
+use Rattle.swc_ast.specs.declared.pat.ObjectPatProp.{ObjectPatProp}
+use Rattle.swc_ast.specs.declared.pat.Pat.{Pat}
 use Rattle.swc_ast.specs.declared.prop.PropOrSpread.{PropOrSpread}
 use Rattle.swc_ast.specs.declared.spanned.Spanned.{Ghosts}
 use Rattle.swc_nodes.specs.Commas.{Remembers, Recalls, part_commas}
@@ -21,7 +26,8 @@ use Rattle.swc_nodes.specs.NodeParts.{Part}
 use Rattle.swc_nodes.specs.declared.commas.TrailingCommas.{TrailingCommas}
 use Rattle.swc_nodes.specs.declared.nodes.Nodes.{Nodes}
 use Rattle.swc_nodes.specs.GrowingNodes.{tree_at, bare_at}
-use Rattle.swc_steps.specs.Parsing.{is_memory, Looks}
+use Rattle.swc_patterns.specs.Objects.{rests_checked, props_stage}
+use Rattle.swc_steps.specs.Parsing.{is_memory, ContinuesAlone, Looks}
 use Rattle.swc_ecma_parser.specs.declared.parser.Parser.{Parser}
 
 -- the buffer that a parser reads from
@@ -49,6 +55,10 @@ found_import p = p.productions.found_module_item
 -- the tree that a boxed expression stands for, where the hook's values lie at the places given
 abbrev pub tree_by : {F C K : Type 0} → (F → Span) → (C → Span) → (K → Span) → Box (Expr F C K) Global → Tree F C K
 tree_by {F} {C} {K} fun class block e = boxed_tree F C K fun class block e
+
+-- parameters, each the node of its pattern
+abbrev pub params_tree : {F C K X : Type 0} → (X → Tree F C K) → Vec (Param X) Global → Tree F C K
+params_tree at ps = node args no_span (trees (map (param_tree at) ps.items))
 
 -- a call met want of memory
 abbrev pub has_failed : {S H F C K : Type 0} {fg : Ghosts F} {cg : Ghosts C} {kg : Ghosts K} → Parser S H F C K fg cg kg → Bool
@@ -121,3 +131,19 @@ module _ {S H F C K : Type 0} {fg : Ghosts F} {cg : Ghosts C} {kg : Ghosts K} wh
     pub nodes : nodes_of q ≡ nodes_of p
     pub fails : has_failed p ≡ false → has_failed q ≡ wants_memory r
     pub remembers : OnOk r (Remembers span.lo.0 comma (commas_of p) (commas_of q))
+
+module _ {S F C K : Type 0} (model : Model S) (fun_at : F → Span) (class_at : C → Span) (block_at : K → Span) where
+  -- An object pattern is made of properties. Rests among them are checked first: nothing is recorded or refused for them where the last
+  -- property alone is one, over an identifier, and no comma stands behind it.
+  pub record MakesPattern (span : Span) (props : List (ObjectPatProp F C K)) (comma : Option Span) (b : Buffer S) (r : Result (Pat F C K) Error) (c : Buffer S) : Type 0 where
+    pub checks : ContinuesAlone model (λ _. tt) (rests_checked (props_stage (trees (map (pat_prop_tree F C K fun_at class_at block_at) props)) comma)) b r c
+    pub makes : IfOk r (λ p. pat_tree F C K fun_at class_at block_at p ≡ node object span (trees (map (pat_prop_tree F C K fun_at class_at block_at) props)))
+
+module _ {S H F C K : Type 0} {fg : Ghosts F} {cg : Ghosts C} {kg : Ghosts K} where
+  -- What a call does that makes an object pattern of properties: on Ok no comma is remembered at its start any more.
+  pub record Patterns (model : Model S) (span : Span) (props : List (ObjectPatProp F C K)) (comma : Option Span) (p : Parser S H F C K fg cg kg) (r : Result (Pat F C K) Error) (q : Parser S H F C K fg cg kg) : Type 0 where
+    pub again : has_failed p ≡ true → (q ≡ p) × (r ≡ Err (parser_failed (previous (buffer_of p))))
+    pub makes : has_failed p ≡ false → MakesPattern model fg.place cg.place kg.place span props comma (buffer_of p) r (buffer_of q)
+    pub nodes : nodes_of q ≡ nodes_of p
+    pub fails : has_failed p ≡ false → has_failed q ≡ wants_memory r
+    pub remembers : OnOk r (Remembers span.lo.0 None (commas_of p) (commas_of q))

@@ -1,7 +1,7 @@
 -- What the calls of a parser promise, by the written grammar alone. What is derived at a buffer is derived in its scope: by
 -- the context without the four flags that decide nothing (`view`), and the syntax. The context itself, with all its flags,
 -- is after each call what it was before.
-use Rattle.std.specs.Prelude.{◌≡◌, ◌≢◌, Bool, true, false, List, [], ◌++◌, Option, Result, Err, IfOk, IfErr, MatchResult}
+use Rattle.std.specs.Prelude.{◌≡◌, ◌≢◌, Bool, true, false, ◌||◌, List, [], ◌∷◌, ◌++◌, map, Option, None, Result, Err, IfOk, MatchResult}
 use Rattle.swc_context.specs.declared.error.Error.{Error}
 use Rattle.swc_context.specs.declared.error.SyntaxError.TheVariants.{OutOfMemory}
 use Rattle.swc_context.specs.declared.span.Span.{Span}
@@ -14,31 +14,39 @@ use Rattle.std.specs.declared.alloc.Global.{Global}
 use Rattle.std.specs.declared.boxed.Box.{Box}
 use Rattle.std.specs.declared.vec.Vec.{Vec}
 use Rattle.swc_ast.specs.Parts.{lit_tree, prop_name_tree, args_tree, tpl_tree}
-use Rattle.swc_ast.specs.Tree.{Tree, node, args, args_with, no_span}
-use Rattle.swc_ast.specs.TreeOf.{prop_or_spread_tree}
-use Rattle.swc_ast.specs.Trees.{is_grouped, is_valid, items_of, comma_of, unmarked}
-use Rattle.swc_ast.specs.declared.expr.Expr.{Expr}
+use Rattle.swc_ast.specs.Tree.{Tree, Trees, node, args, args_with, no_span, trees}
+use Rattle.swc_ast.specs.TreeOf.{pat_tree, pat_prop_tree, prop_or_spread_tree}
+use Rattle.swc_ast.specs.Trees.{is_grouped, are_grouped, is_valid, are_valid, items_of, comma_of, listed, unmarked, all_unmarked}
+use Rattle.swc_ast.specs.declared.expr.Expr.{Expr as ExprOf}
 use Rattle.swc_ast.specs.declared.expr.ExprOrSpread.{ExprOrSpread}
 use Rattle.swc_ast.specs.declared.expr.Tpl.{Tpl}
+use Rattle.swc_ast.specs.declared.function.Param.{Param}
 use Rattle.swc_ast.specs.declared.lit.Lit.{Lit}
+use Rattle.swc_ast.specs.declared.pat.ObjectPatProp.{ObjectPatProp}
+use Rattle.swc_ast.specs.declared.pat.Pat.{Pat as PatOf}
 use Rattle.swc_ast.specs.declared.prop.PropName.{PropName}
 use Rattle.swc_ast.specs.declared.prop.PropOrSpread.{PropOrSpread}
 use Rattle.swc_ast.specs.declared.spanned.Spanned.{Ghosts}
 use Rattle.swc_bodies.specs.Readings.{Hook}
 use Rattle.swc_grammar.specs.Scope.{Scope}
 use Rattle.swc_grammar.specs.Clean.{first}
-use Rattle.swc_grammar.specs.Symbols.{Symbol, Key, Prop, Literal, Arguments, Template}
+use Rattle.swc_grammar.specs.Patterns.{any, binds_names, all_bind_names, prop_binds_names}
+use Rattle.swc_grammar.specs.Symbols.{Symbol, Expr, Exprs, Assign, Level, Unary, Lhs, Left, Base, Arguments, Args, ArgsTail}
+use Rattle.swc_grammar.specs.Symbols.{Primary, Literal, Template, Parts, Elements, ElementsTail, Item, Props, PropsTail, Prop}
+use Rattle.swc_grammar.specs.Symbols.{Key, AfterKey, Shell, Pat, Element, Rest, PatElements, PatElementsTail, PatProps}
+use Rattle.swc_grammar.specs.Symbols.{PatPropsTail, PatProp, Params, ParamsTail}
 use Rattle.swc_grammar.specs.Reads.{Reads, ReadsUnmarked, Stops}
 use Rattle.swc_grammar.specs.Names.{Spelling, NameKind, Reference, ReadsName}
-use Rattle.swc_grammar.specs.Tokens.{ends_prop, may_be_reference}
-use Rattle.swc_nodes.specs.Commas.{commas_in, Recalls}
-use Rattle.swc_nodes.specs.NodeParts.{expr_part}
+use Rattle.swc_grammar.specs.Tokens.{ends_prop, is_rparen, may_be_reference}
+use Rattle.swc_nodes.specs.Commas.{commas_in, commas_of_all, Recalls}
+use Rattle.swc_nodes.specs.NodeParts.{Part, expr_part, pat_part}
 use Rattle.swc_nodes.specs.GrowingNodes.{count, From, Grows, SameNodes}
 use Rattle.swc_nodes.specs.declared.commas.TrailingCommas.{TrailingCommas}
 use Rattle.swc_nodes.specs.declared.node.ExprId.{ExprId}
+use Rattle.swc_nodes.specs.declared.node.PatId.{PatId}
 use Rattle.swc_nodes.specs.declared.nodes.Nodes.{Nodes}
-use Rattle.swc_steps.specs.Keys.{ends_params}
-use Rattle.swc_steps.specs.Parsing.{scope, Loud, Acts, Consumes, Here, seen, tree_of}
+use Rattle.swc_patterns.specs.Answers.{pat_at}
+use Rattle.swc_steps.specs.Parsing.{scope, Loud, Acts, Consumes, tree_of}
 use Rattle.swc_ecma_parser.specs.Calls.{buffer_of, nodes_of, commas_of, tree_by, has_failed, wants_memory, parser_failed}
 use Rattle.swc_ecma_parser.specs.declared.parser.Parser.{Parser}
 
@@ -50,14 +58,44 @@ Derivation A = Scope → List TokenAndSpan → List TokenAndSpan → A → Type 
 abbrev pub Anywhere : List TokenAndSpan → Type 0
 Anywhere ys = Unit {0}
 
--- Where a reading of the symbol may stop: of a key, of arguments and of a template anywhere, of a property before `,` and `}`, and of an
--- expression at the end and before what can't go on with it.
+-- Where a reading of the symbol may stop, so that `Promised` has it answered: of a key, of arguments, of a template, of a pattern and of a rest
+-- anywhere, of a property before `,` and `}`, of the others at the end and before what can't go on with them. Of the other symbols
+-- nothing is promised by it.
 abbrev pub EndsAt : Symbol → List TokenAndSpan → Type 0
 EndsAt Key ys = Unit {0}
 EndsAt (Arguments i) ys = Unit {0}
 EndsAt (Template is_tagged) ys = Unit {0}
+EndsAt Pat ys = Unit {0}
+EndsAt Rest ys = Unit {0}
 EndsAt Prop ys = at_token ends_prop (first ys) ≡ true
-EndsAt s ys = Stops s ys
+EndsAt Expr ys = Stops Expr ys
+EndsAt Assign ys = Stops Assign ys
+EndsAt (Level n) ys = Stops (Level n) ys
+EndsAt Unary ys = Stops Unary ys
+EndsAt Element ys = Stops Element ys
+EndsAt PatProp ys = Stops PatProp ys
+EndsAt Exprs ys = ⊥
+EndsAt (Lhs b) ys = ⊥
+EndsAt (Left b) ys = ⊥
+EndsAt (Base b) ys = ⊥
+EndsAt (Args i) ys = ⊥
+EndsAt (ArgsTail i) ys = ⊥
+EndsAt Primary ys = ⊥
+EndsAt Literal ys = ⊥
+EndsAt (Parts is_tagged) ys = ⊥
+EndsAt Elements ys = ⊥
+EndsAt ElementsTail ys = ⊥
+EndsAt Item ys = ⊥
+EndsAt Props ys = ⊥
+EndsAt PropsTail ys = ⊥
+EndsAt AfterKey ys = ⊥
+EndsAt (Shell is_async is_generator) ys = ⊥
+EndsAt PatElements ys = ⊥
+EndsAt PatElementsTail ys = ⊥
+EndsAt PatProps ys = ⊥
+EndsAt PatPropsTail ys = ⊥
+EndsAt Params ys = ⊥
+EndsAt ParamsTail ys = ⊥
 
 -- An identifier reference, where a word stands first that isn't reserved, or `let`. The other words are taken too, with faults that
 -- wait where the code is no module's.
@@ -102,28 +140,46 @@ module _ {S F C K T : Type 0} (model : Model S) (view : T → Tree F C K) where
   abbrev pub Valid : Buffer S → Result T Error → Buffer S → Type 0
   Valid b r c = Loud model b → IfOk r (λ x. Unmarred model b c → is_valid (view x) ≡ true)
 
--- How a call answers trees: which tree an answer stands for, by the nodes that the parser then has; what derives such trees; what is left
--- in them of a tree with its marks of commas; and what becomes of the nodes.
+  -- A pattern answered with no fault recorded binds names alone: initialisers and keys apart it holds no expression, and rests in object
+  -- patterns hold a name.
+  abbrev pub Bound : Buffer S → Result T Error → Buffer S → Type 0
+  Bound b r c = Loud model b → IfOk r (λ x. Unmarred model b c → binds_names any (view x) ≡ true)
+
+  -- So does a property of an object pattern, and a rest among these.
+  abbrev pub BoundAsProp : Buffer S → Result T Error → Buffer S → Type 0
+  BoundAsProp b r c = Loud model b
+      → IfOk r (λ x. Unmarred model b c → (prop_binds_names any (view x) || binds_names any (view x)) ≡ true)
+
+-- a property of an object pattern, or a rest among these
+pub data PropOrRest {F C K : Type 0} (reads : Symbol → Derivation (Tree F C K)) (c : Scope) (xs ys : List TokenAndSpan) (t : Tree F C K) : Type 0 where
+  as-prop : reads PatProp c xs ys t → PropOrRest reads c xs ys t
+  as-rest : reads Rest c xs ys t → PropOrRest reads c xs ys t
+
+-- How a call answers trees: which tree an answer stands for, by the nodes that the parser then has; what derives such trees, and trees
+-- with their marks of commas; what is left in them of a tree with its marks; and what becomes of the nodes.
 pub record Answer (T F C K : Type 0) (fg : Ghosts F) (cg : Ghosts C) (kg : Ghosts K) : Type 1 where
   pub tree : Nodes F C K fg cg kg → T → Tree F C K
   pub derives : Hook F C K → Symbol → Derivation (Tree F C K)
+  pub marked : Hook F C K → Symbol → Derivation (Tree F C K)
   pub strip : Tree F C K → Tree F C K
   pub leaves : Nodes F C K fg cg kg → Result T Error → Nodes F C K fg cg kg → Type 0
 
 -- in boxes, which have no marks of commas: the nodes are what they were
-abbrev pub in_boxes : {F C K : Type 0} {fg : Ghosts F} {cg : Ghosts C} {kg : Ghosts K} → Answer (Box (Expr F C K) Global) F C K fg cg kg
+abbrev pub in_boxes : {F C K : Type 0} {fg : Ghosts F} {cg : Ghosts C} {kg : Ghosts K} → Answer (Box (ExprOf F C K) Global) F C K fg cg kg
 in_boxes {fg = fg} {cg = cg} {kg = kg} = record {
   tree = λ ns e. tree_by fg.place cg.place kg.place e;
   derives = λ hook s. ReadsUnmarked hook s;
+  marked = λ hook s. Reads hook s;
   strip = unmarked;
   leaves = λ ns r ms. SameNodes ns ms;
 }
 
 -- a key in boxes, and a property of an object literal
-abbrev pub key_in_boxes : {F C K : Type 0} {fg : Ghosts F} {cg : Ghosts C} {kg : Ghosts K} → Answer (PropName (Box (Expr F C K) Global)) F C K fg cg kg
+abbrev pub key_in_boxes : {F C K : Type 0} {fg : Ghosts F} {cg : Ghosts C} {kg : Ghosts K} → Answer (PropName (Box (ExprOf F C K) Global)) F C K fg cg kg
 key_in_boxes {fg = fg} {cg = cg} {kg = kg} = record {
   tree = λ ns k. prop_name_tree (tree_by fg.place cg.place kg.place) k;
   derives = λ hook s. ReadsUnmarked hook s;
+  marked = λ hook s. Reads hook s;
   strip = unmarked;
   leaves = λ ns r ms. SameNodes ns ms;
 }
@@ -132,6 +188,26 @@ abbrev pub prop_in_boxes : {F C K : Type 0} {fg : Ghosts F} {cg : Ghosts C} {kg 
 prop_in_boxes {F} {C} {K} {fg = fg} {cg = cg} {kg = kg} = record {
   tree = λ ns x. prop_or_spread_tree F C K fg.place cg.place kg.place x;
   derives = λ hook s. ReadsUnmarked hook s;
+  marked = λ hook s. Reads hook s;
+  strip = unmarked;
+  leaves = λ ns r ms. SameNodes ns ms;
+}
+
+-- a pattern in boxes, and a property of an object pattern or a rest among these
+abbrev pub pat_in_boxes : {F C K : Type 0} {fg : Ghosts F} {cg : Ghosts C} {kg : Ghosts K} → Answer (PatOf F C K) F C K fg cg kg
+pat_in_boxes {F} {C} {K} {fg = fg} {cg = cg} {kg = kg} = record {
+  tree = λ ns x. pat_tree F C K fg.place cg.place kg.place x;
+  derives = λ hook s. ReadsUnmarked hook s;
+  marked = λ hook s. Reads hook s;
+  strip = unmarked;
+  leaves = λ ns r ms. SameNodes ns ms;
+}
+
+abbrev pub pat_prop_in_boxes : {F C K : Type 0} {fg : Ghosts F} {cg : Ghosts C} {kg : Ghosts K} → Answer (ObjectPatProp F C K) F C K fg cg kg
+pat_prop_in_boxes {F} {C} {K} {fg = fg} {cg = cg} {kg = kg} = record {
+  tree = λ ns x. pat_prop_tree F C K fg.place cg.place kg.place x;
+  derives = λ hook s. PropOrRest (ReadsUnmarked hook);
+  marked = λ hook s. PropOrRest (Reads hook);
   strip = unmarked;
   leaves = λ ns r ms. SameNodes ns ms;
 }
@@ -150,51 +226,64 @@ pub record ReadsAs {F C K : Type 0} (strip : Tree F C K → Tree F C K) (hook : 
   pub same : strip marked ≡ t
 
 -- a list of items in boxes, and a comma, as the tree of both
-abbrev pub list_tree : {F C K : Type 0} → (F → Span) → (C → Span) → (K → Span) → Vec (ExprOrSpread (Box (Expr F C K) Global)) Global × Option Span → Tree F C K
+abbrev pub list_tree : {F C K : Type 0} → (F → Span) → (C → Span) → (K → Span) → Vec (ExprOrSpread (Box (ExprOf F C K) Global)) Global × Option Span → Tree F C K
 list_tree fun class block p = node (args_with p.1) no_span (items_of (args_tree (tree_by fun class block) p.0))
 
 -- arguments in boxes, and a template
-abbrev pub args_in_boxes : {F C K : Type 0} {fg : Ghosts F} {cg : Ghosts C} {kg : Ghosts K} → Answer (Vec (ExprOrSpread (Box (Expr F C K) Global)) Global) F C K fg cg kg
+abbrev pub args_in_boxes : {F C K : Type 0} {fg : Ghosts F} {cg : Ghosts C} {kg : Ghosts K} → Answer (Vec (ExprOrSpread (Box (ExprOf F C K) Global)) Global) F C K fg cg kg
 args_in_boxes {fg = fg} {cg = cg} {kg = kg} = record {
   tree = λ ns xs. args_tree (tree_by fg.place cg.place kg.place) xs;
   derives = λ hook s. ReadsAs only_items hook s;
+  marked = λ hook s. Reads hook s;
   strip = only_items;
   leaves = λ ns r ms. SameNodes ns ms;
 }
 
 -- a list in boxes, with the comma behind the last item
-abbrev pub list_in_boxes : {F C K : Type 0} {fg : Ghosts F} {cg : Ghosts C} {kg : Ghosts K} → Answer (Vec (ExprOrSpread (Box (Expr F C K) Global)) Global × Option Span) F C K fg cg kg
+abbrev pub list_in_boxes : {F C K : Type 0} {fg : Ghosts F} {cg : Ghosts C} {kg : Ghosts K} → Answer (Vec (ExprOrSpread (Box (ExprOf F C K) Global)) Global × Option Span) F C K fg cg kg
 list_in_boxes {fg = fg} {cg = cg} {kg = kg} = record {
   tree = λ ns p. list_tree fg.place cg.place kg.place p;
   derives = λ hook s. ReadsAs items_and_comma hook s;
+  marked = λ hook s. Reads hook s;
   strip = items_and_comma;
   leaves = λ ns r ms. SameNodes ns ms;
 }
 
-abbrev pub tpl_in_boxes : {F C K : Type 0} {fg : Ghosts F} {cg : Ghosts C} {kg : Ghosts K} → Answer (Tpl (Box (Expr F C K) Global)) F C K fg cg kg
+abbrev pub tpl_in_boxes : {F C K : Type 0} {fg : Ghosts F} {cg : Ghosts C} {kg : Ghosts K} → Answer (Tpl (Box (ExprOf F C K) Global)) F C K fg cg kg
 tpl_in_boxes {fg = fg} {cg = cg} {kg = kg} = record {
   tree = λ ns t. tpl_tree (tree_by fg.place cg.place kg.place) t;
   derives = λ hook s. ReadsUnmarked hook s;
+  marked = λ hook s. Reads hook s;
   strip = unmarked;
   leaves = λ ns r ms. SameNodes ns ms;
 }
 
--- by the number of a new node, which has the marks: nodes were appended alone, or after a refusal none
-abbrev pub by_number : {F C K : Type 0} {fg : Ghosts F} {cg : Ghosts C} {kg : Ghosts K} → Answer ExprId F C K fg cg kg
-by_number = record {
-  tree = λ ns id. tree_of ns id;
+-- By the number of a new node, which has the marks: nodes were appended alone, or after a refusal none. Of what has the number, which
+-- tree it stands for and which part it is.
+abbrev pub numbered : {N F C K : Type 0} {fg : Ghosts F} {cg : Ghosts C} {kg : Ghosts K} → (Nodes F C K fg cg kg → N → Tree F C K)
+    → (N → Part) → Answer N F C K fg cg kg
+numbered tree part = record {
+  tree = λ ns id. tree ns id;
   derives = λ hook s. Reads hook s;
+  marked = λ hook s. Reads hook s;
   strip = λ t. t;
-  leaves = λ ns r ms. MatchResult r (λ id. Grows ns ms × From (count ns) ms (expr_part id)) (λ e. SameNodes ns ms);
+  leaves = λ ns r ms. MatchResult r (λ id. Grows ns ms × From (count ns) ms (part id)) (λ e. SameNodes ns ms);
 }
 
-module _ {S F C K : Type 0} (model : Model S) (hook : Hook F C K) (strip : Tree F C K → Tree F C K) (s : Symbol) where
+-- of an expression, and of a pattern
+abbrev pub by_number : {F C K : Type 0} {fg : Ghosts F} {cg : Ghosts C} {kg : Ghosts K} → Answer ExprId F C K fg cg kg
+by_number = numbered tree_of expr_part
+
+abbrev pub pat_by_number : {F C K : Type 0} {fg : Ghosts F} {cg : Ghosts C} {kg : Ghosts K} → Answer PatId F C K fg cg kg
+pat_by_number = numbered pat_at pat_part
+
+module _ {S F C K : Type 0} (model : Model S) (derives : Derivation (Tree F C K)) (strip : Tree F C K → Tree F C K) where
   -- Between b and c the commas of literals were remembered, one after another, and no other: of those of a tree that has its marks, of which
   -- `strip` leaves t. Where faults are recorded at all, and none was, it is derived from the tokens consumed.
   pub record RemembersAll (t : Tree F C K) (b c : Buffer S) (old new : TrailingCommas) : Type 0 where
     pub marked : Tree F C K
     pub same : strip marked ≡ t
-    pub derived : Loud model b → Unmarred model b c → Derives model (Reads hook s) (λ (m : Tree F C K). m) marked b c
+    pub derived : Loud model b → Unmarred model b c → Derives model derives (λ (m : Tree F C K). m) marked b c
     pub recalls : Recalls (commas_in marked) old new
 
 -- What a call promises that reads the symbol s, from the parser p to q, where it answers r.
@@ -212,7 +301,7 @@ pub record Promised {S H T F C K : Type 0} {fg : Ghosts F} {cg : Ghosts C} {kg :
   pub valid : has_failed p ≡ false → Valid model (answer.tree (nodes_of q)) (buffer_of p) r (buffer_of q)
   -- The commas of the answer's literals were remembered; what is refused but for want of memory leaves what there was.
   pub commas : MatchResult r
-      (λ x. RemembersAll model hook answer.strip s (answer.tree (nodes_of q) x) (buffer_of p) (buffer_of q) (commas_of p) (commas_of q))
+      (λ x. RemembersAll model (answer.marked hook s) answer.strip (answer.tree (nodes_of q) x) (buffer_of p) (buffer_of q) (commas_of p) (commas_of q))
       (λ e. e.kind ≢ OutOfMemory → commas_of q ≡ commas_of p)
   -- what becomes of the nodes
   pub nodes : answer.leaves (nodes_of p) r (nodes_of q)
@@ -236,10 +325,89 @@ pub record PromisedLit {S F C K : Type 0} (model : Model S) (hook : Hook F C K) 
   -- what is derived is answered, with no fault recorded, whatever follows
   pub complete : Complete model (Reads hook Literal) lit_tree Anywhere b r c
 
--- What a call on parameters does and promises, from b to c, of which there are none so far: they end before `)` or at the end, and
--- nothing is consumed.
-pub record PromisedParams {S T : Type 0} (model : Model S) (b : Buffer S) (r : Result (Vec T Global) Error) (c : Buffer S) : Type 0 where
-  pub acts : Acts model b r c
-  pub none : IfOk r (λ v. (v.items ≡ []) × Here model b c × (ends_params (seen c) ≡ true))
-  -- over a listed source: where they end at once, nothing but want of memory is refused
-  pub refused : IfErr r (λ e. e.kind ≢ OutOfMemory → Loud model b → (ts : List TokenAndSpan) → Known model b ts → ends_params (first ts) ≡ false)
+-- What a call promises that reads a property of an object pattern, or a rest among these.
+pub record PromisedPatProp {S H F C K : Type 0} {fg : Ghosts F} {cg : Ghosts C} {kg : Ghosts K} (model : Model S) (sure : Bool) (hook : Hook F C K) (p : Parser S H F C K fg cg kg) (r : Result (ObjectPatProp F C K) Error) (q : Parser S H F C K fg cg kg) : Type 0 where
+  -- one of both is answered, and a property that is derived
+  pub promised : Promised model sure hook pat_prop_in_boxes PatProp p r q
+  -- and so is a rest that is derived, whatever follows
+  pub rest : has_failed p ≡ false → sure ≡ true
+      → Complete model (ReadsUnmarked hook Rest) (pat_prop_tree F C K fg.place cg.place kg.place) Anywhere (buffer_of p) r (buffer_of q)
+  pub binds : has_failed p ≡ false → BoundAsProp model (pat_prop_tree F C K fg.place cg.place kg.place) (buffer_of p) r (buffer_of q)
+
+-- the patterns of parameters, in their order
+abbrev pub pats_of : {F C K : Type 0} → (F → Span) → (C → Span) → (K → Span) → Vec (Param (PatOf F C K)) Global → Trees F C K
+pats_of {F} {C} {K} fun class block ps = trees (map (λ p. pat_tree F C K fun class block p.pat) ps.items)
+
+module _ {S F C K : Type 0} (model : Model S) (derives : Symbol → Derivation (Tree F C K)) where
+  -- Between b and c tokens were consumed from which, and a `)` that comes next, the parameters are derived that are these patterns: with
+  -- whatever may follow, and as a list of their own.
+  pub record DerivesParams (pats : Trees F C K) (b c : Buffer S) : Type 0 where
+    pub consumed : List TokenAndSpan
+    pub read : Read model b consumed c
+    pub front : (t : TokenAndSpan) (ys : List TokenAndSpan) → Future model c (t ∷ ys) → is_rparen t.token ≡ true
+        → derives Params (scope model b) (consumed ++ t ∷ ys) ys (listed None t.span pats)
+    pub whole : (t : TokenAndSpan) (ys : List TokenAndSpan) → Future model c (t ∷ ys) → is_rparen t.token ≡ true
+        → derives Params (scope model b) (consumed ++ t ∷ []) [] (listed None t.span pats)
+
+module _ {S F C K : Type 0} (model : Model S) (hook : Hook F C K) where
+  -- Between b and c the commas of literals were remembered, as `RemembersAll` has it: of those of patterns that have their marks.
+  pub record RemembersParams (pats : Trees F C K) (b c : Buffer S) (old new : TrailingCommas) : Type 0 where
+    pub marked : Trees F C K
+    pub same : all_unmarked marked ≡ pats
+    pub derived : Loud model b → Unmarred model b c → DerivesParams model (Reads hook) marked b c
+    pub recalls : Recalls (commas_of_all marked) old new
+
+module _ {S F C K : Type 0} (model : Model S) where
+  -- A `)` comes next, and the tokens ys behind it; t is the list of these patterns that it closes.
+  pub record ClosedBy (pats : Trees F C K) (t : Tree F C K) (c : Buffer S) (ys : List TokenAndSpan) : Type 0 where
+    pub close : TokenAndSpan
+    pub is : is_rparen close.token ≡ true
+    pub known : Known model c (close ∷ ys)
+    pub list : t ≡ listed None close.span pats
+
+-- a `)` may come next
+pub record MayClose {S : Type 0} (model : Model S) (c : Buffer S) : Type 0 where
+  pub close : TokenAndSpan
+  pub is : is_rparen close.token ≡ true
+  pub behind : List TokenAndSpan
+  pub may : Future model c (close ∷ behind)
+
+-- What a call on parameters promises, from the parser p to q, where it answers r. The `)` that closes them stays; without it nothing is
+-- derived, and what is answered is promised to be nothing.
+pub record PromisedParams {S H F C K : Type 0} {fg : Ghosts F} {cg : Ghosts C} {kg : Ghosts K} (model : Model S) (sure : Bool) (hook : Hook F C K) (p : Parser S H F C K fg cg kg) (r : Result (Vec (Param (PatOf F C K)) Global) Error) (q : Parser S H F C K fg cg kg) : Type 0 where
+  -- A parser that met want of memory does nothing, and refuses as `ParserFailed` at the token consumed last.
+  pub again : has_failed p ≡ true → (q ≡ p) × (r ≡ Err (parser_failed (previous (buffer_of p))))
+  -- Any other acts: what was consumed isn't lost; the context is what it was, no recorded fault was taken out, and no want of memory
+  -- recorded.
+  pub acts : has_failed p ≡ false → Acts model (buffer_of p) r (buffer_of q)
+  -- What is answered with no fault recorded is derived from the tokens consumed and a `)` behind them.
+  pub sound : has_failed p ≡ false → Loud model (buffer_of p) → IfOk r (λ v. Unmarred model (buffer_of p) (buffer_of q)
+      → DerivesParams model (ReadsUnmarked hook) (pats_of fg.place cg.place kg.place v) (buffer_of p) (buffer_of q))
+  -- Over a listed source, with a faithful hook: what is derived from the tokens to come, with the `)` that closes it, is answered, with
+  -- no fault recorded, and the `)` and what follows it is left; or the answer is want of memory.
+  pub complete : has_failed p ≡ false → sure ≡ true → Loud model (buffer_of p) → (ts ys : List TokenAndSpan) (t : Tree F C K) → Known model (buffer_of p) ts
+      → ReadsUnmarked hook Params (scope model (buffer_of p)) ts ys t
+      → MatchResult r
+      (λ v. ClosedBy model (pats_of fg.place cg.place kg.place v) t (buffer_of q) ys × Unmarred model (buffer_of p) (buffer_of q))
+      (λ e. e.kind ≡ OutOfMemory)
+  -- Over a listed source: where all tokens but a last `)` were read with no fault recorded, nothing is derived from all but the answer.
+  pub one_tree : has_failed p ≡ false → sure ≡ true → Loud model (buffer_of p) → (ts : List TokenAndSpan) (t : Tree F C K) → Known model (buffer_of p) ts
+      → ReadsUnmarked hook Params (scope model (buffer_of p)) ts [] t
+      → IfOk r (λ v. (close : TokenAndSpan) → Known model (buffer_of q) (close ∷ [])
+      → t ≡ listed None close.span (pats_of fg.place cg.place kg.place v))
+  -- Where a `)` may come next, in the patterns answered with no fault recorded operators group as their levels say, they hold no
+  -- `Invalid`, and they bind names alone.
+  pub grouped : has_failed p ≡ false → Loud model (buffer_of p) → IfOk r (λ v. Unmarred model (buffer_of p) (buffer_of q) → MayClose model (buffer_of q)
+      → are_grouped (pats_of fg.place cg.place kg.place v) ≡ true)
+  pub valid : has_failed p ≡ false → Loud model (buffer_of p) → IfOk r (λ v. Unmarred model (buffer_of p) (buffer_of q) → MayClose model (buffer_of q)
+      → are_valid (pats_of fg.place cg.place kg.place v) ≡ true)
+  pub binds : has_failed p ≡ false → Loud model (buffer_of p) → IfOk r (λ v. Unmarred model (buffer_of p) (buffer_of q) → MayClose model (buffer_of q)
+      → all_bind_names any (pats_of fg.place cg.place kg.place v) ≡ true)
+  -- The commas of literals in initialisers and keys were remembered; what is refused but for want of memory leaves what there was.
+  pub commas : MatchResult r
+      (λ v. RemembersParams model hook (pats_of fg.place cg.place kg.place v) (buffer_of p) (buffer_of q) (commas_of p) (commas_of q))
+      (λ e. e.kind ≢ OutOfMemory → commas_of q ≡ commas_of p)
+  -- the nodes are what they were
+  pub nodes : SameNodes (nodes_of p) (nodes_of q)
+  -- it has failed from now on where it refuses for want of memory, and only there
+  pub fails : has_failed p ≡ false → has_failed q ≡ wants_memory r

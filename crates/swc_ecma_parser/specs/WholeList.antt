@@ -1,4 +1,4 @@
--- A whole list of tokens, read as one expression: the headline, in its own words.
+-- A whole list of tokens, read as one expression or as one binding pattern: the headline, in its own words.
 use Rattle.std.specs.Prelude.{◌≡◌, Bool, true, false, not, List, [], map, Result, Ok, Err, IfOk, MatchResult}
 use Rattle.swc_context.specs.Contexts.{view}
 use Rattle.swc_context.specs.declared.context.Context.{Context}
@@ -11,13 +11,13 @@ use Rattle.swc_input.specs.Source.{Model}
 use Rattle.swc_ast.specs.declared.spanned.Spanned.{Ghosts}
 use Rattle.swc_ast.specs.Tree.{Tree}
 use Rattle.swc_bodies.specs.Readings.{Hook}
-use Rattle.swc_grammar.specs.Symbols.{Expr}
+use Rattle.swc_grammar.specs.Symbols.{Symbol}
 use Rattle.swc_grammar.specs.Reads.{Reads}
-use Rattle.swc_nodes.specs.declared.node.ExprId.{ExprId}
+use Rattle.swc_nodes.specs.NodeParts.{Part}
 use Rattle.swc_nodes.specs.declared.nodes.Nodes.{Nodes}
-use Rattle.swc_steps.specs.Parsing.{scope_of, tree_of}
+use Rattle.swc_steps.specs.Parsing.{scope_of}
 use Rattle.swc_ecma_parser.specs.Calls.{Called, SeesEnd}
-use Rattle.swc_ecma_parser.specs.Promise.{Promised, by_number}
+use Rattle.swc_ecma_parser.specs.Promise.{Promised, numbered}
 use Rattle.swc_ecma_parser.specs.declared.parser.Parser.{Parser}
 
 -- how contracts compare the tokens of a list
@@ -28,23 +28,24 @@ plain_list ts = map plain ts
 abbrev pub IsHeeded : Context → Syntax → Type 0
 IsHeeded c x = (c.ignore_error ≡ false) × (x.early_errors ≡ true)
 
-module _ {F C K : Type 0} {fg : Ghosts F} {cg : Ghosts C} {kg : Ghosts K} where
-  -- In the context c, of which four flags decide nothing (`view`), and by the syntax x, what is read of the tokens ts: the number of an expression and whether tokens are left behind
-  -- it, or a refusal; the nodes; and the faults that were recorded
-  pub record Headline (sure : Bool) (hook : Hook F C K) (c : Context) (x : Syntax) (ts : List TokenAndSpan)
-      (read : Result (ExprId × Bool) Error) (nodes : Nodes F C K fg cg kg) (recorded : List Error) : Type 0 where
+module _ {N F C K : Type 0} {fg : Ghosts F} {cg : Ghosts C} {kg : Ghosts K} where
+  -- In the context c, of which four flags decide nothing (`view`), and by the syntax x, what is read of the tokens ts as the symbol s: what
+  -- has the number of a tree and whether tokens are left behind it, or a refusal; the nodes; and the faults that were recorded
+  pub record Headline (sure : Bool) (hook : Hook F C K) (s : Symbol) (tree : Nodes F C K fg cg kg → N → Tree F C K) (c : Context) (x : Syntax) (ts : List TokenAndSpan)
+      (read : Result (N × Bool) Error) (nodes : Nodes F C K fg cg kg) (recorded : List Error) : Type 0 where
     -- A tree answered with no token left and no fault recorded is derived by the written grammar from the whole list.
-    pub sound : IfOk read (λ r. r.1 ≡ false → recorded ≡ [] → Reads hook Expr (scope_of (view c) x) ts [] (tree_of nodes r.0))
+    pub sound : IfOk read (λ r. r.1 ≡ false → recorded ≡ [] → Reads hook s (scope_of (view c) x) ts [] (tree nodes r.0))
     -- Each tree that the grammar derives from the whole list is answered, with no token left and no fault recorded, or memory was wanted.
     -- The hook has to be faithful.
-    pub complete : sure ≡ true → (t : Tree F C K) → Reads hook Expr (scope_of (view c) x) ts [] t
-        → MatchResult read (λ r. (tree_of nodes r.0 ≡ t) × (r.1 ≡ false) × (recorded ≡ [])) (λ e. e.kind ≡ OutOfMemory)
+    pub complete : sure ≡ true → (t : Tree F C K) → Reads hook s (scope_of (view c) x) ts [] t
+        → MatchResult read (λ r. (tree nodes r.0 ≡ t) × (r.1 ≡ false) × (recorded ≡ [])) (λ e. e.kind ≡ OutOfMemory)
 
-module _ {S H F C K : Type 0} {fg : Ghosts F} {cg : Ghosts C} {kg : Ghosts K} (model : Model S) (sure : Bool) (hook : Hook F C K) where
-  -- one expression was read, and the end was looked for
-  pub data Tries (p : Parser S H F C K fg cg kg) : Result (ExprId × Bool) Error → Parser S H F C K fg cg kg → Type 0 where
-    tried : {id : ExprId} {v : Bool} {q r : Parser S H F C K fg cg kg} → Promised model sure hook by_number Expr p (Ok id) q
+module _ {S H N F C K : Type 0} {fg : Ghosts F} {cg : Ghosts C} {kg : Ghosts K} (model : Model S) (sure : Bool) (hook : Hook F C K)
+    (tree : Nodes F C K fg cg kg → N → Tree F C K) (part : N → Part) (s : Symbol) where
+  -- one tree was read, and the end was looked for
+  pub data Tries (p : Parser S H F C K fg cg kg) : Result (N × Bool) Error → Parser S H F C K fg cg kg → Type 0 where
+    tried : {id : N} {v : Bool} {q r : Parser S H F C K fg cg kg} → Promised model sure hook (numbered tree part) s p (Ok id) q
         → Called (SeesEnd model) q (Ok v) r → Tries p (Ok (id, not v)) r
-    refused : {e : Error} {r : Parser S H F C K fg cg kg} → Promised model sure hook by_number Expr p (Err e) r → Tries p (Err e) r
-    lost : {id : ExprId} {e : Error} {q r : Parser S H F C K fg cg kg} → Promised model sure hook by_number Expr p (Ok id) q
+    refused : {e : Error} {r : Parser S H F C K fg cg kg} → Promised model sure hook (numbered tree part) s p (Err e) r → Tries p (Err e) r
+    lost : {id : N} {e : Error} {q r : Parser S H F C K fg cg kg} → Promised model sure hook (numbered tree part) s p (Ok id) q
         → Called (SeesEnd model) q (Err e) r → Tries p (Err e) r

@@ -3,7 +3,6 @@ ghost use Rattle.std.specs.Prelude.{◌≡◌, ◌||◌, ℕ, true, false, [], N
 ghost use Rattle.swc_input.specs.Buffer.{last_position, previous, source, state_of, with_source, fresh};
 ghost use Rattle.swc_nodes.specs.Commas.{comma_at, part_commas, Recalls};
 ghost use Rattle.swc_nodes.specs.NumberedTrees.{floor};
-ghost use Rattle.swc_nodes.specs.NodeParts.{one_expr};
 ghost use Rattle.swc_nodes.specs.GrowingNodes.{count, seat_at, tree_at, bare_at, Apart, Left, CutTo};
 ghost use Rattle.swc_grammar.specs.Symbols.{Expr, Assign, Level, Unary};
 ghost use Rattle.swc_ecma_parser.specs.Calls.{buffer_of, nodes_of, commas_of, with_buffer, with_nodes, has_failed};
@@ -32,6 +31,7 @@ use swc_steps::tokens::is_out_of_memory;
 
 mod names;
 pub mod object;
+mod params;
 mod pat;
 mod pieces;
 
@@ -46,12 +46,12 @@ pub type PatOf<B> = Pat<<B as BodyForms>::Fun, <B as BodyForms>::Class, <B as Bo
 /// consumed last; from then on each of these calls refuses, as `ParserFailed` at the token consumed
 /// last.
 ///
-/// Where early errors are on and not ignored, the calls on expressions answer by the written
+/// Where early errors are on and not ignored, the calls on expressions and patterns answer by the written
 /// grammar: a tree answered with no fault recorded is one that it derives from the tokens consumed
 /// (`sound`), and over a listed source a tree that it derives up to the end or a hard stop is
 /// answered, unless memory is wanted (`complete`); no other is derived from all tokens
 /// (`one_tree`); operators group by their precedence (`grouped`), and no `Invalid` stands in for
-/// what was refused (`valid`).
+/// what was refused (`valid`); patterns bind names alone (`binds`).
 pub struct Parser<I: Tokens, B: Bodies<I>> {
     productions: Productions<I, B>,
     commas: TrailingCommas,
@@ -288,12 +288,16 @@ impl<I: Tokens, B: Bodies<I>> Parser<I, B> {
         self.finish(answer)
     }
 
-    /// Keeps the nodes that were made for the answer, and remembers the commas of its literals; or cuts them off after a
-    /// refusal.
-    fn keep(&mut self, start: usize, answer: PResult<ExprId>) -> PResult<ExprId>
-        requires { IfOk answer (λ id. Apart start (nodes_of self.old) (one_expr id)) }
+    /// Keeps the nodes that were made for the answer, and remembers the commas of its literals; or cuts them off
+    /// after a refusal.
+    fn keep<T: Take<B::Fun, B::Class, B::Block> + Drop>(
+        &mut self,
+        start: usize,
+        answer: PResult<T>,
+    ) -> PResult<T>
+        requires { IfOk answer (λ id. Apart start (nodes_of self.old) (T.parts id)) }
         ensures answer { Kept (last_position (buffer_of self.old)) answer result }
-        ensures commas { RemembersParts one_expr self.old answer result self.new }
+        ensures commas { RemembersParts T.parts self.old answer result self.new }
         ensures nodes { MatchResult result (λ id. nodes_of self.new ≡ nodes_of self.old)
             (λ e. CutTo start (nodes_of self.old) (nodes_of self.new)) }
         ensures buffer { buffer_of self.new ≡ buffer_of self.old }
@@ -308,16 +312,19 @@ impl<I: Tokens, B: Bodies<I>> Parser<I, B> {
 
     /// Remembers the commas of an answer's literals. Beside the answer's own refusal it is refused only for want of
     /// memory.
-    fn remember(&mut self, answer: PResult<ExprId>) -> PResult<ExprId>
-        requires { IfOk answer (λ id. Apart 0 (nodes_of self.old) (one_expr id)) }
+    fn remember<T: Take<B::Fun, B::Class, B::Block> + Drop>(
+        &mut self,
+        answer: PResult<T>,
+    ) -> PResult<T>
+        requires { IfOk answer (λ id. Apart 0 (nodes_of self.old) (T.parts id)) }
         ensures answer { Kept (last_position (buffer_of self.old)) answer result }
-        ensures commas { RemembersParts one_expr self.old answer result self.new }
+        ensures commas { RemembersParts T.parts self.old answer result self.new }
         ensures nodes { nodes_of self.new ≡ nodes_of self.old }
         ensures buffer { buffer_of self.new ≡ buffer_of self.old }
         ensures runs { has_failed self.new ≡ has_failed self.old }
     {
         match answer {
-            Ok(id) => match self.commas.remember_all(&self.productions.nodes, &id) {
+            Ok(id) => match id.remember(&self.productions.nodes, &mut self.commas) {
                 Ok(()) => Ok(id),
                 Err(_) => Err(self.productions.input.out_of_memory()),
             },

@@ -6,13 +6,17 @@ ghost use Rattle.swc_nodes.specs.GrowingNodes.{count, seat_at, tree_at, bare_at,
 
 use std::alloc::{AllocError, Global};
 use swc_ast::expr::{Expr, ExprOrSpread, Tpl};
+use swc_ast::function::Param;
+use swc_ast::pat::{ObjectPatProp, Pat};
 use swc_ast::prop::{PropName, PropOrSpread};
 use swc_ast::spanned::Spanned;
 use swc_nodes::commas::TrailingCommas;
-use swc_nodes::node::{ExprId, PropNode};
+use swc_nodes::node::{ExprId, PatId, PatPropNode, PropNode};
 use swc_nodes::nodes::Nodes;
 use swc_steps::tokens::Listed;
-use swc_trees::taking::{take_args, take_expr, take_key, take_prop, take_tpl};
+use swc_trees::taking::{
+    take_args, take_expr, take_key, take_params, take_pat, take_pat_prop, take_prop, take_tpl,
+};
 
 /// What holds numbers of nodes, and is moved out of them into boxes.
 pub(crate) trait Take<F: Spanned + Drop, C: Spanned + Drop, K: Spanned + Drop> {
@@ -176,5 +180,84 @@ impl<F: Spanned + Drop, C: Spanned + Drop, K: Spanned + Drop> Take<F, C, K> for 
 
     fn take(self, nodes: &mut Nodes<F, C, K>, alloc: Global) -> Result<Self::Whole, AllocError> {
         take_tpl(nodes, alloc, self)
+    }
+}
+
+impl<F: Spanned + Drop, C: Spanned + Drop, K: Spanned + Drop> Take<F, C, K> for PatId {
+    ghost use Rattle.swc_ast.specs.TreeOf.{pat_tree};
+    ghost use Rattle.swc_nodes.specs.NodeTree.{pat_of};
+    ghost use Rattle.swc_nodes.specs.NodeParts.{one_pat};
+
+    type Whole = Pat<F, C, K>;
+
+    ghost parts = { one_pat };
+
+    ghost by = { pat_of F.place C.place K.place };
+
+    ghost tree = { pat_tree _ _ _ F.place C.place K.place };
+
+    fn remember(
+        &self,
+        nodes: &Nodes<F, C, K>,
+        commas: &mut TrailingCommas,
+    ) -> Result<(), AllocError> {
+        commas.remember_all(nodes, self)
+    }
+
+    fn take(self, nodes: &mut Nodes<F, C, K>, alloc: Global) -> Result<Self::Whole, AllocError> {
+        take_pat(nodes, alloc, self)
+    }
+}
+
+impl<F: Spanned + Drop, C: Spanned + Drop, K: Spanned + Drop> Take<F, C, K> for PatPropNode {
+    ghost use Rattle.swc_ast.specs.TreeOf.{pat_prop_tree};
+    ghost use Rattle.swc_nodes.specs.NodeTree.{pat_prop_of};
+    ghost use Rattle.swc_nodes.specs.NodeParts.{pat_prop_parts};
+
+    type Whole = ObjectPatProp<F, C, K>;
+
+    ghost parts = { pat_prop_parts };
+
+    ghost by = { pat_prop_of F.place C.place K.place };
+
+    ghost tree = { pat_prop_tree _ _ _ F.place C.place K.place };
+
+    fn remember(
+        &self,
+        nodes: &Nodes<F, C, K>,
+        commas: &mut TrailingCommas,
+    ) -> Result<(), AllocError> {
+        commas.remember_all(nodes, self)
+    }
+
+    fn take(self, nodes: &mut Nodes<F, C, K>, alloc: Global) -> Result<Self::Whole, AllocError> {
+        take_pat_prop(nodes, alloc, self)
+    }
+}
+
+impl<F: Spanned + Drop, C: Spanned + Drop, K: Spanned + Drop> Take<F, C, K> for Vec<Param<PatId>> {
+    ghost use Rattle.swc_ast.specs.TreeOf.{pat_tree};
+    ghost use Rattle.swc_nodes.specs.NodeTree.{pat_of};
+    ghost use Rattle.swc_nodes.specs.NodeParts.{flat, param_parts};
+    ghost use Rattle.swc_ecma_parser.specs.Calls.{params_tree};
+
+    type Whole = Vec<Param<Pat<F, C, K>>>;
+
+    ghost parts = { λ ps. flat param_parts ps.items };
+
+    ghost by = { λ at. params_tree (pat_of F.place C.place K.place at) };
+
+    ghost tree = { params_tree (pat_tree _ _ _ F.place C.place K.place) };
+
+    fn remember(
+        &self,
+        nodes: &Nodes<F, C, K>,
+        commas: &mut TrailingCommas,
+    ) -> Result<(), AllocError> {
+        commas.remember_all(nodes, self)
+    }
+
+    fn take(self, nodes: &mut Nodes<F, C, K>, alloc: Global) -> Result<Self::Whole, AllocError> {
+        take_params(nodes, alloc, self)
     }
 }

@@ -1,8 +1,11 @@
-// A whole list of tokens, read as one expression.
+// A whole list of tokens, read as one expression, or as one binding pattern.
 ghost use Rattle.std.specs.Prelude.{◌≡◌, false, IfOk};
 ghost use Rattle.swc_input.specs.Listed.{listed_model};
-ghost use Rattle.swc_nodes.specs.NodeParts.{expr_part};
+ghost use Rattle.swc_grammar.specs.Symbols.{Expr, Pat};
+ghost use Rattle.swc_nodes.specs.NodeParts.{expr_part, pat_part};
 ghost use Rattle.swc_nodes.specs.GrowingNodes.{From};
+ghost use Rattle.swc_patterns.specs.Answers.{pat_at};
+ghost use Rattle.swc_steps.specs.Parsing.{tree_of};
 ghost use Rattle.swc_ecma_parser.specs.Calls.{has_failed, nodes_of};
 ghost use Rattle.swc_ecma_parser.specs.WholeList.{plain_list, IsHeeded, Headline, Tries};
 
@@ -13,15 +16,15 @@ use swc_context::context::{Context, EsVersion, Syntax};
 use swc_context::error::{Error, PResult};
 use swc_input::listed::TokensInput;
 use swc_input::token::TokenAndSpan;
-use swc_nodes::node::ExprId;
+use swc_nodes::node::{ExprId, PatId};
 use swc_nodes::nodes::NodesOf;
 
 /// What was made of a whole list of tokens.
 #[derive(Drop)]
-pub struct Whole<B: Bodies<TokensInput>> {
-    /// The number of the expression, and whether tokens are left behind it; or the refusal.
-    pub read: PResult<(ExprId, bool)>,
-    /// The nodes of the expression's tree.
+pub struct Whole<N, B: Bodies<TokensInput>> {
+    /// The number of the expression or pattern, and whether tokens are left behind it; or the refusal.
+    pub read: PResult<(N, bool)>,
+    /// The nodes of its tree.
     pub nodes: NodesOf<B>,
     /// The faults that were recorded.
     pub recorded: Vec<Error>,
@@ -40,15 +43,15 @@ pub fn parse_whole_expr<B: Bodies<TokensInput>>(
     syntax: Syntax,
     target: EsVersion,
     bodies: B,
-) -> Whole<B>
+) -> Whole<ExprId, B>
     ensures stands { IfOk result.read (λ r. From 0 result.nodes (expr_part r.0)) }
     ensures headline { IsHeeded ctx syntax
-        → Headline B.is_faithful B.forms ctx syntax (plain_list tokens.items)
+        → Headline B.is_faithful B.forms Expr tree_of ctx syntax (plain_list tokens.items)
         result.read result.nodes result.recorded.items }
 {
     let source = TokensInput::new(alloc, tokens, ctx, syntax, target);
     let mut parser = Parser::new_from(alloc, source, bodies);
-    let read = try_whole(&mut parser);
+    let read = try_whole_expr(&mut parser);
     let recorded = parser.take_errors();
     let nodes = parser.into_nodes();
     Whole {
@@ -59,12 +62,56 @@ pub fn parse_whole_expr<B: Bodies<TokensInput>>(
 }
 
 /// Reads one expression: its number, and whether tokens are left behind it.
-fn try_whole<B: Bodies<TokensInput>>(parser: &mut Parser<TokensInput, B>) -> PResult<(ExprId, bool)>
+fn try_whole_expr<B: Bodies<TokensInput>>(
+    parser: &mut Parser<TokensInput, B>,
+) -> PResult<(ExprId, bool)>
     requires { has_failed parser.old ≡ false }
     ensures stands { IfOk result (λ r. From 0 (nodes_of parser.new) (expr_part r.0)) }
-    ensures tries { Tries listed_model B.is_faithful B.forms parser.old result parser.new }
+    ensures tries { Tries listed_model B.is_faithful B.forms tree_of expr_part Expr parser.old result parser.new }
 {
     let expr = parser.parse_expr_id()?;
     let at_end = parser.at_end()?;
     Ok((expr, !at_end))
+}
+
+/// Reads a list of tokens as one binding pattern (ECMA-262, 14.3.3), with a parser of its own.
+///
+/// Refuses as `Parser::parse_pat` does, and for want of memory. What it answers is judged (`headline`) as by
+/// `parse_whole_expr`.
+pub fn parse_whole_pat<B: Bodies<TokensInput>>(
+    alloc: Global,
+    tokens: Vec<TokenAndSpan>,
+    ctx: Context,
+    syntax: Syntax,
+    target: EsVersion,
+    bodies: B,
+) -> Whole<PatId, B>
+    ensures stands { IfOk result.read (λ r. From 0 result.nodes (pat_part r.0)) }
+    ensures headline { IsHeeded ctx syntax
+        → Headline B.is_faithful B.forms Pat pat_at ctx syntax (plain_list tokens.items)
+        result.read result.nodes result.recorded.items }
+{
+    let source = TokensInput::new(alloc, tokens, ctx, syntax, target);
+    let mut parser = Parser::new_from(alloc, source, bodies);
+    let read = try_whole_pat(&mut parser);
+    let recorded = parser.take_errors();
+    let nodes = parser.into_nodes();
+    Whole {
+        read,
+        nodes,
+        recorded,
+    }
+}
+
+/// Reads one pattern: its number, and whether tokens are left behind it.
+fn try_whole_pat<B: Bodies<TokensInput>>(
+    parser: &mut Parser<TokensInput, B>,
+) -> PResult<(PatId, bool)>
+    requires { has_failed parser.old ≡ false }
+    ensures stands { IfOk result (λ r. From 0 (nodes_of parser.new) (pat_part r.0)) }
+    ensures tries { Tries listed_model B.is_faithful B.forms pat_at pat_part Pat parser.old result parser.new }
+{
+    let pat = parser.parse_pat_id()?;
+    let at_end = parser.at_end()?;
+    Ok((pat, !at_end))
 }

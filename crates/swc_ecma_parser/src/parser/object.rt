@@ -1,18 +1,29 @@
 // Keys, and the properties of object literals, as calls of a parser.
-ghost use Rattle.std.specs.Prelude.{◌≡◌, OnOk};
+ghost use Rattle.std.specs.Option.{is_some};
+ghost use Rattle.std.specs.Prelude.{◌≡◌, None, map, IfSome, OnOk};
+ghost use Rattle.swc_ast.specs.Patterns.{holds_ident};
+ghost use Rattle.swc_ast.specs.Tree.{trees};
+ghost use Rattle.swc_ast.specs.TreeOf.{pat_prop_tree};
 ghost use Rattle.swc_grammar.specs.Symbols.{Key, Prop};
 ghost use Rattle.swc_nodes.specs.Commas.{Remembers};
-ghost use Rattle.swc_ecma_parser.specs.Calls.{buffer_of, nodes_of, commas_of, has_failed, MakesObject};
-ghost use Rattle.swc_ecma_parser.specs.Promise.{Promised, key_in_boxes, prop_in_boxes};
+ghost use Rattle.swc_patterns.specs.Objects.{is_rest, props_stage, rests_checked};
+ghost use Rattle.swc_steps.specs.Parsing.{ContinuesAlone};
+ghost use Rattle.swc_ecma_parser.specs.Calls.{buffer_of, nodes_of, commas_of, has_failed, MakesObject, MakesPattern};
+ghost use Rattle.swc_ecma_parser.specs.Calls.{Patterns};
+ghost use Rattle.swc_ecma_parser.specs.Promise.{Promised, PromisedPatProp, key_in_boxes, prop_in_boxes};
 
-use crate::parser::Parser;
+use crate::parser::{Parser, PatOf};
+use swc_ast::pat::{ObjectPatProp, Pat};
 use swc_ast::prop::{PropName, PropOrSpread};
-use swc_bodies::bodies::{Bodies, ExprOf};
+use swc_ast::spanned::Spanned;
+use swc_bodies::bodies::{Bodies, BodyForms, ExprOf};
 use swc_context::error::{Error, PResult};
 use swc_context::span::Span;
+use swc_input::buffer::Buffer;
 use swc_input::tokens::Tokens;
-use swc_productions::ring::{parse_object_prop, parse_prop_name};
-use swc_trees::letting_go::let_go_props;
+use swc_patterns::object::{RestProp, check_earlier_rest, check_last_rest};
+use swc_productions::ring::{parse_object_pat_prop, parse_object_prop, parse_prop_name};
+use swc_trees::letting_go::{let_go_pat_props, let_go_props};
 use swc_trees::making::object_lit;
 
 /// What object literals and object patterns (ECMA-262, 13.2.5 and 14.3.3) are read as, a property at
@@ -100,7 +111,7 @@ impl<I: Tokens, B: Bodies<I>> ParseObject<Box<ExprOf<B>>> for Parser<I, B> {
     ghost reads = { Promised I.model B.is_faithful B.forms prop_in_boxes Prop };
 
     /// An object literal of the properties. Nothing is recorded. The comma behind the last is remembered at the
-    /// literal's start, or that there is none (`Parser::trailing_comma`): patterns will ask for it.
+    /// literal's start, or that there is none (`Parser::trailing_comma`).
     fn make_object(
         &mut self,
         span: Span,
@@ -128,6 +139,132 @@ impl<I: Tokens, B: Bodies<I>> ParseObject<Box<ExprOf<B>>> for Parser<I, B> {
         self.begin()?;
         let start = self.productions.nodes.len();
         let answer = parse_object_prop(&mut self.productions);
+        let answer = self.move_out(start, answer);
+        self.finish(answer)
+    }
+}
+
+/// A property of an object pattern, over a hook's values.
+pub type PatPropOf<B> = ObjectPatProp<
+    <B as BodyForms>::Fun,
+    <B as BodyForms>::Class,
+    <B as BodyForms>::Block,
+>;
+
+/// The rest that a property is.
+fn rest_of<F: Spanned, C: Spanned, K: Spanned>(prop: &ObjectPatProp<F, C, K>) -> Option<RestProp>
+    ensures rest { is_some result ≡ is_rest (pat_prop_tree _ _ _ F.place C.place K.place prop.now) }
+    ensures name { IfSome result
+        (λ r. r.is_name ≡ holds_ident (pat_prop_tree _ _ _ F.place C.place K.place prop.now)) }
+{
+    match prop {
+        ObjectPatProp::Rest(rest) => Some(RestProp {
+            span: rest.span,
+            is_name: matches!(&*rest.arg, Pat::Ident(_)),
+        }),
+        _ => None,
+    }
+}
+
+/// Records and refuses the rests that don't stand last, over an identifier, with no comma behind them, in their order.
+fn check_rests<I: Tokens, F: Spanned, C: Spanned, K: Spanned>(
+    input: &mut Buffer<I>,
+    props: &Vec<ObjectPatProp<F, C, K>>,
+    trailing_comma: Option<Span>,
+) -> PResult<()>
+    ensures { ContinuesAlone I.model (λ u. u) (rests_checked (props_stage
+        (trees (map (pat_prop_tree _ _ _ F.place C.place K.place) props.now.items)) trailing_comma))
+        input.old result input.new }
+{
+    let mut last = None;
+    for prop in props {
+        check_earlier_rest(input, last)?;
+        last = rest_of(prop);
+    }
+    check_last_rest(input, last, trailing_comma)
+}
+
+impl<I: Tokens, B: Bodies<I>> Parser<I, B> {
+    /// An object pattern of the properties, whose rests were checked, and at whose start no comma is remembered any
+    /// more.
+    fn make_pattern(
+        &mut self,
+        span: Span,
+        props: Vec<PatPropOf<B>>,
+        trailing_comma: Option<Span>,
+    ) -> PResult<PatOf<B>>
+        ensures makes { MakesPattern I.model B.Fun.place B.Class.place B.Block.place span props.items trailing_comma
+            (buffer_of self.old) result (buffer_of self.new) }
+        ensures remembers { OnOk result (Remembers span.lo.0 None (commas_of self.old) (commas_of self.new)) }
+        ensures nodes { nodes_of self.new ≡ nodes_of self.old }
+        ensures runs { has_failed self.new ≡ has_failed self.old }
+    {
+        match check_rests(&mut self.productions.input, &props, trailing_comma) {
+            Ok(()) => match self.commas.remember(span.lo, None) {
+                Ok(()) => Ok(Pat::Object { span, props }),
+                Err(_) => {
+                    let_go_pat_props(props);
+                    Err(self.productions.input.out_of_memory())
+                }
+            },
+            Err(error) => {
+                let_go_pat_props(props);
+                Err(error)
+            }
+        }
+    }
+}
+
+impl<I: Tokens, B: Bodies<I>> ParseObject<PatOf<B>> for Parser<I, B> {
+    ghost use Rattle.swc_ecma_parser.specs.Calls.{Patterns};
+    ghost use Rattle.swc_ecma_parser.specs.Promise.{PromisedPatProp};
+
+    type Prop = PatPropOf<B>;
+
+    ghost makes = { λ p span props comma. Patterns I.model span props comma p };
+
+    ghost reads = { PromisedPatProp I.model B.is_faithful B.forms };
+
+    /// An object pattern of the properties (ECMA-262, 14.3.3). No comma is remembered at its start any more.
+    ///
+    /// A rest that another property stands behind is recorded as `NonLastRestParam`, at the rest. A last one over no
+    /// identifier is refused as `DotsWithoutIdentifier`, at the rest, and what was given is dropped; the comma behind
+    /// one over an identifier is recorded as `CommaAfterRestElement`, at the comma.
+    fn make_object(
+        &mut self,
+        span: Span,
+        props: Vec<PatPropOf<B>>,
+        trailing_comma: Option<Span>,
+    ) -> PResult<PatOf<B>>
+        ensures { Patterns I.model span props.items trailing_comma self.old result self.new }
+    {
+        match self.begin() {
+            Ok(()) => {
+                let answer = self.make_pattern(span, props, trailing_comma);
+                self.finish(answer)
+            }
+            Err(error) => {
+                let_go_pat_props(props);
+                Err(error)
+            }
+        }
+    }
+
+    /// A property of an object pattern (BindingProperty; ECMA-262, 14.3.3), up to what stands behind it, which stays: a
+    /// key and, behind a `:`, a binding element; a name, which is bound, and, behind a `=`, its initialiser or none; or
+    /// `...` and a pattern (BindingRestProperty).
+    ///
+    /// Where a rest stands among the properties, and that it is over an identifier, isn't looked at (`make_object`). A
+    /// name that is bound without an initialiser and is reserved is recorded as `ReservedWordInObjShorthandOrPat`, at
+    /// the name. Behind a key that is no name, what is no `:` is refused as `Unexpected`, at the current token, and the
+    /// end as `Eof`, where the token consumed last ends; the key, the element, the initialiser and the pattern as
+    /// `parse_prop_name`, `parse_binding_element`, `parse_assignment_expr` and `parse_pat` refuse them.
+    fn parse_object_prop(&mut self) -> PResult<PatPropOf<B>>
+        ensures { PromisedPatProp I.model B.is_faithful B.forms self.old result self.new }
+    {
+        self.begin()?;
+        let start = self.productions.nodes.len();
+        let answer = parse_object_pat_prop(&mut self.productions);
         let answer = self.move_out(start, answer);
         self.finish(answer)
     }

@@ -1,7 +1,6 @@
-use Rattle.std.proofs.Common.{refl}
 use Rattle.show.specs.Answers.{refused, judged}
 use Rattle.show.proofs.Giving.{same_error}
-use Rattle.show.proofs.Judging.{judged_by}
+use Rattle.std.proofs.Common.{refl}
 use Rattle.show.proofs.answer.answer_to.Goals as goal
 
 pub returns-in-Ok : goal.returns-in-Ok
@@ -17,9 +16,7 @@ returns-in-Ok c = λ heeded.
       };
       nested = tokens.nested;
     })
-    (judged_by c.args.ctx c.in-Ok.tokens.items c.parse_whole_expr-read.result.nodes
-    c.parse_whole_expr-read.result.recorded.items c.default.result c.default.ensures heeded
-    c.parse_whole_expr-read.ensures.headline c.show-shown.ensures)
+    (c.answer_to_tokens.ensures heeded)
 
 pub returns-in-Err : goal.returns-in-Err
 returns-in-Err c = λ heeded.

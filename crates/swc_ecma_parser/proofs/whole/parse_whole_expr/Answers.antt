@@ -1,5 +1,9 @@
 use Rattle.std.proofs.Common.{ap, ◌∙◌}
 use Rattle.swc_input.specs.Buffer.{last_position}
+use Rattle.swc_grammar.specs.Reads.{at-end}
+use Rattle.swc_grammar.specs.Symbols.{Expr}
+use Rattle.swc_nodes.specs.NodeParts.{expr_part}
+use Rattle.swc_steps.specs.Parsing.{tree_of}
 use Rattle.swc_ecma_parser.specs.Calls.{buffer_of, nodes_of}
 use Rattle.swc_ecma_parser.proofs.WholeList.{headline}
 use Rattle.swc_ecma_parser.proofs.whole.parse_whole_expr.Goals as goal
@@ -7,5 +11,5 @@ use Rattle.swc_ecma_parser.proofs.whole.parse_whole_expr.Goals as goal
 pub returns-clause-headline : goal.returns-clause-headline
 returns-clause-headline g c = λ heeded.
     rw (c.into_nodes-nodes.ensures ∙ ap (λ p. nodes_of p) c.take_errors-recorded.ensures.rest, c.take_errors-recorded.ensures.taken)
-    (headline c.new-source.result (last_position (buffer_of c.new_from-parser.result)) c.args.tokens.items c.args.ctx c.args.syntax c.args.target
-    c.new-source.ensures c.new_from-parser.ensures.fresh c.new_from-parser.ensures.runs heeded c.try_whole-read.ensures.tries)
+    (headline tree_of expr_part Expr at-end c.new-source.result (last_position (buffer_of c.new_from-parser.result)) c.args.tokens.items c.args.ctx c.args.syntax c.args.target
+    c.new-source.ensures c.new_from-parser.ensures.fresh c.new_from-parser.ensures.runs heeded c.try_whole_expr-read.ensures.tries)

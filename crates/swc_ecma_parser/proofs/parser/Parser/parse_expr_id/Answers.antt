@@ -2,7 +2,7 @@ use Rattle.std.proofs.Common.{refl, sym, ◌∙◌}
 use Rattle.std.proofs.lemmas.Result.{err_from_is_err_and}
 use Rattle.swc_grammar.specs.Symbols.{Expr}
 use Rattle.swc_grammar.specs.Clean.{sym as at, run}
-use Rattle.swc_nodes.specs.NodeParts.{one_expr}
+use Rattle.swc_nodes.specs.NodeParts.{expr_part, one_expr}
 use Rattle.swc_steps.specs.Parsing.{tree_of}
 use Rattle.swc_ecma_parser.specs.Calls.{nodes_of, commas_of}
 use Rattle.swc_ecma_parser.proofs.Calling.{promised, promised-again}
@@ -25,8 +25,8 @@ returns g c =
       promised = promised c.parse_expr-answer.new.p.input ns (commas_of c.keep-answer.new.self) c.keep-answer.result c.finish.result c.in_ok-begin.ensures.runs kept.runs
           done.answer (done.buffer ∙ kept.buffer) done.nodes done.commas done.fails
           (meets-by-number g.I.Tokens.model g.B.Bodies.is_faithful g.B.BodyForms.forms g.met.B.Bodies.lawful (tree_of ns) expr-stops _ c.keep-answer.result _
-          (kept-parses g.I.Tokens.model g.B.Bodies.is_faithful (run g.B.BodyForms.forms (at Expr)) ms ns c.len-start.result _ _ answer c.keep-answer.result read.reads kept.answer kept.nodes))
+          (kept-parses g.I.Tokens.model g.B.Bodies.is_faithful (run g.B.BodyForms.forms (at Expr)) tree_of ms ns c.len-start.result _ _ answer c.keep-answer.result read.reads kept.answer kept.nodes))
           (recalled g.I.Tokens.model g.B.Bodies.is_faithful g.B.BodyForms.forms g.met.B.Bodies.lawful Expr (λ t. t) ms (tree_of ms) (tree_of ms) (tree_of ns) one_expr
-          _ _ answer c.keep-answer.result _ _ read.reads (λ e. refl) (λ e. refl) (kept-moved ms ns _ c.len-start.result answer c.keep-answer.result kept.answer kept.nodes) kept.commas)
-          (kept-leaves ns _ answer c.keep-answer.result read.grows read.from kept.answer (rw (sym c.len-start.ensures) kept.nodes));
+          _ _ answer c.keep-answer.result _ _ read.reads (λ e. refl) (λ e. refl) (kept-moved tree_of ms ns _ c.len-start.result answer c.keep-answer.result kept.answer kept.nodes) kept.commas)
+          (kept-leaves expr_part ns _ answer c.keep-answer.result read.grows read.from kept.answer (rw (sym c.len-start.ensures) kept.nodes));
     }

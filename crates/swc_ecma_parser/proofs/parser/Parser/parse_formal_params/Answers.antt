@@ -1,17 +1,23 @@
-use Rattle.std.proofs.Common.{ap, ◌∙◌}
+use Rattle.std.proofs.Common.{refl, sym, ◌∙◌}
 use Rattle.std.proofs.lemmas.Result.{err_from_is_err_and}
-use Rattle.swc_ecma_parser.specs.Calls.{has_failed, nodes_of, commas_of}
-use Rattle.swc_ecma_parser.proofs.Calling.{called, called-again}
+use Rattle.swc_ecma_parser.specs.Calls.{nodes_of, commas_of}
+use Rattle.swc_ecma_parser.proofs.FormalParams.{meets-params, params-again, promised-params}
+use Rattle.swc_ecma_parser.proofs.Moving.{cut-back}
 use Rattle.swc_ecma_parser.proofs.parser.Parser.parse_formal_params.Goals as goal
 
 pub returns-in_err-begin : goal.returns-in_err-begin
 returns-in_err-begin g c =
     let p = err_from_is_err_and c.from_residual.result c.from_residual.ensures.1 in
-    rw (p.1, p.2) (called-again c.in_err-begin.ensures.again)
+    rw (p.1, p.2) (params-again c.in_err-begin.ensures.again refl)
 
 pub returns : goal.returns
 returns g c =
     let done = c.finish.ensures in
-    let answered = c.parse_no_params-answer.ensures in
-    called c.parse_no_params-answer.result c.finish.result c.in_ok-begin.ensures.runs (ap has_failed answered.rest) done.answer done.buffer
-    (done.nodes ∙ ap nodes_of answered.rest) (done.commas ∙ ap commas_of answered.rest) done.fails answered.effect
+    let moved = c.move_out-answer.ensures in
+    let read = c.parse_formal_params-answer.ensures in
+    promised-params c.parse_formal_params-answer.new.p.input (nodes_of c.move_out-answer.new.self) (commas_of c.move_out-answer.new.self)
+    c.move_out-answer.result c.finish.result c.in_ok-begin.ensures.runs moved.runs
+    done.answer (done.buffer ∙ moved.buffer) done.nodes done.commas done.fails
+    (meets-params g.I.Tokens.model g.B.Bodies.is_faithful g.B.BodyForms.forms g.met.B.Bodies.lawful c.parse_formal_params-answer.new.p.nodes _ _ _ _
+    c.parse_formal_params-answer.result c.move_out-answer.result read.reads moved.moved moved.commas)
+    (cut-back (nodes_of c.move_out-answer.new.self) read.grows (rw (sym c.len-start.ensures) moved.nodes))

@@ -1,6 +1,6 @@
 use Rattle.std.proofs.lemmas.Result.{err_from_is_err_and}
 use Rattle.swc_ecma_parser.specs.WholeList.{tried, refused, lost}
-use Rattle.swc_ecma_parser.proofs.whole.try_whole.Goals as goal
+use Rattle.swc_ecma_parser.proofs.whole.try_whole_expr.Goals as goal
 
 pub returns-in_err-expr-clause-tries : goal.returns-in_err-expr-clause-tries
 returns-in_err-expr-clause-tries g c =

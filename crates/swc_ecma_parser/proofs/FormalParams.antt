@@ -1,0 +1,314 @@
+-- From what is read of formal parameters to what is promised of them.
+use Rattle.std.proofs.Common.{◌≡◌, ◌≢◌, ℕ, ◌<◌, Bool, true, false, List, [], ◌∷◌, ◌++◌, Some, None, Result, Ok, Err, IfOk, OnOk, MatchResult, map, length, ◌||◌, refl, sym, ap, subst, ◌∙◌, append_assoc}
+use Rattle.std.specs.declared.alloc.Global.{Global}
+use Rattle.std.specs.declared.vec.Vec.{Vec}
+use Rattle.swc_context.specs.declared.error.Error.{Error}
+use Rattle.swc_context.specs.declared.error.SyntaxError.TheVariants.{OutOfMemory}
+use Rattle.swc_context.specs.declared.span.Span.{Span}
+use Rattle.swc_input.specs.declared.buffer.Buffer.{Buffer}
+use Rattle.swc_input.specs.declared.token.TokenAndSpan.{TokenAndSpan}
+use Rattle.swc_input.specs.Buffer.{Future, Known, held, last_position, previous}
+use Rattle.swc_input.specs.Laws.{Known-after, Known-Future}
+use Rattle.swc_input.specs.Recording.{no_memory}
+use Rattle.swc_input.specs.Source.{Model}
+use Rattle.swc_ast.specs.Parts.{param_tree}
+use Rattle.swc_ast.specs.Tree.{Tree, node, Trees, nil, cons, trees}
+use Rattle.swc_ast.specs.TreeOf.{pat_tree}
+use Rattle.swc_ast.specs.Trees.{are_grouped, are_valid, grouped_at, is_invalid, items_of, listed, unmarked, all_unmarked}
+use Rattle.swc_ast.specs.declared.function.Param.{Param}
+use Rattle.swc_ast.specs.declared.pat.Pat.{Pat as PatOf}
+use Rattle.swc_ast.specs.declared.spanned.Spanned.{Ghosts}
+use Rattle.swc_bodies.specs.Readings.{Hook, LawfulHook}
+use Rattle.swc_grammar.specs.Clean.{first, sym as at, run}
+use Rattle.swc_grammar.specs.Patterns.{any, all_bind_names}
+use Rattle.swc_grammar.specs.Reads.{Reads, ReadsUnmarked}
+use Rattle.swc_grammar.specs.Scope.{Scope}
+use Rattle.swc_grammar.specs.Symbols.{Params}
+use Rattle.swc_grammar.specs.Tokens.{is_rparen}
+use Rattle.swc_grammar.proofs.Complete as clean_all
+use Rattle.swc_grammar.proofs.Cut.{cut-append}
+use Rattle.swc_grammar.proofs.Direct.{params-bind}
+use Rattle.swc_grammar.proofs.MarkedBinds.{all-same-binds}
+use Rattle.swc_grammar.proofs.Sound as clean
+use Rattle.swc_nodes.specs.Commas.{comma_at, commas_in, commas_of_all, part_commas, recalled, Recalls}
+use Rattle.swc_nodes.specs.GrowingNodes.{tree_at, bare_at, SameNodes}
+use Rattle.swc_nodes.specs.NodeParts.{flat, param_parts}
+use Rattle.swc_nodes.specs.declared.commas.TrailingCommas.{TrailingCommas}
+use Rattle.swc_nodes.specs.declared.node.PatId.{PatId}
+use Rattle.swc_nodes.specs.declared.nodes.Nodes.{Nodes}
+use Rattle.swc_patterns.specs.Answers.{params_at}
+use Rattle.swc_patterns.specs.Params.{params_close}
+use Rattle.swc_steps.specs.Keys.{expected}
+use Rattle.swc_steps.specs.Lists.{eaten}
+use Rattle.swc_steps.specs.Parsing.{scope, recorded, Loud, Acts, On, Unheard}
+use Rattle.swc_steps.proofs.Hearing.{same_faults}
+use Rattle.swc_steps.proofs.Steps.{spent, forgoes_refuses}
+use Rattle.swc_ecma_parser.specs.Calls.{buffer_of, nodes_of, commas_of, has_failed, wants_memory, parser_failed, params_tree}
+use Rattle.swc_ecma_parser.specs.Promise.{ClosedBy, DerivesParams, MayClose, PromisedParams, RemembersParams, Unmarred, pats_of}
+use Rattle.swc_ecma_parser.specs.declared.parser.Parser.{Parser}
+use Rattle.swc_ecma_parser.proofs.Calling.{failing, not_both}
+use Rattle.swc_ecma_parser.proofs.Top.{as_many, memory, parts, right_of, well_bare}
+
+-- ---- patterns of parameters
+
+module _ {F C K : Type 0} where
+  -- the patterns that nodes of parameters hold
+  abbrev first_parts : Trees F C K → Trees F C K
+  first_parts nil = nil
+  first_parts (cons (node k s nil) ts) = first_parts ts
+  first_parts (cons (node k s (cons p us)) ts) = cons p (first_parts ts)
+
+  held_pats : {X : Type 0} (f : X → Tree F C K) (xs : List (Param X))
+      → first_parts (trees (map (param_tree f) xs)) ≡ trees (map (λ p. f p.pat) xs)
+  held_pats f [] = refl
+  held_pats f (x ∷ xs) = ap (cons (f x.pat)) (held_pats f xs)
+
+  same_pats : {X Y : Type 0} (f : X → Tree F C K) (g : Y → Tree F C K) (xs : Vec (Param X) Global) (ys : Vec (Param Y) Global)
+      → params_tree f xs ≡ params_tree g ys → trees (map (λ p. f p.pat) xs.items) ≡ trees (map (λ p. g p.pat) ys.items)
+  same_pats f g xs ys e = sym (held_pats f xs.items) ∙ ap (λ t. first_parts (items_of t)) e ∙ held_pats g ys.items
+
+  unmarked_pats : (f : ℕ → Tree F C K) (xs : List (Param PatId))
+      → all_unmarked (trees (map (λ p. f p.pat.0) xs)) ≡ trees (map (λ p. unmarked (f p.pat.0)) xs)
+  unmarked_pats f [] = refl
+  unmarked_pats f (x ∷ xs) = ap (cons (unmarked (f x.pat.0))) (unmarked_pats f xs)
+
+  pats_commas : (f : ℕ → Tree F C K) (xs : List (Param PatId))
+      → commas_of_all (trees (map (λ p. f p.pat.0) xs)) ≡ part_commas f (flat param_parts xs)
+  pats_commas f [] = refl
+  pats_commas f (x ∷ xs) = ap (λ v. v ++ commas_in (f x.pat.0)) (pats_commas f xs)
+
+  -- ---- the `)` that closes parameters
+
+  closes : (pats : Trees F C K) (c : Scope) (t : TokenAndSpan) (ys : List TokenAndSpan) → is_rparen t.token ≡ true
+      → params_close pats c (t ∷ ys) ≡ Some (listed None t.span pats, ys)
+  unfolding params_close expected eaten
+  closes pats c t ys h = rw h refl
+
+  unclosed : (pats : Trees F C K) (c : Scope) (t : TokenAndSpan) (ys : List TokenAndSpan) → is_rparen t.token ≡ false
+      → params_close pats c (t ∷ ys) ≡ None
+  unfolding params_close expected eaten
+  unclosed pats c t ys h = rw h refl
+
+  unclosed_end : (pats : Trees F C K) (c : Scope) → params_close pats c [] ≡ None
+  unfolding params_close expected eaten
+  unclosed_end pats c = refl
+
+  -- the tokens of a list that is closed, and its tree
+  record Closed (pats : Trees F C K) (ts : List TokenAndSpan) (m : Tree F C K) (ys : List TokenAndSpan) : Type 0 where
+    pub close : TokenAndSpan
+    pub is : is_rparen close.token ≡ true
+    pub begins : ts ≡ close ∷ ys
+    pub list : m ≡ listed None close.span pats
+
+  closed_from : (pats : Trees F C K) (c : Scope) (ts : List TokenAndSpan) (m : Tree F C K) (ys : List TokenAndSpan)
+      → params_close pats c ts ≡ Some (m, ys) → Closed pats ts m ys
+  closed_from pats c [] m ys h = let n = unclosed_end pats c in absurd cc
+  closed_from pats c (a ∷ us) m ys h = by_first (is_rparen a.token) refl
+    where
+      by_first : (v : Bool) → is_rparen a.token ≡ v → Closed pats (a ∷ us) m ys
+      by_first true e =
+          let q = parts (listed None a.span pats, us) (m, ys) (sym (closes pats c a us e) ∙ h) in
+          record { close = a; is = e; begins = ap (λ v. a ∷ v) q.1; list = sym q.0 }
+      by_first false e = let n = unclosed pats c a us e in absurd cc
+
+-- ---- what is known comes once
+
+same_known : {S : Type 0} {model : Model S} {c : Buffer S} (xs ys : List TokenAndSpan) → Known model c xs → Known model c ys → xs ≡ ys
+same_known {c = c} xs ys k l =
+    let same : k.more ≡ l.more = let a = k.known in let b = l.known in cc in
+    k.begins ∙ ap (λ v. held c ++ v) same ∙ sym l.begins
+
+-- What a reading of parameters does and answers, from one state of the buffer and of the commas to another.
+pub record MeetsParams {S F C K T : Type 0} (model : Model S) (sure : Bool) (hook : Hook F C K) (view : T → Trees F C K) (b : Buffer S) (r : Result T Error) (c : Buffer S) (old new : TrailingCommas) : Type 0 where
+  pub acts : Acts model b r c
+  pub sound : Loud model b → IfOk r (λ v. Unmarred model b c → DerivesParams model (ReadsUnmarked hook) (view v) b c)
+  pub complete : sure ≡ true → Loud model b → (ts ys : List TokenAndSpan) (t : Tree F C K) → Known model b ts
+      → ReadsUnmarked hook Params (scope model b) ts ys t
+      → MatchResult r (λ v. ClosedBy model (view v) t c ys × Unmarred model b c) (λ e. e.kind ≡ OutOfMemory)
+  pub one_tree : sure ≡ true → Loud model b → (ts : List TokenAndSpan) (t : Tree F C K) → Known model b ts
+      → ReadsUnmarked hook Params (scope model b) ts [] t
+      → IfOk r (λ v. (close : TokenAndSpan) → Known model c (close ∷ []) → t ≡ listed None close.span (view v))
+  pub grouped : Loud model b → IfOk r (λ v. Unmarred model b c → MayClose model c → are_grouped (view v) ≡ true)
+  pub valid : Loud model b → IfOk r (λ v. Unmarred model b c → MayClose model c → are_valid (view v) ≡ true)
+  pub binds : Loud model b → IfOk r (λ v. Unmarred model b c → MayClose model c → all_bind_names any (view v) ≡ true)
+  pub commas : MatchResult r (λ v. RemembersParams model hook (view v) b c old new) (λ e. e.kind ≢ OutOfMemory → new ≡ old)
+
+module _ {S F C K : Type 0} {fun_at : F → Span} {class_at : C → Span} {block_at : K → Span} (model : Model S) (sure : Bool)
+    (hook : Hook F C K) (laws : LawfulHook fun_at class_at block_at hook) (marked : Trees F C K) (b c : Buffer S)
+    (on : On model sure (run hook (at Params)) (params_close marked) b c) where
+  front : Loud model b → Unmarred model b c → (t : TokenAndSpan) (ys : List TokenAndSpan) → Future model c (t ∷ ys) → is_rparen t.token ≡ true
+      → Reads hook Params (scope model b) (on.leads.taken ++ t ∷ ys) ys (listed None t.span marked)
+  front l same t ys fut h =
+      clean.sound hook laws Params (scope model b) (on.leads.taken ++ t ∷ ys) (listed None t.span marked, ys)
+      (on.clean l (ap length same) (t ∷ ys) fut ∙ closes marked (scope model c) t ys h)
+
+  whole : Loud model b → Unmarred model b c → (t : TokenAndSpan) (ys : List TokenAndSpan) → Future model c (t ∷ ys) → is_rparen t.token ≡ true
+      → Reads hook Params (scope model b) (on.leads.taken ++ t ∷ []) [] (listed None t.span marked)
+  whole l same t ys fut h =
+      cut-append (on.leads.taken ++ t ∷ []) ys
+      (subst (λ v. Reads hook Params (scope model b) v ys (listed None t.span marked)) (sym (append_assoc on.leads.taken (t ∷ []) ys))
+      (front l same t ys fut h))
+
+  derived : Loud model b → Unmarred model b c → DerivesParams model (Reads hook) marked b c
+  derived l same = record { consumed = on.leads.taken; read = on.leads.read; front = front l same; whole = whole l same }
+
+  module _ (pats : Trees F C K) (strips : all_unmarked marked ≡ pats) where
+    bare_of : (xs ys : List TokenAndSpan) (t : TokenAndSpan) → Reads hook Params (scope model b) xs ys (listed None t.span marked)
+        → ReadsUnmarked hook Params (scope model b) xs ys (listed None t.span pats)
+    bare_of xs ys t d = record { marked = listed None t.span marked; read = d; same = ap (λ v. listed None t.span v) strips }
+
+    derived_bare : Loud model b → Unmarred model b c → DerivesParams model (ReadsUnmarked hook) pats b c
+    derived_bare l same = record {
+      consumed = on.leads.taken;
+      read = on.leads.read;
+      front = λ t ys fut h. bare_of (on.leads.taken ++ t ∷ ys) ys t (front l same t ys fut h);
+      whole = λ t ys fut h. bare_of (on.leads.taken ++ t ∷ []) [] t (whole l same t ys fut h);
+    }
+
+    -- over a listed source
+    completed : sure ≡ true → Loud model b → (ts ys : List TokenAndSpan) (t : Tree F C K) → Known model b ts
+        → ReadsUnmarked hook Params (scope model b) ts ys t → ClosedBy model pats t c ys × Unmarred model b c
+    completed y l ts ys t k d =
+        let laws = on.leads.laws in
+        let e = clean_all.complete hook d.read tt in
+        let w = Known-after laws b c on.leads.taken ts on.leads.read.took k in
+        let counted : recorded model c ≡ recorded model b = as_many on.leads.read.errors (λ lt. let f0 = on.faulty y l lt ts k in cc) in
+        let got = on.clean l counted w.0 (Known-Future laws c w.0 w.1) in
+        let found = closed_from marked (scope model c) w.0 d.marked ys (sym got ∙ ap (λ v. run hook (at Params) (scope model b) v) (sym w.2) ∙ e) in (
+          record {
+            close = found.close;
+            is = found.is;
+            known = subst (λ v. Known model c v) found.begins w.1;
+            list = sym d.same ∙ ap (λ v. unmarked v) found.list ∙ ap (λ v. listed None found.close.span v) strips;
+          },
+          same_faults on.leads.read.errors counted,
+        )
+
+    one : sure ≡ true → Loud model b → (ts : List TokenAndSpan) (t : Tree F C K) → Known model b ts
+        → ReadsUnmarked hook Params (scope model b) ts [] t → (close : TokenAndSpan) → Known model c (close ∷ [])
+        → t ≡ listed None close.span pats
+    one y l ts t k d close known =
+        let found = (completed y l ts [] t k d).0 in
+        let same : found.close ≡ close = let e = same_known (found.close ∷ []) (close ∷ []) found.known known in cc in
+        found.list ∙ ap (λ v. listed None v.span pats) same
+
+    bare_whole : Loud model b → Unmarred model b c → (m : MayClose model c)
+        → ReadsUnmarked hook Params (scope model b) (on.leads.taken ++ m.close ∷ []) [] (listed None m.close.span pats)
+    bare_whole l same m = bare_of (on.leads.taken ++ m.close ∷ []) [] m.close (whole l same m.close m.behind m.may m.is)
+
+    grouped_pats : Loud model b → Unmarred model b c → MayClose model c → are_grouped pats ≡ true
+    grouped_pats l same m =
+        right_of (grouped_at (listed None m.close.span pats)) (are_grouped pats)
+        ((well_bare hook Params).grouped (scope model b) _ [] _ (bare_whole l same m))
+
+    valid_pats : Loud model b → Unmarred model b c → MayClose model c → are_valid pats ≡ true
+    valid_pats l same m =
+        right_of true (are_valid pats) ((well_bare hook Params).valid (scope model b) _ [] _ (bare_whole l same m))
+
+    bound_pats : Loud model b → Unmarred model b c → MayClose model c → all_bind_names any pats ≡ true
+    bound_pats l same m =
+        ap (λ v. all_bind_names any v) (sym strips) ∙ all-same-binds any marked
+        ∙ params-bind hook (whole l same m.close m.behind m.may m.is)
+
+module _ {S F C K : Type 0} {fg : Ghosts F} {cg : Ghosts C} {kg : Ghosts K} (model : Model S) (sure : Bool) (hook : Hook F C K)
+    (laws : LawfulHook fg.place cg.place kg.place hook) (ns : Nodes F C K fg cg kg) (b c : Buffer S) (old new : TrailingCommas) where
+  abbrev boxed : Vec (Param (PatOf F C K)) Global → Trees F C K
+  boxed v = pats_of fg.place cg.place kg.place v
+
+  stripped : (x : Vec (Param PatId) Global) (v : Vec (Param (PatOf F C K)) Global)
+      → params_tree (pat_tree F C K fg.place cg.place kg.place) v ≡ params_tree (λ (p : PatId). bare_at ns p.0) x
+      → all_unmarked (params_at ns x) ≡ boxed v
+  stripped x v e =
+      unmarked_pats (tree_at ns) x.items
+      ∙ sym (same_pats (pat_tree F C K fg.place cg.place kg.place) (λ (p : PatId). bare_at ns p.0) v x e)
+
+  pub meets-params : (answer : Result (Vec (Param PatId) Global) Error) (r : Result (Vec (Param (PatOf F C K)) Global) Error)
+      → MatchResult answer (λ x. On model sure (run hook (at Params)) (params_close (params_at ns x)) b c)
+      (λ e. Unheard model sure (run hook (at Params)) b e c)
+      → MatchResult answer
+      (λ x. MatchResult r
+      (λ v. params_tree (pat_tree F C K fg.place cg.place kg.place) v ≡ params_tree (λ (p : PatId). bare_at ns p.0) x)
+      (λ e. e ≡ no_memory (last_position c)))
+      (λ e. r ≡ Err e)
+      → MatchResult answer (λ x. OnOk r (Recalls (part_commas (tree_at ns) (flat param_parts x.items)) old new)) (λ e. new ≡ old)
+      → MeetsParams model sure hook boxed b r c old new
+  meets-params (Ok x) (Ok v) on m q =
+      let pats = params_at ns x in
+      let strips = stripped x v m in
+      record {
+        acts = on.leads;
+        sound = derived_bare model sure hook laws pats b c on (boxed v) strips;
+        complete = completed model sure hook laws pats b c on (boxed v) strips;
+        one_tree = one model sure hook laws pats b c on (boxed v) strips;
+        grouped = grouped_pats model sure hook laws pats b c on (boxed v) strips;
+        valid = valid_pats model sure hook laws pats b c on (boxed v) strips;
+        binds = bound_pats model sure hook laws pats b c on (boxed v) strips;
+        commas = record {
+          marked = pats;
+          same = strips;
+          derived = derived model sure hook laws pats b c on;
+          recalls = λ k. q k ∙ ap (λ ls. recalled ls k (comma_at old k)) (sym (pats_commas (tree_at ns) x.items));
+        };
+      }
+  meets-params (Ok x) (Err e) on m q = record {
+    acts = forgoes_refuses (record { spends = spent on.leads; kind = ap (λ v. v.kind) m });
+    sound = λ l. tt;
+    complete = λ y l ts ys t k d. ap (λ v. v.kind) m;
+    one_tree = λ y l ts t k d. tt;
+    grouped = λ l. tt;
+    valid = λ l. tt;
+    binds = λ l. tt;
+    commas = λ n. absurd (n (ap (λ v. v.kind) m));
+  }
+  meets-params (Err e) (Ok v) u m q = absurd cc
+  meets-params (Err e) (Err x) u m q = subst (λ w. MeetsParams model sure hook boxed b w c old new) (sym m) (record {
+    acts = u.refuses;
+    sound = λ l. tt;
+    complete = λ y l ts ys t k d.
+        memory e.kind (λ n. let f0 = u.none n y l ts k in let f1 = clean_all.complete hook d.read tt in cc);
+    one_tree = λ y l ts t k d. tt;
+    grouped = λ l. tt;
+    valid = λ l. tt;
+    binds = λ l. tt;
+    commas = λ n. q;
+  })
+
+module _ {S H F C K : Type 0} {fg : Ghosts F} {cg : Ghosts C} {kg : Ghosts K} {model : Model S} {sure : Bool} {hook : Hook F C K} where
+  pub params-again : {p : Parser S H F C K fg cg kg} {e : Error} → (has_failed p ≡ true) × (e ≡ parser_failed (previous (buffer_of p)))
+      → SameNodes (nodes_of p) (nodes_of p) → PromisedParams model sure hook p (Err e) p
+  params-again h same = record {
+    again = λ failed. (refl, ap (λ x. Err x) h.1);
+    acts = λ runs. absurd (not_both h.0 runs);
+    sound = λ runs. absurd (not_both h.0 runs);
+    complete = λ runs. absurd (not_both h.0 runs);
+    one_tree = λ runs. absurd (not_both h.0 runs);
+    grouped = λ runs. absurd (not_both h.0 runs);
+    valid = λ runs. absurd (not_both h.0 runs);
+    binds = λ runs. absurd (not_both h.0 runs);
+    commas = λ n. refl;
+    nodes = same;
+    fails = λ runs. absurd (not_both h.0 runs);
+  }
+
+  -- the buffer, the nodes and the commas before the parser remembers want of memory
+  pub promised-params : {p q : Parser S H F C K fg cg kg} {f : Bool} (b : Buffer S) (ns : Nodes F C K fg cg kg) (cs : TrailingCommas)
+      (a r : Result (Vec (Param (PatOf F C K)) Global) Error) → has_failed p ≡ false → f ≡ has_failed p →
+      r ≡ a → buffer_of q ≡ b → nodes_of q ≡ ns → commas_of q ≡ cs → has_failed q ≡ (f || wants_memory a)
+      → MeetsParams model sure hook (pats_of fg.place cg.place kg.place) (buffer_of p) a b (commas_of p) cs
+      → SameNodes (nodes_of p) ns → PromisedParams model sure hook p r q
+  promised-params {p} {q} b ns cs a r runs same e buffer nodes commas fails done kept =
+      let meets : MeetsParams model sure hook (pats_of fg.place cg.place kg.place) (buffer_of p) r (buffer_of q) (commas_of p) (commas_of q) =
+      rw (e, buffer, commas) done in
+      record {
+        again = λ failed. absurd (not_both failed runs);
+        acts = λ w. meets.acts;
+        sound = λ w. meets.sound;
+        complete = λ w. meets.complete;
+        one_tree = λ w. meets.one_tree;
+        grouped = λ w. meets.grouped;
+        valid = λ w. meets.valid;
+        binds = λ w. meets.binds;
+        commas = meets.commas;
+        nodes = rw (nodes) kept;
+        fails = λ w. failing a r runs same e fails;
+      }

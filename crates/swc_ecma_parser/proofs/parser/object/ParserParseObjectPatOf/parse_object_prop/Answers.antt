@@ -1,0 +1,48 @@
+use Rattle.std.proofs.Common.{refl, sym, ◌∙◌}
+use Rattle.std.proofs.lemmas.Result.{err_from_is_err_and}
+use Rattle.swc_ast.specs.TreeOf.{pat_prop_tree}
+use Rattle.swc_ast.specs.Trees.{unmarked}
+use Rattle.swc_grammar.specs.Reads.{Reads}
+use Rattle.swc_nodes.specs.GrowingNodes.{tree_at, bare_at}
+use Rattle.swc_nodes.specs.NodeParts.{pat_prop_parts}
+use Rattle.swc_nodes.specs.NodeTree.{pat_prop_of}
+use Rattle.swc_nodes.specs.declared.node.PatPropNode.{PatPropNode}
+use Rattle.swc_nodes.proofs.Remembered.{pat-prop-commas}
+use Rattle.swc_nodes.proofs.Unmarked.{unmarked-pat-prop}
+use Rattle.swc_patterns.specs.Answers.{pat_prop_at}
+use Rattle.swc_patterns.specs.Objects.{pat_prop_item}
+use Rattle.swc_ecma_parser.specs.Calls.{nodes_of, commas_of}
+use Rattle.swc_ecma_parser.specs.Promise.{PropOrRest}
+use Rattle.swc_ecma_parser.proofs.Calling.{promised}
+use Rattle.swc_ecma_parser.proofs.Moving.{moved-parses, cut-back, recalled-by}
+use Rattle.swc_ecma_parser.proofs.Patterns.{either-sound, meets-pat-prop, rest-answered, pat-prop-again, promised-pat-prop}
+use Rattle.swc_ecma_parser.proofs.parser.object.ParserParseObjectPatOf.parse_object_prop.Goals as goal
+
+pub returns-in_err-begin : goal.returns-in_err-begin
+returns-in_err-begin g c =
+    let p = err_from_is_err_and c.from_residual.result c.from_residual.ensures.1 in rw (p.1, p.2) (pat-prop-again c.in_err-begin.ensures.again refl)
+
+pub returns : goal.returns
+returns g c =
+    let model = g.I.Tokens.model in
+    let sure = g.B.Bodies.is_faithful in
+    let forms = g.B.BodyForms.forms in
+    let laws = g.met.B.Bodies.lawful in
+    let ns = c.parse_object_pat_prop-answer.new.p.nodes in
+    let boxed = pat_prop_tree _ _ _ g.B.Fun.Spanned.place g.B.Class.Spanned.place g.B.Block.Spanned.place in
+    let by_bare = pat_prop_of g.B.Fun.Spanned.place g.B.Class.Spanned.place g.B.Block.Spanned.place (bare_at ns) in
+    let bares = λ (x : PatPropNode). unmarked-pat-prop g.B.Fun.Spanned.place g.B.Class.Spanned.place g.B.Block.Spanned.place (tree_at ns) x in
+    let done = c.finish.ensures in
+    let moved = c.move_out-answer.ensures in
+    let read = c.parse_object_pat_prop-answer.ensures in
+    let answer = c.parse_object_pat_prop-answer.result in
+    let parsed = moved-parses model sure (pat_prop_item forms) ns pat_prop_at by_bare boxed _ _ answer c.move_out-answer.result read.reads bares moved.moved in
+    promised-pat-prop c.parse_object_pat_prop-answer.new.p.input c.move_out-answer.result done.answer (done.buffer ∙ moved.buffer)
+    (promised c.parse_object_pat_prop-answer.new.p.input (nodes_of c.move_out-answer.new.self) (commas_of c.move_out-answer.new.self) c.move_out-answer.result c.finish.result c.in_ok-begin.ensures.runs moved.runs
+    done.answer (done.buffer ∙ moved.buffer) done.nodes done.commas done.fails
+    (meets-pat-prop forms laws model sure boxed _ c.move_out-answer.result _ parsed)
+    (recalled-by model sure (PropOrRest (Reads forms)) (pat_prop_item forms) (either-sound forms laws) unmarked ns (pat_prop_at ns) by_bare boxed pat_prop_parts
+    _ _ answer c.move_out-answer.result _ _ read.reads bares
+    (λ x. pat-prop-commas g.B.Fun.Spanned.place g.B.Class.Spanned.place g.B.Block.Spanned.place (tree_at ns) x) moved.moved moved.commas)
+    (cut-back (nodes_of c.move_out-answer.new.self) read.grows (rw (sym c.len-start.ensures) moved.nodes)))
+    (rest-answered forms laws model sure boxed _ c.move_out-answer.result _ parsed)
