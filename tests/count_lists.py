@@ -1,18 +1,27 @@
 #!/usr/bin/env python3
-"""Counts the expressions among all lists of a few tokens, apart from the parser and from the productions that it is tested against.
+"""Counts the expressions, patterns and parameters among all lists of a few tokens, apart from the parser and from the productions that it is
+tested against.
 
     tests/count_lists.py
 
-Reads the rows of crates/bench_grammar/src/lists.rt, `tokens | mode | counts`, and counts anew how many lists of no token, of one, of
-two and so on are expressions. Prints each row whose counts differ, with the right ones. Status 0 if none does.
+Reads the rows of crates/bench_grammar/src/lists.rt and patterns.rt, `tokens | mode | counts`, and counts anew how many lists of no token, of
+one, of two and so on are expressions, or what the name of the table in patterns.rt says. Prints each row whose counts differ, with the right
+ones. Status 0 if none does.
 
 A list is walked from left to right. What matters of its front: the open parentheses, brackets and conditionals, whether an operand comes next, and
 which operators stand in these (`??` may not stand beside `||` or `&&`) and before the operand (none may stand left of `**`). Between
 brackets an item begins behind the bracket and behind each comma: there dots may stand, a comma (which makes a hole), or the end. Between
 braces so does a property: dots, `*`, a name, another key, or the end. Behind a name that isn't reserved the property may end, or `=` stand;
-behind each key `:` may, or a method's two parentheses and its block; behind `get` and `async` another key, and behind `async` a `*` too.
-Behind these a method has to come. A setter has a parameter, and none is read so far, so `set` is a name like others. In parentheses that are
-no arguments, in brackets behind an operand, in templates and outside of all these a comma stands between two expressions.
+behind each key `:` may, or a method's parameters in parentheses and its block; behind `get`, `set` and `async` another key, and behind `async`
+a `*` too. Behind these a method has to come, which has no parameter behind `get`, and behind `set` one, with a comma or none. In parentheses
+that are no arguments, in brackets behind an operand, in templates and outside of all these a comma stands between two expressions.
+
+A pattern is a name that may be bound, or brackets or braces round others. Between brackets an element begins behind the bracket and behind each
+comma: there dots may stand, a comma (which makes a hole), or the end. An element is a pattern and, behind a `=`, an assignment expression or
+none. Behind dots a pattern stands and then the end. Between braces a property begins behind the brace and behind each comma: dots and a name
+that may be bound, and then the end; a name that isn't reserved; any word, `=` and an assignment expression; or a key, `:` and an element.
+Parameters are elements with commas between them, behind the last one dots and a pattern, or a comma or not, and then `)`. Names that strict
+code bars are barred in modules alone, since no fault of theirs is recorded elsewhere.
 
 Behind an operand links may stand: a `.` and any word, or one behind `#`; a bracket and expressions; a parenthesis and arguments, which are
 items as between brackets, but no hole; a template. In a module `delete` and a name alone is no operand, and one with a link or an update
@@ -43,7 +52,7 @@ import sys
 from collections import Counter, namedtuple
 from pathlib import Path
 
-LISTS = Path(__file__).parent.parent / "crates/bench_grammar/src/lists.rt"
+SOURCES = Path(__file__).parent.parent / "crates/bench_grammar/src"
 PREFIX = set("+ - ! ~ void typeof delete".split())
 BINARY = set("?? || && | ^ & == != === !== < > <= >= instanceof in << >> >>> + - * / % **".split())
 UPDATE = ("++", "--")
@@ -53,13 +62,29 @@ BARRED = {
     "let": {"module"},
     "yield": {"module", "strict", "generator"},
     "implements": {"module", "strict"},
+    "arguments": {"class-field"},
+    "static": {"module"},
 }
-RESERVED = {**BARRED, "let": {"module", "strict"}, "await": {"module", "async"}}
-PROPERTY = {"{", "name", "key", "get", "async", "*", "method", "params", "shell", "done"}
+RESERVED = {**BARRED, "let": {"module", "strict"}, "await": {"module", "async", "static-block"}, "arguments": set(), "static": set()}
+# The names that some modes bar as names that are bound.
+UNBOUND = {
+    **dict.fromkeys(("let", "static", "implements", "eval"), {"module"}),
+    "arguments": {"module", "class-field"},
+    "yield": {"module", "generator"},
+    "await": {"module", "async", "static-block"},
+    "async": set(),
+}
+PROPERTY = {"{", "name", "key", "get", "set", "async", "*", "method", "getter", "setter", "params", "shell", "one", "done"}
+# Where a pattern is: what may begin, and what is complete. `whole` is all of a list that is a pattern or parameters.
+PATTERN = {"pattern", "element", "rest", "rest name", "elements", "properties", "param", "params+"}
+PATTERN |= {"bound", "shut", "short", "word", "pkey", "whole"}
 # A template, and what begins one.
 TEMPLATE = ("``", "`${")
 # What `before` is behind a comma, by what closes the list; nothing closes the whole.
 BEHIND_COMMA = {"": "", ")": "", "].": "", "`": "", "]": ",", "}": "{", ").": "args", ")!": "last"}
+BEHIND_COMMA |= {")shell": "params+", ")one": "shut", ")whole": "params+"}
+for after in ("bound", "shut", "whole"):
+    BEHIND_COMMA |= {"]" + after: "elements", "}" + after: "properties"}
 
 # outer: of each open parenthesis, bracket, template or conditional, what closes it, and outside it the family, whether the operand has a prefix
 # operator, `news`, `lead` and `must`; behind what closes it stands where a property is after that, or a `.` if it is a link, or a `!` if it is a
@@ -139,28 +164,69 @@ def key(front, token, close):
     return front._replace(before=close) if token == "1" or token.isalpha() else None
 
 
+def bound(front, token, after, mode):
+    """The front with a token more with which a pattern begins, behind which stands what `after` names, or None."""
+    if token in ("[", "{"):
+        return opened(front, "]" + after, "elements", 0) if token == "[" else opened(front, "}" + after, "properties", 0)
+    names = token in NAMES or token in UNBOUND
+    return front._replace(before=after) if names and mode not in UNBOUND.get(token, ()) else None
+
+
+def pattern(front, token, mode):
+    """The front with a token more where a pattern is read, or None."""
+    before = front.before
+    if before in ("pattern", "element", "param", "rest"):
+        return bound(front, token, {"pattern": "whole", "rest": "shut"}.get(before, "bound"), mode)
+    if before == "rest name":
+        return bound(front, token, "shut", mode) if token not in ("[", "{") else None
+    if before in ("short", "word", "pkey", "bound") and token in (":", "="):
+        if token == ":":
+            return front._replace(before="element") if before != "bound" else None
+        return begun(front, "") if before != "pkey" else None
+    close = front.outer[-1][0] if front.outer else ""
+    if before in ("short", "bound", "shut", "elements", "properties", "params+") and close and token == close[0]:
+        return closed(front)
+    if before in ("short", "bound") and token == ",":
+        return front._replace(before=BEHIND_COMMA[close]) if close else None
+    if before == "elements" and token == ",":
+        return front
+    if before in ("elements", "params+"):
+        return front._replace(before="rest") if token == "..." else bound(front, token, "bound", mode)
+    if before != "properties":
+        return None
+    if token == "...":
+        return front._replace(before="rest name")
+    if not token.isalpha():
+        return key(front, token, "pkey")
+    is_open = token in (*NAMES, *RESERVED, "async") and mode not in RESERVED.get(token, ())
+    return front._replace(before="short" if is_open else "word")
+
+
 def named(front, token, mode):
     """The front with a word more as which a property begins."""
-    if token in ("get", "async"):
+    if token in ("get", "set", "async"):
         return front._replace(before=token)
     is_open = token in (*NAMES, *RESERVED) and mode not in RESERVED.get(token, ())
     return front._replace(before="name" if is_open else "key")
 
 
 def shell(front, token):
-    """The front with a token more of a method's parentheses, or its block's brace, or None."""
-    after = {("method", "("): "params", ("params", ")"): "shell"}.get((front.before, token))
+    """The front with a token more of the parentheses of a method without parameters, a parenthesis of one with some, or its block's brace,
+    or None."""
+    if token == "(" and front.before in ("method", "setter"):
+        return opened(front, *{"method": (")shell", "params+"), "setter": (")one", "param")}[front.before], 0)
+    after = {("getter", "("): "params", ("params", ")"): "shell"}.get((front.before, token))
     if after:
         return front._replace(before=after)
-    return front._replace(whole=(True, 0, True)) if (front.before, token) == ("shell", "{") else None
+    return front._replace(whole=(True, 0, True)) if front.before in ("shell", "one") and token == "{" else None
 
 
 def prop(front, token, mode):
     """The front with a token more where a property begins, or in it before its value, or None."""
     before = front.before
-    if before in ("method", "params", "shell"):
+    if before in ("method", "getter", "setter", "params", "shell", "one"):
         return shell(front, token)
-    if token in (",", "}") and before in ("name", "get", "async", "done"):
+    if token in (",", "}") and before in ("name", "get", "set", "async", "done"):
         return closed(front) if token == "}" else front._replace(before="{")
     if before == "done":
         return None
@@ -173,12 +239,12 @@ def prop(front, token, mode):
     if before == "*":
         return key(front, token, "method")
     if token == "(":
-        return front._replace(before="params")
+        return shell(front._replace(before="method"), token)
     if token == ":" or (token == "=" and before != "key"):
         return begun(front, token)
     if before == "async" and token == "*":
         return front._replace(before="*")
-    return key(front, token, "method") if before in ("get", "async") else None
+    return key(front, token, {"get": "getter", "set": "setter"}.get(before, "method")) if before in ("get", "set", "async") else None
 
 
 def link(front, token):
@@ -202,7 +268,7 @@ def constructed(front, token, mode):
     if front.before == "new .":
         return done(front._replace(news=front.news - 1)) if token == "target" else None
     if token == "await":
-        return done(front, True) if mode in ("script", "generator", "without-in") else None
+        return done(front, True) if mode in ("script", "generator", "without-in", "class-field") else None
     return front._replace(before="new .") if token == "." and mode in ("generator", "async") else None
 
 
@@ -245,6 +311,8 @@ def operand(front, token, mode):
         return within(front, token)
     if front.before in PROPERTY:
         return prop(front, token, mode)
+    if front.before in PATTERN:
+        return pattern(front, token, mode)
     if front.before == "async function":
         return front._replace(before="", whole=(False, 0, False)) if token == "function" else None
     if front.before in ("?", "delete?"):
@@ -283,7 +351,7 @@ def operand(front, token, mode):
     if token == "async":
         return front._replace(before="async function")
     reference = token in (*NAMES, *BARRED) and mode not in BARRED.get(token, ())
-    front = front._replace(target=reference and (token != "eval" or mode not in ("module", "strict")))
+    front = front._replace(target=reference and (token not in ("eval", "arguments") or mode not in ("module", "strict")))
     if reference and front.before == "delete" and mode == "module":
         return front._replace(wants="")
     return done(front, front.target) if reference or token in ("1", "this") else None
@@ -349,12 +417,21 @@ def followed(front, token, mode):
 
 
 def complete(front, mode):
-    """Whether the front is an expression."""
+    """Whether the front is an expression, or another whole."""
+    if front.before == "whole":
+        return not front.outer
     return not front.wants and not front.outer and fitting(front) and (front.before, mode) != ("await", "module")
 
 
-def counts(tokens, mode, longest):
-    fronts = Counter([Front((), "", "", "assign", False)])
+# Where the lists of a table begin, but those of expressions.
+BEGINNINGS = {
+    "PATTERNS": Front((), "", "pattern", "operand", False),
+    "PARAMETERS": opened(Front((), "", "", "operand", False), ")whole", "params+", 0),
+}
+
+
+def counts(table, tokens, mode, longest):
+    fronts = Counter([BEGINNINGS.get(table, Front((), "", "", "assign", False))])
     for _ in range(longest + 1):
         yield sum(n for front, n in fronts.items() if complete(front, mode))
         longer = Counter()
@@ -367,9 +444,11 @@ def counts(tokens, mode, longest):
 
 
 status = 0
-for tokens, mode, given in re.findall(r"^(\S.*?) \| ([\w-]+) \| ([\d ]+)", LISTS.read_text(), re.M):
-    right = " ".join(map(str, counts(tokens.split(), mode, len(given.split()) - 1)))
-    if given.strip() != right:
-        print(tokens, mode, right, sep=" | ")
-        status = 1
+for source in ("lists.rt", "patterns.rt"):
+    for table, rows in re.findall(r"^const (\w+): &str = \"\\\n(.*?)^\";", (SOURCES / source).read_text(), re.M | re.S):
+        for tokens, mode, given in re.findall(r"^(\S.*?) \| ([\w-]+) \| ([\d ]+)", rows, re.M):
+            right = " ".join(map(str, counts(table, tokens.split(), mode, len(given.split()) - 1)))
+            if given.strip() != right:
+                print(tokens, mode, right, sep=" | ")
+                status = 1
 sys.exit(status)

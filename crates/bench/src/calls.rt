@@ -9,7 +9,7 @@
 /// `TS1005` at the token of each later one, and answers the token's place. `node 2` is the expression
 /// of that number. `label_of_refusal` reads as `parse_expr_id` does, and answers the place and the
 /// note with which its refusal is labelled. Each row that tells nothing of nodes holds with
-/// `parse_expr_id` for `parse_expr`, too.
+/// `parse_expr_id` for `parse_expr`, too. Calls on patterns stand in patterns.rt.
 pub(crate) const CALLS: &str =
     r"parse_expr; parse_assignment_expr; parse_bin_expr; parse_unary_expr; at_end; parse_lit; at_end | script | a + b c d * e {f} 7 | Bin(+, a, b) 0..5; c 6..7; Bin(*, d, e) 8..13; Object{f} 14..17; false; 7 18..19; true | none | end
 parse_bin_expr | script without_in | a in b | a 0..1 | none | 2..4
@@ -727,11 +727,6 @@ parse_expr; trailing_comma 3; parse_expr; trailing_comma 3 | script | {@3..4 a@5
 parse_expr; trailing_comma 0; trailing_comma 1 | script | [[a, ], | refused: Eof 7..7; none; none | none | end
 trailing_comma 0; make_object 4..5; trailing_comma 0; trailing_comma 1 | script |  | none; Object{} 0..0; 4..5; none | none | end
 parse_expr; trailing_comma 0; make_object; trailing_comma 0 | script | [a, ] | Array[a] 0..5; 2..3; Object{} 0..0; none | none | end
-parse_formal_params | script | ) | none | none | 0..1
-parse_formal_params | script |  | none | none | end
-parse_formal_params | script | a ) | refused: Expected 0..1 ) | none | 0..1
-parse_unique_formal_params | script | ) | none | none | 0..1
-parse_formal_params; parse_expr | script failing |  | refused: OutOfMemory 0..0; refused: ParserFailed 0..0 | none | refused: ParserFailed 0..0
 parse_ident(true, true) | script | enum | enum 0..4 | InvalidIdentInStrict 0..4 enum | end
 parse_binding_ident | generator | yield | yield 0..5 | ExpectedIdent 0..5 | end
 parse_binding_ident; set_ctx module | generator | yield | yield 0..5; done | ExpectedIdent 0..5, InvalidIdentInStrict 0..5 yield | end

@@ -17,6 +17,8 @@ mod noting;
 #[cfg(test)]
 mod parsing;
 #[cfg(test)]
+mod patterns;
+#[cfg(test)]
 mod program;
 #[cfg(test)]
 mod settings;

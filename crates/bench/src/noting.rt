@@ -14,13 +14,16 @@ use swc_ecma_parser::parser::Parser;
 use swc_input::listed::TokensInput;
 use swc_input::token::TokenAndSpan;
 use swc_input::tokens::Tokens;
+use swc_trees::letting_go::let_go_params;
 
-/// A text that is read as an expression, and each token that was asked for, with the flags that were on then: `cond`
-/// (`in_cond_expr`), `colon` (`will_expect_colon_for_cond`), `no_type` (`should_not_lex_lt_or_gt_as_type`) and `key`
-/// (`in_property_name`). These decide nothing in the parser, so no other test sees them.
+/// A text, and each token that was asked for, with the flags that were on then: `cond` (`in_cond_expr`), `colon`
+/// (`will_expect_colon_for_cond`), `no_type` (`should_not_lex_lt_or_gt_as_type`) and `key` (`in_property_name`). These
+/// decide nothing in the parser, so no other test sees them. Methods change `params` (`in_parameters`), `function`
+/// (`in_function`), `async` (`in_async`), `generator` (`in_generator`), `field` (`in_class_field`) and `super`
+/// (`allow_direct_super`).
 ///
-/// A token is asked for at the first look at it. At a `?` behind a name that is a look for the `.` of an optional chain:
-/// so what most rows have before a `?` ends with `++`. In the last two rows an operand is refused, and reading goes on in
+/// A token is asked for at the first look at it. At a `?` behind a name that is a look for the `.` of an optional
+/// chain: so what most rows have before a `?` ends with `++`. In two rows an operand is refused, and reading goes on in
 /// the context from before.
 const CONTEXTS: &str =
     r"parse_expr | script | a ? b : c | a; ? no_type; b no_type; : cond colon no_type; c cond
@@ -33,10 +36,19 @@ parse_expr | script | a++ ? `b${c}d` : e | a; ++ no_type; ?; ` cond colon; b con
 parse_expr | script | a++ ? f`b` : c | a; ++ no_type; ?; f cond colon; ` cond colon no_type; b cond no_type; ` cond no_type; : cond colon no_type; c cond
 parse_expr | script | {[a ? b : c]: d} | {; [ no_type; a no_type key; ? no_type key; b no_type key; : cond colon no_type key; c cond no_type key; ] cond no_type key; : no_type; d no_type; } no_type
 parse_expr | script | new a(b).c[d](e) | new; a no_type; ( no_type; b no_type; ) no_type; . no_type; c no_type; [ no_type; d no_type; ] no_type; ( no_type; e; ) no_type
-parse_expr | script method | super.a(b) | super; .; a; (; b; ) no_type
+parse_expr | script method | super.a(b) | super super; . super; a super; ( super; b super; ) no_type super
 parse_expr | module | import.meta[a] | import; .; meta; [; a; ] no_type
 parse_expr | script | -[a++ ? -b ** + c | -; [; a no_type; ++ no_type; ? no_type; - cond colon no_type; b cond colon no_type; ** cond colon no_type; + cond colon no_type; c
 parse_expr | script | -{[-b ** + c | -; {; [ no_type; - no_type key; b no_type key; ** no_type key; + no_type key; c
+parse_pat | script | [a, {b: c, [d]: e}, ...f] | [; a; ,; {; b; :; c; ,; [; d key; ] no_type key; :; e; }; ,; ...; f; ]
+parse_pat | script | {[a ? b : c]: d, e = f} | {; [; a key; ? no_type key; b no_type key; : cond colon no_type key; c cond key; ] cond no_type key; :; d; ,; e; =; f; } no_type
+parse_pat | script | [a = b ? c : d, e] | [; a; =; b; ? no_type; c no_type; : cond colon no_type; d cond; , cond no_type; e; ]
+parse_pat | script colon_expected | [a, {b: [c], d}] | [ colon; a colon; , colon; { colon; b; :; [; c; ]; ,; d; }; ] colon
+parse_formal_params | script colon_expected | a, ...[b] ) | a colon; , colon; ... colon; [ colon; b colon; ] colon; ) colon
+parse_expr | script hook_records | {m(a = b, [c], {d}) {} | {; m no_type; ( no_type; a no_type params super; = no_type params super; b no_type params super; , no_type params super; [ no_type params super; c no_type params super; ] no_type params super; , no_type params super; { no_type params super; d no_type params super; } no_type params super; ) no_type params super; { no_type function super; } no_type function super
+parse_expr | async class_field hook_records | {m(a) {} b | { function async field; m no_type function async field; ( no_type function async field; a no_type params super; ) no_type params super; { no_type function super; } no_type function super; b no_type function async field
+parse_expr | generator hook_records | {m(a) {} b | { function generator; m no_type function generator; ( no_type function generator; a no_type params super; ) no_type params super; { no_type function super; } no_type function super; b no_type function generator
+parse_expr | script | a++ ? {m(b = c | a; ++ no_type; ?; { cond colon; m cond no_type; ( cond no_type; b cond no_type params super; = cond no_type params super; c cond no_type params super
 ";
 
 impl NotingInput {
@@ -163,6 +175,12 @@ fn show_note(out: &mut String, text: &str, note: Note) -> Result<(), Fail> {
         (context.will_expect_colon_for_cond, " colon"),
         (context.should_not_lex_lt_or_gt_as_type, " no_type"),
         (context.in_property_name, " key"),
+        (context.in_parameters, " params"),
+        (context.in_function, " function"),
+        (context.in_async, " async"),
+        (context.in_generator, " generator"),
+        (context.in_class_field, " field"),
+        (context.allow_direct_super, " super"),
     ];
     for (on, word) in flags {
         if on {
@@ -182,15 +200,32 @@ fn show_notes(out: &mut String, text: &str, notes: &[Note]) -> Result<(), Fail> 
     Ok(())
 }
 
-/// The notes of a source of the row's tokens, once an expression was read from it.
+/// The notes of a source of the row's tokens, once what the row calls was read from it.
 fn found(alloc: Global, row: Row<'_>) -> Result<String, Fail> {
     let mut out = String::new(alloc);
     let source = NotingInput::new(alloc, source_of(alloc, row)?);
     let hook = TestBodies::of_setting(row.setting);
     let mut parser = Parser::new_from(alloc, source, hook);
-    let _answer = parser.parse_expr_id();
+    read(&mut parser, row.calls);
     show_notes(&mut out, row.text, &parser.input().notes)?;
     Ok(out)
+}
+
+/// Reads an expression, a pattern or parameters.
+fn read(parser: &mut Parser<NotingInput, TestBodies>, call: &str) {
+    match call {
+        "parse_pat" => {
+            let _answer = parser.parse_pat_id();
+        }
+        "parse_formal_params" => {
+            if let Ok(params) = parser.parse_formal_params() {
+                let_go_params(params);
+            }
+        }
+        _ => {
+            let _answer = parser.parse_expr_id();
+        }
+    }
 }
 
 #[test]

@@ -1,23 +1,30 @@
 // Calls of the parser.
 use crate::calls::CALLS;
 use crate::hooks::TestBodies;
+use crate::patterns::PATTERNS;
 use crate::settings::{setting_of, source_of};
 use crate::shown::{Shown, show, show_faults, show_label, show_refusal};
 use crate::slashes::slashes_of;
 use crate::sources::FailingInput;
-use crate::trees::{show_id, show_numbered};
+use crate::trees::{show_id, show_numbered, show_numbered_pat, show_pat_id};
 use bench_lower::rows::{Row, Subject, answers, expect, row_of};
 use bench_lower::tokens::{fault_of, span_of};
 use std::alloc::{AllocError, Global};
 use std::test::Fail;
+use swc_bodies::bodies::ExprOf;
 use swc_context::error::Error;
 use swc_context::span::{BytePos, Span};
-use swc_ecma_parser::parser::Parser;
 use swc_ecma_parser::parser::object::ParseObject;
+use swc_ecma_parser::parser::{Parser, PatOf};
 use swc_input::tokens::Tokens;
-use swc_nodes::node::ExprId;
+use swc_nodes::node::{ExprId, PatId};
 
-/// A parser, and whether `parse_expr_id` is called for `parse_expr`.
+/// An expression and a pattern over the hook's values.
+type TestExpr = ExprOf<TestBodies>;
+
+type TestPat = PatOf<TestBodies>;
+
+/// A parser, and whether `parse_expr_id` is called for `parse_expr`, and `parse_pat_id` for `parse_pat`.
 #[derive(Drop)]
 struct Tested<I: Tokens> {
     parser: Parser<I, TestBodies>,
@@ -31,6 +38,9 @@ impl<I: Tokens> Subject for Tested<I> {
             "parse_expr_id" => show_numbered(out, parser),
             "parse_expr" if self.numbers => show_numbered(out, parser),
             "parse_expr" => show(out, parser.parse_expr()),
+            "parse_pat_id" => show_numbered_pat(out, parser),
+            "parse_pat" if self.numbers => show_numbered_pat(out, parser),
+            "parse_pat" => show(out, parser.parse_pat()),
             "parse_assignment_expr" => show(out, parser.parse_assignment_expr()),
             "parse_bin_expr" => show(out, parser.parse_bin_expr()),
             "parse_unary_expr" => show(out, parser.parse_unary_expr()),
@@ -73,11 +83,32 @@ fn call_part<I: Tokens>(
         "parse_tpl(false)" => show(out, parser.parse_tpl(false)),
         "parse_tpl(true)" => show(out, parser.parse_tpl(true)),
         "parse_prop_name" => show(out, parser.parse_prop_name()),
-        "parse_object_prop" => show(out, parser.parse_object_prop()),
         "make_object" => make_object(parser, out, None),
         "found_module_item" => parser.found_module_item().show(out),
+        _ => return call_pattern(parser, out, call),
+    };
+    Ok(shown?)
+}
+
+/// The calls on patterns, and those that read a property of an object literal or of an object pattern.
+fn call_pattern<I: Tokens>(
+    parser: &mut Parser<I, TestBodies>,
+    out: &mut String,
+    call: &str,
+) -> Result<(), Fail> {
+    let shown = match call {
+        "parse_binding_pat_or_ident" => show(out, parser.parse_binding_pat_or_ident()),
+        "parse_binding_element" => show(out, parser.parse_binding_element()),
         "parse_formal_params" => show(out, parser.parse_formal_params()),
         "parse_unique_formal_params" => show(out, parser.parse_unique_formal_params()),
+        "parse_object_prop" => {
+            let prop = ParseObject::<Box<TestExpr>>::parse_object_prop(parser);
+            show(out, prop)
+        }
+        "parse_object_pat_prop" => {
+            let prop = ParseObject::<TestPat>::parse_object_prop(parser);
+            show(out, prop)
+        }
         _ => return call_name(parser, out, call),
     };
     Ok(shown?)
@@ -91,7 +122,28 @@ fn make_object<I: Tokens>(
 ) -> Result<(), AllocError> {
     let none = Vec::new(*out.allocator());
     let start = Span::new(BytePos(0), BytePos(0));
-    show(out, parser.make_object(start, none, trailing_comma))
+    let object = ParseObject::<Box<TestExpr>>::make_object(parser, start, none, trailing_comma);
+    show(out, object)
+}
+
+/// Makes an object pattern at the start of the text, of as many properties as are said, which the parser reads one
+/// behind the other, with a comma at the place that is said behind the number, or none.
+fn make_pattern<I: Tokens>(
+    parser: &mut Parser<I, TestBodies>,
+    out: &mut String,
+    said: &str,
+) -> Result<(), Fail> {
+    let (count, at) = said.split_once(' ').unwrap_or((said, ""));
+    let count: usize = count.parse().ok().ok_or("no number")?;
+    let mut props = Vec::new(*out.allocator());
+    for _ in 0..count {
+        let prop = ParseObject::<TestPat>::parse_object_prop(parser)?;
+        props.push(prop)?;
+    }
+    let start = Span::new(BytePos(0), BytePos(0));
+    let pattern = ParseObject::<TestPat>::make_object(parser, start, props, span_of(at));
+    show(out, pattern)?;
+    Ok(())
 }
 
 /// The calls on names.
@@ -123,6 +175,7 @@ fn call_at<I: Tokens>(
 ) -> Result<(), Fail> {
     match call.split_once(' ') {
         Some(("make_object", at)) => make_object(parser, out, span_of(at))?,
+        Some(("make_pattern", said)) => make_pattern(parser, out, said)?,
         Some(("trailing_comma", at)) => {
             let start = at.parse().ok().ok_or("no position")?;
             parser.trailing_comma(BytePos(start)).show(out)?;
@@ -130,6 +183,10 @@ fn call_at<I: Tokens>(
         Some(("node", number)) => {
             let number = number.parse().ok().ok_or("no number")?;
             show_id(out, parser.nodes(), ExprId(number))?;
+        }
+        Some(("pat", number)) => {
+            let number = number.parse().ok().ok_or("no number")?;
+            show_pat_id(out, parser.nodes(), PatId(number))?;
         }
         _ => call_input(parser.input(), out, call)?,
     }
@@ -200,14 +257,24 @@ fn run<I: Tokens>(alloc: Global, source: I, row: Row<'_>, numbers: bool) -> Resu
     outcome(alloc, &mut tested, row.calls)
 }
 
-#[test]
-fn calls_of_the_parser(rt: HostRuntime) -> Result<(), Fail> {
-    for line in CALLS.lines() {
+/// The rows of a table have to hold.
+fn hold(alloc: Global, rows: &str) -> Result<(), Fail> {
+    for line in rows.lines() {
         let row = row_of(line).ok_or(line)?;
-        expect(line, &found(rt.alloc(), row, false)?, row.answer)?;
+        expect(line, &found(alloc, row, false)?, row.answer)?;
         if !row.calls.contains("nodes") {
-            expect(line, &found(rt.alloc(), row, true)?, row.answer)?;
+            expect(line, &found(alloc, row, true)?, row.answer)?;
         }
     }
     Ok(())
+}
+
+#[test]
+fn calls_of_the_parser(rt: HostRuntime) -> Result<(), Fail> {
+    hold(rt.alloc(), CALLS)
+}
+
+#[test]
+fn calls_on_patterns(rt: HostRuntime) -> Result<(), Fail> {
+    hold(rt.alloc(), PATTERNS)
 }

@@ -9,7 +9,7 @@ use std::{io, str};
 
 /// Arguments, a text, and what is written of it, on standard error after `stderr: `; then the
 /// status, and whether the text was left unread. `failing` input can't be read on behind the text.
-const RUNS: &str = r"show_expr | expr script | 5 + 4 * 7 | Bin(+, 5, Bin(*, 4, 7))\n | 0
+const RUNS: &str = r#"show_expr | expr script | 5 + 4 * 7 | Bin(+, 5, Bin(*, 4, 7))\n | 0
 show_expr | expr script | 5 + 4 + 7 | Bin(+, Bin(+, 5, 4), 7)\n | 0
 show_expr | expr script | 2 ** 3 ** 4 | Bin(**, 2, Bin(**, 3, 4))\n | 0
 show_expr | expr script | -a ** b | refused: UnaryInExp 3..5\n | 2
@@ -56,11 +56,12 @@ show_expr | expr | 5 | stderr: usage: show_expr expr|pat script|module|strict|ge
 show_expr |  | 5 | stderr: usage: show_expr expr|pat script|module|strict|generator|async\n | 3, unread
 show_expr | expr script x | 5 | stderr: usage: show_expr expr|pat script|module|strict|generator|async\n | 3, unread
 show_expr | expr script pedantic | 5 | stderr: usage: show_expr expr|pat script|module|strict|generator|async\n | 3, unread
-show_expr | pat script | 5 | stderr: usage: show_expr expr|pat script|module|strict|generator|async\n | 3, unread
-show_expr | pat module | 5 | stderr: usage: show_expr expr|pat script|module|strict|generator|async\n | 3, unread
+show_expr | pat | 5 | stderr: usage: show_expr expr|pat script|module|strict|generator|async\n | 3, unread
+show_expr | pat script x | 5 | stderr: usage: show_expr expr|pat script|module|strict|generator|async\n | 3, unread
 show_expr | expr pedantic | 5 | stderr: usage: show_expr expr|pat script|module|strict|generator|async\n | 3, unread
 show_expr | expr Script | 5 | stderr: usage: show_expr expr|pat script|module|strict|generator|async\n | 3, unread
 show_expr | script expr | 5 | stderr: usage: show_expr expr|pat script|module|strict|generator|async\n | 3, unread
+show_expr | module pat | 5 | stderr: usage: show_expr expr|pat script|module|strict|generator|async\n | 3, unread
 show_expr of failing input | expr script |  | stderr: cannot read standard input\n | 3
 show_expr of failing input | expr script | 5 + 4 | stderr: cannot read standard input\n | 3
 show_expr | expr script | function f() { return {} } | Fn<9>\n | 0
@@ -74,7 +75,7 @@ show_expr | expr script | {m(){x}, get [k]() {}} | Object{Method(m, [], <3>), Ge
 show_expr | expr script | {async *g(){}} | Object{AsyncGeneratorMethod(g, [], <2>)}\n | 0
 show_expr | expr script | {class} | Object{class}\nReservedWordInObjShorthandOrPat 1..6\n | 1
 show_expr | expr script | {1} | refused: Unexpected 2..3 identifier\n | 2
-show_expr | expr script | {m(a){}} | refused: Expected 3..4 )\n | 2
+show_expr | expr script | {m(a){}} | Object{Method(m, [a], <2>)}\n | 0
 show_expr | expr script | {+} | refused: TS1109 2..3\nTS1109 1..2\n | 2
 show_expr | expr script | {get *a(){}} | Bin(*, Invalid, Call(a, []))\nunread\nTS1109 5..6\n | 1
 show_expr | expr script | {async *g(){}, get [k]() {}, a: [b, , ...c], d = 1} | Object{AsyncGeneratorMethod(g, [], <2>), Getter([k], <2>), a: Array[b, -, ...c], d = 1}\n | 0
@@ -88,7 +89,8 @@ show_expr | expr script | {...} | refused: TS1109 4..5\n | 2
 show_expr | expr script | {get a(){} | refused: Eof 10..10\n | 2
 show_expr | expr script | {a?} | Object{a}\nTS1162 2..3\n | 1
 show_expr | expr script | {set a() {}} | Object{Setter(a, Invalid, <2>)}\nSetterParam 5..6\nSetterParam 5..6\n | 1
-show_expr | expr script | {set a(b) {}} | refused: Expected 7..8 )\n | 2
+show_expr | expr script | {set a(b) {}} | Object{Setter(a, b, <2>)}\n | 0
+show_expr | expr script | {a(b, [c]){}, async *d({e: f}, ...g) {}} | Object{Method(a, [b, Array[c]], <2>), AsyncGeneratorMethod(d, [Object{e: f}, Rest(g)], <2>)}\n | 0
 show_expr | expr script | {set, set(){}, set: 1} | Object{set, Method(set, [], <2>), set: 1}\n | 0
 show_expr | expr script | {set a( | refused: Eof 7..7\nSetterParam 5..6\n | 2
 show_expr | expr script | a.b.c | Member(Member(a, .b), .c)\n | 0
@@ -254,7 +256,64 @@ show_expr | expr generator | await | await\n | 0
 show_expr | expr generator | await x | Await(x)\nAwaitInFunction 6..7\n | 1
 show_expr | expr async | await x.y | Await(Member(x, .y))\n | 0
 show_expr | expr async | await\nx | Await(x)\n | 0
-show_expr | expr async | await a ** b | refused: UnaryInExp 8..10\n | 2";
+show_expr | expr async | await a ** b | refused: UnaryInExp 8..10\n | 2
+show_expr | pat script | [...a, , b] | Array[Rest(a), -, b]\nNonLastRestParam 1..5\nNonLastRestParam 1..5\n | 1
+show_expr | pat script | [,,,...[...tail]] | Array[-, -, -, Rest(Array[Rest(tail)])]\n | 0
+show_expr | pat script | {obj = {$: num = 10, '': sym = '', " ": quote = " ", _: under = [...tail],}} | Object{obj = Object{$: Assign(=, num, 10), '': Assign(=, sym, ''), " ": Assign(=, quote, " "), _: Assign(=, under, Array[...tail])}}\n | 0
+show_expr | pat script | [a, [b], [c]] | Array[a, Array[b], Array[c]]\n | 0
+show_expr | pat script | [, a, [b], [c]] | Array[-, a, Array[b], Array[c]]\n | 0
+show_expr | pat script | [a, , [b], [c]] | Array[a, -, Array[b], Array[c]]\n | 0
+show_expr | pat script | [...tail] | Array[Rest(tail)]\n | 0
+show_expr | pat script | [,a=1,] | Array[-, Assign(a, 1)]\n | 0
+show_expr | pat script | [,,,...tail] | Array[-, -, -, Rest(tail)]\n | 0
+show_expr | pat script | {...obj} | Object{Rest(obj)}\n | 0
+show_expr | pat script | {prop = 10 } | Object{prop = 10}\n | 0
+show_expr | pat script | {...a,} | Object{Rest(a)}\nCommaAfterRestElement 5..6\n | 1
+show_expr | pat script | {...a, b} | Object{Rest(a), b}\nNonLastRestParam 1..5\n | 1
+show_expr | pat script | {...[a]} | refused: DotsWithoutIdentifier 1..7\n | 2
+show_expr | pat script | [...a,] | Array[Rest(a)]\nCommaAfterRestElement 5..6\n | 1
+show_expr | pat script | {if} | Object{if}\nReservedWordInObjShorthandOrPat 1..3\n | 1
+show_expr | pat script | {if = 1} | Object{if = 1}\n | 0
+show_expr | pat script | a | a\n | 0
+show_expr | pat script |  | refused: Eof 0..0\n | 2
+show_expr | pat script | 5 | refused: Unexpected 0..1 yield, an identifier, [ or {\n | 2
+show_expr | pat script | if | refused: ExpectedIdent 0..2\n | 2
+show_expr | pat script | enum | enum\nInvalidIdentInStrict 0..4 enum\n | 1
+show_expr | pat script | a = b | a\nunread\n | 0
+show_expr | pat script | [,] | Array[]\n | 0
+show_expr | pat script | [a, , ,] | Array[a]\n | 0
+show_expr | pat script | [a b] | refused: Expected 3..4 ,\n | 2
+show_expr | pat script | [a, | refused: Eof 3..3\n | 2
+show_expr | pat script | [...a = 1] | refused: Expected 6..7 ,\n | 2
+show_expr | pat script | {} | Object{}\n | 0
+show_expr | pat script | {a, b: {c: [d = 1] = e}, [f + g]: h, 1: i, 'j': k,} | Object{a, b: Object{c: Assign(Array[Assign(d, 1)], e)}, [Bin(+, f, g)]: h, 1: i, 'j': k}\n | 0
+show_expr | pat script | {1} | refused: Unexpected 2..3 an identifier\n | 2
+show_expr | pat script | {a b} | refused: Expected 3..4 ,\n | 2
+show_expr | pat script | {...[a], b} | Object{Rest(Array[a]), b}\nNonLastRestParam 1..7\n | 1
+show_expr | pat script | {a: | refused: Eof 3..3\n | 2
+show_expr | pat script | [a = function () {}, b = class {}] | Array[Assign(a, Fn<5>), Assign(b, Class<3>)]\n | 0
+show_expr | pat module | [let] | Array[let]\nInvalidIdentInStrict 1..4 let\n | 1
+show_expr | pat module | eval | eval\nEvalAndArgumentsInStrict 0..4\n | 1
+show_expr | pat module | await | refused: InvalidIdentInAsync 0..5\n | 2
+show_expr | pat strict | [let, eval] | Array[let, eval]\n | 0
+show_expr | pat strict | {let} | Object{let}\nReservedWordInObjShorthandOrPat 1..4\n | 1
+show_expr | pat generator | yield | yield\nExpectedIdent 0..5\n | 1
+show_expr | pat generator | [a = yield b] | Array[Assign(a, Yield(b))]\n | 0
+show_expr | pat async | await | refused: InvalidIdentInAsync 0..5\n | 2
+show_expr | pat async | {a = await b} | Object{a = Await(b)}\n | 0
+show_expr | pat async | 5 @@ \ | refused: Lex 5..6\n | 2
+show_expr | expr script | {set a(b, c) {}} | Object{Setter(a, b, <2>)}\nSetterParam 5..6\n | 1
+show_expr | expr script | {set a(...b) {}} | Object{Setter(a, Rest(b), <2>)}\nRestPatInSetter 7..11\n | 1
+show_expr | expr script | {set a(...b, c) {}} | Object{Setter(a, Rest(b), <2>)}\nTS1014 7..11\nSetterParam 5..6\nRestPatInSetter 7..11\n | 1
+show_expr | expr script | {get a(b) {}} | Object{Getter(a, <2>)}\nGetterParam 5..6\n | 1
+show_expr | expr script | {m(a, [b] = c, ...{d}) {}} | Object{Method(m, [a, Assign(Array[b], c), Rest(Object{d})], <2>)}\n | 0
+show_expr | expr script | {m(...a = b) {}} | Object{Method(m, [Rest(Assign(a, b))], <2>)}\nTS1048 6..7\n | 1
+show_expr | expr script | {m(a b) {}} | refused: Expected 5..6 ,\n | 2
+show_expr | expr script | {m(1) {}} | refused: Unexpected 3..4 yield, an identifier, [ or {\n | 2
+show_expr | expr script | {*m(a = yield) {}} | refused: YieldParamInGen 8..13\n | 2
+show_expr | expr script | {async m(a = await b) {}} | Object{AsyncMethod(m, [Assign(a, Await(b))], <2>)}\nAwaitParamInAsync 13..18\n | 1
+show_expr | expr script | {m(a = new.target, b = super.c) {}} | Object{Method(m, [Assign(a, new.target), Assign(b, SuperProp(.c))], <2>)}\n | 0
+show_expr | expr generator | {m(yield) {}, n: yield a} | Object{Method(m, [yield], <2>), n: Yield(a)}\n | 0"#;
 
 /// Gives some bytes, and then ends, or fails.
 #[derive(Drop)]

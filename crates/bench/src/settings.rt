@@ -56,6 +56,8 @@ fn set(context: &mut Context, word: &str) -> Option<()> {
             context.in_function = false;
         }
         "static_block" => context.in_static_block = true,
+        "class_field" => context.in_class_field = true,
+        "colon_expected" => context.will_expect_colon_for_cond = true,
         "without_in" => context.include_in_expr = false,
         "method" => context.allow_direct_super = true,
         "ignore_error" => context.ignore_error = true,

@@ -5,17 +5,20 @@ use std::alloc::{AllocError, Global};
 use swc_ast::expr::{ExprOrSpread, Tpl};
 use swc_ast::function::Param;
 use swc_ast::lit::Lit;
+use swc_ast::pat::{ObjectPatProp, Pat};
 use swc_ast::prop::{ComputedPropName, Prop, PropName, PropOrSpread};
 use swc_ast::spanned::Spanned;
 use swc_bodies::bodies::ExprOf;
 use swc_context::span::Span;
 use swc_ecma_parser::parser::{Parser, PatOf};
 use swc_input::tokens::Tokens;
-use swc_nodes::node::{ExprId, Node};
+use swc_nodes::node::{ExprId, Node, PatId};
 use swc_nodes::nodes::Nodes;
 use swc_print::print::PrintNodes;
-use swc_trees::letting_go::{let_go_args, let_go_exprs, let_go_params, let_go_prop};
-use swc_trees::putting::put_expr;
+use swc_trees::letting_go::{
+    let_go_args, let_go_exprs, let_go_params, let_go_pat_props, let_go_prop,
+};
+use swc_trees::putting::{put_expr, put_pat};
 
 /// Writes the expression of that number, and its place.
 pub(crate) fn show_id(
@@ -32,6 +35,35 @@ pub(crate) fn show_id(
             write!(out, " {}", nodes.span(id))
         }
         Err(_) => Err(AllocError),
+    }
+}
+
+/// Writes the pattern of that number, and its place.
+pub(crate) fn show_pat_id(
+    out: &mut String,
+    nodes: &Nodes<Span, Span, Span>,
+    id: PatId,
+) -> Result<(), AllocError> {
+    if !nodes.has_pat(id) {
+        return out.push_str("no pattern");
+    }
+    match nodes.print_pat(id) {
+        Ok(text) => {
+            out.push_str(text.as_str())?;
+            write!(out, " {}", nodes.pat_span(id))
+        }
+        Err(_) => Err(AllocError),
+    }
+}
+
+/// Writes what `parse_pat_id` answers.
+pub(crate) fn show_numbered_pat<I: Tokens>(
+    out: &mut String,
+    parser: &mut Parser<I, TestBodies>,
+) -> Result<(), AllocError> {
+    match parser.parse_pat_id() {
+        Ok(id) => show_pat_id(out, parser.nodes(), id),
+        Err(fault) => write!(out, "refused: {}", fault.brief()),
     }
 }
 
@@ -98,15 +130,48 @@ fn kind_of(prop: &Prop<Span, Span, Span>) -> &'static str {
     }
 }
 
-/// How many parameters there are.
-impl Shown for Vec<Param<PatOf<TestBodies>>> {
+/// A boxed pattern is moved into nodes, and shown as they are.
+impl Shown for PatOf<TestBodies> {
     fn show(self, out: &mut String) -> Result<(), AllocError> {
-        let count = self.len();
-        let_go_params(self);
-        match count {
-            0 => out.push_str("none"),
-            _ => write!(out, "{count}"),
+        let alloc = *out.allocator();
+        let mut nodes = Nodes::new(alloc);
+        let id = put_pat(&mut nodes, alloc, self)?;
+        show_pat_id(out, &nodes, id)
+    }
+}
+
+/// A property of an object pattern is shown as an object of it alone, at its place.
+impl Shown for ObjectPatProp<Span, Span, Span> {
+    fn show(self, out: &mut String) -> Result<(), AllocError> {
+        let span = self.span();
+        let mut props = Vec::new(*out.allocator());
+        match props.push(self) {
+            Ok(()) => Pat::Object { span, props }.show(out),
+            Err(error) => {
+                let_go_pat_props(props);
+                Err(error.into())
+            }
         }
+    }
+}
+
+/// The pattern of each parameter, and its place.
+impl Shown for Vec<Param<PatOf<TestBodies>>> {
+    fn show(mut self, out: &mut String) -> Result<(), AllocError> {
+        let mut shown = match self.len() {
+            0 => out.push_str("none"),
+            _ => Ok(()),
+        };
+        self.reverse();
+        let mut before = "";
+        while let Some(Param { pat, .. }) = self.pop() {
+            let begun = out.push_str(before);
+            let written = pat.show(out);
+            shown = shown.and(begun).and(written);
+            before = ", ";
+        }
+        let_go_params(self);
+        shown
     }
 }
 

@@ -1,7 +1,7 @@
 // The lists of tokens that the standard's productions derive, with their trees.
 use std::alloc::{AllocError, Global};
 
-/// The productions of ECMA-262, 13.1 to 13.16, and 15.4 to 15.8, a line each: a symbol, what it is made
+/// The productions of ECMA-262, 13.1 to 13.16, 14.3.3, 15.1, and 15.4 to 15.8, a line each: a symbol, what it is made
 /// of, and its tree, in which `_` stands for the tree of each symbol in turn, and `$` for the number of tokens of what
 /// this production makes. One without a tree has no `->`. Behind `unless` stand the modes in which there is no such
 /// production. Behind `within` stands how many more tokens a whole list with it has at least: where that makes it
@@ -10,7 +10,13 @@ use std::alloc::{AllocError, Global};
 ///
 /// `Whole` is an expression, where `in` is an operator but in the mode `without-in`. The symbols
 /// `..NoIn` stand for those without it. `# Name` is an operand, which the standard has left of `in`
-/// alone. So far `async` is no operand by itself, and no method has parameters, so that there is no setter.
+/// alone. So far `async` is no operand by itself.
+///
+/// `Pattern` is a binding pattern (14.3.3), or an identifier that is bound, and `Parameters` are formal parameters
+/// (15.1) and the `)` behind them. As docs/DIFFERENCES.md says, a name of an object pattern that stands alone may be
+/// `eval`, `arguments` or `static` anywhere, one with an initialiser is any word, and a comma may stand behind a
+/// setter's parameter. The parameters of methods are those of the mode: so no list has `yield`, `await` or `arguments`
+/// beside methods where that would matter.
 ///
 /// `Target` is what `++`, `--` and an assignment may write to, so far no array and no object: `Simple`, which is a
 /// left-hand side, or `Named`, the name `await`. Nothing but `new` makes a link's operand of that name, in `Begun`.
@@ -68,6 +74,7 @@ Reference = source -> source
 Reference = let -> let unless module
 Reference = yield -> yield unless module strict generator
 Reference = implements -> implements unless module strict
+Reference = static -> static unless module
 Name = a -> a
 Name = eval -> eval
 Name = await -> await
@@ -91,7 +98,11 @@ Name = let -> let
 Name = yield -> yield
 Name = implements -> implements
 Name = this -> this
+Name = if -> if
+Name = arguments -> arguments
+Name = static -> static
 Eval = eval -> eval
+Eval = arguments -> arguments unless class-field
 Round = (
 Round = \r(
 Array = [ ] -> Array[]
@@ -126,8 +137,8 @@ Link = Field -> _
 Link = Member Template -> Tagged(_, _)
 Link = new Member Arguments -> New(_, _)
 Link = new Begun Arguments -> New(_, _)
-Link = new . target -> new.target unless script module strict without-in
-Link = import . meta -> import.meta unless script strict generator async without-in
+Link = new . target -> new.target unless script module strict without-in static-block class-field
+Link = import . meta -> import.meta unless script strict generator async without-in static-block class-field
 Imported = ( ) -> []
 Imported = ( List ) -> [_]
 Call = super Arguments -> Call(super, _)
@@ -145,7 +156,7 @@ Member = Primary -> _
 Member = Link -> _
 New = new Member -> New(_, -)
 New = new New -> New(_, -)
-Begun = await -> await unless module strict async
+Begun = await -> await unless module strict async static-block
 Begun = Begun . Name -> Member(_, ._)
 Begun = Begun [ Expression ] -> Member(_, [_])
 New = new Begun -> New(_, -)
@@ -196,7 +207,7 @@ Prefixed = delete Named -> Unary(delete, _)
 Prefixed = delete Reference -> Unary(delete, _) unless module
 Prefixed = delete Eval -> Unary(delete, _) unless module
 Prefixed = await ; Unary -> Await(_) unless generator async
-Prefixed = await Unary -> Await(_) unless script module strict generator without-in
+Prefixed = await Unary -> Await(_) unless script module strict generator without-in static-block class-field
 Unary = Update -> _
 Unary = Prefixed -> _
 Power = Unary -> _
@@ -242,9 +253,9 @@ Coalesce = CoalesceHead ?? BitOr -> Bin(??, _, _)
 CoalesceHead = Coalesce -> _
 Short = Or -> _
 Short = Coalesce -> _
-Assign = yield -> Yield(-) unless script module strict async without-in
-Assign = yield ; Assign -> Yield(_) unless script module strict async without-in
-Assign = yield * Assign -> YieldStar(_) unless script module strict async without-in
+Assign = yield -> Yield(-) unless script module strict async without-in static-block class-field
+Assign = yield ; Assign -> Yield(_) unless script module strict async without-in static-block class-field
+Assign = yield * Assign -> YieldStar(_) unless script module strict async without-in static-block class-field
 Assign = Short -> _
 Assign = Short ? Assign : Assign -> Cond(_, _, _)
 Assign = Short \r? Assign : Assign -> Cond(_, _, _)
@@ -278,7 +289,9 @@ Key = 1 -> 1
 Key = [ Assign ] -> [_]
 Open = a -> a
 Open = eval -> eval
-Open = await -> await unless module async
+Open = arguments -> arguments
+Open = static -> static
+Open = await -> await unless module async static-block
 Open = async -> async
 Open = get -> get
 Open = set -> set
@@ -286,14 +299,71 @@ Open = target -> target
 Open = let -> let unless module strict
 Open = yield -> yield unless module strict generator
 Open = implements -> implements unless module strict
+Binding = a -> a
+Binding = async -> async
+Binding = get -> get
+Binding = set -> set
+Binding = eval -> eval unless module
+Binding = arguments -> arguments unless module class-field
+Binding = let -> let unless module
+Binding = static -> static unless module
+Binding = implements -> implements unless module
+Binding = yield -> yield unless module generator
+Binding = await -> await unless module async static-block
+SingleName = Open -> _
+SingleName = Name = Assign -> _ = _
+BindingProperty = SingleName -> _
+BindingProperty = Key : Element -> _: _
+BindingProperties = BindingProperty -> _
+BindingProperties = BindingProperties , BindingProperty -> _, _
+ObjectPattern = { } -> Object{}
+ObjectPattern = { BindingRest } -> Object{_}
+ObjectPattern = { BindingProperties } -> Object{_}
+ObjectPattern = { BindingProperties , } -> Object{_}
+ObjectPattern = { BindingProperties , BindingRest } -> Object{_, _}
+ArrayPattern = [ ] -> Array[]
+ArrayPattern = [ Commas ] -> Array[]
+ArrayPattern = [ RestElement ] -> Array[_]
+ArrayPattern = [ Elision RestElement ] -> Array[_, _]
+ArrayPattern = [ BindingElements ] -> Array[_]
+ArrayPattern = [ BindingElements , ] -> Array[_]
+ArrayPattern = [ BindingElements , Commas ] -> Array[_]
+ArrayPattern = [ BindingElements , RestElement ] -> Array[_, _]
+ArrayPattern = [ BindingElements , Elision RestElement ] -> Array[_, _, _]
+Bound = Binding -> _
+Bound = ObjectPattern -> _
+Bound = ArrayPattern -> _
+BindingRest = ... Binding -> Rest(_)
+RestElement = ... Bound -> Rest(_)
+Element = Bound -> _
+Element = Bound = Assign -> Assign(_, _)
+BindingElements = Element -> _
+BindingElements = Elision Element -> _, _
+BindingElements = BindingElements , Element -> _, _
+BindingElements = BindingElements , Elision Element -> _, _, _
+Commas = ,
+Commas = Commas ,
+ParameterList = Element -> _
+ParameterList = ParameterList , Element -> _, _
+FormalParameters = RestElement -> _
+FormalParameters = ParameterList -> _
+FormalParameters = ParameterList , -> _
+FormalParameters = ParameterList , RestElement -> _, _
+Formal = ( ) -> []
+Formal = ( FormalParameters ) -> [_]
+Pattern = Bound -> _
+Parameters = ) -> []
+Parameters = FormalParameters ) -> [_]
 Property = Open -> _
 Property = Open = Assign -> _ = _
 Property = Key : Assign -> _: _
-Property = Key ( ) Block -> Method(_, [], _)
-Property = * Key ( ) Block -> GeneratorMethod(_, [], _)
-Property = async Key ( ) Block -> AsyncMethod(_, [], _)
-Property = async * Key ( ) Block -> AsyncGeneratorMethod(_, [], _)
+Property = Key Formal Block -> Method(_, _, _)
+Property = * Key Formal Block -> GeneratorMethod(_, _, _)
+Property = async Key Formal Block -> AsyncMethod(_, _, _)
+Property = async * Key Formal Block -> AsyncGeneratorMethod(_, _, _)
 Property = get Key ( ) Block -> Getter(_, _)
+Property = set Key ( Element ) Block -> Setter(_, _, _)
+Property = set Key ( Element , ) Block -> Setter(_, _, _)
 Property = Spread -> _
 Properties = Property -> _
 Properties = Properties , Property -> _, _
@@ -332,11 +402,14 @@ SeveralNoIn = SeveralNoIn , AssignNoIn -> _, _
 ExpressionNoIn = AssignNoIn -> _
 ExpressionNoIn = SeveralNoIn -> Seq(_)
 Whole = Expression -> _ unless without-in
-Whole = ExpressionNoIn -> _ unless script module strict generator async
+Whole = ExpressionNoIn -> _ unless script module strict generator async static-block class-field
 ";
 
 /// The tokens that aren't `Any`.
 const BRACKETS: &str = "( ) [ ] { }";
+
+/// The marks.
+const MARKS: &str = "@ ;";
 
 /// The mark behind which an operand has to end.
 const ENDS: &str = "@";
@@ -460,9 +533,10 @@ pub(crate) fn tokens_derived(alloc: Global, tokens: &str) -> Result<Vec<Derived>
     Ok(found)
 }
 
-/// Which lists are asked for: those of a mode, the longest of which has as many tokens.
+/// Which lists are asked for: those that a symbol derives in a mode, the longest of which has as many tokens.
 #[derive(Drop)]
 pub(crate) struct Asked {
+    pub(crate) symbol: String,
     pub(crate) mode: String,
     pub(crate) longest: usize,
 }
@@ -492,11 +566,35 @@ impl Production {
         })
     }
 
+    /// Whether there is such a production in the mode, made of these tokens and of symbols.
+    fn is_made_of(&self, tokens: &str, mode: &str) -> bool {
+        for item in self.items.as_str().split(' ') {
+            if !is_symbol(item) && !MARKS.contains(item) && !is_among(tokens, item) {
+                return false;
+            }
+        }
+        !self.lacking.as_str().contains(mode)
+    }
+
     /// Whether a list of the length that it makes may stand in one that is asked for.
     fn fits(&self, length: usize, asked: &Asked) -> bool {
-        !self.lacking.as_str().contains(asked.mode.as_str())
-            && length.saturating_add(self.around) <= asked.longest
+        length.saturating_add(self.around) <= asked.longest
     }
+}
+
+/// Whether an item is a symbol, and no token.
+fn is_symbol(item: &str) -> bool {
+    matches!(item.chars().next().unwrap_or(' '), 'A'..='Z')
+}
+
+/// Whether the token is one of those, between which blanks stand.
+fn is_among(tokens: &str, token: &str) -> bool {
+    for other in tokens.split(' ') {
+        if other == token {
+            return true;
+        }
+    }
+    false
 }
 
 /// The fronts, each followed by what the item of a production derives, up to this length.
@@ -535,6 +633,9 @@ fn made(
     let start = Derived::of_one(alloc, production.symbol.as_str(), 0, "", tree.as_str())?;
     let mut fronts = vec![in alloc; start]?;
     for item in production.items.as_str().split(' ') {
+        if fronts.is_empty() {
+            return Ok(fronts);
+        }
         fronts = continued(alloc, &fronts, item, found, length)?;
     }
     Ok(fronts)
@@ -573,13 +674,85 @@ fn add_derived(
     Ok(())
 }
 
-/// The productions, in their order.
-pub(crate) fn productions(alloc: Global) -> Result<Vec<Production>, AllocError> {
+/// The productions with which a symbol derives lists of these tokens in a mode, in their order.
+pub(crate) fn productions(
+    alloc: Global,
+    symbol: &str,
+    tokens: &str,
+    mode: &str,
+) -> Result<Vec<Production>, AllocError> {
+    let all = made_of(alloc, tokens, mode)?;
+    let symbols = symbols_below(alloc, symbol, &all)?;
+    let mut used = Vec::new(alloc);
+    for production in all {
+        if has(&symbols, production.symbol.as_str()) {
+            used.push(production)?;
+        }
+    }
+    Ok(used)
+}
+
+/// The productions of a mode that are made of these tokens and of symbols, in their order.
+fn made_of(alloc: Global, tokens: &str, mode: &str) -> Result<Vec<Production>, AllocError> {
     let mut all = Vec::new(alloc);
     for line in PRODUCTIONS.lines() {
-        all.push(Production::of_line(alloc, line)?)?;
+        let production = Production::of_line(alloc, line)?;
+        if production.is_made_of(tokens, mode) {
+            all.push(production)?;
+        }
     }
     Ok(all)
+}
+
+/// The symbol, and those that it is made of by these productions.
+fn symbols_below(
+    alloc: Global,
+    symbol: &str,
+    productions: &[Production],
+) -> Result<Vec<String>, AllocError> {
+    let mut symbols = vec![in alloc; String::from_str(alloc, symbol)?]?;
+    for _ in productions {
+        let count = symbols.len();
+        add_below(alloc, &mut symbols, productions)?;
+        if symbols.len() == count {
+            return Ok(symbols);
+        }
+    }
+    Ok(symbols)
+}
+
+/// Adds the symbols that those are made of.
+fn add_below(
+    alloc: Global,
+    symbols: &mut Vec<String>,
+    productions: &[Production],
+) -> Result<(), AllocError> {
+    for production in productions {
+        if has(symbols, production.symbol.as_str()) {
+            add_symbols(alloc, symbols, production.items.as_str())?;
+        }
+    }
+    Ok(())
+}
+
+/// Adds those of the items that are symbols.
+fn add_symbols(alloc: Global, symbols: &mut Vec<String>, items: &str) -> Result<(), AllocError> {
+    for item in items.split(' ') {
+        if is_symbol(item) && !has(symbols, item) {
+            symbols.push(String::from_str(alloc, item)?)?;
+        }
+    }
+    Ok(())
+}
+
+/// Whether the symbol is one of those.
+fn has(symbols: &[String], symbol: &str) -> bool {
+    for other in symbols {
+        if other.as_str() == symbol {
+            return true;
+        }
+    }
+    false
 }
 
 /// Adds the lists of this length that the productions derive, where the shorter ones were found.
@@ -598,15 +771,16 @@ pub(crate) fn add_all_derived(
     Ok(())
 }
 
-/// The expressions among the lists of this length, each with its tree, in order.
-pub(crate) fn expressions(
+/// What the symbol derives among the lists of this length, each with its tree, in order.
+pub(crate) fn wholes(
     alloc: Global,
     found: &[Derived],
+    symbol: &str,
     length: usize,
 ) -> Result<Vec<String>, AllocError> {
     let mut lines = Vec::new(alloc);
     for derived in found {
-        if derived.symbol.as_str() == "Whole" && derived.length == length {
+        if derived.symbol.as_str() == symbol && derived.length == length {
             add_lines(alloc, &mut lines, &derived.readings)?;
         }
     }

@@ -1,5 +1,5 @@
-//! The parser against the standard: against each expression that its productions derive, and on
-//! names against its rules.
+//! The parser against the standard: against each expression, pattern and list of parameters that its productions
+//! derive, and on names against its rules.
 #![tactic(auto)]
 
 #[cfg(test)]
@@ -10,3 +10,5 @@ mod lists;
 mod names;
 #[cfg(test)]
 mod parse;
+#[cfg(test)]
+mod patterns;

@@ -1,7 +1,7 @@
 // Every list of a few tokens: the parser reads it whole exactly if the productions derive it, and
 // answers the one tree that they give it.
 use crate::grammar::{
-    Asked, Derived, Production, add_all_derived, expressions, productions, spelled, tokens_derived,
+    Asked, Derived, Production, add_all_derived, productions, spelled, tokens_derived, wholes,
 };
 use crate::parse::{Found, context_of, found_in};
 use std::alloc::{AllocError, Global};
@@ -59,11 +59,12 @@ a { } [ ] , : ... | script | 0 1 2 4 13 36
 a { } , : = ?? || - | module | 0 1 2 8 22 70
 a in { } : = + | without-in | 0 1 2 5 9 22
 a { } ( ) : in | without-in | 0 1 1 3 3 11
-a { } ( ) | script | 0 1 1 3 3 8 13 29 60
-a get { } ( ) | script | 0 2 1 6 6 16 37 70 196
-a set { } ( ) | script | 0 2 1 6 6 16 37 70 194
+a { } ( ) | script | 0 1 1 3 3 8 13 29 61
+a get { } ( ) | script | 0 2 1 6 6 16 37 70 200
+a set { } ( ) | script | 0 2 1 6 6 16 37 70 198
+set { } ( ) | script | 0 1 1 3 3 8 13 29 61 133
 get { } ( ) [ ] | script | 0 1 2 4 8 20 48 125
-async * { } ( ) | script | 0 0 1 1 2 3 7 13 32 77
+async * { } ( ) | script | 0 0 1 1 2 3 7 13 33 84
 async get * a { } ( ) , | script | 0 2 1 15 17 129 232 1251
 async get set function class * ( ) { } : , a this [ ] | script | 0 4 2 51 132
 function a { } ( ) | script | 0 1 1 4 9 41 181
@@ -202,9 +203,9 @@ struct Outcome {
 
 impl Outcome {
     /// Adds what the parser makes of a list.
-    fn add(&mut self, list: String, context: Context) -> Result<(), AllocError> {
+    fn add(&mut self, list: String, context: Context, symbol: &str) -> Result<(), AllocError> {
         let alloc = *list.allocator();
-        let found = found_in(alloc, list.as_str(), context).unwrap_or(Found {
+        let found = found_in(alloc, list.as_str(), context, symbol).unwrap_or(Found {
             tree: None,
             saw_all: true,
         });
@@ -218,14 +219,15 @@ impl Outcome {
     }
 }
 
-/// What the parser makes of the lists.
-fn parsed(alloc: Global, lists: Vec<String>, context: Context) -> Result<Outcome, AllocError> {
+/// What the parser makes of the lists, where it reads what is asked for.
+fn parsed(alloc: Global, lists: Vec<String>, asked: &Asked) -> Result<Outcome, AllocError> {
+    let context = context_of(asked.mode.as_str());
     let mut outcome = Outcome {
         lines: Vec::new(alloc),
         fronts: Vec::new(alloc),
     };
     for list in lists {
-        outcome.add(list, context)?;
+        outcome.add(list, context, asked.symbol.as_str())?;
     }
     outcome.lines.sort()?;
     Ok(outcome)
@@ -252,25 +254,22 @@ fn agree_on(
 ) -> Result<Vec<String>, AllocError> {
     let alloc = *found.allocator();
     add_all_derived(alloc, found, productions, length, asked)?;
-    let wanted = expressions(alloc, found, length)?;
-    let mode = asked.mode.as_str();
-    let Outcome { lines, fronts } = parsed(alloc, lists, context_of(mode))?;
-    same(rt, &lines, &wanted, count, mode);
+    let wanted = wholes(alloc, found, asked.symbol.as_str(), length)?;
+    let Outcome { lines, fronts } = parsed(alloc, lists, asked)?;
+    same(rt, &lines, &wanted, count, asked.mode.as_str());
     Ok(fronts)
 }
 
-/// On the lists of each length the parser and the productions have to agree.
-fn agree(
-    rt: &impl Abort,
-    alloc: Global,
-    productions: &[Production],
-    tokens: &str,
-    mode: &str,
-    counts: &str,
-) -> Result<(), AllocError> {
-    let longest = counts.matches(' ').count();
-    let mode = String::from_str(alloc, mode)?;
-    let asked = Asked { mode, longest };
+/// On the lists of each length the parser and the productions have to agree, by a row of a table.
+fn agree(rt: &impl Abort, alloc: Global, symbol: &str, row: &str) -> Result<(), AllocError> {
+    let (front, counts) = row.rsplit_once(" | ").unwrap_or((row, ""));
+    let (tokens, mode) = front.rsplit_once(" | ").unwrap_or((front, ""));
+    let productions = productions(alloc, symbol, tokens, mode)?;
+    let asked = Asked {
+        symbol: String::from_str(alloc, symbol)?,
+        mode: String::from_str(alloc, mode)?,
+        longest: counts.matches(' ').count(),
+    };
     let mut found = tokens_derived(alloc, tokens)?;
     let mut lists = vec![in alloc; String::new(alloc)]?;
     for (length, count) in counts.split(' ').enumerate() {
@@ -278,33 +277,35 @@ fn agree(
             lists = longer(alloc, &lists, tokens)?;
         }
         let count = count.parse().unwrap_or(usize::MAX);
-        lists = agree_on(rt, &mut found, productions, lists, length, &asked, count)?;
+        lists = agree_on(rt, &mut found, &productions, lists, length, &asked, count)?;
     }
     Ok(())
 }
 
-/// On the rows of a table the parser and the productions have to agree.
-fn agree_in(rt: &impl Abort, alloc: Global, rows: &str) -> Result<(), AllocError> {
-    let productions = productions(alloc)?;
-    for line in rows.lines() {
-        let (front, counts) = line.rsplit_once(" | ").unwrap_or((line, ""));
-        let (tokens, mode) = front.rsplit_once(" | ").unwrap_or((front, ""));
-        agree(rt, alloc, &productions, tokens, mode, counts)?;
+/// On the rows of a table the parser and the productions have to agree about what the symbol stands for.
+pub(crate) fn agree_in(
+    rt: &impl Abort,
+    alloc: Global,
+    symbol: &str,
+    rows: &str,
+) -> Result<(), AllocError> {
+    for row in rows.lines() {
+        agree(rt, alloc, symbol, row)?;
     }
     Ok(())
 }
 
 #[test]
 fn reads_what_the_productions_derive(rt: HostRuntime) -> Result<(), AllocError> {
-    agree_in(&rt, rt.alloc(), LISTS)
+    agree_in(&rt, rt.alloc(), "Whole", LISTS)
 }
 
 #[test]
 fn reads_left_hand_sides(rt: HostRuntime) -> Result<(), AllocError> {
-    agree_in(&rt, rt.alloc(), LEFT_HAND_SIDES)
+    agree_in(&rt, rt.alloc(), "Whole", LEFT_HAND_SIDES)
 }
 
 #[test]
 fn reads_assignments(rt: HostRuntime) -> Result<(), AllocError> {
-    agree_in(&rt, rt.alloc(), ASSIGNMENTS)
+    agree_in(&rt, rt.alloc(), "Whole", ASSIGNMENTS)
 }

@@ -13,6 +13,8 @@ mod notation;
 #[cfg(test)]
 mod parts;
 #[cfg(test)]
+mod patterns;
+#[cfg(test)]
 mod reader;
 pub mod rows;
 pub mod tokens;

@@ -91,13 +91,18 @@ show | expr | a@1..2 Paren@0..3 z@9..10 Assign(=)@0..10 | Assign(=, Paren(a), z)
 show | expr | a@0..1 .b@3..4 OptMember@0..4 z@9..10 Assign(=)@0..10 | Assign(=, OptChain(true, Member(a, .b)), z) 0..10
 show | expr | PatIdent(a)@1..2 PatArray(1)@0..3 z@9..10 Assign(=)@0..10 | Assign(=, Array[a], z) 0..10
 show | expr | PatObject(0)@0..2 z@9..10 Assign(=)@0..10 | Assign(=, Object{}, z) 0..10
-show | pat | PatIdent(name)@2..6 | name 2..6
+show; is_ident; is_rest | pat | PatIdent(name)@2..6 | name 2..6; true; false
 show | pat | -@1..1 PatIdent(b)@4..5 ...@1..4 PatRest@1..5 PatArray(2)@0..8 | Array[-, Rest(b)] 0..8
-show | pat | PatIdent(b)@4..5 ...@1..4 PatRest@1..5 | Rest(b) 1..5
-show | pat | PatIdent(a)@0..1 b@4..5 PatAssign@0..5 | Assign(a, b) 0..5
+show; is_ident; is_rest | pat | PatIdent(b)@4..5 ...@1..4 PatRest@1..5 | Rest(b) 1..5; false; true
+show | pat | PatIdent(a)@4..5 PatArray(1)@3..6 ...@0..3 PatRest@0..6 | Rest(Array[a]) 0..6
+show; is_ident; is_rest | pat | PatIdent(a)@0..1 b@4..5 PatAssign@0..5 | Assign(a, b) 0..5; false; false
+show | pat | PatObject(0)@1..3 b@6..7 c@10..11 Bin(+)@6..11 PatAssign@1..11 PatArray(1)@0..12 | Array[Assign(Object{}, Bin(+, b, c))] 0..12
+show; is_ident; is_rest | pat | a@0..1 PatExpr@0..1 | Expr(a) 0..1; false; false
 show | pat | a@0..1 .b@2..3 Member@0..3 PatExpr@0..3 | Expr(Member(a, .b)) 0..3
 show | pat | PatInvalid@2..5 | Invalid 2..5
+show | pat | PatInvalid@5..2 | Invalid 2..5
 show | pat | .k@1..2 PatIdent(a)@4..5 PatKeyValue@1..5 PatObject(1)@0..7 | Object{k: a} 0..7
+show | pat | a@2..3 []@1..4 PatIdent(b)@6..7 c@10..11 PatAssign@6..11 PatKeyValue@1..11 PatObject(1)@0..12 | Object{[a]: Assign(b, c)} 0..12
 show | pat | .a@1..2 -@2..2 PatAssignProp@1..2 PatObject(1)@0..7 | Object{a} 0..7
 show | pat | .a@1..2 b@5..6 PatAssignProp@1..6 PatObject(1)@0..7 | Object{a = b} 0..7
 show | pat | PatIdent(b)@4..5 ...@1..4 PatRestProp@1..5 PatObject(1)@0..7 | Object{Rest(b)} 0..7
@@ -270,26 +275,55 @@ fn put_back(
     }
 }
 
-fn of_pat(alloc: Global, nodes: &mut HookedNodes, id: PatId) -> Result<String, Fail> {
+/// A pattern among nodes, with its text.
+#[derive(Drop)]
+struct AskedPat<'a> {
+    nodes: &'a HookedNodes,
+    id: PatId,
+    text: &'a str,
+}
+
+impl Subject for AskedPat<'_> {
+    fn call(&mut self, out: &mut String, call: &str) -> Result<(), Fail> {
+        if !self.nodes.has_pat(self.id) {
+            return Err(Fail::new("no pattern"));
+        }
+        match call {
+            "show" => write!(out, "{} {}", self.text, self.nodes.pat_span(self.id))?,
+            "is_ident" => write!(out, "{}", self.nodes.is_ident_pat(self.id))?,
+            "is_rest" => write!(out, "{}", self.nodes.is_rest_pat(self.id))?,
+            _ => return Err(Fail::new("no call")),
+        }
+        Ok(())
+    }
+}
+
+fn of_pat(alloc: Global, nodes: &mut HookedNodes, id: PatId, calls: &str) -> Result<String, Fail> {
     if !nodes.has_pat(id) {
         return Err(Fail::new("no pattern"));
     }
     let text = nodes.print_pat(id)?;
+    let place = nodes.pat_span(id);
+    let mut asked = AskedPat {
+        nodes,
+        id,
+        text: text.as_str(),
+    };
+    let answer = answers(alloc, &mut asked, calls)?;
     let tree = take_pat(nodes, alloc, id)?;
-    let place = tree.span();
+    let moved = tree.span() != place;
     let again = put_pat(nodes, alloc, tree)?;
-    if nodes.print_pat(again)? == text {
-        Ok(format!(in alloc; "{text} {place}")?)
-    } else {
-        Err(Fail::new("another tree when put back"))
+    if moved || nodes.print_pat(again)? != text {
+        return Err(Fail::new("another tree when put back"));
     }
+    Ok(answer)
 }
 
 fn found(alloc: Global, row: Row<'_>) -> Result<String, Fail> {
     let (mut nodes, last) = nodes_of(alloc, row.text)?;
     match row.setting {
         "expr" => of_expr(alloc, &mut nodes, ExprId(last), row.calls),
-        _ => of_pat(alloc, &mut nodes, PatId(last)),
+        _ => of_pat(alloc, &mut nodes, PatId(last), row.calls),
     }
 }
 

@@ -1,6 +1,10 @@
 // Nodes, read from the text of a row.
 use crate::hooked::{Hooked, HookedNode, HookedNodes};
 use crate::parts::{Held, Part, Word, at, word_of};
+use crate::patterns::{
+    array_at, default_of, key_prop_of, name_prop_of, object_at, params_of, pat_at, prop_at,
+    rest_of, rest_prop_of,
+};
 use std::alloc::Global;
 use std::test::Fail;
 use swc_ast::expr::{
@@ -16,6 +20,7 @@ use swc_context::atom::Atom;
 use swc_context::operator::{AssignOp, BinaryOp, UnaryOp, UpdateOp};
 use swc_context::span::Span;
 use swc_nodes::node::{ExprId, InvalidNode, Node, PatId, PatPropNode, PropNode, TargetNode};
+use swc_nodes::patterns::first_param_pat;
 
 /// Nodes, and what waits for the node that takes it.
 #[derive(Drop)]
@@ -73,6 +78,9 @@ impl Builder {
                     self.props.push(prop)?;
                 } else if let Some(prop) = self.pat_prop(&word)? {
                     self.pat_props.push(prop)?;
+                } else if let Some(pat) = self.pat(&word)? {
+                    let pat = pat_at(&self.nodes, pat, word.span)?;
+                    self.place(pat.0, word.span)?;
                 } else {
                     let node = self.node(&word)?;
                     self.append(node, word.span)?;
@@ -87,9 +95,14 @@ impl Builder {
         if !self.nodes.is_apart(&node) {
             return Err(not_apart(node));
         }
-        let number = Some(self.nodes.push(node)?);
+        let number = self.nodes.push(node)?;
+        self.place(number, span)
+    }
+
+    /// The last part is the node that has the number.
+    fn place(&mut self, number: usize, span: Span) -> Result<(), Fail> {
         self.parts.push(Part {
-            number,
+            number: Some(number),
             ..Part::hole(span)
         })?;
         Ok(())
@@ -294,7 +307,9 @@ impl Builder {
                 Ok(PropNode::Getter { span, key, body })
             }
             "Setter" => {
-                let param = self.take()?;
+                let pats = vec![in self.alloc; self.take()?]?;
+                let params = params_of(self.alloc, &self.nodes, pats)?;
+                let param = first_param_pat(&params).ok_or("no parameter")?;
                 let key = self.key()?;
                 Ok(PropNode::Setter {
                     span,
@@ -304,7 +319,8 @@ impl Builder {
                 })
             }
             kind => {
-                let params = self.take_list(word)?;
+                let pats = self.take_list(word)?;
+                let params = params_of(self.alloc, &self.nodes, pats)?;
                 let key = self.key()?;
                 let function = Function {
                     span,
@@ -319,28 +335,55 @@ impl Builder {
         }
     }
 
-    /// An item of an object pattern.
+    /// An item of an object pattern, by its maker.
     fn pat_prop(&mut self, word: &Word) -> Result<Option<PatPropNode>, Fail> {
-        let span = word.span;
-        Ok(Some(match word.kind.as_str() {
+        let prop = match word.kind.as_str() {
             "PatKeyValue" => {
                 let value = self.take()?;
                 let key = self.key()?;
-                PatPropNode::KeyValue { span, key, value }
+                key_prop_of(&self.nodes, key, value)?
             }
             "PatAssignProp" => {
                 let value = self.take()?;
                 let key = BindingIdent { id: self.ident()? };
-                PatPropNode::Assign { span, key, value }
+                name_prop_of(&self.nodes, key, value)?
             }
             "PatRestProp" => {
-                let (dot3_token, arg) = self.take()?;
-                PatPropNode::Rest {
-                    span,
-                    dot3_token,
-                    arg,
-                }
+                let (dots, arg) = self.take()?;
+                rest_prop_of(&self.nodes, dots, arg)?
             }
+            _ => return Ok(None),
+        };
+        Ok(Some(prop_at(prop, word.span)?))
+    }
+
+    /// A pattern but an expression, by its maker.
+    fn pat(&mut self, word: &Word) -> Result<Option<PatId>, Fail> {
+        let span = word.span;
+        Ok(Some(match word.kind.as_str() {
+            "PatIdent" => {
+                let sym = Atom::new(self.alloc, word.argument.as_str())?;
+                let id = Ident { span, sym };
+                self.nodes.ident_pat(at(BindingIdent { id }, span)?)?
+            }
+            "PatArray" => {
+                let elems = self.take_list(word)?;
+                array_at(&mut self.nodes, span, elems)?
+            }
+            "PatObject" => {
+                let props = last_of(&mut self.pat_props, word.count()?)?;
+                object_at(&mut self.nodes, span, props)?
+            }
+            "PatRest" => {
+                let (dots, arg) = self.take()?;
+                rest_of(&mut self.nodes, dots, arg)?
+            }
+            "PatAssign" => {
+                let value = self.take()?;
+                let left = self.take()?;
+                default_of(&mut self.nodes, left, value)?
+            }
+            "PatInvalid" => self.nodes.invalid_pat(span)?,
             _ => return Ok(None),
         }))
     }
@@ -368,14 +411,6 @@ impl Builder {
             "Seq" => {
                 let exprs = self.take_list(word)?;
                 Node::Seq { span, exprs }
-            }
-            "PatArray" => {
-                let elems = self.take_list(word)?;
-                Node::PatArray { span, elems }
-            }
-            "PatObject" => {
-                let props = last_of(&mut self.pat_props, word.count()?)?;
-                Node::PatObject { span, props }
             }
             "Member" => Node::Member(self.member(span)?),
             "OptMember" | "ChainMember" | "OptCall" | "ChainCall" => {
@@ -507,7 +542,7 @@ impl Builder {
         }
     }
 
-    /// An assignment, or a pattern with parts.
+    /// An assignment, or an expression as a pattern.
     fn assignment(&mut self, word: &Word) -> Result<HookedNode, Fail> {
         let span = word.span;
         Ok(match word.kind.as_str() {
@@ -524,19 +559,6 @@ impl Builder {
                     left,
                     right,
                 }
-            }
-            "PatRest" => {
-                let (dot3_token, arg) = self.take()?;
-                Node::PatRest {
-                    span,
-                    dot3_token,
-                    arg,
-                }
-            }
-            "PatAssign" => {
-                let right = self.take()?;
-                let left = self.take()?;
-                Node::PatAssign { span, left, right }
             }
             "PatExpr" => Node::PatExpr(self.take()?),
             _ => return leaf(self.alloc, word),
@@ -593,12 +615,6 @@ fn leaf(alloc: Global, word: &Word) -> Result<HookedNode, Fail> {
             let Invalid { span } = at(Invalid { span }, span)?;
             let (first, last) = (span.lo, span.hi);
             Node::Invalid(InvalidNode { span, first, last })
-        }
-        "PatInvalid" => Node::PatInvalid(at(Invalid { span }, span)?),
-        "PatIdent" => {
-            let sym = Atom::new(alloc, word.argument.as_str())?;
-            let id = Ident { span, sym };
-            Node::PatIdent(at(BindingIdent { id }, span)?)
         }
         _ => written(alloc, word)?.into_node(),
     })

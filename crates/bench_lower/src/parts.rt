@@ -3,7 +3,6 @@ use crate::tokens::span_of;
 use std::alloc::Global;
 use std::test::Fail;
 use swc_ast::expr::ExprOrSpread;
-use swc_ast::function::Param;
 use swc_ast::spanned::Spanned;
 use swc_context::span::Span;
 use swc_nodes::node::{ExprId, PatId};
@@ -105,15 +104,5 @@ impl Held for ExprOrSpread<ExprId> {
             spread: part.dots,
             expr: ExprId::of(part)?,
         })
-    }
-}
-
-impl Held for Param<PatId> {
-    fn of(part: Part) -> Result<Param<PatId>, Fail> {
-        let param = Param {
-            span: part.span,
-            pat: PatId::of(part)?,
-        };
-        at(param, part.span)
     }
 }
