@@ -1,6 +1,6 @@
+use Rattle.std.proofs.Common.{refl}
 use Rattle.show.specs.Answers.{refused, judged}
 use Rattle.show.proofs.Giving.{same_error}
-use Rattle.std.proofs.Common.{refl}
 use Rattle.show.proofs.answer.answer_to.Goals as goal
 
 pub returns-in-Ok : goal.returns-in-Ok
@@ -20,7 +20,7 @@ returns-in-Ok c = λ heeded.
 
 pub returns-in-Err : goal.returns-in-Err
 returns-in-Err c = λ heeded.
-    rw c.new-in-Err.ensures.items (refused {e = c.in-Err.fault} (record {
+    rw c.new.ensures.items (refused {e = c.in-Err.fault} (record {
       too_long = λ long. same_error _ _ refl refl (c.in-Err.ensures.too_long long);
       inside = c.in-Err.ensures.refused;
     }))
