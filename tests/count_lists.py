@@ -42,10 +42,22 @@ or update stands behind it. It is none in a module, and none where a `*` follows
 operator, but not in a generator. Behind `new` it is a name like `a`, in scripts and generators that aren't strict. A token that is written with
 `\\r` has a line break before it.
 
+Before `=>`, where an assignment expression begins, may stand a name that is an operand, but for `let`; `async` and a name that may be bound and
+isn't reserved, on its line; or a list in parentheses, with `async` before it on its line or not, of patterns that are bound: their names are
+those of operands, `await` is one where nothing but a comma or what closes something stands behind it, and in modules none is `eval` or
+`arguments`. No line break stands before `=>`, but behind `async` and a name. Behind it a block stands, or an assignment expression; there
+`yield` and `await` are those of code in no generator, and in async code behind `async`. What begins with `async` and a parenthesis on its line
+else is a call. Among its arguments, and in parentheses, no object stands by itself that has a property with a name and `=`. Behind a block that
+is a body the assignment expression ends.
+
+Where an assignment expression begins, brackets or braces may stand before `=`. In them stand operands that may be written to, and brackets and
+braces of the same kind, with `=` and an assignment expression behind them or not; behind dots one without, and then the end. So what a list
+may be is known later, and it is walked as all that it may be at once. In the head of a `for` `of` or `in` stands behind an expression; behind
+`async`, with which an assignment expression begins, `of` on its line is the end in that of a `for await` alone.
+
 A block, a function and a class are taken whole. Of each it matters how many brackets are open. Within its own brace, braces alone are
-counted; before that brace all brackets are, where any that closes may close any that opens. Rows with `=`, braces and parentheses are none: that
-`({a = 1})` is no expression isn't counted. Nor are rows with templates and braces, of which either may end the other, nor such with `/`, which
-begins a regular expression where no operand stands before it.
+counted; before that brace all brackets are, where any that closes may close any that opens. There are no rows with templates and braces, of
+which either may end the other, nor such with `/`, which begins a regular expression where no operand stands before it.
 """
 import re
 import sys
@@ -57,15 +69,15 @@ PREFIX = set("+ - ! ~ void typeof delete".split())
 BINARY = set("?? || && | ^ & == != === !== < > <= >= instanceof in << >> >>> + - * / % **".split())
 UPDATE = ("++", "--")
 # Names that no mode reserves, those that some modes bar as operands, those that some reserve, and where a property is before its value.
-NAMES = {"a", "get", "set", "target", "meta", "source", "eval"}
+NAMES = {"a", "of", "get", "set", "target", "meta", "source", "eval"}
 BARRED = {
     "let": {"module"},
-    "yield": {"module", "strict", "generator"},
-    "implements": {"module", "strict"},
+    "yield": {"strict", "generator"},
+    "implements": {"strict"},
     "arguments": {"class-field"},
     "static": {"module"},
 }
-RESERVED = {**BARRED, "let": {"module", "strict"}, "await": {"module", "async", "static-block"}, "arguments": set(), "static": set()}
+RESERVED = {**BARRED, "let": {"strict"}, "await": {"module", "async", "static-block"}, "arguments": set(), "static": set()}
 # The names that some modes bar as names that are bound.
 UNBOUND = {
     **dict.fromkeys(("let", "static", "implements", "eval"), {"module"}),
@@ -77,13 +89,21 @@ UNBOUND = {
 PROPERTY = {"{", "name", "key", "get", "set", "async", "*", "method", "getter", "setter", "params", "shell", "one", "done"}
 # Where a pattern is: what may begin, and what is complete. `whole` is all of a list that is a pattern or parameters.
 PATTERN = {"pattern", "element", "rest", "rest name", "elements", "properties", "param", "params+"}
-PATTERN |= {"bound", "shut", "short", "word", "pkey", "whole"}
+PATTERN |= {"bound", "shut", "short", "word", "pkey", "whole", "named"}
+# Where only `=>` may follow, and in which code the body of the arrow function is then.
+BEFORE_ARROW = {"arrow": "plain", "async arrow": "async", "async list": "async"}
+# What closes a list in which no object with a name and `=` stands by itself.
+BARE = (")", ")@")
+# What a mode has beside its name.
+FEATURES = {"module": {"strict"}, "generator": {"function", "target"}, "async": {"function", "target"}}
+FEATURES |= {"for-of": {"without-in"}, "for-await": {"without-in"}}
 # A template, and what begins one.
 TEMPLATE = ("``", "`${")
 # What `before` is behind a comma, by what closes the list; nothing closes the whole.
 BEHIND_COMMA = {"": "", ")": "", "].": "", "`": "", "]": ",", "}": "{", ").": "args", ")!": "last"}
-BEHIND_COMMA |= {")shell": "params+", ")one": "shut", ")whole": "params+"}
-for after in ("bound", "shut", "whole"):
+BEHIND_COMMA |= {")shell": "params+", ")one": "shut", ")whole": "params+", ")@": "args"}
+BEHIND_COMMA |= {")arrow": "params+", ")async list": "params+"}
+for after in ("bound", "shut", "whole", "assigned"):
     BEHIND_COMMA |= {"]" + after: "elements", "}" + after: "properties"}
 
 # outer: of each open parenthesis, bracket, template or conditional, what closes it, and outside it the family, whether the operand has a prefix
@@ -95,30 +115,40 @@ for after in ("bound", "shut", "whole"):
 # are open beside that, and whether it is a method's block, or none. news: before that operand, or the last one, how many `new` have no
 # arguments; -1 if it is an optional chain. lead: that operand is all there is of an assignment expression (`first`), and of what stands in its
 # bracket (`only`), or nothing. must: that operand has `++` or `--` before it. target: the operand that is complete may be written to, if each
-# `new` has arguments.
-Front = namedtuple("Front", "outer family before wants prefixed whole news lead must target", defaults=(None, 0, "only", False, False))
+# `new` has arguments. what: which patterns are read, those that are bound, those of arrow functions (`cover`), or those that are written to
+# (`place`). place: the operand is one that is written to, in a rest (`rest`) or not (`one`), or may be any. covered: of an object, whether a
+# property has a name and `=`. area: whether the operand stands in the body of an arrow function (`plain`), or of an async one, or in none.
+# level: the same of the bracket.
+FIELDS = "outer family before wants prefixed whole news lead must target what place covered area level"
+Front = namedtuple("Front", FIELDS, defaults=(None, 0, "only", False, False, "", "", False, "", ""))
 
 
 def begun(front, before):
     """The front with a token more behind which another assignment expression begins."""
-    return Front(front.outer, "", before, "assign", False, lead="first")
+    front = front._replace(family="", before=before, wants="assign", prefixed=False, whole=None)
+    return front._replace(news=0, lead="first", must=False, target=False, place="")
 
 
-def opened(front, close, before, news):
+def opened(front, close, before, news, what=""):
     """The front with an opening parenthesis or bracket more, or what begins a template."""
-    inner = (close, front.family, front.prefixed, news, front.lead, front.must)
-    return Front(front.outer + (inner,), "", before, "assign", False)
+    kept = (front.what, front.place, front.covered, front.area, front.level)
+    inner = (close, front.family, front.prefixed, news, front.lead, front.must) + kept
+    return Front(front.outer + (inner,), "", before, "assign", False, what=what, area=front.area, level=front.area)
 
 
 def closed(front):
     """The front with what closes the last parenthesis, bracket, brace or template more."""
-    close, family, prefixed, news, lead, must = front.outer[-1]
+    close, family, prefixed, news, lead, must, what, place, covered, area, level = front.outer[-1]
+    outer = front.outer[:-1]
+    after = Front(outer, "", "", "operand", False, what=what, place=place, covered=covered, area=area, level=level)
     if close == ":":
-        return begun(front._replace(outer=front.outer[:-1]), "")
-    if close[1:] not in ("", ".", "!"):
-        return Front(front.outer[:-1], "", close[1:], "operand", False)
+        return begun(after, "")
+    if close[1:] not in ("", ".", "!", "@"):
+        return after._replace(before=close[1:])
     target = close == "]." or (close == ")" and front.lead == "only" and writable(front))
-    return Front(front.outer[:-1], family, "", "", prefixed, None, news, lead, must, target)
+    is_covered = close == "}" and front.covered and lead and outer and outer[-1][0] in BARE
+    before = "covered" if is_covered else ""
+    return after._replace(family=family, before=before, wants="", prefixed=prefixed, news=news, lead=lead, must=must, target=target)
 
 
 def done(front, target=False):
@@ -153,6 +183,8 @@ def within(front, token):
             return front._replace(whole=(inside, depth - 1, is_block))
         if not inside:
             return None
+        if is_block == "body":
+            return front._replace(whole=None, before="arrowed", wants="", target=False)
         return front._replace(whole=None, before="done") if is_block else done(front._replace(whole=None))
     return front
 
@@ -167,9 +199,22 @@ def key(front, token, close):
 def bound(front, token, after, mode):
     """The front with a token more with which a pattern begins, behind which stands what `after` names, or None."""
     if token in ("[", "{"):
-        return opened(front, "]" + after, "elements", 0) if token == "[" else opened(front, "}" + after, "properties", 0)
+        close, before = {"[": ("]", "elements"), "{": ("}", "properties")}[token]
+        return opened(front, close + after, before, 0, front.what)
+    if front.what == "place":
+        return None
+    if front.what == "cover":
+        if token == "await" and not mode & {"module", "async"}:
+            return front._replace(before="named" if after == "bound" else after)
+        is_name = may_refer(token, mode) and not (token in ("eval", "arguments") and "module" in mode)
+        return front._replace(before=after) if is_name else None
     names = token in NAMES or token in UNBOUND
-    return front._replace(before=after) if names and mode not in UNBOUND.get(token, ()) else None
+    return front._replace(before=after) if names and not mode & UNBOUND.get(token, set()) else None
+
+
+def may_refer(token, mode):
+    """Whether the token is a name that is an operand."""
+    return token in NAMES or token == "async" or (token in BARRED and not mode & BARRED[token])
 
 
 def pattern(front, token, mode):
@@ -184,9 +229,9 @@ def pattern(front, token, mode):
             return front._replace(before="element") if before != "bound" else None
         return begun(front, "") if before != "pkey" else None
     close = front.outer[-1][0] if front.outer else ""
-    if before in ("short", "bound", "shut", "elements", "properties", "params+") and close and token == close[0]:
+    if before in ("short", "bound", "named", "shut", "elements", "properties", "params+") and close and token == close[0]:
         return closed(front)
-    if before in ("short", "bound") and token == ",":
+    if before in ("short", "bound", "named") and token == ",":
         return front._replace(before=BEHIND_COMMA[close]) if close else None
     if before == "elements" and token == ",":
         return front
@@ -198,15 +243,15 @@ def pattern(front, token, mode):
         return front._replace(before="rest name")
     if not token.isalpha():
         return key(front, token, "pkey")
-    is_open = token in (*NAMES, *RESERVED, "async") and mode not in RESERVED.get(token, ())
-    return front._replace(before="short" if is_open else "word")
+    is_open = token in (*NAMES, *RESERVED, "async") and not mode & RESERVED.get(token, set())
+    return front._replace(before="short" if is_open else "pkey" if front.what else "word")
 
 
 def named(front, token, mode):
     """The front with a word more as which a property begins."""
     if token in ("get", "set", "async"):
         return front._replace(before=token)
-    is_open = token in (*NAMES, *RESERVED) and mode not in RESERVED.get(token, ())
+    is_open = token in (*NAMES, *RESERVED) and not mode & RESERVED.get(token, set())
     return front._replace(before="name" if is_open else "key")
 
 
@@ -241,7 +286,7 @@ def prop(front, token, mode):
     if token == "(":
         return shell(front._replace(before="method"), token)
     if token == ":" or (token == "=" and before != "key"):
-        return begun(front, token)
+        return begun(front._replace(covered=front.covered or token == "="), token)
     if before == "async" and token == "*":
         return front._replace(before="*")
     return key(front, token, {"get": "getter", "set": "setter"}.get(before, "method")) if before in ("get", "set", "async") else None
@@ -268,13 +313,13 @@ def constructed(front, token, mode):
     if front.before == "new .":
         return done(front._replace(news=front.news - 1)) if token == "target" else None
     if token == "await":
-        return done(front, True) if mode in ("script", "generator", "without-in", "class-field") else None
-    return front._replace(before="new .") if token == "." and mode in ("generator", "async") else None
+        return done(front, True) if not mode & {"strict", "async", "static-block"} else None
+    return front._replace(before="new .") if token == "." and "target" in mode else None
 
 
 def called(front, token, mode):
     """The front with a token more behind `super` or `import`, or None."""
-    if front.before == "import ." and token == "meta" and mode == "module":
+    if front.before == "import ." and token == "meta" and "module" in mode:
         return done(front)
     if (front.before, token) in (("import", "."), ("import .", "source")):
         return front._replace(before=front.before + " " + token)
@@ -288,7 +333,7 @@ def asked(front, token, mode):
     if token == ".":
         return front._replace(before="?.", news=-1) if front.news <= 0 else None
     front = front._replace(before=front.before[:-1])
-    return operand(conditional(front), token, mode) if fitting(front) else None
+    return operand(conditional(front), token, mode) if fitting(front) and not front.place else None
 
 
 def conditional(front):
@@ -300,7 +345,7 @@ def prefix(front, token, mode):
     """The front with a prefix operator more, or a word that may be one, or None. The operators behind `++` and `--` make no target."""
     if token in UPDATE:
         return None if front.must else front._replace(before=token, wants="operand", lead="", must=True)
-    if token == "await" and mode != "async":
+    if token == "await" and "async" not in mode:
         return front._replace(before=token, wants="", target=True)
     return None if front.must else front._replace(before=token, wants="operand", lead="", prefixed=True)
 
@@ -313,8 +358,14 @@ def operand(front, token, mode):
         return prop(front, token, mode)
     if front.before in PATTERN:
         return pattern(front, token, mode)
-    if front.before == "async function":
-        return front._replace(before="", whole=(False, 0, False)) if token == "function" else None
+    if front.before == "assigned":
+        return begun(front, "") if token == "=" else None
+    if front.before in BEFORE_ARROW:
+        return begun(front._replace(area=BEFORE_ARROW[front.before]), "body") if token == "=>" else None
+    if front.before == "body":
+        if token == "{":
+            return front._replace(whole=(True, 0, "body"))
+        front = front._replace(before="")
     if front.before in ("?", "delete?"):
         return asked(front, token, mode)
     if front.before == "?." and token in ("(", "["):
@@ -331,10 +382,12 @@ def operand(front, token, mode):
         return closed(front) if token == ")" else front._replace(before=token)
     if front.before in ("[", ",") and token in ("]", ",", "..."):
         return item(front, token)
-    if token == "yield" and front.wants == "assign" and mode == "generator":
-        return front._replace(before=token, wants="")
+    if token == "yield" and front.wants == "assign" and "generator" in mode:
+        return front._replace(before=token, wants="") if not front.place else None
     if token in PREFIX or token in UPDATE or token == "await":
         return prefix(front, token, mode)
+    if token == "async":
+        return front._replace(before="async head" if front.wants == "assign" else token, wants="", target=True)
     front = front._replace(wants="operand")
     if token == "#":
         return front._replace(before=token)
@@ -348,11 +401,9 @@ def operand(front, token, mode):
         return template(front, token)
     if token in ("function", "class"):
         return front._replace(before="", whole=(False, 0, False))
-    if token == "async":
-        return front._replace(before="async function")
-    reference = token in (*NAMES, *BARRED) and mode not in BARRED.get(token, ())
-    front = front._replace(target=reference and (token not in ("eval", "arguments") or mode not in ("module", "strict")))
-    if reference and front.before == "delete" and mode == "module":
+    reference = may_refer(token, mode)
+    front = front._replace(target=reference and (token not in ("eval", "arguments") or "strict" not in mode))
+    if reference and front.before == "delete" and "module" in mode:
         return front._replace(wants="")
     return done(front, front.target) if reference or token in ("1", "this") else None
 
@@ -360,10 +411,14 @@ def operand(front, token, mode):
 def ended(front, token):
     """The front with a token more that ends an assignment expression, or None."""
     close = front.outer[-1][0] if front.outer else ""
+    if (front.place and not (front.lead and writable(front))) or (front.before == "covered" and close in BARE):
+        return None
     if close and token == ("}`" if close == "`" else close[0]):
         return closed(front)
     is_comma = token == "," or (token == "}${" and close == "`")
-    return begun(front, BEHIND_COMMA[close]) if is_comma and close in BEHIND_COMMA else None
+    if not is_comma or close not in BEHIND_COMMA or front.place == "rest":
+        return None
+    return begun(front._replace(area=front.level), BEHIND_COMMA[close])
 
 
 def behind_word(front, token, is_broken, mode):
@@ -374,17 +429,38 @@ def behind_word(front, token, is_broken, mode):
             return ending
         return begun(front, "") if token == "*" else operand(begun(front, ""), token, mode)
     if is_broken or token in (")", "]", ",") or token.startswith("}"):
-        is_name = mode != "module" and not (is_broken and token == "*")
+        is_name = "module" not in mode and not (is_broken and token == "*")
         return operator(front._replace(before="update"), token, is_broken, mode) if is_name else None
-    if mode == "generator" or front.must:
+    if "function" in mode or front.must:
         return None
     return operand(front._replace(before="", wants="operand", lead="", prefixed=True), token, mode)
+
+
+def behind_async(front, token, is_broken, mode):
+    """The front with a token more behind `async`, where that begins no arrow function, or None."""
+    at_head = front.before == "async head" and not is_broken
+    front = front._replace(before="")
+    if token == "function" and not is_broken:
+        return front._replace(wants="operand", whole=(False, 0, False))
+    if at_head and token == "(":
+        return opened(front, ")@", "args", front.news)
+    if at_head and token == "of" and "for-await" not in mode:
+        return None
+    return operator(front, token, is_broken, mode)
 
 
 def operator(front, token, is_broken, mode):
     """The front with a token more where an operand is complete, or None."""
     if front.before in ("yield", "await"):
         return behind_word(front, token, is_broken, mode)
+    if front.before in ("async", "async head"):
+        return behind_async(front, token, is_broken, mode)
+    if token in ("of", "in") and mode & {"for-of", "for-await"} and not front.outer:
+        return front._replace(before="whole", wants="operand") if fitting(front) else None
+    if front.before == "arrowed":
+        return ended(front, token)
+    if front.before == "covered" and token not in (",", ")"):
+        front = front._replace(before="")
     if token in UPDATE:
         return front._replace(before="update", target=False) if writable(front) and not is_broken else None
     if token == "?" and front.before != "update":
@@ -394,32 +470,74 @@ def operator(front, token, is_broken, mode):
     if not fitting(front):
         return None
     if token == "?":
-        return conditional(front)
+        return conditional(front) if not front.place else None
     if token in ("=", "+="):
-        return begun(front, "") if front.lead and writable(front) else None
+        may_write = not front.place or (front.place == "one" and token == "=")
+        return begun(front, "") if may_write and front.lead and writable(front) else None
     ending = ended(front, token)
     if ending:
         return ending
     family = {"??": "??", "||": "||", "&&": "||"}.get(token, front.family)
     mixed = front.family and family != front.family
-    if token not in BINARY or mixed or (token == "**" and front.prefixed):
+    if token not in BINARY or mixed or (token == "**" and front.prefixed) or front.place:
         return None
-    if token == "in" and mode == "without-in" and not front.outer:
+    if token == "in" and "without-in" in mode and not front.outer:
         return None
-    return Front(front.outer, family, "", "operand", False, lead="")
+    front = front._replace(family=family, before="", wants="operand", prefixed=False, whole=None)
+    return front._replace(news=0, lead="", must=False, target=False)
+
+
+def features(mode, area):
+    """What a mode has, in the body of an arrow function or in none."""
+    has = {mode} | FEATURES.get(mode, set())
+    if area:
+        has = has - {"generator", "async"} | {"function"} | ({"async"} if area == "async" else set())
+    return has
+
+
+def others(front, token, mode):
+    """The other fronts with a token more: where the first reads an expression, others read a pattern, or what an arrow function begins with."""
+    if front.whole:
+        return
+    if front.what == "place" and front.before in ("elements", "element", "rest", "rest name"):
+        place = "rest" if front.before.startswith("rest") else "one"
+        yield operand(begun(front, "")._replace(place=place), token, mode)
+        if front.before == "rest name":
+            yield bound(front, token, "shut", mode)
+    if front.before == "async head":
+        if token == "(":
+            yield opened(front, ")async list", "params+", 0, "cover")
+        name = token in NAMES or token == "async" or token in RESERVED
+        if name and not mode & (RESERVED.get(token, set()) | UNBOUND.get(token, set())):
+            yield front._replace(before="async arrow", wants="operand")
+    if front.wants != "assign" or front.before in PROPERTY or front.before in PATTERN:
+        return
+    if token in ("[", "{") and not (front.before == "body" and token == "{"):
+        yield bound(front._replace(what="place"), token, "assigned", mode)
+    if token == "(":
+        yield opened(front, ")arrow", "params+", 0, "cover")
+    if token != "let" and may_refer(token, mode) and not (token in ("eval", "arguments") and "module" in mode):
+        yield front._replace(before="arrow", wants="operand")
 
 
 def followed(front, token, mode):
-    """The front with a token more, before which a line break stands where it is written with one, or None."""
+    """The fronts with a token more, before which a line break stands where it is written with one."""
+    mode = features(mode, front.area)
     is_broken = token.startswith("\\r")
     bare = token[2:] if is_broken else token
-    return operand(front, bare, mode) if front.wants else operator(front, bare, is_broken, mode)
+    if is_broken and front.before in ("arrow", "async list"):
+        return
+    yield operand(front, bare, mode) if front.wants else operator(front, bare, is_broken, mode)
+    if not is_broken or front.wants:
+        yield from others(begun(front, "") if front.before == "yield" else front, bare, mode)
 
 
 def complete(front, mode):
     """Whether the front is an expression, or another whole."""
     if front.before == "whole":
         return not front.outer
+    if mode in ("for-of", "for-await"):
+        return False
     return not front.wants and not front.outer and fitting(front) and (front.before, mode) != ("await", "module")
 
 
@@ -431,16 +549,16 @@ BEGINNINGS = {
 
 
 def counts(table, tokens, mode, longest):
-    fronts = Counter([BEGINNINGS.get(table, Front((), "", "", "assign", False))])
+    lists = Counter([frozenset([BEGINNINGS.get(table, Front((), "", "", "assign", False))])])
     for _ in range(longest + 1):
-        yield sum(n for front, n in fronts.items() if complete(front, mode))
+        yield sum(n for fronts, n in lists.items() if any(complete(front, mode) for front in fronts))
         longer = Counter()
-        for front, n in fronts.items():
+        for fronts, n in lists.items():
             for token in tokens:
-                after = followed(front, token, mode)
+                after = frozenset(other for front in fronts for other in followed(front, token, mode) if other)
                 if after:
                     longer[after] += n
-        fronts = longer
+        lists = longer
 
 
 status = 0

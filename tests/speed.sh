@@ -4,8 +4,9 @@
 #     tests/speed.sh [PROGRAM ..]     other builds of show_expr to run beside it, as that of an earlier commit
 #
 # The texts are one long expression, `a + 1 * b - a + 1 * b - .. - a`, of 0.25, 0.5 and 1 MB, bare and in 100 parentheses, and chains of links,
-# `a.b(c).b(c)..` and `a?.b[c]?.b[c]..`, of 25,000, 50,000 and 100,000 such pairs. The least of five runs counts. Where node and its package acorn
-# are installed, acorn parses the same texts. The stack is as large as the system lets it grow, which builds need that print by recursion. Then
+# `a.b(c).b(c)..` and `a?.b[c]?.b[c]..`, of 25,000, 50,000 and 100,000 such pairs; and nested destructuring, `[{a: [b, c = 1, ..]}, ..]`, of 0.25,
+# 0.5 and 1 MB, left of `=` and as the parameter of an arrow function, which is refined from expressions to patterns. The least of five runs counts.
+# Where node and its package acorn are installed, acorn parses the same texts. The stack is as large as the system lets it grow, which builds need that print by recursion. Then
 # the longest texts are run on a stack of 1 MB, and the depth of parentheses that one of 8 MB holds is looked for.
 cd "$(dirname "$0")/.." || exit 2
 program=crates/show_expr/out/show_expr
@@ -31,6 +32,13 @@ def text_of(size, depth):
     return b'(' * depth + UNIT * (size // len(UNIT)) + b'a' + b')' * depth + b'\n'
 
 
+PATTERN = b'{a: [b, {c = 1, d: [, e]}, f = g], ...h}, '
+
+
+def pattern_of(size, before, behind):
+    return before + b'[' + PATTERN * (size // len(PATTERN)) + b'i]' + behind + b'\n'
+
+
 def chain_of(link, pairs):
     return b'a' + link * pairs + b'\n'
 
@@ -43,7 +51,8 @@ print('| program | text | bytes | processor seconds | peak memory, MB | ended |'
 print('|---|---|---|---|---|---|')
 texts = [(name, text_of(size, depth)) for name, depth in (('bare', 0), ('in 100 parentheses', 100)) for size in (250_000, 500_000, 1_000_000)]
 chains = [(name, chain_of(link, pairs)) for name, link in (('`a.b(c)..`', b'.b(c)'), ('`a?.b[c]..`', b'?.b[c]')) for pairs in (25_000, 50_000, 100_000)]
-for text_name, text in texts + chains:
+patterns = [(name, pattern_of(size, before, behind)) for name, before, behind in (('`[..] = x`', b'', b' = x'), ('`([..]) => x`', b'(', b') => x')) for size in (250_000, 500_000, 1_000_000)]
+for text_name, text in texts + chains + patterns:
     for name, command in commands:
         least = runs(command, text)
         print('| %s | %s | %d | %.2f | %.0f | %s |' % (name, text_name, len(text), least.seconds, least.megabytes, ended(least.status)), flush=True)

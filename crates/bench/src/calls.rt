@@ -9,7 +9,8 @@
 /// `TS1005` at the token of each later one, and answers the token's place. `node 2` is the expression
 /// of that number. `label_of_refusal` reads as `parse_expr_id` does, and answers the place and the
 /// note with which its refusal is labelled. Each row that tells nothing of nodes holds with
-/// `parse_expr_id` for `parse_expr`, too. Calls on patterns stand in patterns.rt.
+/// `parse_expr_id` for `parse_expr`, too. Calls on patterns stand in patterns.rt, those on
+/// arrow functions in arrows.rt, and those that make patterns of expressions in refining.rt.
 pub(crate) const CALLS: &str =
     r"parse_expr; parse_assignment_expr; parse_bin_expr; parse_unary_expr; at_end; parse_lit; at_end | script | a + b c d * e {f} 7 | Bin(+, a, b) 0..5; c 6..7; Bin(*, d, e) 8..13; Object{f} 14..17; false; 7 18..19; true | none | end
 parse_bin_expr | script without_in | a in b | a 0..1 | none | 2..4
@@ -69,14 +70,14 @@ parse_expr; parse_bin_expr | script without_in | [+ ) a in b | refused: Expected
 parse_expr; parse_bin_expr | script without_in | [* b in c d in e | refused: Expected 10..11 ,; d 10..11 | TS1109 1..2 | 12..14
 parse_expr; parse_bin_expr | script without_in | [@0..1 ...@1..4 E(OutOfMemory)@5..6 a@7..8 in@9..11 b@12..13 | refused: WithLabel 5..6 (Lex 5..6); a 7..8 | none | 9..11
 parse_expr; parse_expr | script failing | [ | refused: OutOfMemory 1..1; refused: ParserFailed 0..1 | none | refused: ParserFailed 0..1
-parse_expr; parse_expr | script failing | [a | refused: OutOfMemory 2..2; refused: ParserFailed 1..2 | none | refused: ParserFailed 1..2
+parse_expr; parse_expr | script failing | [a | refused: OutOfMemory 1..1; refused: ParserFailed 0..1 | none | refused: ParserFailed 0..1
 parse_expr; parse_expr | script failing | [a, | refused: OutOfMemory 3..3; refused: ParserFailed 2..3 | none | refused: ParserFailed 2..3
 parse_expr; parse_expr | script failing | [a, ...  | refused: OutOfMemory 7..7; refused: ParserFailed 4..7 | none | refused: ParserFailed 4..7
 add_error TS1102 1..2; parse_expr; parse_expr | script without_in failing | [...[* a | done; refused: OutOfMemory 8..8; refused: ParserFailed 7..8 | TS1102 1..2, TS1109 5..6 | refused: ParserFailed 7..8
 parse_expr | script | function f() {} | refused: Unexpected 0..8 { | none | 9..10
 parse_expr | script | async function () {} | refused: Unexpected 0..5 { | none | 6..14
-parse_expr | script | async\nfunction () {} | refused: TS1109 0..5 | none | 0..5
-parse_expr | script | async (function) | refused: TS1109 0..5 | none | 0..5
+parse_expr | script | async\nfunction () {} | async 0..5 | none | 6..14
+parse_expr | script | async (function) | refused: Unexpected 7..15 { | none | 15..16
 parse_expr; parse_expr | script failing | async | refused: OutOfMemory 0..0; refused: ParserFailed 0..0 | none | refused: ParserFailed 0..0
 parse_expr | script | class {} | refused: Unexpected 0..5 { | none | 6..7
 parse_expr | script | class * a | Bin(*, Invalid, a) 0..9 | TS1109 6..7 | end
@@ -170,10 +171,10 @@ parse_expr | script | new a.b(c).d | Member(New(Member(a, .b), [c]), .d) 0..12 |
 parse_expr | script | new a b | New(a, -) 0..5 | none | 6..7
 parse_unary_expr | script | new a ** b | New(a, -) 0..5 | none | 6..8
 parse_expr; at_end | script | new a?.b.c() d | refused: OptChainCannotFollowConstructorCall 4..10; false | none | 10..11
-parse_expr; parse_expr | script failing | a | refused: OutOfMemory 1..1; refused: ParserFailed 0..1 | none | refused: ParserFailed 0..1
+parse_expr; parse_expr | script failing | a | refused: OutOfMemory 0..0; refused: ParserFailed 0..0 | none | refused: ParserFailed 0..0
 parse_expr; parse_expr | script failing | a. | refused: OutOfMemory 2..2; refused: ParserFailed 1..2 | none | refused: ParserFailed 1..2
 parse_expr; parse_expr | script failing | a.# | refused: OutOfMemory 3..3; refused: ParserFailed 2..3 | none | refused: ParserFailed 2..3
-parse_expr; parse_expr | script failing | a[b | refused: OutOfMemory 3..3; refused: ParserFailed 2..3 | none | refused: ParserFailed 2..3
+parse_expr; parse_expr | script failing | a[b | refused: OutOfMemory 2..2; refused: ParserFailed 1..2 | none | refused: ParserFailed 1..2
 parse_expr; parse_expr | script failing | f( | refused: OutOfMemory 2..2; refused: ParserFailed 1..2 | none | refused: ParserFailed 1..2
 parse_expr; parse_expr | script failing | f(a, | refused: OutOfMemory 4..4; refused: ParserFailed 3..4 | none | refused: ParserFailed 3..4
 parse_expr | script hook_records | class (function)[class] | Member(Call(Class<0>, [Fn<0>]), [Class<0>]) 0..23 | TS1005 0..5, TS1005 7..15, TS1005 17..22 | end
@@ -283,9 +284,9 @@ parse_expr | script | a@0..1 ?@2..3 b@4..5 E(Lex)@6..7 :@8..9 | refused: Lex 6..
 parse_expr | script | a@0..1 ?@2..3 b@4..5 :@6..7 E(OutOfMemory)@8..9 | refused: Lex 8..9 | none | end
 parse_expr | script | a@0..1 ?@2..3 b@4..5 :@6..7 c@8..9 E(Lex)@10..11 | Cond(a, b, c) 0..9 | none | 10..11
 parse_expr; parse_expr | script failing | a ? | refused: OutOfMemory 1..1; refused: ParserFailed 0..1 | none | refused: ParserFailed 0..1
-parse_expr; parse_bin_expr | script without_in failing | a ? b | refused: OutOfMemory 5..5; refused: ParserFailed 4..5 | none | refused: ParserFailed 4..5
+parse_expr; parse_bin_expr | script without_in failing | a ? b | refused: OutOfMemory 3..3; refused: ParserFailed 2..3 | none | refused: ParserFailed 2..3
 parse_expr; parse_expr | script failing | a ? b : | refused: OutOfMemory 7..7; refused: ParserFailed 6..7 | none | refused: ParserFailed 6..7
-parse_expr; at_end | script failing | a ? b : c | refused: OutOfMemory 9..9; refused: ParserFailed 8..9 | none | refused: ParserFailed 8..9
+parse_expr; at_end | script failing | a ? b : c | refused: OutOfMemory 7..7; refused: ParserFailed 6..7 | none | refused: ParserFailed 6..7
 parse_expr; parse_expr | script hook_wants_memory | a ? class : b | refused: OutOfMemory 9..9; refused: ParserFailed 4..9 | none | refused: ParserFailed 4..9
 parse_expr | script | a = b += c -= d *= e /= f %= g <<= h >>= i >>>= j |= k ^= l &= m **= n &&= o ||= p ??= q | Assign(=, a, Assign(+=, b, Assign(-=, c, Assign(*=, d, Assign(/=, e, Assign(%=, f, Assign(<<=, g, Assign(>>=, h, Assign(>>>=, i, Assign(|=, j, Assign(^=, k, Assign(&=, l, Assign(**=, m, Assign(&&=, n, Assign(||=, o, Assign(??=, p, q)))))))))))))))) 0..88 | none | end
 parse_expr | script | a /= b | Assign(/=, a, b) 0..6 | none | end
@@ -299,10 +300,10 @@ parse_expr | script | (a) = 1 | Assign(=, Paren(a), 1) 0..7 | none | end
 parse_expr | script | ((a).b) **= 1 | Assign(**=, Paren(Member(Paren(a), .b)), 1) 0..13 | none | end
 parse_expr | script | f() = 1 | refused: InvalidAssignTarget 0..3 | TS2406 0..3 | 4..5
 parse_expr | script | f() += 1 | refused: InvalidAssignTarget 0..3 | NotSimpleAssign 0..3 | 4..6
-parse_expr | script | [a] = b | refused: InvalidAssignTarget 0..3 | none | 4..5
+parse_expr | script | [a] = b | Assign(=, Array[a], b) 0..7 | none | end
 parse_expr | script | [a] += b | refused: InvalidAssignTarget 0..3 | NotSimpleAssign 0..3 | 4..6
-parse_expr | script | {a} = b | refused: InvalidAssignTarget 0..3 | none | 4..5
-parse_expr | script | {a = 1} = b | refused: InvalidAssignTarget 0..7 | none | 8..9
+parse_expr | script | {a} = b | Assign(=, Object{a}, b) 0..7 | none | end
+parse_expr | script | {a = 1} = b | Assign(=, Object{a = 1}, b) 0..11 | none | end
 parse_expr | script | {a} ??= b | refused: InvalidAssignTarget 0..3 | NotSimpleAssign 0..3 | 4..7
 parse_expr | script | ([a]) = b | Assign(=, Paren(Array[a]), b) 0..9 | TS2406 0..5 | end
 parse_expr | script | ({a = 1}) = b | Assign(=, Paren(Object{a = 1}), b) 0..13 | AssignProperty 2..7, TS2406 0..9 | end
@@ -339,7 +340,7 @@ parse_expr | script | a = | refused: Eof 3..3 | none | end
 parse_expr | script | a = ) | refused: TS1109 4..5 | none | 4..5
 parse_expr | script | a = * b | Assign(=, a, Bin(*, Invalid, b)) 0..7 | TS1109 4..5 | end
 parse_expr | script | a = b c | Assign(=, a, b) 0..5 | none | 6..7
-parse_expr | script | a => b | a 0..1 | none | 2..4
+parse_bin_expr | script | a => b | a 0..1 | none | 2..4
 parse_expr | script | - [f() = 1] | Unary(-, Invalid) 0..1 | TS2406 3..6, InvalidAssignTarget 3..6 | 7..8
 parse_expr | script | ++ [f() = 1] | refused: InvalidAssignTarget 4..7 | TS2406 4..7 | 8..9
 parse_expr | script | [a, ...b = c] | Array[a, ...Assign(=, b, c)] 0..13 | none | end
@@ -360,7 +361,7 @@ parse_expr | script | a@0..1 =@2..3 E(Lex)@4..5 b@6..7 | refused: Lex 4..5 | non
 parse_expr | strict | eval@0..4 =@5..6 E(Lex)@7..8 b@9..10 | refused: Lex 7..8 | TS2406 0..4 | 9..10
 parse_expr | script | a@0..1 =@2..3 b@4..5 E(Lex)@6..7 | Assign(=, a, b) 0..5 | none | 6..7
 parse_expr; parse_expr | script failing | a = | refused: OutOfMemory 3..3; refused: ParserFailed 2..3 | none | refused: ParserFailed 2..3
-parse_expr; parse_expr | script failing | a = b | refused: OutOfMemory 5..5; refused: ParserFailed 4..5 | none | refused: ParserFailed 4..5
+parse_expr; parse_expr | script failing | a = b | refused: OutOfMemory 3..3; refused: ParserFailed 2..3 | none | refused: ParserFailed 2..3
 parse_expr; parse_expr | script failing | a?.b -= | refused: OutOfMemory 7..7; refused: ParserFailed 5..7 | NotSimpleAssign 0..4 | refused: ParserFailed 5..7
 parse_expr; parse_expr | script hook_wants_memory | a = b = function | refused: OutOfMemory 16..16; refused: ParserFailed 8..16 | none | refused: ParserFailed 8..16
 parse_expr | script | a, b, c | Seq(a, b, c) 0..7 | none | end
@@ -382,7 +383,7 @@ parse_expr | script | a@4..5 ,@2..3 b@0..1 | Seq(a, b) 1..4 | none | end
 parse_expr | script | a@0..1 ,@1..2 E(Lex)@3..4 b@5..6 | refused: Lex 3..4 | none | 5..6
 parse_expr | script | a@0..1 E(Lex)@1..2 ,@3..4 b@5..6 | a 0..1 | none | 1..2
 parse_expr; parse_expr | script failing | a, | refused: OutOfMemory 2..2; refused: ParserFailed 1..2 | none | refused: ParserFailed 1..2
-parse_expr; parse_expr | script failing | a, b | refused: OutOfMemory 4..4; refused: ParserFailed 3..4 | none | refused: ParserFailed 3..4
+parse_expr; parse_expr | script failing | a, b | refused: OutOfMemory 2..2; refused: ParserFailed 1..2 | none | refused: ParserFailed 1..2
 parse_expr; parse_expr | script hook_wants_memory | a, b, class | refused: OutOfMemory 11..11; refused: ParserFailed 6..11 | none | refused: ParserFailed 6..11
 parse_expr_id; count_nodes; node 2; node 3 | script | (a, b) | Paren(Seq(a, b)) 0..6; 4; Seq(a, b) 1..5; Paren(Seq(a, b)) 0..6 | none | end
 parse_expr_id; node 2; node 3 | script | ( a , b ) | Paren(Seq(a, b)) 0..9; Seq(a, b) 2..7; Paren(Seq(a, b)) 0..9 | none | end
@@ -425,7 +426,7 @@ parse_expr | script | (@0..1 ...@1..4 a@4..5 )@5..6 E(OutOfMemory)@7..8 b@9..10 
 parse_expr | script | (@0..1 ...@1..4 a@4..5 ,@5..6 )@6..7 E(Lex)@8..9 b@10..11 | refused: SpreadInParenExpr 4..5 | Lex 8..9, TS1109 5..6 | 10..11
 parse_expr | script | (@0..1 a@1..2 ,@2..3 E(Lex)@4..5 )@6..7 | refused: Lex 4..5 | none | 6..7
 parse_expr | script | (@0..1 a@1..2 E(Lex)@3..4 ,@5..6 | refused: Lex 3..4 | none | 5..6
-parse_expr; parse_expr | script failing | (a, b | refused: OutOfMemory 5..5; refused: ParserFailed 4..5 | none | refused: ParserFailed 4..5
+parse_expr; parse_expr | script failing | (a, b | refused: OutOfMemory 3..3; refused: ParserFailed 2..3 | none | refused: ParserFailed 2..3
 parse_expr; parse_expr | script failing | (a, b, | refused: OutOfMemory 6..6; refused: ParserFailed 5..6 | none | refused: ParserFailed 5..6
 parse_expr; parse_expr | script failing | (a,) | refused: OutOfMemory 4..4; refused: ParserFailed 3..4 | none | refused: ParserFailed 3..4
 parse_expr; parse_expr | script failing | () | refused: OutOfMemory 2..2; refused: ParserFailed 1..2 | none | refused: ParserFailed 1..2
@@ -514,7 +515,7 @@ parse_expr | generator hook_refuses | yield class a | refused: WithLabel 6..11 (
 parse_expr; parse_expr | generator hook_wants_memory | yield * class | refused: OutOfMemory 13..13; refused: ParserFailed 8..13 | none | refused: ParserFailed 8..13
 parse_expr; parse_expr | generator failing | yield | refused: OutOfMemory 5..5; refused: ParserFailed 0..5 | none | refused: ParserFailed 0..5
 parse_expr; parse_expr | generator failing | yield * | refused: OutOfMemory 7..7; refused: ParserFailed 6..7 | none | refused: ParserFailed 6..7
-parse_expr; parse_expr | generator failing | yield a | refused: OutOfMemory 7..7; refused: ParserFailed 6..7 | none | refused: ParserFailed 6..7
+parse_expr; parse_expr | generator failing | yield a | refused: OutOfMemory 5..5; refused: ParserFailed 0..5 | none | refused: ParserFailed 0..5
 parse_expr; parse_expr | generator parameters failing | yield | refused: OutOfMemory 5..5; refused: ParserFailed 0..5 | none | refused: ParserFailed 0..5
 parse_expr | script | await | await 0..5 | none | end
 parse_expr | script | (await) | Paren(await) 0..7 | none | end
@@ -669,7 +670,7 @@ parse_args_or_pats | script | (@0..1 a@1..2 E(Lex)@3..4 b@5..6 | refused: Lex 3.
 parse_args_or_pats | script | (@0..1 a@1..2 ,@2..3 )@3..4 E(Lex)@4..5 | a 1..2 comma 2..3 | none | 4..5
 parse_args_or_pats | script | E(Lex)@0..1 (@2..3 | refused: Lex 0..1 | none | 2..3
 parse_args_or_pats; parse_args_or_pats | script failing |  | refused: OutOfMemory 0..0; refused: ParserFailed 0..0 | none | refused: ParserFailed 0..0
-parse_args_or_pats; parse_args_or_pats | script failing | (a | refused: OutOfMemory 2..2; refused: ParserFailed 1..2 | none | refused: ParserFailed 1..2
+parse_args_or_pats; parse_args_or_pats | script failing | (a | refused: OutOfMemory 1..1; refused: ParserFailed 0..1 | none | refused: ParserFailed 0..1
 parse_args_or_pats; parse_args_or_pats | script failing | (a, | refused: OutOfMemory 3..3; refused: ParserFailed 2..3 | none | refused: ParserFailed 2..3
 parse_args_or_pats; parse_args_or_pats | script failing | (a,) | a 1..2 comma 2..3; refused: OutOfMemory 4..4 | none | refused: ParserFailed 3..4
 parse_args_or_pats; parse_args_or_pats | script hook_wants_memory | (a, ...class | refused: OutOfMemory 12..12; refused: ParserFailed 7..12 | none | refused: ParserFailed 7..12
@@ -705,7 +706,7 @@ parse_prop_name | script | + | refused: Unexpected 0..1 identifier, string liter
 parse_prop_name | script |  | refused: Eof 0..0 | none | end
 parse_prop_name | script | [a b | refused: Expected 3..4 ] | none | 3..4
 parse_prop_name; count_nodes; parse_expr_id; count_nodes | script | [a + b] c | [Bin(+, a, b) 1..6] 0..7; 0; c 8..9; 1 | none | end
-parse_prop_name; parse_expr | script failing | [a | refused: OutOfMemory 2..2; refused: ParserFailed 1..2 | none | refused: ParserFailed 1..2
+parse_prop_name; parse_expr | script failing | [a | refused: OutOfMemory 1..1; refused: ParserFailed 0..1 | none | refused: ParserFailed 0..1
 parse_object_prop | script | a: b, c | KeyValue 0..4 | none | 4..5
 parse_object_prop | script | a | refused: Eof 1..1 | none | end
 parse_object_prop | script | a } | Shorthand 0..1 | none | 2..3

@@ -8,16 +8,6 @@ use swc_input::listed::TokensInput;
 use swc_nodes::node::ExprId;
 use swc_tokens::read_tokens;
 
-/// How many nodes each chain has: 100,000 operands, and an operator between each two.
-const NODES: usize = 199_999;
-
-/// How often the operators of a chain are repeated, and the operators.
-const CHAINS: &str = "\
-99999 | **
-99999 | +
-99999 | &&
-33333 | + ** &&";
-
 /// Operands with these operators between them, so often.
 fn chain(alloc: Global, turns: usize, operators: &str) -> Result<String, AllocError> {
     let mut text = String::new(alloc);
@@ -31,8 +21,8 @@ fn chain(alloc: Global, turns: usize, operators: &str) -> Result<String, AllocEr
     Ok(text)
 }
 
-/// The chain is one expression, and its nodes, and no others, have numbers.
-fn check(alloc: Global, turns: usize, operators: &str) -> Result<(), Fail> {
+/// The chain is one expression, and its nodes, as many as said, and no others, have numbers.
+fn check(alloc: Global, turns: usize, operators: &str, nodes: usize) -> Result<(), Fail> {
     let text = chain(alloc, turns, operators)?;
     let tokens = read_tokens(alloc, text.as_bytes())?;
     let source = TokensInput::new(
@@ -44,26 +34,28 @@ fn check(alloc: Global, turns: usize, operators: &str) -> Result<(), Fail> {
     );
     let mut parser = Parser::new_from(alloc, source, NoBodies);
     let root = parser.parse_expr_id()?;
-    if !parser.at_end()? || root.0 != NODES - 1 || parser.nodes().len() != NODES {
+    if !parser.at_end()? || root.0 + 1 != nodes || parser.nodes().len() != nodes {
         return Err(Fail::new("another expression"));
     }
-    for number in 0..NODES {
+    for number in 0..nodes {
         if !parser.nodes().has_expr(ExprId(number)) {
             return Err(Fail::new(format_args!("no node: {number}")));
         }
     }
-    if parser.nodes().has_expr(ExprId(NODES)) {
+    if parser.nodes().has_expr(ExprId(nodes)) {
         return Err(Fail::new("a node too many"));
     }
     Ok(())
 }
 
 #[test]
-fn chains_of_operators(rt: HostRuntime) -> Result<(), Fail> {
-    for line in CHAINS.lines() {
-        let (turns, operators) = line.split_once(" | ").ok_or("no chain")?;
-        let turns = turns.parse::<usize>().map_err(|_| "no number")?;
-        check(rt.alloc(), turns, operators)?;
-    }
-    Ok(())
+fn chain_of_powers(rt: HostRuntime) -> Result<(), Fail> {
+    check(rt.alloc(), 99_999, "**", 199_999)
+}
+
+#[test]
+fn chains_of_other_operators(rt: HostRuntime) -> Result<(), Fail> {
+    check(rt.alloc(), 10_000, "+", 20_001)?;
+    check(rt.alloc(), 10_000, "&&", 20_001)?;
+    check(rt.alloc(), 10_000, "+ ** &&", 60_001)
 }

@@ -3,6 +3,8 @@
 #![tactic(auto)]
 
 #[cfg(test)]
+mod arrows;
+#[cfg(test)]
 mod buffers;
 #[cfg(test)]
 mod calls;
@@ -20,6 +22,10 @@ mod parsing;
 mod patterns;
 #[cfg(test)]
 mod program;
+#[cfg(test)]
+mod refining;
+#[cfg(test)]
+mod reparsing;
 #[cfg(test)]
 mod settings;
 #[cfg(test)]

@@ -20,35 +20,42 @@ use swc_trees::letting_go::let_go_params;
 /// (`will_expect_colon_for_cond`), `no_type` (`should_not_lex_lt_or_gt_as_type`) and `key` (`in_property_name`). These
 /// decide nothing in the parser, so no other test sees them. Methods change `params` (`in_parameters`), `function`
 /// (`in_function`), `async` (`in_async`), `generator` (`in_generator`), `field` (`in_class_field`) and `super`
-/// (`allow_direct_super`).
+/// (`allow_direct_super`); bodies of arrow functions `function`, `async` and `generator`.
 ///
-/// A token is asked for at the first look at it. At a `?` behind a name that is a look for the `.` of an optional
+/// A token is asked for at the first look at it: what stands behind the name that an assignment expression begins with
+/// before that is read, since it may be `=>`. At a `?` behind a name that is a look for the `.` of an optional
 /// chain: so what most rows have before a `?` ends with `++`. In two rows an operand is refused, and reading goes on in
 /// the context from before.
-const CONTEXTS: &str =
-    r"parse_expr | script | a ? b : c | a; ? no_type; b no_type; : cond colon no_type; c cond
-parse_expr | script | a++ ? b : c | a; ++ no_type; ?; b cond colon; : cond colon no_type; c cond
-parse_expr | script | a++ ? b++ ? c : d : e | a; ++ no_type; ?; b cond colon; ++ cond colon no_type; ? cond colon; c cond colon; : cond colon no_type; d cond; : cond no_type; e cond
-parse_expr | script | a++ ? (b) : c | a; ++ no_type; ?; ( cond colon; b cond no_type; ) cond no_type; : cond colon no_type; c cond
-parse_expr | script | a++ ? f(b) : [c, d] | a; ++ no_type; ?; f cond colon; ( cond colon no_type; b cond; ) cond no_type; : cond colon; [ cond; c cond no_type; , cond no_type; d cond no_type; ] cond no_type
-parse_expr | script | a++ ? {b: c, [d]: e, f} : g | a; ++ no_type; ?; { cond colon; b cond no_type; : cond no_type; c cond no_type; , cond no_type; [ cond no_type; d cond no_type key; ] cond no_type key; : cond no_type; e cond no_type; , cond no_type; f cond no_type; } cond no_type; : cond colon no_type; g cond
-parse_expr | script | a++ ? `b${c}d` : e | a; ++ no_type; ?; ` cond colon; b cond no_type; ${ cond no_type; c cond no_type; } cond no_type; d cond no_type; ` cond no_type; : cond colon no_type; e cond
-parse_expr | script | a++ ? f`b` : c | a; ++ no_type; ?; f cond colon; ` cond colon no_type; b cond no_type; ` cond no_type; : cond colon no_type; c cond
+const CONTEXTS: &str = r"parse_expr | script | a ? b : c | a; ?; b no_type; : cond colon; c cond
+parse_expr | script | a++ ? b : c | a; ++; ?; b cond colon; : cond colon; c cond
+parse_expr | script | a++ ? b++ ? c : d : e | a; ++; ?; b cond colon; ++ cond colon; ? cond colon; c cond colon; : cond colon; d cond; : cond; e cond
+parse_expr | script | a++ ? (b) : c | a; ++; ?; ( cond colon; b cond; ) cond; : cond colon; c cond
+parse_expr | script | a++ ? f(b) : [c, d] | a; ++; ?; f cond colon; ( cond colon; b cond; ) cond; : cond colon; [ cond; c cond no_type; , cond no_type; d cond no_type; ] cond no_type
+parse_expr | script | a++ ? {b: c, [d]: e, f} : g | a; ++; ?; { cond colon; b cond no_type; : cond no_type; c cond no_type; , cond no_type; [ cond no_type; d cond no_type key; ] cond no_type key; : cond no_type; e cond no_type; , cond no_type; f cond no_type; } cond no_type; : cond colon no_type; g cond
+parse_expr | script | a++ ? `b${c}d` : e | a; ++; ?; ` cond colon; b cond no_type; ${ cond no_type; c cond no_type; } cond no_type; d cond no_type; ` cond no_type; : cond colon no_type; e cond
+parse_expr | script | a++ ? f`b` : c | a; ++; ?; f cond colon; ` cond colon; b cond no_type; ` cond no_type; : cond colon no_type; c cond
 parse_expr | script | {[a ? b : c]: d} | {; [ no_type; a no_type key; ? no_type key; b no_type key; : cond colon no_type key; c cond no_type key; ] cond no_type key; : no_type; d no_type; } no_type
-parse_expr | script | new a(b).c[d](e) | new; a no_type; ( no_type; b no_type; ) no_type; . no_type; c no_type; [ no_type; d no_type; ] no_type; ( no_type; e; ) no_type
-parse_expr | script method | super.a(b) | super super; . super; a super; ( super; b super; ) no_type super
-parse_expr | module | import.meta[a] | import; .; meta; [; a; ] no_type
+parse_expr | script | new a(b).c[d](e) | new; a no_type; ( no_type; b no_type; ) no_type; . no_type; c no_type; [ no_type; d no_type; ] no_type; ( no_type; e; )
+parse_expr | script method | super.a(b) | super super; . super; a super; ( super; b super; ) super
+parse_expr | module | import.meta[a] | import; .; meta; [; a; ]
 parse_expr | script | -[a++ ? -b ** + c | -; [; a no_type; ++ no_type; ? no_type; - cond colon no_type; b cond colon no_type; ** cond colon no_type; + cond colon no_type; c
 parse_expr | script | -{[-b ** + c | -; {; [ no_type; - no_type key; b no_type key; ** no_type key; + no_type key; c
-parse_pat | script | [a, {b: c, [d]: e}, ...f] | [; a; ,; {; b; :; c; ,; [; d key; ] no_type key; :; e; }; ,; ...; f; ]
-parse_pat | script | {[a ? b : c]: d, e = f} | {; [; a key; ? no_type key; b no_type key; : cond colon no_type key; c cond key; ] cond no_type key; :; d; ,; e; =; f; } no_type
-parse_pat | script | [a = b ? c : d, e] | [; a; =; b; ? no_type; c no_type; : cond colon no_type; d cond; , cond no_type; e; ]
+parse_pat | script | [a, {b: c, [d]: e}, ...f] | [; a; ,; {; b; :; c; ,; [; d key; ] key; :; e; }; ,; ...; f; ]
+parse_pat | script | {[a ? b : c]: d, e = f} | {; [; a key; ? key; b no_type key; : cond colon key; c cond key; ] cond key; :; d; ,; e; =; f; }
+parse_pat | script | [a = b ? c : d, e] | [; a; =; b; ?; c no_type; : cond colon; d cond; , cond; e; ]
 parse_pat | script colon_expected | [a, {b: [c], d}] | [ colon; a colon; , colon; { colon; b; :; [; c; ]; ,; d; }; ] colon
 parse_formal_params | script colon_expected | a, ...[b] ) | a colon; , colon; ... colon; [ colon; b colon; ] colon; ) colon
 parse_expr | script hook_records | {m(a = b, [c], {d}) {} | {; m no_type; ( no_type; a no_type params super; = no_type params super; b no_type params super; , no_type params super; [ no_type params super; c no_type params super; ] no_type params super; , no_type params super; { no_type params super; d no_type params super; } no_type params super; ) no_type params super; { no_type function super; } no_type function super
 parse_expr | async class_field hook_records | {m(a) {} b | { function async field; m no_type function async field; ( no_type function async field; a no_type params super; ) no_type params super; { no_type function super; } no_type function super; b no_type function async field
 parse_expr | generator hook_records | {m(a) {} b | { function generator; m no_type function generator; ( no_type function generator; a no_type params super; ) no_type params super; { no_type function super; } no_type function super; b no_type function generator
-parse_expr | script | a++ ? {m(b = c | a; ++ no_type; ?; { cond colon; m cond no_type; ( cond no_type; b cond no_type params super; = cond no_type params super; c cond no_type params super
+parse_expr | script | a++ ? {m(b = c | a; ++; ?; { cond colon; m cond no_type; ( cond no_type; b cond no_type params super; = cond no_type params super; c cond no_type params super
+parse_expr | generator class_field | a => b | a function generator field; => function generator field; b function field
+parse_expr | async | a => b c | a function async; => function async; b function; c function
+parse_expr | script | async a => b c | async; a; =>; b function async; c function async
+parse_expr | generator | (a = b) => c d | ( function generator; a function generator; = function generator; b function generator; ) function generator; => function generator; c function; d function
+parse_expr | async hook_records | (a) => { b | ( function async; a function async; ) function async; => function async; { function; b function
+parse_expr | script method hook_records | async () => { b | async super; ( super; ) super; => super; { function async super; b function async super
+parse_expr | script | a++ ? b => c : d | a; ++; ?; b cond colon; => cond colon; c cond colon function; : cond colon function; d cond
 ";
 
 impl NotingInput {

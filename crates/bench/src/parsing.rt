@@ -1,7 +1,10 @@
 // Calls of the parser.
+use crate::arrows::ARROWS;
 use crate::calls::CALLS;
 use crate::hooks::TestBodies;
 use crate::patterns::PATTERNS;
+use crate::refining::REFINING;
+use crate::reparsing::{params_of_items, reparse, reparse_invalid, reparse_other};
 use crate::settings::{setting_of, source_of};
 use crate::shown::{Shown, show, show_faults, show_label, show_refusal};
 use crate::slashes::slashes_of;
@@ -85,6 +88,7 @@ fn call_part<I: Tokens>(
         "parse_prop_name" => show(out, parser.parse_prop_name()),
         "make_object" => make_object(parser, out, None),
         "found_module_item" => parser.found_module_item().show(out),
+        "params_of_items" => params_of_items(parser, out, None),
         _ => return call_pattern(parser, out, call),
     };
     Ok(shown?)
@@ -176,6 +180,10 @@ fn call_at<I: Tokens>(
     match call.split_once(' ') {
         Some(("make_object", at)) => make_object(parser, out, span_of(at))?,
         Some(("make_pattern", said)) => make_pattern(parser, out, said)?,
+        Some(("reparse", kind)) => reparse(parser, out, kind)?,
+        Some(("reparse_other", said)) => reparse_other(parser, out, said)?,
+        Some(("reparse_invalid", kind)) => reparse_invalid(parser, out, kind)?,
+        Some(("params_of_items", at)) => params_of_items(parser, out, span_of(at))?,
         Some(("trailing_comma", at)) => {
             let start = at.parse().ok().ok_or("no position")?;
             parser.trailing_comma(BytePos(start)).show(out)?;
@@ -277,4 +285,14 @@ fn calls_of_the_parser(rt: HostRuntime) -> Result<(), Fail> {
 #[test]
 fn calls_on_patterns(rt: HostRuntime) -> Result<(), Fail> {
     hold(rt.alloc(), PATTERNS)
+}
+
+#[test]
+fn calls_on_arrow_functions(rt: HostRuntime) -> Result<(), Fail> {
+    hold(rt.alloc(), ARROWS)
+}
+
+#[test]
+fn calls_that_make_patterns(rt: HostRuntime) -> Result<(), Fail> {
+    hold(rt.alloc(), REFINING)
 }

@@ -22,7 +22,7 @@ show_expr | expr script | a && b ?? c | Bin(??, Bin(&&, a, b), c)\nNullishCoales
 show_expr | expr script | a ?? b && c | Bin(??, a, Bin(&&, b, c))\nNullishCoalescingWithLogicalOp 5..11\n | 1
 show_expr | expr script | a ?? b || c || d | Bin(||, Bin(||, Bin(??, a, b), c), d)\nNullishCoalescingWithLogicalOp 0..11\n | 1
 show_expr | expr script | (a b) | refused: Expected 3..4 ,\n | 2
-show_expr | expr script | async | refused: TS1109 0..5\n | 2
+show_expr | expr script | async | async\n | 0
 show_expr | expr script | 5 @@ \ | refused: Lex 5..6\n | 2
 show_expr | expr script | a + é | refused: Lex 4..5\n | 2
 show_expr | expr script | (null) in x | Bin(in, Paren(null), x)\n | 0
@@ -231,9 +231,9 @@ show_expr | expr script | (a).b[c] >>>= d | Assign(>>>=, Member(Member(Paren(a),
 show_expr | expr script | a?.b = c | Assign(=, OptChain(true, Member(a, .b)), c)\nTS2406 0..4\n | 1
 show_expr | expr script | a?.b += c | Assign(+=, OptChain(true, Member(a, .b)), c)\nNotSimpleAssign 0..4\n | 1
 show_expr | expr script | f() = 1 | refused: InvalidAssignTarget 0..3\nTS2406 0..3\n | 2
-show_expr | expr script | [a] = b | refused: InvalidAssignTarget 0..3\n | 2
-show_expr | expr script | {a} = b | refused: InvalidAssignTarget 0..3\n | 2
-show_expr | expr script | a => b | a\nunread\n | 0
+show_expr | expr script | [a] = b | Assign(=, Array[a], b)\n | 0
+show_expr | expr script | {a} = b | Assign(=, Object{a}, b)\n | 0
+show_expr | expr script | a => b | Arrow([a], b)\n | 0
 show_expr | expr script | eval = arguments++ | Assign(=, eval, Postfix(++, arguments))\n | 0
 show_expr | expr strict | eval = 1 | Assign(=, eval, 1)\nTS2406 0..4\n | 1
 show_expr | expr strict | arguments++ | Postfix(++, arguments)\nTS2406 0..9\n | 1
@@ -313,7 +313,66 @@ show_expr | expr script | {m(1) {}} | refused: Unexpected 3..4 yield, an identif
 show_expr | expr script | {*m(a = yield) {}} | refused: YieldParamInGen 8..13\n | 2
 show_expr | expr script | {async m(a = await b) {}} | Object{AsyncMethod(m, [Assign(a, Await(b))], <2>)}\nAwaitParamInAsync 13..18\n | 1
 show_expr | expr script | {m(a = new.target, b = super.c) {}} | Object{Method(m, [Assign(a, new.target), Assign(b, SuperProp(.c))], <2>)}\n | 0
-show_expr | expr generator | {m(yield) {}, n: yield a} | Object{Method(m, [yield], <2>), n: Yield(a)}\n | 0"#;
+show_expr | expr generator | {m(yield) {}, n: yield a} | Object{Method(m, [yield], <2>), n: Yield(a)}\n | 0
+show_expr | expr script | (a, [b], {c = 1}) => d | Arrow([a, Array[b], Object{c = 1}], d)\n | 0
+show_expr | expr script | (a.b) => c | Arrow([Invalid], c)\nInvalidPat 1..4\n | 1
+show_expr | expr script | ((a)) => b | Arrow([Invalid], b)\nInvalidPat 1..4\n | 1
+show_expr | expr script | ([a.b] = c) => 1 | Arrow([Assign(Array[Invalid], c)], 1)\nInvalidPat 2..5\n | 1
+show_expr | expr script | (a =>) | refused: TS1109 5..6\n | 2
+show_expr | expr script | (a.b =>) | refused: Expected 5..7 ,\n | 2
+show_expr | expr script | [a,,] = b | Assign(=, Array[a], b)\n | 0
+show_expr | expr script | (await) => x | Arrow([await], x)\n | 0
+show_expr | expr script | () => {} || a | Bin(||, Arrow([], <2>), a)\nTS1005 9..11\n | 1
+show_expr | expr script | async(a,) | Call(async, [a])\n | 0
+show_expr | expr script | async x => await x | AsyncArrow([x], Await(x))\n | 0
+show_expr | expr script | x\n=> y | x\nunread\n | 0
+show_expr | expr script | (x)\n=> y | refused: LineBreakBeforeArrow 0..3\n | 2
+show_expr | expr script | a || (b) => c | refused: ArrowNotAllowed 5..8\n | 2
+show_expr | expr script | [a.b, c = 1] = d | Assign(=, Array[Expr(Member(a, .b)), Assign(c, 1)], d)\n | 0
+show_expr | expr script | {a, ...b} = c | Assign(=, Object{a, Rest(b)}, c)\n | 0
+show_expr | expr script | (a, ...b) => c | Arrow([a, Rest(b)], c)\n | 0
+show_expr | expr script | async({a = 1}) | Call(async, [Object{a = 1}])\nAssignProperty 7..12\n | 1
+show_expr | expr script | async(...{a = 1}) | Call(async, [...Object{a = 1}])\nAssignProperty 10..15\n | 1
+show_expr | expr script | ({m() {}}) => 1 | refused: InvalidPat 2..8\n | 2
+show_expr | expr script | () => {} + a | Bin(+, Arrow([], <2>), a)\nTS1005 9..10\n | 1
+show_expr | expr script | (a) => {} * b + c | Bin(+, Bin(*, Arrow([a], <2>), b), c)\nTS1005 10..11\n | 1
+show_expr | expr script | () => {}\n|| a | Bin(||, Arrow([], <2>), a)\nTS1005 9..11\n | 1
+show_expr | expr script | async () => {} || a | Bin(||, AsyncArrow([], <2>), a)\nTS1005 15..17\n | 1
+show_expr | expr script | (() => {} || a) | Paren(Bin(||, Arrow([], <2>), a))\nTS1005 10..12\nTS1005 14..15\n | 1
+show_expr | expr script | () => {} || a ? b : c | Cond(Bin(||, Arrow([], <2>), a), b, c)\nTS1005 9..11\nTS1005 14..15\n | 1
+show_expr | expr script | () => {} || a = b | Bin(||, Arrow([], <2>), a)\nunread\nTS1005 9..11\nTS1005 14..15\n | 1
+show_expr | expr script | () => {} || a, b | Seq(Bin(||, Arrow([], <2>), a), b)\nTS1005 9..11\nTS1005 13..14\n | 1
+show_expr | expr script | () => {} || a; | Bin(||, Arrow([], <2>), a)\nunread\nTS1005 9..11\n | 1
+show_expr | expr script | () => {} || a } | Bin(||, Arrow([], <2>), a)\nunread\nTS1005 9..11\n | 1
+show_expr | expr script | () => {} || a\nb | Bin(||, Arrow([], <2>), a)\nunread\nTS1005 9..11\n | 1
+show_expr | expr script | () => {} || (b) => c | refused: ArrowNotAllowed 12..15\nTS1005 9..11\n | 2
+show_expr | expr script | () => {} ?? a || b | Bin(||, Bin(??, Arrow([], <2>), a), b)\nTS1005 9..11\nNullishCoalescingWithLogicalOp 0..18\nNullishCoalescingWithLogicalOp 0..18\nNullishCoalescingWithLogicalOp 0..18\n | 1
+show_expr | expr script | () => {} ** a | Bin(**, Arrow([], <2>), a)\nTS1005 9..11\n | 1
+show_expr | expr script | a => {} || b | Arrow([a], <2>)\nunread\n | 0
+show_expr | expr script | async a => {} || b | AsyncArrow([a], <2>)\nunread\n | 0
+show_expr | expr script | () => {} in a | Arrow([], <2>)\nunread\n | 0
+show_expr | expr script | () => {} instanceof a | Arrow([], <2>)\nunread\n | 0
+show_expr | expr script | () => {} = a | Arrow([], <2>)\nunread\n | 0
+show_expr | expr script | () => {} ? a : b | Arrow([], <2>)\nunread\n | 0
+show_expr | expr script | () => {}() | Arrow([], <2>)\nunread\n | 0
+show_expr | expr script | () => {}.a | Arrow([], <2>)\nunread\n | 0
+show_expr | expr script | () => {}, a => {} | Seq(Arrow([], <2>), Arrow([a], <2>))\n | 0
+show_expr | expr script | a => { return {b} } | Arrow([a], <6>)\n | 0
+show_expr | expr script | a => { | refused: Eof 6..6\n | 2
+show_expr | expr script | (a = function () {}, b = class {}) => {} | Arrow([Assign(a, Fn<5>), Assign(b, Class<3>)], <2>)\n | 0
+show_expr | expr script | ({get a() {}}) => 1 | refused: InvalidPat 2..12\n | 2
+show_expr | expr script | ({set a(b) {}}) => 1 | refused: InvalidPat 2..13\n | 2
+show_expr | expr script | [{m() {}}] = a | refused: InvalidPat 2..8\n | 2
+show_expr | expr script | {a: {m() {}}} = b | refused: InvalidPat 5..11\n | 2
+show_expr | expr module | eval => async arguments => a | Arrow([eval], AsyncArrow([arguments], a))\nEvalAndArgumentsInStrict 0..4\nEvalAndArgumentsInStrict 14..23\n | 1
+show_expr | expr strict | (eval, [arguments]) => yield | refused: TS1109 23..28\n | 2
+show_expr | expr strict | (eval, [arguments]) => a | Arrow([eval, Array[arguments]], a)\n | 0
+show_expr | expr generator | (a = yield) => yield | Arrow([Assign(a, Yield(-))], yield)\n | 0
+show_expr | expr async | (a = await b) => c | Arrow([Assign(a, Await(b))], c)\n | 0
+show_expr | expr async | a => await | Arrow([a], await)\n | 0
+show_expr | expr async | async a => await b | AsyncArrow([a], Await(b))\n | 0
+show_expr | pat script | [a = b => c, {d = (e) => {}}] | Array[Assign(a, Arrow([b], c)), Object{d = Arrow([e], <2>)}]\n | 0
+show_expr | pat script | a => b | a\nunread\n | 0"#;
 
 /// Gives some bytes, and then ends, or fails.
 #[derive(Drop)]

@@ -59,6 +59,8 @@ fn set(context: &mut Context, word: &str) -> Option<()> {
         "class_field" => context.in_class_field = true,
         "colon_expected" => context.will_expect_colon_for_cond = true,
         "without_in" => context.include_in_expr = false,
+        "for_init" => context.expr_ctx.for_loop_init = true,
+        "for_await_init" => context.expr_ctx.for_await_loop_init = true,
         "method" => context.allow_direct_super = true,
         "ignore_error" => context.ignore_error = true,
         _ => {

@@ -16,7 +16,7 @@ use swc_nodes::node::{ExprId, Node, PatId};
 use swc_nodes::nodes::Nodes;
 use swc_print::print::PrintNodes;
 use swc_trees::letting_go::{
-    let_go_args, let_go_exprs, let_go_params, let_go_pat_props, let_go_prop,
+    let_go_args, let_go_exprs, let_go_params, let_go_pat_props, let_go_pats, let_go_prop,
 };
 use swc_trees::putting::{put_expr, put_pat};
 
@@ -171,6 +171,26 @@ impl Shown for Vec<Param<PatOf<TestBodies>>> {
             before = ", ";
         }
         let_go_params(self);
+        shown
+    }
+}
+
+/// Each pattern, and its place.
+impl Shown for Vec<PatOf<TestBodies>> {
+    fn show(mut self, out: &mut String) -> Result<(), AllocError> {
+        let mut shown = match self.len() {
+            0 => out.push_str("none"),
+            _ => Ok(()),
+        };
+        self.reverse();
+        let mut before = "";
+        while let Some(pat) = self.pop() {
+            let begun = out.push_str(before);
+            let written = pat.show(out);
+            shown = shown.and(begun).and(written);
+            before = ", ";
+        }
+        let_go_pats(self);
         shown
     }
 }

@@ -1,42 +1,10 @@
 // The lists of tokens that the standard's productions derive, with their trees.
 use std::alloc::{AllocError, Global};
 
-/// The productions of ECMA-262, 13.1 to 13.16, 14.3.3, 15.1, and 15.4 to 15.8, a line each: a symbol, what it is made
-/// of, and its tree, in which `_` stands for the tree of each symbol in turn, and `$` for the number of tokens of what
-/// this production makes. One without a tree has no `->`. Behind `unless` stand the modes in which there is no such
-/// production. Behind `within` stands how many more tokens a whole list with it has at least: where that makes it
-/// longer than any that is asked for, it isn't derived. A production that makes a symbol of another alone stands below
-/// those of the other.
-///
-/// `Whole` is an expression, where `in` is an operator but in the mode `without-in`. The symbols
-/// `..NoIn` stand for those without it. `# Name` is an operand, which the standard has left of `in`
-/// alone. So far `async` is no operand by itself.
-///
-/// `Pattern` is a binding pattern (14.3.3), or an identifier that is bound, and `Parameters` are formal parameters
-/// (15.1) and the `)` behind them. As docs/DIFFERENCES.md says, a name of an object pattern that stands alone may be
-/// `eval`, `arguments` or `static` anywhere, one with an initialiser is any word, and a comma may stand behind a
-/// setter's parameter. The parameters of methods are those of the mode: so no list has `yield`, `await` or `arguments`
-/// beside methods where that would matter.
-///
-/// `Target` is what `++`, `--` and an assignment may write to, so far no array and no object: `Simple`, which is a
-/// left-hand side, or `Named`, the name `await`. Nothing but `new` makes a link's operand of that name, in `Begun`.
-/// That an object with `a = 1` directly in parentheses is no expression isn't said here: no list has `=` and braces
-/// beside parentheses.
-///
-/// Two marks, which are no tokens, look at what follows: behind `@` stands the end, `)`, `]`, `,`, `}` or a line
-/// break that no `*` follows, and behind `;` no line break.
-///
-/// A token that begins with `\r` has a line break before it, and is a token apart. Some productions have it, those in
-/// which it may stand in the lists of the tests, and no others: so no list has `\ra` and a `.`, for one.
-///
-/// The texts of templates are empty, and what stands between their expressions is one token; so is a template without
-/// an expression. No list has braces, functions or classes beside them: what ends a template ends with a backquote,
-/// and behind a brace that one would begin another template.
-///
-/// Blocks, functions and classes are as the hook reads them, which looks at brackets alone: within a block at braces,
-/// and before the block of a function or a class at all of them, where any that closes may close any that opens. `Any`
-/// is each token that is no bracket.
-const PRODUCTIONS: &str = "\
+/// Productions as `PRODUCTIONS` has them, of blocks, functions and classes, which read as the hook reads them: it looks
+/// at brackets alone, within a block at braces, and before the block of a function or a class at all of them, where any
+/// that closes may close any that opens. `Any` is each token that is no bracket. These are the same in all code.
+const BLOCKS: &str = "\
 Block = Opened } -> <$>
 Loose = Any
 Loose = (
@@ -64,8 +32,56 @@ Head = async function -> Fn within 2
 Head = class -> Class within 2
 Head = Head Any -> _ within 2
 Head = Head Group -> _ within 2
+";
+
+/// The productions of ECMA-262, 13.1 to 13.16, 14.3.3, 15.1, and 15.3 to 15.9, a line each: a symbol, what it is made
+/// of, and its tree, in which `_` stands for the tree of each symbol in turn, and `$` for the number of tokens of what
+/// this production makes. One without a tree has no `->`. Behind `unless` stands what code may not have with such a
+/// production, and behind `only` what it has to have (`FEATURES`). Behind `within` stands how many more tokens a whole
+/// list with it has at least: where that makes it longer than any that is asked for, it isn't derived. What is `bare`
+/// is no object with a property `name = value` by itself. A production that makes a symbol of another alone stands
+/// below those of the other.
+///
+/// `Whole` is an expression, where `in` is an operator but in the mode `without-in`. The symbols
+/// `..NoIn` stand for those without it. `# Name` is an operand, which the standard has left of `in`
+/// alone. `ForHead` is an expression in the head of a `for` (14.7.5), and the `of` or `in` behind it.
+///
+/// `Pattern` is a binding pattern (14.3.3), or an identifier that is bound, and `Parameters` are formal parameters
+/// (15.1) and the `)` behind them. As docs/DIFFERENCES.md says, a name of an object pattern that stands alone may be
+/// `eval`, `arguments` or `static` anywhere, one with an initialiser is any word, and a comma may stand behind a
+/// setter's parameter. The parameters of methods are those of the mode: so no list has `yield`, `await` or `arguments`
+/// beside methods where that would matter.
+///
+/// `Target` is what `++`, `--` and an assignment may write to by itself: `Simple`, which is a left-hand side, or
+/// `Named`, the name `await`. `Places` is an array or an object that is written to (13.15.5), `Place` what may stand in
+/// one: behind the dots of an object any may. Nothing but `new` makes a link's operand of the name `await`, in `Begun`.
+///
+/// `Arrow` is an arrow function (15.3 and 15.9). `Lone` and `AsyncLone` are parameters without parentheses, `Heads`
+/// those in parentheses: what they are made of are operands as well, so the names are those of references, and `await`
+/// is one where an operand ends behind it. In modules the names of `Heads` aren't `eval` and `arguments`; no list has
+/// these beside braces in a module, nor beside `=` and brackets in strict code. A symbol with `~plain` is that of the
+/// body of an arrow function that isn't async, with `~async` that of one that is: there is a production of each for
+/// these.
+///
+/// A call of `async` with which an assignment expression begins has no object with a property `name = value` by itself:
+/// so no list has `=`, braces and operators beside `async`, nor `new`.
+///
+/// Marks, which are no tokens, look at what follows: behind `@` stands the end, `)`, `]`, `,`, `}` or a line
+/// break that no `*` follows, behind `;` no line break, behind `no-brace` no `{`, behind `no-paren` no `(` on the same
+/// line, and behind `no-paren-of` neither that nor `of`.
+///
+/// A token that begins with `\r` has a line break before it, and is a token apart. Some productions have it, those in
+/// which it may stand in the lists of the tests, and no others: so no list has `\ra` and a `.`, for one.
+///
+/// The texts of templates are empty, and what stands between their expressions is one token; so is a template without
+/// an expression. No list has braces, functions or classes beside them: what ends a template ends with a backquote,
+/// and behind a brace that one would begin another template.
+const PRODUCTIONS: &str = "\
 Reference = a -> a
 Reference = \ra -> a
+Reference = of -> of
+Reference = async no-paren-of -> async unless for-await
+Reference = async no-paren -> async only for-await
 Reference = get -> get
 Reference = set -> set
 Reference = target -> target
@@ -76,9 +92,11 @@ Reference = yield -> yield unless module strict generator
 Reference = implements -> implements unless module strict
 Reference = static -> static unless module
 Name = a -> a
+Name = \ra -> a
 Name = eval -> eval
 Name = await -> await
 Name = async -> async
+Name = of -> of
 Name = get -> get
 Name = set -> set
 Name = target -> target
@@ -118,7 +136,8 @@ Object = { Properties , } -> Object{_}
 Other = Array -> _
 Other = Object -> _
 Other = Head Block -> _<$>
-Other = Round Expression ) -> Paren(_)
+Other = Round Bare ) -> Paren(_)
+Other = Round Bares ) -> Paren(Seq(_))
 Other = # Name -> #_
 Template = `` -> Tpl(``)
 Template = `${ Substitutions }` -> Tpl(``, _, ``)
@@ -137,14 +156,15 @@ Link = Field -> _
 Link = Member Template -> Tagged(_, _)
 Link = new Member Arguments -> New(_, _)
 Link = new Begun Arguments -> New(_, _)
-Link = new . target -> new.target unless script module strict without-in static-block class-field
-Link = import . meta -> import.meta unless script strict generator async without-in static-block class-field
+Link = new . target -> new.target only target
+Link = import . meta -> import.meta only module
 Imported = ( ) -> []
 Imported = ( List ) -> [_]
 Call = super Arguments -> Call(super, _)
 Call = import Imported -> Call(import, _)
 Call = import . source Imported -> Call(import.source, _)
 Call = Member Arguments -> Call(_, _)
+Call = async Called -> Call(async, _)
 Call = Call Arguments -> Call(_, _)
 Item = Call [ Expression ] -> Member(_, [_])
 Item = Call . Name -> Member(_, ._)
@@ -206,8 +226,8 @@ Prefixed = delete Written -> Unary(delete, _)
 Prefixed = delete Named -> Unary(delete, _)
 Prefixed = delete Reference -> Unary(delete, _) unless module
 Prefixed = delete Eval -> Unary(delete, _) unless module
-Prefixed = await ; Unary -> Await(_) unless generator async
-Prefixed = await Unary -> Await(_) unless script module strict generator without-in static-block class-field
+Prefixed = await ; Unary -> Await(_) unless function
+Prefixed = await Unary -> Await(_) only async
 Unary = Update -> _
 Unary = Prefixed -> _
 Power = Unary -> _
@@ -253,9 +273,119 @@ Coalesce = CoalesceHead ?? BitOr -> Bin(??, _, _)
 CoalesceHead = Coalesce -> _
 Short = Or -> _
 Short = Coalesce -> _
-Assign = yield -> Yield(-) unless script module strict async without-in static-block class-field
-Assign = yield ; Assign -> Yield(_) unless script module strict async without-in static-block class-field
-Assign = yield * Assign -> YieldStar(_) unless script module strict async without-in static-block class-field
+Open = a -> a
+Open = \ra -> a
+Open = eval -> eval
+Open = arguments -> arguments
+Open = static -> static
+Open = await -> await unless module async static-block
+Open = async -> async
+Open = of -> of
+Open = get -> get
+Open = set -> set
+Open = target -> target
+Open = let -> let unless module strict
+Open = yield -> yield unless module strict generator
+Open = implements -> implements unless module strict
+Places = [ ] -> Array[]
+Places = [ Commas ] -> Array[]
+Places = [ PlaceRest ] -> Array[_]
+Places = [ Elision PlaceRest ] -> Array[_, _]
+Places = [ PlaceElements ] -> Array[_]
+Places = [ PlaceElements , ] -> Array[_]
+Places = [ PlaceElements , Commas ] -> Array[_]
+Places = [ PlaceElements , PlaceRest ] -> Array[_, _]
+Places = [ PlaceElements , Elision PlaceRest ] -> Array[_, _, _]
+Places = { } -> Object{}
+Places = { PlaceRest } -> Object{_}
+Places = { PlaceProperties } -> Object{_}
+Places = { PlaceProperties , } -> Object{_}
+Places = { PlaceProperties , PlaceRest } -> Object{_, _}
+Place = Reference -> _
+Place = Eval -> _ unless strict
+Place = Named -> _
+Place = Field -> Expr(_)
+Place = Item -> Expr(_)
+Place = Round Target ) -> Expr(Paren(_))
+Place = Places -> _
+PlaceElement = Place -> _
+PlaceElement = Place = Assign -> Assign(_, _)
+PlaceRest = ... Place -> Rest(_)
+PlaceElements = PlaceElement -> _
+PlaceElements = Elision PlaceElement -> _, _
+PlaceElements = PlaceElements , PlaceElement -> _, _
+PlaceElements = PlaceElements , Elision PlaceElement -> _, _, _
+PlaceProperty = Open -> _
+PlaceProperty = Open = Assign -> _ = _
+PlaceProperty = Key : PlaceElement -> _: _
+PlaceProperties = PlaceProperty -> _
+PlaceProperties = PlaceProperties , PlaceProperty -> _, _
+CoverArray = [ ] -> Array[]
+CoverArray = [ Commas ] -> Array[]
+CoverArray = [ CoverRest ] -> Array[_]
+CoverArray = [ Elision CoverRest ] -> Array[_, _]
+CoverArray = [ CoverElements ] -> Array[_]
+CoverArray = [ CoverElements , ] -> Array[_]
+CoverArray = [ CoverElements , Commas ] -> Array[_]
+CoverArray = [ CoverElements , CoverRest ] -> Array[_, _]
+CoverArray = [ CoverElements , Elision CoverRest ] -> Array[_, _, _]
+CoverObject = { } -> Object{}
+CoverObject = { ... Cover } -> Object{Rest(_)}
+CoverObject = { CoverProperties } -> Object{_}
+CoverObject = { CoverProperties , } -> Object{_}
+CoverObject = { CoverProperties , ... Cover } -> Object{_, Rest(_)}
+Cover = Reference -> _
+Cover = Eval -> _ unless module
+Cover = Named -> _
+Covered = Cover -> _
+Covered = CoverArray -> _
+Covered = CoverObject -> _
+CoverElement = Covered -> _
+CoverElement = Covered = Assign -> Assign(_, _)
+CoverRest = ... Covered -> Rest(_)
+CoverElements = CoverElement -> _
+CoverElements = Elision CoverElement -> _, _
+CoverElements = CoverElements , CoverElement -> _, _
+CoverElements = CoverElements , Elision CoverElement -> _, _, _
+CoverProperty = Open -> _
+CoverProperty = Open = Assign -> _ = _
+CoverProperty = Key : CoverElement -> _: _
+CoverProperties = CoverProperty -> _
+CoverProperties = CoverProperties , CoverProperty -> _, _
+Alone = a -> a
+Alone = of -> of
+Alone = get -> get
+Alone = set -> set
+Alone = eval -> eval unless module
+Alone = arguments -> arguments unless module class-field
+Alone = static -> static unless module
+Alone = yield -> yield unless strict generator
+Alone = implements -> implements unless strict
+Lone = Alone -> _
+Lone = async -> async
+AsyncLone = Lone -> _
+AsyncLone = let -> let unless strict
+AsyncLone = await -> await unless module async static-block
+CoverList = CoverElement -> _
+CoverList = CoverList , CoverElement -> _, _
+Heads = Round ) -> []
+Heads = Round CoverList ) -> [_]
+Heads = Round CoverList , ) -> [_]
+Heads = Round CoverRest ) -> [_]
+Heads = Round CoverList , CoverRest ) -> [_, _]
+ArrowHead = Lone -> [_]
+ArrowHead = \ra -> [a]
+ArrowHead = Heads -> _
+AsyncHead = async AsyncLone => -> [_]
+AsyncHead = async AsyncLone \r=> -> [_]
+AsyncHead = async ; Heads => -> _
+Arrow = ArrowHead => Body -> Arrow(_, _)
+Arrow = AsyncHead AsyncBody -> AsyncArrow(_, _)
+ArrowNoIn = ArrowHead => BodyNoIn -> Arrow(_, _)
+ArrowNoIn = AsyncHead AsyncBodyNoIn -> AsyncArrow(_, _)
+Assign = yield -> Yield(-) only generator
+Assign = yield ; Assign -> Yield(_) only generator
+Assign = yield * Assign -> YieldStar(_) only generator
 Assign = Short -> _
 Assign = Short ? Assign : Assign -> Cond(_, _, _)
 Assign = Short \r? Assign : Assign -> Cond(_, _, _)
@@ -263,6 +393,19 @@ Assign = Short ? Assign \r: Assign -> Cond(_, _, _)
 Assign = Target = Assign -> Assign(=, _, _)
 Assign = Target \r= Assign -> Assign(=, _, _)
 Assign = Target += Assign -> Assign(+=, _, _)
+Assign = Places = Assign -> Assign(=, _, _)
+Assign = Places \r= Assign -> Assign(=, _, _)
+Assign = Arrow -> _
+Bare = Assign -> _ bare
+Bares = Bare , Bare -> _, _
+Bares = Bares , Bare -> _, _
+Called = ( ) -> []
+Called = ( Items ) -> [_]
+Called = ( Items , ) -> [_]
+Items = Bare -> _
+Items = ... Bare -> ..._
+Items = Items , Bare -> _, _
+Items = Items , ... Bare -> _, ..._
 Several = Assign , Assign -> _, _
 Several = Several , Assign -> _, _
 Expression = Assign -> _
@@ -287,20 +430,9 @@ List = List , Spread -> _, _
 Key = Name -> _
 Key = 1 -> 1
 Key = [ Assign ] -> [_]
-Open = a -> a
-Open = eval -> eval
-Open = arguments -> arguments
-Open = static -> static
-Open = await -> await unless module async static-block
-Open = async -> async
-Open = get -> get
-Open = set -> set
-Open = target -> target
-Open = let -> let unless module strict
-Open = yield -> yield unless module strict generator
-Open = implements -> implements unless module strict
 Binding = a -> a
 Binding = async -> async
+Binding = of -> of
 Binding = get -> get
 Binding = set -> set
 Binding = eval -> eval unless module
@@ -397,25 +529,49 @@ AssignNoIn = ShortNoIn -> _
 AssignNoIn = ShortNoIn ? Assign : AssignNoIn -> Cond(_, _, _)
 AssignNoIn = Target = AssignNoIn -> Assign(=, _, _)
 AssignNoIn = Target += AssignNoIn -> Assign(+=, _, _)
+AssignNoIn = Places = AssignNoIn -> Assign(=, _, _)
+AssignNoIn = ArrowNoIn -> _
 SeveralNoIn = AssignNoIn , AssignNoIn -> _, _
 SeveralNoIn = SeveralNoIn , AssignNoIn -> _, _
 ExpressionNoIn = AssignNoIn -> _
 ExpressionNoIn = SeveralNoIn -> Seq(_)
+Body = Block -> _
+Body = no-brace Assign~plain -> _
+AsyncBody = Block -> _
+AsyncBody = no-brace Assign~async -> _
+BodyNoIn = Block -> _
+BodyNoIn = no-brace AssignNoIn~plain -> _
+AsyncBodyNoIn = Block -> _
+AsyncBodyNoIn = no-brace AssignNoIn~async -> _
 Whole = Expression -> _ unless without-in
-Whole = ExpressionNoIn -> _ unless script module strict generator async static-block class-field
+Whole = ExpressionNoIn -> _ only without-in
+ForHead = ExpressionNoIn of -> _
+ForHead = ExpressionNoIn in -> _
 ";
 
 /// The tokens that aren't `Any`.
 const BRACKETS: &str = "( ) [ ] { }";
 
-/// The marks.
-const MARKS: &str = "@ ;";
+/// The marks, and how each is written in a reading.
+const MARKS: [(&str, &str); 5] = [
+    ("@", "@"),
+    (";", ";"),
+    ("no-brace", "'"),
+    ("no-paren", "\""),
+    ("no-paren-of", "_"),
+];
 
-/// The mark behind which an operand has to end.
-const ENDS: &str = "@";
+/// The symbols that are the same in all code.
+const SHARED: &str = "Any Block Head";
 
-/// The mark behind which no line break may stand.
-const SAME_LINE: &str = ";";
+/// What each mode has, where that is more than its name.
+const FEATURES: [(&str, &str); 5] = [
+    ("module", "module strict"),
+    ("generator", "generator function target"),
+    ("async", "async function target"),
+    ("for-of", "for-of without-in"),
+    ("for-await", "for-await without-in"),
+];
 
 /// A list, or the front of one, and its tree, in which `_` stands for what isn't there yet. A token
 /// by itself has no tree.
@@ -448,13 +604,15 @@ impl Reading {
                 return false;
             }
         }
-        !tokens.contains(";\r")
+        !is_barred(tokens)
     }
 
     /// The list without marks, and its tree.
     fn line(&self, alloc: Global) -> Result<String, AllocError> {
-        let tokens = self.tokens.replace(alloc, '@', "")?;
-        let tokens = tokens.replace(alloc, ';', "")?;
+        let mut tokens = self.tokens.clone()?;
+        for mark in ['@', ';', '\'', '"', '_'] {
+            tokens = tokens.replace(alloc, mark, "")?;
+        }
         Ok(format!(in alloc; "{tokens}= {}", self.tree)?)
     }
 }
@@ -463,6 +621,32 @@ impl Reading {
 fn ends(behind: &str) -> bool {
     let next = behind.chars().next().unwrap_or(')');
     matches!(next, ')' | ']' | ',' | '}' | '\r') && !behind.starts_with("\r* ")
+}
+
+/// Whether behind a mark, but for `@`, something stands that may not.
+fn is_barred(tokens: &str) -> bool {
+    for barred in [";\r", "'{", "\"(", "_(", "_of "] {
+        if tokens.contains(barred) {
+            return true;
+        }
+    }
+    false
+}
+
+/// Whether the tree is an object with a property `name = value`.
+fn is_covered(tree: &str) -> bool {
+    let mut depth: usize = 0;
+    let mut has_value = false;
+    for (at, letter) in tree.chars().enumerate() {
+        match letter {
+            '(' | '[' | '{' => depth = depth.saturating_add(1),
+            ')' | ']' | '}' => depth = depth.saturating_sub(1),
+            '=' if depth == 1 => has_value = true,
+            _ if depth == 0 && at >= "Object".len() => return false,
+            _ => {}
+        }
+    }
+    has_value && tree.starts_with("Object{")
 }
 
 /// Readings of a symbol that have the same number of tokens.
@@ -520,9 +704,7 @@ pub(crate) fn spelled(alloc: Global, token: &str) -> Result<String, AllocError> 
 
 /// What each of the tokens is by itself, and each mark, which is no token.
 pub(crate) fn tokens_derived(alloc: Global, tokens: &str) -> Result<Vec<Derived>, AllocError> {
-    let mut found = Vec::new(alloc);
-    found.push(Derived::of_one(alloc, ENDS, 0, ENDS, "")?)?;
-    found.push(Derived::of_one(alloc, SAME_LINE, 0, SAME_LINE, "")?)?;
+    let mut found = marks_derived(alloc)?;
     for token in tokens.split(' ') {
         let text = spelled(alloc, token)?;
         found.push(Derived::of_one(alloc, token, 1, text.as_str(), "")?)?;
@@ -531,6 +713,25 @@ pub(crate) fn tokens_derived(alloc: Global, tokens: &str) -> Result<Vec<Derived>
         }
     }
     Ok(found)
+}
+
+/// The readings of the marks.
+fn marks_derived(alloc: Global) -> Result<Vec<Derived>, AllocError> {
+    let mut found = Vec::new(alloc);
+    for (mark, written) in MARKS {
+        found.push(Derived::of_one(alloc, mark, 0, written, "")?)?;
+    }
+    Ok(found)
+}
+
+/// Whether the item of a production is a mark.
+fn is_mark(item: &str) -> bool {
+    for (mark, _) in MARKS {
+        if mark == item {
+            return true;
+        }
+    }
+    false
 }
 
 /// Which lists are asked for: those that a symbol derives in a mode, the longest of which has as many tokens.
@@ -547,35 +748,131 @@ pub(crate) struct Production {
     symbol: String,
     items: String,
     tree: String,
-    lacking: String,
     around: usize,
+    bare: bool,
 }
 
-impl Production {
-    fn of_line(alloc: Global, line: &str) -> Result<Production, AllocError> {
-        let (line, around) = line.split_once(" within ").unwrap_or((line, ""));
-        let (line, lacking) = line.split_once(" unless ").unwrap_or((line, ""));
-        let (symbol, form) = line.split_once(" = ").unwrap_or((line, ""));
-        let (items, tree) = form.split_once(" -> ").unwrap_or((form, ""));
-        Ok(Production {
-            symbol: String::from_str(alloc, symbol)?,
-            items: String::from_str(alloc, items)?,
-            tree: String::from_str(alloc, tree)?,
-            lacking: String::from_str(alloc, lacking)?,
-            around: around.parse().unwrap_or(0),
-        })
-    }
+/// A line of the productions, as it is written.
+#[derive(Clone, Copy)]
+struct Line<'a> {
+    symbol: &'a str,
+    items: &'a str,
+    tree: &'a str,
+    lacking: &'a str,
+    needed: &'a str,
+    around: &'a str,
+    bare: bool,
+}
 
-    /// Whether there is such a production in the mode, made of these tokens and of symbols.
-    fn is_made_of(&self, tokens: &str, mode: &str) -> bool {
-        for item in self.items.as_str().split(' ') {
-            if !is_symbol(item) && !MARKS.contains(item) && !is_among(tokens, item) {
+fn line_of(line: &str) -> Line<'_> {
+    let (line, around) = line.split_once(" within ").unwrap_or((line, ""));
+    let (line, needed) = line.split_once(" only ").unwrap_or((line, ""));
+    let (line, lacking) = line.split_once(" unless ").unwrap_or((line, ""));
+    let bare = line.ends_with(" bare");
+    let (line, _) = line.split_once(" bare").unwrap_or((line, ""));
+    let (symbol, form) = line.split_once(" = ").unwrap_or((line, ""));
+    let (items, tree) = form.split_once(" -> ").unwrap_or((form, ""));
+    Line {
+        symbol,
+        items,
+        tree,
+        lacking,
+        needed,
+        around,
+        bare,
+    }
+}
+
+impl Line<'_> {
+    /// Whether there is such a production in the code of the mode, made of these tokens and of symbols.
+    fn is_made_of(&self, tokens: &str, mode: &str, code: &str) -> bool {
+        for item in self.items.split(' ') {
+            if !is_symbol(item) && !is_mark(item) && !is_among(tokens, item) {
                 return false;
             }
         }
-        !self.lacking.as_str().contains(mode)
+        let needed = self.needed;
+        (needed.is_empty() || has_feature(mode, code, needed)) && !self.is_lacking(mode, code)
     }
 
+    /// Whether the code of the mode has what it may not have with this production.
+    fn is_lacking(&self, mode: &str, code: &str) -> bool {
+        for feature in self.lacking.split(' ') {
+            if has_feature(mode, code, feature) {
+                return true;
+            }
+        }
+        false
+    }
+
+    /// The production, of the symbols of such code.
+    fn in_code(&self, alloc: Global, code: &str) -> Result<Production, AllocError> {
+        Ok(Production {
+            symbol: renamed(alloc, self.symbol, code)?,
+            items: all_renamed(alloc, self.items, code)?,
+            tree: String::from_str(alloc, self.tree)?,
+            around: self.around.parse().unwrap_or(0),
+            bare: self.bare,
+        })
+    }
+}
+
+/// Whether code of the mode has the feature: code `outside` of arrow functions, the body of one, `plain` or `async`, or
+/// code `alone`, where no list tells these apart.
+fn has_feature(mode: &str, code: &str, feature: &str) -> bool {
+    let in_body = code == "plain" || code == "async";
+    match feature {
+        "function" if in_body => true,
+        "generator" if in_body => false,
+        "async" if in_body => code == "async",
+        _ => is_among(features_of(mode), feature),
+    }
+}
+
+/// What the mode has.
+fn features_of(mode: &str) -> &str {
+    for (name, features) in FEATURES {
+        if name == mode {
+            return features;
+        }
+    }
+    mode
+}
+
+/// Which code lists of these tokens have: their symbols aren't the same where `yield` or `await` is among them.
+fn codes_of(tokens: &str) -> &'static str {
+    if is_among(tokens, "=>") && (is_among(tokens, "yield") || is_among(tokens, "await")) {
+        "outside plain async"
+    } else {
+        "alone"
+    }
+}
+
+/// The items of a production, of the symbols of such code.
+fn all_renamed(alloc: Global, items: &str, code: &str) -> Result<String, AllocError> {
+    let mut all = String::new(alloc);
+    for (at, item) in items.split(' ').enumerate() {
+        if at > 0 {
+            all.push_str(" ")?;
+        }
+        all.push_str(renamed(alloc, item, code)?.as_str())?;
+    }
+    Ok(all)
+}
+
+/// The item, or the symbol of such code; behind a `~` stands of which, where it is that of another.
+fn renamed(alloc: Global, item: &str, code: &str) -> Result<String, AllocError> {
+    if !is_symbol(item) || is_among(SHARED, item) {
+        return String::from_str(alloc, item);
+    }
+    let (symbol, own) = item.split_once('~').unwrap_or((item, code));
+    if code == "alone" || own == "outside" {
+        return String::from_str(alloc, symbol);
+    }
+    format!(in alloc; "{symbol}~{own}")
+}
+
+impl Production {
     /// Whether a list of the length that it makes may stand in one that is asked for.
     fn fits(&self, length: usize, asked: &Asked) -> bool {
         length.saturating_add(self.around) <= asked.longest
@@ -656,6 +953,17 @@ fn of_length(
     Ok(readings)
 }
 
+/// The readings, without those that are no `bare` ones, where they have to be.
+fn fitting(alloc: Global, readings: Vec<Reading>, bare: bool) -> Result<Vec<Reading>, AllocError> {
+    let mut fitting = Vec::new(alloc);
+    for reading in readings {
+        if !bare || !is_covered(reading.tree.as_str()) {
+            fitting.push(reading)?;
+        }
+    }
+    Ok(fitting)
+}
+
 /// Adds the lists of this length that a production derives.
 fn add_derived(
     alloc: Global,
@@ -663,7 +971,8 @@ fn add_derived(
     production: &Production,
     length: usize,
 ) -> Result<(), AllocError> {
-    let readings = of_length(alloc, made(alloc, found, production, length)?, length)?;
+    let all = of_length(alloc, made(alloc, found, production, length)?, length)?;
+    let readings = fitting(alloc, all, production.bare)?;
     if !readings.is_empty() {
         found.push(Derived {
             symbol: production.symbol.clone()?,
@@ -695,13 +1004,31 @@ pub(crate) fn productions(
 /// The productions of a mode that are made of these tokens and of symbols, in their order.
 fn made_of(alloc: Global, tokens: &str, mode: &str) -> Result<Vec<Production>, AllocError> {
     let mut all = Vec::new(alloc);
+    for line in BLOCKS.lines() {
+        add_in(alloc, &mut all, line, "alone", tokens, mode)?;
+    }
     for line in PRODUCTIONS.lines() {
-        let production = Production::of_line(alloc, line)?;
-        if production.is_made_of(tokens, mode) {
-            all.push(production)?;
+        for code in codes_of(tokens).split(' ') {
+            add_in(alloc, &mut all, line, code, tokens, mode)?;
         }
     }
     Ok(all)
+}
+
+/// Adds the production of a line for such code, where there is one.
+fn add_in(
+    alloc: Global,
+    all: &mut Vec<Production>,
+    line: &str,
+    code: &str,
+    tokens: &str,
+    mode: &str,
+) -> Result<(), AllocError> {
+    let line = line_of(line);
+    if line.is_made_of(tokens, mode, code) {
+        all.push(line.in_code(alloc, code)?)?;
+    }
+    Ok(())
 }
 
 /// The symbol, and those that it is made of by these productions.

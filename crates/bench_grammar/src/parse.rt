@@ -2,7 +2,7 @@
 use std::alloc::{AllocError, Global};
 use swc_ast::function::Param;
 use swc_bodies::token_bodies::TokenBodies;
-use swc_context::context::{Context, EsVersion, Syntax};
+use swc_context::context::{Context, EsVersion, ExpressionContext, Syntax};
 use swc_context::error::PResult;
 use swc_ecma_parser::parser::{Parser, PatOf};
 use swc_input::listed::TokensInput;
@@ -20,11 +20,16 @@ pub(crate) fn context_of(mode: &str) -> Context {
     let in_generator = mode.contains("generator");
     let in_async = mode.contains("async");
     let module = mode.contains("module");
+    let for_loop_init = mode.contains("for-");
     Context {
         module,
         can_be_module: module,
         strict: module || mode.contains("strict"),
-        include_in_expr: !mode.contains("without-in"),
+        include_in_expr: !for_loop_init && !mode.contains("without-in"),
+        expr_ctx: ExpressionContext {
+            for_loop_init,
+            for_await_loop_init: mode.contains("for-await"),
+        },
         in_async,
         in_generator,
         in_function: in_async || in_generator,
@@ -53,7 +58,8 @@ pub(crate) fn parser_over(
 /// What the parser makes of a text.
 #[derive(Drop)]
 pub(crate) struct Found {
-    /// The tree, where all of the text is read, but for the `)` behind parameters, with no fault recorded.
+    /// The tree, where all of the text is read, but for the `)` behind parameters, and `of` or `in` behind the head of
+    /// a `for`, with no fault recorded.
     pub(crate) tree: Option<String>,
     /// The parser asked for each token of the text. Where it didn't, it does the same with each longer text that
     /// begins with this one.
@@ -72,6 +78,7 @@ pub(crate) fn found_in(
     let read = match symbol {
         "Pattern" => pattern_tree(&mut parser),
         "Parameters" => parameters_tree(alloc, &mut parser),
+        "ForHead" => head_tree(&mut parser),
         _ => whole_tree(&mut parser),
     };
     let tree = read.unwrap_or(None);
@@ -88,6 +95,16 @@ fn whole_tree(parser: &mut ListedParser) -> PResult<Option<String>> {
     let id = parser.parse_expr_id()?;
     let tree = parser.nodes().print_expr(id)?;
     let is_clean = parser.at_end()? && parser.take_errors().is_empty();
+    Ok(if is_clean { Some(tree) } else { None })
+}
+
+/// The same of what stands in the head of a `for`, behind which `of` or `in` is left.
+fn head_tree(parser: &mut ListedParser) -> PResult<Option<String>> {
+    let id = parser.parse_expr_id()?;
+    let tree = parser.nodes().print_expr(id)?;
+    let word = parser.parse_ident_name()?;
+    let ends_head = matches!(word.sym.as_str(), "of" | "in");
+    let is_clean = ends_head && parser.at_end()? && parser.take_errors().is_empty();
     Ok(if is_clean { Some(tree) } else { None })
 }
 

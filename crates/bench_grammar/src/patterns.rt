@@ -33,7 +33,7 @@ a yield { } : = , | generator | 0 1 1 1 1 7 15 39
 a await [ ] = + ( ) | async | 0 1 1 1 1 2 5
 a ? : [ ] = , | script | 0 1 1 2 4 10 25 67
 a + ( ) [ ] = | script | 0 1 1 1 1 2 4 12
-async get set { } , : = | script | 0 3 1 3 3 24 30
+async get set { } , : = | script | 0 3 1 3 3 27 33
 function { } ( ) [ ] = a | script | 0 1 2 2 2 5 10
 ";
 

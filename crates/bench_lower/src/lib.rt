@@ -3,9 +3,13 @@
 #![tactic(auto)]
 
 #[cfg(test)]
+mod arrows;
+#[cfg(test)]
 mod faults;
 #[cfg(test)]
 mod hooked;
+#[cfg(test)]
+mod lists;
 #[cfg(test)]
 mod nodes;
 #[cfg(test)]

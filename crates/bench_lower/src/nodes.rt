@@ -82,7 +82,9 @@ show | expr | .a@1..2 PatIdent(p)@3..4 PatIdent(q)@6..7 Block(2)@9..11 AsyncMeth
 show | expr | .a@1..2 PatIdent(p)@3..4 PatIdent(q)@6..7 Block(2)@9..11 GeneratorMethod(2)@1..12 Object(1)@0..13 | Object{GeneratorMethod(a, [p, q], <2>)} 0..13
 show | expr | .a@1..2 PatIdent(p)@3..4 PatIdent(q)@6..7 Block(2)@9..11 AsyncGeneratorMethod(2)@1..18 Object(1)@0..19 | Object{AsyncGeneratorMethod(a, [p, q], <2>)} 0..19
 show | expr | PatIdent(a)@1..2 PatIdent(b)@4..5 c@10..11 Arrow(2)@0..11 | Arrow([a, b], c) 0..11
-show | expr | Block(2)@6..8 AsyncArrow(0)@0..11 | AsyncArrow([], <2>) 0..11
+show | expr | Block(2)@9..11 AsyncArrow(0)@0..11 | AsyncArrow([], <2>) 0..11
+show | expr | PatIdent(a)@0..1 b@5..6 Invalid@9..10 Bin(+)@5..10 Arrow(1)@0..10 | Arrow([a], Bin(+, b, Invalid)) 0..10
+show | expr | PatIdent(a)@5..6 PatArray(1)@4..7 b@8..9 PatAssign@4..9 ...@1..4 PatRest@1..9 Block(2)@14..16 Arrow(1)@0..16 | Arrow([Rest(Assign(Array[a], b))], <2>) 0..16
 show | expr | a@0..1 z@9..10 Assign(+=)@0..6 | Assign(+=, a, z) 0..6
 show | expr | a@0..1 z@9..10 Assign(=)@0..10 | Assign(=, a, z) 0..10
 show | expr | a@0..1 .b@2..3 Member@0..3 z@9..10 Assign(=)@0..10 | Assign(=, Member(a, .b), z) 0..10
@@ -91,6 +93,7 @@ show | expr | a@1..2 Paren@0..3 z@9..10 Assign(=)@0..10 | Assign(=, Paren(a), z)
 show | expr | a@0..1 .b@3..4 OptMember@0..4 z@9..10 Assign(=)@0..10 | Assign(=, OptChain(true, Member(a, .b)), z) 0..10
 show | expr | PatIdent(a)@1..2 PatArray(1)@0..3 z@9..10 Assign(=)@0..10 | Assign(=, Array[a], z) 0..10
 show | expr | PatObject(0)@0..2 z@9..10 Assign(=)@0..10 | Assign(=, Object{}, z) 0..10
+show | expr | PatArray(0)@0..2 a@5..6 b@9..10 Assign(+=)@5..10 Assign(=)@0..10 | Assign(=, Array[], Assign(+=, a, b)) 0..10
 show; is_ident; is_rest | pat | PatIdent(name)@2..6 | name 2..6; true; false
 show | pat | -@1..1 PatIdent(b)@4..5 ...@1..4 PatRest@1..5 PatArray(2)@0..8 | Array[-, Rest(b)] 0..8
 show; is_ident; is_rest | pat | PatIdent(b)@4..5 ...@1..4 PatRest@1..5 | Rest(b) 1..5; false; true

@@ -1,4 +1,5 @@
 // Nodes, read from the text of a row.
+use crate::arrows::{arrow_at, assign_pat_of, expr_at};
 use crate::hooked::{Hooked, HookedNode, HookedNodes};
 use crate::parts::{Held, Part, Word, at, word_of};
 use crate::patterns::{
@@ -81,6 +82,9 @@ impl Builder {
                 } else if let Some(pat) = self.pat(&word)? {
                     let pat = pat_at(&self.nodes, pat, word.span)?;
                     self.place(pat.0, word.span)?;
+                } else if let Some(expr) = self.made(&word)? {
+                    let expr = expr_at(&self.nodes, expr, word.span)?;
+                    self.place(expr.0, word.span)?;
                 } else {
                     let node = self.node(&word)?;
                     self.append(node, word.span)?;
@@ -421,7 +425,38 @@ impl Builder {
         })
     }
 
-    /// A call or an arrow function.
+    /// An arrow function, or an assignment to a pattern.
+    fn made(&mut self, word: &Word) -> Result<Option<ExprId>, Fail> {
+        match word.kind.as_str() {
+            "Arrow" | "AsyncArrow" => {
+                let body = self.arrow_body()?;
+                let params = self.take_list(word)?;
+                let is_async = word.kind.as_str() == "AsyncArrow";
+                Ok(Some(arrow_at(&mut self.nodes, word.span, is_async, params, body)?))
+            }
+            "Assign" if word.argument.as_str() == "=" && self.is_left_pat() => {
+                let value = self.take()?;
+                let left = self.take()?;
+                Ok(Some(assign_pat_of(&mut self.nodes, left, value)?))
+            }
+            _ => Ok(None),
+        }
+    }
+
+    /// Whether the part before the last one is a pattern.
+    fn is_left_pat(&self) -> bool {
+        match self.parts.iter().rev().nth(1) {
+            Some(
+                Part {
+                    number: Some(number),
+                    ..
+                },
+            ) => self.nodes.has_pat(PatId(*number)),
+            _ => false,
+        }
+    }
+
+    /// A call.
     fn link(&mut self, word: &Word) -> Result<HookedNode, Fail> {
         let span = word.span;
         Ok(match word.kind.as_str() {
@@ -444,16 +479,6 @@ impl Builder {
                 let tpl = Box::new(self.alloc, self.tpl(word)?)?;
                 let tag = self.take()?;
                 Node::TaggedTpl { span, tag, tpl }
-            }
-            "Arrow" | "AsyncArrow" => {
-                let body = Box::new(self.alloc, self.arrow_body()?)?;
-                let params = self.take_list(word)?;
-                Node::Arrow {
-                    span,
-                    params,
-                    body,
-                    is_async: word.kind.as_str() == "AsyncArrow",
-                }
             }
             _ => return self.operation(word),
         })

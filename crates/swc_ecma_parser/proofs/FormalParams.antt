@@ -1,5 +1,5 @@
 -- From what is read of formal parameters to what is promised of them.
-use Rattle.std.proofs.Common.{◌≡◌, ◌≢◌, ℕ, ◌<◌, Bool, true, false, List, [], ◌∷◌, ◌++◌, Some, None, Result, Ok, Err, IfOk, OnOk, MatchResult, map, length, ◌||◌, refl, sym, ap, subst, ◌∙◌, append_assoc}
+use Rattle.std.proofs.Common.{◌≡◌, ◌≢◌, ℕ, Bool, true, false, List, [], ◌∷◌, ◌++◌, Some, None, Result, Ok, Err, IfOk, OnOk, MatchResult, map, length, ◌||◌, refl, sym, ap, subst, ◌∙◌, append_assoc}
 use Rattle.std.specs.declared.alloc.Global.{Global}
 use Rattle.std.specs.declared.vec.Vec.{Vec}
 use Rattle.swc_context.specs.declared.error.Error.{Error}
@@ -14,12 +14,12 @@ use Rattle.swc_input.specs.Source.{Model}
 use Rattle.swc_ast.specs.Parts.{param_tree}
 use Rattle.swc_ast.specs.Tree.{Tree, node, Trees, nil, cons, trees}
 use Rattle.swc_ast.specs.TreeOf.{pat_tree}
-use Rattle.swc_ast.specs.Trees.{are_grouped, are_valid, grouped_at, is_invalid, items_of, listed, unmarked, all_unmarked}
+use Rattle.swc_ast.specs.Trees.{are_grouped, are_valid, grouped_at, items_of, listed, unmarked, all_unmarked}
 use Rattle.swc_ast.specs.declared.function.Param.{Param}
 use Rattle.swc_ast.specs.declared.pat.Pat.{Pat as PatOf}
 use Rattle.swc_ast.specs.declared.spanned.Spanned.{Ghosts}
 use Rattle.swc_bodies.specs.Readings.{Hook, LawfulHook}
-use Rattle.swc_grammar.specs.Clean.{first, sym as at, run}
+use Rattle.swc_grammar.specs.Clean.{sym as at, run}
 use Rattle.swc_grammar.specs.Patterns.{any, all_bind_names}
 use Rattle.swc_grammar.specs.Reads.{Reads, ReadsUnmarked}
 use Rattle.swc_grammar.specs.Scope.{Scope}

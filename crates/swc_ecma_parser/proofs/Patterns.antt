@@ -1,5 +1,5 @@
 -- From readings of patterns, and of properties of object patterns, to what is promised of them.
-use Rattle.std.proofs.Common.{◌≡◌, Bool, true, false, ◌||◌, List, [], ◌∷◌, ◌++◌, Some, None, Result, Ok, Err, refl, sym, ap, subst, ◌∙◌}
+use Rattle.std.proofs.Common.{◌≡◌, Bool, true, false, ◌||◌, List, [], ◌∷◌, ◌++◌, Some, Result, Ok, Err, refl, sym, ap, subst, ◌∙◌}
 use Rattle.swc_context.specs.declared.error.Error.{Error}
 use Rattle.swc_context.specs.declared.span.Span.{Span}
 use Rattle.swc_input.specs.declared.buffer.Buffer.{Buffer}
@@ -34,7 +34,6 @@ use Rattle.swc_grammar.proofs.Sound as clean
 use Rattle.swc_nodes.specs.GrowingNodes.{SameNodes}
 use Rattle.swc_patterns.specs.Objects.{pat_prop_by, pat_prop_item}
 use Rattle.swc_patterns.specs.Rests.{rest_node}
-use Rattle.swc_steps.specs.Lists.{eaten}
 use Rattle.swc_steps.specs.Parsing.{scope, Parses}
 use Rattle.swc_steps.proofs.Lists.{eaten_not, eaten_takes}
 use Rattle.swc_ecma_parser.specs.Calls.{buffer_of, nodes_of, has_failed, parser_failed}

@@ -60,6 +60,10 @@ tree_by {F} {C} {K} fun class block e = boxed_tree F C K fun class block e
 abbrev pub params_tree : {F C K X : Type 0} → (X → Tree F C K) → Vec (Param X) Global → Tree F C K
 params_tree at ps = node args no_span (trees (map (param_tree at) ps.items))
 
+-- patterns one after another
+abbrev pub pats_tree : {F C K X : Type 0} → (X → Tree F C K) → Vec X Global → Tree F C K
+pats_tree at ps = node args no_span (trees (map at ps.items))
+
 -- a call met want of memory
 abbrev pub has_failed : {S H F C K : Type 0} {fg : Ghosts F} {cg : Ghosts C} {kg : Ghosts K} → Parser S H F C K fg cg kg → Bool
 has_failed p = p.failed

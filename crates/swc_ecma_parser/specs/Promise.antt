@@ -34,7 +34,7 @@ use Rattle.swc_grammar.specs.Patterns.{any, binds_names, all_bind_names, prop_bi
 use Rattle.swc_grammar.specs.Symbols.{Symbol, Expr, Exprs, Assign, Level, Unary, Lhs, Left, Base, Arguments, Args, ArgsTail}
 use Rattle.swc_grammar.specs.Symbols.{Primary, Literal, Template, Parts, Elements, ElementsTail, Item, Props, PropsTail, Prop}
 use Rattle.swc_grammar.specs.Symbols.{Key, AfterKey, Shell, Pat, Element, Rest, PatElements, PatElementsTail, PatProps}
-use Rattle.swc_grammar.specs.Symbols.{PatPropsTail, PatProp, Params, ParamsTail}
+use Rattle.swc_grammar.specs.Symbols.{PatPropsTail, PatProp, Params, ParamsTail, Heads, ArrowBody}
 use Rattle.swc_grammar.specs.Reads.{Reads, ReadsUnmarked, Stops}
 use Rattle.swc_grammar.specs.Names.{Spelling, NameKind, Reference, ReadsName}
 use Rattle.swc_grammar.specs.Tokens.{ends_prop, is_rparen, may_be_reference}
@@ -96,6 +96,8 @@ EndsAt PatProps ys = ⊥
 EndsAt PatPropsTail ys = ⊥
 EndsAt Params ys = ⊥
 EndsAt ParamsTail ys = ⊥
+EndsAt Heads ys = ⊥
+EndsAt (ArrowBody is_async) ys = ⊥
 
 -- An identifier reference, where a word stands first that isn't reserved, or `let`. The other words are taken too, with faults that
 -- wait where the code is no module's.

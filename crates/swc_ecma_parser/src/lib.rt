@@ -5,6 +5,7 @@
 pub use swc_ast as ast;
 pub use swc_bodies as bodies;
 pub use swc_context as context;
+pub use swc_cover::pat_type::PatType;
 pub use swc_ident as ident;
 pub use swc_input as input;
 pub use swc_nodes as nodes;

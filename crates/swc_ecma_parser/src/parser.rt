@@ -34,6 +34,7 @@ pub mod object;
 mod params;
 mod pat;
 mod pieces;
+pub mod refine;
 
 /// A pattern over a hook's values.
 pub type PatOf<B> = Pat<<B as BodyForms>::Fun, <B as BodyForms>::Class, <B as BodyForms>::Block>;
@@ -121,8 +122,8 @@ impl<I: Tokens, B: Bodies<I>> Parser<I, B> {
         self.finish(answer)
     }
 
-    /// Whether `import` and a `.` were read, as in `import.meta`, by any call so far, also by one that was refused. It
-    /// isn't promised that it is so by what was read.
+    /// Whether `import` and a `.` were read, as in `import.meta`, outside the bodies of arrow functions, by any call so
+    /// far, also by one that was refused. It isn't promised that it is so by what was read.
     pub fn found_module_item(&self) -> bool
         ensures { result ≡ found_import self.now }
     {
@@ -158,7 +159,7 @@ impl<I: Tokens, B: Bodies<I>> Parser<I, B> {
 
     /// The place of a comma behind the last element of an array literal, or the last property of an object literal,
     /// that begins at `start`, a position in bytes: of the one in the last answer that has one there, or that was made
-    /// by `make_object` since.
+    /// by `make_object` since. Those in bodies of arrow functions aren't remembered.
     ///
     /// A tree in boxes has no place for it. Among nodes it stands in the literal's own.
     pub fn trailing_comma(&self, start: BytePos) -> Option<Span>
@@ -205,17 +206,29 @@ impl<I: Tokens, B: Bodies<I>> Parser<I, B> {
     }
 
     /// An assignment expression (ECMA-262, 13.15): binary operators and their operands, as `parse_bin_expr` reads
-    /// them; a conditional of such (13.14), in whose middle `in` is an operator; an assignment to a simple target; or
-    /// `yield` (15.5), in a generator. Behind a conditional, a binary operator, a prefix operator, `++` and `--` no
-    /// assignment is read.
+    /// them; a conditional of such (13.14), in whose middle `in` is an operator; an assignment to a simple target, or by
+    /// `=` to an array or object literal, which becomes a pattern (13.15.5); an arrow function, async or not (15.3 and
+    /// 15.9); or `yield` (15.5), in a generator. Behind a conditional, a binary operator, a prefix operator, `++` and
+    /// `--` no assignment is read, and behind an arrow function nothing is.
     ///
-    /// The end is refused as `Eof`, where the token consumed last ends. What stands left of `=` and can't be written
-    /// to is recorded as `TS2406`, left of another operator as `NotSimpleAssign`; and what isn't an identifier, a
-    /// member, a property of `super`, in parentheses, or an optional chain is refused as `InvalidAssignTarget`, all at
-    /// its place: so far array and object literals too, as they stand for patterns. What follows the middle of a
-    /// conditional and is no `:` is refused as `Expected`, at the current token. `yield` in parameters outside a
-    /// function is refused as `YieldParamInGen`, at the word; a refusal of its operand is labelled (`WithLabel`) with
-    /// the place of the word and of the `*` behind it.
+    /// The end is refused as `Eof`, where the token consumed last ends. What stands left of `=`, is no literal that
+    /// becomes a pattern and can't be written to is recorded as `TS2406`, left of another operator as
+    /// `NotSimpleAssign`; and what isn't an identifier, a member, a property of `super`, in parentheses, an optional
+    /// chain or such a pattern is refused as `InvalidAssignTarget`, all at its place. A literal left of `=` has the
+    /// faults that `reparse_expr_as_pat` records of an `AssignPat`. What follows the middle of a conditional and is no
+    /// `:` is refused as `Expected`, at the current token. `yield` in parameters outside a function is refused as
+    /// `YieldParamInGen`, at the word; a refusal of its operand is labelled (`WithLabel`) with the place of the word and
+    /// of the `*` behind it.
+    ///
+    /// An arrow function begins with a word that may be a reference, on the line of the `=>`; with a list in
+    /// parentheses, as `parse_args_or_pats` reads it, behind which `=>` stands; or with `async`, on its line, and one of
+    /// these. A line break between the list and `=>` is refused as `LineBreakBeforeArrow`, from the start of the list,
+    /// or of `async`, through the `)`. The items have the faults that `parse_paren_items_as_params` records; a name in
+    /// place of a list has those of an identifier, and as `eval` or `arguments` in strict code
+    /// `EvalAndArgumentsInStrict`. The body is a block, which the hook reads, or an assignment expression. A binary
+    /// operator behind a block whose parameters stand in parentheses is recorded as `TS1005`, at the operator, and read;
+    /// and so is once more what then follows, unless a semicolon may stand there. Before `of` in a head of `for`, `async`
+    /// is an identifier, if no `=>` stands behind `of`, and recorded as `TS1106` unless the head is one of `for await`.
     pub fn parse_assignment_expr(&mut self) -> PResult<Box<ExprOf<B>>>
         ensures promised { Promised I.model B.is_faithful B.forms in_boxes Assign self.old result self.new }
     {
@@ -226,7 +239,8 @@ impl<I: Tokens, B: Bodies<I>> Parser<I, B> {
         self.finish(answer)
     }
 
-    /// Operands and the binary operators between them, of any precedence (ECMA-262, 13.6 to 13.13).
+    /// Operands and the binary operators between them, of any precedence (ECMA-262, 13.6 to 13.13). They don't begin an
+    /// assignment expression: no arrow function is read, and `async` before no function on its line is an identifier.
     ///
     /// Records `NullishCoalescingWithLogicalOp` at a node of `||` or `&&` that is an operand of
     /// `??`, or has a `??` on its left. A prefix operator left of `**` is refused as `UnaryInExp`,
@@ -248,7 +262,9 @@ impl<I: Tokens, B: Bodies<I>> Parser<I, B> {
     /// or without: a primary expression, `new`, `super` or `import`, with its links. A primary expression (13.2) is
     /// `this`, a literal, a regular expression, a template, an array or object literal, an identifier, `#` and a name,
     /// expressions in parentheses, or a function or a class, which the hook reads. Outside async code `await` is an
-    /// identifier where no operand can follow: before `)`, `]`, `}`, `,`, `;`, a line break and the end.
+    /// identifier where no operand can follow: before `)`, `]`, `}`, `,`, `;`, a line break and the end. A unary
+    /// expression doesn't begin an assignment expression: no arrow function is read, and `async` before no function on
+    /// its line is an identifier.
     ///
     /// A refused operand of `delete`, `void`, `typeof`, `+`, `-`, `~` or `!` is recorded, and a node of `Invalid`
     /// stands in its place, at one position, that before the operand; behind `++`, `--` and `await` it is refused.
@@ -265,8 +281,9 @@ impl<I: Tokens, B: Bodies<I>> Parser<I, B> {
     /// `TS1109`, at the comma, and a property `name = value` of an object literal among them as `AssignProperty`, at
     /// the property. What follows an item of parentheses and is neither `,` nor `)`, and what follows an element of an
     /// array and is neither `,` nor `]`, is refused as `Expected`, at the current token, and the end there as `Eof`;
-    /// what follows `#` and is no word as `ExpectedIdent`. A refusal behind `...` is labelled with the place of the
-    /// dots (`WithLabel`). What the hook refuses is refused.
+    /// what follows `#` and is no word as `ExpectedIdent`. `=>` behind a list in parentheses is refused from the list's
+    /// start through its `)`, as `LineBreakBeforeArrow` behind a line break and as `ArrowNotAllowed` elsewhere. A
+    /// refusal behind `...` is labelled with the place of the dots (`WithLabel`). What the hook refuses is refused.
     pub fn parse_unary_expr(&mut self) -> PResult<Box<ExprOf<B>>>
         ensures promised { Promised I.model B.is_faithful B.forms in_boxes Unary self.old result self.new }
     {

@@ -15,7 +15,8 @@ use swc_nodes::node::{ExprId, PatId, PatPropNode, PropNode};
 use swc_nodes::nodes::Nodes;
 use swc_steps::tokens::Listed;
 use swc_trees::taking::{
-    take_args, take_expr, take_key, take_params, take_pat, take_pat_prop, take_prop, take_tpl,
+    take_args, take_expr, take_key, take_params, take_pat, take_pat_prop, take_pats, take_prop,
+    take_tpl,
 };
 
 /// What holds numbers of nodes, and is moved out of them into boxes.
@@ -259,5 +260,32 @@ impl<F: Spanned + Drop, C: Spanned + Drop, K: Spanned + Drop> Take<F, C, K> for 
 
     fn take(self, nodes: &mut Nodes<F, C, K>, alloc: Global) -> Result<Self::Whole, AllocError> {
         take_params(nodes, alloc, self)
+    }
+}
+
+impl<F: Spanned + Drop, C: Spanned + Drop, K: Spanned + Drop> Take<F, C, K> for Vec<PatId> {
+    ghost use Rattle.swc_ast.specs.TreeOf.{pat_tree};
+    ghost use Rattle.swc_nodes.specs.Lists.{pats_parts};
+    ghost use Rattle.swc_nodes.specs.NodeTree.{pat_of};
+    ghost use Rattle.swc_ecma_parser.specs.Calls.{pats_tree};
+
+    type Whole = Vec<Pat<F, C, K>>;
+
+    ghost parts = { pats_parts };
+
+    ghost by = { λ at. pats_tree (pat_of F.place C.place K.place at) };
+
+    ghost tree = { pats_tree (pat_tree _ _ _ F.place C.place K.place) };
+
+    fn remember(
+        &self,
+        nodes: &Nodes<F, C, K>,
+        commas: &mut TrailingCommas,
+    ) -> Result<(), AllocError> {
+        commas.remember_all(nodes, self)
+    }
+
+    fn take(self, nodes: &mut Nodes<F, C, K>, alloc: Global) -> Result<Self::Whole, AllocError> {
+        take_pats(nodes, alloc, self)
     }
 }

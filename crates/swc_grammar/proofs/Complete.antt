@@ -7,92 +7,102 @@ mod Properties
 mod Primaries
 mod LeftSides
 mod Operators
+mod Arrows
+mod Asyncs
 mod Assignments
 mod Patterns
-use Rattle.std.specs.Prelude.{◌≡◌, zero, suc, min, true, false, List, ◌∷◌, Some, None}
-use Rattle.std.proofs.Common.{refl, ap, ◌∙◌, arith}
+use Rattle.std.specs.Prelude.{◌≡◌, zero, suc, min, true, false, List, ◌∷◌, Some, None, ◌&&◌}
+use Rattle.std.proofs.Common.{refl, ap, ◌∙◌, arith, sym as sym_path, subst}
 use Rattle.std.proofs.lemmas.Bool.{eqb-true, ltb-true}
 use Rattle.swc_context.specs.Operators.{precedence_of}
 use Rattle.swc_input.specs.declared.token.TokenAndSpan.{TokenAndSpan}
+use Rattle.swc_context.specs.declared.operator.AssignOp.TheVariants as assign
 use Rattle.swc_input.specs.Kinds.{is_hash}
 use Rattle.swc_ast.specs.Tree.{nil, cons, span_of}
 use Rattle.swc_ast.specs.Trees.{new_e, items_of, trees_append, to}
 use Rattle.swc_bodies.specs.Readings.{Hook, is_async}
-use Rattle.swc_grammar.specs.Scope.{Scope}
-use Rattle.swc_grammar.specs.Tokens.{with_in, is_lparen, is_lbracket}
+use Rattle.swc_grammar.specs.Scope.{Scope, at_head, inner}
+use Rattle.swc_grammar.specs.Tokens.{with_in, is_lparen, is_lbracket, tk}
 use Rattle.swc_grammar.specs.Symbols.{Symbol, Expr, Exprs, Assign, Level, Unary, Lhs, Left, Arguments, Args, ArgsTail}
 use Rattle.swc_grammar.specs.Symbols.{Primary, Literal, Template, Parts, Base, Elements, ElementsTail, Item, Props}
-use Rattle.swc_grammar.specs.Symbols.{PropsTail, Prop, Key, AfterKey, Shell, Answer, Side}
+use Rattle.swc_grammar.specs.Symbols.{PropsTail, Prop, Key, AfterKey, Shell, Answer, Side, Heads, ArrowBody}
 use Rattle.swc_grammar.specs.Symbols.{Pat, Element, Rest, PatElements, PatElementsTail, PatProps, PatPropsTail, PatProp}
 use Rattle.swc_grammar.specs.Symbols.{Params, ParamsTail}
 use Rattle.swc_grammar.specs.Parts.{any_name, lit_of, update_here, assign_here, operator_here}
-use Rattle.swc_grammar.specs.Grammar.{Production, lit, unary-left, unary-op, exp-unary, left-base, member-name}
+use Rattle.swc_grammar.specs.Grammar.{Production, lit, unary-left, unary-op, exp-unary, left-base, member-name, heads}
 use Rattle.swc_grammar.specs.Grammar.{member-private, member-computed, call, lhs-left, new-bare, left-new, chain-name}
 use Rattle.swc_grammar.specs.Grammar.{chain-private, chain-computed, chain-call, tagged-tpl, arguments, template}
-use Rattle.swc_grammar.specs.Grammar.{exp-op, shell-block, level-up, bin-op, assign-level, update-postfix}
+use Rattle.swc_grammar.specs.Grammar.{exp-op, shell-block, level-up, bin-op, assign-level, update-postfix, arrow-name}
 use Rattle.swc_grammar.specs.Grammar.{update-prefix, await-expr, await-ident, cond-expr, assign-expr, yield-alone}
-use Rattle.swc_grammar.specs.Grammar.{yield-expr, yield-star, exprs-one, exprs-more, seq-expr}
-use Rattle.swc_grammar.specs.Grammar.{element-pat, element-default, pat-rest}
+use Rattle.swc_grammar.specs.Grammar.{yield-expr, yield-star, exprs-one, exprs-more, seq-expr, assign-pattern}
+use Rattle.swc_grammar.specs.Grammar.{element-pat, element-default, pat-rest, arrow-heads, arrow-async-name}
 use Rattle.swc_grammar.specs.Reads.{Reads}
 use Rattle.swc_grammar.specs.Clean.{first, sym, links, exec, constructs, no_link, call_args, args, args_tail, tpl}
-use Rattle.swc_grammar.specs.Clean.{parts, base, updates, assigns, seqs, no_update_at, ends_unary, no_assign_at}
-use Rattle.swc_grammar.specs.Clean.{update_tail, cond_tail, assign_tail, Stop, primary, literal, elements}
-use Rattle.swc_grammar.specs.Clean.{elements_tail, item, props, props_tail, prop, key, after_key, shell, run}
-use Rattle.swc_grammar.specs.Clean.{defaults, default_tail, pick, pat, pat_elements, pat_tail, pat_props}
-use Rattle.swc_grammar.specs.Clean.{pat_props_tail, pat_prop, params, params_tail}
+use Rattle.swc_grammar.specs.Clean.{parts, base, updates, assigns, seqs, no_update_at, ends_unary, no_assign_at, plan}
+use Rattle.swc_grammar.specs.Clean.{update_tail, cond_tail, assign_tail, Stop, primary, literal, elements, arrow_tail}
+use Rattle.swc_grammar.specs.Clean.{elements_tail, item, props, props_tail, prop, key, after_key, shell, run, no_arrow}
+use Rattle.swc_grammar.specs.Clean.{defaults, default_tail, pick, pat, pat_elements, pat_tail, pat_props, pattern_tail}
+use Rattle.swc_grammar.specs.Clean.{pat_props_tail, pat_prop, params, params_tail, arrow_block, async_arrow_tail}
 use Rattle.swc_grammar.proofs.Good.{good}
-use Rattle.swc_grammar.proofs.Answers.{both}
-use Rattle.swc_grammar.proofs.Only.{backquote-is, lbracket-is, lparen-is}
+use Rattle.swc_grammar.proofs.Answers.{both, only}
+use Rattle.swc_grammar.proofs.Only.{backquote-is, lbracket-is, lparen-is, dot-is, question-is, equals-is}
 use Rattle.swc_grammar.proofs.Firsts.{begins, update-first}
 use Rattle.swc_grammar.proofs.Induct.{ran-took, ran-held, ran-calm, ran-part, every}
 use Rattle.swc_grammar.proofs.Knot.{knot}
 use Rattle.swc_grammar.proofs.Levels.{bound-above}
-use Rattle.swc_grammar.proofs.Complete.Bools.{if-off, is-false}
+use Rattle.swc_grammar.proofs.Complete.Bools.{if-off, is-false, if-on}
 use Rattle.swc_grammar.proofs.Complete.Stops.{expr-stop, quiet-rbracket, quiet-colon, quiet-comma}
 pub use Rattle.swc_grammar.proofs.Complete.Stops.{stops-assign, stops-expr, stops-unary, stops-level, stops-element}
 pub use Rattle.swc_grammar.proofs.Complete.Stops.{stops-pat-prop}
 use Rattle.swc_grammar.proofs.Complete.Sides.{Claim, ready-given, climb-ends, settle, next-passes, Ran, forget}
-use Rattle.swc_grammar.proofs.Complete.Sides.{given-ran}
+use Rattle.swc_grammar.proofs.Complete.Sides.{given-ran, before-given, starting}
 use Rattle.swc_grammar.proofs.Complete.Sides.{must-ran, part-ran, gave-ran, side-reads}
-pub use Rattle.swc_grammar.proofs.Complete.Sides.{last, picks}
+pub use Rattle.swc_grammar.proofs.Complete.Sides.{last, picks, picks-as}
 use Rattle.swc_grammar.proofs.Complete.Lists.{picked-args, picked-args-tail, picked-elements, picked-tail, picked-item}
 use Rattle.swc_grammar.proofs.Complete.Lists.{ready-args, ready-args-tail, ready-elements, ready-tail, ready-item}
 use Rattle.swc_grammar.proofs.Complete.Properties.{picked-props, picked-props-tail, picked-key, picked-after}
 use Rattle.swc_grammar.proofs.Complete.Properties.{picked-prop, ready-props, ready-props-tail, ready-prop, ready-key}
 use Rattle.swc_grammar.proofs.Complete.Properties.{ready-after}
 use Rattle.swc_grammar.proofs.Complete.Primaries.{picked-primary, ready-primary, ready-parts, picked-parts}
-pub use Rattle.swc_grammar.proofs.Complete.Primaries.{lit-picks, fn-picks, class-picks}
+pub use Rattle.swc_grammar.proofs.Complete.Primaries.{lit-picks, fn-picks, class-picks, picking}
 use Rattle.swc_grammar.proofs.Complete.LeftSides.{any-link, no-paren, links-take, new-begins, no-dot-first, picked-base}
 use Rattle.swc_grammar.proofs.Complete.LeftSides.{base-no-new, ready-base, name-next, hash-alone, lparen-alone, chained}
 pub use Rattle.swc_grammar.proofs.Complete.LeftSides.{links-end}
 use Rattle.swc_grammar.proofs.Complete.Operators.{operand-climbs, op-reads, exp-reads, signed, operand-reads}
 use Rattle.swc_grammar.proofs.Complete.Operators.{updates-end, update-link}
 use Rattle.swc_grammar.proofs.Complete.Assignments.{no-dot-expr, yielded, level-reads, assigns-end, question-ends}
-use Rattle.swc_grammar.proofs.Complete.Assignments.{question-bound, assign-token, target-apart}
+use Rattle.swc_grammar.proofs.Complete.Assignments.{question-bound, assign-token, target-apart, assign-no-arrow}
 use Rattle.swc_grammar.proofs.Complete.Patterns.{picked-pat, picked-pat-elements, picked-pat-tail, picked-pat-props}
 use Rattle.swc_grammar.proofs.Complete.Patterns.{picked-pat-props-tail, picked-pat-prop, picked-params}
 use Rattle.swc_grammar.proofs.Complete.Patterns.{picked-params-tail, ready-pat, ready-pat-elements, ready-pat-tail}
 use Rattle.swc_grammar.proofs.Complete.Patterns.{ready-pat-props, ready-pat-props-tail, ready-pat-prop, ready-params}
 use Rattle.swc_grammar.proofs.Complete.Patterns.{ready-params-tail, element-reads, no-equals}
+use Rattle.swc_grammar.specs.Grammar.{arrow-async-heads}
+use Rattle.swc_grammar.specs.Cover.{as_literal, as_params, is_pattern}
+use Rattle.swc_grammar.proofs.Complete.Primaries.{picked-reads}
+use Rattle.swc_grammar.proofs.Complete.Assignments.{equals-plain, pattern-apart, target-no-pattern}
+use Rattle.swc_grammar.proofs.Complete.Arrows.{here-arrow, line-arrow, body-bound, heads-reads, picked-body}
+use Rattle.swc_grammar.proofs.Complete.Arrows.{ready-body}
+use Rattle.swc_grammar.proofs.Complete.Asyncs.{async-heads-parts, lparen-next, lparen-here, async-heads-reads}
 
 module _ {F C K : Type 0} (hook : Hook F C K) where
   -- one clause a production
   claim-by : {s : Symbol} {c : Scope} {r : Side F C K s} {xs ys : List TokenAndSpan} {t : Answer F C K s}
       → Production s c r → Ran hook s r xs ys t → Claim hook s c xs ys t
-  claim-by {s = Primary} {c = c} {xs = xs} {ys = ys} p d = λ stop.
-      picks hook Primary c xs p (primary c xs) refl (picked-primary hook p (forget hook d))
-      (side-reads hook (Some 8) d (ready-primary hook {c = c} ys p))
+  claim-by {s = Primary} {c = c} {xs = xs} {ys = ys} {t = t} p d = λ stop.
+      picks-as hook Primary c xs (primary c xs) (picking hook p) refl (picked-primary hook p (forget hook d))
+      (picked-reads hook xs ys t p stop (side-reads hook (Some 8) d (ready-primary hook {c = c} ys p)))
   claim-by {c = c} unary-left (ran-calm {xs = xs} w (ran-part {e = l} {ms = ms} dl h d)) =
       gave-ran hook (λ u us. Claim hook Unary c xs us u) d
-      (λ stop. let (n, u) = both (no_link true ms) (no_update_at (first ms)) stop in
-      operand-reads hook c xs ms l (begins dl) w (h n) ∙ updates-end hook c l ms u)
+      (λ stop. let (n, u) = both (no_link true ms && no_arrow ms) (no_update_at (first ms)) stop in
+      operand-reads hook c xs ms l (begins dl) w (h n) ∙ updates-end hook (inner c) l ms u)
   claim-by {c = c} {ys = ys} update-postfix
       (ran-calm {xs = xs} w (ran-part {e = l} dl h (ran-took {a = a} {xs = us} (ran-held n d)))) =
       let (x, o, d1) = given-ran hook (update_here a.token a.span) _ d in
       let u = update-first a.token a.span x o in
       λ stop.
       operand-reads hook c xs (a ∷ us) l (begins dl) w (h (update-link a us u))
-      ∙ knot hook (updates l) c (a ∷ us)
+      ∙ knot hook (updates l) (inner c) (a ∷ us)
       ∙ ap (λ v. exec hook (run hook) (Some 1) v (a ∷ us))
       (if-off (no_update_at (Some a)) _ _ (rw (u, is-false a.had_line_break n) refl))
       ∙ side-reads hook {r = update_tail c l} (Some 1) (ran-took (ran-held n d))
@@ -102,67 +112,78 @@ module _ {F C K : Type 0} (hook : Hook F C K) where
   claim-by await-ident d = signed hook await-ident refl d
   claim-by unary-op d = signed hook unary-op refl d
   claim-by {c = c} (lhs-left {b = b}) (ran-part {e = e} {xs = xs} {ms = ms} l h d) =
-      gave-ran hook (λ u us. Claim hook (Lhs b) c xs us u) d (λ stop. h ∙ links-end hook b e c ms (any-link b ms stop))
+      gave-ran hook (λ u us. Claim hook (Lhs b) c xs us u) d
+      (λ stop. let (n, r) = both (no_link true ms) (no_arrow ms) stop in
+      h r ∙ links-end hook b e (inner c) ms (any-link b ms n))
   claim-by {c = c} (new-bare {b = b})
       (ran-took {a = a} {xs = us} (ran-held h (ran-part {e = l} {ms = ms} dl k (ran-held n d)))) =
       gave-ran hook (λ u vs. Claim hook (Lhs b) c (a ∷ us) vs u) d
       (λ stop. new-begins hook b c a us ms l h (no-dot-first c us (begins dl)) n (k stop)
-      ∙ knot hook (constructs b a.span l) c ms ∙ rw (no-paren ms stop) refl)
+      ∙ knot hook (constructs b a.span l) (inner c) ms
+      ∙ rw (no-paren ms (both (no_link true ms) (no_arrow ms) stop).0) refl)
   claim-by {c = c} (left-base {b = b}) (ran-part {e = e} {xs = xs} {ms = ms} l h d) =
       gave-ran hook (λ u us. Claim hook (Left b) c xs us u) d
-      (knot hook (sym (Lhs b)) c xs ∙ rw (base-no-new hook l, h tt) (last hook (Some 10) (links b e) c ms refl))
+      (λ n. knot hook (sym (Lhs b)) c xs
+      ∙ rw (base-no-new hook l, h n) (last hook (Some 10) (links b e) (inner c) ms refl))
   claim-by {c = c} (left-new {b = b})
       (ran-took {a = a} {xs = us} (ran-held h (ran-part {e = l} dl k (ran-held n
       (ran-took {a = o} {xs = vs} (ran-held i (ran-part {e = es} {ms = ms} de m d))))))) =
       gave-ran hook (λ u ws. Claim hook (Left b) c (a ∷ us) ws u) d
-      (new-begins hook b c a us (o ∷ vs) l h (no-dot-first c us (begins dl)) n
-      (k ∙ links-end hook false l c (o ∷ vs) (rw (lparen-is o.token i) refl))
-      ∙ knot hook (constructs b a.span l) c (o ∷ vs)
-      ∙ rw (i, m tt) (last hook None (links b (new_e (to a.span (span_of es)) l (items_of es))) c ms refl))
+      (λ r. new-begins hook b c a us (o ∷ vs) l h (no-dot-first c us (begins dl)) n
+      (k (rw (lparen-is o.token i) refl)
+      ∙ links-end hook false l (inner c) (o ∷ vs) (rw (lparen-is o.token i) refl))
+      ∙ knot hook (constructs b a.span l) (inner c) (o ∷ vs)
+      ∙ rw (i, m tt) (last hook None (links b (new_e (to a.span (span_of es)) l (items_of es))) (inner c) ms refl))
   claim-by {s = Base b} {c = c} {xs = xs} {ys = ys} p d = λ stop.
       picks hook (Base b) c xs p (base b c xs) refl (picked-base hook p (forget hook d))
-      (side-reads hook (Some 9) d (ready-base hook {c = c} ys p))
-  claim-by {c = c} {ys = ys} member-name (ran-part {e = l} e k (ran-took {a = a} {xs = us} (ran-held h d))) =
-      k ∙ links-take hook l a us ys member-name (rw (h, (name-next hook c (forget hook d)).0) refl)
+      (side-reads hook (Some 9) d (ready-base hook {c = c} ys stop p))
+  claim-by {c = c} {ys = ys} member-name (ran-part {e = l} e k (ran-took {a = a} {xs = us} (ran-held h d))) = λ r.
+      k (rw (dot-is a.token h) refl) ∙ links-take hook l a us ys
+      (λ i. member-name) (rw (h, (name-next hook c (forget hook d)).0) refl)
       (rw h (side-reads hook None d (λ b. ready-given _ _ (any_name c b.token b.span) _ (λ n j. tt))))
-  claim-by {c = c} {ys = ys} member-private (ran-part {e = l} e k (ran-took {a = a} {xs = us} (ran-held h d))) =
-      k ∙ links-take hook l a us ys member-private (rw (h, next-passes hook is_hash (forget hook d)) refl)
+  claim-by {c = c} {ys = ys} member-private (ran-part {e = l} e k (ran-took {a = a} {xs = us} (ran-held h d))) = λ r.
+      k (rw (dot-is a.token h) refl) ∙ links-take hook l a us ys
+      (λ i. member-private) (rw (h, next-passes hook is_hash (forget hook d)) refl)
       (rw h (side-reads hook None d (λ b j. λ g. ready-given _ _ (any_name c g.token g.span) _ (λ n i o. tt))))
   claim-by {c = c} {ys = ys} (member-computed {b = b})
-      (ran-part {e = l} e k (ran-took {a = a} {xs = us} (ran-held h d))) =
-      k ∙ links-take hook l a us ys member-computed
+      (ran-part {e = l} e k (ran-took {a = a} {xs = us} (ran-held h d))) = λ r.
+      k (rw (lbracket-is a.token h) refl) ∙ links-take hook l a us ys (λ i. member-computed)
       (rw (lbracket-is a.token h) refl)
       (rw h (side-reads hook None d (refl, λ i. (λ g vs j. quiet-rbracket (with_in c) g vs j, λ g j. tt))))
-  claim-by {c = c} {ys = ys} call (ran-part {e = l} e k (ran-took {a = a} {xs = us} (ran-held h d))) =
-      k ∙ links-take hook l a us ys call
+  claim-by {c = c} {ys = ys} call (ran-part {e = l} e k (ran-took {a = a} {xs = us} (ran-held h d))) = λ r.
+      k (rw (lparen-is a.token h) refl) ∙ links-take hook l a us ys (λ i. call)
       (rw (lparen-is a.token h) refl)
       (rw h (side-reads hook None d (refl, λ es. (tt, tt))))
   claim-by {c = c} {ys = ys} (chain-name {b = b})
-      (ran-part {e = l} e k (ran-took {a = a} (ran-held h (ran-took {a = g} {xs = us} (ran-held i d))))) =
+      (ran-part {e = l} e k (ran-took {a = a} (ran-held h (ran-took {a = g} {xs = us} (ran-held i d))))) = λ r.
       let (x, y, z) = name-next hook c (forget hook d) in
-      k ∙ links-take hook l a (g ∷ us) ys chain-name (chained hook b c a g us h i ∙ rw (y, z, x) refl)
+      k (rw (question-is a.token h) refl) ∙ links-take hook l a (g ∷ us) ys
+      (λ i. chain-name) (chained hook b (inner c) a g us h i ∙ rw (y, z, x) refl)
       (rw (h, i) (side-reads hook None d (λ o. ready-given _ _ (any_name c o.token o.span) _ (λ n j. tt))))
   claim-by {c = c} {ys = ys} (chain-private {b = b})
-      (ran-part {e = l} e k (ran-took {a = a} (ran-held h (ran-took {a = g} {xs = us} (ran-held i d))))) =
+      (ran-part {e = l} e k (ran-took {a = a} (ran-held h (ran-took {a = g} {xs = us} (ran-held i d))))) = λ r.
       let x = next-passes hook is_hash (forget hook d) in
       let (y, z) = hash-alone (first us) x in
-      k ∙ links-take hook l a (g ∷ us) ys chain-private (chained hook b c a g us h i ∙ rw (y, z, x) refl)
+      k (rw (question-is a.token h) refl) ∙ links-take hook l a (g ∷ us) ys
+      (λ i. chain-private) (chained hook b (inner c) a g us h i ∙ rw (y, z, x) refl)
       (rw (h, i) (side-reads hook None d (λ q j. λ o. ready-given _ _ (any_name c o.token o.span) _ (λ n m w. tt))))
   claim-by {c = c} {ys = ys} (chain-computed {b = b})
-      (ran-part {e = l} e k (ran-took {a = a} (ran-held h (ran-took {a = g} {xs = us} (ran-held i d))))) =
+      (ran-part {e = l} e k (ran-took {a = a} (ran-held h (ran-took {a = g} {xs = us} (ran-held i d))))) = λ r.
       let x = next-passes hook is_lbracket (forget hook d) in
-      k ∙ links-take hook l a (g ∷ us) ys chain-computed (chained hook b c a g us h i ∙ rw x refl)
+      k (rw (question-is a.token h) refl) ∙ links-take hook l a (g ∷ us) ys
+      (λ i. chain-computed) (chained hook b (inner c) a g us h i ∙ rw x refl)
       (rw (h, i)
       (side-reads hook None d (λ q j. (refl, λ o. (λ m vs w. quiet-rbracket (with_in c) m vs w, λ m w. tt)))))
   claim-by {c = c} {ys = ys} (chain-call {b = b})
-      (ran-part {e = l} e k (ran-took {a = a} (ran-held h (ran-took {a = g} {xs = us} (ran-held i d))))) =
+      (ran-part {e = l} e k (ran-took {a = a} (ran-held h (ran-took {a = g} {xs = us} (ran-held i d))))) = λ r.
       let x = next-passes hook is_lparen (forget hook d) in
       let y = lparen-alone (first us) x in
-      k ∙ links-take hook l a (g ∷ us) ys chain-call (chained hook b c a g us h i ∙ rw (y, x) refl)
+      k (rw (question-is a.token h) refl) ∙ links-take hook l a (g ∷ us) ys
+      (λ i. chain-call) (chained hook b (inner c) a g us h i ∙ rw (y, x) refl)
       (rw (h, i) (side-reads hook None d (λ q j. (refl, λ es. (tt, tt)))))
   claim-by {c = c} {ys = ys} (tagged-tpl {b = b})
-      (ran-part {e = l} e k (ran-took {a = a} {xs = us} (ran-held h d))) =
-      k ∙ links-take hook l a us ys tagged-tpl
+      (ran-part {e = l} e k (ran-took {a = a} {xs = us} (ran-held h d))) = λ r.
+      k (rw (backquote-is a.token h) refl) ∙ links-take hook l a us ys (λ i. tagged-tpl)
       (rw (backquote-is a.token h) refl)
       (rw h (side-reads hook None d (refl, λ ps. (λ n. tt, λ n. tt))))
   claim-by {c = c} {xs = xs} (arguments {i = i}) d = λ stop.
@@ -238,12 +259,14 @@ module _ {F C K : Type 0} (hook : Hook F C K) where
   claim-by {c = c} assign-level (ran-part {e = e} {xs = xs} {ms = ms} de h d) =
       gave-ran hook (λ u us. Claim hook Assign c xs us u) d
       (λ stop. let (u, n) = both (ends_unary ms) (no_assign_at (first ms)) stop.0 in
-      level-reads hook c xs ms e (begins de) (settle hook (Level 1) c xs ms e (good de) h (omega arith, u, stop.1))
+      let (q, v) = both (no_link true ms && no_arrow ms) (no_update_at (first ms)) u in
+      level-reads hook c xs ms e (begins de) (both (no_link true ms) (no_arrow ms) q).1
+      (settle hook (Level 1) (at_head c) xs ms e (good de) h (omega arith, u, stop.1))
       ∙ assigns-end hook c e ms n)
   claim-by {c = c} {ys = ys} cond-expr
       (ran-part {e = e} {xs = xs} de h (ran-took {a = a} {xs = us} (ran-held q (ran-part dm k d)))) = λ stop.
-      level-reads hook c xs (a ∷ us) e (begins de)
-      (settle hook (Level 1) c xs (a ∷ us) e (good de) h
+      level-reads hook c xs (a ∷ us) e (begins de) (rw (question-is a.token q) refl)
+      (settle hook (Level 1) (at_head c) xs (a ∷ us) e (good de) h
       (omega arith, question-ends a us q (no-dot-expr (with_in c) us (begins dm)), question-bound c a us q))
       ∙ knot hook (assigns e) c (a ∷ us)
       ∙ rw q (side-reads hook {r = cond_tail c e} (Some 1) (ran-took {a = a} (ran-held q (ran-part dm k d)))
@@ -253,12 +276,60 @@ module _ {F C K : Type 0} (hook : Hook F C K) where
       let (t, d2) = must-ran hook d1 in
       let (q, w, u, b) = assign-token c a us op o in
       λ stop.
-      level-reads hook c xs (a ∷ us) l (begins dl)
-      (operand-climbs hook 0 c xs (a ∷ us) l (omega arith) (h u) ∙ climb-ends hook l 0 c (a ∷ us) (good dl).left b)
+      level-reads hook c xs (a ∷ us) l (begins dl) (assign-no-arrow a us op o)
+      (operand-climbs hook 0 (at_head c) xs (a ∷ us) l (omega arith) (h u)
+      ∙ climb-ends hook l 0 (inner c) (a ∷ us) (good dl).left b)
       ∙ knot hook (assigns l) c (a ∷ us)
-      ∙ rw (q, w, target-apart hook c.context.strict l t)
+      ∙ rw (q, w, target-apart hook c.context.strict l t, target-no-pattern hook c.context.strict l t)
       (side-reads hook {r = assign_tail c l} (Some 1) (ran-took {a = a} d)
       (λ e. ready-given _ _ (assign_here e.token e.span) _ (λ y i m. (refl, λ r. (stop, tt)))))
+  claim-by {c = c} {ys = ys} assign-pattern
+      (ran-part {e = l} {xs = xs} dl h (ran-took {a = a} {xs = us} (ran-held i d))) =
+      let (p, o, d1) = given-ran hook (as_literal c.context.strict l) _ d in
+      let (q, w, u, b) = assign-token c a us assign.Assign (equals-plain a i) in
+      let z = (only (is_pattern l) o).0 in
+      λ stop.
+      level-reads hook c xs (a ∷ us) l (begins dl) (rw (equals-is a.token i) refl)
+      (operand-climbs hook 0 (at_head c) xs (a ∷ us) l (omega arith) (h u)
+      ∙ climb-ends hook l 0 (inner c) (a ∷ us) (good dl).left b)
+      ∙ knot hook (assigns l) c (a ∷ us)
+      ∙ rw (q, w, pattern-apart hook l z)
+      (ap (λ v. exec hook (run hook) (Some 1) (plan v) (a ∷ us))
+      (if-on (is_pattern l) (pattern_tail c l) (assign_tail c l) z)
+      ∙ side-reads hook {r = pattern_tail c l} (Some 1) (ran-took {a = a} (ran-held i d))
+      (λ e j. ready-given _ _ (as_literal c.context.strict l) _ (λ y k. (refl, λ r. (stop, tt)))))
+  claim-by arrow-name d = yielded hook arrow-name refl d
+  claim-by arrow-async-name d = yielded hook arrow-async-name refl d
+  claim-by {c = c} {ys = ys} {t = t} arrow-async-heads (ran-took {a = a} {xs = us} w) = λ stop.
+      let (n, i, (l, hs, ms, dh, k, w2)) = async-heads-parts hook c a us w in
+      lparen-next hook (λ v. run hook (sym Heads) c v ≡ Some (hs, ms) → run hook (sym Assign) c (a ∷ v)
+      ≡ Some (t, ys)) us
+      (lparen-here hook us l (begins dh))
+      (λ s vs h. async-heads-reads hook c a s vs ms ys n hs t i h
+      (here-arrow (first ms) (line-arrow hook (forget hook w2)))
+      (side-reads hook {r = async_arrow_tail c n hs} (Some 2) w2
+      (λ b x y. (refl, λ e. (λ q. (stop.0, body-bound hook c true ys stop.1), tt))))) (k tt)
+  claim-by {c = c} {ys = ys} {t = t} arrow-heads (ran-part {e = hs} {xs = xs} {ms = ms} dh k w) = λ stop.
+      starting (λ v. run hook (sym Heads) c v ≡ Some (hs, ms) → run hook (sym Assign) c v ≡ Some (t, ys))
+      is_lparen xs (begins dh)
+      (λ a us h. subst (λ v. run hook (sym Heads) c (tk v a.had_line_break a.span ∷ us) ≡ Some (hs, ms)
+      → run hook (sym Assign) c (tk v a.had_line_break a.span ∷ us) ≡ Some (t, ys)) (sym_path (lparen-is a.token h))
+      (λ i. heads-reads hook c a.had_line_break a.span us ms ys hs t i
+      (here-arrow (first ms) (line-arrow hook (forget hook w)))
+      (side-reads hook {r = arrow_tail c hs} (Some 2) w
+      (λ b x y. (refl, λ e. (λ n. (stop.0, body-bound hook c false ys stop.1), tt)))))) (k tt)
+  claim-by {s = ArrowBody is_async} {c = c} {xs = xs} {ys = ys} p d = λ stop.
+      picks hook (ArrowBody is_async) c xs p (arrow_block is_async c xs) refl (picked-body hook p (forget hook d))
+      (side-reads hook (Some 15) d (ready-body hook {c = c} ys stop p))
+  claim-by {c = c} {xs = xs} {ys = ys} heads d = λ stop.
+      picks hook Heads c xs (heads {c = c}) (pick heads) refl refl
+      (side-reads hook (Some 2) d (λ a h. (
+        refl,
+        λ es. (
+          before-given _ _ (as_params es) _ (λ ps k w. tt),
+          ready-given _ _ (as_params es) _ (λ ps k w. tt),
+        ),
+      )))
   claim-by yield-alone d = yielded hook yield-alone refl d
   claim-by yield-expr d = yielded hook yield-expr refl d
   claim-by yield-star d = yielded hook yield-star refl d

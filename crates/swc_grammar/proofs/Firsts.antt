@@ -1,9 +1,9 @@
 -- What a reading begins with; so it takes a token at least.
-use Rattle.std.specs.Prelude.{◌≡◌, Bool, true, false, ◌&&◌, ◌||◌, not, suc, ◌≤◌, length, List, [], ◌∷◌, ◌++◌}
-use Rattle.std.specs.Prelude.{Option, Some, None, if◌then◌else◌, codes}
+use Rattle.std.specs.Prelude.{◌≡◌, Bool, true, false, ◌&&◌, ◌||◌, not, suc, ◌≤◌, length, List, ◌∷◌, ◌++◌, []}
+use Rattle.std.specs.Prelude.{Option, Some, None, codes, if◌then◌else◌}
 use Rattle.std.proofs.Common.{refl, sym, ap, subst, arith}
 use Rattle.std.proofs.lemmas.List.{length-append}
-use Rattle.swc_context.specs.Texts.{is_text}
+use Rattle.swc_context.specs.Texts.{is_text, is_one_of}
 use Rattle.swc_context.specs.declared.operator.AssignOp.TheVariants as assign
 use Rattle.swc_context.specs.declared.operator.BinOpToken.TheVariants as sign
 use Rattle.swc_context.specs.declared.operator.UnaryOp.{UnaryOp}
@@ -52,7 +52,7 @@ use Rattle.swc_grammar.specs.Grammar.{pat-props-tail-end, pat-props-tail-more, p
 use Rattle.swc_grammar.specs.Grammar.{pat-prop-default, params-end, params-more, params-rest, params-tail-end}
 use Rattle.swc_grammar.specs.Grammar.{params-tail-more}
 use Rattle.swc_grammar.specs.Reads.{Reads, by, Follows, gave, took, held, calm, part, heard}
-use Rattle.swc_grammar.specs.Clean.{first, is_lit, is_identifier}
+use Rattle.swc_grammar.specs.Clean.{first, is_lit, is_identifier, is_alone}
 use Rattle.swc_grammar.specs.Firsts.{is_first, starts, begins_primary, begins_left, is_left_word, begins_operand}
 use Rattle.swc_grammar.specs.Firsts.{begins_expression, begins_key, begins_prop, is_text_token, begins_pat}
 use Rattle.swc_grammar.specs.Firsts.{is_name_bound}
@@ -62,6 +62,16 @@ use Rattle.swc_grammar.proofs.Cut.{follows-length}
 use Rattle.swc_grammar.proofs.Only.{backquote-is, brace-is, class-is, colon-is, comma-is, dots-is, hash-is, import-is}
 use Rattle.swc_grammar.proofs.Only.{lbracket-is, lparen-is, new-is, rbrace-is, rbracket-is, rparen-is, star-is}
 use Rattle.swc_grammar.proofs.Only.{super-is, this-is}
+use Rattle.swc_grammar.specs.Scope.{in_context}
+use Rattle.swc_grammar.specs.Rule.{peek_two}
+use Rattle.swc_grammar.specs.Symbols.{ArrowBody}
+use Rattle.swc_grammar.specs.Grammar.{assign-pattern, heads, async-ident, async-call, arrow-async-name}
+use Rattle.swc_grammar.specs.Grammar.{arrow-async-heads, arrow-name, arrow-heads, body-block, body-expr}
+use Rattle.swc_context.specs.Words.{word_text}
+use Rattle.swc_grammar.specs.Arrows.{arrow_name, binds_alone, arrow_body, async_name, is_arrow_word}
+use Rattle.swc_context.specs.declared.word.Word.{Word}
+use Rattle.swc_grammar.specs.Reads.{calm-two}
+use Rattle.swc_context.specs.Reserved.{strict_binding_words}
 
 -- X holds where the rest of a side, behind the token that it tests, can be followed
 abbrev pub Under : {F C K A : Type 0} → Type 0 → Rule Symbol (Answer F C K) Body (Value F C K) A → Type 0
@@ -76,6 +86,7 @@ Opens P never = Unit {0}
 Opens P (take f) = (a : TokenAndSpan) → Under (P a.token ≡ true) (f a)
 Opens P (check b r) = b ≡ true → Opens P r
 Opens P (peek p r) = Opens P r
+Opens P (peek_two p r) = Opens P r
 Opens P (read s c f) = (t : Token) → starts s c t ≡ true → P t ≡ true
 Opens P (hear b c f) = (own : List TokenAndSpan) → begins_body b own ≡ true → at_token P (first own) ≡ true
 
@@ -167,6 +178,58 @@ reference-first c (token.Word w) s n h =
     let own : is_identifier c.context (token.Word w) ≡ true = rw (d, b) refl in
     (own, or-left (is_identifier c.context (token.Word w)) (is_first (token.Word w)) own)
 reference-first c t s n h = absurd cc
+
+-- arrow functions
+pub put-token : (w : Word) → is_put_off w ≡ true → is_async (token.Word w) ≡ true
+put-token (word.Ident w) h = h
+put-token w h = absurd cc
+
+put-first : (w : Word) → is_put_off w ≡ true → is_first (token.Word w) ≡ true
+put-first (word.Ident w) h = h
+put-first w h = absurd cc
+
+pub async-token : (c : Scope) (t : Token) (s : Span) (n : Spelling) → async_name c t s ≡ Some n → is_async t ≡ true
+async-token c (token.Word w) s n h =
+    put-token w (both (may_refer c.context w) (is_put_off w) (passed (may_refer c.context w && is_put_off w) _ n h)).1
+async-token c t s n h = absurd cc
+
+pub async-first : (c : Scope) (t : Token) (s : Span) (n : Spelling) → async_name c t s ≡ Some n
+    → begins_primary c t ≡ true
+async-first c (token.Word w) s n h =
+    by-first c (token.Word w)
+    (put-first w (both (may_refer c.context w) (is_put_off w) (passed (may_refer c.context w && is_put_off w) _ n h)).1)
+async-first c t s n h = absurd cc
+
+joined : (a b : Bool) → a ≡ true → b ≡ true → (a && b) ≡ true
+joined a b h k = rw (h, k) refl
+
+-- a reference that an arrow may stand behind, whether it may be bound or not
+pub alone-first : (c : Scope) (t : Token) → is_alone c.context t ≡ true → begins_primary c t ≡ true
+alone-first c (token.Word w) h = by-word (is_put_off w) refl (both (is_reference c.context w) (is_arrow_word w) h).0
+  where
+    by-word : (y : Bool) → is_put_off w ≡ y → is_reference c.context w ≡ true → begins_primary c (token.Word w) ≡ true
+    by-word true e a = by-first c (token.Word w) (put-first w e)
+    by-word false e a =
+        let own : is_identifier c.context (token.Word w) ≡ true = rw (a, e) refl in
+        or-left (is_identifier c.context (token.Word w)) (is_first (token.Word w)) own
+alone-first c t h = absurd cc
+
+pub arrow-alone : (c : Scope) (t : Token) (s : Span) (n : Spelling) → arrow_name c t s ≡ Some n
+    → is_alone c.context t ≡ true
+arrow-alone c (token.Word w) s n h =
+    let (a, b) =
+    both (may_refer c.context w) (binds_alone c.context w)
+    (passed (may_refer c.context w && binds_alone c.context w) _ n h) in
+    joined (is_reference c.context w) (is_arrow_word w) (both (is_reference c.context w) (ref_ok c.context w) a).0
+    (both (is_arrow_word w) (not ((c.context.module && c.context.strict) && is_one_of
+    (word_text w) strict_binding_words)) b).0
+arrow-alone c t s n h = absurd cc
+
+block-first : (c : Scope) (is_async : Bool) (own : List TokenAndSpan) → begins_own is_brace own ≡ true
+    → at_token (starts (ArrowBody is_async) c) (first own) ≡ true
+block-first c is_async [] h = absurd cc
+block-first c is_async (t ∷ ts) h =
+    or-left (is_brace t.token) (begins_expression (in_context (arrow_body is_async) c) t.token) h
 
 -- patterns
 pub binding-first : (c : Scope) (t : Token) (s : Span) (n : Spelling) → binding c t s ≡ Some n → begins_pat c t ≡ true
@@ -305,6 +368,7 @@ module _ {F C K : Type 0} where
   under-held (took d) h = h
   under-held (held b d) h = under-held d (h b)
   under-held (calm b d) h = h
+  under-held (calm-two b d) h = h
   under-held (part e d) h = h
   under-held (heard e d) h = h
 
@@ -312,6 +376,10 @@ module _ {F C K : Type 0} where
   opens : {s : Symbol} {c : Scope} {r : Side F C K s} → Production s c r → Opens (starts s c) r
   opens (ident-expr {c = c}) =
       λ a. under-given _ (reference c a.token a.span) _ (λ n h. (reference-first c a.token a.span n h).1)
+  opens (async-ident {c = c}) =
+      λ a. under-given _ (async_name c a.token a.span) _ (λ n h. async-first c a.token a.span n h)
+  opens (async-call {c = c}) =
+      λ a. under-given _ (async_name c a.token a.span) _ (λ n h k. async-first c a.token a.span n h)
   opens lit = λ a. under-given _ (lit_of a.token a.span) _ (λ e h. lit-first a.token a.span e h)
   opens (this-expr {c = c}) = λ a h. by-first c a.token (rw (this-is a.token h) refl)
   opens (primary-literal {c = c}) = λ t h. by-first c t (lit-is-first t h)
@@ -405,6 +473,7 @@ module _ {F C K : Type 0} where
   opens (yield-alone {c = c}) = λ a h k. expression-yield c a.token h k
   opens (yield-expr {c = c}) = λ a h k. expression-yield c a.token h k
   opens (yield-star {c = c}) = λ a h k. expression-yield c a.token h k
+  opens (assign-pattern {c = c}) = λ t h. expression-operand c t h
   opens exprs-one = λ t h. h
   opens exprs-more = λ t h. h
   opens seq-expr = λ t h. h
@@ -440,6 +509,25 @@ module _ {F C K : Type 0} where
       or-left (begins_pat c t || is_dots t) (is_rparen t) (or-right (begins_pat c t) (is_dots t) h)
   opens (params-tail-end {c = c}) = λ a h. rw (rparen-is a.token h) refl
   opens (params-tail-more {c = c}) = λ a h. rw (comma-is a.token h) refl
+  opens heads = λ a h. h
+  opens (arrow-name {c = c}) = λ a. under-given _ (arrow_name c a.token a.span) _
+      (λ n h. expression-operand c a.token (operand-left c a.token
+      (or-left (begins_primary c a.token) (is_left_word a.token)
+      (alone-first c a.token (arrow-alone c a.token a.span n h)))))
+  opens (arrow-heads {c = c}) =
+      λ t h. expression-operand c t (operand-left c t (or-left (begins_primary c t) (is_left_word t)
+      (by-first c t (rw (lparen-is t h) refl))))
+  opens (arrow-async-name {c = c}) = λ a. under-given _ (async_name c a.token a.span) _
+      (λ n h. expression-operand c a.token (operand-left c a.token
+      (or-left (begins_primary c a.token) (is_left_word a.token)
+      (async-first c a.token a.span n h))))
+  opens (arrow-async-heads {c = c}) = λ a. under-given _ (async_name c a.token a.span) _
+      (λ n h. expression-operand c a.token (operand-left c a.token
+      (or-left (begins_primary c a.token) (is_left_word a.token)
+      (async-first c a.token a.span n h))))
+  opens (body-block {c = c} {is_async = is_async}) = λ own h. block-first c is_async own h
+  opens (body-expr {c = c} {is_async = is_async}) =
+      λ t h. or-right (is_brace t) (begins_expression (in_context (arrow_body is_async) c) t) h
 
   mutual
     pub begins : {hook : Hook F C K} {s : Symbol} {c : Scope} {xs ys : List TokenAndSpan} {t : Answer F C K s}
@@ -452,6 +540,7 @@ module _ {F C K : Type 0} where
     begins-side (took {a = a} d) P o = under-held d (o a)
     begins-side (held b d) P o = begins-side d P (o b)
     begins-side (calm b d) P o = begins-side d P o
+    begins-side (calm-two b d) P o = begins-side d P o
     begins-side (part {xs = xs} e d) P o = at-every _ P (first xs) o (begins e)
     begins-side (heard {b = b} {ms = ms} h d) P o =
         subst (λ v. at_token P (first v) ≡ true) (sym h.list)
@@ -462,6 +551,7 @@ module _ {F C K : Type 0} where
   Leads (gives a) = ⊥
   Leads (check b r) = Leads r
   Leads (peek p r) = Leads r
+  Leads (peek_two p r) = Leads r
   Leads x = Unit {0}
 
   leads : {s : Symbol} {c : Scope} {r : Side F C K s} → Production s c r → Leads r
@@ -549,6 +639,7 @@ module _ {F C K : Type 0} where
   leads yield-alone = tt
   leads yield-expr = tt
   leads yield-star = tt
+  leads assign-pattern = tt
   leads exprs-one = tt
   leads exprs-more = tt
   leads seq-expr = tt
@@ -577,6 +668,15 @@ module _ {F C K : Type 0} where
   leads params-rest = tt
   leads params-tail-end = tt
   leads params-tail-more = tt
+  leads heads = tt
+  leads arrow-name = tt
+  leads arrow-heads = tt
+  leads async-ident = tt
+  leads async-call = tt
+  leads arrow-async-name = tt
+  leads arrow-async-heads = tt
+  leads body-block = tt
+  leads body-expr = tt
 
   mutual
     pub takes : {hook : Hook F C K} {s : Symbol} {c : Scope} {xs ys : List TokenAndSpan} {t : Answer F C K s}
@@ -589,6 +689,7 @@ module _ {F C K : Type 0} where
     takes-side (took d) l = let k = follows-length d in omega arith
     takes-side (held h d) l = takes-side d l
     takes-side (calm h d) l = takes-side d l
+    takes-side (calm-two h d) l = takes-side d l
     takes-side (part e d) l = let j = takes e in let k = follows-length d in omega arith
     takes-side (heard {b = b} {ms = ms} {ys = ys} h d) l =
         let some = body-some b h.own h.begins in

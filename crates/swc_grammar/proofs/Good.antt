@@ -1,8 +1,9 @@
 -- What holds of every tree that the grammar derives: it has no `Invalid` in it, its operators group as the levels say,
 -- and no `??` stands on the left of `||` or `&&`. One clause a production says that its node keeps this; the induction
 -- is done once.
-use Rattle.std.specs.Prelude.{◌≡◌, ℕ, suc, ◌≤◌, Bool, true, false, not, ◌&&◌, ◌||◌, if◌then◌else◌, List, Option, Some, None, IsTrue, nat_le, nat_lt}
-use Rattle.std.specs.Prelude.{nat_eq}
+use Rattle.std.specs.Prelude.{◌≡◌, ℕ, suc, ◌≤◌, Bool, true, false, not, ◌&&◌, ◌||◌, List, Option, Some, None, IsTrue}
+use Rattle.std.specs.Prelude.{nat_le, nat_lt}
+use Rattle.std.specs.Prelude.{nat_eq, if◌then◌else◌}
 use Rattle.std.proofs.Common.{refl, subst, arith}
 use Rattle.std.proofs.lemmas.Bool.{eqb-true, ltb-true, le-leb, lt-ltb}
 use Rattle.swc_context.specs.Operators.{precedence_of}
@@ -25,7 +26,7 @@ use Rattle.swc_ast.specs.Trees.{held_expr, held_exprs, seq_of, paren_e, params_e
 use Rattle.swc_ast.specs.Trees.{is_chain, chain_e, link_e, member_e, call_e, name_e, private_e, computed_e}
 use Rattle.swc_ast.specs.Trees.{hole_e, left_ok}
 use Rattle.swc_grammar.specs.Scope.{Scope}
-use Rattle.swc_grammar.specs.Rule.{Rule, gives, never, take, check, peek, read, hear, given, ◌>>=◌}
+use Rattle.swc_grammar.specs.Rule.{Rule, gives, never, take, check, peek, peek_two, read, hear, given, ◌>>=◌}
 use Rattle.swc_bodies.specs.Readings.{Hook}
 use Rattle.swc_grammar.specs.Symbols.{Symbol, Expr, Level, Unary, Lhs, Left, Base, Primary, Literal, Template, Parts, Prop, Key, AfterKey}
 use Rattle.swc_grammar.specs.Symbols.{Answer, Body}
@@ -58,6 +59,13 @@ use Rattle.swc_grammar.specs.Grammar.{params-tail-more}
 use Rattle.swc_grammar.specs.Reads.{Reads, by, Follows, gave, took, held, calm, part, heard}
 use Rattle.swc_grammar.specs.Parts.{binding}
 use Rattle.swc_grammar.proofs.Answers.{inj, both, only}
+use Rattle.swc_grammar.specs.Reads.{calm-two}
+use Rattle.swc_grammar.specs.Arrows.{arrow_name, async_name, async_param}
+use Rattle.swc_grammar.specs.Grammar.{async-ident, async-call, arrow-async-name, arrow-async-heads, arrow-name}
+use Rattle.swc_grammar.specs.Grammar.{arrow-heads, body-block, body-expr, assign-pattern, heads}
+use Rattle.swc_grammar.specs.Cover.{as_literal, as_params, binding as binding_role}
+use Rattle.swc_ast.specs.Trees.{comma_of}
+use Rattle.swc_grammar.proofs.Kept.{literal-kept, literal-tight, elements-kept}
 
 -- how loosely a symbol's trees may hold together
 abbrev pub loosest : Symbol → ℕ
@@ -85,6 +93,7 @@ Keeps P never = Unit {0}
 Keeps P (take f) = (a : TokenAndSpan) → Keeps P (f a)
 Keeps P (check b r) = b ≡ true → Keeps P r
 Keeps P (peek p r) = Keeps P r
+Keeps P (peek_two p r) = Keeps P r
 Keeps {F} {C} {K} P (read s c f) = (e : Answer F C K s) → Good F C K s e → Keeps P (f e)
 Keeps {F} {C} {K} P (hear b c f) = (v : Value F C K b) (s : Span) → Keeps P (f v s)
 
@@ -167,7 +176,7 @@ module _ {F C K : Type 0} where
       looser below n refl refl dl.grouped dr.grouped) (omega arith)
 
   -- what holds of a list holds of its items
-  items-valid : (t : Tree F C K) → is_valid t ≡ true → are_valid (items_of t) ≡ true
+  pub items-valid : (t : Tree F C K) → is_valid t ≡ true → are_valid (items_of t) ≡ true
   items-valid (node k s ts) h = (both (not (is_invalid k)) (are_valid ts) h).1
 
   items-grouped : (t : Tree F C K) → is_grouped t ≡ true → are_grouped (items_of t) ≡ true
@@ -396,6 +405,10 @@ module _ {F C K : Type 0} where
   keeps : {s : Symbol} {c : Scope} {r : Side F C K s} → Production s c r → Keeps (Good F C K s) r
   keeps (ident-expr {c = c}) =
       λ a. keeps-given _ (reference c a.token a.span) _ (λ n h. leaf _ refl refl refl (omega arith))
+  keeps (async-ident {c = c}) =
+      λ a. keeps-given _ (async_name c a.token a.span) _ (λ n h. leaf _ refl refl refl (omega arith))
+  keeps (async-call {c = c}) = λ a. keeps-given _ (async_name c a.token a.span) _
+      (λ n h d b l p es g k. leaf _ (items-valid es g.valid) refl (items-grouped es g.grouped) (omega arith))
   keeps this-expr = λ a h. leaf _ refl refl refl (omega arith)
   keeps lit = λ a. keeps-given _ (lit_of a.token a.span) _ (λ e h. lit-good a.token a.span e h)
   keeps primary-literal = λ e g. looser g.tight g
@@ -520,6 +533,10 @@ module _ {F C K : Type 0} where
   keeps yield-alone = λ a h k. leaf _ refl refl refl (omega arith)
   keeps yield-expr = λ a h k e g. leaf _ (rw g.valid refl) refl (rw g.grouped refl) (omega arith)
   keeps yield-star = λ a h k b i j e g. leaf _ (rw g.valid refl) refl (rw g.grouped refl) (omega arith)
+  keeps (assign-pattern {c = c}) = λ l g a h. keeps-given _ (as_literal c.context.strict l) _
+      (λ p k r d. let w = literal-kept c.context.strict l p k (g.valid, g.grouped) in
+      leaf _ (rw (w.0, d.valid) refl) refl (rw (literal-tight c.context.strict l p k, w.1, d.grouped) refl)
+      (omega arith))
   keeps exprs-one = λ e g. leaf _ (rw g.valid refl) refl (rw g.grouped refl) (omega arith)
   keeps exprs-more = λ es g a h e d.
       leaf _ (append-valid (items_of es) (cons e nil) (items-valid es g.valid) (rw d.valid refl)) refl
@@ -564,6 +581,23 @@ module _ {F C K : Type 0} where
   keeps params-rest = λ e g a h. leaf _ (rw g.valid refl) refl (rw g.grouped refl) (omega arith)
   keeps params-tail-end = λ a h. leaf _ refl refl refl (omega arith)
   keeps params-tail-more = λ a h es g. looser (omega arith) g
+  keeps (arrow-name {c = c}) = λ a. keeps-given _ (arrow_name c a.token a.span) _
+      (λ n h b x y e g. leaf _ (rw g.valid refl) refl (rw g.grouped refl) (omega arith))
+  keeps arrow-heads = λ hs g a x y e d.
+      leaf _ (rw (d.valid, items-valid hs g.valid) refl) refl (rw (d.grouped, items-grouped hs g.grouped) refl)
+      (omega arith)
+  keeps (arrow-async-name {c = c}) = λ a. keeps-given _ (async_name c a.token a.span) _
+      (λ m j b l. keeps-given _ (async_param c b.token b.span) _
+      (λ n h x y e d. leaf _ (rw d.valid refl) refl (rw d.grouped refl) (omega arith)))
+  keeps (arrow-async-heads {c = c}) = λ b. keeps-given _ (async_name c b.token b.span) _ (λ m j hs g a x y e d.
+      leaf _ (rw (d.valid, items-valid hs g.valid) refl) refl (rw (d.grouped, items-grouped hs g.grouped) refl)
+      (omega arith))
+  keeps body-block = λ v s. leaf _ refl refl refl (omega arith)
+  keeps body-expr = λ e g. looser (omega arith) g
+  keeps heads = λ a h es g. keeps-given _ (as_params es) _
+      (λ ps k w. let z = elements-kept binding_role (comma_of es) (items_of es) ps k
+      (items-valid es g.valid, items-grouped es g.grouped) in
+      leaf _ z.0 refl z.1 (omega arith))
 
   mutual
     pub good : {hook : Hook F C K} {s : Symbol} {c : Scope} {xs ys : List TokenAndSpan} {t : Answer F C K s}
@@ -576,6 +610,7 @@ module _ {F C K : Type 0} where
     good-side (took {a = a} d) k = good-side d (k a)
     good-side (held b d) k = good-side d (k b)
     good-side (calm b d) k = good-side d k
+    good-side (calm-two b d) k = good-side d k
     good-side (part {e = t} e d) k = good-side d (k t (good e))
     good-side (heard {v = v} h d) k = good-side d (k v _)
 

@@ -1,3 +1,5 @@
+mod ArrowRows
+mod AsyncRows
 mod MethodRows
 mod Parts
 mod PatternRows
@@ -13,18 +15,22 @@ pub mod Cut
 pub mod Direct
 pub mod Firsts
 pub mod Good
+pub mod Head
 pub mod Induct
+pub mod Kept
 pub mod Knot
 pub mod Levels
 pub mod Literals
 pub mod MarkedBinds
 pub mod Marks
+pub mod Meets
 pub mod Members
 pub mod MethodBinds
 pub mod Names
 pub mod One
 pub mod Only
 pub mod Openings
+pub mod Related
 pub mod Rules
 pub mod Sound
 pub mod Texts

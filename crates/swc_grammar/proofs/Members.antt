@@ -9,7 +9,7 @@ use Rattle.swc_input.specs.Kinds.{at_token, is_hash}
 use Rattle.swc_ast.specs.Tree.{Tree, span_of}
 use Rattle.swc_ast.specs.Trees.{to, new_e, bare_new_e, is_chain, items_of}
 use Rattle.swc_bodies.specs.Readings.{Hook}
-use Rattle.swc_grammar.specs.Scope.{Scope}
+use Rattle.swc_grammar.specs.Scope.{Scope, with_head, inner}
 use Rattle.swc_grammar.specs.Rule.{take, read, symbol}
 use Rattle.swc_grammar.specs.Symbols.{Lhs, Left, Base, Args, Side}
 use Rattle.swc_grammar.specs.Tokens.{with_in, is_dot, is_lbracket, is_backquote, is_question, is_lparen, is_super, is_import, is_new}
@@ -43,8 +43,11 @@ module _ {F C K : Type 0} {c : Scope} where
   pub data Beside : Link F C K true c → Link F C K false c → Type 0 where
     none_left : {x : Link F C K true c} → Beside x no_more
     same_link : {f : Tree F C K → TokenAndSpan → Side F C K (Left true)}
-        {p : Production (Left true) c (read (Left true) c (λ l. take (λ t. f l t)))}
-        {q : Production (Left false) c (read (Left false) c (λ l. take (λ t. f l t)))} → Beside (more p) (more q)
+        {p : (i : Bool) → Production (Left true) (with_head i c)
+        (read (Left true) (with_head i c) (λ l. take (λ t. f l t)))}
+        {q : (i : Bool) → Production (Left false) (with_head i c)
+        (read (Left false) (with_head i c) (λ l. take (λ t. f l t)))}
+        → Beside (more p) (more q)
 
   beside_if : (d : Bool) {x y : Link F C K true c} {u v : Link F C K false c} → Beside x u → Beside y v
       → Beside (if d then x else y) (if d then u else v)
@@ -109,7 +112,8 @@ module _ {F C K : Type 0} (hook : Hook F C K) where
 
   link_step : {b : Bool} {c : Scope} (l : Tree F C K) (t : TokenAndSpan) (us : List TokenAndSpan)
       {f : Tree F C K → TokenAndSpan → Side F C K (Left b)}
-      (p : Production (Left b) c (read (Left b) c (λ e. take (λ u. f e u)))) → link b c (t ∷ us) ≡ more p
+      (p : (i : Bool) → Production (Left b) (with_head i c) (read (Left b) (with_head i c) (λ e. take (λ u. f e u))))
+      → link b c (t ∷ us) ≡ more p
       → run hook (links b l) c (t ∷ us)
       ≡ and_then (exec hook (run hook) None (plan (f l t)) us) (λ e vs. run hook (links b e) c vs)
   link_step {b} {c} l t us {f = f} p h =
@@ -121,7 +125,8 @@ module _ {F C K : Type 0} (hook : Hook F C K) where
 
   link_none : {b : Bool} {c : Scope} (l : Tree F C K)
       {f : Tree F C K → TokenAndSpan → Side F C K (Left b)}
-      (p : Production (Left b) c (read (Left b) c (λ e. take (λ u. f e u)))) → link b c [] ≡ more p
+      (p : (i : Bool) → Production (Left b) (with_head i c) (read (Left b) (with_head i c) (λ e. take (λ u. f e u))))
+      → link b c [] ≡ more p
       → run hook (links b l) c [] ≡ None
   link_none {b} {c} l p h =
       knot hook (links b l) c [] ∙ ap (λ v. exec hook (run hook) (Some 1) (linked v l) []) h
@@ -224,33 +229,35 @@ module _ {F C K : Type 0} (hook : Hook F C K) where
   -- ---- left-hand sides
 
   on_base : (b : Bool) (c : Scope) (ts : List TokenAndSpan) → begins_new ts ≡ false
-      → run hook (sym (Lhs b)) c ts ≡ and_then (run hook (sym (Base b)) c ts) (λ e us. run hook (links b e) c us)
+      → run hook (sym (Lhs b)) c ts
+      ≡ and_then (run hook (sym (Base b)) c ts) (λ e us. run hook (links b e) (inner c) us)
   on_base b c ts h =
       knot hook (sym (Lhs b)) c ts
-      ∙ rw h (then_all (run hook (sym (Base b)) c ts) _ (λ e us. run hook (links b e) c us)
-      (λ e us. last hook (Some 10) (links b e) c us refl))
+      ∙ rw h (then_all (run hook (sym (Base b)) c ts) _ (λ e us. run hook (links b e) (inner c) us)
+      (λ e us. last hook (Some 10) (links b e) (inner c) us refl))
 
   on_new : (b : Bool) (c : Scope) (t : TokenAndSpan) (us : List TokenAndSpan) → begins_new (t ∷ us) ≡ true
       → run hook (sym (Lhs b)) c (t ∷ us)
-      ≡ and_then (run hook (sym (Lhs false)) c us)
-      (λ l vs. if not (is_chain l) then run hook (constructs b t.span l) c vs else None)
+      ≡ and_then (run hook (sym (Lhs false)) (inner c) us)
+      (λ l vs. if not (is_chain l) then run hook (constructs b t.span l) (inner c) vs else None)
   on_new b c t us h =
       knot hook (sym (Lhs b)) c (t ∷ us)
-      ∙ rw h (then_all (run hook (sym (Lhs false)) c us) _
-      (λ l vs. if not (is_chain l) then run hook (constructs b t.span l) c vs else None)
-      (λ l vs. ap (λ o. if not (is_chain l) then o else None) (last hook None (constructs b t.span l) c vs refl)))
+      ∙ rw h (then_all (run hook (sym (Lhs false)) (inner c) us) _
+      (λ l vs. if not (is_chain l) then run hook (constructs b t.span l) (inner c) vs else None)
+      (λ l vs. ap (λ o. if not (is_chain l) then o else None)
+      (last hook None (constructs b t.span l) (inner c) vs refl)))
 
   lhs_end : (n : ℕ) (c : Scope) (ts : List TokenAndSpan) (r : Tree F C K × List TokenAndSpan) → length ts ≤ n
       → (p : Bool) → begins_new ts ≡ p → run hook (sym (Lhs false)) c ts ≡ Some r → no_link false r.1 ≡ true
   lhs_end n c ts r h false k e =
       let (p, a, b) = then-ok (run hook (sym (Base false)) c ts) _ (flip (on_base false c ts k) ∙ e) in
-      links_end (length p.1) c p.0 p.1 r (omega arith) b
+      links_end (length p.1) (inner c) p.0 p.1 r (omega arith) b
   lhs_end n c [] r h true k e = absurd cc
   lhs_end zero c (t ∷ us) r h true k e = absurd (omega (arith, h))
   lhs_end (suc n) c (t ∷ us) r h true k e =
-      let (p, a, b) = then-ok (run hook (sym (Lhs false)) c us) _ (flip (on_new false c t us k) ∙ e) in
+      let (p, a, b) = then-ok (run hook (sym (Lhs false)) (inner c) us) _ (flip (on_new false c t us k) ∙ e) in
       let (x, d) = only (not (is_chain p.0)) b in
-      constructs_end t.span p.0 c p.1 r (lhs_end n c us p (omega (arith, h)) (begins_new us) refl a)
+      constructs_end t.span p.0 (inner c) p.1 r (lhs_end n (inner c) us p (omega (arith, h)) (begins_new us) refl a)
       (at_token is_lparen (first p.1)) refl d
 
   base_by : (c : Scope) (ts : List TokenAndSpan) (d : Bool)
@@ -273,30 +280,34 @@ module _ {F C K : Type 0} (hook : Hook F C K) where
 
   parts_by : (c : Scope) (ts : List TokenAndSpan) → at_token is_super (first ts) ≡ false
       → at_token is_import (first ts) ≡ false → (p : Bool) → begins_new ts ≡ p
-      → run hook (sym (Lhs true)) c ts ≡ and_then (run hook (sym (Lhs false)) c ts) (with_calls c)
+      → run hook (sym (Lhs true)) c ts ≡ and_then (run hook (sym (Lhs false)) c ts) (with_calls (inner c))
   parts_by c ts h k false n =
       let base = run hook (sym (Base false)) c ts in
       on_base true c ts n
-      ∙ ap (λ o. and_then o (with_calls c)) (base_same c ts h k)
-      ∙ then_all base (with_calls c) (λ e us. and_then (run hook (links false e) c us) (with_calls c))
-      (λ e us. links_split (length us) c e us (omega arith))
-      ∙ flip (then_then base (λ e us. run hook (links false e) c us) (with_calls c))
-      ∙ flip (ap (λ o. and_then o (with_calls c)) (on_base false c ts n))
+      ∙ ap (λ o. and_then o (with_calls (inner c))) (base_same c ts h k)
+      ∙ then_all base (with_calls (inner c)) (λ e us. and_then (run hook (links false e) (inner c) us)
+      (with_calls (inner c)))
+      (λ e us. links_split (length us) (inner c) e us (omega arith))
+      ∙ flip (then_then base (λ e us. run hook (links false e) (inner c) us) (with_calls (inner c)))
+      ∙ flip (ap (λ o. and_then o (with_calls (inner c))) (on_base false c ts n))
   parts_by c [] h k true n = absurd cc
   parts_by c (t ∷ us) h k true n =
-      let callee = run hook (sym (Lhs false)) c us in
+      let callee = run hook (sym (Lhs false)) (inner c) us in
       on_new true c t us n
       ∙ then-same callee callee _
-      (λ l vs. and_then (if not (is_chain l) then run hook (constructs false t.span l) c vs else None) (with_calls c)) refl
-      (λ r e. if_then (not (is_chain r.0)) _ _ (with_calls c)
-      (constructs_split t.span r.0 c r.1 (lhs_end (length us) c us r (omega arith) (begins_new us) refl e)
+      (λ l vs. and_then (if not (is_chain l) then run hook (constructs false t.span l) (inner c) vs else None)
+      (with_calls (inner c))) refl
+      (λ r e. if_then (not (is_chain r.0)) _ _ (with_calls (inner c))
+      (constructs_split t.span r.0 (inner c) r.1 (lhs_end (length us) (inner c) us r (omega arith)
+      (begins_new us) refl e)
       (at_token is_lparen (first r.1)) refl))
       ∙ flip (then_then callee
-      (λ l vs. if not (is_chain l) then run hook (constructs false t.span l) c vs else None) (with_calls c))
-      ∙ flip (ap (λ o. and_then o (with_calls c)) (on_new false c t us n))
+      (λ l vs. if not (is_chain l) then run hook (constructs false t.span l) (inner c) vs else None)
+      (with_calls (inner c)))
+      ∙ flip (ap (λ o. and_then o (with_calls (inner c))) (on_new false c t us n))
 
   -- one that holds no calls, and links behind it that may be calls
   pub lhs_parts : (c : Scope) (ts : List TokenAndSpan) → at_token is_super (first ts) ≡ false
       → at_token is_import (first ts) ≡ false
-      → run hook (sym (Lhs true)) c ts ≡ and_then (run hook (sym (Lhs false)) c ts) (with_calls c)
+      → run hook (sym (Lhs true)) c ts ≡ and_then (run hook (sym (Lhs false)) c ts) (with_calls (inner c))
   lhs_parts c ts h k = parts_by c ts h k (begins_new ts) refl

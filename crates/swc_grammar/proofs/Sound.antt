@@ -19,16 +19,16 @@ use Rattle.swc_input.specs.declared.token.TokenAndSpan.{TokenAndSpan}
 use Rattle.swc_input.specs.Kinds.{at_token}
 use Rattle.swc_context.specs.declared.operator.UnaryOp.{UnaryOp}
 use Rattle.swc_ast.specs.Tree.{Tree, Trees, nil, cons, span_of}
-use Rattle.swc_ast.specs.Trees.{new_e, bare_new_e, is_chain, items_of, exprs_e, seq_of, is_operation}
-use Rattle.swc_ast.specs.Trees.{to, bin_e, nullish_ok, logical_ok, exp_ok, min_right, left_ok}
-use Rattle.swc_bodies.specs.Readings.{whole_span, Hook, LawfulHook}
-use Rattle.swc_grammar.specs.Scope.{Scope}
-use Rattle.swc_grammar.specs.Rule.{gives, never, take, check, peek, read, hear, sees, given, ◌>>=◌}
+use Rattle.swc_ast.specs.Trees.{new_e, bare_new_e, is_chain, items_of, exprs_e, seq_of, is_operation, no_covers}
+use Rattle.swc_ast.specs.Trees.{to, bin_e, nullish_ok, logical_ok, exp_ok, min_right, left_ok, paren_ok, listed}
+use Rattle.swc_bodies.specs.Readings.{whole_span, Hook, LawfulHook, is_async as is_async_word}
+use Rattle.swc_grammar.specs.Scope.{Scope, with_head, at_head, inner}
+use Rattle.swc_grammar.specs.Rule.{gives, never, take, check, peek, read, hear, sees, given, ◌>>=◌, peek_two, sees_two}
 use Rattle.swc_grammar.specs.Tokens.{with_in, binary_of, is_power, is_lparen, is_new, is_update, is_await, is_question}
 use Rattle.swc_grammar.specs.Tokens.{is_assign, is_comma}
 use Rattle.swc_grammar.specs.Parts.{operator_here}
 use Rattle.swc_grammar.specs.Symbols.{Symbol, Expr, Exprs, Assign, Level, Unary, Lhs, Left, Arguments, Args, ArgsTail, Primary}
-use Rattle.swc_grammar.specs.Symbols.{Literal, Template, Parts, Base}
+use Rattle.swc_grammar.specs.Symbols.{Literal, Template, Parts, Base, Heads, ArrowBody}
 use Rattle.swc_grammar.specs.Symbols.{Elements, ElementsTail}
 use Rattle.swc_grammar.specs.Symbols.{Item, Props, PropsTail, Prop, Key, AfterKey, Shell, Answer, Body, Value}
 use Rattle.swc_grammar.specs.Symbols.{reading_of, Side}
@@ -36,26 +36,33 @@ use Rattle.swc_grammar.specs.Symbols.{Pat, Element, Rest, PatElements, PatElemen
 use Rattle.swc_grammar.specs.Symbols.{PatProp, Params, ParamsTail}
 use Rattle.swc_grammar.specs.Grammar.{exp-unary, exp-op, level-up, bin-op, lhs-left, left-base, new-bare, left-new}
 use Rattle.swc_grammar.specs.Grammar.{unary-left, update-postfix, update-prefix, unary-op, assign-level, cond-expr}
-use Rattle.swc_grammar.specs.Grammar.{assign-expr, exprs-one, exprs-more, seq-expr}
-use Rattle.swc_grammar.specs.Grammar.{element-pat, element-default, pat-rest}
-use Rattle.swc_grammar.specs.Reads.{Hears, Reads, by, Follows, gave, took, held, calm, part, heard}
+use Rattle.swc_grammar.specs.Grammar.{assign-expr, exprs-one, exprs-more, seq-expr, assign-pattern, heads, async-call}
+use Rattle.swc_grammar.specs.Grammar.{element-pat, element-default, pat-rest, arrow-async-name, arrow-async-heads}
+use Rattle.swc_grammar.specs.Reads.{Hears, Reads, by, Follows, gave, took, held, calm, part, heard, calm-two}
 use Rattle.swc_grammar.specs.Clean.{first, Call, sym, links, climb, Ans, Plan, plan, Runs, rank_of, rank, allowed, exec}
 use Rattle.swc_grammar.specs.Clean.{constructs, Link, no_more, more, linked, link, base, constructed, constructed_with}
 use Rattle.swc_grammar.specs.Tokens.{is_equals}
-use Rattle.swc_grammar.specs.Clean.{defaults, default_tail, pat, pat_elements, pat_tail, pat_props}
-use Rattle.swc_grammar.specs.Clean.{pat_props_tail, pat_prop, params, params_tail}
-use Rattle.swc_grammar.specs.Clean.{begins_new, lhs, call_args, args, args_tail, tpl, parts}
+use Rattle.swc_grammar.specs.Clean.{defaults, default_tail, pat, pat_elements, pat_tail, pat_props, asyncs, async_head}
+use Rattle.swc_grammar.specs.Clean.{pat_props_tail, pat_prop, params, params_tail, async_heads_tail, async_arrow_tail}
+use Rattle.swc_grammar.specs.Clean.{begins_new, lhs, call_args, args, args_tail, tpl, parts, behind_base, parens}
 use Rattle.swc_grammar.specs.Clean.{updates, assigns, seqs, second, begins_yield, no_update_at, no_error, prefix_at}
 use Rattle.swc_grammar.specs.Clean.{update_tail, cond_tail, assign_tail, exprs_next, exprs_tail, yield_by, await_by, unary_by}
-use Rattle.swc_grammar.specs.Clean.{operator_at, Bound, Choice, none, pick, chosen, expr, assign, unary}
+use Rattle.swc_grammar.specs.Clean.{operator_at, Bound, Choice, none, pick, chosen, expr, assign, unary, heads_tail}
 use Rattle.swc_grammar.specs.Clean.{primary, literal, elements, elements_tail, item, props, props_tail, prop, key}
-use Rattle.swc_grammar.specs.Clean.{after_key, shell}
-use Rattle.swc_grammar.specs.Clean.{turn, turned, step, run_at, measure, run}
+use Rattle.swc_grammar.specs.Clean.{after_key, shell, begins_async_name, begins_async_list, arrow_tail, paren_tail}
+use Rattle.swc_grammar.specs.Clean.{turn, turned, step, run_at, measure, run, listed_head, begins_arrow, arrow_block}
 use Rattle.swc_grammar.proofs.Answers.{then-ok, only, unless, hear-ok, choose, inj, both}
-use Rattle.swc_grammar.proofs.Binds.{bind}
+use Rattle.swc_grammar.proofs.Binds.{bind, apart-read}
 use Rattle.swc_grammar.proofs.Bodies.{before-is, hears}
-use Rattle.swc_grammar.proofs.Firsts.{given-held}
+use Rattle.swc_grammar.proofs.Firsts.{given-held, async-token}
 use Rattle.swc_grammar.proofs.Levels.{lift, min-right-same, below-exp, right-low, bound-none, bound-some, bound-above}
+use Rattle.swc_grammar.specs.Grammar.{arrow-name, arrow-heads, base-primary, paren-expr}
+use Rattle.swc_grammar.specs.Cover.{is_pattern, as_params, heads_ok}
+use Rattle.swc_grammar.specs.Arrows.{is_arrow, async_name}
+use Rattle.swc_grammar.specs.Names.{Spelling}
+use Rattle.swc_grammar.specs.Clean.{assigned, pattern_tail, writes_tail, pick_apart}
+use Rattle.swc_grammar.proofs.Induct.{follows-given}
+use Rattle.swc_grammar.proofs.Only.{lparen-is}
 
 -- What stands on the left of the operators above the precedence m: an operand by itself, or a node, behind which no
 -- operator is read that its own level has to take, and no `**`.
@@ -84,23 +91,31 @@ Means hook (sym (Level (suc m))) c ts r = Reads hook (Level (suc m)) c ts r.1 r.
 Means hook (sym (Lhs b)) c ts r = Sided hook b c ts r.1 r.0
 Means hook (sym s) c ts r = Reads hook s c ts r.1 r.0
 Means hook (constructs b s l) c ts r =
-    (a : TokenAndSpan) (xs : List TokenAndSpan) → is_new a.token ≡ true → a.span ≡ s → not (is_chain l) ≡ true
-    → Sided hook false c xs ts l → Sided hook b c (a ∷ xs) r.1 r.0
+    (i : Bool) (a : TokenAndSpan) (xs : List TokenAndSpan) → is_new a.token ≡ true → a.span ≡ s
+    → not (is_chain l) ≡ true → Sided hook false (inner c) xs ts l → Sided hook b (with_head i c) (a ∷ xs) r.1 r.0
 Means hook (links b l) c ts r =
-    (xs : List TokenAndSpan) → Reads hook (Left b) c xs ts l → Reads hook (Left b) c xs r.1 r.0
+    (i : Bool) (xs : List TokenAndSpan) → Reads hook (Left b) (with_head i c) xs ts l
+    → Reads hook (Left b) (with_head i c) xs r.1 r.0
 Means hook (updates l) c ts r =
-    (xs : List TokenAndSpan) → at_token is_await (first xs) ≡ false → Reads hook (Lhs true) c xs ts l
-    → Reads hook Unary c xs r.1 r.0
+    (i : Bool) (xs : List TokenAndSpan) → at_token is_await (first xs) ≡ false
+    → Reads hook (Lhs true) (with_head i c) xs ts l → Reads hook Unary (with_head i c) xs r.1 r.0
 Means hook (assigns e) c ts r =
-    (xs : List TokenAndSpan) → Reads hook (Level 1) c xs ts e → Reads hook Assign c xs r.1 r.0
+    (xs : List TokenAndSpan) → Reads hook (Level 1) (at_head c) xs ts e → Reads hook Assign c xs r.1 r.0
 Means {F = F} {C = C} {K = K} hook (seqs es) c ts r =
     (xs : List TokenAndSpan) (t : Tree F C K) → items_of t ≡ es → Reads hook Exprs c xs ts t
     → Reads hook Expr c xs r.1 r.0
+Means hook (parens s es) c ts r =
+    (a : TokenAndSpan) (xs : List TokenAndSpan) → is_lparen a.token ≡ true → a.span ≡ s
+    → Reads hook (Args false) (with_in c) xs ts es → Reads hook Assign c (a ∷ xs) r.1 r.0
+Means hook (asyncs n es) c ts r =
+    (a b : TokenAndSpan) (xs : List TokenAndSpan) → async_name c a.token a.span ≡ Some n
+    → not b.had_line_break ≡ true → is_lparen b.token ≡ true
+    → Reads hook (Args false) (with_in c) xs ts es → Reads hook Assign c (a ∷ (b ∷ xs)) r.1 r.0
 Means hook (defaults p) c ts r =
     (xs : List TokenAndSpan) → Reads hook Pat c xs ts p → Reads hook Element c xs r.1 r.0
 Means hook (climb l m) c ts r =
-    m ≤ 10 → (xs : List TokenAndSpan) → OnLeft hook c m xs ts l
-    → Reads hook (Level (suc m)) c xs r.1 r.0 × Bound c m r.1
+    m ≤ 10 → (i : Bool) (xs : List TokenAndSpan) → OnLeft hook (with_head i c) m xs ts l
+    → Reads hook (Level (suc m)) (with_head i c) xs r.1 r.0 × Bound c m r.1
 
 reads-of : {F C K : Type 0} (hook : Hook F C K) (s : Symbol) (c : Scope) (ts : List TokenAndSpan)
     (r : Answer F C K s × List TokenAndSpan) → Means hook (sym s) c ts r → Reads hook s c ts r.1 r.0
@@ -163,6 +178,7 @@ module _ {F C K : Type 0} (hook : Hook F C K)
   side-sound g (take f) (t ∷ ts) r h = took (side-sound None (f t) ts r h)
   side-sound g (check b x) ts r h = let (y, h1) = only b h in held y (side-sound g x ts r h1)
   side-sound g (peek q x) ts r h = let (y, h1) = unless (sees q ts) h in calm y (side-sound g x ts r h1)
+  side-sound g (peek_two q x) ts r h = let (y, h1) = unless (sees_two q ts) h in calm-two y (side-sound g x ts r h1)
   side-sound g (read s c f) ts r h =
       let (y, h1) = only (allowed g (rank_of s)) h in
       let (q, a, b) = then-ok (p (sym s) c ts) (λ e us. exec hook p g (plan (f e)) us) h1 in
@@ -178,6 +194,7 @@ module _ {F C K : Type 0} (hook : Hook F C K)
       (r : Answer F C K s × List TokenAndSpan) → exec hook p g (chosen x) ts ≡ Some r → Reads hook s c ts r.1 r.0
   choice-sound g none ts r h = cc
   choice-sound g (pick {r = x} q) ts r h = by q (side-sound g x ts r h)
+  choice-sound g (pick_apart {r = x} q) ts r h = by q (side-sound g x ts r (apart-read hook p g (plan x) ts r h).0)
 
   -- a call that stands last, and one with something behind it
   last-sound : (g : Option ℕ) (k : Call F C K) (c : Scope) (ts : List TokenAndSpan)
@@ -197,17 +214,29 @@ module _ {F C K : Type 0} (hook : Hook F C K)
       let (q, a, b) = then-ok (p k c ts) (λ e us. exec hook p g (f e) us) h1 in
       (q, ih k c ts q a, b)
 
+  is-false : (b : Bool) → not b ≡ true → b ≡ false
+  is-false true h = absurd cc
+  is-false false h = refl
+
   -- Behind a left-hand side `++` or `--`; behind operators the rest of a conditional, or of an assignment; behind
   -- expressions a comma and one more.
-  updates-sound : (c : Scope) (l : Tree F C K) (xs ts : List TokenAndSpan) (r : Tree F C K × List TokenAndSpan)
-      → at_token is_await (first xs) ≡ false → Reads hook (Lhs true) c xs ts l
-      → exec hook p (Some 1) (step (updates l) c ts) ts ≡ Some r → Reads hook Unary c xs r.1 r.0
-  updates-sound c l xs ts r n d h = choose (no_update_at (first ts)) _ _
+  updates-sound : (c : Scope) (i : Bool) (l : Tree F C K) (xs ts : List TokenAndSpan)
+      (r : Tree F C K × List TokenAndSpan)
+      → at_token is_await (first xs) ≡ false → Reads hook (Lhs true) (with_head i c) xs ts l
+      → exec hook p (Some 1) (step (updates l) c ts) ts ≡ Some r → Reads hook Unary (with_head i c) xs r.1 r.0
+  updates-sound c i l xs ts r n d h = choose (no_update_at (first ts)) _ _
       (λ v. exec hook p (Some 1) v ts ≡ Some r) h
-      (λ z k. subst (λ v. Reads hook Unary c xs v.1 v.0) (inj (l, ts) r k)
+      (λ z k. subst (λ v. Reads hook Unary (with_head i c) xs v.1 v.0) (inj (l, ts) r k)
       (by unary-left (calm (sees-first is_await xs n) (part d gave))))
       (λ z k. by update-postfix
       (calm (sees-first is_await xs n) (part d (side-sound (Some 1) (update_tail c l) ts r k))))
+
+  writes-sound : (c : Scope) (e : Tree F C K) (xs ts : List TokenAndSpan) (r : Tree F C K × List TokenAndSpan)
+      → Reads hook Unary (at_head c) xs ts e → exec hook p (Some 1) (plan (writes_tail c e)) ts ≡ Some r
+      → Reads hook Assign c xs r.1 r.0
+  writes-sound c e xs ts r d h = choose (is_pattern e) _ _ (λ v. exec hook p (Some 1) (plan v) ts ≡ Some r) h
+      (λ z k. by assign-pattern (part d (side-sound (Some 1) (pattern_tail c e) ts r k)))
+      (λ z k. by assign-expr (part d (side-sound (Some 1) (assign_tail c e) ts r k)))
 
   defaults-sound : (c : Scope) (e : Tree F C K) (xs ts : List TokenAndSpan) (r : Tree F C K × List TokenAndSpan)
       → Reads hook Pat c xs ts e → exec hook p (Some 1) (step (defaults e) c ts) ts ≡ Some r
@@ -218,7 +247,7 @@ module _ {F C K : Type 0} (hook : Hook F C K)
       (λ z k. subst (λ v. Reads hook Element c xs v.1 v.0) (inj (e, ts) r k) (by element-pat (part d gave)))
 
   assigns-sound : (c : Scope) (e : Tree F C K) (xs ts : List TokenAndSpan) (r : Tree F C K × List TokenAndSpan)
-      → Reads hook (Level 1) c xs ts e → exec hook p (Some 1) (step (assigns e) c ts) ts ≡ Some r
+      → Reads hook (Level 1) (at_head c) xs ts e → exec hook p (Some 1) (step (assigns e) c ts) ts ≡ Some r
       → Reads hook Assign c xs r.1 r.0
   assigns-sound c e xs ts r d h = choose (at_token is_question (first ts)) _ _
       (λ v. exec hook p (Some 1) v ts ≡ Some r) h
@@ -226,12 +255,8 @@ module _ {F C K : Type 0} (hook : Hook F C K)
       (λ z k. choose (at_token is_assign (first ts) && not (is_operation e)) _ _
       (λ v. exec hook p (Some 1) v ts ≡ Some r) k
       (λ y j. let (w, n) = both (at_token is_assign (first ts)) (not (is_operation e)) y in
-      by assign-expr (part (level-unary d (is-false (is_operation e) n)) (side-sound (Some 1) (assign_tail c e) ts r j)))
+      writes-sound c e xs ts r (level-unary d (is-false (is_operation e) n)) j)
       (λ y j. subst (λ v. Reads hook Assign c xs v.1 v.0) (inj (e, ts) r j) (by assign-level (part d gave))))
-    where
-      is-false : (b : Bool) → not b ≡ true → b ≡ false
-      is-false true h = absurd cc
-      is-false false h = refl
 
   seqs-sound : (c : Scope) (es : Trees F C K) (t : Tree F C K) (xs ts : List TokenAndSpan)
       (r : Tree F C K × List TokenAndSpan) → items_of t ≡ es → Reads hook Exprs c xs ts t
@@ -262,16 +287,132 @@ module _ {F C K : Type 0} (hook : Hook F C K)
       call-sound (Some 15) (sym Assign) c (λ e. read (seqs (cons e nil)) c (λ v. gives v)) ts r h in
       last-sound (Some 15) (seqs (cons q.0 nil)) c q.1 r k ts (exprs_e (cons q.0 nil)) refl (by exprs-one (part e gave))
 
+  -- a list in parentheses, and what stands behind it
+  heads-held : (c : Scope) (a : TokenAndSpan) (es : Tree F C K) (ps : Trees F C K) (xs ts : List TokenAndSpan)
+      {ys : List TokenAndSpan} {t : Tree F C K} → is_lparen a.token ≡ true → as_params es ≡ Some ps
+      → Reads hook (Args false) (with_in c) xs ts es
+      → Follows hook Assign (check (heads_ok c.context ps)
+      (arrow_tail c (listed None (to a.span (span_of es)) ps))) ts ys t
+      → Reads hook Assign c (a ∷ xs) ys t
+  heads-held c a es ps xs ts y e d (held j w) =
+      by arrow-heads (part (by heads (took (held y (part d (follows-given (as_params es) _ ps e (held j gave)))))) w)
+
+  -- a primary expression at the head, and what stands behind it
+  behind-sound : (c : Scope) (l0 : Tree F C K) (xs ts : List TokenAndSpan) (r : Tree F C K × List TokenAndSpan)
+      → at_token is_await (first xs) ≡ false → Reads hook Primary (at_head c) xs ts l0
+      → exec hook p (Some 2) (behind_base c l0) ts ≡ Some r → Reads hook Assign c xs r.1 r.0
+  behind-sound c l0 xs ts r y d h =
+      let e = inner c in
+      let (q, m, h2) = call-sound (Some 2) (links true l0) e (λ l. read (updates l) e (λ u. read (climb u 0) e
+      (λ k. read (assigns k) c (λ v. gives v)))) ts r h in
+      let (u, n, h3) =
+      call-sound (Some 2) (updates q.0) e (λ u. read (climb u 0) e (λ k. read (assigns k) c (λ v. gives v))) q.1 r h2 in
+      let (k, o, h4) = call-sound (Some 2) (climb u.0 0) e (λ k. read (assigns k) c (λ v. gives v)) u.1 r h3 in
+      let base : Reads hook (Left true) (at_head c) xs ts l0 =
+      by left-base (part (by base-primary (part d gave)) gave) in
+      let w = n true xs y (by lhs-left (part (m true xs base) gave)) in
+      let (x, b) = o (omega arith) true xs (alone w) in
+      last-sound (Some 2) (assigns k.0) c k.1 r h4 xs x
+
+  paren-no-await : (t : Token) → is_lparen t ≡ true → is_await t ≡ false
+  paren-no-await t h = rw (lparen-is t h) refl
+
+  paren-sound : (c : Scope) (a : TokenAndSpan) (es : Tree F C K) (xs ts : List TokenAndSpan)
+      (r : Tree F C K × List TokenAndSpan) → is_lparen a.token ≡ true → Reads hook (Args false) (with_in c) xs ts es
+      → exec hook p (Some 2) (paren_tail c a.span es) ts ≡ Some r → Reads hook Assign c (a ∷ xs) r.1 r.0
+  paren-sound c a es xs ts r y d h =
+      let (ok, h1) = only (paren_ok es) h in
+      behind-sound c _ (a ∷ xs) ts r (paren-no-await a.token y)
+      (by paren-expr (took (held y (part d (held ok gave))))) h1
+
+  parens-sound : (c : Scope) (a : TokenAndSpan) (es : Tree F C K) (xs ts : List TokenAndSpan)
+      (r : Tree F C K × List TokenAndSpan) → is_lparen a.token ≡ true → Reads hook (Args false) (with_in c) xs ts es
+      → exec hook p (Some 2) (step (parens a.span es) c ts) ts ≡ Some r → Reads hook Assign c (a ∷ xs) r.1 r.0
+  parens-sound c a es xs ts r y d h = choose (at_token is_arrow (first ts)) _ _
+      (λ v. exec hook p (Some 2) v ts ≡ Some r) h
+      (λ z k. let (ps, e, g) = given-held (as_params es) _ (side-sound (Some 2) (heads_tail c a.span es) ts r k) in
+      heads-held c a es ps xs ts y e d g)
+      (λ z k. paren-sound c a es xs ts r y d k)
+
+  listed-sound : (c : Scope) (ts : List TokenAndSpan) (r : Tree F C K × List TokenAndSpan)
+      → at_token is_lparen (first ts) ≡ true → exec hook p (Some 14) (listed_head c) ts ≡ Some r
+      → Reads hook Assign c ts r.1 r.0
+  listed-sound c [] r z h = cc
+  listed-sound c (t ∷ us) r z h =
+      let (q, e, k) =
+      call-sound None (sym (Args false)) (with_in c) (λ es. read (parens t.span es) c (λ v. gives v)) us r h in
+      last-sound None (parens t.span q.0) c q.1 r k t us z refl e
+
+  -- the same behind `async`
+  async-heads-held : (c : Scope) (n : Spelling) (a b : TokenAndSpan) (es : Tree F C K) (ps : Trees F C K)
+      (xs ts : List TokenAndSpan)
+      {ys : List TokenAndSpan} {t : Tree F C K} → async_name c a.token a.span ≡ Some n → not b.had_line_break ≡ true
+      → is_lparen b.token ≡ true → as_params es ≡ Some ps
+      → Reads hook (Args false) (with_in c) xs ts es
+      → Follows hook Assign (check (heads_ok c.context ps) (async_arrow_tail c n (listed None n.at ps))) ts ys t
+      → Reads hook Assign c (a ∷ (b ∷ xs)) ys t
+  async-heads-held c n a b es ps xs ts i l y e d (held j w) =
+      by arrow-async-heads (took (follows-given (async_name c a.token a.span) _ n i (calm (is-false b.had_line_break l)
+      (part (by heads (took (held y (part d (follows-given (as_params es) _ ps e (held j gave)))))) w))))
+
+  async-no-await : (t : Token) → is_async_word t ≡ true → is_await t ≡ false
+  async-no-await (token.Word (word.Ident w)) h = refl
+  async-no-await t h = absurd cc
+
+  asyncs-sound : (c : Scope) (n : Spelling) (a b : TokenAndSpan) (es : Tree F C K) (xs ts : List TokenAndSpan)
+      (r : Tree F C K × List TokenAndSpan) → async_name c a.token a.span ≡ Some n → not b.had_line_break ≡ true
+      → is_lparen b.token ≡ true → Reads hook (Args false) (with_in c) xs ts es
+      → exec hook p (Some 2) (step (asyncs n es) c ts) ts ≡ Some r → Reads hook Assign c (a ∷ (b ∷ xs)) r.1 r.0
+  asyncs-sound c n a b es xs ts r i l y d h = choose (at_token is_arrow (first ts)) _ _
+      (λ v. exec hook p (Some 2) v ts ≡ Some r) h
+      (λ z k. let (ps, e, g) = given-held (as_params es) _ (side-sound (Some 2) (async_heads_tail c n es) ts r k) in
+      async-heads-held c n a b es ps xs ts i l y e d g)
+      (λ z k. let (ok, h1) = only (no_covers (items_of es)) k in
+      behind-sound c _ (a ∷ (b ∷ xs)) ts r (async-no-await a.token (async-token c a.token a.span n i))
+      (by async-call (took (follows-given (async_name c a.token a.span) _ n i (held refl (took (held l (held y
+      (part d (held ok gave)))))))))
+      h1)
+
+  given-exec : {A B : Type 0} (g : Option ℕ) (o : Option A) (k : A → Plan F C K B) (ts : List TokenAndSpan)
+      {r : B × List TokenAndSpan} → exec hook p g (given o >>= k) ts ≡ Some r
+      → (x : A) × (o ≡ Some x) × (exec hook p g (k x) ts ≡ Some r)
+  given-exec g None k ts h = cc
+  given-exec g (Some x) k ts h = (x, refl, h)
+
+  async-sound : (c : Scope) (ts : List TokenAndSpan) (r : Tree F C K × List TokenAndSpan)
+      → exec hook p (Some 14) (async_head c) ts ≡ Some r → Reads hook Assign c ts r.1 r.0
+  async-sound c [] r h = cc
+  async-sound c (a ∷ []) r h = let (n, i, k) = given-exec None (async_name c a.token a.span) _ [] h in cc
+  async-sound c (a ∷ (b ∷ us)) r h =
+      let (n, i, k) = given-exec None (async_name c a.token a.span) _ (b ∷ us) h in
+      let (l, k1) = only (not b.had_line_break) k in
+      let (y, k2) = only (is_lparen b.token) k1 in
+      let (q, e, k3) =
+      call-sound None (sym (Args false)) (with_in c) (λ es. read (asyncs n es) c (λ v. gives v)) us r k2 in
+      last-sound None (asyncs n q.0) c q.1 r k3 a b us i l y e
+
   assign-sound : (c : Scope) (ts : List TokenAndSpan) (r : Tree F C K × List TokenAndSpan)
       → exec hook p (Some 14) (assign c ts) ts ≡ Some r → Reads hook Assign c ts r.1 r.0
   assign-sound c ts r h = choose (begins_yield c ts) _ _ (λ v. exec hook p (Some 14) v ts ≡ Some r) h
       (λ z k. choice-sound (Some 14) (yield_by c (second ts)) ts r k)
-      (λ z k. choose (at_token no_error (first ts)) _ _ (λ v. exec hook p (Some 14) v ts ≡ Some r) k
-      (λ y j.
-      let (q, e, i) =
-      call-sound (Some 14) (sym (Level 1)) c (λ e. read (assigns e) c (λ v. gives v)) ts r j in
-      last-sound (Some 14) (assigns q.0) c q.1 r i ts e.0)
-      (λ y j. absurd cc))
+      (λ z k. choose (begins_arrow c ts) _ _ (λ v. exec hook p (Some 14) v ts ≡ Some r) k
+      (λ y j. choice-sound (Some 14) (pick (arrow-name {c = c})) ts r j)
+      (λ y j. choose (at_token is_lparen (first ts)) _ _ (λ v. exec hook p (Some 14) v ts ≡ Some r) j
+      (λ x i. listed-sound c ts r x i)
+      (λ x i. choose (begins_async_name c ts) _ _ (λ v. exec hook p (Some 14) v ts ≡ Some r) i
+      (λ w g. choice-sound (Some 14) (pick (arrow-async-name {c = c})) ts r g)
+      (λ w g. choose (begins_async_list ts) _ _ (λ v. exec hook p (Some 14) v ts ≡ Some r) g
+      (λ q f. async-sound c ts r f)
+      (λ q f. other-sound f)))))
+    where
+      other-sound : exec hook p (Some 14) (if at_token no_error (first ts) then assigned c else never) ts ≡ Some r
+          → Reads hook Assign c ts r.1 r.0
+      other-sound k = choose (at_token no_error (first ts)) _ _ (λ v. exec hook p (Some 14) v ts ≡ Some r) k
+          (λ y j.
+          let (q, e, i) =
+          call-sound (Some 14) (sym (Level 1)) (at_head c) (λ e. read (assigns e) c (λ v. gives v)) ts r j in
+          last-sound (Some 14) (assigns q.0) c q.1 r i ts e.0)
+          (λ y j. absurd cc)
 
   unary-sound : (c : Scope) (ts : List TokenAndSpan) (r : Tree F C K × List TokenAndSpan)
       → exec hook p (Some 11) (unary c ts) ts ≡ Some r → Reads hook Unary c ts r.1 r.0
@@ -286,57 +427,61 @@ module _ {F C K : Type 0} (hook : Hook F C K)
       by-op (Some op) y j = choice-sound (Some 11) (pick (unary-op {c = c})) ts r j
       by-op None y j =
           let (q, e, k) =
-          call-sound (Some 11) (sym (Lhs true)) c (λ l. read (updates l) c (λ v. gives v)) ts r j in
-          last-sound (Some 11) (updates q.0) c q.1 r k ts y (side-read hook e)
+          call-sound (Some 11) (sym (Lhs true)) c (λ l. read (updates l) (inner c) (λ v. gives v)) ts r j in
+          last-sound (Some 11) (updates q.0) (inner c) q.1 r k c.head ts y (side-read hook e)
 
   -- a link, and what stands behind it
-  link-sound : {b : Bool} {c : Scope} (g : Option ℕ) (x : Link F C K b c) (l : Tree F C K) (xs ts : List TokenAndSpan)
-      (r : Tree F C K × List TokenAndSpan)
-      → Reads hook (Left b) c xs ts l → exec hook p g (linked x l) ts ≡ Some r → Reads hook (Left b) c xs r.1 r.0
-  link-sound {b = b} {c = c} g no_more l xs ts r d h =
-      subst (λ v. Reads hook (Left b) c xs v.1 v.0) (inj (l, ts) r h) d
-  link-sound g (more q) l xs [] r d h = cc
-  link-sound {b = b} {c = c} g (more {f = f} q) l xs (t ∷ ts) r d h =
+  link-sound : {b : Bool} {c : Scope} (i : Bool) (g : Option ℕ) (x : Link F C K b c) (l : Tree F C K)
+      (xs ts : List TokenAndSpan) (r : Tree F C K × List TokenAndSpan)
+      → Reads hook (Left b) (with_head i c) xs ts l → exec hook p g (linked x l) ts ≡ Some r
+      → Reads hook (Left b) (with_head i c) xs r.1 r.0
+  link-sound {b = b} {c = c} i g no_more l xs ts r d h =
+      subst (λ v. Reads hook (Left b) (with_head i c) xs v.1 v.0) (inj (l, ts) r h) d
+  link-sound i g (more q) l xs [] r d h = cc
+  link-sound {b = b} {c = c} i g (more {f = f} q) l xs (t ∷ ts) r d h =
       let (u, a, k) = then-ok (exec hook p None (plan (f l t)) ts) _ (sym_path (bind hook p (plan (f l t)) _ ts) ∙ h) in
-      last-sound None (links b u.0) c u.1 r k xs (by q (part d (took (side-sound None (f l t) ts u a))))
+      last-sound None (links b u.0) c u.1 r k i xs (by (q i) (part d (took (side-sound None (f l t) ts u a))))
 
   -- what a left-hand side begins with, and its links
   base-sound : (b : Bool) (c : Scope) (ts : List TokenAndSpan) (r : Tree F C K × List TokenAndSpan)
-      → exec hook p (Some 10) (read (sym (Base b)) c (λ e. read (links b e) c (λ v. gives v))) ts ≡ Some r
+      → exec hook p (Some 10) (read (sym (Base b)) c (λ e. read (links b e) (inner c) (λ v. gives v))) ts ≡ Some r
       → Reads hook (Left b) c ts r.1 r.0
   base-sound b c ts r h =
-      let (q, e, k) = call-sound (Some 10) (sym (Base b)) c (λ e. read (links b e) c (λ v. gives v)) ts r h in
-      last-sound (Some 10) (links b q.0) c q.1 r k ts (by left-base (part e gave))
+      let (q, e, k) = call-sound (Some 10) (sym (Base b)) c (λ e. read (links b e) (inner c) (λ v. gives v)) ts r h in
+      last-sound (Some 10) (links b q.0) (inner c) q.1 r k c.head ts (by left-base (part e gave))
 
   -- behind `new` and what it constructs
-  constructs-sound : (g : Option ℕ) (b : Bool) (c : Scope) (a : TokenAndSpan) (s : Span) (l : Tree F C K)
+  constructs-sound : (g : Option ℕ) (b : Bool) (c : Scope) (i : Bool) (a : TokenAndSpan) (s : Span) (l : Tree F C K)
       (xs ts : List TokenAndSpan) (r : Tree F C K × List TokenAndSpan) → is_new a.token ≡ true → a.span ≡ s
-      → not (is_chain l) ≡ true → Sided hook false c xs ts l
-      → exec hook p g (step (constructs b s l) c ts) ts ≡ Some r → Sided hook b c (a ∷ xs) r.1 r.0
-  constructs-sound g b c a s l xs ts r y at n d h = choose (at_token is_lparen (first ts)) _ _
+      → not (is_chain l) ≡ true → Sided hook false (inner c) xs ts l
+      → exec hook p g (step (constructs b s l) c ts) ts ≡ Some r → Sided hook b (with_head i c) (a ∷ xs) r.1 r.0
+  constructs-sound g b c i a s l xs ts r y at n d h = choose (at_token is_lparen (first ts)) _ _
       (λ v. exec hook p g v ts ≡ Some r) h
       (λ z k. with-args ts z d k)
       (λ z k. without z k)
     where
       without : at_token is_lparen (first ts) ≡ false
-          → exec hook p g (gives (bare_new_e (to s (span_of l)) l)) ts ≡ Some r → Sided hook b c (a ∷ xs) r.1 r.0
-      without z k = subst (λ v. Sided hook b c (a ∷ xs) v.1 v.0) (inj (bare_new_e (to s (span_of l)) l, ts) r k)
-          (subst (λ v. Sided hook b c (a ∷ xs) ts (bare_new_e (to v (span_of l)) l)) at
+          → exec hook p g (gives (bare_new_e (to s (span_of l)) l)) ts ≡ Some r
+          → Sided hook b (with_head i c) (a ∷ xs) r.1 r.0
+      without z k =
+          subst (λ v. Sided hook b (with_head i c) (a ∷ xs) v.1 v.0) (inj (bare_new_e (to s (span_of l)) l, ts) r k)
+          (subst (λ v. Sided hook b (with_head i c) (a ∷ xs) ts (bare_new_e (to v (span_of l)) l)) at
           (bare-side z (by new-bare (took (held y (part (side-read hook d) (held n gave)))))))
 
-      linked-only : (us : List TokenAndSpan) → at_token is_lparen (first us) ≡ true → Sided hook false c xs us l
-          → Reads hook (Left false) c xs us l
+      linked-only : (us : List TokenAndSpan) → at_token is_lparen (first us) ≡ true → Sided hook false (inner c) xs us l
+          → Reads hook (Left false) (inner c) xs us l
       linked-only us z (linked-side e) = e
       linked-only us z (bare-side w e) = cc
 
-      with-args : (us : List TokenAndSpan) → at_token is_lparen (first us) ≡ true → Sided hook false c xs us l
-          → exec hook p g (constructed_with b s l c) us ≡ Some r → Sided hook b c (a ∷ xs) r.1 r.0
+      with-args : (us : List TokenAndSpan) → at_token is_lparen (first us) ≡ true → Sided hook false (inner c) xs us l
+          → exec hook p g (constructed_with b s l c) us ≡ Some r → Sided hook b (with_head i c) (a ∷ xs) r.1 r.0
       with-args [] z d k = cc
       with-args (t ∷ us) z d k =
           let (q, e, k1) = call-sound None (sym (Args false)) (with_in c)
           (λ es. read (links b (new_e (to s (span_of es)) l (items_of es))) c (λ v. gives v)) us r k in
-          linked-side (last-sound None (links b (new_e (to s (span_of q.0)) l (items_of q.0))) c q.1 r k1 (a ∷ xs)
-          (subst (λ v. Reads hook (Left b) c (a ∷ xs) q.1 (new_e (to v (span_of q.0)) l (items_of q.0))) at
+          linked-side (last-sound None (links b (new_e (to s (span_of q.0)) l (items_of q.0))) c q.1 r k1 i (a ∷ xs)
+          (subst (λ v. Reads hook (Left b) (with_head i c) (a ∷ xs) q.1
+          (new_e (to v (span_of q.0)) l (items_of q.0))) at
           (by left-new (took (held y (part (linked-only (t ∷ us) z d) (held n (took (held z (part e gave))))))))))
 
   lhs-sound : (b : Bool) (c : Scope) (ts : List TokenAndSpan) (r : Tree F C K × List TokenAndSpan)
@@ -350,10 +495,10 @@ module _ {F C K : Type 0} (hook : Hook F C K)
       constructed-sound [] z k = cc
       constructed-sound (t ∷ us) z k =
           let (y, w) = both (is_new t.token) _ z in
-          let (q, e, k1) = call-sound None (sym (Lhs false)) c
-          (λ l. check (not (is_chain l)) (read (constructs b t.span l) c (λ v. gives v))) us r k in
+          let (q, e, k1) = call-sound None (sym (Lhs false)) (inner c)
+          (λ l. check (not (is_chain l)) (read (constructs b t.span l) (inner c) (λ v. gives v))) us r k in
           let (n, k2) = only (not (is_chain q.0)) k1 in
-          last-sound None (constructs b t.span q.0) c q.1 r k2 t us y refl n e
+          last-sound None (constructs b t.span q.0) (inner c) q.1 r k2 c.head t us y refl n e
 
   given-follows : {s : Symbol} {A : Type 0} (o : Option A) (k : A → Side F C K s) (x : A) {xs ys : List TokenAndSpan}
       {t : Answer F C K s} → o ≡ Some x → Follows hook s (k x) xs ys t → Follows hook s (given o >>= k) xs ys t
@@ -363,7 +508,7 @@ module _ {F C K : Type 0} (hook : Hook F C K)
   node-sound : (c : Scope) (op : BinaryOp) (l e : Tree F C K) (m : ℕ) (t : TokenAndSpan)
       (xs ts ys : List TokenAndSpan)
       → binary_of c.context t.token ≡ Some op → exp_ok op l ≡ true → nullish_ok op l e ≡ true → logical_ok op l ≡ true
-      → OnLeft hook c m xs (t ∷ ts) l → Reads hook (Level (suc (min_right op))) c ts ys e
+      → OnLeft hook c m xs (t ∷ ts) l → Reads hook (Level (suc (min_right op))) (inner c) ts ys e
       → Reads hook (Level (precedence_of op)) c xs ys (bin_e (to (span_of l) (span_of e)) op l e)
   node-sound c binary.Exp l e m t xs ts ys at x n g (alone d) right =
       by exp-op (part d (took (held (power-token c t.token at) (held x (part right gave)))))
@@ -371,7 +516,7 @@ module _ {F C K : Type 0} (hook : Hook F C K)
       let le = ten binary.Exp at in absurd (omega arith)
   node-sound c op l e m t xs ts ys at x n g d right =
       let small : precedence_of op ≤ 10 = omega arith in
-      let above = subst (λ v. Reads hook (Level (suc v)) c ts ys e) (min-right-same op small) right in
+      let above = subst (λ v. Reads hook (Level (suc v)) (inner c) ts ys e) (min-right-same op small) right in
       let level : IsTrue (nat_eq (precedence_of op) (precedence_of op)) = eq-eqb (precedence_of op)
       (precedence_of op) refl in
       by (bin-op (lt-ltb (precedence_of op) 11 (omega arith)))
@@ -383,40 +528,44 @@ module _ {F C K : Type 0} (hook : Hook F C K)
       left (alone d) small = lift (precedence_of op) 11 (omega arith) (omega arith) (by exp-unary (part d gave))
       left (node h low top d bound ten) small = lift (precedence_of op) h (bound op at) top d
 
-  stopped-sound : (c : Scope) (g : Option ℕ) (l : Tree F C K) (m : ℕ) (xs ts : List TokenAndSpan)
+  stopped-sound : (c : Scope) (i : Bool) (g : Option ℕ) (l : Tree F C K) (m : ℕ) (xs ts : List TokenAndSpan)
       (r : Tree F C K × List TokenAndSpan)
-      → m ≤ 10 → OnLeft hook c m xs ts l → Bound c m ts → exec hook p g (check (left_ok l) (gives l)) ts ≡ Some r
-      → Reads hook (Level (suc m)) c xs r.1 r.0 × Bound c m r.1
-  stopped-sound c g l m xs ts r small d b h =
-      subst (λ v. Reads hook (Level (suc m)) c xs v.1 v.0 × Bound c m v.1) (inj (l, ts) r (only (left_ok l) h).1)
+      → m ≤ 10 → OnLeft hook (with_head i c) m xs ts l → Bound c m ts → exec hook p g (check (left_ok l) (gives l)) ts
+      ≡ Some r
+      → Reads hook (Level (suc m)) (with_head i c) xs r.1 r.0 × Bound c m r.1
+  stopped-sound c i g l m xs ts r small d b h =
+      subst (λ v. Reads hook (Level (suc m)) (with_head i c) xs v.1 v.0 × Bound c m v.1)
+      (inj (l, ts) r (only (left_ok l) h).1)
       (lowered d, b)
     where
-      lowered : OnLeft hook c m xs ts l → Reads hook (Level (suc m)) c xs ts l
+      lowered : OnLeft hook (with_head i c) m xs ts l → Reads hook (Level (suc m)) (with_head i c) xs ts l
       lowered (alone d) = lift (suc m) 11 (omega arith) (omega arith) (by exp-unary (part d gave))
       lowered (node h low top d bound ten) = lift (suc m) h low top d
 
-  turn-sound : (c : Scope) (g : Option ℕ) (o : Option BinaryOp) (l : Tree F C K) (m : ℕ) (xs ts : List TokenAndSpan)
-      (r : Tree F C K × List TokenAndSpan) → m ≤ 10 → OnLeft hook c m xs ts l → operator_at c.context (first ts) ≡ o
+  turn-sound : (c : Scope) (i : Bool) (g : Option ℕ) (o : Option BinaryOp) (l : Tree F C K) (m : ℕ)
+      (xs ts : List TokenAndSpan)
+      (r : Tree F C K × List TokenAndSpan) → m ≤ 10 → OnLeft hook (with_head i c) m xs ts l
+      → operator_at c.context (first ts) ≡ o
       → exec hook p g (turn o l m c >>= (λ q. turned q.0 q.1 c)) ts ≡ Some r
-      → Reads hook (Level (suc m)) c xs r.1 r.0 × Bound c m r.1
-  turn-sound c g None l m xs ts r small d at h = stopped-sound c g l m xs ts r small d (bound-none c m ts at) h
-  turn-sound c g (Some op) l m xs [] r small d at h = cc
-  turn-sound c g (Some op) l m xs (t ∷ ts) r small d at h = choose (nat_le (precedence_of op) m) _ _
+      → Reads hook (Level (suc m)) (with_head i c) xs r.1 r.0 × Bound c m r.1
+  turn-sound c i g None l m xs ts r small d at h = stopped-sound c i g l m xs ts r small d (bound-none c m ts at) h
+  turn-sound c i g (Some op) l m xs [] r small d at h = cc
+  turn-sound c i g (Some op) l m xs (t ∷ ts) r small d at h = choose (nat_le (precedence_of op) m) _ _
       (λ v. exec hook p g (v >>= (λ q. turned q.0 q.1 c)) (t ∷ ts) ≡ Some r) h
-      (λ y h1. stopped-sound c g l m xs (t ∷ ts) r small d
+      (λ y h1. stopped-sound c i g l m xs (t ∷ ts) r small d
       (bound-some c m (t ∷ ts) op at (leb-true (precedence_of op) m y)) h1)
       (λ y h1.
       let above = leb-false (precedence_of op) m y in
       let (x, h2) = only (exp_ok op l) h1 in
-      let (q, a, h3) = then-ok (p (sym (Level (suc (min_right op)))) c ts) _ h2 in
+      let (q, a, h3) = then-ok (p (sym (Level (suc (min_right op)))) (inner c) ts) _ h2 in
       let (n, h4) = only (nullish_ok op l q.0) h3 in
       let (f, h5) = only (logical_ok op l) h4 in
-      let (right, bound) = ih (sym (Level (suc (min_right op)))) c ts q a in
-      let whole = node-sound c op l q.0 m t xs ts q.1 at x n f d right in
+      let (right, bound) = ih (sym (Level (suc (min_right op)))) (inner c) ts q a in
+      let whole = node-sound (with_head i c) op l q.0 m t xs ts q.1 at x n f d right in
       let (low, ten) = right-low op in
       let own : Bound c (precedence_of op) q.1 = bound-above c (min_right op) (precedence_of op) q.1 low bound in
       let below : Bound c 10 q.1 = bound-above c (min_right op) 10 q.1 ten bound in
-      last-sound None (climb (bin_e (to (span_of l) (span_of q.0)) op l q.0) m) c q.1 r h5 small xs
+      last-sound None (climb (bin_e (to (span_of l) (span_of q.0)) op l q.0) m) c q.1 r h5 small i xs
       (node (precedence_of op) above (below-exp op) whole own below))
 
   step-sound : (k : Call F C K) (c : Scope) (ts : List TokenAndSpan) (r : Ans F C K k × List TokenAndSpan)
@@ -427,8 +576,8 @@ module _ {F C K : Type 0} (hook : Hook F C K)
   step-sound (sym (Level zero)) c ts r h = cc
   step-sound (sym (Level (suc m))) c ts r h =
       let (y, h1) = only (nat_le m 10) h in
-      let (q, a, b) = call-sound (Some 12) (sym Unary) c (λ e. read (climb e m) c (λ v. gives v)) ts r h1 in
-      last-sound (Some 12) (climb q.0 m) c q.1 r b (leb-true m 10 y) ts (alone a)
+      let (q, a, b) = call-sound (Some 12) (sym Unary) c (λ e. read (climb e m) (inner c) (λ v. gives v)) ts r h1 in
+      last-sound (Some 12) (climb q.0 m) (inner c) q.1 r b (leb-true m 10 y) c.head ts (alone a)
   step-sound (sym Unary) c ts r h = unary-sound c ts r h
   step-sound (sym (Lhs b)) c ts r h = lhs-sound b c ts r h
   step-sound (sym (Left b)) c ts r h = cc
@@ -462,14 +611,20 @@ module _ {F C K : Type 0} (hook : Hook F C K)
   step-sound (sym PatProp) c ts r h = choice-sound (Some 4) (pat_prop c ts) ts r h
   step-sound (sym Params) c ts r h = choice-sound (Some 4) (params c ts) ts r h
   step-sound (sym ParamsTail) c ts r h = choice-sound (Some 2) (params_tail c ts) ts r h
+  step-sound (sym Heads) c ts r h = choice-sound (Some 2) (pick heads) ts r h
+  step-sound (sym (ArrowBody is_async)) c ts r h = choice-sound (Some 15) (arrow_block is_async c ts) ts r h
+  step-sound (parens s es) c ts r h = λ a xs y at d.
+      parens-sound c a es xs ts r y d
+      (subst (λ v. exec hook p (Some 2) (step (parens v es) c ts) ts ≡ Some r) (sym_path at) h)
+  step-sound (asyncs n es) c ts r h = λ a b xs i l y d. asyncs-sound c n a b es xs ts r i l y d h
   step-sound (defaults e) c ts r h = λ xs d. defaults-sound c e xs ts r d h
-  step-sound (constructs b s l) c ts r h = λ a xs y at n d. constructs-sound (Some 1) b c a s l xs ts r y at n d h
-  step-sound (links b l) c ts r h = λ xs d. link-sound (Some 1) (link b c ts) l xs ts r d h
-  step-sound (updates l) c ts r h = λ xs n d. updates-sound c l xs ts r n d h
+  step-sound (constructs b s l) c ts r h = λ i a xs y at n d. constructs-sound (Some 1) b c i a s l xs ts r y at n d h
+  step-sound (links b l) c ts r h = λ i xs d. link-sound i (Some 1) (link b c ts) l xs ts r d h
+  step-sound (updates l) c ts r h = λ i xs n d. updates-sound c i l xs ts r n d h
   step-sound (assigns e) c ts r h = λ xs d. assigns-sound c e xs ts r d h
   step-sound (seqs es) c ts r h = λ xs t i d. seqs-sound c es t xs ts r i d h
   step-sound (climb l m) c ts r h =
-      λ small xs d. turn-sound c (Some 1) (operator_at c.context (first ts)) l m xs ts r small d refl h
+      λ small i xs d. turn-sound c i (Some 1) (operator_at c.context (first ts)) l m xs ts r small d refl h
 
 module _ {F C K : Type 0} {fun_at : F → Span} {class_at : C → Span} {block_at : K → Span} (hook : Hook F C K)
     (laws : LawfulHook fun_at class_at block_at hook) where

@@ -6,6 +6,7 @@ use Rattle.std.specs.Prelude.{ℕ, zero, suc, ◌+◌, ◌-◌, ◌*◌, ◌≤�
 use Rattle.std.specs.Prelude.{List, [], ◌∷◌, Option, Some, None, ◌≡◌, length, take as front, nat_le, nat_lt}
 use Rattle.swc_context.specs.Operators.{precedence_of}
 use Rattle.swc_context.specs.declared.context.Context.{Context}
+use Rattle.swc_context.specs.declared.operator.AssignOp.TheVariants as write
 use Rattle.swc_context.specs.declared.operator.BinaryOp.{BinaryOp}
 use Rattle.swc_context.specs.declared.operator.UnaryOp.{UnaryOp}
 use Rattle.swc_context.specs.declared.span.Span.{Span}
@@ -19,17 +20,25 @@ use Rattle.swc_ast.specs.Patterns.{default_p}
 use Rattle.swc_ast.specs.Tree.{Tree, Trees, nil, cons, span_of}
 use Rattle.swc_ast.specs.Trees.{to, bin_e, new_e, bare_new_e, is_chain, items_of, nullish_ok, left_ok, exp_ok}
 use Rattle.swc_ast.specs.Trees.{min_right, trees_append, update_e, cond_e, assign_e, exprs_e, seq_of, is_operation}
+use Rattle.swc_ast.specs.Trees.{paren_e, paren_ok, held_exprs, listed, ident_e, call_e, no_covers, arrow_e}
 use Rattle.swc_bodies.specs.Readings.{whole_span, Hook, begins, begins_function, is_class, is_brace, is_async}
-use Rattle.swc_grammar.specs.Scope.{Scope}
-use Rattle.swc_grammar.specs.Rule.{Rule, gives, never, take, check, peek, read, hear, sees, ◌>>=◌, ◌>>◌, symbol, must}
-use Rattle.swc_grammar.specs.Rule.{token as a_token, one, one_on_line}
+use Rattle.swc_grammar.specs.Scope.{Scope, in_context, with_head, at_head, inner}
+use Rattle.swc_grammar.specs.Rule.{Rule, gives, never, take, check, peek, peek_two, read, hear, sees, sees_two}
+use Rattle.swc_grammar.specs.Rule.{◌>>=◌, ◌>>◌, symbol, must, given, token as a_token, one, one_on_line}
+use Rattle.swc_grammar.specs.Rule.{token_on_line, ahead}
 use Rattle.swc_grammar.specs.Symbols.{Symbol, Expr, Exprs, Assign, Level, Unary, Lhs, Left, Arguments, Args, ArgsTail, Primary}
 use Rattle.swc_grammar.specs.Symbols.{Literal, Template, Parts, Base}
 use Rattle.swc_grammar.specs.Symbols.{Elements, ElementsTail}
 use Rattle.swc_grammar.specs.Symbols.{Item, Props, PropsTail, Prop, Key, AfterKey, Shell, Answer, Body, Value}
+use Rattle.swc_grammar.specs.Symbols.{Pat, Element, Rest, PatElements, PatElementsTail, PatProps, PatPropsTail, PatProp}
+use Rattle.swc_grammar.specs.Symbols.{Params, ParamsTail, Heads, ArrowBody}
 use Rattle.swc_grammar.specs.Symbols.{reading_of, Side}
-use Rattle.swc_grammar.specs.Symbols.{Pat, Element, Rest, PatElements, PatElementsTail, PatProps, PatPropsTail}
-use Rattle.swc_grammar.specs.Symbols.{PatProp, Params, ParamsTail}
+use Rattle.swc_grammar.specs.Arrows.{is_arrow, is_arrow_word, arrow_body, is_block, is_sign}
+use Rattle.swc_grammar.specs.Arrows.{async_name, is_bindable, before_of}
+use Rattle.swc_grammar.specs.Grammar.{heads, arrow-name, body-block, body-expr, arrow-async-name, async-ident}
+use Rattle.swc_grammar.specs.Grammar.{async-call}
+use Rattle.swc_grammar.specs.Names.{Spelling}
+use Rattle.swc_grammar.specs.Cover.{as_literal, is_pattern, as_params, heads_ok}
 use Rattle.swc_grammar.specs.Grammar.{Production, ident-expr, lit, paren-expr, unary-op, private-expr}
 use Rattle.swc_grammar.specs.Grammar.{update-prefix, await-expr, await-ident, yield-alone, yield-expr, yield-star}
 use Rattle.swc_grammar.specs.Grammar.{member-name, member-private, member-computed, call, args-end, args-more}
@@ -48,7 +57,8 @@ use Rattle.swc_grammar.specs.Grammar.{pat-elements-more, pat-elements-rest, pat-
 use Rattle.swc_grammar.specs.Grammar.{pat-props-end, pat-props-more, pat-props-rest, pat-props-tail-end}
 use Rattle.swc_grammar.specs.Grammar.{pat-props-tail-more, pat-prop-key, pat-prop-short, pat-prop-default, params-end}
 use Rattle.swc_grammar.specs.Grammar.{params-more, params-rest, params-tail-end, params-tail-more}
-use Rattle.swc_grammar.specs.Tokens.{is_ref, at_word, binary_where, prefix_of, is_lparen, is_this, is_lbracket, is_rbracket, is_comma}
+use Rattle.swc_grammar.specs.Tokens.{is_ref, at_word, binary_where, prefix_of, is_lparen, is_this, is_lbracket}
+use Rattle.swc_grammar.specs.Tokens.{is_rbracket, is_comma, is_reference}
 use Rattle.swc_grammar.specs.Tokens.{is_dots, is_rbrace, is_colon, is_star, is_equals, is_word, is_get, is_set, with_in}
 use Rattle.swc_grammar.specs.Tokens.{is_super, is_import, is_source, is_update, is_assign, is_await, is_yield}
 use Rattle.swc_grammar.specs.Tokens.{ends_await, yield_ok, goes_on_yield}
@@ -97,6 +107,9 @@ pub data Call (F C K : Type 0) : Type 0 where
   assigns : Tree F C K → Call F C K
   seqs : Trees F C K → Call F C K
   defaults : Tree F C K → Call F C K
+  -- behind a list in parentheses, at its place, where an arrow may stand; and behind `async` and such a list
+  parens : Span → Tree F C K → Call F C K
+  asyncs : Spelling → Tree F C K → Call F C K
 
 -- what a call gives
 abbrev pub Ans : (F C K : Type 0) → Call F C K → Type 0
@@ -108,6 +121,8 @@ Ans F C K (climb l m) = Tree F C K
 Ans F C K (assigns e) = Tree F C K
 Ans F C K (seqs es) = Tree F C K
 Ans F C K (defaults p) = Tree F C K
+Ans F C K (parens s es) = Tree F C K
+Ans F C K (asyncs n es) = Tree F C K
 
 -- what is run: a right-hand side, with calls in place of symbols
 abbrev pub Plan : (F C K : Type 0) → Type 0 → Type 0
@@ -119,6 +134,7 @@ plan never = never
 plan (take f) = take (λ t. plan (f t))
 plan (check b r) = check b (plan r)
 plan (peek p r) = peek p (plan r)
+plan (peek_two p r) = peek_two p (plan r)
 plan (read s c f) = read (sym s) c (λ e. plan (f e))
 plan (hear b c f) = hear b c (λ v s. plan (f v s))
 
@@ -158,6 +174,8 @@ rank_of PatPropsTail = 2
 rank_of PatProp = 4
 rank_of Params = 4
 rank_of ParamsTail = 2
+rank_of Heads = 2
+rank_of (ArrowBody is_async) = 15
 
 abbrev pub rank : {F C K : Type 0} → Call F C K → ℕ
 rank (sym s) = rank_of s
@@ -168,6 +186,8 @@ rank (climb l m) = 1
 rank (assigns e) = 1
 rank (seqs es) = 1
 rank (defaults p) = 1
+rank (parens s es) = 2
+rank (asyncs n es) = 2
 
 abbrev pub measure : {F C K : Type 0} → Call F C K → List TokenAndSpan → ℕ
 measure k ts = 20 * length ts + rank k
@@ -188,6 +208,7 @@ exec hook run g (take f) [] = None
 exec hook run g (take f) (t ∷ ts) = exec hook run None (f t) ts
 exec hook run g (check b r) ts = if b then exec hook run g r ts else None
 exec hook run g (peek p r) ts = if sees p ts then None else exec hook run g r ts
+exec hook run g (peek_two p r) ts = if sees_two p ts then None else exec hook run g r ts
 exec hook run g (read k c f) ts =
     if allowed g (rank k) then and_then (run k c ts) (λ e us. exec hook run g (f e) us) else None
 exec hook run g (hear b c f) ts =
@@ -227,6 +248,10 @@ prefix_at (Some t) = prefix_of t.token
 abbrev pub Bound : Scope → ℕ → List TokenAndSpan → Type 0
 Bound c m ys = (op : BinaryOp) → operator_at c.context (first ys) ≡ Some op → precedence_of op ≤ m
 
+-- no `=>` comes next, on a line of its own neither
+abbrev pub no_arrow : List TokenAndSpan → Bool
+no_arrow ts = not (at_token is_arrow (first ts))
+
 -- no link of a left-hand side comes next: `.`, `[`, a backquote, `?` and then `.`, and `(` where it may hold calls
 abbrev pub no_link_at : Bool → Option TokenAndSpan → Option TokenAndSpan → Bool
 no_link_at b None u = true
@@ -237,13 +262,14 @@ no_link_at b (Some t) u =
 abbrev pub no_link : Bool → List TokenAndSpan → Bool
 no_link b ts = no_link_at b (first ts) (second ts)
 
--- no `++` or `--` on the same line; no link, and none of these; and no `?`, and no operator that writes, either
+-- no `++` or `--` on the same line; no link, no `=>`, and none of these; and no `?`, and no operator that writes,
+-- either
 abbrev pub no_update_at : Option TokenAndSpan → Bool
 no_update_at None = true
 no_update_at (Some t) = not (is_update t.token) || t.had_line_break
 
 abbrev pub ends_unary : List TokenAndSpan → Bool
-ends_unary ts = no_link true ts && no_update_at (first ts)
+ends_unary ts = (no_link true ts && no_arrow ts) && no_update_at (first ts)
 
 abbrev pub no_assign_at : Option TokenAndSpan → Bool
 no_assign_at None = true
@@ -269,16 +295,49 @@ ends_await_at (Some t) = ends_await t
 abbrev pub begins_new : List TokenAndSpan → Bool
 begins_new ts = at_token is_new (first ts) && not (at_token is_dot (second ts))
 
+-- A reference alone, and `=>` behind it on its line: an arrow function and no other expression, even where that name
+-- may not stand or not be bound (an early error, which the code records).
+abbrev pub is_alone : Context → Token → Bool
+is_alone c t = at_word (λ w. is_reference c w && is_arrow_word w) t
+
+abbrev pub is_arrow_here : Option TokenAndSpan → Bool
+is_arrow_here None = false
+is_arrow_here (Some t) = not t.had_line_break && is_arrow t.token
+
+abbrev pub begins_arrow : Scope → List TokenAndSpan → Bool
+begins_arrow c ts = at_token (is_alone c.context) (first ts) && is_arrow_here (second ts)
+
+-- `async`, and on its line `(`, or a word that may be bound; where that may be `of` alone, `=>` behind it
+abbrev pub is_lparen_here : Option TokenAndSpan → Bool
+is_lparen_here None = false
+is_lparen_here (Some t) = not t.had_line_break && is_lparen t.token
+
+abbrev pub is_bindable_here : Scope → Option TokenAndSpan → Bool
+is_bindable_here c None = false
+is_bindable_here c (Some t) = not t.had_line_break && is_bindable c t.token
+
+abbrev pub before_of_here : Scope → Option TokenAndSpan → Bool
+before_of_here c None = false
+before_of_here c (Some t) = before_of c t.token
+
+abbrev pub begins_async_name : Scope → List TokenAndSpan → Bool
+begins_async_name c ts =
+    at_token is_async (first ts)
+    && (is_bindable_here c (second ts) && not (before_of_here c (second ts) && not (at_token is_arrow (third ts))))
+
+abbrev pub begins_async_list : List TokenAndSpan → Bool
+begins_async_list ts = at_token is_async (first ts) && is_lparen_here (second ts)
+
 -- where a symbol's reading stops for the clean parser: nothing goes on that it would take too
 abbrev pub Stop : Symbol → Scope → List TokenAndSpan → Type 0
-Stop Primary c ys = Unit {0}
+Stop Primary c ys = no_arrow ys ≡ true
 Stop Literal c ys = Unit {0}
 Stop (Template is_tagged) c ys = Unit {0}
 Stop (Parts is_tagged) c ys = Unit {0}
 Stop Unary c ys = ends_unary ys ≡ true
-Stop (Lhs b) c ys = no_link true ys ≡ true
+Stop (Lhs b) c ys = (no_link true ys && no_arrow ys) ≡ true
 Stop (Left b) c ys = ⊥
-Stop (Base b) c ys = Unit {0}
+Stop (Base b) c ys = no_arrow ys ≡ true
 Stop (Arguments i) c ys = Unit {0}
 Stop (Args i) c ys = Unit {0}
 Stop (ArgsTail i) c ys = Unit {0}
@@ -304,24 +363,34 @@ Stop PatPropsTail c ys = Unit {0}
 Stop PatProp c ys = (ends_assign ys ≡ true) × Bound (with_in c) 0 ys × (at_token is_colon (first ys) ≡ false)
 Stop Params c ys = Unit {0}
 Stop ParamsTail c ys = Unit {0}
+Stop Heads c ys = Unit {0}
+Stop (ArrowBody is_async) c ys = (ends_assign ys ≡ true) × Bound (in_context (arrow_body is_async) c) 0 ys
 Stop Assign c ys = (ends_assign ys ≡ true) × Bound c 0 ys
 Stop Item c ys = (ends_assign ys ≡ true) × Bound c 0 ys
 
--- a choice: none of a symbol's productions, or one
+-- a choice: none of a symbol's productions, or one; or one behind which no `=>` may come next, which would be read as
+-- that of an arrow function
 pub data Choice (F C K : Type 0) (s : Symbol) (c : Scope) : Type 0 where
   none : Choice F C K s c
   pick : {r : Side F C K s} → Production s c r → Choice F C K s c
+  pick_apart : {r : Side F C K s} → Production s c r → Choice F C K s c
 
--- what a left-hand side goes on with: no link, or one, which a token begins
+-- what a left-hand side goes on with: no link, or one, which a token begins; the same whether an assignment expression
+-- begins with it or not
 pub data Link (F C K : Type 0) (b : Bool) (c : Scope) : Type 0 where
   no_more : Link F C K b c
   more : {f : Tree F C K → TokenAndSpan → Side F C K (Left b)}
-      → Production (Left b) c (read (Left b) c (λ l. take (λ t. f l t))) → Link F C K b c
+      → ((i : Bool) → Production (Left b) (with_head i c) (read (Left b) (with_head i c) (λ l. take (λ t. f l t))))
+      → Link F C K b c
 
 module _ {F C K : Type 0} where
+  abbrev pub apart : {A : Type 0} → A → Plan F C K A
+  apart e = peek (λ t. is_arrow t.token) (gives e)
+
   abbrev pub chosen : {s : Symbol} {c : Scope} → Choice F C K s c → Plan F C K (Answer F C K s)
   chosen none = never
   chosen (pick {r = r} p) = plan r
+  chosen (pick_apart {r = r} p) = plan r >>= apart
 
   -- What stands behind a part that was read: behind a left-hand side `++` or `--`; behind operators `?` and the rest of
   -- a conditional, or an operator that writes and what it writes; behind expressions a comma and one more.
@@ -345,6 +414,16 @@ module _ {F C K : Type 0} where
     must (is_simple_target c.context.strict l)
     r ← symbol Assign c
     gives (assign_e (to (span_of l) (span_of r)) op l r)
+
+  abbrev pub pattern_tail : Scope → Tree F C K → Side F C K Assign
+  pattern_tail c l = do
+    a_token is_equals
+    p ← given (as_literal c.context.strict l)
+    r ← symbol Assign c
+    gives (assign_e (to (span_of l) (span_of r)) write.Assign p r)
+
+  abbrev pub writes_tail : Scope → Tree F C K → Side F C K Assign
+  writes_tail c l = if is_pattern l then pattern_tail c l else assign_tail c l
 
   abbrev pub default_tail : Scope → Tree F C K → Side F C K Element
   default_tail c p = do
@@ -376,13 +455,75 @@ module _ {F C K : Type 0} where
 
   abbrev pub assigned : Scope → Plan F C K (Tree F C K)
   assigned c = do
-    e ← symbol (sym (Level 1)) c
+    e ← symbol (sym (Level 1)) (at_head c)
     symbol (assigns e) c
+
+  -- a list in parentheses, of which the token behind it tells what it is
+  abbrev pub listed_head : Scope → Plan F C K (Tree F C K)
+  listed_head c = take (λ t. do
+    es ← symbol (sym (Args false)) (with_in c)
+    symbol (parens t.span es) c)
+
+  -- the same behind `async`
+  abbrev pub async_head : Scope → Plan F C K (Tree F C K)
+  async_head c = do
+    n ← one (async_name c)
+    token_on_line is_lparen
+    es ← symbol (sym (Args false)) (with_in c)
+    symbol (asyncs n es) c
 
   abbrev pub assign : (c : Scope) → List TokenAndSpan → Plan F C K (Tree F C K)
   assign c ts =
       if begins_yield c ts then chosen (yield_by c (second ts)) else
-      (if at_token no_error (first ts) then assigned c else never)
+      (if begins_arrow c ts then chosen (pick (arrow-name {c = c})) else
+      (if at_token is_lparen (first ts) then listed_head c else
+      (if begins_async_name c ts then chosen (pick (arrow-async-name {c = c})) else
+      (if begins_async_list ts then async_head c else
+      (if at_token no_error (first ts) then assigned c else never)))))
+
+  -- behind that list: the rest of an arrow function, or what stands behind an expression in parentheses
+  abbrev pub arrow_tail : Scope → Tree F C K → Side F C K Assign
+  arrow_tail c hs = do
+    token_on_line is_arrow
+    b ← symbol (ArrowBody false) c
+    ahead (λ t. is_block b && is_sign t.token)
+    gives (arrow_e (to (span_of hs) (span_of b)) false b (items_of hs))
+
+  abbrev pub heads_tail : Scope → Span → Tree F C K → Side F C K Assign
+  heads_tail c s es = do
+    ps ← given (as_params es)
+    must (heads_ok c.context ps)
+    arrow_tail c (listed None (to s (span_of es)) ps)
+
+  abbrev pub behind_base : Scope → Tree F C K → Plan F C K (Tree F C K)
+  behind_base c e = do
+    l ← symbol (links true e) (inner c)
+    u ← symbol (updates l) (inner c)
+    k ← symbol (climb u 0) (inner c)
+    symbol (assigns k) c
+
+  abbrev pub paren_tail : Scope → Span → Tree F C K → Plan F C K (Tree F C K)
+  paren_tail c s es =
+      check (paren_ok es) (behind_base c (paren_e (to s (span_of es)) (seq_of (held_exprs (items_of es)))))
+
+  -- behind that list after `async`: the rest of an arrow function, or what stands behind a call
+  abbrev pub async_arrow_tail : Scope → Spelling → Tree F C K → Side F C K Assign
+  async_arrow_tail c n hs = do
+    token_on_line is_arrow
+    b ← symbol (ArrowBody true) c
+    ahead (λ t. is_block b && is_sign t.token)
+    gives (arrow_e (to n.at (span_of b)) true b (items_of hs))
+
+  abbrev pub async_heads_tail : Scope → Spelling → Tree F C K → Side F C K Assign
+  async_heads_tail c n es = do
+    ps ← given (as_params es)
+    must (heads_ok c.context ps)
+    async_arrow_tail c n (listed None n.at ps)
+
+  abbrev pub async_tail : Scope → Spelling → Tree F C K → Plan F C K (Tree F C K)
+  async_tail c n es =
+      check (no_covers (items_of es))
+      (behind_base c (call_e (to n.at (span_of es)) (ident_e n.at n.text) (items_of es)))
 
   -- behind `await`: an operand or none, by the token that stands there
   abbrev pub await_by : (c : Scope) → Option TokenAndSpan → Choice F C K Unary c
@@ -393,7 +534,7 @@ module _ {F C K : Type 0} where
   abbrev pub operand : Scope → Plan F C K (Tree F C K)
   operand c = do
     l ← symbol (sym (Lhs true)) c
-    symbol (updates l) c
+    symbol (updates l) (inner c)
 
   abbrev pub unary_by : (c : Scope) → Option UnaryOp → Plan F C K (Tree F C K)
   unary_by c None = operand c
@@ -411,23 +552,23 @@ module _ {F C K : Type 0} where
 
   -- The link that comes next, by its first token; behind a `.` by the next one, and behind `?` and `.` too.
   abbrev pub dot_link : {b : Bool} {c : Scope} → Option TokenAndSpan → Link F C K b c
-  dot_link u = if at_token is_hash u then more member-private else more member-name
+  dot_link u = if at_token is_hash u then more (λ i. member-private) else more (λ i. member-name)
 
   abbrev pub chain_link : {b : Bool} {c : Scope} → Option TokenAndSpan → Link F C K b c
   chain_link u =
-      if at_token is_lbracket u then more chain-computed else
-      (if at_token is_lparen u then more chain-call else
-      (if at_token is_hash u then more chain-private else more chain-name))
+      if at_token is_lbracket u then more (λ i. chain-computed) else
+      (if at_token is_lparen u then more (λ i. chain-call) else
+      (if at_token is_hash u then more (λ i. chain-private) else more (λ i. chain-name)))
 
   abbrev pub call_link : (b : Bool) {c : Scope} → Option TokenAndSpan → Link F C K b c
-  call_link true t = if at_token is_lparen t then more call else no_more
+  call_link true t = if at_token is_lparen t then more (λ i. call) else no_more
   call_link false t = no_more
 
   abbrev pub link : (b : Bool) (c : Scope) → List TokenAndSpan → Link F C K b c
   link b c ts =
       if at_token is_dot (first ts) then dot_link (second ts) else
-      (if at_token is_lbracket (first ts) then more member-computed else
-      (if at_token is_backquote (first ts) then more tagged-tpl else
+      (if at_token is_lbracket (first ts) then more (λ i. member-computed) else
+      (if at_token is_backquote (first ts) then more (λ i. tagged-tpl) else
       (if at_token is_question (first ts) && at_token is_dot (second ts) then chain_link (third ts) else
       call_link b (first ts))))
 
@@ -462,9 +603,9 @@ module _ {F C K : Type 0} where
 
   abbrev pub constructed : Bool → Scope → Plan F C K (Tree F C K)
   constructed b c = take (λ t. do
-    l ← symbol (sym (Lhs false)) c
+    l ← symbol (sym (Lhs false)) (inner c)
     must (not (is_chain l))
-    symbol (constructs b t.span l) c)
+    symbol (constructs b t.span l) (inner c))
 
   abbrev pub constructed_with : Bool → Span → Tree F C K → Scope → Plan F C K (Tree F C K)
   constructed_with b s l c = take (λ t. do
@@ -472,7 +613,8 @@ module _ {F C K : Type 0} where
     symbol (links b (new_e (to s (span_of es)) l (items_of es))) c)
 
   abbrev pub lhs : (b : Bool) (c : Scope) → List TokenAndSpan → Plan F C K (Tree F C K)
-  lhs b c ts = if begins_new ts then constructed b c else (symbol (sym (Base b)) c >>= (λ e. symbol (links b e) c))
+  lhs b c ts =
+      if begins_new ts then constructed b c else (symbol (sym (Base b)) c >>= (λ e. symbol (links b e) (inner c)))
 
   abbrev pub call_args : (i : Bool) (c : Scope) → List TokenAndSpan → Choice F C K (Arguments i) c
   call_args i c ts = pick arguments
@@ -483,20 +625,25 @@ module _ {F C K : Type 0} where
   abbrev pub args_tail : (i : Bool) (c : Scope) → List TokenAndSpan → Choice F C K (ArgsTail i) c
   args_tail i c ts = if at_token is_comma (first ts) then pick args-tail-more else pick args-tail-end
 
+  -- `async`, behind which no `function` stands
+  abbrev pub async_primary : (c : Scope) → Option TokenAndSpan → Choice F C K Primary c
+  async_primary c u = if c.head && is_lparen_here u then pick_apart async-call else pick async-ident
+
   abbrev pub primary : (c : Scope) → List TokenAndSpan → Choice F C K Primary c
   primary c ts =
       if at_token (is_identifier c.context) (first ts) then pick ident-expr else
       (if at_token is_lit (first ts) then pick primary-literal else
-      (if at_token is_lparen (first ts) then pick paren-expr else
+      (if at_token is_lparen (first ts) then pick_apart paren-expr else
       (if at_token is_hash (first ts) then pick private-expr else
       (if at_token is_this (first ts) then pick this-expr else
       (if at_token is_lbracket (first ts) then pick array-lit else
       (if begins_function ts then pick fn-expr else
+      (if at_token is_async (first ts) then async_primary c (second ts) else
       (if begins is_class ts then pick class-expr else
       (if at_token is_brace (first ts) then pick object-lit else
       (if at_token is_backquote (first ts) then pick primary-template else
       (if at_token is_slash (first ts) then pick regex-slash else
-      (if at_token is_regex (first ts) then pick regex-alone else none)))))))))))
+      (if at_token is_regex (first ts) then pick regex-alone else none))))))))))))
 
   abbrev pub tpl : (is_tagged : Bool) (c : Scope) → List TokenAndSpan → Choice F C K (Template is_tagged) c
   tpl is_tagged c ts = pick template
@@ -601,11 +748,14 @@ module _ {F C K : Type 0} where
   abbrev pub params_tail : (c : Scope) → List TokenAndSpan → Choice F C K ParamsTail c
   params_tail c ts = if at_token is_comma (first ts) then pick params-tail-more else pick params-tail-end
 
+  abbrev pub arrow_block : (is_async : Bool) (c : Scope) → List TokenAndSpan → Choice F C K (ArrowBody is_async) c
+  arrow_block is_async c ts = if begins is_brace ts then pick body-block else pick body-expr
+
   -- behind an operator: what stands right of it, and their node, with the least precedence to go on with
   abbrev pub bin_op : BinaryOp → Tree F C K → ℕ → Scope → Plan F C K (Tree F C K × Option ℕ)
   bin_op op l m c = do
     must (exp_ok op l)
-    r ← symbol (sym (Level (suc (min_right op)))) c
+    r ← symbol (sym (Level (suc (min_right op)))) (inner c)
     must (nullish_ok op l r)
     gives (bin_e (to (span_of l) (span_of r)) op l r, Some m)
 
@@ -628,7 +778,7 @@ module _ {F C K : Type 0} where
   step (sym Exprs) c ts = never
   step (sym Assign) c ts = assign c ts
   step (sym (Level zero)) c ts = never
-  step (sym (Level (suc m))) c ts = must (nat_le m 10) >> symbol (sym Unary) c >>= (λ e. symbol (climb e m) c)
+  step (sym (Level (suc m))) c ts = must (nat_le m 10) >> symbol (sym Unary) c >>= (λ e. symbol (climb e m) (inner c))
   step (sym Unary) c ts = unary c ts
   step (sym (Lhs b)) c ts = lhs b c ts
   step (sym (Left b)) c ts = never
@@ -659,6 +809,11 @@ module _ {F C K : Type 0} where
   step (sym PatProp) c ts = chosen (pat_prop c ts)
   step (sym Params) c ts = chosen (params c ts)
   step (sym ParamsTail) c ts = chosen (params_tail c ts)
+  step (sym Heads) c ts = chosen (pick (heads {c = c}))
+  step (sym (ArrowBody is_async)) c ts = chosen (arrow_block is_async c ts)
+  step (parens s es) c ts = if at_token is_arrow (first ts) then plan (heads_tail c s es) else paren_tail c s es
+  step (asyncs n es) c ts =
+      if at_token is_arrow (first ts) then plan (async_heads_tail c n es) else async_tail c n es
   step (defaults p) c ts = if at_token is_equals (first ts) then plan (default_tail c p) else gives p
   step (links b l) c ts = linked (link b c ts) l
   step (constructs b s l) c ts =
@@ -666,7 +821,7 @@ module _ {F C K : Type 0} where
   step (updates l) c ts = if no_update_at (first ts) then gives l else plan (update_tail c l)
   step (assigns e) c ts =
       if at_token is_question (first ts) then plan (cond_tail c e) else
-      (if at_token is_assign (first ts) && not (is_operation e) then plan (assign_tail c e) else gives e)
+      (if at_token is_assign (first ts) && not (is_operation e) then plan (writes_tail c e) else gives e)
   step (seqs es) c ts =
       if at_token is_comma (first ts) then exprs_tail c es else gives (seq_of es)
   step (climb l m) c ts = turn (operator_at c.context (first ts)) l m c >>= (λ r. turned r.0 r.1 c)

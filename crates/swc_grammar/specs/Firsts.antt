@@ -3,12 +3,13 @@ use Rattle.std.specs.Prelude.{Bool, true, false, ◌||◌, ◌&&◌}
 use Rattle.swc_input.specs.declared.token.Token.{Token}
 use Rattle.swc_input.specs.declared.token.Token.TheVariants as token
 use Rattle.swc_bodies.specs.Readings.{is_async, is_brace}
-use Rattle.swc_grammar.specs.Scope.{Scope}
+use Rattle.swc_grammar.specs.Scope.{Scope, in_context}
 use Rattle.swc_grammar.specs.Clean.{is_lit, is_identifier}
 use Rattle.swc_grammar.specs.Symbols.{Symbol, Level, Unary, Lhs, Left, Base, Arguments, Template, Parts}
 use Rattle.swc_grammar.specs.Symbols.{Args, ArgsTail, Primary, Literal, Elements, ElementsTail, Item}
 use Rattle.swc_grammar.specs.Symbols.{Pat, Element, Rest, PatElements, PatElementsTail, PatProps, PatPropsTail, PatProp}
-use Rattle.swc_grammar.specs.Symbols.{Params, ParamsTail}
+use Rattle.swc_grammar.specs.Symbols.{Params, ParamsTail, Heads, ArrowBody}
+use Rattle.swc_grammar.specs.Arrows.{arrow_body}
 use Rattle.swc_grammar.specs.Names.{may_bind}
 use Rattle.swc_grammar.specs.Symbols.{Props, PropsTail, Prop, Key, AfterKey, Shell}
 use Rattle.swc_grammar.specs.Tokens.{is_comma, is_rbracket, is_rbrace, is_dots, is_star, is_lparen, is_lbracket}
@@ -93,4 +94,6 @@ starts PatPropsTail c t = ends_prop t
 starts PatProp c t = begins_key t
 starts Params c t = (begins_pat c t || is_dots t) || is_rparen t
 starts ParamsTail c t = is_comma t || is_rparen t
+starts Heads c t = is_lparen t
+starts (ArrowBody is_async) c t = is_brace t || begins_expression (in_context (arrow_body is_async) c) t
 starts s c t = begins_expression c t

@@ -4,6 +4,7 @@
 use Rattle.std.specs.Prelude.{ℕ, suc, Bool, true, false, not, ◌||◌, ◌&&◌, None, IsTrue, codes, nat_eq, nat_lt}
 use Rattle.swc_context.specs.Operators.{precedence_of}
 use Rattle.swc_context.specs.Reserved.{is_reserved_word}
+use Rattle.swc_context.specs.declared.operator.AssignOp.TheVariants as write
 use Rattle.swc_context.specs.declared.operator.BinaryOp.TheVariants as binary
 use Rattle.swc_input.specs.Kinds.{is_hash}
 use Rattle.swc_ast.specs.Targets.{is_target as is_simple_target}
@@ -15,21 +16,23 @@ use Rattle.swc_ast.specs.Trees.{hole_e, item_e, spread_e, fn_e}
 use Rattle.swc_ast.specs.Trees.{class_e, private_e, unary_e, paren_e, bin_e, object_e, name_e, computed_e}
 use Rattle.swc_ast.specs.Trees.{spread_prop_e, short_e, cover_e, value_e, block_e, function_e, method_e, getter_e}
 use Rattle.swc_ast.specs.Trees.{at_place, parts_e, put_part, tpl_e, tagged_e, new_e, bare_new_e, meta_e, link_e, is_chain}
-use Rattle.swc_ast.specs.Trees.{super_e, import_e, super_prop_e, comma_ok}
+use Rattle.swc_ast.specs.Trees.{super_e, import_e, super_prop_e, comma_ok, no_covers, arrow_e}
 use Rattle.swc_ast.specs.Trees.{prop_of, member_e, call_e, nullish_ok, logical_ok, delete_ok, is_unary, paren_ok}
 use Rattle.swc_ast.specs.Trees.{trees_append, held_exprs, update_e, await_e, yield_e, cond_e, assign_e, exprs_e, seq_of}
 use Rattle.swc_ast.specs.declared.expr.ImportPhase.TheVariants as phase
 use Rattle.swc_ast.specs.declared.expr.MetaPropKind.TheVariants as kind
 use Rattle.swc_bodies.specs.Readings.{is_async, is_brace}
-use Rattle.swc_grammar.specs.Scope.{Scope, in_context}
-use Rattle.swc_grammar.specs.Rule.{gives, ◌>>=◌, ◌>>◌, symbol, token, one, token_on_line, one_on_line}
-use Rattle.swc_grammar.specs.Rule.{must, ahead, body}
+use Rattle.swc_grammar.specs.Scope.{Scope, in_context, at_head, inner}
+use Rattle.swc_grammar.specs.Rule.{gives, ◌>>=◌, ◌>>◌, symbol, token, one, token_on_line, one_on_line, given}
+use Rattle.swc_grammar.specs.Rule.{must, ahead, ahead_two, body}
 use Rattle.swc_grammar.specs.Symbols.{Symbol, Expr, Exprs, Assign, Level, Unary, Lhs, Left, Arguments, Args, ArgsTail, Primary}
 use Rattle.swc_grammar.specs.Symbols.{Literal, Template, Parts, Base}
 use Rattle.swc_grammar.specs.Symbols.{Elements, ElementsTail}
 use Rattle.swc_grammar.specs.Symbols.{Item, Props, PropsTail, Prop, Key, AfterKey, Shell, Side, function, class, block}
 use Rattle.swc_grammar.specs.Symbols.{Pat, Element, Rest, PatElements, PatElementsTail, PatProps, PatPropsTail, PatProp}
-use Rattle.swc_grammar.specs.Symbols.{Params, ParamsTail}
+use Rattle.swc_grammar.specs.Symbols.{Params, ParamsTail, Heads, ArrowBody}
+use Rattle.swc_grammar.specs.Arrows.{is_arrow, arrow_name, arrow_body, is_block, is_sign}
+use Rattle.swc_grammar.specs.Arrows.{async_name, async_param, goes_on_async, of_arrow}
 use Rattle.swc_grammar.specs.Names.{is_joined}
 use Rattle.swc_grammar.specs.Tokens.{with_in, is_this, is_lparen, is_rparen, is_lbracket, is_rbracket, is_comma, is_dots}
 use Rattle.swc_grammar.specs.Tokens.{is_dot, is_question, is_backquote, is_dollar_brace, is_slash, is_new, is_target, new_target_ok}
@@ -39,12 +42,27 @@ use Rattle.swc_grammar.specs.Tokens.{is_power, is_rbrace, is_colon, is_star, is_
 use Rattle.swc_grammar.specs.Tokens.{method_params, method_block}
 use Rattle.swc_grammar.specs.Parts.{reference, binding, any_name, lit_of, regex_of, text_of, key_lit_of, prefix_here}
 use Rattle.swc_grammar.specs.Parts.{update_here, assign_here, operator_here}
+use Rattle.swc_grammar.specs.Cover.{as_literal, as_params, heads_ok}
 
 pub data Production {F C K : Type 0} : (s : Symbol) → Scope → Side F C K s → Type 0 where
-  -- Identifier references (13.1)
+  -- Identifier references (13.1), of which `async` is one where nothing behind it makes it more
   ident-expr : {c : Scope} → Production Primary c (do
     n ← one (reference c)
     gives (ident_e n.at n.text))
+  async-ident : {c : Scope} → Production Primary c (do
+    n ← one (async_name c)
+    ahead (goes_on_async c)
+    ahead_two (of_arrow c)
+    gives (ident_e n.at n.text))
+  -- CoverCallExpressionAndAsyncArrowHead (13.3), as a call of `async`: like parentheses it holds no object with a cover
+  -- name directly
+  async-call : {c : Scope} → Production Primary c (do
+    n ← one (async_name c)
+    must c.head
+    token_on_line is_lparen
+    es ← symbol (Args false) (with_in c)
+    must (no_covers (items_of es))
+    gives (call_e (to n.at (span_of es)) (ident_e n.at n.text) (items_of es)))
   -- `this` (13.2.1)
   this-expr : {c : Scope} → Production Primary c (do
     s ← token is_this
@@ -53,7 +71,7 @@ pub data Production {F C K : Type 0} : (s : Symbol) → Scope → Side F C K s �
   lit : {c : Scope} → Production Literal c (do
     e ← one lit_of
     gives e)
-  primary-literal : {c : Scope} → Production Primary c (symbol Literal c)
+  primary-literal : {c : Scope} → Production Primary c (symbol Literal (inner c))
   -- Regular expressions (13.2.7), as a token alone, or behind the slash at which a lexer found it
   regex-alone : {c : Scope} → Production Primary c (do
     e ← one regex_of
@@ -63,7 +81,7 @@ pub data Production {F C K : Type 0} : (s : Symbol) → Scope → Side F C K s �
     e ← one regex_of
     gives (at_place (to s (span_of e)) e))
   -- Template literals (13.2.8), in whose expressions `in` is an operator
-  primary-template : {c : Scope} → Production Primary c (symbol (Template false) c)
+  primary-template : {c : Scope} → Production Primary c (symbol (Template false) (inner c))
   template : {c : Scope} {is_tagged : Bool} → Production (Template is_tagged) c (do
     s ← token is_backquote
     ps ← symbol (Parts is_tagged) c
@@ -112,7 +130,7 @@ pub data Production {F C K : Type 0} : (s : Symbol) → Scope → Side F C K s �
   -- Object literals (13.2.5)
   object-lit : {c : Scope} → Production Primary c (do
     s ← token is_brace
-    ps ← symbol Props c
+    ps ← symbol Props (inner c)
     gives (object_e (comma_of ps) (to s (span_of ps)) (items_of ps)))
   props-end : {c : Scope} → Production Props c (do
     s ← token is_rbrace
@@ -216,7 +234,7 @@ pub data Production {F C K : Type 0} : (s : Symbol) → Scope → Side F C K s �
   lhs-left : {c : Scope} {b : Bool} → Production (Lhs b) c (symbol (Left b) c)
   new-bare : {c : Scope} {b : Bool} → Production (Lhs b) c (do
     s ← token is_new
-    l ← symbol (Lhs false) c
+    l ← symbol (Lhs false) (inner c)
     must (not (is_chain l))
     gives (bare_new_e (to s (span_of l)) l))
   -- Left-hand sides with links, with calls among these or without. They begin with a base, or with `new` and its
@@ -224,7 +242,7 @@ pub data Production {F C K : Type 0} : (s : Symbol) → Scope → Side F C K s �
   left-base : {c : Scope} {b : Bool} → Production (Left b) c (symbol (Base b) c)
   left-new : {c : Scope} {b : Bool} → Production (Left b) c (do
     s ← token is_new
-    l ← symbol (Left false) c
+    l ← symbol (Left false) (inner c)
     must (not (is_chain l))
     token is_lparen
     es ← symbol (Args false) (with_in c)
@@ -334,7 +352,7 @@ pub data Production {F C K : Type 0} : (s : Symbol) → Scope → Side F C K s �
   tagged-tpl : {c : Scope} {b : Bool} → Production (Left b) c (do
     l ← symbol (Left b) c
     s ← token is_backquote
-    ps ← symbol (Parts true) c
+    ps ← symbol (Parts true) (inner c)
     must (not (is_chain l))
     gives (tagged_e (to (span_of l) (span_of ps)) l (tpl_e (to s (span_of ps)) ps)))
   arguments : {c : Scope} {i : Bool} → Production (Arguments i) c (do
@@ -369,7 +387,7 @@ pub data Production {F C K : Type 0} : (s : Symbol) → Scope → Side F C K s �
     gives (update_e (to (span_of l) s) op false l))
   update-prefix : {c : Scope} → Production Unary c (do
     (op, s) ← one update_here
-    e ← symbol Unary c
+    e ← symbol Unary (inner c)
     must (is_simple_target c.context.strict e)
     gives (update_e (to s (span_of e)) op true e))
   -- `await` (15.8), and the identifier `await` (13.1), which stands outside async code where no operand can follow. A `*`
@@ -378,7 +396,7 @@ pub data Production {F C K : Type 0} : (s : Symbol) → Scope → Side F C K s �
     s ← token is_await
     must (await_ok c.context)
     ahead (λ t. is_star t.token || (not c.context.in_async && ends_await t))
-    e ← symbol Unary c
+    e ← symbol Unary (inner c)
     gives (await_e (to s (span_of e)) e))
   await-ident : {c : Scope} → Production Unary c (do
     s ← token is_await
@@ -388,7 +406,7 @@ pub data Production {F C K : Type 0} : (s : Symbol) → Scope → Side F C K s �
   -- UnaryExpression (13.5)
   unary-op : {c : Scope} → Production Unary c (do
     (op, s) ← one prefix_here
-    e ← symbol Unary c
+    e ← symbol Unary (inner c)
     must (delete_ok c.context op e)
     gives (unary_e (to s (span_of e)) op e))
   -- ExponentiationExpression (13.6): it groups to the right, and no prefix operator stands on its left
@@ -397,7 +415,7 @@ pub data Production {F C K : Type 0} : (s : Symbol) → Scope → Side F C K s �
     l ← symbol Unary c
     token is_power
     must (not (is_unary l))
-    r ← symbol (Level 11) c
+    r ← symbol (Level 11) (inner c)
     gives (bin_e (to (span_of l) (span_of r)) binary.Exp l r))
   -- Binary operators (13.7 to 13.13): level k is that of the operators of precedence k. They group to the left.
   level-up : {c : Scope} {k : ℕ} → IsTrue (nat_lt k 11) → Production (Level k) c (symbol (Level (suc k)) c)
@@ -405,7 +423,7 @@ pub data Production {F C K : Type 0} : (s : Symbol) → Scope → Side F C K s �
     l ← symbol (Level k) c
     op ← one (operator_here c)
     must (nat_eq (precedence_of op) k)
-    r ← symbol (Level (suc k)) c
+    r ← symbol (Level (suc k)) (inner c)
     must (nullish_ok op l r)
     must (logical_ok op l)
     gives (bin_e (to (span_of l) (span_of r)) op l r))
@@ -416,16 +434,16 @@ pub data Production {F C K : Type 0} : (s : Symbol) → Scope → Side F C K s �
     gives (private_e (to s n.at) n.text))
   -- AssignmentExpression (13.15), with ConditionalExpression (13.14), in whose middle `in` is an operator, and
   -- YieldExpression (15.5), whose operand begins on the line of `yield`. What is written to is a valid simple target.
-  assign-level : {c : Scope} → Production Assign c (symbol (Level 1) c)
+  assign-level : {c : Scope} → Production Assign c (symbol (Level 1) (at_head c))
   cond-expr : {c : Scope} → Production Assign c (do
-    t ← symbol (Level 1) c
+    t ← symbol (Level 1) (at_head c)
     token is_question
     e ← symbol Assign (with_in c)
     token is_colon
     a ← symbol Assign c
     gives (cond_e (to (span_of t) (span_of a)) t e a))
   assign-expr : {c : Scope} → Production Assign c (do
-    l ← symbol Unary c
+    l ← symbol Unary (at_head c)
     op ← one assign_here
     must (is_simple_target c.context.strict l)
     r ← symbol Assign c
@@ -459,6 +477,13 @@ pub data Production {F C K : Type 0} : (s : Symbol) → Scope → Side F C K s �
   seq-expr : {c : Scope} → Production Expr c (do
     es ← symbol Exprs c
     gives (seq_of (items_of es)))
+  -- Assignments to arrays and objects (13.15.5): the literal on the left is a pattern of what is written to.
+  assign-pattern : {c : Scope} → Production Assign c (do
+    l ← symbol Unary (at_head c)
+    token is_equals
+    p ← given (as_literal c.context.strict l)
+    e ← symbol Assign c
+    gives (assign_e (to (span_of l) (span_of e)) write.Assign p e))
   -- Binding patterns (14.3.3)
   pat-bind : {c : Scope} → Production Pat c (do
     n ← one (binding c)
@@ -559,3 +584,43 @@ pub data Production {F C K : Type 0} : (s : Symbol) → Scope → Side F C K s �
     token is_comma
     ps ← symbol Params c
     gives ps)
+  -- CoverParenthesizedExpressionAndArrowParameterList (13.2.9, 15.3), as the parameters of an arrow function
+  heads : {c : Scope} → Production Heads c (do
+    s ← token is_lparen
+    es ← symbol (Args false) (with_in c)
+    ps ← given (as_params es)
+    must (heads_ok c.context ps)
+    gives (listed None (to s (span_of es)) ps))
+  -- Arrow functions (15.3), whose `=>` stands on the line of what stands before it, and whose body is a block at `{`
+  arrow-name : {c : Scope} → Production Assign c (do
+    n ← one (arrow_name c)
+    token_on_line is_arrow
+    b ← symbol (ArrowBody false) c
+    gives (arrow_e (to n.at (span_of b)) false b (cons (ident_e n.at n.text) nil)))
+  arrow-heads : {c : Scope} → Production Assign c (do
+    hs ← symbol Heads c
+    token_on_line is_arrow
+    b ← symbol (ArrowBody false) c
+    ahead (λ t. is_block b && is_sign t.token)
+    gives (arrow_e (to (span_of hs) (span_of b)) false b (items_of hs)))
+  -- Async arrow functions (15.9): the word behind `async` stands on its line, and so does the `(`.
+  arrow-async-name : {c : Scope} → Production Assign c (do
+    s ← one (async_name c)
+    n ← one_on_line (async_param c)
+    token is_arrow
+    b ← symbol (ArrowBody true) c
+    gives (arrow_e (to s.at (span_of b)) true b (cons (ident_e n.at n.text) nil)))
+  arrow-async-heads : {c : Scope} → Production Assign c (do
+    s ← one (async_name c)
+    ahead (λ t. t.had_line_break)
+    hs ← symbol Heads c
+    token_on_line is_arrow
+    b ← symbol (ArrowBody true) c
+    ahead (λ u. is_block b && is_sign u.token)
+    gives (arrow_e (to s.at (span_of b)) true b (items_of hs)))
+  body-block : {c : Scope} {is_async : Bool} → Production (ArrowBody is_async) c (do
+    (v, s) ← body block (in_context (arrow_body is_async) c)
+    gives (block_e s v))
+  body-expr : {c : Scope} {is_async : Bool} → Production (ArrowBody is_async) c (do
+    ahead (λ t. is_brace t.token)
+    symbol Assign (in_context (arrow_body is_async) c))

@@ -1,4 +1,6 @@
+pub mod Arrows
 pub mod Clean
+pub mod Cover
 pub mod Cut
 pub mod Firsts
 pub mod Grammar

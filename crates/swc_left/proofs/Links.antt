@@ -17,7 +17,7 @@ use Rattle.swc_ast.specs.Tree.{Tree, span_of}
 use Rattle.swc_ast.specs.Trees.{to, items_of, name_e, private_e, computed_e, member_e, call_e, link_e, is_chain}
 use Rattle.swc_ast.specs.Trees.{new_e, meta_e, tpl_e, tagged_e}
 use Rattle.swc_bodies.specs.Readings.{Hook}
-use Rattle.swc_grammar.specs.Scope.{Scope}
+use Rattle.swc_grammar.specs.Scope.{Scope, inner}
 use Rattle.swc_grammar.specs.Rule.{gives, take, check, given, symbol, must, token as token_of, one as one_of}
 use Rattle.swc_grammar.specs.Rule.{◌>>=◌ as ◌▸◌, ◌>>◌}
 use Rattle.swc_grammar.specs.Symbols.{Expr, Lhs, Left, Base, Args, Parts, Side}
@@ -50,6 +50,7 @@ use Rattle.swc_left.proofs.Bases.{base_splits}
 use Rattle.swc_steps.proofs.Keys.{then_calls, then_token}
 use Rattle.swc_steps.proofs.Lists.{calls, binds}
 use Rattle.swc_steps.proofs.Args.{neither}
+use Rattle.swc_steps.proofs.Steps.{inner_is}
 
 abbrev new_token : Token
 new_token = token.Word (word_of.Keyword keyword.New)
@@ -162,12 +163,14 @@ module _ {F C K : Type 0} (hook : Hook F C K) where
   constructs_reads b s l x (u ∷ us) = constructs_token b s l x u.token u.had_line_break u.span us
 
   constructed_reads : (g : Option ℕ) (b : Bool) (t : TokenAndSpan) (x : Scope) (us : List TokenAndSpan)
-      → exec hook (run hook) g (constructed b x) (t ∷ us) ≡ construct_tail hook b t.span x us
+      → x.head ≡ false → exec hook (run hook) g (constructed b x) (t ∷ us) ≡ construct_tail hook b t.span x us
   unfolding construct_tail
-  constructed_reads g b t x us =
-      then_calls (run hook (at (Lhs false)) x us) _ (λ l vs. construct_of hook b t.span l x vs)
+  constructed_reads g b t x us none =
+      let y = inner x in
+      then_calls (run hook (at (Lhs false)) y us) _ (λ l vs. construct_of hook b t.span l y vs)
       (λ l vs. ap (λ v. if not (is_chain l) then v else None)
-      (last hook None (constructs b t.span l) x vs refl ∙ constructs_reads b t.span l x vs))
+      (last hook None (constructs b t.span l) y vs refl ∙ constructs_reads b t.span l y vs))
+      ∙ ap (λ v. construct_tail hook b t.span v us) (inner_is x none)
 
   -- the word behind `new` and the `.`
   abbrev as_target : Span → Scope → Span → List TokenAndSpan → Out (Tree F C K)
@@ -180,54 +183,58 @@ module _ {F C K : Type 0} (hook : Hook F C K) where
   target_reads s x (t ∷ us) = then_token is_target x (t ∷ us) (as_target s x)
 
   -- a base, and the links behind it
-  base_links : (b : Bool) (x : Scope) (ts : List TokenAndSpan) → begins_new ts ≡ false
+  base_links : (b : Bool) (x : Scope) (ts : List TokenAndSpan) → x.head ≡ false → begins_new ts ≡ false
       → run hook (at (Lhs b)) x ts ≡ (run hook (at (Base b)) x ts >>= (λ p. run hook (links b p.0) x p.1))
-  base_links b x ts h =
+  base_links b x ts none h =
       knot hook (at (Lhs b)) x ts
-      ∙ rw h (then_calls (run hook (at (Base b)) x ts) _ (λ e us. run hook (links b e) x us)
-      (λ e us. last hook (Some 10) (links b e) x us refl))
+      ∙ rw h (then_calls (run hook (at (Base b)) x ts) _ (λ e us. run hook (links b e) (inner x) us)
+      (λ e us. last hook (Some 10) (links b e) (inner x) us refl))
+      ∙ ap (λ v. run hook (at (Base b)) x ts >>= (λ p. run hook (links b p.0) v p.1)) (inner_is x none)
 
   new_second : (b : Bool) (x : Scope) (n : Bool) (s : Span) (v : Token) (m : Bool) (q : Span) (us : List TokenAndSpan)
+      → x.head ≡ false
       → run hook (at (Lhs b)) x (tk new_token n s ∷ (tk v m q ∷ us)) ≡ new_tail hook b s x (tk v m q ∷ us)
   unfolding eaten
-  new_second b x n s token.Dot m q us =
-      base_links b x (tk new_token n s ∷ (tk token.Dot m q ∷ us)) refl
+  new_second b x n s token.Dot m q us none =
+      base_links b x (tk new_token n s ∷ (tk token.Dot m q ∷ us)) none refl
       ∙ ap (λ o. o >>= (λ p. run hook (links b p.0) x p.1))
       (knot hook (at (Base b)) x (tk new_token n s ∷ (tk token.Dot m q ∷ us)) ∙ target_reads s x us)
-  new_second b x n s v m q us =
+  new_second b x n s v m q us none =
       knot hook (at (Lhs b)) x (tk new_token n s ∷ (tk v m q ∷ us))
-      ∙ constructed_reads (Some 10) b (tk new_token n s) x (tk v m q ∷ us)
+      ∙ constructed_reads (Some 10) b (tk new_token n s) x (tk v m q ∷ us) none
 
-  new_first : (b : Bool) (x : Scope) (n : Bool) (s : Span) (us : List TokenAndSpan)
+  new_first : (b : Bool) (x : Scope) (n : Bool) (s : Span) (us : List TokenAndSpan) → x.head ≡ false
       → run hook (at (Lhs b)) x (tk new_token n s ∷ us) ≡ new_tail hook b s x us
   unfolding eaten
-  new_first b x n s [] =
+  new_first b x n s [] none =
       knot hook (at (Lhs b)) x (tk new_token n s ∷ [])
-      ∙ constructed_reads (Some 10) b (tk new_token n s) x []
-  new_first b x n s (u ∷ us) = new_second b x n s u.token u.had_line_break u.span us
+      ∙ constructed_reads (Some 10) b (tk new_token n s) x [] none
+  new_first b x n s (u ∷ us) none = new_second b x n s u.token u.had_line_break u.span us none
 
   -- a left-hand side that begins with `new`
-  pub new_splits : (b : Bool) (x : Scope) (ts : List TokenAndSpan) → at_token is_new (first ts) ≡ true
-      → run hook (at (Lhs b)) x ts ≡ new_lhs hook b x ts
+  pub new_splits : (b : Bool) (x : Scope) (ts : List TokenAndSpan) → x.head ≡ false
+      → at_token is_new (first ts) ≡ true → run hook (at (Lhs b)) x ts ≡ new_lhs hook b x ts
   unfolding new_lhs
-  new_splits b x [] h = absurd cc
-  new_splits b x (t ∷ ts) h = rw (new-is t.token h) (new_first b x t.had_line_break t.span ts)
+  new_splits b x [] none h = absurd cc
+  new_splits b x (t ∷ ts) none h = rw (new-is t.token h) (new_first b x t.had_line_break t.span ts none)
 
   -- ---- left-hand sides
 
-  pub lhs_splits : (b : Bool) (x : Scope) (ts : List TokenAndSpan) → at_token is_new (first ts) ≡ false
+  pub lhs_splits : (b : Bool) (x : Scope) (ts : List TokenAndSpan) → x.head ≡ false
+      → at_token is_new (first ts) ≡ false
       → run hook (at (Lhs b)) x ts ≡ (plain_base hook b x ts >>= (λ p. run hook (links b p.0) x p.1))
-  lhs_splits b x ts h =
-      base_links b x ts (ap (λ v. v && not (at_token is_dot (second ts))) h)
+  lhs_splits b x ts none h =
+      base_links b x ts none (ap (λ v. v && not (at_token is_dot (second ts))) h)
       ∙ ap (λ o. o >>= (λ p. run hook (links b p.0) x p.1)) (base_splits hook b x ts h)
 
   -- one that begins with neither `super` nor `import`: a member expression, and the links behind it
-  pub lhs_parts : (x : Scope) (ts : List TokenAndSpan)
+  pub lhs_parts : (x : Scope) (ts : List TokenAndSpan) → x.head ≡ false
       → (at_token is_super (first ts) || at_token is_import (first ts)) ≡ false
       → run hook (at (Lhs true)) x ts ≡ (run hook (at (Lhs false)) x ts >>= (λ p. run hook (links true p.0) x p.1))
-  lhs_parts x ts h =
+  lhs_parts x ts none h =
       let (n, k) = neither (at_token is_super (first ts)) (at_token is_import (first ts)) h in
-      members hook x ts n k ∙ calls (run hook (at (Lhs false)) x ts) (λ l us. run hook (links true l) x us)
+      members hook x ts n k ∙ calls (run hook (at (Lhs false)) x ts) (λ l us. run hook (links true l) (inner x) us)
+      ∙ ap (λ v. run hook (at (Lhs false)) x ts >>= (λ p. run hook (links true p.0) v p.1)) (inner_is x none)
 
   -- a link behind its first tokens, by these
   pub tail_name : (k : LinkHead) (o : Bool) (l : Tree F C K) (x : Scope) (ts : List TokenAndSpan) → k ≡ head.Name o
@@ -248,7 +255,7 @@ module _ {F C K : Type 0} (hook : Hook F C K) where
 
   pub tail_template : (k : LinkHead) (s : Span) (l : Tree F C K) (x : Scope) (ts : List TokenAndSpan)
       → k ≡ head.Template s
-      → link_tail hook k l x ts ≡ (run hook (at (Parts true)) x ts >>= (λ p. tagged_node s l p.0 x p.1))
+      → link_tail hook k l x ts ≡ (run hook (at (Parts true)) (inner x) ts >>= (λ p. tagged_node s l p.0 x p.1))
   unfolding link_tail tagged_tail
   tail_template k s l x ts h = rw h refl
 
@@ -285,7 +292,7 @@ module _ {F C K : Type 0} (hook : Hook F C K) where
 
   abbrev tagged_side : Tree F C K → Span → Scope → Side F C K (Left true)
   tagged_side l s x =
-      symbol (Parts true) x
+      symbol (Parts true) (inner x)
       ▸ (λ ps. must (not (is_chain l))
       >> gives (tagged_e (to (span_of l) (span_of ps)) l (tpl_e (to s (span_of ps)) ps)))
 
@@ -380,7 +387,7 @@ module _ {F C K : Type 0} (hook : Hook F C K) where
   tagged_reads : (l : Tree F C K) (s : Span) (x : Scope) (us : List TokenAndSpan)
       → exec hook (run hook) None (plan (tagged_side l s x)) us ≡ tagged_tail hook s l x us
   unfolding tagged_tail
-  tagged_reads l s x us = calls (run hook (at (Parts true)) x us) _
+  tagged_reads l s x us = calls (run hook (at (Parts true)) (inner x) us) _
 
   -- behind `?` and `.`
   chain_token : (b : Bool) (l : Tree F C K) (x : Scope) (n : Bool) (s : Span) (m : Bool) (q : Span)

@@ -11,7 +11,7 @@ use Rattle.swc_ast.specs.Trees.{to, trees_append, parts_e, texts_of, exprs_of, t
 use Rattle.swc_ast.specs.declared.expr.TplElement.{TplElement}
 use Rattle.swc_ast.specs.declared.spanned.Spanned.{Ghosts}
 use Rattle.swc_bodies.specs.Readings.{Hook}
-use Rattle.swc_grammar.specs.Scope.{Scope}
+use Rattle.swc_grammar.specs.Scope.{Scope, inner}
 use Rattle.swc_grammar.specs.Parts.{cooked_of}
 use Rattle.swc_grammar.specs.Symbols.{Parts}
 use Rattle.swc_grammar.specs.Tokens.{is_backquote, is_dollar_brace, is_rbrace}
@@ -101,7 +101,7 @@ module _ {F C K : Type 0} (hook : Hook F C K) where
 
   -- a template with the tag l, behind its backquote at s
   unfoldable pub tagged_tail : Span → Tree F C K → Scope → List TokenAndSpan → Out (Tree F C K)
-  tagged_tail s l c ts = run hook (sym (Parts true)) c ts >>= (λ p. tagged_node s l p.0 c p.1)
+  tagged_tail s l c ts = run hook (sym (Parts true)) (inner c) ts >>= (λ p. tagged_node s l p.0 c p.1)
 
 module _ {F C K : Type 0} {fg : Ghosts F} {cg : Ghosts C} {kg : Ghosts K} where
   -- what the parts of a template hold of numbers, and what they stand for

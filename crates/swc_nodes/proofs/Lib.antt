@@ -1,8 +1,10 @@
+pub mod ArrowNodes
 pub mod Chains
 pub mod Covers
 pub mod Edges
 pub mod Held
 pub mod Lists
+pub mod Marked
 pub mod PatternParts
 pub mod Remembered
 pub mod Renumbered

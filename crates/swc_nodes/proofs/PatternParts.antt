@@ -109,6 +109,19 @@ module _ {F C K : Type 0} {fg : Ghosts F} {cg : Ghosts C} {kg : Ghosts K} where
       ≡ trees_append (trees (map (pat_elem_tree (tree_at ns)) xs)) (cons (pat_elem_tree (tree_at ms) x) nil)
   pat-elems-more xs x g a = list-more (if_some one_pat) pat_elem_tree pat-elem-same xs x g a
 
+  -- ---- patterns one after another, as the parameters of an arrow function
+
+  pub pats-later : {ns ms : Nodes F C K fg cg kg} {k : ℕ} (xs : List PatId) →
+      Grows ns ms → Apart k ns (flat one_pat xs) →
+      trees (map (λ p. tree_at ms p.0) xs) ≡ trees (map (λ p. tree_at ns p.0) xs)
+  pats-later xs g a = list-later one_pat (λ at p. at p.0) pat-same xs g a
+
+  pub pats-more : {ns ms : Nodes F C K fg cg kg} {k : ℕ} (xs : List PatId) (x : PatId) →
+      Grows ns ms → Apart k ns (flat one_pat xs) →
+      trees (map (λ p. tree_at ms p.0) (xs ++ x ∷ []))
+      ≡ trees_append (trees (map (λ p. tree_at ns p.0) xs)) (cons (tree_at ms x.0) nil)
+  pats-more xs x g a = list-more one_pat (λ at p. at p.0) pat-same xs x g a
+
   -- ---- the properties of an object
 
   pub pat-props-later : {ns ms : Nodes F C K fg cg kg} {k : ℕ} (xs : List PatPropNode) →

@@ -1,5 +1,5 @@
 -- The literals of a node's tree are the node itself, if it is one, and those of its parts' trees; and what is remembered of them.
-use Rattle.std.proofs.Common.{◌≡◌, ℕ, ◌<◌, List, [], ◌∷◌, ◌++◌, Option, Some, None, map, refl, sym, ap, ◌∙◌, append_assoc}
+use Rattle.std.proofs.Common.{◌≡◌, ℕ, ◌<◌, List, [], ◌∷◌, ◌++◌, Option, Some, None, map, refl, sym, ap, subst, ◌∙◌, append_assoc}
 use Rattle.std.specs.Prelude.{nat_eq, if◌then◌else◌}
 use Rattle.std.specs.declared.alloc.Global.{Global}
 use Rattle.std.specs.declared.vec.Vec.{Vec}
@@ -7,9 +7,7 @@ use Rattle.std.proofs.lemmas.List.{append-nil, map-append}
 use Rattle.swc_context.specs.declared.span.Span.{Span}
 use Rattle.swc_ast.specs.Tree.{Tree, trees}
 use Rattle.swc_ast.specs.Parts.{or_hole, prop_name_tree, member_prop_tree, super_part_tree, item_of, item_tree, item_trees}
-use Rattle.swc_ast.specs.Parts.{args_tree, base_tree, callee_tree, quasi_tree, tpl_tree, body_tree, param_tree, function_tree}
-use Rattle.swc_ast.specs.declared.expr.BlockStmtOrExpr.{BlockStmtOrExpr}
-use Rattle.swc_ast.specs.declared.expr.BlockStmtOrExpr.TheVariants as body
+use Rattle.swc_ast.specs.Parts.{args_tree, base_tree, callee_tree, quasi_tree, tpl_tree, param_tree, function_tree}
 use Rattle.swc_ast.specs.declared.expr.Callee.{Callee}
 use Rattle.swc_ast.specs.declared.expr.Callee.TheVariants as callee
 use Rattle.swc_ast.specs.declared.expr.ExprOrSpread.{ExprOrSpread}
@@ -25,11 +23,11 @@ use Rattle.swc_ast.specs.declared.function.Function.{Function}
 use Rattle.swc_ast.specs.declared.prop.PropName.{PropName}
 use Rattle.swc_ast.specs.declared.prop.PropName.TheVariants as prop_name
 use Rattle.swc_ast.specs.declared.spanned.Spanned.{Ghosts}
-use Rattle.swc_nodes.specs.Commas.{comma_at, Literal, commas_in, commas_of_all, part_commas, node_comma, recalled, Recalls}
+use Rattle.swc_nodes.specs.Commas.{comma_at, Literal, commas_in, commas_of_all, part_commas, node_comma, outer_parts, body_part, recalled, Recalls}
 use Rattle.swc_nodes.specs.NodeTree.{target_of, prop_of, pat_prop_of, marked_tree}
 use Rattle.swc_nodes.specs.NodeParts.{Part, slots, flat, if_some, one_expr, one_pat, item_parts, args_parts, key_parts}
 use Rattle.swc_nodes.specs.NodeParts.{member_parts, super_parts}
-use Rattle.swc_nodes.specs.NodeParts.{callee_parts, base_parts, body_parts, param_parts, prop_parts, pat_prop_parts}
+use Rattle.swc_nodes.specs.NodeParts.{callee_parts, base_parts, param_parts, prop_parts, pat_prop_parts}
 use Rattle.swc_nodes.specs.NodeParts.{target_part}
 use Rattle.swc_nodes.specs.GrowingNodes.{count, seat_before, tree_at, Stood}
 use Rattle.swc_nodes.specs.Walking.{part_of}
@@ -46,7 +44,7 @@ use Rattle.swc_nodes.specs.declared.node.PropNode.TheVariants as prop
 use Rattle.swc_nodes.specs.declared.node.TargetNode.{TargetNode}
 use Rattle.swc_nodes.specs.declared.node.TargetNode.TheVariants as target
 use Rattle.swc_nodes.specs.declared.nodes.Nodes.{Nodes}
-use Rattle.swc_nodes.proofs.Lists.{SameTrees, same_first, same_rest, stood-trees}
+use Rattle.swc_nodes.proofs.Lists.{SameTrees, same_first, same_rest, same-front, stood-trees}
 
 module _ {F C K : Type 0} (at : ℕ → Tree F C K) where
   abbrev commas_by : List Part → List Literal
@@ -133,10 +131,6 @@ module _ {F C K : Type 0} (at : ℕ → Tree F C K) where
   args_if : (o : Option (Vec (ExprOrSpread ExprId) Global)) → commas_in (or_hole (args_tree expr) o) ≡ commas_by (if_some args_parts o)
   args_if = if_there (args_tree expr) args_parts args-commas
 
-  body_commas : (block_at : K → Span) (b : BlockStmtOrExpr ExprId K) → commas_in (body_tree block_at expr b) ≡ commas_by (body_parts b)
-  body_commas block_at (body.BlockStmt k) = refl
-  body_commas block_at (body.Expr e) = refl
-
   function_commas : (block_at : K → Span) (x : Function PatId K) → commas_in (function_tree block_at pat x) ≡ commas_by (flat param_parts x.params.items)
   function_commas block_at x = append-nil _ ∙ listed (param_tree pat) param_parts (λ p. refl) x.params.items
 
@@ -162,7 +156,7 @@ module _ {F C K : Type 0} (fun_at : F → Span) (class_at : C → Span) (block_a
   pat-prop-commas (pat_prop.Assign s k v) = append-nil _ ∙ if_there at (λ (e : ExprId). at e.0) one_expr (λ e. refl) v
   pat-prop-commas (pat_prop.Rest s d p) = append-nil (commas_in (at p.0))
 
-  pub node-commas : (x : Node F C K) → commas_in (marked_tree fun_at class_at block_at at x) ≡ node_comma x ++ commas_now (slots x)
+  pub node-commas : (x : Node F C K) → commas_in (marked_tree fun_at class_at block_at at x) ≡ node_comma x ++ commas_now (outer_parts x)
   node-commas (n.Array s elems comma) =
       ap (λ v. (s.lo.0, comma) ∷ v)
       (listed at (or_hole (item_tree (λ (e : ExprId). at e.0))) (if_some item_parts) (if_there at (item_tree (λ (e : ExprId). at e.0)) item_parts (an_item at)) elems.items)
@@ -177,9 +171,7 @@ module _ {F C K : Type 0} (fun_at : F → Span) (class_at : C → Span) (block_a
   node-commas (n.OptChain c) = base_commas at c.base.value
   node-commas (n.Tpl t) = tpl-commas at t
   node-commas (n.TaggedTpl s t q) = both at (one_expr t) (flat one_expr q.value.exprs.items) _ _ refl (tpl-commas at q.value)
-  node-commas (n.Arrow s ps b a) =
-      both at (flat one_pat ps.items) (body_parts b.value) _ _
-      (listed at (λ (p : PatId). at p.0) one_pat (λ p. refl) ps.items) (body_commas at block_at b.value)
+  node-commas (n.Arrow s ps b a) = listed at (λ (p : PatId). at p.0) one_pat (λ p. refl) ps.items
   node-commas (n.Yield s a d) = if_there at (λ (e : ExprId). at e.0) one_expr (λ e. refl) a
   node-commas (n.PatArray s elems) =
       ap (λ v. (s.lo.0, None) ∷ v)
@@ -188,6 +180,48 @@ module _ {F C K : Type 0} (fun_at : F → Span) (class_at : C → Span) (block_a
       ap (λ v. (s.lo.0, None) ∷ v) (listed at (pat_prop_of fun_at class_at block_at at) pat_prop_parts pat-prop-commas props.items)
   node-commas (n.PatRest s d p) = append-nil (commas_in (at p.0))
   node-commas x = refl
+
+-- the body of an arrow function is the last of its parts
+pub outer-first : {F C K : Type 0} (x : Node F C K) → slots x ≡ outer_parts x ++ body_part x
+outer-first (n.Arrow s ps b a) = refl
+outer-first (n.This a) = sym (append-nil _)
+outer-first (n.Array a b c) = sym (append-nil _)
+outer-first (n.Object a b c) = sym (append-nil _)
+outer-first (n.Fn a) = sym (append-nil _)
+outer-first (n.Class a) = sym (append-nil _)
+outer-first (n.Unary a b c) = sym (append-nil _)
+outer-first (n.Update a b c d) = sym (append-nil _)
+outer-first (n.Bin a b c d) = sym (append-nil _)
+outer-first (n.Assign a b c d) = sym (append-nil _)
+outer-first (n.Cond a b c d) = sym (append-nil _)
+outer-first (n.Seq a b) = sym (append-nil _)
+outer-first (n.Paren a) = sym (append-nil _)
+outer-first (n.Member a) = sym (append-nil _)
+outer-first (n.SuperProp a) = sym (append-nil _)
+outer-first (n.Call a b c) = sym (append-nil _)
+outer-first (n.New a b c) = sym (append-nil _)
+outer-first (n.OptChain a) = sym (append-nil _)
+outer-first (n.Tpl a) = sym (append-nil _)
+outer-first (n.TaggedTpl a b c) = sym (append-nil _)
+outer-first (n.Await a b) = sym (append-nil _)
+outer-first (n.Yield a b c) = sym (append-nil _)
+outer-first (n.MetaProp a) = sym (append-nil _)
+outer-first (n.PrivateName a) = sym (append-nil _)
+outer-first (n.Ident a) = sym (append-nil _)
+outer-first (n.Str a) = sym (append-nil _)
+outer-first (n.Bool a) = sym (append-nil _)
+outer-first (n.Null a) = sym (append-nil _)
+outer-first (n.Num a) = sym (append-nil _)
+outer-first (n.BigInt a) = sym (append-nil _)
+outer-first (n.Regex a) = sym (append-nil _)
+outer-first (n.Invalid a) = sym (append-nil _)
+outer-first (n.PatIdent a) = sym (append-nil _)
+outer-first (n.PatArray a b) = sym (append-nil _)
+outer-first (n.PatObject a b) = sym (append-nil _)
+outer-first (n.PatRest a b c) = sym (append-nil _)
+outer-first (n.PatAssign a b c) = sym (append-nil _)
+outer-first (n.PatExpr a) = sym (append-nil _)
+outer-first (n.PatInvalid a) = sym (append-nil _)
 
 -- ---- the node of a number
 
@@ -199,10 +233,12 @@ module _ {F C K : Type 0} (at by : ℕ → Tree F C K) where
 
 module _ {F C K : Type 0} {fg : Ghosts F} {cg : Ghosts C} {kg : Ghosts K} where
   pub stood-commas : {ns : Nodes F C K fg cg kg} {i : ℕ} {x : Node F C K} → Stood ns i x → i < count ns
-      → commas_in (tree_at ns i) ≡ node_comma x ++ part_commas (tree_at ns) (slots x)
+      → commas_in (tree_at ns i) ≡ node_comma x ++ part_commas (tree_at ns) (outer_parts x)
   stood-commas {ns} {i} {x} s lt =
       ap (λ t. commas_in t.tree) s.stands ∙ node-commas fg.place cg.place kg.place (λ j. (seat_before i ns j).tree) x
-      ∙ ap (λ v. node_comma x ++ v) (parts_same (λ j. (seat_before i ns j).tree) (tree_at ns) (slots x) (stood-trees s lt))
+      ∙ ap (λ v. node_comma x ++ v) (parts_same (λ j. (seat_before i ns j).tree) (tree_at ns) (outer_parts x)
+      (same-front (λ j. (seat_before i ns j).tree) (tree_at ns) (outer_parts x) (body_part x)
+      (subst (SameTrees (λ j. (seat_before i ns j).tree) (tree_at ns)) (outer-first x) (stood-trees s lt))))
 
 -- ---- what is remembered
 
@@ -217,13 +253,13 @@ taken a b p e = ap (map part_of) e ∙ map-append part_of b (p ∷ [])
 module _ {F C K : Type 0} {fg : Ghosts F} {cg : Ghosts C} {kg : Ghosts K} where
   -- Those of the parts a are still to be remembered; the last of them is taken, remembered itself, and its parts put in its place.
   pub turn_commas : (ns : Nodes F C K fg cg kg) (a b r : List Part) (p : Part) (x : Node F C K) (old new : TrailingCommas)
-      → a ≡ b ++ p ∷ [] → r ≡ b ++ slots x → Stood ns p.at x → p.at < count ns → Recalls (node_comma x) old new → (at : ℕ)
+      → a ≡ b ++ p ∷ [] → r ≡ b ++ outer_parts x → Stood ns p.at x → p.at < count ns → Recalls (node_comma x) old new → (at : ℕ)
       → recalled (part_commas (tree_at ns) r) at (comma_at new at) ≡ recalled (part_commas (tree_at ns) a) at (comma_at old at)
   turn_commas ns a b r p x old new taken put stood lt done at =
       let by = part_commas (tree_at ns) in
-      let left : by r ≡ by (slots x) ++ by b = ap by put ∙ part-append (tree_at ns) b (slots x) in
+      let left : by r ≡ by (outer_parts x) ++ by b = ap by put ∙ part-append (tree_at ns) b (outer_parts x) in
       let was : by a ≡ node_comma x ++ by r =
       ap by taken ∙ part-append (tree_at ns) b (p ∷ []) ∙ ap (λ v. v ++ by b) (stood-commas stood lt)
-      ∙ append_assoc (node_comma x) (by (slots x)) (by b) ∙ ap (λ v. node_comma x ++ v) (sym left) in
+      ∙ append_assoc (node_comma x) (by (outer_parts x)) (by b) ∙ ap (λ v. node_comma x ++ v) (sym left) in
       ap (λ v. recalled (by r) at v) (done at) ∙ sym (recalled_append (node_comma x) (by r) at (comma_at old at))
       ∙ ap (λ v. recalled v at (comma_at old at)) (sym was)

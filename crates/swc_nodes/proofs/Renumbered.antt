@@ -1,13 +1,16 @@
 -- What is renumbered: what holds one thing or two that were, and the items of a list, the first first.
-use Rattle.std.proofs.Common.{◌≡◌, ℕ, suc, ◌+◌, ◌<◌, ◌≤◌, ◌≢◌, List, [], ◌∷◌, ◌++◌, map, length, get_or}
+use Rattle.std.proofs.Common.{◌≡◌, ℕ, suc, ◌+◌, ◌-◌, false, ◌<◌, ◌≤◌, ◌≢◌, List, [], ◌∷◌, ◌++◌, map, length, get_or}
 use Rattle.std.proofs.Common.{refl, sym, ap, subst, ◌∙◌, arith, below_more}
+use Rattle.std.proofs.lemmas.Bool.{le-ltb}
 use Rattle.std.proofs.lemmas.List.{map-append, get_or_default, get_or-set_other, get_or-set_same, length-set, with_items_is}
 use Rattle.std.proofs.Math.ListN.{set}
+use Rattle.std.specs.Prelude.{if◌then◌else◌, nat_lt}
 use Rattle.std.specs.Vec.{with_items}
 use Rattle.std.specs.declared.alloc.Global.{Global}
 use Rattle.std.specs.declared.vec.Vec.{Vec}
 use Rattle.swc_ast.specs.Tree.{Tree, args, node, no_span, Trees, trees}
 use Rattle.swc_ast.specs.Trees.{trees_append}
+use Rattle.swc_nodes.specs.declared.renumbering.Numbers.{Numbers}
 use Rattle.swc_nodes.specs.Renumbering.{given, with_given, Renumbered}
 use Rattle.swc_nodes.specs.NodeParts.{Part, flat}
 use Rattle.swc_nodes.proofs.Lists.{trees-both}
@@ -20,9 +23,17 @@ args-same e = cc
 pub trees-after : {F C K : Type 0} (ts us vs : List (Tree F C K)) → trees us ≡ trees vs → trees (ts ++ us) ≡ trees (ts ++ vs)
 trees-after ts us vs e = trees-both ts us ∙ ap (trees_append (trees ts)) e ∙ sym (trees-both ts vs)
 
+-- ---- numbers from 0 on are the list itself
+
+pub given-all : (ids : Numbers) (k : ℕ) → ids.from ≡ 0 → given ids k ≡ get_or ids.ids.items k k
+given-all ids k e =
+    let none : nat_lt k ids.from ≡ false = ap (nat_lt k) e ∙ le-ltb k 0 (omega arith) in
+    let same : k - ids.from ≡ k = omega (arith, e) in
+    ap (λ b. if b then k else get_or ids.ids.items (k - ids.from) k) none ∙ ap (λ j. get_or ids.ids.items j k) same
+
 -- ---- what holds one thing that was renumbered, or two
 
-module _ {F C K : Type 0} {ids : List ℕ} where
+module _ {F C K : Type 0} {ids : Numbers} where
   pub renumbered-one : {X Y : Type 0} {parts : X → List Part} {of : (ℕ → Tree F C K) → X → Tree F C K}
       {all : Y → List Part} {tree : (ℕ → Tree F C K) → Y → Tree F C K} {a b : X} {x y : Y} →
       Renumbered parts of ids a b → all x ≡ parts a → all y ≡ parts b →
@@ -34,11 +45,11 @@ module _ {F C K : Type 0} {ids : List ℕ} where
 
   pub renumbered-two : {W X Y : Type 0}
       {first : W → List Part} {of : (ℕ → Tree F C K) → W → Tree F C K}
-      {second : X → List Part} {then : (ℕ → Tree F C K) → X → Tree F C K}
+      {second : X → List Part} {next : (ℕ → Tree F C K) → X → Tree F C K}
       {all : Y → List Part} {tree : (ℕ → Tree F C K) → Y → Tree F C K} {u v : W} {a b : X} {x y : Y} →
-      Renumbered first of ids u v → Renumbered second then ids a b →
+      Renumbered first of ids u v → Renumbered second next ids a b →
       all x ≡ first u ++ second a → all y ≡ first v ++ second b →
-      ((at by : ℕ → Tree F C K) → of at v ≡ of by u → then at b ≡ then by a → tree at y ≡ tree by x) →
+      ((at by : ℕ → Tree F C K) → of at v ≡ of by u → next at b ≡ next by a → tree at y ≡ tree by x) →
       Renumbered all tree ids x y
   renumbered-two {first = first} {second = second} {u = u} {a = a} {b = b} q r d e f = record {
     placed =
@@ -49,7 +60,7 @@ module _ {F C K : Type 0} {ids : List ℕ} where
 
 -- ---- lists
 
-module _ {F C K X : Type 0} (parts : X → List Part) (of : (ℕ → Tree F C K) → X → Tree F C K) (ids : List ℕ) where
+module _ {F C K X : Type 0} (parts : X → List Part) (of : (ℕ → Tree F C K) → X → Tree F C K) (ids : Numbers) where
   -- The items before the number i have the numbers at their places, and those from there on are what they were.
   pub record Renumbering (old new : List X) (i : ℕ) : Type 0 where
     pub same_length : length new ≡ length old

@@ -4,7 +4,7 @@ use Rattle.std.specs.BTreeMap.{get}
 use Rattle.std.specs.Ordering.{nat_cmp}
 use Rattle.swc_context.specs.declared.span.Span.{Span}
 use Rattle.swc_ast.specs.Tree.{Kind, array_with, object_with, arrow, Tree, node, Trees, nil, cons}
-use Rattle.swc_nodes.specs.NodeParts.{Part}
+use Rattle.swc_nodes.specs.NodeParts.{Part, slots, flat, one_pat, body_parts}
 use Rattle.swc_nodes.specs.declared.commas.TrailingCommas.{TrailingCommas}
 use Rattle.swc_nodes.specs.declared.node.Node.{Node}
 use Rattle.swc_nodes.specs.declared.node.Node.TheVariants as n
@@ -30,11 +30,11 @@ own_comma (array_with comma) s = (s.lo.0, comma) ∷ []
 own_comma (object_with comma) s = (s.lo.0, comma) ∷ []
 own_comma k s = []
 
--- All literals of a tree: a node before its parts, and these from the last one on, in the order of the source, in which the parameters of
--- an arrow function stand before its body.
+-- All literals of a tree, but for those in the bodies of arrow functions: a node before its parts, and these from the last one on, in the
+-- order of the source.
 abbrev mutual
   pub commas_in : {F C K : Type 0} → Tree F C K → List Literal
-  commas_in (node (arrow a) s (cons body params)) = commas_in body ++ commas_of_all params
+  commas_in (node (arrow a) s (cons body params)) = commas_of_all params
   commas_in (node k s ts) = own_comma k s ++ commas_of_all ts
 
   pub commas_of_all : {F C K : Type 0} → Trees F C K → List Literal
@@ -45,6 +45,15 @@ abbrev mutual
 abbrev pub part_commas : {F C K : Type 0} → (ℕ → Tree F C K) → List Part → List Literal
 part_commas at [] = []
 part_commas at (p ∷ ps) = part_commas at ps ++ commas_in (at p.at)
+
+-- the parts of a node in which literals are remembered: all but the body of an arrow function; and that body
+abbrev pub outer_parts : {F C K : Type 0} → Node F C K → List Part
+outer_parts (n.Arrow s ps b a) = flat one_pat ps.items
+outer_parts x = slots x
+
+abbrev pub body_part : {F C K : Type 0} → Node F C K → List Part
+body_part (n.Arrow s ps b a) = body_parts b.value
+body_part x = []
 
 -- the literal or pattern that a node itself is
 abbrev pub node_comma : {F C K : Type 0} → Node F C K → List Literal

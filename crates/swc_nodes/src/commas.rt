@@ -1,9 +1,11 @@
 // Where commas stand behind the last parts of literals.
-ghost use Rattle.std.specs.Prelude.{◌≡◌, ℕ, None, OnOk, OnErr};
-ghost use Rattle.swc_nodes.specs.Commas.{comma_at, Remembers, Recalls, node_comma, part_commas};
+ghost use Rattle.std.specs.Prelude.{◌≡◌, ◌++◌, ℕ, None, IfOk, OnOk, OnErr, map};
+ghost use Rattle.swc_nodes.specs.Commas.{comma_at, Remembers, Recalls, node_comma, outer_parts, part_commas};
 ghost use Rattle.swc_nodes.specs.GrowingNodes.{tree_at, Apart};
+ghost use Rattle.swc_nodes.specs.Marking.{Marks};
+ghost use Rattle.swc_nodes.specs.Walking.{part_of};
 
-use crate::apart::{Parts, parts_of};
+use crate::apart::{PartId, Parts, parts_of};
 use crate::node::Node;
 use crate::nodes::Nodes;
 use std::alloc::{AllocError, Global};
@@ -63,9 +65,9 @@ impl TrailingCommas {
         }
     }
 
-    /// Remembers the commas of all literals that are reached from the parts of an item, which lie apart: each at the
-    /// place where the literal begins, or forgets what was there where it has none; so it does of array and object
-    /// patterns, which have none. Goes without recursion, and is refused only for want of memory.
+    /// Remembers the commas of all literals that are reached from the parts of an item, which lie apart, but for those
+    /// in the bodies of arrow functions: each at the place where the literal begins, or forgets what was there where it
+    /// has none; so it does of array and object patterns, which have none. Goes without recursion, and is refused only for want of memory.
     ///
     /// A node comes before its parts, and of these the last one first. Where several begin at one place, as in no text,
     /// that of the last one is remembered.
@@ -82,9 +84,21 @@ impl TrailingCommas {
         while let Some(part) = due.pop() {
             let node = nodes.get(part.number());
             self.remember_node(node)?;
-            node.list(&mut due)?;
+            list_outer(node, &mut due)?;
         }
         Ok(())
+    }
+
+    /// Marks the array and object literals that have numbers from `from` on: each with the comma that is remembered where
+    /// it begins, or with none. So trees that were put in get their marks, for which boxes have no place.
+    pub fn mark<F: Spanned + Drop, C: Spanned + Drop, K: Spanned + Drop>(
+        &self,
+        nodes: &mut Nodes<F, C, K>,
+        from: usize,
+    )
+        ensures { Marks (comma_at self.now) from nodes.old nodes.new }
+    {
+        nodes.mark_from(from, self);
     }
 
     /// Remembers the comma of a literal, and forgets what was there of one without, and of a pattern.
@@ -107,5 +121,18 @@ impl TrailingCommas {
             }
             _ => Ok(()),
         }
+    }
+}
+
+/// Puts the parts of a node behind those of a list, but for the body of an arrow function.
+fn list_outer<F: Spanned + Drop, C: Spanned + Drop, K: Spanned + Drop>(
+    node: &Node<F, C, K>,
+    due: &mut Vec<PartId>,
+) -> Result<(), AllocError>
+    ensures { IfOk result (λ _. map part_of due.new.items ≡ map part_of due.old.items ++ outer_parts node.now) }
+{
+    match node {
+        Node::Arrow { params, .. } => params.list(due),
+        _ => node.list(due),
     }
 }

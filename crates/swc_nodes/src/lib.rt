@@ -6,10 +6,12 @@
 #![tactic(auto)]
 
 pub mod apart;
+pub mod arrows;
 pub mod aside;
 pub mod commas;
 pub mod ends;
 pub mod making;
+mod marking;
 pub mod node;
 pub mod nodes;
 pub mod patterns;

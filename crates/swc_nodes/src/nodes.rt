@@ -3,6 +3,8 @@ ghost use Rattle.std.specs.Prelude.{◌≡◌, ℕ, ◌<◌, ◌≤◌, ◌↔�
 ghost use Rattle.swc_nodes.specs.NumberedTrees.{ordered};
 ghost use Rattle.swc_nodes.specs.NodeParts.{form, view_ok, expr, simple, pattern};
 
+use crate::commas::TrailingCommas;
+use crate::marking::mark_all;
 use crate::node::{ExprId, Node, PatId, TargetNode};
 use std::alloc::{AllocError, Global};
 use swc_ast::spanned::Spanned;
@@ -33,6 +35,8 @@ pub type NodesOf<B> = Nodes<
 
 impl<F: Spanned + Drop, C: Spanned + Drop, K: Spanned + Drop> Nodes<F, C, K> {
     ghost use Rattle.swc_nodes.specs.NodeParts.{slots, expr_part, pat_part, target_part};
+    ghost use Rattle.swc_nodes.specs.Commas.{comma_at};
+    ghost use Rattle.swc_nodes.specs.Marking.{Marks};
     ghost use Rattle.swc_nodes.specs.GrowingNodes.{count, Apart, From, Grows, Added, Stood, Popped, CutTo};
 
     /// No nodes. Takes no memory.
@@ -116,6 +120,14 @@ impl<F: Spanned + Drop, C: Spanned + Drop, K: Spanned + Drop> Nodes<F, C, K> {
     {
         self.nodes.truncate(id + 1);
         self.nodes.remove(id)
+    }
+
+    /// Puts commas behind the last parts of the array and object literals that have numbers from `from` on, where
+    /// `commas` has one for where the literal begins, and takes those away that stand behind others.
+    pub(crate) fn mark_from(&mut self, from: usize, commas: &TrailingCommas)
+        ensures { Marks (comma_at commas.now) from self.old self.new }
+    {
+        mark_all(&mut self.nodes, from, commas);
     }
 
     /// Lets go of all nodes from a number on.

@@ -1,6 +1,7 @@
-// Makes the nodes of binding patterns and of formal parameters, and says where they stand.
+// Makes the nodes of patterns, of formal parameters and of assignments to patterns, and says where they stand.
 ghost use Rattle.std.specs.Prelude.{◌≡◌, ℕ, ◌+◌, ◌++◌, None, IfOk};
 ghost use Rattle.swc_context.specs.Spans.{from_to};
+ghost use Rattle.swc_context.specs.declared.operator.AssignOp.TheVariants as assign_op;
 ghost use Rattle.swc_ast.specs.Parts.{leaf, binding_tree, prop_name_tree, param_tree};
 ghost use Rattle.swc_ast.specs.Patterns as patterns;
 ghost use Rattle.swc_ast.specs.Spans.{prop_name_span};
@@ -9,12 +10,13 @@ ghost use Rattle.swc_ast.specs.Trees as trees;
 ghost use Rattle.swc_nodes.specs.Lists.{pat_elem_parts, pat_elem_trees, pat_props_parts, pat_props_trees};
 ghost use Rattle.swc_nodes.specs.Lists.{first_param_pat};
 ghost use Rattle.swc_nodes.specs.NodeParts.{expr_part, pat_part, one_expr, one_pat, key_parts, pat_prop_parts};
-ghost use Rattle.swc_nodes.specs.NodeParts.{param_parts};
+ghost use Rattle.swc_nodes.specs.NodeParts.{param_parts, target_part};
 ghost use Rattle.swc_nodes.specs.NodeTree.{pat_prop_of};
 ghost use Rattle.swc_nodes.specs.GrowingNodes.{count, tree_at, first_at, end_at, Apart, From, Grows, Made};
 ghost use Rattle.swc_nodes.specs.declared.node.PatPropNode.TheVariants as pat_prop;
+ghost use Rattle.swc_nodes.specs.declared.node.TargetNode.TheVariants as target;
 
-use crate::node::{ExprId, Node, PatId, PatPropNode};
+use crate::node::{ExprId, Node, PatId, PatPropNode, TargetNode};
 use crate::nodes::Nodes;
 use std::alloc::AllocError;
 use swc_ast::expr::Invalid;
@@ -22,6 +24,7 @@ use swc_ast::function::Param;
 use swc_ast::ident::BindingIdent;
 use swc_ast::prop::PropName;
 use swc_ast::spanned::Spanned;
+use swc_context::operator::AssignOp;
 use swc_context::span::{BytePos, Span};
 
 impl<F: Spanned + Drop, C: Spanned + Drop, K: Spanned + Drop> Nodes<F, C, K> {
@@ -117,6 +120,31 @@ impl<F: Spanned + Drop, C: Spanned + Drop, K: Spanned + Drop> Nodes<F, C, K> {
             span,
             dot3_token: dots,
             arg,
+        })?))
+    }
+
+    /// An assignment to an array or object pattern (ECMA-262, 13.15.5; `has_target` tells). It ends with the last token
+    /// of `value`.
+    ///
+    /// All that is reached from `value` lies behind `left`.
+    pub fn assign_pat_expr(&mut self, left: PatId, value: ExprId) -> Result<ExprId, AllocError>
+        requires left { From 0 self.old (target_part (target.Pat left)) }
+        requires right { From (left.0 + 1) self.old (expr_part value) }
+        ensures grows { Grows self.old self.new }
+        ensures made { IfOk result
+            (λ id. Made (first_at self.old left.0) self.new (expr_part id)
+            (trees.assign_e (from_to (span_of (tree_at self.old left.0)).lo (end_at self.old value.0)) assign_op.Assign
+            (tree_at self.old left.0) (tree_at self.old value.0))) }
+    {
+        let span = Span {
+            lo: self.pat_extent(left).lo,
+            hi: self.end(value),
+        };
+        Ok(ExprId(self.push(Node::Assign {
+            span,
+            op: AssignOp::Assign,
+            left: TargetNode::Pat(left),
+            right: value,
         })?))
     }
 

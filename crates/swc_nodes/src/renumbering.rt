@@ -1,14 +1,13 @@
-// Renumbering: the k-th number of a list takes the place of the number k by which a part is held. A number that is no
-// place of the list stays.
+// Renumbering: new numbers take the place of those by which parts are held. A number that has no new one stays.
 ghost use Rattle.std.specs.Prelude.{◌≡◌, ◌++◌, ◌∷◌, [], true, map};
 ghost use Rattle.swc_ast.specs.Parts.{or_hole, prop_name_tree, member_prop_tree, super_part_tree, callee_tree};
-ghost use Rattle.swc_ast.specs.Parts.{base_tree, body_tree, param_tree, item_tree, member_tree, tpl_tree};
+ghost use Rattle.swc_ast.specs.Parts.{args_tree, base_tree, body_tree, param_tree, item_tree, member_tree, tpl_tree};
 ghost use Rattle.swc_ast.specs.Tree.{args, node, no_span, trees};
 ghost use Rattle.swc_nodes.specs.NodeTree.{expr_of, pat_of, target_of, prop_of, pat_prop_of, marked_tree};
 ghost use Rattle.swc_nodes.specs.Renumbering.{given, Renumbered};
 ghost use Rattle.swc_nodes.specs.NodeParts.{slots, form, flat, if_some, one_expr, one_pat, target_part, item_parts};
 ghost use Rattle.swc_nodes.specs.NodeParts.{key_parts, member_parts, super_parts, callee_parts, base_parts, body_parts};
-ghost use Rattle.swc_nodes.specs.NodeParts.{param_parts, prop_parts, pat_prop_parts};
+ghost use Rattle.swc_nodes.specs.NodeParts.{args_parts, param_parts, prop_parts, pat_prop_parts};
 ghost use Rattle.swc_nodes.specs.Walking.{is_operation};
 
 use crate::node::{ExprId, Node, PatId, PatPropNode, PropNode, TargetNode};
@@ -29,16 +28,28 @@ trait Numbered<F: Spanned, C: Spanned, K: Spanned> {
 
     ghost of: { (ℕ → Tree F C K) → Self → Tree F C K };
 
-    /// Puts the numbers of the list in place of those that it holds.
-    fn renumber(&mut self, ids: &Vec<usize>)
-        ensures { Renumbered parts of ids.now.items self.old self.new };
+    /// Puts the new numbers in place of those that it holds.
+    fn renumber(&mut self, ids: &Numbers)
+        ensures { Renumbered parts of ids.now self.old self.new };
 }
 
-/// The number at the place; the place itself, where the list doesn't have it.
-fn number_at(ids: &Vec<usize>, place: usize) -> usize
-    ensures { result ≡ given ids.now.items place }
-{
-    ids.get(place).copied().unwrap_or(place)
+/// New numbers in place of old ones: the k-th of `ids` in place of the k-th from `from` on.
+#[derive(Drop)]
+pub struct Numbers {
+    pub from: usize,
+    pub ids: Vec<usize>,
+}
+
+impl Numbers {
+    /// The new number of an old one; the old one, where it has none.
+    pub fn get(&self, old: usize) -> usize
+        ensures { result ≡ given self.now old }
+    {
+        if old < self.from {
+            return old;
+        }
+        self.ids.get(old - self.from).copied().unwrap_or(old)
+    }
 }
 
 impl<F: Spanned, C: Spanned, K: Spanned> Numbered<F, C, K> for ExprId {
@@ -46,8 +57,8 @@ impl<F: Spanned, C: Spanned, K: Spanned> Numbered<F, C, K> for ExprId {
 
     ghost of = { expr_of F.place C.place K.place };
 
-    fn renumber(&mut self, ids: &Vec<usize>) {
-        self.0 = number_at(ids, self.0);
+    fn renumber(&mut self, ids: &Numbers) {
+        self.0 = ids.get(self.0);
     }
 }
 
@@ -56,8 +67,8 @@ impl<F: Spanned, C: Spanned, K: Spanned> Numbered<F, C, K> for PatId {
 
     ghost of = { pat_of F.place C.place K.place };
 
-    fn renumber(&mut self, ids: &Vec<usize>) {
-        self.0 = number_at(ids, self.0);
+    fn renumber(&mut self, ids: &Numbers) {
+        self.0 = ids.get(self.0);
     }
 }
 
@@ -66,7 +77,7 @@ impl<F: Spanned, C: Spanned, K: Spanned, T: Numbered<F, C, K>> Numbered<F, C, K>
 
     ghost of = { λ at. or_hole (T.of at) };
 
-    fn renumber(&mut self, ids: &Vec<usize>) {
+    fn renumber(&mut self, ids: &Numbers) {
         if let Some(item) = self {
             item.renumber(ids);
         }
@@ -78,7 +89,7 @@ impl<F: Spanned, C: Spanned, K: Spanned, T: Numbered<F, C, K>> Numbered<F, C, K>
 
     ghost of = { λ at items. node args no_span (trees (map (T.of at) items.items)) };
 
-    fn renumber(&mut self, ids: &Vec<usize>) {
+    fn renumber(&mut self, ids: &Numbers) {
         for item in self.iter_mut() {
             item.renumber(ids);
         }
@@ -90,7 +101,7 @@ impl<F: Spanned, C: Spanned, K: Spanned> Numbered<F, C, K> for ExprOrSpread<Expr
 
     ghost of = { λ at. item_tree (expr_of F.place C.place K.place at) };
 
-    fn renumber(&mut self, ids: &Vec<usize>) {
+    fn renumber(&mut self, ids: &Numbers) {
         <_ as Numbered<F, C, K>>::renumber(&mut self.expr, ids);
     }
 }
@@ -100,7 +111,7 @@ impl<F: Spanned, C: Spanned, K: Spanned> Numbered<F, C, K> for PropName<ExprId> 
 
     ghost of = { λ at. prop_name_tree (expr_of F.place C.place K.place at) };
 
-    fn renumber(&mut self, ids: &Vec<usize>) {
+    fn renumber(&mut self, ids: &Numbers) {
         if let PropName::Computed(name) = self {
             <_ as Numbered<F, C, K>>::renumber(&mut name.expr, ids);
         }
@@ -112,7 +123,7 @@ impl<F: Spanned, C: Spanned, K: Spanned> Numbered<F, C, K> for MemberProp<ExprId
 
     ghost of = { λ at. member_prop_tree (expr_of F.place C.place K.place at) };
 
-    fn renumber(&mut self, ids: &Vec<usize>) {
+    fn renumber(&mut self, ids: &Numbers) {
         if let MemberProp::Computed(name) = self {
             <_ as Numbered<F, C, K>>::renumber(&mut name.expr, ids);
         }
@@ -124,7 +135,7 @@ impl<F: Spanned, C: Spanned, K: Spanned> Numbered<F, C, K> for SuperProp<ExprId>
 
     ghost of = { λ at. super_part_tree (expr_of F.place C.place K.place at) };
 
-    fn renumber(&mut self, ids: &Vec<usize>) {
+    fn renumber(&mut self, ids: &Numbers) {
         if let SuperProp::Computed(name) = self {
             <_ as Numbered<F, C, K>>::renumber(&mut name.expr, ids);
         }
@@ -136,7 +147,7 @@ impl<F: Spanned, C: Spanned, K: Spanned> Numbered<F, C, K> for Callee<ExprId> {
 
     ghost of = { λ at. callee_tree (expr_of F.place C.place K.place at) };
 
-    fn renumber(&mut self, ids: &Vec<usize>) {
+    fn renumber(&mut self, ids: &Numbers) {
         if let Callee::Expr(expr) = self {
             <_ as Numbered<F, C, K>>::renumber(expr, ids);
         }
@@ -148,7 +159,7 @@ impl<F: Spanned, C: Spanned, K: Spanned> Numbered<F, C, K> for MemberExpr<ExprId
 
     ghost of = { λ at. member_tree (expr_of F.place C.place K.place at) };
 
-    fn renumber(&mut self, ids: &Vec<usize>) {
+    fn renumber(&mut self, ids: &Numbers) {
         <_ as Numbered<F, C, K>>::renumber(&mut self.obj, ids);
         <_ as Numbered<F, C, K>>::renumber(&mut self.prop, ids);
     }
@@ -159,7 +170,7 @@ impl<F: Spanned, C: Spanned, K: Spanned> Numbered<F, C, K> for OptChainBase<Expr
 
     ghost of = { λ at. base_tree (expr_of F.place C.place K.place at) };
 
-    fn renumber(&mut self, ids: &Vec<usize>) {
+    fn renumber(&mut self, ids: &Numbers) {
         match self {
             OptChainBase::Member(member) => <_ as Numbered<F, C, K>>::renumber(member, ids),
             OptChainBase::Call(call) => {
@@ -175,7 +186,7 @@ impl<F: Spanned, C: Spanned, K: Spanned> Numbered<F, C, K> for Tpl<ExprId> {
 
     ghost of = { λ at. tpl_tree (expr_of F.place C.place K.place at) };
 
-    fn renumber(&mut self, ids: &Vec<usize>) {
+    fn renumber(&mut self, ids: &Numbers) {
         <_ as Numbered<F, C, K>>::renumber(&mut self.exprs, ids);
     }
 }
@@ -185,7 +196,7 @@ impl<F: Spanned, C: Spanned, K: Spanned> Numbered<F, C, K> for BlockStmtOrExpr<E
 
     ghost of = { λ at. body_tree K.place (expr_of F.place C.place K.place at) };
 
-    fn renumber(&mut self, ids: &Vec<usize>) {
+    fn renumber(&mut self, ids: &Numbers) {
         if let BlockStmtOrExpr::Expr(expr) = self {
             <_ as Numbered<F, C, K>>::renumber(expr, ids);
         }
@@ -197,7 +208,7 @@ impl<F: Spanned, C: Spanned, K: Spanned> Numbered<F, C, K> for Param<PatId> {
 
     ghost of = { λ at. param_tree (pat_of F.place C.place K.place at) };
 
-    fn renumber(&mut self, ids: &Vec<usize>) {
+    fn renumber(&mut self, ids: &Numbers) {
         <_ as Numbered<F, C, K>>::renumber(&mut self.pat, ids);
     }
 }
@@ -207,7 +218,7 @@ impl<F: Spanned, C: Spanned, K: Spanned> Numbered<F, C, K> for PropNode<K> {
 
     ghost of = { prop_of F.place C.place K.place };
 
-    fn renumber(&mut self, ids: &Vec<usize>) {
+    fn renumber(&mut self, ids: &Numbers) {
         match self {
             PropNode::Spread(spread) => {
                 <_ as Numbered<F, C, K>>::renumber(&mut spread.expr, ids)
@@ -236,7 +247,7 @@ impl<F: Spanned, C: Spanned, K: Spanned> Numbered<F, C, K> for PatPropNode {
 
     ghost of = { pat_prop_of F.place C.place K.place };
 
-    fn renumber(&mut self, ids: &Vec<usize>) {
+    fn renumber(&mut self, ids: &Numbers) {
         match self {
             PatPropNode::KeyValue { key, value, .. } => {
                 <_ as Numbered<F, C, K>>::renumber(key, ids);
@@ -253,7 +264,7 @@ impl<F: Spanned, C: Spanned, K: Spanned> Numbered<F, C, K> for TargetNode {
 
     ghost of = { target_of F.place C.place K.place };
 
-    fn renumber(&mut self, ids: &Vec<usize>) {
+    fn renumber(&mut self, ids: &Numbers) {
         match self {
             TargetNode::Simple(expr) => <_ as Numbered<F, C, K>>::renumber(expr, ids),
             TargetNode::Pat(pat) => <_ as Numbered<F, C, K>>::renumber(pat, ids),
@@ -266,8 +277,8 @@ impl<F: Spanned, C: Spanned, K: Spanned> Numbered<F, C, K> for Node<F, C, K> {
 
     ghost of = { marked_tree F.place C.place K.place };
 
-    fn renumber(&mut self, ids: &Vec<usize>)
-        ensures renumbered { Renumbered slots (marked_tree F.place C.place K.place) ids.now.items self.old self.new }
+    fn renumber(&mut self, ids: &Numbers)
+        ensures renumbered { Renumbered slots (marked_tree F.place C.place K.place) ids.now self.old self.new }
         ensures form { form self.new ≡ form self.old }
     {
         match self {
@@ -319,12 +330,9 @@ impl<F: Spanned, C: Spanned, K: Spanned> Numbered<F, C, K> for Node<F, C, K> {
 
 /// Renumbers the operands of an operation, or the parts of a pattern that is a plain one with something before or
 /// behind it.
-fn renumber_operation<F: Spanned, C: Spanned, K: Spanned>(
-    node: &mut Node<F, C, K>,
-    ids: &Vec<usize>,
-)
+fn renumber_operation<F: Spanned, C: Spanned, K: Spanned>(node: &mut Node<F, C, K>, ids: &Numbers)
     requires { is_operation node.old ≡ true }
-    ensures renumbered { Renumbered slots (marked_tree F.place C.place K.place) ids.now.items node.old node.new }
+    ensures renumbered { Renumbered slots (marked_tree F.place C.place K.place) ids.now node.old node.new }
     ensures form { form node.new ≡ form node.old }
 {
     match node {
@@ -361,12 +369,23 @@ fn renumber_operation<F: Spanned, C: Spanned, K: Spanned>(
 }
 
 impl<F: Spanned + Drop, C: Spanned + Drop, K: Spanned + Drop> Node<F, C, K> {
-    /// Puts the numbers of the list in place of the places in it that the node's parts are named by; a part that the
-    /// list has no number for keeps its own.
-    pub fn renumber(&mut self, ids: &Vec<usize>)
-        ensures renumbered { Renumbered slots (marked_tree F.place C.place K.place) ids.now.items self.old self.new }
+    /// Puts the new numbers in place of those that the node's parts are named by; a part that has no new one keeps its
+    /// own.
+    pub fn renumber(&mut self, ids: &Numbers)
+        ensures renumbered { Renumbered slots (marked_tree F.place C.place K.place) ids.now self.old self.new }
         ensures form { form self.new ≡ form self.old }
     {
         <_ as Numbered<F, C, K>>::renumber(self, ids)
     }
+}
+
+/// Puts the new numbers in place of those that the items of a list hold; one that has no new number stays.
+pub fn renumber_items<F: Spanned, C: Spanned, K: Spanned>(
+    items: &mut Vec<ExprOrSpread<ExprId>>,
+    ids: &Numbers,
+)
+    ensures { Renumbered args_parts (λ at. args_tree (expr_of F.place C.place K.place at)) ids.now
+        items.old items.new }
+{
+    <_ as Numbered<F, C, K>>::renumber(items, ids)
 }

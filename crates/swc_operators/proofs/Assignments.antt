@@ -7,6 +7,7 @@ use Rattle.swc_context.specs.Contexts.{view as deciding}
 use Rattle.swc_context.specs.declared.context.Context.{Context}
 use Rattle.swc_context.specs.declared.error.Error.{Error}
 use Rattle.swc_context.specs.declared.operator.AssignOp.{AssignOp}
+use Rattle.swc_context.specs.declared.operator.AssignOp.TheVariants as write
 use Rattle.swc_context.specs.declared.span.BytePos.{BytePos}
 use Rattle.swc_context.specs.declared.span.Span.{Span}
 use Rattle.swc_context.specs.declared.word.Keyword.TheVariants as keyword
@@ -20,20 +21,34 @@ use Rattle.swc_input.specs.Kinds.{at_token}
 use Rattle.swc_input.specs.Recording.{is_some}
 use Rattle.swc_input.specs.Source.{Model}
 use Rattle.swc_ast.specs.Targets.{is_target}
-use Rattle.swc_ast.specs.Tree.{Tree, Trees, nil, cons, span_of}
+use Rattle.swc_ast.specs.Patterns.{array_p, object_p}
+use Rattle.swc_ast.specs.Tree.{Tree, Trees, nil, cons, span_of, node, array_with, object_with}
 use Rattle.swc_ast.specs.Trees.{to, trees_append, cond_e, assign_e, yield_e, hole_e, is_operation}
 use Rattle.swc_bodies.specs.Readings.{Hook}
-use Rattle.swc_grammar.specs.Scope.{Scope}
-use Rattle.swc_grammar.specs.Rule.{gives, take, check, read, sees}
+use Rattle.swc_grammar.specs.Scope.{Scope, at_head}
+use Rattle.swc_grammar.specs.Cover.{is_assign as is_assign_tree, as_literal, as_elements, as_props, is_pattern}
+use Rattle.swc_grammar.specs.Cover.{is_plain_assign, target, ◌>>>◌}
+use Rattle.swc_grammar.specs.Rule.{gives, take, check, read, sees, given, symbol, ◌>>=◌ as ◌▸◌}
 use Rattle.swc_grammar.specs.Symbols.{Expr, Assign, Level}
 use Rattle.swc_grammar.specs.Tokens.{include_in, with_in, assign_of, is_assign, is_comma, is_question, is_colon}
-use Rattle.swc_grammar.specs.Tokens.{is_star, tk, is_yield, yield_ok, goes_on_yield, begins_yielded}
+use Rattle.swc_grammar.specs.Tokens.{is_star, is_equals, is_lparen, tk, is_yield, yield_ok, goes_on_yield}
+use Rattle.swc_grammar.specs.Tokens.{begins_yielded}
 use Rattle.swc_grammar.specs.Clean.{Out, and_then, first, sym as at, assigns, seqs, no_error, begins_yield, plan}
+use Rattle.swc_grammar.specs.Clean.{writes_tail, begins_arrow, begins_async_name, begins_async_list}
 use Rattle.swc_grammar.specs.Clean.{goes_on_yield_at, exec, run, chosen, yield_by as yield_choice}
-use Rattle.swc_grammar.specs.Words.{◌>>=◌}
+use Rattle.swc_grammar.specs.Words.{◌>>=◌, rest}
 use Rattle.swc_grammar.proofs.Answers.{both}
 use Rattle.swc_grammar.proofs.Complete.{last}
+use Rattle.swc_grammar.proofs.Head.{level-run}
 use Rattle.swc_grammar.proofs.Knot.{knot}
+use Rattle.swc_operators.specs.Assignments.{refines, pattern_by, assign_pattern, assign_refined, assign_by, assigned_by}
+use Rattle.swc_cover.proofs.Clear.{clear-fits}
+use Rattle.swc_cover.proofs.Formed.{Formed}
+use Rattle.swc_cover.proofs.Ties.{pattern-is}
+use Rattle.swc_cover.specs.Clear.{is_clear}
+use Rattle.swc_cover.specs.PatTypes.{stands_whole, verdict_as, want_as}
+use Rattle.swc_cover.specs.declared.pat_type.PatType.TheVariants.{AssignPat}
+use Rattle.swc_ast.specs.Trees.{is_valid}
 use Rattle.swc_operators.specs.Assignments.{assign_at, seqs_more, seqs_by, cond_tail, seqs_from_by, assigns_from}
 use Rattle.swc_operators.specs.Assignments.{cond_colon, cond_close, assign_tail, assign_expr, yield_arg}
 use Rattle.swc_operators.specs.Assignments.{yield_operand, yield_go, yield_tail, yield_expr}
@@ -45,13 +60,22 @@ use Rattle.swc_steps.specs.Parsing.{behind, Moves, Parses}
 use Rattle.swc_steps.proofs.Keys.{then_calls, then_token}
 use Rattle.swc_steps.proofs.Lists.{calls}
 use Rattle.swc_steps.proofs.Rules.{inside_assign}
-use Rattle.swc_steps.proofs.Steps.{parses_within, parses_aside}
+use Rattle.swc_steps.proofs.Steps.{parses_within, parses_aside, parses_inner, inner_of, inner_is}
 use Rattle.swc_operators.proofs.Updates.{if_on, if_off}
 
 -- whether something is given, by either name
 pub given_some : {A : Type 0} (o : Option A) → is_given o ≡ is_some o
 given_some None = refl
 given_some (Some a) = refl
+
+-- the operator that makes a pattern of what stands before it
+pub plain_is : (op : AssignOp) → is_plain_assign op ≡ true → op ≡ write.Assign
+plain_is write.Assign h = refl
+plain_is op h = absurd cc
+
+pub refining_op : {F C K : Type 0} (op : AssignOp) (l : Tree F C K) → refines op l ≡ true
+    → (is_plain_assign op ≡ true) × (op ≡ write.Assign) × (is_pattern l ≡ true)
+refining_op op l h = let (p, k) = both (is_plain_assign op) (is_pattern l) h in (p, plain_is op p, k)
 
 module _ {F C K : Type 0} (hook : Hook F C K) where
   -- ---- sequences (13.16)
@@ -98,11 +122,16 @@ module _ {F C K : Type 0} (hook : Hook F C K) where
 
   -- ---- assignment expressions (13.15)
 
-  pub assign_splits : (x : Scope) (ts : List TokenAndSpan) → begins_yield x ts ≡ false
-      → at_token no_error (first ts) ≡ true
+  -- what isn't told by its first tokens to be an arrow function, `async` and a list, or a list in parentheses
+  pub assign_splits : (x : Scope) (ts : List TokenAndSpan) → x.head ≡ false → begins_yield x ts ≡ false
+      → begins_arrow x ts ≡ false → at_token is_lparen (first ts) ≡ false → begins_async_name x ts ≡ false
+      → begins_async_list ts ≡ false → at_token no_error (first ts) ≡ true
       → run hook (at Assign) x ts ≡ (run hook (at (Level 1)) x ts >>= (λ p. run hook (assigns p.0) x p.1))
-  assign_splits x ts y h =
-      knot hook (at Assign) x ts ∙ rw (y, h) (then_last (run hook (at (Level 1)) x ts))
+  assign_splits x ts none y a p n l h =
+      let level = run hook (at (Level 1)) (at_head x) ts in
+      knot hook (at Assign) x ts ∙ rw (y, a, p, n, l, h) (then_last level)
+      ∙ ap (λ o. o >>= (λ p. run hook (assigns p.0) x p.1))
+      (level-run hook x ts (rw (n, l) refl) ∙ ap (λ v. run hook (at (Level 1)) v ts) (inner_is x none))
     where
       then_last : (o : Out (Tree F C K))
           → and_then o (λ e us. exec hook (run hook) (Some 14) (read (assigns e) x (λ v. gives v)) us)
@@ -150,16 +179,97 @@ module _ {F C K : Type 0} (hook : Hook F C K) where
   if_some true o a h = cc
   if_some false o a h = (refl, h)
 
-  pub assigns_assign : (op : AssignOp) (l : Tree F C K) (x : Scope) (ts : List TokenAndSpan)
-      → assign_at (first ts) l ≡ Some op → run hook (assigns l) x ts ≡ assign_expr hook op l x ts
+  no_equals : (t : Token) (op : AssignOp) → assign_of t ≡ Some op → is_plain_assign op ≡ false → is_equals t ≡ false
+  no_equals (token.AssignOp write.Assign) op h k = let same : write.Assign ≡ op = cc in absurd (differs op same k)
+    where
+      differs : (o : AssignOp) → write.Assign ≡ o → is_plain_assign o ≡ false → ⊥
+      differs o e h = let f : true ≡ false = ap is_plain_assign e ∙ h in cc
+  no_equals (token.AssignOp o) op h k = refl
+  no_equals t op h k = refl
+
+  equals_is : (t : Token) → assign_of t ≡ Some write.Assign → is_equals t ≡ true
+  equals_is (token.AssignOp write.Assign) h = refl
+  equals_is (token.AssignOp o) h = absurd cc
+  equals_is t h = absurd cc
+
+  no_target : (strict : Bool) (l : Tree F C K) → is_pattern l ≡ true → is_target strict l ≡ false
+  no_target strict (node (array_with comma) s ts) h = refl
+  no_target strict (node (object_with comma) s ts) h = refl
+  no_target strict l h = absurd cc
+
+  -- what is written to by an operator that makes no pattern of it
+  by_pattern : (b : Bool) (op : AssignOp) (l : Tree F C K) (x : Scope) (t : TokenAndSpan) (ts : List TokenAndSpan)
+      → is_pattern l ≡ b → refines op l ≡ false → assign_of t.token ≡ Some op
+      → exec hook (run hook) (Some 1) (plan (writes_tail x l)) (t ∷ ts) ≡ assign_expr hook op l x (t ∷ ts)
   unfolding assign_expr assign_tail
-  assigns_assign op l x [] h = cc
-  assigns_assign op l x (t ∷ ts) h =
+  by_pattern true op l x t ts h k o =
+      rw (
+        h,
+        no_equals t.token op o (plain_not (is_plain_assign op) (is_pattern l) k h),
+        no_target x.context.strict l h,
+      ) refl
+    where
+      plain_not : (a b : Bool) → (a && b) ≡ false → b ≡ true → a ≡ false
+      plain_not true true k h = absurd cc
+      plain_not true false k h = absurd cc
+      plain_not false b k h = refl
+  by_pattern false op l x t ts h k o =
+      rw h (rw (o, exec) (ap (λ v. if is_target x.context.strict l then v else None)
+      (calls (run hook (at Assign) x ts) _)))
+
+  pub assigns_assign : (op : AssignOp) (l : Tree F C K) (x : Scope) (ts : List TokenAndSpan) → refines op l ≡ false
+      → assign_at (first ts) l ≡ Some op → run hook (assigns l) x ts ≡ assign_expr hook op l x ts
+  assigns_assign op l x [] k h = cc
+  assigns_assign op l x (t ∷ ts) k h =
       let (n, o) = if_some (is_operation l) (assign_of t.token) op h in
       let (q, a) = assign_is t.token op o in
       knot hook (assigns l) x (t ∷ ts)
-      ∙ rw (q, a, n) (rw (o, exec) (ap (λ v. if is_target x.context.strict l then v else None)
-      (calls (run hook (at Assign) x ts) _)))
+      ∙ rw (q, a, n) (by_pattern (is_pattern l) op l x t ts refl k o)
+
+  -- a literal lies where the pattern does that it is
+  then_span : (s : Span) (o : Option (Trees F C K)) (f : Trees F C K → Tree F C K) (t : Tree F C K)
+      → ((ps : Trees F C K) → span_of (f ps) ≡ s) → (o >>> (λ ps. Some (f ps))) ≡ Some t → span_of t ≡ s
+  then_span s None f t k h = absurd cc
+  then_span s (Some ps) f t k h = let same : f ps ≡ t = cc in sym (ap span_of same) ∙ k ps
+
+  literal_span : (strict : Bool) (l t : Tree F C K) → as_literal strict l ≡ Some t → span_of t ≡ span_of l
+  literal_span strict (node (array_with comma) s ts) t h =
+      then_span s (as_elements (target strict) comma ts) (λ ps. array_p s ps) t (λ ps. refl) h
+  literal_span strict (node (object_with comma) s ts) t h =
+      then_span s (as_props (target strict) comma ts) (λ ps. object_p s ps) t (λ ps. refl) h
+  literal_span strict l t h = absurd cc
+
+  given_pattern : (o : Option (Tree F C K)) (l : Tree F C K) (x : Scope) (us : List TokenAndSpan)
+      → ((t : Tree F C K) → o ≡ Some t → span_of t ≡ span_of l)
+      → exec hook (run hook) None (plan {A = Tree F C K} (given o ▸ (λ p. symbol Assign x
+      ▸ (λ r. gives (assign_e (to (span_of l) (span_of r)) write.Assign p r))))) us
+      ≡ pattern_by hook o x us
+  unfolding assign_tail
+  given_pattern None l x us h = refl
+  given_pattern (Some t) l x us h =
+      calls (run hook (at Assign) x us) _
+      ∙ ap (λ s. run hook (at Assign) x us >>= (λ p. Some (assign_e (to s (span_of p.0)) write.Assign t p.0, p.1)))
+      (sym (h t refl))
+
+  writes_pattern : (l : Tree F C K) (x : Scope) (t : TokenAndSpan) (ts : List TokenAndSpan) → is_pattern l ≡ true
+      → is_equals t.token ≡ true
+      → exec hook (run hook) (Some 1) (plan (writes_tail x l)) (t ∷ ts)
+      ≡ pattern_by hook (as_literal x.context.strict l) x ts
+  writes_pattern l x t ts k e =
+      ap (λ v. exec hook (run hook) (Some 1) (plan v) (t ∷ ts)) (if_on (is_pattern l) _ _ k)
+      ∙ if_on (is_equals t.token) _ _ e
+      ∙ given_pattern (as_literal x.context.strict l) l x ts (λ v h. literal_span x.context.strict l v h)
+
+  -- a literal before `=`
+  pub assigns_pattern : (l : Tree F C K) (x : Scope) (ts : List TokenAndSpan) → is_pattern l ≡ true
+      → assign_at (first ts) l ≡ Some write.Assign → run hook (assigns l) x ts ≡ assign_pattern hook l x ts
+  unfolding assign_pattern
+  assigns_pattern l x [] k h = cc
+  assigns_pattern l x (t ∷ ts) k h =
+      let (n, o) = if_some (is_operation l) (assign_of t.token) write.Assign h in
+      let (q, a) = assign_is t.token write.Assign o in
+      knot hook (assigns l) x (t ∷ ts)
+      ∙ rw (q, a, n) (writes_pattern l x t ts k (equals_is t.token o))
 
   pub assigns_end : (l : Tree F C K) (x : Scope) (ts : List TokenAndSpan) → at_token is_question (first ts) ≡ false
       → assign_at (first ts) l ≡ None → run hook (assigns l) x ts ≡ Some (l, ts)
@@ -330,19 +440,95 @@ module _ {F C K : Type 0} (hook : Hook F C K) where
   from_question lo l x ts h = rw h refl
 
   pub from_other : (lo : BytePos) (l : Tree F C K) (x : Scope) (ts : List TokenAndSpan) → at_token is_question (first ts) ≡ false
-      → assigns_from hook lo l x ts ≡ run hook (assigns l) x ts
+      → assigns_from hook lo l x ts ≡ assigned_by hook (assign_at (first ts) l) l x ts
   unfolding assigns_from
   from_other lo l x ts h = rw h refl
 
-  from_by : (l : Tree F C K) (x : Scope) (ts : List TokenAndSpan) (b : Bool) → at_token is_question (first ts) ≡ b
-      → assigns_from hook (span_of l).lo l x ts ≡ run hook (assigns l) x ts
-  from_by l x ts true h = from_question (span_of l).lo l x ts h ∙ sym (assigns_cond l x ts h)
-  from_by l x ts false h = from_other (span_of l).lo l x ts h
+  -- the operator, or none
+  pub from_operator : (lo : BytePos) (op : AssignOp) (l : Tree F C K) (x : Scope) (ts : List TokenAndSpan)
+      → at_token is_question (first ts) ≡ false → assign_at (first ts) l ≡ Some op
+      → assigns_from hook lo l x ts ≡ assign_by hook op l x ts
+  from_operator lo op l x ts h k = from_other lo l x ts h ∙ ap (λ o. assigned_by hook o l x ts) k
 
+  pub from_none : (lo : BytePos) (l : Tree F C K) (x : Scope) (ts : List TokenAndSpan)
+      → at_token is_question (first ts) ≡ false → assign_at (first ts) l ≡ None
+      → assigns_from hook lo l x ts ≡ Some (l, ts)
+  from_none lo l x ts h k = from_other lo l x ts h ∙ ap (λ o. assigned_by hook o l x ts) k
+
+  -- a literal that holds nothing that was refused is refined as the pattern that it is
+  not_whole : (l : Tree F C K) → is_pattern l ≡ true → (stands_whole AssignPat l && is_assign_tree l) ≡ false
+  not_whole (node (array_with comma) s ts) h = refl
+  not_whole (node (object_with comma) s ts) h = refl
+  not_whole l h = absurd cc
+
+  literal_is : (strict : Bool) (l : Tree F C K) → is_pattern l ≡ true → is_valid l ≡ true → Formed l
+      → as_literal strict l ≡ (if is_clear (verdict_as strict AssignPat l) then Some (want_as AssignPat l) else None)
+  literal_is strict l h v f =
+      if_on (is_pattern l) _ _ h
+      ∙ sym (if_off (stands_whole AssignPat l && is_assign_tree l) None _ (not_whole l h))
+      ∙ pattern-is strict AssignPat l (want_as AssignPat l) f refl
+      ∙ ap (λ b. if b then Some (want_as AssignPat l) else None) (sym (clear-fits strict AssignPat l v))
+
+  refined_by : (b : Bool) (t : Tree F C K) (x : Scope) (us : List TokenAndSpan)
+      → pattern_by hook (if b then Some t else None) x us
+      ≡ (if b then assign_tail hook write.Assign t x us else None)
+  refined_by true t x us = refl
+  refined_by false t x us = refl
+
+  pattern_reads : (l : Tree F C K) (x : Scope) (ts : List TokenAndSpan) → is_pattern l ≡ true → is_valid l ≡ true
+      → Formed l → assign_pattern hook l x ts ≡ assign_refined hook l x ts
+  unfolding assign_pattern assign_refined
+  pattern_reads l x ts h v f =
+      ap (λ o. pattern_by hook o x (rest ts)) (literal_is x.context.strict l h v f)
+      ∙ refined_by (is_clear (verdict_as x.context.strict AssignPat l)) (want_as AssignPat l) x (rest ts)
+
+  by_refines : (b : Bool) (op : AssignOp) (l : Tree F C K) (x : Scope) (ts : List TokenAndSpan) → refines op l ≡ b
+      → is_valid l ≡ true → Formed l → assign_at (first ts) l ≡ Some op
+      → run hook (assigns l) x ts ≡ assign_by hook op l x ts
+  by_refines true op l x ts r v f k =
+      let (p, h) = both (is_plain_assign op) (is_pattern l) r in
+      assigns_pattern l x ts h (k ∙ ap Some (plain_is op p)) ∙ pattern_reads l x ts h v f
+      ∙ sym (if_on (refines op l) _ _ r)
+  by_refines false op l x ts r v f k = assigns_assign op l x ts r k ∙ sym (if_off (refines op l) _ _ r)
+
+  by_operator : (o : Option AssignOp) (l : Tree F C K) (x : Scope) (ts : List TokenAndSpan) → is_valid l ≡ true
+      → Formed l → at_token is_question (first ts) ≡ false → assign_at (first ts) l ≡ o
+      → run hook (assigns l) x ts ≡ assigned_by hook o l x ts
+  by_operator None l x ts v f q k = assigns_end l x ts q k
+  by_operator (Some op) l x ts v f q k = by_refines (refines op l) op l x ts refl v f k
+
+  from_by : (l : Tree F C K) (x : Scope) (ts : List TokenAndSpan) (b : Bool) → at_token is_question (first ts) ≡ b
+      → is_valid l ≡ true → Formed l → run hook (assigns l) x ts ≡ assigns_from hook (span_of l).lo l x ts
+  from_by l x ts true h v f = assigns_cond l x ts h ∙ sym (from_question (span_of l).lo l x ts h)
+  from_by l x ts false h v f =
+      by_operator (assign_at (first ts) l) l x ts v f h refl ∙ sym (from_other (span_of l).lo l x ts h)
+
+  -- where l holds nothing that was refused, and the conditional begins where it does
   pub from_place : (lo : BytePos) (l : Tree F C K) (x : Scope) (ts : List TokenAndSpan) → lo ≡ (span_of l).lo
-      → run hook (assigns l) x ts ≡ assigns_from hook lo l x ts
-  from_place lo l x ts h =
-      sym (ap (λ v. assigns_from hook v l x ts) h ∙ from_by l x ts (at_token is_question (first ts)) refl)
+      → is_valid l ≡ true → Formed l → run hook (assigns l) x ts ≡ assigns_from hook lo l x ts
+  from_place lo l x ts h v f =
+      from_by l x ts (at_token is_question (first ts)) refl v f ∙ sym (ap (λ w. assigns_from hook w l x ts) h)
+
+  -- ---- to a target, by the operator
+
+  pub refined_well : (l : Tree F C K) (x : Scope) (ts : List TokenAndSpan)
+      → is_clear (verdict_as x.context.strict AssignPat l) ≡ true
+      → assign_refined hook l x ts ≡ behind (assign_tail hook write.Assign (want_as AssignPat l)) x ts
+  unfolding assign_refined
+  refined_well l x ts h = rw h refl
+
+  pub refined_ill : (l : Tree F C K) (x : Scope) (ts : List TokenAndSpan)
+      → is_clear (verdict_as x.context.strict AssignPat l) ≡ false → assign_refined hook l x ts ≡ None
+  unfolding assign_refined
+  refined_ill l x ts h = rw h refl
+
+  pub by_pattern_node : (op : AssignOp) (l : Tree F C K) (x : Scope) (ts : List TokenAndSpan) → refines op l ≡ true
+      → assign_by hook op l x ts ≡ assign_refined hook l x ts
+  by_pattern_node op l x ts h = if_on (refines op l) _ _ h
+
+  pub by_simple_node : (op : AssignOp) (l : Tree F C K) (x : Scope) (ts : List TokenAndSpan) → refines op l ≡ false
+      → assign_by hook op l x ts ≡ assign_expr hook op l x ts
+  by_simple_node op l x ts h = if_off (refines op l) _ _ h
 
   -- a sequence that begins where its first expression does
   begun_none : (lo : BytePos) (o : Out (Tree F C K)) → o ≡ (o >>= (λ p. Some (begun_if false lo p.0, p.1)))
@@ -367,8 +553,9 @@ module _ {S : Type 0} (model : Model S) (sure : Bool) {F C K T : Type 0} (hook :
       → context model c ≡ cond_middle ctx → Parses model sure tree (run hook (at Assign)) c r d → Moves model d e
       → context model e ≡ ctx → Parses model sure tree (inside hook) b r e
   in_middle ctx r from m to h n back =
-      parses_within model sure tree (inside hook) (run hook (at Assign)) r include_in (λ x. refl)
-      (λ x ts. inside_assign hook x ts) m (ap deciding to ∙ ap (λ x. include_in (deciding x)) from) h n (back ∙ from)
+      parses_within model sure tree (inside hook) (inner_of (run hook (at Assign))) r include_in (λ x. refl)
+      (λ x ts. inside_assign hook x ts) m (ap deciding to ∙ ap (λ x. include_in (deciding x)) from)
+      (parses_inner model sure tree (run hook (at Assign)) _ _ r h) n (back ∙ from)
 
   pub in_last : {b c d e : Buffer S} (ctx : Context) (r : Result T Error) → ctx ≡ context model b → Moves model b c
       → context model c ≡ cond_last ctx → Parses model sure tree (run hook (at Assign)) c r d → Moves model d e

@@ -24,7 +24,7 @@ use Rattle.swc_steps.specs.Loops.{ItemsRead}
 use Rattle.swc_steps.specs.Parsing.{Moves, On, Produces}
 use Rattle.swc_steps.proofs.Args.{inside_args}
 use Rattle.swc_steps.proofs.Steps.{Reader, on_here, on_then}
-use Rattle.swc_operators.proofs.InContext.{within}
+use Rattle.swc_operators.proofs.InContext.{within, within_inner}
 use Rattle.swc_operators.specs.Entered.{Entered, EnteredList}
 
 module _ {S A : Type 0} {model : Model S} {sure : Bool} {w : Context → Context} {f g : Reader A} {b c : Buffer S} where
@@ -118,5 +118,5 @@ module _ {S H F C K : Type 0} {fg : Ghosts F} {cg : Ghosts C} {kg : Ghosts K} {m
       → Moves model q.input e → context model e ≡ ctx
       → Produces model sure held seen (args_inside hook i) k p r (record q { input = e })
   args_left hook i before x h back kept =
-      within {f = args_inside hook i} {g = run hook (at (Args i))} include_in (λ v. refl)
+      within_inner {f = args_inside hook i} {g = run hook (at (Args i))} include_in (λ v. refl)
       (λ v ts. inside_args hook i v ts) before x.moves x.inside h refl back kept

@@ -9,7 +9,7 @@ use Rattle.swc_input.specs.Buffer.{context}
 use Rattle.swc_input.specs.Source.{Model}
 use Rattle.swc_ast.specs.declared.spanned.Spanned.{Ghosts}
 use Rattle.swc_bodies.specs.Readings.{Hook}
-use Rattle.swc_grammar.specs.Scope.{Scope, in_context}
+use Rattle.swc_grammar.specs.Scope.{Scope, in_context, inner}
 use Rattle.swc_grammar.specs.Symbols.{Expr, Assign}
 use Rattle.swc_grammar.specs.Tokens.{include_in}
 use Rattle.swc_grammar.specs.Clean.{sym as at, run}
@@ -20,7 +20,7 @@ use Rattle.swc_steps.specs.Parsing.{Moves, Produces, itself, tree_of}
 use Rattle.swc_steps.specs.Readers.{inside, whole_inside}
 use Rattle.swc_steps.proofs.Making as m
 use Rattle.swc_steps.proofs.Rules.{inside_assign}
-use Rattle.swc_steps.proofs.Steps.{Reader, parses_within}
+use Rattle.swc_steps.proofs.Steps.{Reader, inner_of, parses_inner, parses_within}
 use Rattle.swc_operators.proofs.Assignments.{inside_expr}
 
 module _ {S H F C K : Type 0} {fg : Ghosts F} {cg : Ghosts C} {kg : Ghosts K} {model : Model S} {sure : Bool}
@@ -41,6 +41,20 @@ module _ {S H F C K : Type 0} {fg : Ghosts F} {cg : Ghosts C} {kg : Ghosts K} {m
       (m.yes r (parses_within model sure (view q.nodes) f g r w quiet step to set h.reads back (left ∙ before))
       h.grows h.from)
 
+  -- the same, where no assignment expression begins
+  pub within_inner : {f g : Reader A} {k : ℕ} {p q : Productions S H F C K fg cg kg} {b e : Buffer S} {ctx : Context}
+      {r o : Result T Error} (w : Context → Context)
+      → ((x : Context) → (w x).ignore_error ≡ x.ignore_error)
+      → ((x : Scope) (ts : List TokenAndSpan) → f x ts ≡ g (inner (in_context w x)) ts)
+      → ctx ≡ context model p.input → Moves model p.input b
+      → deciding (context model b) ≡ w (deciding (context model p.input))
+      → Produces model sure held view g k (record p { input = b }) r q
+      → o ≡ r → Moves model q.input e → context model e ≡ ctx
+      → Produces model sure held view f k p o (record q { input = e })
+  within_inner {g = g} {q = q} {r = r} w quiet step before to set h answer back left =
+      within {g = inner_of g} w quiet step before to set
+      (m.yes r (parses_inner model sure (view q.nodes) g _ _ r h.reads) h.grows h.from) answer back left
+
 -- an assignment expression, and an expression, in which `in` counts as an operator
 module _ {S H F C K : Type 0} {fg : Ghosts F} {cg : Ghosts C} {kg : Ghosts K} {model : Model S} {sure : Bool}
     (hook : Hook F C K) {k : ℕ} {p q : Productions S H F C K fg cg kg} {b e : Buffer S} {ctx : Context}
@@ -51,7 +65,8 @@ module _ {S H F C K : Type 0} {fg : Ghosts F} {cg : Ghosts C} {kg : Ghosts K} {m
       → o ≡ r → Moves model q.input e → context model e ≡ ctx
       → Produces model sure itself tree_of (inside hook) k p o (record q { input = e })
   assign_within before to set h answer back left =
-      within include_in (λ x. refl) (λ x ts. inside_assign hook x ts) before to (ap deciding set) h answer back left
+      within_inner include_in (λ x. refl) (λ x ts. inside_assign hook x ts) before to (ap deciding set) h answer back
+      left
 
   pub expr_within : ctx ≡ context model p.input → Moves model p.input b
       → context model b ≡ include_in (context model p.input)
@@ -59,4 +74,5 @@ module _ {S H F C K : Type 0} {fg : Ghosts F} {cg : Ghosts C} {kg : Ghosts K} {m
       → o ≡ r → Moves model q.input e → context model e ≡ ctx
       → Produces model sure itself tree_of (whole_inside hook) k p o (record q { input = e })
   expr_within before to set h answer back left =
-      within include_in (λ x. refl) (λ x ts. inside_expr hook x ts) before to (ap deciding set) h answer back left
+      within_inner include_in (λ x. refl) (λ x ts. inside_expr hook x ts) before to (ap deciding set) h answer back
+      left

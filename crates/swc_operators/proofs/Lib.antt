@@ -4,4 +4,5 @@ pub mod InContext
 pub mod Pending
 pub mod Prefixes
 pub mod Sequences
+pub mod Targets
 pub mod Updates

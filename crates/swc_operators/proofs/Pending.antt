@@ -1,5 +1,5 @@
 -- How operators are taken and joined, one after another, while others below them wait for their right operands.
-use Rattle.std.proofs.Common.{◌≡◌, ℕ, ◌<◌, Bool, true, false, if◌then◌else◌, List, [], ◌∷◌, ◌++◌, Option, Some}
+use Rattle.std.proofs.Common.{suc, ◌≡◌, ℕ, ◌<◌, Bool, true, false, if◌then◌else◌, List, [], ◌∷◌, ◌++◌, Option, Some}
 use Rattle.std.proofs.Common.{None, refl, sym, ap, subst, ◌∙◌, arith}
 use Rattle.std.specs.Prelude.{nat_le}
 use Rattle.std.proofs.lemmas.Bool.{leb-true, leb-false}
@@ -15,7 +15,7 @@ use Rattle.swc_ast.specs.Tree.{Tree}
 use Rattle.swc_ast.specs.Trees.{exp_ok, nullish_ok, left_ok, min_right}
 use Rattle.swc_ast.specs.declared.spanned.Spanned.{Ghosts}
 use Rattle.swc_bodies.specs.Readings.{Hook}
-use Rattle.swc_grammar.specs.Scope.{Scope}
+use Rattle.swc_grammar.specs.Scope.{Scope, inner}
 use Rattle.swc_grammar.specs.Symbols.{Unary, Level}
 use Rattle.swc_grammar.specs.Clean.{Out, first, sym as at, climb, run, operator_at}
 use Rattle.swc_grammar.specs.Words.{◌>>=◌, rest}
@@ -127,26 +127,43 @@ module _ {F C K : Type 0} (hook : Hook F C K) where
       ∙ ap (λ o. o >>= (λ p. turned hook p.0.0 p.0.1 x p.1))
       (ends_by (operator_at x.context (first ts)) l m x ts refl h)
 
+  -- where no assignment expression begins
+  bin_op_here : (op : BinaryOp) (l : Tree F C K) (m : ℕ) (x : Scope) (ts : List TokenAndSpan) → x.head ≡ false
+      → exp_ok op l ≡ true
+      → bin_op hook op l m x ts
+      ≡ (run hook (at (Level (suc (min_right op)))) x ts >>= (λ p. bin_op_node hook op l m p.0 p.1))
+  bin_op_here op l m x ts none h =
+      rule.bin_op_splits hook op l m x ts h
+      ∙ ap (λ y. run hook (at (Level (suc (min_right op)))) y ts >>= (λ p. bin_op_node hook op l m p.0 p.1))
+      (s.inner_is x none)
+
+  right_here : (op : BinaryOp) (m : ℕ) (x : Scope) (ts : List TokenAndSpan) → x.head ≡ false → m ≡ min_right op
+      → run hook (at (Level (suc (min_right op)))) x ts
+      ≡ (run hook (at Unary) x ts >>= (λ p. run hook (climb p.0 m) x p.1))
+  right_here op m x ts none e =
+      rule.right_splits hook op m x ts e
+      ∙ ap (λ y. run hook (at Unary) x ts >>= (λ p. run hook (climb p.0 m) y p.1)) (s.inner_is x none)
+
   takes_by : (b : Bool) (op : BinaryOp) (l : Tree F C K) (m : ℕ) (x : Scope) (ts : List TokenAndSpan)
-      → exp_ok op l ≡ b
+      → x.head ≡ false → exp_ok op l ≡ b
       → (bin_op hook op l m x (rest ts) >>= (λ p. turned hook p.0.0 p.0.1 x p.1))
       ≡ (operator_taken op l x ts >>= (λ p. on_operand hook op l m x p.1))
   unfolding operator_taken
-  takes_by true op l m x ts h =
+  takes_by true op l m x ts none h =
       let unary = run hook (at Unary) x (rest ts) in
-      rw (h, rule.bin_op_splits hook op l m x (rest ts) h, rule.right_splits hook op (min_right op) x (rest ts) refl)
+      rw (h, bin_op_here op l m x (rest ts) none h, right_here op (min_right op) x (rest ts) none refl)
       (bind_assoc (unary >>= (λ p. run hook (climb p.0 (min_right op)) x p.1)) (λ t us. bin_op_node hook op l m t us)
       (λ q us. turned hook q.0 q.1 x us))
-  takes_by false op l m x ts h = rw (h, rule.bin_op_ends hook op l m x (rest ts) h) refl
+  takes_by false op l m x ts none h = rw (h, rule.bin_op_ends hook op l m x (rest ts) h) refl
 
   -- an operator that binds tighter follows
-  pub climb_takes : (op : BinaryOp) (l : Tree F C K) (m : ℕ) (x : Scope) (ts : List TokenAndSpan)
+  pub climb_takes : (op : BinaryOp) (l : Tree F C K) (m : ℕ) (x : Scope) (ts : List TokenAndSpan) → x.head ≡ false
       → operator_at x.context (first ts) ≡ Some op → m < precedence_of op
       → run hook (climb l m) x ts ≡ (operator_taken op l x ts >>= (λ p. on_operand hook op l m x p.1))
-  climb_takes op l m x ts h lt =
+  climb_takes op l m x ts none h lt =
       rule.climb_splits hook l m x ts
       ∙ ap (λ o. o >>= (λ p. turned hook p.0.0 p.0.1 x p.1)) (rule.turn_takes hook l m op x ts h lt)
-      ∙ takes_by (exp_ok op l) op l m x ts refl
+      ∙ takes_by (exp_ok op l) op l m x ts none refl
 
   joins_well : (b : Bool) (op : BinaryOp) (l r : Tree F C K) (m : ℕ) (x : Scope) (ts : List TokenAndSpan)
       → left_ok (joined op l r) ≡ b
@@ -268,7 +285,7 @@ module _ {S F C K : Type 0} {model : Model S} {sure : Bool} (hook : Hook F C K) 
       (λ x ts. operator_taken op l x ts >>= (λ p. on_operand hook op l m x p.1)) b c
   takes {b} {c} l m op here is =
       let a = above_some m (operator_at (context model c) (seen c)) op (sym is) in
-      s.on_seen here (λ x ts same e. climb_takes hook op l m x ts
+      s.on_seen here (λ x ts same e. climb_takes hook op l m x ts (s.no_head same)
       (rule.same_op (operator_at (context model c) (seen c)) (Some op) same e refl a.0) a.1)
 
   -- what is read behind an operand, and through all that wait; the operator that is current is taken
@@ -380,4 +397,5 @@ module _ {S F C K : Type 0} {model : Model S} {sure : Bool} (hook : Hook F C K) 
       → Unheard model sure (run hook (at (Level 1))) b e d
   unheard_operand here u =
       s.unheard_after (s.on_seen {g = run hook (at (Level 1))} here (λ x ts same e. refl))
-      (s.unheard_call (λ x p. run hook (climb p.0 0) x p.1) (λ x ts. rule.operand_splits hook 0 x ts (omega arith)) u)
+      (s.unheard_call (λ x p. run hook (climb p.0 0) (inner x) p.1)
+      (λ x ts. rule.operand_splits hook 0 x ts (omega arith)) u)

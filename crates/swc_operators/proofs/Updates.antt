@@ -19,7 +19,7 @@ use Rattle.swc_ast.specs.Targets.{is_target}
 use Rattle.swc_ast.specs.Tree.{Tree, span_of}
 use Rattle.swc_ast.specs.Trees.{to, update_e, await_e, ident_e}
 use Rattle.swc_bodies.specs.Readings.{Hook}
-use Rattle.swc_grammar.specs.Scope.{Scope}
+use Rattle.swc_grammar.specs.Scope.{Scope, inner}
 use Rattle.swc_grammar.specs.Rule.{gives, read, sees}
 use Rattle.swc_grammar.specs.Symbols.{Unary, Lhs}
 use Rattle.swc_grammar.specs.Tokens.{tk, is_update, update_of, is_await, is_star, await_ok, await_ident_ok}
@@ -34,7 +34,7 @@ use Rattle.swc_operators.specs.Updates.{update_at, update_behind, update_node, u
 use Rattle.swc_operators.specs.Updates.{await_ident, await_operand, await_go, await_tail, await_expr}
 use Rattle.swc_steps.specs.Parsing.{Continues, Parses}
 use Rattle.swc_steps.proofs.Lists.{calls}
-use Rattle.swc_steps.proofs.Steps.{Reader, heard_first, on_took, unheard_after}
+use Rattle.swc_steps.proofs.Steps.{Reader, heard_first, on_took, unheard_after, inner_is}
 
 pub if_on : {A : Type 0} (b : Bool) (x y : A) → b ≡ true → (if b then x else y) ≡ x
 if_on true x y h = refl
@@ -79,7 +79,7 @@ module _ {F C K : Type 0} (hook : Hook F C K) where
   update_picked op x [] h = cc
   update_picked op x (t ∷ ts) h =
       let u = update_is t.token op h in
-      knot hook (at Unary) x (t ∷ ts) ∙ rw u (rw (h, exec) (calls (run hook (at Unary) x ts) _))
+      knot hook (at Unary) x (t ∷ ts) ∙ rw u (rw (h, exec) (calls (run hook (at Unary) (inner x) ts) _))
 
   pub update_opens : (op : UpdateOp) (t : TokenAndSpan) (x : Scope) (ts : List TokenAndSpan)
       → update_prefix hook op x (t ∷ ts) ≡ update_tail hook t.span op x ts
@@ -87,22 +87,23 @@ module _ {F C K : Type 0} (hook : Hook F C K) where
   update_opens op t x ts = refl
 
   pub update_splits : (s : Span) (op : UpdateOp) (x : Scope) (ts : List TokenAndSpan)
-      → update_tail hook s op x ts ≡ (run hook (at Unary) x ts >>= (λ p. update_node s op x p.0 p.1))
+      → update_tail hook s op x ts ≡ (run hook (at Unary) (inner x) ts >>= (λ p. update_node s op x p.0 p.1))
   unfolding update_tail
   update_splits s op x ts = refl
 
   -- a left-hand side, and what stands behind it
-  pub operand_splits : (x : Scope) (ts : List TokenAndSpan) → at_token is_update (first ts) ≡ false
-      → at_token is_await (first ts) ≡ false → prefix_at (first ts) ≡ None
+  pub operand_splits : (x : Scope) (ts : List TokenAndSpan) → x.head ≡ false
+      → at_token is_update (first ts) ≡ false → at_token is_await (first ts) ≡ false → prefix_at (first ts) ≡ None
       → run hook (at Unary) x ts ≡ (run hook (at (Lhs true)) x ts >>= (λ p. run hook (updates p.0) x p.1))
-  operand_splits x ts u w p =
+  operand_splits x ts none u w p =
       knot hook (at Unary) x ts ∙ rw (u, w, p) (then_last (run hook (at (Lhs true)) x ts))
+      ∙ ap (λ y. run hook (at (Lhs true)) x ts >>= (λ p. run hook (updates p.0) y p.1)) (inner_is x none)
     where
       then_last : (o : Out (Tree F C K))
-          → and_then o (λ e us. exec hook (run hook) (Some 11) (read (updates e) x (λ v. gives v)) us)
-          ≡ (o >>= (λ p. run hook (updates p.0) x p.1))
+          → and_then o (λ e us. exec hook (run hook) (Some 11) (read (updates e) (inner x) (λ v. gives v)) us)
+          ≡ (o >>= (λ p. run hook (updates p.0) (inner x) p.1))
       then_last None = refl
-      then_last (Some p) = last hook (Some 11) (updates p.0) x p.1 refl
+      then_last (Some p) = last hook (Some 11) (updates p.0) (inner x) p.1 refl
 
   behind_none : (t : TokenAndSpan) → (if t.had_line_break then None else update_of t.token) ≡ None
       → no_update_at (Some t) ≡ true
@@ -190,7 +191,7 @@ module _ {F C K : Type 0} (hook : Hook F C K) where
           (if not x.context.in_async && ends_await_at (first us) then
           (if await_ident_ok x.context then Some (ident_e s (codes "await"), us) else None) else
           (if await_ok x.context then
-          (run hook (at Unary) x us >>= (λ p. Some (await_e (to s (span_of p.0)) p.0, p.1))) else None)))
+          (run hook (at Unary) (inner x) us >>= (λ p. Some (await_e (to s (span_of p.0)) p.0, p.1))) else None)))
       by_tests true e h k =
           ap (λ v. exec hook (run hook) (Some 11) (chosen {s = Unary} {c = x} v) (a ∷ us)) (if_on (at_token is_star (first us)) _ _ h)
           ∙ sym (if_on (at_token is_star (first us)) _ _ h)
@@ -209,7 +210,7 @@ module _ {F C K : Type 0} (hook : Hook F C K) where
           ∙ if_off (not x.context.in_async && ends_await_at (first us)) _ _ k)
           ∙ ap (λ v. if await_ok x.context then v else None)
           (if_off (sees (λ t. is_star t.token || (not x.context.in_async && ends_await t)) us) None _ (sees_more x us h k)
-          ∙ calls (run hook (at Unary) x us) _)
+          ∙ calls (run hook (at Unary) (inner x) us) _)
           ∙ sym (if_off (at_token is_star (first us)) _ _ h
           ∙ if_off (not x.context.in_async && ends_await_at (first us)) _ _ k)
 
@@ -249,7 +250,7 @@ module _ {F C K : Type 0} (hook : Hook F C K) where
 
   pub await_well : (s : Span) (x : Scope) (ts : List TokenAndSpan) → await_ok x.context ≡ true
       → await_operand hook s x ts
-      ≡ (run hook (at Unary) x ts >>= (λ p. Some (await_e (to s (span_of p.0)) p.0, p.1)))
+      ≡ (run hook (at Unary) (inner x) ts >>= (λ p. Some (await_e (to s (span_of p.0)) p.0, p.1)))
   unfolding await_operand
   await_well s x ts h = rw h refl
 

@@ -1,6 +1,7 @@
 -- What the steps of the code read in assignment expressions and in sequences (13.14 to 13.16, 15.5), by the clean parser.
-use Rattle.std.specs.Prelude.{Bool, false, if◌then◌else◌, List, Option, Some, None}
+use Rattle.std.specs.Prelude.{ℕ, Bool, true, false, ◌&&◌, if◌then◌else◌, List, Option, Some, None}
 use Rattle.swc_context.specs.declared.operator.AssignOp.{AssignOp}
+use Rattle.swc_context.specs.declared.operator.AssignOp.TheVariants as write
 use Rattle.swc_context.specs.Spans.{from_to}
 use Rattle.swc_context.specs.declared.span.BytePos.{BytePos}
 use Rattle.swc_context.specs.declared.span.Span.{Span}
@@ -12,13 +13,27 @@ use Rattle.swc_ast.specs.Tree.{Tree, Trees, nil, cons, span_of}
 use Rattle.swc_ast.specs.Trees.{to, trees_append, cond_e, assign_e, yield_e, hole_e, seq_of, is_operation}
 use Rattle.swc_bodies.specs.Readings.{Hook}
 use Rattle.swc_grammar.specs.Scope.{Scope}
+use Rattle.swc_grammar.specs.Cover.{as_literal, is_pattern, is_plain_assign}
 use Rattle.swc_grammar.specs.Symbols.{Assign}
 use Rattle.swc_grammar.specs.Tokens.{assign_of, is_colon, is_question, is_star, yield_ok}
-use Rattle.swc_grammar.specs.Clean.{Out, first, sym, assigns, seqs, goes_on_yield_at, run}
+use Rattle.swc_grammar.specs.Clean.{Out, first, sym, seqs, goes_on_yield_at, run}
 use Rattle.swc_grammar.specs.Words.{◌>>=◌, rest}
+use Rattle.swc_cover.specs.Clear.{is_clear}
+use Rattle.swc_cover.specs.PatTypes.{verdict_as, want_as}
+use Rattle.swc_cover.specs.declared.pat_type.PatType.TheVariants.{AssignPat}
+use Rattle.swc_nodes.specs.GrowingNodes.{tree_at, From}
+use Rattle.swc_nodes.specs.NodeParts.{target_part}
+use Rattle.swc_nodes.specs.declared.node.TargetNode.{TargetNode}
+use Rattle.swc_nodes.specs.declared.node.TargetNode.TheVariants as target
+use Rattle.swc_nodes.specs.declared.nodes.Nodes.{Nodes}
+use Rattle.swc_ast.specs.declared.spanned.Spanned.{Ghosts}
 use Rattle.swc_steps.specs.Keys.{expected}
 use Rattle.swc_steps.specs.Lists.{eaten}
 use Rattle.swc_steps.specs.Readers.{begun_if, inside}
+
+-- whether the operator makes a pattern of what stands before it
+abbrev pub refines : {F C K : Type 0} → AssignOp → Tree F C K → Bool
+refines op l = is_plain_assign op && is_pattern l
 
 -- the operator that a token is, where it writes to what stands before it: no operation is written to
 abbrev pub assign_at : {F C K : Type 0} → Option TokenAndSpan → Tree F C K → Option AssignOp
@@ -57,11 +72,6 @@ module _ {F C K : Type 0} (hook : Hook F C K) where
   unfoldable pub cond_tail : BytePos → Tree F C K → Scope → List TokenAndSpan → Out (Tree F C K)
   cond_tail lo t c ts = inside hook c ts >>= (λ p. cond_colon lo t p.0 c p.1)
 
-  -- behind what binary operators join, where a conditional begins at the position
-  unfoldable pub assigns_from : BytePos → Tree F C K → Scope → List TokenAndSpan → Out (Tree F C K)
-  assigns_from lo l c ts =
-      if at_token is_question (first ts) then cond_tail lo l c (rest ts) else run hook (assigns l) c ts
-
   -- ---- assignments (13.15)
 
   -- to l, behind the operator, and from that on
@@ -71,6 +81,35 @@ module _ {F C K : Type 0} (hook : Hook F C K) where
 
   unfoldable pub assign_expr : AssignOp → Tree F C K → Scope → List TokenAndSpan → Out (Tree F C K)
   assign_expr op l c ts = if is_target c.context.strict l then assign_tail op l c (rest ts) else None
+
+  -- to what the literal behind the operator `=` is as a pattern, or to nothing, from the operator on
+  abbrev pub pattern_by : Option (Tree F C K) → Scope → List TokenAndSpan → Out (Tree F C K)
+  pattern_by None c us = None
+  pattern_by (Some t) c us = assign_tail write.Assign t c us
+
+  unfoldable pub assign_pattern : Tree F C K → Scope → List TokenAndSpan → Out (Tree F C K)
+  assign_pattern l c ts = pattern_by (as_literal c.context.strict l) c (rest ts)
+
+  -- the same as the code does it, which finds what is wrong of the literal, and makes a pattern of it anyway
+  unfoldable pub assign_refined : Tree F C K → Scope → List TokenAndSpan → Out (Tree F C K)
+  assign_refined l c ts =
+      if is_clear (verdict_as c.context.strict AssignPat l) then
+      assign_tail write.Assign (want_as AssignPat l) c (rest ts) else None
+
+  -- from the operator on, to l or to a pattern of it
+  abbrev pub assign_by : AssignOp → Tree F C K → Scope → List TokenAndSpan → Out (Tree F C K)
+  assign_by op l c ts = if refines op l then assign_refined l c ts else assign_expr op l c ts
+
+  -- behind what binary operators join: such an operator, or none
+  abbrev pub assigned_by : Option AssignOp → Tree F C K → Scope → List TokenAndSpan → Out (Tree F C K)
+  assigned_by None l c ts = Some (l, ts)
+  assigned_by (Some op) l c ts = assign_by op l c ts
+
+  -- the same, where a conditional begins at the position
+  unfoldable pub assigns_from : BytePos → Tree F C K → Scope → List TokenAndSpan → Out (Tree F C K)
+  assigns_from lo l c ts =
+      if at_token is_question (first ts) then cond_tail lo l c (rest ts) else
+      assigned_by (assign_at (first ts) l) l c ts
 
   -- ---- `yield` (15.5)
 
@@ -95,3 +134,26 @@ module _ {F C K : Type 0} (hook : Hook F C K) where
 
   unfoldable pub yield_expr : Scope → List TokenAndSpan → Out (Tree F C K)
   yield_expr c ts = yield_by (first ts) c (rest ts)
+
+-- ---- what is written to
+
+-- its number, and whether it may stand before the operator: a pattern stands before `=` alone
+abbrev pub target_number : TargetNode → ℕ
+target_number (target.Simple e) = e.0
+target_number (target.Pat p) = p.0
+
+abbrev pub fits_op : AssignOp → TargetNode → Bool
+fits_op op (target.Simple e) = true
+fits_op op (target.Pat p) = is_plain_assign op
+
+module _ {F C K : Type 0} {fg : Ghosts F} {cg : Ghosts C} {kg : Ghosts K} where
+  abbrev pub target_from : ℕ → Nodes F C K fg cg kg → TargetNode → Type 0
+  target_from k ns t = From k ns (target_part t)
+
+  abbrev pub target_at : Nodes F C K fg cg kg → TargetNode → Tree F C K
+  target_at ns t = tree_at ns (target_number t)
+
+module _ {F C K : Type 0} where
+  -- to l, by the operator, of what was read and ends at a position
+  abbrev pub assign_made : AssignOp → Tree F C K → BytePos → Tree F C K → Scope → List TokenAndSpan → Out (Tree F C K)
+  assign_made op l hi r c ts = Some (assign_e (from_to (span_of l).lo hi) op l r, ts)

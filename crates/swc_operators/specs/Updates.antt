@@ -8,7 +8,7 @@ use Rattle.swc_ast.specs.Targets.{is_target}
 use Rattle.swc_ast.specs.Tree.{Tree, span_of}
 use Rattle.swc_ast.specs.Trees.{to, update_e, await_e, ident_e}
 use Rattle.swc_bodies.specs.Readings.{Hook}
-use Rattle.swc_grammar.specs.Scope.{Scope}
+use Rattle.swc_grammar.specs.Scope.{Scope, inner}
 use Rattle.swc_grammar.specs.Symbols.{Unary}
 use Rattle.swc_grammar.specs.Tokens.{update_of, is_star, await_ok, await_ident_ok}
 use Rattle.swc_grammar.specs.Clean.{Out, first, sym, ends_await_at, run}
@@ -36,7 +36,7 @@ module _ {F C K : Type 0} where
 module _ {F C K : Type 0} (hook : Hook F C K) where
   -- behind `++` or `--` at s, and from that on
   unfoldable pub update_tail : Span → UpdateOp → Scope → List TokenAndSpan → Out (Tree F C K)
-  update_tail s op c ts = run hook (sym Unary) c ts >>= (λ p. update_node s op c p.0 p.1)
+  update_tail s op c ts = run hook (sym Unary) (inner c) ts >>= (λ p. update_node s op c p.0 p.1)
 
   abbrev pub update_by : UpdateOp → Option TokenAndSpan → Scope → List TokenAndSpan → Out (Tree F C K)
   update_by op None c us = None
@@ -47,7 +47,7 @@ module _ {F C K : Type 0} (hook : Hook F C K) where
 
   -- behind `await` at s: its operand; that, or none; and from the word on
   abbrev pub await_reads : Span → Scope → List TokenAndSpan → Out (Tree F C K)
-  await_reads s c ts = run hook (sym Unary) c ts >>= (λ p. Some (await_e (to s (span_of p.0)) p.0, p.1))
+  await_reads s c ts = run hook (sym Unary) (inner c) ts >>= (λ p. Some (await_e (to s (span_of p.0)) p.0, p.1))
 
   unfoldable pub await_operand : Span → Scope → List TokenAndSpan → Out (Tree F C K)
   await_operand s c ts = if await_ok c.context then await_reads s c ts else None

@@ -1,5 +1,5 @@
 // Expressions with commas between them, assignment expressions, conditionals and `yield` (ECMA-262, 13.14 to 13.16 and
-ghost use Rattle.std.specs.Prelude.{◌≡◌, ◌≢◌, ◌<◌, ◌≤◌, true, false, ◌&&◌, ◌||◌, OnOk, IfOk, IfErr, IsSome};
+ghost use Rattle.std.specs.Prelude.{◌+◌, ◌≡◌, ◌≢◌, ◌<◌, ◌≤◌, true, false, ◌&&◌, ◌||◌, OnOk, IfOk, IfErr, IsSome};
 ghost use Rattle.swc_context.specs.declared.error.SyntaxError.TheVariants.{OutOfMemory};
 ghost use Rattle.swc_input.specs.Buffer.{current, context, to_come};
 ghost use Rattle.swc_input.specs.Kinds.{at_token};
@@ -9,21 +9,26 @@ ghost use Rattle.swc_grammar.specs.Firsts.{begins_expression};
 ghost use Rattle.swc_grammar.specs.Scope.{Scope};
 ghost use Rattle.swc_grammar.specs.Clean.{goes_on_yield_at, no_error};
 ghost use Rattle.swc_nodes.specs.NodeParts.{expr_part, target_part};
-ghost use Rattle.swc_nodes.specs.GrowingNodes.{From};
+ghost use Rattle.swc_nodes.specs.GrowingNodes.{From, end_at, first_at};
 ghost use Rattle.swc_nodes.specs.declared.node.TargetNode.TheVariants as target;
-ghost use Rattle.swc_operators.specs.Assignments.{assign_at};
+ghost use Rattle.swc_grammar.specs.Cover.{is_pattern};
+ghost use Rattle.swc_cover.specs.Rewriting.{Rewrites};
+ghost use Rattle.swc_operators.specs.Assignments.{assign_at, assign_by, assign_made, assign_tail, fits_op, refines};
+ghost use Rattle.swc_operators.specs.Assignments.{target_at, target_from, target_number};
 ghost use Rattle.swc_steps.specs.Contexts.{cond_middle, cond_last};
-ghost use Rattle.swc_steps.specs.Parsing.{seen, Checks, Looks, Refuses, tree_of};
+ghost use Rattle.swc_steps.specs.Parsing.{behind, itself, seen, Checks, GoesOn, Looks, Refuses, tree_of};
 
 use swc_bodies::bodies::Bodies;
 use swc_context::context::Context;
 use swc_context::error::{PResult, SyntaxError};
 use swc_context::operator::{AssignOp, BinOpToken};
 use swc_context::word::{Keyword, Word};
+use swc_cover::pat_type::PatType;
+use swc_cover::refining::reparse_expr_as_pat;
 use swc_input::buffer::Buffer;
 use swc_input::token::Token;
 use swc_input::tokens::Tokens;
-use swc_nodes::node::{ExprId, TargetNode};
+use swc_nodes::node::{ExprId, Node, TargetNode};
 use swc_nodes::nodes::NodesOf;
 use swc_steps::productions::Productions;
 use swc_steps::tokens::{emit_err, is_after_line_break, syntax_error};
@@ -178,9 +183,51 @@ fn is_opening_word(word: &Word) -> bool
     }
 }
 
+/// What the operator writes to. A literal of an array or an object becomes a pattern before `=` (ECMA-262, 13.15.5),
+/// and what is wrong of that is recorded. Of anything else it is recorded that it can't be written to by the operator,
+/// or not by any but `=`; and refused what can't stand before one at all.
+pub fn assign_target<I: Tokens, B: Bodies<I>>(
+    p: &mut Productions<I, B>,
+    op: AssignOp,
+    left: ExprId,
+) -> PResult<TargetNode>
+    requires from { From 0 p.old.nodes (expr_part left) }
+    requires fit { at_token no_error (seen p.old.input) ≡ true }
+    ensures rewrites { Rewrites I.model B.is_faithful target_from (assign_by B.forms op (tree_of p.old.nodes left))
+        (λ ns t. behind (assign_tail B.forms op (target_at ns t))) (first_at p.old.nodes left.0) p.old result p.new }
+    ensures kept { OnOk result (current p.new.input ≡ current p.old.input) }
+    ensures plain { IfOk result (λ t. fits_op op t ≡ true) }
+{
+    if !refines::<I, B>(&p.nodes, op, left) {
+        check_assign_target::<I, B>(&mut p.input, &p.nodes, op, left)?;
+        return Ok(TargetNode::Simple(left));
+    }
+    let pat = reparse_expr_as_pat(p, PatType::AssignPat, left)?;
+    Ok(TargetNode::Pat(pat))
+}
+
+/// Whether the operator makes a pattern of what stands before it.
+fn refines<I: Tokens, B: Bodies<I>>(nodes: &NodesOf<B>, op: AssignOp, left: ExprId) -> bool
+    requires { From 0 nodes.now (expr_part left) }
+    ensures { result ≡ refines op (tree_of nodes.now left) }
+{
+    match op {
+        AssignOp::Assign => is_literal::<I, B>(nodes, left),
+        _ => false,
+    }
+}
+
+/// Whether the expression is a literal of an array or an object.
+fn is_literal<I: Tokens, B: Bodies<I>>(nodes: &NodesOf<B>, expr: ExprId) -> bool
+    requires { From 0 nodes.now (expr_part expr) }
+    ensures { result ≡ is_pattern (tree_of nodes.now expr) }
+{
+    matches!(nodes.get(expr.0), Node::Array { .. } | Node::Object { .. })
+}
+
 /// Records what can't be written to by the operator, or not by any but `=`; and refuses what can't stand before one at
-/// all. So far neither array nor object literal can.
-pub fn check_assign_target<I: Tokens, B: Bodies<I>>(
+/// all.
+fn check_assign_target<I: Tokens, B: Bodies<I>>(
     input: &mut Buffer<I>,
     nodes: &NodesOf<B>,
     op: AssignOp,
@@ -202,7 +249,6 @@ pub fn check_assign_target<I: Tokens, B: Bodies<I>>(
     }
     let span = nodes.span(left);
     match op {
-        AssignOp::Assign if nodes.is_array_or_object(left) => {}
         AssignOp::Assign => emit_err(input, span, SyntaxError::TS2406)?,
         _ => emit_err(input, span, SyntaxError::NotSimpleAssign)?,
     }
@@ -210,4 +256,30 @@ pub fn check_assign_target<I: Tokens, B: Bodies<I>>(
         return Ok(());
     }
     Err(syntax_error(input, span, SyntaxError::InvalidAssignTarget))
+}
+
+/// An assignment (ECMA-262, 13.15) by the operator of `right` to the target, which stands before it.
+pub fn assign_node<I: Tokens, B: Bodies<I>>(
+    p: &mut Productions<I, B>,
+    op: AssignOp,
+    target: TargetNode,
+    right: ExprId,
+) -> PResult<ExprId>
+    requires left { From 0 p.old.nodes (target_part target) }
+    requires right { From (target_number target + 1) p.old.nodes (expr_part right) }
+    requires plain { fits_op op target ≡ true }
+    ensures { GoesOn I.model B.is_faithful itself tree_of
+        (assign_made op (target_at p.old.nodes target) (end_at p.old.nodes right.0) (tree_of p.old.nodes right))
+        (first_at p.old.nodes (target_number target)) p.old result p.new }
+{
+    match target {
+        TargetNode::Simple(left) => {
+            let node = p.nodes.assign_expr(op, left, right);
+            p.made(node)
+        }
+        TargetNode::Pat(left) => {
+            let node = p.nodes.assign_pat_expr(left, right);
+            p.made(node)
+        }
+    }
 }

@@ -86,7 +86,7 @@ fn parse_binding_ident<I: Tokens>(alloc: Global, input: &mut Buffer<I>) -> PResu
 }
 
 /// The number of a pattern's node. Refused only for want of memory.
-pub(crate) fn made<I: Tokens>(input: &Buffer<I>, id: Result<PatId, AllocError>) -> PResult<PatId>
+pub fn made<I: Tokens>(input: &Buffer<I>, id: Result<PatId, AllocError>) -> PResult<PatId>
     ensures ok { IfOk result (λ r. id ≡ Ok r) }
     ensures refused { IfErr result (λ e. e ≡ no_memory (last_position input.now)) }
 {

@@ -42,7 +42,7 @@ use Rattle.swc_primary.specs.Methods.{method_close, method_left, method_inside, 
 use Rattle.swc_steps.specs.Keys.{expected, method_body}
 use Rattle.swc_steps.specs.Lists.{eaten}
 use Rattle.swc_input.specs.Buffer.{context}
-use Rattle.swc_steps.specs.Parsing.{scope, recorded, Leads, Checks, On, Continues, shell_at}
+use Rattle.swc_steps.specs.Parsing.{scope, Leads, Checks, On, Continues, shell_at}
 use Rattle.swc_steps.proofs.Keys.{bind_none, then_calls, token_then, then_token}
 use Rattle.swc_steps.proofs.Lists.{binds, bind_same}
 use Rattle.swc_steps.proofs.Steps.{Reader, leads_then, more_recorded, read_scope}

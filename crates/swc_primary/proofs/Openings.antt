@@ -1,5 +1,6 @@
 -- Which primary expression the current token begins, and what is left of a literal behind the token that opens it.
-use Rattle.std.proofs.Common.{◌≡◌, Bool, true, false, ◌&&◌, List, [], ◌∷◌, ◌++◌, if◌then◌else◌, Option, refl, ◌∙◌}
+use Rattle.std.proofs.Common.{◌≡◌, Bool, true, false, not, codes, ◌&&◌, List, [], ◌∷◌, ◌++◌, if◌then◌else◌, Option}
+use Rattle.std.proofs.Common.{refl, ◌∙◌}
 use Rattle.swc_input.specs.declared.buffer.Buffer.{Buffer}
 use Rattle.swc_input.specs.declared.token.TokenAndSpan.{TokenAndSpan}
 use Rattle.std.proofs.Common.{Some, None, Result, ap, sym, subst}
@@ -7,7 +8,9 @@ use Rattle.swc_context.specs.declared.atom.Atom.{Atom}
 use Rattle.swc_context.specs.declared.word.Word.TheVariants as word
 use Rattle.swc_input.specs.declared.token.Token.{Token}
 use Rattle.swc_input.specs.declared.token.Token.TheVariants as token
-use Rattle.swc_grammar.specs.Scope.{Scope}
+use Rattle.swc_grammar.specs.Scope.{Scope, inner}
+use Rattle.swc_context.specs.Texts.{is_text}
+use Rattle.swc_context.specs.Reserved.{reserved_name}
 use Rattle.swc_context.specs.Contexts.{view as deciding}
 use Rattle.swc_context.specs.declared.context.Context.{Context}
 use Rattle.swc_context.specs.declared.error.Error.{Error}
@@ -19,20 +22,22 @@ use Rattle.swc_ast.specs.declared.lit.Lit.{Lit}
 use Rattle.swc_grammar.specs.Parts.{lit_of}
 use Rattle.swc_bodies.specs.Readings.{Hook}
 use Rattle.swc_grammar.specs.Symbols.{Primary, Elements, Props}
-use Rattle.swc_grammar.specs.Clean.{sym as at, run, first, is_lit, is_identifier}
+use Rattle.swc_grammar.specs.Clean.{sym as at, run, first}
 use Rattle.swc_grammar.specs.Words.{◌>>=◌}
 use Rattle.swc_input.specs.Plain.{plain}
 use Rattle.swc_input.specs.Source.{Model}
 use Rattle.swc_input.specs.Buffer.{held, context}
 use Rattle.swc_input.specs.Laws.{Read-same}
-use Rattle.swc_input.specs.Kinds.{at_token, is_hash}
-use Rattle.swc_bodies.specs.Readings.{is_function, is_async, is_class, is_brace}
-use Rattle.swc_grammar.specs.Tokens.{include_in, is_lparen, is_lbracket, is_backquote, is_this, begins_regex, is_reference}
+use Rattle.swc_input.specs.Kinds.{at_token}
+use Rattle.swc_bodies.specs.Readings.{is_async, is_brace}
+use Rattle.swc_grammar.specs.Tokens.{include_in, is_lparen, is_lbracket, is_backquote, is_reference}
+use Rattle.swc_grammar.specs.Tokens.{may_be_reference}
 use Rattle.swc_steps.specs.Parsing.{Here, Moves, On, Parses, seen, begins_async}
 use Rattle.swc_steps.specs.Lists.{elements_inside}
 use Rattle.swc_steps.proofs.Lists as list
 use Rattle.swc_steps.proofs.Rules as rule
 use Rattle.swc_steps.proofs.Steps as s
+use Rattle.swc_steps.proofs.Words.{is_same}
 use Rattle.swc_primary.proofs.Properties as props
 use Rattle.swc_primary.specs.declared.primary.PrimaryKind.{PrimaryKind}
 use Rattle.swc_primary.specs.declared.primary.PrimaryKind.TheVariants as kind
@@ -154,11 +159,6 @@ and_false : (a : Bool) → (a && false) ≡ false
 and_false true = refl
 and_false false = refl
 
-only_async : (P : Token → Type 0) → ((w : Atom) → is_async (token.Word (word.Ident w)) ≡ true → P (token.Word (word.Ident w)))
-    → (t : Token) → is_async t ≡ true → P t
-only_async P h (token.Word (word.Ident w)) e = h w e
-only_async P h t e = absurd cc
-
 no_async : (ts : List TokenAndSpan) → at_token is_async (first ts) ≡ false → begins_async ts ≡ false
 no_async ts h = rw h refl
 
@@ -170,21 +170,22 @@ module _ {F C K : Type 0} (hook : Hook F C K) where
       let o = first ts in
       let (this, async, function, lit, class, name, hash, regex) = h in
       rule.primary_ends hook x ts name lit (not_paren o p) hash this (not_array o p)
-      (rule.function_not ts function (no_async ts async)) class (not_object o p) (not_template o p) regex
+      (rule.function_not ts function (no_async ts async)) async class (not_object o p) (not_template o p) regex
 
-  -- nor at `async`, where no function follows
-  pub async_ends : (x : Scope) (ts : List TokenAndSpan) → at_token is_async (first ts) ≡ true → begins_async ts ≡ false
-      → run hook (at Primary) x ts ≡ None
-  async_ends x [] h k = absurd cc
-  async_ends x (t ∷ ts) h k =
-      let is = λ (f : Token → Bool) (g : (w : Atom) → is_async (token.Word (word.Ident w)) ≡ true → f (token.Word (word.Ident w)) ≡ false).
-      only_async (λ v. f v ≡ false) g t.token h in
-      rule.primary_ends hook x (t ∷ ts)
-      (is (is_identifier x.context) (λ w e. rw e (and_false (is_reference x.context (word.Ident w)))))
-      (is is_lit (λ w e. refl)) (is is_lparen (λ w e. refl)) (is is_hash (λ w e. refl)) (is is_this (λ w e. refl))
-      (is is_lbracket (λ w e. refl)) (rule.function_not (t ∷ ts) (is is_function (λ w e. refl)) k)
-      (is is_class (λ w e. refl)) (is is_brace (λ w e. refl)) (is is_backquote (λ w e. refl))
-      (is begins_regex (λ w e. refl))
+-- `async` is a reference wherever it stands
+async_name : (c : Context) (w : Atom) → is_text w (codes "async") ≡ true → is_reference c (word.Ident w) ≡ true
+async_name c w h =
+    let same = is_same w (codes "async") h in
+    ap (λ v. not (reserved_name c.strict v)) same ∙ ap not (and_false c.strict)
+
+refers : (c : Context) (t : Token) → is_async t ≡ true → may_be_reference c t ≡ true
+refers c (token.Word (word.Ident w)) h = async_name c w h
+refers c t h = absurd cc
+
+pub async_refers : (c : Context) (o : Option TokenAndSpan) → at_token is_async o ≡ true
+    → at_token (may_be_reference c) o ≡ true
+async_refers c None h = absurd cc
+async_refers c (Some t) h = refers c t.token h
 
 -- ---- a look at what was looked at
 
@@ -230,11 +231,12 @@ module _ {S F C K : Type 0} {model : Model S} (sure : Bool) (hook : Hook F C K) 
       (λ x ts. run hook (at Props) x ts >>= (λ p. Some (object_from lo p.0, p.1))) a o.between
   object_begins {b = b} h k o =
       let sign = is_object (seen b) k in
-      s.on_then (s.on_seen h (λ x ts same e. props.object_lit_picked hook x ts (ap (at_token is_brace) e ∙ sign)))
+      s.on_from_inner
+      (s.on_then (s.on_seen h (λ x ts same e. props.object_lit_picked hook x ts (ap (at_token is_brace) e ∙ sign)))
       (s.on_took h.laws o.took (λ x ts.
       props.object_lit_opens hook (plain o.took.was) x ts (rule.passes_plain is_brace _ _ o.took.current sign)
       ∙ props.object_lit_splits hook (plain o.took.was).span x ts
-      ∙ ap (λ v. run hook (at Props) x ts >>= (λ p. Some (object_from v p.0, p.1))) o.place))
+      ∙ ap (λ v. run hook (at Props) (inner x) ts >>= (λ p. Some (object_from v p.0, p.1))) o.place)))
 
   -- the list in its context, which is set back behind it
   pub elements_read : {T : Type 0} (view : T → Tree F C K) {b d e f : Buffer S} {lo : BytePos} {ctx : Context}
@@ -242,9 +244,11 @@ module _ {S F C K : Type 0} {model : Model S} (sure : Bool) (hook : Hook F C K) 
       → Parses model sure view (run hook (at Elements)) d r e
       → Moves model e f → context model f ≡ ctx → Parses model sure view (elements_inside hook) o.between r f
   elements_read view r o h m back =
-      s.parses_within model sure view (elements_inside hook) (run hook (at Elements)) r include_in (λ x. refl)
+      s.parses_within model sure view (elements_inside hook) (s.inner_of (run hook (at Elements))) r include_in
+      (λ x. refl)
       (λ x ts. list.inside_elements hook x ts)
-      o.moves (o.inside ∙ ap (λ x. include_in (deciding x)) o.outside) h m (back ∙ o.outside)
+      o.moves (o.inside ∙ ap (λ x. include_in (deciding x)) o.outside)
+      (s.parses_inner model sure view (run hook (at Elements)) _ _ r h) m (back ∙ o.outside)
 
   pub props_read : {T : Type 0} (view : T → Tree F C K) {b d e f : Buffer S} {lo : BytePos} {ctx : Context}
       (r : Result T Error) → (o : Opens model (λ x. x) b lo ctx d)

@@ -8,6 +8,7 @@ use Rattle.swc_context.specs.declared.error.Error.{Error}
 use Rattle.swc_context.specs.declared.error.SyntaxError.TheVariants.{OutOfMemory}
 use Rattle.swc_context.specs.declared.span.Span.{Span}
 use Rattle.swc_input.specs.declared.buffer.Buffer.{Buffer}
+use Rattle.swc_input.specs.declared.token.TokenAndSpan.{TokenAndSpan}
 use Rattle.swc_input.specs.Recording.{is_some}
 use Rattle.swc_input.specs.Source.{Model}
 use Rattle.swc_ast.specs.Parts.{item_of, item_trees}
@@ -15,6 +16,7 @@ use Rattle.swc_ast.specs.Tree.{Tree}
 use Rattle.swc_ast.specs.Trees.{listed, held_expr, no_cover_in, no_covers, is_spread, no_spread, paren_ok}
 use Rattle.swc_ast.specs.declared.expr.ExprOrSpread.{ExprOrSpread}
 use Rattle.swc_ast.specs.declared.spanned.Spanned.{Ghosts}
+use Rattle.swc_grammar.specs.Clean.{Out}
 use Rattle.swc_nodes.specs.NumberedTrees.{fits}
 use Rattle.swc_nodes.specs.NodeParts.{flat, item_parts, expr_part}
 use Rattle.swc_nodes.specs.GrowingNodes.{seat_at, Apart, From}
@@ -22,8 +24,10 @@ use Rattle.swc_nodes.specs.declared.node.ExprId.{ExprId}
 use Rattle.swc_nodes.specs.declared.nodes.Nodes.{Nodes}
 use Rattle.swc_nodes.proofs.Chains.{both_true}
 use Rattle.swc_nodes.proofs.Held.{from-apart, from-down}
-use Rattle.swc_steps.specs.Parsing.{Checks, Refuses}
-use Rattle.swc_steps.proofs.Steps.{checks_and, refuses_later}
+use Rattle.swc_steps.specs.Args.{arrow_free, paren_closed}
+use Rattle.swc_steps.specs.Parsing.{Checks, On, Refuses, Unheard}
+use Rattle.swc_steps.proofs.Args.{paren_closed_splits}
+use Rattle.swc_steps.proofs.Steps.{checks_and, give, on_call, refuses_later, unheard_call}
 
 and_true : (a : Bool) → (a && true) ≡ a
 and_true true = refl
@@ -201,3 +205,14 @@ module _ {S F C K X : Type 0} {model : Model S} (at : X → Tree F C K) where
   paren_refused (Ok u) comma s xs e h k o = tt
   paren_refused (Err x) comma s xs e h k o =
       (refuses_later h.leads (refuses_later k.leads o.0), λ n. paren_spread at comma s xs o.1)
+
+-- ---- no `=>` behind the list
+
+module _ {S F C K : Type 0} {model : Model S} {sure : Bool} (q : List TokenAndSpan → Out (Tree F C K)) where
+  pub free_on : {b c : Buffer S} → On model sure arrow_free (give tt) b c
+      → On model sure (λ x ts. paren_closed q ts) (λ x ts. q ts) b c
+  free_on o = on_call (λ x p. q p.1) (λ x ts. paren_closed_splits q x ts) o
+
+  pub not_free : {b c : Buffer S} {e : Error} → Unheard model sure arrow_free b e c
+      → Unheard model sure (λ x ts. paren_closed q ts) b e c
+  not_free u = unheard_call (λ x p. q p.1) (λ x ts. paren_closed_splits q x ts) u

@@ -11,7 +11,7 @@ use Rattle.swc_ast.specs.Tree.{nil, span_of}
 use Rattle.swc_ast.specs.Trees.{to, object_e, listed, items_of, comma_of, spread_prop_e, short_e, cover_e}
 use Rattle.swc_ast.specs.Trees.{ident_e}
 use Rattle.swc_bodies.specs.Readings.{Hook, is_async, is_brace}
-use Rattle.swc_grammar.specs.Scope.{Scope}
+use Rattle.swc_grammar.specs.Scope.{Scope, inner}
 use Rattle.swc_grammar.specs.Symbols.{Assign, Primary, Props, PropsTail, Prop, Side}
 use Rattle.swc_grammar.specs.Tokens.{tk, with_in, is_dots, is_equals, is_get, is_set, is_question, is_rbrace, is_star}
 use Rattle.swc_grammar.specs.Tokens.{is_word, ends_prop, follows_key}
@@ -21,7 +21,7 @@ use Rattle.swc_grammar.specs.Names.{Spelling, may_name}
 use Rattle.swc_grammar.specs.Parts.{any_name}
 use Rattle.swc_grammar.specs.Rule.{gives, must, given, symbol, token as token_of, ◌>>=◌ as ◌▸◌, ◌>>◌}
 use Rattle.swc_grammar.specs.Clean.{and_then, first, second, sym as at, exec, Choice, none, pick, chosen, plan}
-use Rattle.swc_grammar.specs.Clean.{primary, prop, prop_word, async_method, step, run}
+use Rattle.swc_grammar.specs.Clean.{primary, prop, prop_word, async_method, run}
 use Rattle.swc_grammar.specs.Words.{◌>>=◌, one, word}
 use Rattle.swc_grammar.proofs.Knot.{knot}
 use Rattle.swc_grammar.proofs.Only.{brace-is, rbrace-is}
@@ -120,11 +120,11 @@ module _ {F C K : Type 0} (hook : Hook F C K) where
   pub object_lit_opens : (t : TokenAndSpan) (x : Scope) (ts : List TokenAndSpan) → is_brace t.token ≡ true
       → by_production hook (λ c. object-lit) x (t ∷ ts) ≡ object_lit_tail hook t.span x ts
   unfolding by_production object_lit_tail reading
-  object_lit_opens t x ts h = rw h (calls (run hook (at Props) x ts) _)
+  object_lit_opens t x ts h = rw h (calls (run hook (at Props) (inner x) ts) _)
 
   pub object_lit_splits : (s : Span) (x : Scope) (ts : List TokenAndSpan)
       → object_lit_tail hook s x ts
-      ≡ (run hook (at Props) x ts >>= (λ p. Some (object_e (comma_of p.0) (to s (span_of p.0)) (items_of p.0), p.1)))
+      ≡ (run hook (at Props) (inner x) ts >>= (λ p. Some (object_e (comma_of p.0) (to s (span_of p.0)) (items_of p.0), p.1)))
   unfolding object_lit_tail
   object_lit_splits s x ts = refl
 

@@ -8,7 +8,7 @@ use Rattle.swc_input.specs.Kinds.{at_token}
 use Rattle.swc_ast.specs.Tree.{Tree, span_of}
 use Rattle.swc_ast.specs.Trees.{to, object_e, items_of, comma_of, spread_prop_e, cover_e, ident_e}
 use Rattle.swc_bodies.specs.Readings.{Hook, is_async}
-use Rattle.swc_grammar.specs.Scope.{Scope}
+use Rattle.swc_grammar.specs.Scope.{Scope, inner}
 use Rattle.swc_grammar.specs.Symbols.{Props, Prop}
 use Rattle.swc_grammar.specs.Tokens.{is_dots, is_equals, is_get, is_set, is_question, is_rbrace, is_star, is_word}
 use Rattle.swc_grammar.specs.Tokens.{ends_prop, follows_key}
@@ -91,7 +91,7 @@ module _ {F C K : Type 0} (hook : Hook F C K) where
   -- behind the brace at s
   unfoldable pub object_lit_tail : Span → Scope → List TokenAndSpan → Out (Tree F C K)
   object_lit_tail s c ts =
-      run hook (sym Props) c ts >>= (λ p. Some (object_e (comma_of p.0) (to s (span_of p.0)) (items_of p.0), p.1))
+      run hook (sym Props) (inner c) ts >>= (λ p. Some (object_e (comma_of p.0) (to s (span_of p.0)) (items_of p.0), p.1))
 
   -- one property, and the comma behind it, or before the brace that closes the list
   abbrev pub prop_item : Scope → List TokenAndSpan → Out (Tree F C K × Option Span)

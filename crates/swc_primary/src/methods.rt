@@ -273,9 +273,10 @@ fn parse_method_block<I: Tokens, B: Bodies<I>>(
 }
 
 /// A block, which the hook reads.
-fn parse_block<I: Tokens, B: Bodies<I>>(p: &mut Productions<I, B>) -> PResult<B::Block>
+pub fn parse_block<I: Tokens, B: Bodies<I>>(p: &mut Productions<I, B>) -> PResult<B::Block>
     ensures reads { Parses I.model B.is_faithful (λ v. v) (by_hook B.forms.block)
         p.old.input result p.new.input }
+    ensures falls { OnOk result (to_come I.model p.new.input < to_come I.model p.old.input) }
     ensures nodes { p.new.nodes ≡ p.old.nodes }
 {
     look(&mut p.input)?;

@@ -8,7 +8,8 @@ ghost use Rattle.swc_input.specs.Buffer.{to_come};
 ghost use Rattle.swc_nodes.specs.Lists.{is_cover_prop, has_cover};
 ghost use Rattle.swc_nodes.specs.NodeParts.{expr_part, args_parts};
 ghost use Rattle.swc_nodes.specs.GrowingNodes.{Apart, From};
-ghost use Rattle.swc_steps.specs.Parsing.{Checked, Checks, Refuses, tree_of, args_at};
+ghost use Rattle.swc_steps.specs.Args.{arrow_free};
+ghost use Rattle.swc_steps.specs.Parsing.{Checked, Checks, ContinuesAlone, Refuses, tree_of, args_at};
 
 use swc_ast::expr::ExprOrSpread;
 use swc_bodies::bodies::Bodies;
@@ -18,7 +19,25 @@ use swc_input::buffer::Buffer;
 use swc_input::tokens::Tokens;
 use swc_nodes::node::{ExprId, PropNode};
 use swc_nodes::nodes::NodesOf;
-use swc_steps::tokens::{Listed, emit_err, syntax_error};
+use swc_steps::tokens::{Listed, Sign, emit_err, is_after_line_break, is_sign, syntax_error};
+
+/// Refuses `=>` behind a list in parentheses that is no list of parameters, at the place of the list: as
+/// `LineBreakBeforeArrow` where it stands on another line, or else as `ArrowNotAllowed`.
+pub(crate) fn refuse_arrow<I: Tokens>(input: &mut Buffer<I>, list: Span) -> PResult<()>
+    ensures free { ContinuesAlone I.model (λ u. u) arrow_free input.old result input.new }
+    ensures falls { OnOk result (to_come I.model input.new ≤ to_come I.model input.old) }
+{
+    let breaks = is_after_line_break(input)?;
+    if !is_sign(input, Sign::Arrow) {
+        return Ok(());
+    }
+    let kind = if breaks {
+        SyntaxError::LineBreakBeforeArrow
+    } else {
+        SyntaxError::ArrowNotAllowed
+    };
+    Err(syntax_error(input, list, kind))
+}
 
 /// Records and refuses what can't stand in parentheses, of a list from the one at `start` on.
 pub(crate) fn check_paren_items<I: Tokens, B: Bodies<I>>(
@@ -44,7 +63,7 @@ pub(crate) fn check_paren_items<I: Tokens, B: Bodies<I>>(
 }
 
 /// Records each property `name = value` of the object literals among the items of a list, in their order.
-fn check_item_covers<I: Tokens, B: Bodies<I>>(
+pub fn check_item_covers<I: Tokens, B: Bodies<I>>(
     input: &mut Buffer<I>,
     nodes: &NodesOf<B>,
     items: &Vec<ExprOrSpread<ExprId>>,

@@ -5,22 +5,25 @@ ghost use Rattle.swc_input.specs.Plain.{plain_token};
 ghost use Rattle.swc_input.specs.Kinds.{at_token, is_hash};
 ghost use Rattle.swc_input.specs.declared.token.Token.TheVariants as token;
 ghost use Rattle.swc_grammar.specs.Symbols.{Primary, Literal};
-ghost use Rattle.swc_grammar.specs.Tokens.{is_this};
+ghost use Rattle.swc_grammar.specs.Tokens.{is_this, may_be_reference};
+ghost use Rattle.swc_grammar.specs.Names.{may_refer};
+ghost use Rattle.swc_grammar.specs.Words.{word};
 ghost use Rattle.swc_bodies.specs.Readings.{at_function, is_class};
 ghost use Rattle.swc_grammar.specs.Grammar as grammar;
-ghost use Rattle.swc_grammar.specs.Clean.{sym, run, is_lit, is_identifier};
+ghost use Rattle.swc_grammar.specs.Clean.{sym, run, is_lit};
 ghost use Rattle.swc_nodes.specs.NodeParts.{args_parts};
 ghost use Rattle.swc_nodes.specs.GrowingNodes.{count, first_start, last_end, Apart};
-ghost use Rattle.swc_steps.specs.Args.{paren_from};
-ghost use Rattle.swc_steps.specs.Readers.{by_production};
+ghost use Rattle.swc_steps.specs.Args.{paren_from, paren_closed};
+ghost use Rattle.swc_steps.specs.Readers.{by_production, named_expr};
 ghost use Rattle.swc_steps.specs.Parsing.{lit_in, seen, Here, ParsesAlone, Produces, GoesOn, Checked, Refuses};
 ghost use Rattle.swc_steps.specs.Parsing.{TookLiteral};
-ghost use Rattle.swc_steps.specs.Parsing.{itself, tree_of, args_at};
+ghost use Rattle.swc_steps.specs.Parsing.{itself, tree_of, args_at, ident_spelling};
 ghost use Rattle.swc_primary.specs.Openings.{primary_kind, literal, BeginsPlain};
 ghost use Rattle.swc_primary.specs.declared.primary.PrimaryKind.TheVariants.{Plain};
 ghost use Rattle.swc_primary.specs.declared.primary.PlainKind.TheVariants.{Function, Class};
 
-use crate::parens::check_paren_items;
+use crate::parens::{check_paren_items, refuse_arrow};
+use std::alloc::Global;
 use swc_ast::expr::ExprOrSpread;
 use swc_ast::ident::Ident;
 use swc_ast::lit::{BigInt, Bool, Lit, Null, Num, Str};
@@ -128,7 +131,8 @@ fn word_kind(ctx: Context, word: &Word) -> PlainKind
 }
 
 /// A primary expression in which no other stands (ECMA-262, 13.2): `this`, a function, a literal, a class, an
-/// identifier, `#` and a name, or a regular expression. Another token is refused as `TS1109`, at that token.
+/// identifier, `#` and a name, or a regular expression. Another token is refused as `TS1109`, at that token. `async`
+/// is an identifier, unless `function` stands behind it on its line.
 pub fn parse_plain_primary<I: Tokens, B: Bodies<I>>(p: &mut Productions<I, B>) -> PResult<ExprId>
     requires looked { Here I.model p.old.input p.old.input }
     requires plain { primary_kind (seen p.old.input) ≡ Plain }
@@ -141,7 +145,7 @@ pub fn parse_plain_primary<I: Tokens, B: Bodies<I>>(p: &mut Productions<I, B>) -
             if is_async_function(&mut p.input)? {
                 parse_fn_expr(p)
             } else {
-                Err(no_primary(&mut p.input))
+                parse_ident_expr(p)
             }
         }
         PlainKind::Function => parse_fn_expr(p),
@@ -203,17 +207,26 @@ pub fn parse_class_expr<I: Tokens, B: Bodies<I>>(p: &mut Productions<I, B>) -> P
     p.made(node)
 }
 
-/// An identifier reference as an expression (ECMA-262, 13.1).
+/// An identifier reference as an expression (ECMA-262, 13.1), at a word that may be one.
 pub fn parse_ident_expr<I: Tokens, B: Bodies<I>>(p: &mut Productions<I, B>) -> PResult<ExprId>
-    requires { at_token (is_identifier (context I.model p.old.input)) (seen p.old.input) ≡ true }
-    ensures { Produces I.model B.is_faithful itself tree_of (by_production B.forms (λ c. grammar.ident-expr))
-        (count p.old.nodes) p.old result p.new }
+    requires { at_token (may_be_reference (context I.model p.old.input)) (seen p.old.input) ≡ true }
+    ensures { Produces I.model B.is_faithful itself tree_of named_expr (count p.old.nodes) p.old result p.new }
 {
-    let is_strict = is_strict_word(&p.input);
-    let ident = parse_ident_ref(p.alloc, &mut p.input)?;
-    check_strict_word(&mut p.input, is_strict, &ident)?;
+    let ident = parse_reference(p.alloc, &mut p.input)?;
     let node = p.nodes.ident_expr(ident);
     p.made(node)
+}
+
+/// An identifier reference (ECMA-262, 13.1), at a word that may be one. A word of strict code is recorded, for modules.
+pub fn parse_reference<I: Tokens>(alloc: Global, input: &mut Buffer<I>) -> PResult<Ident>
+    requires { at_token (may_be_reference (context I.model input.old)) (seen input.old) ≡ true }
+    ensures parses { ParsesAlone I.model ident_spelling (word may_refer) input.old result input.new }
+    ensures falls { OnOk result (to_come I.model input.new < to_come I.model input.old) }
+{
+    let is_strict = is_strict_word(input);
+    let ident = parse_ident_ref(alloc, input)?;
+    check_strict_word(input, is_strict, &ident)?;
+    Ok(ident)
 }
 
 /// `#` and a name, as an expression (ECMA-262, 13.10.1).
@@ -229,9 +242,9 @@ pub fn parse_private_expr<I: Tokens, B: Bodies<I>>(p: &mut Productions<I, B>) ->
     p.made(node)
 }
 
-/// What stands in parentheses, of a list from the one at `start` on: one expression by itself, or a sequence. An
-/// object literal among them with a property `name = value` is recorded, and so is a comma behind the last one; an
-/// empty list is refused, and so is an expression behind dots.
+/// What stands in parentheses, of a list from the one at `start` on: one expression by itself, or a sequence. A `=>`
+/// behind the list is refused first. An object literal among the items with a property `name = value` is recorded, and
+/// so is a comma behind the last one; an empty list is refused, and so is an expression behind dots.
 pub fn paren_items<I: Tokens, B: Bodies<I>>(
     p: &mut Productions<I, B>,
     start: Span,
@@ -239,10 +252,11 @@ pub fn paren_items<I: Tokens, B: Bodies<I>>(
 ) -> PResult<ExprId>
     requires apart { Apart 0 p.old.nodes (args_parts list.items) }
     ensures { (k : ℕ) → Apart k p.old.nodes (args_parts list.items) → GoesOn I.model B.is_faithful itself tree_of
-        (λ c ts. paren_from (first_start p.old.nodes (map (λ item. item.expr) list.items.items))
+        (λ c ts. paren_closed (paren_from (first_start p.old.nodes (map (λ item. item.expr) list.items.items))
         (last_end p.old.nodes (map (λ item. item.expr) list.items.items)) start
-        (args_at p.old.nodes list) ts) k p.old result p.new }
+        (args_at p.old.nodes list)) ts) k p.old result p.new }
 {
+    refuse_arrow(&mut p.input, Span::new(start.lo, list.end.hi))?;
     check_paren_items::<I, B>(&mut p.input, &p.nodes, start, &list)?;
     let end = list.end.hi;
     let node = p.nodes.seq_of_items(list.items);

@@ -1,1 +1,5 @@
+pub mod ArrowBegins
+pub mod ArrowBodies
+pub mod ArrowOrAssign
 pub mod ByThemselves
+pub mod InnerCalls

@@ -1,6 +1,13 @@
 // The ring: the productions that call one another back (ECMA-262, 13), in the order of the standard.
-ghost use Rattle.std.specs.Prelude.{◌≡◌, ◌<◌, true, false, not, None, Some};
-ghost use Rattle.swc_grammar.specs.Clean.{sym, links, run};
+ghost use Rattle.std.specs.Prelude.{ℕ, ◌≡◌, ◌<◌, true, false, not, ◌&&◌, None, Some};
+ghost use Rattle.swc_arrows.specs.Answers.{body_at, body_of, MayBeArrow, MayBeOperand, ReadsArrow};
+ghost use Rattle.swc_arrows.specs.Readers.{arrow_behind};
+ghost use Rattle.swc_nodes.specs.Lists.{pats_parts, pat_trees};
+ghost use Rattle.swc_cover.specs.Rewriting.{Rewrites};
+ghost use Rattle.swc_grammar.specs.Clean.{sym, links, run, no_error};
+ghost use Rattle.swc_grammar.specs.Symbols.{ArrowBody};
+ghost use Rattle.swc_grammar.specs.Tokens.{is_yield};
+ghost use Rattle.swc_input.specs.Buffer.{context, current};
 ghost use Rattle.swc_grammar.specs.Symbols.{Lhs, Primary, Elements, Item, Props, Prop, Key, Parts, Level};
 ghost use Rattle.swc_grammar.specs.Symbols.{Unary, Expr, Assign};
 ghost use Rattle.swc_input.specs.Kinds.{at_token};
@@ -13,15 +20,30 @@ ghost use Rattle.swc_patterns.specs.Params.{params_close};
 ghost use Rattle.swc_grammar.specs.Symbols.{Pat, Element, PatElements, PatProps, Params};
 ghost use Rattle.swc_nodes.specs.Pending.{all_pending, operand_parts, first_operand};
 ghost use Rattle.swc_nodes.specs.NodeParts.{expr_part};
-ghost use Rattle.swc_nodes.specs.GrowingNodes.{count, first_at, From, Apart, start_at};
+ghost use Rattle.swc_nodes.specs.GrowingNodes.{count, tree_at, first_at, From, Apart, start_at};
 ghost use Rattle.swc_operators.specs.Assignments.{assigns_from};
 ghost use Rattle.swc_operators.specs.Pending.{pending_reads};
 ghost use Rattle.swc_primary.specs.Methods.{method_function, method_shell};
 ghost use Rattle.swc_steps.specs.Args.{args_inside};
-ghost use Rattle.swc_steps.specs.Parsing.{seen, Produces, GoesOn, itself, tree_of, item_of, item_at, elems_of};
+ghost use Rattle.swc_steps.specs.Parsing.{seen, Here, Produces, GoesOn, itself, tree_of, item_of, item_at, elems_of};
 ghost use Rattle.swc_steps.specs.Parsing.{elems_at, key_of, key_at, prop_of, prop_at, props_of, props_at, args_of};
 ghost use Rattle.swc_steps.specs.Parsing.{args_at, shell_at};
 
+use swc_arrows::bodies::ArrowOrBase;
+use swc_arrows::bodies::arrow_function;
+use swc_arrows::bodies::begins_block;
+use swc_arrows::bodies::check_operators_end;
+use swc_arrows::bodies::enter_arrow_body;
+use swc_arrows::bodies::parse_block_body;
+use swc_arrows::heads::HeadKind;
+use swc_arrows::heads::head_kind;
+use swc_arrows::lists::close_list;
+use swc_arrows::lists::open_list;
+use swc_arrows::names::ArrowHead;
+use swc_arrows::names::Beginning;
+use swc_arrows::names::parse_arrow_name;
+use swc_arrows::names::parse_async_name;
+use swc_ast::expr::BlockStmtOrExpr;
 use swc_ast::expr::Callee;
 use swc_ast::expr::ExprOrSpread;
 use swc_ast::expr::Import;
@@ -68,7 +90,8 @@ use swc_nodes::node::PatPropNode;
 use swc_nodes::node::PropNode;
 use swc_nodes::patterns::name_pat_prop;
 use swc_nodes::pending::PendingOperators;
-use swc_operators::assign::check_assign_target;
+use swc_operators::assign::assign_node;
+use swc_operators::assign::assign_target;
 use swc_operators::assign::cond_last;
 use swc_operators::assign::cond_middle;
 use swc_operators::assign::cur_assign_op;
@@ -760,9 +783,9 @@ pub fn parse_expr<I: Tokens, B: Bodies<I>>(p: &mut Productions<I, B>) -> PResult
     }
 }
 
-/// An assignment expression (ECMA-262, 13.15); or `yield` (15.5), and its operand, with the `*` before it or not, where
-/// one begins on the same line. In parameters outside a function `yield` is refused. A refusal of its operand is
-/// labelled with the place of `yield` and the `*`.
+/// An assignment expression (ECMA-262, 13.15), or an arrow function (15.3 and 15.9); or `yield` (15.5), and its operand,
+/// with the `*` before it or not, where one begins on the same line. In parameters outside a function `yield` is
+/// refused. A refusal of its operand is labelled with the place of `yield` and the `*`.
 #[cycle(productions)]
 pub fn parse_assignment_expr<I: Tokens, B: Bodies<I>>(p: &mut Productions<I, B>) -> PResult<ExprId>
     ensures { Produces I.model B.is_faithful itself tree_of (run B.forms (sym Assign))
@@ -770,8 +793,7 @@ pub fn parse_assignment_expr<I: Tokens, B: Bodies<I>>(p: &mut Productions<I, B>)
 {
     require_cur(&mut p.input)?;
     if !is_yield_operator(&p.input) {
-        let left = parse_bin_expr(p)?;
-        return finish_assignment_expr(p, left);
+        return parse_arrow_or_assign(p);
     }
     let start = p.cur_span();
     skip(&mut p.input);
@@ -794,18 +816,162 @@ pub fn parse_assignment_expr<I: Tokens, B: Bodies<I>>(p: &mut Productions<I, B>)
     }
 }
 
+/// An assignment expression that `yield` doesn't begin (ECMA-262, 13.15): an arrow function (15.3 and 15.9); or what
+/// binary operators join, a conditional or an assignment. Behind an arrow function with parameters in parentheses and a
+/// block operators are read on, which is recorded as `TS1005`, and once more where no semicolon may stand behind them.
+/// Where the left operand was refused before an operator, that is recorded, and reading goes on there.
+#[cycle(productions)]
+fn parse_arrow_or_assign<I: Tokens, B: Bodies<I>>(p: &mut Productions<I, B>) -> PResult<ExprId>
+    requires looked { Here I.model p.old.input p.old.input }
+    requires fit { at_token no_error (seen p.old.input) ≡ true }
+    requires no_yield { (at_token is_yield (seen p.old.input)
+        && (context I.model p.old.input).in_generator) ≡ false }
+    ensures { Produces I.model B.is_faithful itself tree_of (run B.forms (sym Assign))
+        (count p.old.nodes) p.old result p.new }
+{
+    let first = p.cur_span().lo;
+    let mut pending = PendingOperators::new(p.alloc);
+    let read = match parse_arrow_or_operand(p) {
+        Ok(read) => read,
+        Err(error) => {
+            let (left, op) = recover_left(p, error, first)?;
+            take_operator(p, &mut pending, left, op)?;
+            let right = parse_unary_expr(p)?;
+            let left = parse_operators(p, pending, right)?;
+            return finish_assignment_expr(p, left);
+        }
+    };
+    match read {
+        ArrowOrBase::Arrow(arrow) => Ok(arrow),
+        ArrowOrBase::Base(operand) => {
+            let left = parse_operators(p, pending, operand)?;
+            finish_assignment_expr(p, left)
+        }
+        ArrowOrBase::Operand(arrow) => {
+            let left = parse_operators(p, pending, arrow)?;
+            check_operators_end(&mut p.input)?;
+            check_nullish_left::<I, B>(&mut p.input, &p.nodes, left)?;
+            finish_assignment_expr(p, left)
+        }
+        ArrowOrBase::Other => {
+            let left = parse_bin_expr(p)?;
+            finish_assignment_expr(p, left)
+        }
+    }
+}
+
+/// What an assignment expression begins with, where that may be an arrow function (ECMA-262, 15.3 and 15.9), as
+/// `parse_arrow_or_base` reads it; with the links behind it, and `++` or `--`, where it is no arrow function.
+#[cycle(productions)]
+fn parse_arrow_or_operand<I: Tokens, B: Bodies<I>>(
+    p: &mut Productions<I, B>,
+) -> PResult<ArrowOrBase>
+    requires looked { Here I.model p.old.input p.old.input }
+    requires fit { at_token no_error (seen p.old.input) ≡ true }
+    requires no_yield { (at_token is_yield (seen p.old.input)
+        && (context I.model p.old.input).in_generator) ≡ false }
+    ensures { MayBeOperand I.model B.is_faithful B.forms (run B.forms (sym Assign))
+        (count p.old.nodes) p.old result p.new }
+{
+    match parse_arrow_or_base(p)? {
+        ArrowOrBase::Base(base) => {
+            let callee = parse_subscripts(p, base, false)?;
+            let operand = parse_update_postfix(p, callee)?;
+            Ok(ArrowOrBase::Base(operand))
+        }
+        other => Ok(other),
+    }
+}
+
+/// What an assignment expression begins with, where that may be an arrow function (ECMA-262, 15.3 and 15.9): the
+/// function; or an expression in parentheses, or a call of `async` (13.3.8), or in the head of a `for await` `async`
+/// before `of`, behind which links may stand. Elsewhere nothing is read.
+#[cycle(productions)]
+fn parse_arrow_or_base<I: Tokens, B: Bodies<I>>(p: &mut Productions<I, B>) -> PResult<ArrowOrBase>
+    requires looked { Here I.model p.old.input p.old.input }
+    requires fit { at_token no_error (seen p.old.input) ≡ true }
+    requires no_yield { (at_token is_yield (seen p.old.input)
+        && (context I.model p.old.input).in_generator) ≡ false }
+    ensures { MayBeArrow I.model B.is_faithful B.forms (run B.forms (sym Assign))
+        (count p.old.nodes) p.old result p.new }
+{
+    match head_kind(&mut p.input)? {
+        HeadKind::Name => match parse_arrow_name(p)? {
+            Beginning::Arrow(head) => parse_arrow_rest(p, head),
+            Beginning::Base(base) => Ok(ArrowOrBase::Base(base)),
+        },
+        HeadKind::AsyncName => match parse_async_name(p)? {
+            Beginning::Arrow(head) => parse_arrow_rest(p, head),
+            Beginning::Base(base) => Ok(ArrowOrBase::Base(base)),
+        },
+        HeadKind::List { is_async } => {
+            let start = open_list(p, is_async)?;
+            let list = parse_args(p, false)?;
+            match close_list(p, start, list)? {
+                Beginning::Arrow(head) => parse_arrow_rest(p, head),
+                Beginning::Base(base) => Ok(ArrowOrBase::Base(base)),
+            }
+        }
+        HeadKind::Other => Ok(ArrowOrBase::Other),
+    }
+}
+
+/// An arrow function (ECMA-262, 15.3 and 15.9), behind its `=>`: reads its body.
+#[cycle(productions)]
+fn parse_arrow_rest<I: Tokens, B: Bodies<I>>(
+    p: &mut Productions<I, B>,
+    head: ArrowHead,
+) -> PResult<ArrowOrBase>
+    requires { Apart 0 p.old.nodes (pats_parts head.params) }
+    ensures { (k : ℕ) → Apart k p.old.nodes (pats_parts head.params) → ReadsArrow I.model B.is_faithful
+        (arrow_behind B.forms head.start head.is_async head.in_parens (pat_trees (tree_at p.old.nodes) head.params))
+        k p.old result p.new }
+{
+    match parse_arrow_body(p, head.is_async) {
+        Ok(body) => arrow_function(p, head, body),
+        Err(error) => Err(error),
+    }
+}
+
+/// The body of an arrow function (ECMA-262, 15.3 and 15.9), behind its `=>`: a block, which the hook reads, or an
+/// assignment expression. The context is that from before, also after a refusal; whether `import.` was read in it isn't
+/// told outside.
+#[cycle(productions)]
+fn parse_arrow_body<I: Tokens, B: Bodies<I>>(
+    p: &mut Productions<I, B>,
+    is_async: bool,
+) -> PResult<BlockStmtOrExpr<ExprId, B::Block>>
+    ensures reads { Produces I.model B.is_faithful body_of body_at (run B.forms (sym (ArrowBody is_async)))
+        (count p.old.nodes) p.old result p.new }
+    ensures found { p.new.found_module_item ≡ p.old.found_module_item }
+{
+    let found = p.found_module_item;
+    let before = enter_arrow_body(&mut p.input, is_async);
+    let body = if held!(p, before, begins_block(&mut p.input)) {
+        parse_block_body(p)
+    } else {
+        match parse_assignment_expr(p) {
+            Ok(expr) => Ok(BlockStmtOrExpr::Expr(expr)),
+            Err(error) => Err(error),
+        }
+    };
+    p.found_module_item = found;
+    set_ctx(&mut p.input, before);
+    body
+}
+
 /// Reads on after `left`, which is what binary operators join: the rest of a conditional (ECMA-262, 13.14), from its
-/// `?` on, or an operator that writes and what it writes (13.15). The context is that from before, also after a
-/// refusal.
+/// `?` on, or an operator that writes and what it writes (13.15), where a literal before `=` becomes a pattern
+/// (13.15.5). The context is that from before, also after a refusal.
 #[cycle(productions)]
 fn finish_assignment_expr<I: Tokens, B: Bodies<I>>(
     p: &mut Productions<I, B>,
     left: ExprId,
 ) -> PResult<ExprId>
     requires from { From 0 p.old.nodes (expr_part left) }
-    ensures { GoesOn I.model B.is_faithful itself tree_of
+    ensures { Rewrites I.model B.is_faithful itself
         (assigns_from B.forms (start_at p.old.nodes left.0) (tree_of p.old.nodes left))
-        (first_at p.old.nodes left.0) p.old result p.new }
+        (λ ns e c ts. Some (tree_of ns e, ts)) (first_at p.old.nodes left.0) p.old result p.new }
 {
     look(&mut p.input)?;
     if is_sign(&p.input, Sign::Question) {
@@ -827,11 +993,10 @@ fn finish_assignment_expr<I: Tokens, B: Bodies<I>>(
         Some(op) => op,
         None => return Ok(left),
     };
-    check_assign_target::<I, B>(&mut p.input, &p.nodes, op, left)?;
+    let target = assign_target(p, op, left)?;
     skip(&mut p.input);
     let right = parse_assignment_expr(p)?;
-    let node = p.nodes.assign_expr(op, left, right);
-    p.made(node)
+    assign_node(p, op, target, right)
 }
 
 // ---- Binding patterns (ECMA-262, 14.3.3) and formal parameters (15.1)

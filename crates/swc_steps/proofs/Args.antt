@@ -1,26 +1,29 @@
 -- The clean parser's steps in arguments (13.3.8) and in parentheses (13.2.9), as the code goes them.
-use Rattle.std.specs.Prelude.{◌≡◌, Bool, true, false, ◌||◌, if◌then◌else◌, List, [], ◌∷◌, Option, Some, None}
+use Rattle.std.specs.Prelude.{◌≡◌, Bool, true, false, not, ◌||◌, if◌then◌else◌, List, [], ◌∷◌, Option, Some, None}
 use Rattle.std.proofs.Common.{refl, sym, ap, ◌∙◌}
 use Rattle.swc_context.specs.declared.span.Span.{Span}
 use Rattle.swc_input.specs.declared.token.Token.{Token}
 use Rattle.swc_input.specs.declared.token.Token.TheVariants as token
 use Rattle.swc_input.specs.declared.token.TokenAndSpan.{TokenAndSpan}
 use Rattle.swc_input.specs.Kinds.{at_token}
-use Rattle.swc_ast.specs.Tree.{Tree, nil}
-use Rattle.swc_ast.specs.Trees.{listed, items_of, put_first, has_items, comma_ok, behind_comma}
+use Rattle.swc_ast.specs.Tree.{Tree, nil, span_of}
+use Rattle.swc_ast.specs.Trees.{listed, items_of, put_first, has_items, comma_ok, behind_comma, to, seq_of, held_exprs}
+use Rattle.swc_ast.specs.Trees.{paren_ok, paren_e}
 use Rattle.swc_bodies.specs.Readings.{Hook}
 use Rattle.swc_grammar.specs.Scope.{Scope}
+use Rattle.swc_grammar.specs.Rule.{sees}
+use Rattle.swc_grammar.specs.Arrows.{is_arrow}
 use Rattle.swc_grammar.specs.Symbols.{Args, ArgsTail, Item}
 use Rattle.swc_grammar.specs.Tokens.{tk, with_in, is_rparen, import_comma_ok, is_lparen}
-use Rattle.swc_grammar.specs.Clean.{Out, and_then, first, sym as at, run}
+use Rattle.swc_grammar.specs.Clean.{Out, and_then, first, sym as at, run, no_arrow}
 use Rattle.swc_grammar.specs.Words.{◌>>=◌}
 use Rattle.swc_grammar.proofs.Knot.{knot}
 use Rattle.swc_grammar.proofs.Only.{rparen-is}
 use Rattle.swc_steps.specs.Args.{args_inside, arg_item, last_by, last_comma, comma_behind, separated_args, paren_of}
-use Rattle.swc_steps.specs.Args.{paren_expr_tail}
+use Rattle.swc_steps.specs.Args.{paren_expr_tail, paren_closed, arrow_free}
 use Rattle.swc_steps.specs.Lists.{eaten, closed, separated, behind}
-use Rattle.swc_steps.specs.Readers.{reading, by_production}
-use Rattle.swc_steps.proofs.Lists.{calls, tail_left, list_from, item_more, IsList}
+use Rattle.swc_steps.specs.Readers.{reading, by_production_apart}
+use Rattle.swc_steps.proofs.Lists.{calls, bind_same, tail_left, list_from, item_more, IsList}
 use Rattle.swc_grammar.specs.Grammar.{paren-expr}
 
 pub neither : (a b : Bool) → (a || b) ≡ false → (a ≡ false) × (b ≡ false)
@@ -70,6 +73,27 @@ pub last_refused : (x : Scope) (ts : List TokenAndSpan) → at_token is_rparen (
 unfolding last_comma
 last_refused x ts h k =
     ap (λ b. last_by b (import_comma_ok x) ts) h ∙ ap (λ m. last_by true m ts) k
+
+-- ---- no `=>` behind a list in parentheses
+
+pub arrow_stops : (x : Scope) (ts : List TokenAndSpan) → at_token is_arrow (first ts) ≡ true → arrow_free x ts ≡ None
+unfolding arrow_free
+arrow_stops x ts h = rw h refl
+
+pub arrow_passes : (x : Scope) (ts : List TokenAndSpan) → at_token is_arrow (first ts) ≡ false
+    → arrow_free x ts ≡ Some (tt, ts)
+unfolding arrow_free
+arrow_passes x ts h = rw h refl
+
+closed_by : {A : Type 0} (b : Bool) (q : List TokenAndSpan → Out A) (ts : List TokenAndSpan)
+    → (if b then q ts else None) ≡ ((if b then Some (tt {0}, ts) else None) >>= (λ p. q p.1))
+closed_by true q ts = refl
+closed_by false q ts = refl
+
+pub paren_closed_splits : {F C K : Type 0} (q : List TokenAndSpan → Out (Tree F C K)) (x : Scope)
+    (ts : List TokenAndSpan) → paren_closed q ts ≡ (arrow_free x ts >>= (λ p. q p.1))
+unfolding arrow_free
+paren_closed_splits q x ts = closed_by (no_arrow ts) q ts
 
 module _ {F C K : Type 0} where
   -- arguments of which there is one
@@ -192,12 +216,31 @@ module _ {F C K : Type 0} (hook : Hook F C K) where
 
   -- ---- parentheses (13.2.9)
 
+  both_tests : (a b : Bool) (o : Out (Tree F C K))
+      → (if a then (if b then None else o) else None) ≡ (if not b then (if a then o else None) else None)
+  both_tests true true o = refl
+  both_tests true false o = refl
+  both_tests false true o = refl
+  both_tests false false o = refl
+
+  -- no `=>` comes next
+  apart_closes : (s : Span) (es : Tree F C K) (us : List TokenAndSpan)
+      → (if paren_ok es then (if sees (λ t. is_arrow t.token) us then None else
+      Some (paren_e (to s (span_of es)) (seq_of (held_exprs (items_of es))), us)) else None)
+      ≡ paren_closed (paren_of s es) us
+  apart_closes s es [] = refl
+  apart_closes s es (u ∷ us) =
+      both_tests (paren_ok es) (is_arrow u.token)
+      (Some (paren_e (to s (span_of es)) (seq_of (held_exprs (items_of es))), u ∷ us))
+
   pub paren_expr_opens : (t : TokenAndSpan) (x : Scope) (ts : List TokenAndSpan) → is_lparen t.token ≡ true
-      → by_production hook (λ c. paren-expr) x (t ∷ ts) ≡ paren_expr_tail hook t.span x ts
-  unfolding by_production paren_expr_tail args_inside reading
-  paren_expr_opens t x ts h = rw h (calls (run hook (at (Args false)) (with_in x) ts) _)
+      → by_production_apart hook (λ c. paren-expr) x (t ∷ ts) ≡ paren_expr_tail hook t.span x ts
+  unfolding by_production_apart paren_expr_tail args_inside reading
+  paren_expr_opens t x ts h =
+      rw h (calls (run hook (at (Args false)) (with_in x) ts) _
+      ∙ bind_same (run hook (at (Args false)) (with_in x) ts) _ _ (λ p. apart_closes t.span p.0 p.1))
 
   pub paren_expr_splits : (s : Span) (x : Scope) (ts : List TokenAndSpan)
-      → paren_expr_tail hook s x ts ≡ (args_inside hook false x ts >>= (λ p. paren_of s p.0 p.1))
+      → paren_expr_tail hook s x ts ≡ (args_inside hook false x ts >>= (λ p. paren_closed (paren_of s p.0) p.1))
   unfolding paren_expr_tail
   paren_expr_splits s x ts = refl

@@ -25,9 +25,9 @@ use Rattle.swc_input.specs.Laws.{held_some, Looked-served, Read-same, Recorded-r
 use Rattle.swc_input.specs.Recording.{is_fit, is_silent, error_list, error_here, Recorded, Refused}
 use Rattle.swc_input.specs.Kinds.{at_token}
 use Rattle.swc_grammar.specs.Scope.{Scope}
-use Rattle.swc_grammar.specs.Names.{Spelling, spelling, spelled}
-use Rattle.swc_grammar.specs.Tokens.{is_reference, is_put_off, ref_ok}
-use Rattle.swc_grammar.specs.Clean.{Out, first, is_identifier, no_error}
+use Rattle.swc_grammar.specs.Names.{Spelling, spelling, spelled, may_refer}
+use Rattle.swc_grammar.specs.Tokens.{may_be_reference, ref_ok}
+use Rattle.swc_grammar.specs.Clean.{Out, first, no_error}
 use Rattle.swc_grammar.specs.Words.{rest, one, word_by, word}
 use Rattle.swc_ident.specs.Naming.{Judges, fault_at, place_here, Notes, none-noted, now-silent, now-recorded}
 use Rattle.swc_ident.specs.Naming.{later-ignored, later-noted, Passed, Spoken, Named, Unnamed, no_memory, not_fit}
@@ -63,10 +63,6 @@ ignored a b h = ap (λ v. v || b) h
 passed : (b : Bool) (n : Spelling) (ts : List TokenAndSpan) → one (if b then Some n else None) ts ≡ (if b then Some (n, ts) else None)
 passed true n ts = refl
 passed false n ts = refl
-
-first_of_both : (a b : Bool) → (a && b) ≡ true → a ≡ true
-first_of_both true b h = refl
-first_of_both false b h = cc
 
 at_some : (f : Token → Bool) (o : Option TokenAndSpan) → at_token f (seen_of o) ≡ true → o ≢ None
 at_some f None h e = cc
@@ -162,16 +158,18 @@ binding_refuses c w k h =
 pub honest-binding : Honest binding_verdict
 honest-binding = record { refuses = binding_refuses; viewed = λ c w. refl }
 
--- a word that is an expression by itself is read as a reference
-ref_word : (x : Context) (t : Token) (s : Span) (ts : List TokenAndSpan) → is_identifier x t ≡ true → one (spelled (ref_ok x) t s) ts ≡ one (spelled (λ w. is_clean x (reference_verdict x w)) t s) ts
-ref_word x (token.Word w) s ts h = ap (λ b. one (if b then Some (spelling (word_text w) s) else None) ts) (sym (reference-table x w (first_of_both (is_reference x w) (not (is_put_off w)) h)))
+-- a word that may be a reference is read as one
+ref_word : (x : Context) (t : Token) (s : Span) (ts : List TokenAndSpan) → may_be_reference x t ≡ true → one (spelled (may_refer x) t s) ts ≡ one (spelled (λ w. is_clean x (reference_verdict x w)) t s) ts
+ref_word x (token.Word w) s ts h =
+    ap (λ b. one (if b then Some (spelling (word_text w) s) else None) ts)
+    (ap (λ b. b && ref_ok x w) h ∙ sym (reference-table x w h))
 ref_word x t s ts h = cc
 
-ref_at : (x : Scope) (o : Option TokenAndSpan) (ts : List TokenAndSpan) → at_token (is_identifier x.context) o ≡ true → word_by ref_ok x o ts ≡ word_by (λ c w. is_clean c (reference_verdict c w)) x o ts
+ref_at : (x : Scope) (o : Option TokenAndSpan) (ts : List TokenAndSpan) → at_token (may_be_reference x.context) o ≡ true → word_by may_refer x o ts ≡ word_by (λ c w. is_clean c (reference_verdict c w)) x o ts
 ref_at x None ts h = cc
 ref_at x (Some t) ts h = ref_word x.context t.token t.span ts h
 
-pub ref_same : (x : Scope) (ts : List TokenAndSpan) → at_token (is_identifier x.context) (first ts) ≡ true → word ref_ok x ts ≡ word_of reference_verdict x ts
+pub ref_same : (x : Scope) (ts : List TokenAndSpan) → at_token (may_be_reference x.context) (first ts) ≡ true → word may_refer x ts ≡ word_of reference_verdict x ts
 unfolding word
 ref_same x ts h = ref_at x (first ts) (rest ts) h
 
@@ -335,12 +333,12 @@ module _ {S : Type 0} (model : Model S) (sure : Bool) where
   parses_name judge honest text at b c (Ok t) laws h = heard_name judge honest laws h
   parses_name judge honest text at b c (Err e) laws h = unheard_name judge honest laws h
 
-  -- at a word that is an expression by itself
-  pub parses_ref : {T : Type 0} (view : T → Spelling) (b c : Buffer S) (r : Result T Error) → Laws model → at_token (is_identifier (context model b)) (seen b) ≡ true → Parses model sure view (word_of reference_verdict) b r c →
-      Parses model sure view (word ref_ok) b r c
+  -- at a word that may be a reference
+  pub parses_ref : {T : Type 0} (view : T → Spelling) (b c : Buffer S) (r : Result T Error) → Laws model → at_token (may_be_reference (context model b)) (seen b) ≡ true → Parses model sure view (word_of reference_verdict) b r c →
+      Parses model sure view (word may_refer) b r c
   parses_ref view b c r laws h p =
-      parses_after model sure view (word ref_ok) {b = b} {c = b} c r
-      (on_seen (here_same laws (at_some (is_identifier (context model b)) (current b) h)) (λ x ts same e. ref_same x ts (ap (λ v. at_token (is_identifier v.context) (first ts)) same ∙ ap (at_token (is_identifier (context model b))) e ∙ h))) p
+      parses_after model sure view (word may_refer) {b = b} {c = b} c r
+      (on_seen (here_same laws (at_some (may_be_reference (context model b)) (current b) h)) (λ x ts same e. ref_same x ts (ap (λ v. at_token (may_be_reference v.context) (first ts)) same ∙ ap (at_token (may_be_reference (context model b))) e ∙ h))) p
 
   -- what is read leaves fewer tokens
   pub parses_lower : {T A : Type 0} (view : T → A) (f : Reader A) (b c : Buffer S) (r : Result T Error) → Parses model sure view f b r c → OnOk r (to_come model c < to_come model b)

@@ -1,9 +1,11 @@
 -- What the clean parser reads, a step at a time, as the code goes it.
-use Rattle.std.proofs.Common.{◌≡◌, ℕ, suc, ◌≤◌, ◌<◌, Bool, true, false, not, ◌||◌, ◌&&◌, if◌then◌else◌, List, [], ◌∷◌}
-use Rattle.std.proofs.Common.{Option, Some, None, refl, sym, ap, ◌∙◌, arith}
+use Rattle.std.proofs.Common.{◌≡◌, ℕ, suc, ◌≤◌, ◌<◌, Bool, true, false, not, codes, ◌||◌, ◌&&◌, if◌then◌else◌, List}
+use Rattle.std.proofs.Common.{[], ◌∷◌, Option, Some, None, refl, sym, ap, ◌∙◌, arith}
 use Rattle.std.specs.Prelude.{nat_le}
 use Rattle.std.proofs.lemmas.Bool.{le-leb, lt-leb}
 use Rattle.swc_context.specs.Operators.{precedence_of}
+use Rattle.swc_context.specs.Texts.{is_text}
+use Rattle.swc_context.specs.declared.atom.Atom.{Atom}
 use Rattle.swc_context.specs.Words.{word_text}
 use Rattle.swc_context.specs.declared.context.Context.{Context}
 use Rattle.swc_context.specs.declared.operator.BinaryOp.{BinaryOp}
@@ -20,20 +22,21 @@ use Rattle.swc_input.specs.Kinds.{at_token, is_hash}
 use Rattle.swc_ast.specs.Tree.{Tree, span_of}
 use Rattle.swc_ast.specs.Trees.{to, ident_e, this_e, fn_e, class_e, private_e, unary_e, bin_e, is_logical}
 use Rattle.swc_ast.specs.Trees.{is_nullish_op, nullish_ok, exp_ok, delete_ok, min_right, left_ok}
-use Rattle.swc_grammar.specs.Scope.{Scope}
-use Rattle.swc_grammar.specs.Rule.{gives, take, check, read, given, ◌>>=◌ as ◌▸◌}
+use Rattle.swc_grammar.specs.Scope.{Scope, inner}
+use Rattle.swc_grammar.specs.Rule.{gives, take, check, peek, peek_two, read, given, sees, sees_two, ◌>>=◌ as ◌▸◌}
+use Rattle.swc_grammar.specs.Arrows.{async_name, goes_on_async, of_arrow}
 use Rattle.swc_bodies.specs.Readings.{Hook, LawfulHook, begins, begins_function, is_class, is_function, is_async}
 use Rattle.swc_bodies.specs.Readings.{is_brace, is_function_here}
 use Rattle.swc_grammar.specs.Symbols.{Assign, Level, Unary, Primary, Literal, Template, Side, function, class}
 use Rattle.swc_grammar.specs.Tokens.{is_backquote, is_slash, is_regex, begins_regex, with_in, is_reference}
 use Rattle.swc_grammar.specs.Tokens.{is_strict_word, ref_ok, is_put_off, prefix_of, is_lparen, is_this, is_lbracket}
-use Rattle.swc_grammar.specs.Tokens.{is_update, is_await, is_yield}
+use Rattle.swc_grammar.specs.Tokens.{is_update, is_await, tk}
 use Rattle.swc_grammar.specs.Names.{Spelling, spelling, may_refer, may_name, spelled}
 use Rattle.swc_grammar.specs.Parts.{reference, any_name, lit_of, with_place, prefix_here}
 use Rattle.swc_grammar.specs.Grammar.{ident-expr, this-expr, primary-literal, fn-expr, class-expr, paren-expr}
-use Rattle.swc_grammar.specs.Grammar.{unary-op, private-expr, primary-template}
+use Rattle.swc_grammar.specs.Grammar.{unary-op, private-expr, primary-template, async-ident}
 use Rattle.swc_grammar.specs.Clean.{Out, and_then, hear_then, first, sym as at, climb, plan, exec, is_lit}
-use Rattle.swc_grammar.specs.Clean.{is_identifier, no_error, operator_at, prefix_at, pick, chosen, step, begins_yield}
+use Rattle.swc_grammar.specs.Clean.{is_identifier, no_error, operator_at, prefix_at, pick, chosen, step}
 use Rattle.swc_grammar.specs.Clean.{primary, bin_op as bin_op_plan, turn as turn_plan, turned as turned_plan, run}
 use Rattle.swc_grammar.specs.Words.{◌>>=◌, rest, one, word}
 use Rattle.swc_grammar.proofs.Answers.{both}
@@ -44,8 +47,10 @@ use Rattle.swc_grammar.proofs.Levels.{right-low}
 use Rattle.swc_grammar.proofs.Only.{backquote-is, hash-is, lparen-is, this-is}
 use Rattle.swc_grammar.proofs.Rules.{exec-bind, run_picked}
 use Rattle.swc_steps.proofs.Lists.{calls}
+use Rattle.swc_steps.proofs.Steps.Inner.{inner_is}
 use Rattle.swc_steps.specs.Parsing.{is_strict, is_strict_in, begins_async, seen_of}
-use Rattle.swc_steps.specs.Readers.{reading, by_production, inside, private_expr_tail, unary_op_tail, unary_op_node}
+use Rattle.swc_steps.specs.Readers.{reading, by_production, by_production_apart, named_expr, inside}
+use Rattle.swc_steps.specs.Readers.{private_expr_tail, unary_op_tail, unary_op_node}
 use Rattle.swc_steps.specs.Readers.{unary_op, turn, bin_op, bin_op_node, turned, go_on}
 
 error_no : (t : Token) → no_error t ≡ false → is_lit t ≡ false
@@ -108,18 +113,26 @@ strict_in_module true (written.Keyword keyword.Await) h = refl
 strict_in_module true w h = h
 strict_in_module false w h = cc
 
+and_off : (a b : Bool) → b ≡ false → (a && b) ≡ false
+and_off true b h = h
+and_off false b h = refl
+
+strict_off : (c : Context) (w : Word) → c.module && is_strict_in c.module w ≡ true → ref_ok c w ≡ false
+strict_off c w h = rw (strict_in_module c.module w h) refl
+
 strict_not : (c : Context) (t : Token) (s : Span) → c.module && is_strict c.module t ≡ true
-    → spelled (ref_ok c) t s ≡ None
-strict_not c (token.Word w) s h = rw (strict_in_module c.module w h) refl
+    → spelled (may_refer c) t s ≡ None
+strict_not c (token.Word w) s h =
+    ap (λ b. if b then Some (spelling (word_text w) s) else None)
+    (and_off (is_reference c w) (ref_ok c w) (strict_off c w h))
 strict_not c t s h = refl
 
-module _ {F C K : Type 0} where
-  pub name_strict : (x : Scope) (ts : List TokenAndSpan)
-      → x.context.module && at_token (is_strict x.context.module) (first ts) ≡ true
-      → (word ref_ok x ts >>= (λ p. Some (ident_e {F = F} {C = C} {K = K} p.0.at p.0.text, p.1))) ≡ None
-  unfolding word
-  name_strict x [] h = refl
-  name_strict x (t ∷ ts) h = rw (strict_not x.context t.token t.span h) refl
+pub name_strict : (x : Scope) (ts : List TokenAndSpan)
+    → x.context.module && at_token (is_strict x.context.module) (first ts) ≡ true
+    → word may_refer x ts ≡ None
+unfolding word
+name_strict x [] h = refl
+name_strict x (t ∷ ts) h = rw (strict_not x.context t.token t.span h) refl
 
 -- neither a slash nor a whole regular expression
 neither : (a b : Bool) → (a || b) ≡ false → (a ≡ false) × (b ≡ false)
@@ -130,6 +143,11 @@ no_regex : (o : Option TokenAndSpan) → at_token begins_regex o ≡ false
     → (at_token is_slash o ≡ false) × (at_token is_regex o ≡ false)
 no_regex None h = (refl, refl)
 no_regex (Some t) h = neither (is_slash t.token) (is_regex t.token) h
+
+pub named_splits : {F C K : Type 0} (x : Scope) (ts : List TokenAndSpan)
+    → named_expr {F = F} {C = C} {K = K} x ts ≡ (word may_refer x ts >>= (λ p. Some (ident_e p.0.at p.0.text, p.1)))
+unfolding named_expr
+named_splits x ts = refl
 
 module _ {F C K : Type 0} (hook : Hook F C K) where
   -- what a call read, and what reads as what is run behind it does
@@ -155,19 +173,18 @@ module _ {F C K : Type 0} (hook : Hook F C K) where
   ident_expr_picked x [] h = absurd cc
   ident_expr_picked x (t ∷ ts) h = run_picked hook Primary x (t ∷ ts) ident-expr (primary x (t ∷ ts)) refl (rw h refl)
 
-  pub lit_picked : (x : Scope) (ts : List TokenAndSpan) → at_token is_lit (first ts) ≡ true
+  pub lit_picked : (x : Scope) (ts : List TokenAndSpan) → x.head ≡ false → at_token is_lit (first ts) ≡ true
       → run hook (at Primary) x ts ≡ run hook (at Literal) x ts
-  lit_picked x ts h =
+  lit_picked x ts n h =
       run_picked hook Primary x ts primary-literal (primary x ts) refl (lit-picks hook x ts h)
-      ∙ last hook (Some 8) (at Literal) x ts refl
+      ∙ last hook (Some 8) (at Literal) (inner x) ts refl
+      ∙ ap (λ v. run hook (at Literal) v ts) (inner_is x n)
 
   pub paren_expr_picked : (x : Scope) (ts : List TokenAndSpan) → at_token is_lparen (first ts) ≡ true
-      → run hook (at Primary) x ts ≡ by_production hook (λ c. paren-expr) x ts
-  unfolding by_production reading
+      → run hook (at Primary) x ts ≡ by_production_apart hook (λ c. paren-expr) x ts
+  unfolding by_production_apart reading
   paren_expr_picked x [] h = absurd cc
-  paren_expr_picked x (t ∷ ts) h =
-      run_picked hook Primary x (t ∷ ts) paren-expr (primary x (t ∷ ts)) refl
-      (rw (lparen-is t.token h) refl)
+  paren_expr_picked x (t ∷ ts) h = knot hook (at Primary) x (t ∷ ts) ∙ rw (lparen-is t.token h) refl
 
   pub private_expr_picked : (x : Scope) (ts : List TokenAndSpan) → at_token is_hash (first ts) ≡ true
       → run hook (at Primary) x ts ≡ by_production hook (λ c. private-expr) x ts
@@ -185,13 +202,14 @@ module _ {F C K : Type 0} (hook : Hook F C K) where
       run_picked hook Primary x (t ∷ ts) this-expr (primary x (t ∷ ts)) refl
       (rw (this-is t.token h) refl)
 
-  pub template_picked : (x : Scope) (ts : List TokenAndSpan) → at_token is_backquote (first ts) ≡ true
-      → run hook (at Primary) x ts ≡ run hook (at (Template false)) x ts
-  template_picked x [] h = absurd cc
-  template_picked x (t ∷ ts) h =
+  pub template_picked : (x : Scope) (ts : List TokenAndSpan) → x.head ≡ false
+      → at_token is_backquote (first ts) ≡ true → run hook (at Primary) x ts ≡ run hook (at (Template false)) x ts
+  template_picked x [] n h = absurd cc
+  template_picked x (t ∷ ts) n h =
       run_picked hook Primary x (t ∷ ts) primary-template (primary x (t ∷ ts)) refl
       (rw (backquote-is t.token h) refl)
-      ∙ last hook (Some 8) (at (Template false)) x (t ∷ ts) refl
+      ∙ last hook (Some 8) (at (Template false)) (inner x) (t ∷ ts) refl
+      ∙ ap (λ v. run hook (at (Template false)) v (t ∷ ts)) (inner_is x n)
 
   pub fn_expr_picked : (x : Scope) (ts : List TokenAndSpan) → begins_function ts ≡ true
       → run hook (at Primary) x ts ≡ by_production hook (λ c. fn-expr) x ts
@@ -207,14 +225,14 @@ module _ {F C K : Type 0} (hook : Hook F C K) where
   pub primary_ends : (x : Scope) (ts : List TokenAndSpan) → at_token (is_identifier x.context) (first ts) ≡ false
       → at_token is_lit (first ts) ≡ false → at_token is_lparen (first ts) ≡ false
       → at_token is_hash (first ts) ≡ false → at_token is_this (first ts) ≡ false
-      → at_token is_lbracket (first ts) ≡ false → begins_function ts ≡ false → at_token is_class (first ts) ≡ false
-      → at_token is_brace (first ts) ≡ false → at_token is_backquote (first ts) ≡ false
-      → at_token begins_regex (first ts) ≡ false
+      → at_token is_lbracket (first ts) ≡ false → begins_function ts ≡ false → at_token is_async (first ts) ≡ false
+      → at_token is_class (first ts) ≡ false → at_token is_brace (first ts) ≡ false
+      → at_token is_backquote (first ts) ≡ false → at_token begins_regex (first ts) ≡ false
       → run hook (at Primary) x ts ≡ None
-  primary_ends x ts h i j k l m n o p q r =
+  primary_ends x ts h i j k l m n a o p q r =
       let (slash, whole) = no_regex (first ts) r in
       knot hook (at Primary) x ts
-      ∙ rw (h, i, j, k, l, m, n, begins_first is_class ts ∙ o, p, q, slash, whole) refl
+      ∙ rw (h, i, j, k, l, m, n, a, begins_first is_class ts ∙ o, p, q, slash, whole) refl
 
   -- ---- identifier references (13.1)
 
@@ -229,20 +247,79 @@ module _ {F C K : Type 0} (hook : Hook F C K) where
 
   -- an identifier that is an expression passes the tests that are left
   ident_expr_spelled : (c : Scope) (t : Token) (s : Span) → is_identifier c.context t ≡ true
-      → reference c t s ≡ spelled (ref_ok c.context) t s
+      → reference c t s ≡ spelled (may_refer c.context) t s
   ident_expr_spelled c (token.Word w) s h =
       let (a, b) = both (is_reference c.context w) (not (is_put_off w)) h in
-      same_test (may_refer c.context w && not (is_put_off w)) (ref_ok c.context w) (spelling (word_text w) s)
-      (rw (a, b) (and_true (ref_ok c.context w)))
+      same_test (may_refer c.context w && not (is_put_off w)) (may_refer c.context w) (spelling (word_text w) s)
+      (rw b (and_true (may_refer c.context w)))
   ident_expr_spelled c t s h = absurd cc
 
-  pub ident_expr_named : (x : Scope) (ts : List TokenAndSpan) → at_token (is_identifier x.context) (first ts) ≡ true
-      → by_production hook (λ c. ident-expr) x ts ≡ (word ref_ok x ts >>= (λ p. Some (ident_e p.0.at p.0.text, p.1)))
-  unfolding by_production reading word
+  ident_expr_named : (x : Scope) (ts : List TokenAndSpan) → at_token (is_identifier x.context) (first ts) ≡ true
+      → by_production hook (λ c. ident-expr) x ts ≡ named_expr x ts
+  unfolding by_production reading named_expr word
   ident_expr_named x [] h = absurd cc
   ident_expr_named x (t ∷ ts) h =
       given_one (reference x t.token t.span) (λ n. ident_e n.at n.text) ts
       ∙ ap (λ o. one o ts >>= (λ p. Some (ident_e p.0.at p.0.text, p.1))) (ident_expr_spelled x t.token t.span h)
+
+  pub name_picked : (x : Scope) (ts : List TokenAndSpan) → at_token (is_identifier x.context) (first ts) ≡ true
+      → run hook (at Primary) x ts ≡ named_expr x ts
+  name_picked x ts h = ident_expr_picked x ts h ∙ ident_expr_named x ts h
+
+  -- `async`, where no function follows on its line, and no assignment expression begins
+  async_picked : (x : Scope) (w : Atom) (b : Bool) (s : Span) (ts : List TokenAndSpan) → x.head ≡ false
+      → is_text w (codes "async") ≡ true → is_function_here ts ≡ false
+      → primary {F = F} {C = C} {K = K} x (tk (token.Word (written.Ident w)) b s ∷ ts) ≡ pick async-ident
+  async_picked x w b s ts n h k = rw (h, k, n, and_off (is_reference x.context (written.Ident w)) false refl) refl
+
+  async_spelled : (c : Scope) (w : Atom) (s : Span) → is_text w (codes "async") ≡ true
+      → async_name c (token.Word (written.Ident w)) s ≡ spelled (may_refer c.context) (token.Word (written.Ident w)) s
+  async_spelled c w s h =
+      same_test (may_refer c.context (written.Ident w) && is_put_off (written.Ident w))
+      (may_refer c.context (written.Ident w)) (spelling (word_text (written.Ident w)) s)
+      (rw h (and_true (may_refer c.context (written.Ident w))))
+
+  calm_word : (a b : Bool) → (a && not b) ≡ false → (not b && (a || false)) ≡ false
+  calm_word true true h = refl
+  calm_word true false h = absurd cc
+  calm_word false true h = refl
+  calm_word false false h = refl
+
+  calm_async : (x : Scope) (ts : List TokenAndSpan) → x.head ≡ false → is_function_here ts ≡ false
+      → sees (goes_on_async x) ts ≡ false
+  calm_async x [] n k = refl
+  calm_async x (t ∷ ts) n k = rw n (calm_word (is_function t.token) t.had_line_break k)
+
+  calm_of : (x : Scope) (ts : List TokenAndSpan) → x.head ≡ false → sees_two (of_arrow x) ts ≡ false
+  calm_of x [] n = refl
+  calm_of x (t ∷ []) n = refl
+  calm_of x (t ∷ (u ∷ ts)) n = rw n refl
+
+  given_async : (o : Option Spelling) (x : Scope) (us : List TokenAndSpan) → sees (goes_on_async x) us ≡ false
+      → sees_two (of_arrow x) us ≡ false
+      → exec hook (run hook) None (plan (given o ▸
+      (λ n. peek (goes_on_async x) (peek_two (of_arrow x) (gives (ident_e {F = F} {C = C} {K = K} n.at n.text)))))) us
+      ≡ (one o us >>= (λ p. Some (ident_e p.0.at p.0.text, p.1)))
+  given_async None x us h k = refl
+  given_async (Some n) x us h k = rw (h, k) refl
+
+  async_token : (x : Scope) (t : Token) (b : Bool) (s : Span) (ts : List TokenAndSpan) → x.head ≡ false
+      → is_async t ≡ true → is_function_here ts ≡ false
+      → run hook (at Primary) x (tk t b s ∷ ts) ≡ named_expr x (tk t b s ∷ ts)
+  unfolding named_expr word
+  async_token x (token.Word (written.Ident w)) b s ts n h k =
+      let t = token.Word (written.Ident w) in
+      run_picked hook Primary x (tk t b s ∷ ts) async-ident (primary x (tk t b s ∷ ts)) refl
+      (async_picked x w b s ts n h k)
+      ∙ given_async (async_name x t s) x ts (calm_async x ts n k) (calm_of x ts n)
+      ∙ ap (λ o. one o ts >>= (λ p. Some (ident_e p.0.at p.0.text, p.1))) (async_spelled x w s h)
+  async_token x t b s ts n h k = absurd cc
+
+  pub async_name_picked : (x : Scope) (ts : List TokenAndSpan) → x.head ≡ false → at_token is_async (first ts) ≡ true
+      → begins_async ts ≡ false → run hook (at Primary) x ts ≡ named_expr x ts
+  async_name_picked x [] n h k = absurd cc
+  async_name_picked x (t ∷ ts) n h k =
+      async_token x t.token t.had_line_break t.span ts n h (ap (λ b. b && is_function_here ts) (sym h) ∙ k)
 
   -- ---- `this` (13.2.1)
 
@@ -333,7 +410,8 @@ module _ {F C K : Type 0} (hook : Hook F C K) where
   unary_op_picked op x (t ∷ ts) h =
       run_picked hook Unary x (t ∷ ts) unary-op (pick unary-op) (prefix_chosen op x t ts h) refl
       ∙ given_is (prefix_here t.token t.span) (op, t.span)
-      (λ p. read Unary x (λ e. check (delete_ok x.context p.0 e) (gives (unary_e (to p.1 (span_of e)) p.0 e)))) ts
+      (λ p. read Unary (inner x) (λ e. check (delete_ok x.context p.0 e)
+      (gives (unary_e (to p.1 (span_of e)) p.0 e)))) ts
       (ap (λ o. with_place o t.span) h)
 
   pub unary_op_opens : (op : UnaryOp) (t : TokenAndSpan) (x : Scope) (ts : List TokenAndSpan)
@@ -342,9 +420,9 @@ module _ {F C K : Type 0} (hook : Hook F C K) where
   unary_op_opens op t x ts = refl
 
   pub unary_op_splits : (s : Span) (op : UnaryOp) (x : Scope) (ts : List TokenAndSpan)
-      → unary_op_tail hook s op x ts ≡ (run hook (at Unary) x ts >>= (λ p. unary_op_node hook s op x p.0 p.1))
+      → unary_op_tail hook s op x ts ≡ (run hook (at Unary) (inner x) ts >>= (λ p. unary_op_node hook s op x p.0 p.1))
   unfolding unary_op_tail unary_op_node reading
-  unary_op_splits s op x ts = calls (run hook (at Unary) x ts) _
+  unary_op_splits s op x ts = calls (run hook (at Unary) (inner x) ts) _
 
   pub unary_op_well : (s : Span) (op : UnaryOp) (x : Scope) (t : Tree F C K) (ts : List TokenAndSpan)
       → delete_ok x.context op t ≡ true
@@ -361,16 +439,16 @@ module _ {F C K : Type 0} (hook : Hook F C K) where
   -- ---- binary operators (13.6 to 13.13)
 
   pub operand_splits : (m : ℕ) (x : Scope) (ts : List TokenAndSpan) → m ≤ 10
-      → run hook (at (Level (suc m))) x ts ≡ (run hook (at Unary) x ts >>= (λ p. run hook (climb p.0 m) x p.1))
+      → run hook (at (Level (suc m))) x ts ≡ (run hook (at Unary) x ts >>= (λ p. run hook (climb p.0 m) (inner x) p.1))
   operand_splits m x ts le =
       knot hook (at (Level (suc m))) x ts ∙ rw (le-leb m 10 le)
-      (then_calls (run hook (at Unary) x ts) _ (λ e us. run hook (climb e m) x us)
-      (λ e us. last hook (Some 12) (climb e m) x us refl))
+      (then_calls (run hook (at Unary) x ts) _ (λ e us. run hook (climb e m) (inner x) us)
+      (λ e us. last hook (Some 12) (climb e m) (inner x) us refl))
 
   -- what stands right of an operator
   pub right_splits : (op : BinaryOp) (m : ℕ) (x : Scope) (ts : List TokenAndSpan) → m ≡ min_right op
       → run hook (at (Level (suc (min_right op)))) x ts
-      ≡ (run hook (at Unary) x ts >>= (λ p. run hook (climb p.0 m) x p.1))
+      ≡ (run hook (at Unary) x ts >>= (λ p. run hook (climb p.0 m) (inner x) p.1))
   right_splits op m x ts e =
       let low = right-low op in
       ap (λ v. run hook (at (Level (suc v))) x ts) (sym e) ∙ operand_splits m x ts (let l = low.1 in omega arith)
@@ -431,9 +509,9 @@ module _ {F C K : Type 0} (hook : Hook F C K) where
   pub bin_op_splits : (op : BinaryOp) (l : Tree F C K) (m : ℕ) (x : Scope) (ts : List TokenAndSpan)
       → exp_ok op l ≡ true
       → bin_op hook op l m x ts
-      ≡ (run hook (at (Level (suc (min_right op)))) x ts >>= (λ p. bin_op_node hook op l m p.0 p.1))
+      ≡ (run hook (at (Level (suc (min_right op)))) (inner x) ts >>= (λ p. bin_op_node hook op l m p.0 p.1))
   unfolding bin_op bin_op_node reading
-  bin_op_splits op l m x ts h = rw h (calls (run hook (at (Level (suc (min_right op)))) x ts) _)
+  bin_op_splits op l m x ts h = rw h (calls (run hook (at (Level (suc (min_right op)))) (inner x) ts) _)
 
   pub bin_op_ends : (op : BinaryOp) (l : Tree F C K) (m : ℕ) (x : Scope) (ts : List TokenAndSpan)
       → exp_ok op l ≡ false
@@ -466,18 +544,15 @@ module _ {F C K : Type 0} (hook : Hook F C K) where
 
   -- ---- assignment expressions (13.15)
 
-  yield_unfit : (x : Scope) (ts : List TokenAndSpan) → at_token no_error (first ts) ≡ false
-      → begins_yield x ts ≡ false
-  yield_unfit x [] h = refl
-  yield_unfit x (t ∷ ts) h = by_token t.token h
-    where
-      by_token : (u : Token) → no_error u ≡ false → (is_yield u && x.context.in_generator) ≡ false
-      by_token (token.Error e) h = refl
-      by_token u h = absurd cc
+  error_token : (x : Scope) (t : Token) (b : Bool) (s : Span) (ts : List TokenAndSpan) → no_error t ≡ false
+      → run hook (at Assign) x (tk t b s ∷ ts) ≡ None
+  error_token x (token.Error e) b s ts h = knot hook (at Assign) x (tk (token.Error e) b s ∷ ts)
+  error_token x t b s ts h = absurd cc
 
   pub assign_bad : (x : Scope) (ts : List TokenAndSpan) → at_token no_error (first ts) ≡ false
       → run hook (at Assign) x ts ≡ None
-  assign_bad x ts h = knot hook (at Assign) x ts ∙ rw (yield_unfit x ts h, h) refl
+  assign_bad x [] h = knot hook (at Assign) x []
+  assign_bad x (t ∷ ts) h = error_token x t.token t.had_line_break t.span ts h
 
   pub inside_assign : (x : Scope) (ts : List TokenAndSpan) → inside hook x ts ≡ run hook (at Assign) (with_in x) ts
   unfolding inside

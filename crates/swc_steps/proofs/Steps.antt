@@ -4,6 +4,7 @@ pub mod Calls
 pub mod Consumed
 pub mod Contexts
 pub mod Faults
+pub mod Inner
 pub mod Looks
 pub mod Refusals
 pub mod Results
@@ -34,3 +35,5 @@ pub use Rattle.swc_steps.proofs.Steps.Results.{consumes_then, continues_of, pars
 pub use Rattle.swc_steps.proofs.Steps.Results.{node_continues, parses_call, parses_call_read, tries_then, eats_acts}
 pub use Rattle.swc_steps.proofs.Steps.Results.{eats_none, eats_some, eats_on}
 pub use Rattle.swc_steps.proofs.Steps.Contexts.{moved, within, on_within, on_aside, parses_within, parses_aside}
+pub use Rattle.swc_steps.proofs.Steps.Inner.{inner_of, no_head, inner_is, on_inner, on_to_inner, on_from_inner}
+pub use Rattle.swc_steps.proofs.Steps.Inner.{heard_inner, unheard_inner, parses_inner, continues_inner}

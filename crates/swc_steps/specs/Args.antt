@@ -10,7 +10,7 @@ use Rattle.swc_bodies.specs.Readings.{Hook}
 use Rattle.swc_grammar.specs.Scope.{Scope}
 use Rattle.swc_grammar.specs.Symbols.{Args, Item}
 use Rattle.swc_grammar.specs.Tokens.{with_in, is_rparen, import_comma_ok}
-use Rattle.swc_grammar.specs.Clean.{Out, first, sym, run}
+use Rattle.swc_grammar.specs.Clean.{Out, first, sym, run, no_arrow}
 use Rattle.swc_grammar.specs.Names.{Spelling, spelling, may_name}
 use Rattle.swc_grammar.specs.Words.{◌>>=◌, rest, begins_at, word}
 use Rattle.swc_steps.specs.Lists.{separated, with_comma}
@@ -42,6 +42,10 @@ comma_behind i o c ts = Some (o, ts)
 unfoldable pub separated_args : Bool → Scope → List TokenAndSpan → Out (Option Span)
 separated_args i c ts = separated is_rparen c ts >>= (λ p. comma_behind i p.0 c p.1)
 
+-- no `=>` comes next, which would be read as that of an arrow function
+unfoldable pub arrow_free : Scope → List TokenAndSpan → Out (Unit {0})
+arrow_free c ts = if no_arrow ts then Some (tt, ts) else None
+
 module _ {F C K : Type 0} where
   -- a list in parentheses (13.2.9), which begins at s: what stands in them
   abbrev pub paren_of : Span → Tree F C K → List TokenAndSpan → Out (Tree F C K)
@@ -52,6 +56,10 @@ module _ {F C K : Type 0} where
   abbrev pub paren_from : BytePos → BytePos → Span → Tree F C K → List TokenAndSpan → Out (Tree F C K)
   paren_from lo hi s es ts =
       if paren_ok es then Some (paren_e (to s (span_of es)) (seq_between lo hi (held_exprs (items_of es))), ts) else None
+
+  -- the same where no `=>` comes next
+  abbrev pub paren_closed : (List TokenAndSpan → Out (Tree F C K)) → List TokenAndSpan → Out (Tree F C K)
+  paren_closed reads ts = if no_arrow ts then reads ts else None
 
 module _ {F C K : Type 0} (hook : Hook F C K) where
   -- ---- arguments (13.3.8)
@@ -68,4 +76,4 @@ module _ {F C K : Type 0} (hook : Hook F C K) where
 
   -- behind the parenthesis at s
   unfoldable pub paren_expr_tail : Span → Scope → List TokenAndSpan → Out (Tree F C K)
-  paren_expr_tail s c ts = args_inside false c ts >>= (λ p. paren_of s p.0 p.1)
+  paren_expr_tail s c ts = args_inside false c ts >>= (λ p. paren_closed (paren_of s p.0) p.1)

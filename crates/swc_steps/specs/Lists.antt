@@ -11,6 +11,7 @@ use Rattle.swc_ast.specs.Tree.{Tree, Trees, nil, cons, span_of}
 use Rattle.swc_ast.specs.Trees.{to, array_e, hole_e, listed, items_of, comma_of, behind_comma, trees_append}
 use Rattle.swc_bodies.specs.Readings.{Hook, is_async, is_brace}
 use Rattle.swc_grammar.specs.Scope.{Scope}
+use Rattle.swc_grammar.specs.Arrows.{is_arrow}
 use Rattle.swc_grammar.specs.Symbols.{Elements, Item}
 use Rattle.swc_grammar.specs.Tokens.{is_dot, is_target, is_super, is_import, is_meta, is_source, with_in, is_comma}
 use Rattle.swc_grammar.specs.Tokens.{is_dots, is_lparen, is_rparen, is_lbracket, is_rbracket, is_rbrace, is_equals}
@@ -53,6 +54,7 @@ is_sign_token sign.Meta = is_meta
 is_sign_token sign.Source = is_source
 is_sign_token sign.BackQuote = is_backquote
 is_sign_token sign.DollarLBrace = is_dollar_brace
+is_sign_token sign.Arrow = is_arrow
 
 -- a token that passes a test is taken, if it stands first
 abbrev pub eaten_by : Bool → List TokenAndSpan → Out (Option Span)

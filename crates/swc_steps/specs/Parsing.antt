@@ -103,9 +103,10 @@ seen_of (Some t) = Some (plain t)
 abbrev pub seen : {S : Type 0} → Buffer S → Option TokenAndSpan
 seen b = seen_of b.cur
 
--- where code stands, by its context and the syntax
+-- where code stands, by its context and the syntax: no assignment expression is known to begin there, since the code
+-- looks at the tokens with which one begins before it reads on
 abbrev pub scope_of : Context → Syntax → Scope
-scope_of c x = record { context = c; syntax = x }
+scope_of c x = record { context = c; syntax = x; head = false }
 
 -- what a hook reads, of the context alone
 abbrev pub by_hook : {V : Type 0} → Reading V → Scope → List TokenAndSpan → Out V

@@ -6,17 +6,19 @@ use Rattle.swc_context.specs.declared.operator.UnaryOp.{UnaryOp}
 use Rattle.swc_context.specs.declared.span.Span.{Span}
 use Rattle.swc_input.specs.declared.token.TokenAndSpan.{TokenAndSpan}
 use Rattle.swc_ast.specs.Tree.{Tree, span_of, node}
-use Rattle.swc_ast.specs.Trees.{to, private_e, unary_e, bin_e, delete_ok, nullish_ok}
-use Rattle.swc_grammar.specs.Scope.{Scope}
+use Rattle.swc_ast.specs.Trees.{to, ident_e, private_e, unary_e, bin_e, delete_ok, nullish_ok}
+use Rattle.swc_grammar.specs.Scope.{Scope, inner}
 use Rattle.swc_grammar.specs.Rule.{gives, check, ◌>>=◌, ◌>>◌, symbol, one, must}
 use Rattle.swc_bodies.specs.Readings.{Hook}
 use Rattle.swc_grammar.specs.Symbols.{Symbol, Expr, Assign, Unary, Answer, Side}
 use Rattle.swc_grammar.specs.Tokens.{with_in}
 use Rattle.swc_grammar.specs.Parts.{any_name}
 use Rattle.swc_grammar.specs.Grammar.{Production}
-use Rattle.swc_grammar.specs.Clean.{Out, first, sym, climb, Plan, plan, exec, operator_at, run, bin_op as bin_op_plan}
+use Rattle.swc_grammar.specs.Clean.{Out, first, sym, climb, Plan, plan, exec, operator_at, run, apart}
+use Rattle.swc_grammar.specs.Clean.{bin_op as bin_op_plan}
 use Rattle.swc_grammar.specs.Clean.{turn as turn_plan, turned as turned_plan}
-use Rattle.swc_grammar.specs.Words.{rest}
+use Rattle.swc_grammar.specs.Names.{may_refer}
+use Rattle.swc_grammar.specs.Words.{rest, word, ◌>>=◌ as ◌▸◌}
 use Rattle.swc_context.specs.Spans.{from_to}
 use Rattle.swc_context.specs.declared.span.BytePos.{BytePos}
 
@@ -33,12 +35,17 @@ module _ {F C K : Type 0} (hook : Hook F C K) where
       → Scope → List TokenAndSpan → Out (Answer F C K s)
   by_production {r = r} p c ts = reading (plan (r c)) ts
 
+  -- the same, where no `=>` may come next
+  unfoldable pub by_production_apart : {s : Symbol} {r : Scope → Side F C K s} → ((c : Scope) → Production s c (r c))
+      → Scope → List TokenAndSpan → Out (Answer F C K s)
+  by_production_apart {r = r} p c ts = reading (plan (r c) >>= apart) ts
+
   -- ---- prefix operators (13.5)
 
   -- behind the prefix operator at s, and behind its operand
   unfoldable pub unary_op_tail : Span → UnaryOp → Scope → List TokenAndSpan → Out (Tree F C K)
   unary_op_tail s op c ts = reading (plan (do
-    e ← symbol Unary c
+    e ← symbol Unary (inner c)
     must (delete_ok c.context op e)
     gives (unary_e (to s (span_of e)) op e))) ts
 
@@ -98,6 +105,10 @@ module _ {F C K : Type 0} (hook : Hook F C K) where
   whole_inside c ts = run hook (sym Expr) (with_in c) ts
 
 module _ {F C K : Type 0} where
+  -- an identifier reference, as an expression
+  unfoldable pub named_expr : Scope → List TokenAndSpan → Out (Tree F C K)
+  named_expr c ts = word may_refer c ts ▸ (λ p. Some (ident_e p.0.at p.0.text, p.1))
+
   -- the same node, but where it begins, if that is told
   abbrev pub begun_if : Bool → BytePos → Tree F C K → Tree F C K
   begun_if true lo (node k s ts) = node k (from_to lo s.hi) ts

@@ -8,9 +8,9 @@ ghost use Rattle.swc_input.specs.Buffer.{Still, Lives};
 ghost use Rattle.swc_input.specs.Recording.{no_memory};
 ghost use Rattle.swc_input.specs.Kinds.{at_token};
 ghost use Rattle.swc_bodies.specs.Readings.{at_function, is_async, is_function, is_function_here};
-ghost use Rattle.swc_grammar.specs.Tokens.{ref_ok};
-ghost use Rattle.swc_grammar.specs.Clean.{no_error, is_identifier};
-ghost use Rattle.swc_grammar.specs.Names.{may_name};
+ghost use Rattle.swc_grammar.specs.Tokens.{may_be_reference};
+ghost use Rattle.swc_grammar.specs.Clean.{no_error};
+ghost use Rattle.swc_grammar.specs.Names.{may_name, may_refer};
 ghost use Rattle.swc_grammar.specs.Words.{rest, word};
 ghost use Rattle.swc_steps.specs.Parsing.{is_memory, ident_spelling, name_spelling, private_spelling, seen, recorded};
 ghost use Rattle.swc_steps.specs.Parsing.{Loud, Moves, Refuses, Tries, ParsesAlone, ContinuesAlone, Eats, Looks};
@@ -249,8 +249,8 @@ pub fn set_ctx<I: Tokens>(input: &mut Buffer<I>, ctx: Context)
 
 /// An identifier reference, at a word that is one.
 pub fn parse_ident_ref<I: Tokens>(alloc: Global, input: &mut Buffer<I>) -> PResult<Ident>
-    requires { at_token (is_identifier (context I.model input.old)) (seen input.old) ≡ true }
-    ensures parses { ParsesAlone I.model ident_spelling (word ref_ok) input.old result input.new }
+    requires { at_token (may_be_reference (context I.model input.old)) (seen input.old) ≡ true }
+    ensures parses { ParsesAlone I.model ident_spelling (word may_refer) input.old result input.new }
     ensures falls { OnOk result (to_come I.model input.new < to_come I.model input.old) }
 {
     ident::parse_ident_ref(alloc, input)
@@ -358,6 +358,8 @@ pub enum Sign {
     BackQuote,
     /// `${`
     DollarLBrace,
+    /// `=>`
+    Arrow,
 }
 
 /// Whether the current token is the sign.
@@ -401,6 +403,7 @@ fn spells(sign: Sign, token: &Token) -> bool
         Sign::Source => is_name(token, "source"),
         Sign::BackQuote => matches!(token, Token::BackQuote),
         Sign::DollarLBrace => matches!(token, Token::DollarLBrace),
+        Sign::Arrow => matches!(token, Token::Arrow),
     }
 }
 
@@ -457,6 +460,7 @@ fn wanted(sign: Sign) -> Wanted {
         Sign::Source => Wanted::Source,
         Sign::BackQuote => Wanted::BackQuote,
         Sign::DollarLBrace => Wanted::DollarLBrace,
+        Sign::Arrow => Wanted::Arrow,
     }
 }
 

@@ -7,33 +7,42 @@ use Rattle.std.proofs.lemmas.Bool.{le-leb}
 use Rattle.std.specs.Result.{IsErr}
 use Rattle.std.specs.declared.alloc.AllocError.{AllocError}
 use Rattle.std.specs.declared.alloc.Global.{Global}
+use Rattle.std.specs.declared.boxed.Box.{Box}
 use Rattle.std.specs.declared.vec.Vec.{Vec}
 use Rattle.swc_context.specs.declared.span.Span.{Span}
-use Rattle.swc_ast.specs.Parts.{no_tree}
-use Rattle.swc_ast.specs.Tree.{Tree}
+use Rattle.swc_ast.specs.Parts.{no_tree, item_tree, args_tree}
+use Rattle.swc_ast.specs.Tree.{Tree, args, node, no_span, trees}
+use Rattle.swc_ast.specs.declared.expr.Expr.{Expr}
+use Rattle.swc_ast.specs.declared.expr.ExprOrSpread.{ExprOrSpread}
 use Rattle.swc_ast.specs.declared.spanned.Spanned.{Ghosts}
 use Rattle.swc_nodes.specs.NodeTree.{marked_tree}
 use Rattle.swc_nodes.specs.Renumbering.{given, with_given, Renumbered}
 use Rattle.swc_nodes.specs.NumberedTrees.{chain}
-use Rattle.swc_nodes.specs.NodeParts.{Part, View, slots, form, view_ok}
+use Rattle.swc_nodes.specs.NodeParts.{Part, View, slots, form, view_ok, args_parts}
 use Rattle.swc_nodes.specs.GrowingNodes.{count, seat_at, tree_at, Apart, From, Grows, Added, Made}
+use Rattle.swc_nodes.specs.declared.node.ExprId.{ExprId}
 use Rattle.swc_nodes.specs.declared.node.Node.{Node}
 use Rattle.swc_nodes.specs.declared.nodes.Nodes.{Nodes}
+use Rattle.swc_nodes.specs.declared.renumbering.Numbers.{Numbers}
 use Rattle.swc_nodes.proofs.Chains.{both_true, chain-bound, chain-both, chain-down, chain-same, floor-above}
 use Rattle.swc_nodes.proofs.Held.{added-made, apart-from, from-apart, from-down}
+use Rattle.swc_nodes.proofs.Renumbered.{given-all}
 use Rattle.swc_nodes.proofs.Standing.{grows-same, grows-then, grows-count, seat-later}
 use Rattle.swc_trees.proofs.Agreed.{agrees-first, agrees-second, agrees-self}
-use Rattle.swc_trees.proofs.Splits.{map-more}
+use Rattle.swc_trees.proofs.Splits.{map-more, split-one}
 use Rattle.swc_trees.proofs.Lighter.{weights, parts-lighter}
 use Rattle.swc_trees.proofs.Weights.{weight, weight_of, weight-item}
 use Rattle.swc_trees.specs.Building.{built_tree}
-use Rattle.swc_trees.specs.Moving.{Agrees, IsNode, PutsIn}
+use Rattle.swc_trees.specs.Moving.{Agrees, IsNode, PutsIn, boxed_in}
 use Rattle.swc_trees.specs.Splitting.{part, built_view, places, numbered, AreAt, SplitsTo}
 use Rattle.swc_trees.specs.declared.built.Built.{Built}
 
--- the number at its place in a list
-given-here : (pre : List ℕ) (i : ℕ) (is : List ℕ) → given (pre ++ i ∷ is) (length pre) ≡ i
-given-here pre i is = get_or-append_seam pre i is (length pre)
+-- numbers from 0 on, as the list has them: the one at its place
+given-here : (ids : Numbers) (pre : List ℕ) (i : ℕ) (is : List ℕ) → ids.from ≡ 0 → ids.ids.items ≡ pre ++ i ∷ is →
+    given ids (length pre) ≡ i
+given-here ids pre i is e h =
+    let k = length pre in
+    given-all ids k e ∙ ap (λ v. get_or v k k) h ∙ get_or-append_seam pre i is k
 
 -- numbers of the trees of two lists
 numbered-append : (vs ws : List View) (is js : List ℕ) → length is ≡ length vs → numbered (vs ++ ws) (is ++ js) ≡ numbered vs is ++ numbered ws js
@@ -43,30 +52,38 @@ numbered-append (v ∷ vs) ws [] js e = absurd (omega arith)
 numbered-append (v ∷ vs) ws (i ∷ is) js e = ap (λ w. part v i ∷ w) (numbered-append vs ws is js (omega arith))
 
 -- places, with the numbers at them
-places-given : {F C K : Type 0} (bs : List (Built F C K)) (pre is : List ℕ) → length is ≡ length bs → map (with_given (pre ++ is)) (places (length pre) bs) ≡ numbered (map built_view bs) is
-places-given [] pre [] e = refl
-places-given [] pre (i ∷ is) e = absurd (omega arith)
-places-given (b ∷ bs) pre [] e = absurd (omega arith)
-places-given (b ∷ bs) pre (i ∷ is) e =
+places-given : {F C K : Type 0} (ids : Numbers) (bs : List (Built F C K)) (pre is : List ℕ) → length is ≡ length bs →
+    ids.from ≡ 0 → ids.ids.items ≡ pre ++ is →
+    map (with_given ids) (places (length pre) bs) ≡ numbered (map built_view bs) is
+places-given ids [] pre [] e f h = refl
+places-given ids [] pre (i ∷ is) e f h = absurd (omega arith)
+places-given ids (b ∷ bs) pre [] e f h = absurd (omega arith)
+places-given ids (b ∷ bs) pre (i ∷ is) e f h =
     let l : length (pre ++ i ∷ []) ≡ suc (length pre) = length-append pre (i ∷ []) ∙ omega arith in
     let a : (pre ++ i ∷ []) ++ is ≡ pre ++ i ∷ is = append_assoc pre (i ∷ []) is in
-    ap (λ v. part (built_view b) v ∷ map (with_given (pre ++ i ∷ is)) (places (suc (length pre)) bs)) (given-here pre i is)
-    ∙ ap (λ v. part (built_view b) i ∷ v) (ap (λ v. map (with_given (pre ++ i ∷ is)) (places v bs)) (sym l) ∙ ap (λ v. map (with_given v) (places (length (pre ++ i ∷ [])) bs)) (sym a) ∙ places-given bs (pre ++ i ∷ []) is (omega arith))
+    let view = built_view b in
+    let more = places-given ids bs (pre ++ i ∷ []) is (omega arith) f (h ∙ sym a) in
+    ap (λ v. part view v ∷ map (with_given ids) (places (suc (length pre)) bs)) (given-here ids pre i is f h)
+    ∙ ap (λ v. part view i ∷ v) (ap (λ v. map (with_given ids) (places v bs)) (sym l) ∙ more)
 
 module _ {F C K : Type 0} (fun_at : F → Span) (class_at : C → Span) (block_at : K → Span) where
   abbrev tree : Built F C K → Tree F C K
   tree = built_tree fun_at class_at block_at
 
   -- what is given for numbers is what their trees stand for, and so for the places of those
-  are-given : (at : ℕ → Tree F C K) (bs : List (Built F C K)) (pre is : List ℕ) → map at is ≡ map tree bs → AreAt fun_at class_at block_at (λ k. at (given (pre ++ is) k)) (length pre) bs
-  are-given at [] pre is e = tt
-  are-given at (b ∷ bs) pre [] e = cc
-  are-given at (b ∷ bs) pre (i ∷ is) e =
+  are-given : (at : ℕ → Tree F C K) (ids : Numbers) (bs : List (Built F C K)) (pre is : List ℕ) → ids.from ≡ 0 →
+      ids.ids.items ≡ pre ++ is → map at is ≡ map tree bs →
+      AreAt fun_at class_at block_at (λ k. at (given ids k)) (length pre) bs
+  are-given at ids [] pre is e h f = tt
+  are-given at ids (b ∷ bs) pre [] e h f = cc
+  are-given at ids (b ∷ bs) pre (i ∷ is) e h f =
       let d : at i ≡ tree b = cc in
-      let f : map at is ≡ map tree bs = cc in
+      let more : map at is ≡ map tree bs = cc in
       let l : length (pre ++ i ∷ []) ≡ suc (length pre) = length-append pre (i ∷ []) ∙ omega arith in
       let a : (pre ++ i ∷ []) ++ is ≡ pre ++ i ∷ is = append_assoc pre (i ∷ []) is in
-      (ap at (given-here pre i is) ∙ d, subst (λ v. AreAt fun_at class_at block_at (λ k. at (given (pre ++ i ∷ is) k)) v bs) l (subst (λ v. AreAt fun_at class_at block_at (λ k. at (given v k)) (length (pre ++ i ∷ [])) bs) a (are-given at bs (pre ++ i ∷ []) is f)))
+      let own : ℕ → Tree F C K = λ k. at (given ids k) in
+      let behind = are-given at ids bs (pre ++ i ∷ []) is e (h ∙ sym a) more in
+      (ap at (given-here ids pre i is e h) ∙ d, subst (λ v. AreAt fun_at class_at block_at own v bs) l behind)
 
   -- what trees stand for, by their places
   abbrev at_place : List (Built F C K) → ℕ → Tree F C K
@@ -172,30 +189,65 @@ module _ {F C K : Type 0} {fg : Ghosts F} {cg : Ghosts C} {kg : Ghosts K} where
   puts-made {ms = ms} {r = Ok y} part p = record { from = from-apart (part y) [] p.put.apart; stands = p.put.moved (tree_at ms) (refl, tt) }
   puts-made {r = Err y} part p = tt
 
-  -- a node whose parts are the places of trees, with the numbers of those
-  pub puts-node : {ns ms : Nodes F C K fg cg kg} {v : View} {t : Tree F C K} {old new : List (Built F C K)} {x z : Node F C K} {ids : Vec ℕ Global} → old ≡ [] →
-      SplitsTo fg.place cg.place kg.place slots (IsNode fg.place cg.place kg.place v t) old (Ok x) new →
-      PutsIn (λ y. numbered (map built_view new) y.items) (λ at y. map at y.items ≡ map (built_tree fg.place cg.place kg.place) new) ns (Ok ids) ms →
-      Renumbered slots (marked_tree fg.place cg.place kg.place) ids.items x z → form z ≡ form x → PutsIn slots (IsNode fg.place cg.place kg.place v t) ns (Ok z) ms
-  puts-node {ns = ns} {ms = ms} {v = v} {t = t} {old = old} {new = new} {x = x} {z = z} {ids = ids} e splits q r f =
+  -- what holds the places of trees, with the numbers of those
+  pub puts-renumbered : {Y : Type 0} {parts : Y → List Part} {of : (ℕ → Tree F C K) → Y → Tree F C K}
+      {same : (ℕ → Tree F C K) → Y → Type 0} {ns ms : Nodes F C K fg cg kg} {old new : List (Built F C K)} {x z : Y}
+      (ids : Numbers) → old ≡ [] → ids.from ≡ 0 → SplitsTo fg.place cg.place kg.place parts same old (Ok x) new →
+      PutsIn (λ y. numbered (map built_view new) y.items)
+      (λ at y. map at y.items ≡ map (built_tree fg.place cg.place kg.place) new) ns (Ok ids.ids) ms →
+      Renumbered parts of ids x z → ((at : ℕ → Tree F C K) → same (λ k. at (given ids k)) x → same at z) →
+      PutsIn parts same ns (Ok z) ms
+  puts-renumbered {parts = parts} {same = same} {ns = ns} {ms = ms} {old = old} {new = new} {x = x} {z = z} ids e from splits q r f =
       let p = splits.split in
+      let is = ids.ids.items in
+      let tree = built_tree fg.place cg.place kg.place in
       let l : length old ≡ 0 = ap length e in
       let n : new ≡ p.own = p.added ∙ ap (λ w. w ++ p.own) e in
-      let s : slots x ≡ places 0 p.own = p.placed ∙ ap (λ w. places w p.own) l in
-      let stand : map (tree_at ms) ids.items ≡ map (built_tree fg.place cg.place kg.place) new = q.put.moved (tree_at ms) (agrees-self (tree_at ms) (numbered (map built_view new) ids.items)) in
-      let many : length ids.items ≡ length p.own = sym (length-map ids.items (tree_at ms)) ∙ ap length stand ∙ length-map new (built_tree fg.place cg.place kg.place) ∙ ap length n in
-      let parts : slots z ≡ numbered (map built_view new) ids.items = r.placed ∙ ap (map (with_given ids.items)) s ∙ places-given p.own [] ids.items many ∙ ap (λ w. numbered (map built_view w) ids.items) (sym n) in
+      let s : parts x ≡ places 0 p.own = p.placed ∙ ap (λ w. places w p.own) l in
+      let stand : map (tree_at ms) is ≡ map tree new =
+      q.put.moved (tree_at ms) (agrees-self (tree_at ms) (numbered (map built_view new) is)) in
+      let many : length is ≡ length p.own =
+      sym (length-map is (tree_at ms)) ∙ ap length stand ∙ length-map new tree ∙ ap length n in
+      let placed : parts z ≡ numbered (map built_view new) is =
+      r.placed ∙ ap (map (with_given ids)) s ∙ places-given ids p.own [] is many from refl
+      ∙ ap (λ w. numbered (map built_view w) is) (sym n) in
       record {
         grows = q.grows;
         put = record {
-          apart = subst (λ w. Apart (count ns) ms w) (sym parts) q.put.apart;
+          apart = subst (λ w. Apart (count ns) ms w) (sym placed) q.put.apart;
           moved = λ at a.
-              let g = q.put.moved at (subst (λ w. Agrees at ms w) parts a) in
-              let h : AreAt fg.place cg.place kg.place (λ k. at (given ids.items k)) 0 p.own = are-given fg.place cg.place kg.place at p.own [] ids.items (g ∙ ap (map (built_tree fg.place cg.place kg.place)) n) in
-              let m = p.moved (λ k. at (given ids.items k)) (subst (λ w. AreAt fg.place cg.place kg.place (λ k. at (given ids.items k)) w p.own) (sym l) h) in
-              record { stands = r.stands at ∙ m.stands; view = ap (view_ok v) f ∙ m.view };
+              let g = q.put.moved at (subst (λ w. Agrees at ms w) placed a) in
+              let own : ℕ → Tree F C K = λ k. at (given ids k) in
+              let h : AreAt fg.place cg.place kg.place own 0 p.own =
+              are-given fg.place cg.place kg.place at ids p.own [] is from refl (g ∙ ap (map tree) n) in
+              f at (p.moved own (subst (λ w. AreAt fg.place cg.place kg.place own w p.own) (sym l) h));
         };
       }
+
+  -- a node whose parts are the places of trees, with the numbers of those
+  pub puts-node : {ns ms : Nodes F C K fg cg kg} {v : View} {t : Tree F C K} {old new : List (Built F C K)}
+      {x z : Node F C K} (ids : Numbers) → old ≡ [] → ids.from ≡ 0 →
+      SplitsTo fg.place cg.place kg.place slots (IsNode fg.place cg.place kg.place v t) old (Ok x) new →
+      PutsIn (λ y. numbered (map built_view new) y.items)
+      (λ at y. map at y.items ≡ map (built_tree fg.place cg.place kg.place) new) ns (Ok ids.ids) ms →
+      Renumbered slots (marked_tree fg.place cg.place kg.place) ids x z → form z ≡ form x →
+      PutsIn slots (IsNode fg.place cg.place kg.place v t) ns (Ok z) ms
+  puts-node {v = v} ids e from splits q r f =
+      puts-renumbered ids e from splits q r
+      (λ at m. record { stands = r.stands at ∙ m.stands; view = ap (view_ok v) f ∙ m.view })
+
+  -- items of a list, of which the trees were moved to the end of another
+  pub puts-items : {ns ms : Nodes F C K fg cg kg} {old new : List (Built F C K)} {x z : Vec (ExprOrSpread ExprId) Global}
+      (items : Vec (ExprOrSpread (Box (Expr F C K) Global)) Global) (ids : Numbers) → old ≡ [] → ids.from ≡ 0 →
+      SplitsTo fg.place cg.place kg.place args_parts
+      (λ at y. map (item_tree (λ e. at e.0)) y.items ≡ map (item_tree (boxed_in ns)) items.items) old (Ok x) new →
+      PutsIn (λ y. numbered (map built_view new) y.items)
+      (λ at y. map at y.items ≡ map (built_tree fg.place cg.place kg.place) new) ns (Ok ids.ids) ms →
+      Renumbered {F = F} {C = C} {K = K} args_parts (λ at. args_tree (λ e. at e.0)) ids x z →
+      PutsIn args_parts (λ at y. args_tree (λ e. at e.0) y ≡ args_tree (boxed_in ns) items) ns (Ok z) ms
+  puts-items items ids e from splits q r =
+      let listed = split-one splits refl (λ at m. ap (λ ts. node args no_span (trees ts)) m) in
+      puts-renumbered ids e from listed q r (λ at m. r.stands at ∙ m)
 
   -- ---- lists, the first tree first
 

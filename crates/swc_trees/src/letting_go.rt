@@ -40,3 +40,8 @@ pub fn let_go_exprs<F: Spanned + Drop, C: Spanned + Drop, K: Spanned + Drop>(
 pub fn let_go_args<F: Spanned + Drop, C: Spanned + Drop, K: Spanned + Drop>(
     _args: Vec<ExprOrSpread<Box<Expr<F, C, K>>>>,
 ) {}
+
+/// Lets go of patterns, and of all that they hold.
+pub fn let_go_pats<F: Spanned + Drop, C: Spanned + Drop, K: Spanned + Drop>(
+    _pats: Vec<Pat<F, C, K>>,
+) {}

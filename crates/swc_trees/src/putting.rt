@@ -1,23 +1,24 @@
 // Moves boxed trees into the nodes, behind all that there are. The first part of a node is put in first, as in the
 // source. What is moved leaves an empty tree behind; no text and no value of the hook is copied.
-// Only tests call this today. So what stands below it (splitting.rt, parting.rt and placing.rt, and `Node::renumber` of
-// swc_nodes) has no other use yet. Refining boxed trees to patterns will be its first caller.
 ghost use Rattle.std.specs.Prelude.{◌≡◌, [], ◌∷◌, map, IfOk};
-ghost use Rattle.swc_nodes.specs.NodeParts.{expr_part, pat_part};
-ghost use Rattle.swc_nodes.specs.GrowingNodes.{count, Grows, Made};
+ghost use Rattle.swc_ast.specs.Parts.{args_tree};
+ghost use Rattle.swc_nodes.specs.NodeParts.{expr_part, pat_part, args_parts};
+ghost use Rattle.swc_nodes.specs.GrowingNodes.{count, tree_at, Apart, Grows, Made};
 ghost use Rattle.swc_trees.specs.Building.{built_tree};
 ghost use Rattle.swc_trees.specs.Moving.{PutsIn, boxed_in, pat_in};
 ghost use Rattle.swc_trees.specs.Splitting.{built_view, numbered};
 
 use crate::built::Built;
+use crate::placing::split_all;
 use crate::splitting::split;
 use std::alloc::{AllocError, Global};
-use swc_ast::expr::Expr;
+use swc_ast::expr::{Expr, ExprOrSpread};
 use swc_ast::pat::Pat;
 use swc_ast::spanned::Spanned;
 use swc_nodes::aside::Aside;
 use swc_nodes::node::{ExprId, PatId};
 use swc_nodes::nodes::Nodes;
+use swc_nodes::renumbering::{Numbers, renumber_items};
 
 /// Moves an expression into the nodes, and answers its number.
 pub fn put_expr<F: Spanned + Drop, C: Spanned + Drop, K: Spanned + Drop>(
@@ -41,6 +42,25 @@ pub fn put_pat<F: Spanned + Drop, C: Spanned + Drop, K: Spanned + Drop>(
     ensures made { IfOk result (λ id. Made (count nodes.old) nodes.new (pat_part id) (pat_in nodes.old pat)) }
 {
     Ok(PatId(put_whole(nodes, alloc, Built::Pat(pat))?))
+}
+
+/// Moves the items of a list in parentheses into the nodes, in their order, and answers them by their numbers.
+pub fn put_args<F: Spanned + Drop, C: Spanned + Drop, K: Spanned + Drop>(
+    nodes: &mut Nodes<F, C, K>,
+    alloc: Global,
+    args: Vec<ExprOrSpread<Box<Expr<F, C, K>>>>,
+) -> Result<Vec<ExprOrSpread<ExprId>>, AllocError>
+    ensures grows { Grows nodes.old nodes.new }
+    ensures apart { IfOk result (λ xs. Apart (count nodes.old) nodes.new (args_parts xs)) }
+    ensures moved { IfOk result
+        (λ xs. args_tree (λ id. tree_at nodes.new id.0) xs ≡ args_tree (boxed_in nodes.old) args) }
+{
+    let mut args = Aside(args);
+    let mut parts = Vec::new(alloc);
+    let mut items = split_all(alloc, &mut parts, &mut args.0)?;
+    let ids = put_all(nodes, alloc, &mut parts)?;
+    renumber_items::<F, C, K>(&mut items, &Numbers { from: 0, ids });
+    Ok(items)
 }
 
 /// Puts in a tree, and lets go of what is left of it.
@@ -69,8 +89,8 @@ fn put<F: Spanned + Drop, C: Spanned + Drop, K: Spanned + Drop>(
 {
     let mut parts = Vec::new(alloc);
     let mut node = Aside(split(alloc, &mut parts, tree)?);
-    let numbers = put_all(nodes, alloc, &mut parts)?;
-    node.0.renumber(&numbers);
+    let ids = put_all(nodes, alloc, &mut parts)?;
+    node.0.renumber(&Numbers { from: 0, ids });
     nodes.push(node.into_inner())
 }
 

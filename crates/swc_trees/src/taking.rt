@@ -3,7 +3,7 @@
 ghost use Rattle.std.specs.Prelude.{◌≡◌, ℕ, true, [], ◌∷◌, map, IfOk};
 ghost use Rattle.swc_ast.specs.Parts.{prop_name_tree, args_tree, param_tree, tpl_tree};
 ghost use Rattle.swc_ast.specs.Tree.{Tree};
-ghost use Rattle.swc_nodes.specs.Lists.{exprs_parts};
+ghost use Rattle.swc_nodes.specs.Lists.{exprs_parts, pats_parts};
 ghost use Rattle.swc_nodes.specs.NodeTree.{node_tree};
 ghost use Rattle.swc_nodes.specs.NumberedTrees.{floor};
 ghost use Rattle.swc_nodes.specs.NodeParts.{form, view_ok, slots, expr_part, pat_part, key_parts, prop_parts};
@@ -133,6 +133,22 @@ pub fn take_params<F: Spanned + Drop, C: Spanned + Drop, K: Spanned + Drop>(
     let parts = parts_of(alloc, &params)?;
     let mut built = take_all(nodes, alloc, parts)?;
     all(alloc, &mut built, params)
+}
+
+/// Moves patterns, as the parameters of an arrow function, out of the nodes, and lets go of all behind them.
+pub fn take_pats<F: Spanned + Drop, C: Spanned + Drop, K: Spanned + Drop>(
+    nodes: &mut Nodes<F, C, K>,
+    alloc: Global,
+    pats: Vec<PatId>,
+) -> Result<Vec<Pat<F, C, K>>, AllocError>
+    requires { Apart 0 nodes.old (pats_parts pats) }
+    ensures left { Left (floor (seat_at nodes.old) (count nodes.old) (pats_parts pats)) nodes.old nodes.new }
+    ensures moved { IfOk result (λ ps. map (pat_in nodes.old) ps.items
+        ≡ map (λ id. bare_at nodes.old id.0) pats.items) }
+{
+    let parts = parts_of(alloc, &pats)?;
+    let mut built = take_all(nodes, alloc, parts)?;
+    all(alloc, &mut built, pats)
 }
 
 /// Moves arguments of a call out of the nodes, and lets go of all behind them.

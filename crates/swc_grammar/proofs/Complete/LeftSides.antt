@@ -13,7 +13,7 @@ use Rattle.swc_input.specs.Kinds.{at_token, is_hash}
 use Rattle.swc_ast.specs.Tree.{Tree}
 use Rattle.swc_ast.specs.Trees.{is_chain}
 use Rattle.swc_bodies.specs.Readings.{Hook}
-use Rattle.swc_grammar.specs.Scope.{Scope}
+use Rattle.swc_grammar.specs.Scope.{Scope, with_head, inner}
 use Rattle.swc_grammar.specs.Rule.{gives, take, read, given, ◌>>=◌}
 use Rattle.swc_grammar.specs.Tokens.{tk, with_in, is_lparen, is_question, is_word, is_dot, is_lbracket, is_backquote}
 use Rattle.swc_grammar.specs.Tokens.{is_new, is_super, is_import, is_meta, is_source}
@@ -24,7 +24,7 @@ use Rattle.swc_grammar.specs.Grammar.{Production, base-primary, super-name, supe
 use Rattle.swc_grammar.specs.Grammar.{import-call, import-source, new-target}
 use Rattle.swc_grammar.specs.Reads.{Reads, by, Follows, took, held, part}
 use Rattle.swc_grammar.specs.Clean.{first, sym, links, plan, exec, constructs, no_link, no_more, more, linked, link}
-use Rattle.swc_grammar.specs.Clean.{call_link, chain_link, base, super_base, import_base, import_dot, begins_new}
+use Rattle.swc_grammar.specs.Clean.{call_link, chain_link, base, super_base, import_base, import_dot, begins_new, Stop}
 use Rattle.swc_grammar.specs.Clean.{second, pick, run}
 use Rattle.swc_grammar.specs.Firsts.{begins_primary, begins_left}
 use Rattle.swc_grammar.proofs.Binds.{bind}
@@ -90,7 +90,7 @@ no-dot-first c (a ∷ us) h = by-token a.token h
     by-token token.Dot h = absurd cc
     by-token t h = refl
 
-no-new-first : (c : Scope) (xs : List TokenAndSpan) → at_token (begins_primary c) (first xs) ≡ true
+pub no-new-first : (c : Scope) (xs : List TokenAndSpan) → at_token (begins_primary c) (first xs) ≡ true
     → at_token is_new (first xs) ≡ false
 no-new-first c [] h = refl
 no-new-first c (a ∷ us) h = by-token a.token h
@@ -136,7 +136,8 @@ module _ {F C K : Type 0} (hook : Hook F C K) where
 
   pub links-take : {b : Bool} {c : Scope} (l : Tree F C K) (a : TokenAndSpan) (us ys : List TokenAndSpan)
       {f : Tree F C K → TokenAndSpan → Side F C K (Left b)}
-      (p : Production (Left b) c (read (Left b) c (λ e. take (λ u. f e u)))) {t : Tree F C K}
+      (p : (i : Bool) → Production (Left b) (with_head i c) (read (Left b) (with_head i c) (λ e. take (λ u. f e u))))
+      {t : Tree F C K}
       → link b c (a ∷ us) ≡ more p
       → exec hook (run hook) None (plan (f l a)) us ≡ Some (t, ys)
       → run hook (links b l) c (a ∷ us) ≡ run hook (links b t) c ys
@@ -149,10 +150,10 @@ module _ {F C K : Type 0} (hook : Hook F C K) where
   -- `new`, and what it constructs
   pub new-begins : (b : Bool) (c : Scope) (a : TokenAndSpan) (us ms : List TokenAndSpan) (l : Tree F C K)
       → is_new a.token ≡ true → at_token is_dot (first us) ≡ false → not (is_chain l) ≡ true
-      → run hook (sym (Lhs false)) c us ≡ Some (l, ms)
-      → run hook (sym (Lhs b)) c (a ∷ us) ≡ run hook (constructs b a.span l) c ms
+      → run hook (sym (Lhs false)) (inner c) us ≡ Some (l, ms)
+      → run hook (sym (Lhs b)) c (a ∷ us) ≡ run hook (constructs b a.span l) (inner c) ms
   new-begins b c a us ms l h d n e =
-      knot hook (sym (Lhs b)) c (a ∷ us) ∙ rw (h, d, e, n) (last hook None (constructs b a.span l) c ms refl)
+      knot hook (sym (Lhs b)) c (a ∷ us) ∙ rw (h, d, e, n) (last hook None (constructs b a.span l) (inner c) ms refl)
 
   -- bases
   base-token : (b : Bool) (c : Scope) (t : Token) (l : Bool) (s : Span) (us : List TokenAndSpan)
@@ -162,7 +163,7 @@ module _ {F C K : Type 0} (hook : Hook F C K) where
   base-token b c (token.Word (word.Keyword keyword.Import)) l s us h = absurd cc
   base-token b c t l s us h = refl
 
-  primary-picks : (b : Bool) (c : Scope) (xs : List TokenAndSpan) → at_token (begins_primary c) (first xs) ≡ true
+  pub primary-picks : (b : Bool) (c : Scope) (xs : List TokenAndSpan) → at_token (begins_primary c) (first xs) ≡ true
       → base {F = F} {C = C} {K = K} b c xs ≡ pick base-primary
   primary-picks b c [] h = refl
   primary-picks b c (a ∷ us) h = base-token b c a.token a.had_line_break a.span us h
@@ -214,17 +215,17 @@ module _ {F C K : Type 0} (hook : Hook F C K) where
   base-no-new (by import-call (took {a = a} (held h d))) = rw (import-no-new a.token h) refl
   base-no-new (by import-source (took {a = a} (held h d))) = rw (import-no-new a.token h) refl
 
-  pub ready-base : {b : Bool} {c : Scope} {r : Side F C K (Base b)} (ys : List TokenAndSpan) → Production (Base b) c r
-      → Ready (Some 9) ys r
-  ready-base ys base-primary = (refl, λ e. (tt, tt))
-  ready-base ys new-target = λ a h b k d j n. tt
-  ready-base ys (super-name {c = c}) = λ a h b k d. ready-given _ _ (any_name c d.token d.span) _ (λ n j o. tt)
-  ready-base ys (super-computed {c = c}) =
+  pub ready-base : {b : Bool} {c : Scope} {r : Side F C K (Base b)} (ys : List TokenAndSpan) → Stop (Base b) c ys
+      → Production (Base b) c r → Ready (Some 9) ys r
+  ready-base ys stop base-primary = (refl, λ e. (stop, tt))
+  ready-base ys stop new-target = λ a h b k d j n. tt
+  ready-base ys stop (super-name {c = c}) = λ a h b k d. ready-given _ _ (any_name c d.token d.span) _ (λ n j o. tt)
+  ready-base ys stop (super-computed {c = c}) =
       λ a h b k. (refl, λ e. (λ d us j o. quiet-rbracket (with_in c) d us j, λ d j o. tt))
-  ready-base ys super-call = λ a h b k. (refl, λ es. (tt, tt))
-  ready-base ys import-meta = λ a h b k d j n. tt
-  ready-base ys import-call = λ a h b k. (refl, λ es. (tt, tt))
-  ready-base ys import-source = λ a h b k d j g m. (refl, λ es. (tt, tt))
+  ready-base ys stop super-call = λ a h b k. (refl, λ es. (tt, tt))
+  ready-base ys stop import-meta = λ a h b k d j n. tt
+  ready-base ys stop import-call = λ a h b k. (refl, λ es. (tt, tt))
+  ready-base ys stop import-source = λ a h b k d j g m. (refl, λ es. (tt, tt))
 
   pub name-next : (c : Scope) {s : Symbol} {k : TokenAndSpan → Spelling → Side F C K s} {xs ys : List TokenAndSpan}
       {t : Answer F C K s}

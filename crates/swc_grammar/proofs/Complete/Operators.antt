@@ -18,7 +18,7 @@ use Rattle.swc_input.specs.Kinds.{at_token}
 use Rattle.swc_ast.specs.Tree.{Tree, span_of}
 use Rattle.swc_ast.specs.Trees.{to, bin_e, nullish_ok, logical_ok, exp_ok, is_unary, min_right}
 use Rattle.swc_bodies.specs.Readings.{Hook}
-use Rattle.swc_grammar.specs.Scope.{Scope}
+use Rattle.swc_grammar.specs.Scope.{Scope, inner}
 use Rattle.swc_grammar.specs.Rule.{sees}
 use Rattle.swc_grammar.specs.Tokens.{tk, binary_of, prefix_of, is_power, is_star, is_update, is_await, ends_await}
 use Rattle.swc_grammar.specs.Symbols.{Level, Unary, Lhs, Side}
@@ -26,7 +26,7 @@ use Rattle.swc_grammar.specs.Parts.{prefix_here, update_here}
 use Rattle.swc_grammar.specs.Grammar.{Production, unary-left, unary-op, update-postfix, update-prefix, await-expr}
 use Rattle.swc_grammar.specs.Grammar.{await-ident}
 use Rattle.swc_grammar.specs.Reads.{Follows, took, held, calm, part}
-use Rattle.swc_grammar.specs.Clean.{first, sym, climb, no_link, prefix_at, updates, no_update_at, ends_unary}
+use Rattle.swc_grammar.specs.Clean.{first, sym, climb, no_link, prefix_at, updates, no_update_at, ends_unary, no_arrow}
 use Rattle.swc_grammar.specs.Clean.{ends_await_at, unary_by, Stop, Choice, pick, chosen, step, run}
 use Rattle.swc_grammar.specs.Firsts.{begins_left, begins_operand}
 use Rattle.swc_grammar.proofs.Good.{Good}
@@ -66,7 +66,7 @@ await-apart (token.Word w) h = refl
 await-apart t h = absurd cc
 
 -- a test of what stands first, on the list
-first-sees : (p : Token → Bool) (xs : List TokenAndSpan) → sees (λ t. p t.token) xs ≡ false
+pub first-sees : (p : Token → Bool) (xs : List TokenAndSpan) → sees (λ t. p t.token) xs ≡ false
     → at_token p (first xs) ≡ false
 first-sees p [] h = refl
 first-sees p (t ∷ ts) h = h
@@ -99,15 +99,19 @@ operator-ends c a us op h = by-token a.token a.had_line_break a.span h
     by-token token.LParen b s h = absurd cc
     by-token token.PlusPlus b s h = absurd cc
     by-token token.MinusMinus b s h = absurd cc
+    by-token token.Arrow b s h = absurd cc
     by-token t b s h = refl
 
 power-op : (c : Scope) (a : TokenAndSpan) → is_power a.token ≡ true → binary_of c.context a.token ≡ Some binary.Exp
 power-op c a h = rw (power-is a.token h) refl
 
-pub update-link : (a : TokenAndSpan) (us : List TokenAndSpan) → is_update a.token ≡ true → no_link true (a ∷ us) ≡ true
+-- no left-hand side goes on with `++` or `--`
+pub update-link : (a : TokenAndSpan) (us : List TokenAndSpan) → is_update a.token ≡ true
+    → (no_link true (a ∷ us) && no_arrow (a ∷ us)) ≡ true
 update-link a us h = by-token a.token a.had_line_break a.span h
   where
-    by-token : (t : Token) (b : Bool) (s : Span) → is_update t ≡ true → no_link true (tk t b s ∷ us) ≡ true
+    by-token : (t : Token) (b : Bool) (s : Span) → is_update t ≡ true
+        → (no_link true (tk t b s ∷ us) && no_arrow (tk t b s ∷ us)) ≡ true
     by-token token.PlusPlus b s h = refl
     by-token token.MinusMinus b s h = refl
     by-token t b s h = absurd cc
@@ -116,7 +120,7 @@ module _ {F C K : Type 0} (hook : Hook F C K) where
   climb-takes : (op : BinaryOp) (m : ℕ) (c : Scope) (t : TokenAndSpan) (l r : Tree F C K) (ms ys : List TokenAndSpan)
       → binary_of c.context t.token ≡ Some op → m < precedence_of op → exp_ok op l ≡ true → nullish_ok op l r ≡ true
       → logical_ok op l ≡ true
-      → run hook (sym (Level (suc (min_right op)))) c ms ≡ Some (r, ys)
+      → run hook (sym (Level (suc (min_right op)))) (inner c) ms ≡ Some (r, ys)
       → run hook (climb l m) c (t ∷ ms) ≡ run hook (climb (bin_e (to (span_of l) (span_of r)) op l r) m) c ys
   climb-takes op m c t l r ms ys o lt x n g e =
       knot hook (climb l m) c (t ∷ ms)
@@ -125,9 +129,9 @@ module _ {F C K : Type 0} (hook : Hook F C K) where
 
   pub operand-climbs : (m : ℕ) (c : Scope) (xs ys : List TokenAndSpan) (t : Tree F C K) → m ≤ 10
       → run hook (sym Unary) c xs ≡ Some (t, ys)
-      → run hook (sym (Level (suc m))) c xs ≡ run hook (climb t m) c ys
+      → run hook (sym (Level (suc m))) c xs ≡ run hook (climb t m) (inner c) ys
   operand-climbs m c xs ys t le e =
-      knot hook (sym (Level (suc m))) c xs ∙ rw (le-leb m 10 le, e) (last hook (Some 12) (climb t m) c ys refl)
+      knot hook (sym (Level (suc m))) c xs ∙ rw (le-leb m 10 le, e) (last hook (Some 12) (climb t m) (inner c) ys refl)
 
   -- `++` and `--` before an operand, `await`, and prefix operators
   await-picks : (c : Scope) (a : TokenAndSpan) (us : List TokenAndSpan) (x : Choice F C K Unary c)
@@ -182,24 +186,24 @@ module _ {F C K : Type 0} (hook : Hook F C K) where
       → binary_of c.context a.token ≡ Some op → precedence_of op ≡ suc n → nullish_ok op l r ≡ true
       → logical_ok op l ≡ true
       → Good F C K (Level (suc (suc n))) r
-      → Claim hook (Level (suc n)) c xs (a ∷ ms) l → Claim hook (Level (suc (suc n))) c ms ys r
+      → Claim hook (Level (suc n)) c xs (a ∷ ms) l → Claim hook (Level (suc (suc n))) (inner c) ms ys r
       → Claim hook (Level (suc n)) c xs ys (bin_e (to (span_of l) (span_of r)) op l r)
   op-reads n op c a l r xs ms ys top o p k g w left right = λ le end b m lt.
       let right-at : min_right op ≡ suc n = min-right-same op (omega arith) ∙ p in
-      let e : run hook (sym (Level (suc (min_right op)))) c ms ≡ Some (r, ys) =
-      rw right-at (settle hook (Level (suc (suc n))) c ms ys r w right
+      let e : run hook (sym (Level (suc (min_right op)))) (inner c) ms ≡ Some (r, ys) =
+      rw right-at (settle hook (Level (suc (suc n))) (inner c) ms ys r w right
       (top, end, bound-above c (min (suc n) 10) (suc n) ys (omega arith) b)) in
       left le (operator-ends c a ms op o) (bound-some c (min (suc n) 10) (a ∷ ms) op o (omega arith)) m lt
-      ∙ climb-takes op m c a l r ms ys o (omega arith) (left-free op l (omega arith)) k g e
+      ∙ climb-takes op m (inner c) a l r ms ys o (omega arith) (left-free op l (omega arith)) k g e
 
   pub exp-reads : (c : Scope) (a : TokenAndSpan) (l r : Tree F C K) (xs ms ys : List TokenAndSpan)
       → is_power a.token ≡ true → not (is_unary l) ≡ true → Good F C K (Level 11) r
-      → Claim hook Unary c xs (a ∷ ms) l → Claim hook (Level 11) c ms ys r
+      → Claim hook Unary c xs (a ∷ ms) l → Claim hook (Level 11) (inner c) ms ys r
       → Claim hook (Level 11) c xs ys (bin_e (to (span_of l) (span_of r)) binary.Exp l r)
   exp-reads c a l r xs ms ys y x w left right = λ le end b m lt.
       operand-climbs m c xs (a ∷ ms) l (omega arith) (left (operator-ends c a ms binary.Exp (power-op c a y)))
-      ∙ climb-takes binary.Exp m c a l r ms ys (power-op c a y) (omega arith) x refl refl
-      (settle hook (Level 11) c ms ys r w right (omega arith, end, b))
+      ∙ climb-takes binary.Exp m (inner c) a l r ms ys (power-op c a y) (omega arith) x refl refl
+      (settle hook (Level 11) (inner c) ms ys r w right (omega arith, end, b))
 
   pub signed : {c : Scope} {r : Side F C K Unary} {xs ys : List TokenAndSpan} {t : Tree F C K}
       (p : Production Unary c r) → is_signed p ≡ true → Ran hook Unary r xs ys t → Claim hook Unary c xs ys t
@@ -210,10 +214,11 @@ module _ {F C K : Type 0} (hook : Hook F C K) where
   -- a left-hand side as an operand, and what `++` or `--` stand behind
   pub operand-reads : (c : Scope) (xs ms : List TokenAndSpan) (l : Tree F C K)
       → at_token (begins_left c) (first xs) ≡ true → sees (λ t. is_await t.token) xs ≡ false
-      → run hook (sym (Lhs true)) c xs ≡ Some (l, ms) → run hook (sym Unary) c xs ≡ run hook (updates l) c ms
+      → run hook (sym (Lhs true)) c xs ≡ Some (l, ms) → run hook (sym Unary) c xs ≡ run hook (updates l) (inner c) ms
   operand-reads c xs ms l h w e =
       let (p, u) = no-prefix-first c xs h in
-      knot hook (sym Unary) c xs ∙ rw (u, first-sees is_await xs w, p, e) (last hook (Some 11) (updates l) c ms refl)
+      knot hook (sym Unary) c xs ∙ rw (u, first-sees is_await xs w, p, e)
+      (last hook (Some 11) (updates l) (inner c) ms refl)
 
   pub updates-end : (c : Scope) (l : Tree F C K) (ms : List TokenAndSpan) → no_update_at (first ms) ≡ true
       → run hook (updates l) c ms ≡ Some (l, ms)

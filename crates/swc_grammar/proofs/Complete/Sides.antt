@@ -11,38 +11,41 @@ use Rattle.swc_input.specs.Kinds.{at_token}
 use Rattle.swc_ast.specs.Tree.{Tree}
 use Rattle.swc_ast.specs.Trees.{items_of, left_ok}
 use Rattle.swc_bodies.specs.Readings.{Hook}
-use Rattle.swc_grammar.specs.Scope.{Scope}
-use Rattle.swc_grammar.specs.Rule.{Rule, gives, never, take, check, peek, read, hear, sees, given, ◌>>=◌}
+use Rattle.swc_grammar.specs.Scope.{Scope, inner}
+use Rattle.swc_grammar.specs.Rule.{Rule, gives, never, take, check, peek, read, hear, sees, given, ◌>>=◌, peek_two}
 use Rattle.swc_grammar.specs.Symbols.{Symbol, Expr, Exprs, Assign, Level, Lhs, Left, Answer, Body, Value, begins_body}
 use Rattle.swc_grammar.specs.Symbols.{Side}
 use Rattle.swc_grammar.specs.Grammar.{Production}
-use Rattle.swc_grammar.specs.Reads.{Reads, Follows, gave, took, held, calm, part, heard}
+use Rattle.swc_grammar.specs.Reads.{Reads, Follows, gave, took, held, calm, part, heard, calm-two}
 use Rattle.swc_grammar.specs.Clean.{Out, and_then, first, Call, sym, links, climb, plan, rank_of, rank, allowed, exec}
 use Rattle.swc_grammar.specs.Clean.{operator_at, seqs, ends_unary, Bound, Stop, Choice, pick, chosen, turn, turned}
-use Rattle.swc_grammar.specs.Clean.{step, run}
+use Rattle.swc_grammar.specs.Clean.{step, run, no_arrow}
 use Rattle.swc_grammar.specs.Firsts.{starts}
 use Rattle.swc_grammar.proofs.Bodies.{hears-run}
 use Rattle.swc_grammar.proofs.Good.{Good, good}
 use Rattle.swc_grammar.proofs.Firsts.{Under, under-held, begins}
-use Rattle.swc_grammar.proofs.Induct.{Ran as RanOf, forget as forget-of, given-ran as given-of}
+use Rattle.swc_grammar.proofs.Induct.{Ran as RanOf, forget as forget-of, given-ran as given-of, ran-calm-two}
 use Rattle.swc_grammar.proofs.Induct.{ran-gave, ran-took, ran-held, ran-calm, ran-part, ran-heard}
 use Rattle.swc_grammar.proofs.Knot.{knot}
 use Rattle.swc_grammar.proofs.Levels.{bound-above}
+use Rattle.swc_grammar.specs.Rule.{sees_two}
 
 -- Of a left-hand side the claim is that links are read on from there, and of expressions with commas between them that
--- commas are. Of a level it holds for climbing on from any
--- precedence below it: so what a level above read needs no second climbing. And no link follows, since the last operand
--- would take it, and no `**`, since the right operand of one before would.
+-- commas are. Of a level it holds for climbing on from any precedence below it: so what a level above read needs no
+-- second climbing. And no link follows, since the last operand would take it, and no `**`, since the right operand of
+-- one before would.
 abbrev pub Claim : {F C K : Type 0} (hook : Hook F C K) (s : Symbol)
     → Scope → List TokenAndSpan → List TokenAndSpan → Answer F C K s → Type 0
 Claim hook (Level zero) c xs ys t = Unit {0}
 Claim hook (Level (suc n)) c xs ys t = n ≤ 10 → ends_unary ys ≡ true → Bound c (min (suc n) 10) ys
-    → (m : ℕ) → m ≤ n → run hook (sym (Level (suc m))) c xs ≡ run hook (climb t m) c ys
+    → (m : ℕ) → m ≤ n → run hook (sym (Level (suc m))) c xs ≡ run hook (climb t m) (inner c) ys
 Claim hook Exprs c xs ys t = Stop Assign c ys → run hook (sym Expr) c xs ≡ run hook (seqs (items_of t)) c ys
-Claim hook (Left b) c xs ys t = run hook (sym (Lhs b)) c xs ≡ run hook (links b t) c ys
+Claim hook (Left b) c xs ys t =
+    no_arrow ys ≡ true → run hook (sym (Lhs b)) c xs ≡ run hook (links b t) (inner c) ys
 Claim hook s c xs ys t = Stop s c ys → run hook (sym s) c xs ≡ Some (t, ys)
 
-starting : (Q : List TokenAndSpan → Type 0) (P : Token → Bool) (xs : List TokenAndSpan) → at_token P (first xs) ≡ true
+pub starting : (Q : List TokenAndSpan → Type 0) (P : Token → Bool) (xs : List TokenAndSpan) → at_token P (first xs)
+    ≡ true
     → ((a : TokenAndSpan) (us : List TokenAndSpan) → P a.token ≡ true → Q (a ∷ us)) → Q xs
 starting Q P [] h f = absurd cc
 starting Q P (a ∷ us) h f = f a us h
@@ -60,6 +63,7 @@ module _ {F C K : Type 0} where
   Before Q ys (take f) = (a : TokenAndSpan) (us : List TokenAndSpan) → Under (Q (a ∷ us)) (f a)
   Before Q ys (check b r) = b ≡ true → Before Q ys r
   Before Q ys (peek p r) = Before (λ xs. sees p xs ≡ false → Q xs) ys r
+  Before Q ys (peek_two p r) = Before (λ xs. sees_two p xs ≡ false → Q xs) ys r
   Before Q ys (read s c f) = (a : TokenAndSpan) (us : List TokenAndSpan) → starts s c a.token ≡ true → Q (a ∷ us)
   Before Q ys (hear b c f) = (own us : List TokenAndSpan) → begins_body b own ≡ true → Q (own ++ us)
 
@@ -71,6 +75,7 @@ module _ {F C K : Type 0} where
   Ready g ys (take f) = (a : TokenAndSpan) → Ready None ys (f a)
   Ready g ys (check b r) = b ≡ true → Ready g ys r
   Ready g ys (peek p r) = Ready g ys r
+  Ready g ys (peek_two p r) = Ready g ys r
   Ready g ys (read s c f) =
       (allowed g (rank_of s) ≡ true) × ((e : Answer F C K s) → Before (Stop s c) ys (f e) × Ready g ys (f e))
   Ready g ys (hear b c f) = (v : Value F C K b) (s : Span) → Ready None ys (f v s)
@@ -81,12 +86,19 @@ module _ {F C K : Type 0} where
   ready-given g ys None k f = tt
   ready-given g ys (Some x) k f = f x refl
 
+  pub before-given : {A D : Type 0} (Q : List TokenAndSpan → Type 0) (ys : List TokenAndSpan) (o : Option A)
+      (k : A → Rule Symbol (Answer F C K) Body (Value F C K) D)
+      → ((x : A) → o ≡ Some x → Before Q ys (k x)) → Before Q ys (given o >>= k)
+  before-given Q ys None k f = tt
+  before-given Q ys (Some x) k f = f x refl
+
   before-held : {hook : Hook F C K} {s : Symbol} {r : Side F C K s} {xs ys : List TokenAndSpan} {t : Answer F C K s}
       (Q : List TokenAndSpan → Type 0) → Follows hook s r xs ys t → Before Q ys r → Q xs
   before-held Q gave b = b
   before-held Q (took {a = a} {xs = xs} d) b = under-held d (b a xs)
   before-held Q (held h d) b = before-held Q d (b h)
   before-held Q (calm {p = p} h d) b = before-held (λ us. sees p us ≡ false → Q us) d b h
+  before-held Q (calm-two {p = p} h d) b = before-held (λ us. sees_two p us ≡ false → Q us) d b h
   before-held Q (part {s' = s'} {c = c} {xs = xs} e d) b = starting Q (starts s' c) xs (begins e) b
   before-held Q (heard {ms = ms} h d) b = subst Q (sym_path h.list) (b h.own ms h.begins)
 
@@ -108,20 +120,26 @@ module _ {F C K : Type 0} (hook : Hook F C K) where
   climb-ends t m c ts w b = knot hook (climb t m) c ts ∙ turn-ends (operator_at c.context (first ts)) t m c ts w b
 
   -- a choice
+  pub picks-as : (s : Symbol) (c : Scope) (xs : List TokenAndSpan) (x y : Choice F C K s c)
+      {o : Out (Answer F C K s)} → step (sym s) c xs ≡ chosen x → x ≡ y
+      → exec hook (run hook) (Some (rank_of s)) (chosen y) xs ≡ o → run hook (sym s) c xs ≡ o
+  picks-as s c xs x y e h d =
+      knot hook (sym s) c xs ∙ ap (λ v. exec hook (run hook) (Some (rank_of s)) v xs) e
+      ∙ ap (λ v. exec hook (run hook) (Some (rank_of s)) (chosen v) xs) h ∙ d
+
   pub picks : (s : Symbol) (c : Scope) (xs : List TokenAndSpan) {r : Side F C K s} (p : Production s c r)
       (x : Choice F C K s c)
       {o : Out (Answer F C K s)} → step (sym s) c xs ≡ chosen x → x ≡ pick p
       → exec hook (run hook) (Some (rank_of s)) (plan r) xs ≡ o → run hook (sym s) c xs ≡ o
-  picks s c xs p x e h d =
-      knot hook (sym s) c xs ∙ ap (λ v. exec hook (run hook) (Some (rank_of s)) v xs) e
-      ∙ ap (λ v. exec hook (run hook) (Some (rank_of s)) (chosen v) xs) h ∙ d
+  picks s c xs p x e h d = picks-as s c xs x (pick p) e h d
 
   -- the claim, where the reading stops
   pub settle : (s : Symbol) (c : Scope) (xs ys : List TokenAndSpan) (t : Answer F C K s) → Good F C K s t
       → Claim hook s c xs ys t → Stop s c ys → run hook (sym s) c xs ≡ Some (t, ys)
   settle (Level zero) c xs ys t g h stop = absurd stop
   settle (Level (suc n)) c xs ys t g h (le, end, b) =
-      h le end (bound-above c n (min (suc n) 10) ys (omega arith) b) n (omega arith) ∙ climb-ends t n c ys g.left b
+      h le end (bound-above c n (min (suc n) 10) ys (omega arith) b) n (omega arith)
+      ∙ climb-ends t n (inner c) ys g.left b
   settle Exprs c xs ys t g h stop = absurd stop
   settle (Left b) c xs ys t g h stop = absurd stop
   settle s c xs ys t g h stop = h stop
@@ -179,6 +197,7 @@ module _ {F C K : Type 0} (hook : Hook F C K) where
   side-reads g (ran-took {a = a} d) q = side-reads None d (q a)
   side-reads g (ran-held h d) q = rw h (side-reads g d (q h))
   side-reads g (ran-calm h d) q = rw h (side-reads g d q)
+  side-reads g (ran-calm-two h d) q = rw h (side-reads g d q)
   side-reads g (ran-part {s' = s'} {c = c} {e = e} {xs = xs} {ms = ms} l k d) q =
       rw (q.0, settle s' c xs ms e (good l) k (before-held (Stop s' c) (forget d) (q.1 e).0)) (side-reads g d (q.1 e).1)
   side-reads g (ran-heard {f = f} {v = v} h d) q =

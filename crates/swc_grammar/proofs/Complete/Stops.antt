@@ -18,6 +18,7 @@ use Rattle.swc_grammar.specs.Firsts.{starts}
 use Rattle.swc_grammar.proofs.Answers.{both}
 use Rattle.swc_grammar.proofs.Only.{colon-is, comma-is, rbrace-is, rbracket-is}
 use Rattle.swc_grammar.proofs.Complete.Bools.{or-right, is-false}
+use Rattle.swc_grammar.specs.Symbols.{ArrowBody}
 
 -- at the end and before a hard stop no operator is read, and no link
 stop-token : (c : Scope) (t : Token) (b : Bool) → (is_comma t || (is_closer t || is_word_apart t b)) ≡ true
@@ -44,6 +45,7 @@ ends-token t us h = by-token t.token t.had_line_break t.span h
     by-token token.PlusPlus d s h = absurd cc
     by-token token.MinusMinus d s h = absurd cc
     by-token (token.AssignOp op) d s h = absurd cc
+    by-token token.Arrow d s h = absurd cc
     by-token u d s h = refl
 
 stop-any : (s : Symbol) (t : TokenAndSpan) → is_stop_for s t ≡ true → (is_comma t.token || is_stop t) ≡ true
@@ -52,6 +54,7 @@ stop-any Assign t h = h
 stop-any (Level n) t h = h
 stop-any Unary t h = h
 stop-any Element t h = h
+stop-any (ArrowBody is_async) t h = h
 stop-any PatProp t h = less-colon (is_comma t.token) (is_stop t) (is_colon t.token) h
   where
     less-colon : (a b c : Bool) → (a || (b && not c)) ≡ true → (a || b) ≡ true

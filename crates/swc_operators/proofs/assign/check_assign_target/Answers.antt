@@ -5,7 +5,7 @@ use Rattle.swc_nodes.proofs.Targets.{target-from}
 use Rattle.swc_steps.specs.Parsing.{tree_of, Refuses}
 use Rattle.swc_steps.proofs.Steps.{check_passes, refuses_later}
 use Rattle.swc_operators.proofs.assign.check_assign_target.Goals as goal
-use Rattle.swc_operators.proofs.assign.check_assign_target.Goals.{in-Assign, in-Assign-2+in_ok-emit_err-in-Assign-2}
+use Rattle.swc_operators.proofs.assign.check_assign_target.Goals.{in-Assign+in_ok-emit_err-in-Assign}
 use Rattle.swc_operators.proofs.assign.check_assign_target.Goals.{in_default+in_ok-emit_err-in_default}
 
 pub returns-then-is_simple_target-clause-checks : goal.returns-then-is_simple_target-clause-checks
@@ -25,9 +25,8 @@ returns-clause-refuses g c =
     ap (λ v. is_target v.strict e) (sym c.get_ctx-strict.ensures) ∙ sym c.is_simple_target.ensures ∙ c.if-is_simple_target.false in
     let refused = c.syntax_error.ensures.refuses in
     let later : Refuses g.I.Tokens.model c.args.input.now c.syntax_error.result c.syntax_error.new.input = elim c.match-op.branch [
-      | in-Assign w ↦ subst (λ b. Refuses g.I.Tokens.model b c.syntax_error.result c.syntax_error.new.input) w.input-is refused
-      | in-Assign-2+in_ok-emit_err-in-Assign-2 w ↦
-          refuses_later w.in_ok-emit_err-in-Assign-2.ensures.tries
+      | in-Assign+in_ok-emit_err-in-Assign w ↦
+          refuses_later w.in_ok-emit_err-in-Assign.ensures.tries
           (subst (λ b. Refuses g.I.Tokens.model b c.syntax_error.result c.syntax_error.new.input) w.input-is refused)
       | in_default+in_ok-emit_err-in_default w ↦
           refuses_later w.in_ok-emit_err-in_default.ensures.tries

@@ -4,6 +4,7 @@ use Rattle.swc_input.specs.Kinds.{at_token}
 use Rattle.swc_bodies.specs.Readings.{is_brace}
 use Rattle.swc_steps.specs.Parsing.{by_hook}
 use Rattle.swc_steps.proofs.Hearing as hearing
+use Rattle.swc_steps.proofs.Naming.{parses_lower}
 use Rattle.swc_steps.proofs.Keys as key
 use Rattle.swc_input.specs.Buffer.{current}
 use Rattle.swc_steps.specs.declared.tokens.Sign.TheVariants.{LBrace}
@@ -32,3 +33,8 @@ returns-clause-reads g c =
 pub block-answer-requires : goal.block-answer-requires
 block-answer-requires g c =
     sign_here LBrace (current c.look.new.input) (sym c.is_sign.ensures.value ∙ c.if-not-is_sign.false)
+
+pub returns-clause-falls : goal.returns-clause-falls
+returns-clause-falls g c =
+    parses_lower g.I.Tokens.model g.B.Bodies.is_faithful (λ v. v) (by_hook g.B.BodyForms.forms.block) _ _
+    c.answered.result (returns-clause-reads g c)

@@ -13,20 +13,28 @@ use Rattle.swc_steps.proofs.Building.{made_at, made_over}
 use Rattle.swc_steps.proofs.Making as m
 use Rattle.swc_steps.proofs.Naming.{goes, stops}
 use Rattle.swc_steps.proofs.Steps as s
+use Rattle.swc_primary.proofs.ParenItems.{free_on, not_free}
 use Rattle.swc_primary.proofs.primary.paren_items.Goals as goal
+
+pub returns-in_err-refuse_arrow : goal.returns-in_err-refuse_arrow
+returns-in_err-refuse_arrow g c = λ k apart.
+    m.refused_more c.from_residual.ensures.1
+    (not_free _ (c.in_err-refuse_arrow.ensures.free g.B.Bodies.is_faithful)) (grows-same _)
 
 pub returns-in_err-check_paren_items : goal.returns-in_err-check_paren_items
 returns-in_err-check_paren_items g c = λ k apart.
     let h = c.in_err-check_paren_items.ensures.refuses in
     let es = args_at c.args.p.now.nodes c.args.list in
-    m.refused_more c.from_residual.ensures.1
-    (record { refuses = h.0; none = λ n sure loud ts z. stops (paren_ok es) _ (h.1 n) }) (grows-same _)
+    m.refused_more c.from_residual-in_err-check_paren_items.ensures.1
+    (s.unheard_after (free_on _ (c.in_ok-refuse_arrow.ensures.free g.B.Bodies.is_faithful))
+    (record { refuses = h.0; none = λ n sure loud ts z. stops (paren_ok es) _ (h.1 n) })) (grows-same _)
 
 pub returns-in_err-expr : goal.returns-in_err-expr
 returns-in_err-expr g c = λ k apart.
     m.refused_more c.from_residual-in_err-expr.ensures.1
-    (s.unheard_memory (s.forgoes_later c.in_ok-check_paren_items.ensures.checks.leads
-    (s.forgoes_here g.met.I.Tokens.laws _ _ _ c.in_err-expr.ensures.refused))) c.seq_of_items-node.ensures.grows
+    (s.unheard_memory (s.forgoes_later (c.in_ok-refuse_arrow.ensures.free g.B.Bodies.is_faithful).leads
+    (s.forgoes_later c.in_ok-check_paren_items.ensures.checks.leads
+    (s.forgoes_here g.met.I.Tokens.laws _ _ _ c.in_err-expr.ensures.refused)))) c.seq_of_items-node.ensures.grows
 
 pub returns : goal.returns
 returns g c = λ k apart.
@@ -40,5 +48,6 @@ returns g c = λ k apart.
     m.node_on _ c.paren_expr-node.result c.made-2.result one.from.above c.paren_expr-node.ensures.made c.made-2.ensures.ok
     c.made-2.ensures.refused c.seq_of_items-node.ensures.grows c.paren_expr-node.ensures.grows
     (s.on_answer (ap (λ v. paren_e (from_to c.args.start.lo c.args.list.end.hi) v) (sym one.stands))
+    (s.on_then (free_on _ (c.in_ok-refuse_arrow.ensures.free g.B.Bodies.is_faithful))
     (s.on_checked (paren_ok es) c.in_ok-check_paren_items.ensures.checks
-    (λ x ts h. goes (paren_ok es) _ h) (λ x ts h. stops (paren_ok es) _ h)))
+    (λ x ts h. goes (paren_ok es) _ h) (λ x ts h. stops (paren_ok es) _ h))))

@@ -77,6 +77,31 @@ use Rattle.swc_steps.proofs.Steps as s
 use Rattle.swc_left.proofs.Templates as tpl
 use Rattle.swc_operators.proofs.Updates as update
 use Rattle.swc_steps.proofs.Making as m
+use Rattle.swc_cover.proofs.Rewriting as rewriting
+use Rattle.swc_operators.specs.Assignments.{assign_by, assign_made, target_at, target_number}
+use Rattle.swc_cover.proofs.Kept.{kept-grows, kept-less, kept-then}
+use Rattle.swc_cover.proofs.Kept as cover_kept
+use Rattle.swc_productions.proofs.ArrowBegins as told
+use Rattle.swc_arrows.proofs.BaseLaws as base_law
+use Rattle.swc_arrows.specs.Readers.{async_arrow, list_behind, list_head}
+use Rattle.swc_arrows.specs.Answers.{callee_at, callee_parts}
+use Rattle.swc_arrows.proofs.HeadLaws as head_law
+use Rattle.swc_arrows.specs.Answers.{body_at, body_of}
+use Rattle.swc_bodies.specs.Readings.{is_brace}
+use Rattle.swc_context.specs.Contexts.{view as deciding}
+use Rattle.swc_nodes.specs.GrowingNodes.{body_end}
+use Rattle.swc_nodes.proofs.Lists.{apart-more, list-later, same_first}
+use Rattle.swc_productions.proofs.ring.+productions.Goals.{parse_arrow_body-then-value}
+use Rattle.swc_productions.proofs.ring.+productions.Goals.{parse_arrow_body-else-value+in-Ok-parse_assignment_expr}
+use Rattle.swc_productions.proofs.ring.+productions.Goals.{parse_arrow_body-else-value+in-Err-parse_assignment_expr}
+use Rattle.swc_arrows.proofs.Dooms.{doomed_later, doomed_unheard, fails_later, opens_after, opens_call_read, opens_later, recovered_fails}
+use Rattle.swc_arrows.proofs.Begun as begun
+use Rattle.swc_arrows.specs.Readers.{arrow_end, block_inside, name_arrow, others}
+use Rattle.swc_nodes.specs.Lists.{pat_trees}
+use Rattle.swc_productions.proofs.ArrowOrAssign as way
+use Rattle.swc_productions.proofs.ArrowBodies as bodies
+use Rattle.swc_productions.proofs.InnerCalls as inside
+use Rattle.swc_grammar.specs.Scope.{inner}
 use Rattle.swc_primary.specs.Methods.{async_in, generator_in, method_end, method_inside, method_function}
 use Rattle.swc_primary.proofs.Functions as function
 use Rattle.swc_primary.proofs.Keyed as method
@@ -220,13 +245,13 @@ parse_primary_expr-returns-in_ok-props-in-Object g t c =
 
 pub parse_primary_expr-returns-in_err-start-in-Template : goal.parse_primary_expr-returns-in_err-start-in-Template
 parse_primary_expr-returns-in_err-start-in-Template g t c =
-    let picked = s.on_seen {g = run g.B.BodyForms.forms (at (Template false))} c.in_ok-look.ensures.looks (λ x ts same e. rule.template_picked _ x ts (ap (at_token is_backquote) e ∙ opening.is_template _ (sym c.primary_kind.ensures ∙ c.in-Template.is))) in
+    let picked = s.on_seen {g = run g.B.BodyForms.forms (at (Template false))} c.in_ok-look.ensures.looks (λ x ts same e. rule.template_picked _ x ts (s.no_head same) (ap (at_token is_backquote) e ∙ opening.is_template _ (sym c.primary_kind.ensures ∙ c.in-Template.is))) in
     m.refused c.from_residual-in_err-start-in-Template.ensures.1
     (s.unheard_after picked (s.unheard_call _ (tpl.template_splits _ false) (c.in_err-start-in-Template.ensures.expects g.B.Bodies.is_faithful))) (grows-same _)
 
 pub parse_primary_expr-returns-in_err-parts-in-Template : goal.parse_primary_expr-returns-in_err-parts-in-Template
 parse_primary_expr-returns-in_err-parts-in-Template g t c =
-    let picked = s.on_seen {g = run g.B.BodyForms.forms (at (Template false))} c.in_ok-look.ensures.looks (λ x ts same e. rule.template_picked _ x ts (ap (at_token is_backquote) e ∙ opening.is_template _ (sym c.primary_kind.ensures ∙ c.in-Template.is))) in
+    let picked = s.on_seen {g = run g.B.BodyForms.forms (at (Template false))} c.in_ok-look.ensures.looks (λ x ts same e. rule.template_picked _ x ts (s.no_head same) (ap (at_token is_backquote) e ∙ opening.is_template _ (sym c.primary_kind.ensures ∙ c.in-Template.is))) in
     let start = c.in_ok-start-in-Template.start in
     m.refused c.from_residual-in_err-parts-in-Template.ensures.1
     (s.unheard_after (s.on_then picked (s.on_call _ (tpl.template_splits _ false) (c.in_ok-start-in-Template.ensures.expects g.B.Bodies.is_faithful).on))
@@ -237,7 +262,7 @@ parse_primary_expr-tpl-node-requires g t c = record { apart = apart-down (exprs_
 
 pub parse_primary_expr-returns-in_ok-parts-in-Template : goal.parse_primary_expr-returns-in_ok-parts-in-Template
 parse_primary_expr-returns-in_ok-parts-in-Template g t c =
-    let picked = s.on_seen {g = run g.B.BodyForms.forms (at (Template false))} c.in_ok-look.ensures.looks (λ x ts same e. rule.template_picked _ x ts (ap (at_token is_backquote) e ∙ opening.is_template _ (sym c.primary_kind.ensures ∙ c.in-Template.is))) in
+    let picked = s.on_seen {g = run g.B.BodyForms.forms (at (Template false))} c.in_ok-look.ensures.looks (λ x ts same e. rule.template_picked _ x ts (s.no_head same) (ap (at_token is_backquote) e ∙ opening.is_template _ (sym c.primary_kind.ensures ∙ c.in-Template.is))) in
     let start = c.in_ok-start-in-Template.start in
     let parts = c.in_ok-parts-in-Template.parts in
     let now = c.parse_tpl_elements.new.p.nodes in
@@ -632,14 +657,14 @@ pub parse_lhs_expr-returns-in_err-base : goal.parse_lhs_expr-returns-in_err-base
 parse_lhs_expr-returns-in_err-base g t c =
     m.refused c.from_residual-in_err-base.ensures.1
     (s.unheard_after (s.on_seen {g = λ x ts. plain_base _ true x ts >>= (λ p. run _ (links true p.0) x p.1)} c.in_ok-look.ensures.looks
-    (λ x ts same e. link.lhs_splits _ true x ts (link.not_new (first ts)
+    (λ x ts same e. link.lhs_splits _ true x ts (s.no_head same) (link.not_new (first ts)
     (ap (λ o. at_token is_super o || at_token is_import o) e ∙ sym c.is_super_or_import.ensures ∙ c.if-is_super_or_import.true))))
     (s.unheard_call (λ x p. run _ (links true p.0) x p.1) (λ x ts. refl) c.in_err-base.ensures.reads)) c.parse_base.ensures.grows
 
 pub parse_lhs_expr-returns-then-is_super_or_import : goal.parse_lhs_expr-returns-then-is_super_or_import
 parse_lhs_expr-returns-then-is_super_or_import g t c =
     m.after {m = record c.args.p.now { input = c.look.new.input }} c.parse_subscripts.result (s.on_seen {g = λ x ts. plain_base _ true x ts >>= (λ p. run _ (links true p.0) x p.1)} c.in_ok-look.ensures.looks
-    (λ x ts same e. link.lhs_splits _ true x ts (link.not_new (first ts)
+    (λ x ts same e. link.lhs_splits _ true x ts (s.no_head same) (link.not_new (first ts)
     (ap (λ o. at_token is_super o || at_token is_import o) e ∙ sym c.is_super_or_import.ensures ∙ c.if-is_super_or_import.true)))) (grows-same _)
     (m.call c.parse_subscripts.result (λ x p. run _ (links true p.0) x p.1) (λ x ts. refl)
     c.in_ok-base.ensures.reads c.parse_base.ensures.grows (λ x. from-down c.in_ok-base.ensures.from.above) c.parse_subscripts.ensures)
@@ -652,7 +677,7 @@ parse_lhs_expr-returns-in_err-callee g t c =
     (c.set_ctx-2.ensures.context ∙ c.get_ctx-ctx.ensures) in
     m.refused c.from_residual-in_err-callee.ensures.1
     (s.unheard_after (s.on_seen {g = λ x ts. run _ (at (Lhs false)) x ts >>= (λ p. run _ (links true p.0) x p.1)} c.in_ok-look.ensures.looks
-    (λ x ts same e. link.lhs_parts _ x ts (ap (λ o. at_token is_super o || at_token is_import o) e ∙ sym c.is_super_or_import.ensures ∙ c.if-is_super_or_import.false)))
+    (λ x ts same e. link.lhs_parts _ x ts (s.no_head same) (ap (λ o. at_token is_super o || at_token is_import o) e ∙ sym c.is_super_or_import.ensures ∙ c.if-is_super_or_import.false)))
     (s.unheard_call (λ x p. run _ (links true p.0) x p.1) (λ x ts. refl)
     (s.parses_err g.I.Tokens.model g.B.Bodies.is_faithful tree (run _ (at (Lhs false))) _ _ c.parse_member_expr-member.result _ c.in_err-callee.was member)))
     c.parse_member_expr-member.ensures.grows
@@ -673,7 +698,7 @@ parse_lhs_expr-returns g t c =
     let read = s.parses_ok g.I.Tokens.model g.B.Bodies.is_faithful tree (run _ (at (Lhs false))) _ _ c.parse_member_expr-member.result c.in_ok-callee.callee c.in_ok-callee.was member in
     let held = m.held_is _ c.parse_member_expr-member.result c.in_ok-callee.callee c.in_ok-callee.was c.parse_member_expr-member.ensures.from in
     m.after {m = record c.args.p.now { input = c.look.new.input }} c.parse_subscripts-2.result (s.on_seen {g = λ x ts. run _ (at (Lhs false)) x ts >>= (λ p. run _ (links true p.0) x p.1)} c.in_ok-look.ensures.looks
-    (λ x ts same e. link.lhs_parts _ x ts (ap (λ o. at_token is_super o || at_token is_import o) e ∙ sym c.is_super_or_import.ensures ∙ c.if-is_super_or_import.false))) (grows-same _)
+    (λ x ts same e. link.lhs_parts _ x ts (s.no_head same) (ap (λ o. at_token is_super o || at_token is_import o) e ∙ sym c.is_super_or_import.ensures ∙ c.if-is_super_or_import.false))) (grows-same _)
     (m.call c.parse_subscripts-2.result (λ x p. run _ (links true p.0) x p.1) (λ x ts. refl)
     read c.parse_member_expr-member.ensures.grows (λ x. from-down held.above) c.parse_subscripts-2.ensures)
 
@@ -687,14 +712,14 @@ parse_member_expr-returns-in_err-base g t c =
     let b = false in
     m.refused c.from_residual-in_err-base.ensures.1
     (s.unheard_after (s.on_seen {g = λ x ts. plain_base _ b x ts >>= (λ p. run _ (links b p.0) x p.1)} c.in_ok-look.ensures.looks
-    (λ x ts same e. link.lhs_splits _ b x ts (ap (at_token is_new) e ∙ sym c.is_sign.ensures.value ∙ c.if-not-is_sign.true)))
+    (λ x ts same e. link.lhs_splits _ b x ts (s.no_head same) (ap (at_token is_new) e ∙ sym c.is_sign.ensures.value ∙ c.if-not-is_sign.true)))
     (s.unheard_call (λ x p. run _ (links b p.0) x p.1) (λ x ts. refl) c.in_err-base.ensures.reads)) c.parse_base.ensures.grows
 
 pub parse_member_expr-returns-then-not-is_sign : goal.parse_member_expr-returns-then-not-is_sign
 parse_member_expr-returns-then-not-is_sign g t c =
     let b = false in
     m.after {m = record c.args.p.now { input = c.look.new.input }} c.parse_subscripts.result (s.on_seen {g = λ x ts. plain_base _ b x ts >>= (λ p. run _ (links b p.0) x p.1)} c.in_ok-look.ensures.looks
-    (λ x ts same e. link.lhs_splits _ b x ts (ap (at_token is_new) e ∙ sym c.is_sign.ensures.value ∙ c.if-not-is_sign.true))) (grows-same _)
+    (λ x ts same e. link.lhs_splits _ b x ts (s.no_head same) (ap (at_token is_new) e ∙ sym c.is_sign.ensures.value ∙ c.if-not-is_sign.true))) (grows-same _)
     (m.call c.parse_subscripts.result (λ x p. run _ (links b p.0) x p.1) (λ x ts. refl)
     c.in_ok-base.ensures.reads c.parse_base.ensures.grows (λ x. from-down c.in_ok-base.ensures.from.above) c.parse_subscripts.ensures)
 
@@ -704,7 +729,7 @@ parse_member_expr-returns-in_err-eat g t c =
     let b = false in
     let start = c.cur_span-start.result in
     let place = s.place_was first start c.cur_span-start.ensures in
-    let seen = s.on_seen {f = run g.B.BodyForms.forms (at (Lhs b))} {g = new_lhs g.B.BodyForms.forms b} c.in_ok-look.ensures.looks (λ x ts same e. link.new_splits g.B.BodyForms.forms b x ts (ap (at_token is_new) e ∙ sym c.is_sign.ensures.value ∙ c.if-not-is_sign.false)) in
+    let seen = s.on_seen {f = run g.B.BodyForms.forms (at (Lhs b))} {g = new_lhs g.B.BodyForms.forms b} c.in_ok-look.ensures.looks (λ x ts same e. link.new_splits g.B.BodyForms.forms b x ts (s.no_head same) (ap (at_token is_new) e ∙ sym c.is_sign.ensures.value ∙ c.if-not-is_sign.false)) in
     let behind = s.on_then seen (s.on_took {f = new_lhs g.B.BodyForms.forms b} {g = new_tail g.B.BodyForms.forms b start} g.met.I.Tokens.laws first
     (λ x ts. link.new_opens g.B.BodyForms.forms b (plain first.was) x ts ∙ ap (λ v. new_tail g.B.BodyForms.forms b v x ts) (sym place))) in
     m.refused c.from_residual-in_err-eat.ensures.1
@@ -717,7 +742,7 @@ parse_member_expr-returns-in_err-target-in-Some g t c =
     let b = false in
     let start = c.cur_span-start.result in
     let place = s.place_was first start c.cur_span-start.ensures in
-    let seen = s.on_seen {f = run g.B.BodyForms.forms (at (Lhs b))} {g = new_lhs g.B.BodyForms.forms b} c.in_ok-look.ensures.looks (λ x ts same e. link.new_splits g.B.BodyForms.forms b x ts (ap (at_token is_new) e ∙ sym c.is_sign.ensures.value ∙ c.if-not-is_sign.false)) in
+    let seen = s.on_seen {f = run g.B.BodyForms.forms (at (Lhs b))} {g = new_lhs g.B.BodyForms.forms b} c.in_ok-look.ensures.looks (λ x ts same e. link.new_splits g.B.BodyForms.forms b x ts (s.no_head same) (ap (at_token is_new) e ∙ sym c.is_sign.ensures.value ∙ c.if-not-is_sign.false)) in
     let behind = s.on_then seen (s.on_took {f = new_lhs g.B.BodyForms.forms b} {g = new_tail g.B.BodyForms.forms b start} g.met.I.Tokens.laws first
     (λ x ts. link.new_opens g.B.BodyForms.forms b (plain first.was) x ts ∙ ap (λ v. new_tail g.B.BodyForms.forms b v x ts) (sym place))) in
     let some = s.eats_some g.B.Bodies.is_faithful is_dot _ c.in-Some.field-0 _ _ c.in-Some.is (c.in_ok-eat.ensures.eats g.B.Bodies.is_faithful) in
@@ -731,7 +756,7 @@ parse_member_expr-returns-in-Some g t c =
     let b = false in
     let start = c.cur_span-start.result in
     let place = s.place_was first start c.cur_span-start.ensures in
-    let seen = s.on_seen {f = run g.B.BodyForms.forms (at (Lhs b))} {g = new_lhs g.B.BodyForms.forms b} c.in_ok-look.ensures.looks (λ x ts same e. link.new_splits g.B.BodyForms.forms b x ts (ap (at_token is_new) e ∙ sym c.is_sign.ensures.value ∙ c.if-not-is_sign.false)) in
+    let seen = s.on_seen {f = run g.B.BodyForms.forms (at (Lhs b))} {g = new_lhs g.B.BodyForms.forms b} c.in_ok-look.ensures.looks (λ x ts same e. link.new_splits g.B.BodyForms.forms b x ts (s.no_head same) (ap (at_token is_new) e ∙ sym c.is_sign.ensures.value ∙ c.if-not-is_sign.false)) in
     let behind = s.on_then seen (s.on_took {f = new_lhs g.B.BodyForms.forms b} {g = new_tail g.B.BodyForms.forms b start} g.met.I.Tokens.laws first
     (λ x ts. link.new_opens g.B.BodyForms.forms b (plain first.was) x ts ∙ ap (λ v. new_tail g.B.BodyForms.forms b v x ts) (sym place))) in
     let some = s.eats_some g.B.Bodies.is_faithful is_dot _ c.in-Some.field-0 _ _ c.in-Some.is (c.in_ok-eat.ensures.eats g.B.Bodies.is_faithful) in
@@ -745,7 +770,7 @@ parse_member_expr-returns-in_err-callee g t c =
     let b = false in
     let start = c.cur_span-start.result in
     let place = s.place_was first start c.cur_span-start.ensures in
-    let seen = s.on_seen {f = run g.B.BodyForms.forms (at (Lhs b))} {g = new_lhs g.B.BodyForms.forms b} c.in_ok-look.ensures.looks (λ x ts same e. link.new_splits g.B.BodyForms.forms b x ts (ap (at_token is_new) e ∙ sym c.is_sign.ensures.value ∙ c.if-not-is_sign.false)) in
+    let seen = s.on_seen {f = run g.B.BodyForms.forms (at (Lhs b))} {g = new_lhs g.B.BodyForms.forms b} c.in_ok-look.ensures.looks (λ x ts same e. link.new_splits g.B.BodyForms.forms b x ts (s.no_head same) (ap (at_token is_new) e ∙ sym c.is_sign.ensures.value ∙ c.if-not-is_sign.false)) in
     let behind = s.on_then seen (s.on_took {f = new_lhs g.B.BodyForms.forms b} {g = new_tail g.B.BodyForms.forms b start} g.met.I.Tokens.laws first
     (λ x ts. link.new_opens g.B.BodyForms.forms b (plain first.was) x ts ∙ ap (λ v. new_tail g.B.BodyForms.forms b v x ts) (sym place))) in
     let none = s.eats_none g.B.Bodies.is_faithful is_dot _ _ _ c.in-None.is (c.in_ok-eat.ensures.eats g.B.Bodies.is_faithful) in
@@ -759,7 +784,7 @@ parse_member_expr-returns-in_err-refuse_opt_chain g t c =
     let b = false in
     let start = c.cur_span-start.result in
     let place = s.place_was first start c.cur_span-start.ensures in
-    let seen = s.on_seen {f = run g.B.BodyForms.forms (at (Lhs b))} {g = new_lhs g.B.BodyForms.forms b} c.in_ok-look.ensures.looks (λ x ts same e. link.new_splits g.B.BodyForms.forms b x ts (ap (at_token is_new) e ∙ sym c.is_sign.ensures.value ∙ c.if-not-is_sign.false)) in
+    let seen = s.on_seen {f = run g.B.BodyForms.forms (at (Lhs b))} {g = new_lhs g.B.BodyForms.forms b} c.in_ok-look.ensures.looks (λ x ts same e. link.new_splits g.B.BodyForms.forms b x ts (s.no_head same) (ap (at_token is_new) e ∙ sym c.is_sign.ensures.value ∙ c.if-not-is_sign.false)) in
     let behind = s.on_then seen (s.on_took {f = new_lhs g.B.BodyForms.forms b} {g = new_tail g.B.BodyForms.forms b start} g.met.I.Tokens.laws first
     (λ x ts. link.new_opens g.B.BodyForms.forms b (plain first.was) x ts ∙ ap (λ v. new_tail g.B.BodyForms.forms b v x ts) (sym place))) in
     let none = s.eats_none g.B.Bodies.is_faithful is_dot _ _ _ c.in-None.is (c.in_ok-eat.ensures.eats g.B.Bodies.is_faithful) in
@@ -774,7 +799,7 @@ parse_member_expr-returns-in_err-eat-2 g t c =
     let b = false in
     let start = c.cur_span-start.result in
     let place = s.place_was first start c.cur_span-start.ensures in
-    let seen = s.on_seen {f = run g.B.BodyForms.forms (at (Lhs b))} {g = new_lhs g.B.BodyForms.forms b} c.in_ok-look.ensures.looks (λ x ts same e. link.new_splits g.B.BodyForms.forms b x ts (ap (at_token is_new) e ∙ sym c.is_sign.ensures.value ∙ c.if-not-is_sign.false)) in
+    let seen = s.on_seen {f = run g.B.BodyForms.forms (at (Lhs b))} {g = new_lhs g.B.BodyForms.forms b} c.in_ok-look.ensures.looks (λ x ts same e. link.new_splits g.B.BodyForms.forms b x ts (s.no_head same) (ap (at_token is_new) e ∙ sym c.is_sign.ensures.value ∙ c.if-not-is_sign.false)) in
     let behind = s.on_then seen (s.on_took {f = new_lhs g.B.BodyForms.forms b} {g = new_tail g.B.BodyForms.forms b start} g.met.I.Tokens.laws first
     (λ x ts. link.new_opens g.B.BodyForms.forms b (plain first.was) x ts ∙ ap (λ v. new_tail g.B.BodyForms.forms b v x ts) (sym place))) in
     let none = s.eats_none g.B.Bodies.is_faithful is_dot _ _ _ c.in-None.is (c.in_ok-eat.ensures.eats g.B.Bodies.is_faithful) in
@@ -792,7 +817,7 @@ parse_member_expr-returns-in_err-list-in-Some-2 g t c =
     let b = false in
     let start = c.cur_span-start.result in
     let place = s.place_was first start c.cur_span-start.ensures in
-    let seen = s.on_seen {f = run g.B.BodyForms.forms (at (Lhs b))} {g = new_lhs g.B.BodyForms.forms b} c.in_ok-look.ensures.looks (λ x ts same e. link.new_splits g.B.BodyForms.forms b x ts (ap (at_token is_new) e ∙ sym c.is_sign.ensures.value ∙ c.if-not-is_sign.false)) in
+    let seen = s.on_seen {f = run g.B.BodyForms.forms (at (Lhs b))} {g = new_lhs g.B.BodyForms.forms b} c.in_ok-look.ensures.looks (λ x ts same e. link.new_splits g.B.BodyForms.forms b x ts (s.no_head same) (ap (at_token is_new) e ∙ sym c.is_sign.ensures.value ∙ c.if-not-is_sign.false)) in
     let behind = s.on_then seen (s.on_took {f = new_lhs g.B.BodyForms.forms b} {g = new_tail g.B.BodyForms.forms b start} g.met.I.Tokens.laws first
     (λ x ts. link.new_opens g.B.BodyForms.forms b (plain first.was) x ts ∙ ap (λ v. new_tail g.B.BodyForms.forms b v x ts) (sym place))) in
     let none = s.eats_none g.B.Bodies.is_faithful is_dot _ _ _ c.in-None.is (c.in_ok-eat.ensures.eats g.B.Bodies.is_faithful) in
@@ -818,7 +843,7 @@ parse_member_expr-returns-in_err-base-in-Some-2 g t c =
     let b = false in
     let start = c.cur_span-start.result in
     let place = s.place_was first start c.cur_span-start.ensures in
-    let seen = s.on_seen {f = run g.B.BodyForms.forms (at (Lhs b))} {g = new_lhs g.B.BodyForms.forms b} c.in_ok-look.ensures.looks (λ x ts same e. link.new_splits g.B.BodyForms.forms b x ts (ap (at_token is_new) e ∙ sym c.is_sign.ensures.value ∙ c.if-not-is_sign.false)) in
+    let seen = s.on_seen {f = run g.B.BodyForms.forms (at (Lhs b))} {g = new_lhs g.B.BodyForms.forms b} c.in_ok-look.ensures.looks (λ x ts same e. link.new_splits g.B.BodyForms.forms b x ts (s.no_head same) (ap (at_token is_new) e ∙ sym c.is_sign.ensures.value ∙ c.if-not-is_sign.false)) in
     let behind = s.on_then seen (s.on_took {f = new_lhs g.B.BodyForms.forms b} {g = new_tail g.B.BodyForms.forms b start} g.met.I.Tokens.laws first
     (λ x ts. link.new_opens g.B.BodyForms.forms b (plain first.was) x ts ∙ ap (λ v. new_tail g.B.BodyForms.forms b v x ts) (sym place))) in
     let none = s.eats_none g.B.Bodies.is_faithful is_dot _ _ _ c.in-None.is (c.in_ok-eat.ensures.eats g.B.Bodies.is_faithful) in
@@ -839,7 +864,7 @@ parse_member_expr-returns-in_ok-base-in-Some-2 g t c =
     let b = false in
     let start = c.cur_span-start.result in
     let place = s.place_was first start c.cur_span-start.ensures in
-    let seen = s.on_seen {f = run g.B.BodyForms.forms (at (Lhs b))} {g = new_lhs g.B.BodyForms.forms b} c.in_ok-look.ensures.looks (λ x ts same e. link.new_splits g.B.BodyForms.forms b x ts (ap (at_token is_new) e ∙ sym c.is_sign.ensures.value ∙ c.if-not-is_sign.false)) in
+    let seen = s.on_seen {f = run g.B.BodyForms.forms (at (Lhs b))} {g = new_lhs g.B.BodyForms.forms b} c.in_ok-look.ensures.looks (λ x ts same e. link.new_splits g.B.BodyForms.forms b x ts (s.no_head same) (ap (at_token is_new) e ∙ sym c.is_sign.ensures.value ∙ c.if-not-is_sign.false)) in
     let behind = s.on_then seen (s.on_took {f = new_lhs g.B.BodyForms.forms b} {g = new_tail g.B.BodyForms.forms b start} g.met.I.Tokens.laws first
     (λ x ts. link.new_opens g.B.BodyForms.forms b (plain first.was) x ts ∙ ap (λ v. new_tail g.B.BodyForms.forms b v x ts) (sym place))) in
     let none = s.eats_none g.B.Bodies.is_faithful is_dot _ _ _ c.in-None.is (c.in_ok-eat.ensures.eats g.B.Bodies.is_faithful) in
@@ -861,7 +886,7 @@ parse_member_expr-returns-in-None-2 g t c =
     let b = false in
     let start = c.cur_span-start.result in
     let place = s.place_was first start c.cur_span-start.ensures in
-    let seen = s.on_seen {f = run g.B.BodyForms.forms (at (Lhs b))} {g = new_lhs g.B.BodyForms.forms b} c.in_ok-look.ensures.looks (λ x ts same e. link.new_splits g.B.BodyForms.forms b x ts (ap (at_token is_new) e ∙ sym c.is_sign.ensures.value ∙ c.if-not-is_sign.false)) in
+    let seen = s.on_seen {f = run g.B.BodyForms.forms (at (Lhs b))} {g = new_lhs g.B.BodyForms.forms b} c.in_ok-look.ensures.looks (λ x ts same e. link.new_splits g.B.BodyForms.forms b x ts (s.no_head same) (ap (at_token is_new) e ∙ sym c.is_sign.ensures.value ∙ c.if-not-is_sign.false)) in
     let behind = s.on_then seen (s.on_took {f = new_lhs g.B.BodyForms.forms b} {g = new_tail g.B.BodyForms.forms b start} g.met.I.Tokens.laws first
     (λ x ts. link.new_opens g.B.BodyForms.forms b (plain first.was) x ts ∙ ap (λ v. new_tail g.B.BodyForms.forms b v x ts) (sym place))) in
     let none = s.eats_none g.B.Bodies.is_faithful is_dot _ _ _ c.in-None.is (c.in_ok-eat.ensures.eats g.B.Bodies.is_faithful) in
@@ -1148,7 +1173,7 @@ parse_subscripts-returns-in_err-parts-in-Template g t c =
     (chain.not_linked g.B.BodyForms.forms c.args.p.now c.loop-head.p _ c.loop-head.invariant c.in-Some.is
     (c.in_ok-head.ensures.heads g.B.Bodies.is_faithful)
     (m.no (s.unheard_call (λ x p. tagged_node c.in-Template.start l p.0 x p.1)
-    (λ x ts. link.tail_template _ c.in-Some.head c.in-Template.start l x ts c.in-Template.is) c.in_err-parts-in-Template.ensures.reads) c.parse_tpl_elements.ensures.grows))
+    (λ x ts. link.tail_template _ c.in-Some.head c.in-Template.start l x ts c.in-Template.is) (s.unheard_inner c.in_err-parts-in-Template.ensures.reads)) c.parse_tpl_elements.ensures.grows))
 
 pub parse_subscripts-tagged_tpl-requires : goal.parse_subscripts-tagged_tpl-requires
 parse_subscripts-tagged_tpl-requires g t c =
@@ -1162,7 +1187,7 @@ parse_subscripts-returns-in_err-obj-in-Template g t c =
     (c.in_ok-head.ensures.heads g.B.Bodies.is_faithful)
     (m.tail (Err _) (λ v x p. tagged_node c.in-Template.start v p.0 x p.1)
     (λ x ts. link.tail_template _ c.in-Some.head c.in-Template.start _ x ts c.in-Template.is)
-    c.in_ok-parts-in-Template.ensures.reads c.parse_tpl_elements.ensures.grows c.loop-head.invariant.3 c.in_err-obj-in-Template.ensures))
+    (s.heard_inner c.in_ok-parts-in-Template.ensures.reads) c.parse_tpl_elements.ensures.grows c.loop-head.invariant.3 c.in_err-obj-in-Template.ensures))
 
 pub parse_subscripts-loop-head-preserved : goal.parse_subscripts-loop-head-preserved
 parse_subscripts-loop-head-preserved g t c =
@@ -1170,7 +1195,7 @@ parse_subscripts-loop-head-preserved g t c =
     (c.in_ok-head.ensures.heads g.B.Bodies.is_faithful) c.in_ok-head.ensures.falls
     (m.tail (Ok _) (λ v x p. tagged_node c.in-Template.start v p.0 x p.1)
     (λ x ts. link.tail_template _ c.in-Some.head c.in-Template.start _ x ts c.in-Template.is)
-    c.in_ok-parts-in-Template.ensures.reads c.parse_tpl_elements.ensures.grows c.loop-head.invariant.3 c.in_ok-obj-in-Template.ensures)
+    (s.heard_inner c.in_ok-parts-in-Template.ensures.reads) c.parse_tpl_elements.ensures.grows c.loop-head.invariant.3 c.in_ok-obj-in-Template.ensures)
 
 pub parse_args-loop-value-init : goal.parse_args-loop-value-init
 parse_args-loop-value-init g t c =
@@ -1284,7 +1309,7 @@ parse_unary_expr-returns-in_err-arg-in-Some g t c =
     m.refused c.from_residual-in_err-arg-in-Some.ensures.1
     (s.unheard_after (s.on_seen {g = update_prefix _ op} c.in_ok-look.ensures.looks (λ x ts same e. update.update_picked _ op x ts (ap update_at e ∙ sym c.cur_update_op.ensures.value ∙ c.in-Some.is)))
     (s.unheard_after (s.on_took {g = update_tail _ q op} g.met.I.Tokens.laws first (update.update_opens _ op (plain first.was)))
-    (s.unheard_call _ (update.update_splits _ q op) c.in_err-arg-in-Some.ensures.reads))) c.parse_unary_expr.ensures.grows
+    (s.unheard_call _ (update.update_splits _ q op) (s.unheard_inner c.in_err-arg-in-Some.ensures.reads)))) c.parse_unary_expr.ensures.grows
 
 pub parse_unary_expr-returns-in-Some : goal.parse_unary_expr-returns-in-Some
 parse_unary_expr-returns-in-Some g t c =
@@ -1298,7 +1323,7 @@ parse_unary_expr-returns-in-Some g t c =
     (m.after {m = record c.args.p.now { input = c.skip.new.input }} c.update_prefix.result
     (s.on_took {g = update_tail _ q op} g.met.I.Tokens.laws first (update.update_opens _ op (plain first.was))) (grows-same _)
     (m.call {m = c.parse_unary_expr.new.p} c.update_prefix.result _ (update.update_splits _ q op)
-    c.in_ok-arg-in-Some.ensures.reads c.parse_unary_expr.ensures.grows (λ x. from-down c.in_ok-arg-in-Some.ensures.from.above)
+    (s.heard_inner c.in_ok-arg-in-Some.ensures.reads) c.parse_unary_expr.ensures.grows (λ x. from-down c.in_ok-arg-in-Some.ensures.from.above)
     (m.on_after c.update_prefix.result (s.on_here g.met.I.Tokens.laws _ (λ x ts. ap (λ v. update_node v op x arg ts) (sym place))) (grows-same _) c.update_prefix.ensures)))
 
 pub parse_unary_expr-returns-in_err-at-in-Some-cur_prefix_op : goal.parse_unary_expr-returns-in_err-at-in-Some-cur_prefix_op
@@ -1319,7 +1344,7 @@ parse_unary_expr-returns-in-Ok g t c =
     (s.on_then (s.on_took {g = unary_op_tail _ q op} g.met.I.Tokens.laws first (rule.unary_op_opens _ op (plain first.was)))
     (s.on_seen {g = unary_op_tail _ q op} c.in_ok-at-in-Some-cur_prefix_op.ensures.looks (λ x ts same e. refl))) (grows-same _)
     (m.call {m = c.parse_unary_expr-in-Some-cur_prefix_op.new.p} c.unary_expr.result _ (rule.unary_op_splits _ q op)
-    c.in-Ok.ensures.reads c.parse_unary_expr-in-Some-cur_prefix_op.ensures.grows (λ x. from-down c.in-Ok.ensures.from.above)
+    (s.heard_inner c.in-Ok.ensures.reads) c.parse_unary_expr-in-Some-cur_prefix_op.ensures.grows (λ x. from-down c.in-Ok.ensures.from.above)
     (m.on_after c.unary_expr.result (s.on_here g.met.I.Tokens.laws _ (λ x ts. ap (λ v. unary_op_node g.B.BodyForms.forms v op x arg ts) (sym place))) (grows-same _) c.unary_expr.ensures.reads)))
 
 pub parse_unary_expr-returns-in-Err : goal.parse_unary_expr-returns-in-Err
@@ -1336,7 +1361,7 @@ parse_unary_expr-returns-in-Err g t c =
     (s.parses_first g.I.Tokens.model g.B.Bodies.is_faithful view _ {g = unary_op_tail _ q op} g.met.I.Tokens.laws first (rule.unary_op_opens _ op (plain first.was)) _ r
     (s.continues_after g.I.Tokens.model g.B.Bodies.is_faithful view _ _ r (s.on_seen {g = unary_op_tail _ q op} c.in_ok-at-in-Some-cur_prefix_op.ensures.looks (λ x ts same e. refl))
     (s.continues_recovered g.I.Tokens.model g.B.Bodies.is_faithful view _ _ r
-    (s.unheard_call _ (rule.unary_op_splits _ q op) c.in-Err.ensures.reads) h.effect h.notes h.some)))
+    (s.unheard_call _ (rule.unary_op_splits _ q op) (s.unheard_inner c.in-Err.ensures.reads)) h.effect h.notes h.some)))
     (grows-then c.parse_unary_expr-in-Some-cur_prefix_op.ensures.grows h.grows) (if_from _ _ _ (λ x. x) r (grows-count c.parse_unary_expr-in-Some-cur_prefix_op.ensures.grows) h.from))
 
 pub parse_unary_expr-returns-in_err-is_await_name : goal.parse_unary_expr-returns-in_err-is_await_name
@@ -1386,7 +1411,7 @@ parse_unary_expr-returns-in_err-arg g t c =
     (s.unheard_after (s.on_checked_in {g = await_reads _ start} (await_ok (context g.I.Tokens.model now)) c.in_ok-check_await.ensures.checks
     (λ ts h. update.await_well _ start (scope g.I.Tokens.model now) ts h)
     (λ ts h. update.await_ill _ start (scope g.I.Tokens.model now) ts h))
-    (s.unheard_call (λ x p. Some (await_e (to start (span_of p.0)) p.0, p.1)) (λ x ts. refl) c.in_err-arg.ensures.reads))))) c.parse_unary_expr-then-is_await.ensures.grows
+    (s.unheard_call (λ x p. Some (await_e (to start (span_of p.0)) p.0, p.1)) (λ x ts. refl) (s.unheard_inner c.in_err-arg.ensures.reads)))))) c.parse_unary_expr-then-is_await.ensures.grows
 
 pub parse_unary_expr-returns-then-is_await : goal.parse_unary_expr-returns-then-is_await
 parse_unary_expr-returns-then-is_await g t c =
@@ -1406,12 +1431,12 @@ parse_unary_expr-returns-then-is_await g t c =
     (λ ts h. update.await_ill _ start (scope g.I.Tokens.model now) ts h))
     (s.heard_call_read (λ x p. Some (await_e (to start (span_of p.0)) p.0, p.1)) (λ x ts. refl)
     (λ x ts us h y ys. ap (λ v. Some (await_e (from_to start.lo v) (tree_of c.parse_unary_expr-then-is_await.new.p.nodes c.in_ok-arg.arg), ys))
-    (sym (ending.ended _ g.met.B.Bodies.lawful c.in_ok-arg.arg Unary x ts us c.in_ok-arg.ensures.from h))) c.in_ok-arg.ensures.reads))))
+    (sym (ending.ended _ g.met.B.Bodies.lawful c.in_ok-arg.arg Unary (inner x) ts us c.in_ok-arg.ensures.from h))) (s.heard_inner c.in_ok-arg.ensures.reads)))))
 
 pub parse_unary_expr-returns-in_err-expr : goal.parse_unary_expr-returns-in_err-expr
 parse_unary_expr-returns-in_err-expr g t c =
     m.refused c.from_residual-in_err-expr.ensures.1
-    (s.unheard_after (s.on_seen {g = λ x ts. run _ (at (Lhs true)) x ts >>= (λ p. run _ (updates p.0) x p.1)} c.in_ok-look.ensures.looks (λ x ts same e. update.operand_splits _ x ts
+    (s.unheard_after (s.on_seen {g = λ x ts. run _ (at (Lhs true)) x ts >>= (λ p. run _ (updates p.0) x p.1)} c.in_ok-look.ensures.looks (λ x ts same e. update.operand_splits _ x ts (s.no_head same)
     (update.no_update_first g.B.BodyForms.forms (first ts) (ap update_at e ∙ sym c.cur_update_op.ensures.value ∙ c.in-None.is))
     (ap (at_token is_await) e ∙ sym c.is_await.ensures.value ∙ c.if-is_await.false)
     (ap prefix_at e ∙ sym c.cur_prefix_op.ensures.value ∙ c.in-None-cur_prefix_op.is)))
@@ -1419,7 +1444,7 @@ parse_unary_expr-returns-in_err-expr g t c =
 
 pub parse_unary_expr-returns : goal.parse_unary_expr-returns
 parse_unary_expr-returns g t c =
-    m.after {m = record c.args.p.now { input = c.look.new.input }} c.parse_update_postfix.result (s.on_seen {g = λ x ts. run _ (at (Lhs true)) x ts >>= (λ p. run _ (updates p.0) x p.1)} c.in_ok-look.ensures.looks (λ x ts same e. update.operand_splits _ x ts
+    m.after {m = record c.args.p.now { input = c.look.new.input }} c.parse_update_postfix.result (s.on_seen {g = λ x ts. run _ (at (Lhs true)) x ts >>= (λ p. run _ (updates p.0) x p.1)} c.in_ok-look.ensures.looks (λ x ts same e. update.operand_splits _ x ts (s.no_head same)
     (update.no_update_first g.B.BodyForms.forms (first ts) (ap update_at e ∙ sym c.cur_update_op.ensures.value ∙ c.in-None.is))
     (ap (at_token is_await) e ∙ sym c.is_await.ensures.value ∙ c.if-is_await.false)
     (ap prefix_at e ∙ sym c.cur_prefix_op.ensures.value ∙ c.in-None-cur_prefix_op.is))) (grows-same _)
@@ -1449,12 +1474,12 @@ parse_bin_expr-returns-in-Ok g t c =
     m.after {m = record c.args.p.now { input = c.cur_pos.new.input }} r
     (s.on_seen {g = run _ (at (Level 1))} c.in_ok-first.ensures.looks (λ x ts same e. refl)) (grows-same _)
     (m.call {m = c.parse_unary_expr.new.p} {j = first_at ns (first_operand ws c.in-Ok.left).0} r
-    (λ x p. run _ (climb p.0 0) x p.1) (λ x ts. rule.operand_splits _ 0 x ts (omega arith))
+    (λ x p. run _ (climb p.0 0) (inner x) p.1) (λ x ts. rule.operand_splits _ 0 x ts (omega arith))
     c.in-Ok.ensures.reads c.parse_unary_expr.ensures.grows (λ x. from-down (omega arith))
-    (m.on_after r
+    (inside.goes_inner r (m.on_after r
     (s.on_here g.met.I.Tokens.laws _
     (λ x ts. pending.reads_none forms (tree_of ns) ws c.in-Ok.left x ts c.new-pending.ensures))
-    (grows-same _) c.parse_operators.ensures))
+    (grows-same _) c.parse_operators.ensures)))
 
 pub parse_bin_expr-returns-in_err-left-in-Err : goal.parse_bin_expr-returns-in_err-left-in-Err
 parse_bin_expr-returns-in_err-left-in-Err g t c =
@@ -1807,23 +1832,39 @@ parse_assignment_expr-returns-in_err-require_cur g t c =
     m.refused c.from_residual.ensures.1
     (s.unheard_unfit g.met.I.Tokens.laws (λ x ts h. rule.assign_bad _ x ts h) c.in_err-require_cur.ensures.fits) (grows-same _)
 
-pub parse_assignment_expr-returns-in_err-left : goal.parse_assignment_expr-returns-in_err-left
-parse_assignment_expr-returns-in_err-left g t c =
-    m.refused c.from_residual-in_err-left.ensures.1
-    (s.unheard_after (s.on_seen {g = λ x ts. run _ (at (Level 1)) x ts >>= (λ p. run _ (assigns p.0) x p.1)} c.in_ok-require_cur.ensures.fits (λ x ts same e. assign.assign_splits _ x ts
-    (ap (λ v. at_token is_yield v && x.context.in_generator) e ∙ ap (λ v. at_token is_yield (seen c.require_cur.new.input) && v.context.in_generator) same ∙ sym c.is_yield_operator.ensures.value ∙ c.if-not-is_yield_operator.true)
-    (ap (at_token no_error) e ∙ c.in_ok-require_cur.ensures.token)))
-    (s.unheard_call (λ x p. run _ (assigns p.0) x p.1) (λ x ts. refl) c.in_err-left.ensures.reads)) c.parse_bin_expr.ensures.grows
+pub parse_assignment_expr-parse_arrow_or_assign-requires : goal.parse_assignment_expr-parse_arrow_or_assign-requires
+parse_assignment_expr-parse_arrow_or_assign-requires g t c =
+    let falls = c.require_cur.ensures.falls in
+    λ κs outlives. (
+      search rules,
+      (
+        search rules,
+        (
+          search rules,
+          (
+            search rules,
+            (
+              search rules,
+              (
+                search rules,
+                (
+                  opening.looked c.in_ok-require_cur.ensures.fits,
+                  (
+                    c.in_ok-require_cur.ensures.token,
+                    sym c.is_yield_operator.ensures.value ∙ c.if-not-is_yield_operator.true,
+                  ),
+                ),
+              ),
+            ),
+          ),
+        ),
+      ),
+    )
 
 pub parse_assignment_expr-returns-then-not-is_yield_operator : goal.parse_assignment_expr-returns-then-not-is_yield_operator
 parse_assignment_expr-returns-then-not-is_yield_operator g t c =
-    m.after {m = record c.args.p.now { input = c.require_cur.new.input }} c.finish_assignment_expr.result (s.on_seen {g = λ x ts. run _ (at (Level 1)) x ts >>= (λ p. run _ (assigns p.0) x p.1)} c.in_ok-require_cur.ensures.fits (λ x ts same e. assign.assign_splits _ x ts
-    (ap (λ v. at_token is_yield v && x.context.in_generator) e ∙ ap (λ v. at_token is_yield (seen c.require_cur.new.input) && v.context.in_generator) same ∙ sym c.is_yield_operator.ensures.value ∙ c.if-not-is_yield_operator.true)
-    (ap (at_token no_error) e ∙ c.in_ok-require_cur.ensures.token))) (grows-same _)
-    (m.call_read c.finish_assignment_expr.result (λ x p. run _ (assigns p.0) x p.1) (λ x ts. refl)
-    c.in_ok-left.ensures.reads (λ x ts us h y ys. assign.from_place _ _ _ y ys
-    (ending.begun _ g.met.B.Bodies.lawful c.in_ok-left.left (Level 1) x ts us c.in_ok-left.ensures.from h))
-    c.parse_bin_expr.ensures.grows (λ x. from-down c.in_ok-left.ensures.from.above) c.finish_assignment_expr.ensures)
+    m.after {m = record c.args.p.now { input = c.require_cur.new.input }} c.parse_arrow_or_assign.result
+    (s.on_seen {g = run _ (at Assign)} c.in_ok-require_cur.ensures.fits (λ x ts same e. refl)) (grows-same _) c.parse_arrow_or_assign.ensures
 
 pub parse_assignment_expr-returns-in_err-refuse_yield_param : goal.parse_assignment_expr-returns-in_err-refuse_yield_param
 parse_assignment_expr-returns-in_err-refuse_yield_param g t c =
@@ -1926,10 +1967,475 @@ parse_assignment_expr-returns-in-Err g t c =
     (s.unheard_call (λ x q. Some (yield_e (to start (span_of q.0)) (is_some star) q.0, q.1)) (λ x ts. refl) c.in-Err.ensures.reads)))
     c.parse_assignment_expr.ensures.grows))
 
+pub parse_arrow_or_assign-parse_operators-requires-in-Base : goal.parse_arrow_or_assign-parse_operators-requires-in-Base
+parse_arrow_or_assign-parse_operators-requires-in-Base g t c =
+    let falls = (way.operated g.B.BodyForms.forms c.in-Base.is c.in-Ok.ensures).falls in
+    let one = apart-from (expr_part c.in-Base.operand) (from-down (omega arith) (way.operated g.B.BodyForms.forms c.in-Base.is c.in-Ok.ensures).from) in
+    let apart = pending.operands-as {k = 0} c.in-Base.operand (sym c.new-pending.ensures) one in
+    λ κs outlives. (search rules, (search rules, (search rules, (search rules, (search rules, (search rules, apart))))))
+
+pub parse_arrow_or_assign-returns-in_err-left-in-Base : goal.parse_arrow_or_assign-returns-in_err-left-in-Base
+parse_arrow_or_assign-returns-in_err-left-in-Base g t c =
+    let forms = g.B.BodyForms.forms in
+    let ns = c.parse_arrow_or_operand.new.p.nodes in
+    let o = s.on_here g.met.I.Tokens.laws _ (λ x ts.
+    pending.reads_none forms (tree_of ns) (all_pending c.new-pending.result) c.in-Base.operand x ts c.new-pending.ensures) in
+    m.refused c.from_residual-in_err-left-in-Base.ensures.1
+    (s.unheard_after (way.operated g.B.BodyForms.forms c.in-Base.is c.in-Ok.ensures).reads.opens.on
+    (s.unheard_call (way.climbed forms) (way.operand_climbs forms (tree_of ns c.in-Base.operand))
+    (s.unheard_after o c.in_err-left-in-Base.ensures.reads)))
+    (grows-then c.in-Ok.ensures.grows c.in_err-left-in-Base.ensures.grows)
+
+pub parse_arrow_or_assign-returns-in_ok-left-in-Base : goal.parse_arrow_or_assign-returns-in_ok-left-in-Base
+parse_arrow_or_assign-returns-in_ok-left-in-Base g t c =
+    let forms = g.B.BodyForms.forms in
+    let ns = c.parse_arrow_or_operand.new.p.nodes in
+    let ms = c.parse_operators-in-Base.new.p.nodes in
+    let left = c.in_ok-left-in-Base.left in
+    let o = s.on_here g.met.I.Tokens.laws _ (λ x ts.
+    pending.reads_none forms (tree_of ns) (all_pending c.new-pending.result) c.in-Base.operand x ts c.new-pending.ensures) in
+    let from = c.in_ok-left-in-Base.ensures.from in
+    let first = ap (λ e. first_at ns e.0) (pending.first_none c.in-Base.operand c.new-pending.ensures) in
+    let low : count c.args.p.now.nodes ≤ first_at ms left.0 =
+    let a = (way.operated g.B.BodyForms.forms c.in-Base.is c.in-Ok.ensures).from.above in let b = from.above in omega arith in
+    way.finished {j = first_at ms left.0} {m = c.parse_operators-in-Base.new.p} c.finish_assignment_expr-in-Base.result
+    (way.operators_left forms (way.operated g.B.BodyForms.forms c.in-Base.is c.in-Ok.ensures).reads (s.on_then o c.in_ok-left-in-Base.ensures.reads)
+    (λ v y ys. way.left_from forms left from v y ys))
+    (grows-then c.in-Ok.ensures.grows c.in_ok-left-in-Base.ensures.grows)
+    low (λ x. from-down low)
+    c.finish_assignment_expr-in-Base.ensures
+
+pub parse_arrow_or_assign-parse_operators-requires-in-Operand : goal.parse_arrow_or_assign-parse_operators-requires-in-Operand
+parse_arrow_or_assign-parse_operators-requires-in-Operand g t c =
+    let falls = (way.operated g.B.BodyForms.forms c.in-Operand.is c.in-Ok.ensures).falls in
+    let one = apart-from (expr_part c.in-Operand.arrow) (from-down (omega arith) (way.operated g.B.BodyForms.forms c.in-Operand.is c.in-Ok.ensures).from) in
+    let apart = pending.operands-as {k = 0} c.in-Operand.arrow (sym c.new-pending.ensures) one in
+    λ κs outlives. (search rules, (search rules, (search rules, (search rules, (search rules, (search rules, apart))))))
+
+pub parse_arrow_or_assign-returns-in_err-left-in-Operand : goal.parse_arrow_or_assign-returns-in_err-left-in-Operand
+parse_arrow_or_assign-returns-in_err-left-in-Operand g t c =
+    m.refused c.from_residual-in_err-left-in-Operand.ensures.1
+    (doomed_unheard (way.operated g.B.BodyForms.forms c.in-Operand.is c.in-Ok.ensures).reads.doomed c.in_err-left-in-Operand.ensures.reads.refuses)
+    (grows-then c.in-Ok.ensures.grows c.in_err-left-in-Operand.ensures.grows)
+
+pub parse_arrow_or_assign-returns-in_err-check_operators_end-in-Operand : goal.parse_arrow_or_assign-returns-in_err-check_operators_end-in-Operand
+parse_arrow_or_assign-returns-in_err-check_operators_end-in-Operand g t c =
+    m.refused c.from_residual-in_err-check_operators_end-in-Operand.ensures.1
+    (doomed_unheard (doomed_later (way.operated g.B.BodyForms.forms c.in-Operand.is c.in-Ok.ensures).reads.doomed c.in_ok-left-in-Operand.ensures.reads.leads)
+    (s.forgoes_refuses c.in_err-check_operators_end-in-Operand.ensures.tries))
+    (grows-then c.in-Ok.ensures.grows c.in_ok-left-in-Operand.ensures.grows)
+
+pub parse_arrow_or_assign-returns-in_err-check_nullish_left-in-Operand : goal.parse_arrow_or_assign-returns-in_err-check_nullish_left-in-Operand
+parse_arrow_or_assign-returns-in_err-check_nullish_left-in-Operand g t c =
+    m.refused c.from_residual-in_err-check_nullish_left-in-Operand.ensures.1
+    (doomed_unheard (doomed_later (doomed_later (way.operated g.B.BodyForms.forms c.in-Operand.is c.in-Ok.ensures).reads.doomed c.in_ok-left-in-Operand.ensures.reads.leads)
+    c.in_ok-check_operators_end-in-Operand.ensures.tries)
+    (s.forgoes_refuses c.in_err-check_nullish_left-in-Operand.ensures.checks))
+    (grows-then c.in-Ok.ensures.grows c.in_ok-left-in-Operand.ensures.grows)
+
+pub parse_arrow_or_assign-returns-in_ok-check_nullish_left-in-Operand : goal.parse_arrow_or_assign-returns-in_ok-check_nullish_left-in-Operand
+parse_arrow_or_assign-returns-in_ok-check_nullish_left-in-Operand g t c =
+    let from = c.in_ok-left-in-Operand.ensures.from in
+    let first = ap (λ e. first_at c.parse_arrow_or_operand.new.p.nodes e.0)
+    (pending.first_none c.in-Operand.arrow c.new-pending.ensures) in
+    let low : count c.args.p.now.nodes ≤ first_at c.parse_operators-in-Operand.new.p.nodes c.in_ok-left-in-Operand.left.0 =
+    let a = (way.operated g.B.BodyForms.forms c.in-Operand.is c.in-Ok.ensures).from.above in let b = from.above in omega arith in
+    way.failed {j = first_at c.parse_operators-in-Operand.new.p.nodes c.in_ok-left-in-Operand.left.0} {m = record c.parse_operators-in-Operand.new.p { input = c.check_nullish_left.new.input }}
+    c.finish_assignment_expr-in-Operand.result
+    (fails_later (fails_later (fails_later (way.operated g.B.BodyForms.forms c.in-Operand.is c.in-Ok.ensures).reads c.in_ok-left-in-Operand.ensures.reads.leads)
+    c.in_ok-check_operators_end-in-Operand.ensures.tries) c.in_ok-check_nullish_left-in-Operand.ensures.checks.leads)
+    (grows-then c.in-Ok.ensures.grows c.in_ok-left-in-Operand.ensures.grows)
+    low (λ x. from-down low)
+    c.finish_assignment_expr-in-Operand.ensures
+
+pub parse_arrow_or_assign-returns-in_err-left-in-Other : goal.parse_arrow_or_assign-returns-in_err-left-in-Other
+parse_arrow_or_assign-returns-in_err-left-in-Other g t c =
+    let forms = g.B.BodyForms.forms in
+    m.refused c.from_residual-in_err-left-in-Other.ensures.1
+    (s.unheard_after (way.operated g.B.BodyForms.forms c.in-Other.is c.in-Ok.ensures).reads
+    (s.unheard_call (λ x p. run forms (assigns p.0) x p.1) (begun.others_splits forms) c.in_err-left-in-Other.ensures.reads))
+    (grows-then c.in-Ok.ensures.grows c.in_err-left-in-Other.ensures.grows)
+
+pub parse_arrow_or_assign-returns-in_ok-left-in-Other : goal.parse_arrow_or_assign-returns-in_ok-left-in-Other
+parse_arrow_or_assign-returns-in_ok-left-in-Other g t c =
+    let forms = g.B.BodyForms.forms in
+    let ns = c.parse_bin_expr.new.p.nodes in
+    let left = c.in_ok-left-in-Other.left in
+    let from = c.in_ok-left-in-Other.ensures.from in
+    let low : count c.args.p.now.nodes ≤ first_at ns left.0 =
+    let a = grows-count c.in-Ok.ensures.grows in let b = from.above in omega arith in
+    way.finished {j = first_at ns left.0} {m = c.parse_bin_expr.new.p} c.finish_assignment_expr-in-Other.result
+    (opens_after (way.operated g.B.BodyForms.forms c.in-Other.is c.in-Ok.ensures).reads (opens_call_read (λ x p. run forms (assigns p.0) x p.1) (begun.others_splits forms)
+    c.in_ok-left-in-Other.ensures.reads (λ x ts us h y ys.
+    way.left_from forms left from (ending.read-valid forms g.met.B.Bodies.lawful (Level 1) x ts us (tree_of ns left) h) y ys)))
+    (grows-then c.in-Ok.ensures.grows c.in_ok-left-in-Other.ensures.grows)
+    low (λ x. from-down low)
+    c.finish_assignment_expr-in-Other.ensures
+
+pub parse_arrow_or_assign-returns-in_err-left-in-Err : goal.parse_arrow_or_assign-returns-in_err-left-in-Err
+parse_arrow_or_assign-returns-in_err-left-in-Err g t c =
+    let h = c.in_err-left-in-Err.ensures.recovers in
+    m.refused c.from_residual.ensures.1
+    (s.unheard_doomed c.in-Err.ensures.reads h.memory h.effect) (grows-then c.parse_arrow_or_operand.ensures.grows h.grows)
+
+pub parse_arrow_or_assign-take_operator-requires-clause-from : goal.parse_arrow_or_assign-take_operator-requires-clause-from
+parse_arrow_or_assign-take_operator-requires-clause-from g t c =
+    from-down (omega arith) c.in_ok-left-in-Err.ensures.recovers.from
+
+pub parse_arrow_or_assign-take_operator-requires-clause-tighter : goal.parse_arrow_or_assign-take_operator-requires-clause-tighter
+parse_arrow_or_assign-take_operator-requires-clause-tighter g t c = pending.binds_any _ c.new-pending.ensures
+
+pub parse_arrow_or_assign-returns-in_err-take_operator-in-Err : goal.parse_arrow_or_assign-returns-in_err-take_operator-in-Err
+parse_arrow_or_assign-returns-in_err-take_operator-in-Err g t c =
+    let h = c.in_ok-left-in-Err.ensures.recovers in
+    m.refused c.from_residual-in_err-take_operator-in-Err.ensures.1
+    (s.unheard_doomed c.in-Err.ensures.reads (λ n. h.some)
+    (s.refuses_later h.effect (c.in_err-take_operator-in-Err.ensures.reads g.B.Bodies.is_faithful).refuses))
+    (grows-then c.parse_arrow_or_operand.ensures.grows (grows-then h.grows (grows-kept c.take_operator.ensures.nodes)))
+
+pub parse_arrow_or_assign-returns-in_err-right-in-Err : goal.parse_arrow_or_assign-returns-in_err-right-in-Err
+parse_arrow_or_assign-returns-in_err-right-in-Err g t c =
+    let h = c.in_ok-left-in-Err.ensures.recovers in
+    let took = c.in_ok-take_operator-in-Err.ensures.reads g.B.Bodies.is_faithful in
+    m.refused c.from_residual-in_err-right-in-Err.ensures.1
+    (s.unheard_doomed c.in-Err.ensures.reads (λ n. h.some)
+    (s.refuses_later (s.leads_then h.effect took.on.leads) c.in_err-right-in-Err.ensures.reads.refuses))
+    (grows-then c.parse_arrow_or_operand.ensures.grows (grows-then h.grows
+    (grows-then (grows-kept c.take_operator.ensures.nodes) c.in_err-right-in-Err.ensures.grows)))
+
+pub parse_arrow_or_assign-parse_operators-requires : goal.parse_arrow_or_assign-parse_operators-requires
+parse_arrow_or_assign-parse_operators-requires g t c =
+    let left = c.in_ok-left-in-Err.left in
+    let kept = grows-kept c.take_operator.ensures.nodes in
+    let from = from-later {k = 0} kept (from-down (omega arith) c.in_ok-left-in-Err.ensures.recovers.from) in
+    let two = apart-more-one {k = 0} c.in_ok-right-in-Err.ensures.grows (apart-from (expr_part left) from)
+    c.in_ok-right-in-Err.ensures.from in
+    let apart = pending.operands-one {k = 0} left c.in_ok-right-in-Err.right c.in_ok-left-in-Err.op
+    c.new-pending.ensures c.in_ok-take_operator-in-Err.ensures.pushed two in
+    let spent = c.in-Err.ensures.reads.refuses.spends.read.lower in
+    let recovered = c.in_ok-left-in-Err.ensures.recovers.falls in
+    let took = c.in_ok-take_operator-in-Err.ensures.falls in
+    let read = c.in_ok-right-in-Err.ensures.falls in
+    λ κs outlives. (search rules, (search rules, (search rules, (search rules, (search rules, (search rules, apart))))))
+
+pub parse_arrow_or_assign-returns-in_err-left-in-Err-2 : goal.parse_arrow_or_assign-returns-in_err-left-in-Err-2
+parse_arrow_or_assign-returns-in_err-left-in-Err-2 g t c =
+    let h = c.in_ok-left-in-Err.ensures.recovers in
+    let took = c.in_ok-take_operator-in-Err.ensures.reads g.B.Bodies.is_faithful in
+    m.refused c.from_residual-in_err-left-in-Err-2.ensures.1
+    (s.unheard_doomed c.in-Err.ensures.reads (λ n. h.some)
+    (s.refuses_later (s.leads_then h.effect (s.leads_then took.on.leads c.in_ok-right-in-Err.ensures.reads.on.leads))
+    c.in_err-left-in-Err-2.ensures.reads.refuses))
+    (grows-then c.parse_arrow_or_operand.ensures.grows (grows-then h.grows
+    (grows-then (grows-kept c.take_operator.ensures.nodes) (grows-then c.in_ok-right-in-Err.ensures.grows
+    c.in_err-left-in-Err-2.ensures.grows))))
+
+pub parse_arrow_or_assign-returns-in-Err : goal.parse_arrow_or_assign-returns-in-Err
+parse_arrow_or_assign-returns-in-Err g t c =
+    let h = c.in_ok-left-in-Err.ensures.recovers in
+    let took = c.in_ok-take_operator-in-Err.ensures.reads g.B.Bodies.is_faithful in
+    let right = c.in_ok-right-in-Err.ensures in
+    let more = s.leads_then took.on.leads right.reads.on.leads in
+    let a = grows-count c.parse_arrow_or_operand.ensures.grows in
+    let kept = grows-then (grows-kept c.take_operator.ensures.nodes) right.grows in
+    let above = (from-later kept h.from).above in
+    let first = ap (λ e. first_at c.parse_unary_expr.new.p.nodes e.0) (pending.first_one c.in_ok-left-in-Err.left
+    c.in_ok-right-in-Err.right c.in_ok-left-in-Err.op c.new-pending.ensures c.in_ok-take_operator-in-Err.ensures.pushed) in
+    let from = c.in_ok-left-in-Err-2.ensures.from in
+    way.failed {m = c.parse_operators.new.p} c.finish_assignment_expr.result
+    (fails_later (recovered_fails c.in-Err.ensures.reads h.some h.effect h.notes more
+    (s.longer took.on.leads right.reads.on.leads took.onward)) c.in_ok-left-in-Err-2.ensures.reads.leads)
+    (grows-then c.parse_arrow_or_operand.ensures.grows (grows-then h.grows
+    (grows-then kept c.in_ok-left-in-Err-2.ensures.grows)))
+    (let b = from.above in omega arith) (λ x. from-down (omega arith))
+    c.finish_assignment_expr.ensures
+
+pub parse_arrow_or_operand-parse_subscripts-requires : goal.parse_arrow_or_operand-parse_subscripts-requires
+parse_arrow_or_operand-parse_subscripts-requires g t c =
+    let falls = (way.answered g.B.BodyForms.forms c.in-Base.is c.in_ok-other.ensures).falls in
+    let from = from-down {k = 0} (omega arith) (way.answered g.B.BodyForms.forms c.in-Base.is c.in_ok-other.ensures).from in
+    λ κs outlives. (search rules, (search rules, (search rules, (search rules, (search rules, (search rules, from))))))
+
+pub parse_arrow_or_operand-returns-in_err-callee-in-Base : goal.parse_arrow_or_operand-returns-in_err-callee-in-Base
+parse_arrow_or_operand-returns-in_err-callee-in-Base g t c =
+    let forms = g.B.BodyForms.forms in
+    let e = tree_of c.parse_arrow_or_base.new.p.nodes c.in-Base.base in
+    way.operand_refused forms _ c.from_residual-in_err-callee-in-Base.ensures.1
+    (s.unheard_after (way.answered g.B.BodyForms.forms c.in-Base.is c.in_ok-other.ensures).reads.opens.on
+    (s.unheard_call (way.linked forms) (way.base_links forms e) c.in_err-callee-in-Base.ensures.reads))
+    (grows-then (way.answered g.B.BodyForms.forms c.in-Base.is c.in_ok-other.ensures).grows c.in_err-callee-in-Base.ensures.grows)
+
+pub parse_arrow_or_operand-parse_update_postfix-requires : goal.parse_arrow_or_operand-parse_update_postfix-requires
+parse_arrow_or_operand-parse_update_postfix-requires g t c = record { from = from-down (omega arith) c.in_ok-callee-in-Base.ensures.from }
+
+pub parse_arrow_or_operand-returns-in_err-operand-in-Base : goal.parse_arrow_or_operand-returns-in_err-operand-in-Base
+parse_arrow_or_operand-returns-in_err-operand-in-Base g t c =
+    let forms = g.B.BodyForms.forms in
+    let e = tree_of c.parse_arrow_or_base.new.p.nodes c.in-Base.base in
+    way.operand_refused forms _ c.from_residual-in_err-operand-in-Base.ensures.1
+    (s.unheard_after (s.on_then (way.answered g.B.BodyForms.forms c.in-Base.is c.in_ok-other.ensures).reads.opens.on
+    (s.on_call (way.linked forms) (way.base_links forms e) c.in_ok-callee-in-Base.ensures.reads))
+    (s.unheard_call (way.updated forms) (λ x ts. refl) c.in_err-operand-in-Base.ensures.reads))
+    (grows-then (way.answered g.B.BodyForms.forms c.in-Base.is c.in_ok-other.ensures).grows
+    (grows-then c.in_ok-callee-in-Base.ensures.grows c.in_err-operand-in-Base.ensures.grows))
+
+pub parse_arrow_or_operand-returns-in_ok-operand-in-Base : goal.parse_arrow_or_operand-returns-in_ok-operand-in-Base
+parse_arrow_or_operand-returns-in_ok-operand-in-Base g t c =
+    let forms = g.B.BodyForms.forms in
+    let a = (way.answered g.B.BodyForms.forms c.in-Base.is c.in_ok-other.ensures).from.above in
+    let b = c.in_ok-callee-in-Base.ensures.from.above in
+    way.operand_read forms c.in_ok-operand-in-Base.operand
+    (way.operanded forms g.met.B.Bodies.lawful (way.answered g.B.BodyForms.forms c.in-Base.is c.in_ok-other.ensures).reads
+    c.in_ok-callee-in-Base.ensures.reads c.in_ok-operand-in-Base.ensures.reads)
+    (grows-then (way.answered g.B.BodyForms.forms c.in-Base.is c.in_ok-other.ensures).grows
+    (grows-then c.in_ok-callee-in-Base.ensures.grows c.in_ok-operand-in-Base.ensures.grows))
+    (from-down (omega arith) c.in_ok-operand-in-Base.ensures.from)
+
+pub parse_arrow_or_base-returns-in_err-head_kind : goal.parse_arrow_or_base-returns-in_err-head_kind
+parse_arrow_or_base-returns-in_err-head_kind g t c =
+    begun.may_refused g.B.BodyForms.forms _ c.from_residual.ensures.1
+    (s.unheard_memory c.in_err-head_kind.ensures.tells) (grows-same _)
+
+pub parse_arrow_or_base-returns-in-Other : goal.parse_arrow_or_base-returns-in-Other
+parse_arrow_or_base-returns-in-Other g t c =
+    let forms = g.B.BodyForms.forms in
+    begun.may_other forms (told.head_told forms (others forms) c.requires.looked (told.told_by c.in-Other.is c.in_ok-head_kind.ensures.tells)
+    c.requires.fit c.requires.no_yield (λ x ts begins is. head_law.assign_others forms x ts begins is)) (grows-same _)
+
+pub parse_arrow_or_base-returns-in_err-head-in-Name : goal.parse_arrow_or_base-returns-in_err-head-in-Name
+parse_arrow_or_base-returns-in_err-head-in-Name g t c =
+    let forms = g.B.BodyForms.forms in
+    begun.may_refused forms _ c.from_residual-in_err-head-in-Name.ensures.1
+    (s.unheard_after (told.head_told forms (name_arrow forms) c.requires.looked (told.told_by c.in-Name.is c.in_ok-head_kind.ensures.tells)
+    c.requires.fit c.requires.no_yield (λ x ts begins is. head_law.assign_name forms x ts begins is))
+    c.in_err-head-in-Name.ensures.leaves.reads) c.in_err-head-in-Name.ensures.leaves.grows
+
+pub parse_arrow_or_base-parse_arrow_rest-requires : goal.parse_arrow_or_base-parse_arrow_rest-requires
+parse_arrow_or_base-parse_arrow_rest-requires g t c =
+    let falls = c.in_ok-head_kind.ensures.falls in
+    let less = c.in_ok-head-in-Name.ensures.less in
+    let apart = told.head_apart c.parse_arrow_name.new.p.nodes c.in_ok-head-in-Name.field-0 (count c.args.p.now.nodes) 0 (omega arith) c.in-Arrow.is c.in_ok-head-in-Name.ensures.leaves.from in
+    λ κs outlives. (search rules, (search rules, (search rules, (search rules, (search rules, (search rules, apart))))))
+
+pub parse_arrow_or_base-returns-in-Arrow : goal.parse_arrow_or_base-returns-in-Arrow
+parse_arrow_or_base-returns-in-Arrow g t c =
+    let forms = g.B.BodyForms.forms in
+    let leaves = c.in_ok-head-in-Name.ensures.leaves in
+    begun.may_arrow forms {m = c.parse_arrow_name.new.p} c.parse_arrow_rest.result
+    (s.on_then (told.head_told forms (name_arrow forms) c.requires.looked (told.told_by c.in-Name.is c.in_ok-head_kind.ensures.tells)
+    c.requires.fit c.requires.no_yield (λ x ts begins is. head_law.assign_name forms x ts begins is))
+    (told.head_behind c.parse_arrow_name.new.p.nodes c.in_ok-head-in-Name.field-0 forms c.in-Arrow.is leaves.reads))
+    leaves.grows (omega arith) (c.parse_arrow_rest.ensures (count c.args.p.now.nodes)
+    (told.head_apart c.parse_arrow_name.new.p.nodes c.in_ok-head-in-Name.field-0 (count c.args.p.now.nodes) (count c.args.p.now.nodes) (omega arith) c.in-Arrow.is leaves.from))
+
+pub parse_arrow_or_base-returns-in_err-head-in-AsyncName : goal.parse_arrow_or_base-returns-in_err-head-in-AsyncName
+parse_arrow_or_base-returns-in_err-head-in-AsyncName g t c =
+    let forms = g.B.BodyForms.forms in
+    begun.may_refused forms _ c.from_residual-in_err-head-in-AsyncName.ensures.1
+    (s.unheard_after (told.head_told forms (async_arrow forms) c.requires.looked (told.told_by c.in-AsyncName.is c.in_ok-head_kind.ensures.tells)
+    c.requires.fit c.requires.no_yield (λ x ts begins is. head_law.assign_async_name forms x ts begins is))
+    c.in_err-head-in-AsyncName.ensures.leaves.reads) c.in_err-head-in-AsyncName.ensures.leaves.grows
+
+pub parse_arrow_or_base-parse_arrow_rest-requires-in-Arrow-2 : goal.parse_arrow_or_base-parse_arrow_rest-requires-in-Arrow-2
+parse_arrow_or_base-parse_arrow_rest-requires-in-Arrow-2 g t c =
+    let falls = c.in_ok-head_kind.ensures.falls in
+    let less = c.in_ok-head-in-AsyncName.ensures.less in
+    let apart = told.head_apart c.parse_async_name.new.p.nodes c.in_ok-head-in-AsyncName.field-0 (count c.args.p.now.nodes) 0 (omega arith) c.in-Arrow-2.is c.in_ok-head-in-AsyncName.ensures.leaves.from in
+    λ κs outlives. (search rules, (search rules, (search rules, (search rules, (search rules, (search rules, apart))))))
+
+pub parse_arrow_or_base-returns-in-Arrow-2 : goal.parse_arrow_or_base-returns-in-Arrow-2
+parse_arrow_or_base-returns-in-Arrow-2 g t c =
+    let forms = g.B.BodyForms.forms in
+    let leaves = c.in_ok-head-in-AsyncName.ensures.leaves in
+    begun.may_arrow forms {m = c.parse_async_name.new.p} c.parse_arrow_rest-in-Arrow-2.result
+    (s.on_then (told.head_told forms (async_arrow forms) c.requires.looked (told.told_by c.in-AsyncName.is c.in_ok-head_kind.ensures.tells)
+    c.requires.fit c.requires.no_yield (λ x ts begins is. head_law.assign_async_name forms x ts begins is))
+    (told.head_behind c.parse_async_name.new.p.nodes c.in_ok-head-in-AsyncName.field-0 forms c.in-Arrow-2.is leaves.reads))
+    leaves.grows (omega arith) (c.parse_arrow_rest-in-Arrow-2.ensures (count c.args.p.now.nodes)
+    (told.head_apart c.parse_async_name.new.p.nodes c.in_ok-head-in-AsyncName.field-0 (count c.args.p.now.nodes) (count c.args.p.now.nodes) (omega arith) c.in-Arrow-2.is leaves.from))
+
+pub parse_arrow_or_base-returns-in-Base-2 : goal.parse_arrow_or_base-returns-in-Base-2
+parse_arrow_or_base-returns-in-Base-2 g t c =
+    let forms = g.B.BodyForms.forms in
+    let async = c.in_ok-head-in-AsyncName.ensures in
+    let tells = told.told_by c.in-AsyncName.is c.in_ok-head_kind.ensures.tells in
+    begun.may_base forms c.in-Base-2.base (record {
+      opens = opens_after (told.head_told forms (async_arrow forms) c.requires.looked tells
+          c.requires.fit c.requires.no_yield (λ x ts begins is. head_law.assign_async_name forms x ts begins is))
+          (told.base_opens c.parse_async_name.new.p.nodes c.in_ok-head-in-AsyncName.field-0 forms c.in-Base-2.is async.opens);
+      heard = base_law.operand_told forms c.requires.looked tells (base_law.async_heard forms g.met.B.Bodies.lawful (told.base_hears c.parse_async_name.new.p.nodes c.in_ok-head-in-AsyncName.field-0 c.in-Base-2.is async.base));
+    }) async.leaves.grows (told.base_from c.parse_async_name.new.p.nodes c.in_ok-head-in-AsyncName.field-0 (count c.args.p.now.nodes) c.in-Base-2.is async.leaves.from)
+
+pub parse_arrow_or_base-returns-in_err-start-in-List : goal.parse_arrow_or_base-returns-in_err-start-in-List
+parse_arrow_or_base-returns-in_err-start-in-List g t c =
+    let forms = g.B.BodyForms.forms in
+    begun.may_refused forms _ c.from_residual-in_err-start-in-List.ensures.1
+    (s.unheard_after (told.head_told forms (list_head forms c.in-List.is_async) c.requires.looked (told.told_by c.in-List.is c.in_ok-head_kind.ensures.tells)
+    c.requires.fit c.requires.no_yield (λ x ts begins is. head_law.assign_listed forms x c.in-List.is_async ts begins is))
+    c.in_err-start-in-List.ensures.leaves.reads) c.in_err-start-in-List.ensures.leaves.grows
+
+pub parse_arrow_or_base-returns-in_err-list-in-List : goal.parse_arrow_or_base-returns-in_err-list-in-List
+parse_arrow_or_base-returns-in_err-list-in-List g t c =
+    let forms = g.B.BodyForms.forms in
+    let leaves = c.in_ok-start-in-List.ensures.leaves in
+    let start = c.in_ok-start-in-List.start in
+    let callee = callee_at c.open_list.new.p.nodes start.callee in
+    begun.may_refused forms _ c.from_residual-in_err-list-in-List.ensures.1
+    (s.unheard_after (s.on_then (told.head_told forms (list_head forms c.in-List.is_async) c.requires.looked (told.told_by c.in-List.is c.in_ok-head_kind.ensures.tells)
+    c.requires.fit c.requires.no_yield (λ x ts begins is. head_law.assign_listed forms x c.in-List.is_async ts begins is)) leaves.reads)
+    (s.unheard_call (λ x q. list_behind forms callee start.at q.0 x q.1) (begun.list_splits forms callee start.at)
+    c.in_err-list-in-List.ensures.reads)) (grows-then leaves.grows c.in_err-list-in-List.ensures.grows)
+
+pub parse_arrow_or_base-close_list-requires : goal.parse_arrow_or_base-close_list-requires
+parse_arrow_or_base-close_list-requires g t c =
+    apart-more c.in_ok-list-in-List.ensures.grows
+    (apart-down (callee_parts c.in_ok-start-in-List.start.callee) c.in_ok-start-in-List.ensures.leaves.from)
+    c.in_ok-list-in-List.ensures.from
+
+pub parse_arrow_or_base-returns-in_err-head-in-List : goal.parse_arrow_or_base-returns-in_err-head-in-List
+parse_arrow_or_base-returns-in_err-head-in-List g t c =
+    let forms = g.B.BodyForms.forms in
+    let opened = c.in_ok-start-in-List.ensures in
+    let start = c.in_ok-start-in-List.start in
+    let list = c.in_ok-list-in-List.ensures in
+    let told_list = told.head_told forms (list_head forms c.in-List.is_async) c.requires.looked
+    (told.told_by c.in-List.is c.in_ok-head_kind.ensures.tells) c.requires.fit c.requires.no_yield
+    (λ x ts begins is. head_law.assign_listed forms x c.in-List.is_async ts begins is) in
+    let a = grows-count opened.leaves.grows in
+    let b = grows-count list.grows in
+    let w = c.in_err-head-in-List.ensures.rewrites (count c.args.p.now.nodes) (omega arith)
+    (apart-more list.grows opened.leaves.from list.from) in
+    begun.may_refused forms _ c.from_residual-in_err-head-in-List.ensures.1
+    (s.unheard_after (told.list_opened forms g.met.B.Bodies.lawful start c.in_ok-list-in-List.list
+    (s.on_then told_list opened.leaves.reads) opened.callee opened.leaves.from list.grows list.from list.reads).on w.reads)
+    (cover_kept.grows-kept (grows-then opened.leaves.grows list.grows) (omega arith) w.kept)
+
+pub parse_arrow_or_base-parse_arrow_rest-requires-in-Arrow-3 : goal.parse_arrow_or_base-parse_arrow_rest-requires-in-Arrow-3
+parse_arrow_or_base-parse_arrow_rest-requires-in-Arrow-3 g t c =
+    let opened = c.in_ok-start-in-List.ensures in
+    let list = c.in_ok-list-in-List.ensures in
+    let a = grows-count opened.leaves.grows in
+    let b = grows-count list.grows in
+    let w = c.in_ok-head-in-List.ensures.rewrites (count c.args.p.now.nodes) (omega arith)
+    (apart-more list.grows opened.leaves.from list.from) in
+    let falls = c.in_ok-head_kind.ensures.falls in
+    let less = opened.less in
+    let read = list.falls in
+    let closed = w.falls in
+    let apart = told.head_apart c.close_list.new.p.nodes c.in_ok-head-in-List.field-0 (count c.args.p.now.nodes) 0 (omega arith) c.in-Arrow-3.is w.from in
+    λ κs outlives. (search rules, (search rules, (search rules, (search rules, (search rules, (search rules, apart))))))
+
+pub parse_arrow_or_base-returns-in-Arrow-3 : goal.parse_arrow_or_base-returns-in-Arrow-3
+parse_arrow_or_base-returns-in-Arrow-3 g t c =
+    let forms = g.B.BodyForms.forms in
+    let opened = c.in_ok-start-in-List.ensures in
+    let start = c.in_ok-start-in-List.start in
+    let list = c.in_ok-list-in-List.ensures in
+    let told_list = told.head_told forms (list_head forms c.in-List.is_async) c.requires.looked
+    (told.told_by c.in-List.is c.in_ok-head_kind.ensures.tells) c.requires.fit c.requires.no_yield
+    (λ x ts begins is. head_law.assign_listed forms x c.in-List.is_async ts begins is) in
+    let a = grows-count opened.leaves.grows in
+    let b = grows-count list.grows in
+    let w = c.in_ok-head-in-List.ensures.rewrites (count c.args.p.now.nodes) (omega arith)
+    (apart-more list.grows opened.leaves.from list.from) in
+    begun.may_arrow forms {m = c.close_list.new.p} c.parse_arrow_rest-in-Arrow-3.result
+    (s.on_then (told.list_opened forms g.met.B.Bodies.lawful start c.in_ok-list-in-List.list
+    (s.on_then told_list opened.leaves.reads) opened.callee opened.leaves.from list.grows list.from list.reads).on
+    (told.head_behind c.close_list.new.p.nodes c.in_ok-head-in-List.field-0 forms c.in-Arrow-3.is w.reads))
+    (cover_kept.grows-kept (grows-then opened.leaves.grows list.grows) (omega arith) w.kept) (omega arith)
+    (c.parse_arrow_rest-in-Arrow-3.ensures (count c.args.p.now.nodes)
+    (told.head_apart c.close_list.new.p.nodes c.in_ok-head-in-List.field-0 (count c.args.p.now.nodes) (count c.args.p.now.nodes) (omega arith) c.in-Arrow-3.is w.from))
+
+pub parse_arrow_or_base-returns-in-Base-3 : goal.parse_arrow_or_base-returns-in-Base-3
+parse_arrow_or_base-returns-in-Base-3 g t c =
+    let forms = g.B.BodyForms.forms in
+    let opened = c.in_ok-start-in-List.ensures in
+    let start = c.in_ok-start-in-List.start in
+    let list = c.in_ok-list-in-List.ensures in
+    let tells = told.told_by c.in-List.is c.in_ok-head_kind.ensures.tells in
+    let told_list = told.head_told forms (list_head forms c.in-List.is_async) c.requires.looked tells c.requires.fit
+    c.requires.no_yield (λ x ts begins is. head_law.assign_listed forms x c.in-List.is_async ts begins is) in
+    let a = grows-count opened.leaves.grows in
+    let b = grows-count list.grows in
+    let w = c.in_ok-head-in-List.ensures.rewrites (count c.args.p.now.nodes) (omega arith)
+    (apart-more list.grows opened.leaves.from list.from) in
+    begun.may_base forms c.in-Base-3.base (record {
+      opens = opens_later (told.list_opened forms g.met.B.Bodies.lawful start c.in_ok-list-in-List.list
+          (s.on_then told_list opened.leaves.reads) opened.callee opened.leaves.from list.grows list.from list.reads)
+          (told.base_on c.close_list.new.p.nodes c.in_ok-head-in-List.field-0 forms c.in-Base-3.is w.reads);
+      heard = base_law.operand_told forms c.requires.looked tells
+          (told.list_operand forms g.met.B.Bodies.lawful c.in-List.is_async start c.in_ok-list-in-List.list
+          opened.leaves.from list.grows list.from opened.opens list.reads
+          (told.base_is c.close_list.new.p.nodes c.in_ok-head-in-List.field-0 c.in-Base-3.is c.in_ok-head-in-List.ensures.base));
+    }) (cover_kept.grows-kept (grows-then opened.leaves.grows list.grows) (omega arith) w.kept)
+    (told.base_from c.close_list.new.p.nodes c.in_ok-head-in-List.field-0 (count c.args.p.now.nodes) c.in-Base-3.is w.from)
+
+pub parse_arrow_rest-returns-in-Err : goal.parse_arrow_rest-returns-in-Err
+parse_arrow_rest-returns-in-Err g t c = λ k apart. begun.rest_refused
+    (s.unheard_call (λ x p. arrow_end c.args.head.start (span_of p.0).hi c.args.head.is_async c.args.head.in_parens
+    (pat_trees (tree_at c.args.p.now.nodes) c.args.head.params) p.0 p.1)
+    (begun.arrow_splits g.B.BodyForms.forms _ _ _ _) c.in-Err.ensures.reads.reads) c.in-Err.ensures.reads.grows
+
+pub parse_arrow_rest-arrow_function-requires : goal.parse_arrow_rest-arrow_function-requires
+parse_arrow_rest-arrow_function-requires g t c =
+    apart-more c.in-Ok.ensures.reads.grows c.requires c.in-Ok.ensures.reads.from
+
+pub parse_arrow_rest-returns-in-Ok : goal.parse_arrow_rest-returns-in-Ok
+parse_arrow_rest-returns-in-Ok g t c =
+    let forms = g.B.BodyForms.forms in
+    let h = c.args.head in
+    let ns = c.parse_arrow_body.new.p.nodes in
+    let ps = pat_trees (tree_at c.args.p.now.nodes) h.params in
+    let read = c.in-Ok.ensures.reads in
+    let b = c.in-Ok.body in
+    λ k apart. begun.arrow_read {m = c.parse_arrow_body.new.p} c.arrow_function.result
+    (opens_call_read {g = λ x ts. arrow_end h.start (body_end ns b) h.is_async h.in_parens (pat_trees (tree_at ns) h.params)
+    (body_at ns b) ts} (λ x p. arrow_end h.start (span_of p.0).hi h.is_async h.in_parens ps p.0 p.1)
+    (begun.arrow_splits forms h.start h.is_async h.in_parens ps) read.reads (λ x ts us f y ys.
+    begun.end_same forms g.met.B.Bodies.lawful h.start h.is_async h.in_parens ps b read.from x ts us f ys
+    ∙ ap (λ v. arrow_end h.start (body_end ns b) h.is_async h.in_parens v (body_at ns b) ys)
+    (sym (list-later one_pat (λ at x. at x.0) (λ at by x f. same_first f) h.params.items read.grows apart))))
+    read.grows (omega arith) (c.arrow_function.ensures k (apart-more read.grows apart read.from))
+
+pub parse_arrow_body-returns-in-Err-clause-reads : goal.parse_arrow_body-returns-in-Err-clause-reads
+parse_arrow_body-returns-in-Err-clause-reads g t c =
+    let forms = g.B.BodyForms.forms in
+    bodies.within_body forms g.met.B.Bodies.lawful c.args.is_async c.args.p.now.found_module_item
+    c.enter_arrow_body-before.ensures.before c.enter_arrow_body-before.ensures.moves
+    (ap deciding c.enter_arrow_body-before.ensures.context)
+    (m.no {q = record c.args.p.now { input = c.begins_block.new.input }} (s.unheard_memory c.in-Err.ensures.looks)
+    (grows-same _)) c.set_ctx.ensures.moves c.set_ctx.ensures.context
+
+pub parse_arrow_body-returns-clause-reads : goal.parse_arrow_body-returns-clause-reads
+parse_arrow_body-returns-clause-reads g t c =
+    let forms = g.B.BodyForms.forms in
+    let start = record c.args.p.now { input = c.enter_arrow_body-before.new.input } in
+    let read : Produces g.I.Tokens.model g.B.Bodies.is_faithful body_of body_at (bodies.body_by forms g.B.Block.Spanned.place)
+    (count c.args.p.now.nodes) start c.if-value.body c.if-value.p =
+    elim c.if-value.branch [
+      | parse_arrow_body-then-value w ↦ rw (w.p-is, w.body-is)
+          (m.after {m = record start { input = c.begins_block.new.input }} w.parse_block_body-body.result
+          (s.on_seen {g = block_inside forms g.B.Block.Spanned.place} c.in-Ok.ensures.looks (λ x ts same e.
+          bodies.block_read forms g.B.Block.Spanned.place x ts (ap (at_token is_brace) e ∙ sym c.in-Ok.ensures.value ∙ w.if-value.true)))
+          (grows-same _) w.parse_block_body-body.ensures)
+      | parse_arrow_body-else-value+in-Ok-parse_assignment_expr w ↦ rw (w.p-is, w.body-is)
+          (m.yes (Ok _) (s.heard_after (s.on_seen {g = run forms (at Assign)} c.in-Ok.ensures.looks (λ x ts same e.
+          bodies.expr_read forms g.B.Block.Spanned.place x ts (ap (at_token is_brace) e ∙ sym c.in-Ok.ensures.value ∙ w.if-value.false)))
+          w.in-Ok-parse_assignment_expr.ensures.reads) w.in-Ok-parse_assignment_expr.ensures.grows
+          (apart-from (expr_part w.in-Ok-parse_assignment_expr.expr) w.in-Ok-parse_assignment_expr.ensures.from))
+      | parse_arrow_body-else-value+in-Err-parse_assignment_expr w ↦ rw (w.p-is, w.body-is)
+          (m.no (s.unheard_after (s.on_seen {g = run forms (at Assign)} c.in-Ok.ensures.looks (λ x ts same e.
+          bodies.expr_read forms g.B.Block.Spanned.place x ts (ap (at_token is_brace) e ∙ sym c.in-Ok.ensures.value ∙ w.if-value.false)))
+          w.in-Err-parse_assignment_expr.ensures.reads) w.in-Err-parse_assignment_expr.ensures.grows)
+    ] in
+    bodies.within_body forms g.met.B.Bodies.lawful c.args.is_async c.args.p.now.found_module_item
+    c.enter_arrow_body-before.ensures.before c.enter_arrow_body-before.ensures.moves
+    (ap deciding c.enter_arrow_body-before.ensures.context) read c.set_ctx-2.ensures.moves c.set_ctx-2.ensures.context
+
 pub finish_assignment_expr-returns-in_err-look : goal.finish_assignment_expr-returns-in_err-look
 finish_assignment_expr-returns-in_err-look g t c =
-    m.refused_more c.from_residual.ensures.1
-    (s.unheard_memory c.in_err-look.ensures.looks) (grows-same _)
+    rewriting.refused c.from_residual.ensures.1
+    (s.unheard_memory c.in_err-look.ensures.looks) (let w = c.requires.from.within in let f = c.requires.from.first in omega arith) (grows-same _)
 
 pub finish_assignment_expr-returns-in_err-cons : goal.finish_assignment_expr-returns-in_err-cons
 finish_assignment_expr-returns-in_err-cons g t c =
@@ -1937,12 +2443,12 @@ finish_assignment_expr-returns-in_err-cons g t c =
     let lo = start_at c.args.p.now.nodes c.args.left.0 in
     let middle = assign.in_middle g.I.Tokens.model g.B.Bodies.is_faithful _ _ c.get_ctx-ctx.result c.parse_assignment_expr-middle.result c.get_ctx-ctx.ensures c.set_ctx.ensures.moves
     (c.set_ctx.ensures.context ∙ c.cond_middle.ensures) c.parse_assignment_expr-middle.ensures.reads c.set_ctx-then-is_sign.ensures.moves c.set_ctx-then-is_sign.ensures.context in
-    m.refused_more c.from_residual-in_err-cons.ensures.1
+    rewriting.refused c.from_residual-in_err-cons.ensures.1
     (s.unheard_after (s.on_seen {g = behind (cond_tail _ lo l)} c.in_ok-look.ensures.looks (λ x ts same e. assign.from_question _ lo l x ts (ap (at_token is_question) e ∙ sym c.is_sign.ensures.value ∙ c.if-is_sign.true)))
     (s.unheard_after (s.on_took {g = cond_tail _ lo l} g.met.I.Tokens.laws c.skip.ensures.took.1 (λ x ts. refl))
     (s.unheard_call _ (assign.cond_tail_splits _ lo l)
     (s.parses_err g.I.Tokens.model g.B.Bodies.is_faithful (tree_of c.parse_assignment_expr-middle.new.p.nodes) (inside _) _ _ c.parse_assignment_expr-middle.result _ c.in_err-cons.was middle))))
-    c.parse_assignment_expr-middle.ensures.grows
+    (let w = c.requires.from.within in let f = c.requires.from.first in omega arith) c.parse_assignment_expr-middle.ensures.grows
 
 pub finish_assignment_expr-returns-in_err-expect : goal.finish_assignment_expr-returns-in_err-expect
 finish_assignment_expr-returns-in_err-expect g t c =
@@ -1952,11 +2458,11 @@ finish_assignment_expr-returns-in_err-expect g t c =
     let middle = assign.in_middle g.I.Tokens.model g.B.Bodies.is_faithful _ _ c.get_ctx-ctx.result c.parse_assignment_expr-middle.result c.get_ctx-ctx.ensures c.set_ctx.ensures.moves
     (c.set_ctx.ensures.context ∙ c.cond_middle.ensures) c.parse_assignment_expr-middle.ensures.reads c.set_ctx-then-is_sign.ensures.moves c.set_ctx-then-is_sign.ensures.context in
     let read = s.parses_ok g.I.Tokens.model g.B.Bodies.is_faithful (tree_of c.parse_assignment_expr-middle.new.p.nodes) (inside _) _ _ c.parse_assignment_expr-middle.result c.in_ok-cons.cons c.in_ok-cons.was middle in
-    m.refused_more c.from_residual-in_err-expect.ensures.1
+    rewriting.refused c.from_residual-in_err-expect.ensures.1
     (s.unheard_after (s.on_seen {g = behind (cond_tail _ lo l)} c.in_ok-look.ensures.looks (λ x ts same e. assign.from_question _ lo l x ts (ap (at_token is_question) e ∙ sym c.is_sign.ensures.value ∙ c.if-is_sign.true)))
     (s.unheard_after (s.on_then (s.on_took {g = cond_tail _ lo l} g.met.I.Tokens.laws c.skip.ensures.took.1 (λ x ts. refl))
     (s.on_call _ (assign.cond_tail_splits _ lo l) read.on))
-    (s.unheard_call (λ x q. cond_close _ lo l e x q.1) (λ x ts. refl) (c.in_err-expect.ensures.expects g.B.Bodies.is_faithful)))) c.parse_assignment_expr-middle.ensures.grows
+    (s.unheard_call (λ x q. cond_close _ lo l e x q.1) (λ x ts. refl) (c.in_err-expect.ensures.expects g.B.Bodies.is_faithful)))) (let w = c.requires.from.within in let f = c.requires.from.first in omega arith) c.parse_assignment_expr-middle.ensures.grows
 
 pub finish_assignment_expr-returns-in_err-alt : goal.finish_assignment_expr-returns-in_err-alt
 finish_assignment_expr-returns-in_err-alt g t c =
@@ -1969,14 +2475,14 @@ finish_assignment_expr-returns-in_err-alt g t c =
     let kept = (c.in_ok-expect.ensures.expects g.B.Bodies.is_faithful).on.leads.read.context ∙ c.set_ctx-then-is_sign.ensures.context in
     let last = assign.in_last g.I.Tokens.model g.B.Bodies.is_faithful _ _ c.get_ctx-ctx.result c.parse_assignment_expr-last.result (sym kept) c.set_ctx-then-is_sign-2.ensures.moves
     (c.set_ctx-then-is_sign-2.ensures.context ∙ c.cond_last.ensures) c.parse_assignment_expr-last.ensures.reads c.set_ctx-then-is_sign-3.ensures.moves c.set_ctx-then-is_sign-3.ensures.context in
-    m.refused_more c.from_residual-in_err-alt.ensures.1
+    rewriting.refused c.from_residual-in_err-alt.ensures.1
     (s.unheard_after (s.on_seen {g = behind (cond_tail _ lo l)} c.in_ok-look.ensures.looks (λ x ts same e. assign.from_question _ lo l x ts (ap (at_token is_question) e ∙ sym c.is_sign.ensures.value ∙ c.if-is_sign.true)))
     (s.unheard_after (s.on_then (s.on_then (s.on_took {g = cond_tail _ lo l} g.met.I.Tokens.laws c.skip.ensures.took.1 (λ x ts. refl))
     (s.on_call _ (assign.cond_tail_splits _ lo l) read.on))
     (s.on_call (λ x q. cond_close _ lo l e x q.1) (λ x ts. refl) (c.in_ok-expect.ensures.expects g.B.Bodies.is_faithful).on))
     (s.unheard_call (λ x q. Some (cond_e (from_to lo (span_of q.0).hi) l e q.0, q.1)) (λ x ts. refl)
     (s.parses_err g.I.Tokens.model g.B.Bodies.is_faithful (tree_of c.parse_assignment_expr-last.new.p.nodes) (run _ (at Assign)) _ _ c.parse_assignment_expr-last.result _ c.in_err-alt.was last))))
-    (grows-then c.parse_assignment_expr-middle.ensures.grows c.parse_assignment_expr-last.ensures.grows)
+    (let w = c.requires.from.within in let f = c.requires.from.first in omega arith) (grows-then c.parse_assignment_expr-middle.ensures.grows c.parse_assignment_expr-last.ensures.grows)
 
 pub finish_assignment_expr-set_ctx-requires-then-is_sign-2 : goal.finish_assignment_expr-set_ctx-requires-then-is_sign-2
 finish_assignment_expr-set_ctx-requires-then-is_sign-2 g t c =
@@ -2018,78 +2524,97 @@ finish_assignment_expr-returns-then-is_sign g t c =
     ∙ ap (λ v. cond_e place v e a) (sym (tree-later grows c.requires.from))
     ∙ ap (λ v. cond_e place (tree_of ns c.args.left) v a)
     (sym (tree-later c.parse_assignment_expr-last.ensures.grows (m.held_is _ c.parse_assignment_expr-middle.result c.in_ok-cons.cons c.in_ok-cons.was c.parse_assignment_expr-middle.ensures.from))) in
-    m.on_after {m = record c.args.p.now { input = c.look.new.input }} c.made.result (s.on_seen {g = behind (cond_tail _ lo l)} c.in_ok-look.ensures.looks (λ x ts same e. assign.from_question _ lo l x ts (ap (at_token is_question) e ∙ sym c.is_sign.ensures.value ∙ c.if-is_sign.true))) (grows-same _)
+    rewriting.goes_on c.made.result (let w = c.requires.from.within in let f = c.requires.from.first in omega arith)
+    (m.on_after {m = record c.args.p.now { input = c.look.new.input }} c.made.result (s.on_seen {g = behind (cond_tail _ lo l)} c.in_ok-look.ensures.looks (λ x ts same e. assign.from_question _ lo l x ts (ap (at_token is_question) e ∙ sym c.is_sign.ensures.value ∙ c.if-is_sign.true))) (grows-same _)
     (m.weaker c.made.result
     (m.node _ c.cond_expr-node.result c.made.result (first_kept grows c.requires.from) c.cond_expr-node.ensures.made c.made.ensures.ok c.made.ensures.refused grows c.cond_expr-node.ensures.grows
     (s.heard_answer whole (s.heard_first g.met.I.Tokens.laws c.skip.ensures.took.1 (λ x ts. refl)
     (s.on_then (s.on_call _ (assign.cond_tail_splits _ lo l) read.on)
     (s.on_then (s.on_call (λ x q. cond_close _ lo l e x q.1) (λ x ts. refl) (c.in_ok-expect.ensures.expects g.B.Bodies.is_faithful).on)
-    (s.on_call (λ x q. Some (cond_e (from_to lo (span_of q.0).hi) l e q.0, q.1)) (λ x ts. refl) read_last.on)))))))
+    (s.on_call (λ x q. Some (cond_e (from_to lo (span_of q.0).hi) l e q.0, q.1)) (λ x ts. refl) read_last.on))))))))
 
 pub finish_assignment_expr-returns-in-None : goal.finish_assignment_expr-returns-in-None
 finish_assignment_expr-returns-in-None g t c =
     let l = tree_of c.args.p.now.nodes c.args.left in
     let lo = start_at c.args.p.now.nodes c.args.left.0 in
-    m.on (Ok _) (s.on_seen c.in_ok-look.ensures.looks (λ x ts same e.
-    assign.from_other _ lo l x ts (ap (at_token is_question) e ∙ sym c.is_sign.ensures.value ∙ c.if-is_sign.false)
-    ∙ assign.assigns_end _ l x ts
+    rewriting.goes_on (Ok _) (let w = c.requires.from.within in let f = c.requires.from.first in omega arith)
+    (m.on (Ok _) (s.on_seen c.in_ok-look.ensures.looks (λ x ts same e.
+    assign.from_none _ lo l x ts
     (ap (at_token is_question) e ∙ sym c.is_sign.ensures.value ∙ c.if-is_sign.false)
-    (ap (λ v. assign_at v l) e ∙ sym c.cur_assign_op.ensures.value ∙ c.in-None.is))) (grows-same _) (from_self c.requires.from)
+    (ap (λ v. assign_at v l) e ∙ sym c.cur_assign_op.ensures.value ∙ c.in-None.is))) (grows-same _) (from_self c.requires.from))
 
-pub finish_assignment_expr-returns-in_err-check_assign_target : goal.finish_assignment_expr-returns-in_err-check_assign_target
-finish_assignment_expr-returns-in_err-check_assign_target g t c =
+pub finish_assignment_expr-assign_target-requires-clause-fit : goal.finish_assignment_expr-assign_target-requires-clause-fit
+finish_assignment_expr-assign_target-requires-clause-fit g t c =
+    way.writes_fits _ _ (sym c.cur_assign_op.ensures.value ∙ c.in-Some.is)
+
+pub finish_assignment_expr-returns-in_err-target : goal.finish_assignment_expr-returns-in_err-target
+finish_assignment_expr-returns-in_err-target g t c =
     let l = tree_of c.args.p.now.nodes c.args.left in
     let lo = start_at c.args.p.now.nodes c.args.left.0 in
     let op = c.in-Some.op in
-    let h = c.in_err-check_assign_target.ensures.refuses in
-    m.refused_more c.from_residual-in_err-check_assign_target.ensures.1
-    (s.unheard_after (s.on_seen {g = assign_expr _ op l} c.in_ok-look.ensures.looks (λ x ts same e.
-    assign.from_other _ lo l x ts (ap (at_token is_question) e ∙ sym c.is_sign.ensures.value ∙ c.if-is_sign.false)
-    ∙ assign.assigns_assign _ op l x ts (ap (λ v. assign_at v l) e ∙ sym c.cur_assign_op.ensures.value ∙ c.in-Some.is)))
-    (record { refuses = h.0; none = λ n sure loud ts k. assign.assign_ill _ op l (scope g.I.Tokens.model c.look.new.input) ts (h.1 n) })) (grows-same _)
+    let w = c.in_err-target.ensures.rewrites in
+    rewriting.passed c.from_residual-in_err-target.ensures.1 (rewriting.no
+    (s.unheard_after (s.on_seen {g = assign_by _ op l} c.in_ok-look.ensures.looks (λ x ts same e.
+    assign.from_operator _ lo op l x ts (ap (at_token is_question) e ∙ sym c.is_sign.ensures.value ∙ c.if-is_sign.false)
+    (ap (λ v. assign_at v l) e ∙ sym c.cur_assign_op.ensures.value ∙ c.in-Some.is))) w.reads) w.kept)
 
 pub finish_assignment_expr-returns-in_err-right : goal.finish_assignment_expr-returns-in_err-right
 finish_assignment_expr-returns-in_err-right g t c =
     let l = tree_of c.args.p.now.nodes c.args.left in
     let lo = start_at c.args.p.now.nodes c.args.left.0 in
     let op = c.in-Some.op in
-    let x0 = scope g.I.Tokens.model c.look.new.input in
-    m.refused_more c.from_residual-in_err-right.ensures.1
-    (s.unheard_after (s.on_seen {g = assign_expr _ op l} c.in_ok-look.ensures.looks (λ x ts same e.
-    assign.from_other _ lo l x ts (ap (at_token is_question) e ∙ sym c.is_sign.ensures.value ∙ c.if-is_sign.false)
-    ∙ assign.assigns_assign _ op l x ts (ap (λ v. assign_at v l) e ∙ sym c.cur_assign_op.ensures.value ∙ c.in-Some.is)))
-    (s.unheard_after (s.on_then (s.on_checked_in {g = behind (assign_tail _ op l)} (is_target x0.context.strict l) c.in_ok-check_assign_target.ensures.checks
-    (λ ts h. assign.assign_well _ op l x0 ts h) (λ ts h. assign.assign_ill _ op l x0 ts h))
-    (s.on_took {g = assign_tail _ op l} g.met.I.Tokens.laws c.skip-2.ensures.took.1 (λ x ts. refl)))
-    (s.unheard_call _ (assign.assign_tail_splits _ op l) c.in_err-right.ensures.reads))) c.parse_assignment_expr.ensures.grows
+    let tt = target_at c.assign_target.new.p.nodes c.in_ok-target.target in
+    let w = c.in_ok-target.ensures.rewrites in
+    let le : first_at c.args.p.now.nodes c.args.left.0 ≤ count c.assign_target.new.p.nodes =
+    way.target_low c.in_ok-target.target w.from in
+    rewriting.passed c.from_residual-in_err-right.ensures.1 (rewriting.no
+    (s.unheard_after (s.on_then (s.on_seen {g = assign_by _ op l} c.in_ok-look.ensures.looks (λ x ts same e.
+    assign.from_operator _ lo op l x ts (ap (at_token is_question) e ∙ sym c.is_sign.ensures.value ∙ c.if-is_sign.false)
+    (ap (λ v. assign_at v l) e ∙ sym c.cur_assign_op.ensures.value ∙ c.in-Some.is))) w.reads)
+    (s.unheard_after (s.on_took {g = assign_tail _ op tt} g.met.I.Tokens.laws c.skip-2.ensures.took.1 (λ x ts. refl))
+    (s.unheard_call _ (assign.assign_tail_splits _ op tt) c.in_err-right.ensures.reads)))
+    (kept-then w.kept (kept-less le (kept-grows c.parse_assignment_expr.ensures.grows))))
 
-pub finish_assignment_expr-assign_expr-node-requires-clause-left : goal.finish_assignment_expr-assign_expr-node-requires-clause-left
-finish_assignment_expr-assign_expr-node-requires-clause-left g t c = from-later c.parse_assignment_expr.ensures.grows c.in_ok-check_assign_target.ensures.target
+pub finish_assignment_expr-assign_node-requires-clause-left : goal.finish_assignment_expr-assign_node-requires-clause-left
+finish_assignment_expr-assign_node-requires-clause-left g t c =
+    from-down (omega arith) (from-later c.parse_assignment_expr.ensures.grows c.in_ok-target.ensures.rewrites.from)
 
-pub finish_assignment_expr-assign_expr-node-requires-clause-right : goal.finish_assignment_expr-assign_expr-node-requires-clause-right
-finish_assignment_expr-assign_expr-node-requires-clause-right g t c = from-down (let h = c.requires.from.within in omega arith) c.in_ok-right.ensures.from
+pub finish_assignment_expr-assign_node-requires-clause-right : goal.finish_assignment_expr-assign_node-requires-clause-right
+finish_assignment_expr-assign_node-requires-clause-right g t c =
+    from-down (let d = way.target_within c.in_ok-target.target c.in_ok-target.ensures.rewrites.from in omega arith) c.in_ok-right.ensures.from
+
+pub finish_assignment_expr-assign_node-requires-clause-plain : goal.finish_assignment_expr-assign_node-requires-clause-plain
+finish_assignment_expr-assign_node-requires-clause-plain g t c = c.in_ok-target.ensures.plain
 
 pub finish_assignment_expr-returns : goal.finish_assignment_expr-returns
 finish_assignment_expr-returns g t c =
     let l = tree_of c.args.p.now.nodes c.args.left in
     let lo = start_at c.args.p.now.nodes c.args.left.0 in
     let op = c.in-Some.op in
-    let r = tree_of c.parse_assignment_expr.new.p.nodes c.in_ok-right.right in
-    let x0 = scope g.I.Tokens.model c.look.new.input in
+    let ns = c.parse_assignment_expr.new.p.nodes in
+    let tt = target_at c.assign_target.new.p.nodes c.in_ok-target.target in
+    let w = c.in_ok-target.ensures.rewrites in
     let grows = c.parse_assignment_expr.ensures.grows in
-    let end = end_at c.parse_assignment_expr.new.p.nodes c.in_ok-right.right.0 in
-    let whole = ap (λ v. assign_e (from_to (span_of v).lo end) op v r) (sym (tree-later grows c.requires.from)) in
-    m.on_after {m = record c.args.p.now { input = c.look.new.input }} c.made-2.result (s.on_seen {g = assign_expr _ op l} c.in_ok-look.ensures.looks (λ x ts same e.
-    assign.from_other _ lo l x ts (ap (at_token is_question) e ∙ sym c.is_sign.ensures.value ∙ c.if-is_sign.false)
-    ∙ assign.assigns_assign _ op l x ts (ap (λ v. assign_at v l) e ∙ sym c.cur_assign_op.ensures.value ∙ c.in-Some.is))) (grows-same _)
-    (m.weaker c.made-2.result
-    (m.node _ c.assign_expr-node.result c.made-2.result (first_kept grows c.requires.from) c.assign_expr-node.ensures.made c.made-2.ensures.ok c.made-2.ensures.refused grows c.assign_expr-node.ensures.grows
-    (s.heard_answer whole (s.heard_after (s.on_checked_in {g = behind (assign_tail _ op l)} (is_target x0.context.strict l) c.in_ok-check_assign_target.ensures.checks
-    (λ ts h. assign.assign_well _ op l x0 ts h) (λ ts h. assign.assign_ill _ op l x0 ts h))
-    (s.heard_first g.met.I.Tokens.laws c.skip-2.ensures.took.1 (λ x ts. refl)
-    (s.on_call_read {g = s.give (assign_e (from_to (span_of l).lo end) op l r)} _ (assign.assign_tail_splits _ op l) c.in_ok-right.ensures.reads.on
-    (λ x ts us h y ys. ap (λ v. Some (assign_e (from_to (span_of l).lo v) op l r, ys))
-    (sym (ending.ended _ g.met.B.Bodies.lawful c.in_ok-right.right Assign x ts us c.in_ok-right.ensures.from h)))))))))
+    let later = from-later grows w.from in
+    let r = tree_of ns c.in_ok-right.right in
+    let hi = end_at ns c.in_ok-right.right.0 in
+    let le : first_at c.args.p.now.nodes c.args.left.0 ≤ count c.assign_target.new.p.nodes =
+    way.target_low c.in_ok-target.target w.from in
+    let low : first_at ns (target_number c.in_ok-target.target) ≤ count ns =
+    way.target_low_of c.in_ok-target.target later in
+    rewriting.after {m = c.parse_assignment_expr.new.p} c.assign_node.result
+    (s.on_then (s.on_seen {g = assign_by _ op l} c.in_ok-look.ensures.looks (λ x ts same e.
+    assign.from_operator _ lo op l x ts (ap (at_token is_question) e ∙ sym c.is_sign.ensures.value ∙ c.if-is_sign.false)
+    (ap (λ v. assign_at v l) e ∙ sym c.cur_assign_op.ensures.value ∙ c.in-Some.is)))
+    (s.on_then w.reads
+    (s.on_then (s.on_took {g = assign_tail _ op tt} g.met.I.Tokens.laws c.skip-2.ensures.took.1 (λ x ts. refl))
+    (s.on_call_read {g = assign_made op (target_at ns c.in_ok-target.target) hi r} _ (assign.assign_tail_splits _ op tt)
+    c.in_ok-right.ensures.reads.on (λ x ts us h y ys.
+    ap (λ v. Some (assign_e (from_to (span_of tt).lo v) op tt r, ys))
+    (sym (ending.ended _ g.met.B.Bodies.lawful c.in_ok-right.right Assign x ts us c.in_ok-right.ensures.from h))
+    ∙ ap (λ v. assign_made op v hi r y ys) (sym (way.target_later c.in_ok-target.target grows w.from)))))))
+    (kept-then w.kept (kept-less le (kept-grows grows)))
+    (way.lowered c.assign_node.result (way.target_above c.in_ok-target.target later) (rewriting.goes_on c.assign_node.result low c.assign_node.ensures))
 
 pub parse_prop_name-returns-in-Err : goal.parse_prop_name-returns-in-Err
 parse_prop_name-returns-in-Err g t c =

@@ -96,7 +96,7 @@ abbrev pub decreases-parse_bin_expr : goal.decreases-parse_bin_expr
 decreases-parse_bin_expr g l = to_come g.I.Tokens.model l.p.now.input * 20 + 11
 
 abbrev pub decreases-parse_expr : goal.decreases-parse_expr
-decreases-parse_expr g l = to_come g.I.Tokens.model l.p.now.input * 20 + 13
+decreases-parse_expr g l = to_come g.I.Tokens.model l.p.now.input * 20 + 14
 
 abbrev pub invariant-parse_expr-loop-exprs : goal.invariant-parse_expr-loop-exprs
 invariant-parse_expr-loop-exprs g l =
@@ -114,13 +114,28 @@ abbrev pub decreases-parse_expr-loop-exprs : goal.decreases-parse_expr-loop-expr
 decreases-parse_expr-loop-exprs g l = to_come g.I.Tokens.model l.p.input
 
 abbrev pub decreases-parse_assignment_expr : goal.decreases-parse_assignment_expr
-decreases-parse_assignment_expr g l = to_come g.I.Tokens.model l.p.now.input * 20 + 12
+decreases-parse_assignment_expr g l = to_come g.I.Tokens.model l.p.now.input * 20 + 13
+
+abbrev pub decreases-parse_arrow_or_assign : goal.decreases-parse_arrow_or_assign
+decreases-parse_arrow_or_assign g l = to_come g.I.Tokens.model l.p.now.input * 20 + 12
+
+abbrev pub decreases-parse_arrow_or_operand : goal.decreases-parse_arrow_or_operand
+decreases-parse_arrow_or_operand g l = to_come g.I.Tokens.model l.p.now.input * 20 + 11
+
+abbrev pub decreases-parse_arrow_or_base : goal.decreases-parse_arrow_or_base
+decreases-parse_arrow_or_base g l = to_come g.I.Tokens.model l.p.now.input * 20 + 10
+
+abbrev pub decreases-parse_arrow_rest : goal.decreases-parse_arrow_rest
+decreases-parse_arrow_rest g l = to_come g.I.Tokens.model l.p.now.input * 20 + 15
+
+abbrev pub decreases-parse_arrow_body : goal.decreases-parse_arrow_body
+decreases-parse_arrow_body g l = to_come g.I.Tokens.model l.p.now.input * 20 + 14
 
 abbrev pub decreases-finish_assignment_expr : goal.decreases-finish_assignment_expr
 decreases-finish_assignment_expr g l = to_come g.I.Tokens.model l.p.now.input * 20 + 2
 
 abbrev pub decreases-parse_expr_or_spread : goal.decreases-parse_expr_or_spread
-decreases-parse_expr_or_spread g l = to_come g.I.Tokens.model l.p.now.input * 20 + 13
+decreases-parse_expr_or_spread g l = to_come g.I.Tokens.model l.p.now.input * 20 + 14
 
 abbrev pub decreases-parse_elements : goal.decreases-parse_elements
 decreases-parse_elements g l = to_come g.I.Tokens.model l.p.now.input * 20 + 16

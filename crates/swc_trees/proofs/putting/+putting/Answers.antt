@@ -1,4 +1,4 @@
-use Rattle.std.proofs.Common.{IfOk, subst, arith, rules}
+use Rattle.std.proofs.Common.{IfOk, refl, subst, arith, rules}
 use Rattle.swc_nodes.specs.GrowingNodes.{Added}
 use Rattle.swc_nodes.proofs.Standing.{grows-same, grows-then}
 use Rattle.swc_trees.proofs.Puts.{split-lighter, puts-refused, puts-node, node-apart, puts-appended, putting-starts, putting-weight, putting-more, putting-ends}
@@ -10,15 +10,15 @@ put-put_all-requires g t c κs within = let w = split-lighter g.F.Spanned.place 
 pub put-returns-in_err-split : goal.put-returns-in_err-split
 put-returns-in_err-split g t c = puts-refused _ c.from_residual.ensures.0 (grows-same c.args.nodes.now)
 
-pub put-returns-in_err-numbers : goal.put-returns-in_err-numbers
-put-returns-in_err-numbers g t c = puts-refused _ c.from_residual-in_err-numbers.ensures.0 c.put_all.ensures.grows
+pub put-returns-in_err-ids : goal.put-returns-in_err-ids
+put-returns-in_err-ids g t c = puts-refused _ c.from_residual-in_err-ids.ensures.0 c.put_all.ensures.grows
 
 pub put-push-requires : goal.put-push-requires
-put-push-requires g t c = rw c.into_inner.ensures (node-apart (puts-node c.new-parts.ensures.items c.in_ok-split.ensures c.in_ok-numbers.ensures c.renumber.ensures.renumbered c.renumber.ensures.form))
+put-push-requires g t c = rw c.into_inner.ensures (node-apart (puts-node _ c.new-parts.ensures.items refl c.in_ok-split.ensures c.in_ok-ids.ensures c.renumber.ensures.renumbered c.renumber.ensures.form))
 
 pub put-returns : goal.put-returns
 put-returns g t c =
-    puts-appended (puts-node c.new-parts.ensures.items c.in_ok-split.ensures c.in_ok-numbers.ensures c.renumber.ensures.renumbered c.renumber.ensures.form) c.push.ensures.grows
+    puts-appended (puts-node _ c.new-parts.ensures.items refl c.in_ok-split.ensures c.in_ok-ids.ensures c.renumber.ensures.renumbered c.renumber.ensures.form) c.push.ensures.grows
     (subst (λ x. IfOk c.push.result (λ i. Added c.put_all.new.nodes c.push.new.self i x)) c.into_inner.ensures c.push.ensures.added)
 
 pub put_all-loop-tree-init : goal.put_all-loop-tree-init

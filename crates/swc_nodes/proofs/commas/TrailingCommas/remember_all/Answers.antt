@@ -1,8 +1,8 @@
 use Rattle.std.proofs.Common.{map, sym, ap, ◌∙◌}
-use Rattle.swc_nodes.specs.Commas.{comma_at, part_commas, recalled}
+use Rattle.swc_nodes.specs.Commas.{body_part, comma_at, outer_parts, part_commas, recalled}
 use Rattle.swc_nodes.specs.GrowingNodes.{tree_at, Stood}
 use Rattle.swc_nodes.specs.Walking.{part_of}
-use Rattle.swc_nodes.proofs.Remembered.{taken, turn_commas}
+use Rattle.swc_nodes.proofs.Remembered.{outer-first, taken, turn_commas}
 use Rattle.swc_nodes.proofs.Weighed.{apart_numbers, last_below, turn_less, turn_numbers}
 use Rattle.swc_nodes.proofs.commas.TrailingCommas.remember_all.Goals as goal
 
@@ -22,8 +22,8 @@ get-node-requires g c =
 pub loop-part-smaller : goal.loop-part-smaller
 loop-part-smaller g c =
     let stood : Stood c.args.nodes.now (part_of c.in-Some.part).at c.get-node.result.now = rw (sym c.number.ensures) c.get-node.ensures in
-    turn_less c.args.nodes.now (map part_of c.loop-part.due.items) (map part_of c.pop.new.self.items) (map part_of c.list.new.list.items) (part_of c.in-Some.part) c.get-node.result.now
-    c.loop-part.invariant.valid (taken _ _ c.in-Some.part c.in-Some.ensures.items) stood c.in_ok-list.ensures
+    turn_less c.args.nodes.now (map part_of c.loop-part.due.items) (map part_of c.pop.new.self.items) (map part_of c.list_outer.new.due.items) (part_of c.in-Some.part) c.get-node.result.now
+    (outer_parts c.get-node.result.now) (body_part c.get-node.result.now) (outer-first c.get-node.result.now) c.loop-part.invariant.valid (taken _ _ c.in-Some.part c.in-Some.ensures.items) stood c.in_ok-list_outer.ensures
 
 pub loop-part-preserved : goal.loop-part-preserved
 loop-part-preserved g c =
@@ -34,10 +34,10 @@ loop-part-preserved g c =
     let below = last_below ns _ _ (part_of c.in-Some.part) valid popped in
     record {
       valid =
-          turn_numbers ns (map part_of c.loop-part.due.items) (map part_of c.pop.new.self.items) (map part_of c.list.new.list.items) (part_of c.in-Some.part) c.get-node.result.now
-          valid popped stood c.in_ok-list.ensures;
+          turn_numbers ns (map part_of c.loop-part.due.items) (map part_of c.pop.new.self.items) (map part_of c.list_outer.new.due.items) (part_of c.in-Some.part) c.get-node.result.now
+          (outer_parts c.get-node.result.now) (body_part c.get-node.result.now) (outer-first c.get-node.result.now) valid popped stood c.in_ok-list_outer.ensures;
       rest = λ at.
-          turn_commas ns (map part_of c.loop-part.due.items) (map part_of c.pop.new.self.items) (map part_of c.list.new.list.items) (part_of c.in-Some.part) c.get-node.result.now
-          c.loop-part.self c.remember_node.new.self popped c.in_ok-list.ensures stood below c.in_ok-remember_node.ensures at
+          turn_commas ns (map part_of c.loop-part.due.items) (map part_of c.pop.new.self.items) (map part_of c.list_outer.new.due.items) (part_of c.in-Some.part) c.get-node.result.now
+          c.loop-part.self c.remember_node.new.self popped c.in_ok-list_outer.ensures stood below c.in_ok-remember_node.ensures at
           ∙ c.loop-part.invariant.rest at;
     }

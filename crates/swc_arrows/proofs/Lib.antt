@@ -1,0 +1,13 @@
+pub mod BaseLaws
+pub mod Bases
+pub mod Begun
+pub mod BodyEnds
+pub mod BodyLaws
+pub mod Dooms
+pub mod Ends
+pub mod HeadKinds
+pub mod HeadLaws
+pub mod ListLaws
+pub mod ListReads
+pub mod NameReads
+pub mod NextTokens

@@ -1,0 +1,194 @@
+-- What was checked and refined: the pattern that the expression is, where nothing was recorded.
+use Rattle.std.proofs.Common.{◌≡◌, ℕ, ◌<◌, ◌≢◌, Bool, true, false, List, Option, Some, None, refl, sym, ap, subst, ◌∙◌}
+use Rattle.std.proofs.Common.{arith}
+use Rattle.std.specs.Prelude.{if◌then◌else◌}
+use Rattle.swc_context.specs.declared.context.Context.{Context}
+use Rattle.swc_context.specs.declared.error.Error.{Error}
+use Rattle.swc_context.specs.declared.error.SyntaxError.TheVariants.{OutOfMemory}
+use Rattle.swc_context.specs.declared.span.Span.{Span}
+use Rattle.swc_input.specs.Buffer.{context}
+use Rattle.swc_input.specs.Source.{Model}
+use Rattle.swc_input.specs.declared.buffer.Buffer.{Buffer}
+use Rattle.swc_ast.specs.Tree.{array, array_with, object_with, Tree, node, Trees}
+use Rattle.swc_ast.specs.Trees.{is_valid, are_valid}
+use Rattle.swc_ast.specs.declared.expr.ExprOrSpread.{ExprOrSpread}
+use Rattle.swc_ast.specs.declared.spanned.Spanned.{Ghosts}
+use Rattle.swc_grammar.specs.Cover.{binding, is_pattern, as_elements, as_literal, heads_ok}
+use Rattle.swc_cover.proofs.Bound.{params-are}
+use Rattle.swc_cover.proofs.Checked.{whole-then}
+use Rattle.swc_cover.proofs.Fitting.{chain-in}
+use Rattle.swc_cover.proofs.Formed.{Formed, AllFormed, part-formed, items-formed}
+use Rattle.swc_cover.proofs.Ties.{pattern-is, as-elems-is}
+use Rattle.swc_cover.specs.Fits.{Binding, elems_fit}
+use Rattle.swc_cover.specs.Heads.{names_ok}
+use Rattle.swc_cover.specs.Items.{want_items, AllMade}
+use Rattle.swc_cover.specs.Moving.{KeptTo}
+use Rattle.swc_cover.specs.PatTypes.{want_as, pattern_as}
+use Rattle.swc_cover.specs.Refining.{ChecksWhole, Unfitting, Refined, Unrefined, RefinedItems, fits_at, items_at}
+use Rattle.swc_cover.specs.Refining.{pats_at, items_floor, params_ok, takes_heads}
+use Rattle.swc_cover.specs.declared.pat_type.PatType.{PatType}
+use Rattle.swc_cover.specs.declared.pat_type.PatType.TheVariants.{AssignPat}
+use Rattle.swc_nodes.specs.NodeParts.{expr_part, pat_part, flat, item_parts}
+use Rattle.swc_nodes.specs.GrowingNodes.{count, seat_at, tree_at, first_at, Apart, From, Made}
+use Rattle.swc_nodes.specs.declared.node.ExprId.{ExprId}
+use Rattle.swc_nodes.specs.declared.node.PatId.{PatId}
+use Rattle.swc_nodes.specs.declared.nodes.Nodes.{Nodes}
+use Rattle.swc_steps.specs.Parsing.{Checks, Loud, recorded}
+use Rattle.swc_steps.specs.declared.productions.Productions.{Productions}
+
+module _ {F C K : Type 0} {fg : Ghosts F} {cg : Ghosts C} {kg : Ghosts K} where
+  pub expr-formed : {ns : Nodes F C K fg cg kg} (id : ExprId) → From 0 ns (expr_part id) → Formed (tree_at ns id.0)
+  expr-formed {ns} id f = part-formed ns (expr_part id) f
+
+  pub items-all : {ns : Nodes F C K fg cg kg} (xs : List (ExprOrSpread ExprId)) → Apart 0 ns (flat item_parts xs) →
+      AllFormed (items_at ns xs)
+  items-all {ns} xs a =
+      items-formed (tree_at ns) xs
+      (λ p i. let c = chain-in (seat_at ns) 0 (count ns) (flat item_parts xs) p i a.chained in let w = c.0 in
+      let f = c.1 in
+      part-formed ns p (record { within = w; above = f.above; first = f.first; view = f.view }))
+
+  pub elements-are : {ns ms : Nodes F C K fg cg kg} {k : ℕ} (comma : Option Span) (xs : List (ExprOrSpread ExprId))
+      (ps : List PatId) → Apart 0 ns (flat item_parts xs) →
+      AllMade k ms ps (want_items (items_at ns xs)) → as_elements binding comma (items_at ns xs) ≡
+      (if elems_fit Binding comma (items_at ns xs) then Some (pats_at ms ps) else None)
+  elements-are {ns} {ms} comma xs ps a m =
+      as-elems-is Binding comma array (items_at ns xs) (items-all xs a)
+      ∙ ap (λ v. if elems_fit Binding comma (items_at ns xs) then Some v else None) (sym m.stands)
+
+module _ {S F C K : Type 0} {fg : Ghosts F} {cg : Ghosts C} {kg : Ghosts K} {model : Model S} where
+  -- the check of items, and then of the names that they bind
+  pub items-whole : {b c d : Buffer S} {ns ms : Nodes F C K fg cg kg} {k : ℕ} (comma : Option Span)
+      (xs : List (ExprOrSpread ExprId)) (ps : List PatId) → Apart 0 ns (flat item_parts xs) →
+      AllMade k ms ps (want_items (items_at ns xs)) → ChecksWhole model (are_valid (items_at ns xs))
+      (elems_fit Binding comma (items_at ns xs)) b c →
+      Checks model (names_ok (context model c) (pats_at ms ps)) c d →
+      ChecksWhole model (are_valid (items_at ns xs)) (params_ok (context model b) comma (items_at ns xs)) b d
+  items-whole {b} {c} {d} {ns} {ms} comma xs ps a m h k =
+      let same : Checks model (names_ok (context model b) (pats_at ms ps)) c d = subst
+      (λ v. Checks model (names_ok v (pats_at ms ps)) c d) h.leads.read.context k in
+      subst (λ v. ChecksWhole model (are_valid (items_at ns xs)) v b d)
+      (sym (params-are (context model b) comma (items_at ns xs) (pats_at ms ps) (elements-are comma xs ps a m)))
+      (whole-then (elems_fit Binding comma (items_at ns xs)) (names_ok (context model b) (pats_at ms ps)) h same)
+
+  -- items that are no parameters are refused where they are no patterns
+  pub items-unfit : {b c : Buffer S} {e : Error} {ns : Nodes F C K fg cg kg} (comma : Option Span)
+      (xs : List (ExprOrSpread ExprId)) → Apart 0 ns (flat item_parts xs) →
+      Unfitting model (elems_fit Binding comma (items_at ns xs)) b e c →
+      Unfitting model (params_ok (context model b) comma (items_at ns xs)) b e c
+  items-unfit {b} {c} {e} {ns} comma xs a u = record {
+    refuses = u.refuses;
+    unfit = λ n.
+        ap (takes_heads (context model b)) (as-elems-is Binding comma array (items_at ns xs) (items-all xs a)
+        ∙ ap (λ v. if v then Some (want_items (items_at ns xs)) else None) (u.unfit n));
+  }
+
+module _ {S H F C K : Type 0} {fg : Ghosts F} {cg : Ghosts C} {kg : Ghosts K} {model : Model S} where
+  pub refined-is : {p q : Productions S H F C K fg cg kg} (t : PatType) (id : ExprId) (pat : PatId) →
+      From 0 p.nodes (expr_part id) →
+      ChecksWhole model (is_valid (tree_at p.nodes id.0)) (fits_at model t id p) p.input q.input →
+      KeptTo (first_at p.nodes id.0) p.nodes q.nodes →
+      Made (first_at p.nodes id.0) q.nodes (pat_part pat) (want_as t (tree_at p.nodes id.0)) →
+      Refined model t id p pat q
+  refined-is {p} {q} t id pat f h k m = record {
+    checks = h;
+    kept = k;
+    made = m;
+    pattern = pattern-is (context model p.input).strict t (tree_at p.nodes id.0) (tree_at q.nodes pat.0)
+        (expr-formed id f) m.stands;
+  }
+
+  pub items-refined : {p q : Productions S H F C K fg cg kg} {c : Buffer S} (comma : Option Span)
+      (xs : List (ExprOrSpread ExprId)) (ps : List PatId) → Apart 0 p.nodes (flat item_parts xs) →
+      ChecksWhole model (are_valid (items_at p.nodes xs)) (elems_fit Binding comma (items_at p.nodes xs)) p.input c →
+      Checks model (names_ok (context model c) (pats_at q.nodes ps)) c q.input →
+      KeptTo (items_floor p.nodes xs) p.nodes q.nodes → AllMade (items_floor p.nodes xs) q.nodes ps
+      (want_items (items_at p.nodes xs)) → RefinedItems model xs comma p ps q
+  items-refined {p} {q} comma xs ps a h k kept m = record {
+    checks = items-whole comma xs ps a m h k;
+    kept = kept;
+    made = m;
+    params = elements-are comma xs ps a m;
+  }
+
+-- ---- for callers: what is told by whether a fault was recorded
+
+must-fit : {m n : ℕ} (b : Bool) → (b ≡ false → m < n) → n ≡ m → b ≡ true
+must-fit true f e = refl
+must-fit false f e = let h = f refl in absurd (omega arith)
+
+cannot-fit : {m n : ℕ} (b : Bool) → (b ≡ true → n ≡ m) → m < n → b ≡ false
+cannot-fit true f h = let e = f refl in absurd (omega arith)
+cannot-fit false f h = refl
+
+module _ {F C K : Type 0} where
+  some-by : {o : Option (Tree F C K)} (b : Bool) (u : Tree F C K) → o ≡ (if b then Some u else None) → b ≡ true →
+      o ≡ Some u
+  some-by true u e h = e
+  some-by false u e h = cc
+
+  none-by : {o : Option (Tree F C K)} (b : Bool) (u : Tree F C K) → o ≡ (if b then Some u else None) → b ≡ false →
+      o ≡ None
+  none-by true u e h = cc
+  none-by false u e h = e
+
+  heads-by : (c : Context) (o : Option (Trees F C K)) (b : Bool) (us : Trees F C K) →
+      o ≡ (if b then Some us else None) →
+      takes_heads c o ≡ true → (o ≡ Some us) × (heads_ok c us ≡ true)
+  heads-by c o true us e h = (e, sym (ap (takes_heads c) e) ∙ h)
+  heads-by c o false us e h = let k = sym (ap (takes_heads c) e) ∙ h in absurd (never k)
+    where
+      never : false ≡ true → ⊥
+      never e = cc
+
+  -- a literal that is assigned to, by the grammar
+  pub literal-is : (strict : Bool) (t : Tree F C K) → is_pattern t ≡ true →
+      pattern_as strict AssignPat t ≡ as_literal strict t
+  literal-is strict (node (array_with c) s ts) h = refl
+  literal-is strict (node (object_with c) s ts) h = refl
+  literal-is strict (node k s ts) h = cc
+
+module _ {S H F C K : Type 0} {fg : Ghosts F} {cg : Ghosts C} {kg : Ghosts K} {model : Model S} where
+  -- nothing was recorded: the answer is the pattern that the expression is
+  pub refined-clean : {p q : Productions S H F C K fg cg kg} {t : PatType} {id : ExprId} {pat : PatId} →
+      Refined model t id p pat q → is_valid (tree_at p.nodes id.0) ≡ true → Loud model p.input →
+      recorded model q.input ≡ recorded model p.input →
+      pattern_as (context model p.input).strict t (tree_at p.nodes id.0) ≡ Some (tree_at q.nodes pat.0)
+  refined-clean {p} {q} {t} {id} {pat} r v loud same =
+      some-by (fits_at model t id p) (tree_at q.nodes pat.0) r.pattern
+      (must-fit (fits_at model t id p) (λ n. r.checks.notes v n loud) same)
+
+  -- a fault was recorded: the expression is no such pattern
+  pub refined-faulty : {p q : Productions S H F C K fg cg kg} {t : PatType} {id : ExprId} {pat : PatId} →
+      Refined model t id p pat q → recorded model p.input < recorded model q.input →
+      pattern_as (context model p.input).strict t (tree_at p.nodes id.0) ≡ None
+  refined-faulty {p} {q} {t} {id} {pat} r lt =
+      none-by (fits_at model t id p) (tree_at q.nodes pat.0) r.pattern
+      (cannot-fit (fits_at model t id p) (λ w. (r.checks.passes w).1) lt)
+
+  -- it was refused: the same, but for want of memory
+  pub unrefined-none : {p q : Productions S H F C K fg cg kg} {t : PatType} {id : ExprId} {e : Error} →
+      From 0 p.nodes (expr_part id) → Unrefined model t id p e q → e.kind ≢ OutOfMemory →
+      pattern_as (context model p.input).strict t (tree_at p.nodes id.0) ≡ None
+  unrefined-none {p} {t = t} {id = id} f u n =
+      none-by (fits_at model t id p) (want_as t (tree_at p.nodes id.0))
+      (pattern-is (context model p.input).strict t (tree_at p.nodes id.0) (want_as t (tree_at p.nodes id.0))
+      (expr-formed id f) refl)
+      (u.refuses.unfit n)
+
+  -- the same of items that become parameters
+  pub items-clean : {p q : Productions S H F C K fg cg kg} {xs : List (ExprOrSpread ExprId)} {comma : Option Span}
+      {ps : List PatId} → RefinedItems model xs comma p ps q → are_valid (items_at p.nodes xs) ≡ true →
+      Loud model p.input → recorded model q.input ≡ recorded model p.input →
+      (as_elements binding comma (items_at p.nodes xs) ≡ Some (pats_at q.nodes ps))
+      × (heads_ok (context model p.input) (pats_at q.nodes ps) ≡ true)
+  items-clean {p} {q} {xs} {comma} {ps} r v loud same =
+      heads-by (context model p.input) (as_elements binding comma (items_at p.nodes xs))
+      (elems_fit Binding comma (items_at p.nodes xs)) (pats_at q.nodes ps) r.params
+      (must-fit (params_ok (context model p.input) comma (items_at p.nodes xs)) (λ n. r.checks.notes v n loud) same)
+
+  pub items-faulty : {p q : Productions S H F C K fg cg kg} {xs : List (ExprOrSpread ExprId)} {comma : Option Span}
+      {ps : List PatId} → RefinedItems model xs comma p ps q → recorded model p.input < recorded model q.input →
+      params_ok (context model p.input) comma (items_at p.nodes xs) ≡ false
+  items-faulty {p} {q} {xs} {comma} r lt =
+      cannot-fit (params_ok (context model p.input) comma (items_at p.nodes xs)) (λ w. (r.checks.passes w).1) lt

@@ -1,0 +1,9 @@
+use Rattle.std.proofs.Common.{◌≡◌, ◌++◌, drop}
+use Rattle.swc_cover.proofs.Named.{heads_of}
+use Rattle.swc_cover.specs.Heads.{all_reserved}
+use Rattle.swc_cover.proofs.heads.add_heads.Given as goal
+
+abbrev pub invariant-loop-i : goal.invariant-loop-i
+invariant-loop-i g l =
+    l.spans.items ++ all_reserved (heads_of l.nodes (drop l.i l.pats.items)) ≡ l.fn.spans.items ++ all_reserved
+    (heads_of l.nodes l.pats.items)

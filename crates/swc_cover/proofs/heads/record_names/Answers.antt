@@ -1,0 +1,29 @@
+use Rattle.std.proofs.Common.{arith}
+use Rattle.std.proofs.lemmas.Result.{err_from_is_err_and}
+use Rattle.swc_cover.proofs.Checked.{names-none, names-more, names-all}
+use Rattle.swc_steps.proofs.Steps.{forgoes_later}
+use Rattle.swc_cover.proofs.heads.record_names.Goals as goal
+
+pub loop-span-init : goal.loop-span-init
+loop-span-init g c = (names-none g.met.I.Tokens.laws _ _, omega arith)
+
+pub returns-in_err-emit_strict_mode_err-clause-checks : goal.returns-in_err-emit_strict_mode_err-clause-checks
+returns-in_err-emit_strict_mode_err-clause-checks g c =
+    let p = err_from_is_err_and c.from_residual.result c.from_residual.ensures.1 in rw (p.1, p.2)
+    (forgoes_later c.loop-span.invariant.0.leads c.in_err-emit_strict_mode_err.ensures.checks)
+
+pub loop-span-preserved : goal.loop-span-preserved
+loop-span-preserved g c = (
+  names-more c.deref-span-items.result.now c.loop-span.span-index c.loop-span-test.true c.loop-span.invariant.0
+      c.in_ok-emit_strict_mode_err.ensures.checks,
+  let a = c.loop-span.invariant.1 in let b = c.in_ok-emit_strict_mode_err.ensures.falls in omega arith,
+)
+
+pub returns-clause-checks : goal.returns-clause-checks
+returns-clause-checks g c =
+    names-all c.deref-span-items.result.now c.args.spans.now.items c.loop-span.span-index
+    c.deref-span-items.ensures.value
+    (let h = c.loop-span-test.false in omega arith) c.loop-span.invariant.0
+
+pub returns-clause-falls : goal.returns-clause-falls
+returns-clause-falls g c = c.loop-span.invariant.1

@@ -1,0 +1,12 @@
+use Rattle.std.proofs.Common.{◌≤◌, not, ◌||◌, take}
+use Rattle.swc_input.specs.Buffer.{context, to_come}
+use Rattle.swc_cover.specs.Heads.{has_none}
+use Rattle.swc_steps.specs.Parsing.{Checks}
+use Rattle.swc_cover.proofs.heads.record_names.Given as goal
+
+abbrev pub invariant-loop-span : goal.invariant-loop-span
+invariant-loop-span g l =
+    Checks g.I.Tokens.model (not (context g.I.Tokens.model l.fn.input).module || has_none
+    (take l.span-index l.span-items))
+    l.fn.input l.input
+    × (to_come g.I.Tokens.model l.input ≤ to_come g.I.Tokens.model l.fn.input)

@@ -1,0 +1,36 @@
+use Rattle.std.proofs.Common.{refl, ap}
+use Rattle.swc_input.specs.Buffer.{last_position}
+use Rattle.swc_cover.proofs.Checked.{on-ok-as, if_err-as, from-none, found-whole, found-unfit, unfit-memory}
+use Rattle.swc_cover.proofs.Clear.{found-clear, found-unclear}
+use Rattle.swc_cover.proofs.Quiet.{params-quiet, quiet-params}
+use Rattle.swc_cover.specs.Refining.{items_at}
+use Rattle.swc_cover.proofs.noting.check_items.Goals as goal
+
+pub returns-in-Ok-clause-checks : goal.returns-in-Ok-clause-checks
+returns-in-Ok-clause-checks g c =
+    let ts = items_at c.args.nodes.now c.args.items.now.items in
+    let x = from-none c.new-faults.ensures.items refl c.in-Ok.ensures in
+    on-ok-as c.record_found.result (found-whole x (params-quiet c.args.trailing_comma ts) (quiet-params c.args.trailing_comma ts)) c.record_found.ensures.checks
+
+pub returns-in-Ok-clause-refuses : goal.returns-in-Ok-clause-refuses
+returns-in-Ok-clause-refuses g c =
+    let ts = items_at c.args.nodes.now c.args.items.now.items in
+    let x = from-none c.new-faults.ensures.items refl c.in-Ok.ensures in
+    if_err-as c.record_found.result (λ e h. found-unfit x (params-quiet c.args.trailing_comma ts) h) c.record_found.ensures.refuses
+
+pub returns-clause-refuses : goal.returns-clause-refuses
+returns-clause-refuses g c =
+    unfit-memory g.met.I.Tokens.laws c.args.input.now (last_position c.args.input.now) c.out_of_memory.result c.out_of_memory.ensures
+
+pub returns-in-Ok-clause-exact : goal.returns-in-Ok-clause-exact
+returns-in-Ok-clause-exact g c =
+    let x = from-none c.new-faults.ensures.items refl c.in-Ok.ensures in
+    on-ok-as c.record_found.result (found-clear x) c.record_found.ensures.checks
+
+pub returns-in-Ok-clause-unclear : goal.returns-in-Ok-clause-unclear
+returns-in-Ok-clause-unclear g c =
+    let x = from-none c.new-faults.ensures.items refl c.in-Ok.ensures in
+    if_err-as c.record_found.result (λ e h. λ n. found-unclear x (h.1 n)) c.record_found.ensures.refuses
+
+pub returns-clause-unclear : goal.returns-clause-unclear
+returns-clause-unclear g c = λ n. absurd (n (ap (λ e. e.kind) c.out_of_memory.ensures))

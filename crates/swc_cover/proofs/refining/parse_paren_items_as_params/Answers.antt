@@ -1,0 +1,47 @@
+use Rattle.std.proofs.lemmas.Result.{err_from_is_err_and}
+use Rattle.swc_cover.proofs.Checked.{forgoes-after}
+use Rattle.swc_cover.proofs.Clear.{heads-then}
+use Rattle.swc_cover.proofs.Kept.{apart-any, parts-kept}
+use Rattle.swc_cover.proofs.Refines.{items-refined, items-unfit}
+use Rattle.swc_cover.specs.Refining.{pats_at}
+use Rattle.swc_nodes.specs.NodeParts.{flat, item_parts}
+use Rattle.swc_cover.proofs.refining.parse_paren_items_as_params.Goals as goal
+
+pub returns-in_err-check_items-clause-unrefined : goal.returns-in_err-check_items-clause-unrefined
+returns-in_err-check_items-clause-unrefined g c =
+    let p = err_from_is_err_and c.from_residual.result c.from_residual.ensures.1 in rw (p.1, p.2)
+    (record {
+      refuses = items-unfit c.args.trailing_comma c.args.items.now.items c.requires c.in_err-check_items.ensures.refuses;
+      kept = parts-kept (flat item_parts c.args.items.now.items) c.requires;
+    })
+
+pub check_heads-requires : goal.check_heads-requires
+check_heads-requires g c = apart-any c.in-Ok.ensures.made.apart
+
+pub returns-in_err-check_heads-in-Ok-clause-unrefined : goal.returns-in_err-check_heads-in-Ok-clause-unrefined
+returns-in_err-check_heads-in-Ok-clause-unrefined g c =
+    let p = err_from_is_err_and c.from_residual-in_err-check_heads-in-Ok.result c.from_residual-in_err-check_heads-in-Ok.ensures.1 in rw (p.1, p.2)
+    (record {
+      refuses = forgoes-after c.in_ok-check_items.ensures.checks c.in_err-check_heads-in-Ok.ensures.checks;
+      kept = c.in-Ok.ensures.kept;
+    })
+
+pub returns-in_ok-check_heads-in-Ok-clause-refined : goal.returns-in_ok-check_heads-in-Ok-clause-refined
+returns-in_ok-check_heads-in-Ok-clause-refined g c =
+    items-refined c.args.trailing_comma c.args.items.now.items c.in-Ok.pats.items c.requires c.in_ok-check_items.ensures.checks
+    c.in_ok-check_heads-in-Ok.ensures.checks c.in-Ok.ensures.kept c.in-Ok.ensures.made
+
+pub returns-in_err-check_items-clause-unclear : goal.returns-in_err-check_items-clause-unclear
+returns-in_err-check_items-clause-unclear g c =
+    let p = err_from_is_err_and c.from_residual.result c.from_residual.ensures.1 in rw (p.1, p.2)
+    c.in_err-check_items.ensures.unclear
+
+pub returns-in_err-check_heads-in-Ok-clause-unclear : goal.returns-in_err-check_heads-in-Ok-clause-unclear
+returns-in_err-check_heads-in-Ok-clause-unclear g c =
+    let r = c.from_residual-in_err-check_heads-in-Ok in
+    let p = err_from_is_err_and r.result r.ensures.1 in rw (p.1, p.2)
+    (λ n. absurd (n c.in_err-check_heads-in-Ok.ensures.checks.kind))
+
+pub returns-in_ok-check_heads-in-Ok-clause-exact : goal.returns-in_ok-check_heads-in-Ok-clause-exact
+returns-in_ok-check_heads-in-Ok-clause-exact g c =
+    heads-then (pats_at c.refine_items.new.nodes c.in-Ok.pats.items) c.in_ok-check_items.ensures.exact c.in_ok-check_heads-in-Ok.ensures.checks

@@ -1,0 +1,15 @@
+use Rattle.std.proofs.lemmas.Result.{err_from_is_err_and}
+use Rattle.swc_input.specs.Buffer.{last_position}
+use Rattle.swc_cover.proofs.Checked.{memory-later}
+use Rattle.swc_cover.proofs.Kept.{none-kept}
+use Rattle.swc_cover.proofs.Refines.{refined-is}
+use Rattle.swc_cover.proofs.refining.reparse_expr_as_pat.Goals as goal
+
+pub returns-in-Ok-clause-refined : goal.returns-in-Ok-clause-refined
+returns-in-Ok-clause-refined g c =
+    refined-is c.args.pat_type c.args.id c.in-Ok.pat c.requires c.in_ok-check_pat.ensures.checks c.in-Ok.ensures.kept c.in-Ok.ensures.made
+
+pub returns-in_err-check_pat-clause-unclear : goal.returns-in_err-check_pat-clause-unclear
+returns-in_err-check_pat-clause-unclear g c =
+    let p = err_from_is_err_and c.from_residual.result c.from_residual.ensures.1 in rw (p.1, p.2)
+    c.in_err-check_pat.ensures.unclear

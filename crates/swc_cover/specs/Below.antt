@@ -1,0 +1,82 @@
+-- The parts of what is looked at, which stand among the nodes, before it.
+use Rattle.std.specs.Prelude.{◌≡◌, ℕ, ◌+◌, ◌*◌, ◌<◌, List, Option, Some, None, get_or, length}
+use Rattle.swc_ast.specs.declared.expr.ExprOrSpread.{ExprOrSpread}
+use Rattle.swc_ast.specs.declared.spanned.Spanned.{Ghosts}
+use Rattle.swc_nodes.specs.NodeParts.{expr_part, pat_part}
+use Rattle.swc_nodes.specs.GrowingNodes.{From}
+use Rattle.swc_nodes.specs.declared.node.ExprId.{ExprId}
+use Rattle.swc_nodes.specs.declared.node.PatId.{PatId}
+use Rattle.swc_nodes.specs.declared.node.PatPropNode.{PatPropNode}
+use Rattle.swc_nodes.specs.declared.node.PatPropNode.TheVariants as pat_prop
+use Rattle.swc_nodes.specs.declared.node.PropNode.{PropNode}
+use Rattle.swc_nodes.specs.declared.node.PropNode.TheVariants as prop
+use Rattle.swc_nodes.specs.declared.nodes.Nodes.{Nodes}
+
+-- what an element or a property counts, by which a look at nodes ends: more than what it holds, and less than its node
+abbrev pub elem_size : Option (ExprOrSpread ExprId) → ℕ
+elem_size None = 0
+elem_size (Some x) = x.expr.0 * 4 + 4
+
+abbrev pub prop_size : {K : Type 0} → PropNode K → ℕ
+prop_size (prop.KeyValue s k v) = v.0 * 4 + 4
+prop_size (prop.Spread s) = s.expr.0 * 4 + 4
+prop_size p = 0
+
+abbrev pub pat_elem_size : Option PatId → ℕ
+pat_elem_size None = 0
+pat_elem_size (Some p) = p.0 * 4 + 4
+
+abbrev pub pat_prop_size : PatPropNode → ℕ
+pat_prop_size (pat_prop.KeyValue s k v) = v.0 * 4 + 4
+pat_prop_size (pat_prop.Rest s d p) = p.0 * 4 + 4
+pat_prop_size p = 0
+
+module _ {F C K : Type 0} {fg : Ghosts F} {cg : Ghosts C} {kg : Ghosts K} where
+  -- what is held stands among the nodes
+  abbrev pub ElemFrom : Nodes F C K fg cg kg → Option (ExprOrSpread ExprId) → Type 0
+  ElemFrom ns None = Unit {0}
+  ElemFrom ns (Some x) = From 0 ns (expr_part x.expr)
+
+  abbrev pub PropFrom : Nodes F C K fg cg kg → PropNode K → Type 0
+  PropFrom ns (prop.KeyValue s k v) = From 0 ns (expr_part v)
+  PropFrom ns (prop.Spread s) = From 0 ns (expr_part s.expr)
+  PropFrom ns p = Unit {0}
+
+  abbrev pub PatElemFrom : Nodes F C K fg cg kg → Option PatId → Type 0
+  PatElemFrom ns None = Unit {0}
+  PatElemFrom ns (Some p) = From 0 ns (pat_part p)
+
+  abbrev pub PatPropFrom : Nodes F C K fg cg kg → PatPropNode → Type 0
+  PatPropFrom ns (pat_prop.KeyValue s k v) = From 0 ns (pat_part v)
+  PatPropFrom ns (pat_prop.Rest s d p) = From 0 ns (pat_part p)
+  PatPropFrom ns p = Unit {0}
+
+  -- and before the node with the number i
+  pub record ElemStep (ns : Nodes F C K fg cg kg) (i : ℕ) (o : Option (ExprOrSpread ExprId)) : Type 0 where
+    pub less : elem_size o < i * 4 + 1
+    pub from : ElemFrom ns o
+
+  pub record PropStep (ns : Nodes F C K fg cg kg) (i : ℕ) (p : PropNode K) : Type 0 where
+    pub less : prop_size p < i * 4 + 1
+    pub from : PropFrom ns p
+
+  pub record PatElemStep (ns : Nodes F C K fg cg kg) (i : ℕ) (o : Option PatId) : Type 0 where
+    pub less : pat_elem_size o < i * 4 + 1
+    pub from : PatElemFrom ns o
+
+  pub record PatPropStep (ns : Nodes F C K fg cg kg) (i : ℕ) (p : PatPropNode) : Type 0 where
+    pub less : pat_prop_size p < i * 4 + 1
+    pub from : PatPropFrom ns p
+
+  -- the same of all in a list
+  pub record ElemsBelow (ns : Nodes F C K fg cg kg) (i : ℕ) (xs : List (Option (ExprOrSpread ExprId))) : Type 0 where
+    pub each : (j : ℕ) (o : Option (ExprOrSpread ExprId)) → j < length xs → o ≡ get_or xs j o → ElemStep ns i o
+
+  pub record PropsBelow (ns : Nodes F C K fg cg kg) (i : ℕ) (xs : List (PropNode K)) : Type 0 where
+    pub each : (j : ℕ) (p : PropNode K) → j < length xs → p ≡ get_or xs j p → PropStep ns i p
+
+  pub record PatElemsBelow (ns : Nodes F C K fg cg kg) (i : ℕ) (xs : List (Option PatId)) : Type 0 where
+    pub each : (j : ℕ) (o : Option PatId) → j < length xs → o ≡ get_or xs j o → PatElemStep ns i o
+
+  pub record PatPropsBelow (ns : Nodes F C K fg cg kg) (i : ℕ) (xs : List PatPropNode) : Type 0 where
+    pub each : (j : ℕ) (p : PatPropNode) → j < length xs → p ≡ get_or xs j p → PatPropStep ns i p

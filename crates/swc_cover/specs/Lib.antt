@@ -1,0 +1,14 @@
+pub mod Moving
+pub mod Nodes
+pub mod Rewriting
+pub mod Roles
+pub mod Below
+pub mod Checking
+pub mod Items
+pub mod Faults
+pub mod Wanted
+pub mod Fits
+pub mod PatTypes
+pub mod Heads
+pub mod Clear
+pub mod Refining

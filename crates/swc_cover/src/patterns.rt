@@ -1,0 +1,57 @@
+// Expressions that become patterns (ECMA-262, 13.15.5 and 15.3).
+ghost use Rattle.std.specs.Prelude.{◌≡◌, IfOk};
+ghost use Rattle.swc_ast.specs.Tree.{pat_expr, node, nil, cons, span_of};
+ghost use Rattle.swc_cover.specs.Moving.{KeptTo};
+ghost use Rattle.swc_cover.specs.PatTypes.{role_for, want_as};
+ghost use Rattle.swc_nodes.specs.NodeParts.{expr_part, pat_part};
+ghost use Rattle.swc_nodes.specs.GrowingNodes.{tree_at, first_at, From, Grows, Made};
+
+use crate::moving::refine;
+use crate::pat_type::{PatType, stands_whole};
+use crate::role::Role;
+use std::alloc::{AllocError, Global};
+use swc_ast::spanned::Spanned;
+use swc_nodes::node::{ExprId, Node, PatId};
+use swc_nodes::nodes::Nodes;
+
+/// Makes a pattern of an expression, and lets go of all behind it. Nodes with numbers below all that is reached from
+/// the expression stay; it and what it holds are taken from the end, and appended again in their order.
+pub fn refine_pat<F: Spanned + Drop, C: Spanned + Drop, K: Spanned + Drop>(
+    nodes: &mut Nodes<F, C, K>,
+    alloc: Global,
+    pat_type: PatType,
+    id: ExprId,
+) -> Result<PatId, AllocError>
+    requires { From 0 nodes.old (expr_part id) }
+    ensures kept { KeptTo (first_at nodes.old id.0) nodes.old nodes.new }
+    ensures made { IfOk result (λ p. Made (first_at nodes.old id.0) nodes.new (pat_part p)
+        (want_as pat_type (tree_at nodes.old id.0))) }
+{
+    if stands_whole(nodes, pat_type, id) && !nodes.is_ident(id) {
+        return hold_expr(nodes, id);
+    }
+    refine(nodes, alloc, id, role(pat_type))
+}
+
+/// What a node is to become.
+fn role(pat_type: PatType) -> Role
+    ensures { result ≡ role_for pat_type }
+{
+    match pat_type {
+        PatType::BindingPat | PatType::BindingElement => Role::Bind,
+        PatType::AssignPat | PatType::AssignElement => Role::Assign,
+    }
+}
+
+/// A pattern that is an expression which is assigned to as it stands.
+fn hold_expr<F: Spanned + Drop, C: Spanned + Drop, K: Spanned + Drop>(
+    nodes: &mut Nodes<F, C, K>,
+    id: ExprId,
+) -> Result<PatId, AllocError>
+    requires { From 0 nodes.old (expr_part id) }
+    ensures grows { Grows nodes.old nodes.new }
+    ensures made { IfOk result (λ p. Made (first_at nodes.old id.0) nodes.new (pat_part p)
+        (node pat_expr (span_of (tree_at nodes.old id.0)) (cons (tree_at nodes.old id.0) nil))) }
+{
+    Ok(PatId(nodes.push(Node::PatExpr(id))?))
+}

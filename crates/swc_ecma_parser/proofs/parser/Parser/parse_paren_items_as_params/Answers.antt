@@ -1,0 +1,45 @@
+use Rattle.std.proofs.Common.{◌≡◌, map, sym, ◌∙◌}
+use Rattle.swc_input.specs.Buffer.{last_position}
+use Rattle.swc_input.specs.Recording.{no_memory}
+use Rattle.swc_ast.specs.Tree.{trees}
+use Rattle.swc_ast.specs.TreeOf.{pat_tree}
+use Rattle.swc_ast.specs.Trees.{are_valid, all_unmarked}
+use Rattle.swc_cover.specs.Items.{want_items}
+use Rattle.swc_cover.specs.Refining.{pats_at}
+use Rattle.swc_nodes.specs.GrowingNodes.{tree_at}
+use Rattle.swc_nodes.specs.Lists.{pats_parts}
+use Rattle.swc_ecma_parser.specs.Calls.{buffer_of, nodes_of, commas_of}
+use Rattle.swc_ecma_parser.specs.Refinement.{boxed_items, marked_items, params_of}
+use Rattle.swc_ecma_parser.proofs.Refined.{cut-kept, meets-refinement, moved-pats, of-answer}
+use Rattle.swc_ecma_parser.proofs.Refined.{promised-refinement, refinement-again, whichever}
+use Rattle.swc_ecma_parser.proofs.parser.Parser.parse_paren_items_as_params.Goals as goal
+
+pub lift_out-answer-requires : goal.lift_out-answer-requires
+lift_out-answer-requires g c = rw (c.len-start.ensures)
+    (of-answer _ _ _ c.recast_items-answer.result c.recast_items-answer.ensures.recasts (λ x w. w.apart))
+
+pub returns-in-Err : goal.returns-in-Err
+returns-in-Err g c = refinement-again c.in-Err.ensures.again
+
+pub returns-in-Ok : goal.returns-in-Ok
+returns-in-Ok g c =
+    let done = c.finish.ensures in
+    let moved = c.lift_out-answer.ensures in
+    let made = c.recast_items-answer.ensures in
+    let p = c.args.self.now in
+    let q = c.recast_items-answer.new.self in
+    let xs = c.args.items.items in
+    let pat = pat_tree _ _ _ g.B.Fun.Spanned.place g.B.Class.Spanned.place g.B.Block.Spanned.place in
+    promised-refinement _ (nodes_of c.lift_out-answer.new.self) (commas_of c.lift_out-answer.new.self)
+    c.lift_out-answer.result c.finish.result c.in-Ok.ensures.runs (moved.runs ∙ made.runs)
+    done.answer (done.buffer ∙ moved.buffer) done.nodes done.commas done.fails
+    (meets-refinement g.I.Tokens.model
+    (are_valid (boxed_items g.B.Fun.Spanned.place g.B.Class.Spanned.place g.B.Block.Spanned.place xs))
+    (params_of g.I.Tokens.model xs c.args.trailing_comma p) (want_items (marked_items p xs))
+    (λ ns v. pats_at ns v.items) pats_parts all_unmarked (λ v. trees (map pat v.items)) p q
+    c.recast_items-answer.result c.lift_out-answer.result made.recasts
+    (moved-pats (λ e. e ≡ no_memory (last_position (buffer_of q))) pat (tree_at (nodes_of q))
+    c.recast_items-answer.result c.lift_out-answer.result moved.moved))
+    (moved.commas ∙ made.commas)
+    (cut-kept (nodes_of c.lift_out-answer.new.self) (whichever _ _ _ c.recast_items-answer.result made.recasts
+    (λ x w. w.kept) (λ e w. w.kept)) (rw (sym c.len-start.ensures) moved.nodes))

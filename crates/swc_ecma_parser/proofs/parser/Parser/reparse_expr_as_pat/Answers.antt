@@ -1,0 +1,37 @@
+use Rattle.std.proofs.Common.{sym, ◌∙◌}
+use Rattle.swc_ast.specs.TreeOf.{pat_tree}
+use Rattle.swc_ast.specs.Trees.{is_valid, unmarked}
+use Rattle.swc_cover.specs.PatTypes.{want_as}
+use Rattle.swc_nodes.specs.NodeParts.{one_pat}
+use Rattle.swc_patterns.specs.Answers.{pat_at}
+use Rattle.swc_ecma_parser.specs.Calls.{nodes_of, commas_of, tree_by}
+use Rattle.swc_ecma_parser.specs.Refinement.{marked_expr, pattern_of}
+use Rattle.swc_ecma_parser.proofs.Refined.{cut-kept, meets-refinement, of-answer, promised-refinement, refinement-again}
+use Rattle.swc_ecma_parser.proofs.Refined.{whichever}
+use Rattle.swc_ecma_parser.proofs.parser.Parser.reparse_expr_as_pat.Goals as goal
+
+pub lift_out-answer-requires : goal.lift_out-answer-requires
+lift_out-answer-requires g c = rw (c.len-start.ensures)
+    (of-answer _ _ _ c.recast_expr-answer.result c.recast_expr-answer.ensures.recasts (λ x w. w.apart))
+
+pub returns-in-Err : goal.returns-in-Err
+returns-in-Err g c = refinement-again c.in-Err.ensures.again
+
+pub returns-in-Ok : goal.returns-in-Ok
+returns-in-Ok g c =
+    let done = c.finish.ensures in
+    let moved = c.lift_out-answer.ensures in
+    let made = c.recast_expr-answer.ensures in
+    let p = c.args.self.now in
+    let e = c.args.expr in
+    promised-refinement _ (nodes_of c.lift_out-answer.new.self) (commas_of c.lift_out-answer.new.self)
+    c.lift_out-answer.result c.finish.result c.in-Ok.ensures.runs (moved.runs ∙ made.runs)
+    done.answer (done.buffer ∙ moved.buffer) done.nodes done.commas done.fails
+    (meets-refinement g.I.Tokens.model
+    (is_valid (tree_by g.B.Fun.Spanned.place g.B.Class.Spanned.place g.B.Block.Spanned.place e))
+    (pattern_of g.I.Tokens.model c.args.pat_type e p) (want_as c.args.pat_type (marked_expr p e)) pat_at one_pat unmarked
+    (pat_tree _ _ _ g.B.Fun.Spanned.place g.B.Class.Spanned.place g.B.Block.Spanned.place)
+    p c.recast_expr-answer.new.self c.recast_expr-answer.result c.lift_out-answer.result made.recasts moved.moved)
+    (moved.commas ∙ made.commas)
+    (cut-kept (nodes_of c.lift_out-answer.new.self) (whichever _ _ _ c.recast_expr-answer.result made.recasts
+    (λ x w. w.kept) (λ e w. w.kept)) (rw (sym c.len-start.ensures) moved.nodes))

@@ -1,0 +1,137 @@
+-- What the calls promise that make patterns of finished expressions (ECMA-262, 13.15.5 and 15.3).
+use Rattle.std.specs.Prelude.{◌≡◌, Bool, true, false, if◌then◌else◌, List, [], map, Option, Some, None, Result}
+use Rattle.std.specs.Prelude.{Err, IfOk, MatchOption, MatchResult}
+use Rattle.std.specs.declared.alloc.Global.{Global}
+use Rattle.std.specs.declared.boxed.Box.{Box}
+use Rattle.std.specs.declared.vec.Vec.{Vec}
+use Rattle.std.specs.Option.{is_some}
+use Rattle.swc_context.specs.declared.context.Context.{Context}
+use Rattle.swc_context.specs.declared.error.Error.{Error}
+use Rattle.swc_context.specs.declared.error.SyntaxError.TheVariants.{OutOfMemory}
+use Rattle.swc_context.specs.declared.span.Span.{Span}
+use Rattle.swc_input.specs.Source.{Model}
+use Rattle.swc_input.specs.Buffer.{Read, context, previous}
+use Rattle.swc_ast.specs.Parts.{item_trees}
+use Rattle.swc_ast.specs.Tree.{Tree, Trees, trees}
+use Rattle.swc_ast.specs.TreeOf.{pat_tree}
+use Rattle.swc_ast.specs.Trees.{is_valid, are_valid, unmarked, all_unmarked}
+use Rattle.swc_ast.specs.declared.expr.Expr.{Expr}
+use Rattle.swc_ast.specs.declared.expr.ExprOrSpread.{ExprOrSpread}
+use Rattle.swc_ast.specs.declared.pat.Pat.{Pat}
+use Rattle.swc_ast.specs.declared.spanned.Spanned.{Ghosts}
+use Rattle.swc_grammar.specs.Cover.{binding, as_elements, heads_ok}
+use Rattle.swc_nodes.specs.Commas.{comma_at}
+use Rattle.swc_nodes.specs.Marking.{Marker, marked_by, all_marked_by}
+use Rattle.swc_nodes.specs.NodeParts.{Part}
+use Rattle.swc_nodes.specs.GrowingNodes.{count, Apart, SameNodes}
+use Rattle.swc_nodes.specs.declared.nodes.Nodes.{Nodes}
+use Rattle.swc_cover.specs.Items.{want_items}
+use Rattle.swc_cover.specs.Moving.{KeptTo}
+use Rattle.swc_cover.specs.PatTypes.{pattern_as, want_as}
+use Rattle.swc_cover.specs.Refining.{ChecksWhole, Unfitting}
+use Rattle.swc_cover.specs.declared.pat_type.PatType.{PatType}
+use Rattle.swc_steps.specs.Parsing.{Acts, Loud}
+use Rattle.swc_ecma_parser.specs.Calls.{buffer_of, nodes_of, commas_of, has_failed, parser_failed, tree_by}
+use Rattle.swc_ecma_parser.specs.Calls.{wants_memory}
+use Rattle.swc_ecma_parser.specs.Promise.{Unmarred}
+use Rattle.swc_ecma_parser.specs.declared.parser.Parser.{Parser}
+
+-- What a call promises that makes patterns of expressions, from the parser p to q, where it answers r. By the grammar
+-- the expressions are `pattern`, if they are patterns of the kind that is asked for; `becomes` is what is made of them
+-- in any case, with `Invalid` where a fault is recorded. Both have the marks of commas, which `strip` takes away.
+pub record PromisedRefinement {S H T A F C K : Type 0} {fg : Ghosts F} {cg : Ghosts C} {kg : Ghosts K}
+    (model : Model S) (valid : Bool) (pattern : Option A) (becomes : A) (strip : A → A) (view : T → A)
+    (p : Parser S H F C K fg cg kg) (r : Result T Error) (q : Parser S H F C K fg cg kg) : Type 0 where
+  -- A parser that met want of memory does nothing, and refuses as `ParserFailed` at the token consumed last.
+  pub again : has_failed p ≡ true → (q ≡ p) × (r ≡ Err (parser_failed (previous (buffer_of p))))
+  -- Any other acts: what was consumed isn't lost; the context is what it was, no recorded fault was taken out, and no
+  -- want of memory recorded.
+  pub acts : has_failed p ≡ false → Acts model (buffer_of p) r (buffer_of q)
+  -- Where the expressions hold no `Invalid`, and faults are recorded: what is answered with no fault recorded is the
+  -- pattern that they are.
+  pub sound : has_failed p ≡ false → valid ≡ true → Loud model (buffer_of p)
+      → IfOk r (λ x. Unmarred model (buffer_of p) (buffer_of q) → MatchOption pattern ⊥ (λ m. view x ≡ strip m))
+  -- Where they are a pattern, it is answered, with nothing consumed and no fault recorded; or the answer is want of
+  -- memory.
+  pub complete : has_failed p ≡ false → (m : A) → pattern ≡ Some m
+      → MatchResult r
+      (λ x. (view x ≡ strip m) × Read model (buffer_of p) [] (buffer_of q) × Unmarred model (buffer_of p) (buffer_of q))
+      (λ e. e.kind ≡ OutOfMemory)
+  -- what is answered in any case
+  pub tree : IfOk r (λ x. view x ≡ strip becomes)
+  -- what is remembered of commas stays: it isn't forgotten by use
+  pub commas : commas_of q ≡ commas_of p
+  -- the nodes are what they were
+  pub nodes : SameNodes (nodes_of p) (nodes_of q)
+  -- it has failed from now on where it refuses for want of memory, and only there
+  pub fails : has_failed p ≡ false → has_failed q ≡ wants_memory r
+
+-- the parameters that items in parentheses are, where a comma stands behind them or none, and they bind what they may
+-- in the context
+abbrev pub heads_among : {F C K : Type 0} → Context → Option (Trees F C K) → Option (Trees F C K)
+heads_among c None = None
+heads_among c (Some ps) = if heads_ok c ps then Some ps else None
+
+abbrev pub heads_as : {F C K : Type 0} → Context → Option Span → Trees F C K → Option (Trees F C K)
+heads_as c comma ts = heads_among c (as_elements binding comma ts)
+
+-- the items of a list in boxes, where the hook's values lie at the places given
+abbrev pub boxed_items : {F C K : Type 0} → (F → Span) → (C → Span) → (K → Span)
+    → List (ExprOrSpread (Box (Expr F C K) Global)) → Trees F C K
+boxed_items fun class block xs = item_trees (tree_by fun class block) xs
+
+module _ {S H F C K : Type 0} {fg : Ghosts F} {cg : Ghosts C} {kg : Ghosts K} where
+  -- the commas that a parser remembers, by where a literal begins
+  abbrev pub marks_of : Parser S H F C K fg cg kg → Marker
+  marks_of p = comma_at (commas_of p)
+
+  -- an expression in a box, and items in parentheses, with the marks of the commas that are remembered at their
+  -- literals
+  abbrev pub marked_expr : Parser S H F C K fg cg kg → Box (Expr F C K) Global → Tree F C K
+  marked_expr p e = marked_by (marks_of p) (tree_by fg.place cg.place kg.place e)
+
+  abbrev pub marked_items : Parser S H F C K fg cg kg → List (ExprOrSpread (Box (Expr F C K) Global)) → Trees F C K
+  marked_items p xs = all_marked_by (marks_of p) (boxed_items fg.place cg.place kg.place xs)
+
+  -- the pattern in strict code or not, as the parser's context says
+  abbrev pub pattern_of : Model S → PatType → Box (Expr F C K) Global → Parser S H F C K fg cg kg → Option (Tree F C K)
+  pattern_of model pat_type e p = pattern_as (context model (buffer_of p)).strict pat_type (marked_expr p e)
+
+  abbrev pub params_of : Model S → List (ExprOrSpread (Box (Expr F C K) Global)) → Option Span
+      → Parser S H F C K fg cg kg → Option (Trees F C K)
+  params_of model xs comma p = heads_as (context model (buffer_of p)) comma (marked_items p xs)
+
+  -- an expression becomes a pattern of the kind
+  abbrev pub RefinesExpr : Model S → PatType → Box (Expr F C K) Global → Parser S H F C K fg cg kg
+      → Result (Pat F C K) Error → Parser S H F C K fg cg kg → Type 0
+  RefinesExpr model pat_type e p r q =
+      PromisedRefinement model (is_valid (tree_by fg.place cg.place kg.place e)) (pattern_of model pat_type e p)
+      (want_as pat_type (marked_expr p e)) unmarked (pat_tree F C K fg.place cg.place kg.place) p r q
+
+  -- items in parentheses, with a comma behind the last or none, become parameters
+  abbrev pub RefinesItems : Model S → List (ExprOrSpread (Box (Expr F C K) Global)) → Option Span
+      → Parser S H F C K fg cg kg → Result (Vec (Pat F C K) Global) Error → Parser S H F C K fg cg kg → Type 0
+  RefinesItems model xs comma p r q =
+      PromisedRefinement model (are_valid (boxed_items fg.place cg.place kg.place xs)) (params_of model xs comma p)
+      (want_items (marked_items p xs)) all_unmarked
+      (λ v. trees (map (pat_tree F C K fg.place cg.place kg.place) v.items)) p r q
+
+-- ---- among the nodes, before the answer is moved out of them
+
+module _ {S H A X F C K : Type 0} {fg : Ghosts F} {cg : Ghosts C} {kg : Ghosts K} (model : Model S) (valid : Bool)
+    (pattern : Option A) (becomes : A) (of : Nodes F C K fg cg kg → X → A) (parts : X → List Part) where
+  -- Expressions were put behind all nodes, checked and made patterns of: nodes that there were stay, and new ones stand
+  -- for what they become.
+  pub record Recast (p : Parser S H F C K fg cg kg) (x : X) (q : Parser S H F C K fg cg kg) : Type 0 where
+    pub checks : ChecksWhole model valid (is_some pattern) (buffer_of p) (buffer_of q)
+    pub kept : KeptTo (count (nodes_of p)) (nodes_of p) (nodes_of q)
+    pub apart : Apart (count (nodes_of p)) (nodes_of q) (parts x)
+    pub stands : of (nodes_of q) x ≡ becomes
+    pub is : (m : A) → pattern ≡ Some m → m ≡ becomes
+
+  pub record Unrecast (p : Parser S H F C K fg cg kg) (e : Error) (q : Parser S H F C K fg cg kg) : Type 0 where
+    pub refuses : Unfitting model (is_some pattern) (buffer_of p) e (buffer_of q)
+    pub kept : KeptTo (count (nodes_of p)) (nodes_of p) (nodes_of q)
+
+  abbrev pub Recasts : Parser S H F C K fg cg kg → Result X Error → Parser S H F C K fg cg kg → Type 0
+  Recasts p r q = MatchResult r (λ x. Recast p x q) (λ e. Unrecast p e q)

@@ -1,0 +1,81 @@
+-- Arrow functions (15.3): their tokens and contexts.
+use Rattle.std.specs.Prelude.{Bool, true, false, not, ◌&&◌, ◌||◌, Option, codes}
+use Rattle.swc_context.specs.Reserved.{is_reserved, strict_binding_words}
+use Rattle.swc_context.specs.Texts.{is_text, is_one_of}
+use Rattle.swc_context.specs.Words.{word_text}
+use Rattle.swc_context.specs.declared.context.Context.{Context}
+use Rattle.swc_context.specs.declared.span.Span.{Span}
+use Rattle.swc_context.specs.declared.word.Keyword.TheVariants as keyword
+use Rattle.swc_context.specs.declared.word.Word.{Word}
+use Rattle.swc_context.specs.declared.word.Word.TheVariants as word
+use Rattle.swc_input.specs.declared.token.Token.{Token}
+use Rattle.swc_input.specs.declared.token.Token.TheVariants as token
+use Rattle.swc_ast.specs.Tree.{Tree, node, block}
+use Rattle.swc_grammar.specs.Scope.{Scope}
+use Rattle.swc_grammar.specs.Names.{Spelling, may_refer, may_bind, spelled}
+use Rattle.swc_input.specs.declared.token.TokenAndSpan.{TokenAndSpan}
+use Rattle.swc_bodies.specs.Readings.{is_function}
+use Rattle.swc_grammar.specs.Tokens.{is_put_off, is_lparen}
+
+-- `=>`
+abbrev pub is_arrow : Token → Bool
+is_arrow token.Arrow = true
+is_arrow t = false
+
+-- a parameter without parentheses: a reference that is no keyword but `yield`; in a strict module neither `eval` nor
+-- `arguments`
+abbrev pub is_arrow_word : Word → Bool
+is_arrow_word (word.Ident name) = true
+is_arrow_word (word.Keyword keyword.Yield) = true
+is_arrow_word w = false
+
+abbrev pub binds_alone : Context → Word → Bool
+binds_alone c w = is_arrow_word w && not ((c.module && c.strict) && is_one_of (word_text w) strict_binding_words)
+
+abbrev pub arrow_name : Scope → Token → Span → Option Spelling
+arrow_name c = spelled (λ w. may_refer c.context w && binds_alone c.context w)
+
+-- The word `async`, as a reference. On its line no `function` stands behind it; nor, where an assignment expression
+-- begins with it, a `(`, or a word that may be bound, with which an async arrow function goes on (15.9). But in the
+-- head of a `for await` (14.7.5) that may be `of`, if no `=>` stands behind it; in that of another `for` it is an early
+-- error.
+abbrev pub async_name : Scope → Token → Span → Option Spelling
+async_name c = spelled (λ w. may_refer c.context w && is_put_off w)
+
+abbrev pub is_bindable : Scope → Token → Bool
+is_bindable c (token.Word w) = not (is_reserved c.context w)
+is_bindable c t = false
+
+abbrev pub is_of : Token → Bool
+is_of (token.Word (word.Ident w)) = is_text w (codes "of")
+is_of t = false
+
+abbrev pub before_of : Scope → Token → Bool
+before_of c t = (c.context.expr_ctx.for_loop_init && c.context.expr_ctx.for_await_loop_init) && is_of t
+
+abbrev pub goes_on_async : Scope → TokenAndSpan → Bool
+goes_on_async c t =
+    not t.had_line_break
+    && (is_function t.token || (c.head && (is_lparen t.token || (is_bindable c t.token && not (before_of c t.token)))))
+
+abbrev pub of_arrow : Scope → TokenAndSpan → TokenAndSpan → Bool
+of_arrow c t u =
+    c.head && (not t.had_line_break && ((is_bindable c t.token && before_of c t.token) && is_arrow u.token))
+
+-- the parameter without parentheses of an async one: it is bound, and no reserved word
+abbrev pub async_param : Scope → Token → Span → Option Spelling
+async_param c = spelled (λ w. may_bind c.context w && not (is_reserved c.context w))
+
+-- the context of its body, async or not
+abbrev pub arrow_body : Bool → Context → Context
+arrow_body is_async c = record c { in_async = is_async; in_generator = false; in_function = true }
+
+-- Behind parameters in parentheses and a block no binary operator stands, but for `in` and `instanceof`, which are left
+-- unread: no expression goes on there.
+abbrev pub is_sign : Token → Bool
+is_sign (token.BinOp b) = true
+is_sign t = false
+
+abbrev pub is_block : {F C K : Type 0} → Tree F C K → Bool
+is_block (node (block v) s ts) = true
+is_block t = false
