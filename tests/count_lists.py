@@ -508,7 +508,8 @@ def others(front, token, mode):
         if token == "(":
             yield opened(front, ")async list", "params+", 0, "cover")
         name = token in NAMES or token == "async" or token in RESERVED
-        if name and not mode & (RESERVED.get(token, set()) | UNBOUND.get(token, set())):
+        barred = RESERVED.get(token, set()) | UNBOUND.get(token, set()) | ({"strict"} if token == "await" else set())
+        if name and not mode & barred:
             yield front._replace(before="async arrow", wants="operand")
     if front.wants != "assign" or front.before in PROPERTY or front.before in PATTERN:
         return

@@ -5,9 +5,13 @@
 #[cfg(test)]
 mod arrows;
 #[cfg(test)]
+mod both_ways;
+#[cfg(test)]
 mod buffers;
 #[cfg(test)]
 mod calls;
+#[cfg(test)]
+mod captured;
 #[cfg(test)]
 mod chains;
 #[cfg(test)]
@@ -35,5 +39,7 @@ mod slashes;
 pub mod sources;
 #[cfg(test)]
 mod trees;
+#[cfg(test)]
+mod verifying;
 #[cfg(test)]
 mod words;

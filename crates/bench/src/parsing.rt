@@ -10,6 +10,7 @@ use crate::shown::{Shown, show, show_faults, show_label, show_refusal};
 use crate::slashes::slashes_of;
 use crate::sources::FailingInput;
 use crate::trees::{show_id, show_numbered, show_numbered_pat, show_pat_id};
+use crate::verifying::{VERIFYING, verify, verify_other};
 use bench_lower::rows::{Row, Subject, answers, expect, row_of};
 use bench_lower::tokens::{fault_of, span_of};
 use std::alloc::{AllocError, Global};
@@ -89,6 +90,7 @@ fn call_part<I: Tokens>(
         "make_object" => make_object(parser, out, None),
         "found_module_item" => parser.found_module_item().show(out),
         "params_of_items" => params_of_items(parser, out, None),
+        "verify" => verify(parser, out),
         _ => return call_pattern(parser, out, call),
     };
     Ok(shown?)
@@ -105,6 +107,7 @@ fn call_pattern<I: Tokens>(
         "parse_binding_element" => show(out, parser.parse_binding_element()),
         "parse_formal_params" => show(out, parser.parse_formal_params()),
         "parse_unique_formal_params" => show(out, parser.parse_unique_formal_params()),
+        "parse_arrow_params" => show(out, parser.parse_arrow_params()),
         "parse_object_prop" => {
             let prop = ParseObject::<Box<TestExpr>>::parse_object_prop(parser);
             show(out, prop)
@@ -184,6 +187,7 @@ fn call_at<I: Tokens>(
         Some(("reparse_other", said)) => reparse_other(parser, out, said)?,
         Some(("reparse_invalid", kind)) => reparse_invalid(parser, out, kind)?,
         Some(("params_of_items", at)) => params_of_items(parser, out, span_of(at))?,
+        Some(("verify_other", text)) => verify_other(parser, out, text)?,
         Some(("trailing_comma", at)) => {
             let start = at.parse().ok().ok_or("no position")?;
             parser.trailing_comma(BytePos(start)).show(out)?;
@@ -295,4 +299,9 @@ fn calls_on_arrow_functions(rt: HostRuntime) -> Result<(), Fail> {
 #[test]
 fn calls_that_make_patterns(rt: HostRuntime) -> Result<(), Fail> {
     hold(rt.alloc(), REFINING)
+}
+
+#[test]
+fn calls_that_look_for_left_over_names(rt: HostRuntime) -> Result<(), Fail> {
+    hold(rt.alloc(), VERIFYING)
 }

@@ -1,4 +1,5 @@
-// Calls of the parser on binding patterns and formal parameters, and on methods that have these, as rows.
+// Calls of the parser on binding patterns, on formal parameters and those of arrow functions, and on methods that have
+// parameters, as rows.
 
 /// What the calls of one parser answer, as in `CALLS`.
 ///
@@ -203,6 +204,9 @@ parse_formal_params | script | a = | refused: Eof 3..3 | none | end
 parse_formal_params | script | ... | refused: Eof 3..3 | none | end
 parse_formal_params | script | [a], {b}, ...[c] ) | Array[a] 0..3, Object{b} 5..8, Rest(Array[c]) 10..16 | none | 17..18
 parse_formal_params | script |  a, [b,,], {c: d = 1}, ...e) | a 1..2, Array[b] 4..9, Object{c: Assign(d, 1)} 11..21, Rest(e) 23..27 | none | 27..28
+parse_arrow_params | script | (a, [b,,], {c: d = 1}, ...e) | a 1..2, Array[b] 4..9, Object{c: Assign(d, 1)} 11..21, Rest(e) 26..27 | none | end
+parse_formal_params | script |  a = this, {if: [c]}, ...d ) | Assign(a, this) 1..9, Object{if: Array[c]} 11..20, Rest(d) 22..26 | none | 27..28
+parse_arrow_params | script | (a = this, {if: [c]}, ...d) => | Assign(a, this) 1..9, Object{if: Array[c]} 11..20, Rest(d) 25..26 | none | 28..30
 parse_formal_params | script | a = 1, [b] = c ) | Assign(a, 1) 0..5, Assign(Array[b], c) 7..14 | none | 15..16
 parse_formal_params | script | a = b + 1 = 2 ) | refused: Expected 10..11 , | none | 10..11
 parse_formal_params | script | , a ) | refused: Unexpected 0..1 yield, an identifier, [ or { | none | 0..1
@@ -236,6 +240,26 @@ parse_formal_params | script parameters | a = await b ) | Assign(a, Await(b)) 0.
 parse_formal_params | script parameters | a = await ) | Assign(a, await) 0..9 | none | 10..11
 parse_formal_params | module | let, eval ) | let 0..3, eval 5..9 | InvalidIdentInStrict 0..3 let, EvalAndArgumentsInStrict 5..9 | 10..11
 parse_formal_params | script class_field | arguments, a = arguments ) | arguments 0..9, Assign(a, arguments) 11..24 | ArgumentsInClassField 0..9, ArgumentsInClassField 15..24 | 25..26
+parse_formal_params | module | {eval} ) | Object{eval} 0..6 | none | 7..8
+parse_arrow_params | module | ({eval}) | Object{eval} 1..7 | EvalAndArgumentsInStrict 2..6 | end
+parse_arrow_params | script static_block | (await) | await 1..6 | none | end
+parse_arrow_params | script | () a | none | none | 3..4
+parse_arrow_params | script | (a,) | a 1..2 | none | end
+parse_arrow_params | script | (...a,) | Rest(a) 4..5 | CommaAfterRestElement 5..6 | end
+parse_arrow_params | script | (...a = 1,) | Rest(Assign(a, 1)) 4..9 | TS1048 1..9, CommaAfterRestElement 9..10 | end
+parse_arrow_params | script | (a.b, ...c, d = 1) | Invalid 1..4, Assign(d, 1) 12..17 | InvalidPat 1..4, TS1014 6..10 | end
+parse_arrow_params | script no_early_errors | (...a, b.c) | Invalid 7..10 | none | end
+parse_arrow_params | script without_in | (a = b in c) in | Assign(a, Bin(in, b, c)) 1..11 | none | 13..15
+parse_arrow_params; count_nodes | script | (a = b, c) d | Assign(a, b) 1..6, c 8..9; 0 | none | 11..12
+parse_arrow_params | script | a | refused: Expected 0..1 ( | none | 0..1
+parse_arrow_params | script |  | refused: Eof 0..0 | none | end
+parse_arrow_params | script | (a b) | refused: Expected 3..4 , | none | 3..4
+parse_arrow_params | script | (a, | refused: Eof 3..3 | none | end
+parse_arrow_params | script | (...) | refused: WithLabel 4..5 (TS1109 4..5) | none | 4..5
+parse_arrow_params | script hook_records | (a = class, b) | Assign(a, Class<0>) 1..10, b 12..13 | TS1005 5..10 | end
+parse_arrow_params | script hook_records | ({m() {}) | refused: InvalidPat 2..7 | TS1005 6..7 | end
+parse_arrow_params; parse_arrow_params | script hook_wants_memory | (a = class | refused: OutOfMemory 10..10; refused: ParserFailed 5..10 | none | refused: ParserFailed 5..10
+parse_arrow_params; parse_arrow_params | script failing | (a, | refused: OutOfMemory 3..3; refused: ParserFailed 2..3 | none | refused: ParserFailed 2..3
 parse_pat | script | [@4..5 a@2..3 ]@0..1 | Array[a] 1..4 | none | end
 parse_pat_id; pat 0 | script | {@6..7 a@4..5 :@2..3 b@0..1 }@8..9 | Object{a: b} 6..9; b 0..1 | none | end
 parse_binding_element | script | a@5..6 =@2..3 b@0..1 | Assign(a, b) 1..5 | none | end
@@ -297,6 +321,36 @@ parse_pat_id; count_nodes; parse_pat_id; count_nodes | script hook_refuses | [a,
 parse_pat; parse_pat | script hook_wants_memory | [a = class | refused: OutOfMemory 10..10; refused: ParserFailed 5..10 | none | refused: ParserFailed 5..10
 parse_formal_params; parse_pat | script hook_wants_memory | a, ...b = class | refused: OutOfMemory 15..15; refused: ParserFailed 10..15 | none | refused: ParserFailed 10..15
 parse_pat; parse_pat | script hook_overlooks failing | {a = class | refused: OutOfMemory 10..10; refused: ParserFailed 5..10 | none | refused: ParserFailed 5..10
+parse_formal_params | script | a = this, {if: [c]}, ...d ) | Assign(a, this) 0..8, Object{if: Array[c]} 10..19, Rest(d) 21..25 | none | 26..27
+parse_formal_params | module | {eval} ) | Object{eval} 0..6 | none | 7..8
+parse_arrow_params | script | () a | none | none | 3..4
+parse_arrow_params | script | (a, [b,,], {c: d = 1}, ...e) | a 1..2, Array[b] 4..9, Object{c: Assign(d, 1)} 11..21, Rest(e) 26..27 | none | end
+parse_arrow_params | script | (a = this, {if: [c]}, ...d) | Assign(a, this) 1..9, Object{if: Array[c]} 11..20, Rest(d) 25..26 | none | end
+parse_arrow_params | script | (a, [b], ...c) => d | a 1..2, Array[b] 4..7, Rest(c) 12..13 | none | 15..17
+parse_arrow_params | script | (a,) | a 1..2 | none | end
+parse_arrow_params | module | ({eval}) | Object{eval} 1..7 | EvalAndArgumentsInStrict 2..6 | end
+parse_arrow_params | module | (eval, {a: [arguments]}) | eval 1..5, Object{a: Array[arguments]} 7..23 | EvalAndArgumentsInStrict 1..5, EvalAndArgumentsInStrict 12..21 | end
+parse_arrow_params; set_ctx module | strict | (eval) | eval 1..5; done | EvalAndArgumentsInStrict 1..5 | end
+parse_arrow_params; parse_expr | script | (a.b) E | Invalid 1..4; E 6..7 | InvalidPat 1..4 | end
+parse_arrow_params | script | (a.b, (c), 1) | Invalid 1..4, Invalid 6..9, Invalid 11..12 | InvalidPat 1..4, InvalidPat 6..9, InvalidPat 11..12 | end
+parse_arrow_params | script | (...a,) | Rest(a) 4..5 | CommaAfterRestElement 5..6 | end
+parse_arrow_params | script | (...a, b) | b 7..8 | TS1014 1..5 | end
+parse_arrow_params | script | (...a.b, ...c = 1,) | Rest(Assign(c, 1)) 12..17 | TS1014 1..7, TS1048 9..17, CommaAfterRestElement 17..18 | end
+parse_arrow_params | script | ([...a,], [b,,]) | Array[Rest(a)] 1..8, Array[b] 10..15 | CommaAfterRestElement 6..7 | end
+parse_arrow_params | script hook_records | (a.b, {m() {}, c) | refused: InvalidPat 7..12 | TS1005 11..12, InvalidPat 1..4 | end
+parse_arrow_params | script no_early_errors | (...a, b.c) | Invalid 7..10 | none | end
+parse_arrow_params | script without_in | (a = b in c, d) in e | Assign(a, Bin(in, b, c)) 1..11, d 13..14 | none | 16..18
+parse_arrow_params; trailing_comma 0; trailing_comma 5; trailing_comma 11 | script | (a = [b,], [c,],) | Assign(a, Array[b]) 1..9, Array[c] 11..15; none; 7..8; none | none | end
+parse_arrow_params; count_nodes; parse_pat_id; count_nodes | script | ([a]) b | Array[a] 1..4; 0; b 6..7; 1 | none | end
+parse_arrow_params; parse_arrow_params | script | (a b) | refused: Expected 3..4 ,; refused: Expected 3..4 ( | none | 3..4
+parse_arrow_params | script | (, | refused: TS1109 1..2 | none | 1..2
+parse_arrow_params | script | (...) | refused: WithLabel 4..5 (TS1109 4..5) | none | 4..5
+parse_arrow_params | script | a | refused: Expected 0..1 ( | none | 0..1
+parse_arrow_params | script |  | refused: Eof 0..0 | none | end
+parse_arrow_params | script | (a | refused: Eof 2..2 | none | end
+parse_arrow_params | script | (@0..1 a@1..2 ,@2..3 )@3..4 E(Lex)@4..5 | a 1..2 | none | 4..5
+parse_arrow_params; parse_arrow_params | script failing | (a, | refused: OutOfMemory 3..3; refused: ParserFailed 2..3 | none | refused: ParserFailed 2..3
+parse_arrow_params; parse_arrow_params | script failing | (a,) | a 1..2; refused: OutOfMemory 4..4 | none | refused: ParserFailed 3..4
 parse_pat | script slashes | [a = /b/g, c] | Array[Assign(a, /b/g), c] 0..13 | none | end
 parse_pat | script slashes | {[/a/]: b = c / d / e} | Object{[/a/]: Assign(b, Bin(/, Bin(/, c, d), e))} 0..22 | none | end
 parse_formal_params | script slashes | a = /=/ ) | Assign(a, /=/) 0..7 | none | 8..9

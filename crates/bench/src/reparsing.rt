@@ -2,7 +2,7 @@
 use crate::hooks::TestBodies;
 use crate::shown::{Shown, show, show_refusal};
 use bench_lower::tokens::tokens_of;
-use std::alloc::AllocError;
+use std::alloc::{AllocError, Global};
 use std::test::Fail;
 use swc_ast::expr::{Expr, Invalid};
 use swc_bodies::bodies::ExprOf;
@@ -50,15 +50,12 @@ pub(crate) fn reparse<I: Tokens>(
     Ok(())
 }
 
-/// Makes a pattern of an expression that another parser reads, in the same context, of the text behind the kind.
-pub(crate) fn reparse_other<I: Tokens>(
+/// What another parser reads, in the same context, of a text.
+pub(crate) fn read_other<I: Tokens>(
     parser: &mut Parser<I, TestBodies>,
-    out: &mut String,
-    said: &str,
-) -> Result<(), Fail> {
-    let (kind, text) = said.split_once(' ').ok_or("no text")?;
-    let kind = pat_type_of(kind).ok_or("no kind of pattern")?;
-    let alloc = *out.allocator();
+    alloc: Global,
+    text: &str,
+) -> Result<PResult<Box<ExprOf<TestBodies>>>, Fail> {
     let tokens = tokens_of(alloc, text)?;
     let context = parser.input().ctx();
     let source = TokensInput::new(
@@ -69,7 +66,18 @@ pub(crate) fn reparse_other<I: Tokens>(
         EsVersion::default(),
     );
     let mut other = Parser::new_from(alloc, source, TestBodies::of_setting(""));
-    let read = other.parse_expr();
+    Ok(other.parse_expr())
+}
+
+/// Makes a pattern of an expression that another parser reads, in the same context, of the text behind the kind.
+pub(crate) fn reparse_other<I: Tokens>(
+    parser: &mut Parser<I, TestBodies>,
+    out: &mut String,
+    said: &str,
+) -> Result<(), Fail> {
+    let (kind, text) = said.split_once(' ').ok_or("no text")?;
+    let kind = pat_type_of(kind).ok_or("no kind of pattern")?;
+    let read = read_other(parser, *out.allocator(), text)?;
     reparse_as(parser, out, kind, read)?;
     Ok(())
 }

@@ -212,14 +212,14 @@ a if get set => { } ( ) | script | 0 3 1 18 17 109 336 1800
 const BODIES: &str = "\
 a => ( ) , ... = [ ] { } : async await yield of \ra | script | 0 6 7 127 309
 a => ( ) , ... = [ ] { } : async await yield of \ra | module | 0 4 5 70 178
-a => ( ) , ... = [ ] { } : async await yield of \ra | strict | 0 5 6 91 228
+a => ( ) , ... = [ ] { } : async await yield of \ra | strict | 0 5 6 91 224
 a => ( ) , ... = [ ] { } : async await yield of \ra | generator | 0 6 7 113 316
 a => ( ) , ... = [ ] { } : async await yield of \ra | async | 0 5 7 108 271
 a => ( ) , ... = [ ] { } : async await yield of \ra | static-block | 0 6 7 126 302
 a => ( ) , ... = [ ] { } : async await yield of \ra | class-field | 0 6 7 127 309
 a => async await ( ) , | script | 0 3 3 23 44 216 592
 a => async await ( ) , | module | 0 2 2 14 26 116 304
-a => async await ( ) , | strict | 0 3 3 23 44 216 592
+a => async await ( ) , | strict | 0 3 3 23 42 214 562
 a => async await ( ) , | generator | 0 3 0 20 15 163 260
 a => async await ( ) , | async | 0 2 2 16 27 134 342
 a => async await ( ) , | static-block | 0 3 3 23 42 214 562

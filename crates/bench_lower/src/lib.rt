@@ -5,6 +5,8 @@
 #[cfg(test)]
 mod arrows;
 #[cfg(test)]
+mod captured;
+#[cfg(test)]
 mod faults;
 #[cfg(test)]
 mod hooked;

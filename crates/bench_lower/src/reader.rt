@@ -422,7 +422,7 @@ fn show_token(out: &mut String, found: &TokenAndSpan) -> Result<(), AllocError> 
 }
 
 /// Writes the tokens.
-fn show_tokens(out: &mut String, tokens: &[TokenAndSpan]) -> Result<(), AllocError> {
+pub(crate) fn show_tokens(out: &mut String, tokens: &[TokenAndSpan]) -> Result<(), AllocError> {
     if tokens.is_empty() {
         return out.push_str("none");
     }

@@ -7,7 +7,7 @@ use Rattle.swc_context.specs.declared.error.Error.{Error}
 use Rattle.swc_context.specs.declared.error.SyntaxError.TheVariants.{OutOfMemory}
 use Rattle.swc_input.specs.declared.token.TokenAndSpan.{TokenAndSpan}
 use Rattle.swc_ast.specs.Tree.{Tree}
-use Rattle.swc_bodies.specs.Keeping.{Body}
+use Rattle.swc_bodies.specs.Body.{Body}
 use Rattle.swc_bodies.specs.Taking.{token_forms}
 use Rattle.swc_tokens.specs.Faults.{lex_fault, between, IsRefusal}
 use Rattle.swc_tokens.specs.Nesting.{AreNested}

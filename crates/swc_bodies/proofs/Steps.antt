@@ -22,11 +22,12 @@ use Rattle.swc_input.specs.Laws.{Read-then, Read-late, Read-same, Refused-read, 
 use Rattle.swc_input.proofs.Refusals.{Refused-kind, unfit-kind}
 use Rattle.swc_bodies.specs.declared.place.Place.{Place}
 use Rattle.swc_bodies.specs.declared.place.Place.TheVariants as place
-use Rattle.swc_bodies.specs.Keeping.{Body, kept}
+use Rattle.swc_bodies.specs.Body.{Body}
+use Rattle.swc_input.specs.Kept.{kept}
 use Rattle.swc_bodies.specs.Readings.{Hooked, Faithful, is_class, is_brace}
 use Rattle.swc_bodies.specs.Taking.{sign_at, after, is_end, next, at_current, body, taken_on, begun, taken, class_first, block_first}
 use Rattle.swc_bodies.specs.Steps.{GoesOn, Stops, wanting, wanted_memory, refused_token}
-use Rattle.swc_bodies.proofs.Keeping.{plain-kept}
+use Rattle.swc_input.proofs.Kept.{plain-kept}
 use Rattle.swc_bodies.specs.Laws.{plain-sign-at, taken-end, taken-next, taken-none, read, value_or, rest_or}
 
 -- the refusal of a place at which no more brackets can be counted

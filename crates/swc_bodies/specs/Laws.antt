@@ -12,7 +12,8 @@ use Rattle.swc_input.specs.Plain.{plain, plain_token}
 use Rattle.swc_bodies.specs.declared.place.Sign.{Sign}
 use Rattle.swc_bodies.specs.declared.place.Place.{Place}
 use Rattle.swc_bodies.specs.declared.place.Place.TheVariants as place
-use Rattle.swc_bodies.specs.Keeping.{Body, kept}
+use Rattle.swc_bodies.specs.Body.{Body}
+use Rattle.swc_input.specs.Kept.{kept}
 use Rattle.swc_bodies.specs.Readings.{is_function, is_async, is_class, is_brace, begins_function, begins, last_of, ReadsOwn, IsReading, LawfulHook}
 use Rattle.swc_bodies.specs.Taking.{sign_of, on_line, sign_at, behind_async, after, is_end, next, body, taken_on, taken, place_if, or_async, function_first, class_first, block_first, token_forms}
 

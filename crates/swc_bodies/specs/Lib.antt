@@ -1,4 +1,4 @@
-pub mod Keeping
+pub mod Body
 pub mod Laws
 pub mod Readings
 pub mod Steps

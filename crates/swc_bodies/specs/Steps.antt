@@ -12,7 +12,7 @@ use Rattle.swc_input.specs.Source.{Model}
 use Rattle.swc_input.specs.Buffer.{Read, ReadSome, Looked, Known, current, source, last_position, to_come}
 use Rattle.swc_input.specs.Recording.{Refused, no_memory, unfit}
 use Rattle.swc_bodies.specs.declared.place.Place.{Place}
-use Rattle.swc_bodies.specs.Keeping.{kept}
+use Rattle.swc_input.specs.Kept.{kept}
 use Rattle.swc_bodies.specs.Taking.{at_current, next}
 
 -- what is wanted in place of a token that is refused

@@ -12,7 +12,8 @@ use Rattle.swc_bodies.specs.declared.place.Sign.{Sign}
 use Rattle.swc_bodies.specs.declared.place.Sign.TheVariants as sign
 use Rattle.swc_bodies.specs.declared.place.Place.{Place}
 use Rattle.swc_bodies.specs.declared.place.Place.TheVariants as place
-use Rattle.swc_bodies.specs.Keeping.{Body, kept}
+use Rattle.swc_bodies.specs.Body.{Body}
+use Rattle.swc_input.specs.Kept.{kept}
 use Rattle.swc_bodies.specs.Readings.{Hook, is_function, is_async, is_class, is_brace}
 
 -- what a token is to a body

@@ -12,12 +12,13 @@ ghost use Rattle.swc_bodies.specs.Steps.{KeepsOne, GoesOn, Stops, NoBody};
 
 use crate::bodies::{Bodies, BodyForms};
 use crate::place::{Place, sign_at};
-use crate::token_body::{TokenBody, keep};
+use crate::token_body::TokenBody;
 use std::alloc::{AllocError, Global};
 use swc_context::error::{PResult, SyntaxError, Wanted};
 use swc_context::span::Span;
 use swc_context::word::{Keyword, Word};
 use swc_input::buffer::Buffer;
+use swc_input::keeping::keep;
 use swc_input::token::{Token, TokenAndSpan};
 use swc_input::tokens::Tokens;
 

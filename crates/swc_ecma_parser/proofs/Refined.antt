@@ -153,7 +153,7 @@ module _ {S H T A F C K : Type 0} {fg : Ghosts F} {cg : Ghosts C} {kg : Ghosts K
 -- ---- lists of patterns
 
 module _ {F C K : Type 0} where
-  pats-bare : (at : ℕ → Tree F C K) (xs : List PatId)
+  pub pats-bare : (at : ℕ → Tree F C K) (xs : List PatId)
       → trees (map (λ (x : PatId). unmarked (at x.0)) xs) ≡ all_unmarked (trees (map (λ (x : PatId). at x.0) xs))
   pats-bare at [] = refl
   pats-bare at (x ∷ xs) = ap (cons (unmarked (at x.0))) (pats-bare at xs)

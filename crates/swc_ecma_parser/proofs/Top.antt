@@ -80,7 +80,7 @@ module _ {F C K : Type 0} {fun_at : F → Span} {class_at : C → Span} {block_a
     cut = λ c own ys t d. record { marked = d.marked; read = cut-append own ys d.read; same = d.same };
   }
 
-  is_sound_as : (strip : Tree F C K → Tree F C K) (s : Symbol) → IsSound (ReadsAs strip hook s) (stripped strip (run hook (at s)))
+  pub is_sound_as : (strip : Tree F C K → Tree F C K) (s : Symbol) → IsSound (ReadsAs strip hook s) (stripped strip (run hook (at s)))
   is_sound_as strip s = record {
     sound = λ c ts ys t h. let (m, e, same) = stripped_from strip (run hook (at s) c ts) t ys h in
         record { marked = m; read = clean.sound hook laws s c ts (m, ys) e; same = same };
@@ -149,7 +149,7 @@ module _ {F C K : Type 0} (hook : Hook F C K) where
     valid = λ c xs ys t d. ap (λ v. is_valid v) (sym d.same) ∙ same-valid d.marked ∙ valid d.read;
   }
 
-  well_as : {strip : Tree F C K → Tree F C K} → Leaves strip → (s : Symbol) → Well (ReadsAs strip hook s)
+  pub well_as : {strip : Tree F C K → Tree F C K} → Leaves strip → (s : Symbol) → Well (ReadsAs strip hook s)
   well_as leaves s = record {
     grouped = λ c xs ys t d. ap (λ v. is_grouped v) (sym d.same) ∙ leaves.grouped d.marked (grouped d.read);
     valid = λ c xs ys t d. ap (λ v. is_valid v) (sym d.same) ∙ leaves.valid d.marked (valid d.read);

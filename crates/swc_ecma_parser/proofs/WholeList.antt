@@ -100,10 +100,10 @@ module _ {S H N F C K : Type 0} {fg : Ghosts F} {cg : Ghosts C} {kg : Ghosts K} 
 
 -- a new buffer over a list
 module _ (input : TokensInput) (at : BytePos) (ts : List TokenAndSpan) (c : Context) (x : Syntax) (v : EsVersion) where
-  fresh-known : listed_state input ≡ new_state ts c x v → Known listed_model (fresh input at) (plain_list ts)
+  pub fresh-known : listed_state input ≡ new_state ts c x v → Known listed_model (fresh input at) (plain_list ts)
   fresh-known is = record { more = plain_list ts; begins = refl; known = ap (λ s. s.known) is }
 
-  fresh-loud : listed_state input ≡ new_state ts c x v → IsHeeded c x → Loud listed_model (fresh input at)
+  pub fresh-loud : listed_state input ≡ new_state ts c x v → IsHeeded c x → Loud listed_model (fresh input at)
   fresh-loud is heeded = ap (λ s. is_silent s) is ∙ heeds c.ignore_error x.early_errors heeded.0 heeded.1
 
 module _ {H N F C K : Type 0} {fg : Ghosts F} {cg : Ghosts C} {kg : Ghosts K} {sure : Bool} {hook : Hook F C K}

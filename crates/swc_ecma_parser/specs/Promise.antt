@@ -47,7 +47,7 @@ use Rattle.swc_nodes.specs.declared.node.PatId.{PatId}
 use Rattle.swc_nodes.specs.declared.nodes.Nodes.{Nodes}
 use Rattle.swc_patterns.specs.Answers.{pat_at}
 use Rattle.swc_steps.specs.Parsing.{scope, Loud, Acts, Consumes, tree_of}
-use Rattle.swc_ecma_parser.specs.Calls.{buffer_of, nodes_of, commas_of, tree_by, has_failed, wants_memory, parser_failed}
+use Rattle.swc_ecma_parser.specs.Calls.{buffer_of, nodes_of, commas_of, tree_by, pats_tree, has_failed, wants_memory, parser_failed}
 use Rattle.swc_ecma_parser.specs.declared.parser.Parser.{Parser}
 
 -- a derivation of A: in the scope, from the tokens from the first list on to before the second
@@ -58,15 +58,16 @@ Derivation A = Scope → List TokenAndSpan → List TokenAndSpan → A → Type 
 abbrev pub Anywhere : List TokenAndSpan → Type 0
 Anywhere ys = Unit {0}
 
--- Where a reading of the symbol may stop, so that `Promised` has it answered: of a key, of arguments, of a template, of a pattern and of a rest
--- anywhere, of a property before `,` and `}`, of the others at the end and before what can't go on with them. Of the other symbols
--- nothing is promised by it.
+-- Where a reading of the symbol may stop, so that `Promised` has it answered: of a key, of arguments, of a template, of a pattern, of a rest
+-- and of an arrow function's parameters anywhere, of a property before `,` and `}`, of the others at the end and before what can't go on with
+-- them. Of the other symbols nothing is promised by it.
 abbrev pub EndsAt : Symbol → List TokenAndSpan → Type 0
 EndsAt Key ys = Unit {0}
 EndsAt (Arguments i) ys = Unit {0}
 EndsAt (Template is_tagged) ys = Unit {0}
 EndsAt Pat ys = Unit {0}
 EndsAt Rest ys = Unit {0}
+EndsAt Heads ys = Unit {0}
 EndsAt Prop ys = at_token ends_prop (first ys) ≡ true
 EndsAt Expr ys = Stops Expr ys
 EndsAt Assign ys = Stops Assign ys
@@ -96,7 +97,6 @@ EndsAt PatProps ys = ⊥
 EndsAt PatPropsTail ys = ⊥
 EndsAt Params ys = ⊥
 EndsAt ParamsTail ys = ⊥
-EndsAt Heads ys = ⊥
 EndsAt (ArrowBody is_async) ys = ⊥
 
 -- An identifier reference, where a word stands first that isn't reserved, or `let`. The other words are taken too, with faults that
@@ -146,6 +146,10 @@ module _ {S F C K T : Type 0} (model : Model S) (view : T → Tree F C K) where
   -- patterns hold a name.
   abbrev pub Bound : Buffer S → Result T Error → Buffer S → Type 0
   Bound b r c = Loud model b → IfOk r (λ x. Unmarred model b c → binds_names any (view x) ≡ true)
+
+  -- So do the patterns of a list.
+  abbrev pub BoundItems : Buffer S → Result T Error → Buffer S → Type 0
+  BoundItems b r c = Loud model b → IfOk r (λ x. Unmarred model b c → all_bind_names any (items_of (view x)) ≡ true)
 
   -- So does a property of an object pattern, and a rest among these.
   abbrev pub BoundAsProp : Buffer S → Result T Error → Buffer S → Type 0
@@ -221,6 +225,10 @@ only_items t = node args no_span (items_of (unmarked t))
 abbrev pub items_and_comma : {F C K : Type 0} → Tree F C K → Tree F C K
 items_and_comma t = node (args_with (comma_of t)) no_span (items_of (unmarked t))
 
+-- its items alone, with their marks of commas
+abbrev pub keep_items : {F C K : Type 0} → Tree F C K → Tree F C K
+keep_items t = node args no_span (items_of t)
+
 -- what is derived, as `strip` leaves it
 pub record ReadsAs {F C K : Type 0} (strip : Tree F C K → Tree F C K) (hook : Hook F C K) (s : Symbol) (c : Scope) (xs ys : List TokenAndSpan) (t : Tree F C K) : Type 0 where
   pub marked : Tree F C K
@@ -248,6 +256,16 @@ list_in_boxes {fg = fg} {cg = cg} {kg = kg} = record {
   derives = λ hook s. ReadsAs items_and_comma hook s;
   marked = λ hook s. Reads hook s;
   strip = items_and_comma;
+  leaves = λ ns r ms. SameNodes ns ms;
+}
+
+-- the parameters of an arrow function in boxes, without the place of the list
+abbrev pub heads_in_boxes : {F C K : Type 0} {fg : Ghosts F} {cg : Ghosts C} {kg : Ghosts K} → Answer (Vec (PatOf F C K) Global) F C K fg cg kg
+heads_in_boxes {F} {C} {K} {fg = fg} {cg = cg} {kg = kg} = record {
+  tree = λ ns ps. pats_tree (pat_tree F C K fg.place cg.place kg.place) ps;
+  derives = λ hook s. ReadsAs only_items hook s;
+  marked = λ hook s. ReadsAs keep_items hook s;
+  strip = unmarked;
   leaves = λ ns r ms. SameNodes ns ms;
 }
 

@@ -8,11 +8,14 @@ pub use swc_context as context;
 pub use swc_cover::pat_type::PatType;
 pub use swc_ident as ident;
 pub use swc_input as input;
+pub use swc_laws::laws;
 pub use swc_nodes as nodes;
 pub use swc_print as printing;
 pub use swc_tokens as tokens;
 pub use swc_trees as trees;
 
+pub mod both_ways;
+mod heads;
 pub mod parser;
 mod taking;
 pub mod whole;

@@ -35,6 +35,7 @@ mod params;
 mod pat;
 mod pieces;
 pub mod refine;
+mod verifier;
 
 /// A pattern over a hook's values.
 pub type PatOf<B> = Pat<<B as BodyForms>::Fun, <B as BodyForms>::Class, <B as BodyForms>::Block>;

@@ -1,3 +1,5 @@
+pub mod Captured
 pub mod Emits
 pub mod Ends
+pub mod Kept
 pub mod Refusals

@@ -1,4 +1,6 @@
 pub mod Buffer
+pub mod Capturing
+pub mod Kept
 pub mod Kinds
 pub mod Laws
 pub mod Listed

@@ -2,6 +2,8 @@
 #![tactic(auto)]
 
 pub mod buffer;
+pub mod capturing;
+pub mod keeping;
 pub mod listed;
 pub mod recording;
 pub mod token;

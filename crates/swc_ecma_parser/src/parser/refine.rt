@@ -99,7 +99,7 @@ impl<I: Tokens, B: Bodies<I>> Parser<I, B> {
     }
 
     /// Moves the answer out of the nodes, and cuts off those that were made for it. What is remembered of commas stays.
-    fn lift_out<T: Take<B::Fun, B::Class, B::Block> + Drop>(
+    pub(super) fn lift_out<T: Take<B::Fun, B::Class, B::Block> + Drop>(
         &mut self,
         start: usize,
         answer: PResult<T>,

@@ -1,0 +1,110 @@
+-- From what is read of the parameters of an arrow function to what is promised of them.
+use Rattle.std.proofs.Common.{◌≡◌, ◌≢◌, Bool, true, List, [], Some, Result, Ok, Err, OnOk, MatchResult, sym, ap, ◌∙◌}
+use Rattle.std.specs.declared.alloc.Global.{Global}
+use Rattle.std.specs.declared.vec.Vec.{Vec}
+use Rattle.swc_context.specs.declared.error.Error.{Error}
+use Rattle.swc_context.specs.declared.error.SyntaxError.TheVariants.{OutOfMemory}
+use Rattle.swc_input.specs.declared.buffer.Buffer.{Buffer}
+use Rattle.swc_input.specs.declared.token.TokenAndSpan.{TokenAndSpan}
+use Rattle.swc_input.specs.Buffer.{last_position}
+use Rattle.swc_input.specs.Recording.{no_memory}
+use Rattle.swc_input.specs.Source.{Model}
+use Rattle.swc_ast.specs.Tree.{Tree, node, args, no_span}
+use Rattle.swc_ast.specs.Trees.{items_of, unmarked}
+use Rattle.swc_ast.specs.TreeOf.{pat_tree}
+use Rattle.swc_ast.specs.declared.pat.Pat.{Pat as PatOf}
+use Rattle.swc_ast.specs.declared.spanned.Spanned.{Ghosts}
+use Rattle.swc_bodies.specs.Readings.{Hook, LawfulHook}
+use Rattle.swc_context.specs.declared.span.Span.{Span}
+use Rattle.swc_grammar.specs.Clean.{sym as at, run}
+use Rattle.swc_grammar.specs.Patterns.{any, all_bind_names}
+use Rattle.swc_grammar.specs.Scope.{Scope}
+use Rattle.swc_grammar.specs.Symbols.{Heads}
+use Rattle.swc_grammar.specs.Words.{◌>>=◌}
+use Rattle.swc_grammar.proofs.Complete as clean_all
+use Rattle.swc_grammar.proofs.Cut.{cut-append}
+use Rattle.swc_grammar.proofs.Sound as clean
+use Rattle.swc_nodes.specs.Commas.{part_commas, Recalls}
+use Rattle.swc_nodes.specs.GrowingNodes.{tree_at, bare_at}
+use Rattle.swc_nodes.specs.Lists.{pats_parts}
+use Rattle.swc_nodes.specs.declared.commas.TrailingCommas.{TrailingCommas}
+use Rattle.swc_nodes.specs.declared.node.PatId.{PatId}
+use Rattle.swc_nodes.specs.declared.nodes.Nodes.{Nodes}
+use Rattle.swc_steps.specs.Parsing.{scope, Parses}
+use Rattle.swc_ecma_parser.specs.Calls.{pats_tree}
+use Rattle.swc_ecma_parser.specs.Heads.{heads_at, heads_items}
+use Rattle.swc_ecma_parser.specs.Promise.{BoundItems, EndsAt, RemembersAll, ReadsAs, Sound, keep_items, only_items}
+use Rattle.swc_ecma_parser.proofs.ArrowParams.{items-bare, items-bind, pats-commas}
+use Rattle.swc_ecma_parser.proofs.Moving.{moved-parses, recalled-by}
+use Rattle.swc_ecma_parser.proofs.Refined.{pats-bare}
+use Rattle.swc_ecma_parser.proofs.Top.{IsSound, IsComplete, Meets, bare, is_sound_as, leaves-items, meets, stripped_from, well_as}
+
+module _ {F C K : Type 0} {fun_at : F → Span} {class_at : C → Span} {block_at : K → Span} (hook : Hook F C K)
+    (laws : LawfulHook fun_at class_at block_at hook) where
+  heads_sound : IsSound (ReadsAs only_items hook Heads) (bare (heads_items hook))
+  heads_sound = record {
+    sound = λ c ts ys t h.
+        let (k, e, same) = stripped_from unmarked (heads_items hook c ts) t ys h in
+        let (m, d, kept) = stripped_from keep_items (run hook (at Heads) c ts) k ys e in
+        record {
+          marked = m;
+          read = clean.sound hook laws Heads c ts (m, ys) d;
+          same = sym (items-bare m) ∙ ap unmarked kept ∙ same;
+        };
+    cut = λ c own ys t d. record { marked = d.marked; read = cut-append own ys d.read; same = d.same };
+  }
+
+  heads_marked : IsSound (ReadsAs keep_items hook Heads) (heads_items hook)
+  heads_marked = is_sound_as hook laws keep_items Heads
+
+module _ {F C K : Type 0} (hook : Hook F C K) where
+  heads_complete : IsComplete (ReadsAs only_items hook Heads) (EndsAt Heads) (bare (heads_items hook))
+  heads_complete = record {
+    complete = λ c ts ys t d e.
+        ap (λ o. (o >>= (λ p. Some (keep_items p.0, p.1))) >>= (λ p. Some (unmarked p.0, p.1)))
+        (clean_all.complete hook d.read tt)
+        ∙ ap (λ v. Some (v, ys)) (items-bare d.marked ∙ d.same);
+  }
+
+  items_bound : (c : Scope) (xs ys : List TokenAndSpan) (t : Tree F C K) → ReadsAs only_items hook Heads c xs ys t
+      → all_bind_names any (items_of t) ≡ true
+  items_bound c xs ys t d = ap (λ v. all_bind_names any (items_of v)) (sym d.same) ∙ items-bind hook d.read
+
+module _ {S F C K T : Type 0} (model : Model S) (hook : Hook F C K) (view : T → Tree F C K) where
+  -- what is derived binds names alone
+  pub bound-heads : (b : Buffer S) (r : Result T Error) (c : Buffer S) → Sound model (ReadsAs only_items hook Heads) view b r c
+      → BoundItems model view b r c
+  bound-heads b (Ok x) c h = λ l same. let d = h l same in items_bound hook (scope model b) d.consumed [] (view x) d.whole
+  bound-heads b (Err e) c h = λ l. tt
+
+module _ {S F C K : Type 0} {fg : Ghosts F} {cg : Ghosts C} {kg : Ghosts K} (model : Model S) (sure : Bool) (hook : Hook F C K)
+    (laws : LawfulHook fg.place cg.place kg.place hook) (ns : Nodes F C K fg cg kg) where
+  abbrev boxed : Vec (PatOf F C K) Global → Tree F C K
+  boxed = pats_tree (pat_tree F C K fg.place cg.place kg.place)
+
+  -- what the numbers stand for, without the marks of commas
+  abbrev bare_heads : Vec PatId Global → Tree F C K
+  bare_heads = pats_tree (λ (p : PatId). bare_at ns p.0)
+
+  bare_items : (x : Vec PatId Global) → unmarked (heads_at ns x) ≡ bare_heads x
+  bare_items x = ap (node args no_span) (sym (pats-bare (tree_at ns) x.items))
+
+  module _ (b c : Buffer S) (answer : Result (Vec PatId Global) Error) (r : Result (Vec (PatOf F C K) Global) Error)
+      (reads : Parses model sure (heads_at ns) (heads_items hook) b answer c)
+      (moved : MatchResult answer
+      (λ x. MatchResult r (λ v. boxed v ≡ bare_heads x) (λ e. e ≡ no_memory (last_position c))) (λ e. r ≡ Err e)) where
+    pub meets-heads : Meets model sure (ReadsAs only_items hook Heads) boxed Heads b r c
+    meets-heads =
+        meets model sure hook laws boxed Heads (ReadsAs only_items hook Heads) (bare (heads_items hook))
+        (heads_sound hook laws) (heads_complete hook) (well_as hook leaves-items Heads) b r c
+        (moved-parses model sure (heads_items hook) ns heads_at bare_heads boxed b c answer r reads bare_items moved)
+
+    -- the commas of the literals in them
+    pub heads-recalled : (old new : TrailingCommas)
+        → MatchResult answer (λ x. OnOk r (Recalls (part_commas (tree_at ns) (pats_parts x)) old new)) (λ e. new ≡ old)
+        → MatchResult r (λ v. RemembersAll model (ReadsAs keep_items hook Heads) unmarked (boxed v) b c old new)
+        (λ e. e.kind ≢ OutOfMemory → new ≡ old)
+    heads-recalled old new commas =
+        recalled-by model sure (ReadsAs keep_items hook Heads) (heads_items hook) (heads_marked hook laws) unmarked ns
+        (heads_at ns) bare_heads boxed pats_parts b c answer r old new reads bare_items
+        (λ x. pats-commas (tree_at ns) x.items) moved commas

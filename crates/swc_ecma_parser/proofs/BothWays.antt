@@ -1,0 +1,204 @@
+-- From what the two calls promise to the law of the cover grammar and its converse.
+use Rattle.std.proofs.Common.{◌≡◌, Bool, true, false, List, [], ◌∷◌, ◌++◌, Option, Some, None, Result, Ok, Err}
+use Rattle.std.proofs.Common.{IfOk, MatchResult, map, refl, sym, ap, subst, ◌∙◌}
+use Rattle.std.specs.declared.alloc.Global.{Global}
+use Rattle.std.specs.declared.vec.Vec.{Vec}
+use Rattle.swc_context.specs.Contexts.{view}
+use Rattle.swc_context.specs.declared.context.Context.{Context}
+use Rattle.swc_context.specs.declared.context.EsVersion.{EsVersion}
+use Rattle.swc_context.specs.declared.context.Syntax.{Syntax}
+use Rattle.swc_context.specs.declared.error.Error.{Error}
+use Rattle.swc_context.specs.declared.error.SyntaxError.TheVariants.{OutOfMemory}
+use Rattle.swc_input.specs.Buffer as buffer
+use Rattle.swc_input.specs.Buffer.{Known, held, last_position, source}
+use Rattle.swc_input.specs.Kinds.{at_token}
+use Rattle.swc_input.specs.Laws.{Known-after, Known-Future}
+use Rattle.swc_input.specs.Listed.{listed_model, listed_laws, listed_state, new_state}
+use Rattle.swc_input.specs.Source.{Model}
+use Rattle.swc_input.specs.declared.buffer.Buffer.{Buffer}
+use Rattle.swc_input.specs.declared.listed.TokensInput.{TokensInput}
+use Rattle.swc_input.specs.declared.token.TokenAndSpan.{TokenAndSpan}
+use Rattle.swc_ast.specs.Tree.{Tree, node, Trees, nil, cons, erase, erase_all, no_span, args, trees}
+use Rattle.swc_ast.specs.Tree.{args_with, array_with, object_with}
+use Rattle.swc_ast.specs.Trees.{items_of, listed, unmarked, unmarked_kind, all_unmarked}
+use Rattle.swc_ast.specs.declared.function.Param.{Param}
+use Rattle.swc_ast.specs.declared.pat.Pat.{Pat}
+use Rattle.swc_ast.specs.declared.spanned.Spanned.{Ghosts}
+use Rattle.swc_bodies.specs.Readings.{Hook}
+use Rattle.swc_grammar.specs.Clean.{first}
+use Rattle.swc_grammar.specs.Patterns.{all_bind_names}
+use Rattle.swc_grammar.specs.Reads.{Reads, ReadsUnmarked}
+use Rattle.swc_grammar.specs.Scope.{Scope}
+use Rattle.swc_grammar.specs.Symbols.{Heads, Params}
+use Rattle.swc_grammar.specs.Tokens.{is_lparen, is_rparen}
+use Rattle.swc_grammar.specs.Words.{rest}
+use Rattle.swc_grammar.proofs.MarkedBinds.{all-same-binds}
+use Rattle.swc_laws.specs.Bound.{Spelled, is_free_name, is_kept_name}
+use Rattle.swc_laws.proofs.ConverseLaw.{converse-heads}
+use Rattle.swc_laws.proofs.CoverLaw.{heads-cover}
+use Rattle.swc_steps.specs.Parsing.{scope, scope_of}
+use Rattle.swc_ecma_parser.specs.BothWays.{ConverseLaw, CoverLaw, Fresh, Left, Same, StandsBefore, faults}
+use Rattle.swc_ecma_parser.specs.BothWays.{patterns, param_patterns}
+use Rattle.swc_ecma_parser.specs.Calls.{buffer_of, has_failed}
+use Rattle.swc_ecma_parser.specs.Promise.{Promised, PromisedParams, ReadsAs, ClosedBy, heads_in_boxes, only_items}
+use Rattle.swc_ecma_parser.specs.WholeList.{plain_list, IsHeeded}
+use Rattle.swc_ecma_parser.specs.declared.parser.Parser.{Parser}
+use Rattle.swc_ecma_parser.proofs.WholeList.{fresh-known, fresh-loud}
+
+-- ---- trees without places, and without marks
+
+module _ {F C K : Type 0} where
+  mutual
+    bare-erased : (t : Tree F C K) → erase (unmarked t) ≡ unmarked (erase t)
+    bare-erased (node k s ts) = ap (λ v. node (unmarked_kind k) no_span v) (all-bare-erased ts)
+
+    all-bare-erased : (ts : Trees F C K) → erase_all (all_unmarked ts) ≡ all_unmarked (erase_all ts)
+    all-bare-erased nil = refl
+    all-bare-erased (cons t ts) = rw (bare-erased t, all-bare-erased ts) refl
+
+  -- what is the same with marks is the same without
+  bare-same : (ts us : Trees F C K) → erase_all ts ≡ erase_all us → erase_all (all_unmarked ts) ≡ erase_all (all_unmarked us)
+  bare-same ts us h = all-bare-erased ts ∙ ap all_unmarked h ∙ sym (all-bare-erased us)
+
+  bare-items : (t : Tree F C K) → items_of (unmarked t) ≡ all_unmarked (items_of t)
+  bare-items (node k s ts) = refl
+
+  kept-items : (t : Tree F C K) → items_of (only_items t) ≡ all_unmarked (items_of t)
+  kept-items (node k s ts) = refl
+
+-- the tokens that are known to come are these alone
+known-once : {S : Type 0} (model : Model S) (b : Buffer S) (xs ys : List TokenAndSpan) → Known model b xs → Known model b ys → xs ≡ ys
+known-once model b xs ys k l = let e : Some k.more ≡ Some l.more = sym k.known ∙ l.known in
+    let same : k.more ≡ l.more = cc in
+    k.begins ∙ ap (λ v. held b ++ v) same ∙ sym l.begins
+
+first-is : (ts : List TokenAndSpan) → at_token is_lparen (first ts) ≡ true
+    → (a : TokenAndSpan) × (ms : List TokenAndSpan) × (ts ≡ a ∷ ms) × (is_lparen a.token ≡ true)
+first-is [] h = absurd cc
+first-is (a ∷ ms) h = (a, ms, refl, h)
+
+module _ {H F C K : Type 0} {fg : Ghosts F} {cg : Ghosts C} {kg : Ghosts K} where
+  -- what formal parameters are derived from, as they come to be answered
+  formal-answered : (q : Parser TokensInput H F C K fg cg kg) (s : Result (Vec (Param (Pat F C K)) Global) Error) (v : Vec (Pat F C K) Global) (b : Parser TokensInput H F C K fg cg kg)
+      (t : Tree F C K) (ys : List TokenAndSpan) → faults b ≡ [] → erase_all (patterns fg cg kg v) ≡ erase_all (items_of t)
+      → MatchResult s (λ w. ClosedBy listed_model (param_patterns fg cg kg w) t (buffer_of q) ys × (faults q ≡ faults b)) (λ e. e.kind ≡ OutOfMemory)
+      → MatchResult s (λ w. Same fg cg kg v w × StandsBefore q ys × (faults q ≡ [])) (λ e. e.kind ≡ OutOfMemory)
+  formal-answered q (Ok w) v b t ys clean same (closed, quiet) = (
+    same ∙ ap (λ u. erase_all (items_of u)) closed.list,
+    record { close = closed.close; is = closed.is; left = closed.known },
+    quiet ∙ clean,
+  )
+  formal-answered q (Err e) v b t ys clean same h = h
+
+  -- and so of an arrow's parameters
+  arrow-answered : (p : Parser TokensInput H F C K fg cg kg) (r : Result (Vec (Pat F C K) Global) Error) (w : Vec (Param (Pat F C K)) Global) (b : Parser TokensInput H F C K fg cg kg)
+      (hs : Tree F C K) (ys : List TokenAndSpan) → faults b ≡ []
+      → erase_all (all_unmarked (items_of hs)) ≡ erase_all (param_patterns fg cg kg w)
+      → MatchResult r (λ v. (heads_in_boxes.tree p.productions.nodes v ≡ only_items hs) × Left p ys × (faults p ≡ faults b)) (λ e. e.kind ≡ OutOfMemory)
+      → MatchResult r (λ v. Same fg cg kg v w × Left p ys × (faults p ≡ [])) (λ e. e.kind ≡ OutOfMemory)
+  arrow-answered p (Ok v) w b hs ys clean same (e, left, quiet) =
+      (ap (λ t. erase_all (items_of t)) e ∙ ap erase_all (kept-items hs) ∙ same, left, quiet ∙ clean)
+  arrow-answered p (Err e) w b hs ys clean same h = h
+
+module _ {H F C K : Type 0} {fg : Ghosts F} {cg : Ghosts C} {kg : Ghosts K} (sure : Bool) (hook : Hook F C K) (c : Context)
+    (x : Syntax) (ts : List TokenAndSpan) where
+  abbrev Heading : Result (Vec (Pat F C K) Global) Error → Parser TokensInput H F C K fg cg kg → Parser TokensInput H F C K fg cg kg → Type 0
+  Heading r a b = Promised listed_model sure hook heads_in_boxes Heads a r b
+
+  abbrev Forming : Result (Vec (Param (Pat F C K)) Global) Error → Parser TokensInput H F C K fg cg kg → Parser TokensInput H F C K fg cg kg → Type 0
+  Forming r a b = PromisedParams listed_model sure hook a r b
+
+  -- ---- what was read as an arrow's parameters
+
+  heads-read : {p : Parser TokensInput H F C K fg cg kg} (v : Vec (Pat F C K) Global) → Fresh (Heading (Ok v)) c x ts p → IsHeeded c x → faults p ≡ []
+      → (ys : List TokenAndSpan) → Left p ys
+      → ReadsAs only_items hook Heads (scope_of (view c) x) ts ys (heads_in_boxes.tree p.productions.nodes v)
+  heads-read {p} v f heeded none ys left =
+      let d = f.call.sound f.runs (f.loud heeded) (none ∙ sym f.clean) in
+      let k = Known-after listed_laws (buffer_of f.start) (buffer_of p) d.consumed ts d.read.took f.left in
+      let same : k.0 ≡ ys = known-once listed_model (buffer_of p) k.0 ys k.1 left in
+      let whole : ts ≡ d.consumed ++ ys = k.2 ∙ ap (λ l. d.consumed ++ l) same in
+      let got = d.front ys (Known-Future listed_laws (buffer_of p) ys left) in
+      let D : Scope → List TokenAndSpan → Type 0 = λ s l. ReadsAs only_items hook Heads s l ys (heads_in_boxes.tree p.productions.nodes v) in
+      subst (λ s. D s ts) f.stands (subst (λ l. D (scope listed_model (buffer_of f.start)) l) (sym whole) got)
+
+  pub cover-law : {p q : Parser TokensInput H F C K fg cg kg} (r : Result (Vec (Pat F C K) Global) Error) (s : Result (Vec (Param (Pat F C K)) Global) Error)
+      → Fresh (Heading r) c x ts p → Fresh (Forming s) c x (rest ts) q → CoverLaw sure c x ts r p s q
+  cover-law (Err e) s f g = λ heeded y strict sp. tt
+  cover-law {p} {q} (Ok v) s f g = λ heeded y strict sp. λ none kept ys left.
+      let d = heads-read v f heeded none ys left in
+      let items : all_unmarked (items_of d.marked) ≡ patterns fg cg kg v = sym (kept-items d.marked) ∙ ap items_of d.same in
+      let names = is_kept_name c in
+      let free : all_bind_names names (items_of d.marked) ≡ true =
+      sym (all-same-binds names (items_of d.marked)) ∙ ap (all_bind_names names) items ∙ kept in
+      let (a, ms, at, h, k) = heads-cover hook (scope_of (view c) x) strict ts ys sp d.marked d.read free in
+      let bare : ReadsUnmarked hook Params (scope listed_model (buffer_of g.start)) ms ys (unmarked k.tree) = record {
+        marked = k.tree;
+        read = subst (λ z. Reads hook Params z ms ys k.tree) (sym g.stands) k.read;
+        same = refl;
+      } in
+      let same : erase_all (patterns fg cg kg v) ≡ erase_all (items_of (unmarked k.tree)) =
+      ap erase_all (sym items) ∙ bare-same (items_of d.marked) (items_of k.tree) k.same ∙ ap erase_all (sym (bare-items k.tree)) in
+      formal-answered q s v g.start (unmarked k.tree) ys g.clean same
+      (g.call.complete g.runs y (g.loud heeded) ms ys (unmarked k.tree) (subst (λ l. Left g.start l) (ap rest at) g.left) bare)
+
+  -- ---- and the other way
+
+  -- what was read as formal parameters, up to a `)`
+  params-read : {q : Parser TokensInput H F C K fg cg kg} (w : Vec (Param (Pat F C K)) Global) → Fresh (Forming (Ok w)) c x (rest ts) q → IsHeeded c x → faults q ≡ []
+      → (ys : List TokenAndSpan) (before : StandsBefore q ys)
+      → ReadsUnmarked hook Params (scope_of (view c) x) (rest ts) ys (listed None before.close.span (param_patterns fg cg kg w))
+  params-read {q} w g heeded none ys before =
+      let d = g.call.sound g.runs (g.loud heeded) (none ∙ sym g.clean) in
+      let k = Known-after listed_laws (buffer_of g.start) (buffer_of q) d.consumed (rest ts) d.read.took g.left in
+      let same : k.0 ≡ before.close ∷ ys = known-once listed_model (buffer_of q) k.0 (before.close ∷ ys) k.1 before.left in
+      let whole : rest ts ≡ d.consumed ++ before.close ∷ ys = k.2 ∙ ap (λ l. d.consumed ++ l) same in
+      let got = d.front before.close ys (Known-Future listed_laws (buffer_of q) (before.close ∷ ys) before.left) before.is in
+      let D : Scope → List TokenAndSpan → Type 0 =
+      λ z l. ReadsUnmarked hook Params z l ys (listed None before.close.span (param_patterns fg cg kg w)) in
+      subst (λ z. D z (rest ts)) g.stands (subst (λ l. D (scope listed_model (buffer_of g.start)) l) (sym whole) got)
+
+  pub converse-law : {p q : Parser TokensInput H F C K fg cg kg} (r : Result (Vec (Pat F C K) Global) Error) (s : Result (Vec (Param (Pat F C K)) Global) Error)
+      → Fresh (Heading r) c x ts p → Fresh (Forming s) c x (rest ts) q → ConverseLaw sure c x ts r p s q
+  converse-law r (Err e) f g = λ heeded y paren. tt
+  converse-law {p} {q} r (Ok w) f g = λ heeded y paren. λ none free ys before.
+      let (a, ms, at, h) = first-is ts paren in
+      let d = params-read w g heeded none ys before in
+      let items : all_unmarked (items_of d.marked) ≡ param_patterns fg cg kg w = sym (bare-items d.marked) ∙ ap items_of d.same in
+      let names : all_bind_names is_free_name (items_of d.marked) ≡ true =
+      sym (all-same-binds is_free_name (items_of d.marked)) ∙ ap (all_bind_names is_free_name) items ∙ free in
+      let here = subst (λ l. Reads hook Params (scope_of (view c) x) l ys d.marked) (ap rest at) d.read in
+      let (hs, read, same) = converse-heads hook (scope_of (view c) x) a ms ys d.marked h here names in
+      let whole : Reads hook Heads (scope_of (view c) x) ts ys hs = subst (λ l. Reads hook Heads (scope_of (view c) x) l ys hs) (sym at) read in
+      let kept : ReadsAs only_items hook Heads (scope listed_model (buffer_of f.start)) ts ys (only_items hs) = record {
+        marked = hs;
+        read = subst (λ z. Reads hook Heads z ts ys hs) (sym f.stands) whole;
+        same = refl;
+      } in
+      arrow-answered p r w f.start hs ys f.clean (bare-same (items_of hs) (items_of d.marked) same ∙ ap erase_all items)
+      (f.call.complete f.runs y (f.loud heeded) ts ys (only_items hs) f.left kept tt)
+
+-- ---- new parsers
+
+module _ {H F C K : Type 0} {fg : Ghosts F} {cg : Ghosts C} {kg : Ghosts K} where
+  pub fresh : {P : Parser TokensInput H F C K fg cg kg → Parser TokensInput H F C K fg cg kg → Type 0} {q : Parser TokensInput H F C K fg cg kg}
+      (input : TokensInput) (ts : List TokenAndSpan) (c : Context) (x : Syntax) (v : EsVersion) (p : Parser TokensInput H F C K fg cg kg)
+      → listed_state input ≡ new_state ts c x v → buffer_of p ≡ buffer.fresh input (last_position (buffer_of p)) → has_failed p ≡ false
+      → P p q → Fresh P c x (plain_list ts) q
+  fresh input ts c x v p is new runs call =
+      let at = last_position (buffer_of p) in
+      record {
+        start = p;
+        runs = runs;
+        left = rw (new) (fresh-known input at ts c x v is);
+        clean = ap (λ b. (listed_state (source b)).errors) new ∙ ap (λ s. s.errors) is;
+        loud = λ heeded. rw (new) (fresh-loud input at ts c x v is heeded);
+        stands = ap (λ b. scope listed_model b) new ∙ ap (λ s. scope_of (view s.context) s.syntax) is;
+        call = call;
+      }
+
+  -- over a list that is the same
+  pub along : {P : Parser TokensInput H F C K fg cg kg → Parser TokensInput H F C K fg cg kg → Type 0}
+      {q : Parser TokensInput H F C K fg cg kg} {c : Context} {x : Syntax} (ls ms : List TokenAndSpan) → ls ≡ ms
+      → Fresh P c x ls q → Fresh P c x ms q
+  along {P} {q} {c} {x} ls ms e f = subst (λ l. Fresh P c x l q) e f

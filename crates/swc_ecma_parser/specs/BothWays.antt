@@ -1,0 +1,89 @@
+-- A list in parentheses, read as the parameters of an arrow function by way of expressions (ECMA-262, 15.3), and behind
+-- its parenthesis as formal parameters (15.1): the law of the cover grammar and its converse, in their own words.
+use Rattle.std.specs.Prelude.{◌≡◌, Bool, true, false, List, [], ◌∷◌, map, Result, IfOk, MatchResult}
+use Rattle.std.specs.declared.alloc.Global.{Global}
+use Rattle.std.specs.declared.vec.Vec.{Vec}
+use Rattle.swc_context.specs.Contexts.{view}
+use Rattle.swc_context.specs.declared.context.Context.{Context}
+use Rattle.swc_context.specs.declared.context.Syntax.{Syntax}
+use Rattle.swc_context.specs.declared.error.Error.{Error}
+use Rattle.swc_context.specs.declared.error.SyntaxError.TheVariants.{OutOfMemory}
+use Rattle.swc_input.specs.Buffer.{Known, source}
+use Rattle.swc_input.specs.Kinds.{at_token}
+use Rattle.swc_input.specs.Listed.{listed_model, listed_state}
+use Rattle.swc_input.specs.declared.listed.TokensInput.{TokensInput}
+use Rattle.swc_input.specs.declared.token.TokenAndSpan.{TokenAndSpan}
+use Rattle.swc_ast.specs.Tree.{Trees, erase_all, trees}
+use Rattle.swc_ast.specs.TreeOf.{pat_tree}
+use Rattle.swc_ast.specs.declared.function.Param.{Param}
+use Rattle.swc_ast.specs.declared.pat.Pat.{Pat}
+use Rattle.swc_ast.specs.declared.spanned.Spanned.{Ghosts}
+use Rattle.swc_grammar.specs.Clean.{first}
+use Rattle.swc_grammar.specs.Patterns.{all_bind_names}
+use Rattle.swc_grammar.specs.Tokens.{is_lparen, is_rparen}
+use Rattle.swc_laws.specs.Bound.{Spelled, is_free_name, is_kept_name}
+use Rattle.swc_steps.specs.Parsing.{scope, scope_of, Loud}
+use Rattle.swc_ecma_parser.specs.Calls.{buffer_of, has_failed}
+use Rattle.swc_ecma_parser.specs.Promise.{pats_of}
+use Rattle.swc_ecma_parser.specs.WholeList.{IsHeeded}
+use Rattle.swc_ecma_parser.specs.declared.parser.Parser.{Parser}
+
+module _ {F C K : Type 0} where
+  -- patterns in boxes, and those of parameters
+  abbrev pub patterns : Ghosts F → Ghosts C → Ghosts K → Vec (Pat F C K) Global → Trees F C K
+  patterns fg cg kg v = trees (map (pat_tree F C K fg.place cg.place kg.place) v.items)
+
+  abbrev pub param_patterns : Ghosts F → Ghosts C → Ghosts K → Vec (Param (Pat F C K)) Global → Trees F C K
+  param_patterns fg cg kg w = pats_of fg.place cg.place kg.place w
+
+  -- the same patterns, places apart
+  abbrev pub Same : Ghosts F → Ghosts C → Ghosts K → Vec (Pat F C K) Global → Vec (Param (Pat F C K)) Global → Type 0
+  Same fg cg kg v w = erase_all (patterns fg cg kg v) ≡ erase_all (param_patterns fg cg kg w)
+
+module _ {H F C K : Type 0} {fg : Ghosts F} {cg : Ghosts C} {kg : Ghosts K} where
+  -- the tokens to come
+  abbrev pub Left : Parser TokensInput H F C K fg cg kg → List TokenAndSpan → Type 0
+  Left p ys = Known listed_model (buffer_of p) ys
+
+  -- the faults that were recorded
+  abbrev pub faults : Parser TokensInput H F C K fg cg kg → List Error
+  faults p = (listed_state (source (buffer_of p))).errors
+
+  -- A new parser over the tokens ts, in the context c and by the syntax x, made the call P, and is q behind it.
+  pub record Fresh (P : Parser TokensInput H F C K fg cg kg → Parser TokensInput H F C K fg cg kg → Type 0)
+      (c : Context) (x : Syntax) (ts : List TokenAndSpan) (q : Parser TokensInput H F C K fg cg kg) : Type 0 where
+    pub start : Parser TokensInput H F C K fg cg kg
+    pub runs : has_failed start ≡ false
+    pub left : Left start ts
+    pub clean : faults start ≡ []
+    pub loud : IsHeeded c x → Loud listed_model (buffer_of start)
+    pub stands : scope listed_model (buffer_of start) ≡ scope_of (view c) x
+    pub call : P start q
+
+  -- a `)` comes next, and behind it the tokens ys
+  pub record StandsBefore (q : Parser TokensInput H F C K fg cg kg) (ys : List TokenAndSpan) : Type 0 where
+    pub close : TokenAndSpan
+    pub is : is_rparen close.token ≡ true
+    pub left : Left q (close ∷ ys)
+
+  -- What is read cleanly as the parameters of an arrow function is read cleanly as formal parameters, which are the
+  -- same patterns, up to the same place, or memory was wanted.
+  abbrev pub CoverLaw : Bool → Context → Syntax → List TokenAndSpan
+      → Result (Vec (Pat F C K) Global) Error → Parser TokensInput H F C K fg cg kg
+      → Result (Vec (Param (Pat F C K)) Global) Error → Parser TokensInput H F C K fg cg kg → Type 0
+  CoverLaw sure c x ts arrow p formal q =
+      IsHeeded c x → sure ≡ true → (c.module ≡ true → c.strict ≡ true) → Spelled ts
+      → IfOk arrow (λ v. faults p ≡ [] → all_bind_names (is_kept_name c) (patterns fg cg kg v) ≡ true
+      → (ys : List TokenAndSpan) → Left p ys
+      → MatchResult formal (λ w. Same fg cg kg v w × StandsBefore q ys × (faults q ≡ [])) (λ e. e.kind ≡ OutOfMemory))
+
+  -- What is read cleanly as formal parameters, up to a `)` and behind a `(`, and binds free names, is read cleanly as
+  -- the parameters of an arrow function, which are the same patterns, or memory was wanted.
+  abbrev pub ConverseLaw : Bool → Context → Syntax → List TokenAndSpan
+      → Result (Vec (Pat F C K) Global) Error → Parser TokensInput H F C K fg cg kg
+      → Result (Vec (Param (Pat F C K)) Global) Error → Parser TokensInput H F C K fg cg kg → Type 0
+  ConverseLaw sure c x ts arrow p formal q =
+      IsHeeded c x → sure ≡ true → at_token is_lparen (first ts) ≡ true
+      → IfOk formal (λ w. faults q ≡ [] → all_bind_names is_free_name (param_patterns fg cg kg w) ≡ true
+      → (ys : List TokenAndSpan) → StandsBefore q ys
+      → MatchResult arrow (λ v. Same fg cg kg v w × Left p ys × (faults p ≡ [])) (λ e. e.kind ≡ OutOfMemory))

@@ -1,0 +1,24 @@
+// The parameters of an arrow function by themselves, from their parenthesis on.
+ghost use Rattle.swc_nodes.specs.GrowingNodes.{count};
+ghost use Rattle.swc_steps.specs.Parsing.{Produces};
+ghost use Rattle.swc_ecma_parser.specs.Heads.{heads_items, heads_of, heads_at};
+
+use swc_bodies::bodies::Bodies;
+use swc_context::error::PResult;
+use swc_cover::refining::parse_paren_items_as_params;
+use swc_input::tokens::Tokens;
+use swc_nodes::node::PatId;
+use swc_productions::pieces::parse_arguments;
+use swc_steps::productions::Productions;
+
+/// The parameters of an arrow function (ECMA-262, 13.2.9 and 15.3), with their parentheses: a list that is read as
+/// arguments are, and then made parameters of.
+pub(crate) fn parse_arrow_params<I: Tokens, B: Bodies<I>>(
+    p: &mut Productions<I, B>,
+) -> PResult<Vec<PatId>>
+    ensures { Produces I.model B.is_faithful heads_of heads_at (heads_items B.forms) (count p.old.nodes)
+        p.old result p.new }
+{
+    let list = parse_arguments(p, false)?;
+    parse_paren_items_as_params(p, &list.items, list.trailing_comma)
+}

@@ -1,0 +1,12 @@
+mod CoverRows
+mod ExceptionRows
+pub mod Bindable
+pub mod Closed
+pub mod Converse
+pub mod ConverseLaw
+pub mod Cover
+pub mod CoverClean
+pub mod CoverLaw
+pub mod Covered
+pub mod Freed
+pub mod Within

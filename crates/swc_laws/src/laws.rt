@@ -1,0 +1,21 @@
+//! Laws of the grammar, as contracts of calls that do nothing.
+ghost use Rattle.swc_laws.specs.Converse.{Converse};
+ghost use Rattle.swc_laws.specs.Covering.{Covering};
+
+use swc_bodies::bodies::BodyForms;
+
+/// The cover law: in a script or a strict module, where the grammar derives patterns from what
+/// stands in parentheses before `=>`, from tokens as a reader spells them, and in a static block
+/// they bind no `await`, it derives the same patterns, places apart, as parameters, from the same
+/// tokens without the `(`.
+pub fn cover<B: BodyForms>()
+    ensures { Covering B.forms }
+{}
+
+/// The converse of the cover law: where the grammar derives parameters, and no name that they bind
+/// is a word that some mode reserves, `await`, `yield`, `eval` or `arguments`, it derives the same
+/// patterns, places apart, as what stands in parentheses before `=>`, from the same tokens with a
+/// `(` before them.
+pub fn converse<B: BodyForms>()
+    ensures { Converse B.forms }
+{}

@@ -1,0 +1,3 @@
+pub mod CoverNames
+pub mod Dues
+pub mod Faults
