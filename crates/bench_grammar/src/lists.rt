@@ -374,229 +374,37 @@ pub(crate) fn agree_in(
     Ok(())
 }
 
-/// The same on every few rows of a table, of those parts the one with this number: a test has a limit of time.
-fn agree_in_part(
-    rt: &impl Abort,
-    alloc: Global,
-    symbol: &str,
-    rows: &str,
-    part: usize,
-    parts: usize,
-) -> Result<(), AllocError> {
-    for (at, row) in rows.lines().enumerate() {
-        if parts > 0 && at % parts == part {
-            agree(rt, alloc, symbol, row)?;
-        }
-    }
-    Ok(())
+#[test]
+fn reads_what_the_productions_derive(rt: HostRuntime) -> Result<(), AllocError> {
+    agree_in(&rt, rt.alloc(), "Whole", LISTS)
 }
 
 #[test]
-fn reads_what_the_productions_derive_1(rt: HostRuntime) -> Result<(), AllocError> {
-    agree_in_part(&rt, rt.alloc(), "Whole", LISTS, 0, 10)
+fn reads_left_hand_sides(rt: HostRuntime) -> Result<(), AllocError> {
+    agree_in(&rt, rt.alloc(), "Whole", LEFT_HAND_SIDES)
 }
 
 #[test]
-fn reads_what_the_productions_derive_2(rt: HostRuntime) -> Result<(), AllocError> {
-    agree_in_part(&rt, rt.alloc(), "Whole", LISTS, 1, 10)
+fn reads_assignments(rt: HostRuntime) -> Result<(), AllocError> {
+    agree_in(&rt, rt.alloc(), "Whole", ASSIGNMENTS)
 }
 
 #[test]
-fn reads_what_the_productions_derive_3(rt: HostRuntime) -> Result<(), AllocError> {
-    agree_in_part(&rt, rt.alloc(), "Whole", LISTS, 2, 10)
+fn reads_arrow_functions(rt: HostRuntime) -> Result<(), AllocError> {
+    agree_in(&rt, rt.alloc(), "Whole", ARROWS)
 }
 
 #[test]
-fn reads_what_the_productions_derive_4(rt: HostRuntime) -> Result<(), AllocError> {
-    agree_in_part(&rt, rt.alloc(), "Whole", LISTS, 3, 10)
+fn reads_bodies_of_arrow_functions(rt: HostRuntime) -> Result<(), AllocError> {
+    agree_in(&rt, rt.alloc(), "Whole", BODIES)
 }
 
 #[test]
-fn reads_what_the_productions_derive_5(rt: HostRuntime) -> Result<(), AllocError> {
-    agree_in_part(&rt, rt.alloc(), "Whole", LISTS, 4, 10)
+fn reads_assignments_to_patterns(rt: HostRuntime) -> Result<(), AllocError> {
+    agree_in(&rt, rt.alloc(), "Whole", PLACES)
 }
 
 #[test]
-fn reads_what_the_productions_derive_6(rt: HostRuntime) -> Result<(), AllocError> {
-    agree_in_part(&rt, rt.alloc(), "Whole", LISTS, 5, 10)
-}
-
-#[test]
-fn reads_what_the_productions_derive_7(rt: HostRuntime) -> Result<(), AllocError> {
-    agree_in_part(&rt, rt.alloc(), "Whole", LISTS, 6, 10)
-}
-
-#[test]
-fn reads_what_the_productions_derive_8(rt: HostRuntime) -> Result<(), AllocError> {
-    agree_in_part(&rt, rt.alloc(), "Whole", LISTS, 7, 10)
-}
-
-#[test]
-fn reads_what_the_productions_derive_9(rt: HostRuntime) -> Result<(), AllocError> {
-    agree_in_part(&rt, rt.alloc(), "Whole", LISTS, 8, 10)
-}
-
-#[test]
-fn reads_what_the_productions_derive_10(rt: HostRuntime) -> Result<(), AllocError> {
-    agree_in_part(&rt, rt.alloc(), "Whole", LISTS, 9, 10)
-}
-
-#[test]
-fn reads_left_hand_sides_1(rt: HostRuntime) -> Result<(), AllocError> {
-    agree_in_part(&rt, rt.alloc(), "Whole", LEFT_HAND_SIDES, 0, 6)
-}
-
-#[test]
-fn reads_left_hand_sides_2(rt: HostRuntime) -> Result<(), AllocError> {
-    agree_in_part(&rt, rt.alloc(), "Whole", LEFT_HAND_SIDES, 1, 6)
-}
-
-#[test]
-fn reads_left_hand_sides_3(rt: HostRuntime) -> Result<(), AllocError> {
-    agree_in_part(&rt, rt.alloc(), "Whole", LEFT_HAND_SIDES, 2, 6)
-}
-
-#[test]
-fn reads_left_hand_sides_4(rt: HostRuntime) -> Result<(), AllocError> {
-    agree_in_part(&rt, rt.alloc(), "Whole", LEFT_HAND_SIDES, 3, 6)
-}
-
-#[test]
-fn reads_left_hand_sides_5(rt: HostRuntime) -> Result<(), AllocError> {
-    agree_in_part(&rt, rt.alloc(), "Whole", LEFT_HAND_SIDES, 4, 6)
-}
-
-#[test]
-fn reads_left_hand_sides_6(rt: HostRuntime) -> Result<(), AllocError> {
-    agree_in_part(&rt, rt.alloc(), "Whole", LEFT_HAND_SIDES, 5, 6)
-}
-
-#[test]
-fn reads_assignments_1(rt: HostRuntime) -> Result<(), AllocError> {
-    agree_in_part(&rt, rt.alloc(), "Whole", ASSIGNMENTS, 0, 6)
-}
-
-#[test]
-fn reads_assignments_2(rt: HostRuntime) -> Result<(), AllocError> {
-    agree_in_part(&rt, rt.alloc(), "Whole", ASSIGNMENTS, 1, 6)
-}
-
-#[test]
-fn reads_assignments_3(rt: HostRuntime) -> Result<(), AllocError> {
-    agree_in_part(&rt, rt.alloc(), "Whole", ASSIGNMENTS, 2, 6)
-}
-
-#[test]
-fn reads_assignments_4(rt: HostRuntime) -> Result<(), AllocError> {
-    agree_in_part(&rt, rt.alloc(), "Whole", ASSIGNMENTS, 3, 6)
-}
-
-#[test]
-fn reads_assignments_5(rt: HostRuntime) -> Result<(), AllocError> {
-    agree_in_part(&rt, rt.alloc(), "Whole", ASSIGNMENTS, 4, 6)
-}
-
-#[test]
-fn reads_assignments_6(rt: HostRuntime) -> Result<(), AllocError> {
-    agree_in_part(&rt, rt.alloc(), "Whole", ASSIGNMENTS, 5, 6)
-}
-
-#[test]
-fn reads_arrow_functions_1(rt: HostRuntime) -> Result<(), AllocError> {
-    agree_in_part(&rt, rt.alloc(), "Whole", ARROWS, 0, 8)
-}
-
-#[test]
-fn reads_arrow_functions_2(rt: HostRuntime) -> Result<(), AllocError> {
-    agree_in_part(&rt, rt.alloc(), "Whole", ARROWS, 1, 8)
-}
-
-#[test]
-fn reads_arrow_functions_3(rt: HostRuntime) -> Result<(), AllocError> {
-    agree_in_part(&rt, rt.alloc(), "Whole", ARROWS, 2, 8)
-}
-
-#[test]
-fn reads_arrow_functions_4(rt: HostRuntime) -> Result<(), AllocError> {
-    agree_in_part(&rt, rt.alloc(), "Whole", ARROWS, 3, 8)
-}
-
-#[test]
-fn reads_arrow_functions_5(rt: HostRuntime) -> Result<(), AllocError> {
-    agree_in_part(&rt, rt.alloc(), "Whole", ARROWS, 4, 8)
-}
-
-#[test]
-fn reads_arrow_functions_6(rt: HostRuntime) -> Result<(), AllocError> {
-    agree_in_part(&rt, rt.alloc(), "Whole", ARROWS, 5, 8)
-}
-
-#[test]
-fn reads_arrow_functions_7(rt: HostRuntime) -> Result<(), AllocError> {
-    agree_in_part(&rt, rt.alloc(), "Whole", ARROWS, 6, 8)
-}
-
-#[test]
-fn reads_arrow_functions_8(rt: HostRuntime) -> Result<(), AllocError> {
-    agree_in_part(&rt, rt.alloc(), "Whole", ARROWS, 7, 8)
-}
-
-#[test]
-fn reads_bodies_of_arrow_functions_1(rt: HostRuntime) -> Result<(), AllocError> {
-    agree_in_part(&rt, rt.alloc(), "Whole", BODIES, 0, 4)
-}
-
-#[test]
-fn reads_bodies_of_arrow_functions_2(rt: HostRuntime) -> Result<(), AllocError> {
-    agree_in_part(&rt, rt.alloc(), "Whole", BODIES, 1, 4)
-}
-
-#[test]
-fn reads_bodies_of_arrow_functions_3(rt: HostRuntime) -> Result<(), AllocError> {
-    agree_in_part(&rt, rt.alloc(), "Whole", BODIES, 2, 4)
-}
-
-#[test]
-fn reads_bodies_of_arrow_functions_4(rt: HostRuntime) -> Result<(), AllocError> {
-    agree_in_part(&rt, rt.alloc(), "Whole", BODIES, 3, 4)
-}
-
-#[test]
-fn reads_assignments_to_patterns_1(rt: HostRuntime) -> Result<(), AllocError> {
-    agree_in_part(&rt, rt.alloc(), "Whole", PLACES, 0, 5)
-}
-
-#[test]
-fn reads_assignments_to_patterns_2(rt: HostRuntime) -> Result<(), AllocError> {
-    agree_in_part(&rt, rt.alloc(), "Whole", PLACES, 1, 5)
-}
-
-#[test]
-fn reads_assignments_to_patterns_3(rt: HostRuntime) -> Result<(), AllocError> {
-    agree_in_part(&rt, rt.alloc(), "Whole", PLACES, 2, 5)
-}
-
-#[test]
-fn reads_assignments_to_patterns_4(rt: HostRuntime) -> Result<(), AllocError> {
-    agree_in_part(&rt, rt.alloc(), "Whole", PLACES, 3, 5)
-}
-
-#[test]
-fn reads_assignments_to_patterns_5(rt: HostRuntime) -> Result<(), AllocError> {
-    agree_in_part(&rt, rt.alloc(), "Whole", PLACES, 4, 5)
-}
-
-#[test]
-fn reads_heads_of_for_1(rt: HostRuntime) -> Result<(), AllocError> {
-    agree_in_part(&rt, rt.alloc(), "ForHead", HEADS, 0, 3)
-}
-
-#[test]
-fn reads_heads_of_for_2(rt: HostRuntime) -> Result<(), AllocError> {
-    agree_in_part(&rt, rt.alloc(), "ForHead", HEADS, 1, 3)
-}
-
-#[test]
-fn reads_heads_of_for_3(rt: HostRuntime) -> Result<(), AllocError> {
-    agree_in_part(&rt, rt.alloc(), "ForHead", HEADS, 2, 3)
+fn reads_heads_of_for(rt: HostRuntime) -> Result<(), AllocError> {
+    agree_in(&rt, rt.alloc(), "ForHead", HEADS)
 }
