@@ -94,10 +94,9 @@ class Reading:
                 yield from self.assignment(end + 1)
 
     def pattern(self, place):
-        if self.is_bound(place):
-            yield place + 1
+        yield from self.bound_name(place)
         yield from self.bracketed(place, self.elements(self.element, self.pattern))
-        yield from self.braced(place, self.properties)
+        yield from self.braced(place, self.properties(self.bound_property, self.bound_name))
 
     def bracketed(self, place, inner, opening="[", closing="]"):
         if self.at(place) == opening:
@@ -108,28 +107,29 @@ class Reading:
     def braced(self, place, inner):
         return self.bracketed(place, inner, "{", "}")
 
-    def elements(self, element, last):
-        """What stands between brackets, where the one behind dots is the last."""
+    def listed(self, one, last, has_holes):
+        """What stands between brackets or braces, where what is behind dots is the last. Brackets may have holes."""
         def inner(place):
             yield place
-            if self.at(place) == ",":
+            if has_holes and self.at(place) == ",":
                 yield from inner(place + 1)
             if self.at(place) == "...":
                 yield from last(place + 1)
-            for end in element(place):
+            for end in one(place):
                 yield end
                 if self.at(end) == ",":
                     yield from inner(end + 1)
         return inner
 
-    def properties(self, place):
-        yield place
-        if self.at(place) == "..." and self.is_bound(place + 1):
-            yield place + 2
-        for end in self.bound_property(place):
-            yield end
-            if self.at(end) == ",":
-                yield from self.properties(end + 1)
+    def elements(self, one, last):
+        return self.listed(one, last, True)
+
+    def properties(self, one, last):
+        return self.listed(one, last, False)
+
+    def bound_name(self, place):
+        if self.is_bound(place):
+            yield place + 1
 
     def bound_property(self, place):
         if self.is_short(place):
@@ -170,11 +170,9 @@ class Reading:
             yield end
 
     def target(self, place):
-        for end, writable in self.operand(place):
-            if writable:
-                yield end
+        yield from self.written(place)
         yield from self.bracketed(place, self.elements(self.target_element, self.target))
-        yield from self.braced(place, self.target_properties)
+        yield from self.braced(place, self.properties(self.target_property, self.written))
 
     def target_element(self, place):
         for end in self.target(place):
@@ -182,14 +180,9 @@ class Reading:
             if self.at(end) == "=":
                 yield from self.assignment(end + 1)
 
-    def target_properties(self, place):
-        yield place
-        if self.at(place) == "...":
-            yield from (end for end, writable in self.operand(place + 1) if writable)
-        for end in self.target_property(place):
-            yield end
-            if self.at(end) == ",":
-                yield from self.target_properties(end + 1)
+    def written(self, place):
+        """An operand that may be written to."""
+        return (end for end, writable in self.operand(place) if writable)
 
     def target_property(self, place):
         if not self.bars(RESERVED, place) and not self.is_restricted(place):
