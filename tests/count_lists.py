@@ -52,8 +52,9 @@ is a body the assignment expression ends.
 
 Where an assignment expression begins, brackets or braces may stand before `=`. In them stand operands that may be written to, and brackets and
 braces of the same kind, with `=` and an assignment expression behind them or not; behind dots one without, and then the end. So what a list
-may be is known later, and it is walked as all that it may be at once. In the head of a `for` `of` or `in` stands behind an expression; behind
-`async`, with which an assignment expression begins, `of` on its line is the end in that of a `for await` alone.
+may be is known later, and it is walked as all that it may be at once. The head of a `for` begins with an expression, behind which `;`, `)` or
+nothing stands, or with what may stand before `=`, and then `of` or `in`; behind `async`, with which an assignment expression begins, `of` on its
+line is that in a `for await` alone.
 
 A block, a function and a class are taken whole. Of each it matters how many brackets are open. Within its own brace, braces alone are
 counted; before that brace all brackets are, where any that closes may close any that opens. There are no rows with templates and braces, of
@@ -96,7 +97,10 @@ BEFORE_ARROW = {"arrow": "plain", "async arrow": "async", "async list": "async"}
 BARE = (")", ")@")
 # What a mode has beside its name.
 FEATURES = {"module": {"strict"}, "generator": {"function", "target"}, "async": {"function", "target"}}
-FEATURES |= {"for-of": {"without-in"}, "for-await": {"without-in"}}
+FEATURES |= {"for-of": {"without-in", "head"}, "for-await": {"without-in", "head"}}
+FEATURES |= {"for-of-strict": {"strict"} | FEATURES["for-of"], "for-of-module": {"module", "strict"} | FEATURES["for-of"]}
+FEATURES |= {"for-of-generator": {"generator"} | FEATURES["generator"] | FEATURES["for-of"]}
+FEATURES |= {"for-await-async": {"for-await", "async"} | FEATURES["async"] | FEATURES["for-await"]}
 # A template, and what begins one.
 TEMPLATE = ("``", "`${")
 # What `before` is behind a comma, by what closes the list; nothing closes the whole.
@@ -144,7 +148,7 @@ def closed(front):
     if close == ":":
         return begun(after, "")
     if close[1:] not in ("", ".", "!", "@"):
-        return after._replace(before=close[1:])
+        return after._replace(before=close[1:], lead=lead)
     target = close == "]." or (close == ")" and front.lead == "only" and writable(front))
     is_covered = close == "}" and front.covered and lead and outer and outer[-1][0] in BARE
     before = "covered" if is_covered else ""
@@ -359,7 +363,7 @@ def operand(front, token, mode):
     if front.before in PATTERN:
         return pattern(front, token, mode)
     if front.before == "assigned":
-        return begun(front, "") if token == "=" else None
+        return begun(front, "") if token == "=" else written(front, token, mode)
     if front.before in BEFORE_ARROW:
         return begun(front._replace(area=BEFORE_ARROW[front.before]), "body") if token == "=>" else None
     if front.before == "body":
@@ -424,11 +428,11 @@ def ended(front, token):
 def behind_word(front, token, is_broken, mode):
     """The front with a token more behind `yield`, or outside async code `await`, or None."""
     if front.before == "yield":
-        ending = ended(front, token)
+        ending = ended(front, token) or stopped(front, token, mode)
         if ending or is_broken:
             return ending
         return begun(front, "") if token == "*" else operand(begun(front, ""), token, mode)
-    if is_broken or token in (")", "]", ",") or token.startswith("}"):
+    if is_broken or token in (")", "]", ",", ";") or token.startswith("}"):
         is_name = "module" not in mode and not (is_broken and token == "*")
         return operator(front._replace(before="update"), token, is_broken, mode) if is_name else None
     if "function" in mode or front.must:
@@ -449,14 +453,28 @@ def behind_async(front, token, is_broken, mode):
     return operator(front, token, is_broken, mode)
 
 
+def written(front, token, mode):
+    """The front with `of` or `in` more, behind what is all of the head of a `for` so far and may be written to, or None."""
+    is_head = "head" in mode and token in ("of", "in") and not front.outer and front.lead == "only"
+    return front._replace(before="whole", wants="operand") if is_head else None
+
+
+def stopped(front, token, mode):
+    """The front with `;` or `)` more, behind what is all of the head of a `for`, or None."""
+    is_head = "head" in mode and token in (";", ")") and not front.outer
+    return front._replace(before="whole", wants="operand") if is_head else None
+
+
 def operator(front, token, is_broken, mode):
     """The front with a token more where an operand is complete, or None."""
     if front.before in ("yield", "await"):
         return behind_word(front, token, is_broken, mode)
     if front.before in ("async", "async head"):
         return behind_async(front, token, is_broken, mode)
-    if token in ("of", "in") and mode & {"for-of", "for-await"} and not front.outer:
-        return front._replace(before="whole", wants="operand") if fitting(front) else None
+    if token in ("of", "in") and "head" in mode and not front.outer:
+        return written(front, token, mode) if writable(front) else None
+    if fitting(front) and stopped(front, token, mode):
+        return stopped(front, token, mode)
     if front.before == "arrowed":
         return ended(front, token)
     if front.before == "covered" and token not in (",", ")"):
@@ -537,9 +555,8 @@ def complete(front, mode):
     """Whether the front is an expression, or another whole."""
     if front.before == "whole":
         return not front.outer
-    if mode in ("for-of", "for-await"):
-        return False
-    return not front.wants and not front.outer and fitting(front) and (front.before, mode) != ("await", "module")
+    is_barred = front.before == "await" and "module" in features(mode, "")
+    return not front.wants and not front.outer and fitting(front) and not is_barred
 
 
 # Where the lists of a table begin, but those of expressions.

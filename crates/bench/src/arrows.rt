@@ -82,7 +82,6 @@ parse_unary_expr | script | async (a) => b | Call(async, [a]) 0..9 | none | 10..
 parse_unary_expr | script | async a => b | async 0..5 | none | 6..7
 parse_unary_expr | script | (a)\n=> b | refused: LineBreakBeforeArrow 0..3 | none | 4..6
 parse_assignment_expr | script | (a) => b, c | Arrow([a], b) 0..8 | none | 8..9
-parse_for_head_prefix | script | (a) => b, c | Seq(Arrow([a], b), c) 0..11 | none | end
 parse_expr | script | (a)\n=> b | refused: LineBreakBeforeArrow 0..3 | none | 4..6
 parse_expr | script | ()\n=> b | refused: LineBreakBeforeArrow 0..2 | none | 3..5
 parse_expr | script | async (a)\n=> b | refused: LineBreakBeforeArrow 0..9 | none | 10..12
@@ -304,8 +303,6 @@ parse_expr; trailing_comma 7 | script | a => f({b,}) | Arrow([a], Call(f, [Objec
 parse_expr; trailing_comma 5; trailing_comma 14 | script | (a = [b,]) => [c,] | Arrow([Assign(a, Array[b])], Array[c]) 0..18; 7..8; none | none | end
 parse_expr; trailing_comma 1; trailing_comma 12 | script | [[a,], b => [c,]] | Array[Array[a], Arrow([b], Array[c])] 0..17; 3..4; none | none | end
 parse_expr; trailing_comma 11; trailing_comma 12 | script | async a => [[b,],] | AsyncArrow([a], Array[Array[b]]) 0..18; none; none | none | end
-parse_for_head_prefix | script without_in for_init | async of a | async 0..5 | TS1106 0..5 | 6..8
-parse_for_head_prefix | script without_in for_init for_await_init | async of a | async 0..5 | none | 6..8
 parse_expr | script without_in for_init | async of a | async 0..5 | TS1106 0..5 | 6..8
 parse_expr | script without_in for_init for_await_init | async of a | async 0..5 | none | 6..8
 parse_expr | script without_in for_init | async of | async 0..5 | TS1106 0..5 | 6..8

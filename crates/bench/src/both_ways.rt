@@ -41,10 +41,6 @@ a b = [ ] , ... | generator | 1 2 5 13 34 109 | 0 | 0
 a b = [ ] , ... | async | 1 2 5 13 34 109 | 0 | 0
 this if { } : = | script | 1 0 1 0 1 1 | 0 | 2
 this a { } : = , | strict | 1 1 2 5 10 25 | 0 | 2
-";
-
-/// The same with all these tokens.
-const WIDE: &str = "\
 a [ ] { } , : = ... | script | 1 1 4 9 25 71 | 0 | 0
 ";
 
@@ -174,11 +170,12 @@ fn texts_of(alloc: Global, tokens: Vec<TokenAndSpan>, setting: &str) -> Result<T
     let is_arrow = is_whole(&mut arrow.parser);
     let is_formal = is_before(&mut formal.parser, close);
     let saw_all = has_given_all(&mut arrow.parser) || has_given_all(&mut formal.parser);
-    let arrow = text_of(alloc, arrow.read)?;
-    let formal = text_of(alloc, formal.read)?;
+    let arrow_text = text_of(alloc, arrow.read);
+    let formal_text = text_of(alloc, formal.read);
+    let (arrow_text, formal_text) = (arrow_text?, formal_text?);
     Ok(Texts {
-        arrow: if is_arrow { arrow } else { None },
-        formal: if is_formal { formal } else { None },
+        arrow: if is_arrow { arrow_text } else { None },
+        formal: if is_formal { formal_text } else { None },
         saw_all,
     })
 }
@@ -274,71 +271,39 @@ fn counted(alloc: Global, tokens: &str, setting: &str) -> Result<String, Fail> {
     Ok(out)
 }
 
-/// Every few rows of a table have to hold, of those parts the one with this number: a test has a limit of time.
-fn hold_part(alloc: Global, rows: &str, part: usize, parts: usize) -> Result<(), Fail> {
-    for (at, row) in rows.lines().enumerate() {
-        if parts > 0 && at % parts == part {
-            let (tokens, rest) = row.split_once(" | ").ok_or(row)?;
-            let (setting, wanted) = rest.split_once(" | ").ok_or(row)?;
-            expect(row, counted(alloc, tokens, setting)?.as_str(), wanted)?;
-        }
+/// The rows of a table have to hold.
+fn hold(alloc: Global, rows: &str) -> Result<(), Fail> {
+    for row in rows.lines() {
+        let (tokens, rest) = row.split_once(" | ").ok_or(row)?;
+        let (setting, wanted) = rest.split_once(" | ").ok_or(row)?;
+        expect(row, counted(alloc, tokens, setting)?.as_str(), wanted)?;
     }
     Ok(())
 }
 
 #[test]
-fn reads_plain_lists_both_ways_1(rt: HostRuntime) -> Result<(), Fail> {
-    hold_part(rt.alloc(), PLAIN, 0, 3)
+fn reads_plain_lists_both_ways(rt: HostRuntime) -> Result<(), Fail> {
+    hold(rt.alloc(), PLAIN)
 }
 
 #[test]
-fn reads_plain_lists_both_ways_2(rt: HostRuntime) -> Result<(), Fail> {
-    hold_part(rt.alloc(), PLAIN, 1, 3)
+fn reads_words_of_strict_code_both_ways(rt: HostRuntime) -> Result<(), Fail> {
+    hold(rt.alloc(), STRICT_WORDS)
 }
 
 #[test]
-fn reads_plain_lists_both_ways_3(rt: HostRuntime) -> Result<(), Fail> {
-    hold_part(rt.alloc(), PLAIN, 2, 3)
+fn reads_await_both_ways(rt: HostRuntime) -> Result<(), Fail> {
+    hold(rt.alloc(), AWAIT)
 }
 
 #[test]
-fn reads_wide_lists_both_ways(rt: HostRuntime) -> Result<(), Fail> {
-    hold_part(rt.alloc(), WIDE, 0, 1)
-}
-
-#[test]
-fn reads_words_of_strict_code_both_ways_1(rt: HostRuntime) -> Result<(), Fail> {
-    hold_part(rt.alloc(), STRICT_WORDS, 0, 2)
-}
-
-#[test]
-fn reads_words_of_strict_code_both_ways_2(rt: HostRuntime) -> Result<(), Fail> {
-    hold_part(rt.alloc(), STRICT_WORDS, 1, 2)
-}
-
-#[test]
-fn reads_await_both_ways_1(rt: HostRuntime) -> Result<(), Fail> {
-    hold_part(rt.alloc(), AWAIT, 0, 2)
-}
-
-#[test]
-fn reads_await_both_ways_2(rt: HostRuntime) -> Result<(), Fail> {
-    hold_part(rt.alloc(), AWAIT, 1, 2)
-}
-
-#[test]
-fn reads_yield_both_ways_1(rt: HostRuntime) -> Result<(), Fail> {
-    hold_part(rt.alloc(), YIELD, 0, 2)
-}
-
-#[test]
-fn reads_yield_both_ways_2(rt: HostRuntime) -> Result<(), Fail> {
-    hold_part(rt.alloc(), YIELD, 1, 2)
+fn reads_yield_both_ways(rt: HostRuntime) -> Result<(), Fail> {
+    hold(rt.alloc(), YIELD)
 }
 
 /// A word that stands in parentheses as a name, whether it is a keyword or not, a setting, and in which ways that is
-/// read cleanly. No reader of tokens gives a keyword as a name. By way of expressions `yield` as a name is an operand in
-/// a generator too.
+/// read cleanly. No reader of tokens gives a keyword as a name. By way of expressions `yield` as a name is an operand
+/// in a generator too.
 const SPELLED: &str = "\
 a | generator | both
 yield | script | both

@@ -10,7 +10,8 @@
 /// of that number. `label_of_refusal` reads as `parse_expr_id` does, and answers the place and the
 /// note with which its refusal is labelled. Each row that tells nothing of nodes holds with
 /// `parse_expr_id` for `parse_expr`, too. Calls on patterns stand in patterns.rt, those on
-/// arrow functions in arrows.rt, and those that make patterns of expressions in refining.rt.
+/// arrow functions in arrows.rt, those on heads of `for` in heads.rt, and those that make patterns of expressions in
+/// refining.rt.
 pub(crate) const CALLS: &str =
     r"parse_expr; parse_assignment_expr; parse_bin_expr; parse_unary_expr; at_end; parse_lit; at_end | script | a + b c d * e {f} 7 | Bin(+, a, b) 0..5; c 6..7; Bin(*, d, e) 8..13; Object{f} 14..17; false; 7 18..19; true | none | end
 parse_bin_expr | script without_in | a in b | a 0..1 | none | 2..4
@@ -305,6 +306,10 @@ parse_expr | script | [a] += b | refused: InvalidAssignTarget 0..3 | NotSimpleAs
 parse_expr | script | {a} = b | Assign(=, Object{a}, b) 0..7 | none | end
 parse_expr | script | {a = 1} = b | Assign(=, Object{a = 1}, b) 0..11 | none | end
 parse_expr | script | {a} ??= b | refused: InvalidAssignTarget 0..3 | NotSimpleAssign 0..3 | 4..7
+parse_expr | script | [a] &&= b | refused: InvalidAssignTarget 0..3 | NotSimpleAssign 0..3 | 4..7
+parse_expr | script | (a) ||= b | Assign(||=, Paren(a), b) 0..9 | none | end
+parse_expr | script | a?.b ??= c | Assign(??=, OptChain(true, Member(a, .b)), c) 0..10 | NotSimpleAssign 0..4 | end
+parse_expr | strict | eval &&= 1 | Assign(&&=, eval, 1) 0..10 | NotSimpleAssign 0..4 | end
 parse_expr | script | ([a]) = b | Assign(=, Paren(Array[a]), b) 0..9 | TS2406 0..5 | end
 parse_expr | script | ({a = 1}) = b | Assign(=, Paren(Object{a = 1}), b) 0..13 | AssignProperty 2..7, TS2406 0..9 | end
 parse_expr | script | (a, b) = c | Assign(=, Paren(Seq(a, b)), c) 0..10 | TS2406 0..6 | end
@@ -618,16 +623,6 @@ parse_expr; parse_expr | script failing | await | refused: OutOfMemory 5..5; ref
 parse_expr; parse_expr | module failing | - await | refused: OutOfMemory 7..7; refused: ParserFailed 2..7 | none | refused: ParserFailed 2..7
 parse_expr; parse_expr | async failing | await x | refused: OutOfMemory 7..7; refused: ParserFailed 6..7 | none | refused: ParserFailed 6..7
 parse_expr; parse_expr | script failing | await * | refused: OutOfMemory 7..7; refused: ParserFailed 6..7 | TS1109 6..7 | refused: ParserFailed 6..7
-parse_for_head_prefix | script | a | a 0..1 | none | end
-parse_for_head_prefix | script | let of a | let 0..3 | none | 4..6
-parse_for_head_prefix | script | i = 0, j = 1; | Seq(Assign(=, i, 0), Assign(=, j, 1)) 0..12 | none | 12..13
-parse_for_head_prefix | script without_in | a.b in c | Member(a, .b) 0..3 | none | 4..6
-parse_for_head_prefix | script | a in b | Bin(in, a, b) 0..6 | none | end
-parse_for_head_prefix | generator | yield a, yield | Seq(Yield(a), Yield(-)) 0..14 | none | end
-parse_for_head_prefix | script |  | refused: Eof 0..0 | none | end
-parse_for_head_prefix | script | (...a) | refused: SpreadInParenExpr 4..5 | none | end
-parse_for_head_prefix; count_nodes; parse_expr_id; count_nodes | script | a + b c | Bin(+, a, b) 0..5; 0; c 6..7; 1 | none | end
-parse_for_head_prefix; parse_for_head_prefix | script failing | a, | refused: OutOfMemory 2..2; refused: ParserFailed 1..2 | none | refused: ParserFailed 1..2
 parse_args(false) | script | (a) | a 1..2 | none | end
 parse_args(false) | script | () b | none | none | 3..4
 parse_args(false) | script without_in | (a in b, ...c, ) in d | Bin(in, a, b) 1..7, ...c 12..13 | none | 17..19

@@ -17,6 +17,8 @@ mod chains;
 #[cfg(test)]
 mod failing;
 #[cfg(test)]
+mod heads;
+#[cfg(test)]
 mod hooks;
 #[cfg(test)]
 mod noting;
@@ -30,6 +32,8 @@ mod program;
 mod refining;
 #[cfg(test)]
 mod reparsing;
+#[cfg(test)]
+mod replaying;
 #[cfg(test)]
 mod settings;
 #[cfg(test)]

@@ -1,6 +1,7 @@
 // Calls of the parser.
 use crate::arrows::ARROWS;
 use crate::calls::CALLS;
+use crate::heads::HEADS;
 use crate::hooks::TestBodies;
 use crate::patterns::PATTERNS;
 use crate::refining::REFINING;
@@ -81,6 +82,8 @@ fn call_part<I: Tokens>(
     call: &str,
 ) -> Result<(), Fail> {
     let shown = match call {
+        "parse_for_head(false)" => show(out, parser.parse_for_head(false)),
+        "parse_for_head(true)" => show(out, parser.parse_for_head(true)),
         "parse_args(false)" => show(out, parser.parse_args(false)),
         "parse_args(true)" => show(out, parser.parse_args(true)),
         "parse_args_or_pats" => show(out, parser.parse_args_or_pats()),
@@ -294,6 +297,11 @@ fn calls_on_patterns(rt: HostRuntime) -> Result<(), Fail> {
 #[test]
 fn calls_on_arrow_functions(rt: HostRuntime) -> Result<(), Fail> {
     hold(rt.alloc(), ARROWS)
+}
+
+#[test]
+fn calls_on_heads_of_for(rt: HostRuntime) -> Result<(), Fail> {
+    hold(rt.alloc(), HEADS)
 }
 
 #[test]

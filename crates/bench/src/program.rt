@@ -9,7 +9,7 @@ use std::{io, str};
 
 /// Arguments, a text, and what is written of it, on standard error after `stderr: `; then the
 /// status, and whether the text was left unread. `failing` input can't be read on behind the text.
-const RUNS: &str = r#"show_expr | expr script | 5 + 4 * 7 | Bin(+, 5, Bin(*, 4, 7))\n | 0
+pub(crate) const RUNS: &str = r#"show_expr | expr script | 5 + 4 * 7 | Bin(+, 5, Bin(*, 4, 7))\n | 0
 show_expr | expr script | 5 + 4 + 7 | Bin(+, Bin(+, 5, 4), 7)\n | 0
 show_expr | expr script | 2 ** 3 ** 4 | Bin(**, 2, Bin(**, 3, 4))\n | 0
 show_expr | expr script | -a ** b | refused: UnaryInExp 3..5\n | 2

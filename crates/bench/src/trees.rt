@@ -3,6 +3,7 @@ use crate::hooks::TestBodies;
 use crate::shown::Shown;
 use std::alloc::{AllocError, Global};
 use swc_ast::expr::{ExprOrSpread, Tpl};
+use swc_ast::for_head::ForHead;
 use swc_ast::function::Param;
 use swc_ast::lit::Lit;
 use swc_ast::pat::{ObjectPatProp, Pat};
@@ -10,7 +11,7 @@ use swc_ast::prop::{ComputedPropName, Prop, PropName, PropOrSpread};
 use swc_ast::spanned::Spanned;
 use swc_bodies::bodies::ExprOf;
 use swc_context::span::Span;
-use swc_ecma_parser::parser::{Parser, PatOf};
+use swc_ecma_parser::parser::{ForHeadOf, Parser, PatOf};
 use swc_input::tokens::Tokens;
 use swc_nodes::node::{ExprId, Node, PatId};
 use swc_nodes::nodes::Nodes;
@@ -137,6 +138,24 @@ impl Shown for PatOf<TestBodies> {
         let mut nodes = Nodes::new(alloc);
         let id = put_pat(&mut nodes, alloc, self)?;
         show_pat_id(out, &nodes, id)
+    }
+}
+
+/// What the head of a `for` begins with, and which of the two it is.
+impl Shown for ForHeadOf<TestBodies> {
+    fn show(self, out: &mut String) -> Result<(), AllocError> {
+        match self {
+            ForHead::Target(pat) => {
+                let begun = out.push_str("Target ");
+                let written = Box::into_inner(pat).show(out);
+                begun.and(written)
+            }
+            ForHead::Expr(expr) => {
+                let begun = out.push_str("Expr ");
+                let written = expr.show(out);
+                begun.and(written)
+            }
+        }
     }
 }
 

@@ -44,7 +44,9 @@ Head = Head Group -> _ within 2
 ///
 /// `Whole` is an expression, where `in` is an operator but in the mode `without-in`. The symbols
 /// `..NoIn` stand for those without it. `# Name` is an operand, which the standard has left of `in`
-/// alone. `ForHead` is an expression in the head of a `for` (14.7.5), and the `of` or `in` behind it.
+/// alone. `ForHead` is what the head of a `for` begins with, where that is no declaration (14.7.4 and 14.7.5), and the
+/// token that is left behind it: an expression before `;`, `)` or the end, or a place that each turn writes to, before
+/// `of` or `in`. There `let` is an identifier, as docs/DIFFERENCES.md says.
 ///
 /// `Pattern` is a binding pattern (14.3.3), or an identifier that is bound, and `Parameters` are formal parameters
 /// (15.1) and the `)` behind them. As docs/DIFFERENCES.md says, a name of an object pattern that stands alone may be
@@ -66,9 +68,9 @@ Head = Head Group -> _ within 2
 /// A call of `async` with which an assignment expression begins has no object with a property `name = value` by itself:
 /// so no list has `=`, braces and operators beside `async`, nor `new`.
 ///
-/// Marks, which are no tokens, look at what follows: behind `@` stands the end, `)`, `]`, `,`, `}` or a line
-/// break that no `*` follows, behind `;` no line break, behind `no-brace` no `{`, behind `no-paren` no `(` on the same
-/// line, and behind `no-paren-of` neither that nor `of`.
+/// Marks, which are no tokens, look at what follows: behind `@` stands the end, `)`, `]`, `,`, `}`, `;` or a line
+/// break that no `*` follows, behind `no-break` no line break, behind `no-brace` no `{`, behind `no-paren` no `(` on
+/// the same line, and behind `no-paren-of` neither that nor `of`.
 ///
 /// A token that begins with `\r` has a line break before it, and is a token apart. Some productions have it, those in
 /// which it may stand in the lists of the tests, and no others: so no list has `\ra` and a `.`, for one.
@@ -80,6 +82,7 @@ const PRODUCTIONS: &str = "\
 Reference = a -> a
 Reference = \ra -> a
 Reference = of -> of
+Reference = \rof -> of
 Reference = async no-paren-of -> async unless for-await
 Reference = async no-paren -> async only for-await
 Reference = get -> get
@@ -226,7 +229,7 @@ Prefixed = delete Written -> Unary(delete, _)
 Prefixed = delete Named -> Unary(delete, _)
 Prefixed = delete Reference -> Unary(delete, _) unless module
 Prefixed = delete Eval -> Unary(delete, _) unless module
-Prefixed = await ; Unary -> Await(_) unless function
+Prefixed = await no-break Unary -> Await(_) unless function
 Prefixed = await Unary -> Await(_) only async
 Unary = Update -> _
 Unary = Prefixed -> _
@@ -378,13 +381,13 @@ ArrowHead = \ra -> [a]
 ArrowHead = Heads -> _
 AsyncHead = async AsyncLone => -> [_]
 AsyncHead = async AsyncLone \r=> -> [_]
-AsyncHead = async ; Heads => -> _
+AsyncHead = async no-break Heads => -> _
 Arrow = ArrowHead => Body -> Arrow(_, _)
 Arrow = AsyncHead AsyncBody -> AsyncArrow(_, _)
 ArrowNoIn = ArrowHead => BodyNoIn -> Arrow(_, _)
 ArrowNoIn = AsyncHead AsyncBodyNoIn -> AsyncArrow(_, _)
 Assign = yield -> Yield(-) only generator
-Assign = yield ; Assign -> Yield(_) only generator
+Assign = yield no-break Assign -> Yield(_) only generator
 Assign = yield * Assign -> YieldStar(_) only generator
 Assign = Short -> _
 Assign = Short ? Assign : Assign -> Cond(_, _, _)
@@ -525,6 +528,9 @@ CoalesceNoIn = CoalesceHeadNoIn ?? BitOrNoIn -> Bin(??, _, _)
 CoalesceHeadNoIn = CoalesceNoIn -> _
 ShortNoIn = OrNoIn -> _
 ShortNoIn = CoalesceNoIn -> _
+AssignNoIn = yield -> Yield(-) only generator
+AssignNoIn = yield no-break AssignNoIn -> Yield(_) only generator
+AssignNoIn = yield * AssignNoIn -> YieldStar(_) only generator
 AssignNoIn = ShortNoIn -> _
 AssignNoIn = ShortNoIn ? Assign : AssignNoIn -> Cond(_, _, _)
 AssignNoIn = Target = AssignNoIn -> Assign(=, _, _)
@@ -545,8 +551,12 @@ AsyncBodyNoIn = Block -> _
 AsyncBodyNoIn = no-brace AssignNoIn~async -> _
 Whole = Expression -> _ unless without-in
 Whole = ExpressionNoIn -> _ only without-in
-ForHead = ExpressionNoIn of -> _
-ForHead = ExpressionNoIn in -> _
+ForHead = ExpressionNoIn -> Expr _
+ForHead = ExpressionNoIn ; -> Expr _
+ForHead = ExpressionNoIn ) -> Expr _
+ForHead = Place of -> Target _
+ForHead = Place \rof -> Target _
+ForHead = Place in -> Target _
 ";
 
 /// The tokens that aren't `Any`.
@@ -555,7 +565,7 @@ const BRACKETS: &str = "( ) [ ] { }";
 /// The marks, and how each is written in a reading.
 const MARKS: [(&str, &str); 5] = [
     ("@", "@"),
-    (";", ";"),
+    ("no-break", "\\"),
     ("no-brace", "'"),
     ("no-paren", "\""),
     ("no-paren-of", "_"),
@@ -565,12 +575,22 @@ const MARKS: [(&str, &str); 5] = [
 const SHARED: &str = "Any Block Head";
 
 /// What each mode has, where that is more than its name.
-const FEATURES: [(&str, &str); 5] = [
+const FEATURES: [(&str, &str); 9] = [
     ("module", "module strict"),
     ("generator", "generator function target"),
     ("async", "async function target"),
     ("for-of", "for-of without-in"),
     ("for-await", "for-await without-in"),
+    ("for-of-strict", "for-of without-in strict"),
+    ("for-of-module", "for-of without-in module strict"),
+    (
+        "for-of-generator",
+        "for-of without-in generator function target",
+    ),
+    (
+        "for-await-async",
+        "for-await without-in async function target",
+    ),
 ];
 
 /// A list, or the front of one, and its tree, in which `_` stands for what isn't there yet. A token
@@ -610,7 +630,7 @@ impl Reading {
     /// The list without marks, and its tree.
     fn line(&self, alloc: Global) -> Result<String, AllocError> {
         let mut tokens = self.tokens.clone()?;
-        for mark in ['@', ';', '\'', '"', '_'] {
+        for mark in ['@', '\\', '\'', '"', '_'] {
             tokens = tokens.replace(alloc, mark, "")?;
         }
         Ok(format!(in alloc; "{tokens}= {}", self.tree)?)
@@ -620,12 +640,12 @@ impl Reading {
 /// Whether an operand ends before this.
 fn ends(behind: &str) -> bool {
     let next = behind.chars().next().unwrap_or(')');
-    matches!(next, ')' | ']' | ',' | '}' | '\r') && !behind.starts_with("\r* ")
+    matches!(next, ')' | ']' | ',' | '}' | ';' | '\r') && !behind.starts_with("\r* ")
 }
 
 /// Whether behind a mark, but for `@`, something stands that may not.
 fn is_barred(tokens: &str) -> bool {
-    for barred in [";\r", "'{", "\"(", "_(", "_of "] {
+    for barred in ["\\\r", "'{", "\"(", "_(", "_of "] {
         if tokens.contains(barred) {
             return true;
         }

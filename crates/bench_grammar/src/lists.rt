@@ -3,10 +3,9 @@
 use crate::grammar::{
     Asked, Derived, Production, add_all_derived, productions, spelled, tokens_derived, wholes,
 };
-use crate::parse::{Found, context_of, found_in};
+use crate::parse::{Found, found_in};
 use std::alloc::{AllocError, Global};
 use std::process::Abort;
-use swc_context::context::Context;
 
 /// Tokens, a mode, and how many of the lists of no token, of one, of two and so on are expressions in it.
 ///
@@ -245,17 +244,38 @@ a + ? : [ ] = | script | 0 1 2 5 13 34 93 262
 a yield [ ] { } = : | generator | 0 2 4 9 23 67 182 524
 ";
 
-/// The same of heads of a `for`, each with the `of` or `in` behind it.
+/// The same of heads of a `for`, each with the token that is left behind it, or none.
 const HEADS: &str = "\
-async of => ( ) a in , | for-of | 0 0 5 0 42 38 398
-async of => ( ) a in , | for-await | 0 0 6 0 48 42 444
-async of in => [ ] = a | for-of | 0 0 5 2 36 52 311
-async of in => [ ] = a | for-await | 0 0 6 2 42 56 350
-async of \ra \r=> => { } | for-of | 0 0 2 1 9 11 37
-async of \ra \r=> => { } | for-await | 0 0 3 1 12 15 46
-a of in . = { } : | for-of | 0 0 4 2 24 14 150 108
-a await of in ( ) => | for-of | 0 0 4 4 22 36 142 336
-async await of => ( ) , | for-await | 0 0 2 2 17 36 173
+of in ; ) async await let => | for-of | 0 4 17 20 40 64 136
+of in ; ) async await let => | for-await | 0 4 18 20 40 64 136
+async of => ( ) a in , | for-of | 0 3 8 24 51 243 642
+async of => ( ) a in , | for-await | 0 3 9 24 51 243 642
+async of in => [ ] = a | for-of | 0 3 6 23 34 195 455
+async of in => [ ] = a | for-await | 0 3 7 23 34 195 455
+async of \ra \r=> => { } ; | for-of | 0 3 6 14 30 64 265
+async of \ra \r=> => { } ; | for-await | 0 3 7 14 30 64 265
+a of in . = { } : | for-of | 0 2 5 14 23 81 122 534
+a of in . = { } : | for-await | 0 2 5 14 23 81 122 534
+a await of in ( ) => | for-of | 0 3 10 17 40 99 258 748
+async await of => ( ) , | for-of | 0 3 7 26 70 260 811
+async await of => ( ) , | for-await | 0 3 8 26 70 260 811
+async await of \rof in ; ( ) | for-of | 0 4 20 16 56 106 332
+async await of \rof in ; ( ) | for-await | 0 4 21 16 56 106 332
+let of in . [ ] ; = | for-of | 0 2 7 15 40 113 314 1023
+let of in . [ ] ; = | for-await | 0 2 7 15 40 113 314 1023
+a of in [ ] ... , = | for-of | 0 2 5 13 26 115 344 1263
+a of in [ ] ... , = | for-await | 0 2 5 13 26 115 344 1263
+a of { } ... : , = | for-of | 0 2 3 11 14 69 132 508
+a of in + ++ ( ) . ; | for-of | 0 2 14 32 122 358 1352
+a ? : of in = ; ) | for-of | 0 2 8 4 8 16 32 80
+a new of . ( ) ; | for-of | 0 2 8 16 50 110 346 870
+eval let await of in ; ( ) [ ] | for-of | 0 4 19 28 99 284
+eval let await of in ; ( ) [ ] | for-of-strict | 0 4 17 28 95 284
+eval let await of in ; ( ) [ ] | for-of-module | 0 2 9 17 46 130
+a yield * of in ; ( ) , | for-of-generator | 0 3 13 30 97 331
+a yield of => ( ) ; | for-of-generator | 0 3 11 20 56 139 380
+async await of => ( ) ; | for-await-async | 0 2 8 16 45 104 294
+a await of in . [ ] ; | for-await-async | 0 2 9 18 57 131 431
 ";
 
 /// The lists of one token more.
@@ -281,10 +301,11 @@ struct Outcome {
 }
 
 impl Outcome {
-    /// Adds what the parser makes of a list.
-    fn add(&mut self, list: String, context: Context, symbol: &str) -> Result<(), AllocError> {
+    /// Adds what the parser makes of a list, where it reads what is asked for.
+    fn add(&mut self, list: String, asked: &Asked) -> Result<(), AllocError> {
         let alloc = *list.allocator();
-        let found = found_in(alloc, list.as_str(), context, symbol).unwrap_or(Found {
+        let (mode, symbol) = (asked.mode.as_str(), asked.symbol.as_str());
+        let found = found_in(alloc, list.as_str(), mode, symbol).unwrap_or(Found {
             tree: None,
             saw_all: true,
         });
@@ -300,13 +321,12 @@ impl Outcome {
 
 /// What the parser makes of the lists, where it reads what is asked for.
 fn parsed(alloc: Global, lists: Vec<String>, asked: &Asked) -> Result<Outcome, AllocError> {
-    let context = context_of(asked.mode.as_str());
     let mut outcome = Outcome {
         lines: Vec::new(alloc),
         fronts: Vec::new(alloc),
     };
     for list in lists {
-        outcome.add(list, context, asked.symbol.as_str())?;
+        outcome.add(list, asked)?;
     }
     outcome.lines.sort()?;
     Ok(outcome)

@@ -1,17 +1,19 @@
 // What the parser reads.
 use std::alloc::{AllocError, Global};
+use swc_ast::for_head::ForHead;
 use swc_ast::function::Param;
+use swc_bodies::bodies::ExprOf;
 use swc_bodies::token_bodies::TokenBodies;
-use swc_context::context::{Context, EsVersion, ExpressionContext, Syntax};
+use swc_context::context::{Context, EsVersion, Syntax};
 use swc_context::error::PResult;
-use swc_ecma_parser::parser::{Parser, PatOf};
+use swc_ecma_parser::parser::{ForHeadOf, Parser, PatOf};
 use swc_input::listed::TokensInput;
 use swc_input::token::TokenAndSpan;
 use swc_nodes::nodes::Nodes;
 use swc_print::print::PrintNodes;
 use swc_tokens::read_tokens;
 use swc_trees::letting_go::let_go_params;
-use swc_trees::putting::put_pat;
+use swc_trees::putting::{put_expr, put_pat};
 
 pub(crate) type ListedParser = Parser<TokensInput, TokenBodies>;
 
@@ -20,16 +22,11 @@ pub(crate) fn context_of(mode: &str) -> Context {
     let in_generator = mode.contains("generator");
     let in_async = mode.contains("async");
     let module = mode.contains("module");
-    let for_loop_init = mode.contains("for-");
     Context {
         module,
         can_be_module: module,
         strict: module || mode.contains("strict"),
-        include_in_expr: !for_loop_init && !mode.contains("without-in"),
-        expr_ctx: ExpressionContext {
-            for_loop_init,
-            for_await_loop_init: mode.contains("for-await"),
-        },
+        include_in_expr: !mode.contains("without-in"),
         in_async,
         in_generator,
         in_function: in_async || in_generator,
@@ -58,27 +55,22 @@ pub(crate) fn parser_over(
 /// What the parser makes of a text.
 #[derive(Drop)]
 pub(crate) struct Found {
-    /// The tree, where all of the text is read, but for the `)` behind parameters, and `of` or `in` behind the head of
-    /// a `for`, with no fault recorded.
+    /// The tree, where all of the text is read, but for the `)` behind parameters, and the token behind the head of a
+    /// `for`, with no fault recorded.
     pub(crate) tree: Option<String>,
     /// The parser asked for each token of the text. Where it didn't, it does the same with each longer text that
     /// begins with this one.
     pub(crate) saw_all: bool,
 }
 
-/// What the parser makes of the text, where it reads what the symbol stands for.
-pub(crate) fn found_in(
-    alloc: Global,
-    text: &str,
-    context: Context,
-    symbol: &str,
-) -> PResult<Found> {
+/// What the parser makes of the text in the mode, where it reads what the symbol stands for.
+pub(crate) fn found_in(alloc: Global, text: &str, mode: &str, symbol: &str) -> PResult<Found> {
     let tokens = read_tokens(alloc, text.as_bytes())?;
-    let mut parser = parser_over(alloc, tokens, context);
+    let mut parser = parser_over(alloc, tokens, context_of(mode));
     let read = match symbol {
         "Pattern" => pattern_tree(&mut parser),
         "Parameters" => parameters_tree(alloc, &mut parser),
-        "ForHead" => head_tree(&mut parser),
+        "ForHead" => head_tree(alloc, &mut parser, text, mode.contains("for-await")),
         _ => whole_tree(&mut parser),
     };
     let tree = read.unwrap_or(None);
@@ -98,14 +90,67 @@ fn whole_tree(parser: &mut ListedParser) -> PResult<Option<String>> {
     Ok(if is_clean { Some(tree) } else { None })
 }
 
-/// The same of what stands in the head of a `for`, behind which `of` or `in` is left.
-fn head_tree(parser: &mut ListedParser) -> PResult<Option<String>> {
-    let id = parser.parse_expr_id()?;
-    let tree = parser.nodes().print_expr(id)?;
-    let word = parser.parse_ident_name()?;
-    let ends_head = matches!(word.sym.as_str(), "of" | "in");
-    let is_clean = ends_head && parser.at_end()? && parser.take_errors().is_empty();
-    Ok(if is_clean { Some(tree) } else { None })
+/// The same of what the head of a `for` begins with, and which of the two it is, where that is left with which its kind
+/// may end.
+fn head_tree(
+    alloc: Global,
+    parser: &mut ListedParser,
+    text: &str,
+    is_await: bool,
+) -> PResult<Option<String>> {
+    let head = parser.parse_for_head(is_await)?;
+    let is_clean = parser.take_errors().is_empty();
+    match head_text(alloc, head) {
+        Ok(tree) if is_clean && ends_head(tree.as_str(), left_of(parser, text)) => Ok(Some(tree)),
+        _ => Ok(None),
+    }
+}
+
+/// Whether this may be all that is left of a text behind the head of a `for`.
+fn ends_head(tree: &str, left: &str) -> bool {
+    if tree.starts_with("Target ") {
+        matches!(left, "of" | "in")
+    } else {
+        matches!(left, "" | ";" | ")")
+    }
+}
+
+/// What is left of a text, without blanks. The parser refuses a private name where the first token that is left begins,
+/// since no text has a `#` there; at the end where the last one ends.
+fn left_of<'a>(parser: &mut ListedParser, text: &'a str) -> &'a str {
+    match parser.parse_private_name() {
+        Ok(_) => text,
+        Err(fault) => text.get(fault.span().lo.0 as usize..).unwrap_or("").trim(),
+    }
+}
+
+/// The tree of what the head of a `for` begins with, and which of the two it is.
+fn head_text(alloc: Global, head: ForHeadOf<TokenBodies>) -> Result<String, AllocError> {
+    let mut out = String::new(alloc);
+    let (begun, ended) = match head {
+        ForHead::Target(pat) => {
+            let begun = out.push_str("Target ");
+            (begun, write_pattern(&mut out, Box::into_inner(pat)))
+        }
+        ForHead::Expr(expr) => {
+            let begun = out.push_str("Expr ");
+            (begun, write_expr(&mut out, expr))
+        }
+    };
+    begun?;
+    ended?;
+    Ok(out)
+}
+
+/// Writes the tree of an expression.
+fn write_expr(out: &mut String, expr: Box<ExprOf<TokenBodies>>) -> Result<(), AllocError> {
+    let alloc = *out.allocator();
+    let mut nodes = Nodes::new(alloc);
+    let id = put_expr(&mut nodes, alloc, expr)?;
+    match nodes.print_expr(id) {
+        Ok(tree) => out.push_str(tree.as_str()),
+        Err(_) => Err(AllocError),
+    }
 }
 
 /// The same of a pattern.

@@ -9,6 +9,7 @@
 #![tactic(auto)]
 
 pub mod expr;
+pub mod for_head;
 pub mod function;
 pub mod ident;
 pub mod lit;

@@ -1,5 +1,7 @@
 pub mod Body
 pub mod Laws
 pub mod Readings
+pub mod Replaying
+pub mod Slashes
 pub mod Steps
 pub mod Taking

@@ -3,6 +3,7 @@ ghost use Rattle.std.specs.Prelude.{◌≡◌, Bool, true};
 ghost use Rattle.swc_input.specs.Buffer.{current};
 ghost use Rattle.swc_input.specs.Kinds.{at_token};
 ghost use Rattle.swc_bodies.specs.Readings.{Hook, LawfulHook, Hooked, Faithful, is_class, is_brace, at_function};
+ghost use Rattle.swc_bodies.specs.Slashes.{ReplayHook};
 
 use swc_ast::expr::Expr;
 use swc_ast::spanned::Spanned;
@@ -57,4 +58,20 @@ pub trait Bodies<I: Tokens>: BodyForms + Drop {
         ensures faithful { is_faithful ≡ true → Faithful I.model Self.forms.block input.old result input.new };
 
     ghost lawful: { LawfulHook Self.Fun.place Self.Class.place Self.Block.place Self.forms };
+}
+
+/// A hook whose bodies are read again alike from tokens that were kept.
+///
+/// A source may give `/` or `/=` first and then, once it is told that a regular expression begins there (ECMA-262,
+/// 12.9.5), the whole of it, from the same place on. `Capturing` and `TokenBodies` let such a slash go. The law
+/// (`replays`): what the hook reads of tokens with such slashes it reads, with the same value, of the same tokens
+/// without any of them; and what is left behind it is what was left, without them.
+///
+/// So a value may hold neither these slashes nor how many tokens there were. A hook meets the law that reads no body, as
+/// `NoBodies`, or that keeps tokens by the rule of `Capturing`, as `TokenBodies`; one that parses bodies does if it
+/// never takes such a slash for a division (13.7) or for `/=` (13.15).
+pub trait ReplayBodies: BodyForms {
+    ghost lawful: { LawfulHook Self.Fun.place Self.Class.place Self.Block.place Self.forms };
+
+    ghost replays: { ReplayHook Self.forms };
 }

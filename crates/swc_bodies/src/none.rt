@@ -5,7 +5,7 @@ ghost use Rattle.swc_input.specs.Kinds.{at_token};
 ghost use Rattle.swc_bodies.specs.Readings.{Hooked, Faithful, no_reading, at_function, is_class, is_brace};
 ghost use Rattle.swc_bodies.specs.Steps.{Declines};
 
-use crate::bodies::{Bodies, BodyForms};
+use crate::bodies::{Bodies, BodyForms, ReplayBodies};
 use swc_context::error::{Error, PResult, SyntaxError, Wanted};
 use swc_context::span::Span;
 use swc_input::buffer::Buffer;
@@ -72,4 +72,13 @@ impl<I: Tokens> Bodies<I> for NoBodies {
     }
 
     ghost lawful = { no_forms_read (λ s. s) (λ s. s) (λ s. s) };
+}
+
+impl ReplayBodies for NoBodies {
+    ghost use Rattle.swc_bodies.specs.Readings.{no_forms_read};
+    ghost use Rattle.swc_bodies.specs.Replaying.{no_forms_replay};
+
+    ghost lawful = { no_forms_read (λ s. s) (λ s. s) (λ s. s) };
+
+    ghost replays = { no_forms_replay };
 }

@@ -10,7 +10,7 @@ ghost use Rattle.swc_bodies.specs.Readings.{at_function, either_one, is_function
 ghost use Rattle.swc_bodies.specs.Taking.{is_full, at_current, begun, taken, function_first, class_first, block_first};
 ghost use Rattle.swc_bodies.specs.Steps.{KeepsOne, GoesOn, Stops, NoBody};
 
-use crate::bodies::{Bodies, BodyForms};
+use crate::bodies::{Bodies, BodyForms, ReplayBodies};
 use crate::place::{Place, sign_at};
 use crate::token_body::TokenBody;
 use std::alloc::{AllocError, Global};
@@ -188,4 +188,13 @@ impl<I: Tokens> Bodies<I> for TokenBodies {
     }
 
     ghost lawful = { token_forms_read };
+}
+
+impl ReplayBodies for TokenBodies {
+    ghost use Rattle.swc_bodies.specs.Laws.{token_forms_read};
+    ghost use Rattle.swc_bodies.specs.Replaying.{token_forms_replay};
+
+    ghost lawful = { token_forms_read };
+
+    ghost replays = { token_forms_replay };
 }

@@ -51,7 +51,8 @@ pub fn reparse_expr_as_pat<I: Tokens, B: Bodies<I>>(
     }
 }
 
-/// Makes parameters of the items in parentheses, with a comma behind the last or not, and records what is wrong of them.
+/// Makes parameters of the items in parentheses, with a comma behind the last or not, and records what is wrong of
+/// them.
 pub fn parse_paren_items_as_params<I: Tokens, B: Bodies<I>>(
     p: &mut Productions<I, B>,
     items: &Vec<ExprOrSpread<ExprId>>,

@@ -154,7 +154,7 @@ module _ {F C K : Type 0} (hook : Hook F C K) where
 
 module _ {S A B : Type 0} {model : Model S} {sure : Bool} {f g : Reader A} {q : Reader B} {t : B} {u : A} {b c d : Buffer S} where
   -- what was read, and what is read behind it, where that is known to be what q read
-  heard_behind : (k : Scope → B × List TokenAndSpan → Out A) → ((x : Scope) (ts : List TokenAndSpan)
+  pub heard_behind : (k : Scope → B × List TokenAndSpan → Out A) → ((x : Scope) (ts : List TokenAndSpan)
       → f x ts ≡ (q x ts >>= k x)) → Heard model sure q t b c → ((x : Scope) (ts us : List TokenAndSpan)
       → q x ts ≡ Some (t, us) → (y : Scope) (ys : List TokenAndSpan) → k y (t, ys) ≡ g y ys)
       → On model sure g (give u) c d → Heard model sure f u b d

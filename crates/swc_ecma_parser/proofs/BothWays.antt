@@ -79,9 +79,11 @@ first-is (a ∷ ms) h = (a, ms, refl, h)
 
 module _ {H F C K : Type 0} {fg : Ghosts F} {cg : Ghosts C} {kg : Ghosts K} where
   -- what formal parameters are derived from, as they come to be answered
-  formal-answered : (q : Parser TokensInput H F C K fg cg kg) (s : Result (Vec (Param (Pat F C K)) Global) Error) (v : Vec (Pat F C K) Global) (b : Parser TokensInput H F C K fg cg kg)
+  formal-answered : (q : Parser TokensInput H F C K fg cg kg) (s : Result (Vec (Param (Pat F C K)) Global) Error)
+      (v : Vec (Pat F C K) Global) (b : Parser TokensInput H F C K fg cg kg)
       (t : Tree F C K) (ys : List TokenAndSpan) → faults b ≡ [] → erase_all (patterns fg cg kg v) ≡ erase_all (items_of t)
-      → MatchResult s (λ w. ClosedBy listed_model (param_patterns fg cg kg w) t (buffer_of q) ys × (faults q ≡ faults b)) (λ e. e.kind ≡ OutOfMemory)
+      → MatchResult s (λ w. ClosedBy listed_model (param_patterns fg cg kg w) t (buffer_of q) ys × (faults q ≡ faults b))
+      (λ e. e.kind ≡ OutOfMemory)
       → MatchResult s (λ w. Same fg cg kg v w × StandsBefore q ys × (faults q ≡ [])) (λ e. e.kind ≡ OutOfMemory)
   formal-answered q (Ok w) v b t ys clean same (closed, quiet) = (
     same ∙ ap (λ u. erase_all (items_of u)) closed.list,
@@ -91,10 +93,12 @@ module _ {H F C K : Type 0} {fg : Ghosts F} {cg : Ghosts C} {kg : Ghosts K} wher
   formal-answered q (Err e) v b t ys clean same h = h
 
   -- and so of an arrow's parameters
-  arrow-answered : (p : Parser TokensInput H F C K fg cg kg) (r : Result (Vec (Pat F C K) Global) Error) (w : Vec (Param (Pat F C K)) Global) (b : Parser TokensInput H F C K fg cg kg)
+  arrow-answered : (p : Parser TokensInput H F C K fg cg kg) (r : Result (Vec (Pat F C K) Global) Error)
+      (w : Vec (Param (Pat F C K)) Global) (b : Parser TokensInput H F C K fg cg kg)
       (hs : Tree F C K) (ys : List TokenAndSpan) → faults b ≡ []
       → erase_all (all_unmarked (items_of hs)) ≡ erase_all (param_patterns fg cg kg w)
-      → MatchResult r (λ v. (heads_in_boxes.tree p.productions.nodes v ≡ only_items hs) × Left p ys × (faults p ≡ faults b)) (λ e. e.kind ≡ OutOfMemory)
+      → MatchResult r (λ v. (heads_in_boxes.tree p.productions.nodes v ≡ only_items hs) × Left p ys × (faults p ≡ faults b))
+      (λ e. e.kind ≡ OutOfMemory)
       → MatchResult r (λ v. Same fg cg kg v w × Left p ys × (faults p ≡ [])) (λ e. e.kind ≡ OutOfMemory)
   arrow-answered p (Ok v) w b hs ys clean same (e, left, quiet) =
       (ap (λ t. erase_all (items_of t)) e ∙ ap erase_all (kept-items hs) ∙ same, left, quiet ∙ clean)
@@ -102,16 +106,18 @@ module _ {H F C K : Type 0} {fg : Ghosts F} {cg : Ghosts C} {kg : Ghosts K} wher
 
 module _ {H F C K : Type 0} {fg : Ghosts F} {cg : Ghosts C} {kg : Ghosts K} (sure : Bool) (hook : Hook F C K) (c : Context)
     (x : Syntax) (ts : List TokenAndSpan) where
-  abbrev Heading : Result (Vec (Pat F C K) Global) Error → Parser TokensInput H F C K fg cg kg → Parser TokensInput H F C K fg cg kg → Type 0
+  abbrev Heading : Result (Vec (Pat F C K) Global) Error → Parser TokensInput H F C K fg cg kg
+      → Parser TokensInput H F C K fg cg kg → Type 0
   Heading r a b = Promised listed_model sure hook heads_in_boxes Heads a r b
 
-  abbrev Forming : Result (Vec (Param (Pat F C K)) Global) Error → Parser TokensInput H F C K fg cg kg → Parser TokensInput H F C K fg cg kg → Type 0
+  abbrev Forming : Result (Vec (Param (Pat F C K)) Global) Error → Parser TokensInput H F C K fg cg kg
+      → Parser TokensInput H F C K fg cg kg → Type 0
   Forming r a b = PromisedParams listed_model sure hook a r b
 
   -- ---- what was read as an arrow's parameters
 
-  heads-read : {p : Parser TokensInput H F C K fg cg kg} (v : Vec (Pat F C K) Global) → Fresh (Heading (Ok v)) c x ts p → IsHeeded c x → faults p ≡ []
-      → (ys : List TokenAndSpan) → Left p ys
+  heads-read : {p : Parser TokensInput H F C K fg cg kg} (v : Vec (Pat F C K) Global) → Fresh (Heading (Ok v)) c x ts p
+      → IsHeeded c x → faults p ≡ [] → (ys : List TokenAndSpan) → Left p ys
       → ReadsAs only_items hook Heads (scope_of (view c) x) ts ys (heads_in_boxes.tree p.productions.nodes v)
   heads-read {p} v f heeded none ys left =
       let d = f.call.sound f.runs (f.loud heeded) (none ∙ sym f.clean) in
@@ -119,10 +125,12 @@ module _ {H F C K : Type 0} {fg : Ghosts F} {cg : Ghosts C} {kg : Ghosts K} (sur
       let same : k.0 ≡ ys = known-once listed_model (buffer_of p) k.0 ys k.1 left in
       let whole : ts ≡ d.consumed ++ ys = k.2 ∙ ap (λ l. d.consumed ++ l) same in
       let got = d.front ys (Known-Future listed_laws (buffer_of p) ys left) in
-      let D : Scope → List TokenAndSpan → Type 0 = λ s l. ReadsAs only_items hook Heads s l ys (heads_in_boxes.tree p.productions.nodes v) in
+      let D : Scope → List TokenAndSpan → Type 0 =
+      λ s l. ReadsAs only_items hook Heads s l ys (heads_in_boxes.tree p.productions.nodes v) in
       subst (λ s. D s ts) f.stands (subst (λ l. D (scope listed_model (buffer_of f.start)) l) (sym whole) got)
 
-  pub cover-law : {p q : Parser TokensInput H F C K fg cg kg} (r : Result (Vec (Pat F C K) Global) Error) (s : Result (Vec (Param (Pat F C K)) Global) Error)
+  pub cover-law : {p q : Parser TokensInput H F C K fg cg kg} (r : Result (Vec (Pat F C K) Global) Error)
+      (s : Result (Vec (Param (Pat F C K)) Global) Error)
       → Fresh (Heading r) c x ts p → Fresh (Forming s) c x (rest ts) q → CoverLaw sure c x ts r p s q
   cover-law (Err e) s f g = λ heeded y strict sp. tt
   cover-law {p} {q} (Ok v) s f g = λ heeded y strict sp. λ none kept ys left.
@@ -145,8 +153,8 @@ module _ {H F C K : Type 0} {fg : Ghosts F} {cg : Ghosts C} {kg : Ghosts K} (sur
   -- ---- and the other way
 
   -- what was read as formal parameters, up to a `)`
-  params-read : {q : Parser TokensInput H F C K fg cg kg} (w : Vec (Param (Pat F C K)) Global) → Fresh (Forming (Ok w)) c x (rest ts) q → IsHeeded c x → faults q ≡ []
-      → (ys : List TokenAndSpan) (before : StandsBefore q ys)
+  params-read : {q : Parser TokensInput H F C K fg cg kg} (w : Vec (Param (Pat F C K)) Global)
+      → Fresh (Forming (Ok w)) c x (rest ts) q → IsHeeded c x → faults q ≡ [] → (ys : List TokenAndSpan) (before : StandsBefore q ys)
       → ReadsUnmarked hook Params (scope_of (view c) x) (rest ts) ys (listed None before.close.span (param_patterns fg cg kg w))
   params-read {q} w g heeded none ys before =
       let d = g.call.sound g.runs (g.loud heeded) (none ∙ sym g.clean) in
@@ -158,7 +166,8 @@ module _ {H F C K : Type 0} {fg : Ghosts F} {cg : Ghosts C} {kg : Ghosts K} (sur
       λ z l. ReadsUnmarked hook Params z l ys (listed None before.close.span (param_patterns fg cg kg w)) in
       subst (λ z. D z (rest ts)) g.stands (subst (λ l. D (scope listed_model (buffer_of g.start)) l) (sym whole) got)
 
-  pub converse-law : {p q : Parser TokensInput H F C K fg cg kg} (r : Result (Vec (Pat F C K) Global) Error) (s : Result (Vec (Param (Pat F C K)) Global) Error)
+  pub converse-law : {p q : Parser TokensInput H F C K fg cg kg} (r : Result (Vec (Pat F C K) Global) Error)
+      (s : Result (Vec (Param (Pat F C K)) Global) Error)
       → Fresh (Heading r) c x ts p → Fresh (Forming s) c x (rest ts) q → ConverseLaw sure c x ts r p s q
   converse-law r (Err e) f g = λ heeded y paren. tt
   converse-law {p} {q} r (Ok w) f g = λ heeded y paren. λ none free ys before.
@@ -169,7 +178,8 @@ module _ {H F C K : Type 0} {fg : Ghosts F} {cg : Ghosts C} {kg : Ghosts K} (sur
       sym (all-same-binds is_free_name (items_of d.marked)) ∙ ap (all_bind_names is_free_name) items ∙ free in
       let here = subst (λ l. Reads hook Params (scope_of (view c) x) l ys d.marked) (ap rest at) d.read in
       let (hs, read, same) = converse-heads hook (scope_of (view c) x) a ms ys d.marked h here names in
-      let whole : Reads hook Heads (scope_of (view c) x) ts ys hs = subst (λ l. Reads hook Heads (scope_of (view c) x) l ys hs) (sym at) read in
+      let whole : Reads hook Heads (scope_of (view c) x) ts ys hs =
+      subst (λ l. Reads hook Heads (scope_of (view c) x) l ys hs) (sym at) read in
       let kept : ReadsAs only_items hook Heads (scope listed_model (buffer_of f.start)) ts ys (only_items hs) = record {
         marked = hs;
         read = subst (λ z. Reads hook Heads z ts ys hs) (sym f.stands) whole;
@@ -181,7 +191,8 @@ module _ {H F C K : Type 0} {fg : Ghosts F} {cg : Ghosts C} {kg : Ghosts K} (sur
 -- ---- new parsers
 
 module _ {H F C K : Type 0} {fg : Ghosts F} {cg : Ghosts C} {kg : Ghosts K} where
-  pub fresh : {P : Parser TokensInput H F C K fg cg kg → Parser TokensInput H F C K fg cg kg → Type 0} {q : Parser TokensInput H F C K fg cg kg}
+  pub fresh : {P : Parser TokensInput H F C K fg cg kg → Parser TokensInput H F C K fg cg kg → Type 0}
+      {q : Parser TokensInput H F C K fg cg kg}
       (input : TokensInput) (ts : List TokenAndSpan) (c : Context) (x : Syntax) (v : EsVersion) (p : Parser TokensInput H F C K fg cg kg)
       → listed_state input ≡ new_state ts c x v → buffer_of p ≡ buffer.fresh input (last_position (buffer_of p)) → has_failed p ≡ false
       → P p q → Fresh P c x (plain_list ts) q

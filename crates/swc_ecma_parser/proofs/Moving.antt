@@ -92,16 +92,22 @@ module _ {S F C K X : Type 0} {fg : Ghosts F} {cg : Ghosts C} {kg : Ghosts K} (m
       subst (λ v. Unheard model sure f b v c) (sym same) (unheard_memory (record { spends = spent h.on.leads; kind = refl }))
   kept-parses ms ns k b c (Err x) r h same e = subst (λ v. Parses model sure (by ns) f b v c) (sym same) h
 
-module _ {S F C K X T : Type 0} {fg : Ghosts F} {cg : Ghosts C} {kg : Ghosts K} (model : Model S) (sure : Bool) (f : Reader (Tree F C K)) (ns : Nodes F C K fg cg kg) (by : Nodes F C K fg cg kg → X → Tree F C K) (bare_by : X → Tree F C K) (view : T → Tree F C K) where
+module _ {S A X T : Type 0} (model : Model S) (sure : Bool) (f : Reader A) (by : X → A) (bare_by : X → A) (view : T → A) where
   -- what is answered in boxes stands for what the numbers stood for, as `strip` leaves it, or memory was wanted
+  pub moved-as : (strip : A → A) (b c : Buffer S) (answer : Result X Error) (r : Result T Error) → Parses model sure by f b answer c → ((x : X) → strip (by x) ≡ bare_by x) →
+      MatchResult answer (λ x. MatchResult r (λ t. view t ≡ bare_by x) (λ e. e ≡ no_memory (last_position c))) (λ e. r ≡ Err e) → Parses model sure view (stripped strip f) b r c
+  moved-as strip b c (Ok x) (Ok t) h same m =
+      subst (λ v. Heard model sure (λ k ts. f k ts >>= (λ p. Some (strip p.0, p.1))) v b c) (same x ∙ sym m) (heard_call (λ k p. Some (strip p.0, p.1)) (λ k ts. refl) (λ k ts. refl) h)
+  moved-as strip b c (Ok x) (Err e) h same m =
+      subst (λ v. Unheard model sure (λ k ts. f k ts >>= (λ p. Some (strip p.0, p.1))) b v c) (sym m) (unheard_memory (record { spends = spent h.on.leads; kind = refl }))
+  moved-as strip b c (Err e) r h same m =
+      subst (λ v. Parses model sure view (λ k ts. f k ts >>= (λ p. Some (strip p.0, p.1))) b v c) (sym m) (unheard_call (λ k p. Some (strip p.0, p.1)) (λ k ts. refl) h)
+
+module _ {S F C K X T : Type 0} {fg : Ghosts F} {cg : Ghosts C} {kg : Ghosts K} (model : Model S) (sure : Bool) (f : Reader (Tree F C K)) (ns : Nodes F C K fg cg kg) (by : Nodes F C K fg cg kg → X → Tree F C K) (bare_by : X → Tree F C K) (view : T → Tree F C K) where
+  -- of trees among the nodes
   pub moved-by : (strip : Tree F C K → Tree F C K) (b c : Buffer S) (answer : Result X Error) (r : Result T Error) → Parses model sure (by ns) f b answer c → ((x : X) → strip (by ns x) ≡ bare_by x) →
       MatchResult answer (λ x. MatchResult r (λ t. view t ≡ bare_by x) (λ e. e ≡ no_memory (last_position c))) (λ e. r ≡ Err e) → Parses model sure view (stripped strip f) b r c
-  moved-by strip b c (Ok x) (Ok t) h same m =
-      subst (λ v. Heard model sure (λ k ts. f k ts >>= (λ p. Some (strip p.0, p.1))) v b c) (same x ∙ sym m) (heard_call (λ k p. Some (strip p.0, p.1)) (λ k ts. refl) (λ k ts. refl) h)
-  moved-by strip b c (Ok x) (Err e) h same m =
-      subst (λ v. Unheard model sure (λ k ts. f k ts >>= (λ p. Some (strip p.0, p.1))) b v c) (sym m) (unheard_memory (record { spends = spent h.on.leads; kind = refl }))
-  moved-by strip b c (Err e) r h same m =
-      subst (λ v. Parses model sure view (λ k ts. f k ts >>= (λ p. Some (strip p.0, p.1))) b v c) (sym m) (unheard_call (λ k p. Some (strip p.0, p.1)) (λ k ts. refl) h)
+  moved-by = moved-as model sure f (by ns) bare_by view
 
   -- without the marks of commas
   pub moved-parses : (b c : Buffer S) (answer : Result X Error) (r : Result T Error) → Parses model sure (by ns) f b answer c → ((x : X) → unmarked (by ns x) ≡ bare_by x) →

@@ -58,13 +58,13 @@ parts p q h = let e : p ≡ q = cc in (ap (λ v. v.0) e, ap (λ v. v.1) e)
 abbrev pub bare : {F C K : Type 0} → Reader (Tree F C K) → Reader (Tree F C K)
 bare f c ts = f c ts >>= (λ p. Some (unmarked p.0, p.1))
 
--- a reader of trees, as `strip` leaves them
-abbrev pub stripped : {F C K : Type 0} → (Tree F C K → Tree F C K) → Reader (Tree F C K) → Reader (Tree F C K)
+-- a reader, as `strip` leaves what it reads
+abbrev pub stripped : {A : Type 0} → (A → A) → Reader A → Reader A
 stripped strip f c ts = f c ts >>= (λ p. Some (strip p.0, p.1))
 
-pub stripped_from : {F C K : Type 0} (strip : Tree F C K → Tree F C K) (o : Out (Tree F C K)) (t : Tree F C K) (ys : List TokenAndSpan)
+pub stripped_from : {A : Type 0} (strip : A → A) (o : Out A) (t : A) (ys : List TokenAndSpan)
     → (o >>= (λ p. Some (strip p.0, p.1))) ≡ Some (t, ys)
-    → (m : Tree F C K) × (o ≡ Some (m, ys)) × (strip m ≡ t)
+    → (m : A) × (o ≡ Some (m, ys)) × (strip m ≡ t)
 stripped_from strip None t ys h = absurd cc
 stripped_from strip (Some p) t ys h = let q = parts (strip p.0, p.1) (t, ys) h in (p.0, ap (λ v. Some (p.0, v)) q.1, q.0)
 
@@ -73,7 +73,7 @@ module _ {F C K : Type 0} {fun_at : F → Span} {class_at : C → Span} {block_a
   pub is_sound : (s : Symbol) → IsSound (grammar.Reads hook s) (run hook (at s))
   is_sound s = record { sound = λ c ts ys t h. clean.sound hook laws s c ts (t, ys) h; cut = λ c own ys t d. cut-append own ys d }
 
-  is_sound_bare : (s : Symbol) → IsSound (grammar.ReadsUnmarked hook s) (bare (run hook (at s)))
+  pub is_sound_bare : (s : Symbol) → IsSound (grammar.ReadsUnmarked hook s) (bare (run hook (at s)))
   is_sound_bare s = record {
     sound = λ c ts ys t h. let (m, e, same) = stripped_from unmarked (run hook (at s) c ts) t ys h in
         record { marked = m; read = clean.sound hook laws s c ts (m, ys) e; same = same };
@@ -92,7 +92,7 @@ module _ {F C K : Type 0} (hook : Hook F C K) where
       → IsComplete (grammar.Reads hook s) (EndsAt s) (run hook (at s))
   is_complete s stop = record { complete = λ c ts ys t d e. clean_all.complete hook d (stop c ys e) }
 
-  is_complete_bare : (s : Symbol) → ((c : Scope) (ys : List TokenAndSpan) → EndsAt s ys → Stop s c ys)
+  pub is_complete_bare : (s : Symbol) → ((c : Scope) (ys : List TokenAndSpan) → EndsAt s ys → Stop s c ys)
       → IsComplete (grammar.ReadsUnmarked hook s) (EndsAt s) (bare (run hook (at s)))
   is_complete_bare s stop = record {
     complete = λ c ts ys t d e.

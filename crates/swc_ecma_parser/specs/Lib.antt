@@ -1,7 +1,9 @@
 pub mod BothWays
 pub mod Calls
+pub mod ForHeads
 pub mod Heads
 pub mod Promise
 pub mod Refinement
+pub mod Replaying
 pub mod Verification
 pub mod WholeList

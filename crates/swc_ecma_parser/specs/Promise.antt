@@ -58,9 +58,9 @@ Derivation A = Scope → List TokenAndSpan → List TokenAndSpan → A → Type 
 abbrev pub Anywhere : List TokenAndSpan → Type 0
 Anywhere ys = Unit {0}
 
--- Where a reading of the symbol may stop, so that `Promised` has it answered: of a key, of arguments, of a template, of a pattern, of a rest
--- and of an arrow function's parameters anywhere, of a property before `,` and `}`, of the others at the end and before what can't go on with
--- them. Of the other symbols nothing is promised by it.
+-- Where a reading of the symbol may stop, so that `Promised` has it answered: of a key, of arguments, of a template, of a pattern, of a
+-- rest and of an arrow function's parameters anywhere, of a property before `,` and `}`, of the others at the end and before what can't
+-- go on with them. Of the other symbols nothing is promised by it.
 abbrev pub EndsAt : Symbol → List TokenAndSpan → Type 0
 EndsAt Key ys = Unit {0}
 EndsAt (Arguments i) ys = Unit {0}
@@ -124,8 +124,8 @@ module _ {S T A : Type 0} (model : Model S) (derives : Derivation A) (view : T �
   -- Over a listed source: what is derived from the tokens to come, up to where a reading may stop, is answered, with no fault
   -- recorded, and what follows it is left; or the answer is want of memory.
   abbrev pub Complete : (List TokenAndSpan → Type 0) → Buffer S → Result T Error → Buffer S → Type 0
-  Complete stops b r c = Loud model b → (ts ys : List TokenAndSpan) (t : A) → Known model b ts → derives (scope model b) ts ys t → stops ys →
-      MatchResult r (λ x. (view x ≡ t) × Known model c ys × Unmarred model b c) (λ e. e.kind ≡ OutOfMemory)
+  Complete stops b r c = Loud model b → (ts ys : List TokenAndSpan) (t : A) → Known model b ts → derives (scope model b) ts ys t
+      → stops ys → MatchResult r (λ x. (view x ≡ t) × Known model c ys × Unmarred model b c) (λ e. e.kind ≡ OutOfMemory)
 
   -- Over a listed source: where all tokens to come were read with no fault recorded, nothing is derived from them but the answer.
   abbrev pub OneTree : Buffer S → Result T Error → Buffer S → Type 0
@@ -157,7 +157,8 @@ module _ {S F C K T : Type 0} (model : Model S) (view : T → Tree F C K) where
       → IfOk r (λ x. Unmarred model b c → (prop_binds_names any (view x) || binds_names any (view x)) ≡ true)
 
 -- a property of an object pattern, or a rest among these
-pub data PropOrRest {F C K : Type 0} (reads : Symbol → Derivation (Tree F C K)) (c : Scope) (xs ys : List TokenAndSpan) (t : Tree F C K) : Type 0 where
+pub data PropOrRest {F C K : Type 0} (reads : Symbol → Derivation (Tree F C K)) (c : Scope) (xs ys : List TokenAndSpan)
+    (t : Tree F C K) : Type 0 where
   as-prop : reads PatProp c xs ys t → PropOrRest reads c xs ys t
   as-rest : reads Rest c xs ys t → PropOrRest reads c xs ys t
 
@@ -181,7 +182,8 @@ in_boxes {fg = fg} {cg = cg} {kg = kg} = record {
 }
 
 -- a key in boxes, and a property of an object literal
-abbrev pub key_in_boxes : {F C K : Type 0} {fg : Ghosts F} {cg : Ghosts C} {kg : Ghosts K} → Answer (PropName (Box (ExprOf F C K) Global)) F C K fg cg kg
+abbrev pub key_in_boxes : {F C K : Type 0} {fg : Ghosts F} {cg : Ghosts C} {kg : Ghosts K}
+    → Answer (PropName (Box (ExprOf F C K) Global)) F C K fg cg kg
 key_in_boxes {fg = fg} {cg = cg} {kg = kg} = record {
   tree = λ ns k. prop_name_tree (tree_by fg.place cg.place kg.place) k;
   derives = λ hook s. ReadsUnmarked hook s;
@@ -209,7 +211,8 @@ pat_in_boxes {F} {C} {K} {fg = fg} {cg = cg} {kg = kg} = record {
   leaves = λ ns r ms. SameNodes ns ms;
 }
 
-abbrev pub pat_prop_in_boxes : {F C K : Type 0} {fg : Ghosts F} {cg : Ghosts C} {kg : Ghosts K} → Answer (ObjectPatProp F C K) F C K fg cg kg
+abbrev pub pat_prop_in_boxes : {F C K : Type 0} {fg : Ghosts F} {cg : Ghosts C} {kg : Ghosts K}
+    → Answer (ObjectPatProp F C K) F C K fg cg kg
 pat_prop_in_boxes {F} {C} {K} {fg = fg} {cg = cg} {kg = kg} = record {
   tree = λ ns x. pat_prop_tree F C K fg.place cg.place kg.place x;
   derives = λ hook s. PropOrRest (ReadsUnmarked hook);
@@ -230,17 +233,20 @@ abbrev pub keep_items : {F C K : Type 0} → Tree F C K → Tree F C K
 keep_items t = node args no_span (items_of t)
 
 -- what is derived, as `strip` leaves it
-pub record ReadsAs {F C K : Type 0} (strip : Tree F C K → Tree F C K) (hook : Hook F C K) (s : Symbol) (c : Scope) (xs ys : List TokenAndSpan) (t : Tree F C K) : Type 0 where
+pub record ReadsAs {F C K : Type 0} (strip : Tree F C K → Tree F C K) (hook : Hook F C K) (s : Symbol) (c : Scope)
+    (xs ys : List TokenAndSpan) (t : Tree F C K) : Type 0 where
   pub marked : Tree F C K
   pub read : Reads hook s c xs ys marked
   pub same : strip marked ≡ t
 
 -- a list of items in boxes, and a comma, as the tree of both
-abbrev pub list_tree : {F C K : Type 0} → (F → Span) → (C → Span) → (K → Span) → Vec (ExprOrSpread (Box (ExprOf F C K) Global)) Global × Option Span → Tree F C K
+abbrev pub list_tree : {F C K : Type 0} → (F → Span) → (C → Span) → (K → Span)
+    → Vec (ExprOrSpread (Box (ExprOf F C K) Global)) Global × Option Span → Tree F C K
 list_tree fun class block p = node (args_with p.1) no_span (items_of (args_tree (tree_by fun class block) p.0))
 
 -- arguments in boxes, and a template
-abbrev pub args_in_boxes : {F C K : Type 0} {fg : Ghosts F} {cg : Ghosts C} {kg : Ghosts K} → Answer (Vec (ExprOrSpread (Box (ExprOf F C K) Global)) Global) F C K fg cg kg
+abbrev pub args_in_boxes : {F C K : Type 0} {fg : Ghosts F} {cg : Ghosts C} {kg : Ghosts K}
+    → Answer (Vec (ExprOrSpread (Box (ExprOf F C K) Global)) Global) F C K fg cg kg
 args_in_boxes {fg = fg} {cg = cg} {kg = kg} = record {
   tree = λ ns xs. args_tree (tree_by fg.place cg.place kg.place) xs;
   derives = λ hook s. ReadsAs only_items hook s;
@@ -250,7 +256,8 @@ args_in_boxes {fg = fg} {cg = cg} {kg = kg} = record {
 }
 
 -- a list in boxes, with the comma behind the last item
-abbrev pub list_in_boxes : {F C K : Type 0} {fg : Ghosts F} {cg : Ghosts C} {kg : Ghosts K} → Answer (Vec (ExprOrSpread (Box (ExprOf F C K) Global)) Global × Option Span) F C K fg cg kg
+abbrev pub list_in_boxes : {F C K : Type 0} {fg : Ghosts F} {cg : Ghosts C} {kg : Ghosts K}
+    → Answer (Vec (ExprOrSpread (Box (ExprOf F C K) Global)) Global × Option Span) F C K fg cg kg
 list_in_boxes {fg = fg} {cg = cg} {kg = kg} = record {
   tree = λ ns p. list_tree fg.place cg.place kg.place p;
   derives = λ hook s. ReadsAs items_and_comma hook s;
@@ -260,7 +267,8 @@ list_in_boxes {fg = fg} {cg = cg} {kg = kg} = record {
 }
 
 -- the parameters of an arrow function in boxes, without the place of the list
-abbrev pub heads_in_boxes : {F C K : Type 0} {fg : Ghosts F} {cg : Ghosts C} {kg : Ghosts K} → Answer (Vec (PatOf F C K) Global) F C K fg cg kg
+abbrev pub heads_in_boxes : {F C K : Type 0} {fg : Ghosts F} {cg : Ghosts C} {kg : Ghosts K}
+    → Answer (Vec (PatOf F C K) Global) F C K fg cg kg
 heads_in_boxes {F} {C} {K} {fg = fg} {cg = cg} {kg = kg} = record {
   tree = λ ns ps. pats_tree (pat_tree F C K fg.place cg.place kg.place) ps;
   derives = λ hook s. ReadsAs only_items hook s;
@@ -269,7 +277,8 @@ heads_in_boxes {F} {C} {K} {fg = fg} {cg = cg} {kg = kg} = record {
   leaves = λ ns r ms. SameNodes ns ms;
 }
 
-abbrev pub tpl_in_boxes : {F C K : Type 0} {fg : Ghosts F} {cg : Ghosts C} {kg : Ghosts K} → Answer (Tpl (Box (ExprOf F C K) Global)) F C K fg cg kg
+abbrev pub tpl_in_boxes : {F C K : Type 0} {fg : Ghosts F} {cg : Ghosts C} {kg : Ghosts K}
+    → Answer (Tpl (Box (ExprOf F C K) Global)) F C K fg cg kg
 tpl_in_boxes {fg = fg} {cg = cg} {kg = kg} = record {
   tree = λ ns t. tpl_tree (tree_by fg.place cg.place kg.place) t;
   derives = λ hook s. ReadsUnmarked hook s;
@@ -298,8 +307,8 @@ abbrev pub pat_by_number : {F C K : Type 0} {fg : Ghosts F} {cg : Ghosts C} {kg 
 pat_by_number = numbered pat_at pat_part
 
 module _ {S F C K : Type 0} (model : Model S) (derives : Derivation (Tree F C K)) (strip : Tree F C K → Tree F C K) where
-  -- Between b and c the commas of literals were remembered, one after another, and no other: of those of a tree that has its marks, of which
-  -- `strip` leaves t. Where faults are recorded at all, and none was, it is derived from the tokens consumed.
+  -- Between b and c the commas of literals were remembered, one after another, and no other: of those of a tree that has its marks, of
+  -- which `strip` leaves t. Where faults are recorded at all, and none was, it is derived from the tokens consumed.
   pub record RemembersAll (t : Tree F C K) (b c : Buffer S) (old new : TrailingCommas) : Type 0 where
     pub marked : Tree F C K
     pub same : strip marked ≡ t
@@ -307,7 +316,9 @@ module _ {S F C K : Type 0} (model : Model S) (derives : Derivation (Tree F C K)
     pub recalls : Recalls (commas_in marked) old new
 
 -- What a call promises that reads the symbol s, from the parser p to q, where it answers r.
-pub record Promised {S H T F C K : Type 0} {fg : Ghosts F} {cg : Ghosts C} {kg : Ghosts K} (model : Model S) (sure : Bool) (hook : Hook F C K) (answer : Answer T F C K fg cg kg) (s : Symbol) (p : Parser S H F C K fg cg kg) (r : Result T Error) (q : Parser S H F C K fg cg kg) : Type 0 where
+pub record Promised {S H T F C K : Type 0} {fg : Ghosts F} {cg : Ghosts C} {kg : Ghosts K} (model : Model S) (sure : Bool)
+    (hook : Hook F C K) (answer : Answer T F C K fg cg kg) (s : Symbol) (p : Parser S H F C K fg cg kg) (r : Result T Error)
+    (q : Parser S H F C K fg cg kg) : Type 0 where
   -- A parser that met want of memory does nothing, and refuses as `ParserFailed` at the token consumed last.
   pub again : has_failed p ≡ true → (q ≡ p) × (r ≡ Err (parser_failed (previous (buffer_of p))))
   -- Any other reads: one token at least was consumed, or it refuses, and what was consumed isn't lost; the context is what it was, no
@@ -315,13 +326,16 @@ pub record Promised {S H T F C K : Type 0} {fg : Ghosts F} {cg : Ghosts C} {kg :
   pub reads : has_failed p ≡ false → Consumes model (buffer_of p) r (buffer_of q)
   -- What is answered is what the grammar derives; and where the hook is faithful, what it derives is answered.
   pub sound : has_failed p ≡ false → Sound model (answer.derives hook s) (answer.tree (nodes_of q)) (buffer_of p) r (buffer_of q)
-  pub complete : has_failed p ≡ false → sure ≡ true → Complete model (answer.derives hook s) (answer.tree (nodes_of q)) (EndsAt s) (buffer_of p) r (buffer_of q)
-  pub one_tree : has_failed p ≡ false → sure ≡ true → EndsAt s [] → OneTree model (answer.derives hook s) (answer.tree (nodes_of q)) (buffer_of p) r (buffer_of q)
+  pub complete : has_failed p ≡ false → sure ≡ true
+      → Complete model (answer.derives hook s) (answer.tree (nodes_of q)) (EndsAt s) (buffer_of p) r (buffer_of q)
+  pub one_tree : has_failed p ≡ false → sure ≡ true → EndsAt s []
+      → OneTree model (answer.derives hook s) (answer.tree (nodes_of q)) (buffer_of p) r (buffer_of q)
   pub grouped : has_failed p ≡ false → Grouped model (answer.tree (nodes_of q)) (buffer_of p) r (buffer_of q)
   pub valid : has_failed p ≡ false → Valid model (answer.tree (nodes_of q)) (buffer_of p) r (buffer_of q)
   -- The commas of the answer's literals were remembered; what is refused but for want of memory leaves what there was.
   pub commas : MatchResult r
-      (λ x. RemembersAll model (answer.marked hook s) answer.strip (answer.tree (nodes_of q) x) (buffer_of p) (buffer_of q) (commas_of p) (commas_of q))
+      (λ x. RemembersAll model (answer.marked hook s) answer.strip (answer.tree (nodes_of q) x)
+      (buffer_of p) (buffer_of q) (commas_of p) (commas_of q))
       (λ e. e.kind ≢ OutOfMemory → commas_of q ≡ commas_of p)
   -- what becomes of the nodes
   pub nodes : answer.leaves (nodes_of p) r (nodes_of q)
@@ -330,7 +344,9 @@ pub record Promised {S H T F C K : Type 0} {fg : Ghosts F} {cg : Ghosts C} {kg :
 
 -- What a call on a name does and promises, from b to c: by the calls of swc_ident, and that what is answered is what the grammar
 -- derives, and the other way.
-pub record PromisedName {S T : Type 0} (model : Model S) (Names : Buffer S → Result T Error → Buffer S → Type 0) (derives : Derivation Spelling) (kind : NameKind) (view : T → Spelling) (b : Buffer S) (r : Result T Error) (c : Buffer S) : Type 0 where
+pub record PromisedName {S T : Type 0} (model : Model S) (Names : Buffer S → Result T Error → Buffer S → Type 0)
+    (derives : Derivation Spelling) (kind : NameKind) (view : T → Spelling) (b : Buffer S) (r : Result T Error)
+    (c : Buffer S) : Type 0 where
   pub names : Names b r c
   pub read : ReadSome model b c
   pub sound : Sound model derives view b r c
@@ -346,7 +362,9 @@ pub record PromisedLit {S F C K : Type 0} (model : Model S) (hook : Hook F C K) 
   pub complete : Complete model (Reads hook Literal) lit_tree Anywhere b r c
 
 -- What a call promises that reads a property of an object pattern, or a rest among these.
-pub record PromisedPatProp {S H F C K : Type 0} {fg : Ghosts F} {cg : Ghosts C} {kg : Ghosts K} (model : Model S) (sure : Bool) (hook : Hook F C K) (p : Parser S H F C K fg cg kg) (r : Result (ObjectPatProp F C K) Error) (q : Parser S H F C K fg cg kg) : Type 0 where
+pub record PromisedPatProp {S H F C K : Type 0} {fg : Ghosts F} {cg : Ghosts C} {kg : Ghosts K} (model : Model S) (sure : Bool)
+    (hook : Hook F C K) (p : Parser S H F C K fg cg kg) (r : Result (ObjectPatProp F C K) Error)
+    (q : Parser S H F C K fg cg kg) : Type 0 where
   -- one of both is answered, and a property that is derived
   pub promised : Promised model sure hook pat_prop_in_boxes PatProp p r q
   -- and so is a rest that is derived, whatever follows
@@ -394,7 +412,9 @@ pub record MayClose {S : Type 0} (model : Model S) (c : Buffer S) : Type 0 where
 
 -- What a call on parameters promises, from the parser p to q, where it answers r. The `)` that closes them stays; without it nothing is
 -- derived, and what is answered is promised to be nothing.
-pub record PromisedParams {S H F C K : Type 0} {fg : Ghosts F} {cg : Ghosts C} {kg : Ghosts K} (model : Model S) (sure : Bool) (hook : Hook F C K) (p : Parser S H F C K fg cg kg) (r : Result (Vec (Param (PatOf F C K)) Global) Error) (q : Parser S H F C K fg cg kg) : Type 0 where
+pub record PromisedParams {S H F C K : Type 0} {fg : Ghosts F} {cg : Ghosts C} {kg : Ghosts K} (model : Model S) (sure : Bool)
+    (hook : Hook F C K) (p : Parser S H F C K fg cg kg) (r : Result (Vec (Param (PatOf F C K)) Global) Error)
+    (q : Parser S H F C K fg cg kg) : Type 0 where
   -- A parser that met want of memory does nothing, and refuses as `ParserFailed` at the token consumed last.
   pub again : has_failed p ≡ true → (q ≡ p) × (r ≡ Err (parser_failed (previous (buffer_of p))))
   -- Any other acts: what was consumed isn't lost; the context is what it was, no recorded fault was taken out, and no want of memory
@@ -405,23 +425,28 @@ pub record PromisedParams {S H F C K : Type 0} {fg : Ghosts F} {cg : Ghosts C} {
       → DerivesParams model (ReadsUnmarked hook) (pats_of fg.place cg.place kg.place v) (buffer_of p) (buffer_of q))
   -- Over a listed source, with a faithful hook: what is derived from the tokens to come, with the `)` that closes it, is answered, with
   -- no fault recorded, and the `)` and what follows it is left; or the answer is want of memory.
-  pub complete : has_failed p ≡ false → sure ≡ true → Loud model (buffer_of p) → (ts ys : List TokenAndSpan) (t : Tree F C K) → Known model (buffer_of p) ts
+  pub complete : has_failed p ≡ false → sure ≡ true → Loud model (buffer_of p)
+      → (ts ys : List TokenAndSpan) (t : Tree F C K) → Known model (buffer_of p) ts
       → ReadsUnmarked hook Params (scope model (buffer_of p)) ts ys t
       → MatchResult r
       (λ v. ClosedBy model (pats_of fg.place cg.place kg.place v) t (buffer_of q) ys × Unmarred model (buffer_of p) (buffer_of q))
       (λ e. e.kind ≡ OutOfMemory)
   -- Over a listed source: where all tokens but a last `)` were read with no fault recorded, nothing is derived from all but the answer.
-  pub one_tree : has_failed p ≡ false → sure ≡ true → Loud model (buffer_of p) → (ts : List TokenAndSpan) (t : Tree F C K) → Known model (buffer_of p) ts
+  pub one_tree : has_failed p ≡ false → sure ≡ true → Loud model (buffer_of p)
+      → (ts : List TokenAndSpan) (t : Tree F C K) → Known model (buffer_of p) ts
       → ReadsUnmarked hook Params (scope model (buffer_of p)) ts [] t
       → IfOk r (λ v. (close : TokenAndSpan) → Known model (buffer_of q) (close ∷ [])
       → t ≡ listed None close.span (pats_of fg.place cg.place kg.place v))
   -- Where a `)` may come next, in the patterns answered with no fault recorded operators group as their levels say, they hold no
   -- `Invalid`, and they bind names alone.
-  pub grouped : has_failed p ≡ false → Loud model (buffer_of p) → IfOk r (λ v. Unmarred model (buffer_of p) (buffer_of q) → MayClose model (buffer_of q)
+  pub grouped : has_failed p ≡ false → Loud model (buffer_of p)
+      → IfOk r (λ v. Unmarred model (buffer_of p) (buffer_of q) → MayClose model (buffer_of q)
       → are_grouped (pats_of fg.place cg.place kg.place v) ≡ true)
-  pub valid : has_failed p ≡ false → Loud model (buffer_of p) → IfOk r (λ v. Unmarred model (buffer_of p) (buffer_of q) → MayClose model (buffer_of q)
+  pub valid : has_failed p ≡ false → Loud model (buffer_of p)
+      → IfOk r (λ v. Unmarred model (buffer_of p) (buffer_of q) → MayClose model (buffer_of q)
       → are_valid (pats_of fg.place cg.place kg.place v) ≡ true)
-  pub binds : has_failed p ≡ false → Loud model (buffer_of p) → IfOk r (λ v. Unmarred model (buffer_of p) (buffer_of q) → MayClose model (buffer_of q)
+  pub binds : has_failed p ≡ false → Loud model (buffer_of p)
+      → IfOk r (λ v. Unmarred model (buffer_of p) (buffer_of q) → MayClose model (buffer_of q)
       → all_bind_names any (pats_of fg.place cg.place kg.place v) ≡ true)
   -- The commas of literals in initialisers and keys were remembered; what is refused but for want of memory leaves what there was.
   pub commas : MatchResult r

@@ -15,7 +15,9 @@ pub use swc_tokens as tokens;
 pub use swc_trees as trees;
 
 pub mod both_ways;
+mod for_heads;
 mod heads;
 pub mod parser;
+pub mod replaying;
 mod taking;
 pub mod whole;

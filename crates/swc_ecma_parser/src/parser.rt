@@ -14,6 +14,7 @@ ghost use Rattle.swc_ecma_parser.specs.contracts.parser.Parser.{the_row};
 
 use crate::taking::Take;
 use std::alloc::{AllocError, Global};
+use swc_ast::for_head::ForHead;
 use swc_ast::lit::Lit;
 use swc_ast::pat::Pat;
 use swc_bodies::bodies::{Bodies, BodyForms, ExprOf};
@@ -29,6 +30,7 @@ use swc_productions::ring::{parse_assignment_expr, parse_bin_expr, parse_expr, p
 use swc_steps::productions::Productions;
 use swc_steps::tokens::is_out_of_memory;
 
+mod for_heads;
 mod names;
 pub mod object;
 mod params;
@@ -36,6 +38,13 @@ mod pat;
 mod pieces;
 pub mod refine;
 mod verifier;
+
+/// What the head of a `for` begins with, over a hook's values.
+pub type ForHeadOf<B> = ForHead<
+    <B as BodyForms>::Fun,
+    <B as BodyForms>::Class,
+    <B as BodyForms>::Block,
+>;
 
 /// A pattern over a hook's values.
 pub type PatOf<B> = Pat<<B as BodyForms>::Fun, <B as BodyForms>::Class, <B as BodyForms>::Block>;
@@ -198,19 +207,11 @@ impl<I: Tokens, B: Bodies<I>> Parser<I, B> {
         self.finish(answer)
     }
 
-    /// What a head of `for` may begin with, where that is no declaration (ECMA-262, 14.7.4): so far an expression, as
-    /// `parse_expr` reads it.
-    pub fn parse_for_head_prefix(&mut self) -> PResult<Box<ExprOf<B>>>
-        ensures promised { Promised I.model B.is_faithful B.forms in_boxes Expr self.old result self.new }
-    {
-        self.parse_expr()
-    }
-
     /// An assignment expression (ECMA-262, 13.15): binary operators and their operands, as `parse_bin_expr` reads
-    /// them; a conditional of such (13.14), in whose middle `in` is an operator; an assignment to a simple target, or by
-    /// `=` to an array or object literal, which becomes a pattern (13.15.5); an arrow function, async or not (15.3 and
-    /// 15.9); or `yield` (15.5), in a generator. Behind a conditional, a binary operator, a prefix operator, `++` and
-    /// `--` no assignment is read, and behind an arrow function nothing is.
+    /// them; a conditional of such (13.14), in whose middle `in` is an operator; an assignment to a simple target, or
+    /// by `=` to an array or object literal, which becomes a pattern (13.15.5); an arrow function, async or not (15.3
+    /// and 15.9); or `yield` (15.5), in a generator. Behind a conditional, a binary operator, a prefix operator, `++`
+    /// and `--` no assignment is read, and behind an arrow function nothing is.
     ///
     /// The end is refused as `Eof`, where the token consumed last ends. What stands left of `=`, is no literal that
     /// becomes a pattern and can't be written to is recorded as `TS2406`, left of another operator as
@@ -218,18 +219,19 @@ impl<I: Tokens, B: Bodies<I>> Parser<I, B> {
     /// chain or such a pattern is refused as `InvalidAssignTarget`, all at its place. A literal left of `=` has the
     /// faults that `reparse_expr_as_pat` records of an `AssignPat`. What follows the middle of a conditional and is no
     /// `:` is refused as `Expected`, at the current token. `yield` in parameters outside a function is refused as
-    /// `YieldParamInGen`, at the word; a refusal of its operand is labelled (`WithLabel`) with the place of the word and
-    /// of the `*` behind it.
+    /// `YieldParamInGen`, at the word; a refusal of its operand is labelled (`WithLabel`) with the place of the word
+    /// and of the `*` behind it.
     ///
     /// An arrow function begins with a word that may be a reference, on the line of the `=>`; with a list in
-    /// parentheses, as `parse_args_or_pats` reads it, behind which `=>` stands; or with `async`, on its line, and one of
-    /// these. A line break between the list and `=>` is refused as `LineBreakBeforeArrow`, from the start of the list,
-    /// or of `async`, through the `)`. The items have the faults that `parse_paren_items_as_params` records; a name in
-    /// place of a list has those of an identifier, and as `eval` or `arguments` in strict code
+    /// parentheses, as `parse_args_or_pats` reads it, behind which `=>` stands; or with `async`, on its line, and one
+    /// of these. A line break between the list and `=>` is refused as `LineBreakBeforeArrow`, from the start of the
+    /// list, or of `async`, through the `)`. The items have the faults that `parse_paren_items_as_params` records; a
+    /// name in place of a list has those of an identifier, and as `eval` or `arguments` in strict code
     /// `EvalAndArgumentsInStrict`. The body is a block, which the hook reads, or an assignment expression. A binary
-    /// operator behind a block whose parameters stand in parentheses is recorded as `TS1005`, at the operator, and read;
-    /// and so is once more what then follows, unless a semicolon may stand there. Before `of` in a head of `for`, `async`
-    /// is an identifier, if no `=>` stands behind `of`, and recorded as `TS1106` unless the head is one of `for await`.
+    /// operator behind a block whose parameters stand in parentheses is recorded as `TS1005`, at the operator, and
+    /// read; and so is once more what then follows, unless a semicolon may stand there. Before `of` in a head of `for`,
+    /// `async` is an identifier, if no `=>` stands behind `of`, and recorded as `TS1106` unless the head is one of
+    /// `for await`.
     pub fn parse_assignment_expr(&mut self) -> PResult<Box<ExprOf<B>>>
         ensures promised { Promised I.model B.is_faithful B.forms in_boxes Assign self.old result self.new }
     {

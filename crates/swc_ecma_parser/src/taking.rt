@@ -6,17 +6,18 @@ ghost use Rattle.swc_nodes.specs.GrowingNodes.{count, seat_at, tree_at, bare_at,
 
 use std::alloc::{AllocError, Global};
 use swc_ast::expr::{Expr, ExprOrSpread, Tpl};
+use swc_ast::for_head::ForHead;
 use swc_ast::function::Param;
 use swc_ast::pat::{ObjectPatProp, Pat};
 use swc_ast::prop::{PropName, PropOrSpread};
 use swc_ast::spanned::Spanned;
 use swc_nodes::commas::TrailingCommas;
-use swc_nodes::node::{ExprId, PatId, PatPropNode, PropNode};
+use swc_nodes::node::{ExprId, ForHeadId, PatId, PatPropNode, PropNode};
 use swc_nodes::nodes::Nodes;
 use swc_steps::tokens::Listed;
 use swc_trees::taking::{
-    take_args, take_expr, take_key, take_params, take_pat, take_pat_prop, take_pats, take_prop,
-    take_tpl,
+    take_args, take_expr, take_for_head, take_key, take_params, take_pat, take_pat_prop, take_pats,
+    take_prop, take_tpl,
 };
 
 /// What holds numbers of nodes, and is moved out of them into boxes.
@@ -287,5 +288,33 @@ impl<F: Spanned + Drop, C: Spanned + Drop, K: Spanned + Drop> Take<F, C, K> for 
 
     fn take(self, nodes: &mut Nodes<F, C, K>, alloc: Global) -> Result<Self::Whole, AllocError> {
         take_pats(nodes, alloc, self)
+    }
+}
+
+impl<F: Spanned + Drop, C: Spanned + Drop, K: Spanned + Drop> Take<F, C, K> for ForHeadId {
+    ghost use Rattle.swc_nodes.specs.NodeParts.{for_head_parts};
+    ghost use Rattle.swc_ecma_parser.specs.ForHeads.{boxed_head, coded, head_by};
+
+    type Whole = ForHead<F, C, K>;
+
+    ghost parts = { for_head_parts };
+
+    ghost by = { λ at h. coded (head_by at h) };
+
+    ghost tree = { λ h. coded (boxed_head F.place C.place K.place h) };
+
+    fn remember(
+        &self,
+        nodes: &Nodes<F, C, K>,
+        commas: &mut TrailingCommas,
+    ) -> Result<(), AllocError> {
+        match self {
+            ForHeadId::Target(pat) => commas.remember_all(nodes, pat),
+            ForHeadId::Expr(expr) => commas.remember_all(nodes, expr),
+        }
+    }
+
+    fn take(self, nodes: &mut Nodes<F, C, K>, alloc: Global) -> Result<Self::Whole, AllocError> {
+        take_for_head(nodes, alloc, self)
     }
 }

@@ -1,5 +1,6 @@
 mod ArrowRows
 mod AsyncRows
+mod ForHeadRows
 mod MethodRows
 mod Parts
 mod PatternRows
@@ -14,6 +15,7 @@ pub mod Computed
 pub mod Cut
 pub mod Direct
 pub mod Firsts
+pub mod ForHeads
 pub mod Good
 pub mod Head
 pub mod Induct

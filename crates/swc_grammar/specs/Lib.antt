@@ -3,6 +3,8 @@ pub mod Clean
 pub mod Cover
 pub mod Cut
 pub mod Firsts
+pub mod ForHead
+pub mod ForHeadClean
 pub mod Grammar
 pub mod Names
 pub mod Parts

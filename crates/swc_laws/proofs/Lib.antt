@@ -1,5 +1,6 @@
 mod CoverRows
 mod ExceptionRows
+mod ReplayRows
 pub mod Bindable
 pub mod Closed
 pub mod Converse
@@ -9,4 +10,6 @@ pub mod CoverClean
 pub mod CoverLaw
 pub mod Covered
 pub mod Freed
+pub mod Replay
+pub mod Wanted
 pub mod Within

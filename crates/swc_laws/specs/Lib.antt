@@ -1,3 +1,4 @@
 pub mod Bound
 pub mod Converse
 pub mod Covering
+pub mod Replay

@@ -1,8 +1,10 @@
 //! Laws of the grammar, as contracts of calls that do nothing.
+ghost use Rattle.swc_grammar.specs.Symbols.{Expr};
 ghost use Rattle.swc_laws.specs.Converse.{Converse};
 ghost use Rattle.swc_laws.specs.Covering.{Covering};
+ghost use Rattle.swc_laws.specs.Replay.{Replay, ReplayWanted};
 
-use swc_bodies::bodies::BodyForms;
+use swc_bodies::bodies::{BodyForms, ReplayBodies};
 
 /// The cover law: in a script or a strict module, where the grammar derives patterns from what
 /// stands in parentheses before `=>`, from tokens as a reader spells them, and in a static block
@@ -18,4 +20,13 @@ pub fn cover<B: BodyForms>()
 /// `(` before them.
 pub fn converse<B: BodyForms>()
     ensures { Converse B.forms }
+{}
+
+/// Replay: where the grammar derives an expression from a whole list of tokens in the order of the text, and reads each
+/// regular expression that was found at a slash behind that slash, it derives the same tree from the tokens that are
+/// kept of the list, in the same context. That they are read so may be known of the reading (`joined`), or be seen of
+/// the list (`wanted`): an operand is wanted where each such slash stands.
+pub fn replay<B: ReplayBodies>()
+    ensures joined { Replay B.forms Expr }
+    ensures wanted { ReplayWanted B.forms Expr }
 {}

@@ -67,7 +67,8 @@ impl TrailingCommas {
 
     /// Remembers the commas of all literals that are reached from the parts of an item, which lie apart, but for those
     /// in the bodies of arrow functions: each at the place where the literal begins, or forgets what was there where it
-    /// has none; so it does of array and object patterns, which have none. Goes without recursion, and is refused only for want of memory.
+    /// has none; so it does of array and object patterns, which have none. Goes without recursion, and is refused only
+    /// for want of memory.
     ///
     /// A node comes before its parts, and of these the last one first. Where several begin at one place, as in no text,
     /// that of the last one is remembered.
@@ -89,8 +90,8 @@ impl TrailingCommas {
         Ok(())
     }
 
-    /// Marks the array and object literals that have numbers from `from` on: each with the comma that is remembered where
-    /// it begins, or with none. So trees that were put in get their marks, for which boxes have no place.
+    /// Marks the array and object literals that have numbers from `from` on: each with the comma that is remembered
+    /// where it begins, or with none. So trees that were put in get their marks, for which boxes have no place.
     pub fn mark<F: Spanned + Drop, C: Spanned + Drop, K: Spanned + Drop>(
         &self,
         nodes: &mut Nodes<F, C, K>,

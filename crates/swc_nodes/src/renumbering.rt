@@ -289,23 +289,15 @@ impl<F: Spanned, C: Spanned, K: Spanned> Numbered<F, C, K> for Node<F, C, K> {
             Node::PatObject { props, .. } => <_ as Numbered<F, C, K>>::renumber(props, ids),
             Node::Member(member) => <_ as Numbered<F, C, K>>::renumber(member, ids),
             Node::SuperProp(member) => <_ as Numbered<F, C, K>>::renumber(&mut member.prop, ids),
-            Node::Call { callee, args, .. } => {
-                <_ as Numbered<F, C, K>>::renumber(callee, ids);
-                <_ as Numbered<F, C, K>>::renumber(args, ids);
-            }
-            Node::New { callee, args, .. } => {
-                <_ as Numbered<F, C, K>>::renumber(callee, ids);
-                <_ as Numbered<F, C, K>>::renumber(args, ids);
-            }
+            Node::Call { callee, args, .. } => renumber_both::<F, C, K, _, _>(callee, args, ids),
+            Node::New { callee, args, .. } => renumber_both::<F, C, K, _, _>(callee, args, ids),
             Node::OptChain(link) => <_ as Numbered<F, C, K>>::renumber(&mut *link.base, ids),
             Node::Tpl(tpl) => <_ as Numbered<F, C, K>>::renumber(tpl, ids),
             Node::TaggedTpl { tag, tpl, .. } => {
-                <_ as Numbered<F, C, K>>::renumber(tag, ids);
-                <_ as Numbered<F, C, K>>::renumber(&mut **tpl, ids);
+                renumber_both::<F, C, K, _, _>(tag, &mut **tpl, ids)
             }
             Node::Arrow { params, body, .. } => {
-                <_ as Numbered<F, C, K>>::renumber(params, ids);
-                <_ as Numbered<F, C, K>>::renumber(&mut **body, ids);
+                renumber_both::<F, C, K, _, _>(params, &mut **body, ids)
             }
             Node::Yield { arg, .. } => <_ as Numbered<F, C, K>>::renumber(arg, ids),
             Node::This(_)
@@ -326,6 +318,19 @@ impl<F: Spanned, C: Spanned, K: Spanned> Numbered<F, C, K> for Node<F, C, K> {
             _ => renumber_operation(self, ids),
         }
     }
+}
+
+/// Renumbers two things, as what is called and its arguments.
+fn renumber_both<F: Spanned, C: Spanned, K: Spanned, T: Numbered<F, C, K>, U: Numbered<F, C, K>>(
+    first: &mut T,
+    second: &mut U,
+    ids: &Numbers,
+)
+    ensures first { Renumbered T.parts T.of ids.now first.old first.new }
+    ensures second { Renumbered U.parts U.of ids.now second.old second.new }
+{
+    first.renumber(ids);
+    second.renumber(ids);
 }
 
 /// Renumbers the operands of an operation, or the parts of a pattern that is a plain one with something before or

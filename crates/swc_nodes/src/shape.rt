@@ -64,13 +64,7 @@ impl<F: Spanned + Drop, C: Spanned + Drop, K: Spanned + Drop> Nodes<F, C, K> {
             Node::BigInt(e) => e.span,
             Node::Regex(e) => e.span,
             Node::Invalid(e) => e.span,
-            Node::PatIdent(_)
-            | Node::PatArray { .. }
-            | Node::PatObject { .. }
-            | Node::PatRest { .. }
-            | Node::PatAssign { .. }
-            | Node::PatExpr(_)
-            | Node::PatInvalid(_) => unreachable!(),
+            _ => unreachable!(),
         }
     }
 

@@ -9,6 +9,8 @@ use Rattle.swc_ast.specs.declared.spanned.Spanned.{Ghosts}
 use Rattle.swc_ast.specs.TreeOf.{expr_tree, boxed_tree, pat_tree, pat_prop_tree, prop_tree, prop_or_spread_tree, target_tree}
 use Rattle.swc_ast.specs.declared.expr.AssignTarget.{AssignTarget}
 use Rattle.swc_ast.specs.declared.expr.Expr.{Expr}
+use Rattle.swc_ast.specs.declared.for_head.ForHead.{ForHead}
+use Rattle.swc_ast.specs.declared.for_head.ForHead.TheVariants as boxed_head
 use Rattle.swc_ast.specs.declared.pat.ObjectPatProp.{ObjectPatProp}
 use Rattle.swc_ast.specs.declared.pat.Pat.{Pat}
 use Rattle.swc_ast.specs.declared.prop.Prop.{Prop}
@@ -18,6 +20,8 @@ use Rattle.swc_nodes.specs.NumberedTrees.{floor}
 use Rattle.swc_nodes.specs.NodeParts.{Part, View, form, view_ok, slots, prop_parts, pat_prop_parts, target_part}
 use Rattle.swc_nodes.specs.GrowingNodes.{count, seat_at, tree_at, bare_at, Apart, Grows, Left}
 use Rattle.swc_nodes.specs.declared.node.ExprId.{ExprId}
+use Rattle.swc_nodes.specs.declared.node.ForHeadId.{ForHeadId}
+use Rattle.swc_nodes.specs.declared.node.ForHeadId.TheVariants as head
 use Rattle.swc_nodes.specs.declared.node.Node.{Node}
 use Rattle.swc_nodes.specs.declared.node.PatId.{PatId}
 use Rattle.swc_nodes.specs.declared.node.PatPropNode.{PatPropNode}
@@ -81,6 +85,12 @@ module _ {F C K : Type 0} {fg : Ghosts F} {cg : Ghosts C} {kg : Ghosts K} where
 
   abbrev pub pat_prop_in : Nodes F C K fg cg kg → ObjectPatProp F C K → Tree F C K
   pat_prop_in ns = pat_prop_tree F C K fg.place cg.place kg.place
+
+  -- what the head of a `for` begins with is of the same sort in boxes, and the tree that the number stands for, without the marks of commas
+  abbrev pub IsHead : Nodes F C K fg cg kg → ForHeadId → ForHead F C K → Type 0
+  IsHead ns (head.Target p) (boxed_head.Target b) = pat_in ns b.value ≡ bare_at ns p.0
+  IsHead ns (head.Expr e) (boxed_head.Expr b) = boxed_in ns b ≡ bare_at ns e.0
+  IsHead ns h b = ⊥
 
   abbrev pub prop_node_as : Nodes F C K fg cg kg → (ℕ → Tree F C K) → PropNode K → Tree F C K
   prop_node_as ns = prop_of fg.place cg.place kg.place

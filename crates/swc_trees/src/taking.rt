@@ -7,12 +7,12 @@ ghost use Rattle.swc_nodes.specs.Lists.{exprs_parts, pats_parts};
 ghost use Rattle.swc_nodes.specs.NodeTree.{node_tree};
 ghost use Rattle.swc_nodes.specs.NumberedTrees.{floor};
 ghost use Rattle.swc_nodes.specs.NodeParts.{form, view_ok, slots, expr_part, pat_part, key_parts, prop_parts};
-ghost use Rattle.swc_nodes.specs.NodeParts.{args_parts, flat, param_parts, pat_prop_parts};
+ghost use Rattle.swc_nodes.specs.NodeParts.{args_parts, flat, for_head_parts, param_parts, pat_prop_parts};
 ghost use Rattle.swc_nodes.specs.GrowingNodes.{count, seat_at, bare_at, first_at, Apart, From, Left};
 ghost use Rattle.swc_nodes.specs.Walking.{part_of};
 ghost use Rattle.swc_trees.specs.Building.{part_kind, built_kind, built_tree, Stand, IsFor, AreFor};
 ghost use Rattle.swc_trees.specs.Moving.{TakesOut, boxed_in, pat_in, prop_or_spread_in, prop_node_as};
-ghost use Rattle.swc_trees.specs.Moving.{pat_prop_in, pat_prop_node_as};
+ghost use Rattle.swc_trees.specs.Moving.{pat_prop_in, pat_prop_node_as, IsHead};
 
 use crate::assembling::{assemble_expr, assemble_pat, assemble_pattern, assemble_simple};
 use crate::built::Built;
@@ -21,13 +21,14 @@ use crate::pieces::template;
 use crate::refusable::{boxed, push_to, reversed};
 use std::alloc::{AllocError, Global};
 use swc_ast::expr::{AssignTarget, Expr, ExprOrSpread, Tpl};
+use swc_ast::for_head::ForHead;
 use swc_ast::function::Param;
 use swc_ast::pat::{ObjectPatProp, Pat};
 use swc_ast::prop::{ComputedPropName, PropName, PropOrSpread};
 use swc_ast::spanned::Spanned;
 use swc_nodes::apart::{PartId, parts_of};
 use swc_nodes::aside::Aside;
-use swc_nodes::node::{ExprId, Node, PatId, PatPropNode, PropNode, TargetNode};
+use swc_nodes::node::{ExprId, ForHeadId, Node, PatId, PatPropNode, PropNode, TargetNode};
 use swc_nodes::nodes::Nodes;
 
 /// Moves an expression out of the nodes, and lets go of all behind it.
@@ -59,6 +60,25 @@ pub fn take_pat<F: Spanned + Drop, C: Spanned + Drop, K: Spanned + Drop>(
     match take(nodes, alloc, PartId::Pat(id))? {
         Built::Pat(pat) => Ok(pat),
         _ => unreachable!(),
+    }
+}
+
+/// Moves what the head of a `for` begins with out of the nodes, and lets go of all behind it.
+pub fn take_for_head<F: Spanned + Drop, C: Spanned + Drop, K: Spanned + Drop>(
+    nodes: &mut Nodes<F, C, K>,
+    alloc: Global,
+    head: ForHeadId,
+) -> Result<ForHead<F, C, K>, AllocError>
+    requires { Apart 0 nodes.old (for_head_parts head) }
+    ensures left { Left (floor (seat_at nodes.old) (count nodes.old) (for_head_parts head)) nodes.old nodes.new }
+    ensures moved { IfOk result (λ h. IsHead nodes.old head h) }
+{
+    match head {
+        ForHeadId::Target(pat) => {
+            let target = boxed(alloc, take_pat(nodes, alloc, pat))?;
+            Ok(ForHead::Target(target))
+        }
+        ForHeadId::Expr(expr) => Ok(ForHead::Expr(take_expr(nodes, alloc, expr)?)),
     }
 }
 

@@ -53,8 +53,8 @@ pub fn find_cover_names<F: Spanned + Drop, C: Spanned + Drop, K: Spanned + Drop>
 }
 
 /// Records an `AssignProperty` at each of the places, in their order, as `Buffer::emit_err` records a fault: each after
-/// the error of an error token that is current, which is consumed. Where the context ignores errors, or early errors are
-/// off, nothing is done. It is refused only for want of memory.
+/// the error of an error token that is current, which is consumed. Where the context ignores errors, or early errors
+/// are off, nothing is done. It is refused only for want of memory.
 pub fn record_cover_names<I: Tokens>(input: &mut Buffer<I>, names: &[Span]) -> PResult<()>
     ensures silent { is_silent (state_of I.model input.old) ≡ true → IsOk result × (input.new ≡ input.old) }
     ensures recorded { is_silent (state_of I.model input.old) ≡ false
@@ -68,8 +68,9 @@ pub fn record_cover_names<I: Tokens>(input: &mut Buffer<I>, names: &[Span]) -> P
     // it gives none: the faults are recorded, and no others, and nothing is consumed.
     ensures current { is_silent (state_of I.model input.old) ≡ false → is_fit (current input.old) ≡ true
         → OnOk result (Appends I.model (cover_faults names.now) input.old input.new) }
-    ensures listed { is_silent (state_of I.model input.old) ≡ false → (ts : List TokenAndSpan) → Known I.model input.old ts
-        → begins_fit ts ≡ true → OnOk result (Appends I.model (cover_faults names.now) input.old input.new) }
+    ensures listed { is_silent (state_of I.model input.old) ≡ false → (ts : List TokenAndSpan)
+        → Known I.model input.old ts → begins_fit ts ≡ true
+        → OnOk result (Appends I.model (cover_faults names.now) input.old input.new) }
 {
     for name in names {
         input.emit_err(name.in_order(), SyntaxError::AssignProperty)?;

@@ -41,20 +41,21 @@ impl<I: Tokens, B: Bodies<I>> Parser<I, B> {
     }
 
     /// The parameters of an arrow function, from `(` through the `)` that closes them (ArrowFormalParameters; ECMA-262,
-    /// 15.3), as their cover grammar has them (13.2.9): a list in parentheses as `parse_args_or_pats` reads it, in which
-    /// `in` is an operator, and the parameters that `parse_paren_items_as_params` makes of it. The rest of a list has the
-    /// place of what stands behind its dots. Behind the last parameter, but a rest, a comma may stand; the comma isn't
-    /// remembered. That a name is bound twice isn't looked at, nor is what follows the `)`.
+    /// 15.3), as their cover grammar has them (13.2.9): a list in parentheses as `parse_args_or_pats` reads it, in
+    /// which `in` is an operator, and the parameters that `parse_paren_items_as_params` makes of it. The rest of a list
+    /// has the place of what stands behind its dots. Behind the last parameter, but a rest, a comma may stand; the
+    /// comma isn't remembered. That a name is bound twice isn't looked at, nor is what follows the `)`.
     ///
-    /// What is no `(` where they begin is refused as `Expected`, at the current token, and so is what follows an item and
-    /// is neither `,` nor `)`; the end as `Eof`, where the token consumed last ends. A refusal behind `...` is labelled
-    /// with the place of the dots (`WithLabel`). Once its `)` was consumed, the list has the faults that
-    /// `parse_paren_items_as_params` records: what is no pattern is recorded as `InvalidPat`, at its place, and `Invalid`
-    /// stands in for it; a spread that isn't the last as `TS1014`, at the spread, and it is dropped; the comma behind a
-    /// last one as `CommaAfterRestElement`, at the comma, and an initialiser in it as `TS1048`, at the spread; and in
-    /// strict code `eval` and `arguments`, where they are bound, as `EvalAndArgumentsInStrict`, at the word: in modules
-    /// that is recorded, and it waits elsewhere. Parts of patterns have the faults that `reparse_expr_as_pat` records of
-    /// a `BindingElement`; a method, a getter or a setter in one is refused as `InvalidPat`, at the property.
+    /// What is no `(` where they begin is refused as `Expected`, at the current token, and so is what follows an item
+    /// and is neither `,` nor `)`; the end as `Eof`, where the token consumed last ends. A refusal behind `...` is
+    /// labelled with the place of the dots (`WithLabel`). Once its `)` was consumed, the list has the faults that
+    /// `parse_paren_items_as_params` records: what is no pattern is recorded as `InvalidPat`, at its place, and
+    /// `Invalid` stands in for it; a spread that isn't the last as `TS1014`, at the spread, and it is dropped; the
+    /// comma behind a last one as `CommaAfterRestElement`, at the comma, and an initialiser in it as `TS1048`, at the
+    /// spread; and in strict code `eval` and `arguments`, where they are bound, as `EvalAndArgumentsInStrict`, at the
+    /// word: in modules that is recorded, and it waits elsewhere. Parts of patterns have the faults that
+    /// `reparse_expr_as_pat` records of a `BindingElement`; a method, a getter or a setter in one is refused as
+    /// `InvalidPat`, at the property.
     pub fn parse_arrow_params(&mut self) -> PResult<Vec<PatOf<B>>>
         ensures promised { Promised I.model B.is_faithful B.forms heads_in_boxes Heads self.old result self.new }
         ensures binds { has_failed self.old ≡ false

@@ -1,0 +1,414 @@
+-- Heads of `for` (ECMA-262, 14.7.4 and 14.7.5), from what the code reads to what is promised of them.
+use Rattle.std.proofs.Common.{◌≡◌, ◌≢◌, ℕ, Bool, true, false, ◌&&◌, if◌then◌else◌, List, [], ◌∷◌, ◌++◌, Option, Some, None}
+use Rattle.std.proofs.Common.{Result, Ok, Err, IfOk, IfErr, OnOk, MatchResult, length, ◌||◌, refl, sym, ap, subst, ◌∙◌}
+use Rattle.swc_context.specs.declared.error.Error.{Error}
+use Rattle.swc_context.specs.declared.error.SyntaxError.TheVariants.{OutOfMemory}
+use Rattle.swc_context.specs.declared.span.Span.{Span}
+use Rattle.swc_input.specs.declared.buffer.Buffer.{Buffer}
+use Rattle.swc_input.specs.declared.token.Token.{Token}
+use Rattle.swc_input.specs.declared.token.Token.TheVariants as token
+use Rattle.swc_input.specs.declared.token.TokenAndSpan.{TokenAndSpan}
+use Rattle.swc_input.specs.Buffer.{Future, Known, context, last_position, previous}
+use Rattle.swc_input.specs.Kinds.{at_token}
+use Rattle.swc_input.specs.Laws.{Future-some}
+use Rattle.swc_input.specs.Recording.{no_memory}
+use Rattle.swc_input.specs.Source.{Model}
+use Rattle.swc_ast.specs.Tree.{Tree, array_with, invalid, object_with, node, nil, cons}
+use Rattle.swc_ast.specs.Trees.{is_grouped, is_valid, unmarked}
+use Rattle.swc_ast.specs.declared.for_head.ForHead.{ForHead as HeadOf}
+use Rattle.swc_ast.specs.declared.spanned.Spanned.{Ghosts}
+use Rattle.swc_bodies.specs.Readings.{Hook, LawfulHook}
+use Rattle.swc_grammar.specs.Clean.{Out, and_then, first, no_error}
+use Rattle.swc_grammar.specs.Cover.{is_assign, as_pat, target}
+use Rattle.swc_grammar.specs.ForHead.{ForHead, for_target, for_expr, in_for, is_each, is_for_target, head_tree, next}
+use Rattle.swc_grammar.specs.ForHead.{unmarked_head, HeadStops, ReadsHead, ReadsHeadUnmarked}
+use Rattle.swc_grammar.specs.ForHeadClean.{for_head, for_tail, written}
+use Rattle.swc_grammar.specs.Rule.{sees}
+use Rattle.swc_grammar.specs.Scope.{Scope}
+use Rattle.swc_grammar.specs.Symbols.{Expr}
+use Rattle.swc_grammar.specs.Words.{◌>>=◌}
+use Rattle.swc_grammar.proofs.ForHeads.{head-front, head-grouped, head-next, head-sound, head-valid}
+use Rattle.swc_grammar.proofs.Marks.{same-grouped, same-valid}
+use Rattle.swc_nodes.specs.Commas.{comma_at, commas_in, part_commas, recalled, Recalls}
+use Rattle.swc_nodes.specs.GrowingNodes.{tree_at, bare_at, From, SameNodes}
+use Rattle.swc_nodes.specs.NodeParts.{expr_part, for_head_parts}
+use Rattle.swc_nodes.specs.declared.commas.TrailingCommas.{TrailingCommas}
+use Rattle.swc_nodes.specs.declared.node.ExprId.{ExprId}
+use Rattle.swc_nodes.specs.declared.node.ForHeadId.{ForHeadId}
+use Rattle.swc_nodes.specs.declared.node.ForHeadId.TheVariants as number
+use Rattle.swc_nodes.specs.declared.nodes.Nodes.{Nodes}
+use Rattle.swc_cover.specs.Clear.{is_clear}
+use Rattle.swc_cover.proofs.Formed.{Formed}
+use Rattle.swc_cover.specs.PatTypes.{stands_whole, verdict_as, want_as}
+use Rattle.swc_cover.specs.declared.pat_type.PatType.TheVariants.{AssignPat}
+use Rattle.swc_cover.proofs.Clear.{clear-fits}
+use Rattle.swc_cover.proofs.Refines.{expr-formed}
+use Rattle.swc_cover.proofs.Ties.{pattern-is}
+use Rattle.swc_steps.specs.Parsing.{scope, seen, tree_of, Checks, Heard, Here, Loud, On, Parses, Refuses, Unheard}
+use Rattle.swc_steps.proofs.Endings.{read-valid}
+use Rattle.swc_steps.proofs.Steps as steps
+use Rattle.swc_steps.proofs.Steps.{Reader, give, consumes_of}
+use Rattle.swc_steps.proofs.Steps.Calls.{on_call_read}
+use Rattle.swc_ecma_parser.specs.Calls.{buffer_of, nodes_of, commas_of, has_failed, wants_memory, parser_failed}
+use Rattle.swc_ecma_parser.specs.ForHeads.{boxed_head, coded, for_head_at, head_by, head_expr, is_each_word, is_target_id}
+use Rattle.swc_ecma_parser.specs.ForHeads.{DerivesHead, HeadPromise, PromisedHead, RemembersHead}
+use Rattle.swc_ecma_parser.specs.Promise.{Complete, Unmarred}
+use Rattle.swc_ecma_parser.specs.declared.parser.Parser.{Parser}
+use Rattle.swc_ecma_parser.proofs.ArrowParams.{heard_behind}
+use Rattle.swc_ecma_parser.proofs.Calling.{failing, not_both}
+use Rattle.swc_ecma_parser.proofs.Moving.{moved-as}
+use Rattle.swc_ecma_parser.proofs.Top.{stripped, complete}
+
+-- ---- the definition, as the code goes it
+
+sees_first : (ts : List TokenAndSpan) → sees is_each ts ≡ at_token is_each_word (first ts)
+sees_first [] = refl
+sees_first (t ∷ ts) = refl
+
+module _ {F C K : Type 0} where
+  -- behind the expression
+  abbrev pub tail : Scope → Tree F C K × List TokenAndSpan → Out (ForHead F C K)
+  tail x p = for_tail x.context.strict p.0 p.1
+
+  -- the pattern that the code makes of it, and where it makes one
+  abbrev made : Tree F C K → Reader (ForHead F C K)
+  made e x ts =
+      if is_clear (verdict_as x.context.strict AssignPat e) then Some (for_target (want_as AssignPat e), ts) else None
+
+  abbrev pub tail_made : Tree F C K → Reader (ForHead F C K)
+  tail_made e x ts = if sees is_each ts then made e x ts else Some (for_expr e, ts)
+
+  -- an assignment is looked into by no one
+  whole_assign : (e : Tree F C K) → (stands_whole AssignPat e && is_assign e) ≡ is_assign e
+  whole_assign (node (array_with c) s ts) = refl
+  whole_assign (node (object_with c) s ts) = refl
+  whole_assign (node invalid s ts) = refl
+  whole_assign (node k s ts) = refl
+
+  by_assign : (b : Bool) (o : Option (Tree F C K)) (us : List TokenAndSpan)
+      → (if b then None else written o us) ≡ written (if b then None else o) us
+  by_assign true o us = refl
+  by_assign false o us = refl
+
+  by_clear : (b : Bool) (p : Tree F C K) (us : List TokenAndSpan)
+      → written (if b then Some p else None) us ≡ (if b then Some (for_target p, us) else None)
+  by_clear true p us = refl
+  by_clear false p us = refl
+
+  -- what holds nothing that was refused is written to as the code checks it, and is what it makes of it
+  target_made : (x : Scope) (e : Tree F C K) (ts : List TokenAndSpan) → is_valid e ≡ true → Formed e
+      → (if is_assign e then None else written (as_pat (target x.context.strict) e) ts) ≡ made e x ts
+  target_made x e ts v f =
+      let strict = x.context.strict in
+      by_assign (is_assign e) (as_pat (target strict) e) ts
+      ∙ ap (λ b. written (if b then None else as_pat (target strict) e) ts) (sym (whole_assign e))
+      ∙ ap (λ o. written o ts) (pattern-is strict AssignPat e (want_as AssignPat e) f refl)
+      ∙ ap (λ b. written (if b then Some (want_as AssignPat e) else None) ts) (sym (clear-fits strict AssignPat e v))
+      ∙ by_clear (is_clear (verdict_as strict AssignPat e)) (want_as AssignPat e) ts
+
+  tail_is : (x : Scope) (e : Tree F C K) (ts : List TokenAndSpan) → is_valid e ≡ true → Formed e
+      → tail x (e, ts) ≡ tail_made e x ts
+  tail_is x e ts v f = ap (λ o. if sees is_each ts then o else Some (for_expr e, ts)) (target_made x e ts v f)
+
+  split : (o : Out (Tree F C K)) (k : Tree F C K → List TokenAndSpan → Out (ForHead F C K))
+      → and_then o k ≡ (o >>= (λ p. k p.0 p.1))
+  split None k = refl
+  split (Some p) k = refl
+
+module _ {F C K : Type 0} (hook : Hook F C K) (is_await : Bool) where
+  pub head_splits : (x : Scope) (ts : List TokenAndSpan)
+      → for_head hook is_await x ts ≡ (head_expr hook is_await x ts >>= tail x)
+  head_splits x ts = split (head_expr hook is_await x ts) (λ e us. for_tail x.context.strict e us)
+
+-- no error token is one of the words
+pub each-fits : (o : Option TokenAndSpan) → at_token is_each_word o ≡ true → at_token no_error o ≡ true
+each-fits None h = cc
+each-fits (Some t) h = by_token t.token h
+  where
+    by_token : (u : Token) → is_each_word u ≡ true → no_error u ≡ true
+    by_token (token.Error e) h = cc
+    by_token u h = refl
+
+-- ---- what the steps of the code read
+
+module _ {S F C K : Type 0} {fg : Ghosts F} {cg : Ghosts C} {kg : Ghosts K} {model : Model S} {sure : Bool} (hook : Hook F C K)
+    (lawful : LawfulHook fg.place cg.place kg.place hook) {ns : Nodes F C K fg cg kg} (e : ExprId)
+    (from : From 0 ns (expr_part e)) (is_await : Bool) {b c : Buffer S}
+    (h : Heard model sure (head_expr hook is_await) (tree_of ns e) b c) where
+  -- of the expression that was read it is known that nothing in it was refused
+  read_tail : (x : Scope) (ts us : List TokenAndSpan) → head_expr hook is_await x ts ≡ Some (tree_of ns e, us)
+      → (y : Scope) (ys : List TokenAndSpan) → tail y (tree_of ns e, ys) ≡ tail_made (tree_of ns e) y ys
+  read_tail x ts us k y ys =
+      tail_is y (tree_of ns e) ys (read-valid hook lawful Expr (in_for is_await x) ts us (tree_of ns e) k)
+      (expr-formed e from)
+
+  on_tail : On model sure (for_head hook is_await) (tail_made (tree_of ns e)) b c
+  on_tail = on_call_read tail (head_splits hook is_await) h.on read_tail
+
+  -- memory was wanted for the look behind it
+  pub tail-unheard : {d : Buffer S} {x : Error} → Unheard model sure (tail_made (tree_of ns e)) c x d
+      → Unheard model sure (for_head hook is_await) b x d
+  tail-unheard u = steps.unheard_after on_tail u
+
+  module _ {d : Buffer S} (look : Here model c d) where
+    on_expr : at_token is_each_word (seen d) ≡ false → On model sure (tail_made (tree_of ns e)) (give (for_expr (tree_of ns e))) c d
+    on_expr n = steps.on_seen look (λ x ts same at.
+        ap (λ v. if v then made (tree_of ns e) x ts else Some (for_expr (tree_of ns e), ts)) (sees_first ts ∙ ap (λ o. at_token is_each_word o) at ∙ n))
+
+    on_target : at_token is_each_word (seen d) ≡ true → On model sure (tail_made (tree_of ns e)) (made (tree_of ns e)) c d
+    on_target n = steps.on_seen look (λ x ts same at.
+        ap (λ v. if v then made (tree_of ns e) x ts else Some (for_expr (tree_of ns e), ts)) (sees_first ts ∙ ap (λ o. at_token is_each_word o) at ∙ n))
+
+    pub heard-expr : at_token is_each_word (seen d) ≡ false
+        → Heard model sure (for_head hook is_await) (for_expr (tree_of ns e)) b d
+    heard-expr n = heard_behind tail (head_splits hook is_await) h read_tail (on_expr n)
+
+    abbrev well : Bool
+    well = is_clear (verdict_as (context model d).strict AssignPat (tree_of ns e))
+
+    goes : (ts : List TokenAndSpan) → well ≡ true
+        → made (tree_of ns e) (scope model d) ts ≡ Some (for_target (want_as AssignPat (tree_of ns e)), ts)
+    goes ts w = ap (λ v. if v then Some (for_target (want_as AssignPat (tree_of ns e)), ts) else None) w
+
+    stops : (ts : List TokenAndSpan) → well ≡ false → made (tree_of ns e) (scope model d) ts ≡ None
+    stops ts w = ap (λ v. if v then Some (for_target (want_as AssignPat (tree_of ns e)), ts) else None) w
+
+    pub heard-target : {f : Buffer S} (t : Tree F C K) → at_token is_each_word (seen d) ≡ true
+        → t ≡ want_as AssignPat (tree_of ns e) → Checks model well d f
+        → Heard model sure (for_head hook is_await) (for_target t) b f
+    heard-target {f} t n stands checks =
+        subst (λ v. Heard model sure (for_head hook is_await) (for_target v) b f) (sym stands)
+        (heard_behind tail (head_splits hook is_await) h read_tail
+        (steps.on_then (on_target n) (steps.on_checked_in well checks goes stops)))
+
+    pub unheard-target : {f : Buffer S} (x : Error) → at_token is_each_word (seen d) ≡ true → Refuses model d x f
+        → (x.kind ≢ OutOfMemory → well ≡ false) → Unheard model sure (for_head hook is_await) b x f
+    unheard-target x n refuses unclear =
+        tail-unheard (steps.unheard_after (on_target n)
+        (record { refuses = refuses; none = λ m y l ts k. stops ts (unclear m) }))
+
+-- ---- from the numbers to the boxes
+
+module _ {F C K : Type 0} where
+  abbrev first_part : Tree F C K → Tree F C K
+  first_part (node k s nil) = node k s nil
+  first_part (node k s (cons t ts)) = t
+
+  -- which of the two a head is, and its tree, is told by its code
+  decoded : (a b : ForHead F C K) → coded a ≡ coded b → a ≡ b
+  decoded (for_target p) (for_target q) h = ap (λ t. for_target (first_part t)) h
+  decoded (for_expr p) (for_expr q) h = ap (λ t. for_expr (first_part t)) h
+  decoded (for_target p) (for_expr q) h = absurd cc
+  decoded (for_expr p) (for_target q) h = absurd cc
+
+  moved-decoded : {X T : Type 0} (by : X → ForHead F C K) (view : T → ForHead F C K) (M : Error → Type 0) (answer : Result X Error) (r : Result T Error)
+      → MatchResult answer (λ x. MatchResult r (λ t. coded (view t) ≡ coded (by x)) M) (λ e. r ≡ Err e)
+      → MatchResult answer (λ x. MatchResult r (λ t. view t ≡ by x) M) (λ e. r ≡ Err e)
+  moved-decoded by view M (Ok x) (Ok t) m = decoded (view t) (by x) m
+  moved-decoded by view M (Ok x) (Err e) m = m
+  moved-decoded by view M (Err e) r m = m
+
+  tree_bare : (h : ForHead F C K) → head_tree (unmarked_head h) ≡ unmarked (head_tree h)
+  tree_bare (for_target p) = refl
+  tree_bare (for_expr e) = refl
+
+  head_bare : (f : ℕ → Tree F C K) (h : ForHeadId) → unmarked_head (head_by f h) ≡ head_by (λ n. unmarked (f n)) h
+  head_bare f (number.Target p) = refl
+  head_bare f (number.Expr e) = refl
+
+  head_which : (f : ℕ → Tree F C K) (h : ForHeadId) → is_for_target (head_by f h) ≡ is_target_id h
+  head_which f (number.Target p) = refl
+  head_which f (number.Expr e) = refl
+
+  head_commas : (f : ℕ → Tree F C K) (h : ForHeadId)
+      → commas_in (head_tree (head_by f h)) ≡ part_commas f (for_head_parts h)
+  head_commas f (number.Target p) = refl
+  head_commas f (number.Expr e) = refl
+
+-- ---- what is derived
+
+module _ {F C K : Type 0} (hook : Hook F C K) (is_await : Bool) where
+  -- up to where a head may stop, all that is derived is read
+  head_complete : {c : Scope} {ts ys : List TokenAndSpan} {h : ForHead F C K} → ReadsHeadUnmarked hook is_await c ts ys h
+      → HeadStops ys → stripped unmarked_head (for_head hook is_await) c ts ≡ Some (h, ys)
+  head_complete {ys = ys} d e =
+      ap (λ o. o >>= (λ p. Some (unmarked_head p.0, p.1))) (head-front hook d.read e) ∙ ap (λ v. Some (v, ys)) d.same
+
+  grouped_bare : {c : Scope} {ts ys : List TokenAndSpan} {h : ForHead F C K} → ReadsHeadUnmarked hook is_await c ts ys h
+      → is_grouped (head_tree h) ≡ true
+  grouped_bare d =
+      ap (λ v. is_grouped (head_tree v)) (sym d.same) ∙ ap (λ v. is_grouped v) (tree_bare d.marked)
+      ∙ same-grouped (head_tree d.marked) ∙ head-grouped d.read
+
+  valid_bare : {c : Scope} {ts ys : List TokenAndSpan} {h : ForHead F C K} → ReadsHeadUnmarked hook is_await c ts ys h
+      → is_valid (head_tree h) ≡ true
+  valid_bare d =
+      ap (λ v. is_valid (head_tree v)) (sym d.same) ∙ ap (λ v. is_valid v) (tree_bare d.marked)
+      ∙ same-valid (head_tree d.marked) ∙ head-valid d.read
+
+module _ {S F C K : Type 0} {fun_at : F → Span} {class_at : C → Span} {block_at : K → Span} {model : Model S} {sure : Bool}
+    (hook : Hook F C K) (laws : LawfulHook fun_at class_at block_at hook) (is_await : Bool) {marked : ForHead F C K} {b c : Buffer S}
+    (h : Heard model sure (for_head hook is_await) marked b c) (loud : Loud model b) (same : Unmarred model b c) where
+  front : (ys : List TokenAndSpan) → Future model c ys
+      → ReadsHead hook is_await (scope model b) (h.on.leads.taken ++ ys) ys marked
+  front ys fut =
+      head-sound hook laws is_await (scope model b) (h.on.leads.taken ++ ys) (marked, ys)
+      (h.on.clean loud (ap length same) ys fut)
+
+  derived : DerivesHead model (ReadsHead hook is_await) marked b c
+  derived = record {
+    consumed = h.on.leads.taken;
+    read = h.on.leads.read;
+    front = front;
+    alone = λ ys fut. head-next h.on.leads.taken ys (front ys fut);
+  }
+
+  module _ {bare : ForHead F C K} (strips : unmarked_head marked ≡ bare) where
+    derived_bare : DerivesHead model (ReadsHeadUnmarked hook is_await) bare b c
+    derived_bare = record {
+      consumed = h.on.leads.taken;
+      read = h.on.leads.read;
+      front = λ ys fut. record { marked = marked; read = front ys fut; same = strips };
+      alone = λ ys fut. record { marked = marked; read = head-next h.on.leads.taken ys (front ys fut); same = strips };
+    }
+
+    good_bare : (is_grouped (head_tree bare) ≡ true) × (is_valid (head_tree bare) ≡ true)
+    good_bare =
+        let some = Future-some h.on.leads.laws c in
+        let d = derived_bare.front some.0 some.1 in
+        (grouped_bare hook is_await d, valid_bare hook is_await d)
+
+-- ---- what is promised
+
+module _ {S F C K T : Type 0} (model : Model S) (sure : Bool) (hook : Hook F C K) (is_await : Bool) (view : T → ForHead F C K)
+    (b : Buffer S) (r : Result T Error) (c : Buffer S) where
+  -- no other head is derived
+  one : Complete model (ReadsHeadUnmarked hook is_await) view HeadStops b r c → Loud model b → (ts ys : List TokenAndSpan)
+      (h : ForHead F C K) → Known model b ts → ReadsHeadUnmarked hook is_await (scope model b) ts ys h → HeadStops ys
+      → IfOk r (λ x. (h ≡ view x) × Known model c ys)
+  one all loud ts ys h known d stop = of_answer r (all loud ts ys h known d stop)
+    where
+      of_answer : (v : Result T Error)
+          → MatchResult v (λ x. (view x ≡ h) × Known model c ys × Unmarred model b c) (λ e. e.kind ≡ OutOfMemory)
+          → IfOk v (λ x. (h ≡ view x) × Known model c ys)
+      of_answer (Ok x) q = (sym q.0, q.1)
+      of_answer (Err e) q = tt
+
+module _ {S F C K : Type 0} {fg : Ghosts F} {cg : Ghosts C} {kg : Ghosts K} (model : Model S) (sure : Bool) (hook : Hook F C K)
+    (laws : LawfulHook fg.place cg.place kg.place hook) (is_await : Bool) (ns : Nodes F C K fg cg kg) (b c : Buffer S) where
+  abbrev boxed : HeadOf F C K → ForHead F C K
+  boxed = boxed_head fg.place cg.place kg.place
+
+  -- what was moved into boxes, where it was
+  abbrev MovedTo : Result ForHeadId Error → Result (HeadOf F C K) Error → Type 0
+  MovedTo answer r = MatchResult answer
+      (λ x. MatchResult r (λ t. boxed t ≡ head_by (bare_at ns) x) (λ e. e ≡ no_memory (last_position c)))
+      (λ e. r ≡ Err e)
+
+  strips : (x : ForHeadId) (t : HeadOf F C K) → boxed t ≡ head_by (bare_at ns) x → unmarked_head (for_head_at ns x) ≡ boxed t
+  strips x t m = head_bare (tree_at ns) x ∙ sym m
+
+  told : (answer : Result ForHeadId Error) (r : Result (HeadOf F C K) Error) (w : Bool) → IfOk answer (λ h. is_target_id h ≡ w)
+      → MovedTo answer r → IfOk r (λ t. is_for_target (boxed t) ≡ w)
+  told (Ok x) (Ok t) w q m = ap (λ v. is_for_target v) m ∙ head_which (bare_at ns) x ∙ q
+  told (Err e) (Ok t) w q m = absurd cc
+  told answer (Err e) w q m = tt
+
+  abbrev Read : Result ForHeadId Error → Type 0
+  Read answer = Parses model sure (for_head_at ns) (for_head hook is_await) b answer c
+
+  derives : (answer : Result ForHeadId Error) (r : Result (HeadOf F C K) Error) → Read answer → MovedTo answer r → Loud model b
+      → IfOk r (λ t. Unmarred model b c → DerivesHead model (ReadsHeadUnmarked hook is_await) (boxed t) b c)
+  derives (Ok x) (Ok t) h m loud = λ same. derived_bare hook laws is_await h loud same (strips x t m)
+  derives (Err e) (Ok t) h m loud = absurd cc
+  derives answer (Err e) h m loud = tt
+
+  grouped : (answer : Result ForHeadId Error) (r : Result (HeadOf F C K) Error) → Read answer → MovedTo answer r → Loud model b
+      → IfOk r (λ t. Unmarred model b c → is_grouped (head_tree (boxed t)) ≡ true)
+  grouped (Ok x) (Ok t) h m loud = λ same. (good_bare hook laws is_await h loud same (strips x t m)).0
+  grouped (Err e) (Ok t) h m loud = absurd cc
+  grouped answer (Err e) h m loud = tt
+
+  valid : (answer : Result ForHeadId Error) (r : Result (HeadOf F C K) Error) → Read answer → MovedTo answer r → Loud model b
+      → IfOk r (λ t. Unmarred model b c → is_valid (head_tree (boxed t)) ≡ true)
+  valid (Ok x) (Ok t) h m loud = λ same. (good_bare hook laws is_await h loud same (strips x t m)).1
+  valid (Err e) (Ok t) h m loud = absurd cc
+  valid answer (Err e) h m loud = tt
+
+  -- the commas of its literals
+  commas : (answer : Result ForHeadId Error) (r : Result (HeadOf F C K) Error) → Read answer → MovedTo answer r
+      → (old new : TrailingCommas)
+      → MatchResult answer (λ x. OnOk r (Recalls (part_commas (tree_at ns) (for_head_parts x)) old new)) (λ e. new ≡ old)
+      → MatchResult r (λ t. RemembersHead model hook is_await (boxed t) b c old new) (λ e. e.kind ≢ OutOfMemory → new ≡ old)
+  commas (Ok x) (Ok t) h m old new q = record {
+    marked = for_head_at ns x;
+    same = strips x t m;
+    derived = λ loud same. derived hook laws is_await h loud same;
+    recalls = λ k. q k ∙ ap (λ ls. recalled ls k (comma_at old k)) (sym (head_commas (tree_at ns) x));
+  }
+  commas (Ok x) (Err e) h m old new q = λ n. absurd (n (ap (λ v. v.kind) m))
+  commas (Err e) (Ok t) h m old new q = absurd cc
+  commas (Err e) (Err x) h m old new q = λ n. q
+
+  module _ (answer : Result ForHeadId Error) (r : Result (HeadOf F C K) Error) (reads : Read answer)
+      (moved : MatchResult answer
+      (λ x. MatchResult r (λ t. coded (boxed t) ≡ coded (head_by (bare_at ns) x)) (λ e. e ≡ no_memory (last_position c)))
+      (λ e. r ≡ Err e)) where
+    to : MovedTo answer r
+    to = moved-decoded (head_by (bare_at ns)) boxed (λ e. e ≡ no_memory (last_position c)) answer r moved
+
+    bare_reads : Parses model sure boxed (stripped unmarked_head (for_head hook is_await)) b r c
+    bare_reads =
+        moved-as model sure (for_head hook is_await) (for_head_at ns) (head_by (bare_at ns)) boxed unmarked_head b c answer r
+        reads (head_bare (tree_at ns)) to
+
+    all : sure ≡ true → Complete model (ReadsHeadUnmarked hook is_await) boxed HeadStops b r c
+    all y =
+        complete model sure (ReadsHeadUnmarked hook is_await) boxed (stripped unmarked_head (for_head hook is_await)) y HeadStops
+        (record { complete = λ x ts ys t d e. head_complete hook is_await d e }) b r c bare_reads
+
+    pub head-promised : IfOk answer (λ h. is_target_id h ≡ at_token is_each_word (seen c))
+        → HeadPromise model sure hook is_await boxed b r c
+    head-promised which = record {
+      reads = consumes_of model sure boxed (stripped unmarked_head (for_head hook is_await)) b c r bare_reads;
+      which = told answer r (at_token is_each_word (seen c)) which to;
+      sound = derives answer r reads to;
+      complete = all;
+      one_head = λ y. one model sure hook is_await boxed b r c (all y);
+      grouped = grouped answer r reads to;
+      valid = valid answer r reads to;
+    }
+
+    pub head-recalled : (old new : TrailingCommas)
+        → MatchResult answer (λ x. OnOk r (Recalls (part_commas (tree_at ns) (for_head_parts x)) old new)) (λ e. new ≡ old)
+        → MatchResult r (λ t. RemembersHead model hook is_await (boxed t) b c old new) (λ e. e.kind ≢ OutOfMemory → new ≡ old)
+    head-recalled = commas answer r reads to
+
+module _ {S H F C K : Type 0} {fg : Ghosts F} {cg : Ghosts C} {kg : Ghosts K} {model : Model S} {sure : Bool} {hook : Hook F C K}
+    {is_await : Bool} where
+  pub head-again : {p : Parser S H F C K fg cg kg} {e : Error}
+      → (has_failed p ≡ true) × (e ≡ parser_failed (previous (buffer_of p))) → SameNodes (nodes_of p) (nodes_of p)
+      → PromisedHead model sure hook is_await p (Err e) p
+  head-again h same = record {
+    again = λ failed. (refl, ap (λ x. Err x) h.1);
+    promise = λ runs. absurd (not_both h.0 runs);
+    commas = λ n. refl;
+    nodes = same;
+    fails = λ runs. absurd (not_both h.0 runs);
+  }
+
+  -- the buffer, the nodes and the commas before the parser remembers want of memory
+  pub promised-head : {p q : Parser S H F C K fg cg kg} {f : Bool} (b : Buffer S) (ns : Nodes F C K fg cg kg) (cs : TrailingCommas)
+      (a r : Result (HeadOf F C K) Error) → has_failed p ≡ false → f ≡ has_failed p → r ≡ a → buffer_of q ≡ b → nodes_of q ≡ ns
+      → commas_of q ≡ cs → has_failed q ≡ (f || wants_memory a)
+      → HeadPromise model sure hook is_await (boxed_head fg.place cg.place kg.place) (buffer_of p) a b
+      → MatchResult a (λ t. RemembersHead model hook is_await (boxed_head fg.place cg.place kg.place t) (buffer_of p) b (commas_of p) cs)
+      (λ e. e.kind ≢ OutOfMemory → cs ≡ commas_of p)
+      → SameNodes (nodes_of p) ns → PromisedHead model sure hook is_await p r q
+  promised-head {p} {q} b ns cs a r runs same e buffer nodes commas fails done remembers kept = record {
+    again = λ failed. absurd (not_both failed runs);
+    promise = λ w. rw (e, buffer) done;
+    commas = rw (e, buffer, commas) remembers;
+    nodes = rw nodes kept;
+    fails = λ w. failing a r runs same e fails;
+  }

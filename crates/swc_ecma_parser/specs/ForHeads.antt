@@ -1,0 +1,164 @@
+-- Heads of `for` that begin with no declaration (ECMA-262, 14.7.4 and 14.7.5): as they are read, among the nodes and in
+-- boxes, and what the calls promise of them.
+use Rattle.std.specs.Prelude.{◌≡◌, ◌≢◌, ◌||◌, ℕ, Bool, true, false, List, ◌++◌, Result, Err, IfOk, MatchResult}
+use Rattle.std.specs.declared.alloc.Global.{Global}
+use Rattle.std.specs.declared.boxed.Box.{Box}
+use Rattle.swc_context.specs.declared.context.Context.{Context}
+use Rattle.swc_context.specs.declared.error.Error.{Error}
+use Rattle.swc_context.specs.declared.error.SyntaxError.TheVariants.{OutOfMemory}
+use Rattle.swc_context.specs.declared.span.Span.{Span}
+use Rattle.swc_input.specs.declared.buffer.Buffer.{Buffer}
+use Rattle.swc_input.specs.declared.token.Token.{Token}
+use Rattle.swc_input.specs.declared.token.TokenAndSpan.{TokenAndSpan}
+use Rattle.swc_input.specs.Source.{Model}
+use Rattle.swc_input.specs.Buffer.{Read, Future, Known, previous}
+use Rattle.swc_input.specs.Kinds.{at_token}
+use Rattle.swc_ast.specs.Tree.{Tree, node, nil, cons, args, pat_expr, no_span}
+use Rattle.swc_ast.specs.TreeOf.{boxed_tree, pat_tree}
+use Rattle.swc_ast.specs.Trees.{is_grouped, is_valid, unmarked}
+use Rattle.swc_ast.specs.declared.expr.Expr.{Expr as ExprOf}
+use Rattle.swc_ast.specs.declared.for_head.ForHead.{ForHead as HeadOf}
+use Rattle.swc_ast.specs.declared.for_head.ForHead.TheVariants as boxed
+use Rattle.swc_ast.specs.declared.spanned.Spanned.{Ghosts}
+use Rattle.swc_bodies.specs.Readings.{Hook}
+use Rattle.swc_grammar.specs.Arrows.{is_of}
+use Rattle.swc_grammar.specs.Clean.{Out, sym, run}
+use Rattle.swc_grammar.specs.ForHead.{ForHead, for_target, for_expr, for_context, in_for, in_own_for, is_for_target, is_in}
+use Rattle.swc_grammar.specs.ForHead.{ReadsHead, ReadsHeadUnmarked, HeadStops, head_tree, next, unmarked_head}
+use Rattle.swc_grammar.specs.Reads.{Reads, ReadsUnmarked}
+use Rattle.swc_grammar.specs.Scope.{Scope}
+use Rattle.swc_grammar.specs.Symbols.{Expr}
+use Rattle.swc_nodes.specs.Commas.{commas_in, Recalls}
+use Rattle.swc_nodes.specs.GrowingNodes.{tree_at, Apart, SameNodes}
+use Rattle.swc_nodes.specs.NodeParts.{for_head_parts}
+use Rattle.swc_nodes.specs.declared.commas.TrailingCommas.{TrailingCommas}
+use Rattle.swc_nodes.specs.declared.node.ForHeadId.{ForHeadId}
+use Rattle.swc_nodes.specs.declared.node.ForHeadId.TheVariants as number
+use Rattle.swc_nodes.specs.declared.nodes.Nodes.{Nodes}
+use Rattle.swc_steps.specs.Parsing.{scope, seen, Loud, Consumes}
+use Rattle.swc_ecma_parser.specs.Calls.{buffer_of, nodes_of, commas_of, tree_by, has_failed, wants_memory, parser_failed}
+use Rattle.swc_ecma_parser.specs.Promise.{Answer, Complete, Derivation, Promised, Unmarred}
+use Rattle.swc_ecma_parser.specs.declared.parser.Parser.{Parser}
+
+-- the words before which what is written to stands
+abbrev pub is_each_word : Token → Bool
+is_each_word t = is_of t || is_in t
+
+-- the context in a head by what it is before it, which says whether the head is one of `for await`
+abbrev pub own_for_context : Context → Context
+own_for_context c = for_context c.expr_ctx.for_await_loop_init c
+
+-- ---- readings
+
+module _ {F C K : Type 0} (hook : Hook F C K) where
+  -- the expression in a head
+  abbrev pub head_expr : Bool → Scope → List TokenAndSpan → Out (Tree F C K)
+  head_expr is_await c ts = run hook (sym Expr) (in_for is_await c) ts
+
+  abbrev pub own_head_expr : Scope → List TokenAndSpan → Out (Tree F C K)
+  own_head_expr c ts = run hook (sym Expr) (in_own_for c) ts
+
+-- ---- heads by number, and in boxes
+
+module _ {F C K : Type 0} where
+  abbrev pub head_by : (ℕ → Tree F C K) → ForHeadId → ForHead F C K
+  head_by at (number.Target p) = for_target (at p.0)
+  head_by at (number.Expr e) = for_expr (at e.0)
+
+  abbrev pub boxed_head : (F → Span) → (C → Span) → (K → Span) → HeadOf F C K → ForHead F C K
+  boxed_head fun class block (boxed.Target p) = for_target (pat_tree F C K fun class block p.value)
+  boxed_head fun class block (boxed.Expr e) = for_expr (boxed_tree F C K fun class block e)
+
+  -- a head as one tree, whose kind says which of the two it is
+  abbrev pub coded : ForHead F C K → Tree F C K
+  coded (for_target p) = node pat_expr no_span (cons p nil)
+  coded (for_expr e) = node args no_span (cons e nil)
+
+abbrev pub is_target_id : ForHeadId → Bool
+is_target_id (number.Target p) = true
+is_target_id (number.Expr e) = false
+
+module _ {F C K : Type 0} {fg : Ghosts F} {cg : Ghosts C} {kg : Ghosts K} where
+  -- what a head holds of numbers, and what it stands for among the nodes
+  abbrev pub for_head_of : ℕ → Nodes F C K fg cg kg → ForHeadId → Type 0
+  for_head_of k ns h = Apart k ns (for_head_parts h)
+
+  abbrev pub for_head_at : Nodes F C K fg cg kg → ForHeadId → ForHead F C K
+  for_head_at ns h = head_by (tree_at ns) h
+
+-- ---- the promise
+
+-- What a head begins with, as an expression in boxes: derived where `in` is no operator, and `async` before `of` is, in the
+-- head of a `for await`, an identifier.
+abbrev pub prefix_in_boxes : {F C K : Type 0} {fg : Ghosts F} {cg : Ghosts C} {kg : Ghosts K} → Answer (Box (ExprOf F C K) Global) F C K fg cg kg
+prefix_in_boxes {fg = fg} {cg = cg} {kg = kg} = record {
+  tree = λ ns e. tree_by fg.place cg.place kg.place e;
+  derives = λ hook s c xs ys t. ReadsUnmarked hook s (in_own_for c) xs ys t;
+  marked = λ hook s c xs ys t. Reads hook s (in_own_for c) xs ys t;
+  strip = unmarked;
+  leaves = λ ns r ms. SameNodes ns ms;
+}
+
+-- What a call promises that reads such an expression, from the parser p to q, where it answers r: as any other expression is promised, and
+-- over a listed source, with a faithful hook, also one that is derived up to `of` or `in` is answered.
+pub record PromisedPrefix {S H F C K : Type 0} {fg : Ghosts F} {cg : Ghosts C} {kg : Ghosts K} (model : Model S) (sure : Bool) (hook : Hook F C K)
+    (p : Parser S H F C K fg cg kg) (r : Result (Box (ExprOf F C K) Global) Error) (q : Parser S H F C K fg cg kg) : Type 0 where
+  pub promised : Promised model sure hook prefix_in_boxes Expr p r q
+  pub words : has_failed p ≡ false → sure ≡ true
+      → Complete model (λ c xs ys t. ReadsUnmarked hook Expr (in_own_for c) xs ys t) (tree_by fg.place cg.place kg.place) HeadStops
+      (buffer_of p) r (buffer_of q)
+
+module _ {S F C K : Type 0} (model : Model S) (derives : Derivation (ForHead F C K)) where
+  -- Between b and c tokens were consumed from which the head is derived: with whatever may follow, and with the next token of
+  -- that alone, by which it is told which of the two it is.
+  pub record DerivesHead (h : ForHead F C K) (b c : Buffer S) : Type 0 where
+    pub consumed : List TokenAndSpan
+    pub read : Read model b consumed c
+    pub front : (ys : List TokenAndSpan) → Future model c ys → derives (scope model b) (consumed ++ ys) ys h
+    pub alone : (ys : List TokenAndSpan) → Future model c ys → derives (scope model b) (consumed ++ next ys) (next ys) h
+
+module _ {S F C K : Type 0} (model : Model S) (hook : Hook F C K) (is_await : Bool) where
+  -- Between b and c the commas of literals were remembered, one after another, and no other: of those of a head that has its marks, and is
+  -- h without them. Where faults are recorded at all, and none was, it is derived from the tokens consumed.
+  pub record RemembersHead (h : ForHead F C K) (b c : Buffer S) (old new : TrailingCommas) : Type 0 where
+    pub marked : ForHead F C K
+    pub same : unmarked_head marked ≡ h
+    pub derived : Loud model b → Unmarred model b c → DerivesHead model (ReadsHead hook is_await) marked b c
+    pub recalls : Recalls (commas_in (head_tree marked)) old new
+
+-- What is promised of the reading of a head of a `for`, or of a `for await`, from b to c, where it answers r. The token behind the head stays.
+pub record HeadPromise {S T F C K : Type 0} (model : Model S) (sure : Bool) (hook : Hook F C K) (is_await : Bool) (view : T → ForHead F C K)
+    (b : Buffer S) (r : Result T Error) (c : Buffer S) : Type 0 where
+  -- One token at least was consumed, or it refuses, and what was consumed isn't lost; the context is what it was, no recorded fault was
+  -- taken out, and no want of memory recorded.
+  pub reads : Consumes model b r c
+  -- It is a target where `of` or `in` comes next, and an expression elsewhere, faults or not.
+  pub which : IfOk r (λ h. is_for_target (view h) ≡ at_token is_each_word (seen c))
+  -- What is answered with no fault recorded is derived from the tokens consumed, by the token that follows.
+  pub sound : Loud model b → IfOk r (λ h. Unmarred model b c → DerivesHead model (ReadsHeadUnmarked hook is_await) (view h) b c)
+  -- Over a listed source, with a faithful hook: what is derived from the tokens to come, up to the end, `of`, `in`, `;` or `)`, is answered,
+  -- with no fault recorded, and what follows it is left; or the answer is want of memory.
+  pub complete : sure ≡ true → Complete model (ReadsHeadUnmarked hook is_await) view HeadStops b r c
+  -- No other head is derived up to such a token, nor up to another one of these than what was answered.
+  pub one_head : sure ≡ true → Loud model b → (ts ys : List TokenAndSpan) (h : ForHead F C K) → Known model b ts
+      → ReadsHeadUnmarked hook is_await (scope model b) ts ys h → HeadStops ys → IfOk r (λ x. (h ≡ view x) × Known model c ys)
+  -- In what was answered with no fault recorded operators group as their levels say, and it holds no `Invalid`.
+  pub grouped : Loud model b → IfOk r (λ h. Unmarred model b c → is_grouped (head_tree (view h)) ≡ true)
+  pub valid : Loud model b → IfOk r (λ h. Unmarred model b c → is_valid (head_tree (view h)) ≡ true)
+
+-- What a call promises that reads a head, from the parser p to q, where it answers r.
+pub record PromisedHead {S H F C K : Type 0} {fg : Ghosts F} {cg : Ghosts C} {kg : Ghosts K} (model : Model S) (sure : Bool) (hook : Hook F C K)
+    (is_await : Bool) (p : Parser S H F C K fg cg kg) (r : Result (HeadOf F C K) Error) (q : Parser S H F C K fg cg kg) : Type 0 where
+  -- A parser that met want of memory does nothing, and refuses as `ParserFailed` at the token consumed last.
+  pub again : has_failed p ≡ true → (q ≡ p) × (r ≡ Err (parser_failed (previous (buffer_of p))))
+  -- any other reads the head
+  pub promise : has_failed p ≡ false
+      → HeadPromise model sure hook is_await (boxed_head fg.place cg.place kg.place) (buffer_of p) r (buffer_of q)
+  -- The commas of the answer's literals were remembered; what is refused but for want of memory leaves what there was.
+  pub commas : MatchResult r
+      (λ h. RemembersHead model hook is_await (boxed_head fg.place cg.place kg.place h) (buffer_of p) (buffer_of q) (commas_of p) (commas_of q))
+      (λ e. e.kind ≢ OutOfMemory → commas_of q ≡ commas_of p)
+  -- the nodes are what they were
+  pub nodes : SameNodes (nodes_of p) (nodes_of q)
+  -- it has failed from now on where it refuses for want of memory, and only there
+  pub fails : has_failed p ≡ false → has_failed q ≡ wants_memory r
