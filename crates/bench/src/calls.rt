@@ -8,10 +8,11 @@
 /// refuses it. Where a word such as `hook_refuses` says what it does at its first call, it records
 /// `TS1005` at the token of each later one, and answers the token's place. `node 2` is the expression
 /// of that number. `label_of_refusal` reads as `parse_expr_id` does, and answers the place and the
-/// note with which its refusal is labelled. Each row that tells nothing of nodes holds with
-/// `parse_expr_id` for `parse_expr`, too. Calls on patterns stand in patterns.rt, those on
-/// arrow functions in arrows.rt, those on heads of `for` in heads.rt, and those that make patterns of expressions in
-/// refining.rt.
+/// note with which its refusal is labelled. Each row that tells nothing of nodes and is of one parser holds with
+/// `parse_expr_id` for `parse_expr`, too, and so with each other call by number (numbered.rt). Calls on
+/// patterns stand in patterns.rt, those on left-hand sides in left_hand.rt, those on arrow functions in
+/// arrows.rt, those on heads of `for` in heads.rt, those that make patterns of expressions in
+/// refining.rt, and those of the hook and of a parser's parts in handed_over.rt.
 pub(crate) const CALLS: &str =
     r"parse_expr; parse_assignment_expr; parse_bin_expr; parse_unary_expr; at_end; parse_lit; at_end | script | a + b c d * e {f} 7 | Bin(+, a, b) 0..5; c 6..7; Bin(*, d, e) 8..13; Object{f} 14..17; false; 7 18..19; true | none | end
 parse_bin_expr | script without_in | a in b | a 0..1 | none | 2..4

@@ -15,19 +15,33 @@ mod captured;
 #[cfg(test)]
 mod chains;
 #[cfg(test)]
+mod contexts;
+#[cfg(test)]
+mod deferred;
+#[cfg(test)]
 mod failing;
+#[cfg(test)]
+mod flags;
+#[cfg(test)]
+mod handed_over;
 #[cfg(test)]
 mod heads;
 #[cfg(test)]
 mod hooks;
 #[cfg(test)]
+mod left_hand;
+#[cfg(test)]
 mod noting;
+#[cfg(test)]
+mod numbered;
 #[cfg(test)]
 mod parsing;
 #[cfg(test)]
 mod patterns;
 #[cfg(test)]
 mod program;
+#[cfg(test)]
+mod reaching;
 #[cfg(test)]
 mod refining;
 #[cfg(test)]

@@ -1,16 +1,20 @@
 // Calls of the parser.
 use crate::arrows::ARROWS;
 use crate::calls::CALLS;
+use crate::handed_over::HANDED_OVER;
 use crate::heads::HEADS;
-use crate::hooks::TestBodies;
+use crate::hooks::{TestBodies, consume};
+use crate::left_hand::LEFT_HAND;
+use crate::numbered::{by_number, show_in};
 use crate::patterns::PATTERNS;
+use crate::reaching::{REACHING, show_reached, show_reached_params, show_reached_pat};
 use crate::refining::REFINING;
 use crate::reparsing::{params_of_items, reparse, reparse_invalid, reparse_other};
 use crate::settings::{setting_of, source_of};
 use crate::shown::{Shown, show, show_faults, show_label, show_refusal};
 use crate::slashes::slashes_of;
 use crate::sources::FailingInput;
-use crate::trees::{show_id, show_numbered, show_numbered_pat, show_pat_id};
+use crate::trees::{show_id, show_pat_id};
 use crate::verifying::{VERIFYING, verify, verify_other};
 use bench_lower::rows::{Row, Subject, answers, expect, row_of};
 use bench_lower::tokens::{fault_of, span_of};
@@ -21,6 +25,7 @@ use swc_context::error::Error;
 use swc_context::span::{BytePos, Span};
 use swc_ecma_parser::parser::object::ParseObject;
 use swc_ecma_parser::parser::{Parser, PatOf};
+use swc_input::buffer::Buffer;
 use swc_input::tokens::Tokens;
 use swc_nodes::node::{ExprId, PatId};
 
@@ -29,26 +34,36 @@ type TestExpr = ExprOf<TestBodies>;
 
 type TestPat = PatOf<TestBodies>;
 
-/// A parser, and whether `parse_expr_id` is called for `parse_expr`, and `parse_pat_id` for `parse_pat`.
+/// A parser, and whether the calls by number are made for those that answer boxes.
 #[derive(Drop)]
 struct Tested<I: Tokens> {
     parser: Parser<I, TestBodies>,
     numbers: bool,
 }
 
+impl<I: Tokens> Tested<I> {
+    /// Another parser over the buffer that this one leaves, with its hook; and how many nodes this one leaves.
+    fn next(self, alloc: Global) -> (Tested<I>, usize) {
+        let (buffer, nodes, hook) = self.parser.into_parts();
+        let next = Tested {
+            parser: Parser::over(alloc, buffer, hook),
+            numbers: self.numbers,
+        };
+        (next, nodes.len())
+    }
+}
+
 impl<I: Tokens> Subject for Tested<I> {
     fn call(&mut self, out: &mut String, call: &str) -> Result<(), Fail> {
+        let call = if self.numbers { by_number(call) } else { call };
         let parser = &mut self.parser;
         let shown = match call {
-            "parse_expr_id" => show_numbered(out, parser),
-            "parse_expr" if self.numbers => show_numbered(out, parser),
             "parse_expr" => show(out, parser.parse_expr()),
-            "parse_pat_id" => show_numbered_pat(out, parser),
-            "parse_pat" if self.numbers => show_numbered_pat(out, parser),
             "parse_pat" => show(out, parser.parse_pat()),
             "parse_assignment_expr" => show(out, parser.parse_assignment_expr()),
             "parse_bin_expr" => show(out, parser.parse_bin_expr()),
             "parse_unary_expr" => show(out, parser.parse_unary_expr()),
+            "parse_lhs_expr" => show(out, parser.parse_lhs_expr()),
             "parse_for_head_prefix" => show(out, parser.parse_for_head_prefix()),
             "label_of_refusal" => show_refused_label(out, parser),
             "parse_lit" => show(out, parser.parse_lit()),
@@ -58,9 +73,97 @@ impl<I: Tokens> Subject for Tested<I> {
                 parser.clear_nodes();
                 ().show(out)
             }
-            _ => return call_part(parser, out, call),
+            _ => return call_by_number(parser, out, call),
         };
         Ok(shown?)
+    }
+}
+
+/// The calls that answer numbers of nodes.
+fn call_by_number<I: Tokens>(
+    parser: &mut Parser<I, TestBodies>,
+    out: &mut String,
+    call: &str,
+) -> Result<(), Fail> {
+    let shown = match call {
+        "parse_expr_id" => {
+            let answer = parser.parse_expr_id();
+            show_in(out, parser.nodes(), answer)
+        }
+        "parse_lhs_expr_id" => {
+            let answer = parser.parse_lhs_expr_id();
+            show_in(out, parser.nodes(), answer)
+        }
+        "parse_prop_name_id" => {
+            let answer = parser.parse_prop_name_id();
+            show_in(out, parser.nodes(), answer)
+        }
+        "parse_pat_id" => {
+            let answer = parser.parse_pat_id();
+            show_in(out, parser.nodes(), answer)
+        }
+        "parse_binding_element_id" => {
+            let answer = parser.parse_binding_element_id();
+            show_in(out, parser.nodes(), answer)
+        }
+        _ => return call_list_by_number(parser, out, call),
+    };
+    Ok(shown?)
+}
+
+/// The calls on parameters and on heads of `for` that answer numbers of nodes.
+fn call_list_by_number<I: Tokens>(
+    parser: &mut Parser<I, TestBodies>,
+    out: &mut String,
+    call: &str,
+) -> Result<(), Fail> {
+    let shown = match call {
+        "parse_formal_params_id" => {
+            let answer = parser.parse_formal_params_id();
+            show_in(out, parser.nodes(), answer)
+        }
+        "parse_arrow_params_id" => {
+            let answer = parser.parse_arrow_params_id();
+            show_in(out, parser.nodes(), answer)
+        }
+        "parse_for_head_id(false)" => {
+            let answer = parser.parse_for_head_id(false);
+            show_in(out, parser.nodes(), answer)
+        }
+        "parse_for_head_id(true)" => {
+            let answer = parser.parse_for_head_id(true);
+            show_in(out, parser.nodes(), answer)
+        }
+        _ => return call_hook(parser, out, call),
+    };
+    Ok(shown?)
+}
+
+/// The calls that the hook answers, and that of the buffer.
+fn call_hook<I: Tokens>(
+    parser: &mut Parser<I, TestBodies>,
+    out: &mut String,
+    call: &str,
+) -> Result<(), Fail> {
+    let shown = match call {
+        "read_fun" => show(out, parser.read_fun()),
+        "read_class" => show(out, parser.read_class()),
+        "read_block" => show(out, parser.read_block()),
+        "bump" => bump(out, parser.buffer()),
+        "reached" => show_reached(out, parser),
+        "reached_pat" => show_reached_pat(out, parser),
+        "reached_params" => show_reached_params(out, parser),
+        _ => return call_part(parser, out, call),
+    };
+    Ok(shown?)
+}
+
+/// Consumes the current token by the buffer, and writes its place; or refuses the end, or an error token, as the buffer
+/// does.
+fn bump<I: Tokens>(out: &mut String, buffer: &mut Buffer<I>) -> Result<(), AllocError> {
+    match buffer.require_cur() {
+        Ok(()) => consume(buffer).show(out),
+        Err(fault) => show_refusal(out, fault),
     }
 }
 
@@ -195,6 +298,10 @@ fn call_at<I: Tokens>(
             let start = at.parse().ok().ok_or("no position")?;
             parser.trailing_comma(BytePos(start)).show(out)?;
         }
+        Some(("set_hook", word)) => {
+            *parser.bodies() = TestBodies::named(word).ok_or("no hook")?;
+            ().show(out)?;
+        }
         Some(("node", number)) => {
             let number = number.parse().ok().ok_or("no number")?;
             show_id(out, parser.nodes(), ExprId(number))?;
@@ -252,6 +359,21 @@ fn outcome<I: Tokens>(alloc: Global, tested: &mut Tested<I>, calls: &str) -> Res
     Ok(out)
 }
 
+/// What the first calls answer, how many nodes they leave, and what comes of the others, which are made on another
+/// parser over the same buffer.
+fn outcome_of_both<I: Tokens>(
+    alloc: Global,
+    mut tested: Tested<I>,
+    first: &str,
+    others: &str,
+) -> Result<String, Fail> {
+    let mut out = answers(alloc, &mut tested, first)?;
+    let (mut next, count) = tested.next(alloc);
+    write!(out, "; {count}; ")?;
+    out.push_str(outcome(alloc, &mut next, others)?.as_str())?;
+    Ok(out)
+}
+
 fn found(alloc: Global, row: Row<'_>, numbers: bool) -> Result<String, Fail> {
     if row.setting.ends_with("slashes") {
         return run(alloc, slashes_of(alloc, row)?, row, numbers);
@@ -269,7 +391,10 @@ fn run<I: Tokens>(alloc: Global, source: I, row: Row<'_>, numbers: bool) -> Resu
     let hook = TestBodies::of_setting(row.setting);
     let parser = Parser::new_from(alloc, source, hook);
     let mut tested = Tested { parser, numbers };
-    outcome(alloc, &mut tested, row.calls)
+    match row.calls.split_once("; next_parser; ") {
+        Some((first, others)) => outcome_of_both(alloc, tested, first, others),
+        None => outcome(alloc, &mut tested, row.calls),
+    }
 }
 
 /// The rows of a table have to hold.
@@ -277,7 +402,7 @@ fn hold(alloc: Global, rows: &str) -> Result<(), Fail> {
     for line in rows.lines() {
         let row = row_of(line).ok_or(line)?;
         expect(line, &found(alloc, row, false)?, row.answer)?;
-        if !row.calls.contains("nodes") {
+        if !row.calls.contains("nodes") && !row.calls.contains("next_parser") {
             expect(line, &found(alloc, row, true)?, row.answer)?;
         }
     }
@@ -312,4 +437,19 @@ fn calls_that_make_patterns(rt: HostRuntime) -> Result<(), Fail> {
 #[test]
 fn calls_that_look_for_left_over_names(rt: HostRuntime) -> Result<(), Fail> {
     hold(rt.alloc(), VERIFYING)
+}
+
+#[test]
+fn calls_on_left_hand_sides(rt: HostRuntime) -> Result<(), Fail> {
+    hold(rt.alloc(), LEFT_HAND)
+}
+
+#[test]
+fn calls_of_the_hook_and_of_parts_of_parsers(rt: HostRuntime) -> Result<(), Fail> {
+    hold(rt.alloc(), HANDED_OVER)
+}
+
+#[test]
+fn calls_that_walk_over_nodes(rt: HostRuntime) -> Result<(), Fail> {
+    hold(rt.alloc(), REACHING)
 }

@@ -5,13 +5,25 @@ use bench_lower::tokens::tokens_of;
 use std::alloc::Global;
 use std::test::Fail;
 use swc_context::context::{Context, EsVersion, Syntax};
+use swc_context::span::BytePos;
 use swc_input::listed::TokensInput;
 
 /// The source of the row's tokens, in its setting.
 pub(crate) fn source_of(alloc: Global, row: Row<'_>) -> Result<TokensInput, Fail> {
     let (context, syntax) = setting_of(row.setting).ok_or("no setting")?;
     let tokens = tokens_of(alloc, row.text)?;
-    Ok(TokensInput::new(alloc, tokens, context, syntax, EsVersion::default()))
+    let start = start_of(row.setting);
+    let target = EsVersion::default();
+    Ok(TokensInput::new_at(alloc, start, tokens, context, syntax, target))
+}
+
+/// Where a source with no tokens begins in the setting.
+fn start_of(setting: &str) -> BytePos {
+    if setting.contains("at_7") {
+        BytePos(7)
+    } else {
+        BytePos(0)
+    }
 }
 
 /// The context and the syntax of some words: a mode of the program, and then, in their order, what differs from it.
@@ -35,7 +47,7 @@ pub(crate) fn setting_of(words: &str) -> Option<(Context, Syntax)> {
 /// Changes what the word says. `parameters` are those of what the words before say, outside its body.
 fn set(context: &mut Context, word: &str) -> Option<()> {
     match word {
-        "script" | "failing" | "slashes" => {}
+        "script" | "failing" | "slashes" | "at_7" => {}
         "strict" => context.strict = true,
         "module" => {
             context.module = true;

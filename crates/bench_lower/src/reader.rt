@@ -2,10 +2,12 @@
 use crate::rows::expect;
 use std::alloc::{AllocError, Global};
 use std::test::Fail;
+use swc_context::error::PResult;
 use swc_context::operator::BinaryOp;
+use swc_context::span::BytePos;
 use swc_context::word::Word;
 use swc_input::token::{Token, TokenAndSpan};
-use swc_tokens::read_tokens;
+use swc_tokens::{read_tokens, read_tokens_at};
 
 /// Texts with their tokens, each with its kind, as it is written, and its place. A `^` stands
 /// before a token that stands behind a line break.
@@ -285,6 +287,22 @@ a/b/c | name a 0..1, binary / 1..2, name b 2..3, binary / 3..4, name c 4..5
 /[\n]/ | refused: Lex 2..3
 /b/\5cu | refused: Lex 3..4"#;
 
+/// Parts of texts, each behind the position where it begins, and their tokens, as above, with their
+/// places in the whole.
+const PARTS: &str = r#"0 a+b | name a 0..1, binary + 1..2, name b 2..3
+7  a\n.b  | name a 8..9, ^sign . 10..11, name b 11..12
+5  | none
+20 `a\5cx${b}\5cn` | sign ` 20..21, template [a\x] (Lex 22..23) 21..24, sign ${ 24..26, name b 26..27, sign } 27..28, template [\n] [<10>] 28..30, sign ` 30..31
+3 a \5c | refused: Lex 5..6
+3 'a | refused: Lex 5..5
+3 \5c\80 | refused: Lex 4..5
+4294967294 a | name a 4294967294..4294967295
+4294967293 `` | sign ` 4294967293..4294967294, template [] [] 4294967294..4294967294, sign ` 4294967294..4294967295
+4294967294 ' | refused: Lex 4294967295..4294967295
+4294967295  | none
+4294967295 a | refused: Lex 4294967295..4294967295
+4294967290 \80abcde | refused: Lex 4294967290..4294967290"#;
+
 /// Texts that are one token each, by its kind.
 const SIGNS: &str = "\
 sign: => # @ . ... ! ( ) [ ] { } ; , : ? ++ -- ~
@@ -438,14 +456,19 @@ pub(crate) fn show_tokens(out: &mut String, tokens: &[TokenAndSpan]) -> Result<(
     Ok(())
 }
 
-/// The tokens of the bytes, as a row has them.
-fn read(alloc: Global, bytes: &[u8]) -> Result<String, AllocError> {
+/// What was read, as a row has it.
+fn shown(alloc: Global, answer: PResult<Vec<TokenAndSpan>>) -> Result<String, AllocError> {
     let mut out = String::new(alloc);
-    match read_tokens(alloc, bytes) {
+    match answer {
         Ok(tokens) => show_tokens(&mut out, &tokens)?,
         Err(fault) => write!(out, "refused: {}", fault.brief())?,
     }
     Ok(out)
+}
+
+/// The tokens of the bytes, as a row has them.
+fn read(alloc: Global, bytes: &[u8]) -> Result<String, AllocError> {
+    shown(alloc, read_tokens(alloc, bytes))
 }
 
 #[test]
@@ -454,6 +477,19 @@ fn texts_with_their_tokens(rt: HostRuntime) -> Result<(), Fail> {
         let (text, wanted) = line.split_once(" | ").ok_or(line)?;
         let bytes = bytes_of(rt.alloc(), text)?;
         expect(line, &read(rt.alloc(), &bytes)?, wanted)?;
+    }
+    Ok(())
+}
+
+#[test]
+fn parts_with_their_tokens(rt: HostRuntime) -> Result<(), Fail> {
+    for line in PARTS.lines() {
+        let (part, wanted) = line.split_once(" | ").ok_or(line)?;
+        let (start, text) = part.split_once(' ').ok_or(line)?;
+        let start = BytePos(start.parse().ok().ok_or(line)?);
+        let bytes = bytes_of(rt.alloc(), text)?;
+        let answer = read_tokens_at(rt.alloc(), &bytes, start);
+        expect(line, &shown(rt.alloc(), answer)?, wanted)?;
     }
     Ok(())
 }

@@ -1,19 +1,15 @@
 //! Reads expressions from texts: counts the operators of one, and lists the identifiers of another.
 #![tactic(auto)]
 
-ghost use Rattle.std.specs.Prelude.{IfOk, IfSome};
-ghost use Rattle.swc_nodes.specs.NodeParts.{expr_part};
-ghost use Rattle.swc_nodes.specs.GrowingNodes.{From};
-
 use std::alloc::{AllocError, Global};
 use std::io;
 use swc_ecma_parser::bodies::none::NoBodies;
 use swc_ecma_parser::context::context::{Context, EsVersion, Syntax};
 use swc_ecma_parser::context::error::PResult;
 use swc_ecma_parser::context::span::Span;
-use swc_ecma_parser::nodes::apart::{PartId, parts_of};
 use swc_ecma_parser::nodes::node::{ExprId, Node, PropNode};
 use swc_ecma_parser::nodes::nodes::NodesOf;
+use swc_ecma_parser::nodes::reached::reached;
 use swc_ecma_parser::tokens::read_tokens;
 use swc_ecma_parser::whole::{Whole, parse_whole_expr};
 
@@ -21,9 +17,7 @@ type Nodes = NodesOf<NoBodies>;
 
 /// The nodes of a text that is one expression, and the number of this; none where tokens are left behind it. The first
 /// fault is a refusal, also where it was recorded and a tree was read.
-fn read_expr(alloc: Global, text: &[u8]) -> PResult<Option<(Nodes, ExprId)>>
-    ensures { IfOk result (λ found. IfSome found (λ it. From 0 it.0 (expr_part it.1))) }
-{
+fn read_expr(alloc: Global, text: &[u8]) -> PResult<Option<(Nodes, ExprId)>> {
     let tokens = read_tokens(alloc, text)?;
     let (context, syntax) = (Context::script(), Syntax::default());
     let Whole {
@@ -59,18 +53,10 @@ fn count_operators(nodes: &Nodes) -> usize {
 }
 
 /// The identifiers of an expression, with a blank before each, and the names that stand alone in its object literals.
-/// Goes without recursion: the parts that are due lie on a stack, the next one on top.
-fn identifiers(alloc: Global, nodes: &Nodes, expr: ExprId) -> Result<String, AllocError>
-    requires { From 0 nodes.now (expr_part expr) }
-{
+fn identifiers(alloc: Global, nodes: &Nodes, expr: ExprId) -> Result<String, AllocError> {
     let mut names = String::new(alloc);
-    let mut due = vec![in alloc; PartId::Expr(expr)]?;
-    while let Some(part) = due.pop() {
-        let node = nodes.get(part.number());
-        push_names(&mut names, node)?;
-        let mut parts = parts_of(alloc, node)?;
-        parts.reverse();
-        due.append(&mut parts)?;
+    for part in reached(nodes, &expr)? {
+        push_names(&mut names, nodes.get(part.number()))?;
     }
     Ok(names)
 }

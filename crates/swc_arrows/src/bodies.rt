@@ -1,7 +1,8 @@
 // The bodies of arrow functions (ECMA-262, 15.3 and 15.9), and what may stand behind them.
 ghost use Rattle.std.specs.Prelude.{◌≡◌, ◌≤◌, ◌++◌, ◌&&◌, ℕ, Bool, true, OnOk, IfOk, MatchResult, Some};
+ghost use Rattle.swc_context.specs.Contexts.{arrow_body};
 ghost use Rattle.swc_bodies.specs.Readings.{is_brace};
-ghost use Rattle.swc_grammar.specs.Arrows.{arrow_body, is_sign};
+ghost use Rattle.swc_grammar.specs.Arrows.{is_sign};
 ghost use Rattle.swc_grammar.specs.Clean.{no_error};
 ghost use Rattle.swc_input.specs.Buffer.{context, current, to_come};
 ghost use Rattle.swc_input.specs.Kinds.{at_token};
@@ -49,15 +50,7 @@ pub fn enter_arrow_body<I: Tokens>(input: &mut Buffer<I>, is_async: bool) -> Con
     ensures stays { to_come I.model input.new ≡ to_come I.model input.old }
 {
     let ctx = input.get_ctx();
-    set_ctx(
-        input,
-        Context {
-            in_async: is_async,
-            in_generator: false,
-            in_function: true,
-            ..ctx
-        },
-    );
+    set_ctx(input, ctx.arrow_body(is_async));
     ctx
 }
 

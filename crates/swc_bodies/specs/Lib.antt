@@ -1,4 +1,5 @@
 pub mod Body
+pub mod Deferred
 pub mod Laws
 pub mod Readings
 pub mod Replaying

@@ -67,9 +67,10 @@ pub trait Bodies<I: Tokens>: BodyForms + Drop {
 /// (`replays`): what the hook reads of tokens with such slashes it reads, with the same value, of the same tokens
 /// without any of them; and what is left behind it is what was left, without them.
 ///
-/// So a value may hold neither these slashes nor how many tokens there were. A hook meets the law that reads no body, as
-/// `NoBodies`, or that keeps tokens by the rule of `Capturing`, as `TokenBodies`; one that parses bodies does if it
-/// never takes such a slash for a division (13.7) or for `/=` (13.15).
+/// So a value may hold neither these slashes nor how many tokens there were. A hook meets the law that reads no body,
+/// as `NoBodies`, that keeps tokens by the rule of `Capturing`, as `TokenBodies`, or that answers the places of these,
+/// as `DeferredBodies`; one that parses bodies does if it never takes such a slash for a division (13.7) or for `/=`
+/// (13.15).
 pub trait ReplayBodies: BodyForms {
     ghost lawful: { LawfulHook Self.Fun.place Self.Class.place Self.Block.place Self.forms };
 

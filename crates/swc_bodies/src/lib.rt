@@ -2,6 +2,7 @@
 #![tactic(auto)]
 
 pub mod bodies;
+pub mod deferred;
 pub mod none;
 mod place;
 pub mod token_bodies;

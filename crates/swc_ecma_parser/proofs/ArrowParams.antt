@@ -256,6 +256,11 @@ module _ {F C K : Type 0} (hook : Hook F C K) where
       → all_bind_names any (items_of (only_items t)) ≡ true
   items-bind {t = node k s ts} d = all-same-binds any ts ∙ heads_bind d
 
+  -- so do those that have their marks of commas
+  pub items-bind-marked : {c : Scope} {xs ys : List TokenAndSpan} {t : Tree F C K} → Reads hook Heads c xs ys t
+      → all_bind_names any (items_of (keep_items t)) ≡ true
+  items-bind-marked {t = node k s ts} d = heads_bind d
+
 module _ {F C K : Type 0} where
   -- the items, with their marks or without
   pub items-bare : (t : Tree F C K) → unmarked (keep_items t) ≡ only_items t

@@ -1,5 +1,5 @@
 -- From what is read of the parameters of an arrow function to what is promised of them.
-use Rattle.std.proofs.Common.{◌≡◌, ◌≢◌, Bool, true, List, [], Some, Result, Ok, Err, OnOk, MatchResult, sym, ap, ◌∙◌}
+use Rattle.std.proofs.Common.{◌≡◌, ◌≢◌, ℕ, Bool, true, List, [], Some, Result, Ok, Err, OnOk, MatchResult, refl, sym, ap, ◌∙◌}
 use Rattle.std.specs.declared.alloc.Global.{Global}
 use Rattle.std.specs.declared.vec.Vec.{Vec}
 use Rattle.swc_context.specs.declared.error.Error.{Error}
@@ -25,19 +25,20 @@ use Rattle.swc_grammar.proofs.Complete as clean_all
 use Rattle.swc_grammar.proofs.Cut.{cut-append}
 use Rattle.swc_grammar.proofs.Sound as clean
 use Rattle.swc_nodes.specs.Commas.{part_commas, Recalls}
-use Rattle.swc_nodes.specs.GrowingNodes.{tree_at, bare_at}
+use Rattle.swc_nodes.specs.GrowingNodes.{tree_at, bare_at, CutTo}
 use Rattle.swc_nodes.specs.Lists.{pats_parts}
 use Rattle.swc_nodes.specs.declared.commas.TrailingCommas.{TrailingCommas}
 use Rattle.swc_nodes.specs.declared.node.PatId.{PatId}
 use Rattle.swc_nodes.specs.declared.nodes.Nodes.{Nodes}
 use Rattle.swc_steps.specs.Parsing.{scope, Parses}
-use Rattle.swc_ecma_parser.specs.Calls.{pats_tree}
+use Rattle.swc_ecma_parser.specs.Calls.{pats_tree, Kept}
 use Rattle.swc_ecma_parser.specs.Heads.{heads_at, heads_items}
 use Rattle.swc_ecma_parser.specs.Promise.{BoundItems, EndsAt, RemembersAll, ReadsAs, Sound, keep_items, only_items}
-use Rattle.swc_ecma_parser.proofs.ArrowParams.{items-bare, items-bind, pats-commas}
-use Rattle.swc_ecma_parser.proofs.Moving.{moved-parses, recalled-by}
+use Rattle.swc_ecma_parser.proofs.ArrowParams.{items-bare, items-bind, items-bind-marked, pats-commas}
+use Rattle.swc_ecma_parser.proofs.Moving.{kept-moved, kept-parses, moved-parses, recalled-by}
 use Rattle.swc_ecma_parser.proofs.Refined.{pats-bare}
-use Rattle.swc_ecma_parser.proofs.Top.{IsSound, IsComplete, Meets, bare, is_sound_as, leaves-items, meets, stripped_from, well_as}
+use Rattle.swc_ecma_parser.proofs.Top.{IsSound, IsComplete, Leaves, Meets, bare, is_sound_as, items_grouped, items_valid, leaves-items, meets, stripped_from}
+use Rattle.swc_ecma_parser.proofs.Top.{well_as}
 
 module _ {F C K : Type 0} {fun_at : F → Span} {class_at : C → Span} {block_at : K → Span} (hook : Hook F C K)
     (laws : LawfulHook fun_at class_at block_at hook) where
@@ -54,7 +55,7 @@ module _ {F C K : Type 0} {fun_at : F → Span} {class_at : C → Span} {block_a
     cut = λ c own ys t d. record { marked = d.marked; read = cut-append own ys d.read; same = d.same };
   }
 
-  heads_marked : IsSound (ReadsAs keep_items hook Heads) (heads_items hook)
+  pub heads_marked : IsSound (ReadsAs keep_items hook Heads) (heads_items hook)
   heads_marked = is_sound_as hook laws keep_items Heads
 
 module _ {F C K : Type 0} (hook : Hook F C K) where
@@ -108,3 +109,47 @@ module _ {S F C K : Type 0} {fg : Ghosts F} {cg : Ghosts C} {kg : Ghosts K} (mod
         recalled-by model sure (ReadsAs keep_items hook Heads) (heads_items hook) (heads_marked hook laws) unmarked ns
         (heads_at ns) bare_heads boxed pats_parts b c answer r old new reads bare_items
         (λ x. pats-commas (tree_at ns) x.items) moved commas
+
+-- ---- by number
+
+module _ {F C K : Type 0} where
+  leaves-kept : Leaves {F = F} {C = C} {K = K} keep_items
+  leaves-kept = record { grouped = λ t h. items_grouped t h; valid = λ t h. items_valid t h }
+
+module _ {F C K : Type 0} (hook : Hook F C K) where
+  marked_complete : IsComplete (ReadsAs keep_items hook Heads) (EndsAt Heads) (heads_items hook)
+  marked_complete = record {
+    complete = λ c ts ys t d e.
+        ap (λ o. o >>= (λ p. Some (keep_items p.0, p.1))) (clean_all.complete hook d.read tt)
+        ∙ ap (λ v. Some (v, ys)) d.same;
+  }
+
+  kept_bound : (c : Scope) (xs ys : List TokenAndSpan) (t : Tree F C K) → ReadsAs keep_items hook Heads c xs ys t
+      → all_bind_names any (items_of t) ≡ true
+  kept_bound c xs ys t d = ap (λ v. all_bind_names any (items_of v)) (sym d.same) ∙ items-bind-marked hook d.read
+
+module _ {S F C K T : Type 0} (model : Model S) (hook : Hook F C K) (view : T → Tree F C K) where
+  pub bound-kept : (b : Buffer S) (r : Result T Error) (c : Buffer S) → Sound model (ReadsAs keep_items hook Heads) view b r c
+      → BoundItems model view b r c
+  bound-kept b (Ok x) c h = λ l same. let d = h l same in kept_bound hook (scope model b) d.consumed [] (view x) d.whole
+  bound-kept b (Err e) c h = λ l. tt
+
+module _ {S F C K : Type 0} {fg : Ghosts F} {cg : Ghosts C} {kg : Ghosts K} (model : Model S) (sure : Bool) (hook : Hook F C K)
+    (laws : LawfulHook fg.place cg.place kg.place hook) (ms ns : Nodes F C K fg cg kg) (k : ℕ) (b c : Buffer S)
+    (answer r : Result (Vec PatId Global) Error) (reads : Parses model sure (heads_at ms) (heads_items hook) b answer c)
+    (same : Kept (last_position c) answer r) (nodes : MatchResult r (λ x. ns ≡ ms) (λ e. CutTo k ms ns)) where
+  pub meets-kept : Meets model sure (ReadsAs keep_items hook Heads) (heads_at ns) Heads b r c
+  meets-kept =
+      meets model sure hook laws (heads_at ns) Heads (ReadsAs keep_items hook Heads) (heads_items hook)
+      (heads_marked hook laws) (marked_complete hook) (well_as hook leaves-kept Heads) b r c
+      (kept-parses model sure (heads_items hook) heads_at ms ns k b c answer r reads same nodes)
+
+  pub kept-recalled : (old new : TrailingCommas)
+      → MatchResult answer (λ x. OnOk r (Recalls (part_commas (tree_at ms) (pats_parts x)) old new)) (λ e. new ≡ old)
+      → MatchResult r (λ v. RemembersAll model (ReadsAs keep_items hook Heads) (λ t. t) (heads_at ns v) b c old new)
+      (λ e. e.kind ≢ OutOfMemory → new ≡ old)
+  kept-recalled old new commas =
+      recalled-by model sure (ReadsAs keep_items hook Heads) (heads_items hook) (heads_marked hook laws) (λ t. t) ms
+      (heads_at ms) (heads_at ms) (heads_at ns) pats_parts b c answer r old new reads (λ x. refl)
+      (λ x. pats-commas (tree_at ms) x.items)
+      (kept-moved heads_at ms ns (last_position c) k answer r same nodes) commas

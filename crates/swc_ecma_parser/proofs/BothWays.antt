@@ -40,7 +40,7 @@ use Rattle.swc_steps.specs.Parsing.{scope, scope_of}
 use Rattle.swc_ecma_parser.specs.BothWays.{ConverseLaw, CoverLaw, Fresh, Left, Same, StandsBefore, faults}
 use Rattle.swc_ecma_parser.specs.BothWays.{patterns, param_patterns}
 use Rattle.swc_ecma_parser.specs.Calls.{buffer_of, has_failed}
-use Rattle.swc_ecma_parser.specs.Promise.{Promised, PromisedParams, ReadsAs, ClosedBy, heads_in_boxes, only_items}
+use Rattle.swc_ecma_parser.specs.Promise.{Promised, PromisedParams, ReadsAs, ClosedBy, heads_in_boxes, only_items, params_in_boxes}
 use Rattle.swc_ecma_parser.specs.WholeList.{plain_list, IsHeeded}
 use Rattle.swc_ecma_parser.specs.declared.parser.Parser.{Parser}
 use Rattle.swc_ecma_parser.proofs.WholeList.{fresh-known, fresh-loud}
@@ -112,7 +112,7 @@ module _ {H F C K : Type 0} {fg : Ghosts F} {cg : Ghosts C} {kg : Ghosts K} (sur
 
   abbrev Forming : Result (Vec (Param (Pat F C K)) Global) Error → Parser TokensInput H F C K fg cg kg
       → Parser TokensInput H F C K fg cg kg → Type 0
-  Forming r a b = PromisedParams listed_model sure hook a r b
+  Forming r a b = PromisedParams listed_model sure hook params_in_boxes a r b
 
   -- ---- what was read as an arrow's parameters
 

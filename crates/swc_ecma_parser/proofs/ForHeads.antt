@@ -3,6 +3,7 @@ use Rattle.std.proofs.Common.{◌≡◌, ◌≢◌, ℕ, Bool, true, false, ◌&
 use Rattle.std.proofs.Common.{Result, Ok, Err, IfOk, IfErr, OnOk, MatchResult, length, ◌||◌, refl, sym, ap, subst, ◌∙◌}
 use Rattle.swc_context.specs.declared.error.Error.{Error}
 use Rattle.swc_context.specs.declared.error.SyntaxError.TheVariants.{OutOfMemory}
+use Rattle.swc_context.specs.declared.span.BytePos.{BytePos}
 use Rattle.swc_context.specs.declared.span.Span.{Span}
 use Rattle.swc_input.specs.declared.buffer.Buffer.{Buffer}
 use Rattle.swc_input.specs.declared.token.Token.{Token}
@@ -30,7 +31,7 @@ use Rattle.swc_grammar.specs.Words.{◌>>=◌}
 use Rattle.swc_grammar.proofs.ForHeads.{head-front, head-grouped, head-next, head-sound, head-valid}
 use Rattle.swc_grammar.proofs.Marks.{same-grouped, same-valid}
 use Rattle.swc_nodes.specs.Commas.{comma_at, commas_in, part_commas, recalled, Recalls}
-use Rattle.swc_nodes.specs.GrowingNodes.{tree_at, bare_at, From, SameNodes}
+use Rattle.swc_nodes.specs.GrowingNodes.{tree_at, bare_at, CutTo, From}
 use Rattle.swc_nodes.specs.NodeParts.{expr_part, for_head_parts}
 use Rattle.swc_nodes.specs.declared.commas.TrailingCommas.{TrailingCommas}
 use Rattle.swc_nodes.specs.declared.node.ExprId.{ExprId}
@@ -49,10 +50,10 @@ use Rattle.swc_steps.proofs.Endings.{read-valid}
 use Rattle.swc_steps.proofs.Steps as steps
 use Rattle.swc_steps.proofs.Steps.{Reader, give, consumes_of}
 use Rattle.swc_steps.proofs.Steps.Calls.{on_call_read}
-use Rattle.swc_ecma_parser.specs.Calls.{buffer_of, nodes_of, commas_of, has_failed, wants_memory, parser_failed}
+use Rattle.swc_ecma_parser.specs.Calls.{buffer_of, nodes_of, commas_of, has_failed, wants_memory, parser_failed, Kept}
 use Rattle.swc_ecma_parser.specs.ForHeads.{boxed_head, coded, for_head_at, head_by, head_expr, is_each_word, is_target_id}
-use Rattle.swc_ecma_parser.specs.ForHeads.{DerivesHead, HeadPromise, PromisedHead, RemembersHead}
-use Rattle.swc_ecma_parser.specs.Promise.{Complete, Unmarred}
+use Rattle.swc_ecma_parser.specs.ForHeads.{DerivesHead, HeadAnswer, HeadPromise, PromisedHead, RemembersHead}
+use Rattle.swc_ecma_parser.specs.Promise.{Complete, Derivation, Unmarred}
 use Rattle.swc_ecma_parser.specs.declared.parser.Parser.{Parser}
 use Rattle.swc_ecma_parser.proofs.ArrowParams.{heard_behind}
 use Rattle.swc_ecma_parser.proofs.Calling.{failing, not_both}
@@ -201,13 +202,6 @@ module _ {F C K : Type 0} where
   decoded (for_target p) (for_expr q) h = absurd cc
   decoded (for_expr p) (for_target q) h = absurd cc
 
-  moved-decoded : {X T : Type 0} (by : X → ForHead F C K) (view : T → ForHead F C K) (M : Error → Type 0) (answer : Result X Error) (r : Result T Error)
-      → MatchResult answer (λ x. MatchResult r (λ t. coded (view t) ≡ coded (by x)) M) (λ e. r ≡ Err e)
-      → MatchResult answer (λ x. MatchResult r (λ t. view t ≡ by x) M) (λ e. r ≡ Err e)
-  moved-decoded by view M (Ok x) (Ok t) m = decoded (view t) (by x) m
-  moved-decoded by view M (Ok x) (Err e) m = m
-  moved-decoded by view M (Err e) r m = m
-
   tree_bare : (h : ForHead F C K) → head_tree (unmarked_head h) ≡ unmarked (head_tree h)
   tree_bare (for_target p) = refl
   tree_bare (for_expr e) = refl
@@ -227,13 +221,19 @@ module _ {F C K : Type 0} where
 
 -- ---- what is derived
 
-module _ {F C K : Type 0} (hook : Hook F C K) (is_await : Bool) where
+-- What derives heads, beside the heads with their marks of commas: heads that `strip` leaves of them.
+pub record DerivesAs {F C K : Type 0} (hook : Hook F C K) (is_await : Bool) (derives : Derivation (ForHead F C K))
+    (strip : ForHead F C K → ForHead F C K) : Type 0 where
+  pub into : (c : Scope) (xs ys : List TokenAndSpan) (m : ForHead F C K) → ReadsHead hook is_await c xs ys m → derives c xs ys (strip m)
   -- up to where a head may stop, all that is derived is read
-  head_complete : {c : Scope} {ts ys : List TokenAndSpan} {h : ForHead F C K} → ReadsHeadUnmarked hook is_await c ts ys h
-      → HeadStops ys → stripped unmarked_head (for_head hook is_await) c ts ≡ Some (h, ys)
-  head_complete {ys = ys} d e =
-      ap (λ o. o >>= (λ p. Some (unmarked_head p.0, p.1))) (head-front hook d.read e) ∙ ap (λ v. Some (v, ys)) d.same
+  pub complete : (c : Scope) (ts ys : List TokenAndSpan) (h : ForHead F C K) → derives c ts ys h → HeadStops ys
+      → stripped strip (for_head hook is_await) c ts ≡ Some (h, ys)
+  pub grouped : (c : Scope) (ts ys : List TokenAndSpan) (h : ForHead F C K) → derives c ts ys h → is_grouped (head_tree h) ≡ true
+  pub valid : (c : Scope) (ts ys : List TokenAndSpan) (h : ForHead F C K) → derives c ts ys h → is_valid (head_tree h) ≡ true
+  -- which of the two it is stays
+  pub which : (h : ForHead F C K) → is_for_target (strip h) ≡ is_for_target h
 
+module _ {F C K : Type 0} (hook : Hook F C K) (is_await : Bool) where
   grouped_bare : {c : Scope} {ts ys : List TokenAndSpan} {h : ForHead F C K} → ReadsHeadUnmarked hook is_await c ts ys h
       → is_grouped (head_tree h) ≡ true
   grouped_bare d =
@@ -245,6 +245,30 @@ module _ {F C K : Type 0} (hook : Hook F C K) (is_await : Bool) where
   valid_bare d =
       ap (λ v. is_valid (head_tree v)) (sym d.same) ∙ ap (λ v. is_valid v) (tree_bare d.marked)
       ∙ same-valid (head_tree d.marked) ∙ head-valid d.read
+
+  which_bare : (h : ForHead F C K) → is_for_target (unmarked_head h) ≡ is_for_target h
+  which_bare (for_target p) = refl
+  which_bare (for_expr e) = refl
+
+  -- without the marks, and with them
+  pub head-bare : DerivesAs hook is_await (ReadsHeadUnmarked hook is_await) (λ h. unmarked_head h)
+  head-bare = record {
+    into = λ c xs ys m d. record { marked = m; read = d; same = refl };
+    complete = λ c ts ys h d e.
+        ap (λ o. o >>= (λ p. Some (unmarked_head p.0, p.1))) (head-front hook d.read e) ∙ ap (λ v. Some (v, ys)) d.same;
+    grouped = λ c ts ys h d. grouped_bare d;
+    valid = λ c ts ys h d. valid_bare d;
+    which = which_bare;
+  }
+
+  pub head-marked : DerivesAs hook is_await (ReadsHead hook is_await) (λ h. h)
+  head-marked = record {
+    into = λ c xs ys m d. d;
+    complete = λ c ts ys h d e. ap (λ o. o >>= (λ p. Some (p.0, p.1))) (head-front hook d e);
+    grouped = λ c ts ys h d. head-grouped d;
+    valid = λ c ts ys h d. head-valid d;
+    which = λ h. refl;
+  }
 
 module _ {S F C K : Type 0} {fun_at : F → Span} {class_at : C → Span} {block_at : K → Span} {model : Model S} {sure : Bool}
     (hook : Hook F C K) (laws : LawfulHook fun_at class_at block_at hook) (is_await : Bool) {marked : ForHead F C K} {b c : Buffer S}
@@ -263,28 +287,34 @@ module _ {S F C K : Type 0} {fun_at : F → Span} {class_at : C → Span} {block
     alone = λ ys fut. head-next h.on.leads.taken ys (front ys fut);
   }
 
-  module _ {bare : ForHead F C K} (strips : unmarked_head marked ≡ bare) where
-    derived_bare : DerivesHead model (ReadsHeadUnmarked hook is_await) bare b c
-    derived_bare = record {
+  module _ {derives : Derivation (ForHead F C K)} {strip : ForHead F C K → ForHead F C K} (by : DerivesAs hook is_await derives strip)
+      {left : ForHead F C K} (strips : strip marked ≡ left) where
+    into_left : (xs ys : List TokenAndSpan) → ReadsHead hook is_await (scope model b) xs ys marked → derives (scope model b) xs ys left
+    into_left xs ys d = subst (λ v. derives (scope model b) xs ys v) strips (by.into (scope model b) xs ys marked d)
+
+    derived_as : DerivesHead model derives left b c
+    derived_as = record {
       consumed = h.on.leads.taken;
       read = h.on.leads.read;
-      front = λ ys fut. record { marked = marked; read = front ys fut; same = strips };
-      alone = λ ys fut. record { marked = marked; read = head-next h.on.leads.taken ys (front ys fut); same = strips };
+      front = λ ys fut. into_left (h.on.leads.taken ++ ys) ys (front ys fut);
+      alone = λ ys fut. into_left (h.on.leads.taken ++ next ys) (next ys) (head-next h.on.leads.taken ys (front ys fut));
     }
 
-    good_bare : (is_grouped (head_tree bare) ≡ true) × (is_valid (head_tree bare) ≡ true)
-    good_bare =
+    good_left : (is_grouped (head_tree left) ≡ true) × (is_valid (head_tree left) ≡ true)
+    good_left =
         let some = Future-some h.on.leads.laws c in
-        let d = derived_bare.front some.0 some.1 in
-        (grouped_bare hook is_await d, valid_bare hook is_await d)
+        let d = derived_as.front some.0 some.1 in (
+          by.grouped (scope model b) _ some.0 left d,
+          by.valid (scope model b) _ some.0 left d,
+        )
 
 -- ---- what is promised
 
-module _ {S F C K T : Type 0} (model : Model S) (sure : Bool) (hook : Hook F C K) (is_await : Bool) (view : T → ForHead F C K)
+module _ {S F C K T : Type 0} (model : Model S) (derives : Derivation (ForHead F C K)) (view : T → ForHead F C K)
     (b : Buffer S) (r : Result T Error) (c : Buffer S) where
   -- no other head is derived
-  one : Complete model (ReadsHeadUnmarked hook is_await) view HeadStops b r c → Loud model b → (ts ys : List TokenAndSpan)
-      (h : ForHead F C K) → Known model b ts → ReadsHeadUnmarked hook is_await (scope model b) ts ys h → HeadStops ys
+  one : Complete model derives view HeadStops b r c → Loud model b → (ts ys : List TokenAndSpan)
+      (h : ForHead F C K) → Known model b ts → derives (scope model b) ts ys h → HeadStops ys
       → IfOk r (λ x. (h ≡ view x) × Known model c ys)
   one all loud ts ys h known d stop = of_answer r (all loud ts ys h known d stop)
     where
@@ -294,55 +324,51 @@ module _ {S F C K T : Type 0} (model : Model S) (sure : Bool) (hook : Hook F C K
       of_answer (Ok x) q = (sym q.0, q.1)
       of_answer (Err e) q = tt
 
-module _ {S F C K : Type 0} {fg : Ghosts F} {cg : Ghosts C} {kg : Ghosts K} (model : Model S) (sure : Bool) (hook : Hook F C K)
-    (laws : LawfulHook fg.place cg.place kg.place hook) (is_await : Bool) (ns : Nodes F C K fg cg kg) (b c : Buffer S) where
-  abbrev boxed : HeadOf F C K → ForHead F C K
-  boxed = boxed_head fg.place cg.place kg.place
-
-  -- what was moved into boxes, where it was
-  abbrev MovedTo : Result ForHeadId Error → Result (HeadOf F C K) Error → Type 0
-  MovedTo answer r = MatchResult answer
-      (λ x. MatchResult r (λ t. boxed t ≡ head_by (bare_at ns) x) (λ e. e ≡ no_memory (last_position c)))
+module _ {S T F C K : Type 0} {fg : Ghosts F} {cg : Ghosts C} {kg : Ghosts K} (model : Model S) (sure : Bool) (hook : Hook F C K)
+    (laws : LawfulHook fg.place cg.place kg.place hook) (is_await : Bool) (derives : Derivation (ForHead F C K))
+    (strip : ForHead F C K → ForHead F C K) (by : DerivesAs hook is_await derives strip) (view : T → ForHead F C K)
+    (ns : Nodes F C K fg cg kg) (b c : Buffer S) where
+  -- what was answered stands for what was read, as `strip` leaves it, or memory was wanted
+  abbrev pub StandsFor : Result ForHeadId Error → Result T Error → Type 0
+  StandsFor answer r = MatchResult answer
+      (λ x. MatchResult r (λ t. view t ≡ strip (for_head_at ns x)) (λ e. e ≡ no_memory (last_position c)))
       (λ e. r ≡ Err e)
 
-  strips : (x : ForHeadId) (t : HeadOf F C K) → boxed t ≡ head_by (bare_at ns) x → unmarked_head (for_head_at ns x) ≡ boxed t
-  strips x t m = head_bare (tree_at ns) x ∙ sym m
-
-  told : (answer : Result ForHeadId Error) (r : Result (HeadOf F C K) Error) (w : Bool) → IfOk answer (λ h. is_target_id h ≡ w)
-      → MovedTo answer r → IfOk r (λ t. is_for_target (boxed t) ≡ w)
-  told (Ok x) (Ok t) w q m = ap (λ v. is_for_target v) m ∙ head_which (bare_at ns) x ∙ q
+  told : (answer : Result ForHeadId Error) (r : Result T Error) (w : Bool) → IfOk answer (λ h. is_target_id h ≡ w)
+      → StandsFor answer r → IfOk r (λ t. is_for_target (view t) ≡ w)
+  told (Ok x) (Ok t) w q m = ap (λ v. is_for_target v) m ∙ by.which (for_head_at ns x) ∙ head_which (tree_at ns) x ∙ q
   told (Err e) (Ok t) w q m = absurd cc
   told answer (Err e) w q m = tt
 
   abbrev Read : Result ForHeadId Error → Type 0
   Read answer = Parses model sure (for_head_at ns) (for_head hook is_await) b answer c
 
-  derives : (answer : Result ForHeadId Error) (r : Result (HeadOf F C K) Error) → Read answer → MovedTo answer r → Loud model b
-      → IfOk r (λ t. Unmarred model b c → DerivesHead model (ReadsHeadUnmarked hook is_await) (boxed t) b c)
-  derives (Ok x) (Ok t) h m loud = λ same. derived_bare hook laws is_await h loud same (strips x t m)
-  derives (Err e) (Ok t) h m loud = absurd cc
-  derives answer (Err e) h m loud = tt
+  derived_by : (answer : Result ForHeadId Error) (r : Result T Error) → Read answer → StandsFor answer r → Loud model b
+      → IfOk r (λ t. Unmarred model b c → DerivesHead model derives (view t) b c)
+  derived_by (Ok x) (Ok t) h m loud = λ same. derived_as hook laws is_await h loud same by (sym m)
+  derived_by (Err e) (Ok t) h m loud = absurd cc
+  derived_by answer (Err e) h m loud = tt
 
-  grouped : (answer : Result ForHeadId Error) (r : Result (HeadOf F C K) Error) → Read answer → MovedTo answer r → Loud model b
-      → IfOk r (λ t. Unmarred model b c → is_grouped (head_tree (boxed t)) ≡ true)
-  grouped (Ok x) (Ok t) h m loud = λ same. (good_bare hook laws is_await h loud same (strips x t m)).0
+  grouped : (answer : Result ForHeadId Error) (r : Result T Error) → Read answer → StandsFor answer r → Loud model b
+      → IfOk r (λ t. Unmarred model b c → is_grouped (head_tree (view t)) ≡ true)
+  grouped (Ok x) (Ok t) h m loud = λ same. (good_left hook laws is_await h loud same by (sym m)).0
   grouped (Err e) (Ok t) h m loud = absurd cc
   grouped answer (Err e) h m loud = tt
 
-  valid : (answer : Result ForHeadId Error) (r : Result (HeadOf F C K) Error) → Read answer → MovedTo answer r → Loud model b
-      → IfOk r (λ t. Unmarred model b c → is_valid (head_tree (boxed t)) ≡ true)
-  valid (Ok x) (Ok t) h m loud = λ same. (good_bare hook laws is_await h loud same (strips x t m)).1
+  valid : (answer : Result ForHeadId Error) (r : Result T Error) → Read answer → StandsFor answer r → Loud model b
+      → IfOk r (λ t. Unmarred model b c → is_valid (head_tree (view t)) ≡ true)
+  valid (Ok x) (Ok t) h m loud = λ same. (good_left hook laws is_await h loud same by (sym m)).1
   valid (Err e) (Ok t) h m loud = absurd cc
   valid answer (Err e) h m loud = tt
 
   -- the commas of its literals
-  commas : (answer : Result ForHeadId Error) (r : Result (HeadOf F C K) Error) → Read answer → MovedTo answer r
+  commas : (answer : Result ForHeadId Error) (r : Result T Error) → Read answer → StandsFor answer r
       → (old new : TrailingCommas)
       → MatchResult answer (λ x. OnOk r (Recalls (part_commas (tree_at ns) (for_head_parts x)) old new)) (λ e. new ≡ old)
-      → MatchResult r (λ t. RemembersHead model hook is_await (boxed t) b c old new) (λ e. e.kind ≢ OutOfMemory → new ≡ old)
+      → MatchResult r (λ t. RemembersHead model hook is_await strip (view t) b c old new) (λ e. e.kind ≢ OutOfMemory → new ≡ old)
   commas (Ok x) (Ok t) h m old new q = record {
     marked = for_head_at ns x;
-    same = strips x t m;
+    same = sym m;
     derived = λ loud same. derived hook laws is_await h loud same;
     recalls = λ k. q k ∙ ap (λ ls. recalled ls k (comma_at old k)) (sym (head_commas (tree_at ns) x));
   }
@@ -350,45 +376,60 @@ module _ {S F C K : Type 0} {fg : Ghosts F} {cg : Ghosts C} {kg : Ghosts K} (mod
   commas (Err e) (Ok t) h m old new q = absurd cc
   commas (Err e) (Err x) h m old new q = λ n. q
 
-  module _ (answer : Result ForHeadId Error) (r : Result (HeadOf F C K) Error) (reads : Read answer)
-      (moved : MatchResult answer
-      (λ x. MatchResult r (λ t. coded (boxed t) ≡ coded (head_by (bare_at ns) x)) (λ e. e ≡ no_memory (last_position c)))
-      (λ e. r ≡ Err e)) where
-    to : MovedTo answer r
-    to = moved-decoded (head_by (bare_at ns)) boxed (λ e. e ≡ no_memory (last_position c)) answer r moved
+  module _ (answer : Result ForHeadId Error) (r : Result T Error) (reads : Read answer) (to : StandsFor answer r) where
+    left_reads : Parses model sure view (stripped strip (for_head hook is_await)) b r c
+    left_reads =
+        moved-as model sure (for_head hook is_await) (for_head_at ns) (λ x. strip (for_head_at ns x)) view strip b c answer r
+        reads (λ x. refl) to
 
-    bare_reads : Parses model sure boxed (stripped unmarked_head (for_head hook is_await)) b r c
-    bare_reads =
-        moved-as model sure (for_head hook is_await) (for_head_at ns) (head_by (bare_at ns)) boxed unmarked_head b c answer r
-        reads (head_bare (tree_at ns)) to
-
-    all : sure ≡ true → Complete model (ReadsHeadUnmarked hook is_await) boxed HeadStops b r c
+    all : sure ≡ true → Complete model derives view HeadStops b r c
     all y =
-        complete model sure (ReadsHeadUnmarked hook is_await) boxed (stripped unmarked_head (for_head hook is_await)) y HeadStops
-        (record { complete = λ x ts ys t d e. head_complete hook is_await d e }) b r c bare_reads
+        complete model sure derives view (stripped strip (for_head hook is_await)) y HeadStops
+        (record { complete = λ x ts ys t d e. by.complete x ts ys t d e }) b r c left_reads
 
     pub head-promised : IfOk answer (λ h. is_target_id h ≡ at_token is_each_word (seen c))
-        → HeadPromise model sure hook is_await boxed b r c
+        → HeadPromise model sure derives view b r c
     head-promised which = record {
-      reads = consumes_of model sure boxed (stripped unmarked_head (for_head hook is_await)) b c r bare_reads;
+      reads = consumes_of model sure view (stripped strip (for_head hook is_await)) b c r left_reads;
       which = told answer r (at_token is_each_word (seen c)) which to;
-      sound = derives answer r reads to;
+      sound = derived_by answer r reads to;
       complete = all;
-      one_head = λ y. one model sure hook is_await boxed b r c (all y);
+      one_head = λ y. one model derives view b r c (all y);
       grouped = grouped answer r reads to;
       valid = valid answer r reads to;
     }
 
     pub head-recalled : (old new : TrailingCommas)
         → MatchResult answer (λ x. OnOk r (Recalls (part_commas (tree_at ns) (for_head_parts x)) old new)) (λ e. new ≡ old)
-        → MatchResult r (λ t. RemembersHead model hook is_await (boxed t) b c old new) (λ e. e.kind ≢ OutOfMemory → new ≡ old)
+        → MatchResult r (λ t. RemembersHead model hook is_await strip (view t) b c old new) (λ e. e.kind ≢ OutOfMemory → new ≡ old)
     head-recalled = commas answer r reads to
 
-module _ {S H F C K : Type 0} {fg : Ghosts F} {cg : Ghosts C} {kg : Ghosts K} {model : Model S} {sure : Bool} {hook : Hook F C K}
-    {is_await : Bool} where
+module _ {F C K : Type 0} {fg : Ghosts F} {cg : Ghosts C} {kg : Ghosts K} where
+  -- what was moved into boxes
+  pub head-moved : (ns : Nodes F C K fg cg kg) (at : BytePos) (answer : Result ForHeadId Error) (r : Result (HeadOf F C K) Error)
+      → MatchResult answer
+      (λ x. MatchResult r (λ t. coded (boxed_head fg.place cg.place kg.place t) ≡ coded (head_by (bare_at ns) x)) (λ e. e ≡ no_memory at))
+      (λ e. r ≡ Err e)
+      → MatchResult answer
+      (λ x. MatchResult r (λ t. boxed_head fg.place cg.place kg.place t ≡ unmarked_head (for_head_at ns x)) (λ e. e ≡ no_memory at))
+      (λ e. r ≡ Err e)
+  head-moved ns at (Ok x) (Ok t) m = decoded (boxed_head fg.place cg.place kg.place t) (head_by (bare_at ns) x) m ∙ sym (head_bare (tree_at ns) x)
+  head-moved ns at (Ok x) (Err e) m = m
+  head-moved ns at (Err e) r m = m
+
+  -- what was kept among the nodes
+  pub head-kept : (ms ns : Nodes F C K fg cg kg) (at : BytePos) (k : ℕ) (answer r : Result ForHeadId Error)
+      → Kept at answer r → MatchResult r (λ x. ns ≡ ms) (λ e. CutTo k ms ns)
+      → MatchResult answer (λ x. MatchResult r (λ v. for_head_at ns v ≡ for_head_at ms x) (λ e. e ≡ no_memory at)) (λ e. r ≡ Err e)
+  head-kept ms ns at k (Ok x) (Ok y) same e = ap (λ v. for_head_at v y) e ∙ ap (λ v. for_head_at ms v) same
+  head-kept ms ns at k (Ok x) (Err e) same cut = same
+  head-kept ms ns at k (Err x) r same e = same
+
+module _ {S H T F C K : Type 0} {fg : Ghosts F} {cg : Ghosts C} {kg : Ghosts K} {model : Model S} {sure : Bool} {hook : Hook F C K}
+    {answer : HeadAnswer T F C K fg cg kg} {is_await : Bool} where
   pub head-again : {p : Parser S H F C K fg cg kg} {e : Error}
-      → (has_failed p ≡ true) × (e ≡ parser_failed (previous (buffer_of p))) → SameNodes (nodes_of p) (nodes_of p)
-      → PromisedHead model sure hook is_await p (Err e) p
+      → (has_failed p ≡ true) × (e ≡ parser_failed (previous (buffer_of p))) → answer.leaves (nodes_of p) (Err e) (nodes_of p)
+      → PromisedHead model sure hook answer is_await p (Err e) p
   head-again h same = record {
     again = λ failed. (refl, ap (λ x. Err x) h.1);
     promise = λ runs. absurd (not_both h.0 runs);
@@ -399,16 +440,20 @@ module _ {S H F C K : Type 0} {fg : Ghosts F} {cg : Ghosts C} {kg : Ghosts K} {m
 
   -- the buffer, the nodes and the commas before the parser remembers want of memory
   pub promised-head : {p q : Parser S H F C K fg cg kg} {f : Bool} (b : Buffer S) (ns : Nodes F C K fg cg kg) (cs : TrailingCommas)
-      (a r : Result (HeadOf F C K) Error) → has_failed p ≡ false → f ≡ has_failed p → r ≡ a → buffer_of q ≡ b → nodes_of q ≡ ns
+      (a r : Result T Error) → has_failed p ≡ false → f ≡ has_failed p → r ≡ a → buffer_of q ≡ b → nodes_of q ≡ ns
       → commas_of q ≡ cs → has_failed q ≡ (f || wants_memory a)
-      → HeadPromise model sure hook is_await (boxed_head fg.place cg.place kg.place) (buffer_of p) a b
-      → MatchResult a (λ t. RemembersHead model hook is_await (boxed_head fg.place cg.place kg.place t) (buffer_of p) b (commas_of p) cs)
+      → HeadPromise model sure (answer.derives hook is_await) (answer.head ns) (buffer_of p) a b
+      → MatchResult a (λ t. RemembersHead model hook is_await answer.strip (answer.head ns t) (buffer_of p) b (commas_of p) cs)
       (λ e. e.kind ≢ OutOfMemory → cs ≡ commas_of p)
-      → SameNodes (nodes_of p) ns → PromisedHead model sure hook is_await p r q
-  promised-head {p} {q} b ns cs a r runs same e buffer nodes commas fails done remembers kept = record {
-    again = λ failed. absurd (not_both failed runs);
-    promise = λ w. rw (e, buffer) done;
-    commas = rw (e, buffer, commas) remembers;
-    nodes = rw nodes kept;
-    fails = λ w. failing a r runs same e fails;
-  }
+      → answer.leaves (nodes_of p) a ns → PromisedHead model sure hook answer is_await p r q
+  promised-head {p} {q} b ns cs a r runs same e buffer nodes commas fails done remembers kept =
+      let promise : HeadPromise model sure (answer.derives hook is_await) (answer.head (nodes_of q)) (buffer_of p) r (buffer_of q) =
+      rw (e, buffer, nodes) done in
+      let left : answer.leaves (nodes_of p) r (nodes_of q) = rw (e, nodes) kept in
+      record {
+        again = λ failed. absurd (not_both failed runs);
+        promise = λ w. promise;
+        commas = rw (e, buffer, nodes, commas) remembers;
+        nodes = left;
+        fails = λ w. failing a r runs same e fails;
+      }

@@ -4,6 +4,7 @@ use Rattle.std.specs.declared.alloc.Global.{Global}
 use Rattle.std.specs.declared.vec.Vec.{Vec}
 use Rattle.swc_context.specs.declared.error.Error.{Error}
 use Rattle.swc_context.specs.declared.error.SyntaxError.TheVariants.{OutOfMemory}
+use Rattle.swc_context.specs.declared.span.BytePos.{BytePos}
 use Rattle.swc_context.specs.declared.span.Span.{Span}
 use Rattle.swc_input.specs.declared.buffer.Buffer.{Buffer}
 use Rattle.swc_input.specs.declared.token.TokenAndSpan.{TokenAndSpan}
@@ -14,7 +15,7 @@ use Rattle.swc_input.specs.Source.{Model}
 use Rattle.swc_ast.specs.Parts.{param_tree}
 use Rattle.swc_ast.specs.Tree.{Tree, node, Trees, nil, cons, trees}
 use Rattle.swc_ast.specs.TreeOf.{pat_tree}
-use Rattle.swc_ast.specs.Trees.{are_grouped, are_valid, grouped_at, items_of, listed, unmarked, all_unmarked}
+use Rattle.swc_ast.specs.Trees.{are_grouped, are_valid, grouped_at, is_grouped, is_valid, items_of, listed, unmarked, all_unmarked}
 use Rattle.swc_ast.specs.declared.function.Param.{Param}
 use Rattle.swc_ast.specs.declared.pat.Pat.{Pat as PatOf}
 use Rattle.swc_ast.specs.declared.spanned.Spanned.{Ghosts}
@@ -31,23 +32,24 @@ use Rattle.swc_grammar.proofs.Direct.{params-bind}
 use Rattle.swc_grammar.proofs.MarkedBinds.{all-same-binds}
 use Rattle.swc_grammar.proofs.Sound as clean
 use Rattle.swc_nodes.specs.Commas.{comma_at, commas_in, commas_of_all, part_commas, recalled, Recalls}
-use Rattle.swc_nodes.specs.GrowingNodes.{tree_at, bare_at, SameNodes}
+use Rattle.swc_nodes.specs.GrowingNodes.{tree_at, bare_at, Apart, CutTo}
 use Rattle.swc_nodes.specs.NodeParts.{flat, param_parts}
 use Rattle.swc_nodes.specs.declared.commas.TrailingCommas.{TrailingCommas}
 use Rattle.swc_nodes.specs.declared.node.PatId.{PatId}
 use Rattle.swc_nodes.specs.declared.nodes.Nodes.{Nodes}
-use Rattle.swc_patterns.specs.Answers.{params_at}
+use Rattle.swc_patterns.specs.Answers.{params_at, params_of}
 use Rattle.swc_patterns.specs.Params.{params_close}
 use Rattle.swc_steps.specs.Keys.{expected}
 use Rattle.swc_steps.specs.Lists.{eaten}
 use Rattle.swc_steps.specs.Parsing.{scope, recorded, Loud, Acts, On, Unheard}
 use Rattle.swc_steps.proofs.Hearing.{same_faults}
 use Rattle.swc_steps.proofs.Steps.{spent, forgoes_refuses}
-use Rattle.swc_ecma_parser.specs.Calls.{buffer_of, nodes_of, commas_of, has_failed, wants_memory, parser_failed, params_tree}
-use Rattle.swc_ecma_parser.specs.Promise.{ClosedBy, DerivesParams, MayClose, PromisedParams, RemembersParams, Unmarred, pats_of}
+use Rattle.swc_ecma_parser.specs.Calls.{buffer_of, nodes_of, commas_of, has_failed, wants_memory, parser_failed, params_tree, Kept}
+use Rattle.swc_ecma_parser.specs.Promise.{ClosedBy, Derivation, DerivesParams, MayClose, ParamsAnswer, PromisedParams, RemembersParams}
+use Rattle.swc_ecma_parser.specs.Promise.{Unmarred, pats_of}
 use Rattle.swc_ecma_parser.specs.declared.parser.Parser.{Parser}
 use Rattle.swc_ecma_parser.proofs.Calling.{failing, not_both}
-use Rattle.swc_ecma_parser.proofs.Top.{as_many, memory, parts, right_of, well_bare}
+use Rattle.swc_ecma_parser.proofs.Top.{as_many, memory, parts, right_of, well, well_bare}
 
 -- ---- patterns of parameters
 
@@ -118,20 +120,57 @@ same_known {c = c} xs ys k l =
     let same : k.more ≡ l.more = let a = k.known in let b = l.known in cc in
     k.begins ∙ ap (λ v. held c ++ v) same ∙ sym l.begins
 
+-- What derives parameters, beside the trees with their marks of commas: trees that `strip` leaves of them.
+pub record Derives {F C K : Type 0} (hook : Hook F C K) (derives : Derivation (Tree F C K)) (strip : Trees F C K → Trees F C K) : Type 0 where
+  pub into : (c : Scope) (xs ys : List TokenAndSpan) (s : Span) (m : Trees F C K) → Reads hook Params c xs ys (listed None s m)
+      → derives c xs ys (listed None s (strip m))
+  pub marked : (c : Scope) (xs ys : List TokenAndSpan) (t : Tree F C K) → derives c xs ys t → Tree F C K
+  pub read : (c : Scope) (xs ys : List TokenAndSpan) (t : Tree F C K) (d : derives c xs ys t) → Reads hook Params c xs ys (marked c xs ys t d)
+  pub list : (c : Scope) (xs ys : List TokenAndSpan) (t : Tree F C K) (d : derives c xs ys t) (s : Span) (m : Trees F C K)
+      → marked c xs ys t d ≡ listed None s m → t ≡ listed None s (strip m)
+  pub grouped : (c : Scope) (xs ys : List TokenAndSpan) (t : Tree F C K) → derives c xs ys t → is_grouped t ≡ true
+  pub valid : (c : Scope) (xs ys : List TokenAndSpan) (t : Tree F C K) → derives c xs ys t → is_valid t ≡ true
+  pub binds : (m : Trees F C K) → all_bind_names any (strip m) ≡ all_bind_names any m
+
+-- without the marks, and with them
+pub derives-bare : {F C K : Type 0} (hook : Hook F C K) → Derives hook (ReadsUnmarked hook Params) (λ ts. all_unmarked ts)
+derives-bare hook = record {
+  into = λ c xs ys s m d. record { marked = listed None s m; read = d; same = refl };
+  marked = λ c xs ys t d. d.marked;
+  read = λ c xs ys t d. d.read;
+  list = λ c xs ys t d s m e. sym d.same ∙ ap (λ v. unmarked v) e;
+  grouped = (well_bare hook Params).grouped;
+  valid = (well_bare hook Params).valid;
+  binds = λ m. all-same-binds any m;
+}
+
+pub derives-marked : {F C K : Type 0} (hook : Hook F C K) → Derives hook (Reads hook Params) (λ ts. ts)
+derives-marked hook = record {
+  into = λ c xs ys s m d. d;
+  marked = λ c xs ys t d. t;
+  read = λ c xs ys t d. d;
+  list = λ c xs ys t d s m e. e;
+  grouped = (well hook Params).grouped;
+  valid = (well hook Params).valid;
+  binds = λ m. refl;
+}
+
 -- What a reading of parameters does and answers, from one state of the buffer and of the commas to another.
-pub record MeetsParams {S F C K T : Type 0} (model : Model S) (sure : Bool) (hook : Hook F C K) (view : T → Trees F C K) (b : Buffer S) (r : Result T Error) (c : Buffer S) (old new : TrailingCommas) : Type 0 where
+pub record MeetsParams {S F C K T : Type 0} (model : Model S) (sure : Bool) (hook : Hook F C K) (derives : Derivation (Tree F C K))
+    (strip : Trees F C K → Trees F C K) (view : T → Trees F C K) (b : Buffer S) (r : Result T Error) (c : Buffer S)
+    (old new : TrailingCommas) : Type 0 where
   pub acts : Acts model b r c
-  pub sound : Loud model b → IfOk r (λ v. Unmarred model b c → DerivesParams model (ReadsUnmarked hook) (view v) b c)
+  pub sound : Loud model b → IfOk r (λ v. Unmarred model b c → DerivesParams model derives (view v) b c)
   pub complete : sure ≡ true → Loud model b → (ts ys : List TokenAndSpan) (t : Tree F C K) → Known model b ts
-      → ReadsUnmarked hook Params (scope model b) ts ys t
+      → derives (scope model b) ts ys t
       → MatchResult r (λ v. ClosedBy model (view v) t c ys × Unmarred model b c) (λ e. e.kind ≡ OutOfMemory)
   pub one_tree : sure ≡ true → Loud model b → (ts : List TokenAndSpan) (t : Tree F C K) → Known model b ts
-      → ReadsUnmarked hook Params (scope model b) ts [] t
+      → derives (scope model b) ts [] t
       → IfOk r (λ v. (close : TokenAndSpan) → Known model c (close ∷ []) → t ≡ listed None close.span (view v))
   pub grouped : Loud model b → IfOk r (λ v. Unmarred model b c → MayClose model c → are_grouped (view v) ≡ true)
   pub valid : Loud model b → IfOk r (λ v. Unmarred model b c → MayClose model c → are_valid (view v) ≡ true)
   pub binds : Loud model b → IfOk r (λ v. Unmarred model b c → MayClose model c → all_bind_names any (view v) ≡ true)
-  pub commas : MatchResult r (λ v. RemembersParams model hook (view v) b c old new) (λ e. e.kind ≢ OutOfMemory → new ≡ old)
+  pub commas : MatchResult r (λ v. RemembersParams model hook strip (view v) b c old new) (λ e. e.kind ≢ OutOfMemory → new ≡ old)
 
 module _ {S F C K : Type 0} {fun_at : F → Span} {class_at : C → Span} {block_at : K → Span} (model : Model S) (sure : Bool)
     (hook : Hook F C K) (laws : LawfulHook fun_at class_at block_at hook) (marked : Trees F C K) (b c : Buffer S)
@@ -149,100 +188,94 @@ module _ {S F C K : Type 0} {fun_at : F → Span} {class_at : C → Span} {block
       (subst (λ v. Reads hook Params (scope model b) v ys (listed None t.span marked)) (sym (append_assoc on.leads.taken (t ∷ []) ys))
       (front l same t ys fut h))
 
-  derived : Loud model b → Unmarred model b c → DerivesParams model (Reads hook) marked b c
+  derived : Loud model b → Unmarred model b c → DerivesParams model (Reads hook Params) marked b c
   derived l same = record { consumed = on.leads.taken; read = on.leads.read; front = front l same; whole = whole l same }
 
-  module _ (pats : Trees F C K) (strips : all_unmarked marked ≡ pats) where
-    bare_of : (xs ys : List TokenAndSpan) (t : TokenAndSpan) → Reads hook Params (scope model b) xs ys (listed None t.span marked)
-        → ReadsUnmarked hook Params (scope model b) xs ys (listed None t.span pats)
-    bare_of xs ys t d = record { marked = listed None t.span marked; read = d; same = ap (λ v. listed None t.span v) strips }
+  module _ (derives : Derivation (Tree F C K)) (strip : Trees F C K → Trees F C K) (by : Derives hook derives strip)
+      (pats : Trees F C K) (strips : strip marked ≡ pats) where
+    stripped_of : (xs ys : List TokenAndSpan) (t : TokenAndSpan) → Reads hook Params (scope model b) xs ys (listed None t.span marked)
+        → derives (scope model b) xs ys (listed None t.span pats)
+    stripped_of xs ys t d =
+        subst (λ v. derives (scope model b) xs ys (listed None t.span v)) strips (by.into (scope model b) xs ys t.span marked d)
 
-    derived_bare : Loud model b → Unmarred model b c → DerivesParams model (ReadsUnmarked hook) pats b c
-    derived_bare l same = record {
+    derived_as : Loud model b → Unmarred model b c → DerivesParams model derives pats b c
+    derived_as l same = record {
       consumed = on.leads.taken;
       read = on.leads.read;
-      front = λ t ys fut h. bare_of (on.leads.taken ++ t ∷ ys) ys t (front l same t ys fut h);
-      whole = λ t ys fut h. bare_of (on.leads.taken ++ t ∷ []) [] t (whole l same t ys fut h);
+      front = λ t ys fut h. stripped_of (on.leads.taken ++ t ∷ ys) ys t (front l same t ys fut h);
+      whole = λ t ys fut h. stripped_of (on.leads.taken ++ t ∷ []) [] t (whole l same t ys fut h);
     }
 
     -- over a listed source
     completed : sure ≡ true → Loud model b → (ts ys : List TokenAndSpan) (t : Tree F C K) → Known model b ts
-        → ReadsUnmarked hook Params (scope model b) ts ys t → ClosedBy model pats t c ys × Unmarred model b c
+        → derives (scope model b) ts ys t → ClosedBy model pats t c ys × Unmarred model b c
     completed y l ts ys t k d =
         let laws = on.leads.laws in
-        let e = clean_all.complete hook d.read tt in
+        let m = by.marked (scope model b) ts ys t d in
+        let e = clean_all.complete hook (by.read (scope model b) ts ys t d) tt in
         let w = Known-after laws b c on.leads.taken ts on.leads.read.took k in
         let counted : recorded model c ≡ recorded model b = as_many on.leads.read.errors (λ lt. let f0 = on.faulty y l lt ts k in cc) in
         let got = on.clean l counted w.0 (Known-Future laws c w.0 w.1) in
-        let found = closed_from marked (scope model c) w.0 d.marked ys (sym got ∙ ap (λ v. run hook (at Params) (scope model b) v) (sym w.2) ∙ e) in (
+        let found = closed_from marked (scope model c) w.0 m ys (sym got ∙ ap (λ v. run hook (at Params) (scope model b) v) (sym w.2) ∙ e) in (
           record {
             close = found.close;
             is = found.is;
             known = subst (λ v. Known model c v) found.begins w.1;
-            list = sym d.same ∙ ap (λ v. unmarked v) found.list ∙ ap (λ v. listed None found.close.span v) strips;
+            list = by.list (scope model b) ts ys t d found.close.span marked found.list ∙ ap (λ v. listed None found.close.span v) strips;
           },
           same_faults on.leads.read.errors counted,
         )
 
     one : sure ≡ true → Loud model b → (ts : List TokenAndSpan) (t : Tree F C K) → Known model b ts
-        → ReadsUnmarked hook Params (scope model b) ts [] t → (close : TokenAndSpan) → Known model c (close ∷ [])
+        → derives (scope model b) ts [] t → (close : TokenAndSpan) → Known model c (close ∷ [])
         → t ≡ listed None close.span pats
     one y l ts t k d close known =
         let found = (completed y l ts [] t k d).0 in
         let same : found.close ≡ close = let e = same_known (found.close ∷ []) (close ∷ []) found.known known in cc in
         found.list ∙ ap (λ v. listed None v.span pats) same
 
-    bare_whole : Loud model b → Unmarred model b c → (m : MayClose model c)
-        → ReadsUnmarked hook Params (scope model b) (on.leads.taken ++ m.close ∷ []) [] (listed None m.close.span pats)
-    bare_whole l same m = bare_of (on.leads.taken ++ m.close ∷ []) [] m.close (whole l same m.close m.behind m.may m.is)
+    stripped_whole : Loud model b → Unmarred model b c → (m : MayClose model c)
+        → derives (scope model b) (on.leads.taken ++ m.close ∷ []) [] (listed None m.close.span pats)
+    stripped_whole l same m = stripped_of (on.leads.taken ++ m.close ∷ []) [] m.close (whole l same m.close m.behind m.may m.is)
 
     grouped_pats : Loud model b → Unmarred model b c → MayClose model c → are_grouped pats ≡ true
     grouped_pats l same m =
         right_of (grouped_at (listed None m.close.span pats)) (are_grouped pats)
-        ((well_bare hook Params).grouped (scope model b) _ [] _ (bare_whole l same m))
+        (by.grouped (scope model b) _ [] _ (stripped_whole l same m))
 
     valid_pats : Loud model b → Unmarred model b c → MayClose model c → are_valid pats ≡ true
     valid_pats l same m =
-        right_of true (are_valid pats) ((well_bare hook Params).valid (scope model b) _ [] _ (bare_whole l same m))
+        right_of true (are_valid pats) (by.valid (scope model b) _ [] _ (stripped_whole l same m))
 
     bound_pats : Loud model b → Unmarred model b c → MayClose model c → all_bind_names any pats ≡ true
     bound_pats l same m =
-        ap (λ v. all_bind_names any v) (sym strips) ∙ all-same-binds any marked
+        ap (λ v. all_bind_names any v) (sym strips) ∙ by.binds marked
         ∙ params-bind hook (whole l same m.close m.behind m.may m.is)
 
-module _ {S F C K : Type 0} {fg : Ghosts F} {cg : Ghosts C} {kg : Ghosts K} (model : Model S) (sure : Bool) (hook : Hook F C K)
-    (laws : LawfulHook fg.place cg.place kg.place hook) (ns : Nodes F C K fg cg kg) (b c : Buffer S) (old new : TrailingCommas) where
-  abbrev boxed : Vec (Param (PatOf F C K)) Global → Trees F C K
-  boxed v = pats_of fg.place cg.place kg.place v
+module _ {S F C K T : Type 0} {fg : Ghosts F} {cg : Ghosts C} {kg : Ghosts K} (model : Model S) (sure : Bool) (hook : Hook F C K)
+    (laws : LawfulHook fg.place cg.place kg.place hook) (derives : Derivation (Tree F C K)) (strip : Trees F C K → Trees F C K)
+    (by : Derives hook derives strip) (view : T → Trees F C K) (ns : Nodes F C K fg cg kg) (b c : Buffer S) (old new : TrailingCommas) where
+  -- the answer stands for what the numbers stood for, as `strip` leaves it, or memory was wanted
+  abbrev pub StandsFor : Result (Vec (Param PatId) Global) Error → Result T Error → Type 0
+  StandsFor answer r = MatchResult answer
+      (λ x. MatchResult r (λ v. strip (params_at ns x) ≡ view v) (λ e. e ≡ no_memory (last_position c))) (λ e. r ≡ Err e)
 
-  stripped : (x : Vec (Param PatId) Global) (v : Vec (Param (PatOf F C K)) Global)
-      → params_tree (pat_tree F C K fg.place cg.place kg.place) v ≡ params_tree (λ (p : PatId). bare_at ns p.0) x
-      → all_unmarked (params_at ns x) ≡ boxed v
-  stripped x v e =
-      unmarked_pats (tree_at ns) x.items
-      ∙ sym (same_pats (pat_tree F C K fg.place cg.place kg.place) (λ (p : PatId). bare_at ns p.0) v x e)
-
-  pub meets-params : (answer : Result (Vec (Param PatId) Global) Error) (r : Result (Vec (Param (PatOf F C K)) Global) Error)
+  pub meets-params : (answer : Result (Vec (Param PatId) Global) Error) (r : Result T Error)
       → MatchResult answer (λ x. On model sure (run hook (at Params)) (params_close (params_at ns x)) b c)
       (λ e. Unheard model sure (run hook (at Params)) b e c)
-      → MatchResult answer
-      (λ x. MatchResult r
-      (λ v. params_tree (pat_tree F C K fg.place cg.place kg.place) v ≡ params_tree (λ (p : PatId). bare_at ns p.0) x)
-      (λ e. e ≡ no_memory (last_position c)))
-      (λ e. r ≡ Err e)
+      → StandsFor answer r
       → MatchResult answer (λ x. OnOk r (Recalls (part_commas (tree_at ns) (flat param_parts x.items)) old new)) (λ e. new ≡ old)
-      → MeetsParams model sure hook boxed b r c old new
-  meets-params (Ok x) (Ok v) on m q =
+      → MeetsParams model sure hook derives strip view b r c old new
+  meets-params (Ok x) (Ok v) on strips q =
       let pats = params_at ns x in
-      let strips = stripped x v m in
       record {
         acts = on.leads;
-        sound = derived_bare model sure hook laws pats b c on (boxed v) strips;
-        complete = completed model sure hook laws pats b c on (boxed v) strips;
-        one_tree = one model sure hook laws pats b c on (boxed v) strips;
-        grouped = grouped_pats model sure hook laws pats b c on (boxed v) strips;
-        valid = valid_pats model sure hook laws pats b c on (boxed v) strips;
-        binds = bound_pats model sure hook laws pats b c on (boxed v) strips;
+        sound = derived_as model sure hook laws pats b c on derives strip by (view v) strips;
+        complete = completed model sure hook laws pats b c on derives strip by (view v) strips;
+        one_tree = one model sure hook laws pats b c on derives strip by (view v) strips;
+        grouped = grouped_pats model sure hook laws pats b c on derives strip by (view v) strips;
+        valid = valid_pats model sure hook laws pats b c on derives strip by (view v) strips;
+        binds = bound_pats model sure hook laws pats b c on derives strip by (view v) strips;
         commas = record {
           marked = pats;
           same = strips;
@@ -261,11 +294,11 @@ module _ {S F C K : Type 0} {fg : Ghosts F} {cg : Ghosts C} {kg : Ghosts K} (mod
     commas = λ n. absurd (n (ap (λ v. v.kind) m));
   }
   meets-params (Err e) (Ok v) u m q = absurd cc
-  meets-params (Err e) (Err x) u m q = subst (λ w. MeetsParams model sure hook boxed b w c old new) (sym m) (record {
+  meets-params (Err e) (Err x) u m q = subst (λ w. MeetsParams model sure hook derives strip view b w c old new) (sym m) (record {
     acts = u.refuses;
     sound = λ l. tt;
     complete = λ y l ts ys t k d.
-        memory e.kind (λ n. let f0 = u.none n y l ts k in let f1 = clean_all.complete hook d.read tt in cc);
+        memory e.kind (λ n. let f0 = u.none n y l ts k in let f1 = clean_all.complete hook (by.read (scope model b) ts ys t d) tt in cc);
     one_tree = λ y l ts t k d. tt;
     grouped = λ l. tt;
     valid = λ l. tt;
@@ -273,9 +306,41 @@ module _ {S F C K : Type 0} {fg : Ghosts F} {cg : Ghosts C} {kg : Ghosts K} (mod
     commas = λ n. q;
   })
 
-module _ {S H F C K : Type 0} {fg : Ghosts F} {cg : Ghosts C} {kg : Ghosts K} {model : Model S} {sure : Bool} {hook : Hook F C K} where
+module _ {F C K : Type 0} {fg : Ghosts F} {cg : Ghosts C} {kg : Ghosts K} where
+  -- what was moved into boxes
+  pub params-moved : (ns : Nodes F C K fg cg kg) (last : BytePos) (answer : Result (Vec (Param PatId) Global) Error)
+      (r : Result (Vec (Param (PatOf F C K)) Global) Error)
+      → MatchResult answer
+      (λ x. MatchResult r
+      (λ v. params_tree (pat_tree F C K fg.place cg.place kg.place) v ≡ params_tree (λ (p : PatId). bare_at ns p.0) x)
+      (λ e. e ≡ no_memory last))
+      (λ e. r ≡ Err e)
+      → MatchResult answer
+      (λ x. MatchResult r (λ v. all_unmarked (params_at ns x) ≡ pats_of fg.place cg.place kg.place v) (λ e. e ≡ no_memory last))
+      (λ e. r ≡ Err e)
+  params-moved ns last (Ok x) (Ok v) e =
+      unmarked_pats (tree_at ns) x.items
+      ∙ sym (same_pats (pat_tree F C K fg.place cg.place kg.place) (λ (p : PatId). bare_at ns p.0) v x e)
+  params-moved ns last (Ok x) (Err e) m = m
+  params-moved ns last (Err e) r m = m
+
+  -- what was kept among the nodes
+  pub params-kept : (ms ns : Nodes F C K fg cg kg) (last : BytePos) (k : ℕ) (answer r : Result (Vec (Param PatId) Global) Error)
+      → Kept last answer r → MatchResult r (λ x. ns ≡ ms) (λ e. CutTo k ms ns)
+      → MatchResult answer (λ x. MatchResult r (λ v. params_at ms x ≡ params_at ns v) (λ e. e ≡ no_memory last)) (λ e. r ≡ Err e)
+  params-kept ms ns last k (Ok x) (Ok y) same e = ap (λ v. params_at ms v) (sym same) ∙ ap (λ v. params_at v y) (sym e)
+  params-kept ms ns last k (Ok x) (Err e) same cut = same
+  params-kept ms ns last k (Err x) r same e = same
+
+  pub params-apart : (ns : Nodes F C K fg cg kg) (k : ℕ) (answer : Result (Vec (Param PatId) Global) Error)
+      → IfOk answer (λ x. params_of k ns x) → IfOk answer (λ x. Apart k ns (flat param_parts x.items))
+  params-apart ns k (Ok x) h = h.0
+  params-apart ns k (Err e) h = tt
+
+module _ {S H T F C K : Type 0} {fg : Ghosts F} {cg : Ghosts C} {kg : Ghosts K} {model : Model S} {sure : Bool} {hook : Hook F C K}
+    {answer : ParamsAnswer T F C K fg cg kg} where
   pub params-again : {p : Parser S H F C K fg cg kg} {e : Error} → (has_failed p ≡ true) × (e ≡ parser_failed (previous (buffer_of p)))
-      → SameNodes (nodes_of p) (nodes_of p) → PromisedParams model sure hook p (Err e) p
+      → answer.leaves (nodes_of p) (Err e) (nodes_of p) → PromisedParams model sure hook answer p (Err e) p
   params-again h same = record {
     again = λ failed. (refl, ap (λ x. Err x) h.1);
     acts = λ runs. absurd (not_both h.0 runs);
@@ -292,13 +357,13 @@ module _ {S H F C K : Type 0} {fg : Ghosts F} {cg : Ghosts C} {kg : Ghosts K} {m
 
   -- the buffer, the nodes and the commas before the parser remembers want of memory
   pub promised-params : {p q : Parser S H F C K fg cg kg} {f : Bool} (b : Buffer S) (ns : Nodes F C K fg cg kg) (cs : TrailingCommas)
-      (a r : Result (Vec (Param (PatOf F C K)) Global) Error) → has_failed p ≡ false → f ≡ has_failed p →
+      (a r : Result T Error) → has_failed p ≡ false → f ≡ has_failed p →
       r ≡ a → buffer_of q ≡ b → nodes_of q ≡ ns → commas_of q ≡ cs → has_failed q ≡ (f || wants_memory a)
-      → MeetsParams model sure hook (pats_of fg.place cg.place kg.place) (buffer_of p) a b (commas_of p) cs
-      → SameNodes (nodes_of p) ns → PromisedParams model sure hook p r q
+      → MeetsParams model sure hook (answer.derives hook Params) answer.strip (answer.pats ns) (buffer_of p) a b (commas_of p) cs
+      → answer.leaves (nodes_of p) a ns → PromisedParams model sure hook answer p r q
   promised-params {p} {q} b ns cs a r runs same e buffer nodes commas fails done kept =
-      let meets : MeetsParams model sure hook (pats_of fg.place cg.place kg.place) (buffer_of p) r (buffer_of q) (commas_of p) (commas_of q) =
-      rw (e, buffer, commas) done in
+      let meets : MeetsParams model sure hook (answer.derives hook Params) answer.strip (answer.pats (nodes_of q)) (buffer_of p) r (buffer_of q)
+      (commas_of p) (commas_of q) = rw (e, buffer, nodes, commas) done in
       record {
         again = λ failed. absurd (not_both failed runs);
         acts = λ w. meets.acts;
@@ -309,6 +374,6 @@ module _ {S H F C K : Type 0} {fg : Ghosts F} {cg : Ghosts C} {kg : Ghosts K} {m
         valid = λ w. meets.valid;
         binds = λ w. meets.binds;
         commas = meets.commas;
-        nodes = rw (nodes) kept;
+        nodes = rw (e, nodes) kept;
         fails = λ w. failing a r runs same e fails;
       }

@@ -75,6 +75,15 @@ module _ {F C K : Type 0} {fg : Ghosts F} {cg : Ghosts C} {kg : Ghosts K} where
   kept-leaves part ls at (Ok id) (Err x) g f k e = cut-back ls g e
   kept-leaves part ls at (Err y) (Err x) g f k e = cut-back ls g e
 
+  -- the same of an answer with any parts
+  pub kept-parts : {X : Type 0} (parts : X → List Part) {ns ms : Nodes F C K fg cg kg} (ls : Nodes F C K fg cg kg) (at : BytePos) (answer r : Result X Error) → Grows ns ms → IfOk answer (λ x. Apart (count ns) ms (parts x)) →
+      Kept at answer r → MatchResult r (λ x. ls ≡ ms) (λ e. CutTo (count ns) ms ls) → MatchResult r (λ x. Grows ns ls × Apart (count ns) ls (parts x)) (λ e. SameNodes ns ls)
+  kept-parts parts {ns} {ms} ls at (Ok id) (Ok j) g f k e =
+      subst (λ v. Grows ns v × Apart (count ns) v (parts j)) (sym e) (g, subst (λ y. Apart (count ns) ms (parts y)) (sym k) f)
+  kept-parts parts ls at (Err x) (Ok j) g f k e = absurd cc
+  kept-parts parts ls at (Ok id) (Err x) g f k e = cut-back ls g e
+  kept-parts parts ls at (Err y) (Err x) g f k e = cut-back ls g e
+
   -- the answer stands for what the number stood for
   pub kept-moved : {X : Type 0} (by : Nodes F C K fg cg kg → X → Tree F C K) (ms ns : Nodes F C K fg cg kg) (at : BytePos) (k : ℕ) (answer r : Result X Error) → Kept at answer r → MatchResult r (λ id. ns ≡ ms) (λ e. CutTo k ms ns) →
       MatchResult answer (λ x. MatchResult r (λ y. by ns y ≡ by ms x) (λ e. e ≡ no_memory at)) (λ e. r ≡ Err e)

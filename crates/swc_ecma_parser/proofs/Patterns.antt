@@ -75,12 +75,16 @@ module _ {S F C K T : Type 0} (model : Model S) (hook : Hook F C K) (view : T �
   bound_of derives all b (Ok x) c h = λ l same. let d = h l same in all (scope model b) d.consumed [] (view x) d.whole
   bound_of derives all b (Err e) c h = λ l. tt
 
-  -- of a node, of a tree in boxes, and of an element
+  -- of a node, of a tree in boxes, and of an element as either
   pub bound-marked : (b : Buffer S) (r : Result T Error) (c : Buffer S) → Sound model (Reads hook Pat) view b r c → Bound model view b r c
   bound-marked = bound_of (Reads hook Pat) (λ c xs ys t d. pattern-binds hook d)
 
   pub bound-pat : (b : Buffer S) (r : Result T Error) (c : Buffer S) → Sound model (ReadsUnmarked hook Pat) view b r c → Bound model view b r c
   bound-pat = bound_of (ReadsUnmarked hook Pat) (pat_bare hook)
+
+  pub bound-marked-element : (b : Buffer S) (r : Result T Error) (c : Buffer S) → Sound model (Reads hook Element) view b r c
+      → Bound model view b r c
+  bound-marked-element = bound_of (Reads hook Element) (λ c xs ys t d. element-binds hook d)
 
   pub bound-element : (b : Buffer S) (r : Result T Error) (c : Buffer S) → Sound model (ReadsUnmarked hook Element) view b r c
       → Bound model view b r c

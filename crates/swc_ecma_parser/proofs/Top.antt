@@ -16,7 +16,7 @@ use Rattle.swc_ast.specs.Tree.{Tree, node}
 use Rattle.swc_ast.specs.Trees.{is_grouped, are_grouped, grouped_at, is_valid, are_valid, is_invalid, unmarked, items_of}
 use Rattle.swc_bodies.specs.Readings.{Hook, LawfulHook}
 use Rattle.swc_grammar.specs.Scope.{Scope}
-use Rattle.swc_grammar.specs.Symbols.{Symbol, Expr, Assign, Level, Unary, Key, Prop, Literal, Arguments, Template, Pat, Element}
+use Rattle.swc_grammar.specs.Symbols.{Symbol, Expr, Assign, Level, Unary, Lhs, Key, Prop, Literal, Arguments, Template, Pat, Element}
 use Rattle.swc_grammar.specs.Reads as grammar
 use Rattle.swc_grammar.specs.Clean.{Out, sym as at, Stop, run}
 use Rattle.swc_grammar.specs.Words.{◌>>=◌}
@@ -121,10 +121,10 @@ pub record Leaves {F C K : Type 0} (strip : Tree F C K → Tree F C K) : Type 0 
   pub valid : (t : Tree F C K) → is_valid t ≡ true → is_valid (strip t) ≡ true
 
 module _ {F C K : Type 0} where
-  items_grouped : (t : Tree F C K) → is_grouped t ≡ true → are_grouped (items_of t) ≡ true
+  pub items_grouped : (t : Tree F C K) → is_grouped t ≡ true → are_grouped (items_of t) ≡ true
   items_grouped (node k s ts) h = right_of (grouped_at (node k s ts)) (are_grouped ts) h
 
-  items_valid : (t : Tree F C K) → is_valid t ≡ true → are_valid (items_of t) ≡ true
+  pub items_valid : (t : Tree F C K) → is_valid t ≡ true → are_valid (items_of t) ≡ true
   items_valid (node k s ts) h = right_of (not (is_invalid k)) (are_valid ts) h
 
   pub leaves-items : Leaves {F = F} {C = C} {K = K} only_items
@@ -218,6 +218,9 @@ level-stops = record { stop = λ c ys e. stops-level (Level 1) c e }
 
 pub unary-stops : Stopping Unary
 unary-stops = record { stop = λ c ys e. stops-unary Unary c e }
+
+pub lhs-stops : {b : Bool} → Stopping (Lhs b)
+lhs-stops = record { stop = λ c ys e. e }
 
 pub key-stops : Stopping Key
 key-stops = record { stop = λ c ys e. tt }

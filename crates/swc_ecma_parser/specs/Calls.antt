@@ -37,6 +37,13 @@ buffer_of p = p.productions.input
 abbrev pub with_buffer : {S H F C K : Type 0} {fg : Ghosts F} {cg : Ghosts C} {kg : Ghosts K} → Buffer S → Parser S H F C K fg cg kg → Parser S H F C K fg cg kg
 with_buffer b p = record p { productions = record p.productions { input = b } }
 
+-- its hook
+abbrev pub hook_of : {S H F C K : Type 0} {fg : Ghosts F} {cg : Ghosts C} {kg : Ghosts K} → Parser S H F C K fg cg kg → H
+hook_of p = p.productions.bodies
+
+abbrev pub with_hook : {S H F C K : Type 0} {fg : Ghosts F} {cg : Ghosts C} {kg : Ghosts K} → H → Parser S H F C K fg cg kg → Parser S H F C K fg cg kg
+with_hook h p = record p { productions = record p.productions { bodies = h } }
+
 -- the nodes of what was read by number
 abbrev pub nodes_of : {S H F C K : Type 0} {fg : Ghosts F} {cg : Ghosts C} {kg : Ghosts K} → Parser S H F C K fg cg kg → Nodes F C K fg cg kg
 nodes_of p = p.productions.nodes

@@ -37,7 +37,7 @@ use Rattle.swc_nodes.specs.declared.node.ForHeadId.TheVariants as number
 use Rattle.swc_nodes.specs.declared.nodes.Nodes.{Nodes}
 use Rattle.swc_steps.specs.Parsing.{scope, seen, Loud, Consumes}
 use Rattle.swc_ecma_parser.specs.Calls.{buffer_of, nodes_of, commas_of, tree_by, has_failed, wants_memory, parser_failed}
-use Rattle.swc_ecma_parser.specs.Promise.{Answer, Complete, Derivation, Promised, Unmarred}
+use Rattle.swc_ecma_parser.specs.Promise.{Answer, AddsParts, Complete, Derivation, Promised, Unmarred}
 use Rattle.swc_ecma_parser.specs.declared.parser.Parser.{Parser}
 
 -- the words before which what is written to stands
@@ -117,17 +117,41 @@ module _ {S F C K : Type 0} (model : Model S) (derives : Derivation (ForHead F C
     pub front : (ys : List TokenAndSpan) → Future model c ys → derives (scope model b) (consumed ++ ys) ys h
     pub alone : (ys : List TokenAndSpan) → Future model c ys → derives (scope model b) (consumed ++ next ys) (next ys) h
 
-module _ {S F C K : Type 0} (model : Model S) (hook : Hook F C K) (is_await : Bool) where
-  -- Between b and c the commas of literals were remembered, one after another, and no other: of those of a head that has its marks, and is
-  -- h without them. Where faults are recorded at all, and none was, it is derived from the tokens consumed.
+-- How a call answers a head: which head an answer stands for, by the nodes that the parser then has; what derives such heads; what is left
+-- in them of a head with its marks of commas; and what becomes of the nodes.
+pub record HeadAnswer (T F C K : Type 0) (fg : Ghosts F) (cg : Ghosts C) (kg : Ghosts K) : Type 1 where
+  pub head : Nodes F C K fg cg kg → T → ForHead F C K
+  pub derives : Hook F C K → Bool → Derivation (ForHead F C K)
+  pub strip : ForHead F C K → ForHead F C K
+  pub leaves : Nodes F C K fg cg kg → Result T Error → Nodes F C K fg cg kg → Type 0
+
+abbrev pub head_in_boxes : {F C K : Type 0} {fg : Ghosts F} {cg : Ghosts C} {kg : Ghosts K} → HeadAnswer (HeadOf F C K) F C K fg cg kg
+head_in_boxes {fg = fg} {cg = cg} {kg = kg} = record {
+  head = λ ns h. boxed_head fg.place cg.place kg.place h;
+  derives = λ hook is_await. ReadsHeadUnmarked hook is_await;
+  strip = λ h. unmarked_head h;
+  leaves = λ ns r ms. SameNodes ns ms;
+}
+
+abbrev pub head_by_number : {F C K : Type 0} {fg : Ghosts F} {cg : Ghosts C} {kg : Ghosts K} → HeadAnswer ForHeadId F C K fg cg kg
+head_by_number = record {
+  head = λ ns h. for_head_at ns h;
+  derives = λ hook is_await. ReadsHead hook is_await;
+  strip = λ h. h;
+  leaves = AddsParts for_head_parts;
+}
+
+module _ {S F C K : Type 0} (model : Model S) (hook : Hook F C K) (is_await : Bool) (strip : ForHead F C K → ForHead F C K) where
+  -- Between b and c the commas of literals were remembered, one after another, and no other: of those of a head that has its marks, of
+  -- which `strip` leaves h. Where faults are recorded at all, and none was, it is derived from the tokens consumed.
   pub record RemembersHead (h : ForHead F C K) (b c : Buffer S) (old new : TrailingCommas) : Type 0 where
     pub marked : ForHead F C K
-    pub same : unmarked_head marked ≡ h
+    pub same : strip marked ≡ h
     pub derived : Loud model b → Unmarred model b c → DerivesHead model (ReadsHead hook is_await) marked b c
     pub recalls : Recalls (commas_in (head_tree marked)) old new
 
 -- What is promised of the reading of a head of a `for`, or of a `for await`, from b to c, where it answers r. The token behind the head stays.
-pub record HeadPromise {S T F C K : Type 0} (model : Model S) (sure : Bool) (hook : Hook F C K) (is_await : Bool) (view : T → ForHead F C K)
+pub record HeadPromise {S T F C K : Type 0} (model : Model S) (sure : Bool) (derives : Derivation (ForHead F C K)) (view : T → ForHead F C K)
     (b : Buffer S) (r : Result T Error) (c : Buffer S) : Type 0 where
   -- One token at least was consumed, or it refuses, and what was consumed isn't lost; the context is what it was, no recorded fault was
   -- taken out, and no want of memory recorded.
@@ -135,30 +159,30 @@ pub record HeadPromise {S T F C K : Type 0} (model : Model S) (sure : Bool) (hoo
   -- It is a target where `of` or `in` comes next, and an expression elsewhere, faults or not.
   pub which : IfOk r (λ h. is_for_target (view h) ≡ at_token is_each_word (seen c))
   -- What is answered with no fault recorded is derived from the tokens consumed, by the token that follows.
-  pub sound : Loud model b → IfOk r (λ h. Unmarred model b c → DerivesHead model (ReadsHeadUnmarked hook is_await) (view h) b c)
+  pub sound : Loud model b → IfOk r (λ h. Unmarred model b c → DerivesHead model derives (view h) b c)
   -- Over a listed source, with a faithful hook: what is derived from the tokens to come, up to the end, `of`, `in`, `;` or `)`, is answered,
   -- with no fault recorded, and what follows it is left; or the answer is want of memory.
-  pub complete : sure ≡ true → Complete model (ReadsHeadUnmarked hook is_await) view HeadStops b r c
+  pub complete : sure ≡ true → Complete model derives view HeadStops b r c
   -- No other head is derived up to such a token, nor up to another one of these than what was answered.
   pub one_head : sure ≡ true → Loud model b → (ts ys : List TokenAndSpan) (h : ForHead F C K) → Known model b ts
-      → ReadsHeadUnmarked hook is_await (scope model b) ts ys h → HeadStops ys → IfOk r (λ x. (h ≡ view x) × Known model c ys)
+      → derives (scope model b) ts ys h → HeadStops ys → IfOk r (λ x. (h ≡ view x) × Known model c ys)
   -- In what was answered with no fault recorded operators group as their levels say, and it holds no `Invalid`.
   pub grouped : Loud model b → IfOk r (λ h. Unmarred model b c → is_grouped (head_tree (view h)) ≡ true)
   pub valid : Loud model b → IfOk r (λ h. Unmarred model b c → is_valid (head_tree (view h)) ≡ true)
 
 -- What a call promises that reads a head, from the parser p to q, where it answers r.
-pub record PromisedHead {S H F C K : Type 0} {fg : Ghosts F} {cg : Ghosts C} {kg : Ghosts K} (model : Model S) (sure : Bool) (hook : Hook F C K)
-    (is_await : Bool) (p : Parser S H F C K fg cg kg) (r : Result (HeadOf F C K) Error) (q : Parser S H F C K fg cg kg) : Type 0 where
+pub record PromisedHead {S H T F C K : Type 0} {fg : Ghosts F} {cg : Ghosts C} {kg : Ghosts K} (model : Model S) (sure : Bool) (hook : Hook F C K)
+    (answer : HeadAnswer T F C K fg cg kg) (is_await : Bool) (p : Parser S H F C K fg cg kg) (r : Result T Error) (q : Parser S H F C K fg cg kg) : Type 0 where
   -- A parser that met want of memory does nothing, and refuses as `ParserFailed` at the token consumed last.
   pub again : has_failed p ≡ true → (q ≡ p) × (r ≡ Err (parser_failed (previous (buffer_of p))))
   -- any other reads the head
   pub promise : has_failed p ≡ false
-      → HeadPromise model sure hook is_await (boxed_head fg.place cg.place kg.place) (buffer_of p) r (buffer_of q)
+      → HeadPromise model sure (answer.derives hook is_await) (answer.head (nodes_of q)) (buffer_of p) r (buffer_of q)
   -- The commas of the answer's literals were remembered; what is refused but for want of memory leaves what there was.
   pub commas : MatchResult r
-      (λ h. RemembersHead model hook is_await (boxed_head fg.place cg.place kg.place h) (buffer_of p) (buffer_of q) (commas_of p) (commas_of q))
+      (λ h. RemembersHead model hook is_await answer.strip (answer.head (nodes_of q) h) (buffer_of p) (buffer_of q) (commas_of p) (commas_of q))
       (λ e. e.kind ≢ OutOfMemory → commas_of q ≡ commas_of p)
-  -- the nodes are what they were
-  pub nodes : SameNodes (nodes_of p) (nodes_of q)
+  -- what becomes of the nodes
+  pub nodes : answer.leaves (nodes_of p) r (nodes_of q)
   -- it has failed from now on where it refuses for want of memory, and only there
   pub fails : has_failed p ≡ false → has_failed q ≡ wants_memory r

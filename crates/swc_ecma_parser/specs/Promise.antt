@@ -1,14 +1,14 @@
 -- What the calls of a parser promise, by the written grammar alone. What is derived at a buffer is derived in its scope: by
 -- the context without the four flags that decide nothing (`view`), and the syntax. The context itself, with all its flags,
 -- is after each call what it was before.
-use Rattle.std.specs.Prelude.{◌≡◌, ◌≢◌, Bool, true, false, ◌||◌, List, [], ◌∷◌, ◌++◌, map, Option, None, Result, Err, IfOk, MatchResult}
+use Rattle.std.specs.Prelude.{◌≡◌, ◌≢◌, Bool, true, false, ◌||◌, ◌&&◌, List, [], ◌∷◌, ◌++◌, map, Option, Some, None, Result, Err, IfOk, OnOk, ◌<◌, MatchResult}
 use Rattle.swc_context.specs.declared.error.Error.{Error}
 use Rattle.swc_context.specs.declared.error.SyntaxError.TheVariants.{OutOfMemory}
 use Rattle.swc_context.specs.declared.span.Span.{Span}
 use Rattle.swc_input.specs.declared.buffer.Buffer.{Buffer}
 use Rattle.swc_input.specs.declared.token.TokenAndSpan.{TokenAndSpan}
 use Rattle.swc_input.specs.Source.{Model}
-use Rattle.swc_input.specs.Buffer.{Read, ReadSome, Future, Known, previous}
+use Rattle.swc_input.specs.Buffer.{Read, ReadSome, Future, Known, previous, to_come}
 use Rattle.swc_input.specs.Kinds.{at_token}
 use Rattle.std.specs.declared.alloc.Global.{Global}
 use Rattle.std.specs.declared.boxed.Box.{Box}
@@ -27,9 +27,9 @@ use Rattle.swc_ast.specs.declared.pat.Pat.{Pat as PatOf}
 use Rattle.swc_ast.specs.declared.prop.PropName.{PropName}
 use Rattle.swc_ast.specs.declared.prop.PropOrSpread.{PropOrSpread}
 use Rattle.swc_ast.specs.declared.spanned.Spanned.{Ghosts}
-use Rattle.swc_bodies.specs.Readings.{Hook}
+use Rattle.swc_bodies.specs.Readings.{Hook, Reading}
 use Rattle.swc_grammar.specs.Scope.{Scope}
-use Rattle.swc_grammar.specs.Clean.{first}
+use Rattle.swc_grammar.specs.Clean.{first, no_link, no_arrow}
 use Rattle.swc_grammar.specs.Patterns.{any, binds_names, all_bind_names, prop_binds_names}
 use Rattle.swc_grammar.specs.Symbols.{Symbol, Expr, Exprs, Assign, Level, Unary, Lhs, Left, Base, Arguments, Args, ArgsTail}
 use Rattle.swc_grammar.specs.Symbols.{Primary, Literal, Template, Parts, Elements, ElementsTail, Item, Props, PropsTail, Prop}
@@ -39,14 +39,15 @@ use Rattle.swc_grammar.specs.Reads.{Reads, ReadsUnmarked, Stops}
 use Rattle.swc_grammar.specs.Names.{Spelling, NameKind, Reference, ReadsName}
 use Rattle.swc_grammar.specs.Tokens.{ends_prop, is_rparen, may_be_reference}
 use Rattle.swc_nodes.specs.Commas.{commas_in, commas_of_all, Recalls}
-use Rattle.swc_nodes.specs.NodeParts.{Part, expr_part, pat_part}
-use Rattle.swc_nodes.specs.GrowingNodes.{count, From, Grows, SameNodes}
+use Rattle.swc_nodes.specs.Lists.{pats_parts}
+use Rattle.swc_nodes.specs.NodeParts.{Part, expr_part, pat_part, key_parts, param_parts, flat}
+use Rattle.swc_nodes.specs.GrowingNodes.{count, Apart, From, Grows, SameNodes}
 use Rattle.swc_nodes.specs.declared.commas.TrailingCommas.{TrailingCommas}
 use Rattle.swc_nodes.specs.declared.node.ExprId.{ExprId}
 use Rattle.swc_nodes.specs.declared.node.PatId.{PatId}
 use Rattle.swc_nodes.specs.declared.nodes.Nodes.{Nodes}
-use Rattle.swc_patterns.specs.Answers.{pat_at}
-use Rattle.swc_steps.specs.Parsing.{scope, Loud, Acts, Consumes, tree_of}
+use Rattle.swc_patterns.specs.Answers.{pat_at, params_at}
+use Rattle.swc_steps.specs.Parsing.{scope, Loud, Acts, Consumes, key_at, tree_of}
 use Rattle.swc_ecma_parser.specs.Calls.{buffer_of, nodes_of, commas_of, tree_by, pats_tree, has_failed, wants_memory, parser_failed}
 use Rattle.swc_ecma_parser.specs.declared.parser.Parser.{Parser}
 
@@ -59,8 +60,8 @@ abbrev pub Anywhere : List TokenAndSpan → Type 0
 Anywhere ys = Unit {0}
 
 -- Where a reading of the symbol may stop, so that `Promised` has it answered: of a key, of arguments, of a template, of a pattern, of a
--- rest and of an arrow function's parameters anywhere, of a property before `,` and `}`, of the others at the end and before what can't
--- go on with them. Of the other symbols nothing is promised by it.
+-- rest and of an arrow function's parameters anywhere, of a property before `,` and `}`, of a left-hand side before what is no link of it
+-- and no `=>`, of the others at the end and before what can't go on with them. Of the other symbols nothing is promised by it.
 abbrev pub EndsAt : Symbol → List TokenAndSpan → Type 0
 EndsAt Key ys = Unit {0}
 EndsAt (Arguments i) ys = Unit {0}
@@ -76,7 +77,7 @@ EndsAt Unary ys = Stops Unary ys
 EndsAt Element ys = Stops Element ys
 EndsAt PatProp ys = Stops PatProp ys
 EndsAt Exprs ys = ⊥
-EndsAt (Lhs b) ys = ⊥
+EndsAt (Lhs b) ys = (no_link true ys && no_arrow ys) ≡ true
 EndsAt (Left b) ys = ⊥
 EndsAt (Base b) ys = ⊥
 EndsAt (Args i) ys = ⊥
@@ -306,6 +307,31 @@ by_number = numbered tree_of expr_part
 abbrev pub pat_by_number : {F C K : Type 0} {fg : Ghosts F} {cg : Ghosts C} {kg : Ghosts K} → Answer PatId F C K fg cg kg
 pat_by_number = numbered pat_at pat_part
 
+-- Nodes were appended alone, in which the parts of the answer lie apart, or after a refusal none.
+abbrev pub AddsParts : {N F C K : Type 0} {fg : Ghosts F} {cg : Ghosts C} {kg : Ghosts K} → (N → List Part) → Nodes F C K fg cg kg
+    → Result N Error → Nodes F C K fg cg kg → Type 0
+AddsParts parts ns r ms = MatchResult r (λ x. Grows ns ms × Apart (count ns) ms (parts x)) (λ e. SameNodes ns ms)
+
+-- a key by the numbers in it, and the parameters of an arrow function by theirs, without the place of the list
+abbrev pub key_by_number : {F C K : Type 0} {fg : Ghosts F} {cg : Ghosts C} {kg : Ghosts K} → Answer (PropName ExprId) F C K fg cg kg
+key_by_number = record {
+  tree = λ ns k. key_at ns k;
+  derives = λ hook s. Reads hook s;
+  marked = λ hook s. Reads hook s;
+  strip = λ t. t;
+  leaves = AddsParts key_parts;
+}
+
+abbrev pub heads_by_number : {F C K : Type 0} {fg : Ghosts F} {cg : Ghosts C} {kg : Ghosts K}
+    → Answer (Vec PatId Global) F C K fg cg kg
+heads_by_number = record {
+  tree = λ ns ps. pats_tree (pat_at ns) ps;
+  derives = λ hook s. ReadsAs keep_items hook s;
+  marked = λ hook s. ReadsAs keep_items hook s;
+  strip = λ t. t;
+  leaves = AddsParts pats_parts;
+}
+
 module _ {S F C K : Type 0} (model : Model S) (derives : Derivation (Tree F C K)) (strip : Tree F C K → Tree F C K) where
   -- Between b and c the commas of literals were remembered, one after another, and no other: of those of a tree that has its marks, of
   -- which `strip` leaves t. Where faults are recorded at all, and none was, it is derived from the tokens consumed.
@@ -372,27 +398,53 @@ pub record PromisedPatProp {S H F C K : Type 0} {fg : Ghosts F} {cg : Ghosts C} 
       → Complete model (ReadsUnmarked hook Rest) (pat_prop_tree F C K fg.place cg.place kg.place) Anywhere (buffer_of p) r (buffer_of q)
   pub binds : has_failed p ≡ false → BoundAsProp model (pat_prop_tree F C K fg.place cg.place kg.place) (buffer_of p) r (buffer_of q)
 
--- the patterns of parameters, in their order
+-- the patterns of parameters, in their order: in boxes, and by number
 abbrev pub pats_of : {F C K : Type 0} → (F → Span) → (C → Span) → (K → Span) → Vec (Param (PatOf F C K)) Global → Trees F C K
 pats_of {F} {C} {K} fun class block ps = trees (map (λ p. pat_tree F C K fun class block p.pat) ps.items)
 
-module _ {S F C K : Type 0} (model : Model S) (derives : Symbol → Derivation (Tree F C K)) where
+-- How a call answers parameters: which patterns an answer stands for, by the nodes that the parser then has; what derives them; what is
+-- left in them of patterns with their marks of commas; and what becomes of the nodes.
+pub record ParamsAnswer (T F C K : Type 0) (fg : Ghosts F) (cg : Ghosts C) (kg : Ghosts K) : Type 1 where
+  pub pats : Nodes F C K fg cg kg → T → Trees F C K
+  pub derives : Hook F C K → Symbol → Derivation (Tree F C K)
+  pub strip : Trees F C K → Trees F C K
+  pub leaves : Nodes F C K fg cg kg → Result T Error → Nodes F C K fg cg kg → Type 0
+
+abbrev pub params_in_boxes : {F C K : Type 0} {fg : Ghosts F} {cg : Ghosts C} {kg : Ghosts K}
+    → ParamsAnswer (Vec (Param (PatOf F C K)) Global) F C K fg cg kg
+params_in_boxes {fg = fg} {cg = cg} {kg = kg} = record {
+  pats = λ ns ps. pats_of fg.place cg.place kg.place ps;
+  derives = λ hook s. ReadsUnmarked hook s;
+  strip = λ ts. all_unmarked ts;
+  leaves = λ ns r ms. SameNodes ns ms;
+}
+
+abbrev pub params_by_number : {F C K : Type 0} {fg : Ghosts F} {cg : Ghosts C} {kg : Ghosts K}
+    → ParamsAnswer (Vec (Param PatId) Global) F C K fg cg kg
+params_by_number = record {
+  pats = λ ns ps. params_at ns ps;
+  derives = λ hook s. Reads hook s;
+  strip = λ ts. ts;
+  leaves = AddsParts (λ ps. flat param_parts ps.items);
+}
+
+module _ {S F C K : Type 0} (model : Model S) (derives : Derivation (Tree F C K)) where
   -- Between b and c tokens were consumed from which, and a `)` that comes next, the parameters are derived that are these patterns: with
   -- whatever may follow, and as a list of their own.
   pub record DerivesParams (pats : Trees F C K) (b c : Buffer S) : Type 0 where
     pub consumed : List TokenAndSpan
     pub read : Read model b consumed c
     pub front : (t : TokenAndSpan) (ys : List TokenAndSpan) → Future model c (t ∷ ys) → is_rparen t.token ≡ true
-        → derives Params (scope model b) (consumed ++ t ∷ ys) ys (listed None t.span pats)
+        → derives (scope model b) (consumed ++ t ∷ ys) ys (listed None t.span pats)
     pub whole : (t : TokenAndSpan) (ys : List TokenAndSpan) → Future model c (t ∷ ys) → is_rparen t.token ≡ true
-        → derives Params (scope model b) (consumed ++ t ∷ []) [] (listed None t.span pats)
+        → derives (scope model b) (consumed ++ t ∷ []) [] (listed None t.span pats)
 
-module _ {S F C K : Type 0} (model : Model S) (hook : Hook F C K) where
+module _ {S F C K : Type 0} (model : Model S) (hook : Hook F C K) (strip : Trees F C K → Trees F C K) where
   -- Between b and c the commas of literals were remembered, as `RemembersAll` has it: of those of patterns that have their marks.
   pub record RemembersParams (pats : Trees F C K) (b c : Buffer S) (old new : TrailingCommas) : Type 0 where
     pub marked : Trees F C K
-    pub same : all_unmarked marked ≡ pats
-    pub derived : Loud model b → Unmarred model b c → DerivesParams model (Reads hook) marked b c
+    pub same : strip marked ≡ pats
+    pub derived : Loud model b → Unmarred model b c → DerivesParams model (Reads hook Params) marked b c
     pub recalls : Recalls (commas_of_all marked) old new
 
 module _ {S F C K : Type 0} (model : Model S) where
@@ -412,8 +464,8 @@ pub record MayClose {S : Type 0} (model : Model S) (c : Buffer S) : Type 0 where
 
 -- What a call on parameters promises, from the parser p to q, where it answers r. The `)` that closes them stays; without it nothing is
 -- derived, and what is answered is promised to be nothing.
-pub record PromisedParams {S H F C K : Type 0} {fg : Ghosts F} {cg : Ghosts C} {kg : Ghosts K} (model : Model S) (sure : Bool)
-    (hook : Hook F C K) (p : Parser S H F C K fg cg kg) (r : Result (Vec (Param (PatOf F C K)) Global) Error)
+pub record PromisedParams {S H T F C K : Type 0} {fg : Ghosts F} {cg : Ghosts C} {kg : Ghosts K} (model : Model S) (sure : Bool)
+    (hook : Hook F C K) (answer : ParamsAnswer T F C K fg cg kg) (p : Parser S H F C K fg cg kg) (r : Result T Error)
     (q : Parser S H F C K fg cg kg) : Type 0 where
   -- A parser that met want of memory does nothing, and refuses as `ParserFailed` at the token consumed last.
   pub again : has_failed p ≡ true → (q ≡ p) × (r ≡ Err (parser_failed (previous (buffer_of p))))
@@ -422,37 +474,53 @@ pub record PromisedParams {S H F C K : Type 0} {fg : Ghosts F} {cg : Ghosts C} {
   pub acts : has_failed p ≡ false → Acts model (buffer_of p) r (buffer_of q)
   -- What is answered with no fault recorded is derived from the tokens consumed and a `)` behind them.
   pub sound : has_failed p ≡ false → Loud model (buffer_of p) → IfOk r (λ v. Unmarred model (buffer_of p) (buffer_of q)
-      → DerivesParams model (ReadsUnmarked hook) (pats_of fg.place cg.place kg.place v) (buffer_of p) (buffer_of q))
+      → DerivesParams model (answer.derives hook Params) (answer.pats (nodes_of q) v) (buffer_of p) (buffer_of q))
   -- Over a listed source, with a faithful hook: what is derived from the tokens to come, with the `)` that closes it, is answered, with
   -- no fault recorded, and the `)` and what follows it is left; or the answer is want of memory.
   pub complete : has_failed p ≡ false → sure ≡ true → Loud model (buffer_of p)
       → (ts ys : List TokenAndSpan) (t : Tree F C K) → Known model (buffer_of p) ts
-      → ReadsUnmarked hook Params (scope model (buffer_of p)) ts ys t
+      → answer.derives hook Params (scope model (buffer_of p)) ts ys t
       → MatchResult r
-      (λ v. ClosedBy model (pats_of fg.place cg.place kg.place v) t (buffer_of q) ys × Unmarred model (buffer_of p) (buffer_of q))
+      (λ v. ClosedBy model (answer.pats (nodes_of q) v) t (buffer_of q) ys × Unmarred model (buffer_of p) (buffer_of q))
       (λ e. e.kind ≡ OutOfMemory)
   -- Over a listed source: where all tokens but a last `)` were read with no fault recorded, nothing is derived from all but the answer.
   pub one_tree : has_failed p ≡ false → sure ≡ true → Loud model (buffer_of p)
       → (ts : List TokenAndSpan) (t : Tree F C K) → Known model (buffer_of p) ts
-      → ReadsUnmarked hook Params (scope model (buffer_of p)) ts [] t
+      → answer.derives hook Params (scope model (buffer_of p)) ts [] t
       → IfOk r (λ v. (close : TokenAndSpan) → Known model (buffer_of q) (close ∷ [])
-      → t ≡ listed None close.span (pats_of fg.place cg.place kg.place v))
+      → t ≡ listed None close.span (answer.pats (nodes_of q) v))
   -- Where a `)` may come next, in the patterns answered with no fault recorded operators group as their levels say, they hold no
   -- `Invalid`, and they bind names alone.
   pub grouped : has_failed p ≡ false → Loud model (buffer_of p)
       → IfOk r (λ v. Unmarred model (buffer_of p) (buffer_of q) → MayClose model (buffer_of q)
-      → are_grouped (pats_of fg.place cg.place kg.place v) ≡ true)
+      → are_grouped (answer.pats (nodes_of q) v) ≡ true)
   pub valid : has_failed p ≡ false → Loud model (buffer_of p)
       → IfOk r (λ v. Unmarred model (buffer_of p) (buffer_of q) → MayClose model (buffer_of q)
-      → are_valid (pats_of fg.place cg.place kg.place v) ≡ true)
+      → are_valid (answer.pats (nodes_of q) v) ≡ true)
   pub binds : has_failed p ≡ false → Loud model (buffer_of p)
       → IfOk r (λ v. Unmarred model (buffer_of p) (buffer_of q) → MayClose model (buffer_of q)
-      → all_bind_names any (pats_of fg.place cg.place kg.place v) ≡ true)
+      → all_bind_names any (answer.pats (nodes_of q) v) ≡ true)
   -- The commas of literals in initialisers and keys were remembered; what is refused but for want of memory leaves what there was.
   pub commas : MatchResult r
-      (λ v. RemembersParams model hook (pats_of fg.place cg.place kg.place v) (buffer_of p) (buffer_of q) (commas_of p) (commas_of q))
+      (λ v. RemembersParams model hook answer.strip (answer.pats (nodes_of q) v) (buffer_of p) (buffer_of q) (commas_of p) (commas_of q))
       (λ e. e.kind ≢ OutOfMemory → commas_of q ≡ commas_of p)
-  -- the nodes are what they were
-  pub nodes : SameNodes (nodes_of p) (nodes_of q)
+  -- what becomes of the nodes
+  pub nodes : answer.leaves (nodes_of p) r (nodes_of q)
   -- it has failed from now on where it refuses for want of memory, and only there
   pub fails : has_failed p ≡ false → has_failed q ≡ wants_memory r
+
+-- what a hook reads where a statement stands, of the context alone
+abbrev pub ReadsBody : {V : Type 0} → Reading V → Derivation V
+ReadsBody reads c xs ys v = reads c.context xs ≡ Some (v, ys)
+
+-- What a call does and promises by which the hook reads a function, a class or a block where a statement stands, from b to c, where it
+-- answers r. A source that failed is want of memory.
+pub record HookReads {S V : Type 0} (model : Model S) (sure : Bool) (reads : Reading V) (b : Buffer S) (r : Result V Error)
+    (c : Buffer S) : Type 0 where
+  pub consumes : Consumes model b r c
+  -- What is answered with no fault recorded is what the hook reads of the tokens consumed, whatever follows.
+  pub sound : Sound model (ReadsBody reads) (λ (v : V). v) b r c
+  -- Over a listed source, with a faithful hook: what it reads of the tokens to come is answered; or the answer is want of memory.
+  pub complete : sure ≡ true → Complete model (ReadsBody reads) (λ (v : V). v) Anywhere b r c
+  -- fewer tokens are to come
+  pub less : OnOk r (to_come model c < to_come model b)

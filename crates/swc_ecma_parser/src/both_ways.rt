@@ -5,7 +5,7 @@ ghost use Rattle.swc_grammar.specs.Symbols.{Heads};
 ghost use Rattle.swc_grammar.specs.Words.{rest};
 ghost use Rattle.swc_input.specs.Listed.{listed_model};
 ghost use Rattle.swc_ecma_parser.specs.BothWays.{ConverseLaw, CoverLaw, Fresh};
-ghost use Rattle.swc_ecma_parser.specs.Promise.{Promised, PromisedParams, heads_in_boxes};
+ghost use Rattle.swc_ecma_parser.specs.Promise.{Promised, PromisedParams, heads_in_boxes, params_in_boxes};
 ghost use Rattle.swc_ecma_parser.specs.WholeList.{plain_list};
 
 use crate::parser::{Parser, PatOf};
@@ -119,7 +119,7 @@ fn read_formal_params<B: Bodies<TokensInput>>(
     target: EsVersion,
     bodies: B,
 ) -> ReadBy<Vec<Param<PatOf<B>>>, B>
-    ensures { Fresh (λ p q. PromisedParams listed_model B.is_faithful B.forms p result.read q)
+    ensures { Fresh (λ p q. PromisedParams listed_model B.is_faithful B.forms params_in_boxes p result.read q)
         ctx syntax (plain_list tokens.items) result.parser }
 {
     let source = TokensInput::new(alloc, tokens, ctx, syntax, target);

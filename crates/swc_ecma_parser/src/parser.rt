@@ -5,12 +5,14 @@ ghost use Rattle.swc_nodes.specs.Commas.{comma_at, part_commas, Recalls};
 ghost use Rattle.swc_nodes.specs.NumberedTrees.{floor};
 ghost use Rattle.swc_nodes.specs.GrowingNodes.{count, seat_at, tree_at, bare_at, Apart, Left, CutTo};
 ghost use Rattle.swc_grammar.specs.Symbols.{Expr, Assign, Level, Unary};
-ghost use Rattle.swc_ecma_parser.specs.Calls.{buffer_of, nodes_of, commas_of, with_buffer, with_nodes, has_failed};
+ghost use Rattle.swc_ecma_parser.specs.Calls.{buffer_of, hook_of, nodes_of, commas_of, with_buffer, with_hook};
+ghost use Rattle.swc_ecma_parser.specs.Calls.{with_nodes, has_failed};
 ghost use Rattle.swc_ecma_parser.specs.Calls.{wants_memory, found_import};
 ghost use Rattle.swc_ecma_parser.specs.Calls.{parser_failed, Called, SeesEnd, Kept, MovesOut, RemembersParts};
 ghost use Rattle.swc_ecma_parser.specs.Promise.{Promised, PromisedLit, in_boxes, by_number};
 ghost use Rattle.std.specs.Borrow.{sem, follows};
 ghost use Rattle.swc_ecma_parser.specs.contracts.parser.Parser.{the_row};
+ghost use Rattle.swc_input.specs.contracts.buffer.Buffer.{the_row as buffer_row};
 
 use crate::taking::Take;
 use std::alloc::{AllocError, Global};
@@ -31,6 +33,8 @@ use swc_steps::productions::Productions;
 use swc_steps::tokens::is_out_of_memory;
 
 mod for_heads;
+mod hooked;
+mod lhs;
 mod names;
 pub mod object;
 mod params;
@@ -84,6 +88,20 @@ impl<I: Tokens, B: Bodies<I>> Parser<I, B> {
     /// A parser that has read nothing. Takes no memory, and keeps the source's context.
     pub fn new_from(alloc: Global, input: I, bodies: B) -> Parser<I, B>
         ensures fresh { buffer_of result ≡ fresh input (last_position (buffer_of result)) }
+        ensures hook { hook_of result ≡ bodies }
+        ensures runs { has_failed result ≡ false }
+        ensures nodes { count (nodes_of result) ≡ 0 }
+        ensures commas { (start : ℕ) → comma_at (commas_of result) start ≡ None }
+        ensures module_item { found_import result ≡ false }
+    {
+        Parser::over(alloc, Buffer::new(input), bodies)
+    }
+
+    /// A parser over a buffer, which may hold tokens already, as one that a hook is lent or that another parser left.
+    /// What it reads are these, and then what the buffer's source gives. Takes no memory, and keeps the context.
+    pub fn over(alloc: Global, input: Buffer<I>, bodies: B) -> Parser<I, B>
+        ensures buffer { buffer_of result ≡ input }
+        ensures hook { hook_of result ≡ bodies }
         ensures runs { has_failed result ≡ false }
         ensures nodes { count (nodes_of result) ≡ 0 }
         ensures commas { (start : ℕ) → comma_at (commas_of result) start ≡ None }
@@ -92,7 +110,7 @@ impl<I: Tokens, B: Bodies<I>> Parser<I, B> {
         Parser {
             productions: Productions {
                 alloc,
-                input: Buffer::new(input),
+                input,
                 bodies,
                 nodes: Nodes::new(alloc),
                 found_module_item: false,
@@ -110,6 +128,42 @@ impl<I: Tokens, B: Bodies<I>> Parser<I, B> {
         ensures value { result.now ≡ source (buffer_of self.old) }
     {
         self.productions.source()
+    }
+
+    /// The buffer: what the next token is, and consuming it. What is done to it through the answer, and that alone,
+    /// changes the parser; the next call reads on from there.
+    pub fn buffer(&mut self) -> &mut Buffer<I>
+        ensures* lent { sem 𝓛 (follows (the_row I.row B.row B.Fun.row B.Class.row B.Block.row B.Fun.Spanned
+            B.Class.Spanned B.Block.Spanned) (buffer_row I.row) self.entry.ghost_name result.ghost_name
+            (λ b. with_buffer b self.old)) }
+        ensures value { result.now ≡ buffer_of self.old }
+    {
+        self.productions.buffer()
+    }
+
+    /// The hook. What is done to it through the answer, and that alone, changes the parser.
+    pub fn bodies(&mut self) -> &mut B
+        ensures* lent { sem 𝓛 (follows (the_row I.row B.row B.Fun.row B.Class.row B.Block.row B.Fun.Spanned
+            B.Class.Spanned B.Block.Spanned) B.row self.entry.ghost_name result.ghost_name
+            (λ b. with_hook b self.old)) }
+        ensures value { result.now ≡ hook_of self.old }
+    {
+        self.productions.hook()
+    }
+
+    /// The buffer, the nodes and the hook, where the parser is to read no more. Another parser over the buffer reads on
+    /// from the token that is current.
+    pub fn into_parts(self) -> (Buffer<I>, NodesOf<B>, B)
+        ensures buffer { result.0 ≡ buffer_of self }
+        ensures nodes { result.1 ≡ nodes_of self }
+        ensures hook { result.2 ≡ hook_of self }
+    {
+        let Parser {
+            productions,
+            commas: _,
+            failed: _,
+        } = self;
+        productions.into_parts()
     }
 
     /// Hands out the faults that were recorded, and none that wait for the context to become a module.
@@ -239,6 +293,18 @@ impl<I: Tokens, B: Bodies<I>> Parser<I, B> {
         let start = self.productions.nodes.len();
         let answer = parse_assignment_expr(&mut self.productions);
         let answer = self.move_out(start, answer);
+        self.finish(answer)
+    }
+
+    /// An assignment expression, as `parse_assignment_expr` reads it: its number among the nodes, which keeps its tree
+    /// until they are let go.
+    pub fn parse_assignment_expr_id(&mut self) -> PResult<ExprId>
+        ensures promised { Promised I.model B.is_faithful B.forms by_number Assign self.old result self.new }
+    {
+        self.begin()?;
+        let start = self.productions.nodes.len();
+        let answer = parse_assignment_expr(&mut self.productions);
+        let answer = self.keep(start, answer);
         self.finish(answer)
     }
 

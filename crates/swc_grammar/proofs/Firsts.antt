@@ -3,6 +3,7 @@ use Rattle.std.specs.Prelude.{◌≡◌, Bool, true, false, ◌&&◌, ◌||◌, 
 use Rattle.std.specs.Prelude.{Option, Some, None, codes, if◌then◌else◌}
 use Rattle.std.proofs.Common.{refl, sym, ap, subst, arith}
 use Rattle.std.proofs.lemmas.List.{length-append}
+use Rattle.swc_context.specs.Contexts.{arrow_body}
 use Rattle.swc_context.specs.Texts.{is_text, is_one_of}
 use Rattle.swc_context.specs.declared.operator.AssignOp.TheVariants as assign
 use Rattle.swc_context.specs.declared.operator.BinOpToken.TheVariants as sign
@@ -68,7 +69,7 @@ use Rattle.swc_grammar.specs.Symbols.{ArrowBody}
 use Rattle.swc_grammar.specs.Grammar.{assign-pattern, heads, async-ident, async-call, arrow-async-name}
 use Rattle.swc_grammar.specs.Grammar.{arrow-async-heads, arrow-name, arrow-heads, body-block, body-expr}
 use Rattle.swc_context.specs.Words.{word_text}
-use Rattle.swc_grammar.specs.Arrows.{arrow_name, binds_alone, arrow_body, async_name, is_arrow_word}
+use Rattle.swc_grammar.specs.Arrows.{arrow_name, binds_alone, async_name, is_arrow_word}
 use Rattle.swc_context.specs.declared.word.Word.{Word}
 use Rattle.swc_grammar.specs.Reads.{calm-two}
 use Rattle.swc_context.specs.Reserved.{strict_binding_words}

@@ -1,6 +1,7 @@
 -- Methods, getters and setters with their parameters: worked rows.
 use Rattle.std.specs.Prelude.{◌≡◌, ℕ, Bool, true, false, List, [], ◌∷◌, Some, None, codes}
 use Rattle.std.proofs.Common.{refl}
+use Rattle.swc_context.specs.Contexts.{method_block, method_params}
 use Rattle.swc_context.specs.declared.context.Context.{Context}
 use Rattle.swc_context.specs.declared.operator.BinOpToken.TheVariants as sign
 use Rattle.swc_context.specs.declared.span.Span.{Span}
@@ -14,7 +15,6 @@ use Rattle.swc_ast.specs.declared.expr.MetaPropKind.TheVariants as kind
 use Rattle.swc_bodies.specs.Readings.{Hook}
 use Rattle.swc_grammar.specs.Scope.{Scope, in_context}
 use Rattle.swc_grammar.specs.Symbols.{Expr}
-use Rattle.swc_grammar.specs.Tokens.{method_params, method_block}
 use Rattle.swc_grammar.specs.Reads.{Reads}
 use Rattle.swc_grammar.proofs.Blocks.{braces, braces-lawful}
 use Rattle.swc_grammar.proofs.Complete.{complete}

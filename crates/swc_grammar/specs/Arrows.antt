@@ -66,10 +66,6 @@ of_arrow c t u =
 abbrev pub async_param : Scope → Token → Span → Option Spelling
 async_param c = spelled (λ w. may_bind c.context w && not (is_reserved c.context w))
 
--- the context of its body, async or not
-abbrev pub arrow_body : Bool → Context → Context
-arrow_body is_async c = record c { in_async = is_async; in_generator = false; in_function = true }
-
 -- Behind parameters in parentheses and a block no binary operator stands, but for `in` and `instanceof`, which are left
 -- unread: no expression goes on there.
 abbrev pub is_sign : Token → Bool

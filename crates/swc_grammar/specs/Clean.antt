@@ -4,6 +4,7 @@
 -- of the code: what is promised to callers speaks of the grammar.
 use Rattle.std.specs.Prelude.{ℕ, zero, suc, ◌+◌, ◌-◌, ◌*◌, ◌≤◌, Bool, true, false, not, ◌&&◌, ◌||◌, if◌then◌else◌}
 use Rattle.std.specs.Prelude.{List, [], ◌∷◌, Option, Some, None, ◌≡◌, length, take as front, nat_le, nat_lt}
+use Rattle.swc_context.specs.Contexts.{arrow_body}
 use Rattle.swc_context.specs.Operators.{precedence_of}
 use Rattle.swc_context.specs.declared.context.Context.{Context}
 use Rattle.swc_context.specs.declared.operator.AssignOp.TheVariants as write
@@ -33,7 +34,7 @@ use Rattle.swc_grammar.specs.Symbols.{Item, Props, PropsTail, Prop, Key, AfterKe
 use Rattle.swc_grammar.specs.Symbols.{Pat, Element, Rest, PatElements, PatElementsTail, PatProps, PatPropsTail, PatProp}
 use Rattle.swc_grammar.specs.Symbols.{Params, ParamsTail, Heads, ArrowBody}
 use Rattle.swc_grammar.specs.Symbols.{reading_of, Side}
-use Rattle.swc_grammar.specs.Arrows.{is_arrow, is_arrow_word, arrow_body, is_block, is_sign}
+use Rattle.swc_grammar.specs.Arrows.{is_arrow, is_arrow_word, is_block, is_sign}
 use Rattle.swc_grammar.specs.Arrows.{async_name, is_bindable, before_of}
 use Rattle.swc_grammar.specs.Grammar.{heads, arrow-name, body-block, body-expr, arrow-async-name, async-ident}
 use Rattle.swc_grammar.specs.Grammar.{async-call}

@@ -1,5 +1,6 @@
 -- What a reading begins with, symbol by symbol.
 use Rattle.std.specs.Prelude.{Bool, true, false, ◌||◌, ◌&&◌}
+use Rattle.swc_context.specs.Contexts.{arrow_body}
 use Rattle.swc_input.specs.declared.token.Token.{Token}
 use Rattle.swc_input.specs.declared.token.Token.TheVariants as token
 use Rattle.swc_bodies.specs.Readings.{is_async, is_brace}
@@ -9,7 +10,6 @@ use Rattle.swc_grammar.specs.Symbols.{Symbol, Level, Unary, Lhs, Left, Base, Arg
 use Rattle.swc_grammar.specs.Symbols.{Args, ArgsTail, Primary, Literal, Elements, ElementsTail, Item}
 use Rattle.swc_grammar.specs.Symbols.{Pat, Element, Rest, PatElements, PatElementsTail, PatProps, PatPropsTail, PatProp}
 use Rattle.swc_grammar.specs.Symbols.{Params, ParamsTail, Heads, ArrowBody}
-use Rattle.swc_grammar.specs.Arrows.{arrow_body}
 use Rattle.swc_grammar.specs.Names.{may_bind}
 use Rattle.swc_grammar.specs.Symbols.{Props, PropsTail, Prop, Key, AfterKey, Shell}
 use Rattle.swc_grammar.specs.Tokens.{is_comma, is_rbracket, is_rbrace, is_dots, is_star, is_lparen, is_lbracket}

@@ -2,6 +2,7 @@
 -- scope c the right-hand side is one of the symbol's. What it means that a right-hand side is followed is said in
 -- Reads.
 use Rattle.std.specs.Prelude.{ℕ, suc, Bool, true, false, not, ◌||◌, ◌&&◌, None, IsTrue, codes, nat_eq, nat_lt}
+use Rattle.swc_context.specs.Contexts.{arrow_body, method_block, method_params}
 use Rattle.swc_context.specs.Operators.{precedence_of}
 use Rattle.swc_context.specs.Reserved.{is_reserved_word}
 use Rattle.swc_context.specs.declared.operator.AssignOp.TheVariants as write
@@ -31,7 +32,7 @@ use Rattle.swc_grammar.specs.Symbols.{Elements, ElementsTail}
 use Rattle.swc_grammar.specs.Symbols.{Item, Props, PropsTail, Prop, Key, AfterKey, Shell, Side, function, class, block}
 use Rattle.swc_grammar.specs.Symbols.{Pat, Element, Rest, PatElements, PatElementsTail, PatProps, PatPropsTail, PatProp}
 use Rattle.swc_grammar.specs.Symbols.{Params, ParamsTail, Heads, ArrowBody}
-use Rattle.swc_grammar.specs.Arrows.{is_arrow, arrow_name, arrow_body, is_block, is_sign}
+use Rattle.swc_grammar.specs.Arrows.{is_arrow, arrow_name, is_block, is_sign}
 use Rattle.swc_grammar.specs.Arrows.{async_name, async_param, goes_on_async, of_arrow}
 use Rattle.swc_grammar.specs.Names.{is_joined}
 use Rattle.swc_grammar.specs.Tokens.{with_in, is_this, is_lparen, is_rparen, is_lbracket, is_rbracket, is_comma, is_dots}
@@ -39,7 +40,6 @@ use Rattle.swc_grammar.specs.Tokens.{is_dot, is_question, is_backquote, is_dolla
 use Rattle.swc_grammar.specs.Tokens.{is_super, is_import, is_meta, is_source, super_ok, import_comma_ok}
 use Rattle.swc_grammar.specs.Tokens.{is_await, is_yield, await_ok, await_ident_ok, ends_await, yield_ok, goes_on_yield}
 use Rattle.swc_grammar.specs.Tokens.{is_power, is_rbrace, is_colon, is_star, is_equals, is_get, is_set}
-use Rattle.swc_grammar.specs.Tokens.{method_params, method_block}
 use Rattle.swc_grammar.specs.Parts.{reference, binding, any_name, lit_of, regex_of, text_of, key_lit_of, prefix_here}
 use Rattle.swc_grammar.specs.Parts.{update_here, assign_here, operator_here}
 use Rattle.swc_grammar.specs.Cover.{as_literal, as_params, heads_ok}

@@ -6,6 +6,7 @@ use Rattle.swc_context.specs.declared.context.Context.{Context}
 use Rattle.swc_context.specs.declared.context.EsVersion.{EsVersion}
 use Rattle.swc_context.specs.declared.context.Syntax.{Syntax}
 use Rattle.swc_context.specs.declared.context.TokenContexts.{TokenContexts}
+use Rattle.swc_context.specs.declared.span.BytePos.{BytePos}
 use Rattle.swc_input.specs.declared.token.TokenAndSpan.{TokenAndSpan}
 use Rattle.swc_input.specs.declared.listed.TokensInput.{TokensInput}
 use Rattle.swc_input.specs.Plain.{plain}
@@ -46,6 +47,17 @@ new_state ts c x v = record {
   known = Some (map plain ts);
   bound = length ts;
 }
+
+-- where a source begins: at its first token, or at a place of its own
+abbrev pub begins_at : TokensInput → BytePos
+begins_at s = s.start
+
+abbrev pub origin : BytePos
+origin = record { 0 = 0 }
+
+abbrev pub first_place : BytePos → List TokenAndSpan → BytePos
+first_place start [] = start
+first_place start (t ∷ ts) = t.span.lo
 
 pub record ListedGives (s : TokensInput) (xs : List TokenAndSpan) (t : TokensInput) : Type 0 where
   pub list : coming s ≡ xs ++ coming t

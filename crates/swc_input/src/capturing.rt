@@ -18,8 +18,8 @@ use swc_context::span::BytePos;
 /// regular expression that begins there, the latter is kept. Where each token begins where the one before it ends, or
 /// behind, all are kept, and empty ones too, as the text of a template may be.
 ///
-/// A token of which no copy could be kept, for want of memory, isn't handed on: the source has failed then, gives nothing
-/// any more, and asks for nothing. Every other call is that of the source within, and leaves what is kept.
+/// A token of which no copy could be kept, for want of memory, isn't handed on: the source has failed then, gives
+/// nothing any more, and asks for nothing. Every other call is that of the source within, and leaves what is kept.
 pub struct Capturing<I> {
     inner: I,
     kept: Vec<TokenAndSpan>,

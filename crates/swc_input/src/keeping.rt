@@ -1,5 +1,6 @@
 // The tokens that are kept, beside those that were kept before.
-ghost use Rattle.std.specs.Prelude.{◌≡◌, ◌-◌, ◌≤◌, ◌++◌, ◌∷◌, [], false, OnOk, OnErr, length, slice_get, vec_len, vec_capacity};
+ghost use Rattle.std.specs.Prelude.{◌≡◌, ◌-◌, ◌≤◌, ◌++◌, ◌∷◌, [], false, OnOk, OnErr, length, slice_get};
+ghost use Rattle.std.specs.Prelude.{vec_len, vec_capacity};
 ghost use Rattle.swc_input.specs.Kept.{is_late, cleared, kept};
 
 use crate::token::TokenAndSpan;

@@ -39,10 +39,10 @@ impl Drop for TokensInput {
 }
 
 impl TokensInput {
-    ghost use Rattle.swc_input.specs.Listed.{listed_state, new_state};
+    ghost use Rattle.swc_input.specs.Listed.{listed_state, new_state, begins_at, first_place, origin};
 
-    /// A source of these tokens, in which no fault was recorded. It begins where the first token
-    /// does, or at 0. Takes no memory.
+    /// A source of these tokens, in which no fault was recorded. It begins where the first token does, or at 0. Takes
+    /// no memory.
     pub fn new(
         alloc: Global,
         tokens: Vec<TokenAndSpan>,
@@ -50,11 +50,28 @@ impl TokensInput {
         syntax: Syntax,
         target: EsVersion,
     ) -> TokensInput
-        ensures { listed_state result ≡ new_state tokens.items context syntax target }
+        ensures state { listed_state result ≡ new_state tokens.items context syntax target }
+        ensures begins { begins_at result ≡ first_place origin tokens.items }
+    {
+        TokensInput::new_at(alloc, BytePos(0), tokens, context, syntax, target)
+    }
+
+    /// A source of these tokens, as `new` makes it, that begins at `start`, a position in bytes, where there is none:
+    /// so the end of an empty part of a text lies in that part.
+    pub fn new_at(
+        alloc: Global,
+        start: BytePos,
+        tokens: Vec<TokenAndSpan>,
+        context: Context,
+        syntax: Syntax,
+        target: EsVersion,
+    ) -> TokensInput
+        ensures state { listed_state result ≡ new_state tokens.items context syntax target }
+        ensures begins { begins_at result ≡ first_place start tokens.items }
     {
         let start = match tokens.first() {
             Some(token) => token.span.lo,
-            None => BytePos(0),
+            None => start,
         };
         TokensInput {
             rest: VecDeque::from(tokens),

@@ -6,6 +6,7 @@ pub mod Held
 pub mod Lists
 pub mod Marked
 pub mod PatternParts
+pub mod Reaching
 pub mod Remembered
 pub mod Renumbered
 pub mod Sequences

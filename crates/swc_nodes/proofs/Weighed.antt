@@ -56,7 +56,7 @@ module _ {F C K : Type 0} where
       let here : p.at < more = omega arith in
       All-cons (λ k. k < more) p.at (ats ps) here (front_below at (suc p.at) ps qs hi more le b.1)
 
-  floor_same : (at by : ℕ → Seat F C K) (lo : ℕ) (ps : List Part) (hi : ℕ) → ((i : ℕ) → i < hi → at i ≡ by i) → chain by lo ps hi ≡ true → floor at hi ps ≡ floor by hi ps
+  pub floor_same : (at by : ℕ → Seat F C K) (lo : ℕ) (ps : List Part) (hi : ℕ) → ((i : ℕ) → i < hi → at i ≡ by i) → chain by lo ps hi ≡ true → floor at hi ps ≡ floor by hi ps
   floor_same at by lo [] hi same h = refl
   floor_same at by lo (p ∷ ps) hi same h =
       let b : (fits by lo p ≡ true) × (chain by (suc p.at) ps hi ≡ true) = both_true h in

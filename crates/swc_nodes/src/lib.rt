@@ -16,5 +16,6 @@ pub mod node;
 pub mod nodes;
 pub mod patterns;
 pub mod pending;
+pub mod reached;
 pub mod renumbering;
 pub mod shape;

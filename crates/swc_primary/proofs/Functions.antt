@@ -5,6 +5,7 @@ use Rattle.std.specs.declared.alloc.Global.{Global}
 use Rattle.std.specs.declared.vec.Vec.{Vec}
 use Rattle.std.specs.Option.{is_some}
 use Rattle.std.specs.Prelude.{Option}
+use Rattle.swc_context.specs.Contexts.{method_block, method_params}
 use Rattle.swc_context.specs.declared.context.Context.{Context}
 use Rattle.swc_context.specs.declared.error.Error.{Error}
 use Rattle.swc_context.specs.declared.span.Span.{Span}
@@ -20,7 +21,7 @@ use Rattle.swc_ast.specs.declared.spanned.Spanned.{Ghosts}
 use Rattle.swc_bodies.specs.Readings.{Hook, LawfulHook}
 use Rattle.swc_grammar.specs.Scope.{Scope, in_context}
 use Rattle.swc_grammar.specs.Symbols.{Params, Shell, block}
-use Rattle.swc_grammar.specs.Tokens.{is_lparen, is_rparen, method_params, method_block}
+use Rattle.swc_grammar.specs.Tokens.{is_lparen, is_rparen}
 use Rattle.swc_grammar.specs.Clean.{Out, and_then, hear_then, sym as at, exec, step, rank_of, run}
 use Rattle.swc_grammar.specs.Words.{◌>>=◌}
 use Rattle.swc_grammar.proofs.Bodies.{hears, hears-place, hears-run}

@@ -2,6 +2,7 @@
 use Rattle.std.specs.Prelude.{◌≡◌, Bool, true, false, not, if◌then◌else◌, List, [], ◌∷◌, Option, Some, None, ℕ, ◌&&◌}
 use Rattle.std.specs.declared.alloc.Global.{Global}
 use Rattle.std.specs.declared.vec.Vec.{Vec}
+use Rattle.swc_context.specs.Contexts.{method_params}
 use Rattle.swc_context.specs.Contexts.{view as deciding}
 use Rattle.swc_context.specs.declared.context.Context.{Context}
 use Rattle.swc_context.specs.declared.error.Error.{Error}
@@ -22,7 +23,7 @@ use Rattle.swc_ast.specs.declared.spanned.Spanned.{Ghosts}
 use Rattle.swc_bodies.specs.Readings.{Hook, is_async}
 use Rattle.swc_grammar.specs.Scope.{Scope, in_context}
 use Rattle.swc_grammar.specs.Symbols.{Key, AfterKey as Behind, Shell, Params}
-use Rattle.swc_grammar.specs.Tokens.{is_get, is_set, is_star, is_lparen, is_rparen, method_params}
+use Rattle.swc_grammar.specs.Tokens.{is_get, is_set, is_star, is_lparen, is_rparen}
 use Rattle.swc_grammar.specs.Clean.{Out, sym, run}
 use Rattle.swc_grammar.specs.Words.{◌>>=◌}
 use Rattle.swc_nodes.specs.Lists.{first_param_pat}

@@ -1,9 +1,9 @@
 // What methods are made of behind their keys (ECMA-262, 15.4 to 15.6 and 15.8): parameters, blocks, and properties.
 ghost use Rattle.std.specs.Option.{is_some};
 ghost use Rattle.std.specs.Prelude.{ℕ, ◌≡◌, ◌≢◌, ◌<◌, ◌≤◌, true, not, ◌||◌, IfOk, OnOk, MatchResult};
+ghost use Rattle.swc_context.specs.Contexts.{method_params};
 ghost use Rattle.swc_context.specs.declared.error.SyntaxError.TheVariants.{ParserFailed};
 ghost use Rattle.swc_input.specs.Buffer.{to_come, context};
-ghost use Rattle.swc_grammar.specs.Tokens.{method_scope, method_params, method_block};
 ghost use Rattle.swc_nodes.specs.GrowingNodes.{count, Apart, Grows};
 ghost use Rattle.swc_nodes.specs.Lists.{first_param_pat};
 ghost use Rattle.swc_nodes.specs.NodeParts.{flat, param_parts};
@@ -266,7 +266,7 @@ fn parse_method_block<I: Tokens, B: Bodies<I>>(
     ensures nodes { p.new.nodes ≡ p.old.nodes }
 {
     let ctx = p.get_ctx();
-    set_ctx(&mut p.input, method_block(is_async, is_generator, ctx));
+    set_ctx(&mut p.input, ctx.method_block(is_async, is_generator));
     let block = parse_block(p);
     set_ctx(&mut p.input, ctx);
     block
@@ -287,40 +287,11 @@ pub fn parse_block<I: Tokens, B: Bodies<I>>(p: &mut Productions<I, B>) -> PResul
     answered(&p.input, answer)
 }
 
-/// The context of a method, wherever in it.
-fn method_scope(is_async: bool, is_generator: bool, ctx: Context) -> Context
-    ensures { result ≡ method_scope is_async is_generator ctx }
-{
-    Context {
-        in_async: is_async,
-        in_generator: is_generator,
-        in_class_field: false,
-        allow_direct_super: true,
-        ..ctx
-    }
-}
-
-/// The context of a method's parameters, in which `new.target` is that of the code round the method.
+/// The context of the parameters of a method of the kind.
 fn method_params(kind: Option<MethodKind>, ctx: Context) -> Context
     ensures { result ≡ method_params (async_in kind) (generator_in kind) ctx }
 {
-    Context {
-        in_function: false,
-        in_parameters: true,
-        ..method_scope(is_async(kind), is_generator(kind), ctx)
-    }
-}
-
-/// The context of a method's body.
-fn method_block(is_async: bool, is_generator: bool, ctx: Context) -> Context
-    ensures { result ≡ method_block is_async is_generator ctx }
-{
-    Context {
-        in_function: true,
-        in_parameters: false,
-        inside_non_arrow_function_scope: true,
-        ..method_scope(is_async, is_generator, ctx)
-    }
+    ctx.method_params(is_async(kind), is_generator(kind))
 }
 
 /// A method of the kind, which begins at the place. A setter has the pattern of its function's first parameter.

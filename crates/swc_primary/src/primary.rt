@@ -16,7 +16,7 @@ ghost use Rattle.swc_nodes.specs.GrowingNodes.{count, first_start, last_end, Apa
 ghost use Rattle.swc_steps.specs.Args.{paren_from, paren_closed};
 ghost use Rattle.swc_steps.specs.Readers.{by_production, named_expr};
 ghost use Rattle.swc_steps.specs.Parsing.{lit_in, seen, Here, ParsesAlone, Produces, GoesOn, Checked, Refuses};
-ghost use Rattle.swc_steps.specs.Parsing.{TookLiteral};
+ghost use Rattle.swc_steps.specs.Parsing.{TookLiteral, Parses, by_hook};
 ghost use Rattle.swc_steps.specs.Parsing.{itself, tree_of, args_at, ident_spelling};
 ghost use Rattle.swc_primary.specs.Openings.{primary_kind, literal, BeginsPlain};
 ghost use Rattle.swc_primary.specs.declared.primary.PrimaryKind.TheVariants.{Plain};
@@ -29,7 +29,7 @@ use swc_ast::ident::Ident;
 use swc_ast::lit::{BigInt, Bool, Lit, Null, Num, Str};
 use swc_bodies::bodies::Bodies;
 use swc_context::context::Context;
-use swc_context::error::{Error, PResult, SyntaxError};
+use swc_context::error::{Error, PResult, SyntaxError, Wanted};
 use swc_context::operator::{AssignOp, BinOpToken};
 use swc_context::span::Span;
 use swc_context::word::{Keyword, Word};
@@ -40,8 +40,8 @@ use swc_nodes::node::ExprId;
 use swc_steps::productions::{Productions, is_identifier_word, is_strict_word};
 use swc_steps::regex::parse_regex;
 use swc_steps::tokens::{
-    Listed, answered, bump, copy_of, emit_strict_mode_err, is_async_function, parse_ident_name,
-    parse_ident_ref, require_cur, skip, syntax_error,
+    Listed, Sign, answered, bump, copy_of, emit_strict_mode_err, is_async_function, is_sign, look,
+    parse_ident_name, parse_ident_ref, require_cur, skip, syntax_error, unexpected,
 };
 
 /// An element of an array literal, or a hole.
@@ -205,6 +205,50 @@ pub fn parse_class_expr<I: Tokens, B: Bodies<I>>(p: &mut Productions<I, B>) -> P
     let class = answered(&p.input, answer)?;
     let node = p.nodes.class_expr(class);
     p.made(node)
+}
+
+/// A function, which the hook reads, where a statement stands (ECMA-262, 15.2, 15.5, 15.6 and 15.8). Another token than
+/// `function`, and `async` with `function` behind it, is refused as `Expected`.
+pub fn parse_function<I: Tokens, B: Bodies<I>>(p: &mut Productions<I, B>) -> PResult<B::Fun>
+    ensures reads { Parses I.model B.is_faithful (λ v. v) (by_hook B.forms.fun) p.old.input result p.new.input }
+    ensures falls { OnOk result (to_come I.model p.new.input < to_come I.model p.old.input) }
+    ensures nodes { p.new.nodes ≡ p.old.nodes }
+{
+    look(&mut p.input)?;
+    if is_sign(&p.input, Sign::Function) {
+        return function_here(p);
+    }
+    if is_async_function(&mut p.input)? {
+        return function_here(p);
+    }
+    let wanted = Wanted::Keyword(Keyword::Function);
+    Err(unexpected(&mut p.input, SyntaxError::Expected(wanted)))
+}
+
+/// A function that begins here, which the hook reads.
+fn function_here<I: Tokens, B: Bodies<I>>(p: &mut Productions<I, B>) -> PResult<B::Fun>
+    requires { at_function (current p.old.input) ≡ true }
+    ensures reads { Parses I.model B.is_faithful (λ v. v) (by_hook B.forms.fun) p.old.input result p.new.input }
+    ensures nodes { p.new.nodes ≡ p.old.nodes }
+{
+    let answer = p.bodies.fun(&mut p.input);
+    answered(&p.input, answer)
+}
+
+/// A class, which the hook reads, where a statement stands (ECMA-262, 15.7). Another token than `class` is refused as
+/// `Expected`.
+pub fn parse_class<I: Tokens, B: Bodies<I>>(p: &mut Productions<I, B>) -> PResult<B::Class>
+    ensures reads { Parses I.model B.is_faithful (λ v. v) (by_hook B.forms.class) p.old.input result p.new.input }
+    ensures falls { OnOk result (to_come I.model p.new.input < to_come I.model p.old.input) }
+    ensures nodes { p.new.nodes ≡ p.old.nodes }
+{
+    look(&mut p.input)?;
+    if !is_sign(&p.input, Sign::Class) {
+        let wanted = Wanted::Keyword(Keyword::Class);
+        return Err(unexpected(&mut p.input, SyntaxError::Expected(wanted)));
+    }
+    let answer = p.bodies.class(&mut p.input);
+    answered(&p.input, answer)
 }
 
 /// An identifier reference as an expression (ECMA-262, 13.1), at a word that may be one.

@@ -1,5 +1,6 @@
 -- The body of an arrow function (15.3, 15.9), as the code goes it: in its own context, a block or an assignment expression.
 use Rattle.std.proofs.Common.{◌≡◌, ℕ, Bool, true, false, if◌then◌else◌, List, Result, refl, sym, ap, subst, ◌∙◌}
+use Rattle.swc_context.specs.Contexts.{arrow_body}
 use Rattle.swc_context.specs.Contexts.{view as deciding}
 use Rattle.swc_context.specs.declared.context.Context.{Context}
 use Rattle.swc_context.specs.declared.error.Error.{Error}
@@ -13,7 +14,6 @@ use Rattle.swc_ast.specs.Tree.{Tree}
 use Rattle.swc_ast.specs.declared.expr.BlockStmtOrExpr.{BlockStmtOrExpr}
 use Rattle.swc_ast.specs.declared.spanned.Spanned.{Ghosts}
 use Rattle.swc_bodies.specs.Readings.{Hook, LawfulHook, is_brace}
-use Rattle.swc_grammar.specs.Arrows.{arrow_body}
 use Rattle.swc_grammar.specs.Clean.{Out, first, sym as at, run}
 use Rattle.swc_grammar.specs.Scope.{Scope, in_context}
 use Rattle.swc_grammar.specs.Symbols.{Assign, ArrowBody}

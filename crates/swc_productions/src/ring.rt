@@ -783,9 +783,9 @@ pub fn parse_expr<I: Tokens, B: Bodies<I>>(p: &mut Productions<I, B>) -> PResult
     }
 }
 
-/// An assignment expression (ECMA-262, 13.15), or an arrow function (15.3 and 15.9); or `yield` (15.5), and its operand,
-/// with the `*` before it or not, where one begins on the same line. In parameters outside a function `yield` is
-/// refused. A refusal of its operand is labelled with the place of `yield` and the `*`.
+/// An assignment expression (ECMA-262, 13.15), or an arrow function (15.3 and 15.9); or `yield` (15.5), and its
+/// operand, with the `*` before it or not, where one begins on the same line. In parameters outside a function `yield`
+/// is refused. A refusal of its operand is labelled with the place of `yield` and the `*`.
 #[cycle(productions)]
 pub fn parse_assignment_expr<I: Tokens, B: Bodies<I>>(p: &mut Productions<I, B>) -> PResult<ExprId>
     ensures { Produces I.model B.is_faithful itself tree_of (run B.forms (sym Assign))

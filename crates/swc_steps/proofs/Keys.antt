@@ -1,7 +1,8 @@
 -- The clean parser's steps in keys and in the functions of methods, as the code goes them.
-use Rattle.std.specs.Prelude.{◌≡◌, Bool, true, false, if◌then◌else◌, List, [], ◌∷◌, ◌++◌, Option, Some, None, Result}
+use Rattle.std.specs.Prelude.{◌≡◌, Bool, true, false, ◌&&◌, ◌||◌, if◌then◌else◌, List, [], ◌∷◌, ◌++◌, Option, Some, None, Result}
 use Rattle.std.specs.Prelude.{Ok, Err, IfOk}
 use Rattle.std.proofs.Common.{refl, sym, ap, ◌∙◌, arith}
+use Rattle.swc_context.specs.Contexts.{method_block}
 use Rattle.swc_context.specs.declared.error.Error.{Error}
 use Rattle.swc_context.specs.declared.span.Span.{Span}
 use Rattle.swc_input.specs.declared.buffer.Buffer.{Buffer}
@@ -17,11 +18,11 @@ use Rattle.swc_ast.specs.declared.prop.PropName.TheVariants as prop_name
 use Rattle.swc_ast.specs.declared.prop.PropName.{PropName}
 use Rattle.swc_ast.specs.declared.spanned.Spanned.{Ghosts}
 use Rattle.swc_ast.specs.Trees.{to, computed_e}
-use Rattle.swc_bodies.specs.Readings.{Hook, LawfulHook, begins, is_brace}
+use Rattle.swc_bodies.specs.Readings.{Hook, LawfulHook, begins, begins_function, is_function_here, is_function, is_async, is_brace, is_class}
 use Rattle.swc_grammar.specs.Scope.{Scope}
 use Rattle.swc_grammar.specs.Rule.{gives, take, check}
 use Rattle.swc_grammar.specs.Symbols.{Assign, Key}
-use Rattle.swc_grammar.specs.Tokens.{tk, with_in, is_word, is_rparen, is_lbracket, is_rbracket, method_block}
+use Rattle.swc_grammar.specs.Tokens.{tk, with_in, is_word, is_rparen, is_lbracket, is_rbracket}
 use Rattle.swc_grammar.specs.Names.{may_name}
 use Rattle.swc_grammar.specs.Clean.{Out, and_then, first, no_error, sym as at, exec, run}
 use Rattle.swc_grammar.specs.Words.{◌>>=◌, word}
@@ -190,6 +191,47 @@ begins_front : (f : Token → Bool) (own rest : List TokenAndSpan) → begins f 
     → at_token f (first (own ++ rest)) ≡ true
 begins_front f [] rest h = absurd cc
 begins_front f (t ∷ own) rest h = h
+
+-- a function that begins a list begins a longer one
+begins_either : (a b c d : Bool) → (c ≡ true → d ≡ true) → (a || (b && c)) ≡ true → (a || (b && d)) ≡ true
+begins_either true b c d k h = refl
+begins_either false true c d k h = k h
+begins_either false false c d k h = h
+
+function_behind : (ts us : List TokenAndSpan) → is_function_here ts ≡ true → is_function_here (ts ++ us) ≡ true
+function_behind [] us h = absurd cc
+function_behind (t ∷ ts) us h = h
+
+function_front : (own rest : List TokenAndSpan) → begins_function own ≡ true → begins_function (own ++ rest) ≡ true
+function_front [] rest h = absurd cc
+function_front (t ∷ own) rest h =
+    begins_either (is_function t.token) (is_async t.token) (is_function_here own) (is_function_here (own ++ rest))
+    (function_behind own rest) h
+
+-- what begins no function, and no class, is read as none
+pub fun_not : {F C K : Type 0} {fun_at : F → Span} {class_at : C → Span} {block_at : K → Span} (hook : Hook F C K)
+    → LawfulHook fun_at class_at block_at hook → (x : Scope) (ts : List TokenAndSpan)
+    → begins_function ts ≡ false → hook.fun x.context ts ≡ None
+fun_not {F = F} hook laws x ts h = by_what (hook.fun x.context ts) refl
+  where
+    by_what : (o : Out F) → hook.fun x.context ts ≡ o → hook.fun x.context ts ≡ None
+    by_what None e = e
+    by_what (Some p) e =
+        let w = laws.fun.owns x.context ts p.0 p.1 e in
+        let b = function_front w.own p.1 w.begins in
+        let f : true ≡ false = sym b ∙ ap begins_function (sym w.list) ∙ h in absurd cc
+
+pub class_not : {F C K : Type 0} {fun_at : F → Span} {class_at : C → Span} {block_at : K → Span} (hook : Hook F C K)
+    → LawfulHook fun_at class_at block_at hook → (x : Scope) (ts : List TokenAndSpan)
+    → at_token is_class (first ts) ≡ false → hook.class x.context ts ≡ None
+class_not {C = C} hook laws x ts h = by_what (hook.class x.context ts) refl
+  where
+    by_what : (o : Out C) → hook.class x.context ts ≡ o → hook.class x.context ts ≡ None
+    by_what None e = e
+    by_what (Some p) e =
+        let w = laws.class.owns x.context ts p.0 p.1 e in
+        let b = begins_front is_class w.own p.1 w.begins in
+        let f : true ≡ false = sym b ∙ ap (λ l. at_token is_class (first l)) (sym w.list) ∙ h in absurd cc
 
 pub block_not : {F C K : Type 0} {fun_at : F → Span} {class_at : C → Span} {block_at : K → Span} (hook : Hook F C K)
     → LawfulHook fun_at class_at block_at hook → (x : Scope) (ts : List TokenAndSpan)

@@ -1,5 +1,6 @@
 -- What the steps of the code read in keys and in the functions of methods, by the clean parser.
 use Rattle.std.specs.Prelude.{Bool, true, false, List, Option, Some, None}
+use Rattle.swc_context.specs.Contexts.{method_block}
 use Rattle.swc_context.specs.declared.span.Span.{Span}
 use Rattle.swc_input.specs.declared.token.Token.{Token}
 use Rattle.swc_input.specs.declared.token.Token.TheVariants as token
@@ -13,7 +14,7 @@ use Rattle.swc_ast.specs.declared.prop.PropName.{PropName}
 use Rattle.swc_nodes.specs.declared.node.ExprId.{ExprId}
 use Rattle.swc_bodies.specs.Readings.{Hook}
 use Rattle.swc_grammar.specs.Scope.{Scope}
-use Rattle.swc_grammar.specs.Tokens.{is_word, is_rparen, is_rbracket, method_block}
+use Rattle.swc_grammar.specs.Tokens.{is_word, is_rparen, is_rbracket}
 use Rattle.swc_grammar.specs.Names.{Spelling, may_name}
 use Rattle.swc_grammar.specs.Clean.{Out, first}
 use Rattle.swc_grammar.specs.Words.{◌>>=◌, rest, one, word}

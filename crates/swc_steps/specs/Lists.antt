@@ -9,7 +9,7 @@ use Rattle.swc_input.specs.declared.token.TokenAndSpan.{TokenAndSpan}
 use Rattle.swc_input.specs.Kinds.{at_token, is_hash}
 use Rattle.swc_ast.specs.Tree.{Tree, Trees, nil, cons, span_of}
 use Rattle.swc_ast.specs.Trees.{to, array_e, hole_e, listed, items_of, comma_of, behind_comma, trees_append}
-use Rattle.swc_bodies.specs.Readings.{Hook, is_async, is_brace}
+use Rattle.swc_bodies.specs.Readings.{Hook, is_async, is_function, is_class, is_brace}
 use Rattle.swc_grammar.specs.Scope.{Scope}
 use Rattle.swc_grammar.specs.Arrows.{is_arrow}
 use Rattle.swc_grammar.specs.Symbols.{Elements, Item}
@@ -55,6 +55,8 @@ is_sign_token sign.Source = is_source
 is_sign_token sign.BackQuote = is_backquote
 is_sign_token sign.DollarLBrace = is_dollar_brace
 is_sign_token sign.Arrow = is_arrow
+is_sign_token sign.Function = is_function
+is_sign_token sign.Class = is_class
 
 -- a token that passes a test is taken, if it stands first
 abbrev pub eaten_by : Bool → List TokenAndSpan → Out (Option Span)

@@ -10,6 +10,7 @@ ghost use Rattle.swc_steps.specs.Keys.{is_key_lit};
 ghost use Rattle.swc_steps.specs.Parsing.{is_strict, is_strict_in, seen, Looks};
 ghost use Rattle.std.specs.Borrow.{sem, follows};
 ghost use Rattle.swc_steps.specs.contracts.productions.Productions.{the_row};
+ghost use Rattle.swc_input.specs.contracts.buffer.Buffer.{the_row as buffer_row};
 
 use std::alloc::{AllocError, Global};
 use swc_bodies::bodies::Bodies;
@@ -69,6 +70,20 @@ impl<I: Tokens, B: Bodies<I>> Productions<I, B> {
         nodes
     }
 
+    /// The buffer, the nodes and the hook.
+    pub fn into_parts(self) -> (Buffer<I>, NodesOf<B>, B)
+        ensures { result ≡ (self.input, self.nodes, self.bodies) }
+    {
+        let Productions {
+            alloc: _,
+            input,
+            nodes,
+            bodies,
+            found_module_item: _,
+        } = self;
+        (input, nodes, bodies)
+    }
+
     /// Whether no token is left. Consumes nothing, and is refused where the source has failed alone.
     pub fn is_end(&mut self) -> PResult<bool>
         ensures looks { Looks I.model self.old.input result self.new.input }
@@ -90,6 +105,26 @@ impl<I: Tokens, B: Bodies<I>> Productions<I, B> {
         ensures value { result.now ≡ source_of self.old.input }
     {
         self.input.input()
+    }
+
+    /// The buffer. What is done to it through the answer, and that alone, changes the productions.
+    pub fn buffer(&mut self) -> &mut Buffer<I>
+        ensures* lent { sem 𝓛 (follows (the_row I.row B.row B.Fun.row B.Class.row B.Block.row B.Fun.Spanned
+            B.Class.Spanned B.Block.Spanned) (buffer_row I.row) self.entry.ghost_name result.ghost_name
+            (λ b. record self.old { input = b })) }
+        ensures value { result.now ≡ self.old.input }
+    {
+        &mut self.input
+    }
+
+    /// The hook. What is done to it through the answer, and that alone, changes the productions.
+    pub fn hook(&mut self) -> &mut B
+        ensures* lent { sem 𝓛 (follows (the_row I.row B.row B.Fun.row B.Class.row B.Block.row B.Fun.Spanned
+            B.Class.Spanned B.Block.Spanned) B.row self.entry.ghost_name result.ghost_name
+            (λ b. record self.old { bodies = b })) }
+        ensures value { result.now ≡ self.old.bodies }
+    {
+        &mut self.bodies
     }
 
     /// The place of the current token, where it is known already, or else of the token consumed last.

@@ -360,6 +360,10 @@ pub enum Sign {
     DollarLBrace,
     /// `=>`
     Arrow,
+    /// `function`
+    Function,
+    /// `class`
+    Class,
 }
 
 /// Whether the current token is the sign.
@@ -404,6 +408,8 @@ fn spells(sign: Sign, token: &Token) -> bool
         Sign::BackQuote => matches!(token, Token::BackQuote),
         Sign::DollarLBrace => matches!(token, Token::DollarLBrace),
         Sign::Arrow => matches!(token, Token::Arrow),
+        Sign::Function => matches!(token, Token::Word(Word::Keyword(Keyword::Function))),
+        Sign::Class => matches!(token, Token::Word(Word::Keyword(Keyword::Class))),
     }
 }
 
@@ -461,6 +467,8 @@ fn wanted(sign: Sign) -> Wanted {
         Sign::BackQuote => Wanted::BackQuote,
         Sign::DollarLBrace => Wanted::DollarLBrace,
         Sign::Arrow => Wanted::Arrow,
+        Sign::Function => Wanted::Keyword(Keyword::Function),
+        Sign::Class => Wanted::Keyword(Keyword::Class),
     }
 }
 

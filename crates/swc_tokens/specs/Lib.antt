@@ -1,5 +1,6 @@
 pub mod Blanks
 pub mod Faults
+pub mod Moved
 pub mod Nesting
 pub mod Numbers
 pub mod Order

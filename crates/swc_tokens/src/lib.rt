@@ -12,6 +12,7 @@ ghost use Rattle.std.specs.List.{All, position};
 ghost use Rattle.swc_tokens.specs.Faults as faults;
 ghost use Rattle.swc_tokens.specs.Faults.{IsRefusal};
 ghost use Rattle.swc_tokens.specs.Blanks.{MarksLineBreaks, OnlyBlanksBetween};
+ghost use Rattle.swc_tokens.specs.Moved.{moved_error, AreTokensAt, IsRefusalAt};
 ghost use Rattle.swc_tokens.specs.Nesting.{AreNested};
 ghost use Rattle.swc_tokens.specs.Order.{InOrder, is_error};
 ghost use Rattle.swc_tokens.specs.Reading.{AreRead};
@@ -20,6 +21,7 @@ ghost use Rattle.std.specs.Str.{IsAscii};
 
 mod blank;
 mod fault;
+mod moving;
 mod number;
 mod reader;
 mod regexp;
@@ -28,10 +30,12 @@ mod string;
 mod template;
 
 use crate::fault::{lex_fault, out_of_memory};
+use crate::moving::{move_tokens, moved_fault};
 use crate::reader::Reader;
 use crate::template::Templates;
 use std::alloc::Global;
 use swc_context::error::PResult;
+use swc_context::span::BytePos;
 use swc_input::token::TokenAndSpan;
 
 /// The length of the longest text that can be read, in bytes.
@@ -91,6 +95,36 @@ pub fn read_tokens(alloc: Global, text: &[u8]) -> PResult<Vec<TokenAndSpan>>
     match first_beyond_ascii(text) {
         Some(at) => Err(lex_fault(at, at + 1)),
         None => read_all(alloc, text),
+    }
+}
+
+/// The tokens of a part of a text, as `read_tokens` reads it by itself (ECMA-262, 12), with their places
+/// in the whole text, where the part begins at `start`.
+///
+/// Each position is that of `read_tokens` and `start` more: those of the tokens, those of a fault that a
+/// `Template` has as its `cooked`, and those of a refusal. So want of memory is refused at start..start.
+/// A part that would end behind position `MAX_LEN` is refused as one that is too long, by `Lex` at
+/// start..start, before all else: no position is above `MAX_LEN`.
+pub fn read_tokens_at(alloc: Global, text: &[u8], start: BytePos) -> PResult<Vec<TokenAndSpan>>
+    ensures too_long { MAX_LEN < start.0 + length text.now
+        → result ≡ Err (faults.lex_fault (faults.between start.0 start.0)) }
+    ensures beyond_ascii { start.0 + length text.now ≤ MAX_LEN
+        → IfSome (position (λ byte. nat_lt 127 byte) text.now) (λ at. result
+        ≡ Err (moved_error start.0 (faults.lex_fault (faults.between at (at + 1))))) }
+    ensures refused { start.0 + length text.now ≤ MAX_LEN → IfErr result (IsRefusalAt start.0 text.now) }
+    ensures tokens { IfOk result (λ tokens. AreTokensAt start.0 text.now tokens.items) }
+    ensures spans { IfOk result (λ tokens. InOrder start.0 tokens.items (start.0 + length text.now)) }
+{
+    let at = start.0 as usize;
+    if text.len() > MAX_LEN - at {
+        return Err(lex_fault(at, at));
+    }
+    match read_tokens(alloc, text) {
+        Ok(mut tokens) => {
+            move_tokens(&mut tokens, start.0);
+            Ok(tokens)
+        }
+        Err(fault) => Err(moved_fault(&fault, start.0)),
     }
 }
 

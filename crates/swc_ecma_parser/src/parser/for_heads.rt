@@ -1,11 +1,12 @@
 // Heads of `for`, as calls of a parser.
-ghost use Rattle.swc_ecma_parser.specs.ForHeads.{PromisedHead, PromisedPrefix};
+ghost use Rattle.swc_ecma_parser.specs.ForHeads.{PromisedHead, PromisedPrefix, head_in_boxes, head_by_number};
 
 use crate::for_heads::{parse_for_head, parse_head_expr};
 use crate::parser::{ForHeadOf, Parser};
 use swc_bodies::bodies::{Bodies, ExprOf};
 use swc_context::error::PResult;
 use swc_input::tokens::Tokens;
+use swc_nodes::node::ForHeadId;
 
 impl<I: Tokens, B: Bodies<I>> Parser<I, B> {
     /// What the head of a `for` begins with, where that is no declaration (ECMA-262, 14.7.4 and 14.7.5): an
@@ -26,6 +27,18 @@ impl<I: Tokens, B: Bodies<I>> Parser<I, B> {
         self.finish(answer)
     }
 
+    /// What the head of a `for` begins with, as `parse_for_head` reads it: by its number among the nodes, which keeps
+    /// its tree until they are let go.
+    pub fn parse_for_head_id(&mut self, is_await: bool) -> PResult<ForHeadId>
+        ensures { PromisedHead I.model B.is_faithful B.forms head_by_number is_await self.old result self.new }
+    {
+        self.begin()?;
+        let start = self.productions.nodes.len();
+        let answer = parse_for_head(&mut self.productions, is_await);
+        let answer = self.keep(start, answer);
+        self.finish(answer)
+    }
+
     /// What the head of a `for`, or of a `for await`, begins with, where that is no declaration (ECMA-262, 14.7.4 and
     /// 14.7.5): the expression that `parse_for_head_prefix` reads in a head of that kind, whatever the context says.
     /// Where `of` or `in` is current behind it, it becomes a pattern that each turn assigns to, as
@@ -36,7 +49,7 @@ impl<I: Tokens, B: Bodies<I>> Parser<I, B> {
     /// neither an array nor an object literal and can't be written to is recorded as `TS2406`, at its place, and stays
     /// what it is (`Pat::Expr`).
     pub fn parse_for_head(&mut self, is_await: bool) -> PResult<ForHeadOf<B>>
-        ensures { PromisedHead I.model B.is_faithful B.forms is_await self.old result self.new }
+        ensures { PromisedHead I.model B.is_faithful B.forms head_in_boxes is_await self.old result self.new }
     {
         self.begin()?;
         let start = self.productions.nodes.len();

@@ -10,7 +10,8 @@ ghost use Rattle.swc_patterns.specs.Objects.{is_rest, props_stage, rests_checked
 ghost use Rattle.swc_steps.specs.Parsing.{ContinuesAlone};
 ghost use Rattle.swc_ecma_parser.specs.Calls.{buffer_of, nodes_of, commas_of, has_failed, MakesObject, MakesPattern};
 ghost use Rattle.swc_ecma_parser.specs.Calls.{Patterns};
-ghost use Rattle.swc_ecma_parser.specs.Promise.{Promised, PromisedPatProp, key_in_boxes, prop_in_boxes};
+ghost use Rattle.swc_ecma_parser.specs.Promise.{Promised, PromisedPatProp, key_in_boxes, key_by_number};
+ghost use Rattle.swc_ecma_parser.specs.Promise.{prop_in_boxes};
 
 use crate::parser::{Parser, PatOf};
 use swc_ast::pat::{ObjectPatProp, Pat};
@@ -21,6 +22,7 @@ use swc_context::error::{Error, PResult};
 use swc_context::span::Span;
 use swc_input::buffer::Buffer;
 use swc_input::tokens::Tokens;
+use swc_nodes::node::ExprId;
 use swc_patterns::object::{RestProp, check_earlier_rest, check_last_rest};
 use swc_productions::ring::{parse_object_pat_prop, parse_object_prop, parse_prop_name};
 use swc_trees::letting_go::{let_go_pat_props, let_go_props};
@@ -55,6 +57,17 @@ pub trait ParseObject<Obj> {
 }
 
 impl<I: Tokens, B: Bodies<I>> Parser<I, B> {
+    /// A property's key, as `parse_prop_name` reads it: an expression in it by its number among the nodes.
+    pub fn parse_prop_name_id(&mut self) -> PResult<PropName<ExprId>>
+        ensures promised { Promised I.model B.is_faithful B.forms key_by_number Key self.old result self.new }
+    {
+        self.begin()?;
+        let start = self.productions.nodes.len();
+        let answer = parse_prop_name(&mut self.productions);
+        let answer = self.keep(start, answer);
+        self.finish(answer)
+    }
+
     /// A property's key (ECMA-262, 13.2.5): any word, a string, a number, a big integer, or an
     /// expression in brackets, in which `in` is an operator.
     ///

@@ -2,8 +2,10 @@
 ghost use Rattle.std.specs.Prelude.{◌≡◌, false};
 ghost use Rattle.swc_ast.specs.TreeOf.{pat_tree};
 ghost use Rattle.swc_grammar.specs.Symbols.{Heads};
-ghost use Rattle.swc_ecma_parser.specs.Calls.{buffer_of, has_failed, pats_tree};
-ghost use Rattle.swc_ecma_parser.specs.Promise.{BoundItems, Promised, PromisedParams, heads_in_boxes};
+ghost use Rattle.swc_patterns.specs.Answers.{pat_at};
+ghost use Rattle.swc_ecma_parser.specs.Calls.{buffer_of, nodes_of, has_failed, pats_tree};
+ghost use Rattle.swc_ecma_parser.specs.Promise.{BoundItems, Promised, PromisedParams, heads_in_boxes, heads_by_number};
+ghost use Rattle.swc_ecma_parser.specs.Promise.{params_in_boxes, params_by_number};
 
 use crate::heads::parse_arrow_params;
 use crate::parser::{Parser, PatOf};
@@ -11,13 +13,14 @@ use swc_ast::function::Param;
 use swc_bodies::bodies::Bodies;
 use swc_context::error::PResult;
 use swc_input::tokens::Tokens;
+use swc_nodes::node::PatId;
 use swc_productions::ring::parse_formal_params;
 
 impl<I: Tokens, B: Bodies<I>> Parser<I, B> {
     /// Parameters none of which stands twice (UniqueFormalParameters; ECMA-262, 15.1). As `parse_formal_params`: that a
     /// name is bound twice isn't looked at.
     pub fn parse_unique_formal_params(&mut self) -> PResult<Vec<Param<PatOf<B>>>>
-        ensures { PromisedParams I.model B.is_faithful B.forms self.old result self.new }
+        ensures { PromisedParams I.model B.is_faithful B.forms params_in_boxes self.old result self.new }
     {
         self.parse_formal_params()
     }
@@ -31,12 +34,38 @@ impl<I: Tokens, B: Bodies<I>> Parser<I, B> {
     /// as `CommaAfterRestElement`, at the comma. What follows a parameter and is neither `,` nor `)` is refused as
     /// `Expected`, at the current token, and the end there as `Eof`, where the token consumed last ends.
     pub fn parse_formal_params(&mut self) -> PResult<Vec<Param<PatOf<B>>>>
-        ensures { PromisedParams I.model B.is_faithful B.forms self.old result self.new }
+        ensures { PromisedParams I.model B.is_faithful B.forms params_in_boxes self.old result self.new }
     {
         self.begin()?;
         let start = self.productions.nodes.len();
         let answer = parse_formal_params(&mut self.productions);
         let answer = self.move_out(start, answer);
+        self.finish(answer)
+    }
+
+    /// Formal parameters, as `parse_formal_params` reads them: each with the number of its pattern among the nodes.
+    pub fn parse_formal_params_id(&mut self) -> PResult<Vec<Param<PatId>>>
+        ensures { PromisedParams I.model B.is_faithful B.forms params_by_number self.old result self.new }
+    {
+        self.begin()?;
+        let start = self.productions.nodes.len();
+        let answer = parse_formal_params(&mut self.productions);
+        let answer = self.keep(start, answer);
+        self.finish(answer)
+    }
+
+    /// The parameters of an arrow function, as `parse_arrow_params` reads them: the numbers of their patterns among the
+    /// nodes.
+    pub fn parse_arrow_params_id(&mut self) -> PResult<Vec<PatId>>
+        ensures promised { Promised I.model B.is_faithful B.forms heads_by_number Heads self.old result self.new }
+        ensures binds { has_failed self.old ≡ false
+            → BoundItems I.model (pats_tree (pat_at (nodes_of self.new)))
+            (buffer_of self.old) result (buffer_of self.new) }
+    {
+        self.begin()?;
+        let start = self.productions.nodes.len();
+        let answer = parse_arrow_params(&mut self.productions);
+        let answer = self.keep(start, answer);
         self.finish(answer)
     }
 

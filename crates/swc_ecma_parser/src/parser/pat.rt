@@ -68,6 +68,20 @@ impl<I: Tokens, B: Bodies<I>> Parser<I, B> {
         self.parse_pat()
     }
 
+    /// A binding element, as `parse_binding_element` reads it: its number among the nodes, which keeps its tree until
+    /// they are let go.
+    pub fn parse_binding_element_id(&mut self) -> PResult<PatId>
+        ensures promised { Promised I.model B.is_faithful B.forms pat_by_number Element self.old result self.new }
+        ensures binds { has_failed self.old ≡ false
+            → Bound I.model (pat_at (nodes_of self.new)) (buffer_of self.old) result (buffer_of self.new) }
+    {
+        self.begin()?;
+        let start = self.productions.nodes.len();
+        let answer = parse_binding_element(&mut self.productions);
+        let answer = self.keep(start, answer);
+        self.finish(answer)
+    }
+
     /// A binding pattern, and `=` and its initialiser behind it or none (BindingElement; ECMA-262, 14.3.3): an
     /// assignment expression, in which `in` is an operator.
     ///

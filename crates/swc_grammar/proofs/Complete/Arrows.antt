@@ -2,6 +2,7 @@
 use Rattle.std.proofs.Common.{refl, sym as sym_path, ap, subst, ◌∙◌}
 use Rattle.std.specs.Prelude.{◌≡◌, ℕ, Bool, true, false, not, List, [], ◌∷◌, ◌++◌, ◌&&◌, Option, Some}
 use Rattle.std.specs.Prelude.{None}
+use Rattle.swc_context.specs.Contexts.{arrow_body}
 use Rattle.swc_context.specs.declared.operator.BinaryOp.{BinaryOp}
 use Rattle.swc_context.specs.declared.span.Span.{Span}
 use Rattle.swc_context.specs.declared.word.Keyword.TheVariants as keyword
@@ -28,7 +29,7 @@ use Rattle.swc_grammar.specs.Clean.{begins_new, updates, assigns, no_update_at, 
 use Rattle.swc_grammar.specs.Clean.{run, parens, arrow_tail, arrow_block, behind_base, is_lparen_here, unary, is_alone}
 use Rattle.swc_grammar.specs.Clean.{constructed, Plan, is_arrow_here, is_identifier, pick_apart, operand}
 use Rattle.swc_grammar.specs.Cover.{as_params, heads_ok}
-use Rattle.swc_grammar.specs.Arrows.{is_arrow, arrow_body, async_name, goes_on_async, of_arrow, is_arrow_word}
+use Rattle.swc_grammar.specs.Arrows.{is_arrow, async_name, goes_on_async, of_arrow, is_arrow_word}
 use Rattle.swc_grammar.proofs.Answers.{both, only, unless, then-ok, inj}
 use Rattle.swc_grammar.proofs.Firsts.{put-token}
 use Rattle.swc_grammar.proofs.Knot.{knot}

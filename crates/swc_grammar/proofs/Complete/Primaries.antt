@@ -40,7 +40,7 @@ here-more : (ts us : List TokenAndSpan) → is_function_here ts ≡ true → is_
 here-more [] us h = absurd cc
 here-more (t ∷ ts) us h = h
 
-function-more : (ts us : List TokenAndSpan) → begins_function ts ≡ true → begins_function (ts ++ us) ≡ true
+pub function-more : (ts us : List TokenAndSpan) → begins_function ts ≡ true → begins_function (ts ++ us) ≡ true
 function-more [] us h = absurd cc
 function-more (t ∷ ts) us h =
     either-more (is_function t.token) (is_async t.token) (is_function_here ts) (is_function_here (ts ++ us))

@@ -12,4 +12,4 @@ pub returns-clause-headline : goal.returns-clause-headline
 returns-clause-headline g c = λ heeded.
     rw (c.into_nodes-nodes.ensures ∙ ap (λ p. nodes_of p) c.take_errors-recorded.ensures.rest, c.take_errors-recorded.ensures.taken)
     (headline tree_of expr_part Expr at-end c.new-source.result (last_position (buffer_of c.new_from-parser.result)) c.args.tokens.items c.args.ctx c.args.syntax c.args.target
-    c.new-source.ensures c.new_from-parser.ensures.fresh c.new_from-parser.ensures.runs heeded c.try_whole_expr-read.ensures.tries)
+    c.new-source.ensures.state c.new_from-parser.ensures.fresh c.new_from-parser.ensures.runs heeded c.try_whole_expr-read.ensures.tries)

@@ -11,4 +11,4 @@ pub returns-clause-headline : goal.returns-clause-headline
 returns-clause-headline g c = λ heeded.
     rw (c.into_nodes-nodes.ensures ∙ ap (λ p. nodes_of p) c.take_errors-recorded.ensures.rest, c.take_errors-recorded.ensures.taken)
     (headline pat_at pat_part Pat tt c.new-source.result (last_position (buffer_of c.new_from-parser.result)) c.args.tokens.items c.args.ctx c.args.syntax c.args.target
-    c.new-source.ensures c.new_from-parser.ensures.fresh c.new_from-parser.ensures.runs heeded c.try_whole_pat-read.ensures.tries)
+    c.new-source.ensures.state c.new_from-parser.ensures.fresh c.new_from-parser.ensures.runs heeded c.try_whole_pat-read.ensures.tries)

@@ -2,10 +2,10 @@
 use Rattle.std.proofs.Common.{rules, Ok, Err, map, length, length-append, ◌≤◌, [], ◌∷◌, ◌≢◌, ◌++◌, ◌&&◌, ◌||◌, true}
 use Rattle.std.proofs.Common.{false, not, Some, refl, sym, ap, subst, ◌∙◌, arith}
 use Rattle.std.specs.Prelude.{slice_index_or}
+use Rattle.swc_context.specs.Contexts.{method_params}
 use Rattle.swc_context.specs.Contexts.{view as deciding}
 use Rattle.swc_context.specs.Spans.{from_to}
 use Rattle.swc_context.specs.declared.error.SyntaxError.TheVariants.{OutOfMemory}
-use Rattle.swc_grammar.specs.Tokens.{method_params}
 use Rattle.swc_nodes.specs.NodeParts.{param_parts}
 use Rattle.swc_ast.specs.Trees.{items_of}
 use Rattle.swc_patterns.specs.Answers.{params_at}

@@ -1,7 +1,7 @@
 use Rattle.std.proofs.Common.{refl, sym, ◌∙◌}
 use Rattle.std.proofs.lemmas.Result.{err_from_is_err_and}
 use Rattle.swc_ecma_parser.specs.Calls.{nodes_of, commas_of}
-use Rattle.swc_ecma_parser.proofs.ForHeads.{head-again, head-promised, head-recalled, promised-head}
+use Rattle.swc_ecma_parser.proofs.ForHeads.{head-again, head-bare, head-moved, head-promised, head-recalled, promised-head}
 use Rattle.swc_ecma_parser.proofs.Moving.{cut-back}
 use Rattle.swc_ecma_parser.proofs.parser.Parser.parse_for_head.Goals as goal
 
@@ -19,11 +19,13 @@ returns g c =
     let answer = c.parse_for_head-answer.result in
     let hook = g.B.BodyForms.forms in
     let laws = g.met.B.Bodies.lawful in
+    let boxes = head-moved ns _ answer c.move_out-answer.result moved.moved in
+    let by = head-bare hook c.args.is_await in
     promised-head c.parse_for_head-answer.new.p.input (nodes_of c.move_out-answer.new.self)
     (commas_of c.move_out-answer.new.self) c.move_out-answer.result c.finish.result c.in_ok-begin.ensures.runs moved.runs
     done.answer (done.buffer ∙ moved.buffer) done.nodes done.commas done.fails
-    (head-promised g.I.Tokens.model g.B.Bodies.is_faithful hook laws c.args.is_await ns _ _ answer c.move_out-answer.result
-    read.produces.reads moved.moved read.which)
-    (head-recalled g.I.Tokens.model g.B.Bodies.is_faithful hook laws c.args.is_await ns _ _ answer c.move_out-answer.result
-    read.produces.reads moved.moved _ _ moved.commas)
+    (head-promised g.I.Tokens.model g.B.Bodies.is_faithful hook laws c.args.is_await _ _ by _ ns _ _ answer c.move_out-answer.result
+    read.produces.reads boxes read.which)
+    (head-recalled g.I.Tokens.model g.B.Bodies.is_faithful hook laws c.args.is_await _ _ by _ ns _ _ answer c.move_out-answer.result
+    read.produces.reads boxes _ _ moved.commas)
     (cut-back (nodes_of c.move_out-answer.new.self) read.produces.grows (rw (sym c.len-start.ensures) moved.nodes))

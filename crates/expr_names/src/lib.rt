@@ -1,0 +1,4 @@
+//! The names of an expression, and what it does with each.
+#![tactic(auto)]
+
+pub mod names;

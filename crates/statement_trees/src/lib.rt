@@ -1,0 +1,22 @@
+//! Whole ECMAScript programs, read over the expression parser, each as a tree in text.
+//!
+//! Scripts are read (ECMA-262, 14, 15 and 16.1): all statements, declarations, functions and classes. A line stands for
+//! a statement, a clause or a member; what it holds stands below it, two blanks deeper. Expressions and patterns are
+//! written as swc_print writes them. A function, a class, and the block of a method or an arrow function is read in a
+//! pass of its own, from the tokens that the hook kept: behind `with` a line names its places, in their order, and each
+//! stands behind the program as `at` and its place.
+//!
+//! It isn't promised that these trees are those of ECMA-262. Not looked at are: `"use strict"`; names that are bound
+//! twice; whether a label, a loop or a `switch` is there for `break` and `continue`; the parameters of getters and
+//! setters; private names that no class declares. `return` is taken in static blocks, and a generator or an async
+//! function as the body of an `if`. `let` always begins a declaration; `import` and `export` begin none.
+//! A class whose heritage has a brace, as `class A extends function () {} {}`, is refused: the hook takes the first
+//! brace for that of the class.
+#![tactic(auto)]
+
+mod body;
+mod script;
+mod statement;
+mod words;
+
+pub use crate::body::tree_of;

@@ -1,0 +1,37 @@
+-- What is read as a body is read by its place, where the body is kept for a pass of its own.
+use Rattle.std.proofs.Common.{◌≡◌, Result, Ok, Err, MatchResult, ap, ◌∙◌}
+use Rattle.swc_context.specs.declared.error.Error.{Error}
+use Rattle.swc_context.specs.declared.error.SyntaxError.TheVariants.{OutOfMemory}
+use Rattle.swc_context.specs.declared.span.BytePos.{BytePos}
+use Rattle.swc_context.specs.declared.span.Span.{Span}
+use Rattle.swc_input.specs.declared.buffer.Buffer.{Buffer}
+use Rattle.swc_input.specs.Buffer.{state_of}
+use Rattle.swc_input.specs.Recording.{no_memory}
+use Rattle.swc_input.specs.Source.{Model}
+use Rattle.swc_bodies.specs.Body.{Body}
+use Rattle.swc_bodies.specs.Deferred.{by_place, found}
+use Rattle.swc_bodies.specs.Readings.{Reading, Faithful}
+
+-- the place of a body is answered, or memory is wanted
+abbrev pub Answers : Body → BytePos → Result Span Error → Type 0
+Answers body at r = MatchResult r (λ place. place ≡ body.span) (λ e. e ≡ no_memory at)
+
+put-found : (body : Body) (at : BytePos) (r : Result Span Error) (place : Span) {P Q : Type 0} → Answers body at r →
+    body.span ≡ place → P → Q → MatchResult r (λ w. (w ≡ place) × P × Q) (λ e. e.kind ≡ OutOfMemory)
+put-found body at (Ok w) place answer lies left quiet = (answer ∙ lies, left, quiet)
+put-found body at (Err e) place answer lies left quiet = ap (λ x. x.kind) answer
+
+module _ {S : Type 0} (model : Model S) (reads : Reading Body) (b c : Buffer S) where
+  -- a body was read, and then kept, or refused for want of memory
+  pub put-faithful : (body : Body) (at : BytePos) (r : Result Span Error) → Faithful model reads b (Ok body) c →
+      Answers body at r → Faithful model (by_place reads) b r c
+  put-faithful body at r faithful answer = λ loud ts place rest known read.
+      let f = found (reads (state_of model b).context ts) place rest read in
+      let x = faithful loud ts f.body rest known f.is in
+      put-found body at r place answer (ap (λ v. v.span) x.0 ∙ f.span) x.1 x.2
+
+  -- no body was read
+  pub none-faithful : (e : Error) → Faithful model reads b (Err e) c → Faithful model (by_place reads) b (Err e) c
+  none-faithful e faithful = λ loud ts place rest known read.
+      let f = found (reads (state_of model b).context ts) place rest read in
+      faithful loud ts f.body rest known f.is

@@ -1,0 +1,19 @@
+use Rattle.std.proofs.Common.{refl, ◌∙◌}
+use Rattle.std.proofs.lemmas.Result.{err_from_is_err_and}
+use Rattle.swc_ecma_parser.proofs.Calling.{called, called-again}
+use Rattle.swc_ecma_parser.proofs.HookTop.{hook-reads}
+use Rattle.swc_ecma_parser.proofs.parser.Parser.read_block.Goals as goal
+
+pub returns-in_err-begin : goal.returns-in_err-begin
+returns-in_err-begin g c =
+    let p = err_from_is_err_and c.from_residual.result c.from_residual.ensures.1 in
+    rw (p.1, p.2) (called-again c.in_err-begin.ensures.again)
+
+pub returns : goal.returns
+returns g c =
+    let done = c.finish.ensures in
+    let read = c.parse_block-answer.ensures in
+    called c.parse_block-answer.result c.finish.result c.in_ok-begin.ensures.runs refl done.answer done.buffer
+    (done.nodes ∙ read.nodes) done.commas done.fails
+    (hook-reads g.B.BodyForms.forms.block g.met.B.Bodies.lawful.block g.I.Tokens.model g.B.Bodies.is_faithful _
+    c.parse_block-answer.result _ read.reads read.falls)

@@ -1,0 +1,29 @@
+-- What is reached from parts, among nodes.
+use Rattle.std.specs.Prelude.{◌≡◌, ◌<◌, ◌↔◌, List, ◌∷◌, ◌++◌, AllPairs, Contains}
+use Rattle.swc_ast.specs.declared.spanned.Spanned.{Ghosts}
+use Rattle.swc_nodes.specs.NodeParts.{Part}
+use Rattle.swc_nodes.specs.GrowingNodes.{count, parts_at}
+use Rattle.swc_nodes.specs.Walking.{part_of}
+use Rattle.swc_nodes.specs.declared.apart.PartId.{PartId}
+use Rattle.swc_nodes.specs.declared.nodes.Nodes.{Nodes}
+
+-- What is reached from the parts ps: they themselves, where a node has their number, and the parts of the node of each that
+-- is reached.
+pub data Reaches {F C K : Type 0} {fg : Ghosts F} {cg : Ghosts C} {kg : Ghosts K} (ns : Nodes F C K fg cg kg)
+    (ps : List Part) : Part → Type 0 where
+  itself : {p : Part} → Contains ps p → p.at < count ns → Reaches ns ps p
+  part : {p q : Part} → Reaches ns ps p → Contains (parts_at ns p.at) q → Reaches ns ps q
+
+module _ {F C K : Type 0} {fg : Ghosts F} {cg : Ghosts C} {kg : Ghosts K} where
+  -- the list has all that is reached from the parts ps, and nothing else
+  abbrev pub HasReached : Nodes F C K fg cg kg → List Part → List Part → Type 0
+  HasReached ns ps list = (p : Part) → Contains list p ↔ Reaches ns ps p
+
+  -- before each in the list stand all parts of its node
+  abbrev pub PartsFirst : Nodes F C K fg cg kg → List Part → Type 0
+  PartsFirst ns list = (before behind : List Part) (p q : Part) → list ≡ before ++ p ∷ behind
+      → Contains (parts_at ns p.at) q → Contains before q
+
+-- each has a smaller number than all behind it: so none comes twice
+abbrev pub NumbersRise : List PartId → Type 0
+NumbersRise list = AllPairs (λ p q. (part_of p).at < (part_of q).at) list

@@ -1,0 +1,40 @@
+use Rattle.std.proofs.Common.{refl, sym, ap, ◌∙◌}
+use Rattle.std.proofs.lemmas.Result.{err_from_is_err_and}
+use Rattle.swc_input.specs.Kinds.{at_token}
+use Rattle.swc_input.specs.Buffer.{current}
+use Rattle.swc_bodies.specs.Readings.{is_class}
+use Rattle.swc_steps.specs.Parsing.{by_hook}
+use Rattle.swc_steps.specs.declared.tokens.Sign.TheVariants.{Class}
+use Rattle.swc_steps.proofs.Hearing as hearing
+use Rattle.swc_steps.proofs.Naming.{parses_lower}
+use Rattle.swc_steps.proofs.Keys as key
+use Rattle.swc_steps.proofs.Signs.{sign_here}
+use Rattle.swc_steps.proofs.Steps as s
+use Rattle.swc_primary.proofs.primary.parse_class.Goals as goal
+
+pub returns-in_err-look-clause-reads : goal.returns-in_err-look-clause-reads
+returns-in_err-look-clause-reads g c =
+    let p = err_from_is_err_and c.from_residual.result c.from_residual.ensures.1 in rw (p.1, p.2)
+    (s.unheard_memory c.in_err-look.ensures.looks)
+
+pub returns-then-not-is_sign-clause-reads : goal.returns-then-not-is_sign-clause-reads
+returns-then-not-is_sign-clause-reads g c =
+    s.unheard_at c.in_ok-look.ensures.looks
+    (λ x ts same e. key.class_not _ g.met.B.Bodies.lawful x ts
+    (ap (at_token is_class) e ∙ sym c.is_sign.ensures.value ∙ c.if-not-is_sign.true)) c.unexpected.ensures.refuses
+
+pub returns-clause-reads : goal.returns-clause-reads
+returns-clause-reads g c =
+    s.parses_after g.I.Tokens.model g.B.Bodies.is_faithful (λ v. v) _ _ c.answered.result
+    (s.on_seen {g = by_hook g.B.BodyForms.forms.class} c.in_ok-look.ensures.looks (λ x ts same e. refl))
+    (hearing.hook_parses g.I.Tokens.model g.met.I.Tokens.laws _ g.met.B.Bodies.lawful.class.viewed g.B.Bodies.is_faithful _ c.class-answer.result c.answered.result
+    c.class-answer.ensures.hooked c.class-answer.ensures.faithful c.answered.ensures.runs c.answered.ensures.fails)
+
+pub class-answer-requires : goal.class-answer-requires
+class-answer-requires g c =
+    sign_here Class (current c.look.new.input) (sym c.is_sign.ensures.value ∙ c.if-not-is_sign.false)
+
+pub returns-clause-falls : goal.returns-clause-falls
+returns-clause-falls g c =
+    parses_lower g.I.Tokens.model g.B.Bodies.is_faithful (λ v. v) (by_hook g.B.BodyForms.forms.class) _ _
+    c.answered.result (returns-clause-reads g c)
