@@ -7,7 +7,7 @@
 # `a.b(c).b(c)..` and `a?.b[c]?.b[c]..`, of 25,000, 50,000 and 100,000 such pairs; and nested destructuring, `[{a: [b, c = 1, ..]}, ..]`, of 0.25,
 # 0.5 and 1 MB, left of `=` and as the parameter of an arrow function, which is refined from expressions to patterns. The least of five runs counts.
 # Where node and its package acorn are installed, acorn parses the same texts. The stack is as large as the system lets it grow, which builds need that print by recursion. Then
-# the longest texts are run on a stack of 1 MB, and the depth of parentheses that one of 8 MB holds is looked for.
+# the longest texts are run on a stack of 1 MB, and it is looked for how many levels of each kind of nesting one of 8 MB holds.
 cd "$(dirname "$0")/.." || exit 2
 program=crates/show_expr/out/show_expr
 if [ ! -x "$program" ]; then
@@ -31,6 +31,9 @@ ACORN = 'const t = require("fs").readFileSync(0, "utf8"); require("acorn").parse
 def text_of(size, depth):
     return b'(' * depth + UNIT * (size // len(UNIT)) + b'a' + b')' * depth + b'\n'
 
+
+NESTINGS = [(b'(', b')'), (b'[', b']'), (b'{a: ', b'}'), (b'f(', b')'), (b'a[', b']'), (b'`${', b'}`'), (b'!', b''), (b'new ', b''),
+            (b'a => ', b''), (b'([', b']) => 1'), (b'a = ', b''), (b'a ? a : ', b''), (b'a ? ', b' : a')]
 
 PATTERN = b'{a: [b, {c = 1, d: [, e]}, f = g], ...h}, '
 
@@ -58,10 +61,22 @@ for text_name, text in texts + chains + patterns:
         print('| %s | %s | %d | %.2f | %.0f | %s |' % (name, text_name, len(text), least.seconds, least.megabytes, ended(least.status)), flush=True)
 for text_name, text in (texts[2], chains[2], chains[5]):
     print('on a stack of 1 MB, %s, %d bytes: %s' % (text_name, len(text), ended(run(commands[0][1], text, 1 << 20).status)))
-low, high = 0, 100_000
-while high - low > 10:
-    middle = (low + high) // 2
-    status = run(commands[0][1], b'(' * middle + b'a' + b')' * middle, 8 << 20).status
-    low, high = (middle, high) if os.WIFEXITED(status) else (low, middle)
-print('parentheses that a stack of 8 MB holds: some %d' % low)
+
+
+def levels_of(before, behind):
+    """How many of what stands before and behind one operand a stack of 8 MB holds."""
+    low, high = 0, 200_000
+    while high - low > 10:
+        middle = (low + high) // 2
+        status = run(commands[0][1], before * middle + b'a' + behind * middle, 8 << 20).status
+        low, high = (middle, high) if os.WIFEXITED(status) else (low, middle)
+    return low
+
+
+print()
+print('| nested | levels in 8 MB | bytes a level |')
+print('|---|---|---|')
+for before, behind in NESTINGS:
+    levels = levels_of(before, behind)
+    print('| `%s` | %d | %d |' % ((before + b'a' + behind).decode(), levels, (8 << 20) // max(levels, 1)), flush=True)
 END

@@ -50,7 +50,7 @@ fn is_last(tokens: &[TokenAndSpan], left: usize, last: Span) -> bool {
 }
 
 /// What is left has to be all that stands in the list behind the token consumed last.
-fn check_left(
+pub(crate) fn check_left(
     alloc: Global,
     input: &mut Buffer<TokensInput>,
     tokens: &[TokenAndSpan],

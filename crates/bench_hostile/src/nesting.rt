@@ -1,8 +1,9 @@
-// Expressions that stand in one another, 200 deep.
+// Expressions that stand in one another, 200 deep, and chains of 100,000 links, read into boxes.
 use crate::runs::source_of;
 use std::alloc::{AllocError, Global};
 use std::test::Fail;
 use swc_bodies::token_bodies::TokenBodies;
+use swc_ecma_parser::PatType;
 use swc_ecma_parser::parser::Parser;
 use swc_input::listed::TokensInput;
 use swc_tokens::read_tokens;
@@ -13,9 +14,15 @@ const DEPTH: usize = 200;
 /// What stands before an expression and behind it.
 const ROUND: [(&str, &str); 4] = [("(", ")"), ("[", "]"), ("x => ", ""), ("a ? a : ", "")];
 
+/// How long a chain is.
+const LENGTH: usize = 100_000;
+
+/// What stands in a chain behind its first name, again and again. `**` leans to the right, and all others to the left.
+const LINKS: [&str; 7] = [".b", "[b]", "(b)", "?.b", "`b`", " + b", " ** b"];
+
 /// The text so often.
-fn push_often(out: &mut String, text: &str) -> Result<(), AllocError> {
-    for _ in 0..DEPTH {
+fn push_often(out: &mut String, text: &str, count: usize) -> Result<(), AllocError> {
+    for _ in 0..count {
         out.push_str(text)?;
     }
     Ok(())
@@ -24,9 +31,9 @@ fn push_often(out: &mut String, text: &str) -> Result<(), AllocError> {
 /// A name with so many of these before it and behind it.
 fn nested(alloc: Global, before: &str, behind: &str) -> Result<String, AllocError> {
     let mut text = String::new(alloc);
-    push_often(&mut text, before)?;
+    push_often(&mut text, before, DEPTH)?;
     text.push_str("a")?;
-    push_often(&mut text, behind)?;
+    push_often(&mut text, behind, DEPTH)?;
     Ok(text)
 }
 
@@ -48,6 +55,30 @@ fn deep_nesting(rt: HostRuntime) -> Result<(), Fail> {
         let source = source_of(rt.alloc(), tokens, "script", "loud")?;
         let mut parser = Parser::new_from(rt.alloc(), source, TokenBodies::new(rt.alloc()));
         check(&mut parser, &text)?;
+    }
+    Ok(())
+}
+
+/// Reads a chain into boxes, moves them in among the nodes and out again, as what is assigned to, and lets all go. None of
+/// that takes more of the machine's stack than a short chain.
+fn check_chain(parser: &mut Parser<TokensInput, TokenBodies>, link: &str) -> Result<(), Fail> {
+    let expr = parser.parse_expr()?;
+    if !parser.at_end()? {
+        return Err(Fail::new(format_args!("not read whole: {link}")));
+    }
+    let _pattern = parser.reparse_expr_as_pat(PatType::AssignPat, expr);
+    Ok(())
+}
+
+#[test]
+fn long_chains_in_boxes(rt: HostRuntime) -> Result<(), Fail> {
+    for link in LINKS {
+        let mut text = String::from_str(rt.alloc(), "a")?;
+        push_often(&mut text, link, LENGTH)?;
+        let tokens = read_tokens(rt.alloc(), text.as_bytes())?;
+        let source = source_of(rt.alloc(), tokens, "script", "loud")?;
+        let mut parser = Parser::new_from(rt.alloc(), source, TokenBodies::new(rt.alloc()));
+        check_chain(&mut parser, link)?;
     }
     Ok(())
 }

@@ -36,7 +36,7 @@ script | a?.b. | refused: Eof 5..5 | none | end
 script | a?.b.c | OptChain(false, Member(OptChain(true, Member(a, .b)), .c)) | none | end";
 
 /// Writes the faults, or that there is none.
-fn write_faults(out: &mut String, faults: &[Error]) -> Result<(), AllocError> {
+pub(crate) fn write_faults(out: &mut String, faults: &[Error]) -> Result<(), AllocError> {
     if faults.is_empty() {
         return out.push_str("none");
     }

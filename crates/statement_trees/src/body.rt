@@ -1,12 +1,14 @@
 // Programs, and functions, classes and blocks, each of which is read in a pass of its own.
-ghost use Rattle.std.specs.Prelude.{◌≡◌, false};
-ghost use Rattle.statement_trees.specs.Contexts.{context_of, body_context};
+ghost use Rattle.std.specs.Prelude.{◌≡◌, ◌<◌, ◌≤◌, OnOk};
+ghost use Rattle.swc_ecma_parser.specs.Calls.{buffer_of};
+ghost use Rattle.swc_input.specs.Buffer.{state_of};
+ghost use Rattle.swc_input.specs.Listed.{listed_model};
+ghost use Rattle.statement_trees.specs.Contexts.{context_of, work, Takes, body_context};
 
 use crate::script::{Outline, Script};
 use crate::statement::Due;
 use std::alloc::Global;
 use std::collections::VecDeque;
-use swc_ecma_parser::ast::prop::PropName;
 use swc_ecma_parser::bodies::deferred::{DeferredBodies, Waiting};
 use swc_ecma_parser::context::context::{Context, EsVersion, ExpressionContext, Syntax};
 use swc_ecma_parser::context::error::{PResult, SyntaxError, Wanted};
@@ -23,6 +25,7 @@ const STAR: Token = Token::BinOp(BinOpToken::Mul);
 /// The tree of a program, as text. A fault that the parser recorded is refused as any other.
 pub fn tree_of(alloc: Global, text: &[u8]) -> PResult<String> {
     let tokens = read_tokens(alloc, text)?;
+    let most = tokens.len();
     let mut script = Script {
         alloc,
         parser: parser_over(alloc, tokens, Context::script()),
@@ -31,11 +34,13 @@ pub fn tree_of(alloc: Global, text: &[u8]) -> PResult<String> {
             failed: false,
         },
         waiting: VecDeque::new(alloc),
+        stack: Vec::new(alloc),
     };
     script.outline.put("program\n");
-    let answer = script.read(&[Due::List]);
+    let answer = script.read(Due::List);
     script.end_pass(answer)?;
-    for _ in 0..u64::MAX {
+    // Each body begins with a token of its own: so there are no more bodies than tokens.
+    for _ in 0..most {
         let Some(next) = script.waiting.pop_front() else {
             break;
         };
@@ -50,7 +55,9 @@ fn parser_over(
     alloc: Global,
     tokens: Vec<TokenAndSpan>,
     context: Context,
-) -> Parser<TokensInput, DeferredBodies> {
+) -> Parser<TokensInput, DeferredBodies>
+    ensures context { (state_of listed_model (buffer_of result)).context ≡ context }
+{
     let (syntax, target) = (Syntax::default(), EsVersion::default());
     let source = TokensInput::new(alloc, tokens, context, syntax, target);
     Parser::new_from(alloc, source, DeferredBodies::new(alloc))
@@ -59,7 +66,7 @@ fn parser_over(
 impl Script {
     /// Reads a body that waited, in its context, which is put back. The body itself stands in the head of no `for`.
     fn pass(&mut self, next: Waiting) -> PResult<()>
-        ensures context { next.context.module ≡ false → context_of self.new ≡ body_context next.context }
+        ensures context { context_of self.new ≡ body_context next.context }
     {
         let context = Context {
             include_in_expr: true,
@@ -69,9 +76,7 @@ impl Script {
         self.outline.put("\nat");
         self.outline.put_span(next.body.span);
         self.parser = parser_over(self.alloc, next.body.tokens, context);
-        let answer = self.body(context);
-        self.set_ctx(context);
-        answer
+        self.body()
     }
 
     /// Refuses want of memory, the first fault that was recorded, and what is left behind what was read.
@@ -85,26 +90,30 @@ impl Script {
             return Err(fault);
         }
         answer?;
-        if self.parser.buffer().has_cur()? {
+        if self.parser.buffer().cur().is_some() {
             return Err(self.parser.buffer().unexpected(SyntaxError::TS1109));
         }
         Ok(())
     }
 
     /// What the tokens of a body are: the block of a method or an arrow function, a class, or a function.
-    fn body(&mut self, context: Context) -> PResult<()> {
+    fn body(&mut self) -> PResult<()>
+        ensures context { context_of self.new ≡ context_of self.old }
+    {
         if self.at(&Token::LBrace) {
             self.outline.put(" block");
-            self.read(&[Due::Block])
+            self.read(Due::Block)
         } else if self.eat_keyword(Keyword::Class) {
-            self.class(context.class())
+            self.class()
         } else {
-            self.function(context)
+            self.function()
         }
     }
 
     /// A function (ECMA-262, 15.2, 15.5, 15.6 and 15.8).
-    fn function(&mut self, context: Context) -> PResult<()> {
+    fn function(&mut self) -> PResult<()>
+        ensures context { context_of self.new ≡ context_of self.old }
+    {
         let is_async = self.eat_modifier("async");
         if !self.eat_keyword(Keyword::Function) {
             return Err(self.wants(Wanted::Keyword(Keyword::Function)));
@@ -115,15 +124,29 @@ impl Script {
         if !self.at(&Token::LParen) {
             self.name()?;
         }
-        self.set_ctx(context.function_params(is_async, is_generator));
-        self.params()?;
-        self.set_ctx(context.function_block(is_async, is_generator));
-        self.read(&[Due::Block])
+        let context = self.context();
+        self.part_in(context.function_params(is_async, is_generator), Due::Params)?;
+        self.set_context(context.function_block(is_async, is_generator));
+        let answer = self.read(Due::Block);
+        self.set_context(context);
+        answer
+    }
+
+    /// Reads a part in the context; that from before is put back.
+    fn part_in(&mut self, context: Context, due: Due) -> PResult<()>
+        ensures context { context_of self.new ≡ context_of self.old }
+        ensures lower { work self.new ≤ work self.old }
+    {
+        let before = self.set_context(context);
+        let answer = self.part(due);
+        self.set_context(before);
+        answer
     }
 
     /// Parameters (ECMA-262, 15.1), with their parentheses.
-    fn params(&mut self) -> PResult<()>
+    pub(crate) fn params(&mut self) -> PResult<()>
         ensures context { context_of self.new ≡ context_of self.old }
+        ensures lower { work self.new ≤ work self.old }
     {
         self.expect(&Token::LParen, Wanted::LParen)?;
         self.outline.put("(");
@@ -138,28 +161,19 @@ impl Script {
         self.expect(&Token::RParen, Wanted::RParen)
     }
 
-    /// A class (ECMA-262, 15.7), behind that word. All but its name is read in the context.
-    fn class(&mut self, context: Context) -> PResult<()> {
+    /// A class (ECMA-262, 15.7), behind that word. What stands behind its name is read in a context of its own.
+    fn class(&mut self) -> PResult<()>
+        ensures context { context_of self.new ≡ context_of self.old }
+    {
         self.outline.put(" class");
         if !self.at(&Token::LBrace) && self.keyword() != Some(Keyword::Extends) {
             self.name()?;
         }
-        self.set_ctx(context);
-        if self.eat_keyword(Keyword::Extends) {
-            self.outline.put(" extends ");
-            let heritage = self.parser.parse_lhs_expr_id()?;
-            self.outline.put_expr(self.parser.nodes(), heritage)?;
-        }
-        self.expect(&Token::LBrace, Wanted::LBrace)?;
-        self.end_line();
-        for _ in 0..u64::MAX {
-            if self.eat(&Token::RBrace) {
-                break;
-            }
-            self.set_ctx(context);
-            self.member(context)?;
-        }
-        Ok(())
+        let context = self.context();
+        self.set_context(context.class());
+        let answer = self.members();
+        self.set_context(context);
+        answer
     }
 
     /// The name of a function or a class.
@@ -167,19 +181,46 @@ impl Script {
         ensures context { context_of self.new ≡ context_of self.old }
     {
         let name = self.parser.parse_binding_ident()?;
-        self.outline.put(" ");
-        self.outline.put(name.id.sym.as_str());
+        self.outline.put_word(name.id.sym.as_str());
         Ok(())
     }
 
+    /// What stands behind the name of a class.
+    fn members(&mut self) -> PResult<()>
+        ensures context { context_of self.new ≡ context_of self.old }
+    {
+        if self.eat_keyword(Keyword::Extends) {
+            self.outline.put(" extends ");
+            self.heritage()?;
+        }
+        self.open()?;
+        while !self.eat(&Token::RBrace) {
+            self.member()?;
+        }
+        Ok(())
+    }
+
+    fn heritage(&mut self) -> PResult<()>
+        ensures context { context_of self.new ≡ context_of self.old }
+    {
+        let heritage = self.parser.parse_lhs_expr_id()?;
+        self.outline.put_expr(self.parser.nodes(), heritage)
+    }
+
     /// A member of a class, or a semicolon.
-    fn member(&mut self, context: Context) -> PResult<()> {
+    fn member(&mut self) -> PResult<()>
+        ensures context { context_of self.new ≡ context_of self.old }
+        ensures falls { OnOk result (work self.new < work self.old) }
+    {
         if self.eat(&Token::Semi) {
             return Ok(());
         }
         self.outline.put("  member");
+        let context = self.context();
         if self.eat_modifier("static") && self.at(&Token::LBrace) {
-            return self.member_block(context.static_block());
+            self.part_in(context.static_block(), Due::Deferred)?;
+            self.end_line();
+            return Ok(());
         }
         let is_async = self.eat_modifier("async");
         let is_generator = self.eat(&STAR);
@@ -187,45 +228,38 @@ impl Script {
         let is_accessor = self.eat_modifier("get") || self.eat_modifier("set");
         self.key()?;
         if is_async || is_generator || is_accessor || self.at(&Token::LParen) {
-            self.set_ctx(context.method_params(is_async, is_generator));
-            self.params()?;
-            self.member_block(context.method_block(is_async, is_generator))
-        } else {
-            self.set_ctx(context.class_field());
-            self.value(false)?;
-            self.end_statement()
+            self.part_in(context.method_params(is_async, is_generator), Due::Params)?;
+            self.part_in(context.method_block(is_async, is_generator), Due::Deferred)?;
+            self.end_line();
+            return Ok(());
         }
+        self.part_in(context.class_field(), Due::Value)?;
+        self.end_statement()?;
+        Ok(())
     }
 
-    /// The block of a member, which waits for its pass in the context, and the end of the line.
-    fn member_block(&mut self, context: Context) -> PResult<()> {
-        self.set_ctx(context);
+    /// A block, which waits for its pass.
+    pub(crate) fn deferred_block(&mut self) -> PResult<()>
+        ensures context { context_of self.new ≡ context_of self.old }
+        ensures lower { work self.new ≤ work self.old }
+    {
         let _ = self.parser.read_block()?;
-        self.end_line();
         Ok(())
     }
 
     /// The key of a member, which may be a private name.
     fn key(&mut self) -> PResult<()>
         ensures context { context_of self.new ≡ context_of self.old }
+        ensures takes { OnOk result (Takes self.old self.new) }
     {
-        self.outline.put(" ");
         if self.at(&Token::Hash) {
             let private = self.parser.parse_private_name()?;
-            self.outline.put("#");
+            self.outline.put(" #");
             self.outline.put(private.name.as_str());
             return Ok(());
         }
-        match self.parser.parse_prop_name_id()? {
-            PropName::Ident(name) => self.outline.put(name.sym.as_str()),
-            PropName::Str(string) => self.outline.put(string.raw.as_str()),
-            PropName::Num(number) => self.outline.put(number.raw.as_str()),
-            PropName::BigInt(number) => self.outline.put(number.raw.as_str()),
-            PropName::Computed(computed) => {
-                self.outline.put("computed ");
-                self.outline.put_expr(self.parser.nodes(), computed.expr)?;
-            }
-        }
+        let key = self.parser.parse_prop_name_id()?;
+        self.outline.put_key(self.parser.nodes(), &key)?;
         Ok(())
     }
 }

@@ -7,9 +7,11 @@
 //! stands behind the program as `at` and its place.
 //!
 //! It isn't promised that these trees are those of ECMA-262. Not looked at are: `"use strict"`; names that are bound
-//! twice; whether a label, a loop or a `switch` is there for `break` and `continue`; the parameters of getters and
-//! setters; private names that no class declares. `return` is taken in static blocks, and a generator or an async
-//! function as the body of an `if`. `let` always begins a declaration; `import` and `export` begin none.
+//! twice, or are missing in a declaration; `let` as a name; whether a label, a loop or a `switch` is there for `break`
+//! and `continue`, whether a label stands twice, or `default`; which functions are the body of an `if`, a loop or a
+//! label; `async` and `*` before `get` and `set`, and the parameters of these; that the name of a class is strict code;
+//! which members are named `constructor` or `prototype`; private names that no class declares; `with` in strict code.
+//! `return` is taken in static blocks. `let` always begins a declaration; `import` and `export` begin none.
 //! A class whose heritage has a brace, as `class A extends function () {} {}`, is refused: the hook takes the first
 //! brace for that of the class.
 #![tactic(auto)]

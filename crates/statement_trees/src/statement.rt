@@ -1,10 +1,9 @@
-// Statements (ECMA-262, 14). What is due lies on a stack: so statements in one another take no recursion. Loops that
-// read have a bound that no text comes near: so each ends, whatever the parser answers.
-ghost use Rattle.std.specs.Prelude.{◌≡◌};
-ghost use Rattle.statement_trees.specs.Contexts.{context_of};
+// Statements (ECMA-262, 14). What is due lies on a stack: so statements in one another take no recursion. Reading ends,
+// since each step takes a part from the stack, and puts off five at most where it consumes a token.
+ghost use Rattle.std.specs.Prelude.{◌≡◌, ◌+◌, ◌<◌, ◌≤◌, true, length, IfOk, IfSome, OnOk};
+ghost use Rattle.statement_trees.specs.Contexts.{context_of, work, Takes};
 
-use crate::script::{Outline, Script};
-use crate::words::{is_function, is_label, is_word};
+use crate::script::Script;
 use swc_ecma_parser::context::context::Context;
 use swc_ecma_parser::context::error::{Error, PResult, SyntaxError, Wanted};
 use swc_ecma_parser::context::operator::AssignOp;
@@ -45,14 +44,18 @@ pub(crate) enum Due {
     Target,
     /// `{`, the end of the line, and then statements and `}`.
     Block,
-    /// `{`
+    /// `{`, and the end of the line.
     Open,
     /// `}`
     Close,
-    /// `:`
-    Colon,
     /// A semicolon, or nothing.
     Semicolon,
+    /// Parameters, with their parentheses.
+    Params,
+    /// A block that waits for its pass.
+    Deferred,
+    /// `=` and a value, or nothing.
+    Value,
     /// A semicolon, or nothing where it may be left out, and the end of the line.
     End,
     /// The end of the line.
@@ -62,17 +65,25 @@ pub(crate) enum Due {
 /// What is due behind the `while` of a `do`.
 const DO_TEST: &[Due] = &[Due::Parens, Due::Semicolon, Due::Line];
 
+/// What is due behind `else`.
+const BRANCH: &[Due] = &[Due::Line, Due::Body];
+
+/// What is due behind `finally`.
+const LAST: &[Due] = &[Due::Block];
+
 /// What is due behind `catch`.
 const HANDLER: &[Due] = &[Due::Param, Due::Block, Due::Finally];
 
 /// What is due behind the keyword of a statement, if one begins with it.
-fn behind(word: Keyword) -> Option<&'static [Due]> {
+fn behind(word: Keyword) -> Option<&'static [Due]>
+    ensures { IfSome result (λ rest. length rest.now ≤ 4) }
+{
     match word {
         Keyword::If => Some(&[Due::Parens, Due::Line, Due::Body, Due::Else]),
         Keyword::While | Keyword::With => Some(&[Due::Parens, Due::Line, Due::Body]),
         Keyword::Do => Some(&[Due::Line, Due::Body, Due::DoTest]),
         Keyword::For => Some(&[Due::Head, Due::Line, Due::Body]),
-        Keyword::Switch => Some(&[Due::Parens, Due::Open, Due::Line, Due::Clauses]),
+        Keyword::Switch => Some(&[Due::Parens, Due::Open, Due::Clauses]),
         Keyword::Try => Some(&[Due::Block, Due::Catch]),
         Keyword::Break | Keyword::Continue => Some(&[Due::Target, Due::End]),
         Keyword::Return => Some(&[Due::Returned, Due::End]),
@@ -85,76 +96,70 @@ fn behind(word: Keyword) -> Option<&'static [Due]> {
     }
 }
 
-impl Outline {
-    /// Puts on the stack what is due, the first of it on top. Want of memory is remembered.
-    fn put_off(&mut self, stack: &mut Vec<(Due, usize)>, depth: usize, rest: &[Due]) {
-        for due in rest.iter().rev() {
-            self.failed |= stack.push((*due, depth)).is_err();
-        }
-    }
-}
-
 impl Script {
-    /// Reads what is due, the first of it at depth 0. Each step consumes a token, or only takes from the stack.
-    pub(crate) fn read(&mut self, first: &[Due]) -> PResult<()>
+    /// Reads what is due, the first of it at depth 0.
+    pub(crate) fn read(&mut self, first: Due) -> PResult<()>
         ensures context { context_of self.new ≡ context_of self.old }
     {
-        let mut stack = Vec::new(self.alloc);
-        self.outline.put_off(&mut stack, 0, first);
-        for _ in 0..u64::MAX {
-            let Some((due, depth)) = stack.pop() else {
-                break;
-            };
-            if self.is_over(due)? {
-                continue;
-            }
-            if matches!(due, Due::List | Due::Clauses) {
-                self.outline.put_off(&mut stack, depth, &[due]);
-            }
-            let is_inside = matches!(due, Due::List | Due::Clauses | Due::Body);
-            let depth = depth.saturating_add(usize::from(is_inside));
-            let rest = self.step(due, depth)?;
-            self.outline.put_off(&mut stack, depth, rest);
+        self.put_off(0, &[first]);
+        while let Some((due, depth)) = self.next_due() {
+            self.step(due, depth)?;
         }
         Ok(())
     }
 
-    /// Whether nothing is left of a list. The `}` behind clauses is consumed.
-    fn is_over(&mut self, due: Due) -> PResult<bool>
+    /// Reads a part, and puts off what is due behind its beginning.
+    fn step(&mut self, due: Due, depth: usize) -> PResult<()>
         ensures context { context_of self.new ≡ context_of self.old }
+        ensures lower { OnOk result (work self.new ≤ work self.old) }
     {
+        let inside = depth.saturating_add(1);
         match due {
-            Due::List => {
-                let is_clause = matches!(self.keyword(), Some(Keyword::Case | Keyword::Default_));
-                Ok(is_clause || self.at(&Token::RBrace) || !self.parser.buffer().has_cur()?)
+            Due::List if self.at_end() => {}
+            Due::Clauses if self.eat(&Token::RBrace) => {}
+            Due::Body
+                if matches!(
+                    self.keyword(),
+                    Some(Keyword::Class | Keyword::Const | Keyword::Let)
+                ) => {
+                return Err(self.wants(Wanted::LBrace));
             }
-            Due::Clauses => Ok(self.eat(&Token::RBrace)),
-            _ => Ok(false),
+            Due::List => {
+                let rest = self.statement(inside)?;
+                self.put_off(depth, &[Due::List]);
+                self.put_off(inside, rest);
+            }
+            Due::Body => {
+                let rest = self.statement(inside)?;
+                self.put_off(inside, rest);
+            }
+            Due::Clauses => {
+                self.clause(inside)?;
+                self.put_off(depth, &[Due::Clauses]);
+                self.put_off(inside, &[Due::Line, Due::List]);
+            }
+            Due::Else if self.begin(Keyword::Else, depth) => self.put_off(depth, BRANCH),
+            Due::DoTest if self.begin(Keyword::While, depth) => self.put_off(depth, DO_TEST),
+            Due::Catch if self.begin(Keyword::Catch, depth) => self.put_off(depth, HANDLER),
+            Due::Catch | Due::Finally if self.begin(Keyword::Finally, depth) => self.put_off(
+                depth, LAST,
+            ),
+            Due::Block => {
+                self.open()?;
+                self.put_off(depth, &[Due::List, Due::Close]);
+            }
+            Due::Catch => return Err(self.wants(Wanted::Keyword(Keyword::Catch))),
+            Due::DoTest => return Err(self.wants(Wanted::Keyword(Keyword::While))),
+            _ => self.part(due)?,
         }
-    }
-
-    /// Reads a part, up to what is due behind its beginning.
-    fn step(&mut self, due: Due, depth: usize) -> PResult<&'static [Due]>
-        ensures context { context_of self.new ≡ context_of self.old }
-    {
-        match due {
-            Due::Body if self.at_declaration() => Err(self.wants(Wanted::LBrace)),
-            Due::List | Due::Body => self.statement(depth),
-            Due::Block => self.block(),
-            Due::Clauses => self.clause(depth),
-            Due::Else if self.begin(Keyword::Else, depth) => Ok(&[Due::Line, Due::Body]),
-            Due::DoTest if self.begin(Keyword::While, depth) => Ok(DO_TEST),
-            Due::Catch if self.begin(Keyword::Catch, depth) => Ok(HANDLER),
-            Due::Catch | Due::Finally if self.begin(Keyword::Finally, depth) => self.block(),
-            Due::Catch => Err(self.wants(Wanted::Keyword(Keyword::Catch))),
-            Due::DoTest => Err(self.wants(Wanted::Keyword(Keyword::While))),
-            _ => self.part(due),
-        }
+        Ok(())
     }
 
     /// Reads a part behind whose beginning nothing is due.
-    fn part(&mut self, due: Due) -> PResult<&'static [Due]>
+    #[tactic(auto, unfolding(crate::specs::Contexts::effort))]
+    pub(crate) fn part(&mut self, due: Due) -> PResult<()>
         ensures context { context_of self.new ≡ context_of self.old }
+        ensures lower { work self.new ≤ work self.old }
     {
         match due {
             Due::Param if self.eat(&Token::LParen) => {
@@ -176,39 +181,39 @@ impl Script {
             Due::Thrown => self.expr()?,
             Due::Returned => self.returned()?,
             Due::Target if !self.at_semicolon() => self.label()?,
-            Due::Open => self.expect(&Token::LBrace, Wanted::LBrace)?,
+            Due::Open => self.open()?,
             Due::Close => self.expect(&Token::RBrace, Wanted::RBrace)?,
-            Due::Colon => self.expect(&Token::Colon, Wanted::Colon)?,
             Due::Semicolon => {
                 let _ = self.eat(&Token::Semi);
             }
             Due::End => self.end_statement()?,
+            Due::Params => self.params()?,
+            Due::Deferred => self.deferred_block()?,
+            Due::Value => self.value(false)?,
             Due::Line => self.end_line(),
             _ => {}
         }
-        Ok(&[])
+        Ok(())
     }
 
-    /// Whether a declaration begins here that can't be a part of another statement.
-    fn at_declaration(&mut self) -> bool
+    /// What a clause of a `switch` begins with, up to its `:`.
+    fn clause(&mut self, depth: usize) -> PResult<()>
         ensures context { context_of self.new ≡ context_of self.old }
+        ensures takes { OnOk result (Takes self.old self.new) }
     {
-        let word = self.keyword();
-        matches!(word, Some(Keyword::Class | Keyword::Const | Keyword::Let))
-    }
-
-    /// `{`, which ends the line, and what is due behind it.
-    fn block(&mut self) -> PResult<&'static [Due]>
-        ensures context { context_of self.new ≡ context_of self.old }
-    {
-        self.expect(&Token::LBrace, Wanted::LBrace)?;
-        self.end_line();
-        Ok(&[Due::List, Due::Close])
+        if self.begin(Keyword::Case, depth) {
+            self.expr()?;
+        } else if !self.begin(Keyword::Default_, depth) {
+            return Err(self.wants(Wanted::Keyword(Keyword::Case)));
+        }
+        self.expect(&Token::Colon, Wanted::Colon)?;
+        Ok(())
     }
 
     /// A statement, up to what is due behind its beginning.
     fn statement(&mut self, depth: usize) -> PResult<&'static [Due]>
         ensures context { context_of self.new ≡ context_of self.old }
+        ensures falls { IfOk result (λ rest. work self.new + length rest.now < work self.old) }
     {
         self.outline.begin(depth);
         if let Some(rest) = self.take_word() {
@@ -216,113 +221,117 @@ impl Script {
         }
         if self.at(&Token::LBrace) {
             self.outline.put("block");
-            return self.block();
+            self.open()?;
+            return Ok(&[Due::List, Due::Close]);
         }
         if self.eat(&Token::Semi) {
             self.outline.put("empty");
-        } else if is_function(self.parser.buffer()) {
+            return Ok(&[Due::Line]);
+        }
+        if self.at_function() {
             self.outline.put("function");
             let _ = self.parser.read_fun()?;
-        } else if self.keyword() == Some(Keyword::Class) {
+            return Ok(&[Due::Line]);
+        }
+        if self.keyword() == Some(Keyword::Class) {
             self.outline.put("class");
             let _ = self.parser.read_class()?;
-        } else if is_label(self.parser.buffer()) {
+            return Ok(&[Due::Line]);
+        }
+        if self.at_label() {
             self.outline.put("label");
             self.label()?;
-            return Ok(&[Due::Colon, Due::Line, Due::Body]);
-        } else {
-            self.outline.put("expr");
-            self.expr()?;
-            return Ok(&[Due::End]);
+            self.expect(&Token::Colon, Wanted::Colon)?;
+            return Ok(&[Due::Line, Due::Body]);
         }
-        Ok(&[Due::Line])
+        self.outline.put("expr");
+        self.expr()?;
+        Ok(&[Due::End])
     }
 
     /// Consumes the keyword of a statement where one is current, and writes it. What is due behind it.
     fn take_word(&mut self) -> Option<&'static [Due]>
         ensures context { context_of self.new ≡ context_of self.old }
+        ensures lower { work self.new ≤ work self.old }
+        ensures takes { IfSome result (λ rest. work self.new + length rest.now < work self.old) }
     {
         let word = self.keyword()?;
         let rest = behind(word)?;
-        let _ = self.eat_keyword(word);
+        if !self.eat_keyword(word) {
+            return None;
+        }
         self.outline.put(word.as_str());
         Some(rest)
     }
 
     fn label(&mut self) -> PResult<()>
         ensures context { context_of self.new ≡ context_of self.old }
+        ensures lower { work self.new ≤ work self.old }
     {
         let label = self.parser.parse_label_ident()?;
-        self.outline.put(" ");
-        self.outline.put(label.sym.as_str());
+        self.outline.put_word(label.sym.as_str());
         Ok(())
-    }
-
-    /// A clause of a `switch`, up to what is due behind its word.
-    fn clause(&mut self, depth: usize) -> PResult<&'static [Due]>
-        ensures context { context_of self.new ≡ context_of self.old }
-    {
-        if self.begin(Keyword::Case, depth) {
-            self.expr()?;
-        } else if !self.begin(Keyword::Default_, depth) {
-            return Err(self.wants(Wanted::Keyword(Keyword::Case)));
-        }
-        Ok(&[Due::Colon, Due::Line, Due::List])
     }
 
     /// Consumes the keyword where it is current, and begins a line with it. Says whether it was.
     fn begin(&mut self, word: Keyword, depth: usize) -> bool
         ensures context { context_of self.new ≡ context_of self.old }
+        ensures lower { work self.new ≤ work self.old }
+        ensures takes { result ≡ true → Takes self.old self.new }
     {
-        let here = self.eat_keyword(word);
-        if here {
-            self.outline.begin(depth);
-            self.outline.put(word.as_str());
+        if !self.eat_keyword(word) {
+            return false;
         }
-        here
+        self.outline.begin(depth);
+        self.outline.put(word.as_str());
+        true
     }
 
-    /// Outside functions the word is refused.
+    /// What is returned, or nothing. Outside functions the word is refused.
+    #[tactic(auto, unfolding(crate::specs::Contexts::effort))]
     fn returned(&mut self) -> PResult<()>
         ensures context { context_of self.new ≡ context_of self.old }
+        ensures lower { work self.new ≤ work self.old }
     {
-        if !self.parser.buffer().get_ctx().in_function {
+        if !self.context().in_function {
             let span = self.parser.buffer().prev_span();
             let wanted = Wanted::Keyword(Keyword::Function);
             return Err(Error::new(span, SyntaxError::Unexpected(wanted)));
         }
         if self.at_semicolon() {
-            return Ok(());
+            Ok(())
+        } else {
+            self.expr()
         }
-        self.expr()
     }
 
     /// Declared names and patterns, with their values (ECMA-262, 14.3). In the head of a `for` one may stand alone
     /// before `of` or `in`; says whether it does.
     fn names(&mut self, word: Keyword, in_head: bool) -> PResult<bool>
         ensures context { context_of self.new ≡ context_of self.old }
+        ensures lower { work self.new ≤ work self.old }
     {
         let mut may_stand_alone = in_head;
-        for _ in 0..u64::MAX {
+        loop {
             let is_name = !self.at(&Token::LBracket) && !self.at(&Token::LBrace);
             self.pat()?;
-            let is_of = is_word(self.parser.buffer(), "of");
+            let is_of = self.at_word("of");
             if may_stand_alone && (is_of || self.keyword() == Some(Keyword::In)) {
                 return Ok(true);
             }
             self.value(!is_name || word == Keyword::Const)?;
             if !self.eat(&Token::Comma) {
-                break;
+                return Ok(false);
             }
             self.outline.put(",");
             may_stand_alone = false;
         }
-        Ok(false)
     }
 
     /// `=` and a value, or nothing where there need be none.
-    pub(crate) fn value(&mut self, needs_value: bool) -> PResult<()>
+    fn value(&mut self, needs_value: bool) -> PResult<()>
         ensures context { context_of self.new ≡ context_of self.old }
+        ensures lower { work self.new ≤ work self.old }
     {
         if self.eat(&Token::AssignOp(AssignOp::Assign)) {
             self.outline.put(" =");
@@ -337,17 +346,18 @@ impl Script {
     /// The head of a `for` (ECMA-262, 14.7.4 and 14.7.5), behind that word. `await` stands in async code alone.
     fn for_head(&mut self) -> PResult<()>
         ensures context { context_of self.new ≡ context_of self.old }
+        ensures lower { work self.new ≤ work self.old }
     {
-        let context = self.parser.buffer().get_ctx();
+        let context = self.context();
         let is_await = context.in_async && self.eat_keyword(Keyword::Await);
         self.outline.put(if is_await { " await" } else { "" });
         self.expect(&Token::LParen, Wanted::LParen)?;
-        self.set_ctx(Context {
+        self.set_context(Context {
             include_in_expr: false,
             ..context
         });
         let is_each = self.head_start(is_await);
-        self.set_ctx(context);
+        self.set_context(context);
         if is_each? {
             self.head_list(is_await)?;
         } else if is_await {
@@ -362,17 +372,17 @@ impl Script {
     /// What the head begins with. Says whether `of` or `in` has to follow.
     fn head_start(&mut self, is_await: bool) -> PResult<bool>
         ensures context { context_of self.new ≡ context_of self.old }
+        ensures lower { work self.new ≤ work self.old }
     {
         if let Some(word @ (Keyword::Const | Keyword::Let | Keyword::Var)) = self.keyword() {
             let _ = self.eat_keyword(word);
-            self.outline.put(" ");
-            self.outline.put(word.as_str());
+            self.outline.put_word(word.as_str());
             return self.names(word, true);
         }
         if self.at(&Token::Semi) {
             return Ok(false);
         }
-        let head = self.parser.parse_for_head_id(is_await)?;
+        let head = self.head(is_await)?;
         self.outline.put(" ");
         match head {
             ForHeadId::Target(pat) => self.outline.put_pat(self.parser.nodes(), pat)?,
@@ -382,18 +392,19 @@ impl Script {
     }
 
     /// `of` or `in`, and what is gone through.
+    #[tactic(auto, unfolding(crate::specs::Contexts::effort))]
     fn head_list(&mut self, is_await: bool) -> PResult<()>
         ensures context { context_of self.new ≡ context_of self.old }
+        ensures lower { work self.new ≤ work self.old }
     {
         if !is_await && self.eat_keyword(Keyword::In) {
             self.outline.put(" in");
             return self.expr();
         }
-        let input = self.parser.buffer();
-        if !is_word(input, "of") {
+        if !self.at_word("of") {
             return Err(self.wants(Wanted::Of));
         }
-        let _ = input.bump();
+        let _ = self.parser.buffer().bump();
         self.outline.put(" of");
         self.assignment_expr()
     }
@@ -401,6 +412,7 @@ impl Script {
     /// `;` and an expression, or none where the token follows.
     fn head_part(&mut self, end: &Token) -> PResult<()>
         ensures context { context_of self.new ≡ context_of self.old }
+        ensures lower { work self.new ≤ work self.old }
     {
         self.expect(&Token::Semi, Wanted::Semi)?;
         self.outline.put(";");

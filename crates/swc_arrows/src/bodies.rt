@@ -139,6 +139,7 @@ fn is_at_sign<I: Tokens>(input: &mut Buffer<I>) -> PResult<bool>
 
 /// Records `TS1005` behind operators that followed an arrow function with a block, at the current token, unless a
 /// semicolon may stand there (ECMA-262, 12.10).
+#[inline(never)]
 pub fn check_operators_end<I: Tokens>(input: &mut Buffer<I>) -> PResult<()>
     ensures tries { Tries I.model input.old result input.new }
     ensures ends { OnOk result ((sure : Bool)

@@ -55,6 +55,7 @@ pub enum NextKind {
 
 /// What the assignment expression begins with whose first token is current. Consumes nothing, and is refused only for
 /// want of memory.
+#[inline(never)]
 pub fn head_kind<I: Tokens>(input: &mut Buffer<I>) -> PResult<HeadKind>
     requires { IsSome (current input.old) }
     ensures tells { Tells I.model (head_kind (context I.model input.old)) input.old result input.new }

@@ -41,6 +41,7 @@ pub struct ListStart {
 }
 
 /// Consumes the parenthesis that opens a list, and `async` before it, where it `is_async`.
+#[inline(never)]
 pub fn open_list<I: Tokens, B: Bodies<I>>(
     p: &mut Productions<I, B>,
     is_async: bool,
@@ -72,6 +73,7 @@ pub fn open_list<I: Tokens, B: Bodies<I>>(
 /// parentheses (ECMA-262, 13.2.9), or the arguments of a call of `async` (13.3.8), among which an object literal with a
 /// property `name = value` is recorded. A line break before `=>` is refused as `LineBreakBeforeArrow`, from where the
 /// list begins through its `)`.
+#[inline(never)]
 pub fn close_list<I: Tokens, B: Bodies<I>>(
     p: &mut Productions<I, B>,
     start: ListStart,

@@ -50,6 +50,7 @@ pub enum Beginning {
 
 /// A name, which is current, and `=>` behind it (ECMA-262, 15.3). In strict code `eval` and `arguments` are recorded
 /// for modules.
+#[inline(never)]
 pub fn parse_arrow_name<I: Tokens, B: Bodies<I>>(p: &mut Productions<I, B>) -> PResult<Beginning>
     requires { at_token (may_be_reference (context I.model p.old.input)) (seen p.old.input) ≡ true }
     ensures leaves { Leaves I.model B.is_faithful beginning_of (name_arrow B.forms) (beginning_behind B.forms)
@@ -69,6 +70,7 @@ pub fn parse_arrow_name<I: Tokens, B: Bodies<I>>(p: &mut Productions<I, B>) -> P
 /// `async`, which is current, a name that is bound, and `=>` (ECMA-262, 15.9). Where the name is `of` in the head of a
 /// `for`, and no `=>` stands behind it, `async` is an identifier, and the rest stays: that is recorded as `TS1106`, at
 /// `async`, but in the head of a `for await` (14.7.5).
+#[inline(never)]
 pub fn parse_async_name<I: Tokens, B: Bodies<I>>(p: &mut Productions<I, B>) -> PResult<Beginning>
     requires { at_token is_async (seen p.old.input) ≡ true }
     ensures leaves { Leaves I.model B.is_faithful beginning_of (async_arrow B.forms) (beginning_behind B.forms)

@@ -1,4 +1,14 @@
 // Expressions.
+ghost use Rattle.std.specs.Prelude.{◌≡◌, Bool, Some};
+ghost use Rattle.std.specs.declared.alloc.Global.{Global};
+ghost use Rattle.std.specs.declared.boxed.Box.{Box};
+ghost use Rattle.std.specs.declared.vec.Vec.{Vec};
+ghost use Rattle.swc_ast.specs.declared.expr.BlockStmtOrExpr.{BlockStmtOrExpr};
+ghost use Rattle.swc_ast.specs.declared.expr.Expr.{Expr};
+ghost use Rattle.swc_ast.specs.declared.expr.Expr.TheVariants as e;
+ghost use Rattle.swc_ast.specs.declared.pat.Pat.{Pat};
+ghost use Rattle.swc_context.specs.declared.span.Span.{Span};
+
 use crate::ident::{BindingIdent, Ident, IdentName, PrivateName};
 use crate::lit::Lit;
 use crate::pat::{ObjectPatProp, Pat};
@@ -173,8 +183,12 @@ pub enum SimpleAssignTarget<E> {
 }
 
 /// An expression (ECMA-262, 13).
+///
+/// Letting one go takes a stack that grows with its nesting, and not with the length of a chain, as
+/// `a + a + ..` or `a.b.b..`: its `drop` is a loop along chains. So another crate cannot take one
+/// apart by a `match` on its value: it matches on a reference, moves parts out of a `&mut`
+/// (`std::mem::replace`), or calls `fn_expr`, `class` or `arrow`.
 #[cycle(ast)]
-#[derive(Drop)]
 pub enum Expr<F, C, K> {
     /// `this`
     This(ThisExpr),
@@ -287,6 +301,188 @@ pub enum Expr<F, C, K> {
     Lit(Lit),
     /// What could not be read, where the fault was recorded.
     Invalid(Invalid),
+}
+
+// Not derived: a loop along the part that may be a long chain. Operators of one level and links lean to the left; `**`,
+// and what stands behind a prefix, `=`, `=>` or the `:` of a conditional, to the right. All else is nested.
+impl<F: Drop, C: Drop, K: Drop> Drop for Expr<F, C, K> {
+    #[cycle(ast)]
+    fn drop(mut self) {
+        loop {
+            let next = match self {
+                Expr::Unary {
+                    span: _,
+                    op: _,
+                    arg,
+                } => arg,
+                Expr::Update {
+                    span: _,
+                    op: _,
+                    prefix: _,
+                    arg,
+                } => arg,
+                Expr::Bin {
+                    span: _,
+                    op: BinaryOp::Exp,
+                    left: _left,
+                    right,
+                } => right,
+                Expr::Bin {
+                    span: _,
+                    op: _,
+                    left,
+                    right: _right,
+                } => left,
+                Expr::Assign {
+                    span: _,
+                    op: _,
+                    left: _left,
+                    right,
+                } => right,
+                Expr::Cond {
+                    span: _,
+                    test: _test,
+                    cons: _cons,
+                    alt,
+                } => alt,
+                Expr::Paren(ParenExpr { span: _, expr }) => expr,
+                Expr::Member(
+                    MemberExpr {
+                        span: _,
+                        obj,
+                        prop: _prop,
+                    },
+                ) => obj,
+                Expr::Call {
+                    span: _,
+                    callee,
+                    args: _args,
+                } => match callee {
+                    Callee::Expr(callee) => callee,
+                    Callee::Super(_super) => return,
+                    Callee::Import(_import) => return,
+                },
+                Expr::New {
+                    span: _,
+                    callee,
+                    args: _args,
+                } => callee,
+                Expr::OptChain(
+                    OptChainExpr {
+                        span: _,
+                        optional: _,
+                        base,
+                    },
+                ) => match Box::into_inner(base) {
+                    OptChainBase::Member(
+                        MemberExpr {
+                            span: _,
+                            obj,
+                            prop: _prop,
+                        },
+                    ) => obj,
+                    OptChainBase::Call(
+                        OptCall {
+                            span: _,
+                            callee,
+                            args: _args,
+                        },
+                    ) => callee,
+                },
+                Expr::TaggedTpl {
+                    span: _,
+                    tag,
+                    tpl: _tpl,
+                } => tag,
+                Expr::Arrow {
+                    span: _,
+                    params: _params,
+                    body,
+                    is_async: _,
+                } => match Box::into_inner(body) {
+                    BlockStmtOrExpr::Expr(expr) => expr,
+                    BlockStmtOrExpr::BlockStmt(_block) => return,
+                },
+                Expr::Await { span: _, arg } => arg,
+                Expr::Yield {
+                    span: _,
+                    arg,
+                    delegate: _,
+                } => match arg {
+                    Some(arg) => arg,
+                    None => return,
+                },
+                Expr::Array {
+                    span: _,
+                    elems: _elems,
+                } => return,
+                Expr::Object {
+                    span: _,
+                    props: _props,
+                } => return,
+                Expr::Seq {
+                    span: _,
+                    exprs: _exprs,
+                } => return,
+                Expr::Fn(_function) => return,
+                Expr::Class(_class) => return,
+                Expr::SuperProp(_prop) => return,
+                Expr::Tpl(_tpl) => return,
+                Expr::This(_this) => return,
+                Expr::MetaProp(_meta) => return,
+                Expr::PrivateName(_name) => return,
+                Expr::Ident(_ident) => return,
+                Expr::Lit(_lit) => return,
+                Expr::Invalid(_invalid) => return,
+            };
+            self = Box::into_inner(next);
+        }
+    }
+}
+
+impl<F: Drop, C: Drop, K: Drop> Expr<F, C, K> {
+    /// The function, if it is one.
+    pub fn fn_expr(self) -> Option<F>
+        ensures { (f : F) → self ≡ e.Fn f → result ≡ Some f }
+    {
+        match self {
+            Expr::Fn(function) => Some(function),
+            _ => None,
+        }
+    }
+
+    /// The class, if it is one.
+    pub fn class(self) -> Option<C>
+        ensures { (c : C) → self ≡ e.Class c → result ≡ Some c }
+    {
+        match self {
+            Expr::Class(class) => Some(class),
+            _ => None,
+        }
+    }
+
+    /// The parameters and the body of an arrow function, if it is one.
+    pub fn arrow(
+        self,
+    ) -> Option<
+        (
+            Vec<Pat<F, C, K>>,
+            Box<BlockStmtOrExpr<Box<Expr<F, C, K>>, K>>,
+        ),
+    >
+        ensures { (s : Span) (ps : Vec (Pat F C K) Global) (b : Box (BlockStmtOrExpr (Box (Expr F C K) Global) K) Global)
+            (a : Bool) → self ≡ e.Arrow s ps b a → result ≡ Some (ps, b) }
+    {
+        match self {
+            Expr::Arrow {
+                span: _,
+                params,
+                body,
+                is_async: _,
+            } => Some((params, body)),
+            _ => None,
+        }
+    }
 }
 
 /// What stands left of an assignment operator (ECMA-262, 13.15).

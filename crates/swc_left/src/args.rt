@@ -13,6 +13,7 @@ use swc_steps::tokens::{Sign, is_sign, look, separate, syntax_error};
 
 /// Consumes what stands behind an argument: a comma, whose place is answered, or nothing where the parenthesis that
 /// closes the list is current. Behind the last argument of `import` a comma may be refused.
+#[inline(never)]
 pub fn separate_args<I: Tokens>(
     input: &mut Buffer<I>,
     start: Span,

@@ -111,6 +111,7 @@ pub fn super_computed<I: Tokens, B: Bodies<I>>(
 
 /// A call of `super` or `import` (ECMA-262, 13.3.7 and 13.3.10), which begins at `start`, behind its arguments.
 /// Consumes nothing, and is refused only for want of memory.
+#[inline(never)]
 pub fn callee_call<I: Tokens, B: Bodies<I>>(
     p: &mut Productions<I, B>,
     start: Span,
@@ -142,6 +143,7 @@ pub fn refuse_super_name<I: Tokens, B: Bodies<I>>(
 }
 
 /// The same, up to the arguments of a call: these are left.
+#[inline(never)]
 pub fn import_head<I: Tokens, B: Bodies<I>>(
     p: &mut Productions<I, B>,
     start: Span,

@@ -158,6 +158,7 @@ pub fn computed_member<I: Tokens, B: Bodies<I>>(
 
 /// The node of a call (ECMA-262, 13.3.6), with its arguments; `optional`, where `?.` stands before these. Refused
 /// only for want of memory.
+#[inline(never)]
 pub fn call_expr<I: Tokens, B: Bodies<I>>(
     p: &mut Productions<I, B>,
     callee: ExprId,

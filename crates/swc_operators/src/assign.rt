@@ -92,6 +92,7 @@ fn is_yield_token(token: &Token) -> bool
 }
 
 /// Refuses `yield`, which was consumed, in parameters outside a function.
+#[inline(never)]
 pub fn refuse_yield_param<I: Tokens>(input: &mut Buffer<I>) -> PResult<()>
     ensures passes { OnOk result ((input.new ≡ input.old) × (yield_ok (context I.model input.old) ≡ true)) }
     ensures refuses { IfErr result
@@ -106,6 +107,7 @@ pub fn refuse_yield_param<I: Tokens>(input: &mut Buffer<I>) -> PResult<()>
 }
 
 /// Whether an operand of `yield` begins here, on the same line. Refused only for want of memory.
+#[inline(never)]
 pub fn goes_on_yield<I: Tokens>(input: &mut Buffer<I>) -> PResult<bool>
     ensures looks { Looks I.model input.old result input.new }
     ensures value { IfOk result (λ r. r ≡ goes_on_yield_at (seen input.new)) }

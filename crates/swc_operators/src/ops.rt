@@ -45,6 +45,7 @@ use swc_steps::tokens::{
 
 /// Records, before an operator, that its left operand, which begins at `first`, was refused: a node of `Invalid`
 /// stands in for it. Elsewhere the refusal stands, and so does want of memory.
+#[inline(never)]
 pub fn recover_left<I: Tokens, B: Bodies<I>>(
     p: &mut Productions<I, B>,
     error: Error,
@@ -111,6 +112,7 @@ fn above(op: Option<BinaryOp>, min_prec: u8) -> Option<BinaryOp>
 
 /// Consumes the operator `op`, which is current, behind its left operand (ECMA-262, 13.6 to 13.13), and puts both on
 /// what is pending: what is read next is its right operand. A prefix operator left of `**` is refused.
+#[inline(never)]
 pub fn take_operator<I: Tokens, B: Bodies<I>>(
     p: &mut Productions<I, B>,
     pending: &mut PendingOperators,
@@ -157,6 +159,7 @@ pub fn join_operands<I: Tokens, B: Bodies<I>>(
 }
 
 /// Reads on after a left-hand side: `++` or `--` (ECMA-262, 13.4) on the same line, or nothing.
+#[inline(never)]
 pub fn parse_update_postfix<I: Tokens, B: Bodies<I>>(
     p: &mut Productions<I, B>,
     expr: ExprId,
@@ -459,6 +462,7 @@ fn refuse_unary_in_exp<I: Tokens, B: Bodies<I>>(
 }
 
 /// Records a node of `||` or `&&` whose left operand is one of `??`.
+#[inline(never)]
 pub fn check_nullish_left<I: Tokens, B: Bodies<I>>(
     input: &mut Buffer<I>,
     nodes: &NodesOf<B>,

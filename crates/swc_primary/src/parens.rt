@@ -63,6 +63,7 @@ pub(crate) fn check_paren_items<I: Tokens, B: Bodies<I>>(
 }
 
 /// Records each property `name = value` of the object literals among the items of a list, in their order.
+#[inline(never)]
 pub fn check_item_covers<I: Tokens, B: Bodies<I>>(
     input: &mut Buffer<I>,
     nodes: &NodesOf<B>,

@@ -133,6 +133,7 @@ fn word_kind(ctx: Context, word: &Word) -> PlainKind
 /// A primary expression in which no other stands (ECMA-262, 13.2): `this`, a function, a literal, a class, an
 /// identifier, `#` and a name, or a regular expression. Another token is refused as `TS1109`, at that token. `async`
 /// is an identifier, unless `function` stands behind it on its line.
+#[inline(never)]
 pub fn parse_plain_primary<I: Tokens, B: Bodies<I>>(p: &mut Productions<I, B>) -> PResult<ExprId>
     requires looked { Here I.model p.old.input p.old.input }
     requires plain { primary_kind (seen p.old.input) ≡ Plain }
@@ -289,6 +290,7 @@ pub fn parse_private_expr<I: Tokens, B: Bodies<I>>(p: &mut Productions<I, B>) ->
 /// What stands in parentheses, of a list from the one at `start` on: one expression by itself, or a sequence. A `=>`
 /// behind the list is refused first. An object literal among the items with a property `name = value` is recorded, and
 /// so is a comma behind the last one; an empty list is refused, and so is an expression behind dots.
+#[inline(never)]
 pub fn paren_items<I: Tokens, B: Bodies<I>>(
     p: &mut Productions<I, B>,
     start: Span,

@@ -1,5 +1,5 @@
 // The ring: the productions that call one another back (ECMA-262, 13), in the order of the standard.
-ghost use Rattle.std.specs.Prelude.{ℕ, ◌≡◌, ◌<◌, true, false, not, ◌&&◌, None, Some};
+ghost use Rattle.std.specs.Prelude.{ℕ, ◌≡◌, ◌<◌, true, false, not, ◌&&◌, None, Some, IsSome};
 ghost use Rattle.swc_arrows.specs.Answers.{body_at, body_of, MayBeArrow, MayBeOperand, ReadsArrow};
 ghost use Rattle.swc_arrows.specs.Readers.{arrow_behind};
 ghost use Rattle.swc_nodes.specs.Lists.{pats_parts, pat_trees};
@@ -21,7 +21,7 @@ ghost use Rattle.swc_grammar.specs.Symbols.{Pat, Element, PatElements, PatProps,
 ghost use Rattle.swc_nodes.specs.Pending.{all_pending, operand_parts, first_operand};
 ghost use Rattle.swc_nodes.specs.NodeParts.{expr_part};
 ghost use Rattle.swc_nodes.specs.GrowingNodes.{count, tree_at, first_at, From, Apart, start_at};
-ghost use Rattle.swc_operators.specs.Assignments.{assigns_from};
+ghost use Rattle.swc_operators.specs.Assignments.{assigns_from, yield_expr};
 ghost use Rattle.swc_operators.specs.Pending.{pending_reads};
 ghost use Rattle.swc_primary.specs.Methods.{method_function, method_shell};
 ghost use Rattle.swc_steps.specs.Args.{args_inside};
@@ -623,6 +623,7 @@ pub fn parse_base<I: Tokens, B: Bodies<I>>(
 /// Of a link, arguments are refused as `SuperCallOptional`; a name or brackets as `InvalidSuper`, and where `super` may
 /// have properties, with `no_call` as `InvalidSuperCall`.
 #[cycle(productions)]
+#[inline(never)]
 fn parse_super<I: Tokens, B: Bodies<I>>(
     p: &mut Productions<I, B>,
     start: Span,
@@ -661,6 +662,7 @@ fn parse_super<I: Tokens, B: Bodies<I>>(
 /// Binary operators of any precedence (ECMA-262, 13.13). Where the left operand was refused before an operator, that
 /// is recorded, and reading goes on there; elsewhere the refusal stands, and so does want of memory.
 #[cycle(productions)]
+#[inline(never)]
 pub fn parse_bin_expr<I: Tokens, B: Bodies<I>>(p: &mut Productions<I, B>) -> PResult<ExprId>
     ensures { Produces I.model B.is_faithful itself tree_of (run B.forms (sym (Level 1)))
         (count p.old.nodes) p.old result p.new }
@@ -784,17 +786,29 @@ pub fn parse_expr<I: Tokens, B: Bodies<I>>(p: &mut Productions<I, B>) -> PResult
 }
 
 /// An assignment expression (ECMA-262, 13.15), or an arrow function (15.3 and 15.9); or `yield` (15.5), and its
-/// operand, with the `*` before it or not, where one begins on the same line. In parameters outside a function `yield`
-/// is refused. A refusal of its operand is labelled with the place of `yield` and the `*`.
+/// operand.
 #[cycle(productions)]
 pub fn parse_assignment_expr<I: Tokens, B: Bodies<I>>(p: &mut Productions<I, B>) -> PResult<ExprId>
     ensures { Produces I.model B.is_faithful itself tree_of (run B.forms (sym Assign))
         (count p.old.nodes) p.old result p.new }
 {
     require_cur(&mut p.input)?;
-    if !is_yield_operator(&p.input) {
-        return parse_arrow_or_assign(p);
+    if is_yield_operator(&p.input) {
+        return parse_yield_expr(p);
     }
+    parse_arrow_or_assign(p)
+}
+
+/// `yield` (ECMA-262, 15.5), which is current, and its operand, with the `*` before it or not, where one begins on the
+/// same line. In parameters outside a function `yield` is refused. A refusal of its operand is labelled with the place
+/// of `yield` and the `*`.
+#[cycle(productions)]
+#[inline(never)]
+fn parse_yield_expr<I: Tokens, B: Bodies<I>>(p: &mut Productions<I, B>) -> PResult<ExprId>
+    requires { IsSome (current p.old.input) }
+    ensures { Produces I.model B.is_faithful itself tree_of (yield_expr B.forms)
+        (count p.old.nodes) p.old result p.new }
+{
     let start = p.cur_span();
     skip(&mut p.input);
     refuse_yield_param(&mut p.input)?;
@@ -863,6 +877,7 @@ fn parse_arrow_or_assign<I: Tokens, B: Bodies<I>>(p: &mut Productions<I, B>) -> 
 /// What an assignment expression begins with, where that may be an arrow function (ECMA-262, 15.3 and 15.9), as
 /// `parse_arrow_or_base` reads it; with the links behind it, and `++` or `--`, where it is no arrow function.
 #[cycle(productions)]
+#[inline(never)]
 fn parse_arrow_or_operand<I: Tokens, B: Bodies<I>>(
     p: &mut Productions<I, B>,
 ) -> PResult<ArrowOrBase>

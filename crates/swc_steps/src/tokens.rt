@@ -128,6 +128,7 @@ fn is_function(token: &Token) -> bool
 }
 
 /// Asks that a token is current, and no error.
+#[inline(never)]
 pub fn require_cur<I: Tokens>(input: &mut Buffer<I>) -> PResult<()>
     ensures fits { Fits I.model input.old result input.new }
     ensures token { OnOk result (at_token no_error (seen input.new) ≡ true) }
@@ -530,6 +531,7 @@ fn require_close<I: Tokens>(input: &mut Buffer<I>, close: Sign) -> PResult<()>
 }
 
 /// The refusal of what stands behind dots, labelled with their place; want of memory stays as it is.
+#[inline(never)]
 pub fn label_spread<I: Tokens>(
     alloc: Global,
     input: &Buffer<I>,
@@ -550,6 +552,7 @@ pub fn label_spread<I: Tokens>(
 
 /// The refusal of an operand of `yield`, labelled with the place of that, and of a `*` behind it; want of memory stays
 /// as it is.
+#[inline(never)]
 pub fn label_yield<I: Tokens>(alloc: Global, input: &Buffer<I>, span: Span, error: Error) -> Error
     requires { error.kind ≢ ParserFailed }
     ensures kind { result.kind ≢ ParserFailed }

@@ -16,7 +16,7 @@ use Rattle.swc_trees.proofs.Agreed.{flat-append}
 
 -- ---- lists
 
-split-even : {A : Type 0} (xs ys us vs : List A) → length xs ≡ length us → xs ++ ys ≡ us ++ vs → (xs ≡ us) × (ys ≡ vs)
+pub split-even : {A : Type 0} (xs ys us vs : List A) → length xs ≡ length us → xs ++ ys ≡ us ++ vs → (xs ≡ us) × (ys ≡ vs)
 split-even [] ys [] vs l e = (refl, e)
 split-even [] ys (u ∷ us) vs l e = cc
 split-even (x ∷ xs) ys [] vs l e = cc

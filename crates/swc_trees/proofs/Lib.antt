@@ -1,9 +1,11 @@
 pub mod Agreed
 pub mod Assembled
 pub mod Leaves
+pub mod Lifting
 pub mod Lighter
 pub mod Puts
 pub mod Rebuilt
+pub mod Shells
 pub mod Splits
-pub mod Taken
 pub mod Weights
+pub mod Whole

@@ -22,6 +22,9 @@ module _ {F C K : Type 0} where
   pub record Hooked (x : Expr F C K) : Type 0 where
     pub one_of : ((f : F) × (x ≡ e.Fn f)) ⊎ (((c : C) × (x ≡ e.Class c)) ⊎ ((s : Span) × (ps : Vec (Pat F C K) Global) × (b : Box (BlockStmtOrExpr (Box (Expr F C K) Global) K) Global) × (a : Bool) × (x ≡ e.Arrow s ps b a)))
 
+  pub record IsArrow (x : Expr F C K) : Type 0 where
+    pub one : (s : Span) × (ps : Vec (Pat F C K) Global) × (b : Box (BlockStmtOrExpr (Box (Expr F C K) Global) K) Global) × (a : Bool) × (x ≡ e.Arrow s ps b a)
+
   -- none of those, and none of the operations with several fields that are put in before the others
   pub record Short (x : Expr F C K) : Type 0 where
     pub no_fn : (f : F) → x ≡ e.Fn f → ⊥

@@ -50,10 +50,7 @@ module _ {F C K : Type 0} (fun_at : F → Span) (class_at : C → Span) (block_a
   abbrev pub Stand : (ℕ → Tree F C K) → List Part → List (Built F C K) → Type 0
   Stand at ps bs = map built_tree bs ≡ map (λ p. at p.at) ps
 
-  -- a tree is what a part is, and stands for what is given for it
-  abbrev pub IsFor : (ℕ → Tree F C K) → Part → Built F C K → Type 0
-  IsFor at p b = (built_kind b ≡ part_kind p) × (built_tree b ≡ at p.at)
-
+  -- the trees are what the parts are, and stand for what is given for them
   abbrev pub AreFor : (ℕ → Tree F C K) → List Part → List (Built F C K) → Type 0
   AreFor at ps bs = (map built_kind bs ≡ map part_kind ps) × Stand at ps bs
 

@@ -1,6 +1,7 @@
 pub mod Boxed
 pub mod Building
 pub mod Kinds
+pub mod Lifting
 pub mod Moving
-pub mod Refusable
+pub mod Shells
 pub mod Splitting

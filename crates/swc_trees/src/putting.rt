@@ -1,11 +1,14 @@
-// Moves boxed trees into the nodes, behind all that there are. The first part of a node is put in first, as in the
-// source. What is moved leaves an empty tree behind; no text and no value of the hook is copied.
-ghost use Rattle.std.specs.Prelude.{◌≡◌, [], ◌∷◌, map, IfOk};
+// Moves boxed trees into the nodes, behind all that there are, by two loops, so that a tree may be as deep as it likes.
+// The first makes a node of each tree, the last tree first, in which the places of its parts in a list stand for them.
+// The second puts those nodes in, the last made first: so the parts of a node go in before it, the first part first, as
+// in the source. No text and no value of the hook is copied.
+ghost use Rattle.std.specs.Prelude.{◌≡◌, [], ◌∷◌, map, reverse, IfOk};
 ghost use Rattle.swc_ast.specs.Parts.{args_tree};
 ghost use Rattle.swc_nodes.specs.NodeParts.{expr_part, pat_part, args_parts};
 ghost use Rattle.swc_nodes.specs.GrowingNodes.{count, tree_at, Apart, Grows, Made};
 ghost use Rattle.swc_trees.specs.Building.{built_tree};
 ghost use Rattle.swc_trees.specs.Moving.{PutsIn, boxed_in, pat_in};
+ghost use Rattle.swc_trees.specs.Shells.{Reads};
 ghost use Rattle.swc_trees.specs.Splitting.{built_view, numbered};
 
 use crate::built::Built;
@@ -16,7 +19,7 @@ use swc_ast::expr::{Expr, ExprOrSpread};
 use swc_ast::pat::Pat;
 use swc_ast::spanned::Spanned;
 use swc_nodes::aside::Aside;
-use swc_nodes::node::{ExprId, PatId};
+use swc_nodes::node::{ExprId, Node, PatId};
 use swc_nodes::nodes::Nodes;
 use swc_nodes::renumbering::{Numbers, renumber_items};
 
@@ -58,12 +61,12 @@ pub fn put_args<F: Spanned + Drop, C: Spanned + Drop, K: Spanned + Drop>(
     let mut args = Aside(args);
     let mut parts = Vec::new(alloc);
     let mut items = split_all(alloc, &mut parts, &mut args.0)?;
-    let ids = put_all(nodes, alloc, &mut parts)?;
+    let ids = put_all(nodes, alloc, parts)?;
     renumber_items::<F, C, K>(&mut items, &Numbers { from: 0, ids });
     Ok(items)
 }
 
-/// Puts in a tree, and lets go of what is left of it.
+/// Puts in a tree.
 fn put_whole<F: Spanned + Drop, C: Spanned + Drop, K: Spanned + Drop>(
     nodes: &mut Nodes<F, C, K>,
     alloc: Global,
@@ -72,42 +75,56 @@ fn put_whole<F: Spanned + Drop, C: Spanned + Drop, K: Spanned + Drop>(
     ensures { PutsIn (λ i. numbered (built_view tree ∷ []) (i ∷ []))
         (λ at i. at i ≡ built_tree F.place C.place K.place tree) nodes.old result nodes.new }
 {
-    let mut tree = Aside(tree);
-    put(nodes, alloc, &mut tree.0)
+    let mut trees = Vec::new(alloc);
+    trees.push(tree)?;
+    let ids = put_all(nodes, alloc, trees)?;
+    Ok(ids[0])
 }
 
-/// Puts in a tree: its parts first, and then its node, in which the numbers of those take the place of theirs in the
-/// list that they were moved to.
-#[cycle(putting)]
-fn put<F: Spanned + Drop, C: Spanned + Drop, K: Spanned + Drop>(
-    nodes: &mut Nodes<F, C, K>,
-    alloc: Global,
-    tree: &mut Built<F, C, K>,
-) -> Result<usize, AllocError>
-    ensures { PutsIn (λ i. numbered (built_view tree.old ∷ []) (i ∷ []))
-        (λ at i. at i ≡ built_tree F.place C.place K.place tree.old) nodes.old result nodes.new }
-{
-    let mut parts = Vec::new(alloc);
-    let mut node = Aside(split(alloc, &mut parts, tree)?);
-    let ids = put_all(nodes, alloc, &mut parts)?;
-    node.0.renumber(&Numbers { from: 0, ids });
-    nodes.push(node.into_inner())
-}
-
-/// Puts in the trees of a list, and answers their numbers.
-#[cycle(putting)]
+/// Puts in the trees of a list, and answers their numbers. A node whose turn comes finds the numbers of its parts where
+/// the parts had been, and its own takes their place.
 fn put_all<F: Spanned + Drop, C: Spanned + Drop, K: Spanned + Drop>(
     nodes: &mut Nodes<F, C, K>,
     alloc: Global,
-    trees: &mut Vec<Built<F, C, K>>,
+    trees: Vec<Built<F, C, K>>,
 ) -> Result<Vec<usize>, AllocError>
-    ensures { PutsIn (λ y. numbered (map built_view trees.old.items) y.items)
-        (λ at y. map at y.items ≡ map (built_tree F.place C.place K.place) trees.old.items)
-        nodes.old result nodes.new }
+    ensures { PutsIn (λ y. numbered (map built_view trees.items) y.items)
+        (λ at y. map at y.items ≡ map (built_tree F.place C.place K.place) trees.items) nodes.old result nodes.new }
 {
-    let mut numbers = Vec::new(alloc);
-    for tree in trees.iter_mut() {
-        numbers.push(put(nodes, alloc, tree)?)?;
+    let mut shells = shells_of(alloc, trees)?;
+    let ids = Vec::new(alloc);
+    let mut numbers = Numbers { from: 0, ids };
+    while let Some(shell) = shells.pop() {
+        let Shell { mut node, from } = shell;
+        node.renumber(&numbers);
+        numbers.ids.truncate(from);
+        let number = nodes.push(node)?;
+        numbers.ids.push(number)?;
     }
-    Ok(numbers)
+    Ok(numbers.ids)
+}
+
+/// A node whose parts were moved to the end of a list, from the place `from` on: it holds them by their places.
+#[derive(Drop)]
+struct Shell<F, C, K> {
+    node: Node<F, C, K>,
+    from: usize,
+}
+
+/// The nodes of the trees of a list and of all their parts, each before those of its parts. The list holds what is due:
+/// the last tree leaves it, and its parts take its place.
+fn shells_of<F: Spanned + Drop, C: Spanned + Drop, K: Spanned + Drop>(
+    alloc: Global,
+    mut due: Vec<Built<F, C, K>>,
+) -> Result<Vec<Shell<F, C, K>>, AllocError>
+    ensures { IfOk result (λ shells. Reads F.place C.place K.place (reverse shells.items) [] due.items) }
+{
+    let mut shells = Vec::new(alloc);
+    while let Some(tree) = due.pop() {
+        let mut tree = Aside(tree);
+        let from = due.len();
+        let node = split(alloc, &mut due, &mut tree.0)?;
+        shells.push(Shell { node, from })?;
+    }
+    Ok(shells)
 }

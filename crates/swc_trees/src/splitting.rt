@@ -1,13 +1,21 @@
 // Moves the parts out of an expression, a pattern or a target, onto the end of a list, and answers its node, in which
 // their places in the list stand for them. The first part is moved first, as in the source. What is moved leaves an
 // empty tree behind; no text and no value of the hook is copied.
-ghost use Rattle.std.specs.Prelude.{map};
+ghost use Rattle.std.specs.Prelude.{◌≡◌, Bool, map};
+ghost use Rattle.std.specs.declared.alloc.Global.{Global};
+ghost use Rattle.std.specs.declared.boxed.Box.{Box};
+ghost use Rattle.std.specs.declared.vec.Vec.{Vec};
+ghost use Rattle.swc_ast.specs.declared.expr.BlockStmtOrExpr.{BlockStmtOrExpr};
+ghost use Rattle.swc_ast.specs.declared.expr.Expr.{Expr};
+ghost use Rattle.swc_ast.specs.declared.expr.Expr.TheVariants as e;
+ghost use Rattle.swc_ast.specs.declared.pat.Pat.{Pat};
+ghost use Rattle.swc_context.specs.declared.span.Span.{Span};
 ghost use Rattle.swc_ast.specs.Parts.{or_hole, item_tree, item_trees, callee_tree, args_tree, tpl_tree, body_tree};
 ghost use Rattle.swc_ast.specs.Parts.{rest_tree, simple_tree};
 ghost use Rattle.swc_ast.specs.Tree.{node, cons, nil, unary, update, bin, cond, assign, call, new, tagged, arrow};
 ghost use Rattle.swc_ast.specs.Tree.{await, yield, seq, default, array, object, trees};
 ghost use Rattle.swc_nodes.specs.NodeParts.{expr as as_expr, pat as as_pat, simple as as_simple, pattern as as_pattern};
-ghost use Rattle.swc_trees.specs.Boxed.{Hooked, Short};
+ghost use Rattle.swc_trees.specs.Boxed.{Hooked, IsArrow, Short};
 ghost use Rattle.swc_trees.specs.Splitting.{SplitsNode, built_view, target_view};
 ghost use Rattle.swc_trees.specs.Building.{built_tree};
 
@@ -76,9 +84,7 @@ fn split_expr<F: Spanned + Drop, C: Spanned + Drop, K: Spanned + Drop>(
     ensures { SplitsNode F.place C.place K.place as_expr (λ t. t.expr expr.old) built.old.items result built.new.items }
 {
     match expr {
-        Expr::Fn(_) | Expr::Class(_) | Expr::Arrow { .. } => {
-            split_hooked(alloc, built, mem::replace(expr, nothing()))
-        }
+        Expr::Fn(_) | Expr::Class(_) | Expr::Arrow { .. } => split_hooked(alloc, built, expr),
         Expr::Update {
             span,
             op,
@@ -116,20 +122,41 @@ fn split_expr<F: Spanned + Drop, C: Spanned + Drop, K: Spanned + Drop>(
 fn split_hooked<F: Spanned + Drop, C: Spanned + Drop, K: Spanned + Drop>(
     alloc: Global,
     built: &mut Vec<Built<F, C, K>>,
-    expr: Expr<F, C, K>,
+    expr: &mut Expr<F, C, K>,
 ) -> Result<Node<F, C, K>, AllocError>
-    requires { Hooked expr }
-    ensures { SplitsNode F.place C.place K.place as_expr (λ t. t.expr expr) built.old.items result built.new.items }
+    requires { Hooked expr.old }
+    ensures { SplitsNode F.place C.place K.place as_expr (λ t. t.expr expr.old) built.old.items result built.new.items }
 {
     match expr {
-        Expr::Fn(f) => Ok(Node::Fn(f)),
-        Expr::Class(c) => Ok(Node::Class(c)),
-        Expr::Arrow {
-            span,
-            mut params,
-            body,
-            is_async,
-        } => split_arrow(alloc, built, span, &mut params, body, is_async),
+        Expr::Fn(_) => match mem::replace(expr, nothing()).fn_expr() {
+            Some(function) => Ok(Node::Fn(function)),
+            None => unreachable!(),
+        },
+        Expr::Class(_) => match mem::replace(expr, nothing()).class() {
+            Some(class) => Ok(Node::Class(class)),
+            None => unreachable!(),
+        },
+        Expr::Arrow { .. } => {
+            let (span, is_async) = arrow_head(expr);
+            match mem::replace(expr, nothing()).arrow() {
+                Some((mut params, body)) => {
+                    split_arrow(alloc, built, span, &mut params, body, is_async)
+                }
+                None => unreachable!(),
+            }
+        }
+        _ => unreachable!(),
+    }
+}
+
+/// The place of an arrow function, and whether it is async.
+fn arrow_head<F, C, K>(expr: &Expr<F, C, K>) -> (Span, bool)
+    requires { IsArrow expr.now }
+    ensures { (s : Span) (ps : Vec (Pat F C K) Global) (b : Box (BlockStmtOrExpr (Box (Expr F C K) Global) K) Global)
+        (a : Bool) → expr.now ≡ e.Arrow s ps b a → result ≡ (s, a) }
+{
+    match expr {
+        Expr::Arrow { span, is_async, .. } => (*span, *is_async),
         _ => unreachable!(),
     }
 }

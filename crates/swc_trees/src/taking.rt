@@ -1,8 +1,7 @@
-// Moves boxed trees out of the nodes. The last part of a node is taken first, so that all that a
-// node holds leaves it by a plain move.
-ghost use Rattle.std.specs.Prelude.{◌≡◌, ℕ, true, [], ◌∷◌, map, IfOk};
+// Moves boxed trees out of the nodes, by two loops: one takes the nodes out, the last part of each first, and one makes
+// the trees, each from the trees of its parts. So no recursion goes as deep as a tree.
+ghost use Rattle.std.specs.Prelude.{◌≡◌, true, [], map, reverse, IfOk};
 ghost use Rattle.swc_ast.specs.Parts.{prop_name_tree, args_tree, param_tree, tpl_tree};
-ghost use Rattle.swc_ast.specs.Tree.{Tree};
 ghost use Rattle.swc_nodes.specs.Lists.{exprs_parts, pats_parts};
 ghost use Rattle.swc_nodes.specs.NodeTree.{node_tree};
 ghost use Rattle.swc_nodes.specs.NumberedTrees.{floor};
@@ -10,15 +9,16 @@ ghost use Rattle.swc_nodes.specs.NodeParts.{form, view_ok, slots, expr_part, pat
 ghost use Rattle.swc_nodes.specs.NodeParts.{args_parts, flat, for_head_parts, param_parts, pat_prop_parts};
 ghost use Rattle.swc_nodes.specs.GrowingNodes.{count, seat_at, bare_at, first_at, Apart, From, Left};
 ghost use Rattle.swc_nodes.specs.Walking.{part_of};
-ghost use Rattle.swc_trees.specs.Building.{part_kind, built_kind, built_tree, Stand, IsFor, AreFor};
+ghost use Rattle.swc_trees.specs.Building.{part_kind, built_kind, built_tree, AreFor, Offers, Assembled};
+ghost use Rattle.swc_trees.specs.Lifting.{Reads};
 ghost use Rattle.swc_trees.specs.Moving.{TakesOut, boxed_in, pat_in, prop_or_spread_in, prop_node_as};
 ghost use Rattle.swc_trees.specs.Moving.{pat_prop_in, pat_prop_node_as, IsHead};
 
 use crate::assembling::{assemble_expr, assemble_pat, assemble_pattern, assemble_simple};
-use crate::built::Built;
+use crate::built::{Built, pop_expr, pop_pat};
 use crate::items::{Item, all};
 use crate::pieces::template;
-use crate::refusable::{boxed, push_to, reversed};
+use crate::refusable::boxed;
 use std::alloc::{AllocError, Global};
 use swc_ast::expr::{AssignTarget, Expr, ExprOrSpread, Tpl};
 use swc_ast::for_head::ForHead;
@@ -26,10 +26,17 @@ use swc_ast::function::Param;
 use swc_ast::pat::{ObjectPatProp, Pat};
 use swc_ast::prop::{ComputedPropName, PropName, PropOrSpread};
 use swc_ast::spanned::Spanned;
-use swc_nodes::apart::{PartId, parts_of};
+use swc_nodes::apart::{PartId, Parts, parts_of};
 use swc_nodes::aside::Aside;
 use swc_nodes::node::{ExprId, ForHeadId, Node, PatId, PatPropNode, PropNode, TargetNode};
 use swc_nodes::nodes::Nodes;
+
+/// A node that was taken out, and the part that it was taken for.
+#[derive(Drop)]
+pub(crate) struct Lifted<F, C, K> {
+    part: PartId,
+    node: Node<F, C, K>,
+}
 
 /// Moves an expression out of the nodes, and lets go of all behind it.
 pub fn take_expr<F: Spanned + Drop, C: Spanned + Drop, K: Spanned + Drop>(
@@ -41,10 +48,9 @@ pub fn take_expr<F: Spanned + Drop, C: Spanned + Drop, K: Spanned + Drop>(
     ensures left { Left (first_at nodes.old id.0) nodes.old nodes.new }
     ensures moved { IfOk result (λ e. boxed_in nodes.old e ≡ bare_at nodes.old id.0) }
 {
-    match take(nodes, alloc, PartId::Expr(id))? {
-        Built::Expr(expr) => Ok(expr),
-        _ => unreachable!(),
-    }
+    let parts = parts_of(alloc, &id)?;
+    let mut built = take_all(nodes, alloc, parts)?;
+    Ok(pop_expr(&mut built, id))
 }
 
 /// Moves a pattern out of the nodes, and lets go of all behind it.
@@ -57,10 +63,9 @@ pub fn take_pat<F: Spanned + Drop, C: Spanned + Drop, K: Spanned + Drop>(
     ensures left { Left (first_at nodes.old id.0) nodes.old nodes.new }
     ensures moved { IfOk result (λ p. pat_in nodes.old p ≡ bare_at nodes.old id.0) }
 {
-    match take(nodes, alloc, PartId::Pat(id))? {
-        Built::Pat(pat) => Ok(pat),
-        _ => unreachable!(),
-    }
+    let parts = parts_of(alloc, &id)?;
+    let mut built = take_all(nodes, alloc, parts)?;
+    Ok(pop_pat(&mut built, id))
 }
 
 /// Moves what the head of a `for` begins with out of the nodes, and lets go of all behind it.
@@ -203,67 +208,75 @@ pub fn take_tpl<F: Spanned + Drop, C: Spanned + Drop, K: Spanned + Drop>(
     template(alloc, &mut built, tpl)
 }
 
-/// Takes out a part of a node.
-#[cycle(taking)]
-fn take<F: Spanned + Drop, C: Spanned + Drop, K: Spanned + Drop>(
-    nodes: &mut Nodes<F, C, K>,
-    alloc: Global,
-    part: PartId,
-) -> Result<Built<F, C, K>, AllocError>
-    requires { Apart 0 nodes.old (part_of part ∷ []) }
-    ensures { TakesOut (part_of part ∷ [])
-        (λ at y. IsFor F.place C.place K.place at (part_of part) y) nodes.old result nodes.new }
-{
-    let node = Aside(nodes.pop_at(part.number()));
-    let parts = parts_of(alloc, &node.0)?;
-    let built = take_all(nodes, alloc, parts)?;
-    assemble(alloc, part, node.into_inner(), built)
-}
-
-/// Takes out parts of a node, the last first.
-#[cycle(taking)]
+/// Takes out parts of a node, and all that they hold: first the nodes, of which then the trees are made.
 fn take_all<F: Spanned + Drop, C: Spanned + Drop, K: Spanned + Drop>(
     nodes: &mut Nodes<F, C, K>,
     alloc: Global,
-    mut parts: Vec<PartId>,
+    parts: Vec<PartId>,
 ) -> Result<Vec<Built<F, C, K>>, AllocError>
     requires { Apart 0 nodes.old (map part_of parts.items) }
     ensures { TakesOut (map part_of parts.items)
         (λ at y. AreFor F.place C.place K.place at (map part_of parts.items) y.items) nodes.old result nodes.new }
 {
-    let mut taken = Ok(Vec::new(alloc));
-    while let Some(part) = parts.pop() {
-        let tree = take(nodes, alloc, part);
-        taken = push_to(taken, tree);
+    let mut lifted = lift(nodes, alloc, parts)?;
+    let mut built = Vec::new(alloc);
+    while let Some(Lifted { part, node }) = lifted.pop() {
+        let tree = assemble(alloc, &mut built, part, node)?;
+        built.push(tree)?;
     }
-    reversed(taken)
+    Ok(built)
 }
 
-/// Makes a tree of a node and of the trees of its parts.
+/// Takes nodes out for parts, and for the parts of those nodes, the last first, until none is due. So each node stands
+/// before those of its parts, and from the last node on each finds the trees of its parts made.
+fn lift<F: Spanned + Drop, C: Spanned + Drop, K: Spanned + Drop>(
+    nodes: &mut Nodes<F, C, K>,
+    alloc: Global,
+    parts: Vec<PartId>,
+) -> Result<Vec<Lifted<F, C, K>>, AllocError>
+    requires { Apart 0 nodes.old (map part_of parts.items) }
+    ensures left { Left (floor (seat_at nodes.old) (count nodes.old) (map part_of parts.items)) nodes.old nodes.new }
+    ensures lifted { IfOk result (λ v. Reads F.place C.place K.place (bare_at nodes.old) (reverse v.items) []
+        (map part_of parts.items)) }
+{
+    let mut due = parts;
+    let mut lifted = Vec::new(alloc);
+    while let Some(part) = due.pop() {
+        let node = Aside(nodes.pop_at(part.number()));
+        node.0.list(&mut due)?;
+        lifted.push(Lifted {
+            part,
+            node: node.into_inner(),
+        })?;
+    }
+    Ok(lifted)
+}
+
+/// Makes a tree of a node and of the trees of its parts, which are the last of a list.
 fn assemble<F: Spanned + Drop, C: Spanned + Drop, K: Spanned + Drop>(
     alloc: Global,
+    built: &mut Vec<Built<F, C, K>>,
     part: PartId,
     node: Node<F, C, K>,
-    mut built: Vec<Built<F, C, K>>,
 ) -> Result<Built<F, C, K>, AllocError>
+    requires offers { Offers (slots node) built.old.items }
     requires view { view_ok (part_of part).view (form node) ≡ true }
-    requires kinds { map built_kind built.items ≡ map part_kind (slots node) }
     ensures kind { IfOk result (λ y. built_kind y ≡ part_kind (part_of part)) }
-    ensures tree { IfOk result (λ y. (at : ℕ → Tree F C K) → Stand F.place C.place K.place at (slots node) built.items
-        → built_tree F.place C.place K.place y ≡ node_tree F.place C.place K.place at node) }
+    ensures tree { IfOk result (λ y. Assembled F.place C.place K.place (slots node) (λ at. built_tree F.place C.place
+        K.place y ≡ node_tree F.place C.place K.place at node) built.old.items built.new.items) }
 {
     match part {
         PartId::Expr(_) => {
-            let expr = boxed(alloc, assemble_expr(alloc, &mut built, node))?;
+            let expr = boxed(alloc, assemble_expr(alloc, built, node))?;
             Ok(Built::Expr(expr))
         }
-        PartId::Pat(_) => Ok(Built::Pat(assemble_pat(alloc, &mut built, node)?)),
+        PartId::Pat(_) => Ok(Built::Pat(assemble_pat(alloc, built, node)?)),
         PartId::Target(TargetNode::Simple(_)) => {
-            let target = assemble_simple(alloc, &mut built, node)?;
+            let target = assemble_simple(alloc, built, node)?;
             Ok(Built::Target(AssignTarget::Simple(target)))
         }
         PartId::Target(TargetNode::Pat(_)) => {
-            Ok(Built::Target(assemble_pattern(alloc, &mut built, node)?))
+            Ok(Built::Target(assemble_pattern(alloc, built, node)?))
         }
     }
 }

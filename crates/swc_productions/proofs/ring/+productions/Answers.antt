@@ -1832,6 +1832,19 @@ parse_assignment_expr-returns-in_err-require_cur g t c =
     m.refused c.from_residual.ensures.1
     (s.unheard_unfit g.met.I.Tokens.laws (λ x ts h. rule.assign_bad _ x ts h) c.in_err-require_cur.ensures.fits) (grows-same _)
 
+pub parse_assignment_expr-parse_yield_expr-requires : goal.parse_assignment_expr-parse_yield_expr-requires
+parse_assignment_expr-parse_yield_expr-requires g t c =
+    let falls = c.require_cur.ensures.falls in
+    let some = c.is_yield_operator.ensures.some c.if-is_yield_operator.true in
+    λ κs outlives. (search rules, (search rules, (search rules, (search rules, (search rules, (search rules, some))))))
+
+pub parse_assignment_expr-returns-then-is_yield_operator : goal.parse_assignment_expr-returns-then-is_yield_operator
+parse_assignment_expr-returns-then-is_yield_operator g t c =
+    m.after {m = record c.args.p.now { input = c.require_cur.new.input }} c.parse_yield_expr.result
+    (s.on_seen {g = yield_expr g.B.BodyForms.forms} c.in_ok-require_cur.ensures.fits (λ x ts same e. assign.yield_picked _ x ts
+    (ap (λ v. at_token is_yield v && x.context.in_generator) e ∙ ap (λ v. at_token is_yield (seen c.require_cur.new.input) && v.context.in_generator) same ∙ sym c.is_yield_operator.ensures.value ∙ c.if-is_yield_operator.true)))
+    (grows-same _) c.parse_yield_expr.ensures
+
 pub parse_assignment_expr-parse_arrow_or_assign-requires : goal.parse_assignment_expr-parse_arrow_or_assign-requires
 parse_assignment_expr-parse_arrow_or_assign-requires g t c =
     let falls = c.require_cur.ensures.falls in
@@ -1851,7 +1864,7 @@ parse_assignment_expr-parse_arrow_or_assign-requires g t c =
                   opening.looked c.in_ok-require_cur.ensures.fits,
                   (
                     c.in_ok-require_cur.ensures.token,
-                    sym c.is_yield_operator.ensures.value ∙ c.if-not-is_yield_operator.true,
+                    sym c.is_yield_operator.ensures.value ∙ c.if-is_yield_operator.false,
                   ),
                 ),
               ),
@@ -1861,68 +1874,54 @@ parse_assignment_expr-parse_arrow_or_assign-requires g t c =
       ),
     )
 
-pub parse_assignment_expr-returns-then-not-is_yield_operator : goal.parse_assignment_expr-returns-then-not-is_yield_operator
-parse_assignment_expr-returns-then-not-is_yield_operator g t c =
+pub parse_assignment_expr-returns : goal.parse_assignment_expr-returns
+parse_assignment_expr-returns g t c =
     m.after {m = record c.args.p.now { input = c.require_cur.new.input }} c.parse_arrow_or_assign.result
     (s.on_seen {g = run _ (at Assign)} c.in_ok-require_cur.ensures.fits (λ x ts same e. refl)) (grows-same _) c.parse_arrow_or_assign.ensures
 
-pub parse_assignment_expr-returns-in_err-refuse_yield_param : goal.parse_assignment_expr-returns-in_err-refuse_yield_param
-parse_assignment_expr-returns-in_err-refuse_yield_param g t c =
-    let seen = s.on_seen {g = yield_expr g.B.BodyForms.forms} c.in_ok-require_cur.ensures.fits (λ x ts same e. assign.yield_picked _ x ts
-    (ap (λ v. at_token is_yield v && x.context.in_generator) e ∙ ap (λ v. at_token is_yield (seen c.require_cur.new.input) && v.context.in_generator) same ∙ sym c.is_yield_operator.ensures.value ∙ c.if-not-is_yield_operator.false)) in
+pub parse_yield_expr-returns-in_err-refuse_yield_param : goal.parse_yield_expr-returns-in_err-refuse_yield_param
+parse_yield_expr-returns-in_err-refuse_yield_param g t c =
     let first = c.skip.ensures.took.1 in
     let h = c.in_err-refuse_yield_param.ensures.refuses in
-    m.passed c.from_residual-in_err-refuse_yield_param.ensures.1
-    (m.after {m = record c.args.p.now { input = c.require_cur.new.input }} (Err _) seen (grows-same _)
-    (m.no (s.unheard_after (s.on_took {g = yield_tail _ (plain first.was).span} g.met.I.Tokens.laws first (assign.yield_opens _ (plain first.was)))
-    (record { refuses = h.0; none = λ n sure loud ts k. assign.yield_ill _ (plain first.was).span (scope g.I.Tokens.model c.skip.new.input) ts h.1 })) (grows-same _)))
+    m.refused c.from_residual.ensures.1
+    (s.unheard_after (s.on_took {g = yield_tail _ (plain first.was).span} g.met.I.Tokens.laws first (assign.yield_opens _ (plain first.was)))
+    (record { refuses = h.0; none = λ n sure loud ts k. assign.yield_ill _ (plain first.was).span (scope g.I.Tokens.model c.skip.new.input) ts h.1 })) (grows-same _)
 
-pub parse_assignment_expr-returns-in_err-goes_on_yield : goal.parse_assignment_expr-returns-in_err-goes_on_yield
-parse_assignment_expr-returns-in_err-goes_on_yield g t c =
-    let seen = s.on_seen {g = yield_expr g.B.BodyForms.forms} c.in_ok-require_cur.ensures.fits (λ x ts same e. assign.yield_picked _ x ts
-    (ap (λ v. at_token is_yield v && x.context.in_generator) e ∙ ap (λ v. at_token is_yield (seen c.require_cur.new.input) && v.context.in_generator) same ∙ sym c.is_yield_operator.ensures.value ∙ c.if-not-is_yield_operator.false)) in
-    m.passed c.from_residual-in_err-goes_on_yield.ensures.1
-    (m.after {m = record c.args.p.now { input = c.require_cur.new.input }} (Err _) seen (grows-same _)
-    (m.no (s.unheard_memory (s.forgoes_later (s.leads_then (s.took_leads g.met.I.Tokens.laws c.skip.ensures.took.1) (s.same_leads g.met.I.Tokens.laws c.in_ok-refuse_yield_param.ensures.passes.0)) c.in_err-goes_on_yield.ensures.looks)) (grows-same _)))
+pub parse_yield_expr-returns-in_err-goes_on_yield : goal.parse_yield_expr-returns-in_err-goes_on_yield
+parse_yield_expr-returns-in_err-goes_on_yield g t c =
+    m.refused c.from_residual-in_err-goes_on_yield.ensures.1
+    (s.unheard_memory (s.forgoes_later (s.leads_then (s.took_leads g.met.I.Tokens.laws c.skip.ensures.took.1) (s.same_leads g.met.I.Tokens.laws c.in_ok-refuse_yield_param.ensures.passes.0)) c.in_err-goes_on_yield.ensures.looks)) (grows-same _)
 
-pub parse_assignment_expr-returns-then-not-branch : goal.parse_assignment_expr-returns-then-not-branch
-parse_assignment_expr-returns-then-not-branch g t c =
-    let seen = s.on_seen {g = yield_expr g.B.BodyForms.forms} c.in_ok-require_cur.ensures.fits (λ x ts same e. assign.yield_picked _ x ts
-    (ap (λ v. at_token is_yield v && x.context.in_generator) e ∙ ap (λ v. at_token is_yield (seen c.require_cur.new.input) && v.context.in_generator) same ∙ sym c.is_yield_operator.ensures.value ∙ c.if-not-is_yield_operator.false)) in
+pub parse_yield_expr-returns-then-not-branch : goal.parse_yield_expr-returns-then-not-branch
+parse_yield_expr-returns-then-not-branch g t c =
     let first = c.skip.ensures.took.1 in
     let start = c.cur_span-start.result in
     let place = s.place_was first c.cur_span-start.result c.cur_span-start.ensures in
     let same_at = s.leads_then (s.same_leads g.met.I.Tokens.laws c.in_ok-refuse_yield_param.ensures.passes.0) (s.here_leads c.in_ok-goes_on_yield.ensures.looks) in
-    m.after {m = record c.args.p.now { input = c.require_cur.new.input }} c.made.result seen (grows-same _)
-    (m.node _ c.yield_alone-node.result c.made.result (omega arith) c.yield_alone-node.ensures.made c.made.ensures.ok c.made.ensures.refused (grows-same _) c.yield_alone-node.ensures.grows
+    m.node _ c.yield_alone-node.result c.made.result (omega arith) c.yield_alone-node.ensures.made c.made.ensures.ok c.made.ensures.refused (grows-same _) c.yield_alone-node.ensures.grows
     (s.heard_first g.met.I.Tokens.laws first (λ x ts. assign.yield_opens _ (plain first.was) x ts ∙ ap (λ v. yield_tail g.B.BodyForms.forms v x ts) (sym place))
     (s.on_then (s.on_same {f = yield_tail _ start} g.met.I.Tokens.laws c.in_ok-refuse_yield_param.ensures.passes.0)
     (s.on_seen {g = s.give (yield_e start false hole_e)} c.in_ok-goes_on_yield.ensures.looks (λ x ts same e.
     assign.yield_well _ start x ts (ap (λ v. yield_ok v.context) (same ∙ s.read_scope g.met.I.Tokens.laws same_at.read) ∙ c.in_ok-refuse_yield_param.ensures.passes.1)
-    ∙ assign.yield_stays _ start x ts (ap goes_on_yield_at e ∙ sym c.in_ok-goes_on_yield.ensures.value ∙ c.if-not-branch.true))))))
+    ∙ assign.yield_stays _ start x ts (ap goes_on_yield_at e ∙ sym c.in_ok-goes_on_yield.ensures.value ∙ c.if-not-branch.true)))))
 
-pub parse_assignment_expr-returns-in_err-star : goal.parse_assignment_expr-returns-in_err-star
-parse_assignment_expr-returns-in_err-star g t c =
-    let seen = s.on_seen {g = yield_expr g.B.BodyForms.forms} c.in_ok-require_cur.ensures.fits (λ x ts same e. assign.yield_picked _ x ts
-    (ap (λ v. at_token is_yield v && x.context.in_generator) e ∙ ap (λ v. at_token is_yield (seen c.require_cur.new.input) && v.context.in_generator) same ∙ sym c.is_yield_operator.ensures.value ∙ c.if-not-is_yield_operator.false)) in
+pub parse_yield_expr-returns-in_err-star : goal.parse_yield_expr-returns-in_err-star
+parse_yield_expr-returns-in_err-star g t c =
     let first = c.skip.ensures.took.1 in
     let start = c.cur_span-start.result in
     let place = s.place_was first c.cur_span-start.result c.cur_span-start.ensures in
     let same_at = s.leads_then (s.same_leads g.met.I.Tokens.laws c.in_ok-refuse_yield_param.ensures.passes.0) (s.here_leads c.in_ok-goes_on_yield.ensures.looks) in
-    m.passed c.from_residual-in_err-star.ensures.1
-    (m.after {m = record c.args.p.now { input = c.require_cur.new.input }} (Err _) seen (grows-same _)
-    (m.no (s.unheard_after
+    m.refused c.from_residual-in_err-star.ensures.1
+    (s.unheard_after
     (s.on_then (s.on_took {g = yield_tail _ start} g.met.I.Tokens.laws first (λ x ts. assign.yield_opens _ (plain first.was) x ts ∙ ap (λ v. yield_tail g.B.BodyForms.forms v x ts) (sym place)))
     (s.on_then (s.on_same {f = yield_tail _ start} g.met.I.Tokens.laws c.in_ok-refuse_yield_param.ensures.passes.0)
     (s.on_seen {g = yield_operand _ start} c.in_ok-goes_on_yield.ensures.looks (λ x ts same e.
     assign.yield_well _ start x ts (ap (λ v. yield_ok v.context) (same ∙ s.read_scope g.met.I.Tokens.laws same_at.read) ∙ c.in_ok-refuse_yield_param.ensures.passes.1)
     ∙ assign.yield_goes _ start x ts (ap goes_on_yield_at e ∙ sym c.in_ok-goes_on_yield.ensures.value ∙ c.if-not-branch.false)))))
-    (s.unheard_call _ (assign.yield_operand_splits _ start) (c.in_err-star.ensures.eats g.B.Bodies.is_faithful))) (grows-same _)))
+    (s.unheard_call _ (assign.yield_operand_splits _ start) (c.in_err-star.ensures.eats g.B.Bodies.is_faithful))) (grows-same _)
 
-pub parse_assignment_expr-returns-in-Ok : goal.parse_assignment_expr-returns-in-Ok
-parse_assignment_expr-returns-in-Ok g t c =
-    let seen = s.on_seen {g = yield_expr g.B.BodyForms.forms} c.in_ok-require_cur.ensures.fits (λ x ts same e. assign.yield_picked _ x ts
-    (ap (λ v. at_token is_yield v && x.context.in_generator) e ∙ ap (λ v. at_token is_yield (seen c.require_cur.new.input) && v.context.in_generator) same ∙ sym c.is_yield_operator.ensures.value ∙ c.if-not-is_yield_operator.false)) in
+pub parse_yield_expr-returns-in-Ok : goal.parse_yield_expr-returns-in-Ok
+parse_yield_expr-returns-in-Ok g t c =
     let first = c.skip.ensures.took.1 in
     let start = c.cur_span-start.result in
     let place = s.place_was first c.cur_span-start.result c.cur_span-start.ensures in
@@ -1931,8 +1930,7 @@ parse_assignment_expr-returns-in-Ok g t c =
     let e = tree_of c.parse_assignment_expr.new.p.nodes c.in-Ok.arg in
     let end = end_at c.parse_assignment_expr.new.p.nodes c.in-Ok.arg.0 in
     let given = ap (λ b. yield_e (from_to start.lo end) b e) (sym (assign.given_some star) ∙ sym c.is_some.ensures) in
-    m.after {m = record c.args.p.now { input = c.require_cur.new.input }} c.made-in-Ok.result seen (grows-same _)
-    (m.after {p = record c.args.p.now { input = c.require_cur.new.input }} {m = record c.args.p.now { input = c.goes_on_yield.new.input }} c.made-in-Ok.result
+    m.after {m = record c.args.p.now { input = c.goes_on_yield.new.input }} c.made-in-Ok.result
     (s.on_then (s.on_took {g = yield_tail _ start} g.met.I.Tokens.laws first (λ x ts. assign.yield_opens _ (plain first.was) x ts ∙ ap (λ v. yield_tail g.B.BodyForms.forms v x ts) (sym place)))
     (s.on_then (s.on_same {f = yield_tail _ start} g.met.I.Tokens.laws c.in_ok-refuse_yield_param.ensures.passes.0)
     (s.on_seen {g = yield_operand _ start} c.in_ok-goes_on_yield.ensures.looks (λ x ts same e.
@@ -1943,19 +1941,16 @@ parse_assignment_expr-returns-in-Ok g t c =
     (s.heard_answer given (s.heard_after (s.on_call _ (assign.yield_operand_splits _ start) (s.eats_on g.B.Bodies.is_faithful is_star star _ _ (c.in_ok-star.ensures.eats g.B.Bodies.is_faithful)))
     (s.heard_call_read (λ x q. Some (yield_e (to start (span_of q.0)) (is_some star) q.0, q.1)) (λ x ts. refl)
     (λ x ts us h y ys. ap (λ v. Some (yield_e (from_to start.lo v) (is_some star) e, ys))
-    (sym (ending.ended _ g.met.B.Bodies.lawful c.in-Ok.arg Assign x ts us c.in-Ok.ensures.from h))) c.in-Ok.ensures.reads)))))
+    (sym (ending.ended _ g.met.B.Bodies.lawful c.in-Ok.arg Assign x ts us c.in-Ok.ensures.from h))) c.in-Ok.ensures.reads))))
 
-pub parse_assignment_expr-returns-in-Err : goal.parse_assignment_expr-returns-in-Err
-parse_assignment_expr-returns-in-Err g t c =
-    let seen = s.on_seen {g = yield_expr g.B.BodyForms.forms} c.in_ok-require_cur.ensures.fits (λ x ts same e. assign.yield_picked _ x ts
-    (ap (λ v. at_token is_yield v && x.context.in_generator) e ∙ ap (λ v. at_token is_yield (seen c.require_cur.new.input) && v.context.in_generator) same ∙ sym c.is_yield_operator.ensures.value ∙ c.if-not-is_yield_operator.false)) in
+pub parse_yield_expr-returns-in-Err : goal.parse_yield_expr-returns-in-Err
+parse_yield_expr-returns-in-Err g t c =
     let first = c.skip.ensures.took.1 in
     let start = c.cur_span-start.result in
     let place = s.place_was first c.cur_span-start.result c.cur_span-start.ensures in
     let same_at = s.leads_then (s.same_leads g.met.I.Tokens.laws c.in_ok-refuse_yield_param.ensures.passes.0) (s.here_leads c.in_ok-goes_on_yield.ensures.looks) in
     let star = c.in_ok-star.star in
-    m.after {m = record c.args.p.now { input = c.require_cur.new.input }} (Err _) seen (grows-same _)
-    (m.after {p = record c.args.p.now { input = c.require_cur.new.input }} {m = record c.args.p.now { input = c.goes_on_yield.new.input }} (Err _)
+    m.after {m = record c.args.p.now { input = c.goes_on_yield.new.input }} (Err _)
     (s.on_then (s.on_took {g = yield_tail _ start} g.met.I.Tokens.laws first (λ x ts. assign.yield_opens _ (plain first.was) x ts ∙ ap (λ v. yield_tail g.B.BodyForms.forms v x ts) (sym place)))
     (s.on_then (s.on_same {f = yield_tail _ start} g.met.I.Tokens.laws c.in_ok-refuse_yield_param.ensures.passes.0)
     (s.on_seen {g = yield_operand _ start} c.in_ok-goes_on_yield.ensures.looks (λ x ts same e.
@@ -1965,7 +1960,7 @@ parse_assignment_expr-returns-in-Err g t c =
     (m.no (s.unheard_as c.label_yield.result c.label_yield.ensures.kind c.label_yield.ensures.memory
     (s.unheard_after (s.on_call _ (assign.yield_operand_splits _ start) (s.eats_on g.B.Bodies.is_faithful is_star star _ _ (c.in_ok-star.ensures.eats g.B.Bodies.is_faithful)))
     (s.unheard_call (λ x q. Some (yield_e (to start (span_of q.0)) (is_some star) q.0, q.1)) (λ x ts. refl) c.in-Err.ensures.reads)))
-    c.parse_assignment_expr.ensures.grows))
+    c.parse_assignment_expr.ensures.grows)
 
 pub parse_arrow_or_assign-parse_operators-requires-in-Base : goal.parse_arrow_or_assign-parse_operators-requires-in-Base
 parse_arrow_or_assign-parse_operators-requires-in-Base g t c =

@@ -116,6 +116,9 @@ decreases-parse_expr-loop-exprs g l = to_come g.I.Tokens.model l.p.input
 abbrev pub decreases-parse_assignment_expr : goal.decreases-parse_assignment_expr
 decreases-parse_assignment_expr g l = to_come g.I.Tokens.model l.p.now.input * 20 + 13
 
+abbrev pub decreases-parse_yield_expr : goal.decreases-parse_yield_expr
+decreases-parse_yield_expr g l = to_come g.I.Tokens.model l.p.now.input * 20 + 12
+
 abbrev pub decreases-parse_arrow_or_assign : goal.decreases-parse_arrow_or_assign
 decreases-parse_arrow_or_assign g l = to_come g.I.Tokens.model l.p.now.input * 20 + 12
 

@@ -30,7 +30,4 @@ pub returns-in_default : goal.returns-in_default
 returns-in_default g c = c.split_short.ensures
 
 pub split_hooked-requires : goal.split_hooked-requires
-split_hooked-requires g c = subst (λ v. Hooked v) (sym c.replace.ensures.value) (record { one_of = c.in-Fn.is })
-
-pub returns-in-Fn : goal.returns-in-Fn
-returns-in-Fn g c = split-tree c.split_hooked.ensures (ap (expr_tree _ _ _ g.F.Spanned.place g.C.Spanned.place g.K.Spanned.place) c.replace.ensures.value)
+split_hooked-requires g c = record { one_of = c.in-Fn.is }

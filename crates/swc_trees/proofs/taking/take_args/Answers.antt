@@ -6,7 +6,7 @@ use Rattle.swc_nodes.specs.NodeTree.{expr_of}
 use Rattle.swc_nodes.specs.NodeParts.{args_parts}
 use Rattle.swc_nodes.specs.GrowingNodes.{bare_at}
 use Rattle.swc_trees.proofs.Rebuilt.{left-none, left-piece, piece-offered, piece-made}
-use Rattle.swc_trees.proofs.Taken.{if_ok-as}
+use Rattle.swc_trees.proofs.Rebuilt.{if_ok-as}
 use Rattle.swc_trees.proofs.taking.take_args.Goals as goal
 
 pub returns-in_err-parts-clause-left : goal.returns-in_err-parts-clause-left

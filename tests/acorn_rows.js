@@ -1,0 +1,57 @@
+// Rows of tables in tests, and what is said of those that differ.
+'use strict';
+
+const { readFileSync } = require('fs');
+const { spawnSync } = require('child_process');
+
+/** The text of a table: the constant of the name in the file, between `r"` or `r#"` and the end of that. */
+function rowsOf(file, name) {
+  const found = new RegExp(`const ${name}: &str =\\s*r(#*)"([^]*?)"\\1;`).exec(readFileSync(file, 'utf8'));
+  if (!found) {
+    throw new Error(`no table ${name} in ${file}`);
+  }
+  return found[2];
+}
+
+/** What a program writes when it is run on a text: its answer, or what it says is wrong. */
+function runOn(program, text) {
+  const run = spawnSync(program, { input: text, encoding: 'latin1', maxBuffer: 1 << 30 });
+  return run.stdout || run.stderr;
+}
+
+/** The first line in which two texts differ. */
+function firstDifference(acorn, wanted) {
+  const [lines, others] = [acorn.split('\n'), wanted.split('\n')];
+  const at = lines.findIndex((line, index) => line !== others[index]);
+  const line = at < 0 ? lines.length : at;
+  return `line ${line + 1}\n    acorn: ${lines[line]}\n    here:  ${others[line]}`;
+}
+
+/** How many rows were compared, and which differ. */
+class Report {
+  constructor() {
+    this.same = 0;
+    this.different = 0;
+    this.skipped = 0;
+  }
+
+  compare(name, acorn, here) {
+    if (acorn === here) {
+      this.same += 1;
+    } else {
+      this.different += 1;
+      console.log(`${name}: ${firstDifference(acorn, here)}`);
+    }
+  }
+
+  skip() {
+    this.skipped += 1;
+  }
+
+  end() {
+    console.log(`${this.same} the same, ${this.different} different, ${this.skipped} left out`);
+    process.exitCode = this.different > 0 ? 1 : 0;
+  }
+}
+
+module.exports = { rowsOf, runOn, Report };

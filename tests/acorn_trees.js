@@ -1,0 +1,498 @@
+// Trees that acorn reads, printed as the clients print theirs.
+//
+// Nothing here comes from the parser that is tested: a text is read by acorn, and each of its nodes is written in the
+// notation of swc_print (expressions and patterns) and statement_trees (statements). Places are those of acorn.
+'use strict';
+
+/** The package acorn, as node finds it or where Debian has it. */
+function findAcorn() {
+  try {
+    return require('acorn');
+  } catch (_) {
+    return require('/usr/share/nodejs/acorn');
+  }
+}
+
+const acorn = findAcorn();
+
+/** Places are counted in bytes, so a text has to be ASCII. */
+function options(sourceType) {
+  return { ecmaVersion: 2022, sourceType, preserveParens: true };
+}
+
+function parseProgram(text, sourceType) {
+  return acorn.parse(text, options(sourceType));
+}
+
+/** What has to stand around some expressions: an async function, and a class that declares a name of its own. */
+const SETTINGS = [['', ''], ['async () => ', ''], ['class A { #a; b() { function c() { ', ' } } }']];
+
+/** The node that begins at the place and is of the type. */
+function nodeAt(node, type, start) {
+  if (node === null || typeof node !== 'object' || node.end <= start) {
+    return null;
+  }
+  if (node.type === type && node.start === start) {
+    return node;
+  }
+  for (const part of Object.values(node)) {
+    const found = nodeAt(part, type, start);
+    if (found) {
+      return found;
+    }
+  }
+  return null;
+}
+
+/** A text as one expression, in the first setting in which acorn reads it, and where that text begins for acorn. */
+function parseExpression(text) {
+  let refused = null;
+  for (const [before, behind] of SETTINGS) {
+    const whole = `${before}(${text}\n)${behind}`;
+    try {
+      const paren = nodeAt(parseProgram(whole, 'script'), 'ParenthesizedExpression', before.length);
+      if (paren && paren.end === whole.length - behind.length) {
+        return { node: paren.expression, shift: before.length + 1 };
+      }
+    } catch (error) {
+      refused = refused || error;
+    }
+  }
+  throw refused || new SyntaxError('more than one expression');
+}
+
+/** Whether a member or a call is part of an optional chain, from its first `?.` on. */
+function isInChain(node) {
+  for (;;) {
+    if (node.optional) {
+      return true;
+    }
+    if (node.type === 'MemberExpression') {
+      node = node.object;
+    } else if (node.type === 'CallExpression') {
+      node = node.callee;
+    } else {
+      return false;
+    }
+  }
+}
+
+/** Prints expressions and patterns, and keeps the functions, classes and blocks that it meets. */
+class Printer {
+  constructor(text) {
+    this.text = text;
+    this.bodies = [];
+  }
+
+  /** Keeps a body, which is printed as the number of tokens in the tree: none. */
+  kept(body) {
+    this.bodies.push(body);
+    return '<0>';
+  }
+
+  list(nodes, print) {
+    return nodes.map(node => (node ? print.call(this, node) : '-')).join(', ');
+  }
+
+  expr(node) {
+    if (!(node.type in EXPRESSIONS)) {
+      throw new Error(`no expression: ${node.type}`);
+    }
+    return EXPRESSIONS[node.type](this, node);
+  }
+
+  item(node) {
+    return node.type === 'SpreadElement' ? `...${this.expr(node.argument)}` : this.expr(node);
+  }
+
+  args(nodes) {
+    return `[${this.list(nodes, this.item)}]`;
+  }
+
+  /** A key as a property has it. */
+  key(prop) {
+    return prop.computed ? `[${this.expr(prop.key)}]` : this.expr(prop.key);
+  }
+
+  member(node) {
+    const prop = node.computed ? `[${this.expr(node.property)}]` : `.${this.expr(node.property)}`;
+    if (node.object.type === 'Super') {
+      return `SuperProp(${prop})`;
+    }
+    return `Member(${this.expr(node.object)}, ${prop})`;
+  }
+
+  link(node, text) {
+    return isInChain(node) ? `OptChain(${node.optional}, ${text})` : text;
+  }
+
+  template(node) {
+    const parts = [];
+    node.quasis.forEach((quasi, index) => {
+      parts.push(`\`${quasi.value.raw}\``);
+      if (index < node.expressions.length) {
+        parts.push(this.expr(node.expressions[index]));
+      }
+    });
+    return `Tpl(${parts.join(', ')})`;
+  }
+
+  arrow(node) {
+    const name = node.async ? 'AsyncArrow' : 'Arrow';
+    const params = this.list(node.params, this.pat);
+    const body = node.body.type === 'BlockStatement' ? this.kept(node.body) : this.expr(node.body);
+    return `${name}([${params}], ${body})`;
+  }
+
+  /** What stands left of an operator that writes. */
+  target(node) {
+    return node.type === 'ArrayPattern' || node.type === 'ObjectPattern' ? this.pat(node) : this.expr(node);
+  }
+
+  prop(node) {
+    if (node.type === 'SpreadElement') {
+      return this.item(node);
+    }
+    const { kind, method, shorthand, value } = node;
+    if (shorthand) {
+      return this.expr(value);
+    }
+    if (kind === 'get') {
+      return `Getter(${this.key(node)}, ${this.kept(value.body)})`;
+    }
+    if (kind === 'set') {
+      return `Setter(${this.key(node)}, ${this.list(value.params, this.pat)}, ${this.kept(value.body)})`;
+    }
+    if (method) {
+      const name = `${value.async ? 'Async' : ''}${value.generator ? 'Generator' : ''}Method`;
+      return `${name}(${this.key(node)}, [${this.list(value.params, this.pat)}], ${this.kept(value.body)})`;
+    }
+    return `${this.key(node)}: ${this.expr(value)}`;
+  }
+
+  patProp(node) {
+    if (node.type === 'RestElement') {
+      return this.pat(node);
+    }
+    if (!node.shorthand) {
+      return `${this.key(node)}: ${this.pat(node.value)}`;
+    }
+    const { type, left, right } = node.value;
+    return type === 'AssignmentPattern' ? `${left.name} = ${this.expr(right)}` : this.pat(node.value);
+  }
+
+  pat(node) {
+    switch (node.type) {
+      case 'Identifier':
+        return node.name;
+      case 'ArrayPattern':
+        return `Array[${this.list(node.elements, this.pat)}]`;
+      case 'ObjectPattern':
+        return `Object{${this.list(node.properties, this.patProp)}}`;
+      case 'AssignmentPattern':
+        return `Assign(${this.pat(node.left)}, ${this.expr(node.right)})`;
+      case 'RestElement':
+        return `Rest(${this.pat(node.argument)})`;
+      default:
+        return `Expr(${this.expr(node)})`;
+    }
+  }
+}
+
+function binary(p, n) {
+  return `Bin(${n.operator}, ${p.expr(n.left)}, ${p.expr(n.right)})`;
+}
+
+/** Whether a call by `new` has no arguments in parentheses. acorn has no arguments there, either way. */
+function isBare(node) {
+  return node.end === node.callee.end;
+}
+
+/** How each kind of expression is printed. */
+const EXPRESSIONS = {
+  Identifier: (p, n) => n.name,
+  PrivateIdentifier: (p, n) => `#${n.name}`,
+  Literal: (p, n) => n.raw,
+  ThisExpression: () => 'this',
+  Super: () => 'super',
+  MetaProperty: (p, n) => `${n.meta.name}.${n.property.name}`,
+  ParenthesizedExpression: (p, n) => `Paren(${p.expr(n.expression)})`,
+  ArrayExpression: (p, n) => `Array[${p.list(n.elements, p.item)}]`,
+  ObjectExpression: (p, n) => `Object{${p.list(n.properties, p.prop)}}`,
+  SequenceExpression: (p, n) => `Seq(${p.list(n.expressions, p.expr)})`,
+  FunctionExpression: (p, n) => `Fn${p.kept(n)}`,
+  ClassExpression: (p, n) => `Class${p.kept(n)}`,
+  TemplateLiteral: (p, n) => p.template(n),
+  TaggedTemplateExpression: (p, n) => `Tagged(${p.expr(n.tag)}, ${p.template(n.quasi)})`,
+  ArrowFunctionExpression: (p, n) => p.arrow(n),
+  UnaryExpression: (p, n) => `Unary(${n.operator}, ${p.expr(n.argument)})`,
+  UpdateExpression: (p, n) => `${n.prefix ? 'Prefix' : 'Postfix'}(${n.operator}, ${p.expr(n.argument)})`,
+  AwaitExpression: (p, n) => `Await(${p.expr(n.argument)})`,
+  YieldExpression: (p, n) => `Yield${n.delegate ? 'Star' : ''}(${n.argument ? p.expr(n.argument) : '-'})`,
+  BinaryExpression: binary,
+  LogicalExpression: binary,
+  AssignmentExpression: (p, n) => `Assign(${n.operator}, ${p.target(n.left)}, ${p.expr(n.right)})`,
+  ConditionalExpression: (p, n) => `Cond(${p.expr(n.test)}, ${p.expr(n.consequent)}, ${p.expr(n.alternate)})`,
+  NewExpression: (p, n) => `New(${p.expr(n.callee)}, ${isBare(n) ? '-' : p.args(n.arguments)})`,
+  ImportExpression: (p, n) => `Call(import, [${p.expr(n.source)}])`,
+  ChainExpression: (p, n) => p.expr(n.expression),
+  MemberExpression: (p, n) => p.link(n, p.member(n)),
+  CallExpression: (p, n) => p.link(n, `Call(${p.expr(n.callee)}, ${p.args(n.arguments)})`),
+};
+
+/** Lines deeper than this are indented no further, and begin with their depth. */
+const DEEPEST = 40;
+
+/** Prints statements: a line for each, and what it holds below it. */
+class Outline {
+  constructor(text) {
+    this.text = text;
+    this.lines = [];
+    this.waiting = [];
+    this.printer = new Printer(text);
+  }
+
+  expr(node) {
+    return this.printer.expr(node);
+  }
+
+  pat(node) {
+    return this.printer.pat(node);
+  }
+
+  /** ` ` and an expression, or nothing where there is none. */
+  maybe(node) {
+    return node ? ` ${this.expr(node)}` : '';
+  }
+
+  /** A line. The bodies that were met since the last one wait for a pass of their own. */
+  line(depth, text) {
+    const indent = '  '.repeat(Math.min(depth, DEEPEST)) + (depth > DEEPEST ? `[${depth}] ` : '');
+    const bodies = this.printer.bodies.sort((a, b) => a.start - b.start);
+    const places = bodies.map(body => ` ${this.place(body)}`);
+    this.lines.push(indent + text + (places.length > 0 ? ` with${places.join(',')}` : ''));
+    this.waiting.push(...bodies);
+    this.printer.bodies = [];
+  }
+
+  /** The place of a body. That of a static block begins at its brace, which acorn has no node for. */
+  place(body) {
+    const blanks = /(?:\s|\/\/.*|\/\*[^]*?\*\/)*/y;
+    let start = body.start;
+    if (body.type === 'StaticBlock') {
+      blanks.lastIndex = start + 'static'.length;
+      start = blanks.lastIndex + blanks.exec(this.text)[0].length;
+    }
+    return `${start}..${body.end}`;
+  }
+
+  list(nodes, depth) {
+    nodes.forEach(node => this.statement(node, depth));
+  }
+
+  statement(node, depth) {
+    if (!(node.type in STATEMENTS)) {
+      throw new Error(`no statement: ${node.type}`);
+    }
+    STATEMENTS[node.type](this, node, depth);
+  }
+
+  names(node) {
+    const names = node.declarations.map(({ id, init }) => ` ${this.pat(id)}${init ? ` = ${this.expr(init)}` : ''}`);
+    return `${node.kind}${names.join(',')}`;
+  }
+
+  /** What the head of a `for` begins with. */
+  head(node, print) {
+    return node.type === 'VariableDeclaration' ? this.names(node) : print.call(this, node);
+  }
+
+  each(node, depth, word) {
+    const wait = node.await ? ' await' : '';
+    this.line(depth, `for${wait} ${this.head(node.left, this.pat)} ${word} ${this.expr(node.right)}`);
+    this.statement(node.body, depth + 1);
+  }
+
+  counted(node, depth) {
+    const init = node.init ? ` ${this.head(node.init, this.expr)}` : '';
+    this.line(depth, `for${init};${this.maybe(node.test)};${this.maybe(node.update)}`);
+    this.statement(node.body, depth + 1);
+  }
+
+  choice(node, depth) {
+    this.line(depth, `if ${this.expr(node.test)}`);
+    this.statement(node.consequent, depth + 1);
+    if (node.alternate) {
+      this.line(depth, 'else');
+      this.statement(node.alternate, depth + 1);
+    }
+  }
+
+  clauses(node, depth) {
+    this.line(depth, `switch ${this.expr(node.discriminant)}`);
+    for (const clause of node.cases) {
+      this.line(depth + 1, clause.test ? `case ${this.expr(clause.test)}` : 'default');
+      this.list(clause.consequent, depth + 2);
+    }
+  }
+
+  attempt(node, depth) {
+    this.line(depth, 'try');
+    this.list(node.block.body, depth + 1);
+    if (node.handler) {
+      const { param, body } = node.handler;
+      this.line(depth, `catch${param ? ` ${this.pat(param)}` : ''}`);
+      this.list(body.body, depth + 1);
+    }
+    if (node.finalizer) {
+      this.line(depth, 'finally');
+      this.list(node.finalizer.body, depth + 1);
+    }
+  }
+
+  /** A function, a class or a block, which waited. */
+  pass(body) {
+    const at = `at ${this.place(body)}`;
+    if (/^Class/.test(body.type)) {
+      const heritage = body.superClass ? ` extends ${this.expr(body.superClass)}` : '';
+      this.line(0, `${at} class${body.id ? ` ${body.id.name}` : ''}${heritage}`);
+      body.body.body.forEach(member => this.member(member));
+    } else if (/^Function/.test(body.type)) {
+      const words = `${body.async ? 'async ' : ''}function${body.generator ? ' *' : ''}`;
+      this.line(0, `${at} ${words}${body.id ? ` ${body.id.name}` : ''}${this.params(body)}`);
+      this.list(body.body.body, 1);
+    } else {
+      this.line(0, `${at} block`);
+      this.list(body.body, 1);
+    }
+  }
+
+  params(node) {
+    return `(${this.printer.list(node.params, this.printer.pat)})`;
+  }
+
+  member(node) {
+    const { printer } = this;
+    if (node.type === 'StaticBlock') {
+      printer.kept(node);
+      this.line(1, 'member static');
+      return;
+    }
+    const key = node.computed ? `computed ${this.expr(node.key)}` : this.expr(node.key);
+    const place = node.static ? ' static' : '';
+    if (node.type === 'PropertyDefinition') {
+      this.line(1, `member${place} ${key}${node.value ? ` = ${this.expr(node.value)}` : ''}`);
+      return;
+    }
+    const { kind, value } = node;
+    const words = `${value.async ? ' async' : ''}${value.generator ? ' *' : ''}`;
+    const accessor = /^[gs]et$/.test(kind) ? ` ${kind}` : '';
+    const params = this.params(value);
+    printer.kept(value.body);
+    this.line(1, `member${place}${words}${accessor} ${key}${params}`);
+  }
+}
+
+/** `break` and `continue`. */
+function jump(word) {
+  return (o, n, depth) => o.line(depth, word + (n.label ? ` ${n.label.name}` : ''));
+}
+
+/** Words and an expression, with a statement below. */
+function above(words) {
+  return (o, n, depth) => {
+    o.line(depth, words(o, n));
+    o.statement(n.body, depth + 1);
+  };
+}
+
+/** A function or a class, which waits for its pass. */
+function declared(word) {
+  return (o, n, depth) => {
+    o.printer.kept(n);
+    o.line(depth, word);
+  };
+}
+
+/** How each kind of statement is printed. */
+const STATEMENTS = {
+  ExpressionStatement: (o, n, depth) => o.line(depth, `expr ${o.expr(n.expression)}`),
+  VariableDeclaration: (o, n, depth) => o.line(depth, o.names(n)),
+  EmptyStatement: (o, n, depth) => o.line(depth, 'empty'),
+  DebuggerStatement: (o, n, depth) => o.line(depth, 'debugger'),
+  ReturnStatement: (o, n, depth) => o.line(depth, `return${o.maybe(n.argument)}`),
+  ThrowStatement: (o, n, depth) => o.line(depth, `throw ${o.expr(n.argument)}`),
+  BreakStatement: jump('break'),
+  ContinueStatement: jump('continue'),
+  FunctionDeclaration: declared('function'),
+  ClassDeclaration: declared('class'),
+  WhileStatement: above((o, n) => `while ${o.expr(n.test)}`),
+  WithStatement: above((o, n) => `with ${o.expr(n.object)}`),
+  LabeledStatement: above((o, n) => `label ${n.label.name}`),
+  BlockStatement: (o, n, depth) => {
+    o.line(depth, 'block');
+    o.list(n.body, depth + 1);
+  },
+  DoWhileStatement: (o, n, depth) => {
+    o.line(depth, 'do');
+    o.statement(n.body, depth + 1);
+    o.line(depth, `while ${o.expr(n.test)}`);
+  },
+  IfStatement: (o, n, depth) => o.choice(n, depth),
+  SwitchStatement: (o, n, depth) => o.clauses(n, depth),
+  TryStatement: (o, n, depth) => o.attempt(n, depth),
+  ForStatement: (o, n, depth) => o.counted(n, depth),
+  ForInStatement: (o, n, depth) => o.each(n, depth, 'in'),
+  ForOfStatement: (o, n, depth) => o.each(n, depth, 'of'),
+};
+
+/** Whether acorn reads a text as a script or a module. */
+function isProgram(text, sourceType) {
+  try {
+    parseProgram(text, sourceType);
+    return true;
+  } catch (_) {
+    return false;
+  }
+}
+
+/** The tree of a script, as the program `statements` writes it. */
+function programTree(text) {
+  const outline = new Outline(text);
+  const program = parseProgram(text, 'script');
+  outline.lines.push('program');
+  outline.list(program.body, 1);
+  for (let next = 0; next < outline.waiting.length; next += 1) {
+    outline.lines.push('');
+    outline.pass(outline.waiting[next]);
+  }
+  return `${outline.lines.join('\n')}\n`;
+}
+
+/** Calls the function with each node of a tree. */
+function eachNode(tree, see) {
+  const due = [tree];
+  while (due.length > 0) {
+    const node = due.pop();
+    if (node !== null && typeof node === 'object') {
+      see(node);
+      due.push(...Object.values(node));
+    }
+  }
+}
+
+/** The texts of the expressions of a program that are statements, or values of what is declared. */
+function expressionsOf(text) {
+  const found = [];
+  if (isProgram(text, 'script')) {
+    eachNode(parseProgram(text, 'script'), ({ type, expression, init }) => {
+      const node = { ExpressionStatement: expression, VariableDeclarator: init }[type];
+      if (node) {
+        found.push(text.slice(node.start, node.end));
+      }
+    });
+  }
+  return found;
+}
+
+module.exports = { expressionsOf, isBare, isProgram, parseExpression, programTree };

@@ -1,0 +1,264 @@
+#!/usr/bin/env python3
+"""Refuses each request for memory of each row in turn, and looks at what is answered then.
+
+    tests/refusing.py LIBRARY REFUSING SHOW_EXPR
+
+LIBRARY is tests/refuse.c, compiled. Rows are runs of the program SHOW_EXPR (crates/bench/src/program.rt), and calls of a parser, which the
+program REFUSING makes (crates/bench_hostile/src/worked.rt, and those below). A row is run with no request refused, which has to be as the row
+says where it says so; and then with its first request refused, with its second, and so on, until a run meets no refusal.
+
+Until one such run has come as far as the calls, REFUSING writes nothing and ends with 3. From then on each call answers what it answers with
+no request refused, up to one that is refused as `OutOfMemory`. The faults that are recorded then are a beginning of those of the row, a second
+`take_errors` hands out none, each parsing call behind it and `at_end` are refused as `ParserFailed`, and each call leaves the context that it
+found. What a call hands out may itself want memory to be printed, and a call that answers no fault may want memory too (`set_ctx`,
+`try_clone`): then `no memory` is written, and the calls behind it answer what they answer with no request refused.
+
+Each row is called once as it stands, and once by numbers of nodes, where there is such a call, over a source that keeps its tokens. A row on
+which such a source is called itself (`next`) answers, a line for each token, what is kept, and then whether the source failed: up to there
+the lines are those of the row.
+
+Runs of SHOW_EXPR end with 3 and the usage, up to one that can't read standard input, which says that and ends with 3 too; then with 2 and
+`refused: OutOfMemory`, behind which the recorded faults are a beginning of those of the row, or as the row says.
+
+Status 0 if all of that holds.
+"""
+import os
+import re
+import subprocess
+import sys
+from collections import namedtuple
+from multiprocessing import Pool
+
+# Calls, a setting and a text, as in crates/bench_hostile/src/worked.rt.
+ROWS = r'''parse_expr | script | -a ** b
+verify_expr | script | [{a = 1}]
+verify_expr | script | [{a = 1}, () => ({b = 2}), {m(p = {c = 3}) {}}]
+parse_ident(true, true) | script | enum
+parse_binding_ident; set_ctx | generator | yield
+parse_expr; set_ctx | script | new let
+next | kept | `${a}`
+next | kept | (@0..1 a@1..1 [@1..3
+next | kept | a/@0..1 /a/@0..3
+next | kept | a b c d e f g
+parse_expr; copy_errors | module | let
+copy_refusal | script | f(...)
+copy_refusal | script | ({m() {}}) => 1
+try_clone | script | a if 1 'b' `c` /d/e 2n
+try_clone | script | E(Lex)@0..1 a@1..2
+parse_expr | script | a/@0..1 /a/@0..3
+parse_expr | script | `\u`
+parse_expr | script no_early_errors | +@0..1 E(Lex)@2..3
+parse_expr | script no_early_errors | (a.b) => c
+parse_expr | module no_early_errors | let
+parse_expr | module ignore_error | let
+parse_expr | script | /a/g.test(b)
+parse_formal_params | script | 
+parse_unique_formal_params | script | a )
+parse_paren_items_as_params | script | (a)
+parse_paren_items_as_params | script | (a, ...[b, {c: d = 1}])
+reparse_expr_as_pat | script | a
+reparse_expr_as_pat | script | [a, {b: [c] = d, ...e}, ...f]
+make_object | script | a }
+make_pattern | script | a }
+parse_tpl(false) | script | `x`
+parse_tpl(false) | script | `x${a}y${b + c}z`
+parse_prop_name | script | [a + b]
+parse_lit | script | 'a'
+parse_module_export_name | script | 'a'
+parse_module_export_name | script | 
+parse_maybe_private_name | script | #a
+parse_for_head(false) | script | [a, {b}] of c
+parse_for_head(false) | script | a + b; c'''
+
+# Texts that are cut behind a token.
+CUT = ['', '(', '(a', '(a,', '(a, [', '(a, [b', '(a, [b]', '(a, [b],', '(a, [b], {', '(a, [b], {c', '(a, [b], {c =', '(a, [b], {c = 1',
+       '(a, [b], {c = 1}', '(a, [b], {c = 1})', '(a, [b], {c = 1}) =>', 'a', 'a?', 'a?.', 'a?.b', 'a?.b.']
+
+# 200 times round or before one name.
+NESTED = ['(' * 200 + 'a' + ')' * 200, '[' * 200 + 'a' + ']' * 200, 'x => ' * 200 + 'a', 'a ? a : ' * 200 + 'a']
+
+BY_NUMBER = {'parse_expr': 'parse_expr_id', 'parse_pat': 'parse_pat_id', 'parse_formal_params': 'parse_formal_params_id',
+             'parse_arrow_params': 'parse_arrow_params_id'}
+
+# The calls behind those of a row, of which each has one of `take_errors` behind it.
+AFTERWARDS = ['take_errors', 'parse_expr', 'parse_pat', 'at_end']
+
+# The tables of calls with what they answer, and the calls whose answers are written here as there.
+ANSWERS = {'calls': 'CALLS', 'patterns': 'PATTERNS', 'arrows': 'ARROWS', 'heads': 'HEADS', 'left_hand': 'LEFT_HAND'}
+WRITTEN_SO = ['parse_expr', 'parse_assignment_expr', 'parse_bin_expr', 'parse_unary_expr', 'parse_for_head_prefix', 'parse_pat',
+              'parse_binding_pat_or_ident', 'parse_binding_element']
+# What the hook reads, which is another one there.
+HOOKED = re.compile(r'function|class|\) (=> )?{')
+
+SAID = b'a request was refused\n'
+USAGE = 'usage: '
+UNREADABLE = 'cannot read standard input\n'
+WANTED = re.compile(r'refused: OutOfMemory \d+\.\.\d+')
+FAILED = re.compile(r'refused: ParserFailed \d+\.\.\d+')
+
+Row = namedtuple('Row', 'line command text calls says')
+Run = namedtuple('Run', 'status output said was_refused')
+
+
+def table(path, name):
+    """The lines of a table, which is the text of a constant."""
+    with open(path, encoding='utf-8') as file:
+        found = re.search(r'const %s: &str =\s*r(#?)"(.*?)"\1;' % name, file.read(), re.S)
+    return found.group(2).split('\n')
+
+
+def unescaped(text):
+    return text.replace('\\n', '\n')
+
+
+def program_rows(show_expr):
+    for line in table('crates/bench/src/program.rt', 'RUNS'):
+        calls, arguments, text, output, status = line.split(' | ')
+        if calls == 'show_expr' and not output.startswith('stderr: '):
+            yield Row(line, [show_expr, *arguments.split()], unescaped(text), None, (int(status), unescaped(output)))
+
+
+def answers_of_calls():
+    """What the tables of calls say of one call alone: the lines of its answer and of the faults recorded."""
+    said = {}
+    for file, name in ANSWERS.items():
+        for line in table('crates/bench/src/%s.rt' % file, name):
+            call, setting, text, answer, faults, _ = (line.split(' | ') + [''] * 5)[:6]
+            if call in WRITTEN_SO and not HOOKED.search(text):
+                faults = '' if faults == 'none' else faults.replace(', ', ';') + ';'
+                said['%s | %s | %s' % (call, setting, text)] = [answer, faults]
+    return said
+
+
+def calls_of(refusing, line, setting, calls, text, says):
+    if calls[0] not in ('next', 'try_clone'):
+        calls = [each for call in calls for each in (call, 'take_errors')] + AFTERWARDS
+    return Row(line, [refusing], '%s\n%s\n%s' % (setting, '; '.join(calls), unescaped(text)), calls, says)
+
+
+def call_rows(refusing):
+    lines = table('crates/bench_hostile/src/worked.rt', 'WORKED') + ROWS.split('\n')
+    lines += ['parse_expr | script | ' + text for text in CUT + NESTED]
+    said = answers_of_calls()
+    for line in dict.fromkeys(lines):
+        calls, setting, text = line.split(' | ')
+        calls = calls.split('; ')
+        yield calls_of(refusing, line, setting, calls, text, said.get(line))
+        if setting != 'kept' and calls != ['try_clone']:
+            yield calls_of(refusing, line, 'kept ' + setting, [BY_NUMBER.get(call, call) for call in calls], text, said.get(line))
+
+
+def run(row, number):
+    """Runs the row with the request of that number refused, or none."""
+    env = {'LD_PRELOAD': library, 'REFUSE': str(number)} if number else {}
+    ended = subprocess.run(row.command, input=row.text.encode(), capture_output=True, env=env, timeout=60)
+    said = ended.stderr.replace(SAID, b'').decode()
+    return Run(ended.returncode, ended.stdout.decode(), said, SAID in ended.stderr)
+
+
+def is_said(row, whole):
+    """Whether a run with no request refused is as the row says, where it says so."""
+    if not row.calls:
+        return (whole.status, whole.output) == row.says and not whole.said
+    lines = whole.output.split('\n')
+    return whole.status == 0 and not whole.said and row.says in (None, lines[:2])
+
+
+def is_beginning(faults, whole):
+    return whole[:len(faults)] == faults
+
+
+def fault_lines(run):
+    """The lines of the faults that were recorded."""
+    lines = run.output.splitlines()[1:]
+    return lines[1:] if lines[:1] == ['unread'] else lines
+
+
+def stage_of_program(row, whole, run):
+    """How far a run of the program came: 0 to its arguments, 1 to standard input, 2 behind it. None if it isn't as it must be."""
+    if run.status == 3 and not run.output:
+        return 0 if run.said.startswith(USAGE) else 1 if run.said == UNREADABLE else None
+    if run.said:
+        return None
+    lines = run.output.splitlines()
+    if run.status == 2 and lines and WANTED.fullmatch(lines[0]):
+        return 2 if is_beginning(lines[1:], fault_lines(whole)) else None
+    return 2 if run == whole._replace(was_refused=run.was_refused) else None
+
+
+def is_afterwards(call, found, wanted, has_failed):
+    """Whether a call answers as it must behind one that wanted memory."""
+    if call in ('take_errors', 'copy_errors'):
+        return is_beginning(found.split(';')[:-1], wanted.split(';')[:-1])
+    if has_failed and call != 'set_ctx':
+        return bool(FAILED.fullmatch(found))
+    return found == wanted
+
+
+def stage_of_calls(row, whole, run):
+    """How far a run of calls came: 0 before them, 1 to them. None if it isn't as it must be."""
+    if run.said or run.status not in (0, 3):
+        return None
+    if run.status == 3:
+        return None if run.output else 0
+    if row.calls == ['next'] and run.output.endswith('true\n'):
+        return 1 if whole.output.startswith(run.output[:-len('true\n')]) else None
+    found, wanted = run.output.split('\n'), whole.output.split('\n')
+    if len(found) != len(wanted):
+        return None
+    at = next((at for at, line in enumerate(found) if line != wanted[at]), len(found))
+    if at == len(found):
+        return 1
+    has_failed = bool(WANTED.fullmatch(found[at]))
+    if not has_failed and not is_part(found[at], wanted[at]):
+        return None
+    behind = range(at + 1, len(row.calls))
+    return 1 if all(is_afterwards(row.calls[it], found[it], wanted[it], has_failed) for it in behind) else None
+
+
+def is_part(found, wanted):
+    """Whether an answer is the wanted one, but for parts in whose place it has `no memory`."""
+    return bool(re.fullmatch('.*'.join(map(re.escape, found.split('no memory'))), wanted))
+
+
+def refuse_each(row):
+    """Runs the row, and answers how many requests were refused, how many of these before the first call, and how many in runs that answer as
+    with none refused; and the first run that isn't as it must be, or none."""
+    whole = run(row, 0)
+    if not is_said(row, whole):
+        return 0, 0, 0, (row.line, 0, whole)
+    stage_of = stage_of_calls if row.calls else stage_of_program
+    number = stage = early = unchanged = 0
+    while True:
+        found = run(row, number + 1)
+        if not found.was_refused:
+            return number, early, unchanged, None if found == whole else (row.line, number + 1, found)
+        reached = stage_of(row, whole, found)
+        number += 1
+        if reached is None or reached < stage:
+            return number, early, unchanged, (row.line, number, found)
+        stage, early, unchanged = reached, early + (found.status == 3), unchanged + (found.output == whole.output)
+
+
+def begin(path):
+    global library
+    library = path
+
+
+def main():
+    path, refusing, show_expr = sys.argv[1:]
+    rows = list(program_rows(show_expr)) + list(call_rows(refusing))
+    counts = [0, 0, 0]
+    with Pool(os.cpu_count(), begin, [path]) as pool:
+        for *some, wrong in pool.imap_unordered(refuse_each, rows, 4):
+            counts = [one + more for one, more in zip(counts, some)]
+            if wrong:
+                print('%s\n  with request %d refused (0: none): %s' % wrong)
+                return 1
+    runs = counts[0] + 2 * len(rows)
+    print('%d rows, %d runs, %d requests refused: %d before the first call, %d that change no answer' % (len(rows), runs, *counts))
+    return 0
+
+
+if __name__ == '__main__':
+    sys.exit(main())

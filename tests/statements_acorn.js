@@ -1,0 +1,153 @@
+// Compares the trees of programs with those that acorn reads. The tables of bench_clients and what the program
+// `statements` has to print hold the expected trees; acorn's are printed by acorn_trees.js.
+//
+//     node tests/statements_acorn.js                     the trees that are written in tests
+//     node tests/statements_acorn.js PROGRAM             short programs, and such in one another
+//     node tests/statements_acorn.js PROGRAM FILE ..     files
+//
+// PROGRAM is a built `statements`. Without it the ten programs of bench_clients and the program's own text are
+// compared, and acorn has to refuse what is refused in bench_clients. With it the program is run on each row of
+// short_programs.txt, and on programs that are put together of those that both read; or on each file that is ASCII and
+// that acorn reads as a script. The status is 1 where anything differs. Run it at the top of the repository; node needs
+// its package acorn.
+//
+// A row of short_programs.txt is a mark and a program, with `\n` for a line break: `=` where both read it as the same
+// tree, `-` where both refuse it, `+` where acorn alone refuses it, and `!` where the program alone does.
+'use strict';
+
+const { readFileSync } = require('fs');
+const { isProgram, programTree } = require('./acorn_trees.js');
+const { rowsOf, runOn, Report } = require('./acorn_rows.js');
+
+const PROGRAMS = 'crates/bench_clients/src/programs.rt';
+const FAULTS = 'crates/bench_clients/src/faults.rt';
+const OWN = 'crates/statements';
+
+/** Programs that ECMA-262 has, and that are refused: a heritage with a brace, what isn't ASCII, and modules. */
+const REFUSED_HERE_ALONE = [
+  'class A extends function () {} {}',
+  'let s = "\u00e9"',
+  'import a from "b"',
+  'export default 1',
+];
+
+/** acorn's tree of a program, or its fault. */
+function acornTree(text) {
+  try {
+    return programTree(text);
+  } catch (error) {
+    return `${error.message}\n`;
+  }
+}
+
+function compareTables(report) {
+  const programs = rowsOf(PROGRAMS, 'PROGRAMS').split('====\n').map(row => row.split('----\n'));
+  programs.push([readFileSync(`${OWN}/stdin`, 'latin1'), readFileSync(`${OWN}/stdout`, 'latin1')]);
+  for (const [text, wanted] of programs) {
+    report.compare(text.split('\n', 1)[0], acornTree(text), wanted);
+  }
+}
+
+/** What is refused here has to be no script. Those that are refused here alone have to be scripts or modules. */
+function compareFaults(report) {
+  for (const row of rowsOf(FAULTS, 'PROGRAMS').trimEnd().split('\n')) {
+    const text = row.split(' | ')[0].replaceAll('\\n', '\n');
+    const isKnown = REFUSED_HERE_ALONE.includes(text);
+    const isRead = isProgram(text, 'script') || (isKnown && isProgram(text, 'module'));
+    report.compare(text, isRead ? 'read' : 'refused', isKnown ? 'read' : 'refused');
+  }
+}
+
+function compareFiles(report, program, files) {
+  for (const file of files) {
+    const text = readFileSync(file, 'latin1');
+    const wanted = acornTree(text);
+    if (/[^\x00-\x7f]/.test(text) || !wanted.startsWith('program\n')) {
+      report.skip();
+    } else {
+      report.compare(file, wanted, runOn(program, text));
+    }
+  }
+}
+
+/** The mark of a short program. */
+function markOf(acorn, here) {
+  const [isRead, isReadHere] = [acorn, here].map(tree => tree.startsWith('program\n'));
+  if (isRead && isReadHere) {
+    return acorn === here ? '=' : 'another tree';
+  }
+  if (isRead) {
+    return '!';
+  }
+  return isReadHere ? '+' : '-';
+}
+
+/** The rows of short programs, as marks and texts. */
+function shortPrograms() {
+  const rows = readFileSync('tests/short_programs.txt', 'utf8').trimEnd().split('\n');
+  return rows.map(row => ({ mark: row[0], text: row.slice(2).replaceAll('\\n', '\n') }));
+}
+
+function compareShort(report, program) {
+  for (const { mark, text } of shortPrograms()) {
+    report.compare(text, markOf(acornTree(text), runOn(program, text)), mark);
+  }
+}
+
+/** Statements round a program, which stands for `$`. */
+const ROUND = [
+  '$\n$', '$\n;$', '{ $ }', 'a: { $ }', 'if (a) { $ } else { $ }', 'switch (a) { case b: $\ndefault: $ }',
+  'for (;;) { $ }', 'for (const x of y) { $ }', 'do { $ } while (b)', 'with (a) { $ }',
+  'try { $ } catch (e) { $ } finally { $ }',
+  'function f(a) { $ }', 'function f(a = () => { $ }) { $ }', 'async function f() { $ }', 'function* g() { $ }',
+  'async function* h() { $ }', 'x = function () { $ }', 'x = () => { $ }', 'x = async () => { $ }', '`${() => { $ }}`',
+  'x = { m() { $ }, async n() { $ }, *o() { $ }, get p() { $ }, set q(r) { $ } }',
+  'class A { m() { $ } static { $ } async n() { $ } static *o() { $ } get p() { $ } set q(r) { $ } }',
+  'class A { [(() => { $ })()]() { $ } }', 'f(class { a = () => { $ }; static b() { $ } })',
+];
+
+/** Numbers that look like chance, and are the same in each run. */
+function chance() {
+  let state = 7;
+  return below => {
+    state = (state * 1103515245 + 12345) % 2147483648;
+    return Math.floor(state / 65536) % below;
+  };
+}
+
+/** A program of some of these, in statements as deep in one another as is said, or less. */
+function nested(texts, next, depth) {
+  if (depth === 0) {
+    return texts[next(texts.length)];
+  }
+  const part = () => nested(texts, next, next(3) > 0 ? depth - 1 : 0);
+  return ROUND[next(ROUND.length)].replace(/\$(?!\{)/g, part);
+}
+
+/** Programs that acorn refuses, as those that bind a name twice, are left out. */
+function compareNested(report, program, count) {
+  const texts = shortPrograms().filter(({ mark }) => mark === '=').map(({ text }) => text);
+  const next = chance();
+  for (let made = 0; made < count; made += 1) {
+    const text = nested(texts, next, 1 + next(4));
+    const wanted = acornTree(text);
+    if (wanted.startsWith('program\n')) {
+      report.compare(text, wanted, runOn(program, text));
+    } else {
+      report.skip();
+    }
+  }
+}
+
+const [program, ...files] = process.argv.slice(2);
+const report = new Report();
+if (files.length > 0) {
+  compareFiles(report, program, files);
+} else if (program) {
+  compareShort(report, program);
+  compareNested(report, program, 3000);
+} else {
+  compareTables(report);
+  compareFaults(report);
+}
+report.end();
