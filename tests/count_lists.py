@@ -56,6 +56,10 @@ may be is known later, and it is walked as all that it may be at once. The head 
 nothing stands, or with what may stand before `=`, and then `of` or `in`; behind `async`, with which an assignment expression begins, `of` on its
 line is that in a `for await` alone.
 
+In a pedantic mode `#` and a name are an operand only before `in`, where that is an operator, and behind no prefix operator, no `new`, and no
+operator that binds as `in` does or tighter. `import` has one argument and no comma behind it, or with attributes one or two and a comma or
+none; no dots. No line break stands before `=>` at all. No property with a name and `=` stands in braces that are an operand.
+
 A block, a function and a class are taken whole. Of each it matters how many brackets are open. Within its own brace, braces alone are
 counted; before that brace all brackets are, where any that closes may close any that opens. There are no rows with templates and braces, of
 which either may end the other, nor such with `/`, which begins a regular expression where no operand stands before it.
@@ -69,6 +73,8 @@ SOURCES = Path(__file__).parent.parent / "crates/bench_grammar/src"
 PREFIX = set("+ - ! ~ void typeof delete".split())
 BINARY = set("?? || && | ^ & == != === !== < > <= >= instanceof in << >> >>> + - * / % **".split())
 UPDATE = ("++", "--")
+# The binary operators that bind less tightly than `in`.
+LOOSER = set("?? || && | ^ & == != === !==".split())
 # Names that no mode reserves, those that some modes bar as operands, those that some reserve, and where a property is before its value.
 NAMES = {"a", "of", "get", "set", "target", "meta", "source", "eval"}
 BARRED = {
@@ -101,6 +107,9 @@ FEATURES |= {"for-of": {"without-in", "head"}, "for-await": {"without-in", "head
 FEATURES |= {"for-of-strict": {"strict"} | FEATURES["for-of"], "for-of-module": {"module", "strict"} | FEATURES["for-of"]}
 FEATURES |= {"for-of-generator": {"generator"} | FEATURES["generator"] | FEATURES["for-of"]}
 FEATURES |= {"for-await-async": {"for-await", "async"} | FEATURES["async"] | FEATURES["for-await"]}
+FEATURES |= {"pedantic-attributes": {"pedantic", "attributes"}, "pedantic-without-in": {"pedantic", "without-in"}}
+FEATURES |= {"pedantic-generator": {"pedantic", "generator"} | FEATURES["generator"]}
+FEATURES |= {"pedantic-for-of": {"pedantic"} | FEATURES["for-of"]}
 # A template, and what begins one.
 TEMPLATE = ("``", "`${")
 # What `before` is behind a comma, by what closes the list; nothing closes the whole.
@@ -109,6 +118,9 @@ BEHIND_COMMA |= {")shell": "params+", ")one": "shut", ")whole": "params+", ")@":
 BEHIND_COMMA |= {")arrow": "params+", ")async list": "params+"}
 for after in ("bound", "shut", "whole", "assigned"):
     BEHIND_COMMA |= {"]" + after: "elements", "}" + after: "properties"}
+
+# What closes the arguments of `import` where they are counted, behind a comma: one more or none, and none.
+COUNTED = {")2": ")3", ")3": ")4"}
 
 # outer: of each open parenthesis, bracket, template or conditional, what closes it, and outside it the family, whether the operand has a prefix
 # operator, `news`, `lead` and `must`; behind what closes it stands where a property is after that, or a `.` if it is a link, or a `!` if it is a
@@ -122,9 +134,9 @@ for after in ("bound", "shut", "whole", "assigned"):
 # `new` has arguments. what: which patterns are read, those that are bound, those of arrow functions (`cover`), or those that are written to
 # (`place`). place: the operand is one that is written to, in a rest (`rest`) or not (`one`), or may be any. covered: of an object, whether a
 # property has a name and `=`. area: whether the operand stands in the body of an arrow function (`plain`), or of an async one, or in none.
-# level: the same of the bracket.
-FIELDS = "outer family before wants prefixed whole news lead must target what place covered area level"
-Front = namedtuple("Front", FIELDS, defaults=(None, 0, "only", False, False, "", "", False, "", ""))
+# level: the same of the bracket. free: the operand that is wanted stands behind an operator that binds less tightly than `in`.
+FIELDS = "outer family before wants prefixed whole news lead must target what place covered area level free"
+Front = namedtuple("Front", FIELDS, defaults=(None, 0, "only", False, False, "", "", False, "", "", False))
 
 
 def begun(front, before):
@@ -147,7 +159,7 @@ def closed(front):
     after = Front(outer, "", "", "operand", False, what=what, place=place, covered=covered, area=area, level=level)
     if close == ":":
         return begun(after, "")
-    if close[1:] not in ("", ".", "!", "@"):
+    if close[1:] not in ("", ".", "!", "@", "1", "2", "3", "4"):
         return after._replace(before=close[1:], lead=lead)
     target = close == "]." or (close == ")" and front.lead == "only" and writable(front))
     is_covered = close == "}" and front.covered and lead and outer and outer[-1][0] in BARE
@@ -289,7 +301,7 @@ def prop(front, token, mode):
         return key(front, token, "method")
     if token == "(":
         return shell(front._replace(before="method"), token)
-    if token == ":" or (token == "=" and before != "key"):
+    if token == ":" or (token == "=" and before != "key" and "pedantic" not in mode):
         return begun(front._replace(covered=front.covered or token == "="), token)
     if before == "async" and token == "*":
         return front._replace(before="*")
@@ -329,6 +341,8 @@ def called(front, token, mode):
         return front._replace(before=front.before + " " + token)
     if token != "(" or front.before == "import ." or front.news > 0:
         return None
+    if front.before != "super" and "pedantic" in mode:
+        return opened(front, ")2" if "attributes" in mode else ")1", "", front.news)
     return opened(front, ")." if front.before == "super" else ")!", "args", front.news)
 
 
@@ -347,6 +361,7 @@ def conditional(front):
 
 def prefix(front, token, mode):
     """The front with a prefix operator more, or a word that may be one, or None. The operators behind `++` and `--` make no target."""
+    front = front._replace(free=False)
     if token in UPDATE:
         return None if front.must else front._replace(before=token, wants="operand", lead="", must=True)
     if token == "await" and "async" not in mode:
@@ -374,12 +389,20 @@ def operand(front, token, mode):
         return asked(front, token, mode)
     if front.before == "?." and token in ("(", "["):
         return link(front, token)
+    if front.before == "# in":
+        return done(front)._replace(before="in") if token.isalpha() else None
     if front.before == "#" or (front.before in (".", "?.") and token != "#"):
         return done(front, front.target) if token.isalpha() else None
     if front.before == "new ." or (front.before == "new" and (token in (".", "await", *UPDATE) or token in PREFIX)):
         return constructed(front, token, mode)
     if front.before == "super" or front.before.startswith("import"):
         return called(front, token, mode)
+    if front.before == "counted":
+        if token == ")":
+            return closed(front)
+        if front.outer[-1][0] == ")4":
+            return None
+        front = front._replace(before="")
     if front.before == "last" and token == "...":
         return front._replace(before=token)
     if front.before == "args" and token in (")", "..."):
@@ -392,7 +415,10 @@ def operand(front, token, mode):
         return prefix(front, token, mode)
     if token == "async":
         return front._replace(before="async head" if front.wants == "assign" else token, wants="", target=True)
-    front = front._replace(wants="operand")
+    is_free = front.free or front.wants == "assign"
+    front = front._replace(wants="operand", free=False)
+    if token == "#" and "pedantic" in mode and front.before not in (".", "?."):
+        return front._replace(before="# in") if is_free else None
     if token == "#":
         return front._replace(before=token)
     if token == "new":
@@ -420,6 +446,9 @@ def ended(front, token):
     if close and token == ("}`" if close == "`" else close[0]):
         return closed(front)
     is_comma = token == "," or (token == "}${" and close == "`")
+    if is_comma and close in COUNTED:
+        last = (COUNTED[close],) + front.outer[-1][1:]
+        return begun(front._replace(outer=front.outer[:-1] + (last,), area=front.level), "counted")
     if not is_comma or close not in BEHIND_COMMA or front.place == "rest":
         return None
     return begun(front._replace(area=front.level), BEHIND_COMMA[close])
@@ -467,6 +496,8 @@ def stopped(front, token, mode):
 
 def operator(front, token, is_broken, mode):
     """The front with a token more where an operand is complete, or None."""
+    if front.before == "in" and token != "in":
+        return None
     if front.before in ("yield", "await"):
         return behind_word(front, token, is_broken, mode)
     if front.before in ("async", "async head"):
@@ -502,7 +533,7 @@ def operator(front, token, is_broken, mode):
     if token == "in" and "without-in" in mode and not front.outer:
         return None
     front = front._replace(family=family, before="", wants="operand", prefixed=False, whole=None)
-    return front._replace(news=0, lead="", must=False, target=False)
+    return front._replace(news=0, lead="", must=False, target=False, free=token in LOOSER)
 
 
 def features(mode, area):
@@ -544,7 +575,7 @@ def followed(front, token, mode):
     mode = features(mode, front.area)
     is_broken = token.startswith("\\r")
     bare = token[2:] if is_broken else token
-    if is_broken and front.before in ("arrow", "async list"):
+    if is_broken and front.before in BEFORE_ARROW and ("pedantic" in mode or front.before != "async arrow"):
         return
     yield operand(front, bare, mode) if front.wants else operator(front, bare, is_broken, mode)
     if not is_broken or front.wants:
@@ -555,7 +586,7 @@ def complete(front, mode):
     """Whether the front is an expression, or another whole."""
     if front.before == "whole":
         return not front.outer
-    is_barred = front.before == "await" and "module" in features(mode, "")
+    is_barred = front.before == "in" or (front.before == "await" and "module" in features(mode, ""))
     return not front.wants and not front.outer and fitting(front) and not is_barred
 
 

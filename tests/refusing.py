@@ -17,6 +17,12 @@ Each row is called once as it stands, and once by numbers of nodes, where there 
 which such a source is called itself (`next`) answers, a line for each token, what is kept, and then whether the source failed: up to there
 the lines are those of the row.
 
+A row of a hook (crates/bench_hostile/src/hooked.rt) is called in boxes and by numbers, over a source that keeps nothing. Left out are hooks
+that make their source fail, for which want of memory is the row's own answer. On a source that gives slashes (crates/bench/src/calls.rt and
+captured.rt) an expression is read while its tokens are kept, and again of these by another parser, and the calls behind it are made on both.
+Where the first parser read all there was, with no fault recorded, both answer the same; where it wanted memory, the other one reads what was
+kept until then, and wants none.
+
 Runs of SHOW_EXPR end with 3 and the usage, up to one that can't read standard input, which says that and ends with 3 too; then with 2 and
 `refused: OutOfMemory`, behind which the recorded faults are a beginning of those of the row, or as the row says.
 
@@ -79,6 +85,7 @@ NESTED = ['(' * 200 + 'a' + ')' * 200, '[' * 200 + 'a' + ']' * 200, 'x => ' * 20
 
 BY_NUMBER = {'parse_expr': 'parse_expr_id', 'parse_pat': 'parse_pat_id', 'parse_formal_params': 'parse_formal_params_id',
              'parse_arrow_params': 'parse_arrow_params_id'}
+IN_BOXES = {number: call for call, number in BY_NUMBER.items()}
 
 # The calls behind those of a row, of which each has one of `take_errors` behind it.
 AFTERWARDS = ['take_errors', 'parse_expr', 'parse_pat', 'at_end']
@@ -89,12 +96,16 @@ WRITTEN_SO = ['parse_expr', 'parse_assignment_expr', 'parse_bin_expr', 'parse_un
               'parse_binding_pat_or_ident', 'parse_binding_element']
 # What the hook reads, which is another one there.
 HOOKED = re.compile(r'function|class|\) (=> )?{')
+# A row of an expression over a source that gives slashes.
+SLASHES = re.compile(r'parse_expr(; (take; )?kept)? \| \w+ slashes \|')
 
 SAID = b'a request was refused\n'
 USAGE = 'usage: '
 UNREADABLE = 'cannot read standard input\n'
 WANTED = re.compile(r'refused: OutOfMemory \d+\.\.\d+')
 FAILED = re.compile(r'refused: ParserFailed \d+\.\.\d+')
+WANTS = re.compile(r'OutOfMemory|ParserFailed|no memory')
+PLACE = r' \d+\.\.\d+'
 
 Row = namedtuple('Row', 'line command text calls says')
 Run = namedtuple('Run', 'status output said was_refused')
@@ -125,9 +136,13 @@ def answers_of_calls():
         for line in table('crates/bench/src/%s.rt' % file, name):
             call, setting, text, answer, faults, _ = (line.split(' | ') + [''] * 5)[:6]
             if call in WRITTEN_SO and not HOOKED.search(text):
-                faults = '' if faults == 'none' else faults.replace(', ', ';') + ';'
-                said['%s | %s | %s' % (call, setting, text)] = [answer, faults]
+                said['%s | %s | %s' % (call, setting, text)] = [re.escape(answer), faults_line(faults)]
     return said
+
+
+def faults_line(faults):
+    """The pattern of the line of these faults, which a table parts by commas."""
+    return '' if faults == 'none' else re.escape(faults.replace(', ', ';')) + ';'
 
 
 def calls_of(refusing, line, setting, calls, text, says):
@@ -148,6 +163,34 @@ def call_rows(refusing):
             yield calls_of(refusing, line, 'kept ' + setting, [BY_NUMBER.get(call, call) for call in calls], text, said.get(line))
 
 
+def hook_rows(refusing):
+    for line in table('crates/bench_hostile/src/hooked.rt', 'HOOKED'):
+        hook, calls, setting, text, answer, faults, _ = line.split(' | ')
+        if hook.startswith('FailAt'):
+            continue
+        calls = calls.split('; ')
+        faults = faults_line(faults) if len(calls) == 1 else '.*'
+        says = [each for tree in answer.split('; ') for each in (tree_line(tree), faults)]
+        for made in (calls, [IN_BOXES[call] for call in calls]):
+            yield calls_of(refusing, line, '%s with %s' % (setting, hook), made, text, says)
+
+
+def tree_line(answer):
+    """The pattern of the line of this answer, which a table has without a tree's place."""
+    return re.escape(answer) + ('' if answer.startswith('refused') else PLACE)
+
+
+def slash_rows(refusing):
+    """Expressions over a source that gives slashes, which the program reads before the first call. It looks for a token behind each, too."""
+    calls = ['take_errors'] + AFTERWARDS
+    for line in table('crates/bench/src/calls.rt', 'CALLS') + table('crates/bench/src/captured.rt', 'CALLS'):
+        if SLASHES.match(line):
+            _, setting, text, answer, faults, left = (line.split(' | ') + ['none', 'end'])[:6]
+            says = [re.escape(answer.split('; ')[0]), str(left == 'end').lower(), faults_line(faults)]
+            text = '%s\n%s\n%s' % (setting, '; '.join(calls), unescaped(text))
+            yield Row(line, [refusing], text, ['parse_expr', 'at_end'] + calls, says)
+
+
 def run(row, number):
     """Runs the row with the request of that number refused, or none."""
     env = {'LD_PRELOAD': library, 'REFUSE': str(number)} if number else {}
@@ -161,7 +204,15 @@ def is_said(row, whole):
     if not row.calls:
         return (whole.status, whole.output) == row.says and not whole.said
     lines = whole.output.split('\n')
-    return whole.status == 0 and not whole.said and row.says in (None, lines[:2])
+    is_read_so = all(map(re.fullmatch, row.says or [], lines)) and is_read_again(lines, len(row.calls))
+    return whole.status == 0 and not whole.said and is_read_so
+
+
+def is_read_again(lines, count):
+    """Whether a second parser answers the same, of which the lines behind that number are, where the first one read all, with no fault."""
+    first, again = lines[:count], lines[count:-1]
+    is_clean = not first[0].startswith('refused') and first[1:3] == ['true', '']
+    return not again or not is_clean or first == again
 
 
 def is_beginning(faults, whole):
@@ -206,14 +257,25 @@ def stage_of_calls(row, whole, run):
     found, wanted = run.output.split('\n'), whole.output.split('\n')
     if len(found) != len(wanted):
         return None
+    count = len(row.calls)
+    first, again = found[:count], found[count:]
+    if not are_as_wanted(row.calls, first, wanted[:count]):
+        return None
+    if any(map(WANTED.fullmatch, first)):
+        return None if any(map(WANTS.search, again)) else 1
+    return 1 if are_as_wanted(row.calls, again, wanted[count:]) else None
+
+
+def are_as_wanted(calls, found, wanted):
+    """Whether the lines of a parser are the wanted ones, up to one that wants memory, and behind it as they must be."""
     at = next((at for at, line in enumerate(found) if line != wanted[at]), len(found))
     if at == len(found):
-        return 1
+        return True
     has_failed = bool(WANTED.fullmatch(found[at]))
     if not has_failed and not is_part(found[at], wanted[at]):
-        return None
-    behind = range(at + 1, len(row.calls))
-    return 1 if all(is_afterwards(row.calls[it], found[it], wanted[it], has_failed) for it in behind) else None
+        return False
+    behind = range(at + 1, len(calls))
+    return all(is_afterwards(calls[it], found[it], wanted[it], has_failed) for it in behind)
 
 
 def is_part(found, wanted):
@@ -247,7 +309,7 @@ def begin(path):
 
 def main():
     path, refusing, show_expr = sys.argv[1:]
-    rows = list(program_rows(show_expr)) + list(call_rows(refusing))
+    rows = [*program_rows(show_expr), *call_rows(refusing), *hook_rows(refusing), *slash_rows(refusing)]
     counts = [0, 0, 0]
     with Pool(os.cpu_count(), begin, [path]) as pool:
         for *some, wrong in pool.imap_unordered(refuse_each, rows, 4):

@@ -12,7 +12,8 @@
 /// `parse_expr_id` for `parse_expr`, too, and so with each other call by number (numbered.rt). Calls on
 /// patterns stand in patterns.rt, those on left-hand sides in left_hand.rt, those on arrow functions in
 /// arrows.rt, those on heads of `for` in heads.rt, those that make patterns of expressions in
-/// refining.rt, and those of the hook and of a parser's parts in handed_over.rt.
+/// refining.rt, those of the hook and of a parser's parts in handed_over.rt, and those in a pedantic syntax in
+/// pedantic.rt.
 pub(crate) const CALLS: &str =
     r"parse_expr; parse_assignment_expr; parse_bin_expr; parse_unary_expr; at_end; parse_lit; at_end | script | a + b c d * e {f} 7 | Bin(+, a, b) 0..5; c 6..7; Bin(*, d, e) 8..13; Object{f} 14..17; false; 7 18..19; true | none | end
 parse_bin_expr | script without_in | a in b | a 0..1 | none | 2..4

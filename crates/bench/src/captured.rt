@@ -1,8 +1,7 @@
 // What is kept of the tokens of a source.
 use crate::hooks::TestBodies;
-use crate::settings::source_of;
+use crate::settings::{slashes_of, source_of};
 use crate::shown::{Shown, show};
-use crate::slashes::slashes_of;
 use crate::sources::FailingInput;
 use bench_lower::rows::{Row, Subject, answers, expect, row_of};
 use std::alloc::{AllocError, Global};

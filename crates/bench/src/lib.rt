@@ -1,5 +1,6 @@
 //! Tests that cross crates, as rows of tables: runs of the program, calls of the parser and of its
-//! buffer, words and operators.
+//! buffer, words and operators. The source that gives slashes is public, for the program in which
+//! requests for memory are refused.
 #![tactic(auto)]
 
 #[cfg(test)]
@@ -39,6 +40,8 @@ mod parsing;
 #[cfg(test)]
 mod patterns;
 #[cfg(test)]
+mod pedantic;
+#[cfg(test)]
 mod program;
 #[cfg(test)]
 mod reaching;
@@ -52,8 +55,7 @@ mod replaying;
 mod settings;
 #[cfg(test)]
 mod shown;
-#[cfg(test)]
-mod slashes;
+pub mod slashes;
 pub mod sources;
 #[cfg(test)]
 mod trees;

@@ -25,7 +25,7 @@ use swc_trees::letting_go::let_go_params;
 /// A token is asked for at the first look at it: what stands behind the name that an assignment expression begins with
 /// before that is read, since it may be `=>`. At a `?` behind a name that is a look for the `.` of an optional
 /// chain: so what most rows have before a `?` ends with `++`. In two rows an operand is refused, and reading goes on in
-/// the context from before.
+/// the context from before. A pedantic syntax changes none of this.
 const CONTEXTS: &str = r"parse_expr | script | a ? b : c | a; ?; b no_type; : cond colon; c cond
 parse_expr | script | a++ ? b : c | a; ++; ?; b cond colon; : cond colon; c cond
 parse_expr | script | a++ ? b++ ? c : d : e | a; ++; ?; b cond colon; ++ cond colon; ? cond colon; c cond colon; : cond colon; d cond; : cond; e cond
@@ -239,6 +239,12 @@ fn read(parser: &mut Parser<NotingInput, TestBodies>, call: &str) {
 fn contexts_at_tokens(rt: HostRuntime) -> Result<(), Fail> {
     for line in CONTEXTS.lines() {
         let row = row_of(line).ok_or(line)?;
+        expect(line, &found(rt.alloc(), row)?, row.answer)?;
+        let setting = format!(in rt.alloc(); "pedantic {}", row.setting)?;
+        let row = Row {
+            setting: setting.as_str(),
+            ..row
+        };
         expect(line, &found(rt.alloc(), row)?, row.answer)?;
     }
     Ok(())

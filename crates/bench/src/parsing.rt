@@ -7,12 +7,12 @@ use crate::hooks::{TestBodies, consume};
 use crate::left_hand::LEFT_HAND;
 use crate::numbered::{by_number, show_in};
 use crate::patterns::PATTERNS;
+use crate::pedantic::{PEDANTIC, has_row};
 use crate::reaching::{REACHING, show_reached, show_reached_params, show_reached_pat};
 use crate::refining::REFINING;
 use crate::reparsing::{params_of_items, reparse, reparse_invalid, reparse_other};
-use crate::settings::{setting_of, source_of};
+use crate::settings::{setting_of, slashes_of, source_of};
 use crate::shown::{Shown, show, show_faults, show_label, show_refusal};
-use crate::slashes::slashes_of;
 use crate::sources::FailingInput;
 use crate::trees::{show_id, show_pat_id};
 use crate::verifying::{VERIFYING, verify, verify_other};
@@ -397,14 +397,35 @@ fn run<I: Tokens>(alloc: Global, source: I, row: Row<'_>, numbers: bool) -> Resu
     }
 }
 
-/// The rows of a table have to hold.
+/// The row has to hold; and with calls by number too, where it tells nothing of nodes and is of one parser.
+fn hold_row(alloc: Global, line: &str, row: Row<'_>) -> Result<(), Fail> {
+    expect(line, &found(alloc, row, false)?, row.answer)?;
+    if !row.calls.contains("nodes") && !row.calls.contains("next_parser") {
+        expect(line, &found(alloc, row, true)?, row.answer)?;
+    }
+    Ok(())
+}
+
+/// The row has to hold where the syntax is pedantic, unless `PEDANTIC` says what else comes out there.
+fn hold_pedantically(alloc: Global, line: &str, row: Row<'_>) -> Result<(), Fail> {
+    let setting = format!(in alloc; "pedantic {}", row.setting)?;
+    let row = Row {
+        setting: setting.as_str(),
+        ..row
+    };
+    if has_row(PEDANTIC, row) {
+        return Ok(());
+    }
+    let line = format!(in alloc; "pedantic: {line}")?;
+    hold_row(alloc, line.as_str(), row)
+}
+
+/// The rows of a table have to hold, and where the syntax is pedantic too.
 fn hold(alloc: Global, rows: &str) -> Result<(), Fail> {
     for line in rows.lines() {
         let row = row_of(line).ok_or(line)?;
-        expect(line, &found(alloc, row, false)?, row.answer)?;
-        if !row.calls.contains("nodes") && !row.calls.contains("next_parser") {
-            expect(line, &found(alloc, row, true)?, row.answer)?;
-        }
+        hold_row(alloc, line, row)?;
+        hold_pedantically(alloc, line, row)?;
     }
     Ok(())
 }
@@ -452,4 +473,9 @@ fn calls_of_the_hook_and_of_parts_of_parsers(rt: HostRuntime) -> Result<(), Fail
 #[test]
 fn calls_that_walk_over_nodes(rt: HostRuntime) -> Result<(), Fail> {
     hold(rt.alloc(), REACHING)
+}
+
+#[test]
+fn calls_in_a_pedantic_syntax(rt: HostRuntime) -> Result<(), Fail> {
+    hold(rt.alloc(), PEDANTIC)
 }

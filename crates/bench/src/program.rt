@@ -1,4 +1,5 @@
 // Runs of the program: what it is given, and what it writes.
+use crate::pedantic::has_row;
 use bench_lower::rows::{Row, expect, row_of, unescaped};
 use show::run::run;
 use std::alloc::Global;
@@ -8,7 +9,8 @@ use std::test::Fail;
 use std::{io, str};
 
 /// Arguments, a text, and what is written of it, on standard error after `stderr: `; then the
-/// status, and whether the text was left unread. `failing` input can't be read on behind the text.
+/// status, and whether the text was left unread. `failing` input can't be read on behind the text. With the argument
+/// `pedantic` the same is written, but for the rows that have it.
 pub(crate) const RUNS: &str = r#"show_expr | expr script | 5 + 4 * 7 | Bin(+, 5, Bin(*, 4, 7))\n | 0
 show_expr | expr script | 5 + 4 + 7 | Bin(+, Bin(+, 5, 4), 7)\n | 0
 show_expr | expr script | 2 ** 3 ** 4 | Bin(**, 2, Bin(**, 3, 4))\n | 0
@@ -52,16 +54,43 @@ show_expr | expr script | this | this\n | 0
 show_expr | expr script | [a, , ...b] | Array[a, -, ...b]\n | 0
 show_expr | expr script | [a, | refused: Eof 3..3\n | 2
 show_expr | expr script | a + [b, ...c] * this | Bin(+, a, Bin(*, Array[b, ...c], this))\n | 0
-show_expr | expr | 5 | stderr: usage: show_expr expr|pat script|module|strict|generator|async\n | 3, unread
-show_expr |  | 5 | stderr: usage: show_expr expr|pat script|module|strict|generator|async\n | 3, unread
-show_expr | expr script x | 5 | stderr: usage: show_expr expr|pat script|module|strict|generator|async\n | 3, unread
-show_expr | expr script pedantic | 5 | stderr: usage: show_expr expr|pat script|module|strict|generator|async\n | 3, unread
-show_expr | pat | 5 | stderr: usage: show_expr expr|pat script|module|strict|generator|async\n | 3, unread
-show_expr | pat script x | 5 | stderr: usage: show_expr expr|pat script|module|strict|generator|async\n | 3, unread
-show_expr | expr pedantic | 5 | stderr: usage: show_expr expr|pat script|module|strict|generator|async\n | 3, unread
-show_expr | expr Script | 5 | stderr: usage: show_expr expr|pat script|module|strict|generator|async\n | 3, unread
-show_expr | script expr | 5 | stderr: usage: show_expr expr|pat script|module|strict|generator|async\n | 3, unread
-show_expr | module pat | 5 | stderr: usage: show_expr expr|pat script|module|strict|generator|async\n | 3, unread
+show_expr | expr | 5 | stderr: usage: show_expr expr|pat script|module|strict|generator|async [pedantic]\n | 3, unread
+show_expr |  | 5 | stderr: usage: show_expr expr|pat script|module|strict|generator|async [pedantic]\n | 3, unread
+show_expr | expr script x | 5 | stderr: usage: show_expr expr|pat script|module|strict|generator|async [pedantic]\n | 3, unread
+show_expr | expr script pedant | 5 | stderr: usage: show_expr expr|pat script|module|strict|generator|async [pedantic]\n | 3, unread
+show_expr | expr script Pedantic | 5 | stderr: usage: show_expr expr|pat script|module|strict|generator|async [pedantic]\n | 3, unread
+show_expr | expr script pedantic x | 5 | stderr: usage: show_expr expr|pat script|module|strict|generator|async [pedantic]\n | 3, unread
+show_expr | expr pedantic script | 5 | stderr: usage: show_expr expr|pat script|module|strict|generator|async [pedantic]\n | 3, unread
+show_expr | pedantic expr script | 5 | stderr: usage: show_expr expr|pat script|module|strict|generator|async [pedantic]\n | 3, unread
+show_expr | expr x pedantic | 5 | stderr: usage: show_expr expr|pat script|module|strict|generator|async [pedantic]\n | 3, unread
+show_expr | expr script pedantic | 5 | 5\n | 0
+show_expr | expr async pedantic | await a | Await(a)\n | 0
+show_expr | expr module pedantic | await | await\nInvalidIdentInAsync 0..5\n | 1
+show_expr | pat script pedantic | a | a\n | 0
+show_expr | pat strict pedantic | [a = {b = 1}] | Array[Assign(a, Object{b = 1})]\nAssignProperty 6..11\n | 1
+show_expr | expr script pedantic | #a in b | Bin(in, #a, b)\n | 0
+show_expr | expr script pedantic | #a | #a\nPrivateNameNotLeftOfIn 0..2\n | 1
+show_expr | expr script pedantic | 1 + #a in b | Bin(in, Bin(+, 1, #a), b)\nPrivateNameNotLeftOfIn 4..6\n | 1
+show_expr | expr script pedantic | # a in b | refused: SpaceBetweenHashAndIdent 0..1\n | 2
+show_expr | expr script pedantic | # a | refused: SpaceBetweenHashAndIdent 0..1\n | 2
+show_expr | expr script pedantic | # 1 | refused: SpaceBetweenHashAndIdent 0..1\n | 2
+show_expr | expr script pedantic | import(a, b) | Call(import, [a, b])\nImportArguments 6..12\n | 1
+show_expr | expr script pedantic | import(a, b, c) | Call(import, [a, b, c])\nImportArguments 6..15\n | 1
+show_expr | expr script pedantic | async x\n=> x | refused: LineBreakBeforeArrow 0..7\n | 2
+show_expr | expr script pedantic | [{a = 1}] | Array[Object{a = 1}]\nAssignProperty 2..7\n | 1
+show_expr | expr script pedantic | [{a = 1}] = b | Assign(=, Array[Object{a = 1}], b)\n | 0
+show_expr | expr script pedantic | ({a = 1}) | Paren(Object{a = 1})\nAssignProperty 2..7\n | 1
+show_expr | expr script pedantic | {async *g(){}, get [k]() {}, a: [b, , ...c], d = 1} | Object{AsyncGeneratorMethod(g, [], <2>), Getter([k], <2>), a: Array[b, -, ...c], d = 1}\nAssignProperty 45..50\n | 1
+show_expr | expr script pedantic | {class = 1} | Object{class = 1}\nReservedWordInObjShorthandOrPat 1..6\nAssignProperty 1..10\n | 1
+show_expr | expr script pedantic | f({a = 1}) | Call(f, [Object{a = 1}])\nAssignProperty 3..8\n | 1
+show_expr | expr script pedantic | [{a = 1}] b | Array[Object{a = 1}]\nunread\nAssignProperty 2..7\n | 1
+show_expr | expr script pedantic | (a {b = 1} | refused: Expected 3..4 ,\n | 2
+show_expr | pat | 5 | stderr: usage: show_expr expr|pat script|module|strict|generator|async [pedantic]\n | 3, unread
+show_expr | pat script x | 5 | stderr: usage: show_expr expr|pat script|module|strict|generator|async [pedantic]\n | 3, unread
+show_expr | expr pedantic | 5 | stderr: usage: show_expr expr|pat script|module|strict|generator|async [pedantic]\n | 3, unread
+show_expr | expr Script | 5 | stderr: usage: show_expr expr|pat script|module|strict|generator|async [pedantic]\n | 3, unread
+show_expr | script expr | 5 | stderr: usage: show_expr expr|pat script|module|strict|generator|async [pedantic]\n | 3, unread
+show_expr | module pat | 5 | stderr: usage: show_expr expr|pat script|module|strict|generator|async [pedantic]\n | 3, unread
 show_expr of failing input | expr script |  | stderr: cannot read standard input\n | 3
 show_expr of failing input | expr script | 5 + 4 | stderr: cannot read standard input\n | 3
 show_expr | expr script | function f() { return {} } | Fn<9>\n | 0
@@ -475,6 +504,22 @@ fn fails_without_room(
     Ok(())
 }
 
+/// The row has to hold with the argument `pedantic` too, unless it is there, or a row says what else is written then.
+fn hold_pedantically(alloc: Global, line: &str, row: Row<'_>) -> Result<(), Fail> {
+    let setting = format!(in alloc; "{} pedantic", row.setting)?;
+    let other = Row {
+        setting: setting.as_str(),
+        ..row
+    };
+    if row.setting.contains("pedantic") || has_row(RUNS, other) {
+        return Ok(());
+    }
+    let wanted = unescaped(alloc, row.answer)?;
+    let (found, _) = ran(alloc, other)?;
+    let line = format!(in alloc; "pedantic: {line}")?;
+    expect(line.as_str(), &found, &wanted)
+}
+
 #[test]
 fn runs_of_the_program(rt: HostRuntime) -> Result<(), Fail> {
     for line in RUNS.lines() {
@@ -483,6 +528,7 @@ fn runs_of_the_program(rt: HostRuntime) -> Result<(), Fail> {
         let (found, length) = ran(rt.alloc(), row)?;
         expect(line, &found, &wanted)?;
         fails_without_room(&rt, rt.alloc(), row, length)?;
+        hold_pedantically(rt.alloc(), line, row)?;
     }
     Ok(())
 }

@@ -1,6 +1,8 @@
 // The settings in which calls are made.
 use crate::hooks::TestBodies;
-use bench_lower::rows::Row;
+use crate::slashes::slashes_of_text;
+use crate::sources::SlashInput;
+use bench_lower::rows::{Row, unescaped};
 use bench_lower::tokens::tokens_of;
 use std::alloc::Global;
 use std::test::Fail;
@@ -17,6 +19,13 @@ pub(crate) fn source_of(alloc: Global, row: Row<'_>) -> Result<TokensInput, Fail
     Ok(TokensInput::new_at(alloc, start, tokens, context, syntax, target))
 }
 
+/// The source of the row's text that gives slashes, in its setting.
+pub(crate) fn slashes_of(alloc: Global, row: Row<'_>) -> Result<SlashInput, Fail> {
+    let (context, syntax) = setting_of(row.setting).ok_or("no setting")?;
+    let text = unescaped(alloc, row.text)?;
+    Ok(slashes_of_text(alloc, text.as_str(), context, syntax).ok_or("no tokens")?)
+}
+
 /// Where a source with no tokens begins in the setting.
 fn start_of(setting: &str) -> BytePos {
     if setting.contains("at_7") {
@@ -26,7 +35,8 @@ fn start_of(setting: &str) -> BytePos {
     }
 }
 
-/// The context and the syntax of some words: a mode of the program, and then, in their order, what differs from it.
+/// The context and the syntax of some words: a mode of the program, and then, in their order, what differs from it;
+/// `pedantic` may stand first.
 pub(crate) fn setting_of(words: &str) -> Option<(Context, Syntax)> {
     let mut context = Context {
         include_in_expr: true,
@@ -37,6 +47,7 @@ pub(crate) fn setting_of(words: &str) -> Option<(Context, Syntax)> {
         match word {
             "no_early_errors" => syntax.early_errors = false,
             "attributes" => syntax.import_attributes = true,
+            "pedantic" => syntax.pedantic = true,
             "super_anywhere" => syntax.allow_super_outside_method = true,
             _ => set(&mut context, word)?,
         }

@@ -3,13 +3,10 @@ ghost use Rattle.std.specs.Prelude.{◌≡◌, ◌≤◌, Some};
 ghost use Rattle.bench.specs.Slashes.{NextFrom, TakesAt, hinted_tokens, index_at};
 ghost use Rattle.swc_input.specs.Source.{hint_brings};
 
-use crate::settings::setting_of;
 use crate::sources::SlashInput;
-use bench_lower::rows::{Row, unescaped};
 use std::alloc::{AllocError, Global};
-use std::test::Fail;
 use swc_context::context::{Context, EsVersion, Syntax, TokenContexts};
-use swc_context::error::Error;
+use swc_context::error::{Error, SyntaxError};
 use swc_context::operator::{AssignOp, BinOpToken};
 use swc_context::span::{BytePos, Span};
 use swc_input::listed::TokensInput;
@@ -165,29 +162,33 @@ impl Tokens for SlashInput {
     }
 }
 
-/// The source of the row's text, in its setting.
-pub(crate) fn slashes_of(alloc: Global, row: Row<'_>) -> Result<SlashInput, Fail> {
-    let (context, syntax) = setting_of(row.setting).ok_or("no setting")?;
-    let text = unescaped(alloc, row.text)?;
-    let tokens = divided(alloc, text.as_str())?;
-    let regexes = regexes_in(alloc, text.as_str(), &tokens)?;
+/// The source of a text that has no `%`. There is none where the text has no tokens, or memory is wanted.
+pub fn slashes_of_text(
+    alloc: Global,
+    text: &str,
+    context: Context,
+    syntax: Syntax,
+) -> Option<SlashInput> {
+    let tokens = divided(alloc, text)?;
+    let regexes = regexes_in(alloc, text, &tokens).ok()?;
     let list = TokensInput::new(alloc, tokens, context, syntax, EsVersion::default());
-    Ok(SlashInput::new(list, regexes))
+    Some(SlashInput::new(list, regexes))
 }
 
 /// The tokens of the text, which has no `%`, where each slash in it divides: as the reader of tokens gives them, where
 /// a `%` stands for each slash.
-fn divided(alloc: Global, text: &str) -> Result<Vec<TokenAndSpan>, Fail> {
-    let text = text.replace(alloc, '/', "%")?;
+fn divided(alloc: Global, text: &str) -> Option<Vec<TokenAndSpan>> {
+    let text = text.replace(alloc, '/', "%").ok()?;
     let mut tokens = Vec::new(alloc);
-    for next in read_tokens(alloc, text.as_bytes())? {
-        tokens.push(TokenAndSpan {
+    for next in read_tokens(alloc, text.as_bytes()).ok()? {
+        let token = TokenAndSpan {
             token: with_slash(next.token),
             had_line_break: next.had_line_break,
             span: next.span,
-        })?;
+        };
+        tokens.push(token).ok()?;
     }
-    Ok(tokens)
+    Some(tokens)
 }
 
 /// The token, with a slash for its `%`.
@@ -207,7 +208,7 @@ fn regexes_in(
 ) -> Result<Vec<TokenAndSpan>, AllocError> {
     let mut regexes = Vec::new(alloc);
     for token in tokens {
-        if let Some(regex) = regex_at(alloc, text, token.span.lo, token.had_line_break) {
+        if let Some(regex) = regex_at(alloc, text, token.span.lo, token.had_line_break)? {
             regexes.push(regex)?;
         }
     }
@@ -221,9 +222,22 @@ fn regex_at(
     text: &str,
     start: BytePos,
     had_line_break: bool,
+) -> Result<Option<TokenAndSpan>, AllocError> {
+    let rest = text.as_bytes().get(start.0 as usize..).unwrap_or(&[]);
+    match read_tokens(alloc, rest) {
+        Ok(tokens) => Ok(first_regex(tokens, start, had_line_break)),
+        Err(fault) if *fault.kind() == SyntaxError::OutOfMemory => Err(AllocError),
+        Err(_) => Ok(None),
+    }
+}
+
+/// The first token, moved to the place, if it is a regular expression.
+fn first_regex(
+    tokens: Vec<TokenAndSpan>,
+    start: BytePos,
+    had_line_break: bool,
 ) -> Option<TokenAndSpan> {
-    let rest = text.as_bytes().get(start.0 as usize..)?;
-    let first = read_tokens(alloc, rest).ok()?.into_iter().next()?;
+    let first = tokens.into_iter().next()?;
     if !matches!(&first.token, Token::Regex(..)) {
         return None;
     }

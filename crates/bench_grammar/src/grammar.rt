@@ -48,6 +48,10 @@ Head = Head Group -> _ within 2
 /// token that is left behind it: an expression before `;`, `)` or the end, or a place that each turn writes to, before
 /// `of` or `in`. There `let` is an identifier, as docs/DIFFERENCES.md says.
 ///
+/// In a `pedantic` mode `# Name` is what the standard says (13.10.1), and so are the arguments of `import` (13.3.10), of
+/// which there may be two where it has `attributes`. There no line break stands before the `=>` of `async x => ..`
+/// (15.9), and no object that stays one has a property `name = value` (13.2.5.1).
+///
 /// `Pattern` is a binding pattern (14.3.3), or an identifier that is bound, and `Parameters` are formal parameters
 /// (15.1) and the `)` behind them. As docs/DIFFERENCES.md says, a name of an object pattern that stands alone may be
 /// `eval`, `arguments` or `static` anywhere, one with an initialiser is any word, and a comma may stand behind a
@@ -66,7 +70,7 @@ Head = Head Group -> _ within 2
 /// these.
 ///
 /// A call of `async` with which an assignment expression begins has no object with a property `name = value` by itself:
-/// so no list has `=`, braces and operators beside `async`, nor `new`.
+/// so no list of ten tokens or more has `=`, braces and operators beside `async`, nor `new`.
 ///
 /// Marks, which are no tokens, look at what follows: behind `@` stands the end, `)`, `]`, `,`, `}`, `;` or a line
 /// break that no `*` follows, behind `no-break` no line break, behind `no-brace` no `{`, behind `no-paren` no `(` on
@@ -141,7 +145,7 @@ Other = Object -> _
 Other = Head Block -> _<$>
 Other = Round Bare ) -> Paren(_)
 Other = Round Bares ) -> Paren(Seq(_))
-Other = # Name -> #_
+Other = # Name -> #_ unless pedantic
 Template = `` -> Tpl(``)
 Template = `${ Substitutions }` -> Tpl(``, _, ``)
 Other = Template -> _
@@ -161,8 +165,12 @@ Link = new Member Arguments -> New(_, _)
 Link = new Begun Arguments -> New(_, _)
 Link = new . target -> new.target only target
 Link = import . meta -> import.meta only module
-Imported = ( ) -> []
-Imported = ( List ) -> [_]
+Imported = ( ) -> [] unless pedantic
+Imported = ( List ) -> [_] unless pedantic
+Imported = ( Assign ) -> [_] only pedantic
+Imported = ( Assign , ) -> [_] only attributes
+Imported = ( Assign , Assign ) -> [_, _] only attributes
+Imported = ( Assign , Assign , ) -> [_, _] only attributes
 Call = super Arguments -> Call(super, _)
 Call = import Imported -> Call(import, _)
 Call = import . source Imported -> Call(import.source, _)
@@ -256,6 +264,7 @@ Relation = Relation <= Shift -> Bin(<=, _, _)
 Relation = Relation >= Shift -> Bin(>=, _, _)
 Relation = Relation instanceof Shift -> Bin(instanceof, _, _)
 Relation = Relation in Shift -> Bin(in, _, _)
+Relation = # Name in Shift -> Bin(in, #_, _) only pedantic
 Equality = Relation -> _
 Equality = Equality == Relation -> Bin(==, _, _)
 Equality = Equality != Relation -> Bin(!=, _, _)
@@ -380,7 +389,7 @@ ArrowHead = Lone -> [_]
 ArrowHead = \ra -> [a]
 ArrowHead = Heads -> _
 AsyncHead = async AsyncLone => -> [_]
-AsyncHead = async AsyncLone \r=> -> [_]
+AsyncHead = async AsyncLone \r=> -> [_] unless pedantic
 AsyncHead = async no-break Heads => -> _
 Arrow = ArrowHead => Body -> Arrow(_, _)
 Arrow = AsyncHead AsyncBody -> AsyncArrow(_, _)
@@ -490,7 +499,7 @@ Pattern = Bound -> _
 Parameters = ) -> []
 Parameters = FormalParameters ) -> [_]
 Property = Open -> _
-Property = Open = Assign -> _ = _
+Property = Open = Assign -> _ = _ unless pedantic
 Property = Key : Assign -> _: _
 Property = Key Formal Block -> Method(_, _, _)
 Property = * Key Formal Block -> GeneratorMethod(_, _, _)
@@ -575,7 +584,7 @@ const MARKS: [(&str, &str); 5] = [
 const SHARED: &str = "Any Block Head";
 
 /// What each mode has, where that is more than its name.
-const FEATURES: [(&str, &str); 9] = [
+const FEATURES: [(&str, &str); 13] = [
     ("module", "module strict"),
     ("generator", "generator function target"),
     ("async", "async function target"),
@@ -591,6 +600,10 @@ const FEATURES: [(&str, &str); 9] = [
         "for-await-async",
         "for-await without-in async function target",
     ),
+    ("pedantic-attributes", "pedantic attributes"),
+    ("pedantic-generator", "pedantic generator function target"),
+    ("pedantic-without-in", "pedantic without-in"),
+    ("pedantic-for-of", "pedantic for-of without-in"),
 ];
 
 /// A list, or the front of one, and its tree, in which `_` stands for what isn't there yet. A token

@@ -272,10 +272,30 @@ a new of . ( ) ; | for-of | 0 2 8 16 50 110 346 870
 eval let await of in ; ( ) [ ] | for-of | 0 4 19 28 99 284
 eval let await of in ; ( ) [ ] | for-of-strict | 0 4 17 28 95 284
 eval let await of in ; ( ) [ ] | for-of-module | 0 2 9 17 46 130
+async of a \r=> => ( ) | pedantic-for-of | 0 3 5 15 39 99 306
+a of { } = ; | pedantic-for-of | 0 2 5 8 12 21 37 76
 a yield * of in ; ( ) , | for-of-generator | 0 3 13 30 97 331
 a yield of => ( ) ; | for-of-generator | 0 3 11 20 56 139 380
 async await of => ( ) ; | for-await-async | 0 2 8 16 45 104 294
 a await of in . [ ] ; | for-await-async | 0 2 9 18 57 131 431
+";
+
+/// The same in a pedantic syntax, and what differs without it.
+const PEDANTIC: &str = "\
+# a in import ( ) { } = , async => | script | 0 2 5 23 86 363
+# a in import ( ) { } = , async => | pedantic | 0 2 1 22 38 265
+# a in == < ( ) . | pedantic | 0 1 0 7 5 52 67
+# a in - ** ++ new | pedantic | 0 1 4 8 32 98 264
+# a in || ?? ? : | pedantic | 0 1 0 3 2 8 10
+# a in [ ] , ... = | pedantic | 0 1 1 5 14 41 136
+# a in ( ) = => | pedantic-without-in | 0 1 0 4 2 17 20
+# a yield in delete ( ) | pedantic-generator | 0 2 3 8 23 60
+import ( ) , a ... | pedantic | 0 1 0 3 2 12 16 61
+import ( ) , a ... | pedantic-attributes | 0 1 0 3 2 13 17 68
+import . source ( ) , | pedantic-attributes | 0 1 0 5 2 28 27 173
+async of => ( ) \r=> \ra a | pedantic | 0 4 0 24 32 148 416
+a { } ( ) , = [ ] | pedantic | 0 1 2 7 20 68 220
+a { } ( ) = => async | pedantic | 0 2 1 14 18 106 286
 ";
 
 /// The lists of one token more.
@@ -427,4 +447,9 @@ fn reads_assignments_to_patterns(rt: HostRuntime) -> Result<(), AllocError> {
 #[test]
 fn reads_heads_of_for(rt: HostRuntime) -> Result<(), AllocError> {
     agree_in(&rt, rt.alloc(), "ForHead", HEADS)
+}
+
+#[test]
+fn reads_in_a_pedantic_syntax(rt: HostRuntime) -> Result<(), AllocError> {
+    agree_in(&rt, rt.alloc(), "Whole", PEDANTIC)
 }

@@ -184,7 +184,7 @@ fn write_found(
     call: &str,
     mode: &str,
 ) -> Result<(), AllocError> {
-    let mut parser = parser_over(*out.allocator(), tokens, context_of(mode));
+    let mut parser = parser_over(*out.allocator(), tokens, mode);
     write_outcome(out, &mut parser, call, mode)
 }
 

@@ -17,7 +17,16 @@ use swc_trees::putting::{put_expr, put_pat};
 
 pub(crate) type ListedParser = Parser<TokensInput, TokenBodies>;
 
-/// The context of a mode, which is words.
+/// The syntax of a mode, which is words.
+fn syntax_of(mode: &str) -> Syntax {
+    Syntax {
+        import_attributes: mode.contains("attributes"),
+        pedantic: mode.contains("pedantic"),
+        ..Syntax::default()
+    }
+}
+
+/// The context of a mode.
 pub(crate) fn context_of(mode: &str) -> Context {
     let in_generator = mode.contains("generator");
     let in_async = mode.contains("async");
@@ -37,16 +46,12 @@ pub(crate) fn context_of(mode: &str) -> Context {
     }
 }
 
-pub(crate) fn parser_over(
-    alloc: Global,
-    tokens: Vec<TokenAndSpan>,
-    context: Context,
-) -> ListedParser {
+pub(crate) fn parser_over(alloc: Global, tokens: Vec<TokenAndSpan>, mode: &str) -> ListedParser {
     let source = TokensInput::new(
         alloc,
         tokens,
-        context,
-        Syntax::default(),
+        context_of(mode),
+        syntax_of(mode),
         EsVersion::default(),
     );
     Parser::new_from(alloc, source, TokenBodies::new(alloc))
@@ -66,7 +71,7 @@ pub(crate) struct Found {
 /// What the parser makes of the text in the mode, where it reads what the symbol stands for.
 pub(crate) fn found_in(alloc: Global, text: &str, mode: &str, symbol: &str) -> PResult<Found> {
     let tokens = read_tokens(alloc, text.as_bytes())?;
-    let mut parser = parser_over(alloc, tokens, context_of(mode));
+    let mut parser = parser_over(alloc, tokens, mode);
     let read = match symbol {
         "Pattern" => pattern_tree(&mut parser),
         "Parameters" => parameters_tree(alloc, &mut parser),

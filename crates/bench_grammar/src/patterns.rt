@@ -35,6 +35,8 @@ a ? : [ ] = , | script | 0 1 1 2 4 10 25 67
 a + ( ) [ ] = | script | 0 1 1 1 1 2 4 12
 async get set { } , : = | script | 0 3 1 3 3 27 33
 function { } ( ) [ ] = a | script | 0 1 2 2 2 5 10
+a { } = | script | 0 1 1 1 0 1 1 2 2 5
+a { } = | pedantic | 0 1 1 1 0 1 1 2 2 4
 ";
 
 /// The same of parameters, whose `)` is the last token.
@@ -52,6 +54,8 @@ let eval yield await arguments , ) = | static-block | 0 1 4 4 36
 let eval yield await arguments , ) = | class-field | 0 1 4 4 32
 a yield await = , ) ... | generator | 0 1 2 4 10 20
 a yield await = , ) ... | async | 0 1 2 4 8 16
+a { } = ) | script | 0 1 1 1 2 2 5 6 12
+a { } = ) | pedantic | 0 1 1 1 2 2 5 6 11
 ";
 
 #[test]

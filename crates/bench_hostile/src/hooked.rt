@@ -210,22 +210,12 @@ where
     }
 }
 
-/// How a hook of the name is hostile.
-fn manner_of(name: &str) -> Option<Manner> {
-    match name {
-        "RefuseAt" => Some(Manner::RefuseAt),
-        "RecordAt" => Some(Manner::RecordAt),
-        "ReadOnAt" => Some(Manner::ReadOnAt),
-        _ => None,
-    }
-}
-
 /// What is made of the row with the hook that is written so.
 fn found(alloc: Global, hook: &str, row: Row<'_>) -> Result<String, Fail> {
     let (name, number) = hook.split_once(' ').ok_or("no hook")?;
     let number = number.parse()?;
     let source = source_of(alloc, tokens_of(alloc, row.text)?, row.setting, "loud")?;
-    match manner_of(name) {
+    match Manner::named(name) {
         Some(manner) => {
             let hook = HostileBodies::new(alloc, manner, number);
             shown(alloc, source, hook, row.calls)

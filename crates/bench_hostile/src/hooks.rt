@@ -21,13 +21,25 @@ use swc_input::tokens::Tokens;
 
 /// What a hook does at one of its calls.
 #[derive(Clone, Copy)]
-pub(crate) enum Manner {
+pub enum Manner {
     /// Consumes one token, and refuses `Lex` at it.
     RefuseAt,
     /// Records `Lex` at the first token, and then reads.
     RecordAt,
     /// Records `Lex` at the first token, reads, and then consumes all tokens that are left, far past the body.
     ReadOnAt,
+}
+
+impl Manner {
+    /// How a hook of the name is hostile.
+    pub fn named(name: &str) -> Option<Manner> {
+        match name {
+            "RefuseAt" => Some(Manner::RefuseAt),
+            "RecordAt" => Some(Manner::RecordAt),
+            "ReadOnAt" => Some(Manner::ReadOnAt),
+            _ => None,
+        }
+    }
 }
 
 /// Counts calls up to the one that is meant.
@@ -48,7 +60,7 @@ impl Turn {
 
 /// A hook that reads as `TokenBodies` does, but for one call.
 #[derive(Drop)]
-pub(crate) struct HostileBodies {
+pub struct HostileBodies {
     taker: TokenBodies,
     manner: Manner,
     turn: Turn,
@@ -63,7 +75,7 @@ pub(crate) struct FailAt {
 
 impl HostileBodies {
     /// A hook that does this at the call of the number, counted from 1.
-    pub(crate) fn new(alloc: Global, manner: Manner, number: u32) -> HostileBodies {
+    pub fn new(alloc: Global, manner: Manner, number: u32) -> HostileBodies {
         HostileBodies {
             taker: TokenBodies::new(alloc),
             manner,

@@ -1,8 +1,8 @@
 //! Tests of hostile use, as rows of tables: places that go backwards, error tokens, lists that are cut, hooks that do
-//! otherwise than they might, and deep nesting. Each call returns, and keeps the context.
+//! otherwise than they might, and deep nesting. Each call returns, and keeps the context. The hooks are public, for the
+//! program in which requests for memory are refused.
 #![tactic(auto)]
 
-#[cfg(test)]
 mod breaking;
 #[cfg(test)]
 mod cuts;
@@ -10,8 +10,7 @@ mod cuts;
 mod disorder;
 #[cfg(test)]
 mod hooked;
-#[cfg(test)]
-mod hooks;
+pub mod hooks;
 #[cfg(test)]
 mod nesting;
 #[cfg(test)]

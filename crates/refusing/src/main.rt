@@ -6,14 +6,18 @@ mod calls;
 mod rows;
 mod shown;
 
-use crate::calls::answers;
-use crate::rows::{Row, row_of, source_of, tokens_of};
+use crate::calls::{answers, answers_twice};
+use crate::rows::{Row, row_of, slashes_of, source_of, tokens_of};
 use crate::shown::{show_copies, show_kept};
+use bench_hostile::hooks::{HostileBodies, Manner};
 use std::alloc::Global;
 use std::io::{Read, Write};
 use std::process::ExitCode;
 use std::{io, str};
+use swc_ecma_parser::bodies::none::NoBodies;
+use swc_ecma_parser::bodies::token_bodies::TokenBodies;
 use swc_ecma_parser::input::capturing::Capturing;
+use swc_ecma_parser::input::listed::TokensInput;
 
 /// The status where no line was written: memory was wanted before the first call, or there is no such row.
 const NOT_BEGUN: u8 = 3;
@@ -22,7 +26,12 @@ const NOT_BEGUN: u8 = 3;
 const ROOM: usize = 16384;
 
 /// The lines of what the calls of a row answer. The row is the setting, a line break, the calls, parted by `; `, a line
-/// break, and the text. In a setting that begins with `kept` the source keeps its tokens.
+/// break, and the text.
+///
+/// In a setting that begins with `kept` the source keeps its tokens. In one that ends with `slashes` it keeps them, and
+/// gives slashes: an expression is read, and again of the tokens kept, and then the calls are made on each of the two
+/// parsers. Behind any other setting, and ` with `, there may be a hook and a number: `NoBodies`, or a hostile one, and
+/// the number of the call at which it is that.
 fn lines_of(alloc: Global, row: &[u8]) -> Option<String> {
     let row = row_of(str::from_utf8(row).ok()?)?;
     let mut lines = String::with_capacity(alloc, ROOM).ok()?;
@@ -34,14 +43,31 @@ fn write_lines(alloc: Global, out: &mut String, row: Row<'_>) -> Option<()> {
     if row.calls == "try_clone" {
         return show_copies(out, &tokens_of(alloc, row.text)?).ok();
     }
+    if row.setting.ends_with("slashes") {
+        return answers_twice(alloc, out, slashes_of(alloc, row)?, row.calls).ok();
+    }
     let source = source_of(alloc, row)?;
     if !row.setting.starts_with("kept") {
-        return answers(alloc, out, source, row.calls).ok();
+        return write_hooked(alloc, out, source, row);
     }
     let source = Capturing::new(alloc, source);
     match row.calls {
         "next" => show_kept(out, source, row.text.len().saturating_add(1)).ok(),
-        _ => answers(alloc, out, source, row.calls).ok(),
+        _ => answers(alloc, out, source, TokenBodies::new(alloc), row.calls).ok(),
+    }
+}
+
+/// Makes the calls with the hook of the row.
+fn write_hooked(alloc: Global, out: &mut String, source: TokensInput, row: Row<'_>) -> Option<()> {
+    let (name, number) = row.hook.split_once(' ')?;
+    match name {
+        "TokenBodies" => answers(alloc, out, source, TokenBodies::new(alloc), row.calls).ok(),
+        "NoBodies" => answers(alloc, out, source, NoBodies, row.calls).ok(),
+        _ => {
+            let manner = Manner::named(name)?;
+            let hook = HostileBodies::new(alloc, manner, number.parse().ok()?);
+            answers(alloc, out, source, hook, row.calls).ok()
+        }
     }
 }
 

@@ -1,4 +1,6 @@
-// A row: where code stands, what is called, and on which tokens.
+// A row: where code stands, which hook there is, what is called, and on which tokens.
+use bench::slashes::slashes_of_text;
+use bench::sources::SlashInput;
 use bench_lower::tokens::{kind_of, span_of};
 use std::alloc::Global;
 use swc_ecma_parser::context::context::{Context, EsVersion, Syntax};
@@ -11,6 +13,7 @@ use swc_ecma_parser::tokens::read_tokens;
 #[derive(Clone, Copy)]
 pub(crate) struct Row<'a> {
     pub(crate) setting: &'a str,
+    pub(crate) hook: &'a str,
     pub(crate) calls: &'a str,
     pub(crate) text: &'a str,
 }
@@ -18,28 +21,44 @@ pub(crate) struct Row<'a> {
 pub(crate) fn row_of(text: &str) -> Option<Row<'_>> {
     let (setting, rest) = text.split_once('\n')?;
     let (calls, text) = rest.split_once('\n')?;
+    let (setting, hook) = setting
+        .split_once(" with ")
+        .unwrap_or((setting, "TokenBodies 1"));
     Some(Row {
         setting,
+        hook,
         calls,
         text,
     })
 }
 
-/// The source of the row's tokens, in its setting: words, of which the first one may be a mode of the program.
+/// The source of the row's tokens, in its setting.
 pub(crate) fn source_of(alloc: Global, row: Row<'_>) -> Option<TokensInput> {
-    let mut context = Context::script();
-    let mut syntax = Syntax::default();
-    for word in row.setting.split(' ') {
-        set(&mut context, &mut syntax, word)?;
-    }
+    let (context, syntax) = setting_of(row.setting)?;
     let tokens = tokens_of(alloc, row.text)?;
     Some(TokensInput::new(alloc, tokens, context, syntax, EsVersion::default()))
+}
+
+/// The source of the row's text that gives slashes, in its setting.
+pub(crate) fn slashes_of(alloc: Global, row: Row<'_>) -> Option<SlashInput> {
+    let (context, syntax) = setting_of(row.setting)?;
+    slashes_of_text(alloc, row.text, context, syntax)
+}
+
+/// The context and the syntax of some words, of which the first one may be a mode of the program.
+fn setting_of(words: &str) -> Option<(Context, Syntax)> {
+    let mut context = Context::script();
+    let mut syntax = Syntax::default();
+    for word in words.split(' ') {
+        set(&mut context, &mut syntax, word)?;
+    }
+    Some((context, syntax))
 }
 
 /// Changes what the word says.
 fn set(context: &mut Context, syntax: &mut Syntax, word: &str) -> Option<()> {
     match word {
-        "script" | "kept" => {}
+        "script" | "kept" | "slashes" => {}
         "strict" => *context = Context::strict(),
         "module" => *context = Context::module(),
         "generator" => *context = Context::generator(),

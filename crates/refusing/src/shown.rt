@@ -5,8 +5,7 @@ use swc_ecma_parser::ast::for_head::ForHead;
 use swc_ecma_parser::ast::function::Param;
 use swc_ecma_parser::ast::prop::{ComputedPropName, PropName};
 use swc_ecma_parser::ast::spanned::Spanned;
-use swc_ecma_parser::bodies::bodies::ExprOf;
-use swc_ecma_parser::bodies::token_bodies::TokenBodies;
+use swc_ecma_parser::bodies::bodies::{BodyForms, ExprOf};
 use swc_ecma_parser::context::atom::Atom;
 use swc_ecma_parser::context::error::{Error, PResult};
 use swc_ecma_parser::input::capturing::Capturing;
@@ -16,7 +15,7 @@ use swc_ecma_parser::input::tokens::Tokens;
 use swc_ecma_parser::nodes::node::{ExprId, PatId};
 use swc_ecma_parser::nodes::nodes::{Nodes, NodesOf};
 use swc_ecma_parser::parser::{ForHeadOf, PatOf};
-use swc_ecma_parser::printing::print::PrintNodes;
+use swc_ecma_parser::printing::print::{Kept, PrintNodes};
 use swc_ecma_parser::trees::letting_go::let_go_exprs;
 use swc_ecma_parser::trees::putting::{put_expr, put_pat};
 
@@ -59,9 +58,9 @@ pub(crate) fn show_name(out: &mut String, answer: PResult<Option<Atom>>) -> Resu
 }
 
 /// Writes the expression of that number, and its place.
-pub(crate) fn show_id(
+pub(crate) fn show_id<B: BodyForms<Fun: Kept, Class: Kept, Block: Kept>>(
     out: &mut String,
-    nodes: &NodesOf<TokenBodies>,
+    nodes: &NodesOf<B>,
     id: ExprId,
 ) -> Result<(), AllocError> {
     if !nodes.has_expr(id) {
@@ -74,9 +73,9 @@ pub(crate) fn show_id(
 }
 
 /// Writes the pattern of that number, and its place.
-pub(crate) fn show_pat_id(
+pub(crate) fn show_pat_id<B: BodyForms<Fun: Kept, Class: Kept, Block: Kept>>(
     out: &mut String,
-    nodes: &NodesOf<TokenBodies>,
+    nodes: &NodesOf<B>,
     id: PatId,
 ) -> Result<(), AllocError> {
     if !nodes.has_pat(id) {
@@ -89,42 +88,42 @@ pub(crate) fn show_pat_id(
 }
 
 /// Writes the patterns of parameters, each with a `;` behind it.
-pub(crate) fn show_params(
+pub(crate) fn show_params<B: BodyForms<Fun: Kept, Class: Kept, Block: Kept>>(
     out: &mut String,
-    nodes: &NodesOf<TokenBodies>,
+    nodes: &NodesOf<B>,
     params: &[Param<PatId>],
 ) -> Result<(), AllocError> {
     for param in params {
-        show_pat_id(out, nodes, param.pat)?;
+        show_pat_id::<B>(out, nodes, param.pat)?;
         out.push_str(";")?;
     }
     Ok(())
 }
 
 /// Writes patterns, each with a `;` behind it.
-pub(crate) fn show_pats(
+pub(crate) fn show_pats<B: BodyForms<Fun: Kept, Class: Kept, Block: Kept>>(
     out: &mut String,
-    nodes: &NodesOf<TokenBodies>,
+    nodes: &NodesOf<B>,
     pats: &[PatId],
 ) -> Result<(), AllocError> {
     for pat in pats {
-        show_pat_id(out, nodes, *pat)?;
+        show_pat_id::<B>(out, nodes, *pat)?;
         out.push_str(";")?;
     }
     Ok(())
 }
 
 /// A boxed tree is moved into nodes, and shown as they are.
-pub(crate) fn show_expr(
+pub(crate) fn show_expr<B: BodyForms<Fun: Kept, Class: Kept, Block: Kept>>(
     out: &mut String,
-    answer: PResult<Box<ExprOf<TokenBodies>>>,
+    answer: PResult<Box<ExprOf<B>>>,
 ) -> Result<(), AllocError> {
     match answer {
         Ok(expr) => {
             let alloc = *out.allocator();
             let mut nodes = Nodes::new(alloc);
             match put_expr(&mut nodes, alloc, expr) {
-                Ok(id) => show_id(out, &nodes, id),
+                Ok(id) => show_id::<B>(out, &nodes, id),
                 Err(_) => out.push_str(NO_MEMORY),
             }
         }
@@ -133,16 +132,16 @@ pub(crate) fn show_expr(
 }
 
 /// A boxed pattern is moved into nodes, and shown as they are.
-pub(crate) fn show_pat(
+pub(crate) fn show_pat<B: BodyForms<Fun: Kept, Class: Kept, Block: Kept>>(
     out: &mut String,
-    answer: PResult<PatOf<TokenBodies>>,
+    answer: PResult<PatOf<B>>,
 ) -> Result<(), AllocError> {
     match answer {
         Ok(pat) => {
             let alloc = *out.allocator();
             let mut nodes = Nodes::new(alloc);
             match put_pat(&mut nodes, alloc, pat) {
-                Ok(id) => show_pat_id(out, &nodes, id),
+                Ok(id) => show_pat_id::<B>(out, &nodes, id),
                 Err(_) => out.push_str(NO_MEMORY),
             }
         }
@@ -151,19 +150,19 @@ pub(crate) fn show_pat(
 }
 
 /// The head of a `for`: a pattern, or an expression.
-pub(crate) fn show_head(
+pub(crate) fn show_head<B: BodyForms<Fun: Kept, Class: Kept, Block: Kept>>(
     out: &mut String,
-    answer: PResult<ForHeadOf<TokenBodies>>,
+    answer: PResult<ForHeadOf<B>>,
 ) -> Result<(), AllocError> {
     match answer {
         Ok(ForHead::Target(pat)) => {
             let begun = out.push_str("Target ");
-            let written = show_pat(out, Ok(Box::into_inner(pat)));
+            let written = show_pat::<B>(out, Ok(Box::into_inner(pat)));
             begun.and(written)
         }
         Ok(ForHead::Expr(expr)) => {
             let begun = out.push_str("Expr ");
-            let written = show_expr(out, Ok(expr));
+            let written = show_expr::<B>(out, Ok(expr));
             begun.and(written)
         }
         Err(fault) => show_refusal(out, &fault),
@@ -171,12 +170,12 @@ pub(crate) fn show_head(
 }
 
 /// A key: how it is written, or what stands in its brackets.
-pub(crate) fn show_key(
+pub(crate) fn show_key<B: BodyForms<Fun: Kept, Class: Kept, Block: Kept>>(
     out: &mut String,
-    answer: PResult<PropName<Box<ExprOf<TokenBodies>>>>,
+    answer: PResult<PropName<Box<ExprOf<B>>>>,
 ) -> Result<(), AllocError> {
     match answer {
-        Ok(PropName::Computed(ComputedPropName { expr, .. })) => show_expr(out, Ok(expr)),
+        Ok(PropName::Computed(ComputedPropName { expr, .. })) => show_expr::<B>(out, Ok(expr)),
         Ok(PropName::Ident(name)) => out.push_str(name.sym.as_str()),
         Ok(PropName::Str(text)) => out.push_str(text.raw.as_str()),
         Ok(PropName::Num(number)) => out.push_str(number.raw.as_str()),
@@ -186,9 +185,9 @@ pub(crate) fn show_key(
 }
 
 /// A template: its texts as they are written, and how many expressions it has.
-pub(crate) fn show_tpl(
+pub(crate) fn show_tpl<B: BodyForms<Fun: Kept, Class: Kept, Block: Kept>>(
     out: &mut String,
-    answer: PResult<Tpl<Box<ExprOf<TokenBodies>>>>,
+    answer: PResult<Tpl<Box<ExprOf<B>>>>,
 ) -> Result<(), AllocError> {
     match answer {
         Ok(Tpl { exprs, quasis, .. }) => {

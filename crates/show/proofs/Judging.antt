@@ -1,5 +1,5 @@
 -- What is shown of a list of tokens is judged as what was read of it.
-use Rattle.std.proofs.Common.{◌≡◌, Bool, true, false, List, Result, Ok, Err, refl, sym, subst, ◌∙◌}
+use Rattle.std.proofs.Common.{Bool, true, List, Result, Ok, Err, refl, sym, subst, ◌∙◌}
 use Rattle.swc_context.specs.declared.context.Context.{Context}
 use Rattle.swc_context.specs.declared.context.Syntax.{Syntax}
 use Rattle.swc_context.specs.declared.error.Error.{Error}
@@ -11,13 +11,15 @@ use Rattle.swc_bodies.specs.Taking.{token_forms}
 use Rattle.swc_grammar.specs.Symbols.{Symbol}
 use Rattle.swc_nodes.specs.declared.nodes.Nodes.{Nodes}
 use Rattle.swc_ecma_parser.specs.WholeList.{plain_list, IsHeeded, Headline}
-use Rattle.show.specs.Answers.{as_default, Judged, Shows}
+use Rattle.show.specs.Answers.{Judged, Shows}
 use Rattle.show.specs.declared.answer.Shown.{Shown}
 
 module _ {N : Type 0} {fg cg kg : Ghosts Body} (s : Symbol) (tree : Nodes Body Body Body fg cg kg → N → Tree Body Body Body)
-    (c : Context) (ts : List TokenAndSpan) (nodes : Nodes Body Body Body fg cg kg) (recorded : List Error) where
+    (c : Context) (x : Syntax) (ts : List TokenAndSpan) (nodes : Nodes Body Body Body fg cg kg)
+    (recorded : List Error) where
   pub judged_of : (read : Result (N × Bool) Error) (shown : Result Shown Error)
-      → Headline true token_forms s tree c as_default (plain_list ts) read nodes recorded → Shows read shown → Judged s c ts shown recorded
+      → Headline true token_forms s tree c x (plain_list ts) read nodes recorded → Shows read shown
+      → Judged s c x ts shown recorded
   judged_of (Ok r) (Ok v) h same = record {
     sound = λ whole none. record { tree = tree nodes r.0; reads = h.sound (sym same ∙ whole) none };
     complete = λ d. let found = h.complete refl d.tree d.reads in (same ∙ found.1, found.2);
@@ -27,16 +29,13 @@ module _ {N : Type 0} {fg cg kg : Ghosts Body} (s : Symbol) (tree : Nodes Body B
     complete = λ d. wanting;
   }
   judged_of (Err e) shown h same =
-      subst (λ v. Judged s c ts v recorded) (sym same) (record {
+      subst (λ v. Judged s c x ts v recorded) (sym same) (record {
         sound = tt;
         complete = λ d. h.complete refl d.tree d.reads;
       })
 
-  -- the same where faults are recorded, by the syntax in which the program reads
-  pub judged_by : (x : Syntax) {read : Result (N × Bool) Error} {shown : Result Shown Error} → x ≡ as_default
-      → c.ignore_error ≡ false
+  -- the same where faults are recorded
+  pub judged_by : {read : Result (N × Bool) Error} {shown : Result Shown Error} → IsHeeded c x
       → (IsHeeded c x → Headline true token_forms s tree c x (plain_list ts) read nodes recorded) → Shows read shown
-      → Judged s c ts shown recorded
-  judged_by x {read} {shown} same heeded h shows =
-      let headed = λ (y : Syntax). IsHeeded c y → Headline true token_forms s tree c y (plain_list ts) read nodes recorded in
-      judged_of read shown (subst headed same h (heeded, refl)) shows
+      → Judged s c x ts shown recorded
+  judged_by {read} {shown} heeded h shows = judged_of read shown (h heeded) shows

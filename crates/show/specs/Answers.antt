@@ -15,14 +15,20 @@ use Rattle.swc_tokens.specs.Reading.{AreRead}
 use Rattle.swc_grammar.specs.Symbols.{Symbol, Expr, Pat}
 use Rattle.swc_grammar.specs.Reads.{Reads}
 use Rattle.swc_steps.specs.Parsing.{scope_of}
+use Rattle.swc_ecma_parser.specs.Promise.{Finished, covers_done}
 use Rattle.swc_ecma_parser.specs.WholeList.{plain_list}
 use Rattle.show.specs.declared.answer.Shown.{Shown}
 use Rattle.show.specs.declared.answer.What.{What}
 use Rattle.show.specs.declared.answer.What.TheVariants as kind
 
--- the syntax in which the program reads
+-- the syntax in which the program reads, if no flag asks for another
 abbrev pub as_default : Syntax
-as_default = record { early_errors = true; import_attributes = false; allow_super_outside_method = false }
+as_default = record {
+  early_errors = true;
+  import_attributes = false;
+  allow_super_outside_method = false;
+  pedantic = false;
+}
 
 -- the text's tokens, as the reader of tokens promises them
 pub record AreTokens (text : List ℕ) (ts : List TokenAndSpan) : Type 0 where
@@ -39,26 +45,29 @@ abbrev pub symbol_of : What → Symbol
 symbol_of kind.Expr = Expr
 symbol_of kind.Pat = Pat
 
--- a tree of the symbol that the written grammar derives from all of the tokens; four flags of the context decide nothing (`view`)
-pub record Derived (s : Symbol) (c : Context) (ts : List TokenAndSpan) : Type 0 where
+-- a tree of the symbol that the written grammar derives from all of the tokens, in which no cover name is left if the
+-- syntax is pedantic; four flags of the context decide nothing (`view`)
+pub record Derived (s : Symbol) (c : Context) (x : Syntax) (ts : List TokenAndSpan) : Type 0 where
   pub tree : Tree Body Body Body
-  pub reads : Reads token_forms s (scope_of (view c) as_default) (plain_list ts) [] tree
+  pub reads : Finished covers_done (Reads token_forms s) (scope_of (view c) x) (plain_list ts) [] tree
 
 -- what is answered of a text's tokens, and recorded
-pub record Judged (s : Symbol) (c : Context) (ts : List TokenAndSpan) (shown : Result Shown Error) (recorded : List Error) : Type 0 where
+pub record Judged (s : Symbol) (c : Context) (x : Syntax) (ts : List TokenAndSpan) (shown : Result Shown Error)
+    (recorded : List Error) : Type 0 where
   -- Where no token is left and nothing was recorded, the written grammar derives a tree from all of them.
-  pub sound : IfOk shown (λ v. v.unread ≡ false → recorded ≡ [] → Derived s c ts)
+  pub sound : IfOk shown (λ v. v.unread ≡ false → recorded ≡ [] → Derived s c x ts)
   -- Where it derives a tree from all of them, that is so, or memory was wanted.
-  pub complete : Derived s c ts
+  pub complete : Derived s c x ts
       → MatchResult shown (λ v. (v.unread ≡ false) × (recorded ≡ [])) (λ e. e.kind ≡ OutOfMemory)
 
--- what is answered of a text that is read as the symbol in a context, and recorded
-pub data Answers (s : Symbol) (c : Context) (text : List ℕ) : Result Shown Error → List Error → Type 0 where
+-- what is answered of a text that is read as the symbol in a context by a syntax, and recorded
+pub data Answers (s : Symbol) (c : Context) (x : Syntax) (text : List ℕ)
+    : Result Shown Error → List Error → Type 0 where
   -- The text's tokens can't be read.
-  refused : {e : Error} → IsTokenFault text e → Answers s c text (Err e) []
+  refused : {e : Error} → IsTokenFault text e → Answers s c x text (Err e) []
   -- They were read.
   judged : {ts : List TokenAndSpan} {shown : Result Shown Error} {recorded : List Error} → AreTokens text ts
-      → Judged s c ts shown recorded → Answers s c text shown recorded
+      → Judged s c x ts shown recorded → Answers s c x text shown recorded
 
 -- what was read is shown: whether tokens are left behind it, or the refusal; there may be no memory for its text
 abbrev pub Shows : {N : Type 0} → Result (N × Bool) Error → Result Shown Error → Type 0

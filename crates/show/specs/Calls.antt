@@ -1,14 +1,17 @@
 -- What the program is asked to do, and what it answers.
-use Rattle.std.specs.Prelude.{◌≡◌, ℕ, if◌then◌else◌, List, [], ◌∷◌, Option, Some, None, IsSome, IfSome, Result, Ok, Err, codes}
+use Rattle.std.specs.Prelude.{◌≡◌, ℕ, true, if◌then◌else◌, List, [], ◌∷◌, Option, Some, None, IsSome, IfSome}
+use Rattle.std.specs.Prelude.{Result, Ok, Err, codes}
 use Rattle.swc_context.specs.Contexts.{script_context, module_context, strict_context, generator_context, async_context}
 use Rattle.swc_context.specs.Texts.{is_text}
 use Rattle.swc_context.specs.declared.context.Context.{Context}
+use Rattle.swc_context.specs.declared.context.Syntax.{Syntax}
 use Rattle.swc_context.specs.declared.error.Error.{Error}
 use Rattle.swc_grammar.specs.Symbols.{Symbol}
+use Rattle.show.specs.declared.answer.Asked.{Asked}
 use Rattle.show.specs.declared.answer.Shown.{Shown}
 use Rattle.show.specs.declared.answer.What.{What}
 use Rattle.show.specs.declared.answer.What.TheVariants as kind
-use Rattle.show.specs.Answers.{Answers}
+use Rattle.show.specs.Answers.{as_default, Answers}
 
 -- the context of a mode
 abbrev pub context_of_mode : List ℕ → Option Context
@@ -20,24 +23,34 @@ context_of_mode mode =
     else (if is_text mode (codes "async") then Some async_context
     else None))))
 
--- what is asked for in a mode
-abbrev pub asked_with : What → Option Context → Option (What × Context)
-asked_with what None = None
-asked_with what (Some c) = Some (what, c)
+-- the syntax of a flag
+abbrev pub syntax_of_flag : List ℕ → Option Syntax
+syntax_of_flag flag = if is_text flag (codes "pedantic") then Some (record as_default { pedantic = true }) else None
 
-abbrev pub asked_in : What → List ℕ → Option (What × Context)
-asked_in what mode = asked_with what (context_of_mode mode)
+-- what is asked for in a mode, by a syntax
+abbrev pub asked_with : What → Option Context → Syntax → Option Asked
+asked_with what None x = None
+asked_with what (Some c) x = Some (record { what = what; context = c; syntax = x })
+
+abbrev pub asked_in : What → List ℕ → Syntax → Option Asked
+asked_in what mode x = asked_with what (context_of_mode mode) x
 
 -- by two words: `expr` or `pat`, and a mode
-abbrev pub asked_by_words : List ℕ → List ℕ → Option (What × Context)
-asked_by_words what mode =
-    if is_text what (codes "expr") then asked_in kind.Expr mode
-    else (if is_text what (codes "pat") then asked_in kind.Pat mode
+abbrev pub asked_by_words : List ℕ → List ℕ → Syntax → Option Asked
+asked_by_words what mode x =
+    if is_text what (codes "expr") then asked_in kind.Expr mode x
+    else (if is_text what (codes "pat") then asked_in kind.Pat mode x
     else None)
 
--- by the arguments
-abbrev pub asked_by : List (List ℕ) → Option (What × Context)
-asked_by (what ∷ mode ∷ []) = asked_by_words what mode
+-- the same by the syntax of a flag
+abbrev pub asked_by_flag : List ℕ → List ℕ → Option Syntax → Option Asked
+asked_by_flag what mode None = None
+asked_by_flag what mode (Some x) = asked_by_words what mode x
+
+-- by the arguments: two words, and a flag or none
+abbrev pub asked_by : List (List ℕ) → Option Asked
+asked_by (what ∷ mode ∷ []) = asked_by_words what mode as_default
+asked_by (what ∷ mode ∷ flag ∷ []) = asked_by_flag what mode (syntax_of_flag flag)
 asked_by arguments = None
 
 abbrev pub Asks : List (List ℕ) → Type 0
@@ -49,10 +62,11 @@ status (Err e) es = 2
 status (Ok s) [] = 0
 status (Ok s) (e ∷ es) = 1
 
--- the status of a run that reads a symbol in a context, over an input that gives these bytes, where they are known
-pub data Runs (s : Symbol) (c : Context) (given : Option (List ℕ)) : ℕ → Type 0 where
+-- the status of a run that reads a symbol in a context by a syntax, over an input that gives these bytes, where they
+-- are known
+pub data Runs (s : Symbol) (c : Context) (x : Syntax) (given : Option (List ℕ)) : ℕ → Type 0 where
   -- The input couldn't be read, or the answer couldn't be written.
-  fails : Runs s c given 3
+  fails : Runs s c x given 3
   -- What the input gave was answered.
   answers : {text : List ℕ} {shown : Result Shown Error} {recorded : List Error} → IfSome given (λ bytes. text ≡ bytes)
-      → Answers s c text shown recorded → Runs s c given (status shown recorded)
+      → Answers s c x text shown recorded → Runs s c x given (status shown recorded)

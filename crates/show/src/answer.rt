@@ -1,10 +1,11 @@
 // What the parser makes of a source text.
-ghost use Rattle.std.specs.Prelude.{◌≡◌, false, IfOk};
+ghost use Rattle.std.specs.Prelude.{◌≡◌, IfOk};
 ghost use Rattle.show.specs.Answers.{Answers, Judged, Shows, symbol_of};
 ghost use Rattle.show.specs.Calls as calls;
 ghost use Rattle.swc_grammar.specs.Symbols.{Expr, Pat};
 ghost use Rattle.swc_nodes.specs.NodeParts.{expr_part, pat_part};
 ghost use Rattle.swc_nodes.specs.GrowingNodes.{From};
+ghost use Rattle.swc_ecma_parser.specs.WholeList.{IsHeeded};
 
 use std::alloc::Global;
 use std::mem::forget;
@@ -25,6 +26,14 @@ pub enum What {
     Expr,
     /// A binding pattern.
     Pat,
+}
+
+/// What a text is read as, in which context, and by which syntax.
+#[derive(Clone, Copy)]
+pub struct Asked {
+    pub what: What,
+    pub context: Context,
+    pub syntax: Syntax,
 }
 
 /// A tree, printed.
@@ -61,13 +70,13 @@ impl Answer {
     }
 }
 
-/// Reads the text as an expression or a pattern. A fault of the reader of tokens is a refusal.
-pub fn answer_to(alloc: Global, text: &[u8], what: What, ctx: Context) -> Answer
-    ensures { ctx.ignore_error ≡ false
-        → Answers (symbol_of what) ctx text.now result.shown result.recorded.items }
+/// Reads the text as it is asked. A fault of the reader of tokens is a refusal.
+pub fn answer_to(alloc: Global, text: &[u8], asked: Asked) -> Answer
+    ensures { IsHeeded asked.context asked.syntax
+        → Answers (symbol_of asked.what) asked.context asked.syntax text.now result.shown result.recorded.items }
 {
     match read_tokens(alloc, text) {
-        Ok(tokens) => answer_to_tokens(alloc, tokens, what, ctx),
+        Ok(tokens) => answer_to_tokens(alloc, tokens, asked),
         Err(fault) => Answer {
             shown: Err(fault),
             recorded: Vec::new(alloc),
@@ -75,20 +84,20 @@ pub fn answer_to(alloc: Global, text: &[u8], what: What, ctx: Context) -> Answer
     }
 }
 
-/// Reads the tokens as an expression or a pattern.
-fn answer_to_tokens(alloc: Global, tokens: Vec<TokenAndSpan>, what: What, ctx: Context) -> Answer
-    ensures { ctx.ignore_error ≡ false
-        → Judged (symbol_of what) ctx tokens.items result.shown result.recorded.items }
+/// Reads the tokens as it is asked.
+fn answer_to_tokens(alloc: Global, tokens: Vec<TokenAndSpan>, asked: Asked) -> Answer
+    ensures { IsHeeded asked.context asked.syntax
+        → Judged (symbol_of asked.what) asked.context asked.syntax tokens.items result.shown result.recorded.items }
 {
-    match what {
-        What::Expr => answer_expr(alloc, tokens, ctx),
-        What::Pat => answer_pat(alloc, tokens, ctx),
+    match asked.what {
+        What::Expr => answer_expr(alloc, tokens, asked.context, asked.syntax),
+        What::Pat => answer_pat(alloc, tokens, asked.context, asked.syntax),
     }
 }
 
 /// Reads the tokens as an expression.
-fn answer_expr(alloc: Global, tokens: Vec<TokenAndSpan>, ctx: Context) -> Answer
-    ensures { ctx.ignore_error ≡ false → Judged Expr ctx tokens.items result.shown result.recorded.items }
+fn answer_expr(alloc: Global, tokens: Vec<TokenAndSpan>, ctx: Context, syntax: Syntax) -> Answer
+    ensures { IsHeeded ctx syntax → Judged Expr ctx syntax tokens.items result.shown result.recorded.items }
 {
     let Whole {
         read,
@@ -98,7 +107,7 @@ fn answer_expr(alloc: Global, tokens: Vec<TokenAndSpan>, ctx: Context) -> Answer
         alloc,
         tokens,
         ctx,
-        Syntax::default(),
+        syntax,
         EsVersion::default(),
         TokenBodies::new(alloc),
     );
@@ -109,8 +118,8 @@ fn answer_expr(alloc: Global, tokens: Vec<TokenAndSpan>, ctx: Context) -> Answer
 }
 
 /// Reads the tokens as a binding pattern.
-fn answer_pat(alloc: Global, tokens: Vec<TokenAndSpan>, ctx: Context) -> Answer
-    ensures { ctx.ignore_error ≡ false → Judged Pat ctx tokens.items result.shown result.recorded.items }
+fn answer_pat(alloc: Global, tokens: Vec<TokenAndSpan>, ctx: Context, syntax: Syntax) -> Answer
+    ensures { IsHeeded ctx syntax → Judged Pat ctx syntax tokens.items result.shown result.recorded.items }
 {
     let Whole {
         read,
@@ -120,7 +129,7 @@ fn answer_pat(alloc: Global, tokens: Vec<TokenAndSpan>, ctx: Context) -> Answer
         alloc,
         tokens,
         ctx,
-        Syntax::default(),
+        syntax,
         EsVersion::default(),
         TokenBodies::new(alloc),
     );

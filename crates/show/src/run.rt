@@ -11,7 +11,7 @@ use std::io::{Read, Write};
 
 const BAD_CALL: u8 = 3;
 
-const USAGE: &str = "usage: show_expr expr|pat script|module|strict|generator|async";
+const USAGE: &str = "usage: show_expr expr|pat script|module|strict|generator|async [pedantic]";
 
 const UNREADABLE: &str = "cannot read standard input";
 
@@ -31,12 +31,12 @@ pub fn run<R: Read, W: Write, C: Write>(
     complaints: &mut C,
 ) -> u8
     ensures status { IfSome (asked_by (map (λ a. a.now) arguments.now))
-        (λ a. Runs (symbol_of a.0) a.1 (R.remaining input.old) result) }
+        (λ a. Runs (symbol_of a.what) a.context a.syntax (R.remaining input.old) result) }
     ensures bad_call { ¬ Asks (map (λ a. a.now) arguments.now) → result ≡ 3 }
     ensures unread { ¬ Asks (map (λ a. a.now) arguments.now) → input.new ≡ input.old }
     ensures unwritten { ¬ Asks (map (λ a. a.now) arguments.now) → output.new ≡ output.old }
 {
-    let Some((what, ctx)) = asked_by(arguments) else {
+    let Some(asked) = asked_by(arguments) else {
         let _ = writeln!(complaints, "{USAGE}");
         return BAD_CALL;
     };
@@ -45,7 +45,7 @@ pub fn run<R: Read, W: Write, C: Write>(
         let _ = writeln!(complaints, "{UNREADABLE}");
         return BAD_CALL;
     }
-    let answer = answer_to(alloc, &text, what, ctx);
+    let answer = answer_to(alloc, &text, asked);
     match write_answer(output, &answer) {
         Ok(()) => answer.status(),
         Err(_) => BAD_CALL,

@@ -12,7 +12,7 @@ use Rattle.swc_input.specs.Kinds.{at_token}
 use Rattle.swc_input.specs.Source.{Model}
 use Rattle.swc_input.specs.declared.buffer.Buffer.{Buffer}
 use Rattle.swc_ast.specs.Tree.{Tree}
-use Rattle.swc_ast.specs.Trees.{ident_e, is_valid, items_of, no_covers, paren_ok}
+use Rattle.swc_ast.specs.Trees.{ident_e, is_valid, covers_ok, paren_ok}
 use Rattle.swc_ast.specs.declared.expr.ExprOrSpread.{ExprOrSpread}
 use Rattle.swc_ast.specs.declared.spanned.Spanned.{Ghosts}
 use Rattle.swc_bodies.specs.Readings.{Hook, LawfulHook, is_async as is_async_token, is_function}
@@ -40,8 +40,8 @@ use Rattle.swc_steps.specs.Keys.{expected, expected_by}
 use Rattle.swc_steps.specs.Lists.{eaten, eaten_by}
 use Rattle.swc_steps.specs.declared.tokens.Listed.{Listed}
 use Rattle.swc_steps.proofs.Args.{inside_args}
-use Rattle.swc_steps.proofs.Endings.{items-clean}
 use Rattle.swc_steps.proofs.Steps.Inner.{inner_is}
+use Rattle.swc_arrows.proofs.Closes.{closed_clean}
 use Rattle.swc_arrows.specs.Readers.{async_base, async_call, base_look, base_plain}
 use Rattle.swc_arrows.specs.Readers.{before_of, is_of_alone, list_opening, listed_base, of_base, operators_behind}
 use Rattle.swc_arrows.specs.Answers.{HearsOperand, Operand}
@@ -184,11 +184,11 @@ module _ {F C K : Type 0} {fun_at : F → Span} {class_at : C → Span} {block_a
   args_read ts us es h = sound hook lawful (Args false) (with_in x) ts (es, us) (sym (inside_args hook false x ts) ∙ h)
 
   paren_read : (a : TokenAndSpan) (vs ws us : List TokenAndSpan) (es e : Tree F C K) → is_lparen a.token ≡ true
-      → Reads hook (Args false) (with_in x) vs ws es → paren_closed (paren_of a.span es) ws ≡ Some (e, us)
+      → Reads hook (Args false) (with_in x) vs ws es → paren_closed (paren_of x a.span es) ws ≡ Some (e, us)
       → Reads hook (Left true) x (a ∷ vs) us e
   paren_read a vs ws us es e y d h =
       let (z, k) = only (not (at_token is_arrow (first ws))) h in
-      let (ok, l) = only (paren_ok es) k in
+      let (ok, l) = only (paren_ok x.syntax.pedantic es) k in
       subst (λ v. Reads hook (Left true) x (a ∷ vs) v.1 v.0) (inj _ (e, us) l)
       (by left-base (part (by base-primary (part (by paren-expr (took (held y (part d (held ok gave))))) gave)) gave))
 
@@ -196,21 +196,21 @@ module _ {F C K : Type 0} {fun_at : F → Span} {class_at : C → Span} {block_a
       → async_name x a.token a.span ≡ Some m → is_lparen b.token ≡ true → Reads hook (Args false) (with_in x) vs ws es
       → async_call (ident_e m.at m.text) es x ws ≡ Some (e, us) → Reads hook (Left true) x (a ∷ b ∷ vs) us e
   call_read a b m vs ws us es e i y d h =
-      let (ok, l) = only (no_covers (items_of es)) h in
+      let (ok, l) = only (covers_ok x.syntax.pedantic es) h in
       subst (λ v. Reads hook (Left true) x (a ∷ b ∷ vs) v.1 v.0) (inj _ (e, us) l)
       (by call (part (async_left hook x n a m (b ∷ vs) i (calm_at x b n (lparen_calm b.token y)))
       (took (held y (part d gave)))))
 
   paren_operand : (ts vs ws us : List TokenAndSpan) (s : Span) (es e : Tree F C K)
       → expected is_lparen x ts ≡ Some (s, vs) → args_inside hook false x vs ≡ Some (es, ws)
-      → paren_closed (paren_of s es) ws ≡ Some (e, us)
+      → paren_closed (paren_of x s es) ws ≡ Some (e, us)
       → Operand hook x ts us e
   paren_operand ts vs ws us s es e h k l =
       let t = expected_took is_lparen x ts s vs h in
       subst (λ v. Operand hook x v us e) (sym t.list)
       (record {
         derived = paren_read t.token vs ws us es e t.is (args_read vs ws es k)
-            (subst (λ v. paren_closed (paren_of v es) ws ≡ Some (e, us)) (sym t.place) l);
+            (subst (λ v. paren_closed (paren_of x v es) ws ≡ Some (e, us)) (sym t.place) l);
         calm = lparen_no_await t.token.token t.is;
       })
 
@@ -304,10 +304,10 @@ module _ {F C K : Type 0} {fg : Ghosts F} {cg : Ghosts C} {kg : Ghosts K} (hook 
       ≡ base_plain o s (args_at ns list) x ts
   unfolding base_look
   list_looks {ns} None s list y vs ws a h x ts =
-      plain_look (at_token is_arrow (first ts)) (paren_of s (args_at ns list) ts)
+      plain_look (at_token is_arrow (first ts)) (paren_of x s (args_at ns list) ts)
       (paren_from (first_start ns (map (λ e. e.expr) list.items.items))
-      (last_end ns (map (λ e. e.expr) list.items.items)) s (args_at ns list) ts)
-      (items-clean hook lawful s list y vs ws ts a h)
+      (last_end ns (map (λ e. e.expr) list.items.items)) x s (args_at ns list) ts)
+      (closed_clean hook lawful s list y vs ws a h x ts)
   list_looks (Some c) s list y vs ws a h x ts = refl
 
   -- what was heard one after another, where the list is one of nodes

@@ -13,7 +13,7 @@ use Rattle.swc_context.specs.declared.word.Word.TheVariants as written
 use Rattle.swc_input.specs.declared.token.Token.{Token}
 use Rattle.swc_input.specs.declared.token.Token.TheVariants as token
 use Rattle.swc_input.specs.declared.token.TokenAndSpan.{TokenAndSpan}
-use Rattle.swc_input.specs.Kinds.{at_token}
+use Rattle.swc_input.specs.Kinds.{at_token, is_hash}
 use Rattle.swc_ast.specs.Tree.{Tree, nil, cons, span_of}
 use Rattle.swc_ast.specs.Trees.{to, arrow_e, ident_e}
 use Rattle.swc_bodies.specs.Readings.{Hook, is_async, is_function, is_function_here}
@@ -24,7 +24,7 @@ use Rattle.swc_grammar.specs.Clean.{asyncs, no_error, begins_yield, begins_arrow
 use Rattle.swc_grammar.specs.Clean.{is_bindable_here, before_of_here, is_arrow_here, is_lparen_here, links, updates}
 use Rattle.swc_grammar.specs.Clean.{climb, begins_new, prefix_at}
 use Rattle.swc_grammar.specs.Names.{Spelling, spelling, may_refer, may_bind, spelled}
-use Rattle.swc_grammar.specs.Rule.{gives, take, check, read, given, ◌>>=◌ as ◌▸◌}
+use Rattle.swc_grammar.specs.Rule.{gives, take, check, peek, read, given, ◌>>=◌ as ◌▸◌}
 use Rattle.swc_grammar.specs.Scope.{Scope, at_head, inner}
 use Rattle.swc_grammar.specs.Symbols.{Assign, Level, Unary, Lhs, Base, Primary, Args, ArrowBody, Side}
 use Rattle.swc_grammar.specs.Tokens.{is_lparen, is_reference, is_put_off, with_in, tk, is_update, is_await}
@@ -39,14 +39,14 @@ use Rattle.swc_steps.proofs.Rules.{operand_splits, async_name_picked}
 use Rattle.swc_steps.proofs.Keys.{then_calls}
 use Rattle.swc_steps.proofs.Steps.Inner.{inner_is}
 use Rattle.swc_steps.specs.Args.{args_inside}
-use Rattle.swc_steps.specs.Keys.{expected, expected_by}
-use Rattle.swc_steps.specs.Lists.{eaten, eaten_by}
+use Rattle.swc_steps.specs.Keys.{expected}
+use Rattle.swc_steps.specs.Lists.{eaten}
 use Rattle.swc_steps.specs.Parsing.{begins_async}
-use Rattle.swc_steps.specs.Readers.{named_expr}
+use Rattle.swc_steps.specs.Readers.{named_expr, operand}
 use Rattle.swc_arrows.specs.Heads.{head_kind}
 use Rattle.swc_arrows.specs.Readers.{others, base_behind, arrow_behind, name_ok, name_behind, name_arrow}
 use Rattle.swc_arrows.specs.Readers.{is_of_alone, async_param, async_of, async_behind, async_arrow, list_rest}
-use Rattle.swc_arrows.specs.Readers.{list_head}
+use Rattle.swc_arrows.specs.Readers.{list_head, arrow_on_line}
 use Rattle.swc_arrows.specs.declared.heads.HeadKind.TheVariants as head
 use Rattle.swc_arrows.proofs.HeadKinds.{Picks, head_picks}
 
@@ -231,20 +231,27 @@ module _ {F C K : Type 0} (hook : Hook F C K) (x : Scope) where
 
   -- what stands behind that name
   abbrev parameter : Spelling → Spelling → Side F C K Assign
-  parameter s n = take (λ t. check (is_arrow t.token) (read (ArrowBody true) x
-      (λ b. gives (arrow_e (to s.at (span_of b)) true b (cons (ident_e n.at n.text) nil)))))
+  parameter s n = peek (λ t. x.syntax.pedantic && t.had_line_break) (take (λ t. check (is_arrow t.token)
+      (read (ArrowBody true) x
+      (λ b. gives (arrow_e (to s.at (span_of b)) true b (cons (ident_e n.at n.text) nil))))))
+
+  abbrev arrowed : Spelling → Spelling → List TokenAndSpan → Out (Tree F C K)
+  arrowed s n us = arrow_on_line x us >>= (λ l. expected is_arrow x l.1
+      >>= (λ q. arrow_behind hook s.at.lo true false (cons (ident_e n.at n.text) nil) x q.1))
 
   parameter_by : (s n : Spelling) (us : List TokenAndSpan) → exec hook (run hook) None (plan (parameter s n)) us
-      ≡ (expected is_arrow x us >>= (λ q. arrow_behind hook s.at.lo true false (cons (ident_e n.at n.text) nil) x q.1))
-  unfolding expected eaten arrow_behind
-  parameter_by s n [] = refl
-  parameter_by s n (u ∷ us) = by_arrow (is_arrow u.token) refl
+      ≡ arrowed s n us
+  unfolding arrow_behind
+  parameter_by s n [] = rw (expected_not is_arrow x [] refl) refl
+  parameter_by s n (u ∷ us) = by_arrow (is_arrow u.token) refl (x.syntax.pedantic && u.had_line_break) refl
     where
-      by_arrow : (b : Bool) → is_arrow u.token ≡ b → exec hook (run hook) None (plan (parameter s n)) (u ∷ us)
-          ≡ (eaten_by (is_arrow u.token) (u ∷ us) >>= (λ p. expected_by p.0 p.1)
-          >>= (λ q. arrow_behind hook s.at.lo true false (cons (ident_e n.at n.text) nil) x q.1))
-      by_arrow true e = rw e (calls (run hook (at (ArrowBody true)) x us) _)
-      by_arrow false e = rw e refl
+      by_arrow : (b : Bool) → is_arrow u.token ≡ b → (w : Bool) → (x.syntax.pedantic && u.had_line_break) ≡ w
+          → exec hook (run hook) None (plan (parameter s n)) (u ∷ us) ≡ arrowed s n (u ∷ us)
+      by_arrow true e true w = rw (e, w) refl
+      by_arrow true e false w =
+          rw (e, w, expected_is is_arrow x u us e) (calls (run hook (at (ArrowBody true)) x us) _)
+      by_arrow false e true w = rw (e, w, expected_not is_arrow x (u ∷ us) e) refl
+      by_arrow false e false w = rw (e, w, expected_not is_arrow x (u ∷ us) e) refl
 
   -- the name, which is bound, and no reserved word
   abbrev named_by : Spelling → Side F C K Assign
@@ -268,9 +275,7 @@ module _ {F C K : Type 0} (hook : Hook F C K) (x : Scope) where
   bound_token t s h = absurd cc
 
   given_by : (o : Option Spelling) (s : Spelling) (us : List TokenAndSpan)
-      → exec hook (run hook) None (plan (given o ▸ parameter s)) us
-      ≡ (one o us >>= (λ p. expected is_arrow x p.1
-      >>= (λ q. arrow_behind hook s.at.lo true false (cons (ident_e p.0.at p.0.text) nil) x q.1)))
+      → exec hook (run hook) None (plan (given o ▸ parameter s)) us ≡ (one o us >>= (λ p. arrowed s p.0 p.1))
   given_by None s us = refl
   given_by (Some n) s us = parameter_by s n us
 
@@ -281,9 +286,7 @@ module _ {F C K : Type 0} (hook : Hook F C K) (x : Scope) where
   param_by s (u ∷ us) h =
       let (l, b) = both (not u.had_line_break) (is_bindable x u.token) h in
       rw l (given_by (async_param_of x u.token u.span) s us)
-      ∙ ap (λ o. one o us >>= (λ p. expected is_arrow x p.1
-      >>= (λ q. arrow_behind hook s.at.lo true false (cons (ident_e p.0.at p.0.text) nil) x q.1)))
-      (bound_token u.token u.span b)
+      ∙ ap (λ o. one o us >>= (λ p. arrowed s p.0 p.1)) (bound_token u.token u.span b)
 
 module _ {F C K : Type 0} (hook : Hook F C K) (x : Scope) (n : x.head ≡ false) where
   -- ---- `async` as an identifier, where no assignment expression begins
@@ -313,11 +316,17 @@ module _ {F C K : Type 0} (hook : Hook F C K) (x : Scope) (n : x.head ≡ false)
       ∙ rw (h, k, l) (then_calls (run hook (at (Lhs true)) x ts) _ (λ e us. run hook (updates e) x us)
       (λ e us. last hook (Some 11) (updates e) (inner x) us refl ∙ ap (λ y. run hook (updates e) y us) (inner_is x n)))
 
-  level_goes : (ts : List TokenAndSpan) → run hook (at (Level 1)) x ts
+  level_goes : (ts : List TokenAndSpan) → at_token is_hash (first ts) ≡ false → run hook (at (Level 1)) x ts
       ≡ (run hook (at Unary) x ts >>= (λ p. run hook (climb p.0 0) x p.1))
-  level_goes ts =
+  unfolding operand
+  level_goes ts h =
       operand_splits hook 0 x ts (omega arith)
-      ∙ bind_same (run hook (at Unary) x ts) _ _ (λ p. ap (λ y. run hook (climb p.0 0) y p.1) (inner_is x n))
+      ∙ rw (h, and_false x.syntax.pedantic) (bind_same (run hook (at Unary) x ts) _ _
+      (λ p. ap (λ y. run hook (climb p.0 0) y p.1) (inner_is x n)))
+    where
+      and_false : (a : Bool) → (a && false) ≡ false
+      and_false true = refl
+      and_false false = refl
 
   base_goes : (ts : List TokenAndSpan) → at_token is_new (first ts) ≡ false → at_token is_super (first ts) ≡ false
       → at_token is_import (first ts) ≡ false → run hook (at (Base true)) x ts ≡ run hook (at Primary) x ts
@@ -333,7 +342,7 @@ module _ {F C K : Type 0} (hook : Hook F C K) (x : Scope) (n : x.head ≡ false)
       ≡ goes (named_expr x (tk (token.Word (written.Ident w)) b s ∷ us))
   async_word w b s us h f =
       let ts = tk (token.Word (written.Ident w)) b s ∷ us in
-      level_goes ts
+      level_goes ts refl
       ∙ ap (λ o. o >>= (λ p. run hook (climb p.0 0) x p.1)) (unary_goes ts refl refl refl
       ∙ ap (λ o. o >>= (λ p. run hook (updates p.0) x p.1)) (lhs_goes ts refl
       ∙ ap (λ o. o >>= (λ p. run hook (links true p.0) x p.1)) (base_goes ts refl refl refl
@@ -375,10 +384,9 @@ module _ {F C K : Type 0} (hook : Hook F C K) (x : Scope) where
   no_arrow s [] h = refl
   no_arrow s (u ∷ us) h = by_word (spelled (may_bind x.context) u.token u.span)
     where
-      by_word : (o : Option Spelling) → (one o us >>= (λ p. expected is_arrow x p.1
-          >>= (λ q. arrow_behind hook s.at.lo true false (cons (ident_e p.0.at p.0.text) nil) x q.1))) ≡ None
+      by_word : (o : Option Spelling) → (one o us >>= (λ p. arrowed hook x s p.0 p.1)) ≡ None
       by_word None = refl
-      by_word (Some n) = rw (expected_not is_arrow x us h) refl
+      by_word (Some n) = rw (h, expected_not is_arrow x us h) refl
 
   by_fault : (o : Option Spelling) (us : List TokenAndSpan) → is_bindable_here x (first us) ≡ true
       → is_of_alone x.context us ≡ true → at_token is_arrow (second us) ≡ false

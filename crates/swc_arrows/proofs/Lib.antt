@@ -3,6 +3,7 @@ pub mod Bases
 pub mod Begun
 pub mod BodyEnds
 pub mod BodyLaws
+pub mod Closes
 pub mod Dooms
 pub mod Ends
 pub mod HeadKinds

@@ -7,7 +7,7 @@ use Rattle.swc_context.specs.declared.span.Span.{Span}
 use Rattle.swc_input.specs.declared.token.TokenAndSpan.{TokenAndSpan}
 use Rattle.swc_input.specs.Kinds.{at_token}
 use Rattle.swc_ast.specs.Tree.{Tree, Trees, span_of}
-use Rattle.swc_ast.specs.Trees.{to, arrow_e, ident_e, call_e, paren_e, listed, items_of, comma_of, no_covers, paren_ok}
+use Rattle.swc_ast.specs.Trees.{to, arrow_e, ident_e, call_e, paren_e, listed, items_of, comma_of, covers_ok, paren_ok}
 use Rattle.swc_ast.specs.Trees.{seq_of}
 use Rattle.swc_ast.specs.Trees.{held_exprs, are_valid}
 use Rattle.swc_ast.specs.Tree.{array}
@@ -38,7 +38,7 @@ use Rattle.swc_nodes.specs.declared.node.ExprId.{ExprId}
 use Rattle.swc_nodes.specs.declared.nodes.Nodes.{Nodes}
 use Rattle.swc_steps.proofs.Args.{inside_args}
 use Rattle.swc_steps.proofs.Building.{apart-down}
-use Rattle.swc_steps.proofs.Endings.{items-clean, read-valid}
+use Rattle.swc_steps.proofs.Endings.{read-valid}
 use Rattle.swc_steps.specs.Parsing.{args_at}
 use Rattle.swc_steps.specs.declared.tokens.Listed.{Listed}
 use Rattle.swc_cover.proofs.Bound.{params-are}
@@ -49,6 +49,7 @@ use Rattle.swc_steps.proofs.Keys.{then_calls}
 use Rattle.swc_steps.proofs.Steps.Inner.{inner_is}
 use Rattle.swc_arrows.specs.Readers.{arrow_behind, arrow_end, heads_closed, heads_refined, takes_params, async_call}
 use Rattle.swc_arrows.specs.Readers.{base_behind, is_callee, list_behind, list_closed, spelling_of}
+use Rattle.swc_arrows.proofs.Closes.{closed_clean}
 use Rattle.swc_arrows.proofs.ListReads.{closed_arrow, closed_base, heads_splits, line_here, line_breaks, arrow_takes}
 
 -- what items in parentheses are, where none of them was refused
@@ -165,11 +166,12 @@ module _ {F C K : Type 0} (hook : Hook F C K) (x : Scope) where
 
   paren_base : x.head ≡ false → (s : Span) (es : Tree F C K) (ts : List TokenAndSpan)
       → at_token is_arrow (first ts) ≡ false
-      → run hook (parens s es) x ts ≡ (paren_closed (paren_of s es) ts >>= (λ p. base_behind hook p.0 x p.1))
+      → run hook (parens s es) x ts ≡ (paren_closed (paren_of x s es) ts >>= (λ p. base_behind hook p.0 x p.1))
   paren_base n s es ts h =
       knot hook (parens s es) x ts
-      ∙ rw h (ap (λ o. if paren_ok es then o else None)
-      (base_reads n (paren_e (to s (span_of es)) (seq_of (held_exprs (items_of es)))) ts) ∙ by_test (paren_ok es))
+      ∙ rw h (ap (λ o. if paren_ok x.syntax.pedantic es then o else None)
+      (base_reads n (paren_e (to s (span_of es)) (seq_of (held_exprs (items_of es)))) ts)
+      ∙ by_test (paren_ok x.syntax.pedantic es))
     where
       by_test : (b : Bool) → (if b then base_behind hook (paren_e (to s (span_of es))
           (seq_of (held_exprs (items_of es)))) x ts else None)
@@ -184,9 +186,9 @@ module _ {F C K : Type 0} (hook : Hook F C K) (x : Scope) where
       ≡ (async_call (ident_e n.at n.text) es x ts >>= (λ p. base_behind hook p.0 x p.1))
   async_base h n es ts k =
       knot hook (asyncs n es) x ts
-      ∙ rw k (ap (λ o. if no_covers (items_of es) then o else None)
+      ∙ rw k (ap (λ o. if covers_ok x.syntax.pedantic es then o else None)
       (base_reads h (call_e (to n.at (span_of es)) (ident_e n.at n.text) (items_of es)) ts)
-      ∙ by_test (no_covers (items_of es)))
+      ∙ by_test (covers_ok x.syntax.pedantic es))
     where
       by_test : (b : Bool) → (if b then base_behind hook (call_e (to n.at (span_of es)) (ident_e n.at n.text)
           (items_of es)) x ts else None)
@@ -219,7 +221,7 @@ module _ {F C K : Type 0} (hook : Hook F C K) (x : Scope) where
 
   -- what stands behind a list in parentheses; the first of its items begins, and the last one ends, where the nodes say
   pub list_reads : x.head ≡ false → (lo hi : BytePos) (s : Span) (es : Tree F C K) (ts : List TokenAndSpan) → Refines es
-      → paren_closed (paren_of s es) ts ≡ paren_closed (paren_from lo hi s es) ts
+      → paren_closed (paren_of x s es) ts ≡ paren_closed (paren_from lo hi x s es) ts
       → list_behind hook None s es x ts ≡ list_closed hook lo hi None s es x ts
   list_reads n lo hi s es [] r same =
       paren_base n s es [] refl ∙ ap (λ o. o >>= (λ p. base_behind hook p.0 x p.1)) same
@@ -260,7 +262,7 @@ module _ {F C K : Type 0} (hook : Hook F C K) (x : Scope) where
   -- either, where what stands before the list is `async`, so spelled, or nothing
   pub closes : x.head ≡ false → (lo hi : BytePos) (o : Option (Tree F C K)) (s : Span) (es : Tree F C K)
       (ts : List TokenAndSpan) → is_callee s o → Refines es
-      → paren_closed (paren_of s es) ts ≡ paren_closed (paren_from lo hi s es) ts
+      → paren_closed (paren_of x s es) ts ≡ paren_closed (paren_from lo hi x s es) ts
       → list_behind hook o s es x ts ≡ list_closed hook lo hi o s es x ts
   closes n lo hi None s es ts c r same = list_reads n lo hi s es ts r same
   closes n lo hi (Some e) s es ts c r same =
@@ -291,4 +293,4 @@ module _ {F C K : Type 0} {fg : Ghosts F} {cg : Ghosts C} {kg : Ghosts K} (hook 
       closes hook x n _ _ o s (args_at ns list) ts c
       (refines_at list (apart-down (args_parts list.items) a)
       (read-valid hook lawful (Args false) (with_in y) vs us (args_at ns list) (sym (inside_args hook false y vs) ∙ h)))
-      (items-clean hook lawful s list y vs us ts a h)
+      (closed_clean hook lawful s list y vs us a h x ts)

@@ -1,5 +1,5 @@
 -- The steps of the code at names that are parameters of arrow functions by themselves (15.3, 15.9).
-use Rattle.std.proofs.Common.{◌≡◌, ℕ, Bool, true, false, not, ◌&&◌, if◌then◌else◌, List, Some, Result}
+use Rattle.std.proofs.Common.{◌≡◌, ℕ, Bool, true, false, not, ◌&&◌, if◌then◌else◌, List, None, Some, Result}
 use Rattle.std.proofs.Common.{Ok, Err, IfOk, MatchResult, map, refl, sym, ap, subst, ◌∙◌, arith}
 use Rattle.swc_context.specs.declared.context.Context.{Context}
 use Rattle.swc_context.specs.declared.error.Error.{Error}
@@ -27,7 +27,7 @@ use Rattle.swc_patterns.specs.Answers.{Leaves}
 use Rattle.swc_patterns.specs.Arrays.{plain_pat}
 use Rattle.swc_patterns.proofs.PartlyRead.{left}
 use Rattle.swc_steps.specs.Keys.{expected}
-use Rattle.swc_steps.specs.Parsing.{scope, seen, seen_of, Here, Tells, On, Unheard}
+use Rattle.swc_steps.specs.Parsing.{breaks_at, scope, seen, seen_of, Here, Tells, On, Unheard}
 use Rattle.swc_steps.specs.declared.productions.Productions.{Productions}
 use Rattle.swc_steps.proofs.Lists.{binds}
 use Rattle.swc_steps.proofs.Steps.{Reader, give, less, read_scope, here_leads, forgoes_later, forgoes_here, on_told}
@@ -36,7 +36,7 @@ use Rattle.swc_steps.proofs.Steps.Consumed.{here}
 use Rattle.swc_steps.proofs.Steps.Tokens.{on_then}
 use Rattle.swc_arrows.specs.Answers.{beginning_of, beginning_behind, OneParam, Opens}
 use Rattle.swc_arrows.specs.Readers.{arrow_behind, name_behind, name_arrow, async_of, async_param, async_behind}
-use Rattle.swc_arrows.specs.Readers.{async_arrow, is_of_alone, of_alone}
+use Rattle.swc_arrows.specs.Readers.{async_arrow, arrow_on_line, is_of_alone, of_alone}
 use Rattle.swc_arrows.specs.declared.names.Beginning.{Beginning}
 use Rattle.swc_arrows.proofs.Dooms.{opens_later}
 
@@ -55,14 +55,32 @@ pub ok_strict : (m s o : Bool) → s ≡ true → o ≡ true → not ((m && s) &
 ok_strict true s o h k = rw (h, k) refl
 ok_strict false s o h k = refl
 
--- ---- `of` alone
-
-pub no_loop : (c : Context) (ts : List TokenAndSpan) → c.expr_ctx.for_loop_init ≡ false → is_of_alone c ts ≡ false
-no_loop c ts h = ap (λ b. b && (at_token is_of (first ts) && not (at_token is_arrow (second ts)))) h
+-- ---- `=>` behind a parameter
 
 and_false : (a : Bool) → (a && false) ≡ false
 and_false true = refl
 and_false false = refl
+
+pub line_unasked : (x : Scope) (ts : List TokenAndSpan) → x.syntax.pedantic ≡ false
+    → arrow_on_line x ts ≡ Some (tt, ts)
+line_unasked x ts h = rw (h, and_false (at_token is_arrow (first ts))) refl
+
+pub line_free : (x : Scope) (ts : List TokenAndSpan) → at_token is_arrow (first ts) ≡ false
+    → arrow_on_line x ts ≡ Some (tt, ts)
+line_free x ts h = rw h refl
+
+pub line_joined : (x : Scope) (ts : List TokenAndSpan) → breaks_at (first ts) ≡ false
+    → arrow_on_line x ts ≡ Some (tt, ts)
+line_joined x ts h = rw (h, and_false x.syntax.pedantic, and_false (at_token is_arrow (first ts))) refl
+
+pub line_refuses : (x : Scope) (ts : List TokenAndSpan) → x.syntax.pedantic ≡ true → breaks_at (first ts) ≡ true
+    → at_token is_arrow (first ts) ≡ true → arrow_on_line x ts ≡ None
+line_refuses x ts p e h = rw (h, p, e) refl
+
+-- ---- `of` alone
+
+pub no_loop : (c : Context) (ts : List TokenAndSpan) → c.expr_ctx.for_loop_init ≡ false → is_of_alone c ts ≡ false
+no_loop c ts h = ap (λ b. b && (at_token is_of (first ts) && not (at_token is_arrow (second ts)))) h
 
 pub not_of : (c : Context) (ts : List TokenAndSpan) → at_token is_of (first ts) ≡ false → is_of_alone c ts ≡ false
 not_of c ts h =
@@ -123,9 +141,12 @@ module _ {F C K : Type 0} (hook : Hook F C K) where
   unfolding async_behind
   of_splits n x ts = refl
 
-  abbrev pub param_rest : Spelling → Tree F C K → Scope → List TokenAndSpan → Out (Tree F C K)
-  param_rest n t c ts =
+  abbrev pub arrow_rest : Spelling → Tree F C K → Scope → List TokenAndSpan → Out (Tree F C K)
+  arrow_rest n t c ts =
       expected is_arrow c ts >>= (λ q. arrow_behind hook n.at.lo true false (cons t nil) c q.1)
+
+  abbrev pub param_rest : Spelling → Tree F C K → Scope → List TokenAndSpan → Out (Tree F C K)
+  param_rest n t c ts = arrow_on_line c ts >>= (λ l. arrow_rest n t c l.1)
 
   pub param_splits : (n : Spelling) (x : Scope) (ts : List TokenAndSpan)
       → async_param hook n x ts ≡ (plain_pat x ts >>= (λ p. param_rest n p.0 x p.1))

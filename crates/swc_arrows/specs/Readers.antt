@@ -12,7 +12,7 @@ use Rattle.swc_input.specs.declared.token.Token.TheVariants as token
 use Rattle.swc_input.specs.declared.token.TokenAndSpan.{TokenAndSpan}
 use Rattle.swc_input.specs.Kinds.{at_token}
 use Rattle.swc_ast.specs.Tree.{Tree, node, Trees, nil, cons, ident, span_of}
-use Rattle.swc_ast.specs.Trees.{to, arrow_e, ident_e, block_e, call_e, link_e, items_of, comma_of, no_covers}
+use Rattle.swc_ast.specs.Trees.{to, arrow_e, ident_e, block_e, call_e, link_e, items_of, comma_of, covers_ok}
 use Rattle.swc_bodies.specs.Readings.{Hook, is_async as is_async_token}
 use Rattle.swc_grammar.specs.Arrows.{is_arrow, is_block, is_sign, is_of}
 use Rattle.swc_grammar.specs.Clean.{Out, first, second, sym, run, links, updates, climb, assigns, parens, asyncs}
@@ -47,6 +47,14 @@ name_ok c n = not ((c.module && c.strict) && is_one_of n.text strict_binding_wor
 abbrev pub on_line : Scope → List TokenAndSpan → Out (Unit {0})
 on_line c ts = if breaks_at (first ts) then None else Some (tt, ts)
 
+-- where the syntax is pedantic, an `=>` that comes next stands on the line of the name before it, which is a parameter
+-- of an async arrow function by itself
+abbrev pub breaks_arrow : Scope → List TokenAndSpan → Bool
+breaks_arrow c ts = at_token is_arrow (first ts) && (c.syntax.pedantic && breaks_at (first ts))
+
+abbrev pub arrow_on_line : Scope → List TokenAndSpan → Out (Unit {0})
+arrow_on_line c ts = if breaks_arrow c ts then None else Some (tt, ts)
+
 -- no binary operator comes next, where these are barred, but for `in` and `instanceof`
 abbrev pub no_sign : Bool → Scope → List TokenAndSpan → Out (Unit {0})
 no_sign bars c ts = if bars && at_token is_sign (first ts) then None else Some (tt, ts)
@@ -79,7 +87,7 @@ module _ {F C K : Type 0} where
   -- a call of `async`, behind its arguments
   abbrev pub async_call : Tree F C K → Tree F C K → Scope → List TokenAndSpan → Out (Tree F C K)
   async_call e es c ts =
-      if no_covers (items_of es) then Some (
+      if covers_ok c.syntax.pedantic es then Some (
         link_e false e (call_e (to (span_of e) (span_of es)) e (items_of es)),
         ts,
       ) else
@@ -93,7 +101,7 @@ module _ {F C K : Type 0} where
   -- the same list as what stands in parentheses, or as arguments of `async`
   abbrev pub base_closed : BytePos → BytePos → Option (Tree F C K) → Span → Tree F C K → Scope → List TokenAndSpan
       → Out (Tree F C K)
-  base_closed lo hi None s es c ts = paren_closed (paren_from lo hi s es) ts
+  base_closed lo hi None s es c ts = paren_closed (paren_from lo hi c s es) ts
   base_closed lo hi (Some e) s es c ts = async_call e es c ts
 
   -- ---- operands, which links may follow, by themselves
@@ -105,7 +113,7 @@ module _ {F C K : Type 0} where
 
   -- the same, where the first of its items begins, and the last one ends, where their places say
   abbrev pub base_plain : Option (Tree F C K) → Span → Tree F C K → Scope → List TokenAndSpan → Out (Tree F C K)
-  base_plain None s es c ts = paren_closed (paren_of s es) ts
+  base_plain None s es c ts = paren_closed (paren_of c s es) ts
   base_plain (Some e) s es c ts = if at_token is_arrow (first ts) then None else async_call e es c ts
 
   -- `async`, which is an identifier in the head of a `for await` alone, where `of` stands by itself behind it
@@ -180,8 +188,8 @@ module _ {F C K : Type 0} (hook : Hook F C K) where
 
   -- behind `async`, so spelled: a name, and `=>`
   abbrev pub async_param : Spelling → Scope → List TokenAndSpan → Out (Tree F C K)
-  async_param n c ts = word may_bind c ts >>= (λ p. expected is_arrow c p.1
-      >>= (λ q. arrow_behind n.at.lo true false (cons (ident_e p.0.at p.0.text) nil) c q.1))
+  async_param n c ts = word may_bind c ts >>= (λ p. arrow_on_line c p.1 >>= (λ l. expected is_arrow c l.1
+      >>= (λ q. arrow_behind n.at.lo true false (cons (ident_e p.0.at p.0.text) nil) c q.1)))
 
   -- the same, where `of` stands by itself: `async` is an identifier, in the head of a `for await` alone
   abbrev pub async_of : Spelling → Scope → List TokenAndSpan → Out (Tree F C K)

@@ -71,8 +71,8 @@ pub fn open_list<I: Tokens, B: Bodies<I>>(
 
 /// What a list is that was read: the parameters of an arrow function, where `=>` stands behind it; else what stands in
 /// parentheses (ECMA-262, 13.2.9), or the arguments of a call of `async` (13.3.8), among which an object literal with a
-/// property `name = value` is recorded. A line break before `=>` is refused as `LineBreakBeforeArrow`, from where the
-/// list begins through its `)`.
+/// property `name = value` is recorded, unless the syntax is pedantic. A line break before `=>` is refused as
+/// `LineBreakBeforeArrow`, from where the list begins through its `)`.
 #[inline(never)]
 pub fn close_list<I: Tokens, B: Bodies<I>>(
     p: &mut Productions<I, B>,

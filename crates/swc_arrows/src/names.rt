@@ -11,6 +11,7 @@ ghost use Rattle.swc_patterns.specs.Answers.{Leaves};
 ghost use Rattle.swc_steps.specs.Parsing.{seen, ident_spelling, Checked, ContinuesAlone, Tells};
 ghost use Rattle.swc_arrows.specs.Answers.{beginning_of, beginning_behind, HearsBase, IsArrow, IsBase, OneParam, Opens};
 ghost use Rattle.swc_arrows.specs.Readers.{name_arrow, async_arrow, async_base, async_of, name_ok, of_alone, of_base};
+ghost use Rattle.swc_arrows.specs.Readers.{arrow_on_line};
 
 use swc_ast::ident::{BindingIdent, Ident};
 use swc_bodies::bodies::Bodies;
@@ -24,7 +25,9 @@ use swc_nodes::node::{ExprId, PatId};
 use swc_patterns::pat::{made, parse_plain_pat};
 use swc_primary::primary::parse_reference;
 use swc_steps::productions::Productions;
-use swc_steps::tokens::{Sign, emit_err, emit_strict_mode_err, expect, look};
+use swc_steps::tokens::{
+    Sign, emit_err, emit_strict_mode_err, expect, is_after_line_break, is_sign, look, syntax_error,
+};
 
 /// What an arrow function begins with (ECMA-262, 15.3 and 15.9), up to its `=>`.
 #[derive(Drop)]
@@ -67,9 +70,10 @@ pub fn parse_arrow_name<I: Tokens, B: Bodies<I>>(p: &mut Productions<I, B>) -> P
     one_param(p, start, false, param)
 }
 
-/// `async`, which is current, a name that is bound, and `=>` (ECMA-262, 15.9). Where the name is `of` in the head of a
-/// `for`, and no `=>` stands behind it, `async` is an identifier, and the rest stays: that is recorded as `TS1106`, at
-/// `async`, but in the head of a `for await` (14.7.5).
+/// `async`, which is current, a name that is bound, and `=>` (ECMA-262, 15.9). Where the syntax is pedantic, a line
+/// break before `=>` is refused as `LineBreakBeforeArrow`, from `async` through the name. Where the name is `of` in the
+/// head of a `for`, and no `=>` stands behind it, `async` is an identifier, and the rest stays: that is recorded as
+/// `TS1106`, at `async`, but in the head of a `for await` (14.7.5).
 #[inline(never)]
 pub fn parse_async_name<I: Tokens, B: Bodies<I>>(p: &mut Productions<I, B>) -> PResult<Beginning>
     requires { at_token is_async (seen p.old.input) ≡ true }
@@ -86,8 +90,26 @@ pub fn parse_async_name<I: Tokens, B: Bodies<I>>(p: &mut Productions<I, B>) -> P
     }
     let start = name.span.lo;
     let param = parse_plain_pat(p)?;
+    refuse_arrow_line(&mut p.input, start)?;
     expect(&mut p.input, Sign::Arrow)?;
     one_param(p, start, true, param)
+}
+
+/// Refuses `=>` behind a line break, where the syntax is pedantic, from `start` through the token consumed last. Any
+/// other token may stand there.
+fn refuse_arrow_line<I: Tokens>(input: &mut Buffer<I>, start: BytePos) -> PResult<()>
+    ensures continues { ContinuesAlone I.model (λ u. u) arrow_on_line input.old result input.new }
+    ensures falls { OnOk result (to_come I.model input.new ≤ to_come I.model input.old) }
+{
+    let syntax = input.syntax();
+    if !syntax.pedantic {
+        return Ok(());
+    }
+    if is_after_line_break(input)? && is_sign(input, Sign::Arrow) {
+        let span = Span::new(start, input.last_pos());
+        return Err(syntax_error(input, span, SyntaxError::LineBreakBeforeArrow));
+    }
+    Ok(())
 }
 
 /// The beginning of an arrow function from `start` on, in bytes, with one parameter. Refused only for want of memory.

@@ -1,5 +1,6 @@
 pub mod Parts
 pub mod Patterns
+pub mod Pedantic
 pub mod Spans
 pub mod Targets
 pub mod Tree

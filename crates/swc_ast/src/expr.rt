@@ -470,8 +470,9 @@ impl<F: Drop, C: Drop, K: Drop> Expr<F, C, K> {
             Box<BlockStmtOrExpr<Box<Expr<F, C, K>>, K>>,
         ),
     >
-        ensures { (s : Span) (ps : Vec (Pat F C K) Global) (b : Box (BlockStmtOrExpr (Box (Expr F C K) Global) K) Global)
-            (a : Bool) → self ≡ e.Arrow s ps b a → result ≡ Some (ps, b) }
+        ensures { (s : Span) (ps : Vec (Pat F C K) Global) (a : Bool)
+            (b : Box (BlockStmtOrExpr (Box (Expr F C K) Global) K) Global)
+            → self ≡ e.Arrow s ps b a → result ≡ Some (ps, b) }
     {
         match self {
             Expr::Arrow {

@@ -48,7 +48,7 @@ use Rattle.swc_cover.proofs.Clear.{clear-items}
 use Rattle.swc_cover.proofs.Kept.{grows-kept}
 use Rattle.swc_arrows.specs.Readers.{takes_params}
 use Rattle.swc_arrows.proofs.ListLaws.{Refines, refines_at}
-use Rattle.swc_steps.specs.Args.{args_inside}
+use Rattle.swc_steps.specs.Args.{args_inside, counted}
 use Rattle.swc_steps.specs.Keys.{expected}
 use Rattle.swc_steps.specs.Parsing.{scope, args_at, Checks, Heard, On, Produces, Refuses, Unheard}
 use Rattle.swc_steps.specs.declared.productions.Productions.{Productions}
@@ -62,7 +62,7 @@ use Rattle.swc_steps.proofs.Steps as steps
 use Rattle.swc_steps.proofs.Steps.{Reader, give}
 use Rattle.swc_steps.proofs.Steps.Calls.{on_call_read}
 use Rattle.swc_steps.proofs.Steps.Tokens.{heard_then}
-use Rattle.swc_productions.proofs.ByThemselves.{arguments_splits}
+use Rattle.swc_productions.proofs.ByThemselves.{args_counted, arguments_splits}
 use Rattle.swc_ecma_parser.specs.Heads.{heads_at, heads_items, heads_of}
 use Rattle.swc_ecma_parser.specs.Promise.{keep_items, only_items}
 
@@ -141,13 +141,22 @@ module _ {F C K : Type 0} (hook : Hook F C K) where
       by_read None = refl
       by_read (Some q) = rest_given x (to s (span_of q.0)) (as_params q.0) q.1
 
+  -- arguments of another call than one of `import` aren't counted
+  uncounted : (x : Scope) (us : List TokenAndSpan) → args_counted hook false x us ≡ args_inside hook false x us
+  uncounted x us = by_read (args_inside hook false x us)
+    where
+      by_read : (o : Out (Tree F C K)) → (o >>= (λ q. counted false q.0 x q.1)) ≡ o
+      by_read None = refl
+      by_read (Some q) = refl
+
   pub heads_splits : (x : Scope) (ts : List TokenAndSpan)
       → heads_items hook x ts ≡ (run hook (at (Arguments false)) x ts >>= (λ p. given_heads (as_params p.0) x p.1))
   heads_splits x ts =
       ap (λ o. o >>= (λ p. Some (keep_items p.0, p.1))) (heads_open x ts)
       ∙ sym (binds (expected is_lparen x ts) (λ p. behind x p.0 p.1) (λ p. Some (keep_items p.0, p.1)))
-      ∙ bind_same (expected is_lparen x ts) _ _ (λ p. behind_keeps x p.0 p.1)
-      ∙ binds (expected is_lparen x ts) (λ p. args_inside hook false x p.1) (λ q. given_heads (as_params q.0) x q.1)
+      ∙ bind_same (expected is_lparen x ts) _ _
+      (λ p. behind_keeps x p.0 p.1 ∙ sym (ap (λ o. o >>= (λ q. given_heads (as_params q.0) x q.1)) (uncounted x p.1)))
+      ∙ binds (expected is_lparen x ts) (λ p. args_counted hook false x p.1) (λ q. given_heads (as_params q.0) x q.1)
       ∙ ap (λ o. o >>= (λ q. given_heads (as_params q.0) x q.1)) (sym (arguments_splits hook false x ts))
 
 -- ---- what the steps of the code read

@@ -31,11 +31,17 @@ use Rattle.swc_nodes.specs.declared.commas.TrailingCommas.{TrailingCommas}
 use Rattle.swc_nodes.specs.declared.node.PatId.{PatId}
 use Rattle.swc_nodes.specs.declared.nodes.Nodes.{Nodes}
 use Rattle.swc_steps.specs.Parsing.{scope, Parses}
+use Rattle.swc_steps.proofs.Steps.{Reader}
+use Rattle.swc_verifier.proofs.Left.{pats-left}
 use Rattle.swc_ecma_parser.specs.Calls.{pats_tree, Kept}
+use Rattle.swc_ecma_parser.specs.Finishing.{parts_done, ChecksAnswer}
 use Rattle.swc_ecma_parser.specs.Heads.{heads_at, heads_items}
-use Rattle.swc_ecma_parser.specs.Promise.{BoundItems, EndsAt, RemembersAll, ReadsAs, Sound, keep_items, only_items}
+use Rattle.swc_ecma_parser.specs.Promise.{BoundItems, EndsAt, Finished, RemembersAll, ReadsAs, Sound, covers_done, keep_items, only_items}
 use Rattle.swc_ecma_parser.proofs.ArrowParams.{items-bare, items-bind, items-bind-marked, pats-commas}
+use Rattle.swc_ecma_parser.proofs.Finished.{checked, finished-complete, finished-derives, finished-parses, finished-sound, finished-well}
+use Rattle.swc_ecma_parser.proofs.Finished.{meets-checked, parts-told, parts-told-bare}
 use Rattle.swc_ecma_parser.proofs.Moving.{kept-moved, kept-parses, moved-parses, recalled-by}
+use Rattle.swc_ecma_parser.proofs.Placed.{heads-kept-placed, heads-placed}
 use Rattle.swc_ecma_parser.proofs.Refined.{pats-bare}
 use Rattle.swc_ecma_parser.proofs.Top.{IsSound, IsComplete, Leaves, Meets, bare, is_sound_as, items_grouped, items_valid, leaves-items, meets, stripped_from}
 use Rattle.swc_ecma_parser.proofs.Top.{well_as}
@@ -73,9 +79,9 @@ module _ {F C K : Type 0} (hook : Hook F C K) where
 
 module _ {S F C K T : Type 0} (model : Model S) (hook : Hook F C K) (view : T → Tree F C K) where
   -- what is derived binds names alone
-  pub bound-heads : (b : Buffer S) (r : Result T Error) (c : Buffer S) → Sound model (ReadsAs only_items hook Heads) view b r c
-      → BoundItems model view b r c
-  bound-heads b (Ok x) c h = λ l same. let d = h l same in items_bound hook (scope model b) d.consumed [] (view x) d.whole
+  pub bound-heads : (b : Buffer S) (r : Result T Error) (c : Buffer S)
+      → Sound model (Finished covers_done (ReadsAs only_items hook Heads)) view b r c → BoundItems model view b r c
+  bound-heads b (Ok x) c h = λ l same. let d = h l same in items_bound hook (scope model b) d.consumed [] (view x) d.whole.read
   bound-heads b (Err e) c h = λ l. tt
 
 module _ {S F C K : Type 0} {fg : Ghosts F} {cg : Ghosts C} {kg : Ghosts K} (model : Model S) (sure : Bool) (hook : Hook F C K)
@@ -91,14 +97,14 @@ module _ {S F C K : Type 0} {fg : Ghosts F} {cg : Ghosts C} {kg : Ghosts K} (mod
   bare_items x = ap (node args no_span) (sym (pats-bare (tree_at ns) x.items))
 
   module _ (b c : Buffer S) (answer : Result (Vec PatId Global) Error) (r : Result (Vec (PatOf F C K) Global) Error)
-      (reads : Parses model sure (heads_at ns) (heads_items hook) b answer c)
+      (reads : Parses model sure (heads_at ns) (checked unmarked (heads_items hook)) b answer c)
       (moved : MatchResult answer
       (λ x. MatchResult r (λ v. boxed v ≡ bare_heads x) (λ e. e ≡ no_memory (last_position c))) (λ e. r ≡ Err e)) where
-    pub meets-heads : Meets model sure (ReadsAs only_items hook Heads) boxed Heads b r c
+    pub meets-heads : Meets model sure (Finished covers_done (ReadsAs only_items hook Heads)) boxed Heads b r c
     meets-heads =
-        meets model sure hook laws boxed Heads (ReadsAs only_items hook Heads) (bare (heads_items hook))
-        (heads_sound hook laws) (heads_complete hook) (well_as hook leaves-items Heads) b r c
-        (moved-parses model sure (heads_items hook) ns heads_at bare_heads boxed b c answer r reads bare_items moved)
+        meets-checked model sure hook laws boxed unmarked Heads (ReadsAs only_items hook Heads) (heads_items hook)
+        (heads_sound hook laws) (heads_complete hook) (well_as hook leaves-items Heads (heads-placed hook)) b r c
+        (moved-parses model sure (checked unmarked (heads_items hook)) ns heads_at bare_heads boxed b c answer r reads bare_items moved)
 
     -- the commas of the literals in them
     pub heads-recalled : (old new : TrailingCommas)
@@ -106,7 +112,8 @@ module _ {S F C K : Type 0} {fg : Ghosts F} {cg : Ghosts C} {kg : Ghosts K} (mod
         → MatchResult r (λ v. RemembersAll model (ReadsAs keep_items hook Heads) unmarked (boxed v) b c old new)
         (λ e. e.kind ≢ OutOfMemory → new ≡ old)
     heads-recalled old new commas =
-        recalled-by model sure (ReadsAs keep_items hook Heads) (heads_items hook) (heads_marked hook laws) unmarked ns
+        recalled-by model sure (ReadsAs keep_items hook Heads) (checked unmarked (heads_items hook))
+        (finished-derives (λ k t. covers_done k (unmarked t)) (heads_marked hook laws)) unmarked ns
         (heads_at ns) bare_heads boxed pats_parts b c answer r old new reads bare_items
         (λ x. pats-commas (tree_at ns) x.items) moved commas
 
@@ -129,27 +136,46 @@ module _ {F C K : Type 0} (hook : Hook F C K) where
   kept_bound c xs ys t d = ap (λ v. all_bind_names any (items_of v)) (sym d.same) ∙ items-bind-marked hook d.read
 
 module _ {S F C K T : Type 0} (model : Model S) (hook : Hook F C K) (view : T → Tree F C K) where
-  pub bound-kept : (b : Buffer S) (r : Result T Error) (c : Buffer S) → Sound model (ReadsAs keep_items hook Heads) view b r c
-      → BoundItems model view b r c
-  bound-kept b (Ok x) c h = λ l same. let d = h l same in kept_bound hook (scope model b) d.consumed [] (view x) d.whole
+  pub bound-kept : (b : Buffer S) (r : Result T Error) (c : Buffer S)
+      → Sound model (Finished covers_done (ReadsAs keep_items hook Heads)) view b r c → BoundItems model view b r c
+  bound-kept b (Ok x) c h = λ l same. let d = h l same in kept_bound hook (scope model b) d.consumed [] (view x) d.whole.read
   bound-kept b (Err e) c h = λ l. tt
 
 module _ {S F C K : Type 0} {fg : Ghosts F} {cg : Ghosts C} {kg : Ghosts K} (model : Model S) (sure : Bool) (hook : Hook F C K)
     (laws : LawfulHook fg.place cg.place kg.place hook) (ms ns : Nodes F C K fg cg kg) (k : ℕ) (b c : Buffer S)
-    (answer r : Result (Vec PatId Global) Error) (reads : Parses model sure (heads_at ms) (heads_items hook) b answer c)
+    (answer r : Result (Vec PatId Global) Error) (reads : Parses model sure (heads_at ms) (checked (λ t. t) (heads_items hook)) b answer c)
     (same : Kept (last_position c) answer r) (nodes : MatchResult r (λ x. ns ≡ ms) (λ e. CutTo k ms ns)) where
-  pub meets-kept : Meets model sure (ReadsAs keep_items hook Heads) (heads_at ns) Heads b r c
+  pub meets-kept : Meets model sure (Finished covers_done (ReadsAs keep_items hook Heads)) (heads_at ns) Heads b r c
   meets-kept =
-      meets model sure hook laws (heads_at ns) Heads (ReadsAs keep_items hook Heads) (heads_items hook)
-      (heads_marked hook laws) (marked_complete hook) (well_as hook leaves-kept Heads) b r c
-      (kept-parses model sure (heads_items hook) heads_at ms ns k b c answer r reads same nodes)
+      meets model sure hook laws (heads_at ns) Heads (Finished covers_done (ReadsAs keep_items hook Heads))
+      (checked (λ t. t) (heads_items hook)) (finished-sound covers_done (heads_marked hook laws))
+      (finished-complete covers_done (marked_complete hook))
+      (finished-well covers_done (well_as hook leaves-kept Heads (heads-kept-placed hook))) b r c
+      (kept-parses model sure (checked (λ t. t) (heads_items hook)) heads_at ms ns k b c answer r reads same nodes)
 
   pub kept-recalled : (old new : TrailingCommas)
       → MatchResult answer (λ x. OnOk r (Recalls (part_commas (tree_at ms) (pats_parts x)) old new)) (λ e. new ≡ old)
       → MatchResult r (λ v. RemembersAll model (ReadsAs keep_items hook Heads) (λ t. t) (heads_at ns v) b c old new)
       (λ e. e.kind ≢ OutOfMemory → new ≡ old)
   kept-recalled old new commas =
-      recalled-by model sure (ReadsAs keep_items hook Heads) (heads_items hook) (heads_marked hook laws) (λ t. t) ms
+      recalled-by model sure (ReadsAs keep_items hook Heads) (checked (λ t. t) (heads_items hook))
+      (finished-derives covers_done (heads_marked hook laws)) (λ t. t) ms
       (heads_at ms) (heads_at ms) (heads_at ns) pats_parts b c answer r old new reads (λ x. refl)
       (λ x. pats-commas (tree_at ms) x.items)
       (kept-moved heads_at ms ns (last_position c) k answer r same nodes) commas
+
+-- ---- the look through them
+
+module _ {S F C K : Type 0} {fg : Ghosts F} {cg : Ghosts C} {kg : Ghosts K} (model : Model S) (sure : Bool) (f : Reader (Tree F C K))
+    (ns : Nodes F C K fg cg kg) (b c d : Buffer S) (answer r : Result (Vec PatId Global) Error)
+    (reads : Parses model sure (heads_at ns) f b answer c)
+    (checks : ChecksAnswer model (λ ps. parts_done (scope model c) (tree_at ns) (pats_parts ps)) c answer r d) where
+  pub heads-boxes-checked : Parses model sure (heads_at ns) (checked unmarked f) b r d
+  heads-boxes-checked =
+      finished-parses model sure (λ k t. covers_done k (unmarked t)) f (heads_at ns) _ b c d answer r reads checks
+      (λ ps. parts-told-bare (scope model c) (tree_at ns) (pats_parts ps) (heads_at ns ps) (pats-left (tree_at ns) ps.items))
+
+  pub heads-checked : Parses model sure (heads_at ns) (checked (λ t. t) f) b r d
+  heads-checked =
+      finished-parses model sure covers_done f (heads_at ns) _ b c d answer r reads checks
+      (λ ps. parts-told (scope model c) (tree_at ns) (pats_parts ps) (heads_at ns ps) (pats-left (tree_at ns) ps.items))

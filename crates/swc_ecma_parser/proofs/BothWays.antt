@@ -1,5 +1,5 @@
 -- From what the two calls promise to the law of the cover grammar and its converse.
-use Rattle.std.proofs.Common.{◌≡◌, Bool, true, false, List, [], ◌∷◌, ◌++◌, Option, Some, None, Result, Ok, Err}
+use Rattle.std.proofs.Common.{◌≡◌, Bool, true, false, not, ◌||◌, List, [], ◌∷◌, ◌++◌, Option, Some, None, Result, Ok, Err}
 use Rattle.std.proofs.Common.{IfOk, MatchResult, map, refl, sym, ap, subst, ◌∙◌}
 use Rattle.std.specs.declared.alloc.Global.{Global}
 use Rattle.std.specs.declared.vec.Vec.{Vec}
@@ -18,6 +18,7 @@ use Rattle.swc_input.specs.Source.{Model}
 use Rattle.swc_input.specs.declared.buffer.Buffer.{Buffer}
 use Rattle.swc_input.specs.declared.listed.TokensInput.{TokensInput}
 use Rattle.swc_input.specs.declared.token.TokenAndSpan.{TokenAndSpan}
+use Rattle.swc_ast.specs.Pedantic.{none_left}
 use Rattle.swc_ast.specs.Tree.{Tree, node, Trees, nil, cons, erase, erase_all, no_span, args, trees}
 use Rattle.swc_ast.specs.Tree.{args_with, array_with, object_with}
 use Rattle.swc_ast.specs.Trees.{items_of, listed, unmarked, unmarked_kind, all_unmarked}
@@ -36,11 +37,13 @@ use Rattle.swc_grammar.proofs.MarkedBinds.{all-same-binds}
 use Rattle.swc_laws.specs.Bound.{Spelled, is_free_name, is_kept_name}
 use Rattle.swc_laws.proofs.ConverseLaw.{converse-heads}
 use Rattle.swc_laws.proofs.CoverLaw.{heads-cover}
+use Rattle.swc_laws.proofs.PedanticTrees.{all-covers-erased}
 use Rattle.swc_steps.specs.Parsing.{scope, scope_of}
 use Rattle.swc_ecma_parser.specs.BothWays.{ConverseLaw, CoverLaw, Fresh, Left, Same, StandsBefore, faults}
 use Rattle.swc_ecma_parser.specs.BothWays.{patterns, param_patterns}
 use Rattle.swc_ecma_parser.specs.Calls.{buffer_of, has_failed}
-use Rattle.swc_ecma_parser.specs.Promise.{Promised, PromisedParams, ReadsAs, ClosedBy, heads_in_boxes, only_items, params_in_boxes}
+use Rattle.swc_ecma_parser.specs.Promise.{Finished, Promised, PromisedParams, ReadsAs, ClosedBy, covers_done, heads_in_boxes}
+use Rattle.swc_ecma_parser.specs.Promise.{items_done, only_items, params_in_boxes}
 use Rattle.swc_ecma_parser.specs.WholeList.{plain_list, IsHeeded}
 use Rattle.swc_ecma_parser.specs.declared.parser.Parser.{Parser}
 use Rattle.swc_ecma_parser.proofs.WholeList.{fresh-known, fresh-loud}
@@ -65,6 +68,10 @@ module _ {F C K : Type 0} where
 
   kept-items : (t : Tree F C K) → items_of (only_items t) ≡ all_unmarked (items_of t)
   kept-items (node k s ts) = refl
+
+  -- in trees that are the same, places apart, the same is left
+  same-done : (ts us : Trees F C K) → erase_all ts ≡ erase_all us → none_left ts ≡ none_left us
+  same-done ts us h = sym (all-covers-erased ts) ∙ ap none_left h ∙ all-covers-erased us
 
 -- the tokens that are known to come are these alone
 known-once : {S : Type 0} (model : Model S) (b : Buffer S) (xs ys : List TokenAndSpan) → Known model b xs → Known model b ys → xs ≡ ys
@@ -118,7 +125,7 @@ module _ {H F C K : Type 0} {fg : Ghosts F} {cg : Ghosts C} {kg : Ghosts K} (sur
 
   heads-read : {p : Parser TokensInput H F C K fg cg kg} (v : Vec (Pat F C K) Global) → Fresh (Heading (Ok v)) c x ts p
       → IsHeeded c x → faults p ≡ [] → (ys : List TokenAndSpan) → Left p ys
-      → ReadsAs only_items hook Heads (scope_of (view c) x) ts ys (heads_in_boxes.tree p.productions.nodes v)
+      → Finished covers_done (ReadsAs only_items hook Heads) (scope_of (view c) x) ts ys (heads_in_boxes.tree p.productions.nodes v)
   heads-read {p} v f heeded none ys left =
       let d = f.call.sound f.runs (f.loud heeded) (none ∙ sym f.clean) in
       let k = Known-after listed_laws (buffer_of f.start) (buffer_of p) d.consumed ts d.read.took f.left in
@@ -126,7 +133,7 @@ module _ {H F C K : Type 0} {fg : Ghosts F} {cg : Ghosts C} {kg : Ghosts K} (sur
       let whole : ts ≡ d.consumed ++ ys = k.2 ∙ ap (λ l. d.consumed ++ l) same in
       let got = d.front ys (Known-Future listed_laws (buffer_of p) ys left) in
       let D : Scope → List TokenAndSpan → Type 0 =
-      λ s l. ReadsAs only_items hook Heads s l ys (heads_in_boxes.tree p.productions.nodes v) in
+      λ s l. Finished covers_done (ReadsAs only_items hook Heads) s l ys (heads_in_boxes.tree p.productions.nodes v) in
       subst (λ s. D s ts) f.stands (subst (λ l. D (scope listed_model (buffer_of f.start)) l) (sym whole) got)
 
   pub cover-law : {p q : Parser TokensInput H F C K fg cg kg} (r : Result (Vec (Pat F C K) Global) Error)
@@ -135,27 +142,35 @@ module _ {H F C K : Type 0} {fg : Ghosts F} {cg : Ghosts C} {kg : Ghosts K} (sur
   cover-law (Err e) s f g = λ heeded y strict sp. tt
   cover-law {p} {q} (Ok v) s f g = λ heeded y strict sp. λ none kept ys left.
       let d = heads-read v f heeded none ys left in
-      let items : all_unmarked (items_of d.marked) ≡ patterns fg cg kg v = sym (kept-items d.marked) ∙ ap items_of d.same in
+      let read = d.read in
+      let items : all_unmarked (items_of read.marked) ≡ patterns fg cg kg v = sym (kept-items read.marked) ∙ ap items_of read.same in
       let names = is_kept_name c in
-      let free : all_bind_names names (items_of d.marked) ≡ true =
-      sym (all-same-binds names (items_of d.marked)) ∙ ap (all_bind_names names) items ∙ kept in
-      let (a, ms, at, h, k) = heads-cover hook (scope_of (view c) x) strict ts ys sp d.marked d.read free in
+      let free : all_bind_names names (items_of read.marked) ≡ true =
+      sym (all-same-binds names (items_of read.marked)) ∙ ap (all_bind_names names) items ∙ kept in
+      let (a, ms, at, h, k) = heads-cover hook (scope_of (view c) x) strict ts ys sp read.marked read.read free in
       let bare : ReadsUnmarked hook Params (scope listed_model (buffer_of g.start)) ms ys (unmarked k.tree) = record {
         marked = k.tree;
         read = subst (λ z. Reads hook Params z ms ys k.tree) (sym g.stands) k.read;
         same = refl;
       } in
       let same : erase_all (patterns fg cg kg v) ≡ erase_all (items_of (unmarked k.tree)) =
-      ap erase_all (sym items) ∙ bare-same (items_of d.marked) (items_of k.tree) k.same ∙ ap erase_all (sym (bare-items k.tree)) in
+      ap erase_all (sym items) ∙ bare-same (items_of read.marked) (items_of k.tree) k.same ∙ ap erase_all (sym (bare-items k.tree)) in
+      let whole : Finished items_done (ReadsUnmarked hook Params) (scope listed_model (buffer_of g.start)) ms ys (unmarked k.tree) =
+      record {
+        read = bare;
+        covers = subst (λ z. items_done z (unmarked k.tree) ≡ true) (sym g.stands)
+            (ap (λ b. not x.pedantic || b) (same-done (items_of (unmarked k.tree)) (patterns fg cg kg v) (sym same)) ∙ d.covers);
+      } in
       formal-answered q s v g.start (unmarked k.tree) ys g.clean same
-      (g.call.complete g.runs y (g.loud heeded) ms ys (unmarked k.tree) (subst (λ l. Left g.start l) (ap rest at) g.left) bare)
+      (g.call.complete g.runs y (g.loud heeded) ms ys (unmarked k.tree) (subst (λ l. Left g.start l) (ap rest at) g.left) whole)
 
   -- ---- and the other way
 
   -- what was read as formal parameters, up to a `)`
   params-read : {q : Parser TokensInput H F C K fg cg kg} (w : Vec (Param (Pat F C K)) Global)
       → Fresh (Forming (Ok w)) c x (rest ts) q → IsHeeded c x → faults q ≡ [] → (ys : List TokenAndSpan) (before : StandsBefore q ys)
-      → ReadsUnmarked hook Params (scope_of (view c) x) (rest ts) ys (listed None before.close.span (param_patterns fg cg kg w))
+      → Finished items_done (ReadsUnmarked hook Params) (scope_of (view c) x) (rest ts) ys
+      (listed None before.close.span (param_patterns fg cg kg w))
   params-read {q} w g heeded none ys before =
       let d = g.call.sound g.runs (g.loud heeded) (none ∙ sym g.clean) in
       let k = Known-after listed_laws (buffer_of g.start) (buffer_of q) d.consumed (rest ts) d.read.took g.left in
@@ -163,7 +178,7 @@ module _ {H F C K : Type 0} {fg : Ghosts F} {cg : Ghosts C} {kg : Ghosts K} (sur
       let whole : rest ts ≡ d.consumed ++ before.close ∷ ys = k.2 ∙ ap (λ l. d.consumed ++ l) same in
       let got = d.front before.close ys (Known-Future listed_laws (buffer_of q) (before.close ∷ ys) before.left) before.is in
       let D : Scope → List TokenAndSpan → Type 0 =
-      λ z l. ReadsUnmarked hook Params z l ys (listed None before.close.span (param_patterns fg cg kg w)) in
+      λ z l. Finished items_done (ReadsUnmarked hook Params) z l ys (listed None before.close.span (param_patterns fg cg kg w)) in
       subst (λ z. D z (rest ts)) g.stands (subst (λ l. D (scope listed_model (buffer_of g.start)) l) (sym whole) got)
 
   pub converse-law : {p q : Parser TokensInput H F C K fg cg kg} (r : Result (Vec (Pat F C K) Global) Error)
@@ -172,7 +187,8 @@ module _ {H F C K : Type 0} {fg : Ghosts F} {cg : Ghosts C} {kg : Ghosts K} (sur
   converse-law r (Err e) f g = λ heeded y paren. tt
   converse-law {p} {q} r (Ok w) f g = λ heeded y paren. λ none free ys before.
       let (a, ms, at, h) = first-is ts paren in
-      let d = params-read w g heeded none ys before in
+      let all = params-read w g heeded none ys before in
+      let d = all.read in
       let items : all_unmarked (items_of d.marked) ≡ param_patterns fg cg kg w = sym (bare-items d.marked) ∙ ap items_of d.same in
       let names : all_bind_names is_free_name (items_of d.marked) ≡ true =
       sym (all-same-binds is_free_name (items_of d.marked)) ∙ ap (all_bind_names is_free_name) items ∙ free in
@@ -180,12 +196,16 @@ module _ {H F C K : Type 0} {fg : Ghosts F} {cg : Ghosts C} {kg : Ghosts K} (sur
       let (hs, read, same) = converse-heads hook (scope_of (view c) x) a ms ys d.marked h here names in
       let whole : Reads hook Heads (scope_of (view c) x) ts ys hs =
       subst (λ l. Reads hook Heads (scope_of (view c) x) l ys hs) (sym at) read in
-      let kept : ReadsAs only_items hook Heads (scope listed_model (buffer_of f.start)) ts ys (only_items hs) = record {
-        marked = hs;
-        read = subst (λ z. Reads hook Heads z ts ys hs) (sym f.stands) whole;
-        same = refl;
+      let alike = bare-same (items_of hs) (items_of d.marked) same ∙ ap erase_all items in
+      let kept : Finished covers_done (ReadsAs only_items hook Heads) (scope listed_model (buffer_of f.start)) ts ys (only_items hs) =
+      record {
+        read = record { marked = hs; read = subst (λ z. Reads hook Heads z ts ys hs) (sym f.stands) whole; same = refl };
+        covers = subst (λ z. covers_done z (only_items hs) ≡ true) (sym f.stands)
+            (ap (λ b. not x.pedantic || b)
+            (ap none_left (kept-items hs) ∙ same-done (all_unmarked (items_of hs)) (param_patterns fg cg kg w) alike)
+            ∙ all.covers);
       } in
-      arrow-answered p r w f.start hs ys f.clean (bare-same (items_of hs) (items_of d.marked) same ∙ ap erase_all items)
+      arrow-answered p r w f.start hs ys f.clean alike
       (f.call.complete f.runs y (f.loud heeded) ts ys (only_items hs) f.left kept tt)
 
 -- ---- new parsers

@@ -52,6 +52,7 @@ module _ {S H T F C K : Type 0} {fg : Ghosts F} {cg : Ghosts C} {kg : Ghosts K} 
     one_tree = λ runs. absurd (not_both h.0 runs);
     grouped = λ runs. absurd (not_both h.0 runs);
     valid = λ runs. absurd (not_both h.0 runs);
+    privates = λ runs. absurd (not_both h.0 runs);
     commas = λ n. refl;
     nodes = leaves;
     fails = λ runs. absurd (not_both h.0 runs);
@@ -73,6 +74,7 @@ module _ {S H T F C K : Type 0} {fg : Ghosts F} {cg : Ghosts C} {kg : Ghosts K} 
         one_tree = λ w. meets.one_tree;
         grouped = λ w. meets.grouped;
         valid = λ w. meets.valid;
+        privates = λ w. meets.privates;
         commas = rw (e, buffer, nodes, commas) remembers;
         nodes = left;
         fails = λ w. failing a r runs same e fails;

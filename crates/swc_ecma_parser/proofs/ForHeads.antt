@@ -1,6 +1,6 @@
 -- Heads of `for` (ECMA-262, 14.7.4 and 14.7.5), from what the code reads to what is promised of them.
-use Rattle.std.proofs.Common.{◌≡◌, ◌≢◌, ℕ, Bool, true, false, ◌&&◌, if◌then◌else◌, List, [], ◌∷◌, ◌++◌, Option, Some, None}
-use Rattle.std.proofs.Common.{Result, Ok, Err, IfOk, IfErr, OnOk, MatchResult, length, ◌||◌, refl, sym, ap, subst, ◌∙◌}
+use Rattle.std.proofs.Common.{◌≡◌, ◌≢◌, ℕ, Bool, true, false, ◌&&◌, if◌then◌else◌, not, List, [], ◌∷◌, ◌++◌, Option, Some, None}
+use Rattle.std.proofs.Common.{Result, Ok, Err, IfOk, IfErr, OnOk, MatchResult, length, ◌||◌, refl, sym, ap, subst, ◌∙◌, arith}
 use Rattle.swc_context.specs.declared.error.Error.{Error}
 use Rattle.swc_context.specs.declared.error.SyntaxError.TheVariants.{OutOfMemory}
 use Rattle.swc_context.specs.declared.span.BytePos.{BytePos}
@@ -9,27 +9,32 @@ use Rattle.swc_input.specs.declared.buffer.Buffer.{Buffer}
 use Rattle.swc_input.specs.declared.token.Token.{Token}
 use Rattle.swc_input.specs.declared.token.Token.TheVariants as token
 use Rattle.swc_input.specs.declared.token.TokenAndSpan.{TokenAndSpan}
-use Rattle.swc_input.specs.Buffer.{Future, Known, context, last_position, previous}
+use Rattle.swc_input.specs.Buffer.{Future, Known, context, last_position, previous, state_of}
 use Rattle.swc_input.specs.Kinds.{at_token}
 use Rattle.swc_input.specs.Laws.{Future-some}
-use Rattle.swc_input.specs.Recording.{no_memory}
+use Rattle.swc_input.specs.Recording.{is_silent, no_memory}
 use Rattle.swc_input.specs.Source.{Model}
-use Rattle.swc_ast.specs.Tree.{Tree, array_with, invalid, object_with, node, nil, cons}
+use Rattle.swc_ast.specs.Pedantic.{privates_ok}
+use Rattle.swc_ast.specs.Tree.{Tree, array_with, invalid, item, object_with, node, nil, cons, no_span}
 use Rattle.swc_ast.specs.Trees.{is_grouped, is_valid, unmarked}
 use Rattle.swc_ast.specs.declared.for_head.ForHead.{ForHead as HeadOf}
 use Rattle.swc_ast.specs.declared.spanned.Spanned.{Ghosts}
 use Rattle.swc_bodies.specs.Readings.{Hook, LawfulHook}
 use Rattle.swc_grammar.specs.Clean.{Out, and_then, first, no_error}
-use Rattle.swc_grammar.specs.Cover.{is_assign, as_pat, target}
+use Rattle.swc_grammar.specs.Cover.{Role, is_assign, as_pat, target}
 use Rattle.swc_grammar.specs.ForHead.{ForHead, for_target, for_expr, in_for, is_each, is_for_target, head_tree, next}
-use Rattle.swc_grammar.specs.ForHead.{unmarked_head, HeadStops, ReadsHead, ReadsHeadUnmarked}
+use Rattle.swc_grammar.specs.ForHead.{unmarked_head, HeadStops, ReadsHead, ReadsHeadUnmarked, expr-head, target-head}
 use Rattle.swc_grammar.specs.ForHeadClean.{for_head, for_tail, written}
 use Rattle.swc_grammar.specs.Rule.{sees}
 use Rattle.swc_grammar.specs.Scope.{Scope}
 use Rattle.swc_grammar.specs.Symbols.{Expr}
 use Rattle.swc_grammar.specs.Words.{◌>>=◌}
+use Rattle.swc_grammar.proofs.Answers.{both}
 use Rattle.swc_grammar.proofs.ForHeads.{head-front, head-grouped, head-next, head-sound, head-valid}
 use Rattle.swc_grammar.proofs.Marks.{same-grouped, same-valid}
+use Rattle.swc_laws.proofs.PedanticTrees.{privates-unmarked}
+use Rattle.swc_laws.proofs.Privates.{privates}
+use Rattle.swc_laws.proofs.PrivatesKept.{elements-fit}
 use Rattle.swc_nodes.specs.Commas.{comma_at, commas_in, part_commas, recalled, Recalls}
 use Rattle.swc_nodes.specs.GrowingNodes.{tree_at, bare_at, CutTo, From}
 use Rattle.swc_nodes.specs.NodeParts.{expr_part, for_head_parts}
@@ -45,18 +50,22 @@ use Rattle.swc_cover.specs.declared.pat_type.PatType.TheVariants.{AssignPat}
 use Rattle.swc_cover.proofs.Clear.{clear-fits}
 use Rattle.swc_cover.proofs.Refines.{expr-formed}
 use Rattle.swc_cover.proofs.Ties.{pattern-is}
-use Rattle.swc_steps.specs.Parsing.{scope, seen, tree_of, Checks, Heard, Here, Loud, On, Parses, Refuses, Unheard}
+use Rattle.swc_steps.specs.Parsing.{scope, recorded, seen, tree_of, Checks, Heard, Here, Leads, Loud, On, Parses, Refuses, Unheard}
 use Rattle.swc_steps.proofs.Endings.{read-valid}
 use Rattle.swc_steps.proofs.Steps as steps
-use Rattle.swc_steps.proofs.Steps.{Reader, give, consumes_of}
+use Rattle.swc_steps.proofs.Steps.{Reader, give, consumes_of, more_recorded, read_scope}
 use Rattle.swc_steps.proofs.Steps.Calls.{on_call_read}
+use Rattle.swc_verifier.specs.CoverNames.{covers_left, parts_covers_left}
+use Rattle.swc_verifier.proofs.Left.{expr-left, pat-left}
 use Rattle.swc_ecma_parser.specs.Calls.{buffer_of, nodes_of, commas_of, has_failed, wants_memory, parser_failed, Kept}
-use Rattle.swc_ecma_parser.specs.ForHeads.{boxed_head, coded, for_head_at, head_by, head_expr, is_each_word, is_target_id}
+use Rattle.swc_ecma_parser.specs.Finishing.{no_places, parts_done, ChecksAnswer, ChecksCovers}
+use Rattle.swc_ecma_parser.specs.ForHeads.{boxed_head, coded, for_head_at, head_by, head_done, head_expr, is_each_word, is_target_id}
 use Rattle.swc_ecma_parser.specs.ForHeads.{DerivesHead, HeadAnswer, HeadPromise, PromisedHead, RemembersHead}
-use Rattle.swc_ecma_parser.specs.Promise.{Complete, Derivation, Unmarred}
+use Rattle.swc_ecma_parser.specs.Promise.{Complete, Derivation, Finished, Unmarred, covers_done}
 use Rattle.swc_ecma_parser.specs.declared.parser.Parser.{Parser}
 use Rattle.swc_ecma_parser.proofs.ArrowParams.{heard_behind}
 use Rattle.swc_ecma_parser.proofs.Calling.{failing, not_both}
+use Rattle.swc_ecma_parser.proofs.Finished.{finished, finished-from, finished-into, finished-parses, parts-told, parts-told-bare}
 use Rattle.swc_ecma_parser.proofs.Moving.{moved-as}
 use Rattle.swc_ecma_parser.proofs.Top.{stripped, complete}
 
@@ -221,15 +230,22 @@ module _ {F C K : Type 0} where
 
 -- ---- what is derived
 
+-- a head in which no cover name is left, once it is as `strip` leaves it
+abbrev pub read_head : {F C K : Type 0} → Hook F C K → Bool → (ForHead F C K → ForHead F C K) → Reader (ForHead F C K)
+read_head hook is_await strip = finished (λ c h. head_done c (strip h)) (for_head hook is_await)
+
 -- What derives heads, beside the heads with their marks of commas: heads that `strip` leaves of them.
 pub record DerivesAs {F C K : Type 0} (hook : Hook F C K) (is_await : Bool) (derives : Derivation (ForHead F C K))
     (strip : ForHead F C K → ForHead F C K) : Type 0 where
-  pub into : (c : Scope) (xs ys : List TokenAndSpan) (m : ForHead F C K) → ReadsHead hook is_await c xs ys m → derives c xs ys (strip m)
+  pub into : (c : Scope) (xs ys : List TokenAndSpan) (m : ForHead F C K) → ReadsHead hook is_await c xs ys m
+      → head_done c (strip m) ≡ true → derives c xs ys (strip m)
   -- up to where a head may stop, all that is derived is read
   pub complete : (c : Scope) (ts ys : List TokenAndSpan) (h : ForHead F C K) → derives c ts ys h → HeadStops ys
-      → stripped strip (for_head hook is_await) c ts ≡ Some (h, ys)
+      → stripped strip (read_head hook is_await strip) c ts ≡ Some (h, ys)
   pub grouped : (c : Scope) (ts ys : List TokenAndSpan) (h : ForHead F C K) → derives c ts ys h → is_grouped (head_tree h) ≡ true
   pub valid : (c : Scope) (ts ys : List TokenAndSpan) (h : ForHead F C K) → derives c ts ys h → is_valid (head_tree h) ≡ true
+  pub privates : (c : Scope) (ts ys : List TokenAndSpan) (h : ForHead F C K) → derives c ts ys h → c.syntax.pedantic ≡ true
+      → privates_ok false (head_tree h) ≡ true
   -- which of the two it is stays
   pub which : (h : ForHead F C K) → is_for_target (strip h) ≡ is_for_target h
 
@@ -250,34 +266,65 @@ module _ {F C K : Type 0} (hook : Hook F C K) (is_await : Bool) where
   which_bare (for_target p) = refl
   which_bare (for_expr e) = refl
 
+  -- in an expression that becomes a pattern private names stand where they stood, as in one that becomes an element
+  target_placed : (m : Role) (e p : Tree F C K) → as_pat m e ≡ Some p → privates_ok false e ≡ true → privates_ok false p ≡ true
+  target_placed m e p h y =
+      (both (privates_ok false p) true
+      (elements-fit m None (cons (node item no_span (cons e nil)) nil) (cons p nil) (rw h refl) (rw y refl))).0
+
+  placed : (h : ForHead F C K) {c : Scope} {ts ys : List TokenAndSpan} → ReadsHead hook is_await c ts ys h → c.syntax.pedantic ≡ true
+      → privates_ok false (head_tree h) ≡ true
+  placed (for_target p) {c} (target-head {e = e} d none pattern word) y = target_placed (target c.context.strict) e p pattern (privates d y)
+  placed (for_expr e) (expr-head d word) y = privates d y
+
+  placed_bare : {c : Scope} {ts ys : List TokenAndSpan} {h : ForHead F C K} → ReadsHeadUnmarked hook is_await c ts ys h
+      → c.syntax.pedantic ≡ true → privates_ok false (head_tree h) ≡ true
+  placed_bare d y =
+      ap (λ v. privates_ok false (head_tree v)) (sym d.same) ∙ ap (λ v. privates_ok false v) (tree_bare d.marked)
+      ∙ privates-unmarked false (head_tree d.marked) ∙ placed d.marked d.read y
+
   -- without the marks, and with them
-  pub head-bare : DerivesAs hook is_await (ReadsHeadUnmarked hook is_await) (λ h. unmarked_head h)
+  pub head-bare : DerivesAs hook is_await (Finished head_done (ReadsHeadUnmarked hook is_await)) (λ h. unmarked_head h)
   head-bare = record {
-    into = λ c xs ys m d. record { marked = m; read = d; same = refl };
+    into = λ c xs ys m d w. record { read = record { marked = m; read = d; same = refl }; covers = w };
     complete = λ c ts ys h d e.
-        ap (λ o. o >>= (λ p. Some (unmarked_head p.0, p.1))) (head-front hook d.read e) ∙ ap (λ v. Some (v, ys)) d.same;
-    grouped = λ c ts ys h d. grouped_bare d;
-    valid = λ c ts ys h d. valid_bare d;
+        ap (λ o. o >>= (λ p. Some (unmarked_head p.0, p.1)))
+        (finished-into (λ v. head_done c (unmarked_head v)) (for_head hook is_await c ts) d.read.marked ys (head-front hook d.read.read e)
+        (ap (λ v. head_done c v) d.read.same ∙ d.covers))
+        ∙ ap (λ v. Some (v, ys)) d.read.same;
+    grouped = λ c ts ys h d. grouped_bare d.read;
+    valid = λ c ts ys h d. valid_bare d.read;
+    privates = λ c ts ys h d y. placed_bare d.read y;
     which = which_bare;
   }
 
-  pub head-marked : DerivesAs hook is_await (ReadsHead hook is_await) (λ h. h)
+  pub head-marked : DerivesAs hook is_await (Finished head_done (ReadsHead hook is_await)) (λ h. h)
   head-marked = record {
-    into = λ c xs ys m d. d;
-    complete = λ c ts ys h d e. ap (λ o. o >>= (λ p. Some (p.0, p.1))) (head-front hook d e);
-    grouped = λ c ts ys h d. head-grouped d;
-    valid = λ c ts ys h d. head-valid d;
+    into = λ c xs ys m d w. record { read = d; covers = w };
+    complete = λ c ts ys h d e.
+        ap (λ o. o >>= (λ p. Some (p.0, p.1)))
+        (finished-into (λ v. head_done c v) (for_head hook is_await c ts) h ys (head-front hook d.read e) d.covers);
+    grouped = λ c ts ys h d. head-grouped d.read;
+    valid = λ c ts ys h d. head-valid d.read;
+    privates = λ c ts ys h d y. placed h d.read y;
     which = λ h. refl;
   }
 
 module _ {S F C K : Type 0} {fun_at : F → Span} {class_at : C → Span} {block_at : K → Span} {model : Model S} {sure : Bool}
-    (hook : Hook F C K) (laws : LawfulHook fun_at class_at block_at hook) (is_await : Bool) {marked : ForHead F C K} {b c : Buffer S}
-    (h : Heard model sure (for_head hook is_await) marked b c) (loud : Loud model b) (same : Unmarred model b c) where
+    (hook : Hook F C K) (laws : LawfulHook fun_at class_at block_at hook) (is_await : Bool) (strip : ForHead F C K → ForHead F C K)
+    {marked : ForHead F C K} {b c : Buffer S} (h : Heard model sure (read_head hook is_await strip) marked b c) (loud : Loud model b)
+    (same : Unmarred model b c) where
+  front_read : (ys : List TokenAndSpan) → Future model c ys
+      → (for_head hook is_await (scope model b) (h.on.leads.taken ++ ys) ≡ Some (marked, ys))
+      × (head_done (scope model b) (strip marked) ≡ true)
+  front_read ys fut =
+      finished-from (λ v. head_done (scope model b) (strip v)) (for_head hook is_await (scope model b) (h.on.leads.taken ++ ys))
+      marked ys (h.on.clean loud (ap length same) ys fut)
+
   front : (ys : List TokenAndSpan) → Future model c ys
       → ReadsHead hook is_await (scope model b) (h.on.leads.taken ++ ys) ys marked
   front ys fut =
-      head-sound hook laws is_await (scope model b) (h.on.leads.taken ++ ys) (marked, ys)
-      (h.on.clean loud (ap length same) ys fut)
+      head-sound hook laws is_await (scope model b) (h.on.leads.taken ++ ys) (marked, ys) (front_read ys fut).0
 
   derived : DerivesHead model (ReadsHead hook is_await) marked b c
   derived = record {
@@ -287,17 +334,19 @@ module _ {S F C K : Type 0} {fun_at : F → Span} {class_at : C → Span} {block
     alone = λ ys fut. head-next h.on.leads.taken ys (front ys fut);
   }
 
-  module _ {derives : Derivation (ForHead F C K)} {strip : ForHead F C K → ForHead F C K} (by : DerivesAs hook is_await derives strip)
+  module _ {derives : Derivation (ForHead F C K)} (by : DerivesAs hook is_await derives strip)
       {left : ForHead F C K} (strips : strip marked ≡ left) where
-    into_left : (xs ys : List TokenAndSpan) → ReadsHead hook is_await (scope model b) xs ys marked → derives (scope model b) xs ys left
-    into_left xs ys d = subst (λ v. derives (scope model b) xs ys v) strips (by.into (scope model b) xs ys marked d)
+    into_left : (xs ys : List TokenAndSpan) → ReadsHead hook is_await (scope model b) xs ys marked
+        → head_done (scope model b) (strip marked) ≡ true → derives (scope model b) xs ys left
+    into_left xs ys d w = subst (λ v. derives (scope model b) xs ys v) strips (by.into (scope model b) xs ys marked d w)
 
     derived_as : DerivesHead model derives left b c
     derived_as = record {
       consumed = h.on.leads.taken;
       read = h.on.leads.read;
-      front = λ ys fut. into_left (h.on.leads.taken ++ ys) ys (front ys fut);
-      alone = λ ys fut. into_left (h.on.leads.taken ++ next ys) (next ys) (head-next h.on.leads.taken ys (front ys fut));
+      front = λ ys fut. into_left (h.on.leads.taken ++ ys) ys (front ys fut) (front_read ys fut).1;
+      alone = λ ys fut.
+          into_left (h.on.leads.taken ++ next ys) (next ys) (head-next h.on.leads.taken ys (front ys fut)) (front_read ys fut).1;
     }
 
     good_left : (is_grouped (head_tree left) ≡ true) × (is_valid (head_tree left) ≡ true)
@@ -307,6 +356,65 @@ module _ {S F C K : Type 0} {fun_at : F → Span} {class_at : C → Span} {block
           by.grouped (scope model b) _ some.0 left d,
           by.valid (scope model b) _ some.0 left d,
         )
+
+    placed_left : (scope model b).syntax.pedantic ≡ true → privates_ok false (head_tree left) ≡ true
+    placed_left y =
+        let some = Future-some h.on.leads.laws c in
+        by.privates (scope model b) _ some.0 left (derived_as.front some.0 some.1) y
+
+-- ---- the look through a head
+
+module _ {F C K : Type 0} (f : ℕ → Tree F C K) where
+  head_left : (h : ForHeadId) → covers_left (head_tree (head_by f h)) ≡ parts_covers_left f (for_head_parts h)
+  head_left (number.Target p) = pat-left f p
+  head_left (number.Expr e) = expr-left f e
+
+module _ {S F C K : Type 0} {fg : Ghosts F} {cg : Ghosts C} {kg : Ghosts K} (model : Model S) (sure : Bool) (hook : Hook F C K)
+    (is_await : Bool) (ns : Nodes F C K fg cg kg) (b c d : Buffer S) where
+  abbrev well_head : ForHeadId → Bool
+  well_head h = parts_done (scope model c) (tree_at ns) (for_head_parts h)
+
+  module _ (answer r : Result ForHeadId Error) (reads : Parses model sure (for_head_at ns) (for_head hook is_await) b answer c)
+      (checks : ChecksAnswer model well_head c answer r d) where
+    pub head-boxes-checked : Parses model sure (for_head_at ns) (read_head hook is_await (λ h. unmarked_head h)) b r d
+    head-boxes-checked =
+        finished-parses model sure (λ k h. head_done k (unmarked_head h)) (for_head hook is_await) (for_head_at ns) well_head b c d
+        answer r reads checks
+        (λ h. parts-told-bare (scope model c) (tree_at ns) (for_head_parts h) (head_tree (for_head_at ns h)) (head_left (tree_at ns) h)
+        ∙ ap (λ t. covers_done (scope model c) t) (sym (tree_bare (for_head_at ns h))))
+
+    pub head-checked : Parses model sure (for_head_at ns) (read_head hook is_await (λ h. h)) b r d
+    head-checked =
+        finished-parses model sure head_done (for_head hook is_await) (for_head_at ns) well_head b c d answer r reads checks
+        (λ h. parts-told (scope model c) (tree_at ns) (for_head_parts h) (head_tree (for_head_at ns h)) (head_left (tree_at ns) h))
+
+  -- Where no fault was recorded nothing was done, so the token behind the head is the one that it was told by.
+  still : (h : ForHeadId) → Leads model b c → ChecksCovers model (well_head h) c d
+      → ((scope model b).syntax.pedantic ≡ true → Unmarred model b d) → d ≡ c
+  still h leads checks quiet =
+      by_flag (scope model b).syntax.pedantic refl
+    where
+      by_well : (w : Bool) → well_head h ≡ w → recorded model d ≡ recorded model b → d ≡ c
+      by_well true e same = checks.still e
+      by_well false e same = by_silent (is_silent (state_of model c)) refl
+        where
+          by_silent : (v : Bool) → is_silent (state_of model c) ≡ v → d ≡ c
+          by_silent true k = checks.silent k
+          by_silent false k = let n = checks.checks.notes e k in let m = more_recorded leads in absurd (omega (arith, n, m, same))
+
+      by_flag : (v : Bool) → (scope model b).syntax.pedantic ≡ v → d ≡ c
+      by_flag true e = by_well (well_head h) refl (ap length (quiet e))
+      by_flag false e =
+          checks.still (ap (λ x. not x.syntax.pedantic || no_places (parts_covers_left (tree_at ns) (for_head_parts h)))
+          (read_scope leads.laws leads.read) ∙ ap (λ v. not v || no_places (parts_covers_left (tree_at ns) (for_head_parts h))) e)
+
+  pub head-told : (answer r : Result ForHeadId Error) → Parses model sure (for_head_at ns) (for_head hook is_await) b answer c
+      → ChecksAnswer model well_head c answer r d → IfOk answer (λ h. is_target_id h ≡ at_token is_each_word (seen c))
+      → IfOk r (λ h. ((scope model b).syntax.pedantic ≡ true → Unmarred model b d) → is_target_id h ≡ at_token is_each_word (seen d))
+  head-told (Ok x) (Ok y) h (same, checks) q = λ quiet.
+      ap (λ v. is_target_id v) same ∙ q ∙ ap (λ v. at_token is_each_word (seen v)) (sym (still x h.on.leads checks quiet))
+  head-told (Err e) (Ok y) h (same, stays) q = absurd cc
+  head-told answer (Err e) h checks q = tt
 
 -- ---- what is promised
 
@@ -334,32 +442,39 @@ module _ {S T F C K : Type 0} {fg : Ghosts F} {cg : Ghosts C} {kg : Ghosts K} (m
       (λ x. MatchResult r (λ t. view t ≡ strip (for_head_at ns x)) (λ e. e ≡ no_memory (last_position c)))
       (λ e. r ≡ Err e)
 
-  told : (answer : Result ForHeadId Error) (r : Result T Error) (w : Bool) → IfOk answer (λ h. is_target_id h ≡ w)
-      → StandsFor answer r → IfOk r (λ t. is_for_target (view t) ≡ w)
-  told (Ok x) (Ok t) w q m = ap (λ v. is_for_target v) m ∙ by.which (for_head_at ns x) ∙ head_which (tree_at ns) x ∙ q
-  told (Err e) (Ok t) w q m = absurd cc
-  told answer (Err e) w q m = tt
+  told : (P : Type 0) (answer : Result ForHeadId Error) (r : Result T Error) (w : Bool) → IfOk answer (λ h. P → is_target_id h ≡ w)
+      → StandsFor answer r → IfOk r (λ t. P → is_for_target (view t) ≡ w)
+  told P (Ok x) (Ok t) w q m = λ p. ap (λ v. is_for_target v) m ∙ by.which (for_head_at ns x) ∙ head_which (tree_at ns) x ∙ q p
+  told P (Err e) (Ok t) w q m = absurd cc
+  told P answer (Err e) w q m = tt
 
   abbrev Read : Result ForHeadId Error → Type 0
-  Read answer = Parses model sure (for_head_at ns) (for_head hook is_await) b answer c
+  Read answer = Parses model sure (for_head_at ns) (read_head hook is_await strip) b answer c
 
   derived_by : (answer : Result ForHeadId Error) (r : Result T Error) → Read answer → StandsFor answer r → Loud model b
       → IfOk r (λ t. Unmarred model b c → DerivesHead model derives (view t) b c)
-  derived_by (Ok x) (Ok t) h m loud = λ same. derived_as hook laws is_await h loud same by (sym m)
+  derived_by (Ok x) (Ok t) h m loud = λ same. derived_as hook laws is_await strip h loud same by (sym m)
   derived_by (Err e) (Ok t) h m loud = absurd cc
   derived_by answer (Err e) h m loud = tt
 
   grouped : (answer : Result ForHeadId Error) (r : Result T Error) → Read answer → StandsFor answer r → Loud model b
       → IfOk r (λ t. Unmarred model b c → is_grouped (head_tree (view t)) ≡ true)
-  grouped (Ok x) (Ok t) h m loud = λ same. (good_left hook laws is_await h loud same by (sym m)).0
+  grouped (Ok x) (Ok t) h m loud = λ same. (good_left hook laws is_await strip h loud same by (sym m)).0
   grouped (Err e) (Ok t) h m loud = absurd cc
   grouped answer (Err e) h m loud = tt
 
   valid : (answer : Result ForHeadId Error) (r : Result T Error) → Read answer → StandsFor answer r → Loud model b
       → IfOk r (λ t. Unmarred model b c → is_valid (head_tree (view t)) ≡ true)
-  valid (Ok x) (Ok t) h m loud = λ same. (good_left hook laws is_await h loud same by (sym m)).1
+  valid (Ok x) (Ok t) h m loud = λ same. (good_left hook laws is_await strip h loud same by (sym m)).1
   valid (Err e) (Ok t) h m loud = absurd cc
   valid answer (Err e) h m loud = tt
+
+  placed_by : (answer : Result ForHeadId Error) (r : Result T Error) → Read answer → StandsFor answer r → Loud model b
+      → (scope model b).syntax.pedantic ≡ true
+      → IfOk r (λ t. Unmarred model b c → privates_ok false (head_tree (view t)) ≡ true)
+  placed_by (Ok x) (Ok t) h m loud y = λ same. placed_left hook laws is_await strip h loud same by (sym m) y
+  placed_by (Err e) (Ok t) h m loud y = absurd cc
+  placed_by answer (Err e) h m loud y = tt
 
   -- the commas of its literals
   commas : (answer : Result ForHeadId Error) (r : Result T Error) → Read answer → StandsFor answer r
@@ -369,7 +484,7 @@ module _ {S T F C K : Type 0} {fg : Ghosts F} {cg : Ghosts C} {kg : Ghosts K} (m
   commas (Ok x) (Ok t) h m old new q = record {
     marked = for_head_at ns x;
     same = sym m;
-    derived = λ loud same. derived hook laws is_await h loud same;
+    derived = λ loud same. derived hook laws is_await strip h loud same;
     recalls = λ k. q k ∙ ap (λ ls. recalled ls k (comma_at old k)) (sym (head_commas (tree_at ns) x));
   }
   commas (Ok x) (Err e) h m old new q = λ n. absurd (n (ap (λ v. v.kind) m))
@@ -377,26 +492,28 @@ module _ {S T F C K : Type 0} {fg : Ghosts F} {cg : Ghosts C} {kg : Ghosts K} (m
   commas (Err e) (Err x) h m old new q = λ n. q
 
   module _ (answer : Result ForHeadId Error) (r : Result T Error) (reads : Read answer) (to : StandsFor answer r) where
-    left_reads : Parses model sure view (stripped strip (for_head hook is_await)) b r c
+    left_reads : Parses model sure view (stripped strip (read_head hook is_await strip)) b r c
     left_reads =
-        moved-as model sure (for_head hook is_await) (for_head_at ns) (λ x. strip (for_head_at ns x)) view strip b c answer r
+        moved-as model sure (read_head hook is_await strip) (for_head_at ns) (λ x. strip (for_head_at ns x)) view strip b c answer r
         reads (λ x. refl) to
 
     all : sure ≡ true → Complete model derives view HeadStops b r c
     all y =
-        complete model sure derives view (stripped strip (for_head hook is_await)) y HeadStops
+        complete model sure derives view (stripped strip (read_head hook is_await strip)) y HeadStops
         (record { complete = λ x ts ys t d e. by.complete x ts ys t d e }) b r c left_reads
 
-    pub head-promised : IfOk answer (λ h. is_target_id h ≡ at_token is_each_word (seen c))
+    pub head-promised : IfOk answer (λ h. ((scope model b).syntax.pedantic ≡ true → Unmarred model b c)
+        → is_target_id h ≡ at_token is_each_word (seen c))
         → HeadPromise model sure derives view b r c
     head-promised which = record {
-      reads = consumes_of model sure view (stripped strip (for_head hook is_await)) b c r left_reads;
-      which = told answer r (at_token is_each_word (seen c)) which to;
+      reads = consumes_of model sure view (stripped strip (read_head hook is_await strip)) b c r left_reads;
+      which = told ((scope model b).syntax.pedantic ≡ true → Unmarred model b c) answer r (at_token is_each_word (seen c)) which to;
       sound = derived_by answer r reads to;
       complete = all;
       one_head = λ y. one model derives view b r c (all y);
       grouped = grouped answer r reads to;
       valid = valid answer r reads to;
+      privates = placed_by answer r reads to;
     }
 
     pub head-recalled : (old new : TrailingCommas)

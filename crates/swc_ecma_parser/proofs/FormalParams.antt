@@ -1,5 +1,6 @@
 -- From what is read of formal parameters to what is promised of them.
-use Rattle.std.proofs.Common.{◌≡◌, ◌≢◌, ℕ, Bool, true, false, List, [], ◌∷◌, ◌++◌, Some, None, Result, Ok, Err, IfOk, OnOk, MatchResult, map, length, ◌||◌, refl, sym, ap, subst, ◌∙◌, append_assoc}
+use Rattle.std.proofs.Common.{◌≡◌, ◌≢◌, ℕ, Bool, true, false, List, [], ◌∷◌, ◌++◌, not, if◌then◌else◌, Some, None}
+use Rattle.std.proofs.Common.{Result, Ok, Err, IfOk, OnOk, MatchResult, map, length, ◌||◌, refl, sym, ap, subst, ◌∙◌, append_assoc}
 use Rattle.std.specs.declared.alloc.Global.{Global}
 use Rattle.std.specs.declared.vec.Vec.{Vec}
 use Rattle.swc_context.specs.declared.error.Error.{Error}
@@ -13,24 +14,27 @@ use Rattle.swc_input.specs.Laws.{Known-after, Known-Future}
 use Rattle.swc_input.specs.Recording.{no_memory}
 use Rattle.swc_input.specs.Source.{Model}
 use Rattle.swc_ast.specs.Parts.{param_tree}
-use Rattle.swc_ast.specs.Tree.{Tree, node, Trees, nil, cons, trees}
+use Rattle.swc_ast.specs.Pedantic.{all_privates_ok, none_left, privates_ok}
+use Rattle.swc_ast.specs.Tree.{Tree, node, Trees, args, nil, cons, no_span, trees}
 use Rattle.swc_ast.specs.TreeOf.{pat_tree}
 use Rattle.swc_ast.specs.Trees.{are_grouped, are_valid, grouped_at, is_grouped, is_valid, items_of, listed, unmarked, all_unmarked}
 use Rattle.swc_ast.specs.declared.function.Param.{Param}
 use Rattle.swc_ast.specs.declared.pat.Pat.{Pat as PatOf}
 use Rattle.swc_ast.specs.declared.spanned.Spanned.{Ghosts}
 use Rattle.swc_bodies.specs.Readings.{Hook, LawfulHook}
-use Rattle.swc_grammar.specs.Clean.{sym as at, run}
+use Rattle.swc_grammar.specs.Clean.{Out, sym as at, run}
 use Rattle.swc_grammar.specs.Patterns.{any, all_bind_names}
 use Rattle.swc_grammar.specs.Reads.{Reads, ReadsUnmarked}
 use Rattle.swc_grammar.specs.Scope.{Scope}
 use Rattle.swc_grammar.specs.Symbols.{Params}
 use Rattle.swc_grammar.specs.Tokens.{is_rparen}
+use Rattle.swc_grammar.specs.Words.{◌>>=◌}
 use Rattle.swc_grammar.proofs.Complete as clean_all
 use Rattle.swc_grammar.proofs.Cut.{cut-append}
 use Rattle.swc_grammar.proofs.Direct.{params-bind}
 use Rattle.swc_grammar.proofs.MarkedBinds.{all-same-binds}
 use Rattle.swc_grammar.proofs.Sound as clean
+use Rattle.swc_laws.proofs.PedanticTrees.{all-covers-unmarked}
 use Rattle.swc_nodes.specs.Commas.{comma_at, commas_in, commas_of_all, part_commas, recalled, Recalls}
 use Rattle.swc_nodes.specs.GrowingNodes.{tree_at, bare_at, Apart, CutTo}
 use Rattle.swc_nodes.specs.NodeParts.{flat, param_parts}
@@ -41,14 +45,18 @@ use Rattle.swc_patterns.specs.Answers.{params_at, params_of}
 use Rattle.swc_patterns.specs.Params.{params_close}
 use Rattle.swc_steps.specs.Keys.{expected}
 use Rattle.swc_steps.specs.Lists.{eaten}
-use Rattle.swc_steps.specs.Parsing.{scope, recorded, Loud, Acts, On, Unheard}
+use Rattle.swc_steps.specs.Parsing.{scope, recorded, Checks, Loud, Acts, On, Unheard}
 use Rattle.swc_steps.proofs.Hearing.{same_faults}
-use Rattle.swc_steps.proofs.Steps.{spent, forgoes_refuses}
+use Rattle.swc_steps.proofs.Steps.{Reader, forgoes_later, forgoes_refuses, on_call, on_checked_in, on_then, on_within_call, spent}
+use Rattle.swc_steps.proofs.Steps.{unheard_call, unheard_memory}
+use Rattle.swc_verifier.specs.CoverNames.{covers_left, covers_left_of_all, parts_covers_left}
 use Rattle.swc_ecma_parser.specs.Calls.{buffer_of, nodes_of, commas_of, has_failed, wants_memory, parser_failed, params_tree, Kept}
-use Rattle.swc_ecma_parser.specs.Promise.{ClosedBy, Derivation, DerivesParams, MayClose, ParamsAnswer, PromisedParams, RemembersParams}
-use Rattle.swc_ecma_parser.specs.Promise.{Unmarred, pats_of}
+use Rattle.swc_ecma_parser.specs.Finishing.{parts_done, ChecksAnswer}
+use Rattle.swc_ecma_parser.specs.Promise.{ClosedBy, Derivation, DerivesParams, Finished, MayClose, ParamsAnswer, PromisedParams}
+use Rattle.swc_ecma_parser.specs.Promise.{RemembersParams, Unmarred, items_done, pats_of}
 use Rattle.swc_ecma_parser.specs.declared.parser.Parser.{Parser}
 use Rattle.swc_ecma_parser.proofs.Calling.{failing, not_both}
+use Rattle.swc_ecma_parser.proofs.Finished.{finished, finished-from, finished-into, parts-told}
 use Rattle.swc_ecma_parser.proofs.Top.{as_many, memory, parts, right_of, well, well_bare}
 
 -- ---- patterns of parameters
@@ -78,6 +86,12 @@ module _ {F C K : Type 0} where
       → commas_of_all (trees (map (λ p. f p.pat.0) xs)) ≡ part_commas f (flat param_parts xs)
   pats_commas f [] = refl
   pats_commas f (x ∷ xs) = ap (λ v. v ++ commas_in (f x.pat.0)) (pats_commas f xs)
+
+  -- the cover names that are left in them
+  pats_left : (f : ℕ → Tree F C K) (xs : List (Param PatId))
+      → covers_left_of_all (trees (map (λ p. f p.pat.0) xs)) ≡ parts_covers_left f (flat param_parts xs)
+  pats_left f [] = refl
+  pats_left f (x ∷ xs) = ap (λ v. covers_left (f x.pat.0) ++ v) (pats_left f xs)
 
   -- ---- the `)` that closes parameters
 
@@ -113,6 +127,78 @@ module _ {F C K : Type 0} where
           record { close = a; is = e; begins = ap (λ v. a ∷ v) q.1; list = sym q.0 }
       by_first false e = let n = unclosed pats c a us e in absurd cc
 
+-- ---- the look through parameters, whose parenthesis stays
+
+module _ {F C K : Type 0} (hook : Hook F C K) where
+  -- the parameters, with the `)` that closes them, if no cover name is left in them
+  abbrev pub read_params : Reader (Tree F C K)
+  read_params = finished items_done (run hook (at Params))
+
+-- goes on where they are
+module _ {F C K : Type 0} where
+  abbrev if_done : Scope → Tree F C K × List TokenAndSpan → Out (Tree F C K)
+  if_done c p = if items_done c p.0 then Some p else None
+
+  -- whether some are doesn't hang on the parenthesis
+  abbrev pats_done : Scope → Trees F C K → Bool
+  pats_done c pats = not c.syntax.pedantic || none_left pats
+
+  close_done : (pats : Trees F C K) (c : Scope) (ts : List TokenAndSpan) → pats_done c pats ≡ true
+      → (params_close pats c ts >>= if_done c) ≡ params_close pats c ts
+  close_done pats c [] w = let n = unclosed_end pats c in rw n refl
+  close_done pats c (a ∷ us) w = by_first (is_rparen a.token) refl
+    where
+      by_first : (v : Bool) → is_rparen a.token ≡ v → (params_close pats c (a ∷ us) >>= if_done c) ≡ params_close pats c (a ∷ us)
+      by_first true e =
+          ap (λ o. o >>= if_done c) (closes pats c a us e)
+          ∙ ap (λ b. if b then Some (listed None a.span pats, us) else None) w
+          ∙ sym (closes pats c a us e)
+      by_first false e = let n = unclosed pats c a us e in ap (λ o. o >>= if_done c) n ∙ sym n
+
+  close_undone : (pats : Trees F C K) (c : Scope) (ts : List TokenAndSpan) → pats_done c pats ≡ false
+      → (params_close pats c ts >>= if_done c) ≡ None
+  close_undone pats c [] w = ap (λ o. o >>= if_done c) (unclosed_end pats c)
+  close_undone pats c (a ∷ us) w = by_first (is_rparen a.token) refl
+    where
+      by_first : (v : Bool) → is_rparen a.token ≡ v → (params_close pats c (a ∷ us) >>= if_done c) ≡ None
+      by_first true e =
+          ap (λ o. o >>= if_done c) (closes pats c a us e)
+          ∙ ap (λ b. if b then Some (listed None a.span pats, us) else None) w
+      by_first false e = ap (λ o. o >>= if_done c) (unclosed pats c a us e)
+
+module _ {S F C K : Type 0} {model : Model S} {sure : Bool} (hook : Hook F C K) where
+  params_checked : (pats : Trees F C K) (well : Bool) {b c d : Buffer S} → On model sure (run hook (at Params)) (params_close pats) b c
+      → Checks model well c d → well ≡ pats_done (scope model c) pats → On model sure (read_params hook) (params_close pats) b d
+  params_checked pats well {c = c} on checks fits =
+      on_then
+      (on_within_call {g = λ x ts. params_close pats x ts >>= if_done x} if_done (λ x ts. refl) (λ x ts. refl) on)
+      (on_checked_in {f = λ x ts. params_close pats x ts >>= if_done x} {g = params_close pats} well checks
+      (λ ts w. close_done pats (scope model c) ts (sym fits ∙ w)) (λ ts w. close_undone pats (scope model c) ts (sym fits ∙ w)))
+
+module _ {S F C K : Type 0} {fg : Ghosts F} {cg : Ghosts C} {kg : Ghosts K} (model : Model S) (sure : Bool) (hook : Hook F C K)
+    (ns : Nodes F C K fg cg kg) (b c d : Buffer S) where
+  told : (x : Vec (Param PatId) Global)
+      → parts_done (scope model c) (tree_at ns) (flat param_parts x.items) ≡ pats_done (scope model c) (params_at ns x)
+  told x =
+      parts-told (scope model c) (tree_at ns) (flat param_parts x.items) (node args no_span (params_at ns x))
+      (pats_left (tree_at ns) x.items)
+
+  pub params-checked : (answer r : Result (Vec (Param PatId) Global) Error)
+      → MatchResult answer (λ x. On model sure (run hook (at Params)) (params_close (params_at ns x)) b c)
+      (λ e. Unheard model sure (run hook (at Params)) b e c)
+      → ChecksAnswer model (λ x. parts_done (scope model c) (tree_at ns) (flat param_parts x.items)) c answer r d
+      → MatchResult r (λ x. On model sure (read_params hook) (params_close (params_at ns x)) b d)
+      (λ e. Unheard model sure (read_params hook) b e d)
+  params-checked (Ok x) (Ok y) on (same, checks) =
+      subst (λ v. On model sure (read_params hook) (params_close (params_at ns v)) b d) (sym same)
+      (params_checked hook (params_at ns x) _ on checks.checks (told x))
+  params-checked (Ok x) (Err e) on forgoes = unheard_memory (forgoes_later on.leads forgoes)
+  params-checked (Err e) (Ok y) u (same, stays) = absurd cc
+  params-checked (Err e) (Err x) u (same, stays) =
+      let same : x ≡ e = cc in
+      subst (λ v. Unheard model sure (read_params hook) b v d) (sym same)
+      (subst (λ v. Unheard model sure (read_params hook) b e v) (sym stays) (unheard_call if_done (λ k ts. refl) u))
+
 -- ---- what is known comes once
 
 same_known : {S : Type 0} {model : Model S} {c : Buffer S} (xs ys : List TokenAndSpan) → Known model c xs → Known model c ys → xs ≡ ys
@@ -123,35 +209,49 @@ same_known {c = c} xs ys k l =
 -- What derives parameters, beside the trees with their marks of commas: trees that `strip` leaves of them.
 pub record Derives {F C K : Type 0} (hook : Hook F C K) (derives : Derivation (Tree F C K)) (strip : Trees F C K → Trees F C K) : Type 0 where
   pub into : (c : Scope) (xs ys : List TokenAndSpan) (s : Span) (m : Trees F C K) → Reads hook Params c xs ys (listed None s m)
-      → derives c xs ys (listed None s (strip m))
+      → items_done c (listed None s m) ≡ true → derives c xs ys (listed None s (strip m))
   pub marked : (c : Scope) (xs ys : List TokenAndSpan) (t : Tree F C K) → derives c xs ys t → Tree F C K
   pub read : (c : Scope) (xs ys : List TokenAndSpan) (t : Tree F C K) (d : derives c xs ys t) → Reads hook Params c xs ys (marked c xs ys t d)
+  pub covers : (c : Scope) (xs ys : List TokenAndSpan) (t : Tree F C K) (d : derives c xs ys t) → items_done c (marked c xs ys t d) ≡ true
   pub list : (c : Scope) (xs ys : List TokenAndSpan) (t : Tree F C K) (d : derives c xs ys t) (s : Span) (m : Trees F C K)
       → marked c xs ys t d ≡ listed None s m → t ≡ listed None s (strip m)
   pub grouped : (c : Scope) (xs ys : List TokenAndSpan) (t : Tree F C K) → derives c xs ys t → is_grouped t ≡ true
   pub valid : (c : Scope) (xs ys : List TokenAndSpan) (t : Tree F C K) → derives c xs ys t → is_valid t ≡ true
+  pub privates : (c : Scope) (xs ys : List TokenAndSpan) (t : Tree F C K) → derives c xs ys t → c.syntax.pedantic ≡ true
+      → privates_ok false t ≡ true
   pub binds : (m : Trees F C K) → all_bind_names any (strip m) ≡ all_bind_names any m
 
+bare_done : {F C K : Type 0} (c : Scope) (m : Tree F C K) → items_done c (unmarked m) ≡ items_done c m
+bare_done c (node k s ts) = ap (λ v. not c.syntax.pedantic || v) (all-covers-unmarked ts)
+
 -- without the marks, and with them
-pub derives-bare : {F C K : Type 0} (hook : Hook F C K) → Derives hook (ReadsUnmarked hook Params) (λ ts. all_unmarked ts)
+pub derives-bare : {F C K : Type 0} (hook : Hook F C K)
+    → Derives hook (Finished items_done (ReadsUnmarked hook Params)) (λ ts. all_unmarked ts)
 derives-bare hook = record {
-  into = λ c xs ys s m d. record { marked = listed None s m; read = d; same = refl };
-  marked = λ c xs ys t d. d.marked;
-  read = λ c xs ys t d. d.read;
-  list = λ c xs ys t d s m e. sym d.same ∙ ap (λ v. unmarked v) e;
-  grouped = (well_bare hook Params).grouped;
-  valid = (well_bare hook Params).valid;
+  into = λ c xs ys s m d w. record {
+    read = record { marked = listed None s m; read = d; same = refl };
+    covers = bare_done c (listed None s m) ∙ w;
+  };
+  marked = λ c xs ys t d. d.read.marked;
+  read = λ c xs ys t d. d.read.read;
+  covers = λ c xs ys t d. sym (bare_done c d.read.marked) ∙ ap (λ v. items_done c v) d.read.same ∙ d.covers;
+  list = λ c xs ys t d s m e. sym d.read.same ∙ ap (λ v. unmarked v) e;
+  grouped = λ c xs ys t d. (well_bare hook Params).grouped c xs ys t d.read;
+  valid = λ c xs ys t d. (well_bare hook Params).valid c xs ys t d.read;
+  privates = λ c xs ys t d y. (well_bare hook Params).privates c xs ys t d.read y;
   binds = λ m. all-same-binds any m;
 }
 
-pub derives-marked : {F C K : Type 0} (hook : Hook F C K) → Derives hook (Reads hook Params) (λ ts. ts)
+pub derives-marked : {F C K : Type 0} (hook : Hook F C K) → Derives hook (Finished items_done (Reads hook Params)) (λ ts. ts)
 derives-marked hook = record {
-  into = λ c xs ys s m d. d;
+  into = λ c xs ys s m d w. record { read = d; covers = w };
   marked = λ c xs ys t d. t;
-  read = λ c xs ys t d. d;
+  read = λ c xs ys t d. d.read;
+  covers = λ c xs ys t d. d.covers;
   list = λ c xs ys t d s m e. e;
-  grouped = (well hook Params).grouped;
-  valid = (well hook Params).valid;
+  grouped = λ c xs ys t d. (well hook Params).grouped c xs ys t d.read;
+  valid = λ c xs ys t d. (well hook Params).valid c xs ys t d.read;
+  privates = λ c xs ys t d y. (well hook Params).privates c xs ys t d.read y;
   binds = λ m. refl;
 }
 
@@ -169,17 +269,27 @@ pub record MeetsParams {S F C K T : Type 0} (model : Model S) (sure : Bool) (hoo
       → IfOk r (λ v. (close : TokenAndSpan) → Known model c (close ∷ []) → t ≡ listed None close.span (view v))
   pub grouped : Loud model b → IfOk r (λ v. Unmarred model b c → MayClose model c → are_grouped (view v) ≡ true)
   pub valid : Loud model b → IfOk r (λ v. Unmarred model b c → MayClose model c → are_valid (view v) ≡ true)
+  pub privates : Loud model b → (scope model b).syntax.pedantic ≡ true
+      → IfOk r (λ v. Unmarred model b c → MayClose model c → all_privates_ok false false (view v) ≡ true)
   pub binds : Loud model b → IfOk r (λ v. Unmarred model b c → MayClose model c → all_bind_names any (view v) ≡ true)
   pub commas : MatchResult r (λ v. RemembersParams model hook strip (view v) b c old new) (λ e. e.kind ≢ OutOfMemory → new ≡ old)
 
 module _ {S F C K : Type 0} {fun_at : F → Span} {class_at : C → Span} {block_at : K → Span} (model : Model S) (sure : Bool)
     (hook : Hook F C K) (laws : LawfulHook fun_at class_at block_at hook) (marked : Trees F C K) (b c : Buffer S)
-    (on : On model sure (run hook (at Params)) (params_close marked) b c) where
+    (on : On model sure (read_params hook) (params_close marked) b c) where
+  front_read : Loud model b → Unmarred model b c → (t : TokenAndSpan) (ys : List TokenAndSpan) → Future model c (t ∷ ys)
+      → is_rparen t.token ≡ true
+      → (run hook (at Params) (scope model b) (on.leads.taken ++ t ∷ ys) ≡ Some (listed None t.span marked, ys))
+      × (items_done (scope model b) (listed None t.span marked) ≡ true)
+  front_read l same t ys fut h =
+      finished-from (items_done (scope model b)) (run hook (at Params) (scope model b) (on.leads.taken ++ t ∷ ys))
+      (listed None t.span marked) ys (on.clean l (ap length same) (t ∷ ys) fut ∙ closes marked (scope model c) t ys h)
+
   front : Loud model b → Unmarred model b c → (t : TokenAndSpan) (ys : List TokenAndSpan) → Future model c (t ∷ ys) → is_rparen t.token ≡ true
       → Reads hook Params (scope model b) (on.leads.taken ++ t ∷ ys) ys (listed None t.span marked)
   front l same t ys fut h =
       clean.sound hook laws Params (scope model b) (on.leads.taken ++ t ∷ ys) (listed None t.span marked, ys)
-      (on.clean l (ap length same) (t ∷ ys) fut ∙ closes marked (scope model c) t ys h)
+      (front_read l same t ys fut h).0
 
   whole : Loud model b → Unmarred model b c → (t : TokenAndSpan) (ys : List TokenAndSpan) → Future model c (t ∷ ys) → is_rparen t.token ≡ true
       → Reads hook Params (scope model b) (on.leads.taken ++ t ∷ []) [] (listed None t.span marked)
@@ -194,16 +304,18 @@ module _ {S F C K : Type 0} {fun_at : F → Span} {class_at : C → Span} {block
   module _ (derives : Derivation (Tree F C K)) (strip : Trees F C K → Trees F C K) (by : Derives hook derives strip)
       (pats : Trees F C K) (strips : strip marked ≡ pats) where
     stripped_of : (xs ys : List TokenAndSpan) (t : TokenAndSpan) → Reads hook Params (scope model b) xs ys (listed None t.span marked)
-        → derives (scope model b) xs ys (listed None t.span pats)
-    stripped_of xs ys t d =
-        subst (λ v. derives (scope model b) xs ys (listed None t.span v)) strips (by.into (scope model b) xs ys t.span marked d)
+        → items_done (scope model b) (listed None t.span marked) ≡ true → derives (scope model b) xs ys (listed None t.span pats)
+    stripped_of xs ys t d w =
+        subst (λ v. derives (scope model b) xs ys (listed None t.span v)) strips (by.into (scope model b) xs ys t.span marked d w)
 
     derived_as : Loud model b → Unmarred model b c → DerivesParams model derives pats b c
     derived_as l same = record {
       consumed = on.leads.taken;
       read = on.leads.read;
-      front = λ t ys fut h. stripped_of (on.leads.taken ++ t ∷ ys) ys t (front l same t ys fut h);
-      whole = λ t ys fut h. stripped_of (on.leads.taken ++ t ∷ []) [] t (whole l same t ys fut h);
+      front = λ t ys fut h.
+          stripped_of (on.leads.taken ++ t ∷ ys) ys t (front l same t ys fut h) (front_read l same t ys fut h).1;
+      whole = λ t ys fut h.
+          stripped_of (on.leads.taken ++ t ∷ []) [] t (whole l same t ys fut h) (front_read l same t ys fut h).1;
     }
 
     -- over a listed source
@@ -212,11 +324,13 @@ module _ {S F C K : Type 0} {fun_at : F → Span} {class_at : C → Span} {block
     completed y l ts ys t k d =
         let laws = on.leads.laws in
         let m = by.marked (scope model b) ts ys t d in
-        let e = clean_all.complete hook (by.read (scope model b) ts ys t d) tt in
+        let e =
+        finished-into (items_done (scope model b)) (run hook (at Params) (scope model b) ts) m ys
+        (clean_all.complete hook (by.read (scope model b) ts ys t d) tt) (by.covers (scope model b) ts ys t d) in
         let w = Known-after laws b c on.leads.taken ts on.leads.read.took k in
         let counted : recorded model c ≡ recorded model b = as_many on.leads.read.errors (λ lt. let f0 = on.faulty y l lt ts k in cc) in
         let got = on.clean l counted w.0 (Known-Future laws c w.0 w.1) in
-        let found = closed_from marked (scope model c) w.0 m ys (sym got ∙ ap (λ v. run hook (at Params) (scope model b) v) (sym w.2) ∙ e) in (
+        let found = closed_from marked (scope model c) w.0 m ys (sym got ∙ ap (λ v. read_params hook (scope model b) v) (sym w.2) ∙ e) in (
           record {
             close = found.close;
             is = found.is;
@@ -236,7 +350,9 @@ module _ {S F C K : Type 0} {fun_at : F → Span} {class_at : C → Span} {block
 
     stripped_whole : Loud model b → Unmarred model b c → (m : MayClose model c)
         → derives (scope model b) (on.leads.taken ++ m.close ∷ []) [] (listed None m.close.span pats)
-    stripped_whole l same m = stripped_of (on.leads.taken ++ m.close ∷ []) [] m.close (whole l same m.close m.behind m.may m.is)
+    stripped_whole l same m =
+        stripped_of (on.leads.taken ++ m.close ∷ []) [] m.close (whole l same m.close m.behind m.may m.is)
+        (front_read l same m.close m.behind m.may m.is).1
 
     grouped_pats : Loud model b → Unmarred model b c → MayClose model c → are_grouped pats ≡ true
     grouped_pats l same m =
@@ -246,6 +362,10 @@ module _ {S F C K : Type 0} {fun_at : F → Span} {class_at : C → Span} {block
     valid_pats : Loud model b → Unmarred model b c → MayClose model c → are_valid pats ≡ true
     valid_pats l same m =
         right_of true (are_valid pats) (by.valid (scope model b) _ [] _ (stripped_whole l same m))
+
+    placed_pats : Loud model b → (scope model b).syntax.pedantic ≡ true → Unmarred model b c → MayClose model c
+        → all_privates_ok false false pats ≡ true
+    placed_pats l y same m = by.privates (scope model b) _ [] _ (stripped_whole l same m) y
 
     bound_pats : Loud model b → Unmarred model b c → MayClose model c → all_bind_names any pats ≡ true
     bound_pats l same m =
@@ -261,8 +381,8 @@ module _ {S F C K T : Type 0} {fg : Ghosts F} {cg : Ghosts C} {kg : Ghosts K} (m
       (λ x. MatchResult r (λ v. strip (params_at ns x) ≡ view v) (λ e. e ≡ no_memory (last_position c))) (λ e. r ≡ Err e)
 
   pub meets-params : (answer : Result (Vec (Param PatId) Global) Error) (r : Result T Error)
-      → MatchResult answer (λ x. On model sure (run hook (at Params)) (params_close (params_at ns x)) b c)
-      (λ e. Unheard model sure (run hook (at Params)) b e c)
+      → MatchResult answer (λ x. On model sure (read_params hook) (params_close (params_at ns x)) b c)
+      (λ e. Unheard model sure (read_params hook) b e c)
       → StandsFor answer r
       → MatchResult answer (λ x. OnOk r (Recalls (part_commas (tree_at ns) (flat param_parts x.items)) old new)) (λ e. new ≡ old)
       → MeetsParams model sure hook derives strip view b r c old new
@@ -275,6 +395,7 @@ module _ {S F C K T : Type 0} {fg : Ghosts F} {cg : Ghosts C} {kg : Ghosts K} (m
         one_tree = one model sure hook laws pats b c on derives strip by (view v) strips;
         grouped = grouped_pats model sure hook laws pats b c on derives strip by (view v) strips;
         valid = valid_pats model sure hook laws pats b c on derives strip by (view v) strips;
+        privates = placed_pats model sure hook laws pats b c on derives strip by (view v) strips;
         binds = bound_pats model sure hook laws pats b c on derives strip by (view v) strips;
         commas = record {
           marked = pats;
@@ -290,6 +411,7 @@ module _ {S F C K T : Type 0} {fg : Ghosts F} {cg : Ghosts C} {kg : Ghosts K} (m
     one_tree = λ y l ts t k d. tt;
     grouped = λ l. tt;
     valid = λ l. tt;
+    privates = λ l y. tt;
     binds = λ l. tt;
     commas = λ n. absurd (n (ap (λ v. v.kind) m));
   }
@@ -298,10 +420,16 @@ module _ {S F C K T : Type 0} {fg : Ghosts F} {cg : Ghosts C} {kg : Ghosts K} (m
     acts = u.refuses;
     sound = λ l. tt;
     complete = λ y l ts ys t k d.
-        memory e.kind (λ n. let f0 = u.none n y l ts k in let f1 = clean_all.complete hook (by.read (scope model b) ts ys t d) tt in cc);
+        memory e.kind (λ n.
+        let f0 = u.none n y l ts k in
+        let f1 =
+        finished-into (items_done (scope model b)) (run hook (at Params) (scope model b) ts) (by.marked (scope model b) ts ys t d) ys
+        (clean_all.complete hook (by.read (scope model b) ts ys t d) tt) (by.covers (scope model b) ts ys t d) in
+        cc);
     one_tree = λ y l ts t k d. tt;
     grouped = λ l. tt;
     valid = λ l. tt;
+    privates = λ l y. tt;
     binds = λ l. tt;
     commas = λ n. q;
   })
@@ -349,6 +477,7 @@ module _ {S H T F C K : Type 0} {fg : Ghosts F} {cg : Ghosts C} {kg : Ghosts K} 
     one_tree = λ runs. absurd (not_both h.0 runs);
     grouped = λ runs. absurd (not_both h.0 runs);
     valid = λ runs. absurd (not_both h.0 runs);
+    privates = λ runs. absurd (not_both h.0 runs);
     binds = λ runs. absurd (not_both h.0 runs);
     commas = λ n. refl;
     nodes = same;
@@ -372,6 +501,7 @@ module _ {S H T F C K : Type 0} {fg : Ghosts F} {cg : Ghosts C} {kg : Ghosts K} 
         one_tree = λ w. meets.one_tree;
         grouped = λ w. meets.grouped;
         valid = λ w. meets.valid;
+        privates = λ w. meets.privates;
         binds = λ w. meets.binds;
         commas = meets.commas;
         nodes = rw (e, nodes) kept;

@@ -9,6 +9,7 @@ use Rattle.swc_input.specs.declared.token.TokenAndSpan.{TokenAndSpan}
 use Rattle.swc_input.specs.Buffer.{previous}
 use Rattle.swc_input.specs.Kinds.{at_token}
 use Rattle.swc_input.specs.Source.{Model}
+use Rattle.swc_ast.specs.Pedantic.{privates_ok}
 use Rattle.swc_ast.specs.Tree.{Tree}
 use Rattle.swc_ast.specs.TreeOf.{pat_prop_tree}
 use Rattle.swc_ast.specs.declared.pat.ObjectPatProp.{ObjectPatProp}
@@ -37,7 +38,8 @@ use Rattle.swc_patterns.specs.Rests.{rest_node}
 use Rattle.swc_steps.specs.Parsing.{scope, Parses}
 use Rattle.swc_steps.proofs.Lists.{eaten_not, eaten_takes}
 use Rattle.swc_ecma_parser.specs.Calls.{buffer_of, nodes_of, has_failed, parser_failed}
-use Rattle.swc_ecma_parser.specs.Promise.{Anywhere, Bound, BoundAsProp, Complete, Derivation, EndsAt, PropOrRest, as-prop, as-rest, Sound}
+use Rattle.swc_ecma_parser.specs.Promise.{Anywhere, Bound, BoundAsProp, Complete, Derivation, EndsAt, Finished, PropOrRest, as-prop}
+use Rattle.swc_ecma_parser.specs.Promise.{as-rest, Sound, covers_done}
 use Rattle.swc_ecma_parser.specs.Promise.{Promised, PromisedPatProp, pat_prop_in_boxes}
 use Rattle.swc_ecma_parser.specs.declared.parser.Parser.{Parser}
 use Rattle.swc_ecma_parser.proofs.Calling.{not_both, promised-again}
@@ -76,19 +78,21 @@ module _ {S F C K T : Type 0} (model : Model S) (hook : Hook F C K) (view : T �
   bound_of derives all b (Err e) c h = λ l. tt
 
   -- of a node, of a tree in boxes, and of an element as either
-  pub bound-marked : (b : Buffer S) (r : Result T Error) (c : Buffer S) → Sound model (Reads hook Pat) view b r c → Bound model view b r c
-  bound-marked = bound_of (Reads hook Pat) (λ c xs ys t d. pattern-binds hook d)
-
-  pub bound-pat : (b : Buffer S) (r : Result T Error) (c : Buffer S) → Sound model (ReadsUnmarked hook Pat) view b r c → Bound model view b r c
-  bound-pat = bound_of (ReadsUnmarked hook Pat) (pat_bare hook)
-
-  pub bound-marked-element : (b : Buffer S) (r : Result T Error) (c : Buffer S) → Sound model (Reads hook Element) view b r c
+  pub bound-marked : (b : Buffer S) (r : Result T Error) (c : Buffer S) → Sound model (Finished covers_done (Reads hook Pat)) view b r c
       → Bound model view b r c
-  bound-marked-element = bound_of (Reads hook Element) (λ c xs ys t d. element-binds hook d)
+  bound-marked = bound_of (Finished covers_done (Reads hook Pat)) (λ c xs ys t d. pattern-binds hook d.read)
 
-  pub bound-element : (b : Buffer S) (r : Result T Error) (c : Buffer S) → Sound model (ReadsUnmarked hook Element) view b r c
-      → Bound model view b r c
-  bound-element = bound_of (ReadsUnmarked hook Element) (element_bare hook)
+  pub bound-pat : (b : Buffer S) (r : Result T Error) (c : Buffer S)
+      → Sound model (Finished covers_done (ReadsUnmarked hook Pat)) view b r c → Bound model view b r c
+  bound-pat = bound_of (Finished covers_done (ReadsUnmarked hook Pat)) (λ c xs ys t d. pat_bare hook c xs ys t d.read)
+
+  pub bound-marked-element : (b : Buffer S) (r : Result T Error) (c : Buffer S)
+      → Sound model (Finished covers_done (Reads hook Element)) view b r c → Bound model view b r c
+  bound-marked-element = bound_of (Finished covers_done (Reads hook Element)) (λ c xs ys t d. element-binds hook d.read)
+
+  pub bound-element : (b : Buffer S) (r : Result T Error) (c : Buffer S)
+      → Sound model (Finished covers_done (ReadsUnmarked hook Element)) view b r c → Bound model view b r c
+  bound-element = bound_of (Finished covers_done (ReadsUnmarked hook Element)) (λ c xs ys t d. element_bare hook c xs ys t d.read)
 
   -- of a property of an object pattern, or a rest
   pub bound-prop : (b : Buffer S) (r : Result T Error) (c : Buffer S) → Sound model (PropOrRest (ReadsUnmarked hook)) view b r c
@@ -150,7 +154,11 @@ module _ {F C K : Type 0} (hook : Hook F C K) where
   }
 
   either_well : Well (PropOrRest (ReadsUnmarked hook))
-  either_well = record { grouped = λ c xs ys t d. all_grouped c xs ys t d; valid = λ c xs ys t d. all_valid c xs ys t d }
+  either_well = record {
+    grouped = λ c xs ys t d. all_grouped c xs ys t d;
+    valid = λ c xs ys t d. all_valid c xs ys t d;
+    privates = λ c xs ys t d y. all_placed c xs ys t d y;
+  }
     where
       all_grouped : (c : Scope) (xs ys : List TokenAndSpan) (t : Tree F C K) → PropOrRest (ReadsUnmarked hook) c xs ys t → is_grouped t ≡ true
       all_grouped c xs ys t (as-prop d) = (well_bare hook PatProp).grouped c xs ys t d
@@ -159,6 +167,11 @@ module _ {F C K : Type 0} (hook : Hook F C K) where
       all_valid : (c : Scope) (xs ys : List TokenAndSpan) (t : Tree F C K) → PropOrRest (ReadsUnmarked hook) c xs ys t → is_valid t ≡ true
       all_valid c xs ys t (as-prop d) = (well_bare hook PatProp).valid c xs ys t d
       all_valid c xs ys t (as-rest d) = (well_bare hook Rest).valid c xs ys t d
+
+      all_placed : (c : Scope) (xs ys : List TokenAndSpan) (t : Tree F C K) → PropOrRest (ReadsUnmarked hook) c xs ys t
+          → c.syntax.pedantic ≡ true → privates_ok false t ≡ true
+      all_placed c xs ys t (as-prop d) y = (well_bare hook PatProp).privates c xs ys t d y
+      all_placed c xs ys t (as-rest d) y = (well_bare hook Rest).privates c xs ys t d y
 
 module _ {F C K : Type 0} {fun_at : F → Span} {class_at : C → Span} {block_at : K → Span} (hook : Hook F C K)
     (laws : LawfulHook fun_at class_at block_at hook) where

@@ -39,7 +39,7 @@ use Rattle.swc_steps.specs.Parsing.{Here, Loud, scope, scope_of}
 use Rattle.swc_steps.proofs.Hearing.{same_faults}
 use Rattle.swc_ecma_parser.specs.BothWays.{Fresh, Left, faults}
 use Rattle.swc_ecma_parser.specs.Calls.{buffer_of}
-use Rattle.swc_ecma_parser.specs.Promise.{Derives, Promised, Unmarred, in_boxes}
+use Rattle.swc_ecma_parser.specs.Promise.{Derives, Finished, Promised, Unmarred, covers_done, in_boxes}
 use Rattle.swc_ecma_parser.specs.Replaying.{HandsOut, ReadAgain, ReadsKeeping, Replayed, ReplayLaw, boxed, scope_at}
 use Rattle.swc_ecma_parser.specs.WholeList.{IsHeeded, plain_list}
 use Rattle.swc_ecma_parser.specs.declared.parser.Parser.{Parser}
@@ -110,14 +110,14 @@ module _ {S H F C K : Type 0} {fg : Ghosts F} {cg : Ghosts C} {kg : Ghosts K} {m
     pub consumed : List TokenAndSpan
     pub gave : model.gives s consumed (within (source (buffer_of p)))
     pub ended : (model.state (within (source (buffer_of p)))).ended ≡ true
-    pub derived : ReadsUnmarked hook Expr (scope_at (model.state s)) consumed [] t
+    pub derived : Finished covers_done (ReadsUnmarked hook Expr) (scope_at (model.state s)) consumed [] t
     pub kept : plain_list (tokens_kept (source (buffer_of p))) ≡ kept_of consumed
     pub context : (model.state (within (source (buffer_of p)))).context ≡ (model.state s).context
 
   -- between the buffers b and c, by what was read up to m, where the end was looked for
   all-read : (s : S) (t : Tree F C K) (b m : Buffer (Capturing S)) (p : Parser (Capturing S) H F C K fg cg kg)
       → within (source b) ≡ s → held b ≡ [] → tokens_kept (source b) ≡ []
-      → Derives (capturing_model model) (ReadsUnmarked hook Expr) (λ (u : Tree F C K). u) t b m
+      → Derives (capturing_model model) (Finished covers_done (ReadsUnmarked hook Expr)) (λ (u : Tree F C K). u) t b m
       → Here (capturing_model model) m (buffer_of p) → current (buffer_of p) ≡ None
       → (model.state (within (source (buffer_of p)))).ended ≡ true → ReadAll s t p
   all-read s t b m p from new clear d here last ended =
@@ -129,7 +129,7 @@ module _ {S H F C K : Type 0} {fg : Ghosts F} {cg : Ghosts C} {kg : Ghosts K} {m
         consumed = d.consumed;
         gave = subst (λ x. model.gives x d.consumed (within (source c))) from (given-all model b c d.consumed new none lost r.took);
         ended = ended;
-        derived = subst (λ x. ReadsUnmarked hook Expr (scope_at (model.state x)) d.consumed [] t) from d.whole;
+        derived = subst (λ x. Finished covers_done (ReadsUnmarked hook Expr) (scope_at (model.state x)) d.consumed [] t) from d.whole;
         kept = kept-all model b c d.consumed new clear none r.took;
         context = r.context ∙ ap (λ x. (model.state x).context) from;
       }
@@ -165,10 +165,10 @@ module _ {H F C K : Type 0} {fg : Ghosts F} {cg : Ghosts C} {kg : Ghosts K} wher
   again-read : {sure : Bool} {hook : Hook F C K} (again : Result (Box (ExprOf F C K) Global) Error) (c : Context) (x : Syntax) (ts : List TokenAndSpan)
       {q : Parser TokensInput H F C K fg cg kg}
       → Fresh (λ a b. Promised listed_model sure hook in_boxes Expr a again b) c x ts q → IsHeeded c x → sure ≡ true
-      → (t : Tree F C K) → ReadsUnmarked hook Expr (scope_of (view c) x) ts [] t → ReadAgain t again q
+      → (t : Tree F C K) → Finished covers_done (ReadsUnmarked hook Expr) (scope_of (view c) x) ts [] t → ReadAgain t again q
   again-read {hook = hook} again c x ts {q} g heeded y t d =
-      let here : ReadsUnmarked hook Expr (scope listed_model (buffer_of g.start)) ts [] t =
-      subst (λ k. ReadsUnmarked hook Expr k ts [] t) (sym g.stands) d in
+      let here : Finished covers_done (ReadsUnmarked hook Expr) (scope listed_model (buffer_of g.start)) ts [] t =
+      subst (λ k. Finished covers_done (ReadsUnmarked hook Expr) k ts [] t) (sym g.stands) d in
       again-answered g.start q again t g.clean (g.call.complete g.runs y (g.loud heeded) ts [] t g.left here at-end)
 
 module _ {S H F C K : Type 0} {fg : Ghosts F} {cg : Ghosts C} {kg : Ghosts K} {model : Model S} (laws : Laws model)
@@ -179,14 +179,14 @@ module _ {S H F C K : Type 0} {fg : Ghosts F} {cg : Ghosts C} {kg : Ghosts K} {m
       {q : Parser TokensInput H F C K fg cg kg}
       → Fresh (λ a b. Promised listed_model sure hook in_boxes Expr a again b) (model.state s).context (model.state s).syntax (kept_of xs) q
       → IsHeeded (model.state s).context (model.state s).syntax → sure ≡ true
-      → ReadsUnmarked hook Expr (scope_at (model.state s)) xs [] t
+      → Finished covers_done (ReadsUnmarked hook Expr) (scope_at (model.state s)) xs [] t
       → {m : Tree F C K} → Reads hook Expr (scope_at (model.state s)) xs [] m
       → Reads hook Expr (scope_at (model.state s)) (kept_of xs) [] m → ReadAgain t again q
   kept-read s t again xs g heeded y d {m} e k =
       let stop = expr-stops.stop (scope_at (model.state s)) [] at-end in
-      let one = (one-reading hook e stop d.read stop).0 in
+      let one = (one-reading hook e stop d.read.read stop).0 in
       again-read again (model.state s).context (model.state s).syntax (kept_of xs) g heeded y t
-      (record { marked = m; read = k; same = ap unmarked one ∙ d.same })
+      (record { read = record { marked = m; read = k; same = ap unmarked one ∙ d.read.same }; covers = d.covers })
 
   replayed : {p r : Parser (Capturing S) H F C K fg cg kg} {q : Parser TokensInput H F C K fg cg kg} (s : S)
       (t : Tree F C K) (again : Result (Box (ExprOf F C K) Global) Error) (tokens : List TokenAndSpan) (c : Context) (x : Syntax)
@@ -208,13 +208,13 @@ module _ {S H F C K : Type 0} {fg : Ghosts F} {cg : Ghosts C} {kg : Ghosts K} {m
         ended = ap (λ z. (model.state z).ended) o.stays ∙ a.ended;
         derived = a.derived;
         kept = g3;
-        all_kept = λ y apart. kept-read s t again a.consumed g3 heeded y a.derived a.derived.read
-            (subst (λ l. Reads hook Expr (scope_at (model.state s)) l [] a.derived.marked)
-            (sym (kept-one-by-one [] a.consumed apart)) a.derived.read);
+        all_kept = λ y apart. kept-read s t again a.consumed g3 heeded y a.derived a.derived.read.read
+            (subst (λ l. Reads hook Expr (scope_at (model.state s)) l [] a.derived.read.marked)
+            (sym (kept-one-by-one [] a.consumed apart)) a.derived.read.read);
         joined = λ y order {m} d j. kept-read s t again a.consumed g3 heeded y a.derived d
             (replay hook lawful replays Expr (scope_at (model.state s)) a.consumed m d order j);
-        wanted = λ y order closes w. kept-read s t again a.consumed g3 heeded y a.derived a.derived.read
-            (replay-wanted hook lawful replays Expr closes (scope_at (model.state s)) a.consumed a.derived.marked a.derived.read
+        wanted = λ y order closes w. kept-read s t again a.consumed g3 heeded y a.derived a.derived.read.read
+            (replay-wanted hook lawful replays Expr closes (scope_at (model.state s)) a.consumed a.derived.read.marked a.derived.read.read
             order w);
       }
 

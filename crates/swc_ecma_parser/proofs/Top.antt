@@ -12,6 +12,7 @@ use Rattle.swc_input.specs.Buffer.{Future, Known}
 use Rattle.swc_input.specs.Laws.{Known-after, Known-Future, Future-some}
 use Rattle.swc_ast.specs.declared.lit.Lit.{Lit}
 use Rattle.swc_ast.specs.Parts.{lit_tree}
+use Rattle.swc_ast.specs.Pedantic.{privates_ok}
 use Rattle.swc_ast.specs.Tree.{Tree, node}
 use Rattle.swc_ast.specs.Trees.{is_grouped, are_grouped, grouped_at, is_valid, are_valid, is_invalid, unmarked, items_of}
 use Rattle.swc_bodies.specs.Readings.{Hook, LawfulHook}
@@ -27,11 +28,14 @@ use Rattle.swc_grammar.proofs.Cut.{cut-append}
 use Rattle.swc_grammar.proofs.Good.{grouped, valid}
 use Rattle.swc_grammar.proofs.Literals.{literal-read}
 use Rattle.swc_grammar.proofs.Marks.{same-grouped, same-valid}
+use Rattle.swc_laws.proofs.PedanticTrees.{privates-unmarked}
+use Rattle.swc_laws.proofs.Privates.{privates}
 use Rattle.swc_steps.specs.Parsing.{scope, recorded, Loud, Consumes, Heard, Parses, TookLiteral}
 use Rattle.swc_ecma_parser.specs.Promise.{Derivation, Anywhere, EndsAt, Unmarred, Derives, Sound, Complete, OneTree}
-use Rattle.swc_ecma_parser.specs.Promise.{Grouped, Valid, PromisedLit, only_items, items_and_comma, ReadsAs}
+use Rattle.swc_ecma_parser.specs.Promise.{Grouped, Valid, PrivatesPlaced, PromisedLit, only_items, items_and_comma, ReadsAs}
 use Rattle.swc_steps.proofs.Hearing.{same_faults}
 use Rattle.swc_steps.proofs.Steps.{Reader, consumes_of}
+use Rattle.swc_ecma_parser.proofs.Placed.{PrivatesLeft}
 
 -- What a clean reader reads is derived, and then also from its own tokens alone.
 pub record IsSound {A : Type 0} (derives : Derivation A) (f : Reader A) : Type 0 where
@@ -46,6 +50,7 @@ pub record Meets {S F C K T : Type 0} (model : Model S) (sure : Bool) (derives :
   pub one_tree : sure ≡ true → EndsAt s [] → OneTree model derives view b r c
   pub grouped : Grouped model view b r c
   pub valid : Valid model view b r c
+  pub privates : PrivatesPlaced model view b r c
 
 -- It reads what is derived, up to where a reading may stop.
 pub record IsComplete {A : Type 0} (derives : Derivation A) (stops : List TokenAndSpan → Type 0) (f : Reader A) : Type 0 where
@@ -88,7 +93,7 @@ module _ {F C K : Type 0} {fun_at : F → Span} {class_at : C → Span} {block_a
   }
 
 module _ {F C K : Type 0} (hook : Hook F C K) where
-  is_complete : (s : Symbol) → ((c : Scope) (ys : List TokenAndSpan) → EndsAt s ys → Stop s c ys)
+  pub is_complete : (s : Symbol) → ((c : Scope) (ys : List TokenAndSpan) → EndsAt s ys → Stop s c ys)
       → IsComplete (grammar.Reads hook s) (EndsAt s) (run hook (at s))
   is_complete s stop = record { complete = λ c ts ys t d e. clean_all.complete hook d (stop c ys e) }
 
@@ -99,7 +104,7 @@ module _ {F C K : Type 0} (hook : Hook F C K) where
         ap (λ o. o >>= (λ p. Some (unmarked p.0, p.1))) (clean_all.complete hook d.read (stop c ys e)) ∙ ap (λ v. Some (v, ys)) d.same;
   }
 
-  is_complete_as : (strip : Tree F C K → Tree F C K) (s : Symbol) → ((c : Scope) (ys : List TokenAndSpan) → EndsAt s ys → Stop s c ys)
+  pub is_complete_as : (strip : Tree F C K → Tree F C K) (s : Symbol) → ((c : Scope) (ys : List TokenAndSpan) → EndsAt s ys → Stop s c ys)
       → IsComplete (ReadsAs strip hook s) (EndsAt s) (stripped strip (run hook (at s)))
   is_complete_as strip s stop = record {
     complete = λ c ts ys t d e.
@@ -110,6 +115,8 @@ module _ {F C K : Type 0} (hook : Hook F C K) where
 pub record Well {F C K : Type 0} (derives : Derivation (Tree F C K)) : Type 0 where
   pub grouped : (c : Scope) (xs ys : List TokenAndSpan) (t : Tree F C K) → derives c xs ys t → is_grouped t ≡ true
   pub valid : (c : Scope) (xs ys : List TokenAndSpan) (t : Tree F C K) → derives c xs ys t → is_valid t ≡ true
+  pub privates : (c : Scope) (xs ys : List TokenAndSpan) (t : Tree F C K) → derives c xs ys t → c.syntax.pedantic ≡ true
+      → privates_ok false t ≡ true
 
 pub right_of : (a b : Bool) → (a && b) ≡ true → b ≡ true
 right_of true b h = h
@@ -141,18 +148,26 @@ module _ {F C K : Type 0} where
 
 module _ {F C K : Type 0} (hook : Hook F C K) where
   pub well : (s : Symbol) → Well (grammar.Reads hook s)
-  well s = record { grouped = λ c xs ys t d. grouped d; valid = λ c xs ys t d. valid d }
+  well s = record {
+    grouped = λ c xs ys t d. grouped d;
+    valid = λ c xs ys t d. valid d;
+    privates = λ c xs ys t d y. privates d y;
+  }
 
   pub well_bare : (s : Symbol) → Well (grammar.ReadsUnmarked hook s)
   well_bare s = record {
     grouped = λ c xs ys t d. ap (λ v. is_grouped v) (sym d.same) ∙ same-grouped d.marked ∙ grouped d.read;
     valid = λ c xs ys t d. ap (λ v. is_valid v) (sym d.same) ∙ same-valid d.marked ∙ valid d.read;
+    privates = λ c xs ys t d y.
+        ap (λ v. privates_ok false v) (sym d.same) ∙ privates-unmarked false d.marked ∙ privates d.read y;
   }
 
-  pub well_as : {strip : Tree F C K → Tree F C K} → Leaves strip → (s : Symbol) → Well (ReadsAs strip hook s)
-  well_as leaves s = record {
+  pub well_as : {strip : Tree F C K → Tree F C K} → Leaves strip → (s : Symbol) → PrivatesLeft hook strip s
+      → Well (ReadsAs strip hook s)
+  well_as leaves s placed = record {
     grouped = λ c xs ys t d. ap (λ v. is_grouped v) (sym d.same) ∙ leaves.grouped d.marked (grouped d.read);
     valid = λ c xs ys t d. ap (λ v. is_valid v) (sym d.same) ∙ leaves.valid d.marked (valid d.read);
+    privates = λ c xs ys t d y. ap (λ v. privates_ok false v) (sym d.same) ∙ placed c xs ys d.marked d.read y;
   }
 
 pub as_many : {es fs : List Error} → Keeps es fs → (length es < length fs → ⊥) → length fs ≡ length es
@@ -179,8 +194,10 @@ module _ {S T A : Type 0} (model : Model S) (sure : Bool) (derives : Derivation 
   sound is b (Err e) c h = λ l. tt
 
   -- what holds of all that is derived holds of the answer
-  pub holds : IsSound derives f → (P : A → Type 0) → ((c : Scope) (xs ys : List TokenAndSpan) (t : A) → derives c xs ys t → P t) → (b : Buffer S) (r : Result T Error) (c : Buffer S) → Parses model sure view f b r c →
-      Loud model b → IfOk r (λ x. Unmarred model b c → P (view x))
+  pub holds : IsSound derives f → (P : Scope → A → Type 0)
+      → ((c : Scope) (xs ys : List TokenAndSpan) (t : A) → derives c xs ys t → P c t)
+      → (b : Buffer S) (r : Result T Error) (c : Buffer S) → Parses model sure view f b r c →
+      Loud model b → IfOk r (λ x. Unmarred model b c → P (scope model b) (view x))
   holds is P all b (Ok x) c h = λ l same. let d = derived is (view x) b c h l same in all (scope model b) d.consumed [] (view x) d.whole
   holds is P all b (Err e) c h = λ l. tt
 
@@ -242,6 +259,12 @@ element-stops = record { stop = λ c ys e. stops-element c e }
 
 module _ {S F C K T : Type 0} (model : Model S) (sure : Bool) (hook : Hook F C K)
     {fun_at : F → Span} {class_at : C → Span} {block_at : K → Span} (laws : LawfulHook fun_at class_at block_at hook) (view : T → Tree F C K) where
+  privates_of : (b c : Buffer S) (r : Result T Error) → (scope model b).syntax.pedantic ≡ true
+      → IfOk r (λ x. Unmarred model b c → (scope model b).syntax.pedantic ≡ true → privates_ok false (view x) ≡ true)
+      → IfOk r (λ x. Unmarred model b c → privates_ok false (view x) ≡ true)
+  privates_of b c (Ok x) y h = λ same. h same y
+  privates_of b c (Err e) y h = tt
+
   pub meets : (s : Symbol) (derives : Derivation (Tree F C K)) (f : Reader (Tree F C K)) → IsSound derives f → IsComplete derives (EndsAt s) f → Well derives →
       (b : Buffer S) (r : Result T Error) (c : Buffer S) → Parses model sure view f b r c → Meets model sure derives view s b r c
   meets s derives f is_sound is_complete all b r c h = record {
@@ -249,8 +272,10 @@ module _ {S F C K T : Type 0} (model : Model S) (sure : Bool) (hook : Hook F C K
     sound = sound model sure derives view f is_sound b r c h;
     complete = λ y. complete model sure derives view f y (EndsAt s) is_complete b r c h;
     one_tree = λ y stop. one_tree model sure derives view f y (EndsAt s) stop is_complete b r c h;
-    grouped = holds model sure derives view f is_sound (λ t. is_grouped t ≡ true) all.grouped b r c h;
-    valid = holds model sure derives view f is_sound (λ t. is_valid t ≡ true) all.valid b r c h;
+    grouped = holds model sure derives view f is_sound (λ k t. is_grouped t ≡ true) all.grouped b r c h;
+    valid = holds model sure derives view f is_sound (λ k t. is_valid t ≡ true) all.valid b r c h;
+    privates = λ l y. privates_of b c r y (holds model sure derives view f is_sound
+        (λ k t. k.syntax.pedantic ≡ true → privates_ok false t ≡ true) all.privates b r c h l);
   }
 
   -- of a node, and of a tree in boxes
@@ -264,10 +289,12 @@ module _ {S F C K T : Type 0} (model : Model S) (sure : Bool) (hook : Hook F C K
       meets s (grammar.ReadsUnmarked hook s) (bare (run hook (at s))) (is_sound_bare hook laws s) (is_complete_bare hook s stops.stop) (well_bare hook s)
 
   -- of a list in boxes, as `strip` leaves it
-  pub meets-as : {strip : Tree F C K → Tree F C K} → Leaves strip → {s : Symbol} → Stopping s → (b : Buffer S) (r : Result T Error) (c : Buffer S)
+  pub meets-as : {strip : Tree F C K → Tree F C K} → Leaves strip → {s : Symbol} → PrivatesLeft hook strip s → Stopping s
+      → (b : Buffer S) (r : Result T Error) (c : Buffer S)
       → Parses model sure view (stripped strip (run hook (at s))) b r c → Meets model sure (ReadsAs strip hook s) view s b r c
-  meets-as {strip} leaves {s} stops =
-      meets s (ReadsAs strip hook s) (stripped strip (run hook (at s))) (is_sound_as hook laws strip s) (is_complete_as hook strip s stops.stop) (well_as hook leaves s)
+  meets-as {strip} leaves {s} placed stops =
+      meets s (ReadsAs strip hook s) (stripped strip (run hook (at s))) (is_sound_as hook laws strip s)
+      (is_complete_as hook strip s stops.stop) (well_as hook leaves s placed)
 
 -- a call on a literal
 module _ {S F C K : Type 0} (model : Model S) (hook : Hook F C K) where

@@ -26,7 +26,7 @@ use Rattle.swc_nodes.specs.NodeParts.{Part}
 use Rattle.swc_nodes.specs.declared.nodes.Nodes.{Nodes}
 use Rattle.swc_steps.specs.Parsing.{scope_of, scope, Loud}
 use Rattle.swc_ecma_parser.specs.Calls.{buffer_of, has_failed, nodes_of}
-use Rattle.swc_ecma_parser.specs.Promise.{EndsAt, Unmarred}
+use Rattle.swc_ecma_parser.specs.Promise.{EndsAt, Finished, Unmarred, covers_done}
 use Rattle.swc_ecma_parser.specs.WholeList.{plain_list, IsHeeded, Headline, Tries, tried, refused, lost}
 use Rattle.swc_ecma_parser.specs.declared.parser.Parser.{Parser}
 
@@ -68,7 +68,8 @@ module _ {S H N F C K : Type 0} {fg : Ghosts F} {cg : Ghosts C} {kg : Ghosts K} 
     (tree : Nodes F C K fg cg kg → N → Tree F C K) (part : N → Part) (s : Symbol) (laws : Laws model) where
   whole-sound : {p q : Parser S H F C K fg cg kg} {r : Result (N × Bool) Error} (ts : List TokenAndSpan) → Tries model sure hook tree part s p r q → has_failed p ≡ false
       → Known model (buffer_of p) ts → Loud model (buffer_of p) → (model.state (source (buffer_of p))).errors ≡ []
-      → IfOk r (λ x. x.1 ≡ false → (model.state (source (buffer_of q))).errors ≡ [] → Reads hook s (scope model (buffer_of p)) ts [] (tree (nodes_of q) x.0))
+      → IfOk r (λ x. x.1 ≡ false → (model.state (source (buffer_of q))).errors ≡ []
+      → Finished covers_done (Reads hook s) (scope model (buffer_of p)) ts [] (tree (nodes_of q) x.0))
   whole-sound {p} ts (tried {id = id} {v = v} {q = q} {r = r} h c) runs k loud clean = λ all none.
       let sees = c.effect (h.fails runs) in
       let d0 = h.reads runs in
@@ -79,13 +80,15 @@ module _ {S H N F C K : Type 0} {fg : Ghosts F} {cg : Ghosts C} {kg : Ghosts K} 
       let end = sees.end (was_not v all) in
       let rest = none_left laws x.0 sees.looks.looked x.1 end.0 end.1 in
       let whole : ts ≡ d.consumed = x.2 ∙ ap (λ l. d.consumed ++ l) rest ∙ append-nil d.consumed in
-      let P : List TokenAndSpan → Type 0 = λ l. Reads hook s (scope model (buffer_of p)) l [] (tree (nodes_of r) id) in
+      let P : List TokenAndSpan → Type 0 =
+      λ l. Finished covers_done (Reads hook s) (scope model (buffer_of p)) l [] (tree (nodes_of r) id) in
       subst P (sym whole) (rw (c.nodes) d.whole)
   whole-sound ts (refused h) runs k loud clean = tt
   whole-sound ts (lost h c) runs k loud clean = tt
 
   whole-complete : EndsAt s [] → {p q : Parser S H F C K fg cg kg} {r : Result (N × Bool) Error} (ts : List TokenAndSpan) (t : Tree F C K) → Tries model sure hook tree part s p r q → has_failed p ≡ false
-      → Known model (buffer_of p) ts → Loud model (buffer_of p) → (model.state (source (buffer_of p))).errors ≡ [] → sure ≡ true → Reads hook s (scope model (buffer_of p)) ts [] t
+      → Known model (buffer_of p) ts → Loud model (buffer_of p) → (model.state (source (buffer_of p))).errors ≡ [] → sure ≡ true
+      → Finished covers_done (Reads hook s) (scope model (buffer_of p)) ts [] t
       → MatchResult r (λ x. (tree (nodes_of q) x.0 ≡ t) × (x.1 ≡ false) × ((model.state (source (buffer_of q))).errors ≡ [])) (λ e. e.kind ≡ OutOfMemory)
   whole-complete stops {p} ts t (tried {id = id} {v = true} {q = q} {r = r} h c) runs k loud clean y d =
       let sees = c.effect (h.fails runs) in
@@ -117,9 +120,10 @@ module _ {H N F C K : Type 0} {fg : Ghosts F} {cg : Ghosts C} {kg : Ghosts K} {s
       let loud : Loud listed_model (buffer_of p) = rw (new) (fresh-loud input at ts c x v is heeded) in
       let clean : (listed_state (source (buffer_of p))).errors ≡ [] = ap (λ b. (listed_state (source b)).errors) new ∙ ap (λ s. s.errors) is in
       let same : scope listed_model (buffer_of p) ≡ scope_of (view c) x = ap (λ b. scope listed_model b) new ∙ ap (λ s. scope_of (view s.context) s.syntax) is in
-      let S : Scope → Type 0 = λ k. IfOk r (λ y. y.1 ≡ false → (listed_state (source (buffer_of q))).errors ≡ [] → Reads hook s k (plain_list ts) [] (tree (nodes_of q) y.0)) in
+      let S : Scope → Type 0 = λ k. IfOk r (λ y. y.1 ≡ false
+      → (listed_state (source (buffer_of q))).errors ≡ [] → Finished covers_done (Reads hook s) k (plain_list ts) [] (tree (nodes_of q) y.0)) in
       record {
         sound = subst S same (whole-sound tree part s listed_laws (plain_list ts) t runs known loud clean);
         complete = λ y e d. whole-complete tree part s listed_laws stops (plain_list ts) e t runs known loud clean y
-            (let D : Scope → Type 0 = λ k. Reads hook s k (plain_list ts) [] e in subst D (sym same) d);
+            (let D : Scope → Type 0 = λ k. Finished covers_done (Reads hook s) k (plain_list ts) [] e in subst D (sym same) d);
       }

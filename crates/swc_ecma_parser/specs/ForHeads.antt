@@ -13,6 +13,7 @@ use Rattle.swc_input.specs.declared.token.TokenAndSpan.{TokenAndSpan}
 use Rattle.swc_input.specs.Source.{Model}
 use Rattle.swc_input.specs.Buffer.{Read, Future, Known, previous}
 use Rattle.swc_input.specs.Kinds.{at_token}
+use Rattle.swc_ast.specs.Pedantic.{privates_ok}
 use Rattle.swc_ast.specs.Tree.{Tree, node, nil, cons, args, pat_expr, no_span}
 use Rattle.swc_ast.specs.TreeOf.{boxed_tree, pat_tree}
 use Rattle.swc_ast.specs.Trees.{is_grouped, is_valid, unmarked}
@@ -27,7 +28,7 @@ use Rattle.swc_grammar.specs.ForHead.{ForHead, for_target, for_expr, for_context
 use Rattle.swc_grammar.specs.ForHead.{ReadsHead, ReadsHeadUnmarked, HeadStops, head_tree, next, unmarked_head}
 use Rattle.swc_grammar.specs.Reads.{Reads, ReadsUnmarked}
 use Rattle.swc_grammar.specs.Scope.{Scope}
-use Rattle.swc_grammar.specs.Symbols.{Expr}
+use Rattle.swc_grammar.specs.Symbols.{Symbol, Expr}
 use Rattle.swc_nodes.specs.Commas.{commas_in, Recalls}
 use Rattle.swc_nodes.specs.GrowingNodes.{tree_at, Apart, SameNodes}
 use Rattle.swc_nodes.specs.NodeParts.{for_head_parts}
@@ -37,7 +38,7 @@ use Rattle.swc_nodes.specs.declared.node.ForHeadId.TheVariants as number
 use Rattle.swc_nodes.specs.declared.nodes.Nodes.{Nodes}
 use Rattle.swc_steps.specs.Parsing.{scope, seen, Loud, Consumes}
 use Rattle.swc_ecma_parser.specs.Calls.{buffer_of, nodes_of, commas_of, tree_by, has_failed, wants_memory, parser_failed}
-use Rattle.swc_ecma_parser.specs.Promise.{Answer, AddsParts, Complete, Derivation, Promised, Unmarred}
+use Rattle.swc_ecma_parser.specs.Promise.{Answer, AddsParts, Complete, Derivation, Finished, Promised, Unmarred, covers_done}
 use Rattle.swc_ecma_parser.specs.declared.parser.Parser.{Parser}
 
 -- the words before which what is written to stands
@@ -69,6 +70,10 @@ module _ {F C K : Type 0} where
   boxed_head fun class block (boxed.Target p) = for_target (pat_tree F C K fun class block p.value)
   boxed_head fun class block (boxed.Expr e) = for_expr (boxed_tree F C K fun class block e)
 
+  -- Is no cover name left in a head, if the syntax is pedantic?
+  abbrev pub head_done : Scope → ForHead F C K → Bool
+  head_done c h = covers_done c (head_tree h)
+
   -- a head as one tree, whose kind says which of the two it is
   abbrev pub coded : ForHead F C K → Tree F C K
   coded (for_target p) = node pat_expr no_span (cons p nil)
@@ -90,10 +95,13 @@ module _ {F C K : Type 0} {fg : Ghosts F} {cg : Ghosts C} {kg : Ghosts K} where
 
 -- What a head begins with, as an expression in boxes: derived where `in` is no operator, and `async` before `of` is, in the
 -- head of a `for await`, an identifier.
+abbrev pub ReadsPrefix : {F C K : Type 0} → Hook F C K → Symbol → Derivation (Tree F C K)
+ReadsPrefix hook s = Finished covers_done (λ c xs ys t. ReadsUnmarked hook s (in_own_for c) xs ys t)
+
 abbrev pub prefix_in_boxes : {F C K : Type 0} {fg : Ghosts F} {cg : Ghosts C} {kg : Ghosts K} → Answer (Box (ExprOf F C K) Global) F C K fg cg kg
 prefix_in_boxes {fg = fg} {cg = cg} {kg = kg} = record {
   tree = λ ns e. tree_by fg.place cg.place kg.place e;
-  derives = λ hook s c xs ys t. ReadsUnmarked hook s (in_own_for c) xs ys t;
+  derives = ReadsPrefix;
   marked = λ hook s c xs ys t. Reads hook s (in_own_for c) xs ys t;
   strip = unmarked;
   leaves = λ ns r ms. SameNodes ns ms;
@@ -105,8 +113,7 @@ pub record PromisedPrefix {S H F C K : Type 0} {fg : Ghosts F} {cg : Ghosts C} {
     (p : Parser S H F C K fg cg kg) (r : Result (Box (ExprOf F C K) Global) Error) (q : Parser S H F C K fg cg kg) : Type 0 where
   pub promised : Promised model sure hook prefix_in_boxes Expr p r q
   pub words : has_failed p ≡ false → sure ≡ true
-      → Complete model (λ c xs ys t. ReadsUnmarked hook Expr (in_own_for c) xs ys t) (tree_by fg.place cg.place kg.place) HeadStops
-      (buffer_of p) r (buffer_of q)
+      → Complete model (ReadsPrefix hook Expr) (tree_by fg.place cg.place kg.place) HeadStops (buffer_of p) r (buffer_of q)
 
 module _ {S F C K : Type 0} (model : Model S) (derives : Derivation (ForHead F C K)) where
   -- Between b and c tokens were consumed from which the head is derived: with whatever may follow, and with the next token of
@@ -117,8 +124,8 @@ module _ {S F C K : Type 0} (model : Model S) (derives : Derivation (ForHead F C
     pub front : (ys : List TokenAndSpan) → Future model c ys → derives (scope model b) (consumed ++ ys) ys h
     pub alone : (ys : List TokenAndSpan) → Future model c ys → derives (scope model b) (consumed ++ next ys) (next ys) h
 
--- How a call answers a head: which head an answer stands for, by the nodes that the parser then has; what derives such heads; what is left
--- in them of a head with its marks of commas; and what becomes of the nodes.
+-- How a call answers a head: which head an answer stands for, by the nodes that the parser then has; what derives such heads, finished;
+-- what is left in them of a head with its marks of commas; and what becomes of the nodes.
 pub record HeadAnswer (T F C K : Type 0) (fg : Ghosts F) (cg : Ghosts C) (kg : Ghosts K) : Type 1 where
   pub head : Nodes F C K fg cg kg → T → ForHead F C K
   pub derives : Hook F C K → Bool → Derivation (ForHead F C K)
@@ -128,7 +135,7 @@ pub record HeadAnswer (T F C K : Type 0) (fg : Ghosts F) (cg : Ghosts C) (kg : G
 abbrev pub head_in_boxes : {F C K : Type 0} {fg : Ghosts F} {cg : Ghosts C} {kg : Ghosts K} → HeadAnswer (HeadOf F C K) F C K fg cg kg
 head_in_boxes {fg = fg} {cg = cg} {kg = kg} = record {
   head = λ ns h. boxed_head fg.place cg.place kg.place h;
-  derives = λ hook is_await. ReadsHeadUnmarked hook is_await;
+  derives = λ hook is_await. Finished head_done (ReadsHeadUnmarked hook is_await);
   strip = λ h. unmarked_head h;
   leaves = λ ns r ms. SameNodes ns ms;
 }
@@ -136,7 +143,7 @@ head_in_boxes {fg = fg} {cg = cg} {kg = kg} = record {
 abbrev pub head_by_number : {F C K : Type 0} {fg : Ghosts F} {cg : Ghosts C} {kg : Ghosts K} → HeadAnswer ForHeadId F C K fg cg kg
 head_by_number = record {
   head = λ ns h. for_head_at ns h;
-  derives = λ hook is_await. ReadsHead hook is_await;
+  derives = λ hook is_await. Finished head_done (ReadsHead hook is_await);
   strip = λ h. h;
   leaves = AddsParts for_head_parts;
 }
@@ -156,8 +163,10 @@ pub record HeadPromise {S T F C K : Type 0} (model : Model S) (sure : Bool) (der
   -- One token at least was consumed, or it refuses, and what was consumed isn't lost; the context is what it was, no recorded fault was
   -- taken out, and no want of memory recorded.
   pub reads : Consumes model b r c
-  -- It is a target where `of` or `in` comes next, and an expression elsewhere, faults or not.
-  pub which : IfOk r (λ h. is_for_target (view h) ≡ at_token is_each_word (seen c))
+  -- It is a target where `of` or `in` comes next, and an expression elsewhere: faults or not, but where the syntax is pedantic if no fault
+  -- was recorded.
+  pub which : IfOk r (λ h. ((scope model b).syntax.pedantic ≡ true → Unmarred model b c)
+      → is_for_target (view h) ≡ at_token is_each_word (seen c))
   -- What is answered with no fault recorded is derived from the tokens consumed, by the token that follows.
   pub sound : Loud model b → IfOk r (λ h. Unmarred model b c → DerivesHead model derives (view h) b c)
   -- Over a listed source, with a faithful hook: what is derived from the tokens to come, up to the end, `of`, `in`, `;` or `)`, is answered,
@@ -166,9 +175,12 @@ pub record HeadPromise {S T F C K : Type 0} (model : Model S) (sure : Bool) (der
   -- No other head is derived up to such a token, nor up to another one of these than what was answered.
   pub one_head : sure ≡ true → Loud model b → (ts ys : List TokenAndSpan) (h : ForHead F C K) → Known model b ts
       → derives (scope model b) ts ys h → HeadStops ys → IfOk r (λ x. (h ≡ view x) × Known model c ys)
-  -- In what was answered with no fault recorded operators group as their levels say, and it holds no `Invalid`.
+  -- In what was answered with no fault recorded operators group as their levels say, it holds no `Invalid`, and private names stand where
+  -- they may if the syntax is pedantic.
   pub grouped : Loud model b → IfOk r (λ h. Unmarred model b c → is_grouped (head_tree (view h)) ≡ true)
   pub valid : Loud model b → IfOk r (λ h. Unmarred model b c → is_valid (head_tree (view h)) ≡ true)
+  pub privates : Loud model b → (scope model b).syntax.pedantic ≡ true
+      → IfOk r (λ h. Unmarred model b c → privates_ok false (head_tree (view h)) ≡ true)
 
 -- What a call promises that reads a head, from the parser p to q, where it answers r.
 pub record PromisedHead {S H T F C K : Type 0} {fg : Ghosts F} {cg : Ghosts C} {kg : Ghosts K} (model : Model S) (sure : Bool) (hook : Hook F C K)

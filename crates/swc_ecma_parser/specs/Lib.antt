@@ -1,5 +1,6 @@
 pub mod BothWays
 pub mod Calls
+pub mod Finishing
 pub mod ForHeads
 pub mod Heads
 pub mod Promise

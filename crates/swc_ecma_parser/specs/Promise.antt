@@ -1,7 +1,8 @@
 -- What the calls of a parser promise, by the written grammar alone. What is derived at a buffer is derived in its scope: by
 -- the context without the four flags that decide nothing (`view`), and the syntax. The context itself, with all its flags,
 -- is after each call what it was before.
-use Rattle.std.specs.Prelude.{◌≡◌, ◌≢◌, Bool, true, false, ◌||◌, ◌&&◌, List, [], ◌∷◌, ◌++◌, map, Option, Some, None, Result, Err, IfOk, OnOk, ◌<◌, MatchResult}
+use Rattle.std.specs.Prelude.{◌≡◌, ◌≢◌, Bool, true, false, not, ◌||◌, ◌&&◌}
+use Rattle.std.specs.Prelude.{List, [], ◌∷◌, ◌++◌, map, Option, Some, None, Result, Err, IfOk, OnOk, ◌<◌, MatchResult}
 use Rattle.swc_context.specs.declared.error.Error.{Error}
 use Rattle.swc_context.specs.declared.error.SyntaxError.TheVariants.{OutOfMemory}
 use Rattle.swc_context.specs.declared.span.Span.{Span}
@@ -14,6 +15,7 @@ use Rattle.std.specs.declared.alloc.Global.{Global}
 use Rattle.std.specs.declared.boxed.Box.{Box}
 use Rattle.std.specs.declared.vec.Vec.{Vec}
 use Rattle.swc_ast.specs.Parts.{lit_tree, prop_name_tree, args_tree, tpl_tree}
+use Rattle.swc_ast.specs.Pedantic.{all_privates_ok, no_cover_left, none_left, privates_ok}
 use Rattle.swc_ast.specs.Tree.{Tree, Trees, node, args, args_with, no_span, trees}
 use Rattle.swc_ast.specs.TreeOf.{pat_tree, pat_prop_tree, prop_or_spread_tree}
 use Rattle.swc_ast.specs.Trees.{is_grouped, are_grouped, is_valid, are_valid, items_of, comma_of, listed, unmarked, all_unmarked}
@@ -54,6 +56,19 @@ use Rattle.swc_ecma_parser.specs.declared.parser.Parser.{Parser}
 -- a derivation of A: in the scope, from the tokens from the first list on to before the second
 abbrev pub Derivation : Type 0 → Type 1
 Derivation A = Scope → List TokenAndSpan → List TokenAndSpan → A → Type 0
+
+-- Is no cover name left in a tree, nor among the items of a list, if the syntax is pedantic (ECMA-262, 13.2.5.1)?
+abbrev pub covers_done : {F C K : Type 0} → Scope → Tree F C K → Bool
+covers_done c t = not c.syntax.pedantic || no_cover_left t
+
+abbrev pub items_done : {F C K : Type 0} → Scope → Tree F C K → Bool
+items_done c t = not c.syntax.pedantic || none_left (items_of t)
+
+-- what is derived, and has no cover name left where there may be none, as `done` has it
+pub record Finished {A : Type 0} (done : Scope → A → Bool) (derives : Derivation A) (c : Scope) (xs ys : List TokenAndSpan) (t : A)
+    : Type 0 where
+  pub read : derives c xs ys t
+  pub covers : done c t ≡ true
 
 -- where a reading may stop anywhere
 abbrev pub Anywhere : List TokenAndSpan → Type 0
@@ -143,6 +158,12 @@ module _ {S F C K T : Type 0} (model : Model S) (view : T → Tree F C K) where
   abbrev pub Valid : Buffer S → Result T Error → Buffer S → Type 0
   Valid b r c = Loud model b → IfOk r (λ x. Unmarred model b c → is_valid (view x) ≡ true)
 
+  -- Where the syntax is pedantic, in a tree answered with no fault recorded `#` and a name stand on the left of `in` alone (ECMA-262,
+  -- 13.10.1), or name a link.
+  abbrev pub PrivatesPlaced : Buffer S → Result T Error → Buffer S → Type 0
+  PrivatesPlaced b r c = Loud model b → (scope model b).syntax.pedantic ≡ true
+      → IfOk r (λ x. Unmarred model b c → privates_ok false (view x) ≡ true)
+
   -- A pattern answered with no fault recorded binds names alone: initialisers and keys apart it holds no expression, and rests in object
   -- patterns hold a name.
   abbrev pub Bound : Buffer S → Result T Error → Buffer S → Type 0
@@ -163,8 +184,9 @@ pub data PropOrRest {F C K : Type 0} (reads : Symbol → Derivation (Tree F C K)
   as-prop : reads PatProp c xs ys t → PropOrRest reads c xs ys t
   as-rest : reads Rest c xs ys t → PropOrRest reads c xs ys t
 
--- How a call answers trees: which tree an answer stands for, by the nodes that the parser then has; what derives such trees, and trees
--- with their marks of commas; what is left in them of a tree with its marks; and what becomes of the nodes.
+-- How a call answers trees: which tree an answer stands for, by the nodes that the parser then has; what derives such trees, which are
+-- finished if the call answers a whole, and trees with their marks of commas, finished or not; what is left in them of a tree with its
+-- marks; and what becomes of the nodes.
 pub record Answer (T F C K : Type 0) (fg : Ghosts F) (cg : Ghosts C) (kg : Ghosts K) : Type 1 where
   pub tree : Nodes F C K fg cg kg → T → Tree F C K
   pub derives : Hook F C K → Symbol → Derivation (Tree F C K)
@@ -176,7 +198,7 @@ pub record Answer (T F C K : Type 0) (fg : Ghosts F) (cg : Ghosts C) (kg : Ghost
 abbrev pub in_boxes : {F C K : Type 0} {fg : Ghosts F} {cg : Ghosts C} {kg : Ghosts K} → Answer (Box (ExprOf F C K) Global) F C K fg cg kg
 in_boxes {fg = fg} {cg = cg} {kg = kg} = record {
   tree = λ ns e. tree_by fg.place cg.place kg.place e;
-  derives = λ hook s. ReadsUnmarked hook s;
+  derives = λ hook s. Finished covers_done (ReadsUnmarked hook s);
   marked = λ hook s. Reads hook s;
   strip = unmarked;
   leaves = λ ns r ms. SameNodes ns ms;
@@ -206,7 +228,7 @@ prop_in_boxes {F} {C} {K} {fg = fg} {cg = cg} {kg = kg} = record {
 abbrev pub pat_in_boxes : {F C K : Type 0} {fg : Ghosts F} {cg : Ghosts C} {kg : Ghosts K} → Answer (PatOf F C K) F C K fg cg kg
 pat_in_boxes {F} {C} {K} {fg = fg} {cg = cg} {kg = kg} = record {
   tree = λ ns x. pat_tree F C K fg.place cg.place kg.place x;
-  derives = λ hook s. ReadsUnmarked hook s;
+  derives = λ hook s. Finished covers_done (ReadsUnmarked hook s);
   marked = λ hook s. Reads hook s;
   strip = unmarked;
   leaves = λ ns r ms. SameNodes ns ms;
@@ -250,7 +272,7 @@ abbrev pub args_in_boxes : {F C K : Type 0} {fg : Ghosts F} {cg : Ghosts C} {kg 
     → Answer (Vec (ExprOrSpread (Box (ExprOf F C K) Global)) Global) F C K fg cg kg
 args_in_boxes {fg = fg} {cg = cg} {kg = kg} = record {
   tree = λ ns xs. args_tree (tree_by fg.place cg.place kg.place) xs;
-  derives = λ hook s. ReadsAs only_items hook s;
+  derives = λ hook s. Finished covers_done (ReadsAs only_items hook s);
   marked = λ hook s. Reads hook s;
   strip = only_items;
   leaves = λ ns r ms. SameNodes ns ms;
@@ -272,7 +294,7 @@ abbrev pub heads_in_boxes : {F C K : Type 0} {fg : Ghosts F} {cg : Ghosts C} {kg
     → Answer (Vec (PatOf F C K) Global) F C K fg cg kg
 heads_in_boxes {F} {C} {K} {fg = fg} {cg = cg} {kg = kg} = record {
   tree = λ ns ps. pats_tree (pat_tree F C K fg.place cg.place kg.place) ps;
-  derives = λ hook s. ReadsAs only_items hook s;
+  derives = λ hook s. Finished covers_done (ReadsAs only_items hook s);
   marked = λ hook s. ReadsAs keep_items hook s;
   strip = unmarked;
   leaves = λ ns r ms. SameNodes ns ms;
@@ -294,7 +316,7 @@ abbrev pub numbered : {N F C K : Type 0} {fg : Ghosts F} {cg : Ghosts C} {kg : G
     → (N → Part) → Answer N F C K fg cg kg
 numbered tree part = record {
   tree = λ ns id. tree ns id;
-  derives = λ hook s. Reads hook s;
+  derives = λ hook s. Finished covers_done (Reads hook s);
   marked = λ hook s. Reads hook s;
   strip = λ t. t;
   leaves = λ ns r ms. MatchResult r (λ id. Grows ns ms × From (count ns) ms (part id)) (λ e. SameNodes ns ms);
@@ -326,7 +348,7 @@ abbrev pub heads_by_number : {F C K : Type 0} {fg : Ghosts F} {cg : Ghosts C} {k
     → Answer (Vec PatId Global) F C K fg cg kg
 heads_by_number = record {
   tree = λ ns ps. pats_tree (pat_at ns) ps;
-  derives = λ hook s. ReadsAs keep_items hook s;
+  derives = λ hook s. Finished covers_done (ReadsAs keep_items hook s);
   marked = λ hook s. ReadsAs keep_items hook s;
   strip = λ t. t;
   leaves = AddsParts pats_parts;
@@ -350,7 +372,8 @@ pub record Promised {S H T F C K : Type 0} {fg : Ghosts F} {cg : Ghosts C} {kg :
   -- Any other reads: one token at least was consumed, or it refuses, and what was consumed isn't lost; the context is what it was, no
   -- recorded fault was taken out, and no want of memory recorded.
   pub reads : has_failed p ≡ false → Consumes model (buffer_of p) r (buffer_of q)
-  -- What is answered is what the grammar derives; and where the hook is faithful, what it derives is answered.
+  -- What is answered is what the grammar derives, and finished if the answer is a whole; and where the hook is faithful, what is derived so
+  -- is answered.
   pub sound : has_failed p ≡ false → Sound model (answer.derives hook s) (answer.tree (nodes_of q)) (buffer_of p) r (buffer_of q)
   pub complete : has_failed p ≡ false → sure ≡ true
       → Complete model (answer.derives hook s) (answer.tree (nodes_of q)) (EndsAt s) (buffer_of p) r (buffer_of q)
@@ -358,6 +381,7 @@ pub record Promised {S H T F C K : Type 0} {fg : Ghosts F} {cg : Ghosts C} {kg :
       → OneTree model (answer.derives hook s) (answer.tree (nodes_of q)) (buffer_of p) r (buffer_of q)
   pub grouped : has_failed p ≡ false → Grouped model (answer.tree (nodes_of q)) (buffer_of p) r (buffer_of q)
   pub valid : has_failed p ≡ false → Valid model (answer.tree (nodes_of q)) (buffer_of p) r (buffer_of q)
+  pub privates : has_failed p ≡ false → PrivatesPlaced model (answer.tree (nodes_of q)) (buffer_of p) r (buffer_of q)
   -- The commas of the answer's literals were remembered; what is refused but for want of memory leaves what there was.
   pub commas : MatchResult r
       (λ x. RemembersAll model (answer.marked hook s) answer.strip (answer.tree (nodes_of q) x)
@@ -402,8 +426,8 @@ pub record PromisedPatProp {S H F C K : Type 0} {fg : Ghosts F} {cg : Ghosts C} 
 abbrev pub pats_of : {F C K : Type 0} → (F → Span) → (C → Span) → (K → Span) → Vec (Param (PatOf F C K)) Global → Trees F C K
 pats_of {F} {C} {K} fun class block ps = trees (map (λ p. pat_tree F C K fun class block p.pat) ps.items)
 
--- How a call answers parameters: which patterns an answer stands for, by the nodes that the parser then has; what derives them; what is
--- left in them of patterns with their marks of commas; and what becomes of the nodes.
+-- How a call answers parameters: which patterns an answer stands for, by the nodes that the parser then has; what derives them,
+-- finished; what is left in them of patterns with their marks of commas; and what becomes of the nodes.
 pub record ParamsAnswer (T F C K : Type 0) (fg : Ghosts F) (cg : Ghosts C) (kg : Ghosts K) : Type 1 where
   pub pats : Nodes F C K fg cg kg → T → Trees F C K
   pub derives : Hook F C K → Symbol → Derivation (Tree F C K)
@@ -414,7 +438,7 @@ abbrev pub params_in_boxes : {F C K : Type 0} {fg : Ghosts F} {cg : Ghosts C} {k
     → ParamsAnswer (Vec (Param (PatOf F C K)) Global) F C K fg cg kg
 params_in_boxes {fg = fg} {cg = cg} {kg = kg} = record {
   pats = λ ns ps. pats_of fg.place cg.place kg.place ps;
-  derives = λ hook s. ReadsUnmarked hook s;
+  derives = λ hook s. Finished items_done (ReadsUnmarked hook s);
   strip = λ ts. all_unmarked ts;
   leaves = λ ns r ms. SameNodes ns ms;
 }
@@ -423,7 +447,7 @@ abbrev pub params_by_number : {F C K : Type 0} {fg : Ghosts F} {cg : Ghosts C} {
     → ParamsAnswer (Vec (Param PatId) Global) F C K fg cg kg
 params_by_number = record {
   pats = λ ns ps. params_at ns ps;
-  derives = λ hook s. Reads hook s;
+  derives = λ hook s. Finished items_done (Reads hook s);
   strip = λ ts. ts;
   leaves = AddsParts (λ ps. flat param_parts ps.items);
 }
@@ -490,13 +514,16 @@ pub record PromisedParams {S H T F C K : Type 0} {fg : Ghosts F} {cg : Ghosts C}
       → IfOk r (λ v. (close : TokenAndSpan) → Known model (buffer_of q) (close ∷ [])
       → t ≡ listed None close.span (answer.pats (nodes_of q) v))
   -- Where a `)` may come next, in the patterns answered with no fault recorded operators group as their levels say, they hold no
-  -- `Invalid`, and they bind names alone.
+  -- `Invalid`, private names stand where they may if the syntax is pedantic, and the patterns bind names alone.
   pub grouped : has_failed p ≡ false → Loud model (buffer_of p)
       → IfOk r (λ v. Unmarred model (buffer_of p) (buffer_of q) → MayClose model (buffer_of q)
       → are_grouped (answer.pats (nodes_of q) v) ≡ true)
   pub valid : has_failed p ≡ false → Loud model (buffer_of p)
       → IfOk r (λ v. Unmarred model (buffer_of p) (buffer_of q) → MayClose model (buffer_of q)
       → are_valid (answer.pats (nodes_of q) v) ≡ true)
+  pub privates : has_failed p ≡ false → Loud model (buffer_of p) → (scope model (buffer_of p)).syntax.pedantic ≡ true
+      → IfOk r (λ v. Unmarred model (buffer_of p) (buffer_of q) → MayClose model (buffer_of q)
+      → all_privates_ok false false (answer.pats (nodes_of q) v) ≡ true)
   pub binds : has_failed p ≡ false → Loud model (buffer_of p)
       → IfOk r (λ v. Unmarred model (buffer_of p) (buffer_of q) → MayClose model (buffer_of q)
       → all_bind_names any (answer.pats (nodes_of q) v) ≡ true)

@@ -28,7 +28,7 @@ use Rattle.swc_laws.specs.Replay.{Joined}
 use Rattle.swc_steps.specs.Parsing.{scope_of}
 use Rattle.swc_ecma_parser.specs.BothWays.{Fresh, Left, faults}
 use Rattle.swc_ecma_parser.specs.Calls.{Called, SeesEnd, buffer_of, has_failed, tree_by}
-use Rattle.swc_ecma_parser.specs.Promise.{Promised, in_boxes}
+use Rattle.swc_ecma_parser.specs.Promise.{Finished, Promised, covers_done, in_boxes}
 use Rattle.swc_ecma_parser.specs.WholeList.{IsHeeded}
 use Rattle.swc_ecma_parser.specs.declared.parser.Parser.{Parser}
 
@@ -81,8 +81,8 @@ module _ {S H F C K : Type 0} {fg : Ghosts F} {cg : Ghosts C} {kg : Ghosts K} (m
     pub consumed : List TokenAndSpan
     pub gave : model.gives s consumed (within (source (buffer_of p)))
     pub ended : (model.state (within (source (buffer_of p)))).ended ≡ true
-    -- The grammar derives the tree from them.
-    pub derived : ReadsUnmarked hook Expr (scope_at (model.state s)) consumed [] t
+    -- The grammar derives the tree from them, and it is finished.
+    pub derived : Finished covers_done (ReadsUnmarked hook Expr) (scope_at (model.state s)) consumed [] t
     -- What is kept of them is what was read again, by a new parser in the same context.
     pub kept : Fresh (λ a b. Promised listed_model sure hook in_boxes Expr a again b) (model.state s).context
         (model.state s).syntax (kept_of consumed) q

@@ -17,7 +17,7 @@ use Rattle.swc_nodes.specs.NodeParts.{Part}
 use Rattle.swc_nodes.specs.declared.nodes.Nodes.{Nodes}
 use Rattle.swc_steps.specs.Parsing.{scope_of}
 use Rattle.swc_ecma_parser.specs.Calls.{Called, SeesEnd}
-use Rattle.swc_ecma_parser.specs.Promise.{Promised, numbered}
+use Rattle.swc_ecma_parser.specs.Promise.{Finished, Promised, covers_done, numbered}
 use Rattle.swc_ecma_parser.specs.declared.parser.Parser.{Parser}
 
 -- how contracts compare the tokens of a list
@@ -33,11 +33,12 @@ module _ {N F C K : Type 0} {fg : Ghosts F} {cg : Ghosts C} {kg : Ghosts K} wher
   -- has the number of a tree and whether tokens are left behind it, or a refusal; the nodes; and the faults that were recorded
   pub record Headline (sure : Bool) (hook : Hook F C K) (s : Symbol) (tree : Nodes F C K fg cg kg → N → Tree F C K) (c : Context) (x : Syntax) (ts : List TokenAndSpan)
       (read : Result (N × Bool) Error) (nodes : Nodes F C K fg cg kg) (recorded : List Error) : Type 0 where
-    -- A tree answered with no token left and no fault recorded is derived by the written grammar from the whole list.
-    pub sound : IfOk read (λ r. r.1 ≡ false → recorded ≡ [] → Reads hook s (scope_of (view c) x) ts [] (tree nodes r.0))
-    -- Each tree that the grammar derives from the whole list is answered, with no token left and no fault recorded, or memory was wanted.
-    -- The hook has to be faithful.
-    pub complete : sure ≡ true → (t : Tree F C K) → Reads hook s (scope_of (view c) x) ts [] t
+    -- A tree answered with no token left and no fault recorded is derived by the written grammar from the whole list, and is finished.
+    pub sound : IfOk read (λ r. r.1 ≡ false → recorded ≡ []
+        → Finished covers_done (Reads hook s) (scope_of (view c) x) ts [] (tree nodes r.0))
+    -- Each finished tree that the grammar derives from the whole list is answered, with no token left and no fault recorded, or memory
+    -- was wanted. The hook has to be faithful.
+    pub complete : sure ≡ true → (t : Tree F C K) → Finished covers_done (Reads hook s) (scope_of (view c) x) ts [] t
         → MatchResult read (λ r. (tree nodes r.0 ≡ t) × (r.1 ≡ false) × (recorded ≡ [])) (λ e. e.kind ≡ OutOfMemory)
 
 module _ {S H N F C K : Type 0} {fg : Ghosts F} {cg : Ghosts C} {kg : Ghosts K} (model : Model S) (sure : Bool) (hook : Hook F C K)

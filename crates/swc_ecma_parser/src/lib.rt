@@ -15,6 +15,7 @@ pub use swc_tokens as tokens;
 pub use swc_trees as trees;
 
 pub mod both_ways;
+mod finishing;
 mod for_heads;
 mod heads;
 pub mod parser;

@@ -9,12 +9,14 @@ ghost use Rattle.swc_ecma_parser.specs.Calls.{buffer_of, hook_of, nodes_of, comm
 ghost use Rattle.swc_ecma_parser.specs.Calls.{with_nodes, has_failed};
 ghost use Rattle.swc_ecma_parser.specs.Calls.{wants_memory, found_import};
 ghost use Rattle.swc_ecma_parser.specs.Calls.{parser_failed, Called, SeesEnd, Kept, MovesOut, RemembersParts};
+ghost use Rattle.swc_ecma_parser.specs.Finishing.{KeepsChecked, MovesCheckedOut};
 ghost use Rattle.swc_ecma_parser.specs.Promise.{Promised, PromisedLit, in_boxes, by_number};
 ghost use Rattle.std.specs.Borrow.{sem, follows};
 ghost use Rattle.swc_ecma_parser.specs.contracts.parser.Parser.{the_row};
 ghost use Rattle.swc_input.specs.contracts.buffer.Buffer.{the_row as buffer_row};
 
-use crate::taking::Take;
+use crate::finishing::check_answer;
+use crate::taking::{Covers, Take};
 use std::alloc::{AllocError, Global};
 use swc_ast::for_head::ForHead;
 use swc_ast::lit::Lit;
@@ -67,6 +69,13 @@ pub type PatOf<B> = Pat<<B as BodyForms>::Fun, <B as BodyForms>::Class, <B as Bo
 /// answered, unless memory is wanted (`complete`); no other is derived from all tokens
 /// (`one_tree`); operators group by their precedence (`grouped`), and no `Invalid` stands in for
 /// what was refused (`valid`); patterns bind names alone (`binds`).
+///
+/// Where the syntax is pedantic (`Syntax::pedantic`), all of these calls but those on pieces of a whole look through
+/// what they are about to answer, arrow functions too. Each property `name = value` of an object literal that is left
+/// in it (ECMA-262, 13.2.5.1) is recorded as `AssignProperty`, at the property, in the order of the source; so a tree
+/// that is answered with no fault recorded has none. The calls on pieces, whose answers may yet become patterns or
+/// parts of them, are `parse_args_or_pats`, `parse_tpl`, `parse_prop_name` and `parse_object_prop`. And `#` and a name
+/// stand in such a tree on the left of `in` alone (13.10.1), or name a link (`privates`).
 pub struct Parser<I: Tokens, B: Bodies<I>> {
     productions: Productions<I, B>,
     commas: TrailingCommas,
@@ -243,7 +252,7 @@ impl<I: Tokens, B: Bodies<I>> Parser<I, B> {
         self.begin()?;
         let start = self.productions.nodes.len();
         let answer = parse_expr(&mut self.productions);
-        let answer = self.keep(start, answer);
+        let answer = self.keep_checked(start, answer);
         self.finish(answer)
     }
 
@@ -257,7 +266,7 @@ impl<I: Tokens, B: Bodies<I>> Parser<I, B> {
         self.begin()?;
         let start = self.productions.nodes.len();
         let answer = parse_expr(&mut self.productions);
-        let answer = self.move_out(start, answer);
+        let answer = self.move_out_checked(start, answer);
         self.finish(answer)
     }
 
@@ -279,8 +288,9 @@ impl<I: Tokens, B: Bodies<I>> Parser<I, B> {
     /// An arrow function begins with a word that may be a reference, on the line of the `=>`; with a list in
     /// parentheses, as `parse_args_or_pats` reads it, behind which `=>` stands; or with `async`, on its line, and one
     /// of these. A line break between the list and `=>` is refused as `LineBreakBeforeArrow`, from the start of the
-    /// list, or of `async`, through the `)`. The items have the faults that `parse_paren_items_as_params` records; a
-    /// name in place of a list has those of an identifier, and as `eval` or `arguments` in strict code
+    /// list, or of `async`, through the `)`; and where the syntax is pedantic, one between the name behind `async` and
+    /// `=>`, from `async` through the name (15.9). The items have the faults that `parse_paren_items_as_params`
+    /// records; a name in place of a list has those of an identifier, and as `eval` or `arguments` in strict code
     /// `EvalAndArgumentsInStrict`. The body is a block, which the hook reads, or an assignment expression. A binary
     /// operator behind a block whose parameters stand in parentheses is recorded as `TS1005`, at the operator, and
     /// read; and so is once more what then follows, unless a semicolon may stand there. Before `of` in a head of `for`,
@@ -292,7 +302,7 @@ impl<I: Tokens, B: Bodies<I>> Parser<I, B> {
         self.begin()?;
         let start = self.productions.nodes.len();
         let answer = parse_assignment_expr(&mut self.productions);
-        let answer = self.move_out(start, answer);
+        let answer = self.move_out_checked(start, answer);
         self.finish(answer)
     }
 
@@ -304,36 +314,37 @@ impl<I: Tokens, B: Bodies<I>> Parser<I, B> {
         self.begin()?;
         let start = self.productions.nodes.len();
         let answer = parse_assignment_expr(&mut self.productions);
-        let answer = self.keep(start, answer);
+        let answer = self.keep_checked(start, answer);
         self.finish(answer)
     }
 
     /// Operands and the binary operators between them, of any precedence (ECMA-262, 13.6 to 13.13). They don't begin an
     /// assignment expression: no arrow function is read, and `async` before no function on its line is an identifier.
     ///
-    /// Records `NullishCoalescingWithLogicalOp` at a node of `||` or `&&` that is an operand of
-    /// `??`, or has a `??` on its left. A prefix operator left of `**` is refused as `UnaryInExp`,
-    /// at the `**`, which was consumed. Where a binary operator follows a refused left operand,
-    /// `TS1109` is recorded at the operator, and a node of `Invalid` stands in for the operand, at
-    /// the place of the refusal.
+    /// Records `NullishCoalescingWithLogicalOp` at a node of `||` or `&&` that is an operand of `??`, or has a `??` on
+    /// its left. A prefix operator left of `**` is refused as `UnaryInExp`, at the `**`, which was consumed. Where a
+    /// binary operator follows a refused left operand, `TS1109` is recorded at the operator, and a node of `Invalid`
+    /// stands in for the operand, at the place of the refusal. Where the syntax is pedantic, `#` and a name are an
+    /// operand before `in` alone (13.10.1): elsewhere they are recorded as `PrivateNameNotLeftOfIn`, and where the name
+    /// doesn't begin where the `#` ends, refused as `SpaceBetweenHashAndIdent`, at the `#`.
     pub fn parse_bin_expr(&mut self) -> PResult<Box<ExprOf<B>>>
         ensures promised { Promised I.model B.is_faithful B.forms in_boxes (Level 1) self.old result self.new }
     {
         self.begin()?;
         let start = self.productions.nodes.len();
         let answer = parse_bin_expr(&mut self.productions);
-        let answer = self.move_out(start, answer);
+        let answer = self.move_out_checked(start, answer);
         self.finish(answer)
     }
 
-    /// A unary expression (ECMA-262, 13.5): any number of `delete`, `void`, `typeof`, `+`, `-`, `~`, `!`, `++` and
-    /// `--` (13.4) and `await` (15.8), and then a left-hand side (13.3), with `++` or `--` behind it on the same line
-    /// or without: a primary expression, `new`, `super` or `import`, with its links. A primary expression (13.2) is
-    /// `this`, a literal, a regular expression, a template, an array or object literal, an identifier, `#` and a name,
-    /// expressions in parentheses, or a function or a class, which the hook reads. Outside async code `await` is an
-    /// identifier where no operand can follow: before `)`, `]`, `}`, `,`, `;`, a line break and the end. A unary
-    /// expression doesn't begin an assignment expression: no arrow function is read, and `async` before no function on
-    /// its line is an identifier.
+    /// A unary expression (ECMA-262, 13.5): any number of `delete`, `void`, `typeof`, `+`, `-`, `~`, `!`, `++` and `--`
+    /// (13.4) and `await` (15.8), and then a left-hand side (13.3), with `++` or `--` behind it on the same line or
+    /// without: a primary expression, `new`, `super` or `import`, with its links. A primary expression (13.2) is
+    /// `this`, a literal, a regular expression, a template, an array or object literal, an identifier, `#` and a name
+    /// (where the syntax is pedantic, recorded or refused as by `parse_bin_expr`), expressions in parentheses, or a
+    /// function or a class, which the hook reads. Outside async code `await` is an identifier where no operand can
+    /// follow: before `)`, `]`, `}`, `,`, `;`, a line break and the end. A unary expression doesn't begin an assignment
+    /// expression: no arrow function is read, and `async` before no function on its line is an identifier.
     ///
     /// A refused operand of `delete`, `void`, `typeof`, `+`, `-`, `~` or `!` is recorded, and a node of `Invalid`
     /// stands in its place, at one position, that before the operand; behind `++`, `--` and `await` it is refused.
@@ -348,18 +359,19 @@ impl<I: Tokens, B: Bodies<I>> Parser<I, B> {
     /// consumed last; `()` as `EmptyParenExpr`, at the parentheses, and an expression behind dots in parentheses as
     /// `SpreadInParenExpr`, at the expression. A comma behind the last expression in parentheses is recorded as
     /// `TS1109`, at the comma, and a property `name = value` of an object literal among them as `AssignProperty`, at
-    /// the property. What follows an item of parentheses and is neither `,` nor `)`, and what follows an element of an
-    /// array and is neither `,` nor `]`, is refused as `Expected`, at the current token, and the end there as `Eof`;
-    /// what follows `#` and is no word as `ExpectedIdent`. `=>` behind a list in parentheses is refused from the list's
-    /// start through its `)`, as `LineBreakBeforeArrow` behind a line break and as `ArrowNotAllowed` elsewhere. A
-    /// refusal behind `...` is labelled with the place of the dots (`WithLabel`). What the hook refuses is refused.
+    /// the property, unless the syntax is pedantic. What follows an item of parentheses and is neither `,` nor `)`, and
+    /// what follows an element of an array and is neither `,` nor `]`, is refused as `Expected`, at the current token,
+    /// and the end there as `Eof`; what follows `#` and is no word as `ExpectedIdent`. `=>` behind a list in
+    /// parentheses is refused from the list's start through its `)`, as `LineBreakBeforeArrow` behind a line break and
+    /// as `ArrowNotAllowed` elsewhere. A refusal behind `...` is labelled with the place of the dots (`WithLabel`).
+    /// What the hook refuses is refused.
     pub fn parse_unary_expr(&mut self) -> PResult<Box<ExprOf<B>>>
         ensures promised { Promised I.model B.is_faithful B.forms in_boxes Unary self.old result self.new }
     {
         self.begin()?;
         let start = self.productions.nodes.len();
         let answer = parse_unary_expr(&mut self.productions);
-        let answer = self.move_out(start, answer);
+        let answer = self.move_out_checked(start, answer);
         self.finish(answer)
     }
 
@@ -372,6 +384,39 @@ impl<I: Tokens, B: Bodies<I>> Parser<I, B> {
         self.begin()?;
         let answer = parse_lit(&mut self.productions);
         self.finish(answer)
+    }
+
+    /// As `keep`, of a whole answer: where the syntax is pedantic, the cover names that are left in it are recorded
+    /// first.
+    fn keep_checked<T: Covers<B::Fun, B::Class, B::Block> + Drop>(
+        &mut self,
+        start: usize,
+        answer: PResult<T>,
+    ) -> PResult<T>
+        requires { IfOk answer (λ id. Apart start (nodes_of self.old) (T.parts id)) }
+        ensures keeps { KeepsChecked I.model T.parts self.old answer self.new result }
+        ensures nodes { MatchResult result (λ id. nodes_of self.new ≡ nodes_of self.old)
+            (λ e. CutTo start (nodes_of self.old) (nodes_of self.new)) }
+        ensures runs { has_failed self.new ≡ has_failed self.old }
+    {
+        let answer = check_answer(&mut self.productions.input, &self.productions.nodes, answer);
+        self.keep(start, answer)
+    }
+
+    /// As `move_out`, of a whole answer: where the syntax is pedantic, the cover names that are left in it are recorded
+    /// first.
+    fn move_out_checked<T: Covers<B::Fun, B::Class, B::Block> + Drop>(
+        &mut self,
+        start: usize,
+        answer: PResult<T>,
+    ) -> PResult<T::Whole>
+        requires { IfOk answer (λ x. Apart start (nodes_of self.old) (T.parts x)) }
+        ensures moves { MovesCheckedOut I.model T.parts self.old answer self.new T.by T.tree result }
+        ensures nodes { CutTo start (nodes_of self.old) (nodes_of self.new) }
+        ensures runs { has_failed self.new ≡ has_failed self.old }
+    {
+        let answer = check_answer(&mut self.productions.input, &self.productions.nodes, answer);
+        self.move_out(start, answer)
     }
 
     /// Keeps the nodes that were made for the answer, and remembers the commas of its literals; or cuts them off

@@ -3,6 +3,7 @@ ghost use Rattle.std.specs.Prelude.{◌≡◌, IfOk, OnOk};
 ghost use Rattle.swc_nodes.specs.Commas.{part_commas, Recalls};
 ghost use Rattle.swc_nodes.specs.NumberedTrees.{floor};
 ghost use Rattle.swc_nodes.specs.GrowingNodes.{count, seat_at, tree_at, bare_at, Apart, Left};
+ghost use Rattle.swc_verifier.specs.CoverNames.{parts_covers_left};
 
 use std::alloc::{AllocError, Global};
 use swc_ast::expr::{Expr, ExprOrSpread, Tpl};
@@ -11,6 +12,7 @@ use swc_ast::function::Param;
 use swc_ast::pat::{ObjectPatProp, Pat};
 use swc_ast::prop::{PropName, PropOrSpread};
 use swc_ast::spanned::Spanned;
+use swc_context::span::Span;
 use swc_nodes::commas::TrailingCommas;
 use swc_nodes::node::{ExprId, ForHeadId, PatId, PatPropNode, PropNode};
 use swc_nodes::nodes::Nodes;
@@ -19,6 +21,7 @@ use swc_trees::taking::{
     take_args, take_expr, take_for_head, take_key, take_params, take_pat, take_pat_prop, take_pats,
     take_prop, take_tpl,
 };
+use swc_verifier::verifier::find_covers_left;
 
 /// What holds numbers of nodes, and is moved out of them into boxes.
 pub(crate) trait Take<F: Spanned + Drop, C: Spanned + Drop, K: Spanned + Drop> {
@@ -49,6 +52,14 @@ pub(crate) trait Take<F: Spanned + Drop, C: Spanned + Drop, K: Spanned + Drop> {
         requires { Apart 0 nodes.old (parts self) }
         ensures left { Left (floor (seat_at nodes.old) (count nodes.old) (parts self)) nodes.old nodes.new }
         ensures moved { IfOk result (λ y. tree y ≡ by (bare_at nodes.old) self) };
+}
+
+/// What a call answers once it is whole, so that no cover name may be left in it where the syntax is pedantic.
+pub(crate) trait Covers<F: Spanned + Drop, C: Spanned + Drop, K: Spanned + Drop>: Take<F, C, K> {
+    /// The places of the cover names that are left in it, in the order of the source.
+    fn covers_left(&self, nodes: &Nodes<F, C, K>) -> Result<Vec<Span>, AllocError>
+        requires { Apart 0 nodes.now (Self.parts self.now) }
+        ensures { IfOk result (λ names. names.items ≡ parts_covers_left (tree_at nodes.now) (Self.parts self.now)) };
 }
 
 impl<F: Spanned + Drop, C: Spanned + Drop, K: Spanned + Drop> Take<F, C, K> for ExprId {
@@ -316,5 +327,46 @@ impl<F: Spanned + Drop, C: Spanned + Drop, K: Spanned + Drop> Take<F, C, K> for 
 
     fn take(self, nodes: &mut Nodes<F, C, K>, alloc: Global) -> Result<Self::Whole, AllocError> {
         take_for_head(nodes, alloc, self)
+    }
+}
+
+impl<F: Spanned + Drop, C: Spanned + Drop, K: Spanned + Drop> Covers<F, C, K> for ExprId {
+    fn covers_left(&self, nodes: &Nodes<F, C, K>) -> Result<Vec<Span>, AllocError> {
+        find_covers_left(nodes, self)
+    }
+}
+
+impl<F: Spanned + Drop, C: Spanned + Drop, K: Spanned + Drop> Covers<F, C, K> for PatId {
+    fn covers_left(&self, nodes: &Nodes<F, C, K>) -> Result<Vec<Span>, AllocError> {
+        find_covers_left(nodes, self)
+    }
+}
+
+impl<F: Spanned + Drop, C: Spanned + Drop, K: Spanned + Drop> Covers<F, C, K>
+    for Vec<Param<PatId>> {
+    fn covers_left(&self, nodes: &Nodes<F, C, K>) -> Result<Vec<Span>, AllocError> {
+        find_covers_left(nodes, self)
+    }
+}
+
+impl<F: Spanned + Drop, C: Spanned + Drop, K: Spanned + Drop> Covers<F, C, K> for Vec<PatId> {
+    fn covers_left(&self, nodes: &Nodes<F, C, K>) -> Result<Vec<Span>, AllocError> {
+        find_covers_left(nodes, self)
+    }
+}
+
+impl<F: Spanned + Drop, C: Spanned + Drop, K: Spanned + Drop> Covers<F, C, K>
+    for Listed<ExprOrSpread<ExprId>> {
+    fn covers_left(&self, nodes: &Nodes<F, C, K>) -> Result<Vec<Span>, AllocError> {
+        find_covers_left(nodes, &self.items)
+    }
+}
+
+impl<F: Spanned + Drop, C: Spanned + Drop, K: Spanned + Drop> Covers<F, C, K> for ForHeadId {
+    fn covers_left(&self, nodes: &Nodes<F, C, K>) -> Result<Vec<Span>, AllocError> {
+        match self {
+            ForHeadId::Target(pat) => find_covers_left(nodes, pat),
+            ForHeadId::Expr(expr) => find_covers_left(nodes, expr),
+        }
     }
 }

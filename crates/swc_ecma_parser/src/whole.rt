@@ -35,7 +35,8 @@ pub struct Whole<N, B: Bodies<TokensInput>> {
 /// Refuses as `Parser::parse_expr` does, and for want of memory. Where early errors are on and not
 /// ignored (`headline`): a tree answered with no token left behind it and no fault recorded is one
 /// that the written grammar derives from the list; and with a faithful hook each tree that it
-/// derives from the list is answered so, unless memory is wanted.
+/// derives from the list is answered so, unless memory is wanted. Where the syntax is pedantic, that is so of trees in
+/// which no property `name = value` of an object literal is left (ECMA-262, 13.2.5.1).
 pub fn parse_whole_expr<B: Bodies<TokensInput>>(
     alloc: Global,
     tokens: Vec<TokenAndSpan>,

@@ -65,9 +65,12 @@ use Rattle.swc_grammar.proofs.Complete.Properties.{picked-prop, ready-props, rea
 use Rattle.swc_grammar.proofs.Complete.Properties.{ready-after}
 use Rattle.swc_grammar.proofs.Complete.Primaries.{picked-primary, ready-primary, ready-parts, picked-parts}
 pub use Rattle.swc_grammar.proofs.Complete.Primaries.{lit-picks, fn-picks, class-picks, picking}
+pub use Rattle.swc_grammar.proofs.Complete.Operators.{private-refused}
 use Rattle.swc_grammar.proofs.Complete.LeftSides.{any-link, no-paren, links-take, new-begins, no-dot-first, picked-base}
 use Rattle.swc_grammar.proofs.Complete.LeftSides.{base-no-new, ready-base, name-next, hash-alone, lparen-alone, chained}
 pub use Rattle.swc_grammar.proofs.Complete.LeftSides.{links-end}
+use Rattle.swc_grammar.proofs.Complete.Operators.{private-reads}
+use Rattle.swc_grammar.specs.Grammar.{private-in}
 use Rattle.swc_grammar.proofs.Complete.Operators.{operand-climbs, op-reads, exp-reads, signed, operand-reads}
 use Rattle.swc_grammar.proofs.Complete.Operators.{updates-end, update-link}
 use Rattle.swc_grammar.proofs.Complete.Assignments.{no-dot-expr, yielded, level-reads, assigns-end, question-ends}
@@ -188,7 +191,7 @@ module _ {F C K : Type 0} (hook : Hook F C K) where
       (rw h (side-reads hook None d (refl, λ ps. (λ n. tt, λ n. tt))))
   claim-by {c = c} {xs = xs} (arguments {i = i}) d = λ stop.
       picks hook (Arguments i) c xs arguments (call_args i c xs) refl refl
-      (side-reads hook (Some 9) d (λ a h. (refl, λ es. (tt, tt))))
+      (side-reads hook (Some 9) d (λ a h. (refl, λ es. (λ n. tt, λ n. tt))))
   claim-by {c = c} {xs = xs} (template {is_tagged = is_tagged}) d = λ stop.
       picks hook (Template is_tagged) c xs template (tpl is_tagged c xs) refl refl
       (side-reads hook (Some 6) d (λ a h. (refl, λ ps. (tt, tt))))
@@ -256,6 +259,10 @@ module _ {F C K : Type 0} (hook : Hook F C K) where
       gave-ran hook (λ u vs. Claim hook (Level (suc n)) c xs vs u) d5
       (op-reads hook n op c a l r xs us ms (omega arith) o (eqb-true (precedence_of op) (suc n) p) k g
       (good dr) left right)
+  claim-by {c = c} {ys = ys} private-in (ran-took {a = a} (ran-held h (ran-took {a = b} {xs = us} d))) =
+      let (n, o, d1) = given-ran hook (any_name c b.token b.span) _ d in
+      let (x, d2) = must-ran hook d1 in
+      private-reads hook c a b us ys n h o x d2
   claim-by {c = c} assign-level (ran-part {e = e} {xs = xs} {ms = ms} de h d) =
       gave-ran hook (λ u us. Claim hook Assign c xs us u) d
       (λ stop. let (u, n) = both (ends_unary ms) (no_assign_at (first ms)) stop.0 in

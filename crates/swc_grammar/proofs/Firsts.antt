@@ -43,7 +43,7 @@ use Rattle.swc_grammar.specs.Grammar.{object-lit, props-end, props-more, props-t
 use Rattle.swc_grammar.specs.Grammar.{prop-spread, prop-short, prop-cover, prop-key, prop-generator, prop-async}
 use Rattle.swc_grammar.specs.Grammar.{prop-async-generator, prop-getter, prop-setter, after-value, after-shell}
 use Rattle.swc_grammar.specs.Grammar.{shell-block, key-name, key-literal, key-computed}
-use Rattle.swc_grammar.specs.Grammar.{level-up, bin-op, private-expr, assign-level}
+use Rattle.swc_grammar.specs.Grammar.{level-up, bin-op, private-expr, private-in, assign-level}
 use Rattle.swc_grammar.specs.Grammar.{update-postfix, update-prefix, await-expr, await-ident, cond-expr, assign-expr}
 use Rattle.swc_grammar.specs.Grammar.{yield-alone, yield-expr, yield-star, exprs-one, exprs-more, seq-expr}
 use Rattle.swc_grammar.specs.Grammar.{pat-bind, pat-array, pat-object, element-pat, element-default, pat-rest}
@@ -468,6 +468,8 @@ module _ {F C K : Type 0} where
   opens (level-up b) = λ t h. h
   opens (bin-op b) = λ t h. h
   opens (private-expr {c = c}) = λ a h. by-first c a.token (rw (hash-is a.token h) refl)
+  opens (private-in {c = c}) = λ a h. operand-left c a.token (or-left (begins_primary c a.token) (is_left_word a.token)
+      (by-first c a.token (rw (hash-is a.token h) refl)))
   opens (assign-level {c = c}) = λ t h. expression-operand c t h
   opens (cond-expr {c = c}) = λ t h. expression-operand c t h
   opens (assign-expr {c = c}) = λ t h. expression-operand c t h
@@ -634,6 +636,7 @@ module _ {F C K : Type 0} where
   leads (level-up b) = tt
   leads (bin-op b) = tt
   leads private-expr = tt
+  leads private-in = tt
   leads assign-level = tt
   leads cond-expr = tt
   leads assign-expr = tt

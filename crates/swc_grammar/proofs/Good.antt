@@ -47,7 +47,7 @@ use Rattle.swc_grammar.specs.Grammar.{object-lit, props-end, props-more, props-t
 use Rattle.swc_grammar.specs.Grammar.{prop-spread, prop-short, prop-cover, prop-key, prop-generator, prop-async}
 use Rattle.swc_grammar.specs.Grammar.{prop-async-generator, prop-getter, prop-setter, after-value, after-shell}
 use Rattle.swc_grammar.specs.Grammar.{shell-block, key-name, key-literal, key-computed}
-use Rattle.swc_grammar.specs.Grammar.{level-up, bin-op, private-expr, assign-level}
+use Rattle.swc_grammar.specs.Grammar.{level-up, bin-op, private-expr, private-in, assign-level}
 use Rattle.swc_grammar.specs.Grammar.{update-postfix, update-prefix, await-expr, await-ident, cond-expr, assign-expr}
 use Rattle.swc_grammar.specs.Grammar.{yield-alone, yield-expr, yield-star, exprs-one, exprs-more, seq-expr}
 use Rattle.swc_grammar.specs.Grammar.{pat-bind, pat-array, pat-object, element-pat, element-default, pat-rest}
@@ -479,8 +479,8 @@ module _ {F C K : Type 0} where
   keeps super-computed = λ a h b k e g d j o. leaf _ (rw g.valid refl) refl (rw g.grouped refl) (omega arith)
   keeps super-call = λ a h b k es g. leaf _ (items-valid es g.valid) refl (items-grouped es g.grouped) (omega arith)
   keeps import-meta = λ a h b k d j n. leaf _ refl refl refl (omega arith)
-  keeps import-call = λ a h b k es g. leaf _ (items-valid es g.valid) refl (items-grouped es g.grouped) (omega arith)
-  keeps import-source = λ a h b k d j i m es g.
+  keeps import-call = λ a h b k es g n. leaf _ (items-valid es g.valid) refl (items-grouped es g.grouped) (omega arith)
+  keeps import-source = λ a h b k d j i m es g n.
       leaf _ (items-valid es g.valid) refl (items-grouped es g.grouped) (omega arith)
   keeps (member-name {c = c}) = λ l g a h b. keeps-given _ (any_name c b.token b.span) _
       (λ n k. member-good false _ l (name_e n.at n.text) g refl refl)
@@ -499,7 +499,7 @@ module _ {F C K : Type 0} where
   keeps tagged-tpl = λ l g a h ps w n.
       leaf _ (rw (g.valid, parts-valid ps w.valid) refl) refl (rw (g.grouped, parts-grouped ps w.grouped) refl)
       (omega arith)
-  keeps arguments = λ a h es g. looser (omega arith) g
+  keeps arguments = λ a h es g n. looser (omega arith) g
   keeps args-end = λ a h. leaf _ refl refl refl (omega arith)
   keeps args-more = λ e g es k.
       leaf _ (rw (g.valid, items-valid es k.valid) refl) refl (rw (g.grouped, items-grouped es k.grouped) refl)
@@ -522,7 +522,10 @@ module _ {F C K : Type 0} where
   keeps (bin-op {c = c} {k = k} b) =
       λ l dl a. keeps-given _ (operator_here c a.token a.span) _ (λ op h p r dr n g. bin-good k op l r b p n g dl dr)
   keeps (private-expr {c = c}) =
-      λ a h b. keeps-given _ (any_name c b.token b.span) _ (λ n h1. leaf _ refl refl refl (omega arith))
+      λ a h b. keeps-given _ (any_name c b.token b.span) _ (λ n h1 x. leaf _ refl refl refl (omega arith))
+  keeps (private-in {c = c}) = λ a h b. keeps-given _ (any_name c b.token b.span) _
+      (λ n h1 x d j r g. bin-good 7 binary.In (private_e (to a.span n.at) n.text) r refl refl refl refl
+      (leaf _ refl refl refl (omega arith)) g)
   keeps assign-level = λ e g. looser (omega arith) g
   keeps cond-expr = λ t g b h e d i j a k.
       leaf _ (rw (g.valid, d.valid, k.valid) refl) refl

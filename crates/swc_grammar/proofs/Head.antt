@@ -12,7 +12,7 @@ use Rattle.swc_grammar.specs.Clean.{Out, and_then, first, second, third, sym, li
 use Rattle.swc_grammar.specs.Clean.{Choice, Plan, plan, base, primary, async_primary}
 use Rattle.swc_grammar.specs.Clean.{unary_by, is_lit, is_identifier, prefix_at}
 use Rattle.swc_grammar.specs.Clean.{begins_async_name, begins_async_list, begins_new, ends_await_at, is_lparen_here}
-use Rattle.swc_grammar.specs.Clean.{is_bindable_here, before_of_here}
+use Rattle.swc_grammar.specs.Clean.{is_bindable_here, before_of_here, begins_private}
 use Rattle.swc_grammar.specs.Rule.{read, peek, peek_two, sees, sees_two, gives, given, ◌>>=◌}
 use Rattle.swc_grammar.specs.Names.{Spelling}
 use Rattle.swc_ast.specs.Trees.{ident_e}
@@ -182,7 +182,9 @@ module _ {F C K : Type 0} (hook : Hook F C K) where
     -- and operators behind it
     pub level-run : run hook (sym (Level 1)) (at_head c) ts ≡ run hook (sym (Level 1)) (inner c) ts
     level-run =
+        let f : Plan F C K (Tree F C K) → Out (Tree F C K) = λ v. exec hook (run hook) (Some 12) v ts in
         knot hook (sym (Level 1)) (at_head c) ts
-        ∙ ap (λ o. and_then o (λ e us. exec hook (run hook) (Some 12)
-        (read (climb e 0) (inner c) (λ v. gives v)) us)) unary-run
+        ∙ same-if f f (begins_private true c ts) _ _ _ _ (λ h. refl)
+        (λ h. ap (λ o. and_then o (λ e us. exec hook (run hook) (Some 12)
+        (read (climb e 0) (inner c) (λ v. gives v)) us)) unary-run)
         ∙ sym_path (knot hook (sym (Level 1)) (inner c) ts)

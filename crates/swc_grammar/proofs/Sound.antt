@@ -19,7 +19,7 @@ use Rattle.swc_input.specs.declared.token.TokenAndSpan.{TokenAndSpan}
 use Rattle.swc_input.specs.Kinds.{at_token}
 use Rattle.swc_context.specs.declared.operator.UnaryOp.{UnaryOp}
 use Rattle.swc_ast.specs.Tree.{Tree, Trees, nil, cons, span_of}
-use Rattle.swc_ast.specs.Trees.{new_e, bare_new_e, is_chain, items_of, exprs_e, seq_of, is_operation, no_covers}
+use Rattle.swc_ast.specs.Trees.{new_e, bare_new_e, is_chain, items_of, exprs_e, seq_of, is_operation, covers_ok}
 use Rattle.swc_ast.specs.Trees.{to, bin_e, nullish_ok, logical_ok, exp_ok, min_right, left_ok, paren_ok, listed}
 use Rattle.swc_bodies.specs.Readings.{whole_span, Hook, LawfulHook, is_async as is_async_word}
 use Rattle.swc_grammar.specs.Scope.{Scope, with_head, at_head, inner}
@@ -60,17 +60,29 @@ use Rattle.swc_grammar.specs.Grammar.{arrow-name, arrow-heads, base-primary, par
 use Rattle.swc_grammar.specs.Cover.{is_pattern, as_params, heads_ok}
 use Rattle.swc_grammar.specs.Arrows.{is_arrow, async_name}
 use Rattle.swc_grammar.specs.Names.{Spelling}
-use Rattle.swc_grammar.specs.Clean.{assigned, pattern_tail, writes_tail, pick_apart}
+use Rattle.swc_grammar.specs.Clean.{assigned, pattern_tail, writes_tail, pick_apart, begins_private, private_operand}
+use Rattle.swc_grammar.specs.Grammar.{private-in}
+use Rattle.swc_grammar.specs.Parts.{any_name, private_ok}
+use Rattle.swc_grammar.specs.Tokens.{is_in, binary_where}
+use Rattle.swc_context.specs.declared.context.Context.{Context}
+use Rattle.swc_ast.specs.Trees.{private_e}
+use Rattle.std.specs.Prelude.{nat_lt}
+use Rattle.std.proofs.lemmas.Bool.{ltb-true}
+use Rattle.swc_input.specs.Kinds.{is_hash}
 use Rattle.swc_grammar.proofs.Induct.{follows-given}
 use Rattle.swc_grammar.proofs.Only.{lparen-is}
 
--- What stands on the left of the operators above the precedence m: an operand by itself, or a node, behind which no
--- operator is read that its own level has to take, and no `**`.
+-- What stands on the left of the operators above the precedence m: an operand by itself; a node, behind which no
+-- operator is read that its own level has to take, and no `**`; or `#` and a name before an `in` that takes them.
 pub data OnLeft {F C K : Type 0} (hook : Hook F C K) (c : Scope) (m : ℕ) (xs ts : List TokenAndSpan)
     (l : Tree F C K) : Type 0 where
   alone : Reads hook Unary c xs ts l → OnLeft hook c m xs ts l
   node : (h : ℕ) → suc m ≤ h → h ≤ 11 → Reads hook (Level h) c xs ts l → Bound c h ts → Bound c 10 ts
       → OnLeft hook c m xs ts l
+  named : suc m ≤ 7 → operator_at c.context (first ts) ≡ Some binary.In
+      → ((t : TokenAndSpan) (us ys : List TokenAndSpan) (r : Tree F C K) → ts ≡ t ∷ us
+      → Reads hook (Level 8) (inner c) us ys r
+      → Reads hook (Level 7) c xs ys (bin_e (to (span_of l) (span_of r)) binary.In l r)) → OnLeft hook c m xs ts l
 
 -- What is read as a left-hand side: one with links, or `new` without arguments, behind which none stand.
 pub data Sided {F C K : Type 0} (hook : Hook F C K) (b : Bool) (c : Scope) (xs ts : List TokenAndSpan)
@@ -138,11 +150,22 @@ bin-is : {F C K : Type 0} {hook : Hook F C K} {k : ℕ} {c : Scope} {xs ys : Lis
     → is_operation t ≡ true
 bin-is op l (held p (part d (held n (held g gave)))) = refl
 
+-- what is read from `#`, a name and `in` is a node of `in`
+private-is : {F C K : Type 0} {hook : Hook F C K} {b : Bool} {c : Scope} (s : Span) {l : Tree F C K}
+    {xs ys : List TokenAndSpan} {t : Tree F C K}
+    → Follows hook (Level 7) (check b (take (λ a. check (is_in a.token) (read (Level 8) c (λ r.
+    gives (bin_e (to s (span_of r)) binary.In l r)))))) xs ys t → is_operation t ≡ true
+private-is s (held x (took (held i (part d gave)))) = refl
+
 level-unary : {F C K : Type 0} {hook : Hook F C K} {k : ℕ} {c : Scope} {xs ys : List TokenAndSpan} {t : Tree F C K}
     → Reads hook (Level k) c xs ys t → is_operation t ≡ false → Reads hook Unary c xs ys t
 level-unary (by exp-unary (part d gave)) n = d
 level-unary (by exp-op (part d (took (held h (held x (part r gave)))))) n = absurd cc
 level-unary (by (level-up b) (part d gave)) n = level-unary d n
+level-unary {c = c} (by private-in (took {a = a} (held h (took {a = b} f)))) n =
+    let (m, o, g) = given-held (any_name c b.token b.span) _ f in
+    let y = private-is (to a.span m.at) g in
+    absurd cc
 level-unary {c = c} (by (bin-op b) (part {e = l} d (took {a = a} f))) n =
     let (op, o, g) = given-held (operator_here c a.token a.span) _ f in
     let y = bin-is op l g in
@@ -161,6 +184,26 @@ power-token : (c : Scope) (t : Token) → binary_of c.context t ≡ Some binary.
 power-token c (token.Word (word.Keyword keyword.In)) h = absurd (in-no-exp c.context.include_in_expr h)
 power-token c (token.BinOp b) h = power-sign b h
 power-token c t h = absurd cc
+
+-- the operator `in`, where it is one
+in-operator : (c : Context) (us : List TokenAndSpan) → c.include_in_expr ≡ true → at_token is_in (first us) ≡ true
+    → operator_at c (first us) ≡ Some binary.In
+in-operator c [] i h = absurd cc
+in-operator c (t ∷ us) i h = by-token t.token h
+  where
+    by-token : (t : Token) → is_in t ≡ true → binary_where c.include_in_expr t ≡ Some binary.In
+    by-token (token.Word (word.Keyword keyword.In)) h = rw i refl
+    by-token t h = absurd cc
+
+inj_op : (a b : BinaryOp) → Some a ≡ Some b → a ≡ b
+inj_op a b h = ap (λ o. some_or o b) h
+  where
+    some_or : Option BinaryOp → BinaryOp → BinaryOp
+    some_or None d = d
+    some_or (Some x) d = x
+
+not-in : {A : Type 0} → Some binary.Exp ≡ Some binary.In → A
+not-in h = absurd cc
 
 module _ {F C K : Type 0} (hook : Hook F C K)
     (hear-sound : (b : Body) (c : Scope) (ts : List TokenAndSpan) (v : Value F C K b) (us : List TokenAndSpan)
@@ -321,7 +364,7 @@ module _ {F C K : Type 0} (hook : Hook F C K)
       (r : Tree F C K × List TokenAndSpan) → is_lparen a.token ≡ true → Reads hook (Args false) (with_in c) xs ts es
       → exec hook p (Some 2) (paren_tail c a.span es) ts ≡ Some r → Reads hook Assign c (a ∷ xs) r.1 r.0
   paren-sound c a es xs ts r y d h =
-      let (ok, h1) = only (paren_ok es) h in
+      let (ok, h1) = only (paren_ok c.syntax.pedantic es) h in
       behind-sound c _ (a ∷ xs) ts r (paren-no-await a.token y)
       (by paren-expr (took (held y (part d (held ok gave))))) h1
 
@@ -367,7 +410,7 @@ module _ {F C K : Type 0} (hook : Hook F C K)
       (λ v. exec hook p (Some 2) v ts ≡ Some r) h
       (λ z k. let (ps, e, g) = given-held (as_params es) _ (side-sound (Some 2) (async_heads_tail c n es) ts r k) in
       async-heads-held c n a b es ps xs ts i l y e d g)
-      (λ z k. let (ok, h1) = only (no_covers (items_of es)) k in
+      (λ z k. let (ok, h1) = only (covers_ok c.syntax.pedantic es) k in
       behind-sound c _ (a ∷ (b ∷ xs)) ts r (async-no-await a.token (async-token c a.token a.span n i))
       (by async-call (took (follows-given (async_name c a.token a.span) _ n i (held refl (took (held l (held y
       (part d (held ok gave)))))))))
@@ -504,6 +547,20 @@ module _ {F C K : Type 0} (hook : Hook F C K)
       {t : Answer F C K s} → o ≡ Some x → Follows hook s (k x) xs ys t → Follows hook s (given o >>= k) xs ys t
   given-follows o k x h d = rw h d
 
+  -- an operator below `**`, and its node at its own level, at which its left operand is read
+  joins-sound : (c : Scope) (op : BinaryOp) (l e : Tree F C K) (t : TokenAndSpan) (xs ts ys : List TokenAndSpan)
+      → precedence_of op ≤ 10 → binary_of c.context t.token ≡ Some op → nullish_ok op l e ≡ true → logical_ok op l ≡ true
+      → Reads hook (Level (precedence_of op)) c xs (t ∷ ts) l
+      → Reads hook (Level (suc (min_right op))) (inner c) ts ys e
+      → Reads hook (Level (precedence_of op)) c xs ys (bin_e (to (span_of l) (span_of e)) op l e)
+  joins-sound c op l e t xs ts ys small at n g left right =
+      let above = subst (λ v. Reads hook (Level (suc v)) (inner c) ts ys e) (min-right-same op small) right in
+      let level : IsTrue (nat_eq (precedence_of op) (precedence_of op)) = eq-eqb (precedence_of op)
+      (precedence_of op) refl in
+      by (bin-op (lt-ltb (precedence_of op) 11 (omega arith)))
+      (part left (took (given-follows (binary_of c.context t.token) _ op at
+      (held level (part above (held n (held g gave)))))))
+
   -- one operator, and its node at its own level
   node-sound : (c : Scope) (op : BinaryOp) (l e : Tree F C K) (m : ℕ) (t : TokenAndSpan)
       (xs ts ys : List TokenAndSpan)
@@ -514,19 +571,16 @@ module _ {F C K : Type 0} (hook : Hook F C K)
       by exp-op (part d (took (held (power-token c t.token at) (held x (part right gave)))))
   node-sound c binary.Exp l e m t xs ts ys at x n g (node h low top d bound ten) right =
       let le = ten binary.Exp at in absurd (omega arith)
-  node-sound c op l e m t xs ts ys at x n g d right =
-      let small : precedence_of op ≤ 10 = omega arith in
-      let above = subst (λ v. Reads hook (Level (suc v)) (inner c) ts ys e) (min-right-same op small) right in
-      let level : IsTrue (nat_eq (precedence_of op) (precedence_of op)) = eq-eqb (precedence_of op)
-      (precedence_of op) refl in
-      by (bin-op (lt-ltb (precedence_of op) 11 (omega arith)))
-      (part (left d small) (took (given-follows (binary_of c.context t.token) _ op at
-      (held level (part above (held n (held g gave)))))))
-    where
-      left : OnLeft hook c m xs (t ∷ ts) l → precedence_of op ≤ 10
-          → Reads hook (Level (precedence_of op)) c xs (t ∷ ts) l
-      left (alone d) small = lift (precedence_of op) 11 (omega arith) (omega arith) (by exp-unary (part d gave))
-      left (node h low top d bound ten) small = lift (precedence_of op) h (bound op at) top d
+  node-sound c binary.Exp l e m t xs ts ys at x n g (named low o f) right = not-in (sym_path at ∙ o)
+  node-sound c op l e m t xs ts ys at x n g (named low o f) right =
+      subst (λ v. Reads hook (Level (suc (min_right v))) (inner c) ts ys e
+      → Reads hook (Level (precedence_of v)) c xs ys (bin_e (to (span_of l) (span_of e)) v l e))
+      (sym_path (inj_op op binary.In (sym_path at ∙ o))) (λ r. f t ts ys e refl r) right
+  node-sound c op l e m t xs ts ys at x n g (alone d) right =
+      joins-sound c op l e t xs ts ys (omega arith) at n g
+      (lift (precedence_of op) 11 (omega arith) (omega arith) (by exp-unary (part d gave))) right
+  node-sound c op l e m t xs ts ys at x n g (node h low top d bound ten) right =
+      joins-sound c op l e t xs ts ys (omega arith) at n g (lift (precedence_of op) h (bound op at) top d) right
 
   stopped-sound : (c : Scope) (i : Bool) (g : Option ℕ) (l : Tree F C K) (m : ℕ) (xs ts : List TokenAndSpan)
       (r : Tree F C K × List TokenAndSpan)
@@ -541,6 +595,7 @@ module _ {F C K : Type 0} (hook : Hook F C K)
       lowered : OnLeft hook (with_head i c) m xs ts l → Reads hook (Level (suc m)) (with_head i c) xs ts l
       lowered (alone d) = lift (suc m) 11 (omega arith) (omega arith) (by exp-unary (part d gave))
       lowered (node h low top d bound ten) = lift (suc m) h low top d
+      lowered (named low o f) = let le = b binary.In o in absurd (omega arith)
 
   turn-sound : (c : Scope) (i : Bool) (g : Option ℕ) (o : Option BinaryOp) (l : Tree F C K) (m : ℕ)
       (xs ts : List TokenAndSpan)
@@ -568,16 +623,52 @@ module _ {F C K : Type 0} (hook : Hook F C K)
       last-sound None (climb (bin_e (to (span_of l) (span_of q.0)) op l q.0) m) c q.1 r h5 small i xs
       (node (precedence_of op) above (below-exp op) whole own below))
 
+  -- `#` and a name before `in`, and operators behind them
+  private-sound : (c : Scope) (m : ℕ) (ts : List TokenAndSpan) (r : Tree F C K × List TokenAndSpan)
+      → begins_private (nat_lt m 7) c ts ≡ true
+      → exec hook p (Some 12) (private_operand c >>= (λ e. read (climb e m) (inner c) (λ v. gives v))) ts ≡ Some r
+      → Reads hook (Level (suc m)) c ts r.1 r.0 × Bound c m r.1
+  private-sound c m [] r z h = cc
+  private-sound c m (a ∷ []) r z h = let (y, h1) = only (is_hash a.token) h in cc
+  private-sound c m (a ∷ (b ∷ us)) r z h =
+      let (w, z1) = both (is_hash a.token) _ z in
+      let (lt, z2) = both (nat_lt m 7) _ z1 in
+      let (x, i) = both c.syntax.pedantic _ z2 in
+      let low = ltb-true m 7 lt in
+      let (y, h1) = only (is_hash a.token) h in
+      let k1 : Spelling → Plan F C K (Tree F C K) =
+      λ n. check (private_ok c a.span n.at) (gives (private_e (to a.span n.at) n.text)) in
+      let k2 : Tree F C K → Plan F C K (Tree F C K) = λ e. read (climb e m) (inner c) (λ v. gives v) in
+      let (q, g1, g2) = then-ok (exec hook p None (given (any_name c b.token b.span) >>= k1) us)
+      (λ e vs. exec hook p None (k2 e) vs)
+      (sym_path (bind hook p (given (any_name c b.token b.span) >>= k1) k2 us) ∙ h1) in
+      let (n, o, h2) = given-exec None (any_name c b.token b.span) k1 us g1 in
+      let (j, h3) = only (private_ok c a.span n.at) h2 in
+      let h4 : exec hook p None (k2 (private_e (to a.span n.at) n.text)) us ≡ Some r =
+      subst (λ v. exec hook p None (k2 v.0) v.1 ≡ Some r)
+      (sym_path (inj (private_e (to a.span n.at) n.text, us) q h3)) g2 in
+      let (u, j1) = both c.syntax.pedantic _ j in
+      let (v, j2) = both c.context.include_in_expr _ j1 in
+      last-sound None (climb (private_e (to a.span n.at) n.text) m) (inner c) us r h4 (omega arith) c.head
+      (a ∷ (b ∷ us)) (named low (in-operator c.context us v i)
+      (λ g vs ys e l d. by private-in (took (held y (took (follows-given (any_name c b.token b.span) _ n o
+      (held j (subst (λ q. Follows hook (Level 7) (take (λ g. check (is_in g.token) (read (Level 8) (inner c)
+      (λ f. gives (bin_e (to (to a.span n.at) (span_of f)) binary.In (private_e (to a.span n.at) n.text) f))))) q ys
+      (bin_e (to (to a.span n.at) (span_of e)) binary.In (private_e (to a.span n.at) n.text) e)) (sym_path l)
+      (took (held (subst (λ q. at_token is_in (first q) ≡ true) l i) (part d gave)))))))))))
+
   step-sound : (k : Call F C K) (c : Scope) (ts : List TokenAndSpan) (r : Ans F C K k × List TokenAndSpan)
       → exec hook p (Some (rank k)) (step k c ts) ts ≡ Some r → Means hook k c ts r
   step-sound (sym Expr) c ts r h = expr-sound c ts r h
   step-sound (sym Exprs) c ts r h = cc
   step-sound (sym Assign) c ts r h = assign-sound c ts r h
   step-sound (sym (Level zero)) c ts r h = cc
-  step-sound (sym (Level (suc m))) c ts r h =
-      let (y, h1) = only (nat_le m 10) h in
+  step-sound (sym (Level (suc m))) c ts r h = choose (begins_private (nat_lt m 7) c ts) _ _
+      (λ v. exec hook p (Some 12) v ts ≡ Some r) h
+      (λ z k. private-sound c m ts r z k)
+      (λ z k. let (y, h1) = only (nat_le m 10) k in
       let (q, a, b) = call-sound (Some 12) (sym Unary) c (λ e. read (climb e m) (inner c) (λ v. gives v)) ts r h1 in
-      last-sound (Some 12) (climb q.0 m) (inner c) q.1 r b (leb-true m 10 y) c.head ts (alone a)
+      last-sound (Some 12) (climb q.0 m) (inner c) q.1 r b (leb-true m 10 y) c.head ts (alone a))
   step-sound (sym Unary) c ts r h = unary-sound c ts r h
   step-sound (sym (Lhs b)) c ts r h = lhs-sound b c ts r h
   step-sound (sym (Left b)) c ts r h = cc

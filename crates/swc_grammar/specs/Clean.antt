@@ -21,7 +21,7 @@ use Rattle.swc_ast.specs.Patterns.{default_p}
 use Rattle.swc_ast.specs.Tree.{Tree, Trees, nil, cons, span_of}
 use Rattle.swc_ast.specs.Trees.{to, bin_e, new_e, bare_new_e, is_chain, items_of, nullish_ok, left_ok, exp_ok}
 use Rattle.swc_ast.specs.Trees.{min_right, trees_append, update_e, cond_e, assign_e, exprs_e, seq_of, is_operation}
-use Rattle.swc_ast.specs.Trees.{paren_e, paren_ok, held_exprs, listed, ident_e, call_e, no_covers, arrow_e}
+use Rattle.swc_ast.specs.Trees.{paren_e, paren_ok, held_exprs, listed, ident_e, call_e, covers_ok, arrow_e, private_e}
 use Rattle.swc_bodies.specs.Readings.{whole_span, Hook, begins, begins_function, is_class, is_brace, is_async}
 use Rattle.swc_grammar.specs.Scope.{Scope, in_context, with_head, at_head, inner}
 use Rattle.swc_grammar.specs.Rule.{Rule, gives, never, take, check, peek, peek_two, read, hear, sees, sees_two}
@@ -62,8 +62,8 @@ use Rattle.swc_grammar.specs.Tokens.{is_ref, at_word, binary_where, prefix_of, i
 use Rattle.swc_grammar.specs.Tokens.{is_rbracket, is_comma, is_reference}
 use Rattle.swc_grammar.specs.Tokens.{is_dots, is_rbrace, is_colon, is_star, is_equals, is_word, is_get, is_set, with_in}
 use Rattle.swc_grammar.specs.Tokens.{is_super, is_import, is_source, is_update, is_assign, is_await, is_yield}
-use Rattle.swc_grammar.specs.Tokens.{ends_await, yield_ok, goes_on_yield}
-use Rattle.swc_grammar.specs.Parts.{update_here, assign_here}
+use Rattle.swc_grammar.specs.Tokens.{ends_await, yield_ok, goes_on_yield, is_in}
+use Rattle.swc_grammar.specs.Parts.{update_here, assign_here, any_name, private_ok}
 use Rattle.swc_grammar.specs.Tokens.{is_question, is_dot, is_rparen, is_new, is_backquote, is_slash, is_regex, ends_prop, follows_key}
 
 -- what was read, and the tokens left
@@ -329,6 +329,11 @@ begins_async_name c ts =
 abbrev pub begins_async_list : List TokenAndSpan → Bool
 begins_async_list ts = at_token is_async (first ts) && is_lparen_here (second ts)
 
+-- Where the syntax is pedantic, `#` and a name that an `in` follows, if that isn't taken by an operator before them.
+abbrev pub begins_private : Bool → Scope → List TokenAndSpan → Bool
+begins_private is_free c ts =
+    at_token is_hash (first ts) && (is_free && (c.syntax.pedantic && at_token is_in (third ts)))
+
 -- where a symbol's reading stops for the clean parser: nothing goes on that it would take too
 abbrev pub Stop : Symbol → Scope → List TokenAndSpan → Type 0
 Stop Primary c ys = no_arrow ys ≡ true
@@ -505,7 +510,7 @@ module _ {F C K : Type 0} where
 
   abbrev pub paren_tail : Scope → Span → Tree F C K → Plan F C K (Tree F C K)
   paren_tail c s es =
-      check (paren_ok es) (behind_base c (paren_e (to s (span_of es)) (seq_of (held_exprs (items_of es)))))
+      check (paren_ok c.syntax.pedantic es) (behind_base c (paren_e (to s (span_of es)) (seq_of (held_exprs (items_of es)))))
 
   -- behind that list after `async`: the rest of an arrow function, or what stands behind a call
   abbrev pub async_arrow_tail : Scope → Spelling → Tree F C K → Side F C K Assign
@@ -523,7 +528,7 @@ module _ {F C K : Type 0} where
 
   abbrev pub async_tail : Scope → Spelling → Tree F C K → Plan F C K (Tree F C K)
   async_tail c n es =
-      check (no_covers (items_of es))
+      check (covers_ok c.syntax.pedantic es)
       (behind_base c (call_e (to n.at (span_of es)) (ident_e n.at n.text) (items_of es)))
 
   -- behind `await`: an operand or none, by the token that stands there
@@ -545,6 +550,19 @@ module _ {F C K : Type 0} where
   unary c ts =
       if at_token is_update (first ts) then chosen (pick (update-prefix {c = c})) else
       (if at_token is_await (first ts) then chosen (await_by c (second ts)) else unary_by c (prefix_at (first ts)))
+
+  -- `#` and a name as an operand, where these begin one; operators above the precedence m go on from it
+  abbrev pub private_operand : Scope → Plan F C K (Tree F C K)
+  private_operand c = do
+    s ← a_token is_hash
+    n ← one (any_name c)
+    must (private_ok c s n.at)
+    gives (private_e (to s n.at) n.text)
+
+  abbrev pub level : ℕ → Scope → List TokenAndSpan → Plan F C K (Tree F C K)
+  level m c ts =
+      if begins_private (nat_lt m 7) c ts then (private_operand c >>= (λ e. symbol (climb e m) (inner c))) else
+      (must (nat_le m 10) >> symbol (sym Unary) c >>= (λ e. symbol (climb e m) (inner c)))
 
   -- a left-hand side with what it goes on with
   abbrev pub linked : {b : Bool} {c : Scope} → Link F C K b c → Tree F C K → Plan F C K (Tree F C K)
@@ -779,7 +797,7 @@ module _ {F C K : Type 0} where
   step (sym Exprs) c ts = never
   step (sym Assign) c ts = assign c ts
   step (sym (Level zero)) c ts = never
-  step (sym (Level (suc m))) c ts = must (nat_le m 10) >> symbol (sym Unary) c >>= (λ e. symbol (climb e m) (inner c))
+  step (sym (Level (suc m))) c ts = level m c ts
   step (sym Unary) c ts = unary c ts
   step (sym (Lhs b)) c ts = lhs b c ts
   step (sym (Left b)) c ts = never

@@ -17,7 +17,7 @@ use Rattle.swc_ast.specs.Trees.{hole_e, item_e, spread_e, fn_e}
 use Rattle.swc_ast.specs.Trees.{class_e, private_e, unary_e, paren_e, bin_e, object_e, name_e, computed_e}
 use Rattle.swc_ast.specs.Trees.{spread_prop_e, short_e, cover_e, value_e, block_e, function_e, method_e, getter_e}
 use Rattle.swc_ast.specs.Trees.{at_place, parts_e, put_part, tpl_e, tagged_e, new_e, bare_new_e, meta_e, link_e, is_chain}
-use Rattle.swc_ast.specs.Trees.{super_e, import_e, super_prop_e, comma_ok, no_covers, arrow_e}
+use Rattle.swc_ast.specs.Trees.{super_e, import_e, super_prop_e, comma_ok, covers_ok, arrow_e}
 use Rattle.swc_ast.specs.Trees.{prop_of, member_e, call_e, nullish_ok, logical_ok, delete_ok, is_unary, paren_ok}
 use Rattle.swc_ast.specs.Trees.{trees_append, held_exprs, update_e, await_e, yield_e, cond_e, assign_e, exprs_e, seq_of}
 use Rattle.swc_ast.specs.declared.expr.ImportPhase.TheVariants as phase
@@ -37,11 +37,11 @@ use Rattle.swc_grammar.specs.Arrows.{async_name, async_param, goes_on_async, of_
 use Rattle.swc_grammar.specs.Names.{is_joined}
 use Rattle.swc_grammar.specs.Tokens.{with_in, is_this, is_lparen, is_rparen, is_lbracket, is_rbracket, is_comma, is_dots}
 use Rattle.swc_grammar.specs.Tokens.{is_dot, is_question, is_backquote, is_dollar_brace, is_slash, is_new, is_target, new_target_ok}
-use Rattle.swc_grammar.specs.Tokens.{is_super, is_import, is_meta, is_source, super_ok, import_comma_ok}
+use Rattle.swc_grammar.specs.Tokens.{is_super, is_import, is_meta, is_source, super_ok, import_comma_ok, is_in}
 use Rattle.swc_grammar.specs.Tokens.{is_await, is_yield, await_ok, await_ident_ok, ends_await, yield_ok, goes_on_yield}
 use Rattle.swc_grammar.specs.Tokens.{is_power, is_rbrace, is_colon, is_star, is_equals, is_get, is_set}
 use Rattle.swc_grammar.specs.Parts.{reference, binding, any_name, lit_of, regex_of, text_of, key_lit_of, prefix_here}
-use Rattle.swc_grammar.specs.Parts.{update_here, assign_here, operator_here}
+use Rattle.swc_grammar.specs.Parts.{update_here, assign_here, operator_here, import_args_ok, private_ok}
 use Rattle.swc_grammar.specs.Cover.{as_literal, as_params, heads_ok}
 
 pub data Production {F C K : Type 0} : (s : Symbol) → Scope → Side F C K s → Type 0 where
@@ -61,7 +61,7 @@ pub data Production {F C K : Type 0} : (s : Symbol) → Scope → Side F C K s �
     must c.head
     token_on_line is_lparen
     es ← symbol (Args false) (with_in c)
-    must (no_covers (items_of es))
+    must (covers_ok c.syntax.pedantic es)
     gives (call_e (to n.at (span_of es)) (ident_e n.at n.text) (items_of es)))
   -- `this` (13.2.1)
   this-expr : {c : Scope} → Production Primary c (do
@@ -227,7 +227,7 @@ pub data Production {F C K : Type 0} : (s : Symbol) → Scope → Side F C K s �
   paren-expr : {c : Scope} → Production Primary c (do
     s ← token is_lparen
     es ← symbol (Args false) (with_in c)
-    must (paren_ok es)
+    must (paren_ok c.syntax.pedantic es)
     gives (paren_e (to s (span_of es)) (seq_of (held_exprs (items_of es)))))
   -- Left-hand sides (13.3): with links, or `new` without arguments (NewExpression, 13.3.5), behind which no link is read.
   -- What is constructed is no optional chain.
@@ -285,6 +285,7 @@ pub data Production {F C K : Type 0} : (s : Symbol) → Scope → Side F C K s �
     s ← token is_import
     token is_lparen
     es ← symbol (Args true) (with_in c)
+    must (import_args_ok c true es)
     gives (call_e (to s (span_of es)) (import_e s phase.Evaluation) (items_of es)))
   import-source : {c : Scope} → Production (Base true) c (do
     s ← token is_import
@@ -292,6 +293,7 @@ pub data Production {F C K : Type 0} : (s : Symbol) → Scope → Side F C K s �
     s' ← token is_source
     token is_lparen
     es ← symbol (Args true) (with_in c)
+    must (import_args_ok c true es)
     gives (call_e (to s (span_of es)) (import_e (to s s') phase.Source) (items_of es)))
   -- Members (13.3.2), by a name, by `#` and a name that begins where it ends, and in brackets, in which `in` is an operator
   member-name : {c : Scope} {b : Bool} → Production (Left b) c (do
@@ -358,6 +360,7 @@ pub data Production {F C K : Type 0} : (s : Symbol) → Scope → Side F C K s �
   arguments : {c : Scope} {i : Bool} → Production (Arguments i) c (do
     token is_lparen
     es ← symbol (Args i) (with_in c)
+    must (import_args_ok c i es)
     gives es)
   args-end : {c : Scope} {i : Bool} → Production (Args i) c (do
     s ← token is_rparen
@@ -427,11 +430,20 @@ pub data Production {F C K : Type 0} : (s : Symbol) → Scope → Side F C K s �
     must (nullish_ok op l r)
     must (logical_ok op l)
     gives (bin_e (to (span_of l) (span_of r)) op l r))
-  -- `#` and a name, which the standard has on the left of `in` alone (13.10)
+  -- `#` and a name, which the standard has on the left of `in` alone (13.10): where the syntax isn't pedantic it is a
+  -- primary expression like any other; and where it is, the name begins where the `#` ends.
   private-expr : {c : Scope} → Production Primary c (do
     s ← token is_hash
     n ← one (any_name c)
+    must (not c.syntax.pedantic)
     gives (private_e (to s n.at) n.text))
+  private-in : {c : Scope} → Production (Level 7) c (do
+    s ← token is_hash
+    n ← one (any_name c)
+    must (private_ok c s n.at)
+    token is_in
+    r ← symbol (Level 8) (inner c)
+    gives (bin_e (to (to s n.at) (span_of r)) binary.In (private_e (to s n.at) n.text) r))
   -- AssignmentExpression (13.15), with ConditionalExpression (13.14), in whose middle `in` is an operator, and
   -- YieldExpression (15.5), whose operand begins on the line of `yield`. What is written to is a valid simple target.
   assign-level : {c : Scope} → Production Assign c (symbol (Level 1) (at_head c))
@@ -607,6 +619,7 @@ pub data Production {F C K : Type 0} : (s : Symbol) → Scope → Side F C K s �
   arrow-async-name : {c : Scope} → Production Assign c (do
     s ← one (async_name c)
     n ← one_on_line (async_param c)
+    ahead (λ t. c.syntax.pedantic && t.had_line_break)
     token is_arrow
     b ← symbol (ArrowBody true) c
     gives (arrow_e (to s.at (span_of b)) true b (cons (ident_e n.at n.text) nil)))

@@ -13,9 +13,9 @@ use Rattle.swc_input.specs.declared.token.Token.{Token}
 use Rattle.swc_input.specs.declared.token.Token.TheVariants as tok
 use Rattle.swc_input.specs.Recording.{is_some}
 use Rattle.swc_ast.specs.Tree.{Tree}
-use Rattle.swc_ast.specs.Trees.{null_e, boolean_e, num_e, big_e, str_e, regex_e, text_e}
+use Rattle.swc_ast.specs.Trees.{null_e, boolean_e, num_e, big_e, str_e, regex_e, text_e, few_ok}
 use Rattle.swc_grammar.specs.Scope.{Scope}
-use Rattle.swc_grammar.specs.Names.{Spelling, may_refer, may_bind, may_name, spelled}
+use Rattle.swc_grammar.specs.Names.{Spelling, may_refer, may_bind, may_name, spelled, is_joined}
 use Rattle.swc_grammar.specs.Tokens.{is_put_off, binary_of, prefix_of, update_of, assign_of}
 
 -- an identifier reference (13.1) that is an expression by itself
@@ -99,3 +99,11 @@ assign_here t s = assign_of t
 -- a binary operator (13.6 to 13.13)
 abbrev pub operator_here : Scope → Token → Span → Option BinaryOp
 operator_here c t s = binary_of c.context t
+
+-- The arguments of `import` (13.3.10), where i says that they are its: where the syntax is pedantic they are counted.
+abbrev pub import_args_ok : {F C K : Type 0} → Scope → Bool → Tree F C K → Bool
+import_args_ok c i es = few_ok (i && c.syntax.pedantic) c.syntax.import_attributes es
+
+-- `#` and a name, with their places, as an operand on the left of `in` (13.10), where the syntax is pedantic
+abbrev pub private_ok : Scope → Span → Span → Bool
+private_ok c s at = c.syntax.pedantic && (c.context.include_in_expr && is_joined s at)

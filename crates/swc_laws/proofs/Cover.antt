@@ -41,15 +41,16 @@ use Rattle.swc_grammar.specs.Grammar.{tail-more, item-expr, item-spread, fn-expr
 use Rattle.swc_grammar.specs.Grammar.{props-more, props-tail-end, props-tail-more, prop-spread, prop-short, prop-cover}
 use Rattle.swc_grammar.specs.Grammar.{prop-key, prop-generator, prop-async, prop-async-generator, prop-getter}
 use Rattle.swc_grammar.specs.Grammar.{prop-setter, after-value, after-shell, shell-block, key-name, key-literal}
-use Rattle.swc_grammar.specs.Grammar.{key-computed, level-up, bin-op, private-expr, assign-level, update-postfix}
-use Rattle.swc_grammar.specs.Grammar.{update-prefix, await-expr, await-ident, cond-expr, assign-expr, yield-alone}
-use Rattle.swc_grammar.specs.Grammar.{yield-expr, yield-star, assign-pattern, pat-bind, pat-array, pat-object}
-use Rattle.swc_grammar.specs.Grammar.{element-default, pat-elements-end, pat-elements-hole, pat-elements-more}
-use Rattle.swc_grammar.specs.Grammar.{pat-elements-rest, pat-tail-end, pat-tail-more, pat-props-end, pat-props-more}
-use Rattle.swc_grammar.specs.Grammar.{pat-props-rest, pat-props-tail-end, pat-props-tail-more, pat-prop-key}
-use Rattle.swc_grammar.specs.Grammar.{pat-prop-short, pat-prop-default, async-ident, async-call, arrow-async-name}
-use Rattle.swc_grammar.specs.Grammar.{arrow-async-heads, arrow-name, arrow-heads, params-end, params-more, params-rest}
-use Rattle.swc_grammar.specs.Grammar.{params-tail-end, params-tail-more}
+use Rattle.swc_grammar.specs.Grammar.{key-computed, level-up, bin-op, private-expr, private-in, assign-level}
+use Rattle.swc_grammar.specs.Grammar.{update-postfix, update-prefix, await-expr, await-ident, cond-expr, assign-expr}
+use Rattle.swc_grammar.specs.Grammar.{yield-alone, yield-expr, yield-star, assign-pattern, pat-bind, pat-array}
+use Rattle.swc_grammar.specs.Grammar.{pat-object, element-default, pat-elements-end, pat-elements-hole}
+use Rattle.swc_grammar.specs.Grammar.{pat-elements-more, pat-elements-rest, pat-tail-end, pat-tail-more}
+use Rattle.swc_grammar.specs.Grammar.{pat-props-end, pat-props-more, pat-props-rest, pat-props-tail-end}
+use Rattle.swc_grammar.specs.Grammar.{pat-props-tail-more, pat-prop-key, pat-prop-short, pat-prop-default}
+use Rattle.swc_grammar.specs.Grammar.{async-ident, async-call, arrow-async-name, arrow-async-heads, arrow-name}
+use Rattle.swc_grammar.specs.Grammar.{arrow-heads, params-end, params-more, params-rest, params-tail-end}
+use Rattle.swc_grammar.specs.Grammar.{params-tail-more}
 use Rattle.swc_grammar.specs.Arrows.{arrow_name, async_name, async_param}
 use Rattle.swc_grammar.proofs.Answers.{only, inj, both}
 use Rattle.swc_grammar.proofs.Related.{bind-some, literal-is}
@@ -363,6 +364,7 @@ module _ {F C K : Type 0} (hook : Hook F C K) where
   step-level exp-unary (ran-part e k ran-gave) = k
   step-level (level-up b) (ran-part e k ran-gave) = k
   step-level {d = d} exp-op w = closed d w (λ l a r. refl)
+  step-level {d = d} private-in w = closed d w (λ a b. quiet (any_name d b.token b.span) _ (λ n h e r. refl))
   step-level {d = d} (bin-op b) w = closed d w (λ l a. quiet (operator_here d a.token a.span) _ (λ op h r. refl))
 
   step-unary : {d : Scope} {r : Side F C K Unary} {xs ys : List TokenAndSpan} {t : Tree F C K} → Production Unary d r

@@ -1,5 +1,6 @@
 mod CoverRows
 mod ExceptionRows
+mod PedanticRows
 mod ReplayRows
 pub mod Bindable
 pub mod Closed
@@ -10,6 +11,9 @@ pub mod CoverClean
 pub mod CoverLaw
 pub mod Covered
 pub mod Freed
+pub mod PedanticTrees
+pub mod Privates
+pub mod PrivatesKept
 pub mod Replay
 pub mod Wanted
 pub mod Within

@@ -118,6 +118,10 @@ dull-async c a b h k = no-async c b.token b.had_line_break (pair a b h).regex
 dull-break : Dull (λ t. t.had_line_break)
 dull-break a b h k = sym (pair a b h).mark ∙ k
 
+dull-break-where : (x : Bool) → Dull (λ t. x && t.had_line_break)
+dull-break-where true a b h k = sym (pair a b h).mark ∙ k
+dull-break-where false a b h k = refl
+
 -- and two tokens that come next
 abbrev DullTwo : (TokenAndSpan → TokenAndSpan → Bool) → Type 0
 DullTwo p = (xs : List TokenAndSpan) → sees_two p xs ≡ false → sees_two p (without_slashes xs) ≡ false
@@ -196,6 +200,7 @@ module _ {F C K : Type 0} where
   quiet : {s : Symbol} {c : Scope} {r : Side F C K s} → Production s c r → Quiet r
   quiet (await-expr {c = c}) = search (dull-ends (not c.context.in_async))
   quiet p = search (
+    dull-break-where,
     dull-sort is_await never-await,
     dull-sort is_brace never-brace,
     dull-sign,

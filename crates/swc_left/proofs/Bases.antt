@@ -20,7 +20,7 @@ use Rattle.swc_grammar.specs.Rule.{gives, take, check, read, given, must, ◌>>=
 use Rattle.swc_grammar.specs.Symbols.{Expr, Base, Args, Primary}
 use Rattle.swc_grammar.specs.Tokens.{tk, with_in, is_new, is_dot, is_rbracket, is_lparen, is_super, is_meta}
 use Rattle.swc_grammar.specs.Tokens.{is_source, super_ok}
-use Rattle.swc_grammar.specs.Parts.{any_name}
+use Rattle.swc_grammar.specs.Parts.{any_name, import_args_ok}
 use Rattle.swc_grammar.specs.Names.{Spelling, may_name}
 use Rattle.swc_grammar.specs.Clean.{Out, and_then, first, second, sym as at, plan, exec, chosen, super_base}
 use Rattle.swc_grammar.specs.Clean.{import_base, import_dot as import_dotted, run}
@@ -29,7 +29,7 @@ use Rattle.swc_grammar.proofs.Complete.{last}
 use Rattle.swc_grammar.proofs.Knot.{knot}
 use Rattle.swc_left.specs.Bases.{here_by, super_here, head_paren, head_call, head_dot, super_head, callee_of}
 use Rattle.swc_left.specs.Bases.{import_callee, import_meta, import_member, import_dot, import_head, allowed}
-use Rattle.swc_left.specs.Bases.{super_named, super_name_tail, super_in, super_close, callee_node}
+use Rattle.swc_left.specs.Bases.{super_named, super_name_tail, super_in, super_close, callee_node, import_node}
 use Rattle.swc_left.specs.Bases.{super_computed_tail, super_args_tail, super_left, super_tail, super_by, import_args}
 use Rattle.swc_left.specs.Bases.{import_left, import_tail, plain_base}
 use Rattle.swc_left.specs.declared.base.ImportHead.TheVariants as begun
@@ -130,6 +130,15 @@ module _ {F C K : Type 0} where
   no_hash_name s x [] h = absurd cc
   no_hash_name s x (t ∷ ts) h = hash_token s x t.token t.had_line_break t.span ts h
 
+  -- a call of `import`, of which the arguments are as many as there may be, or not
+  pub import_well : (s : Span) (i es : Tree F C K) (x : Scope) (ts : List TokenAndSpan)
+      → import_args_ok x true es ≡ true → import_node s i es x ts ≡ callee_node s i es x ts
+  import_well s i es x ts h = rw h refl
+
+  pub import_ill : (s : Span) (i es : Tree F C K) (x : Scope) (ts : List TokenAndSpan)
+      → import_args_ok x true es ≡ false → import_node s i es x ts ≡ None
+  import_ill s i es x ts h = rw h refl
+
 module _ {F C K : Type 0} (hook : Hook F C K) where
   pub computed_splits : (s q : Span) (x : Scope) (ts : List TokenAndSpan)
       → super_computed_tail hook s q x ts ≡ (whole_inside hook x ts >>= (λ p. super_close s q p.0 x p.1))
@@ -213,16 +222,17 @@ module _ {F C K : Type 0} (hook : Hook F C K) where
   paren_reads : (s : Span) (i : Tree F C K) (x : Scope) (us : List TokenAndSpan)
       → exec hook (run hook) None
       (take (λ t. check (is_lparen t.token)
-      (read (at (Args true)) (with_in x) (λ es. gives (call_e (to s (span_of es)) i (items_of es)))))) us
+      (read (at (Args true)) (with_in x)
+      (λ es. check (import_args_ok x true es) (gives (call_e (to s (span_of es)) i (items_of es))))))) us
       ≡ (expected is_lparen x us >>= (λ p. import_args hook s i x p.1))
   unfolding args_inside
   paren_reads s i x [] =
       then_token is_lparen x [] (λ r vs. and_then (run hook (at (Args true)) (with_in x) vs)
-      (λ es ws. Some (call_e (to s (span_of es)) i (items_of es), ws)))
+      (λ es ws. import_node s i es x ws))
       ∙ bind_same (expected is_lparen x []) _ _ (λ r. calls (run hook (at (Args true)) (with_in x) r.1) _)
   paren_reads s i x (t ∷ us) =
       then_token is_lparen x (t ∷ us) (λ r vs. and_then (run hook (at (Args true)) (with_in x) vs)
-      (λ es ws. Some (call_e (to s (span_of es)) i (items_of es), ws)))
+      (λ es ws. import_node s i es x ws))
       ∙ bind_same (expected is_lparen x (t ∷ us)) _ _ (λ r. calls (run hook (at (Args true)) (with_in x) r.1) _)
 
   -- what is called, and behind it a call

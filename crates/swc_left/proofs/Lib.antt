@@ -1,5 +1,6 @@
 pub mod Bases
 pub mod Chains
+pub mod Counted
 pub mod Links
 pub mod NextLink
 pub mod Templates

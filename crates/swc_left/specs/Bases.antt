@@ -9,6 +9,7 @@ use Rattle.swc_ast.specs.declared.expr.ImportPhase.{ImportPhase}
 use Rattle.swc_ast.specs.declared.expr.ImportPhase.TheVariants as phase
 use Rattle.swc_ast.specs.declared.expr.MetaPropKind.TheVariants as kind
 use Rattle.swc_bodies.specs.Readings.{Hook}
+use Rattle.swc_grammar.specs.Parts.{import_args_ok}
 use Rattle.swc_grammar.specs.Scope.{Scope}
 use Rattle.swc_grammar.specs.Symbols.{Primary}
 use Rattle.swc_grammar.specs.Tokens.{is_dot, is_lbracket, is_lparen, is_rbracket, is_super, is_import, is_meta}
@@ -109,6 +110,10 @@ module _ {F C K : Type 0} where
   abbrev pub callee_node : Span → Tree F C K → Tree F C K → Scope → List TokenAndSpan → Out (Tree F C K)
   callee_node s i es c ts = Some (call_e (to s (span_of es)) i (items_of es), ts)
 
+  -- a call of `import` (13.3.10), which is i, where its arguments are as many as there may be
+  abbrev pub import_node : Span → Tree F C K → Tree F C K → Scope → List TokenAndSpan → Out (Tree F C K)
+  import_node s i es c ts = if import_args_ok c true es then callee_node s i es c ts else None
+
   -- `import.meta`, which is at s, behind it
   abbrev pub import_meta_node : Span → Scope → List TokenAndSpan → Out (Tree F C K)
   import_meta_node s c ts = Some (meta_e s kind.ImportMeta, ts)
@@ -138,7 +143,7 @@ module _ {F C K : Type 0} (hook : Hook F C K) where
 
   -- a call of i, behind its parenthesis
   abbrev pub import_args : Span → Tree F C K → Scope → List TokenAndSpan → Out (Tree F C K)
-  import_args s i c ts = args_inside hook true c ts >>= (λ p. callee_node s i p.0 c p.1)
+  import_args s i c ts = args_inside hook true c ts >>= (λ p. import_node s i p.0 c p.1)
 
   -- behind the first tokens, and from them on
   abbrev pub import_left : Span → ImportHead → Scope → List TokenAndSpan → Out (Tree F C K)

@@ -1,3 +1,4 @@
 pub mod Bases
+pub mod Counted
 pub mod Links
 pub mod Templates

@@ -3,13 +3,16 @@ ghost use Rattle.std.specs.Prelude.{◌≡◌, ◌≤◌, OnOk};
 ghost use Rattle.swc_input.specs.Buffer.{to_come};
 ghost use Rattle.swc_grammar.specs.Tokens.{import_comma_ok};
 ghost use Rattle.swc_steps.specs.Args.{last_comma, separated_args};
-ghost use Rattle.swc_steps.specs.Parsing.{scope, ContinuesAlone};
+ghost use Rattle.swc_steps.specs.Parsing.{scope, Checked, ContinuesAlone};
+ghost use Rattle.swc_left.specs.Counted.{few_items, counted_ok};
 
+use swc_ast::expr::ExprOrSpread;
 use swc_context::error::{PResult, SyntaxError};
-use swc_context::span::Span;
+use swc_context::span::{BytePos, Span};
 use swc_input::buffer::Buffer;
 use swc_input::tokens::Tokens;
-use swc_steps::tokens::{Sign, is_sign, look, separate, syntax_error};
+use swc_nodes::node::ExprId;
+use swc_steps::tokens::{Listed, Sign, emit_err, is_sign, look, separate, syntax_error};
 
 /// Consumes what stands behind an argument: a comma, whose place is answered, or nothing where the parenthesis that
 /// closes the list is current. Behind the last argument of `import` a comma may be refused.
@@ -59,4 +62,51 @@ fn import_comma_allowed<I: Tokens>(input: &Buffer<I>) -> bool
 {
     let syntax = input.syntax();
     syntax.import_attributes
+}
+
+/// Records arguments of `import` that are none, too many, or a spread, as `ImportArguments`, from `open`, where their
+/// parenthesis opens, through the one that closes them; where the syntax is pedantic, and of `import` alone. There may
+/// be one, and with import attributes two.
+#[inline(never)]
+pub fn check_import_args<I: Tokens>(
+    input: &mut Buffer<I>,
+    open: BytePos,
+    list: &Listed<ExprOrSpread<ExprId>>,
+    is_dynamic_import: bool,
+) -> PResult<()>
+    ensures checks { Checked I.model (counted_ok (scope I.model input.old) is_dynamic_import list.now.items.items)
+        input.old result input.new }
+    ensures falls { OnOk result (to_come I.model input.new ≤ to_come I.model input.old) }
+{
+    if import_args_allowed(input, &list.items, is_dynamic_import) {
+        return Ok(());
+    }
+    let span = Span::new(open, list.end.hi);
+    emit_err(input, span, SyntaxError::ImportArguments)
+}
+
+/// Whether these may be the arguments, of `import` or of another callee.
+fn import_args_allowed<I: Tokens>(
+    input: &Buffer<I>,
+    items: &Vec<ExprOrSpread<ExprId>>,
+    is_dynamic_import: bool,
+) -> bool
+    ensures { result ≡ counted_ok (scope I.model input.now) is_dynamic_import items.now.items }
+{
+    let syntax = input.syntax();
+    if !is_dynamic_import || !syntax.pedantic {
+        return true;
+    }
+    is_few_items(items, syntax.import_attributes)
+}
+
+/// Whether there is one item, or where `two` may be also two, and none behind dots.
+fn is_few_items(items: &Vec<ExprOrSpread<ExprId>>, two: bool) -> bool
+    ensures { result ≡ few_items two items.now.items }
+{
+    match items.len() {
+        1 => items[0].spread.is_none(),
+        2 => two && items[0].spread.is_none() && items[1].spread.is_none(),
+        _ => false,
+    }
 }

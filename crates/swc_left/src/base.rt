@@ -2,22 +2,24 @@
 ghost use Rattle.std.specs.Prelude.{ℕ, ◌≡◌, ◌<◌, ◌≤◌, ◌++◌, not, OnOk, IsSome};
 ghost use Rattle.swc_input.specs.Buffer.{context, current, to_come};
 ghost use Rattle.swc_ast.specs.Parts.{callee_tree};
+ghost use Rattle.swc_ast.specs.Trees.{import_e};
 ghost use Rattle.swc_grammar.specs.Tokens.{super_ok};
 ghost use Rattle.swc_nodes.specs.NodeParts.{args_parts, callee_parts, expr_part};
 ghost use Rattle.swc_nodes.specs.GrowingNodes.{count, first_at, Apart, From};
 ghost use Rattle.swc_left.specs.Bases.{super_head, super_here, super_name_tail, super_close, callee_node};
-ghost use Rattle.swc_left.specs.Bases.{import_head, import_member, import_callee, import_meta_node};
+ghost use Rattle.swc_left.specs.Bases.{import_head, import_member, import_callee, import_node, import_meta_node};
 ghost use Rattle.swc_steps.specs.Parsing.{scope, ContinuesAlone, ParsesAlone, Produces, GoesOn, Checked, Acts};
 ghost use Rattle.swc_steps.specs.Parsing.{Refuses, itself, tree_of, args_at};
 ghost use Rattle.swc_steps.specs.Readers.{nothing};
 
+use crate::args::check_import_args;
 use crate::left::{chain_behind, parse_member_name};
 use std::alloc::Global;
 use swc_ast::expr::{Callee, ExprOrSpread, Import, ImportPhase, MetaPropKind, Super, SuperProp};
 use swc_ast::prop::ComputedPropName;
 use swc_bodies::bodies::Bodies;
 use swc_context::error::{Error, PResult, SyntaxError, Wanted};
-use swc_context::span::Span;
+use swc_context::span::{BytePos, Span};
 use swc_input::buffer::Buffer;
 use swc_input::tokens::Tokens;
 use swc_nodes::node::ExprId;
@@ -127,6 +129,27 @@ pub fn callee_call<I: Tokens, B: Bodies<I>>(
     let end = list.end.hi;
     let node = p.nodes.callee_call(start.lo, callee, list.items, end);
     p.made(node)
+}
+
+/// A call of `import` (ECMA-262, 13.3.10), which begins at `start`, behind its arguments, whose parenthesis opens at
+/// `open`. Where the syntax is pedantic, arguments that are none, too many or a spread are recorded. Consumes nothing,
+/// and is refused only for want of memory.
+#[inline(never)]
+pub fn import_call<I: Tokens, B: Bodies<I>>(
+    p: &mut Productions<I, B>,
+    start: Span,
+    import: Import,
+    open: BytePos,
+    list: Listed<ExprOrSpread<ExprId>>,
+) -> PResult<ExprId>
+    requires { Apart 0 p.old.nodes (args_parts list.items) }
+    ensures { (k : ℕ) → Apart k p.old.nodes (args_parts list.items)
+        → GoesOn I.model B.is_faithful itself tree_of
+        (import_node start (import_e import.span import.phase) (args_at p.old.nodes list))
+        k p.old result p.new }
+{
+    check_import_args(&mut p.input, open, &list, true)?;
+    callee_call(p, start, Callee::Import(import), list)
 }
 
 /// Refuses a name behind `super` and `?.`, as `InvalidSuper`, and where `super` may have properties, with `no_call`

@@ -1,6 +1,7 @@
 pub mod Assignments
 pub mod Entered
 pub mod InContext
+pub mod Operands
 pub mod Pending
 pub mod Prefixes
 pub mod Sequences

@@ -29,7 +29,8 @@ use Rattle.swc_nodes.specs.declared.pending.PendingOperator.{PendingOperator}
 use Rattle.swc_nodes.proofs.Held.{from-apart, tree-later}
 use Rattle.swc_nodes.proofs.Waiting.{apart-rest, least_more, operands-below, operands-last}
 use Rattle.swc_steps.specs.Parsing.{seen, tree_of, scope, Here, Checks, On, Heard, Unheard}
-use Rattle.swc_steps.specs.Readers.{turn, bin_op, bin_op_node, turned}
+use Rattle.std.specs.Prelude.{nat_lt}
+use Rattle.swc_steps.specs.Readers.{turn, bin_op, bin_op_node, operand, turned}
 use Rattle.swc_steps.proofs.Rules as rule
 use Rattle.swc_steps.proofs.Steps as s
 use Rattle.swc_operators.specs.Pending.{operator_above, operator_taken, joined, join, on_joined, on_operand, through}
@@ -139,10 +140,10 @@ module _ {F C K : Type 0} (hook : Hook F C K) where
 
   right_here : (op : BinaryOp) (m : ℕ) (x : Scope) (ts : List TokenAndSpan) → x.head ≡ false → m ≡ min_right op
       → run hook (at (Level (suc (min_right op)))) x ts
-      ≡ (run hook (at Unary) x ts >>= (λ p. run hook (climb p.0 m) x p.1))
+      ≡ (operand hook (nat_lt m 7) x ts >>= (λ p. run hook (climb p.0 m) x p.1))
   right_here op m x ts none e =
       rule.right_splits hook op m x ts e
-      ∙ ap (λ y. run hook (at Unary) x ts >>= (λ p. run hook (climb p.0 m) y p.1)) (s.inner_is x none)
+      ∙ ap (λ y. operand hook (nat_lt m 7) x ts >>= (λ p. run hook (climb p.0 m) y p.1)) (s.inner_is x none)
 
   takes_by : (b : Bool) (op : BinaryOp) (l : Tree F C K) (m : ℕ) (x : Scope) (ts : List TokenAndSpan)
       → x.head ≡ false → exp_ok op l ≡ b
@@ -150,9 +151,9 @@ module _ {F C K : Type 0} (hook : Hook F C K) where
       ≡ (operator_taken op l x ts >>= (λ p. on_operand hook op l m x p.1))
   unfolding operator_taken
   takes_by true op l m x ts none h =
-      let unary = run hook (at Unary) x (rest ts) in
+      let right = operand hook (nat_lt (min_right op) 7) x (rest ts) in
       rw (h, bin_op_here op l m x (rest ts) none h, right_here op (min_right op) x (rest ts) none refl)
-      (bind_assoc (unary >>= (λ p. run hook (climb p.0 (min_right op)) x p.1)) (λ t us. bin_op_node hook op l m t us)
+      (bind_assoc (right >>= (λ p. run hook (climb p.0 (min_right op)) x p.1)) (λ t us. bin_op_node hook op l m t us)
       (λ q us. turned hook q.0 q.1 x us))
   takes_by false op l m x ts none h = rw (h, rule.bin_op_ends hook op l m x (rest ts) h) refl
 
@@ -235,10 +236,10 @@ module _ {F C K : Type 0} (hook : Hook F C K) where
   -- behind an operator
   operand_on : (l : Tree F C K) (m : ℕ) (op : BinaryOp) (x : Scope) (ts : List TokenAndSpan)
       → on_operand hook op l m x ts
-      ≡ (run hook (at Unary) x ts
+      ≡ (operand hook (nat_lt (min_right op) 7) x ts
       >>= (λ p. run hook (climb p.0 (min_right op)) x p.1 >>= (λ q. on_joined hook op l m q.0 x q.1)))
   operand_on l m op x ts =
-      bind_assoc (run hook (at Unary) x ts) (λ t us. run hook (climb t (min_right op)) x us)
+      bind_assoc (operand hook (nat_lt (min_right op) 7) x ts) (λ t us. run hook (climb t (min_right op)) x us)
       (λ t us. on_joined hook op l m t x us)
 
   -- what waits on top is joined with its operands
@@ -251,6 +252,12 @@ module _ {F C K : Type 0} (hook : Hook F C K) where
       ap (λ us. through hook tree 0 us x (Some (tree e, ts))) popped
       ∙ through_push tree 0 vs w x (Some (tree e, ts))
       ∙ ap (through hook tree 0 vs x) (climb_joins w.op (tree w.left) (tree e) (least_above 0 vs) x ts)
+
+-- a `#` and a name are free behind the operator on top
+free_is : {free : Bool} (ws vs : List PendingOperator) (e : ExprId) (op : BinaryOp) → free ≡ nat_lt (least_above 0 vs) 7
+    → vs ≡ ws ++ waiting e op ∷ [] → free ≡ nat_lt (min_right op) 7
+free_is ws vs e op is pushed =
+    is ∙ ap (λ us. nat_lt (least_above 0 us) 7) pushed ∙ ap (λ m. nat_lt m 7) (least_more 0 ws (waiting e op))
 
 -- ---- one step after another
 
@@ -313,12 +320,13 @@ module _ {S F C K : Type 0} {model : Model S} {sure : Bool} (hook : Hook F C K) 
 
   -- its right operand is read, and the operator waits
   pub on_read : {fg : Ghosts F} {cg : Ghosts C} {kg : Ghosts K} {ns ms : Nodes F C K fg cg kg} {k : ℕ}
-      {f : s.Reader (Tree F C K)} {a b c : Buffer S} (ws vs : List PendingOperator) (e r : ExprId) (op : BinaryOp)
+      {f : s.Reader (Tree F C K)} {a b c : Buffer S} {free : Bool} (ws vs : List PendingOperator) (e r : ExprId)
+      (op : BinaryOp) → free ≡ nat_lt (least_above 0 vs) 7
       → vs ≡ ws ++ waiting e op ∷ [] → On model sure f (pending_operand hook (tree_of ns) ws e op) a b
-      → Heard model sure (run hook (at Unary)) (tree_of ms r) b c → Grows ns ms → Apart k ns (operand_parts ws e)
+      → Heard model sure (operand hook free) (tree_of ms r) b c → Grows ns ms → Apart k ns (operand_parts ws e)
       → On model sure f (pending_reads hook (tree_of ms) vs r) a c
   unfolding pending_reads
-  on_read {ns = ns} {ms = ms} ws vs e r op pushed o read g apart =
+  on_read {ns = ns} {ms = ms} {b = b} {c = c} ws vs e r op free pushed o read g apart =
       let m = least_above 0 ws in
       let t = tree_of ms r in
       let l = tree_of ns e in
@@ -326,7 +334,8 @@ module _ {S F C K : Type 0} {model : Model S} {sure : Bool} (hook : Hook F C K) 
       let goes = λ (x : Scope) (p : Tree F C K × List TokenAndSpan).
       run hook (climb p.0 (min_right op)) x p.1 >>= (λ q. on_joined hook op l m q.0 x q.1) in
       s.on_to
-      (s.on_then o (on_through (tree_of ns) 0 ws (s.on_call goes (λ x ts. operand_on hook l m op x ts) read.on)))
+      (s.on_then o (on_through (tree_of ns) 0 ws (s.on_call goes (λ x ts. operand_on hook l m op x ts)
+      (subst (λ v. Heard model sure (operand hook v) t b c) (free_is ws vs e op free pushed) read).on)))
       (λ x ts.
       ap (λ u. through hook (tree_of ns) 0 ws x
       (run hook (climb t (min_right op)) x ts >>= (λ q. on_joined hook op u m q.0 x q.1)))
@@ -337,15 +346,17 @@ module _ {S F C K : Type 0} {model : Model S} {sure : Bool} (hook : Hook F C K) 
       (sym (least_more 0 ws (waiting e op)))
       ∙ ap (λ us. pending_reads hook (tree_of ms) us r x ts) (sym pushed))
 
-  pub unheard_read : {f : s.Reader (Tree F C K)} {a b c : Buffer S} {x : Error} (tree : ExprId → Tree F C K)
-      (ws : List PendingOperator) (e : ExprId) (op : BinaryOp)
-      → On model sure f (pending_operand hook tree ws e op) a b → Unheard model sure (run hook (at Unary)) b x c
+  pub unheard_read : {f : s.Reader (Tree F C K)} {a b c : Buffer S} {x : Error} {free : Bool}
+      (tree : ExprId → Tree F C K) (ws vs : List PendingOperator) (e : ExprId) (op : BinaryOp)
+      → free ≡ nat_lt (least_above 0 vs) 7 → vs ≡ ws ++ waiting e op ∷ []
+      → On model sure f (pending_operand hook tree ws e op) a b → Unheard model sure (operand hook free) b x c
       → Unheard model sure f a x c
-  unheard_read tree ws e op o u =
+  unheard_read {b = b} {c = c} {x = x} tree ws vs e op free pushed o u =
       let m = least_above 0 ws in
       let goes = λ (x : Scope) (p : Tree F C K × List TokenAndSpan).
       run hook (climb p.0 (min_right op)) x p.1 >>= (λ q. on_joined hook op (tree e) m q.0 x q.1) in
-      s.unheard_after o (unheard_through tree 0 ws (s.unheard_call goes (λ x ts. operand_on hook (tree e) m op x ts) u))
+      s.unheard_after o (unheard_through tree 0 ws (s.unheard_call goes (λ x ts. operand_on hook (tree e) m op x ts)
+      (subst (λ v. Unheard model sure (operand hook v) b x c) (free_is ws vs e op free pushed) u)))
 
   -- no operator that is current belongs to the operand
   pub on_left : {f : s.Reader (Tree F C K)} {a b c d : Buffer S} (tree : ExprId → Tree F C K)
@@ -393,7 +404,7 @@ module _ {S F C K : Type 0} {model : Model S} {sure : Bool} (hook : Hook F C K) 
 
   -- ---- the first operand
 
-  pub unheard_operand : {b c d : Buffer S} {e : Error} → Here model b c → Unheard model sure (run hook (at Unary)) c e d
+  pub unheard_operand : {b c d : Buffer S} {e : Error} → Here model b c → Unheard model sure (operand hook true) c e d
       → Unheard model sure (run hook (at (Level 1))) b e d
   unheard_operand here u =
       s.unheard_after (s.on_seen {g = run hook (at (Level 1))} here (λ x ts same e. refl))

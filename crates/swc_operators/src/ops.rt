@@ -1,5 +1,5 @@
 // Binary and unary operators, `++`, `--` and `await` (ECMA-262, 13.4 to 13.13 and 15.8).
-ghost use Rattle.std.specs.Prelude.{◌+◌, ◌++◌, ◌∷◌, [], ◌≡◌, ◌≢◌, ◌<◌, ◌≤◌, true, false, not, ◌&&◌};
+ghost use Rattle.std.specs.Prelude.{◌+◌, ◌++◌, ◌∷◌, [], ◌≡◌, ◌≢◌, ◌<◌, ◌≤◌, true, false, not, ◌&&◌, nat_lt};
 ghost use Rattle.std.specs.Prelude.{OnOk, IfOk, IfErr, IsSome};
 ghost use Rattle.swc_context.specs.Operators.{precedence_of};
 ghost use Rattle.swc_context.specs.declared.error.SyntaxError.TheVariants.{OutOfMemory, ParserFailed, TS1109};
@@ -108,6 +108,14 @@ fn above(op: Option<BinaryOp>, min_prec: u8) -> Option<BinaryOp>
         return None;
     }
     Some(op)
+}
+
+/// Whether a `#` and a name that are read next may be the left operand of an `in` (ECMA-262, 13.10.1): nothing that is
+/// pending binds as tightly as `in`, or tighter.
+pub fn private_may_follow(pending: &PendingOperators) -> bool
+    ensures { result ≡ nat_lt (least_above 0 (all_pending pending.now)) 7 }
+{
+    pending.min_prec() < BinaryOp::In.precedence()
 }
 
 /// Consumes the operator `op`, which is current, behind its left operand (ECMA-262, 13.6 to 13.13), and puts both on

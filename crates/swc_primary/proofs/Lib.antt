@@ -5,5 +5,6 @@ pub mod Keyed
 pub mod Openings
 pub mod ParenItems
 pub mod Placed
+pub mod PrivateNames
 pub mod PropKinds
 pub mod Properties

@@ -1,5 +1,6 @@
 -- What stands in parentheses, as the items of its list are looked at one after another.
-use Rattle.std.proofs.Common.{◌≡◌, ◌≢◌, ℕ, zero, suc, ◌+◌, ◌<◌, ◌≤◌, Bool, true, false, not, ◌&&◌, List, [], ◌∷◌}
+use Rattle.std.proofs.Common.{◌≡◌, ◌≢◌, ℕ, zero, suc, ◌+◌, ◌<◌, ◌≤◌, Bool, true, false, not, ◌&&◌, ◌||◌, List, []}
+use Rattle.std.proofs.Common.{◌∷◌}
 use Rattle.std.proofs.Common.{Option, Some, None, Result, Ok, Err, OnOk, IfErr, length, take, get_or, refl, sym, ap}
 use Rattle.std.proofs.Common.{subst, ◌∙◌, add-one, arith}
 use Rattle.std.specs.Prelude.{slice_get, is_some as is_given}
@@ -16,6 +17,7 @@ use Rattle.swc_ast.specs.Tree.{Tree}
 use Rattle.swc_ast.specs.Trees.{listed, held_expr, no_cover_in, no_covers, is_spread, no_spread, paren_ok}
 use Rattle.swc_ast.specs.declared.expr.ExprOrSpread.{ExprOrSpread}
 use Rattle.swc_ast.specs.declared.spanned.Spanned.{Ghosts}
+use Rattle.swc_grammar.specs.Scope.{Scope}
 use Rattle.swc_grammar.specs.Clean.{Out}
 use Rattle.swc_nodes.specs.NumberedTrees.{fits}
 use Rattle.swc_nodes.specs.NodeParts.{flat, item_parts, expr_part}
@@ -128,24 +130,25 @@ module _ {F C K X : Type 0} (at : X → Tree F C K) where
       spreads-are ys ∙ ap (all_pass plain_item) (sym same) ∙ pass-fails plain_item xs i d lt (ap not h)
 
   -- what may stand in parentheses
-  paren_is : (comma : Option Span) (s : Span) (xs : List (ExprOrSpread X)) → 1 ≤ length xs
+  paren_is : (p : Bool) (comma : Option Span) (s : Span) (xs : List (ExprOrSpread X)) → 1 ≤ length xs
       → no_spread (item_trees at xs) ≡ true
-      → (no_covers (item_trees at xs) && not (is_some comma)) ≡ paren_ok (listed comma s (item_trees at xs))
-  paren_is comma s [] le h = absurd (omega (arith, le))
-  paren_is None s (x ∷ xs) le h = ap (λ b. no_covers (item_trees at (x ∷ xs)) && b) (sym h)
-  paren_is (Some c) s (x ∷ xs) le h = refl
+      → ((p || no_covers (item_trees at xs)) && not (is_some comma)) ≡ paren_ok p (listed comma s (item_trees at xs))
+  paren_is p comma s [] le h = absurd (omega (arith, le))
+  paren_is p None s (x ∷ xs) le h = ap (λ b. (p || no_covers (item_trees at (x ∷ xs))) && b) (sym h)
+  paren_is p (Some c) s (x ∷ xs) le h = refl
 
-  pub paren_none : (comma : Option Span) (s : Span) (xs : List (ExprOrSpread X)) → length xs ≡ 0
-      → paren_ok (listed comma s (item_trees at xs)) ≡ false
-  paren_none comma s [] h = refl
-  paren_none comma s (x ∷ xs) h = absurd (omega (arith, h))
+  pub paren_none : (p : Bool) (comma : Option Span) (s : Span) (xs : List (ExprOrSpread X)) → length xs ≡ 0
+      → paren_ok p (listed comma s (item_trees at xs)) ≡ false
+  paren_none p comma s [] h = and_false (p || true)
+  paren_none p comma s (x ∷ xs) h = absurd (omega (arith, h))
 
-  paren_spread : (comma : Option Span) (s : Span) (xs : List (ExprOrSpread X))
-      → no_spread (item_trees at xs) ≡ false → paren_ok (listed comma s (item_trees at xs)) ≡ false
-  paren_spread comma s [] h = refl
-  paren_spread None s (x ∷ xs) h =
-      ap (λ b. no_covers (item_trees at (x ∷ xs)) && b) h ∙ and_false (no_covers (item_trees at (x ∷ xs)))
-  paren_spread (Some c) s (x ∷ xs) h = and_false (no_covers (item_trees at (x ∷ xs)))
+  paren_spread : (p : Bool) (comma : Option Span) (s : Span) (xs : List (ExprOrSpread X))
+      → no_spread (item_trees at xs) ≡ false → paren_ok p (listed comma s (item_trees at xs)) ≡ false
+  paren_spread p comma s [] h = and_false (p || true)
+  paren_spread p None s (x ∷ xs) h =
+      ap (λ b. (p || no_covers (item_trees at (x ∷ xs))) && b) h
+      ∙ and_false (p || no_covers (item_trees at (x ∷ xs)))
+  paren_spread p (Some c) s (x ∷ xs) h = and_false (p || no_covers (item_trees at (x ∷ xs)))
 
 module _ {F C K : Type 0} {fg : Ghosts F} {cg : Ghosts C} {kg : Ghosts K} where
   from_nth : {ns : Nodes F C K fg cg kg} (k : ℕ) (xs : List (ExprOrSpread ExprId)) (j : ℕ) (x : ExprOrSpread ExprId)
@@ -185,34 +188,36 @@ module _ {S F C K X : Type 0} {model : Model S} (at : X → Tree F C K) where
       subst P (pass-all (whole_item at) xs i h ∙ ap (all_pass (whole_item at)) same ∙ sym (covers-are at ys)) k
 
   -- after all tests
-  pub paren_checked : {T : Type 0} (r : Result T Error) (comma : Option Span) (s : Span) (xs : List (ExprOrSpread X))
-      {b c d : Buffer S} (e : Buffer S) → 1 ≤ length xs → Checks model (no_covers (item_trees at xs)) b c
-      → Checks model (not (is_some comma)) c d → OnOk r ((e ≡ d) × (no_spread (item_trees at xs) ≡ true))
-      → OnOk r (Checks model (paren_ok (listed comma s (item_trees at xs))) b e)
-  paren_checked (Ok u) comma s xs {b} {c} {d} e le h k o =
-      let w = no_covers (item_trees at xs) && not (is_some comma) in
+  pub paren_checked : {T : Type 0} (p : Bool) (r : Result T Error) (comma : Option Span) (s : Span)
+      (xs : List (ExprOrSpread X)) {b c d : Buffer S} (e : Buffer S) → 1 ≤ length xs
+      → Checks model (p || no_covers (item_trees at xs)) b c → Checks model (not (is_some comma)) c d
+      → OnOk r ((e ≡ d) × (no_spread (item_trees at xs) ≡ true))
+      → OnOk r (Checks model (paren_ok p (listed comma s (item_trees at xs))) b e)
+  paren_checked p (Ok u) comma s xs {b} {c} {d} e le h k o =
+      let v = p || no_covers (item_trees at xs) in
+      let w = v && not (is_some comma) in
       let P : Bool → Type 0 = λ v. Checks model v b e in
       let Q : Buffer S → Type 0 = λ v. Checks model w b v in
-      subst P (paren_is at comma s xs le o.1)
-      (subst Q (sym o.0) (checks_and (no_covers (item_trees at xs)) (not (is_some comma)) h k))
-  paren_checked (Err x) comma s xs e le h k o = tt
+      subst P (paren_is at p comma s xs le o.1) (subst Q (sym o.0) (checks_and v (not (is_some comma)) h k))
+  paren_checked p (Err x) comma s xs e le h k o = tt
 
-  pub paren_refused : {T : Type 0} (r : Result T Error) (comma : Option Span) (s : Span) (xs : List (ExprOrSpread X))
-      {b c d : Buffer S} (e : Buffer S) → Checks model (no_covers (item_trees at xs)) b c → Checks model (not (is_some comma)) c d
+  pub paren_refused : {T : Type 0} (p : Bool) (r : Result T Error) (comma : Option Span) (s : Span)
+      (xs : List (ExprOrSpread X)) {b c d : Buffer S} (e : Buffer S)
+      → Checks model (p || no_covers (item_trees at xs)) b c → Checks model (not (is_some comma)) c d
       → IfErr r (λ x. Refuses model d x e × (no_spread (item_trees at xs) ≡ false))
       → IfErr r (λ x. Refuses model b x e
-      × (x.kind ≢ OutOfMemory → paren_ok (listed comma s (item_trees at xs)) ≡ false))
-  paren_refused (Ok u) comma s xs e h k o = tt
-  paren_refused (Err x) comma s xs e h k o =
-      (refuses_later h.leads (refuses_later k.leads o.0), λ n. paren_spread at comma s xs o.1)
+      × (x.kind ≢ OutOfMemory → paren_ok p (listed comma s (item_trees at xs)) ≡ false))
+  paren_refused p (Ok u) comma s xs e h k o = tt
+  paren_refused p (Err x) comma s xs e h k o =
+      (refuses_later h.leads (refuses_later k.leads o.0), λ n. paren_spread at p comma s xs o.1)
 
 -- ---- no `=>` behind the list
 
-module _ {S F C K : Type 0} {model : Model S} {sure : Bool} (q : List TokenAndSpan → Out (Tree F C K)) where
+module _ {S F C K : Type 0} {model : Model S} {sure : Bool} (q : Scope → List TokenAndSpan → Out (Tree F C K)) where
   pub free_on : {b c : Buffer S} → On model sure arrow_free (give tt) b c
-      → On model sure (λ x ts. paren_closed q ts) (λ x ts. q ts) b c
-  free_on o = on_call (λ x p. q p.1) (λ x ts. paren_closed_splits q x ts) o
+      → On model sure (λ x ts. paren_closed (q x) ts) q b c
+  free_on o = on_call (λ x p. q x p.1) (λ x ts. paren_closed_splits (q x) x ts) o
 
   pub not_free : {b c : Buffer S} {e : Error} → Unheard model sure arrow_free b e c
-      → Unheard model sure (λ x ts. paren_closed q ts) b e c
-  not_free u = unheard_call (λ x p. q p.1) (λ x ts. paren_closed_splits q x ts) u
+      → Unheard model sure (λ x ts. paren_closed (q x) ts) b e c
+  not_free u = unheard_call (λ x p. q x p.1) (λ x ts. paren_closed_splits (q x) x ts) u

@@ -1,5 +1,5 @@
 -- Which primary expression a token begins (13.2), and what opening a literal does to the buffer.
-use Rattle.std.specs.Prelude.{◌≡◌, Bool, true, false, if◌then◌else◌, Option, Some, None}
+use Rattle.std.specs.Prelude.{◌≡◌, Bool, true, false, ◌&&◌, if◌then◌else◌, List, Option, Some, None}
 use Rattle.swc_context.specs.Contexts.{view as deciding}
 use Rattle.swc_context.specs.declared.context.Context.{Context}
 use Rattle.swc_context.specs.declared.span.BytePos.{BytePos}
@@ -18,8 +18,9 @@ use Rattle.swc_ast.specs.declared.lit.Lit.TheVariants as lit
 use Rattle.swc_ast.specs.Trees.{array_e, object_e, items_of, comma_of}
 use Rattle.swc_context.specs.Spans.{from_to}
 use Rattle.swc_bodies.specs.Readings.{is_function, is_async, is_class, is_brace}
-use Rattle.swc_grammar.specs.Tokens.{is_lparen, is_lbracket, is_backquote, is_this, begins_regex}
-use Rattle.swc_grammar.specs.Clean.{is_lit, is_identifier}
+use Rattle.swc_grammar.specs.Scope.{Scope}
+use Rattle.swc_grammar.specs.Tokens.{is_in, is_lparen, is_lbracket, is_backquote, is_this, begins_regex}
+use Rattle.swc_grammar.specs.Clean.{Out, first, is_lit, is_identifier}
 use Rattle.swc_steps.specs.Parsing.{Moves}
 use Rattle.swc_primary.specs.declared.primary.PrimaryKind.{PrimaryKind}
 use Rattle.swc_primary.specs.declared.primary.PrimaryKind.TheVariants as kind
@@ -57,6 +58,10 @@ BeginsPlain c at plain.Regex = at begins_regex ≡ true
 BeginsPlain c at plain.Other =
     (at is_this ≡ false) × (at is_async ≡ false) × (at is_function ≡ false) × (at is_lit ≡ false) × (at is_class ≡ false)
     × (at (is_identifier c) ≡ false) × (at is_hash ≡ false) × (at begins_regex ≡ false)
+
+-- `in` comes next, and is an operator
+abbrev pub in_comes : Scope → List TokenAndSpan → Out (Unit {0})
+in_comes c ts = if c.context.include_in_expr && at_token is_in (first ts) then Some (tt, ts) else None
 
 -- From b to d: the current token was consumed, which begins at lo, and then the context was set, which was ctx, to
 -- one that decides as w makes it.

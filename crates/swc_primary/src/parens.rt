@@ -1,10 +1,10 @@
 // What can't stand in parentheses by itself (ECMA-262, 13.2.9), of a list as arguments have it.
-ghost use Rattle.std.specs.Prelude.{length, ◌≡◌, ◌≢◌, ◌≤◌, true, false, not, OnOk, IfErr};
+ghost use Rattle.std.specs.Prelude.{length, ◌≡◌, ◌≢◌, ◌≤◌, true, false, not, ◌||◌, OnOk, IfErr};
 ghost use Rattle.swc_ast.specs.Parts.{item_trees};
 ghost use Rattle.swc_ast.specs.Trees.{no_cover_in, no_covers, no_spread, paren_ok};
 ghost use Rattle.swc_context.specs.declared.error.SyntaxError.TheVariants.{OutOfMemory};
 ghost use Rattle.swc_input.specs.Recording.{is_some};
-ghost use Rattle.swc_input.specs.Buffer.{to_come};
+ghost use Rattle.swc_input.specs.Buffer.{state_of, to_come};
 ghost use Rattle.swc_nodes.specs.Lists.{is_cover_prop, has_cover};
 ghost use Rattle.swc_nodes.specs.NodeParts.{expr_part, args_parts};
 ghost use Rattle.swc_nodes.specs.GrowingNodes.{Apart, From};
@@ -39,7 +39,8 @@ pub(crate) fn refuse_arrow<I: Tokens>(input: &mut Buffer<I>, list: Span) -> PRes
     Err(syntax_error(input, list, kind))
 }
 
-/// Records and refuses what can't stand in parentheses, of a list from the one at `start` on.
+/// Records and refuses what can't stand in parentheses, of a list from the one at `start` on. Where the syntax is
+/// pedantic, a property `name = value` of an object literal may stand there.
 pub(crate) fn check_paren_items<I: Tokens, B: Bodies<I>>(
     input: &mut Buffer<I>,
     nodes: &NodesOf<B>,
@@ -47,10 +48,12 @@ pub(crate) fn check_paren_items<I: Tokens, B: Bodies<I>>(
     list: &Listed<ExprOrSpread<ExprId>>,
 ) -> PResult<()>
     requires { Apart 0 nodes.now (args_parts list.now.items) }
-    ensures checks { OnOk result (Checks I.model (paren_ok (args_at nodes.now list.now)) input.old input.new) }
+    ensures checks { OnOk result (Checks I.model
+        (paren_ok (state_of I.model input.old).syntax.pedantic (args_at nodes.now list.now)) input.old input.new) }
     ensures some { OnOk result (1 ≤ length list.now.items.items) }
     ensures refuses { IfErr result (λ e. Refuses I.model input.old e input.new
-        × (e.kind ≢ OutOfMemory → paren_ok (args_at nodes.now list.now) ≡ false)) }
+        × (e.kind ≢ OutOfMemory
+        → paren_ok (state_of I.model input.old).syntax.pedantic (args_at nodes.now list.now) ≡ false)) }
     ensures falls { OnOk result (to_come I.model input.new ≤ to_come I.model input.old) }
 {
     check_item_covers::<I, B>(input, nodes, &list.items)?;
@@ -62,7 +65,8 @@ pub(crate) fn check_paren_items<I: Tokens, B: Bodies<I>>(
     refuse_spread::<I, B>(input, nodes, &list.items)
 }
 
-/// Records each property `name = value` of the object literals among the items of a list, in their order.
+/// Records each property `name = value` of the object literals among the items of a list, in their order. Where the
+/// syntax is pedantic, none is recorded.
 #[inline(never)]
 pub fn check_item_covers<I: Tokens, B: Bodies<I>>(
     input: &mut Buffer<I>,
@@ -70,10 +74,14 @@ pub fn check_item_covers<I: Tokens, B: Bodies<I>>(
     items: &Vec<ExprOrSpread<ExprId>>,
 ) -> PResult<()>
     requires { Apart 0 nodes.now (args_parts items.now) }
-    ensures checks { Checked I.model (no_covers (item_trees (tree_of nodes.now) items.now.items))
-        input.old result input.new }
+    ensures checks { Checked I.model ((state_of I.model input.old).syntax.pedantic
+        || no_covers (item_trees (tree_of nodes.now) items.now.items)) input.old result input.new }
     ensures falls { OnOk result (to_come I.model input.new ≤ to_come I.model input.old) }
 {
+    let syntax = input.syntax();
+    if syntax.pedantic {
+        return Ok(());
+    }
     for item in items {
         check_cover_names::<I, B>(input, nodes, item.expr)?;
     }

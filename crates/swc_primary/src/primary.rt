@@ -1,11 +1,12 @@
 // Expressions (ECMA-262, 13).
 ghost use Rattle.std.specs.Prelude.{ℕ, ◌≡◌, ◌<◌, ◌≤◌, true, false, not, ◌&&◌, Some, map, OnOk, IfOk, IsSome};
-ghost use Rattle.swc_input.specs.Buffer.{current, to_come, context};
+ghost use Rattle.swc_ast.specs.Trees.{private_e};
+ghost use Rattle.swc_input.specs.Buffer.{current, to_come, context, state_of};
 ghost use Rattle.swc_input.specs.Plain.{plain_token};
 ghost use Rattle.swc_input.specs.Kinds.{at_token, is_hash};
 ghost use Rattle.swc_input.specs.declared.token.Token.TheVariants as token;
 ghost use Rattle.swc_grammar.specs.Symbols.{Primary, Literal};
-ghost use Rattle.swc_grammar.specs.Tokens.{is_this, may_be_reference};
+ghost use Rattle.swc_grammar.specs.Tokens.{is_in, is_this, may_be_reference};
 ghost use Rattle.swc_grammar.specs.Names.{may_refer};
 ghost use Rattle.swc_grammar.specs.Words.{word};
 ghost use Rattle.swc_bodies.specs.Readings.{at_function, is_class};
@@ -14,18 +15,18 @@ ghost use Rattle.swc_grammar.specs.Clean.{sym, run, is_lit};
 ghost use Rattle.swc_nodes.specs.NodeParts.{args_parts};
 ghost use Rattle.swc_nodes.specs.GrowingNodes.{count, first_start, last_end, Apart};
 ghost use Rattle.swc_steps.specs.Args.{paren_from, paren_closed};
-ghost use Rattle.swc_steps.specs.Readers.{by_production, named_expr};
+ghost use Rattle.swc_steps.specs.Readers.{by_production, named_expr, private_operand};
 ghost use Rattle.swc_steps.specs.Parsing.{lit_in, seen, Here, ParsesAlone, Produces, GoesOn, Checked, Refuses};
-ghost use Rattle.swc_steps.specs.Parsing.{TookLiteral, Parses, by_hook};
+ghost use Rattle.swc_steps.specs.Parsing.{ContinuesAlone, TookLiteral, Parses, by_hook};
 ghost use Rattle.swc_steps.specs.Parsing.{itself, tree_of, args_at, ident_spelling};
-ghost use Rattle.swc_primary.specs.Openings.{primary_kind, literal, BeginsPlain};
+ghost use Rattle.swc_primary.specs.Openings.{in_comes, primary_kind, literal, BeginsPlain};
 ghost use Rattle.swc_primary.specs.declared.primary.PrimaryKind.TheVariants.{Plain};
 ghost use Rattle.swc_primary.specs.declared.primary.PlainKind.TheVariants.{Function, Class};
 
 use crate::parens::{check_paren_items, refuse_arrow};
 use std::alloc::Global;
 use swc_ast::expr::ExprOrSpread;
-use swc_ast::ident::Ident;
+use swc_ast::ident::{Ident, IdentName, PrivateName};
 use swc_ast::lit::{BigInt, Bool, Lit, Null, Num, Str};
 use swc_bodies::bodies::Bodies;
 use swc_context::context::Context;
@@ -40,8 +41,9 @@ use swc_nodes::node::ExprId;
 use swc_steps::productions::{Productions, is_identifier_word, is_strict_word};
 use swc_steps::regex::parse_regex;
 use swc_steps::tokens::{
-    Listed, Sign, answered, bump, copy_of, emit_strict_mode_err, is_async_function, is_sign, look,
-    parse_ident_name, parse_ident_ref, require_cur, skip, syntax_error, unexpected,
+    Listed, Sign, answered, bump, copy_of, emit_err, emit_strict_mode_err, is_async_function,
+    is_sign, look, parse_ident_name, parse_ident_ref, parse_private_name, require_cur, skip,
+    syntax_error, unexpected,
 };
 
 /// An element of an array literal, or a hole.
@@ -132,7 +134,8 @@ fn word_kind(ctx: Context, word: &Word) -> PlainKind
 
 /// A primary expression in which no other stands (ECMA-262, 13.2): `this`, a function, a literal, a class, an
 /// identifier, `#` and a name, or a regular expression. Another token is refused as `TS1109`, at that token. `async`
-/// is an identifier, unless `function` stands behind it on its line.
+/// is an identifier, unless `function` stands behind it on its line. Where the syntax is pedantic, `#` and a name are
+/// recorded as `PrivateNameNotLeftOfIn`.
 #[inline(never)]
 pub fn parse_plain_primary<I: Tokens, B: Bodies<I>>(p: &mut Productions<I, B>) -> PResult<ExprId>
     requires looked { Here I.model p.old.input p.old.input }
@@ -274,12 +277,18 @@ pub fn parse_reference<I: Tokens>(alloc: Global, input: &mut Buffer<I>) -> PResu
     Ok(ident)
 }
 
-/// `#` and a name, as an expression (ECMA-262, 13.10.1).
+/// `#` and a name, as an expression (ECMA-262, 13.10.1). Where the syntax is pedantic, they are no expression: they are
+/// recorded as `PrivateNameNotLeftOfIn`, from the `#` through the name; or, where the name doesn't begin where the `#`
+/// ends, refused as `SpaceBetweenHashAndIdent`, at the `#`, which alone is consumed.
 pub fn parse_private_expr<I: Tokens, B: Bodies<I>>(p: &mut Productions<I, B>) -> PResult<ExprId>
     requires { at_token is_hash (seen p.old.input) ≡ true }
     ensures { Produces I.model B.is_faithful itself tree_of (by_production B.forms (λ c. grammar.private-expr))
         (count p.old.nodes) p.old result p.new }
 {
+    let syntax = p.input.syntax();
+    if syntax.pedantic {
+        return parse_lone_private(p);
+    }
     let start = p.cur_span().lo;
     skip(&mut p.input);
     let name = parse_ident_name(p.alloc, &mut p.input)?;
@@ -287,9 +296,93 @@ pub fn parse_private_expr<I: Tokens, B: Bodies<I>>(p: &mut Productions<I, B>) ->
     p.made(node)
 }
 
+/// The same where the syntax is pedantic, so that a fault is recorded or refused.
+#[inline(never)]
+fn parse_lone_private<I: Tokens, B: Bodies<I>>(p: &mut Productions<I, B>) -> PResult<ExprId>
+    requires { (state_of I.model p.old.input).syntax.pedantic ≡ true }
+    ensures { Produces I.model B.is_faithful itself tree_of (by_production B.forms (λ c. grammar.private-expr))
+        (count p.old.nodes) p.old result p.new }
+{
+    let (name, _end) = parse_private_name(p.alloc, &mut p.input)?;
+    emit_lone_private(&mut p.input, name.span)?;
+    private_node(p, name)
+}
+
+/// Whether `#` is current, the syntax is pedantic, and no operator before it takes what it begins: then a private name is
+/// read as the left operand of an `in`.
+pub fn begins_private<I: Tokens>(input: &Buffer<I>, is_free: bool) -> bool
+    ensures value { result ≡ (is_free && ((state_of I.model input.now).syntax.pedantic
+        && at_token is_hash (seen input.now))) }
+    ensures hash { result ≡ true → at_token is_hash (seen input.now) ≡ true }
+{
+    if !is_free {
+        return false;
+    }
+    let syntax = input.syntax();
+    syntax.pedantic && is_sign(input, Sign::Hash)
+}
+
+/// `#` and a name as the left operand of `in` (ECMA-262, 13.10.1), which stays. Where another token stands behind them,
+/// or `in` is no operator, they are recorded as `PrivateNameNotLeftOfIn`, from the `#` through the name; where the name
+/// doesn't begin where the `#` ends, refused as `SpaceBetweenHashAndIdent`, at the `#`, which alone is consumed.
+#[inline(never)]
+pub fn parse_private_operand<I: Tokens, B: Bodies<I>>(p: &mut Productions<I, B>) -> PResult<ExprId>
+    requires { at_token is_hash (seen p.old.input) ≡ true }
+    ensures { Produces I.model B.is_faithful itself tree_of (private_operand B.forms)
+        (count p.old.nodes) p.old result p.new }
+{
+    let (name, _end) = parse_private_name(p.alloc, &mut p.input)?;
+    check_before_in(&mut p.input, name.span)?;
+    private_node(p, name)
+}
+
+/// Records the private name at the place `name`, unless `in` is current and an operator.
+fn check_before_in<I: Tokens>(input: &mut Buffer<I>, name: Span) -> PResult<()>
+    ensures checks { ContinuesAlone I.model (λ u. u) in_comes input.old result input.new }
+    ensures falls { OnOk result (to_come I.model input.new ≤ to_come I.model input.old) }
+{
+    look(input)?;
+    if is_in_operator(input) {
+        return Ok(());
+    }
+    emit_lone_private(input, name)
+}
+
+/// Whether `in` is current, and an operator.
+fn is_in_operator<I: Tokens>(input: &Buffer<I>) -> bool
+    ensures { result ≡ ((context I.model input.now).include_in_expr && at_token is_in (seen input.now)) }
+{
+    match input.cur_debug() {
+        Some(Token::Word(Word::Keyword(Keyword::In))) => input.get_ctx().include_in_expr,
+        _ => false,
+    }
+}
+
+/// Records the private name at the place `name`, which is no left operand of `in`.
+fn emit_lone_private<I: Tokens>(input: &mut Buffer<I>, name: Span) -> PResult<()>
+    ensures checks { Checked I.model false input.old result input.new }
+    ensures falls { OnOk result (to_come I.model input.new ≤ to_come I.model input.old) }
+{
+    emit_err(input, name.in_order(), SyntaxError::PrivateNameNotLeftOfIn)
+}
+
+/// The node of a private name.
+fn private_node<I: Tokens, B: Bodies<I>>(
+    p: &mut Productions<I, B>,
+    name: PrivateName,
+) -> PResult<ExprId>
+    ensures { GoesOn I.model B.is_faithful itself tree_of (λ c ts. Some (private_e name.span name.name, ts))
+        (count p.old.nodes) p.old result p.new }
+{
+    let PrivateName { span, name: sym } = name;
+    let node = p.nodes.private_expr(span.lo, IdentName { span, sym });
+    p.made(node)
+}
+
 /// What stands in parentheses, of a list from the one at `start` on: one expression by itself, or a sequence. A `=>`
-/// behind the list is refused first. An object literal among the items with a property `name = value` is recorded, and
-/// so is a comma behind the last one; an empty list is refused, and so is an expression behind dots.
+/// behind the list is refused first. An object literal among the items with a property `name = value` is recorded,
+/// unless the syntax is pedantic. A comma behind the last item is recorded; an empty list is refused, and so is an
+/// expression behind dots.
 #[inline(never)]
 pub fn paren_items<I: Tokens, B: Bodies<I>>(
     p: &mut Productions<I, B>,
@@ -299,7 +392,7 @@ pub fn paren_items<I: Tokens, B: Bodies<I>>(
     requires apart { Apart 0 p.old.nodes (args_parts list.items) }
     ensures { (k : ℕ) → Apart k p.old.nodes (args_parts list.items) → GoesOn I.model B.is_faithful itself tree_of
         (λ c ts. paren_closed (paren_from (first_start p.old.nodes (map (λ item. item.expr) list.items.items))
-        (last_end p.old.nodes (map (λ item. item.expr) list.items.items)) start
+        (last_end p.old.nodes (map (λ item. item.expr) list.items.items)) c start
         (args_at p.old.nodes list)) ts) k p.old result p.new }
 {
     refuse_arrow(&mut p.input, Span::new(start.lo, list.end.hi))?;

@@ -3,3 +3,4 @@ pub mod ArrowBodies
 pub mod ArrowOrAssign
 pub mod ByThemselves
 pub mod InnerCalls
+pub mod Recovered

@@ -11,6 +11,7 @@ use swc_bodies::bodies::Bodies;
 use swc_context::error::PResult;
 use swc_context::span::Span;
 use swc_input::tokens::Tokens;
+use swc_left::args::check_import_args;
 use swc_nodes::node::ExprId;
 use swc_steps::productions::Productions;
 use swc_steps::tokens::{Listed, Sign, expect};
@@ -24,8 +25,10 @@ pub fn parse_arguments<I: Tokens, B: Bodies<I>>(
     ensures { Produces I.model B.is_faithful args_of args_at (run B.forms (sym (Arguments is_dynamic_import)))
         (count p.old.nodes) p.old result p.new }
 {
-    expect(&mut p.input, Sign::LParen)?;
-    parse_args(p, is_dynamic_import)
+    let open = expect(&mut p.input, Sign::LParen)?;
+    let list = parse_args(p, is_dynamic_import)?;
+    check_import_args(&mut p.input, open.lo, &list, is_dynamic_import)?;
+    Ok(list)
 }
 
 /// A template (ECMA-262, 13.2.8), of which no node is made. Where it `is_tagged`, a text may have a bad escape.

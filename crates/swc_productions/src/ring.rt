@@ -1,5 +1,5 @@
 // The ring: the productions that call one another back (ECMA-262, 13), in the order of the standard.
-ghost use Rattle.std.specs.Prelude.{ℕ, ◌≡◌, ◌<◌, true, false, not, ◌&&◌, None, Some, IsSome};
+ghost use Rattle.std.specs.Prelude.{ℕ, ◌≢◌, ◌≡◌, ◌<◌, true, false, not, ◌&&◌, None, Some, IsSome};
 ghost use Rattle.swc_arrows.specs.Answers.{body_at, body_of, MayBeArrow, MayBeOperand, ReadsArrow};
 ghost use Rattle.swc_arrows.specs.Readers.{arrow_behind};
 ghost use Rattle.swc_nodes.specs.Lists.{pats_parts, pat_trees};
@@ -25,9 +25,11 @@ ghost use Rattle.swc_operators.specs.Assignments.{assigns_from, yield_expr};
 ghost use Rattle.swc_operators.specs.Pending.{pending_reads};
 ghost use Rattle.swc_primary.specs.Methods.{method_function, method_shell};
 ghost use Rattle.swc_steps.specs.Args.{args_inside};
+ghost use Rattle.swc_steps.specs.Readers.{operand};
 ghost use Rattle.swc_steps.specs.Parsing.{seen, Here, Produces, GoesOn, itself, tree_of, item_of, item_at, elems_of};
 ghost use Rattle.swc_steps.specs.Parsing.{elems_at, key_of, key_at, prop_of, prop_at, props_of, props_at, args_of};
-ghost use Rattle.swc_steps.specs.Parsing.{args_at, shell_at};
+ghost use Rattle.swc_steps.specs.Parsing.{args_at, shell_at, Consumes, Recovers};
+ghost use Rattle.swc_context.specs.declared.error.SyntaxError.TheVariants.{ParserFailed};
 
 use swc_arrows::bodies::ArrowOrBase;
 use swc_arrows::bodies::arrow_function;
@@ -54,7 +56,9 @@ use swc_ast::prop::PropName;
 use swc_ast::spanned::Spanned;
 use swc_bodies::bodies::Bodies;
 use swc_context::context::Context;
+use swc_context::error::Error;
 use swc_context::error::PResult;
+use swc_context::span::BytePos;
 use swc_context::span::Span;
 use swc_input::tokens::Tokens;
 use swc_left::args::separate_args;
@@ -62,6 +66,7 @@ use swc_left::base::ImportHead;
 use swc_left::base::SuperChain;
 use swc_left::base::SuperHead;
 use swc_left::base::callee_call;
+use swc_left::base::import_call;
 use swc_left::base::import_head;
 use swc_left::base::import_meta;
 use swc_left::base::parse_super_name;
@@ -108,6 +113,7 @@ use swc_operators::ops::join_operands;
 use swc_operators::ops::next_operator;
 use swc_operators::ops::parse_await_ident;
 use swc_operators::ops::parse_update_postfix;
+use swc_operators::ops::private_may_follow;
 use swc_operators::ops::recover_left;
 use swc_operators::ops::take_operator;
 use swc_operators::ops::unary_expr;
@@ -153,8 +159,10 @@ use swc_primary::object::parse_prop_head;
 use swc_primary::object::spread_prop;
 use swc_primary::primary::Elem;
 use swc_primary::primary::PrimaryKind;
+use swc_primary::primary::begins_private;
 use swc_primary::primary::paren_items;
 use swc_primary::primary::parse_plain_primary;
+use swc_primary::primary::parse_private_operand;
 use swc_primary::primary::primary_kind;
 use swc_steps::productions::Productions;
 use swc_steps::tokens::Listed;
@@ -611,8 +619,9 @@ pub fn parse_base<I: Tokens, B: Bodies<I>>(
     match import_head(p, start, no_call)? {
         ImportHead::Meta(span) => import_meta(p, span),
         ImportHead::Call(import) => {
+            let open = p.prev_span().lo;
             let list = parse_args(p, true)?;
-            callee_call(p, start, Callee::Import(import), list)
+            import_call(p, start, import, open, list)
         }
     }
 }
@@ -668,16 +677,33 @@ pub fn parse_bin_expr<I: Tokens, B: Bodies<I>>(p: &mut Productions<I, B>) -> PRe
         (count p.old.nodes) p.old result p.new }
 {
     let first = cur_pos(&mut p.input)?;
-    let mut pending = PendingOperators::new(p.alloc);
-    match parse_unary_expr(p) {
-        Ok(left) => parse_operators(p, pending, left),
-        Err(error) => {
-            let (left, op) = recover_left(p, error, first)?;
-            take_operator(p, &mut pending, left, op)?;
-            let right = parse_unary_expr(p)?;
-            parse_operators(p, pending, right)
+    match parse_operand(p, true) {
+        Ok(left) => {
+            let pending = PendingOperators::new(p.alloc);
+            parse_operators(p, pending, left)
         }
+        Err(error) => recover_operators(p, error, first),
     }
+}
+
+/// Reads on where the left operand of a binary operator, which begins at `first`, was refused, if an operator follows:
+/// that is recorded, and `Invalid` stands in for the operand. Elsewhere the refusal stands, and so does want of memory.
+#[cycle(productions)]
+#[inline(never)]
+fn recover_operators<I: Tokens, B: Bodies<I>>(
+    p: &mut Productions<I, B>,
+    error: Error,
+    first: BytePos,
+) -> PResult<ExprId>
+    requires { error.kind ≢ ParserFailed }
+    ensures { Recovers I.model itself (Consumes I.model) error.kind p.old result p.new }
+{
+    let mut pending = PendingOperators::new(p.alloc);
+    let (left, op) = recover_left(p, error, first)?;
+    take_operator(p, &mut pending, left, op)?;
+    let is_free = private_may_follow(&pending);
+    let right = parse_operand(p, is_free)?;
+    parse_operators(p, pending, right)
 }
 
 /// Reads on behind the operand `left`, the right one of the operator on top, through all operators (ECMA-262, 13.6 to
@@ -699,7 +725,8 @@ fn parse_operators<I: Tokens, B: Bodies<I>>(
         match next_operator(&mut p.input, pending.min_prec())? {
             Some(op) => {
                 take_operator(p, &mut pending, left, op)?;
-                left = parse_unary_expr(p)?;
+                let is_free = private_may_follow(&pending);
+                left = parse_operand(p, is_free)?;
             }
             None => {
                 check_nullish_left::<I, B>(&mut p.input, &p.nodes, left)?;
@@ -710,6 +737,26 @@ fn parse_operators<I: Tokens, B: Bodies<I>>(
             }
         }
     }
+}
+
+/// An operand of a binary operator: a unary expression; or, where the syntax is pedantic, a `#` and a name that are the
+/// left operand of an `in` (ECMA-262, 13.10.1), if no operator before them takes them, so that they are free. Where no
+/// `in` follows, that is recorded, and they are read on from as any primary expression is.
+#[cycle(productions)]
+fn parse_operand<I: Tokens, B: Bodies<I>>(
+    p: &mut Productions<I, B>,
+    is_free: bool,
+) -> PResult<ExprId>
+    ensures { Produces I.model B.is_faithful itself tree_of (operand B.forms is_free)
+        (count p.old.nodes) p.old result p.new }
+{
+    look(&mut p.input)?;
+    if begins_private(&p.input, is_free) {
+        let name = parse_private_operand(p)?;
+        let callee = parse_subscripts(p, name, false)?;
+        return parse_update_postfix(p, callee);
+    }
+    parse_unary_expr(p)
 }
 
 /// A unary expression (ECMA-262, 13.5): `++`, `--`, another prefix operator or `await`, and its operand; or a
@@ -844,17 +891,14 @@ fn parse_arrow_or_assign<I: Tokens, B: Bodies<I>>(p: &mut Productions<I, B>) -> 
         (count p.old.nodes) p.old result p.new }
 {
     let first = p.cur_span().lo;
-    let mut pending = PendingOperators::new(p.alloc);
     let read = match parse_arrow_or_operand(p) {
         Ok(read) => read,
         Err(error) => {
-            let (left, op) = recover_left(p, error, first)?;
-            take_operator(p, &mut pending, left, op)?;
-            let right = parse_unary_expr(p)?;
-            let left = parse_operators(p, pending, right)?;
+            let left = recover_operators(p, error, first)?;
             return finish_assignment_expr(p, left);
         }
     };
+    let pending = PendingOperators::new(p.alloc);
     match read {
         ArrowOrBase::Arrow(arrow) => Ok(arrow),
         ArrowOrBase::Base(operand) => {

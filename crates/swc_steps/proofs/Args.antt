@@ -224,13 +224,13 @@ module _ {F C K : Type 0} (hook : Hook F C K) where
   both_tests false false o = refl
 
   -- no `=>` comes next
-  apart_closes : (s : Span) (es : Tree F C K) (us : List TokenAndSpan)
-      → (if paren_ok es then (if sees (λ t. is_arrow t.token) us then None else
+  apart_closes : (c : Scope) (s : Span) (es : Tree F C K) (us : List TokenAndSpan)
+      → (if paren_ok c.syntax.pedantic es then (if sees (λ t. is_arrow t.token) us then None else
       Some (paren_e (to s (span_of es)) (seq_of (held_exprs (items_of es))), us)) else None)
-      ≡ paren_closed (paren_of s es) us
-  apart_closes s es [] = refl
-  apart_closes s es (u ∷ us) =
-      both_tests (paren_ok es) (is_arrow u.token)
+      ≡ paren_closed (paren_of c s es) us
+  apart_closes c s es [] = refl
+  apart_closes c s es (u ∷ us) =
+      both_tests (paren_ok c.syntax.pedantic es) (is_arrow u.token)
       (Some (paren_e (to s (span_of es)) (seq_of (held_exprs (items_of es))), u ∷ us))
 
   pub paren_expr_opens : (t : TokenAndSpan) (x : Scope) (ts : List TokenAndSpan) → is_lparen t.token ≡ true
@@ -238,9 +238,9 @@ module _ {F C K : Type 0} (hook : Hook F C K) where
   unfolding by_production_apart paren_expr_tail args_inside reading
   paren_expr_opens t x ts h =
       rw h (calls (run hook (at (Args false)) (with_in x) ts) _
-      ∙ bind_same (run hook (at (Args false)) (with_in x) ts) _ _ (λ p. apart_closes t.span p.0 p.1))
+      ∙ bind_same (run hook (at (Args false)) (with_in x) ts) _ _ (λ p. apart_closes x t.span p.0 p.1))
 
   pub paren_expr_splits : (s : Span) (x : Scope) (ts : List TokenAndSpan)
-      → paren_expr_tail hook s x ts ≡ (args_inside hook false x ts >>= (λ p. paren_closed (paren_of s p.0) p.1))
+      → paren_expr_tail hook s x ts ≡ (args_inside hook false x ts >>= (λ p. paren_closed (paren_of x s p.0) p.1))
   unfolding paren_expr_tail
   paren_expr_splits s x ts = refl

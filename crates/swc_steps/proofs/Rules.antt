@@ -1,7 +1,7 @@
 -- What the clean parser reads, a step at a time, as the code goes it.
 use Rattle.std.proofs.Common.{◌≡◌, ℕ, suc, ◌≤◌, ◌<◌, Bool, true, false, not, codes, ◌||◌, ◌&&◌, if◌then◌else◌, List}
 use Rattle.std.proofs.Common.{[], ◌∷◌, Option, Some, None, refl, sym, ap, ◌∙◌, arith}
-use Rattle.std.specs.Prelude.{nat_le}
+use Rattle.std.specs.Prelude.{nat_le, nat_lt}
 use Rattle.std.proofs.lemmas.Bool.{le-leb, lt-leb}
 use Rattle.swc_context.specs.Operators.{precedence_of}
 use Rattle.swc_context.specs.Texts.{is_text}
@@ -10,6 +10,7 @@ use Rattle.swc_context.specs.Words.{word_text}
 use Rattle.swc_context.specs.declared.context.Context.{Context}
 use Rattle.swc_context.specs.declared.operator.BinaryOp.{BinaryOp}
 use Rattle.swc_context.specs.declared.operator.UnaryOp.{UnaryOp}
+use Rattle.swc_context.specs.declared.span.BytePos.{BytePos}
 use Rattle.swc_context.specs.declared.span.Span.{Span}
 use Rattle.swc_context.specs.declared.word.Keyword.TheVariants as keyword
 use Rattle.swc_context.specs.declared.word.Word.{Word}
@@ -30,28 +31,29 @@ use Rattle.swc_bodies.specs.Readings.{is_brace, is_function_here}
 use Rattle.swc_grammar.specs.Symbols.{Assign, Level, Unary, Primary, Literal, Template, Side, function, class}
 use Rattle.swc_grammar.specs.Tokens.{is_backquote, is_slash, is_regex, begins_regex, with_in, is_reference}
 use Rattle.swc_grammar.specs.Tokens.{is_strict_word, ref_ok, is_put_off, prefix_of, is_lparen, is_this, is_lbracket}
-use Rattle.swc_grammar.specs.Tokens.{is_update, is_await, tk}
-use Rattle.swc_grammar.specs.Names.{Spelling, spelling, may_refer, may_name, spelled}
-use Rattle.swc_grammar.specs.Parts.{reference, any_name, lit_of, with_place, prefix_here}
+use Rattle.swc_grammar.specs.Tokens.{is_update, is_await, tk, is_in}
+use Rattle.swc_grammar.specs.Names.{Spelling, spelling, may_refer, may_name, spelled, is_joined}
+use Rattle.swc_grammar.specs.Parts.{reference, any_name, lit_of, with_place, prefix_here, private_ok}
 use Rattle.swc_grammar.specs.Grammar.{ident-expr, this-expr, primary-literal, fn-expr, class-expr, paren-expr}
 use Rattle.swc_grammar.specs.Grammar.{unary-op, private-expr, primary-template, async-ident}
 use Rattle.swc_grammar.specs.Clean.{Out, and_then, hear_then, first, sym as at, climb, plan, exec, is_lit}
-use Rattle.swc_grammar.specs.Clean.{is_identifier, no_error, operator_at, prefix_at, pick, chosen, step}
+use Rattle.swc_grammar.specs.Clean.{is_identifier, no_error, operator_at, prefix_at, pick, chosen, step, begins_private, links, updates, Plan, private_operand as private_plan}
 use Rattle.swc_grammar.specs.Clean.{primary, bin_op as bin_op_plan, turn as turn_plan, turned as turned_plan, run}
 use Rattle.swc_grammar.specs.Words.{◌>>=◌, rest, one, word}
 use Rattle.swc_grammar.proofs.Answers.{both}
 use Rattle.swc_grammar.proofs.Bodies.{hears, hears-place, hears-run}
-use Rattle.swc_grammar.proofs.Complete.{last, lit-picks, fn-picks, class-picks}
+use Rattle.swc_grammar.proofs.Complete.{last, lit-picks, fn-picks, class-picks, private-refused}
 use Rattle.swc_grammar.proofs.Knot.{knot}
 use Rattle.swc_grammar.proofs.Levels.{right-low}
 use Rattle.swc_grammar.proofs.Only.{backquote-is, hash-is, lparen-is, this-is}
 use Rattle.swc_grammar.proofs.Rules.{exec-bind, run_picked}
 use Rattle.swc_steps.proofs.Lists.{calls}
+use Rattle.swc_steps.specs.Args.{hash_by, hash_name}
 use Rattle.swc_steps.proofs.Steps.Inner.{inner_is}
 use Rattle.swc_steps.specs.Parsing.{is_strict, is_strict_in, begins_async, seen_of}
 use Rattle.swc_steps.specs.Readers.{reading, by_production, by_production_apart, named_expr, inside}
 use Rattle.swc_steps.specs.Readers.{private_expr_tail, unary_op_tail, unary_op_node}
-use Rattle.swc_steps.specs.Readers.{unary_op, turn, bin_op, bin_op_node, turned, go_on}
+use Rattle.swc_steps.specs.Readers.{unary_op, turn, bin_op, bin_op_node, turned, go_on, operand, private_operand, before_in, behind_operand, is_private_here}
 
 error_no : (t : Token) → no_error t ≡ false → is_lit t ≡ false
 error_no (token.Error e) h = refl
@@ -148,6 +150,23 @@ pub named_splits : {F C K : Type 0} (x : Scope) (ts : List TokenAndSpan)
     → named_expr {F = F} {C = C} {K = K} x ts ≡ (word may_refer x ts >>= (λ p. Some (ident_e p.0.at p.0.text, p.1)))
 unfolding named_expr
 named_splits x ts = refl
+
+if_on : {A : Type 0} (b : Bool) (x y : A) → b ≡ true → (if b then x else y) ≡ x
+if_on b x y h = rw h refl
+
+if_off : {A : Type 0} (b : Bool) (x y : A) → b ≡ false → (if b then x else y) ≡ y
+if_off b x y h = rw h refl
+
+and_false : (b : Bool) → (b && false) ≡ false
+and_false true = refl
+and_false false = refl
+
+-- where no `#` stands that is free
+not_private : (f p h i : Bool) → (f && (p && h)) ≡ false → (h && (f && (p && i))) ≡ false
+not_private f p false i z = refl
+not_private false p true i z = refl
+not_private true false true i z = refl
+not_private true true true i z = absurd cc
 
 module _ {F C K : Type 0} (hook : Hook F C K) where
   -- what a call read, and what reads as what is run behind it does
@@ -438,17 +457,169 @@ module _ {F C K : Type 0} (hook : Hook F C K) where
 
   -- ---- binary operators (13.6 to 13.13)
 
-  pub operand_splits : (m : ℕ) (x : Scope) (ts : List TokenAndSpan) → m ≤ 10
+  -- behind `#` and a name no link stands before `in`, and no `++` or `--`
+  private_stays : (e : Tree F C K) (x : Scope) (ts : List TokenAndSpan) → at_token is_in (first ts) ≡ true
+      → behind_operand hook e x ts ≡ Some (e, ts)
+  unfolding behind_operand
+  private_stays e x [] h = absurd cc
+  private_stays e x (t ∷ ts) h = by-token t.token t.had_line_break t.span h
+    where
+      by-token : (v : Token) (b : Bool) (s : Span) → is_in v ≡ true
+          → (run hook (links true e) (inner x) (tk v b s ∷ ts) >>= (λ p. run hook (updates p.0) (inner x) p.1))
+          ≡ Some (e, tk v b s ∷ ts)
+      by-token (token.Word (written.Keyword keyword.In)) b s h =
+          let us = tk (token.Word (written.Keyword keyword.In)) b s ∷ ts in
+          ap (λ o. o >>= (λ p. run hook (updates p.0) (inner x) p.1)) (knot hook (links true e) (inner x) us)
+          ∙ knot hook (updates e) (inner x) us
+      by-token v b s h = absurd cc
+
+  -- what the code reads as `#` and a name, of a token behind the `#` at s
+  abbrev joined_by : Span → Bool → Option Spelling → List TokenAndSpan → Out (Spelling × BytePos)
+  joined_by s j o us =
+      if j then (one o us >>= (λ r. Some ((spelling r.0.text (to s r.0.at), r.0.at.hi), r.1))) else None
+
+  abbrev named_by : Span → Bool → Option Spelling → Scope → List TokenAndSpan → Out (Tree F C K)
+  named_by s j o x us = joined_by s j o us >>= (λ p. before_in hook p.0.0 x p.1)
+
+  abbrev climbs : ℕ → Scope → Out (Tree F C K) → Out (Tree F C K)
+  climbs m x o = o >>= (λ p. behind_operand hook p.0 x p.1) >>= (λ p. run hook (climb p.0 m) (inner x) p.1)
+
+  -- where no `in` follows, it is nothing
+  none_by : (m : ℕ) (s : Span) (x : Scope) (us : List TokenAndSpan) → at_token is_in (first us) ≡ false → (j : Bool)
+      (o : Option Spelling) → None ≡ climbs m x (named_by s j o x us)
+  none_by m s x us i false o = refl
+  none_by m s x us i true None = refl
+  none_by m s x us i true (Some n) = rw (i, and_false x.context.include_in_expr) refl
+
+  none_named : (m : ℕ) (x : Scope) (a b : TokenAndSpan) (us : List TokenAndSpan) → is_hash a.token ≡ true
+      → at_token is_in (first us) ≡ false
+      → None ≡ climbs m x (hash_by x (Some a) (b ∷ us) >>= (λ p. before_in hook p.0.0 x p.1))
+  unfolding word
+  none_named m x a b us h i =
+      rw h (none_by m a.span x us i (is_joined a.span b.span) (spelled (may_name x.context) b.token b.span))
+
+  -- where one follows, it is what the plan reads
+  abbrev climb_from : ℕ → Scope → Tree F C K → Plan F C K (Tree F C K)
+  climb_from m x e = read (climb e m) (inner x) (λ v. gives v)
+
+  named_same : (m : ℕ) (s place : Span) (text : List ℕ) (x : Scope) (us : List TokenAndSpan) → x.syntax.pedantic ≡ true
+      → at_token is_in (first us) ≡ true
+      → exec hook (run hook) None (check (private_ok x s place) (climb_from m x (private_e (to s place) text))) us
+      ≡ climbs m x (named_by s (is_joined s place) (Some (spelling text place)) x us)
+  named_same m s place text x us p i = by-join (is_joined s place) refl
+    where
+      e : Tree F C K
+      e = private_e (to s place) text
+
+      read_on : Out (Tree F C K)
+      read_on = exec hook (run hook) None (climb_from m x e) us
+
+      tested : Bool → Out (Tree F C K)
+      tested v = if v then read_on else None
+
+      before : Bool → Out (Tree F C K)
+      before v = climbs m x (if v then Some (e, us) else None)
+
+      by-in : (v : Bool) → x.context.include_in_expr ≡ v → is_joined s place ≡ true → tested (private_ok x s place)
+          ≡ before (x.context.include_in_expr && at_token is_in (first us))
+      by-in false k j =
+          ap tested (ap (λ v. x.syntax.pedantic && (v && is_joined s place)) k ∙ and_false x.syntax.pedantic)
+          ∙ sym (ap (λ v. before (v && at_token is_in (first us))) k)
+      by-in true k j =
+          ap tested (ap (λ v. x.syntax.pedantic && (v && is_joined s place)) k
+          ∙ ap (λ v. x.syntax.pedantic && v) j ∙ ap (λ v. v && true) p)
+          ∙ last hook None (climb e m) (inner x) us refl
+          ∙ sym (ap (λ o. o >>= (λ q. run hook (climb q.0 m) (inner x) q.1)) (private_stays e x us i))
+          ∙ sym (ap (λ v. before (v && at_token is_in (first us))) k ∙ ap before i)
+
+      by-join : (j : Bool) → is_joined s place ≡ j → tested (private_ok x s place)
+          ≡ climbs m x (named_by s (is_joined s place) (Some (spelling text place)) x us)
+      by-join false j =
+          ap tested (ap (λ v. x.syntax.pedantic && (x.context.include_in_expr && v)) j
+          ∙ ap (λ v. x.syntax.pedantic && v) (and_false x.context.include_in_expr) ∙ and_false x.syntax.pedantic)
+          ∙ sym (ap (λ v. climbs m x (named_by s v (Some (spelling text place)) x us)) j)
+      by-join true j =
+          by-in x.context.include_in_expr refl j
+          ∙ sym (ap (λ v. climbs m x (named_by s v (Some (spelling text place)) x us)) j)
+
+  private_named : (m : ℕ) (x : Scope) (a b : TokenAndSpan) (us : List TokenAndSpan) → is_hash a.token ≡ true
+      → x.syntax.pedantic ≡ true → at_token is_in (first us) ≡ true
+      → exec hook (run hook) (Some 12) (private_plan x ▸ climb_from m x) (a ∷ (b ∷ us))
+      ≡ climbs m x (hash_by x (Some a) (b ∷ us) >>= (λ p. before_in hook p.0.0 x p.1))
+  unfolding word
+  private_named m x a b us h p i = rw h (by-token b.token b.span)
+    where
+      by-token : (v : Token) (place : Span)
+          → exec hook (run hook) None (given (any_name x v place) ▸ (λ n. check (private_ok x a.span n.at)
+          (gives (private_e (to a.span n.at) n.text))) ▸ climb_from m x) us
+          ≡ climbs m x (named_by a.span (is_joined a.span place) (spelled (may_name x.context) v place) x us)
+      by-token (token.Word w) place = named_same m a.span place (word_text w) x us p i
+      by-token v place = none_joined (is_joined a.span place)
+        where
+          none_joined : (j : Bool) → None ≡ climbs m x (named_by a.span j None x us)
+          none_joined false = refl
+          none_joined true = refl
+
+  -- a unary expression as an operand
+  unary_splits : (m : ℕ) (x : Scope) (ts : List TokenAndSpan) → m ≤ 10 → begins_private (nat_lt m 7) x ts ≡ false
       → run hook (at (Level (suc m))) x ts ≡ (run hook (at Unary) x ts >>= (λ p. run hook (climb p.0 m) (inner x) p.1))
-  operand_splits m x ts le =
-      knot hook (at (Level (suc m))) x ts ∙ rw (le-leb m 10 le)
+  unary_splits m x ts le h =
+      knot hook (at (Level (suc m))) x ts
+      ∙ ap (λ v. exec hook (run hook) (Some 12) v ts) (if_off (begins_private (nat_lt m 7) x ts) _ _ h)
+      ∙ rw (le-leb m 10 le)
       (then_calls (run hook (at Unary) x ts) _ (λ e us. run hook (climb e m) (inner x) us)
       (λ e us. last hook (Some 12) (climb e m) (inner x) us refl))
+
+  -- `#` and a name as one
+  private_splits : (m : ℕ) (x : Scope) (ts : List TokenAndSpan) → m ≤ 10 → is_private_here (nat_lt m 7) x ts ≡ true
+      → run hook (at (Level (suc m))) x ts
+      ≡ (private_operand hook x ts >>= (λ p. behind_operand hook p.0 x p.1)
+      >>= (λ p. run hook (climb p.0 m) (inner x) p.1))
+  unfolding private_operand hash_name word
+  private_splits m x [] le z =
+      let (f, z1) = both (nat_lt m 7) _ z in
+      let (p, h) = both x.syntax.pedantic _ z1 in
+      absurd cc
+  private_splits m x (a ∷ []) le z =
+      let (f, z1) = both (nat_lt m 7) _ z in
+      let (p, h) = both x.syntax.pedantic _ z1 in
+      unary_splits m x (a ∷ []) le (rw (h, f, p) refl)
+      ∙ ap (λ o. o >>= (λ q. run hook (climb q.0 m) (inner x) q.1)) (private-refused hook x a [] p h) ∙ rw h refl
+  private_splits m x (a ∷ (b ∷ us)) le z =
+      let (f, z1) = both (nat_lt m 7) _ z in
+      let (p, h) = both x.syntax.pedantic _ z1 in
+      by-next f p h (at_token is_in (first us)) refl
+    where
+      by-next : nat_lt m 7 ≡ true → x.syntax.pedantic ≡ true → is_hash a.token ≡ true → (i : Bool)
+          → at_token is_in (first us) ≡ i → run hook (at (Level (suc m))) x (a ∷ (b ∷ us))
+          ≡ (hash_by x (Some a) (b ∷ us) >>= (λ p. before_in hook p.0.0 x p.1)
+          >>= (λ p. behind_operand hook p.0 x p.1) >>= (λ p. run hook (climb p.0 m) (inner x) p.1))
+      by-next f p h false i =
+          unary_splits m x (a ∷ (b ∷ us)) le (rw (h, f, p, i) refl)
+          ∙ ap (λ o. o >>= (λ q. run hook (climb q.0 m) (inner x) q.1)) (private-refused hook x a (b ∷ us) p h)
+          ∙ none_named m x a b us h i
+      by-next f p h true i =
+          knot hook (at (Level (suc m))) x (a ∷ (b ∷ us))
+          ∙ ap (λ v. exec hook (run hook) (Some 12) v (a ∷ (b ∷ us)))
+          (if_on (begins_private (nat_lt m 7) x (a ∷ (b ∷ us))) _ _ (rw (h, f, p, i) refl))
+          ∙ private_named m x a b us h p i
+
+  pub operand_splits : (m : ℕ) (x : Scope) (ts : List TokenAndSpan) → m ≤ 10
+      → run hook (at (Level (suc m))) x ts
+      ≡ (operand hook (nat_lt m 7) x ts >>= (λ p. run hook (climb p.0 m) (inner x) p.1))
+  unfolding operand
+  operand_splits m x ts le = by-place (is_private_here (nat_lt m 7) x ts) refl
+    where
+      by-place : (b : Bool) → is_private_here (nat_lt m 7) x ts ≡ b → run hook (at (Level (suc m))) x ts
+          ≡ ((if b then (private_operand hook x ts >>= (λ p. behind_operand hook p.0 x p.1)) else run hook (at Unary) x ts)
+          >>= (λ p. run hook (climb p.0 m) (inner x) p.1))
+      by-place false z = unary_splits m x ts le (not_private (nat_lt m 7) x.syntax.pedantic _ _ z)
+      by-place true z = private_splits m x ts le z
 
   -- what stands right of an operator
   pub right_splits : (op : BinaryOp) (m : ℕ) (x : Scope) (ts : List TokenAndSpan) → m ≡ min_right op
       → run hook (at (Level (suc (min_right op)))) x ts
-      ≡ (run hook (at Unary) x ts >>= (λ p. run hook (climb p.0 m) (inner x) p.1))
+      ≡ (operand hook (nat_lt m 7) x ts >>= (λ p. run hook (climb p.0 m) (inner x) p.1))
   right_splits op m x ts e =
       let low = right-low op in
       ap (λ v. run hook (at (Level (suc v))) x ts) (sym e) ∙ operand_splits m x ts (let l = low.1 in omega arith)
@@ -536,11 +707,21 @@ module _ {F C K : Type 0} (hook : Hook F C K) where
   unfolding by_production private_expr_tail reading
   private_expr_opens t x ts h = rw h refl
 
+  abbrev alone_side : Span → Scope → Spelling → Side F C K Primary
+  alone_side s x n = check (not x.syntax.pedantic) (gives (private_e (to s n.at) n.text))
+
+  name_alone : (s : Span) (x : Scope) (ts : List TokenAndSpan) (o : Option Spelling)
+      → exec hook (run hook) None (plan (given o ▸ alone_side s x)) ts
+      ≡ (one o ts >>= (λ p. if not x.syntax.pedantic then Some (private_e (to s p.0.at) p.0.text, p.1) else None))
+  name_alone s x ts None = refl
+  name_alone s x ts (Some n) = refl
+
   pub private_expr_splits : (s : Span) (x : Scope) (ts : List TokenAndSpan)
-      → private_expr_tail hook s x ts ≡ (word may_name x ts >>= (λ p. Some (private_e (to s p.0.at) p.0.text, p.1)))
+      → private_expr_tail hook s x ts ≡ (word may_name x ts >>= (λ p. if not x.syntax.pedantic then
+      Some (private_e (to s p.0.at) p.0.text, p.1) else None))
   unfolding private_expr_tail reading word
   private_expr_splits s x [] = refl
-  private_expr_splits s x (t ∷ ts) = given_one (any_name x t.token t.span) (λ n. private_e (to s n.at) n.text) ts
+  private_expr_splits s x (t ∷ ts) = name_alone s x ts (any_name x t.token t.span)
 
   -- ---- assignment expressions (13.15)
 

@@ -7,6 +7,7 @@ use Rattle.swc_input.specs.Kinds.{at_token, is_hash}
 use Rattle.swc_ast.specs.Tree.{Tree, span_of}
 use Rattle.swc_ast.specs.Trees.{to, items_of, seq_of, held_exprs, paren_ok, paren_e}
 use Rattle.swc_bodies.specs.Readings.{Hook}
+use Rattle.swc_grammar.specs.Parts.{import_args_ok}
 use Rattle.swc_grammar.specs.Scope.{Scope}
 use Rattle.swc_grammar.specs.Symbols.{Args, Item}
 use Rattle.swc_grammar.specs.Tokens.{with_in, is_rparen, import_comma_ok}
@@ -48,14 +49,20 @@ arrow_free c ts = if no_arrow ts then Some (tt, ts) else None
 
 module _ {F C K : Type 0} where
   -- a list in parentheses (13.2.9), which begins at s: what stands in them
-  abbrev pub paren_of : Span → Tree F C K → List TokenAndSpan → Out (Tree F C K)
-  paren_of s es ts =
-      if paren_ok es then Some (paren_e (to s (span_of es)) (seq_of (held_exprs (items_of es))), ts) else None
+  abbrev pub paren_of : Scope → Span → Tree F C K → List TokenAndSpan → Out (Tree F C K)
+  paren_of c s es ts =
+      if paren_ok c.syntax.pedantic es then
+      Some (paren_e (to s (span_of es)) (seq_of (held_exprs (items_of es))), ts) else None
 
   -- the same, where the first of its expressions begins, and the last one ends, at other positions than their places say
-  abbrev pub paren_from : BytePos → BytePos → Span → Tree F C K → List TokenAndSpan → Out (Tree F C K)
-  paren_from lo hi s es ts =
-      if paren_ok es then Some (paren_e (to s (span_of es)) (seq_between lo hi (held_exprs (items_of es))), ts) else None
+  abbrev pub paren_from : BytePos → BytePos → Scope → Span → Tree F C K → List TokenAndSpan → Out (Tree F C K)
+  paren_from lo hi c s es ts =
+      if paren_ok c.syntax.pedantic es then
+      Some (paren_e (to s (span_of es)) (seq_between lo hi (held_exprs (items_of es))), ts) else None
+
+  -- arguments (13.3.8), of `import` or others, that are as many as there may be (13.3.10)
+  abbrev pub counted : Bool → Tree F C K → Scope → List TokenAndSpan → Out (Tree F C K)
+  counted i es c ts = if import_args_ok c i es then Some (es, ts) else None
 
   -- the same where no `=>` comes next
   abbrev pub paren_closed : (List TokenAndSpan → Out (Tree F C K)) → List TokenAndSpan → Out (Tree F C K)
@@ -76,4 +83,4 @@ module _ {F C K : Type 0} (hook : Hook F C K) where
 
   -- behind the parenthesis at s
   unfoldable pub paren_expr_tail : Span → Scope → List TokenAndSpan → Out (Tree F C K)
-  paren_expr_tail s c ts = args_inside false c ts >>= (λ p. paren_closed (paren_of s p.0) p.1)
+  paren_expr_tail s c ts = args_inside false c ts >>= (λ p. paren_closed (paren_of c s p.0) p.1)

@@ -1,30 +1,36 @@
 -- What the steps of the code read, by the clean parser: right-hand sides of productions, and what is left of them
 -- behind their first parts.
-use Rattle.std.specs.Prelude.{ℕ, List, Option, Some, None, Bool, true, false}
+use Rattle.std.specs.Prelude.{ℕ, List, Option, Some, None, Bool, true, false, not, ◌&&◌, if◌then◌else◌}
 use Rattle.swc_context.specs.declared.operator.BinaryOp.{BinaryOp}
 use Rattle.swc_context.specs.declared.operator.UnaryOp.{UnaryOp}
 use Rattle.swc_context.specs.declared.span.Span.{Span}
 use Rattle.swc_input.specs.declared.token.TokenAndSpan.{TokenAndSpan}
+use Rattle.swc_input.specs.Kinds.{at_token, is_hash}
 use Rattle.swc_ast.specs.Tree.{Tree, span_of, node}
 use Rattle.swc_ast.specs.Trees.{to, ident_e, private_e, unary_e, bin_e, delete_ok, nullish_ok}
 use Rattle.swc_grammar.specs.Scope.{Scope, inner}
 use Rattle.swc_grammar.specs.Rule.{gives, check, ◌>>=◌, ◌>>◌, symbol, one, must}
 use Rattle.swc_bodies.specs.Readings.{Hook}
 use Rattle.swc_grammar.specs.Symbols.{Symbol, Expr, Assign, Unary, Answer, Side}
-use Rattle.swc_grammar.specs.Tokens.{with_in}
+use Rattle.swc_grammar.specs.Tokens.{with_in, is_in}
 use Rattle.swc_grammar.specs.Parts.{any_name}
 use Rattle.swc_grammar.specs.Grammar.{Production}
-use Rattle.swc_grammar.specs.Clean.{Out, first, sym, climb, Plan, plan, exec, operator_at, run, apart}
+use Rattle.swc_grammar.specs.Clean.{Out, first, sym, links, updates, climb, Plan, plan, exec, operator_at, run, apart}
 use Rattle.swc_grammar.specs.Clean.{bin_op as bin_op_plan}
 use Rattle.swc_grammar.specs.Clean.{turn as turn_plan, turned as turned_plan}
-use Rattle.swc_grammar.specs.Names.{may_refer}
+use Rattle.swc_grammar.specs.Names.{Spelling, may_refer}
 use Rattle.swc_grammar.specs.Words.{rest, word, ◌>>=◌ as ◌▸◌}
 use Rattle.swc_context.specs.Spans.{from_to}
+use Rattle.swc_steps.specs.Args.{hash_name}
 use Rattle.swc_context.specs.declared.span.BytePos.{BytePos}
 
 -- nothing, of any list: what is read where a fault is always recorded
 abbrev pub nothing : {A : Type 0} → Scope → List TokenAndSpan → Out A
 nothing c ts = None
+
+-- where the syntax is pedantic, a `#` that is free: no operator before it takes what it begins
+abbrev pub is_private_here : Bool → Scope → List TokenAndSpan → Bool
+is_private_here is_free c ts = is_free && (c.syntax.pedantic && at_token is_hash (first ts))
 
 module _ {F C K : Type 0} (hook : Hook F C K) where
   unfoldable pub reading : {A : Type 0} → Plan F C K A → List TokenAndSpan → Out A
@@ -90,7 +96,26 @@ module _ {F C K : Type 0} (hook : Hook F C K) where
   unfoldable pub private_expr_tail : Span → Scope → List TokenAndSpan → Out (Tree F C K)
   private_expr_tail s c ts = reading (plan (do
     n ← one (any_name c)
+    must (not c.syntax.pedantic)
     gives (private_e (to s n.at) n.text))) ts
+
+  -- Where the syntax is pedantic, a `#` and a name before `in`, as its left operand.
+  abbrev pub before_in : Spelling → Scope → List TokenAndSpan → Out (Tree F C K)
+  before_in n c ts =
+      if c.context.include_in_expr && at_token is_in (first ts) then Some (private_e n.at n.text, ts) else None
+
+  unfoldable pub private_operand : Scope → List TokenAndSpan → Out (Tree F C K)
+  private_operand c ts = hash_name c ts ▸ (λ p. before_in p.0.0 c p.1)
+
+  -- Behind what begins a left-hand side: its links, and `++` or `--`.
+  unfoldable pub behind_operand : Tree F C K → Scope → List TokenAndSpan → Out (Tree F C K)
+  behind_operand e c ts = run hook (links true e) (inner c) ts ▸ (λ p. run hook (updates p.0) (inner c) p.1)
+
+  -- an operand of a binary operator: such a `#` and a name, where they are free, or a unary expression
+  unfoldable pub operand : Bool → Scope → List TokenAndSpan → Out (Tree F C K)
+  operand is_free c ts =
+      if is_private_here is_free c ts then private_operand c ts ▸ (λ p. behind_operand p.0 c p.1) else
+      run hook (sym Unary) c ts
 
   -- ---- assignment expressions (13.15)
 

@@ -1,11 +1,11 @@
 -- What a walk over a tree has yet to do.
-use Rattle.std.specs.Prelude.{ℕ, ◌<◌, List, [], ◌∷◌, map}
+use Rattle.std.specs.Prelude.{ℕ, ◌<◌, Bool, List, [], ◌∷◌, ◌++◌, map, if◌then◌else◌}
 use Rattle.std.specs.List.{All, sum_by}
 use Rattle.swc_context.specs.declared.span.Span.{Span}
 use Rattle.swc_ast.specs.Tree.{Tree}
 use Rattle.swc_ast.specs.declared.spanned.Spanned.{Ghosts}
 use Rattle.swc_nodes.specs.GrowingNodes.{count, seat_at}
-use Rattle.swc_nodes.specs.NodeParts.{Part, slots, flat, prop_parts}
+use Rattle.swc_nodes.specs.NodeParts.{Part, slots, flat, one_pat, body_parts, prop_parts}
 use Rattle.swc_nodes.specs.NumberedTrees.{Seat}
 use Rattle.swc_nodes.specs.Walking.{part_of}
 use Rattle.swc_nodes.specs.Weights.{weight}
@@ -14,7 +14,7 @@ use Rattle.swc_nodes.specs.declared.node.Node.TheVariants as n
 use Rattle.swc_nodes.specs.declared.node.PropNode.{PropNode}
 use Rattle.swc_nodes.specs.declared.node.PropNode.TheVariants as prop
 use Rattle.swc_nodes.specs.declared.nodes.Nodes.{Nodes}
-use Rattle.swc_verifier.specs.CoverNames.{cover_names}
+use Rattle.swc_verifier.specs.CoverNames.{covers_by}
 use Rattle.swc_verifier.specs.declared.verifier.Due.{Due}
 use Rattle.swc_verifier.specs.declared.verifier.Due.TheVariants as d
 
@@ -27,7 +27,8 @@ abbrev pub due_of : Due → Task
 due_of (d.Part p) = go (part_of p).at
 due_of (d.Name s) = note s
 
--- what is due of parts, of a property, and of a node: all their parts, but nothing of an arrow function, and of a cover name its place
+-- what is due of parts, of a property, and of a node: all their parts, but of an arrow function only where these are to
+-- be gone into, and of a cover name its place
 abbrev pub part_dues : List Part → List Task
 part_dues ps = map (λ p. go p.at) ps
 
@@ -35,18 +36,18 @@ abbrev pub prop_dues : {K : Type 0} → PropNode K → List Task
 prop_dues (prop.Assign p) = note p.span ∷ []
 prop_dues p = part_dues (prop_parts p)
 
-abbrev pub node_dues : {F C K : Type 0} → Node F C K → List Task
-node_dues (n.Object s props comma) = flat prop_dues props.items
-node_dues (n.Arrow s ps b a) = []
-node_dues x = part_dues (slots x)
+abbrev pub node_dues : {F C K : Type 0} → Bool → Node F C K → List Task
+node_dues in_arrows (n.Object s props comma) = flat prop_dues props.items
+node_dues in_arrows (n.Arrow s ps b a) = if in_arrows then part_dues (flat one_pat ps.items ++ body_parts b.value) else []
+node_dues in_arrows x = part_dues (slots x)
 
 -- the cover names that are found by it, in the order of the source
-abbrev pub names_of : {F C K : Type 0} → (ℕ → Tree F C K) → Task → List Span
-names_of at (go i) = cover_names (at i)
-names_of at (note s) = s ∷ []
+abbrev pub names_of : {F C K : Type 0} → Bool → (ℕ → Tree F C K) → Task → List Span
+names_of in_arrows at (go i) = covers_by in_arrows (at i)
+names_of in_arrows at (note s) = s ∷ []
 
-abbrev pub names_due : {F C K : Type 0} → (ℕ → Tree F C K) → List Task → List Span
-names_due at = flat (names_of at)
+abbrev pub names_due : {F C K : Type 0} → Bool → (ℕ → Tree F C K) → List Task → List Span
+names_due in_arrows at = flat (names_of in_arrows at)
 
 -- how many steps it takes at most
 abbrev pub steps_of : {F C K : Type 0} → (ℕ → Seat F C K) → Task → ℕ

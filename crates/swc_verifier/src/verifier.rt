@@ -4,10 +4,11 @@ ghost use Rattle.std.specs.Prelude.{◌≡◌, ◌++◌, true, false, map, List,
 ghost use Rattle.swc_input.specs.Buffer.{Read, ReadSome, Lives, Known, last_position, current, state_of};
 ghost use Rattle.swc_input.specs.Recording.{is_silent, is_fit, no_memory};
 ghost use Rattle.swc_input.specs.declared.token.TokenAndSpan.{TokenAndSpan};
-ghost use Rattle.swc_nodes.specs.GrowingNodes.{tree_at, From};
-ghost use Rattle.swc_nodes.specs.NodeParts.{expr_part, flat};
-ghost use Rattle.swc_verifier.specs.CoverNames.{cover_names};
-ghost use Rattle.swc_verifier.specs.Dues.{due_of, node_dues, prop_dues, part_dues};
+ghost use Rattle.swc_nodes.specs.GrowingNodes.{tree_at, Apart, From};
+ghost use Rattle.swc_nodes.specs.NodeParts.{expr_part, prop_parts, flat};
+ghost use Rattle.swc_nodes.specs.NodeTree.{prop_of};
+ghost use Rattle.swc_verifier.specs.CoverNames.{cover_names, covers_left, parts_covers_left};
+ghost use Rattle.swc_verifier.specs.Dues.{due_of, node_dues, prop_dues, part_dues, names_due, AreWithin};
 ghost use Rattle.swc_verifier.specs.Faults.{cover_faults, RecordsAll, Appends, begins_fit};
 
 use std::alloc::AllocError;
@@ -39,17 +40,39 @@ pub fn find_cover_names<F: Spanned + Drop, C: Spanned + Drop, K: Spanned + Drop>
     requires { From 0 nodes.now (expr_part expr) }
     ensures { IfOk result (λ names. names.items ≡ cover_names (tree_at nodes.now expr.0)) }
 {
-    let mut names = Vec::new(nodes.allocator());
-    let mut due = vec![in nodes.allocator(); Due::Part(PartId::Expr(expr))]?;
-    // From the last one on.
-    while let Some(last) = due.pop() {
-        match last {
-            Due::Name(span) => names.push(span)?,
-            Due::Part(part) => list_node(nodes.get(part.number()), &mut due)?,
-        }
-    }
-    names.reverse();
-    Ok(names)
+    let due = vec![in nodes.allocator(); Due::Part(PartId::Expr(expr))]?;
+    find_due(nodes, due, false)
+}
+
+/// The places of all cover names in an item, as an expression, a pattern, a key or a list of these, as its nodes have
+/// them, in the order of the source: those that `find_cover_names` finds, and those in arrow functions.
+///
+/// Of arrow functions the walk goes into the parameters, and then into the body. For a property of an object literal
+/// there is `find_covers_left_in_prop`, since it may be a cover name itself, and not only have some among its parts.
+pub fn find_covers_left<T: Parts, F: Spanned + Drop, C: Spanned + Drop, K: Spanned + Drop>(
+    nodes: &Nodes<F, C, K>,
+    item: &T,
+) -> Result<Vec<Span>, AllocError>
+    requires { Apart 0 nodes.now (T.parts item.now) }
+    ensures { IfOk result (λ names. names.items ≡ parts_covers_left (tree_at nodes.now) (T.parts item.now)) }
+{
+    let mut due = Vec::new(nodes.allocator());
+    list_parts(item, &mut due)?;
+    find_due(nodes, due, true)
+}
+
+/// The same of a property of an object literal: of one that is a cover name its place alone.
+pub fn find_covers_left_in_prop<F: Spanned + Drop, C: Spanned + Drop, K: Spanned + Drop>(
+    nodes: &Nodes<F, C, K>,
+    prop: &PropNode<K>,
+) -> Result<Vec<Span>, AllocError>
+    requires { Apart 0 nodes.now (prop_parts prop.now) }
+    ensures { IfOk result (λ names. names.items
+        ≡ covers_left (prop_of F.place C.place K.place (tree_at nodes.now) prop.now)) }
+{
+    let mut due = Vec::new(nodes.allocator());
+    list_prop(prop, &mut due)?;
+    find_due(nodes, due, true)
 }
 
 /// Records an `AssignProperty` at each of the places, in their order, as `Buffer::emit_err` records a fault: each after
@@ -78,16 +101,40 @@ pub fn record_cover_names<I: Tokens>(input: &mut Buffer<I>, names: &[Span]) -> P
     Ok(())
 }
 
-/// Puts what is due of a node behind that of a list.
+/// The places of the cover names that are found by what is due, in the order of the source, with those in arrow
+/// functions or without them.
+fn find_due<F: Spanned + Drop, C: Spanned + Drop, K: Spanned + Drop>(
+    nodes: &Nodes<F, C, K>,
+    mut due: Vec<Due>,
+    in_arrows: bool,
+) -> Result<Vec<Span>, AllocError>
+    requires { AreWithin nodes.now (map due_of due.items) }
+    ensures { IfOk result (λ names. names.items ≡ names_due in_arrows (tree_at nodes.now) (map due_of due.items)) }
+{
+    let mut names = Vec::new(nodes.allocator());
+    // From the last one on.
+    while let Some(last) = due.pop() {
+        match last {
+            Due::Name(span) => names.push(span)?,
+            Due::Part(part) => list_node(nodes.get(part.number()), in_arrows, &mut due)?,
+        }
+    }
+    names.reverse();
+    Ok(names)
+}
+
+/// Puts what is due of a node behind that of a list. Of an arrow function that is its parts, or nothing.
 fn list_node<F: Spanned + Drop, C: Spanned + Drop, K: Spanned + Drop>(
     node: &Node<F, C, K>,
+    in_arrows: bool,
     due: &mut Vec<Due>,
 ) -> Result<(), AllocError>
-    ensures { IfOk result (λ _. map due_of due.new.items ≡ map due_of due.old.items ++ node_dues node.now) }
+    ensures { IfOk result (λ _. map due_of due.new.items ≡
+        map due_of due.old.items ++ node_dues in_arrows node.now) }
 {
     match node {
         Node::Object { props, .. } => list_props(props, due),
-        Node::Arrow { .. } => Ok(()),
+        Node::Arrow { .. } if !in_arrows => Ok(()),
         _ => list_parts(node, due),
     }
 }

@@ -23,7 +23,7 @@ impl<I: Tokens, B: Bodies<I>> Parser<I, B> {
         let start = self.productions.nodes.len();
         let ctx = self.productions.get_ctx();
         let answer = parse_head_expr(&mut self.productions, ctx.expr_ctx.for_await_loop_init);
-        let answer = self.move_out(start, answer);
+        let answer = self.move_out_checked(start, answer);
         self.finish(answer)
     }
 
@@ -35,7 +35,7 @@ impl<I: Tokens, B: Bodies<I>> Parser<I, B> {
         self.begin()?;
         let start = self.productions.nodes.len();
         let answer = parse_for_head(&mut self.productions, is_await);
-        let answer = self.keep(start, answer);
+        let answer = self.keep_checked(start, answer);
         self.finish(answer)
     }
 
@@ -54,7 +54,7 @@ impl<I: Tokens, B: Bodies<I>> Parser<I, B> {
         self.begin()?;
         let start = self.productions.nodes.len();
         let answer = parse_for_head(&mut self.productions, is_await);
-        let answer = self.move_out(start, answer);
+        let answer = self.move_out_checked(start, answer);
         self.finish(answer)
     }
 }

@@ -19,7 +19,7 @@ impl<I: Tokens, B: Bodies<I>> Parser<I, B> {
         self.begin()?;
         let start = self.productions.nodes.len();
         let answer = parse_lhs_expr(&mut self.productions);
-        let answer = self.keep(start, answer);
+        let answer = self.keep_checked(start, answer);
         self.finish(answer)
     }
 
@@ -36,7 +36,7 @@ impl<I: Tokens, B: Bodies<I>> Parser<I, B> {
         self.begin()?;
         let start = self.productions.nodes.len();
         let answer = parse_lhs_expr(&mut self.productions);
-        let answer = self.move_out(start, answer);
+        let answer = self.move_out_checked(start, answer);
         self.finish(answer)
     }
 }

@@ -39,7 +39,7 @@ impl<I: Tokens, B: Bodies<I>> Parser<I, B> {
         self.begin()?;
         let start = self.productions.nodes.len();
         let answer = parse_formal_params(&mut self.productions);
-        let answer = self.move_out(start, answer);
+        let answer = self.move_out_checked(start, answer);
         self.finish(answer)
     }
 
@@ -50,7 +50,7 @@ impl<I: Tokens, B: Bodies<I>> Parser<I, B> {
         self.begin()?;
         let start = self.productions.nodes.len();
         let answer = parse_formal_params(&mut self.productions);
-        let answer = self.keep(start, answer);
+        let answer = self.keep_checked(start, answer);
         self.finish(answer)
     }
 
@@ -65,7 +65,7 @@ impl<I: Tokens, B: Bodies<I>> Parser<I, B> {
         self.begin()?;
         let start = self.productions.nodes.len();
         let answer = parse_arrow_params(&mut self.productions);
-        let answer = self.keep(start, answer);
+        let answer = self.keep_checked(start, answer);
         self.finish(answer)
     }
 
@@ -94,7 +94,7 @@ impl<I: Tokens, B: Bodies<I>> Parser<I, B> {
         self.begin()?;
         let start = self.productions.nodes.len();
         let answer = parse_arrow_params(&mut self.productions);
-        let answer = self.move_out(start, answer);
+        let answer = self.move_out_checked(start, answer);
         self.finish(answer)
     }
 }

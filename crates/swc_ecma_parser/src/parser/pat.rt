@@ -27,7 +27,7 @@ impl<I: Tokens, B: Bodies<I>> Parser<I, B> {
         self.begin()?;
         let start = self.productions.nodes.len();
         let answer = parse_pat(&mut self.productions);
-        let answer = self.keep(start, answer);
+        let answer = self.keep_checked(start, answer);
         self.finish(answer)
     }
 
@@ -54,7 +54,7 @@ impl<I: Tokens, B: Bodies<I>> Parser<I, B> {
         self.begin()?;
         let start = self.productions.nodes.len();
         let answer = parse_pat(&mut self.productions);
-        let answer = self.move_out(start, answer);
+        let answer = self.move_out_checked(start, answer);
         self.finish(answer)
     }
 
@@ -78,7 +78,7 @@ impl<I: Tokens, B: Bodies<I>> Parser<I, B> {
         self.begin()?;
         let start = self.productions.nodes.len();
         let answer = parse_binding_element(&mut self.productions);
-        let answer = self.keep(start, answer);
+        let answer = self.keep_checked(start, answer);
         self.finish(answer)
     }
 
@@ -96,7 +96,7 @@ impl<I: Tokens, B: Bodies<I>> Parser<I, B> {
         self.begin()?;
         let start = self.productions.nodes.len();
         let answer = parse_binding_element(&mut self.productions);
-        let answer = self.move_out(start, answer);
+        let answer = self.move_out_checked(start, answer);
         self.finish(answer)
     }
 }

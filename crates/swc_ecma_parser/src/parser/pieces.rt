@@ -19,7 +19,9 @@ pub type ArgsOrPatsOf<B> = (Vec<ExprOrSpread<Box<ExprOf<B>>>>, Option<Span>);
 impl<I: Tokens, B: Bodies<I>> Parser<I, B> {
     /// Arguments (ECMA-262, 13.3.8), from `(` through the `)` that closes them: expressions, and spreads, in which
     /// `in` is an operator. A comma may stand behind the last one, and isn't remembered. With `is_dynamic_import` they
-    /// are those of `import` (13.3.10): how many there are isn't looked at.
+    /// are those of `import` (13.3.10): how many there are isn't looked at, unless the syntax is pedantic. Then others
+    /// than one, or with import attributes one or two, none of them a spread, are recorded as `ImportArguments`, from
+    /// the `(` through the `)`.
     ///
     /// What is no `(` where they begin is refused as `Expected`, at the current token, and so is what follows an
     /// argument and is neither `,` nor `)`; the end as `Eof`, where the token consumed last ends. A refusal behind
@@ -36,7 +38,7 @@ impl<I: Tokens, B: Bodies<I>> Parser<I, B> {
         self.begin()?;
         let start = self.productions.nodes.len();
         let answer = parse_arguments(&mut self.productions, is_dynamic_import);
-        let answer = self.move_out(start, answer);
+        let answer = self.move_out_checked(start, answer);
         self.finish(answer)
     }
 

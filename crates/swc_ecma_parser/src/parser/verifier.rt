@@ -20,7 +20,8 @@ impl<I: Tokens, B: Bodies<I>> Parser<I, B> {
     /// Checks that a finished expression has no property `name = value` left over in an object literal (ECMA-262,
     /// 13.2.5.1), and answers the expression as it was given. Such a property is grammar for patterns alone, as in
     /// `[{a = 1}] = b`. Each one is recorded as `AssignProperty`, at the property's place in bytes, in the order of the
-    /// source; `parse_expr` doesn't do it, but for a literal that stands in parentheses by itself.
+    /// source; `parse_expr` doesn't do it where the syntax isn't pedantic, but for a literal that stands in parentheses
+    /// by itself.
     ///
     /// Looked through are all parts of the expression, keys, parameters of methods and patterns too; but no arrow
     /// function, neither its parameters nor its body, nor what the hook has read: functions, classes and blocks. The

@@ -24,6 +24,9 @@ use Rattle.swc_grammar.specs.Parts.{reference}
 use Rattle.swc_grammar.specs.Grammar.{Production, ident-expr, base-primary, body-block, body-expr, async-ident}
 use Rattle.swc_grammar.specs.Grammar.{async-call}
 use Rattle.swc_grammar.specs.Reads.{Follows, took, held, calm, heard}
+use Rattle.swc_grammar.specs.Clean.{begins_private}
+use Rattle.swc_input.specs.Kinds.{is_hash}
+use Rattle.swc_context.specs.declared.context.Context.{Context}
 use Rattle.swc_grammar.specs.Clean.{Ans, Out, first, Call, sym, links, climb, plan, rank, allowed, exec, no_link, base}
 use Rattle.swc_grammar.specs.Clean.{begins_new, updates, assigns, no_update_at, Bound, Stop, pick, chosen, primary}
 use Rattle.swc_grammar.specs.Clean.{run, parens, arrow_tail, arrow_block, behind_base, is_lparen_here, unary, is_alone}
@@ -95,11 +98,12 @@ module _ {F C K : Type 0} (hook : Hook F C K) where
 
   pub level-behind : (d : Scope) (xs ms : List TokenAndSpan) (e : Tree F C K)
       → unary {F = F} {C = C} {K = K} d xs ≡ operand d → begins_new xs ≡ false
-      → base {F = F} {C = C} {K = K} true d xs ≡ pick base-primary
+      → base {F = F} {C = C} {K = K} true d xs ≡ pick base-primary → begins_private true d xs ≡ false
       → run hook (sym (Level 1)) d xs ≡ Some (e, ms)
       → (n : Tree F C K × List TokenAndSpan) × (run hook (sym Primary) d xs ≡ Some n) × Behind (inner d) n.0 n.1 e ms
-  level-behind d xs ms e hu hn hb h =
-      let (q, a1, b1) = then-ok (run hook (sym Unary) d xs) _ (sym_path (knot hook (sym (Level 1)) d xs) ∙ h) in
+  level-behind d xs ms e hu hn hb hp h =
+      let (q, a1, b1) = then-ok (run hook (sym Unary) d xs) _ (sym_path (knot hook (sym (Level 1)) d xs
+      ∙ ap (λ v. exec hook (run hook) (Some 12) v xs) (if-off (begins_private true d xs) _ _ hp)) ∙ h) in
       let k2 : exec hook (run hook) (Some 11) (operand d) xs ≡ Some q =
       ap (λ v. exec hook (run hook) (Some 11) v xs) (sym_path hu) ∙ sym_path (knot hook (sym Unary) d xs) ∙ a1 in
       let (p, a2, b2) = then-ok (run hook (sym (Lhs true)) d xs) _ k2 in
@@ -172,10 +176,10 @@ module _ {F C K : Type 0} (hook : Hook F C K) where
   listed-reads c b s us ms e h =
       let d = at_head c in
       let xs = tk token.LParen b s ∷ us in
-      let (o, a4, v) = level-behind d xs ms e refl refl refl h in
+      let (o, a4, v) = level-behind d xs ms e refl refl refl refl h in
       let (w, a5, b5) =
       then-ok (run hook (sym (Args false)) (with_in c) us) _ (sym_path (knot hook (sym Primary) d xs) ∙ a4) in
-      let (ok, b6) = only (paren_ok w.0) b5 in
+      let (ok, b6) = only (paren_ok c.syntax.pedantic w.0) b5 in
       let (y, b7) = unless (sees (λ t. is_arrow t.token) w.1) b6 in
       let l0 = paren_of s w.0 in
       let u : Behind (inner c) l0 w.1 e ms =
@@ -268,6 +272,10 @@ module _ {F C K : Type 0} (hook : Hook F C K) where
               given-name m k1
       by-token t b s i h = absurd cc
 
+  alone-no-hash : (c : Context) (t : Token) → is_alone c t ≡ true → is_hash t ≡ false
+  alone-no-hash c (token.Word w) h = refl
+  alone-no-hash c t h = absurd cc
+
   pub alone-ends : (c : Scope) (a : TokenAndSpan) (us ms : List TokenAndSpan) (e : Tree F C K)
       → is_alone c.context a.token ≡ true → is_arrow_here (first us) ≡ true
       → run hook (sym (Level 1)) (at_head c) (a ∷ us) ≡ Some (e, ms) → at_token is_arrow (first ms) ≡ true
@@ -275,7 +283,7 @@ module _ {F C K : Type 0} (hook : Hook F C K) where
       let d = at_head c in
       let y = here-arrow (first us) j in
       let (pu, pn, pb) = alone-places d a us i in
-      let (o, a4, v) = level-behind d (a ∷ us) ms e pu pn pb h in
+      let (o, a4, v) = level-behind d (a ∷ us) ms e pu pn pb (rw (alone-no-hash c.context a.token i) refl) h in
       let (l, k) = alone-primary d a us o i y a4 in
       behind-arrow (inner c) o.0 o.1 e ms l v (subst (λ w. at_token is_arrow (first w) ≡ true) (sym_path k) y)
 

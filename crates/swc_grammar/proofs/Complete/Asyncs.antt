@@ -13,7 +13,9 @@ use Rattle.swc_bodies.specs.Readings.{Hook, is_function_here, is_function, is_as
 use Rattle.swc_grammar.specs.Scope.{Scope, at_head, inner}
 use Rattle.swc_grammar.specs.Rule.{gives, take, check, peek, peek_two, read, sees, sees_two, given, ◌>>=◌}
 use Rattle.swc_grammar.specs.Tokens.{tk, with_in, is_lparen}
-use Rattle.swc_ast.specs.Trees.{items_of, to, listed, ident_e, call_e, no_covers}
+use Rattle.swc_ast.specs.Trees.{items_of, to, listed, ident_e, call_e, covers_ok}
+use Rattle.swc_grammar.specs.Reads.{calm}
+use Rattle.swc_input.specs.Kinds.{is_hash}
 use Rattle.swc_grammar.specs.Symbols.{Symbol, Assign, Level, Args, Primary, Answer, Side, Heads}
 use Rattle.swc_grammar.specs.Names.{Spelling, may_bind}
 use Rattle.swc_grammar.specs.Grammar.{base-primary, async-ident, async-call, arrow-async-name}
@@ -48,16 +50,20 @@ module _ {F C K : Type 0} (hook : Hook F C K) where
       → Follows hook s (take (λ a. check (is_arrow a.token) (r a))) xs ys t → at_token is_arrow (first xs) ≡ true
   then-arrow (took (held h d)) = h
 
+  calm-then : {s : Symbol} {p : TokenAndSpan → Bool} {r : Side F C K s} {xs ys : List TokenAndSpan} {t : Answer F C K s}
+      → Follows hook s (peek p r) xs ys t → Follows hook s r xs ys t
+  calm-then (calm h d) = d
+
   pub param-next : {s : Symbol} (c : Scope) {k : Spelling → TokenAndSpan → Side F C K s} (xs : List TokenAndSpan)
       {ys : List TokenAndSpan} {t : Answer F C K s}
       → Follows hook s (take (λ a. check (not a.had_line_break) (given (async_param c a.token a.span) >>= (λ n.
-      take (λ b. check (is_arrow b.token) (k n b)))))) xs ys t
+      peek (λ b. c.syntax.pedantic && b.had_line_break) (take (λ b. check (is_arrow b.token) (k n b))))))) xs ys t
       → (is_bindable_here c (first xs) ≡ true) × (is_arrow_here (first xs) ≡ false)
       × (at_token is_arrow (second xs) ≡ true)
   param-next c xs (took {a = a} {xs = us} (held l d)) =
       let (n, h, g) = given-held (async_param c a.token a.span) _ d in
       let (x, y) = param-token c a.token a.span n h in
-      (rw (l, x) refl, rw y (and-false (not a.had_line_break)), then-arrow g)
+      (rw (l, x) refl, rw y (and-false (not a.had_line_break)), then-arrow (calm-then g))
 
   pub no-arrow-begins : (c : Scope) (a : TokenAndSpan) (us : List TokenAndSpan) → is_arrow_here (first us) ≡ false
       → begins_arrow c (a ∷ us) ≡ false
@@ -98,6 +104,10 @@ module _ {F C K : Type 0} (hook : Hook F C K) where
   given-plan g o k x e ts = ap (λ v. exec hook (run hook) g (given v >>= k) ts) e
 
   -- `async` begins an operand, and a base
+  async-no-hash : (t : Token) → is_async t ≡ true → is_hash t ≡ false
+  async-no-hash (token.Word w) h = refl
+  async-no-hash t h = absurd cc
+
   async-places : (d : Scope) (a : TokenAndSpan) (us : List TokenAndSpan) → is_async a.token ≡ true
       → (unary {F = F} {C = C} {K = K} d (a ∷ us) ≡ operand d) × (begins_new (a ∷ us) ≡ false)
       × (base {F = F} {C = C} {K = K} true d (a ∷ us) ≡ pick base-primary)
@@ -135,10 +145,10 @@ module _ {F C K : Type 0} (hook : Hook F C K) where
       let d = at_head c in
       let ts = tk token.LParen false s ∷ us in
       let (pu, pn, pb) = async-places d a ts x in
-      let (o, a4, v) = level-behind hook d (a ∷ ts) ms e pu pn pb h in
+      let (o, a4, v) = level-behind hook d (a ∷ ts) ms e pu pn pb (rw (async-no-hash a.token x) refl) h in
       let rest : Spelling → Side F C K Primary =
       λ m. check true (take (λ u. check (not u.had_line_break) (check (is_lparen u.token)
-      (read (Args false) (with_in c) (λ es. check (no_covers (items_of es))
+      (read (Args false) (with_in c) (λ es. check (covers_ok c.syntax.pedantic es)
       (gives (call_e (to m.at (span_of es)) (ident_e m.at m.text) (items_of es)))))))) in
       let k0 : exec hook (run hook) (Some 8) (chosen (pick_apart (async-call {c = d}))) (a ∷ ts) ≡ Some o =
       ap (λ v. exec hook (run hook) (Some 8) (chosen v) (a ∷ ts)) (sym_path (async-picks-primary hook d a ts x refl))
@@ -146,7 +156,7 @@ module _ {F C K : Type 0} (hook : Hook F C K) where
       let (k, z) = apart-picked hook (async-call {c = d}) (Some 8) (a ∷ ts) o k0 in
       let (m, i, k1) = given-run hook None (async_name c a.token a.span) rest ts k in
       let (w, a5, b5) = then-ok (run hook (sym (Args false)) (with_in c) us) _ k1 in
-      let (ok, b6) = only (no_covers (items_of w.0)) b5 in
+      let (ok, b6) = only (covers_ok c.syntax.pedantic w.0) b5 in
       let l0 : Tree F C K = call_e (to m.at (span_of w.0)) (ident_e m.at m.text) (items_of w.0) in
       let same = inj (l0, w.1) o b6 in
       let u : Behind hook (inner c) l0 w.1 e ms = subst (λ x. Behind hook (inner c) x.0 x.1 e ms) (sym_path same) v in
@@ -216,7 +226,7 @@ module _ {F C K : Type 0} (hook : Hook F C K) where
   async-none c a us ms e x y z h =
       let d = at_head c in
       let (pu, pn, pb) = async-places d a us x in
-      let (o, a4, v) = level-behind hook d (a ∷ us) ms e pu pn pb h in
+      let (o, a4, v) = level-behind hook d (a ∷ us) ms e pu pn pb (rw (async-no-hash a.token x) refl) h in
       let (f, l) = bindable-next c us y in
       let rest : Spelling → Side F C K Primary =
       λ m. peek (goes_on_async d) (peek_two (of_arrow d) (gives (ident_e m.at m.text))) in

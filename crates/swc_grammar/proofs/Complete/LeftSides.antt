@@ -224,8 +224,8 @@ module _ {F C K : Type 0} (hook : Hook F C K) where
       λ a h b k. (refl, λ e. (λ d us j o. quiet-rbracket (with_in c) d us j, λ d j o. tt))
   ready-base ys stop super-call = λ a h b k. (refl, λ es. (tt, tt))
   ready-base ys stop import-meta = λ a h b k d j n. tt
-  ready-base ys stop import-call = λ a h b k. (refl, λ es. (tt, tt))
-  ready-base ys stop import-source = λ a h b k d j g m. (refl, λ es. (tt, tt))
+  ready-base ys stop import-call = λ a h b k. (refl, λ es. (λ n. tt, λ n. tt))
+  ready-base ys stop import-source = λ a h b k d j g m. (refl, λ es. (λ n. tt, λ n. tt))
 
   pub name-next : (c : Scope) {s : Symbol} {k : TokenAndSpan → Spelling → Side F C K s} {xs ys : List TokenAndSpan}
       {t : Answer F C K s}

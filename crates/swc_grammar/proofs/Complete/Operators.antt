@@ -2,7 +2,7 @@
 use Rattle.std.specs.Prelude.{◌≡◌, ℕ, suc, ◌≤◌, ◌<◌, min, Bool, true, false, not, ◌||◌, List, [], ◌∷◌, ◌&&◌}
 use Rattle.std.specs.Prelude.{if◌then◌else◌, Some, None}
 use Rattle.std.proofs.Common.{refl, ap, ◌∙◌, arith}
-use Rattle.std.proofs.lemmas.Bool.{le-leb, lt-leb}
+use Rattle.std.proofs.lemmas.Bool.{le-leb, lt-leb, lt-ltb}
 use Rattle.swc_context.specs.Operators.{precedence_of}
 use Rattle.swc_context.specs.declared.operator.BinaryOp.{BinaryOp}
 use Rattle.swc_context.specs.declared.operator.UnaryOp.{UnaryOp}
@@ -21,7 +21,7 @@ use Rattle.swc_bodies.specs.Readings.{Hook}
 use Rattle.swc_grammar.specs.Scope.{Scope, inner}
 use Rattle.swc_grammar.specs.Rule.{sees}
 use Rattle.swc_grammar.specs.Tokens.{tk, binary_of, prefix_of, is_power, is_star, is_update, is_await, ends_await}
-use Rattle.swc_grammar.specs.Symbols.{Level, Unary, Lhs, Side}
+use Rattle.swc_grammar.specs.Symbols.{Level, Unary, Lhs, Side, Base, Primary}
 use Rattle.swc_grammar.specs.Parts.{prefix_here, update_here}
 use Rattle.swc_grammar.specs.Grammar.{Production, unary-left, unary-op, update-postfix, update-prefix, await-expr}
 use Rattle.swc_grammar.specs.Grammar.{await-ident}
@@ -29,13 +29,25 @@ use Rattle.swc_grammar.specs.Reads.{Follows, took, held, calm, part}
 use Rattle.swc_grammar.specs.Clean.{first, sym, climb, no_link, prefix_at, updates, no_update_at, ends_unary, no_arrow}
 use Rattle.swc_grammar.specs.Clean.{ends_await_at, unary_by, Stop, Choice, pick, chosen, step, run}
 use Rattle.swc_grammar.specs.Firsts.{begins_left, begins_operand}
-use Rattle.swc_grammar.proofs.Good.{Good}
+use Rattle.swc_grammar.specs.Clean.{begins_private, exec, plan}
+use Rattle.swc_grammar.specs.Rule.{take, check, gives, given, read, ◌>>=◌}
+use Rattle.swc_grammar.proofs.Answers.{both}
+use Rattle.swc_grammar.specs.Names.{Spelling}
+use Rattle.swc_grammar.specs.Parts.{any_name, private_ok}
+use Rattle.swc_grammar.specs.Tokens.{is_in}
+use Rattle.swc_input.specs.Kinds.{is_hash}
+use Rattle.swc_ast.specs.Trees.{private_e}
+use Rattle.std.specs.Prelude.{nat_lt, Option}
+use Rattle.std.proofs.Common.{sym as sym_path, subst}
+use Rattle.swc_grammar.proofs.Induct.{ran-took, ran-held, ran-part}
+use Rattle.swc_grammar.proofs.Only.{hash-is}
+use Rattle.swc_grammar.proofs.Good.{Good, good}
 use Rattle.swc_grammar.proofs.Only.{power-is}
 use Rattle.swc_grammar.proofs.Firsts.{given-held, begins, placed-op, update-first}
 use Rattle.swc_grammar.proofs.Knot.{knot}
 use Rattle.swc_grammar.proofs.Levels.{bound-some, bound-above, min-right-same}
 use Rattle.swc_grammar.proofs.Complete.Bools.{if-on, if-off, is-false, neither, is-true}
-use Rattle.swc_grammar.proofs.Complete.Sides.{Claim, Ready, ready-given, last, picks, settle, Ran, forget, side-reads}
+use Rattle.swc_grammar.proofs.Complete.Sides.{gave-ran, Claim, Ready, ready-given, last, picks, settle, Ran, forget, side-reads}
 
 no-prefix-first : (c : Scope) (xs : List TokenAndSpan) → at_token (begins_left c) (first xs) ≡ true
     → (prefix_at (first xs) ≡ None) × (at_token is_update (first xs) ≡ false)
@@ -116,6 +128,12 @@ update-link a us h = by-token a.token a.had_line_break a.span h
     by-token token.MinusMinus b s h = refl
     by-token t b s h = absurd cc
 
+-- the operator `in`, where it is one
+in-word : (c : Scope) (t : Token) → c.context.include_in_expr ≡ true → is_in t ≡ true
+    → binary_of c.context t ≡ Some binary.In
+in-word c (token.Word (word.Keyword keyword.In)) i h = rw i refl
+in-word c t i h = absurd cc
+
 module _ {F C K : Type 0} (hook : Hook F C K) where
   climb-takes : (op : BinaryOp) (m : ℕ) (c : Scope) (t : TokenAndSpan) (l r : Tree F C K) (ms ys : List TokenAndSpan)
       → binary_of c.context t.token ≡ Some op → m < precedence_of op → exp_ok op l ≡ true → nullish_ok op l r ≡ true
@@ -127,11 +145,59 @@ module _ {F C K : Type 0} (hook : Hook F C K) where
       ∙ rw (o, lt-leb (precedence_of op) m lt, x, e, n, g)
       (last hook None (climb (bin_e (to (span_of l) (span_of r)) op l r) m) c ys refl)
 
+  -- Where the syntax is pedantic `#` begins no operand by itself.
+  abbrev name_alone : Scope → Span → Spelling → Side F C K Primary
+  name_alone c s n = check (not c.syntax.pedantic) (gives (private_e (to s n.at) n.text))
+
+  name-refused : (c : Scope) (s : Span) (vs : List TokenAndSpan) (o : Option Spelling) → c.syntax.pedantic ≡ true
+      → exec hook (run hook) None (plan (given o >>= name_alone c s)) vs ≡ None
+  name-refused c s vs None h = refl
+  name-refused c s vs (Some n) h = rw h refl
+
+  pub private-refused : (c : Scope) (a : TokenAndSpan) (us : List TokenAndSpan) → c.syntax.pedantic ≡ true
+      → is_hash a.token ≡ true → run hook (sym Unary) c (a ∷ us) ≡ None
+  private-refused c a us h i =
+      subst (λ v. run hook (sym Unary) c (tk v a.had_line_break a.span ∷ us) ≡ None) (sym_path (hash-is a.token i))
+      (knot hook (sym Unary) c xs ∙ rw by-side refl)
+    where
+      xs : List TokenAndSpan
+      xs = tk token.Hash a.had_line_break a.span ∷ us
+
+      behind : (vs : List TokenAndSpan)
+          → exec hook (run hook) None (plan (take (λ b. given (any_name c b.token b.span) >>= name_alone c a.span))) vs
+          ≡ None
+      behind [] = refl
+      behind (b ∷ vs) = name-refused c a.span vs (any_name c b.token b.span) h
+
+      by-primary : run hook (sym Primary) c xs ≡ None
+      by-primary = knot hook (sym Primary) c xs ∙ behind us
+
+      by-base : run hook (sym (Base true)) c xs ≡ None
+      by-base = knot hook (sym (Base true)) c xs ∙ rw by-primary refl
+
+      by-side : run hook (sym (Lhs true)) c xs ≡ None
+      by-side = knot hook (sym (Lhs true)) c xs ∙ rw by-base refl
+
+  private-off : (f : Bool) (c : Scope) (xs : List TokenAndSpan) (r : Tree F C K × List TokenAndSpan)
+      → run hook (sym Unary) c xs ≡ Some r → begins_private f c xs ≡ false
+  private-off f c [] r e = refl
+  private-off f c (a ∷ us) r e = by-case (begins_private f c (a ∷ us)) refl
+    where
+      by-case : (b : Bool) → begins_private f c (a ∷ us) ≡ b → b ≡ false
+      by-case false h = refl
+      by-case true h =
+          let (z, y) = both (is_hash a.token) _ h in
+          let (v, q) = both f _ y in
+          let (x, w) = both c.syntax.pedantic _ q in
+          let k : None ≡ Some r = sym_path (private-refused c a us x z) ∙ e in
+          absurd cc
+
   pub operand-climbs : (m : ℕ) (c : Scope) (xs ys : List TokenAndSpan) (t : Tree F C K) → m ≤ 10
       → run hook (sym Unary) c xs ≡ Some (t, ys)
       → run hook (sym (Level (suc m))) c xs ≡ run hook (climb t m) (inner c) ys
   operand-climbs m c xs ys t le e =
-      knot hook (sym (Level (suc m))) c xs ∙ rw (le-leb m 10 le, e) (last hook (Some 12) (climb t m) (inner c) ys refl)
+      knot hook (sym (Level (suc m))) c xs
+      ∙ rw (private-off (nat_lt m 7) c xs (t, ys) e, le-leb m 10 le, e) (last hook (Some 12) (climb t m) (inner c) ys refl)
 
   -- `++` and `--` before an operand, `await`, and prefix operators
   await-picks : (c : Scope) (a : TokenAndSpan) (us : List TokenAndSpan) (x : Choice F C K Unary c)
@@ -195,6 +261,26 @@ module _ {F C K : Type 0} (hook : Hook F C K) where
       (top, end, bound-above c (min (suc n) 10) (suc n) ys (omega arith) b)) in
       left le (operator-ends c a ms op o) (bound-some c (min (suc n) 10) (a ∷ ms) op o (omega arith)) m lt
       ∙ climb-takes op m (inner c) a l r ms ys o (omega arith) (left-free op l (omega arith)) k g e
+
+  pub private-reads : (c : Scope) (a b : TokenAndSpan) (us ys : List TokenAndSpan) (n : Spelling) {t : Tree F C K}
+      → is_hash a.token ≡ true → any_name c b.token b.span ≡ Some n → private_ok c a.span n.at ≡ true
+      → Ran hook (Level 7) (take (λ g. check (is_in g.token) (read (Level 8) (inner c) (λ r.
+      gives (bin_e (to (to a.span n.at) (span_of r)) binary.In (private_e (to a.span n.at) n.text) r))))) us ys t
+      → Claim hook (Level 7) c (a ∷ (b ∷ us)) ys t
+  private-reads c a b us ys n h o x (ran-took {a = g} {xs = vs} (ran-held i (ran-part {e = r} {ms = ms} dr right d))) =
+      gave-ran hook (λ u ws. Claim hook (Level 7) c (a ∷ (b ∷ (g ∷ vs))) ws u) d
+      (λ le end q m lt.
+      let (x1, x2) = both c.syntax.pedantic _ x in
+      let (x3, x4) = both c.context.include_in_expr _ x2 in
+      let e = settle hook (Level 8) (inner c) vs ms r (good dr) right (omega arith, end, q) in
+      let is : begins_private (nat_lt m 7) c (a ∷ (b ∷ (g ∷ vs))) ≡ true =
+      rw (h, lt-ltb m 7 (omega arith), x1, i) refl in
+      knot hook (sym (Level (suc m))) c (a ∷ (b ∷ (g ∷ vs)))
+      ∙ ap (λ v. exec hook (run hook) (Some 12) v (a ∷ (b ∷ (g ∷ vs))))
+      (if-on (begins_private (nat_lt m 7) c (a ∷ (b ∷ (g ∷ vs)))) _ _ is)
+      ∙ rw (h, o, x) (last hook None (climb (private_e (to a.span n.at) n.text) m) (inner c) (g ∷ vs) refl)
+      ∙ climb-takes binary.In m (inner c) g (private_e (to a.span n.at) n.text) r vs ms (in-word c g.token x3 i)
+      (omega arith) refl refl refl e)
 
   pub exp-reads : (c : Scope) (a : TokenAndSpan) (l r : Tree F C K) (xs ms ys : List TokenAndSpan)
       → is_power a.token ≡ true → not (is_unary l) ≡ true → Good F C K (Level 11) r

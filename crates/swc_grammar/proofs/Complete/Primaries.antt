@@ -210,7 +210,7 @@ module _ {F C K : Type 0} (hook : Hook F C K) where
   ready-primary ys fn-expr = λ v s. tt
   ready-primary ys class-expr = λ v s. tt
   ready-primary ys paren-expr = λ a h. (refl, λ es. (λ n. tt, λ n. tt))
-  ready-primary ys (private-expr {c = c}) = λ a h b. ready-given _ _ (any_name c b.token b.span) _ (λ n h1. tt)
+  ready-primary ys (private-expr {c = c}) = λ a h b. ready-given _ _ (any_name c b.token b.span) _ (λ n h1 x. tt)
 
   pub ready-parts : {c : Scope} {is_tagged : Bool} {r : Side F C K (Parts is_tagged)} (ys : List TokenAndSpan)
       → Production (Parts is_tagged) c r → Ready (Some 6) ys r

@@ -5,6 +5,6 @@ use Rattle.show.proofs.answer.answer_pat.Goals as goal
 
 pub returns : goal.returns
 returns c = λ heeded.
-    judged_by Pat pat_at c.args.ctx c.args.tokens.items c.parse_whole_pat-read.result.nodes
-    c.parse_whole_pat-read.result.recorded.items c.default.result c.default.ensures heeded
+    judged_by Pat pat_at c.args.ctx c.args.syntax c.args.tokens.items
+    c.parse_whole_pat-read.result.nodes c.parse_whole_pat-read.result.recorded.items heeded
     c.parse_whole_pat-read.ensures.headline c.show_pat-shown.ensures

@@ -1,9 +1,8 @@
-use Rattle.swc_ast.specs.Parts.{item_trees}
-use Rattle.swc_ast.specs.Trees.{no_covers}
+use Rattle.swc_ast.specs.Trees.{covers_ok}
 use Rattle.swc_nodes.specs.NodeParts.{args_parts, one_expr}
 use Rattle.swc_nodes.proofs.ArrowNodes.{apart-back}
 use Rattle.swc_nodes.proofs.Standing.{grows-same}
-use Rattle.swc_steps.specs.Parsing.{tree_of}
+use Rattle.swc_steps.specs.Parsing.{scope, args_at}
 use Rattle.swc_steps.proofs.Making as m
 use Rattle.swc_steps.proofs.Naming.{goes, stops}
 use Rattle.swc_steps.proofs.Steps as s
@@ -18,8 +17,8 @@ returns-in_err-check_item_covers g c =
 
 pub returns : goal.returns
 returns g c =
-    let now = c.args.p.now.nodes in
-    let well = no_covers (item_trees (tree_of now) c.args.list.items.items) in
+    let x = scope g.I.Tokens.model c.args.p.now.input in
+    let well = covers_ok x.syntax.pedantic (args_at c.args.p.now.nodes c.args.list) in
     m.on_after c.call_expr.result
-    (s.on_checked well c.in_ok-check_item_covers.ensures.checks (λ x ts h. goes well _ h) (λ x ts h. stops well _ h))
+    (s.on_checked_in well c.in_ok-check_item_covers.ensures.checks (λ ts h. goes well _ h) (λ ts h. stops well _ h))
     (grows-same _) c.call_expr.ensures

@@ -7,7 +7,8 @@ use Rattle.swc_steps.proofs.Steps as s
 use Rattle.swc_arrows.specs.Answers.{HearsBase, Opens}
 use Rattle.swc_arrows.specs.Readers.{arrow_behind, async_arrow, async_base, async_behind}
 use Rattle.swc_arrows.proofs.Bases.{base_before_of, if_arrow, one_is_arrow}
-use Rattle.swc_arrows.proofs.NameReads.{async_splits, of_by, of_splits, param_rest, param_splits, leaves_after}
+use Rattle.swc_arrows.proofs.NameReads.{arrow_rest, async_splits, of_by, of_splits, param_rest, param_splits}
+use Rattle.swc_arrows.proofs.NameReads.{leaves_after}
 use Rattle.swc_arrows.proofs.Dooms.{opens_call, opens_later}
 use Rattle.swc_arrows.proofs.NameReads.{one_leaves, opens_after_all}
 use Rattle.swc_ast.specs.Tree.{nil, cons}
@@ -57,6 +58,23 @@ returns-in_err-param-clause-leaves g c =
     (s.unheard_call (λ x p. param_rest hook n p.0 x p.1) (param_splits hook n) c.in_err-param.ensures.reads))
     c.in_err-param.ensures.grows
 
+pub returns-in_err-refuse_arrow_line-clause-leaves : goal.returns-in_err-refuse_arrow_line-clause-leaves
+returns-in_err-refuse_arrow_line-clause-leaves g c =
+    let hook = g.B.BodyForms.forms in
+    let n = ident_spelling c.in_ok-name.name in
+    let t = pat_at c.parse_plain_pat.new.p.nodes c.in_ok-param.param in
+    let o = s.on_then (s.on_call (λ x p. async_behind hook p.0 x p.1) (async_splits hook)
+    (c.in_ok-name.ensures.parses g.B.Bodies.is_faithful).on)
+    (s.on_call (λ x p. of_by hook n p.0 x p.1) (of_splits hook n)
+    (c.in_ok-is_of_alone.ensures.tells g.B.Bodies.is_faithful)) in
+    refused c.from_residual-in_err-refuse_arrow_line.ensures.1
+    (s.unheard_after (s.on_then (subst (λ v. On g.I.Tokens.model g.B.Bodies.is_faithful (async_arrow hook)
+    (λ x ts. of_by hook n v x ts) c.args.p.now.input c.is_of_alone.new.input) c.if-branch.false o)
+    (s.on_call (λ x p. param_rest hook n p.0 x p.1) (param_splits hook n) c.in_ok-param.ensures.reads.on))
+    (s.unheard_call (λ x l. arrow_rest hook n t x l.1) (λ x ts. refl)
+    (c.in_err-refuse_arrow_line.ensures.continues g.B.Bodies.is_faithful)))
+    c.in_ok-param.ensures.grows
+
 pub returns-in_err-expect-clause-leaves : goal.returns-in_err-expect-clause-leaves
 returns-in_err-expect-clause-leaves g c =
     let hook = g.B.BodyForms.forms in
@@ -69,7 +87,9 @@ returns-in_err-expect-clause-leaves g c =
     refused c.from_residual-in_err-expect.ensures.1
     (s.unheard_after (s.on_then (subst (λ v. On g.I.Tokens.model g.B.Bodies.is_faithful (async_arrow hook)
     (λ x ts. of_by hook n v x ts) c.args.p.now.input c.is_of_alone.new.input) c.if-branch.false o)
-    (s.on_call (λ x p. param_rest hook n p.0 x p.1) (param_splits hook n) c.in_ok-param.ensures.reads.on))
+    (s.on_then (s.on_call (λ x p. param_rest hook n p.0 x p.1) (param_splits hook n) c.in_ok-param.ensures.reads.on)
+    (s.on_call (λ x l. arrow_rest hook n t x l.1) (λ x ts. refl)
+    (c.in_ok-refuse_arrow_line.ensures.continues g.B.Bodies.is_faithful))))
     (s.unheard_call (λ x q. arrow_behind hook n.at.lo true false (cons t nil) x q.1) (λ x ts. refl)
     (c.in_err-expect.ensures.expects g.B.Bodies.is_faithful)))
     c.in_ok-param.ensures.grows
@@ -86,7 +106,9 @@ returns-clause-leaves g c =
     one_leaves hook n.at.lo true _ c.one_param.result c.one_param.ensures
     (s.on_then (s.on_then (subst (λ v. On g.I.Tokens.model g.B.Bodies.is_faithful (async_arrow hook)
     (λ x ts. of_by hook n v x ts) c.args.p.now.input c.is_of_alone.new.input) c.if-branch.false o)
-    (s.on_call (λ x p. param_rest hook n p.0 x p.1) (param_splits hook n) c.in_ok-param.ensures.reads.on))
+    (s.on_then (s.on_call (λ x p. param_rest hook n p.0 x p.1) (param_splits hook n) c.in_ok-param.ensures.reads.on)
+    (s.on_call (λ x l. arrow_rest hook n t x l.1) (λ x ts. refl)
+    (c.in_ok-refuse_arrow_line.ensures.continues g.B.Bodies.is_faithful))))
     (s.on_call (λ x q. arrow_behind hook n.at.lo true false (cons t nil) x q.1) (λ x ts. refl)
     (c.in_ok-expect.ensures.expects g.B.Bodies.is_faithful).on))
     c.in_ok-param.ensures.grows c.in_ok-param.ensures.from refl
@@ -128,7 +150,9 @@ returns-clause-opens g c =
     opens_after_all hook q {q = q} c.one_param.result
     (opens_later (opens_later (subst (λ v. Opens g.I.Tokens.model g.B.Bodies.is_faithful (async_arrow hook)
     (λ x ts. of_by hook n v x ts) c.args.p.now.input c.is_of_alone.new.input) c.if-branch.false o)
-    (s.on_call (λ x p. param_rest hook n p.0 x p.1) (param_splits hook n) c.in_ok-param.ensures.reads.on))
+    (s.on_then (s.on_call (λ x p. param_rest hook n p.0 x p.1) (param_splits hook n) c.in_ok-param.ensures.reads.on)
+    (s.on_call (λ x l. arrow_rest hook n t x l.1) (λ x ts. refl)
+    (c.in_ok-refuse_arrow_line.ensures.continues g.B.Bodies.is_faithful))))
     (s.on_call (λ x q. arrow_behind hook n.at.lo true false (cons t nil) x q.1) (λ x ts. refl)
     (c.in_ok-expect.ensures.expects g.B.Bodies.is_faithful).on))
     (one_leaves hook n.at.lo true _ c.one_param.result c.one_param.ensures

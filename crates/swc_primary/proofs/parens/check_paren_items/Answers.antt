@@ -15,7 +15,7 @@ returns-in_err-check_item_covers-clause-refuses g c =
 pub returns-then-is_empty-clause-refuses : goal.returns-then-is_empty-clause-refuses
 returns-then-is_empty-clause-refuses g c = (
   s.refuses_later c.in_ok-check_item_covers.ensures.checks.leads c.syntax_error.ensures.refuses,
-  λ n. paren_none (tree_of c.args.nodes.now) c.args.list.now.trailing_comma c.args.list.now.end c.args.list.now.items.items
+  λ n. paren_none (tree_of c.args.nodes.now) _ c.args.list.now.trailing_comma c.args.list.now.end c.args.list.now.items.items
       (let e = eqb-true _ 0 (sym c.is_empty.ensures ∙ c.if-is_empty.true) in omega arith),
 )
 
@@ -27,12 +27,12 @@ returns-in_err-check_last_comma-clause-refuses g c =
 
 pub returns-clause-checks : goal.returns-clause-checks
 returns-clause-checks g c =
-    paren_checked (tree_of c.args.nodes.now) c.refuse_spread.result c.args.list.now.trailing_comma c.args.list.now.end
+    paren_checked (tree_of c.args.nodes.now) _ c.refuse_spread.result c.args.list.now.trailing_comma c.args.list.now.end
     c.args.list.now.items.items _ (grind (arith, common_steps, c.is_empty.ensures, c.if-is_empty.false)) c.in_ok-check_item_covers.ensures.checks
     c.in_ok-check_last_comma.ensures.checks c.refuse_spread.ensures.passes
 
 pub returns-clause-refuses : goal.returns-clause-refuses
 returns-clause-refuses g c =
-    paren_refused (tree_of c.args.nodes.now) c.refuse_spread.result c.args.list.now.trailing_comma c.args.list.now.end
+    paren_refused (tree_of c.args.nodes.now) _ c.refuse_spread.result c.args.list.now.trailing_comma c.args.list.now.end
     c.args.list.now.items.items _ c.in_ok-check_item_covers.ensures.checks c.in_ok-check_last_comma.ensures.checks
     c.refuse_spread.ensures.refuses

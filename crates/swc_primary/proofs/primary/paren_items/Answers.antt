@@ -1,14 +1,14 @@
 use Rattle.std.proofs.Common.{map, sym, ap}
 use Rattle.swc_context.specs.Spans.{from_to}
 use Rattle.swc_ast.specs.Parts.{item_trees}
-use Rattle.swc_ast.specs.Trees.{paren_ok, paren_e, held_exprs}
+use Rattle.swc_ast.specs.Trees.{paren_e, held_exprs}
 use Rattle.swc_ast.specs.declared.expr.ExprOrSpread.{ExprOrSpread}
 use Rattle.swc_nodes.specs.Lists.{seq_between}
 use Rattle.swc_nodes.specs.NodeParts.{args_parts}
 use Rattle.swc_nodes.specs.GrowingNodes.{first_start, last_end}
 use Rattle.swc_nodes.specs.declared.node.ExprId.{ExprId}
 use Rattle.swc_nodes.proofs.Standing.{grows-same}
-use Rattle.swc_steps.specs.Parsing.{args_at, tree_of}
+use Rattle.swc_steps.specs.Parsing.{tree_of}
 use Rattle.swc_steps.proofs.Building.{made_at, made_over}
 use Rattle.swc_steps.proofs.Making as m
 use Rattle.swc_steps.proofs.Naming.{goes, stops}
@@ -24,10 +24,9 @@ returns-in_err-refuse_arrow g c = λ k apart.
 pub returns-in_err-check_paren_items : goal.returns-in_err-check_paren_items
 returns-in_err-check_paren_items g c = λ k apart.
     let h = c.in_err-check_paren_items.ensures.refuses in
-    let es = args_at c.args.p.now.nodes c.args.list in
     m.refused_more c.from_residual-in_err-check_paren_items.ensures.1
     (s.unheard_after (free_on _ (c.in_ok-refuse_arrow.ensures.free g.B.Bodies.is_faithful))
-    (record { refuses = h.0; none = λ n sure loud ts z. stops (paren_ok es) _ (h.1 n) })) (grows-same _)
+    (record { refuses = h.0; none = λ n sure loud ts z. stops _ _ (h.1 n) })) (grows-same _)
 
 pub returns-in_err-expr : goal.returns-in_err-expr
 returns-in_err-expr g c = λ k apart.
@@ -39,7 +38,6 @@ returns-in_err-expr g c = λ k apart.
 pub returns : goal.returns
 returns g c = λ k apart.
     let now = c.args.p.now.nodes in
-    let es = args_at now c.args.list in
     let xs = map (λ (x : ExprOrSpread ExprId). x.expr) c.args.list.items.items in
     let held = seq_between (first_start now xs) (last_end now xs)
     (held_exprs (item_trees (tree_of now) c.args.list.items.items)) in
@@ -49,5 +47,4 @@ returns g c = λ k apart.
     c.made-2.ensures.refused c.seq_of_items-node.ensures.grows c.paren_expr-node.ensures.grows
     (s.on_answer (ap (λ v. paren_e (from_to c.args.start.lo c.args.list.end.hi) v) (sym one.stands))
     (s.on_then (free_on _ (c.in_ok-refuse_arrow.ensures.free g.B.Bodies.is_faithful))
-    (s.on_checked (paren_ok es) c.in_ok-check_paren_items.ensures.checks
-    (λ x ts h. goes (paren_ok es) _ h) (λ x ts h. stops (paren_ok es) _ h))))
+    (s.on_checked_in _ c.in_ok-check_paren_items.ensures.checks (λ ts h. goes _ _ h) (λ ts h. stops _ _ h))))

@@ -47,7 +47,7 @@ use Rattle.swc_operators.specs.Assignments.{assign_at, assign_tail, yield_tail, 
 use Rattle.swc_steps.specs.Readers.{begun_if, unary_op_node, unary_op_tail, nothing, inside, unary_op}
 use Rattle.swc_operators.specs.Updates.{update_at, update_node, update_tail, await_reads, await_tail, await_ident}
 use Rattle.swc_operators.specs.Updates.{await_operand, update_prefix, await_expr}
-use Rattle.swc_left.specs.Bases.{callee_node, plain_base, import_by}
+use Rattle.swc_left.specs.Bases.{import_node, plain_base, import_by}
 use Rattle.swc_left.specs.Links.{computed_close, call_node, construct_by, construct_node, new_by}
 use Rattle.swc_left.specs.Links.{new_lhs, new_node, new_tail, link_tail}
 use Rattle.swc_left.specs.Templates.{tagged_node, tpl_expr_close, parts_behind, parts_by}
@@ -60,6 +60,7 @@ use Rattle.swc_operators.specs.Pending.{pending_reads}
 use Rattle.swc_operators.proofs.Assignments as assign
 use Rattle.swc_operators.proofs.InContext.{assign_within, expr_within, within}
 use Rattle.swc_operators.proofs.Sequences.{behind_comma}
+use Rattle.swc_operators.proofs.Operands as operand
 use Rattle.swc_operators.proofs.Pending as pending
 use Rattle.swc_operators.proofs.Entered as entered
 use Rattle.swc_steps.proofs.Args as args
@@ -77,6 +78,7 @@ use Rattle.swc_steps.proofs.Steps as s
 use Rattle.swc_left.proofs.Templates as tpl
 use Rattle.swc_operators.proofs.Updates as update
 use Rattle.swc_steps.proofs.Making as m
+use Rattle.swc_steps.specs.Readers.{private_operand}
 use Rattle.swc_cover.proofs.Rewriting as rewriting
 use Rattle.swc_operators.specs.Assignments.{assign_by, assign_made, target_at, target_number}
 use Rattle.swc_cover.proofs.Kept.{kept-grows, kept-less, kept-then}
@@ -96,9 +98,11 @@ use Rattle.swc_productions.proofs.ring.+productions.Goals.{parse_arrow_body-else
 use Rattle.swc_productions.proofs.ring.+productions.Goals.{parse_arrow_body-else-value+in-Err-parse_assignment_expr}
 use Rattle.swc_arrows.proofs.Dooms.{doomed_later, doomed_unheard, fails_later, opens_after, opens_call_read, opens_later, recovered_fails}
 use Rattle.swc_arrows.proofs.Begun as begun
+use Rattle.swc_arrows.proofs.Closes.{closed_clean}
 use Rattle.swc_arrows.specs.Readers.{arrow_end, block_inside, name_arrow, others}
 use Rattle.swc_nodes.specs.Lists.{pat_trees}
 use Rattle.swc_productions.proofs.ArrowOrAssign as way
+use Rattle.swc_productions.proofs.Recovered as again
 use Rattle.swc_productions.proofs.ArrowBodies as bodies
 use Rattle.swc_productions.proofs.InnerCalls as inside
 use Rattle.swc_grammar.specs.Scope.{inner}
@@ -179,7 +183,8 @@ parse_primary_expr-returns-in_ok-list-in-Paren g t c =
     (λ x ts. args.paren_expr_opens _ (plain first.was) x ts (rule.passes_plain is_lparen _ _ first.current sign) ∙ ap (λ v. paren_expr_tail g.B.BodyForms.forms v x ts) (sym place))) in
     m.after {m = record c.args.p.now { input = c.skip.new.input }} c.paren_items.result begun (grows-same _)
     (m.call_read c.paren_items.result _ (args.paren_expr_splits _ start)
-    c.in_ok-list-in-Paren.ensures.reads (λ x ts us h y ys. ending.items-clean _ g.met.B.Bodies.lawful start c.in_ok-list-in-Paren.list x ts us ys c.in_ok-list-in-Paren.ensures.from h) c.parse_args.ensures.grows (λ x h. h) (c.paren_items.ensures (count c.args.p.now.nodes) c.in_ok-list-in-Paren.ensures.from))
+    c.in_ok-list-in-Paren.ensures.reads (λ x ts us h y ys. closed_clean _ g.met.B.Bodies.lawful start c.in_ok-list-in-Paren.list x ts us
+    c.in_ok-list-in-Paren.ensures.from h y ys) c.parse_args.ensures.grows (λ x h. h) (c.paren_items.ensures (count c.args.p.now.nodes) c.in_ok-list-in-Paren.ensures.from))
 
 pub parse_primary_expr-open_array-requires : goal.parse_primary_expr-open_array-requires
 parse_primary_expr-open_array-requires g t c = opening.is_array _ (sym c.primary_kind.ensures ∙ c.in-Array.is)
@@ -961,10 +966,10 @@ parse_base-returns-in_err-list-in-Call g t c =
     m.refused c.from_residual-in_err-list-in-Call.ensures.1
     (s.unheard_after begun (s.unheard_after (s.on_call _ (base.import_splits _ b start)
     (s.heard_answer c.in-Call.is (c.in_ok-span.ensures.parses g.B.Bodies.is_faithful)).on)
-    (s.unheard_call (λ x p. callee_node start (import_e i.span i.phase) p.0 x p.1) (λ x ts. refl) c.in_err-list-in-Call.ensures.reads))) (grows-then (grows-kept c.import_head.ensures.nodes) c.parse_args.ensures.grows)
+    (s.unheard_call (λ x p. import_node start (import_e i.span i.phase) p.0 x p.1) (λ x ts. refl) c.in_err-list-in-Call.ensures.reads))) (grows-then (grows-kept c.import_head.ensures.nodes) c.parse_args.ensures.grows)
 
-pub parse_base-callee_call-requires : goal.parse_base-callee_call-requires
-parse_base-callee_call-requires g t c = apart-down (args_parts c.in_ok-list-in-Call.list.items) c.in_ok-list-in-Call.ensures.from
+pub parse_base-import_call-requires : goal.parse_base-import_call-requires
+parse_base-import_call-requires g t c = apart-down (args_parts c.in_ok-list-in-Call.list.items) c.in_ok-list-in-Call.ensures.from
 
 pub parse_base-returns-in_ok-list-in-Call : goal.parse_base-returns-in_ok-list-in-Call
 parse_base-returns-in_ok-list-in-Call g t c =
@@ -975,11 +980,11 @@ parse_base-returns-in_ok-list-in-Call g t c =
     let some = s.eats_some g.B.Bodies.is_faithful is_import _ start _ _ c.in-Some-2.is (c.in_ok-start-2.ensures.eats g.B.Bodies.is_faithful) in
     let begun = s.on_then (s.on_call _ (base.plain_splits g.B.BodyForms.forms b) none) (s.on_call (λ x q. import_by g.B.BodyForms.forms b q.0 x q.1) (λ x ts. refl) some.on) in
     let kept = grows-kept c.import_head.ensures.nodes in
-    m.after {m = c.import_head.new.p} c.callee_call.result
+    m.after {m = c.import_head.new.p} c.import_call.result
     (s.on_then begun (s.on_call _ (base.import_splits _ b start)
     (s.heard_answer c.in-Call.is (c.in_ok-span.ensures.parses g.B.Bodies.is_faithful)).on)) kept
-    (m.call c.callee_call.result (λ x p. callee_node start (import_e i.span i.phase) p.0 x p.1) (λ x ts. refl)
-    c.in_ok-list-in-Call.ensures.reads c.parse_args.ensures.grows (λ x. from-down (grows-count kept)) (c.callee_call.ensures _ c.in_ok-list-in-Call.ensures.from))
+    (m.call c.import_call.result (λ x p. import_node start (import_e i.span i.phase) p.0 x p.1) (λ x ts. refl)
+    c.in_ok-list-in-Call.ensures.reads c.parse_args.ensures.grows (λ x. from-down (grows-count kept)) (c.import_call.ensures _ c.in_ok-list-in-Call.ensures.from))
 
 pub parse_super-returns-in_err-super_head : goal.parse_super-returns-in_err-super_head
 parse_super-returns-in_err-super_head g t c =
@@ -1296,6 +1301,60 @@ parse_args-set_ctx-requires-in-Err-separate_args g t c =
     (loop.comma_behind_refused _ _ more c.in-Ok-parse_expr_or_spread.ensures.reads
     (c.in-Err-separate_args.ensures.separates g.B.Bodies.is_faithful)).refuses.spends.read.context
 
+pub parse_operand-returns-in_err-look : goal.parse_operand-returns-in_err-look
+parse_operand-returns-in_err-look g t c =
+    m.refused c.from_residual.ensures.1
+    (s.unheard_memory c.in_err-look.ensures.looks) (grows-same _)
+
+pub parse_operand-returns-in_err-name : goal.parse_operand-returns-in_err-name
+parse_operand-returns-in_err-name g t c =
+    m.refused c.from_residual-in_err-name.ensures.1
+    (s.unheard_after (s.on_seen {g = λ x ts. private_operand g.B.BodyForms.forms x ts >>= operand.behind g.B.BodyForms.forms x}
+    c.in_ok-look.ensures.looks (λ x ts same e. operand.private_first _ c.args.is_free x ts (s.no_head same)
+    (operand.told_here c.args.is_free true ts same e (sym c.begins_private.ensures.value ∙ c.if-begins_private.true))))
+    (s.unheard_call (operand.behind _) (λ x ts. refl) c.in_err-name.ensures.reads)) c.parse_private_operand.ensures.grows
+
+pub parse_operand-parse_subscripts-requires : goal.parse_operand-parse_subscripts-requires
+parse_operand-parse_subscripts-requires g t c =
+    let falls = c.in_ok-name.ensures.falls in
+    let from = from-down {k = 0} (omega arith) c.in_ok-name.ensures.from in
+    λ κs outlives. (search rules, (search rules, (search rules, (search rules, (search rules, (search rules, from))))))
+
+pub parse_operand-returns-in_err-callee : goal.parse_operand-returns-in_err-callee
+parse_operand-returns-in_err-callee g t c =
+    m.refused c.from_residual-in_err-callee.ensures.1
+    (s.unheard_after (s.on_seen {g = λ x ts. private_operand g.B.BodyForms.forms x ts >>= operand.behind g.B.BodyForms.forms x}
+    c.in_ok-look.ensures.looks (λ x ts same e. operand.private_first _ c.args.is_free x ts (s.no_head same)
+    (operand.told_here c.args.is_free true ts same e (sym c.begins_private.ensures.value ∙ c.if-begins_private.true))))
+    (s.unheard_after (s.on_call (operand.behind _) (λ x ts. refl) c.in_ok-name.ensures.reads.on)
+    (s.unheard_call (operand.updated _) (λ x ts. refl) c.in_err-callee.ensures.reads)))
+    (grows-then c.parse_private_operand.ensures.grows c.parse_subscripts.ensures.grows)
+
+pub parse_operand-parse_update_postfix-requires : goal.parse_operand-parse_update_postfix-requires
+parse_operand-parse_update_postfix-requires g t c = record { from = from-down (omega arith) c.in_ok-callee.ensures.from }
+
+pub parse_operand-returns-then-begins_private : goal.parse_operand-returns-then-begins_private
+parse_operand-returns-then-begins_private g t c =
+    let r = c.parse_update_postfix.result in
+    let a = c.in_ok-name.ensures.from.above in
+    let b = c.in_ok-callee.ensures.from.above in
+    m.after {m = record c.args.p.now { input = c.look.new.input }} r
+    (s.on_seen {g = λ x ts. private_operand g.B.BodyForms.forms x ts >>= operand.behind g.B.BodyForms.forms x}
+    c.in_ok-look.ensures.looks (λ x ts same e. operand.private_first _ c.args.is_free x ts (s.no_head same)
+    (operand.told_here c.args.is_free true ts same e (sym c.begins_private.ensures.value ∙ c.if-begins_private.true)))) (grows-same _)
+    (m.call {m = c.parse_private_operand.new.p} r (operand.behind _) (λ x ts. refl) c.in_ok-name.ensures.reads
+    c.parse_private_operand.ensures.grows (λ x. from-down (omega arith))
+    (m.on_after r (s.on_call (operand.updated _) (λ x ts. refl) c.in_ok-callee.ensures.reads)
+    c.parse_subscripts.ensures.grows c.parse_update_postfix.ensures))
+
+pub parse_operand-returns : goal.parse_operand-returns
+parse_operand-returns g t c =
+    m.after {m = record c.args.p.now { input = c.look.new.input }} c.parse_unary_expr.result
+    (s.on_seen {g = run g.B.BodyForms.forms (at Unary)} c.in_ok-look.ensures.looks
+    (λ x ts same e. operand.unary_operand _ c.args.is_free x ts
+    (operand.told_here c.args.is_free false ts same e (sym c.begins_private.ensures.value ∙ c.if-begins_private.false)))) (grows-same _)
+    c.parse_unary_expr.ensures
+
 pub parse_unary_expr-returns-in_err-look : goal.parse_unary_expr-returns-in_err-look
 parse_unary_expr-returns-in_err-look g t c =
     m.refused c.from_residual.ensures.1
@@ -1466,98 +1525,106 @@ parse_bin_expr-parse_operators-requires g t c =
 pub parse_bin_expr-returns-in-Ok : goal.parse_bin_expr-returns-in-Ok
 parse_bin_expr-returns-in-Ok g t c =
     let forms = g.B.BodyForms.forms in
-    let ns = c.parse_unary_expr.new.p.nodes in
+    let ns = c.parse_operand.new.p.nodes in
     let ws = all_pending c.new-pending.result in
     let r = c.parse_operators.result in
     let above = c.in-Ok.ensures.from.above in
     let first = ap (λ e. first_at ns e.0) (pending.first_none c.in-Ok.left c.new-pending.ensures) in
     m.after {m = record c.args.p.now { input = c.cur_pos.new.input }} r
     (s.on_seen {g = run _ (at (Level 1))} c.in_ok-first.ensures.looks (λ x ts same e. refl)) (grows-same _)
-    (m.call {m = c.parse_unary_expr.new.p} {j = first_at ns (first_operand ws c.in-Ok.left).0} r
+    (m.call {m = c.parse_operand.new.p} {j = first_at ns (first_operand ws c.in-Ok.left).0} r
     (λ x p. run _ (climb p.0 0) (inner x) p.1) (λ x ts. rule.operand_splits _ 0 x ts (omega arith))
-    c.in-Ok.ensures.reads c.parse_unary_expr.ensures.grows (λ x. from-down (omega arith))
+    c.in-Ok.ensures.reads c.parse_operand.ensures.grows (λ x. from-down (omega arith))
     (inside.goes_inner r (m.on_after r
     (s.on_here g.met.I.Tokens.laws _
     (λ x ts. pending.reads_none forms (tree_of ns) ws c.in-Ok.left x ts c.new-pending.ensures))
     (grows-same _) c.parse_operators.ensures)))
 
-pub parse_bin_expr-returns-in_err-left-in-Err : goal.parse_bin_expr-returns-in_err-left-in-Err
-parse_bin_expr-returns-in_err-left-in-Err g t c =
-    let u = pending.unheard_operand g.B.BodyForms.forms c.in_ok-first.ensures.looks c.in-Err.ensures.reads in
-    let h = c.in_err-left-in-Err.ensures.recovers in
-    m.refused c.from_residual-in_err-left-in-Err.ensures.1
-    (s.unheard_doomed u h.memory h.effect) (grows-then c.parse_unary_expr.ensures.grows h.grows)
-
-pub parse_bin_expr-take_operator-requires-clause-from : goal.parse_bin_expr-take_operator-requires-clause-from
-parse_bin_expr-take_operator-requires-clause-from g t c =
-    from-down (omega arith) c.in_ok-left-in-Err.ensures.recovers.from
-
-pub parse_bin_expr-take_operator-requires-clause-tighter : goal.parse_bin_expr-take_operator-requires-clause-tighter
-parse_bin_expr-take_operator-requires-clause-tighter g t c = pending.binds_any _ c.new-pending.ensures
-
-pub parse_bin_expr-returns-in_err-take_operator-in-Err : goal.parse_bin_expr-returns-in_err-take_operator-in-Err
-parse_bin_expr-returns-in_err-take_operator-in-Err g t c =
-    let u = pending.unheard_operand g.B.BodyForms.forms c.in_ok-first.ensures.looks c.in-Err.ensures.reads in
-    let h = c.in_ok-left-in-Err.ensures.recovers in
-    m.refused c.from_residual-in_err-take_operator-in-Err.ensures.1
-    (s.unheard_doomed u (λ n. h.some)
-    (s.refuses_later h.effect (c.in_err-take_operator-in-Err.ensures.reads g.B.Bodies.is_faithful).refuses))
-    (grows-then c.parse_unary_expr.ensures.grows (grows-then h.grows (grows-kept c.take_operator.ensures.nodes)))
-
-pub parse_bin_expr-returns-in_err-right-in-Err : goal.parse_bin_expr-returns-in_err-right-in-Err
-parse_bin_expr-returns-in_err-right-in-Err g t c =
-    let u = pending.unheard_operand g.B.BodyForms.forms c.in_ok-first.ensures.looks c.in-Err.ensures.reads in
-    let h = c.in_ok-left-in-Err.ensures.recovers in
-    let took = c.in_ok-take_operator-in-Err.ensures.reads g.B.Bodies.is_faithful in
-    m.refused c.from_residual-in_err-right-in-Err.ensures.1
-    (s.unheard_doomed u (λ n. h.some)
-    (s.refuses_later (s.leads_then h.effect took.on.leads) c.in_err-right-in-Err.ensures.reads.refuses))
-    (grows-then c.parse_unary_expr.ensures.grows (grows-then h.grows
-    (grows-then (grows-kept c.take_operator.ensures.nodes) c.parse_unary_expr-in-Err.ensures.grows)))
-
-pub parse_bin_expr-parse_operators-requires-in-Err : goal.parse_bin_expr-parse_operators-requires-in-Err
-parse_bin_expr-parse_operators-requires-in-Err g t c =
-    let left = c.in_ok-left-in-Err.left in
-    let kept = grows-kept c.take_operator.ensures.nodes in
-    let from = from-later {k = 0} kept (from-down (omega arith) c.in_ok-left-in-Err.ensures.recovers.from) in
-    let two = apart-more-one {k = 0} c.parse_unary_expr-in-Err.ensures.grows (apart-from (expr_part left) from)
-    c.in_ok-right-in-Err.ensures.from in
-    let apart = pending.operands-one {k = 0} left c.in_ok-right-in-Err.right c.in_ok-left-in-Err.op
-    c.new-pending.ensures c.in_ok-take_operator-in-Err.ensures.pushed two in
+pub parse_bin_expr-recover_operators-requires : goal.parse_bin_expr-recover_operators-requires
+parse_bin_expr-recover_operators-requires g t c =
     let spent = c.in-Err.ensures.reads.refuses.spends.read.lower in
-    let recovered = c.in_ok-left-in-Err.ensures.recovers.falls in
-    let took = c.in_ok-take_operator-in-Err.ensures.falls in
-    let read = c.in_ok-right-in-Err.ensures.falls in
+    let kind = c.in-Err.ensures.reads.refuses.kind in
+    λ κs outlives. (search rules, (search rules, (search rules, (search rules, (search rules, (search rules, kind))))))
+
+pub parse_bin_expr-returns-in-Err : goal.parse_bin_expr-returns-in-Err
+parse_bin_expr-returns-in-Err g t c =
+    let u = pending.unheard_operand g.B.BodyForms.forms c.in_ok-first.ensures.looks c.in-Err.ensures.reads in
+    let h = c.recover_operators.ensures in
+    let r = c.recover_operators.result in
+    let a = grows-count c.parse_operand.ensures.grows in
+    m.yes r
+    (s.parses_recovered g.I.Tokens.model g.B.Bodies.is_faithful (tree_of c.recover_operators.new.p.nodes)
+    (run _ (at (Level 1))) _ r u h.effect h.notes h.some h.memory)
+    (grows-then c.parse_operand.ensures.grows h.grows)
+    (if_from _ (count c.args.p.now.nodes) (count c.parse_operand.new.p.nodes) (λ x. x) r (omega arith) h.from)
+
+pub recover_operators-returns-in_err-left : goal.recover_operators-returns-in_err-left
+recover_operators-returns-in_err-left g t c =
+    let h = c.in_err-left.ensures.recovers in
+    again.not_recovered_so _ c.from_residual.ensures.1 h.effect h.memory h.grows
+
+pub recover_operators-take_operator-requires-clause-from : goal.recover_operators-take_operator-requires-clause-from
+recover_operators-take_operator-requires-clause-from g t c = from-down (omega arith) c.in_ok-left.ensures.recovers.from
+
+pub recover_operators-take_operator-requires-clause-tighter : goal.recover_operators-take_operator-requires-clause-tighter
+recover_operators-take_operator-requires-clause-tighter g t c = pending.binds_any _ c.new-pending.ensures
+
+pub recover_operators-returns-in_err-take_operator : goal.recover_operators-returns-in_err-take_operator
+recover_operators-returns-in_err-take_operator g t c =
+    let h = c.in_ok-left.ensures.recovers in
+    again.not_recovered_so _ c.from_residual-in_err-take_operator.ensures.1
+    (s.refuses_later h.effect (c.in_err-take_operator.ensures.reads g.B.Bodies.is_faithful).refuses) (λ n. h.some)
+    (grows-then h.grows (grows-kept c.take_operator.ensures.nodes))
+
+pub recover_operators-returns-in_err-right : goal.recover_operators-returns-in_err-right
+recover_operators-returns-in_err-right g t c =
+    let h = c.in_ok-left.ensures.recovers in
+    let took = c.in_ok-take_operator.ensures.reads g.B.Bodies.is_faithful in
+    again.not_recovered_so _ c.from_residual-in_err-right.ensures.1
+    (s.refuses_later (s.leads_then h.effect took.on.leads) c.in_err-right.ensures.reads.refuses) (λ n. h.some)
+    (grows-then h.grows (grows-then (grows-kept c.take_operator.ensures.nodes) c.parse_operand.ensures.grows))
+
+pub recover_operators-parse_operators-requires : goal.recover_operators-parse_operators-requires
+recover_operators-parse_operators-requires g t c =
+    let left = c.in_ok-left.left in
+    let kept = grows-kept c.take_operator.ensures.nodes in
+    let from = from-later {k = 0} kept (from-down (omega arith) c.in_ok-left.ensures.recovers.from) in
+    let two = apart-more-one {k = 0} c.parse_operand.ensures.grows (apart-from (expr_part left) from)
+    c.in_ok-right.ensures.from in
+    let apart = pending.operands-one {k = 0} left c.in_ok-right.right c.in_ok-left.op
+    c.new-pending.ensures c.in_ok-take_operator.ensures.pushed two in
+    let recovered = c.in_ok-left.ensures.recovers.falls in
+    let took = c.in_ok-take_operator.ensures.falls in
+    let read = c.in_ok-right.ensures.falls in
     λ κs outlives. (search rules, (search rules, (search rules, (search rules, (search rules, (search rules, apart))))))
 
-pub parse_bin_expr-returns-in_ok-right-in-Err : goal.parse_bin_expr-returns-in_ok-right-in-Err
-parse_bin_expr-returns-in_ok-right-in-Err g t c =
-    let u = pending.unheard_operand g.B.BodyForms.forms c.in_ok-first.ensures.looks c.in-Err.ensures.reads in
-    let h = c.in_ok-left-in-Err.ensures.recovers in
-    let took = c.in_ok-take_operator-in-Err.ensures.reads g.B.Bodies.is_faithful in
-    let more = s.leads_then took.on.leads c.in_ok-right-in-Err.ensures.reads.on.leads in
-    let r = c.parse_operators-in-Err.result in
-    let reads = c.parse_operators-in-Err.ensures.reads in
-    let ns = c.parse_unary_expr-in-Err.new.p.nodes in
+pub recover_operators-returns : goal.recover_operators-returns
+recover_operators-returns g t c =
+    let h = c.in_ok-left.ensures.recovers in
+    let took = c.in_ok-take_operator.ensures.reads g.B.Bodies.is_faithful in
+    let more = s.leads_then took.on.leads c.in_ok-right.ensures.reads.on.leads in
+    let r = c.parse_operators.result in
+    let reads = c.parse_operators.ensures.reads in
+    let ns = c.parse_operand.new.p.nodes in
     let vs = all_pending c.take_operator.new.pending in
-    let view = tree_of c.parse_operators-in-Err.new.p.nodes in
-    let f = pending_reads g.B.BodyForms.forms (tree_of ns) vs c.in_ok-right-in-Err.right in
-    let a = grows-count c.parse_unary_expr.ensures.grows in
-    let kept = grows-then (grows-kept c.take_operator.ensures.nodes) c.parse_unary_expr-in-Err.ensures.grows in
+    let view = tree_of c.parse_operators.new.p.nodes in
+    let f = pending_reads g.B.BodyForms.forms (tree_of ns) vs c.in_ok-right.right in
+    let kept = grows-then (grows-kept c.take_operator.ensures.nodes) c.parse_operand.ensures.grows in
     let above = (from-later kept h.from).above in
-    let first = ap (λ e. first_at ns e.0) (pending.first_one c.in_ok-left-in-Err.left c.in_ok-right-in-Err.right
-    c.in_ok-left-in-Err.op c.new-pending.ensures c.in_ok-take_operator-in-Err.ensures.pushed) in
-    m.yes r
-    (s.parses_recovered g.I.Tokens.model g.B.Bodies.is_faithful view (run _ (at (Level 1))) _ r u
-    (s.consumes_then g.I.Tokens.model g.B.Bodies.is_faithful view f h.effect more
-    (s.longer took.on.leads c.in_ok-right-in-Err.ensures.reads.on.leads took.onward) _ r reads)
-    (λ l. s.notes_then g.I.Tokens.model g.B.Bodies.is_faithful view f c.parse_unary_expr.new.p.input (h.notes l) more _
-    r reads)
-    (s.on_ok r h.some) (s.if_err (λ e. e.kind ≢ OutOfMemory) r h.some))
-    (grows-then c.parse_unary_expr.ensures.grows (grows-then h.grows
-    (grows-then kept c.parse_operators-in-Err.ensures.grows)))
-    (if_from _ (count c.args.p.now.nodes) (first_at ns (first_operand vs c.in_ok-right-in-Err.right).0) (λ x. x) r
-    (omega arith) c.parse_operators-in-Err.ensures.from)
+    let first = ap (λ e. first_at ns e.0) (pending.first_one c.in_ok-left.left c.in_ok-right.right
+    c.in_ok-left.op c.new-pending.ensures c.in_ok-take_operator.ensures.pushed) in
+    record {
+      effect = s.consumes_then g.I.Tokens.model g.B.Bodies.is_faithful view f h.effect more
+          (s.longer took.on.leads c.in_ok-right.ensures.reads.on.leads took.onward) _ r reads;
+      notes = λ l. s.notes_then g.I.Tokens.model g.B.Bodies.is_faithful view f c.args.p.now.input (h.notes l) more _ r reads;
+      some = s.on_ok r h.some;
+      memory = s.if_err (λ e. e.kind ≢ OutOfMemory) r h.some;
+      falls = s.falls_after g.I.Tokens.model c.parse_operators.new.p.input r (s.leads_then h.effect more)
+          c.parse_operators.ensures.falls;
+      grows = grows-then h.grows (grows-then kept c.parse_operators.ensures.grows);
+      from = if_from _ (count c.args.p.now.nodes) (first_at ns (first_operand vs c.in_ok-right.right).0) (λ x. x) r
+          (omega arith) c.parse_operators.ensures.from;
+    }
 
 pub parse_operators-loop-pending-init : goal.parse_operators-loop-pending-init
 parse_operators-loop-pending-init g t c =
@@ -1593,7 +1660,8 @@ parse_operators-returns-in_err-left-in-Some g t c =
     let tree = tree_of c.loop-pending.p.nodes in
     let ws = all_pending c.loop-pending.pending in
     m.refused_more c.from_residual-in_err-left-in-Some.ensures.1
-    (pending.unheard_read g.B.BodyForms.forms tree ws c.loop-pending.left c.in-Some.op
+    (pending.unheard_read g.B.BodyForms.forms tree ws (all_pending c.take_operator.new.pending) c.loop-pending.left c.in-Some.op
+    c.private_may_follow-is_free.ensures c.in_ok-take_operator-in-Some.ensures.pushed
     (pending.on_taken g.B.BodyForms.forms tree ws c.loop-pending.left c.in-Some.op c.loop-pending.invariant.0
     c.in_ok-op.ensures.looks
     (pending.above_is g.I.Tokens.model c.next_operator.new.input c.in-Some.is c.in_ok-op.ensures.value
@@ -1601,7 +1669,7 @@ parse_operators-returns-in_err-left-in-Some g t c =
     (c.in_ok-take_operator-in-Some.ensures.reads g.B.Bodies.is_faithful))
     c.in_err-left-in-Some.ensures.reads)
     (grows-then c.loop-pending.invariant.2
-    (grows-then (grows-kept c.take_operator.ensures.nodes) c.parse_unary_expr.ensures.grows))
+    (grows-then (grows-kept c.take_operator.ensures.nodes) c.parse_operand.ensures.grows))
 
 pub parse_operators-loop-pending-preserved-in-Some : goal.parse_operators-loop-pending-preserved-in-Some
 parse_operators-loop-pending-preserved-in-Some g t c =
@@ -1610,9 +1678,9 @@ parse_operators-loop-pending-preserved-in-Some g t c =
     let e = c.loop-pending.left in
     let r = c.in_ok-left-in-Some.left in
     let kept = grows-kept c.take_operator.ensures.nodes in
-    let grown = grows-then kept c.parse_unary_expr.ensures.grows in (
+    let grown = grows-then kept c.parse_operand.ensures.grows in (
       pending.on_read g.B.BodyForms.forms ws (all_pending c.take_operator.new.pending) e r c.in-Some.op
-          c.in_ok-take_operator-in-Some.ensures.pushed
+          c.private_may_follow-is_free.ensures c.in_ok-take_operator-in-Some.ensures.pushed
           (pending.on_taken g.B.BodyForms.forms (tree_of ns) ws e c.in-Some.op c.loop-pending.invariant.0
           c.in_ok-op.ensures.looks
           (pending.above_is g.I.Tokens.model c.next_operator.new.input c.in-Some.is c.in_ok-op.ensures.value
@@ -1623,7 +1691,7 @@ parse_operators-loop-pending-preserved-in-Some g t c =
           let d = c.in_ok-take_operator-in-Some.ensures.falls in let f = c.in_ok-left-in-Some.ensures.falls in omega arith,
       grows-then c.loop-pending.invariant.2 grown,
       pending.operands-as r (sym c.in_ok-take_operator-in-Some.ensures.pushed)
-          (operands-more ws (waiting e c.in-Some.op) r c.parse_unary_expr.ensures.grows
+          (operands-more ws (waiting e c.in-Some.op) r c.parse_operand.ensures.grows
           (apart-later kept c.loop-pending.invariant.3) c.in_ok-left-in-Some.ensures.from),
     )
 
@@ -1962,8 +2030,8 @@ parse_yield_expr-returns-in-Err g t c =
     (s.unheard_call (λ x q. Some (yield_e (to start (span_of q.0)) (is_some star) q.0, q.1)) (λ x ts. refl) c.in-Err.ensures.reads)))
     c.parse_assignment_expr.ensures.grows)
 
-pub parse_arrow_or_assign-parse_operators-requires-in-Base : goal.parse_arrow_or_assign-parse_operators-requires-in-Base
-parse_arrow_or_assign-parse_operators-requires-in-Base g t c =
+pub parse_arrow_or_assign-parse_operators-requires : goal.parse_arrow_or_assign-parse_operators-requires
+parse_arrow_or_assign-parse_operators-requires g t c =
     let falls = (way.operated g.B.BodyForms.forms c.in-Base.is c.in-Ok.ensures).falls in
     let one = apart-from (expr_part c.in-Base.operand) (from-down (omega arith) (way.operated g.B.BodyForms.forms c.in-Base.is c.in-Ok.ensures).from) in
     let apart = pending.operands-as {k = 0} c.in-Base.operand (sym c.new-pending.ensures) one in
@@ -1985,7 +2053,7 @@ pub parse_arrow_or_assign-returns-in_ok-left-in-Base : goal.parse_arrow_or_assig
 parse_arrow_or_assign-returns-in_ok-left-in-Base g t c =
     let forms = g.B.BodyForms.forms in
     let ns = c.parse_arrow_or_operand.new.p.nodes in
-    let ms = c.parse_operators-in-Base.new.p.nodes in
+    let ms = c.parse_operators.new.p.nodes in
     let left = c.in_ok-left-in-Base.left in
     let o = s.on_here g.met.I.Tokens.laws _ (λ x ts.
     pending.reads_none forms (tree_of ns) (all_pending c.new-pending.result) c.in-Base.operand x ts c.new-pending.ensures) in
@@ -1993,7 +2061,7 @@ parse_arrow_or_assign-returns-in_ok-left-in-Base g t c =
     let first = ap (λ e. first_at ns e.0) (pending.first_none c.in-Base.operand c.new-pending.ensures) in
     let low : count c.args.p.now.nodes ≤ first_at ms left.0 =
     let a = (way.operated g.B.BodyForms.forms c.in-Base.is c.in-Ok.ensures).from.above in let b = from.above in omega arith in
-    way.finished {j = first_at ms left.0} {m = c.parse_operators-in-Base.new.p} c.finish_assignment_expr-in-Base.result
+    way.finished {j = first_at ms left.0} {m = c.parse_operators.new.p} c.finish_assignment_expr-in-Base.result
     (way.operators_left forms (way.operated g.B.BodyForms.forms c.in-Base.is c.in-Ok.ensures).reads (s.on_then o c.in_ok-left-in-Base.ensures.reads)
     (λ v y ys. way.left_from forms left from v y ys))
     (grows-then c.in-Ok.ensures.grows c.in_ok-left-in-Base.ensures.grows)
@@ -2067,82 +2135,27 @@ parse_arrow_or_assign-returns-in_ok-left-in-Other g t c =
     low (λ x. from-down low)
     c.finish_assignment_expr-in-Other.ensures
 
+pub parse_arrow_or_assign-recover_operators-requires : goal.parse_arrow_or_assign-recover_operators-requires
+parse_arrow_or_assign-recover_operators-requires g t c =
+    let spent = c.in-Err.ensures.reads.refuses.spends.read.lower in
+    let kind = c.in-Err.ensures.reads.refuses.kind in
+    λ κs outlives. (search rules, (search rules, (search rules, (search rules, (search rules, (search rules, kind))))))
+
 pub parse_arrow_or_assign-returns-in_err-left-in-Err : goal.parse_arrow_or_assign-returns-in_err-left-in-Err
 parse_arrow_or_assign-returns-in_err-left-in-Err g t c =
-    let h = c.in_err-left-in-Err.ensures.recovers in
+    let h = c.in_err-left-in-Err.ensures in
     m.refused c.from_residual.ensures.1
     (s.unheard_doomed c.in-Err.ensures.reads h.memory h.effect) (grows-then c.parse_arrow_or_operand.ensures.grows h.grows)
 
-pub parse_arrow_or_assign-take_operator-requires-clause-from : goal.parse_arrow_or_assign-take_operator-requires-clause-from
-parse_arrow_or_assign-take_operator-requires-clause-from g t c =
-    from-down (omega arith) c.in_ok-left-in-Err.ensures.recovers.from
-
-pub parse_arrow_or_assign-take_operator-requires-clause-tighter : goal.parse_arrow_or_assign-take_operator-requires-clause-tighter
-parse_arrow_or_assign-take_operator-requires-clause-tighter g t c = pending.binds_any _ c.new-pending.ensures
-
-pub parse_arrow_or_assign-returns-in_err-take_operator-in-Err : goal.parse_arrow_or_assign-returns-in_err-take_operator-in-Err
-parse_arrow_or_assign-returns-in_err-take_operator-in-Err g t c =
-    let h = c.in_ok-left-in-Err.ensures.recovers in
-    m.refused c.from_residual-in_err-take_operator-in-Err.ensures.1
-    (s.unheard_doomed c.in-Err.ensures.reads (λ n. h.some)
-    (s.refuses_later h.effect (c.in_err-take_operator-in-Err.ensures.reads g.B.Bodies.is_faithful).refuses))
-    (grows-then c.parse_arrow_or_operand.ensures.grows (grows-then h.grows (grows-kept c.take_operator.ensures.nodes)))
-
-pub parse_arrow_or_assign-returns-in_err-right-in-Err : goal.parse_arrow_or_assign-returns-in_err-right-in-Err
-parse_arrow_or_assign-returns-in_err-right-in-Err g t c =
-    let h = c.in_ok-left-in-Err.ensures.recovers in
-    let took = c.in_ok-take_operator-in-Err.ensures.reads g.B.Bodies.is_faithful in
-    m.refused c.from_residual-in_err-right-in-Err.ensures.1
-    (s.unheard_doomed c.in-Err.ensures.reads (λ n. h.some)
-    (s.refuses_later (s.leads_then h.effect took.on.leads) c.in_err-right-in-Err.ensures.reads.refuses))
-    (grows-then c.parse_arrow_or_operand.ensures.grows (grows-then h.grows
-    (grows-then (grows-kept c.take_operator.ensures.nodes) c.in_err-right-in-Err.ensures.grows)))
-
-pub parse_arrow_or_assign-parse_operators-requires : goal.parse_arrow_or_assign-parse_operators-requires
-parse_arrow_or_assign-parse_operators-requires g t c =
-    let left = c.in_ok-left-in-Err.left in
-    let kept = grows-kept c.take_operator.ensures.nodes in
-    let from = from-later {k = 0} kept (from-down (omega arith) c.in_ok-left-in-Err.ensures.recovers.from) in
-    let two = apart-more-one {k = 0} c.in_ok-right-in-Err.ensures.grows (apart-from (expr_part left) from)
-    c.in_ok-right-in-Err.ensures.from in
-    let apart = pending.operands-one {k = 0} left c.in_ok-right-in-Err.right c.in_ok-left-in-Err.op
-    c.new-pending.ensures c.in_ok-take_operator-in-Err.ensures.pushed two in
-    let spent = c.in-Err.ensures.reads.refuses.spends.read.lower in
-    let recovered = c.in_ok-left-in-Err.ensures.recovers.falls in
-    let took = c.in_ok-take_operator-in-Err.ensures.falls in
-    let read = c.in_ok-right-in-Err.ensures.falls in
-    λ κs outlives. (search rules, (search rules, (search rules, (search rules, (search rules, (search rules, apart))))))
-
-pub parse_arrow_or_assign-returns-in_err-left-in-Err-2 : goal.parse_arrow_or_assign-returns-in_err-left-in-Err-2
-parse_arrow_or_assign-returns-in_err-left-in-Err-2 g t c =
-    let h = c.in_ok-left-in-Err.ensures.recovers in
-    let took = c.in_ok-take_operator-in-Err.ensures.reads g.B.Bodies.is_faithful in
-    m.refused c.from_residual-in_err-left-in-Err-2.ensures.1
-    (s.unheard_doomed c.in-Err.ensures.reads (λ n. h.some)
-    (s.refuses_later (s.leads_then h.effect (s.leads_then took.on.leads c.in_ok-right-in-Err.ensures.reads.on.leads))
-    c.in_err-left-in-Err-2.ensures.reads.refuses))
-    (grows-then c.parse_arrow_or_operand.ensures.grows (grows-then h.grows
-    (grows-then (grows-kept c.take_operator.ensures.nodes) (grows-then c.in_ok-right-in-Err.ensures.grows
-    c.in_err-left-in-Err-2.ensures.grows))))
-
 pub parse_arrow_or_assign-returns-in-Err : goal.parse_arrow_or_assign-returns-in-Err
 parse_arrow_or_assign-returns-in-Err g t c =
-    let h = c.in_ok-left-in-Err.ensures.recovers in
-    let took = c.in_ok-take_operator-in-Err.ensures.reads g.B.Bodies.is_faithful in
-    let right = c.in_ok-right-in-Err.ensures in
-    let more = s.leads_then took.on.leads right.reads.on.leads in
+    let h = c.in_ok-left-in-Err.ensures in
     let a = grows-count c.parse_arrow_or_operand.ensures.grows in
-    let kept = grows-then (grows-kept c.take_operator.ensures.nodes) right.grows in
-    let above = (from-later kept h.from).above in
-    let first = ap (λ e. first_at c.parse_unary_expr.new.p.nodes e.0) (pending.first_one c.in_ok-left-in-Err.left
-    c.in_ok-right-in-Err.right c.in_ok-left-in-Err.op c.new-pending.ensures c.in_ok-take_operator-in-Err.ensures.pushed) in
-    let from = c.in_ok-left-in-Err-2.ensures.from in
-    way.failed {m = c.parse_operators.new.p} c.finish_assignment_expr.result
-    (fails_later (recovered_fails c.in-Err.ensures.reads h.some h.effect h.notes more
-    (s.longer took.on.leads right.reads.on.leads took.onward)) c.in_ok-left-in-Err-2.ensures.reads.leads)
-    (grows-then c.parse_arrow_or_operand.ensures.grows (grows-then h.grows
-    (grows-then kept c.in_ok-left-in-Err-2.ensures.grows)))
-    (let b = from.above in omega arith) (λ x. from-down (omega arith))
+    let b = h.from.above in
+    way.failed {m = c.recover_operators.new.p} c.finish_assignment_expr.result
+    (again.fails_recovered c.in-Err.ensures.reads h.some h.effect h.notes)
+    (grows-then c.parse_arrow_or_operand.ensures.grows h.grows)
+    (omega arith) (λ x. from-down (omega arith))
     c.finish_assignment_expr.ensures
 
 pub parse_arrow_or_operand-parse_subscripts-requires : goal.parse_arrow_or_operand-parse_subscripts-requires

@@ -71,6 +71,9 @@ invariant-parse_args-loop-value g l =
 abbrev pub decreases-parse_args-loop-value : goal.decreases-parse_args-loop-value
 decreases-parse_args-loop-value g l = to_come g.I.Tokens.model l.p.input
 
+abbrev pub decreases-parse_operand : goal.decreases-parse_operand
+decreases-parse_operand g l = to_come g.I.Tokens.model l.p.now.input * 20 + 7
+
 abbrev pub decreases-parse_unary_expr : goal.decreases-parse_unary_expr
 decreases-parse_unary_expr g l = to_come g.I.Tokens.model l.p.now.input * 20 + 6
 
@@ -91,6 +94,9 @@ invariant-parse_operators-loop-pending g l =
 abbrev pub decreases-parse_operators-loop-pending : goal.decreases-parse_operators-loop-pending
 decreases-parse_operators-loop-pending g l =
     to_come g.I.Tokens.model l.p.input * 2 + length (all_pending l.pending)
+
+abbrev pub decreases-recover_operators : goal.decreases-recover_operators
+decreases-recover_operators g l = to_come g.I.Tokens.model l.p.now.input * 20 + 10
 
 abbrev pub decreases-parse_bin_expr : goal.decreases-parse_bin_expr
 decreases-parse_bin_expr g l = to_come g.I.Tokens.model l.p.now.input * 20 + 11

@@ -31,7 +31,7 @@ arrow_head-is_async-requires g c = record { one = (c.in-Arrow.span, c.in-Arrow.p
 pub unreachable-requires-in-None-arrow : goal.unreachable-requires-in-None-arrow
 unreachable-requires-in-None-arrow g c =
     none-out c.arrow.result (c.in-Arrow.params, c.in-Arrow.body)
-    (c.arrow.ensures c.in-Arrow.span c.in-Arrow.params c.in-Arrow.body c.in-Arrow.is_async (c.replace-in-Arrow.ensures.value ∙ c.in-Arrow.is)) c.in-None-arrow.is
+    (c.arrow.ensures c.in-Arrow.span c.in-Arrow.params c.in-Arrow.is_async c.in-Arrow.body (c.replace-in-Arrow.ensures.value ∙ c.in-Arrow.is)) c.in-None-arrow.is
 
 pub returns-in-Some-arrow : goal.returns-in-Some-arrow
 returns-in-Some-arrow g c =
@@ -41,7 +41,7 @@ returns-in-Some-arrow g c =
     let body = c.in-Some-arrow.body in
     let head = c.arrow_head-is_async.ensures c.in-Arrow.span c.in-Arrow.params c.in-Arrow.body c.in-Arrow.is_async c.in-Arrow.is in
     let is = arrow-out c.args.expr.now c.in-Arrow.span c.in-Arrow.params params c.in-Arrow.body body c.in-Arrow.is_async c.arrow.result c.in-Arrow.is
-    (c.arrow.ensures c.in-Arrow.span c.in-Arrow.params c.in-Arrow.body c.in-Arrow.is_async (c.replace-in-Arrow.ensures.value ∙ c.in-Arrow.is)) c.in-Some-arrow.is in
+    (c.arrow.ensures c.in-Arrow.span c.in-Arrow.params c.in-Arrow.is_async c.in-Arrow.body (c.replace-in-Arrow.ensures.value ∙ c.in-Arrow.is)) c.in-Some-arrow.is in
     split-tree c.split_arrow.ensures
     (ap (λ h. node (arrow h.1) h.0 (cons (body_tree g.K.Spanned.place boxed body.value) (trees (map pat params.items)))) head
     ∙ sym (ap (expr_tree _ _ _ g.F.Spanned.place g.C.Spanned.place g.K.Spanned.place) is ∙ arrow_tree _ _ _ g.F.Spanned.place g.C.Spanned.place g.K.Spanned.place c.in-Arrow.span params body c.in-Arrow.is_async))

@@ -8,6 +8,7 @@ use Rattle.swc_nodes.specs.GrowingNodes.{tree_at}
 use Rattle.swc_nodes.proofs.Remembered.{args-commas}
 use Rattle.swc_ecma_parser.specs.Calls.{nodes_of, commas_of}
 use Rattle.swc_ecma_parser.specs.Promise.{items_and_comma, list_tree}
+use Rattle.swc_ecma_parser.proofs.Placed.{list-placed}
 use Rattle.swc_ecma_parser.proofs.Calling.{promised, promised-again}
 use Rattle.swc_ecma_parser.proofs.Moving.{moved-by, moved-list, bare_list, list-bare, cut-back, recalled, recalled-list}
 use Rattle.swc_ecma_parser.proofs.Top.{args-stops, leaves-list, meets-as}
@@ -26,7 +27,7 @@ returns g c =
     record {
       promised = promised c.parse_arguments-answer.new.p.input (nodes_of c.move_out-answer.new.self) (commas_of c.move_out-answer.new.self) c.with_comma-answer.result c.finish.result c.in_ok-begin.ensures.runs moved.runs
           done.answer (done.buffer ∙ moved.buffer) done.nodes done.commas done.fails
-          (meets-as g.I.Tokens.model g.B.Bodies.is_faithful g.B.BodyForms.forms g.met.B.Bodies.lawful boxed leaves-list args-stops _ c.with_comma-answer.result _
+          (meets-as g.I.Tokens.model g.B.Bodies.is_faithful g.B.BodyForms.forms g.met.B.Bodies.lawful boxed leaves-list (list-placed g.B.BodyForms.forms) args-stops _ c.with_comma-answer.result _
           (moved-by g.I.Tokens.model g.B.Bodies.is_faithful (run g.B.BodyForms.forms (at (Arguments false))) ns args_at (bare_list ns) boxed items_and_comma _ _ c.parse_arguments-answer.result c.with_comma-answer.result read.reads
           (list-bare ns) (moved-list ns _ c.last_comma-comma.result c.parse_arguments-answer.result c.move_out-answer.result c.with_comma-answer.result c.last_comma-comma.ensures moved.moved c.with_comma-answer.ensures)))
           (recalled g.I.Tokens.model g.B.Bodies.is_faithful g.B.BodyForms.forms g.met.B.Bodies.lawful (Arguments false) items_and_comma ns (args_at ns) (bare_list ns) (boxed) (λ l. args_parts l.items)

@@ -2,7 +2,8 @@ use Rattle.std.proofs.Common.{refl, sym, ◌∙◌}
 use Rattle.std.proofs.lemmas.Result.{err_from_is_err_and}
 use Rattle.swc_ast.specs.TreeOf.{pat_tree}
 use Rattle.swc_ecma_parser.specs.Calls.{buffer_of, nodes_of, commas_of, pats_tree}
-use Rattle.swc_ecma_parser.proofs.ArrowPromise.{bound-heads, heads-recalled, meets-heads}
+use Rattle.swc_ecma_parser.proofs.ArrowPromise.{bound-heads, heads-boxes-checked, heads-recalled, meets-heads}
+use Rattle.swc_ecma_parser.specs.Heads.{heads_items}
 use Rattle.swc_ecma_parser.proofs.Calling.{promised, promised-again}
 use Rattle.swc_ecma_parser.proofs.Moving.{cut-back}
 use Rattle.swc_ecma_parser.proofs.parser.Parser.parse_arrow_params.Goals as goal
@@ -21,15 +22,18 @@ returns-in_err-begin-clause-binds g c = λ runs. bound-heads g.I.Tokens.model g.
 pub returns-clause-promised : goal.returns-clause-promised
 returns-clause-promised g c =
     let done = c.finish.ensures in
-    let moved = c.move_out-answer.ensures in
+    let moved = c.move_out_checked-answer.ensures in
     let read = c.parse_arrow_params-answer.ensures in
     let ns = c.parse_arrow_params-answer.new.p.nodes in
-    let answer = c.parse_arrow_params-answer.result in
-    promised c.parse_arrow_params-answer.new.p.input (nodes_of c.move_out-answer.new.self) (commas_of c.move_out-answer.new.self) c.move_out-answer.result c.finish.result c.in_ok-begin.ensures.runs moved.runs
-    done.answer (done.buffer ∙ moved.buffer) done.nodes done.commas done.fails
-    (meets-heads g.I.Tokens.model g.B.Bodies.is_faithful g.B.BodyForms.forms g.met.B.Bodies.lawful ns _ _ answer c.move_out-answer.result read.reads moved.moved)
-    (heads-recalled g.I.Tokens.model g.B.Bodies.is_faithful g.B.BodyForms.forms g.met.B.Bodies.lawful ns _ _ answer c.move_out-answer.result read.reads moved.moved _ _ moved.commas)
-    (cut-back (nodes_of c.move_out-answer.new.self) read.grows (rw (sym c.len-start.ensures) moved.nodes))
+    let answer = moved.moves.checked in
+    let reads =
+    heads-boxes-checked g.I.Tokens.model g.B.Bodies.is_faithful (heads_items g.B.BodyForms.forms) ns _ _ _ c.parse_arrow_params-answer.result answer read.reads
+    moved.moves.checks in
+    promised (buffer_of c.move_out_checked-answer.new.self) (nodes_of c.move_out_checked-answer.new.self) (commas_of c.move_out_checked-answer.new.self) c.move_out_checked-answer.result c.finish.result c.in_ok-begin.ensures.runs moved.runs
+    done.answer done.buffer done.nodes done.commas done.fails
+    (meets-heads g.I.Tokens.model g.B.Bodies.is_faithful g.B.BodyForms.forms g.met.B.Bodies.lawful ns _ _ answer c.move_out_checked-answer.result reads moved.moves.moved)
+    (heads-recalled g.I.Tokens.model g.B.Bodies.is_faithful g.B.BodyForms.forms g.met.B.Bodies.lawful ns _ _ answer c.move_out_checked-answer.result reads moved.moves.moved _ _ moved.moves.commas)
+    (cut-back (nodes_of c.move_out_checked-answer.new.self) read.grows (rw (sym c.len-start.ensures) moved.nodes))
 
 pub returns-clause-binds : goal.returns-clause-binds
 returns-clause-binds g c = λ runs. bound-heads g.I.Tokens.model g.B.BodyForms.forms

@@ -8,10 +8,11 @@ use Rattle.swc_nodes.specs.GrowingNodes.{bare_at}
 use Rattle.swc_nodes.specs.NodeParts.{one_pat}
 use Rattle.swc_patterns.specs.Answers.{pat_at}
 use Rattle.swc_ecma_parser.specs.Calls.{buffer_of, nodes_of, commas_of}
+use Rattle.swc_ecma_parser.proofs.Finished.{checked, pat-boxes-checked, meets-boxes-checked, recalled-checked}
 use Rattle.swc_ecma_parser.proofs.Calling.{promised, promised-again}
-use Rattle.swc_ecma_parser.proofs.Moving.{moved-parses, cut-back, recalled}
+use Rattle.swc_ecma_parser.proofs.Moving.{moved-parses, cut-back}
 use Rattle.swc_ecma_parser.proofs.Patterns.{bound-element}
-use Rattle.swc_ecma_parser.proofs.Top.{element-stops, meets-in-boxes}
+use Rattle.swc_ecma_parser.proofs.Top.{element-stops}
 use Rattle.swc_ecma_parser.proofs.parser.Parser.parse_binding_element.Goals as goal
 
 pub returns-in_err-begin-clause-promised : goal.returns-in_err-begin-clause-promised
@@ -29,18 +30,19 @@ pub returns-clause-promised : goal.returns-clause-promised
 returns-clause-promised g c =
     let boxed = pat_tree _ _ _ g.B.Fun.Spanned.place g.B.Class.Spanned.place g.B.Block.Spanned.place in
     let done = c.finish.ensures in
-    let moved = c.move_out-answer.ensures in
+    let moved = c.move_out_checked-answer.ensures in
     let read = c.parse_binding_element-answer.ensures in
     let ns = c.parse_binding_element-answer.new.p.nodes in
-    let answer = c.parse_binding_element-answer.result in
-    promised c.parse_binding_element-answer.new.p.input (nodes_of c.move_out-answer.new.self) (commas_of c.move_out-answer.new.self) c.move_out-answer.result c.finish.result c.in_ok-begin.ensures.runs moved.runs
-    done.answer (done.buffer ∙ moved.buffer) done.nodes done.commas done.fails
-    (meets-in-boxes g.I.Tokens.model g.B.Bodies.is_faithful g.B.BodyForms.forms g.met.B.Bodies.lawful boxed element-stops _ c.move_out-answer.result _
-    (moved-parses g.I.Tokens.model g.B.Bodies.is_faithful (run g.B.BodyForms.forms (at Element)) ns pat_at (λ p. bare_at ns p.0) boxed _ _ answer c.move_out-answer.result read.reads
-    (λ p. refl) moved.moved))
-    (recalled g.I.Tokens.model g.B.Bodies.is_faithful g.B.BodyForms.forms g.met.B.Bodies.lawful Element unmarked ns (pat_at ns) (λ p. bare_at ns p.0) boxed one_pat
-    _ _ answer c.move_out-answer.result _ _ read.reads (λ p. refl) (λ p. refl) moved.moved moved.commas)
-    (cut-back (nodes_of c.move_out-answer.new.self) read.grows (rw (sym c.len-start.ensures) moved.nodes))
+    let answer = moved.moves.checked in
+    let reads = pat-boxes-checked g.I.Tokens.model g.B.Bodies.is_faithful (run g.B.BodyForms.forms (at Element)) ns _ _ _ c.parse_binding_element-answer.result answer read.reads moved.moves.checks in
+    promised (buffer_of c.move_out_checked-answer.new.self) (nodes_of c.move_out_checked-answer.new.self) (commas_of c.move_out_checked-answer.new.self) c.move_out_checked-answer.result c.finish.result c.in_ok-begin.ensures.runs moved.runs
+    done.answer done.buffer done.nodes done.commas done.fails
+    (meets-boxes-checked g.I.Tokens.model g.B.Bodies.is_faithful g.B.BodyForms.forms g.met.B.Bodies.lawful boxed element-stops _ c.move_out_checked-answer.result _
+    (moved-parses g.I.Tokens.model g.B.Bodies.is_faithful (checked unmarked (run g.B.BodyForms.forms (at Element))) ns pat_at (λ p. bare_at ns p.0) boxed _ _ answer c.move_out_checked-answer.result reads
+    (λ p. refl) moved.moves.moved))
+    (recalled-checked g.I.Tokens.model g.B.Bodies.is_faithful g.B.BodyForms.forms g.met.B.Bodies.lawful Element unmarked ns (pat_at ns) (λ p. bare_at ns p.0) boxed one_pat
+    _ _ answer c.move_out_checked-answer.result _ _ reads (λ p. refl) (λ p. refl) moved.moves.moved moved.moves.commas)
+    (cut-back (nodes_of c.move_out_checked-answer.new.self) read.grows (rw (sym c.len-start.ensures) moved.nodes))
 
 pub returns-clause-binds : goal.returns-clause-binds
 returns-clause-binds g c = λ runs. bound-element g.I.Tokens.model g.B.BodyForms.forms

@@ -6,10 +6,11 @@ use Rattle.swc_nodes.specs.GrowingNodes.{bare_at}
 use Rattle.swc_steps.specs.Parsing.{tree_of}
 use Rattle.swc_ast.specs.Trees.{unmarked}
 use Rattle.swc_nodes.specs.NodeParts.{one_expr}
-use Rattle.swc_ecma_parser.specs.Calls.{nodes_of, commas_of, tree_by}
+use Rattle.swc_ecma_parser.specs.Calls.{buffer_of, nodes_of, commas_of, tree_by}
+use Rattle.swc_ecma_parser.proofs.Finished.{checked, expr-boxes-checked, meets-boxes-checked, recalled-checked}
 use Rattle.swc_ecma_parser.proofs.Calling.{promised, promised-again}
-use Rattle.swc_ecma_parser.proofs.Moving.{moved-parses, cut-back, recalled}
-use Rattle.swc_ecma_parser.proofs.Top.{expr-stops, meets-in-boxes}
+use Rattle.swc_ecma_parser.proofs.Moving.{moved-parses, cut-back}
+use Rattle.swc_ecma_parser.proofs.Top.{expr-stops}
 use Rattle.swc_ecma_parser.proofs.parser.Parser.parse_expr.Goals as goal
 
 pub returns-in_err-begin : goal.returns-in_err-begin
@@ -19,15 +20,20 @@ pub returns : goal.returns
 returns g c =
     let boxed = tree_by g.B.Fun.Spanned.place g.B.Class.Spanned.place g.B.Block.Spanned.place in
     let done = c.finish.ensures in
-    let moved = c.move_out-answer.ensures in
+    let moved = c.move_out_checked-answer.ensures in
     let read = c.parse_expr-answer.ensures in
+    let ns = c.parse_expr-answer.new.p.nodes in
+    let answer = moved.moves.checked in
+    let reads =
+    expr-boxes-checked g.I.Tokens.model g.B.Bodies.is_faithful (run g.B.BodyForms.forms (at Expr)) ns _ _ _ c.parse_expr-answer.result answer read.reads
+    moved.moves.checks in
     record {
-      promised = promised c.parse_expr-answer.new.p.input (nodes_of c.move_out-answer.new.self) (commas_of c.move_out-answer.new.self) c.move_out-answer.result c.finish.result c.in_ok-begin.ensures.runs moved.runs
-          done.answer (done.buffer ∙ moved.buffer) done.nodes done.commas done.fails
-          (meets-in-boxes g.I.Tokens.model g.B.Bodies.is_faithful g.B.BodyForms.forms g.met.B.Bodies.lawful boxed expr-stops _ c.move_out-answer.result _
-          (moved-parses g.I.Tokens.model g.B.Bodies.is_faithful (run g.B.BodyForms.forms (at Expr)) c.parse_expr-answer.new.p.nodes tree_of (λ e. bare_at c.parse_expr-answer.new.p.nodes e.0) boxed _ _ c.parse_expr-answer.result c.move_out-answer.result read.reads
-          (λ e. refl) moved.moved))
-          (recalled g.I.Tokens.model g.B.Bodies.is_faithful g.B.BodyForms.forms g.met.B.Bodies.lawful Expr unmarked c.parse_expr-answer.new.p.nodes (tree_of c.parse_expr-answer.new.p.nodes) (λ e. bare_at c.parse_expr-answer.new.p.nodes e.0) (boxed) (one_expr)
-          _ _ c.parse_expr-answer.result c.move_out-answer.result _ _ read.reads (λ e. refl) (λ e. refl) (moved.moved) (moved.commas))
-          (cut-back (nodes_of c.move_out-answer.new.self) read.grows (rw (sym c.len-start.ensures) moved.nodes));
+      promised = promised (buffer_of c.move_out_checked-answer.new.self) (nodes_of c.move_out_checked-answer.new.self) (commas_of c.move_out_checked-answer.new.self) c.move_out_checked-answer.result c.finish.result c.in_ok-begin.ensures.runs moved.runs
+          done.answer done.buffer done.nodes done.commas done.fails
+          (meets-boxes-checked g.I.Tokens.model g.B.Bodies.is_faithful g.B.BodyForms.forms g.met.B.Bodies.lawful boxed expr-stops _ c.move_out_checked-answer.result _
+          (moved-parses g.I.Tokens.model g.B.Bodies.is_faithful (checked unmarked (run g.B.BodyForms.forms (at Expr))) ns tree_of (λ e. bare_at ns e.0) boxed _ _ answer c.move_out_checked-answer.result reads
+          (λ e. refl) moved.moves.moved))
+          (recalled-checked g.I.Tokens.model g.B.Bodies.is_faithful g.B.BodyForms.forms g.met.B.Bodies.lawful Expr unmarked ns (tree_of ns) (λ e. bare_at ns e.0) (boxed) (one_expr)
+          _ _ answer c.move_out_checked-answer.result _ _ reads (λ e. refl) (λ e. refl) (moved.moves.moved) (moved.moves.commas))
+          (cut-back (nodes_of c.move_out_checked-answer.new.self) read.grows (rw (sym c.len-start.ensures) moved.nodes));
     }

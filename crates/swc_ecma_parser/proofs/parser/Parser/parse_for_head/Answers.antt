@@ -1,7 +1,7 @@
 use Rattle.std.proofs.Common.{refl, sym, ◌∙◌}
 use Rattle.std.proofs.lemmas.Result.{err_from_is_err_and}
-use Rattle.swc_ecma_parser.specs.Calls.{nodes_of, commas_of}
-use Rattle.swc_ecma_parser.proofs.ForHeads.{head-again, head-bare, head-moved, head-promised, head-recalled, promised-head}
+use Rattle.swc_ecma_parser.specs.Calls.{buffer_of, nodes_of, commas_of}
+use Rattle.swc_ecma_parser.proofs.ForHeads.{head-again, head-bare, head-boxes-checked, head-moved, head-promised, head-recalled, head-told, promised-head}
 use Rattle.swc_ecma_parser.proofs.Moving.{cut-back}
 use Rattle.swc_ecma_parser.proofs.parser.Parser.parse_for_head.Goals as goal
 
@@ -13,19 +13,25 @@ returns-in_err-begin g c =
 pub returns : goal.returns
 returns g c =
     let done = c.finish.ensures in
-    let moved = c.move_out-answer.ensures in
+    let moved = c.move_out_checked-answer.ensures in
     let read = c.parse_for_head-answer.ensures in
     let ns = c.parse_for_head-answer.new.p.nodes in
-    let answer = c.parse_for_head-answer.result in
+    let answer = moved.moves.checked in
     let hook = g.B.BodyForms.forms in
+    let reads =
+    head-boxes-checked g.I.Tokens.model g.B.Bodies.is_faithful hook c.args.is_await ns _ _ _ c.parse_for_head-answer.result answer read.produces.reads
+    moved.moves.checks in
+    let which =
+    head-told g.I.Tokens.model g.B.Bodies.is_faithful hook c.args.is_await ns _ _ _ c.parse_for_head-answer.result answer read.produces.reads
+    moved.moves.checks read.which in
     let laws = g.met.B.Bodies.lawful in
-    let boxes = head-moved ns _ answer c.move_out-answer.result moved.moved in
+    let boxes = head-moved ns _ answer c.move_out_checked-answer.result moved.moves.moved in
     let by = head-bare hook c.args.is_await in
-    promised-head c.parse_for_head-answer.new.p.input (nodes_of c.move_out-answer.new.self)
-    (commas_of c.move_out-answer.new.self) c.move_out-answer.result c.finish.result c.in_ok-begin.ensures.runs moved.runs
-    done.answer (done.buffer ∙ moved.buffer) done.nodes done.commas done.fails
-    (head-promised g.I.Tokens.model g.B.Bodies.is_faithful hook laws c.args.is_await _ _ by _ ns _ _ answer c.move_out-answer.result
-    read.produces.reads boxes read.which)
-    (head-recalled g.I.Tokens.model g.B.Bodies.is_faithful hook laws c.args.is_await _ _ by _ ns _ _ answer c.move_out-answer.result
-    read.produces.reads boxes _ _ moved.commas)
-    (cut-back (nodes_of c.move_out-answer.new.self) read.produces.grows (rw (sym c.len-start.ensures) moved.nodes))
+    promised-head (buffer_of c.move_out_checked-answer.new.self) (nodes_of c.move_out_checked-answer.new.self)
+    (commas_of c.move_out_checked-answer.new.self) c.move_out_checked-answer.result c.finish.result c.in_ok-begin.ensures.runs moved.runs
+    done.answer done.buffer done.nodes done.commas done.fails
+    (head-promised g.I.Tokens.model g.B.Bodies.is_faithful hook laws c.args.is_await _ _ by _ ns _ _ answer c.move_out_checked-answer.result
+    reads boxes which)
+    (head-recalled g.I.Tokens.model g.B.Bodies.is_faithful hook laws c.args.is_await _ _ by _ ns _ _ answer c.move_out_checked-answer.result
+    reads boxes _ _ moved.moves.commas)
+    (cut-back (nodes_of c.move_out_checked-answer.new.self) read.produces.grows (rw (sym c.len-start.ensures) moved.nodes))

@@ -1,7 +1,7 @@
 use Rattle.std.proofs.Common.{refl, sym, ◌∙◌}
 use Rattle.std.proofs.lemmas.Result.{err_from_is_err_and}
-use Rattle.swc_ecma_parser.specs.Calls.{nodes_of, commas_of}
-use Rattle.swc_ecma_parser.proofs.FormalParams.{derives-bare, meets-params, params-again, params-moved, promised-params}
+use Rattle.swc_ecma_parser.specs.Calls.{buffer_of, nodes_of, commas_of}
+use Rattle.swc_ecma_parser.proofs.FormalParams.{derives-bare, meets-params, params-again, params-checked, params-moved, promised-params}
 use Rattle.swc_ecma_parser.proofs.Moving.{cut-back}
 use Rattle.swc_ecma_parser.proofs.parser.Parser.parse_formal_params.Goals as goal
 
@@ -13,14 +13,16 @@ returns-in_err-begin g c =
 pub returns : goal.returns
 returns g c =
     let done = c.finish.ensures in
-    let moved = c.move_out-answer.ensures in
+    let moved = c.move_out_checked-answer.ensures in
     let read = c.parse_formal_params-answer.ensures in
     let ns = c.parse_formal_params-answer.new.p.nodes in
-    let answer = c.parse_formal_params-answer.result in
+    let answer = moved.moves.checked in
     let hook = g.B.BodyForms.forms in
-    promised-params c.parse_formal_params-answer.new.p.input (nodes_of c.move_out-answer.new.self) (commas_of c.move_out-answer.new.self)
-    c.move_out-answer.result c.finish.result c.in_ok-begin.ensures.runs moved.runs
-    done.answer (done.buffer ∙ moved.buffer) done.nodes done.commas done.fails
+    let reads =
+    params-checked g.I.Tokens.model g.B.Bodies.is_faithful hook ns _ _ _ c.parse_formal_params-answer.result answer read.reads moved.moves.checks in
+    promised-params (buffer_of c.move_out_checked-answer.new.self) (nodes_of c.move_out_checked-answer.new.self) (commas_of c.move_out_checked-answer.new.self)
+    c.move_out_checked-answer.result c.finish.result c.in_ok-begin.ensures.runs moved.runs
+    done.answer done.buffer done.nodes done.commas done.fails
     (meets-params g.I.Tokens.model g.B.Bodies.is_faithful hook g.met.B.Bodies.lawful _ _ (derives-bare hook) _ ns _ _ _ _
-    answer c.move_out-answer.result read.reads (params-moved ns _ answer c.move_out-answer.result moved.moved) moved.commas)
-    (cut-back (nodes_of c.move_out-answer.new.self) read.grows (rw (sym c.len-start.ensures) moved.nodes))
+    answer c.move_out_checked-answer.result reads (params-moved ns _ answer c.move_out_checked-answer.result moved.moves.moved) moved.moves.commas)
+    (cut-back (nodes_of c.move_out_checked-answer.new.self) read.grows (rw (sym c.len-start.ensures) moved.nodes))

@@ -1,8 +1,10 @@
 use Rattle.std.proofs.Common.{refl, sym, ◌∙◌}
 use Rattle.std.proofs.lemmas.Result.{err_from_is_err_and}
+use Rattle.swc_nodes.specs.GrowingNodes.{Apart}
 use Rattle.swc_nodes.specs.NodeParts.{flat, param_parts}
-use Rattle.swc_ecma_parser.specs.Calls.{nodes_of, commas_of}
-use Rattle.swc_ecma_parser.proofs.FormalParams.{derives-marked, meets-params, params-again, params-apart, params-kept, promised-params}
+use Rattle.swc_ecma_parser.specs.Calls.{buffer_of, nodes_of, commas_of}
+use Rattle.swc_ecma_parser.proofs.Finished.{checked-holds}
+use Rattle.swc_ecma_parser.proofs.FormalParams.{derives-marked, meets-params, params-again, params-apart, params-checked, params-kept, promised-params}
 use Rattle.swc_ecma_parser.proofs.Moving.{kept-parts}
 use Rattle.swc_ecma_parser.proofs.parser.Parser.parse_formal_params_id.Goals as goal
 
@@ -14,17 +16,21 @@ returns-in_err-begin g c =
 pub returns : goal.returns
 returns g c =
     let done = c.finish.ensures in
-    let kept = c.keep-answer.ensures in
+    let kept = c.keep_checked-answer.ensures in
     let read = c.parse_formal_params-answer.ensures in
     let ms = c.parse_formal_params-answer.new.p.nodes in
-    let ns = nodes_of c.keep-answer.new.self in
-    let answer = c.parse_formal_params-answer.result in
+    let ns = nodes_of c.keep_checked-answer.new.self in
+    let answer = kept.keeps.checked in
     let hook = g.B.BodyForms.forms in
-    promised-params c.parse_formal_params-answer.new.p.input ns (commas_of c.keep-answer.new.self)
-    c.keep-answer.result c.finish.result c.in_ok-begin.ensures.runs kept.runs
-    done.answer (done.buffer ∙ kept.buffer) done.nodes done.commas done.fails
+    let reads =
+    params-checked g.I.Tokens.model g.B.Bodies.is_faithful hook ms _ _ _ c.parse_formal_params-answer.result answer read.reads kept.keeps.checks in
+    let from = checked-holds g.I.Tokens.model _ _ _ (λ x. Apart c.len-start.result ms (flat param_parts x.items)) c.parse_formal_params-answer.result answer
+    kept.keeps.checks (rw (c.len-start.ensures) (params-apart ms _ c.parse_formal_params-answer.result read.from)) in
+    promised-params (buffer_of c.keep_checked-answer.new.self) ns (commas_of c.keep_checked-answer.new.self)
+    c.keep_checked-answer.result c.finish.result c.in_ok-begin.ensures.runs kept.runs
+    done.answer done.buffer done.nodes done.commas done.fails
     (meets-params g.I.Tokens.model g.B.Bodies.is_faithful hook g.met.B.Bodies.lawful _ _ (derives-marked hook) _ ms _ _ _ _
-    answer c.keep-answer.result read.reads
-    (params-kept ms ns _ c.len-start.result answer c.keep-answer.result kept.answer kept.nodes) kept.commas)
-    (kept-parts (λ ps. flat param_parts ps.items) ns _ answer c.keep-answer.result read.grows (params-apart ms _ answer read.from) kept.answer
+    answer c.keep_checked-answer.result reads
+    (params-kept ms ns _ c.len-start.result answer c.keep_checked-answer.result kept.keeps.kept kept.nodes) kept.keeps.commas)
+    (kept-parts (λ ps. flat param_parts ps.items) ns _ answer c.keep_checked-answer.result read.grows (rw (sym c.len-start.ensures) from) kept.keeps.kept
     (rw (sym c.len-start.ensures) kept.nodes))

@@ -2,13 +2,15 @@ use Rattle.std.proofs.Common.{refl, sym, ◌∙◌}
 use Rattle.std.proofs.lemmas.Result.{err_from_is_err_and}
 use Rattle.swc_grammar.specs.Symbols.{Pat}
 use Rattle.swc_grammar.specs.Clean.{sym as at, run}
+use Rattle.swc_nodes.specs.GrowingNodes.{From}
 use Rattle.swc_nodes.specs.NodeParts.{pat_part, one_pat}
 use Rattle.swc_patterns.specs.Answers.{pat_at}
 use Rattle.swc_ecma_parser.specs.Calls.{buffer_of, nodes_of, commas_of}
+use Rattle.swc_ecma_parser.proofs.Finished.{checked, checked-holds, pat-checked, meets-number-checked, recalled-checked}
 use Rattle.swc_ecma_parser.proofs.Calling.{promised, promised-again}
-use Rattle.swc_ecma_parser.proofs.Moving.{kept-leaves, kept-moved, kept-parses, recalled}
+use Rattle.swc_ecma_parser.proofs.Moving.{kept-leaves, kept-moved, kept-parses}
 use Rattle.swc_ecma_parser.proofs.Patterns.{bound-marked}
-use Rattle.swc_ecma_parser.proofs.Top.{pat-stops, meets-by-number}
+use Rattle.swc_ecma_parser.proofs.Top.{pat-stops}
 use Rattle.swc_ecma_parser.proofs.parser.Parser.parse_pat_id.Goals as goal
 
 pub returns-in_err-begin-clause-promised : goal.returns-in_err-begin-clause-promised
@@ -24,18 +26,23 @@ returns-in_err-begin-clause-binds g c = λ runs. bound-marked g.I.Tokens.model g
 pub returns-clause-promised : goal.returns-clause-promised
 returns-clause-promised g c =
     let done = c.finish.ensures in
-    let kept = c.keep-answer.ensures in
+    let kept = c.keep_checked-answer.ensures in
     let read = c.parse_pat-answer.ensures in
     let ms = c.parse_pat-answer.new.p.nodes in
-    let ns = nodes_of c.keep-answer.new.self in
-    let answer = c.parse_pat-answer.result in
-    promised c.parse_pat-answer.new.p.input ns (commas_of c.keep-answer.new.self) c.keep-answer.result c.finish.result c.in_ok-begin.ensures.runs kept.runs
-    done.answer (done.buffer ∙ kept.buffer) done.nodes done.commas done.fails
-    (meets-by-number g.I.Tokens.model g.B.Bodies.is_faithful g.B.BodyForms.forms g.met.B.Bodies.lawful (pat_at ns) pat-stops _ c.keep-answer.result _
-    (kept-parses g.I.Tokens.model g.B.Bodies.is_faithful (run g.B.BodyForms.forms (at Pat)) pat_at ms ns c.len-start.result _ _ answer c.keep-answer.result read.reads kept.answer kept.nodes))
-    (recalled g.I.Tokens.model g.B.Bodies.is_faithful g.B.BodyForms.forms g.met.B.Bodies.lawful Pat (λ t. t) ms (pat_at ms) (pat_at ms) (pat_at ns) one_pat
-    _ _ answer c.keep-answer.result _ _ read.reads (λ e. refl) (λ e. refl) (kept-moved pat_at ms ns _ c.len-start.result answer c.keep-answer.result kept.answer kept.nodes) kept.commas)
-    (kept-leaves pat_part ns _ answer c.keep-answer.result read.grows read.from kept.answer (rw (sym c.len-start.ensures) kept.nodes))
+    let ns = nodes_of c.keep_checked-answer.new.self in
+    let answer = kept.keeps.checked in
+    let reads =
+    pat-checked g.I.Tokens.model g.B.Bodies.is_faithful (run g.B.BodyForms.forms (at Pat)) ms _ _ _ c.parse_pat-answer.result answer read.reads
+    kept.keeps.checks in
+    let from = checked-holds g.I.Tokens.model _ _ _ (λ id. From c.len-start.result ms (pat_part id)) c.parse_pat-answer.result answer kept.keeps.checks
+    (rw (c.len-start.ensures) read.from) in
+    promised (buffer_of c.keep_checked-answer.new.self) ns (commas_of c.keep_checked-answer.new.self) c.keep_checked-answer.result c.finish.result c.in_ok-begin.ensures.runs kept.runs
+    done.answer done.buffer done.nodes done.commas done.fails
+    (meets-number-checked g.I.Tokens.model g.B.Bodies.is_faithful g.B.BodyForms.forms g.met.B.Bodies.lawful (pat_at ns) pat-stops _ c.keep_checked-answer.result _
+    (kept-parses g.I.Tokens.model g.B.Bodies.is_faithful (checked (λ t. t) (run g.B.BodyForms.forms (at Pat))) pat_at ms ns c.len-start.result _ _ answer c.keep_checked-answer.result reads kept.keeps.kept kept.nodes))
+    (recalled-checked g.I.Tokens.model g.B.Bodies.is_faithful g.B.BodyForms.forms g.met.B.Bodies.lawful Pat (λ t. t) ms (pat_at ms) (pat_at ms) (pat_at ns) one_pat
+    _ _ answer c.keep_checked-answer.result _ _ reads (λ e. refl) (λ e. refl) (kept-moved pat_at ms ns _ c.len-start.result answer c.keep_checked-answer.result kept.keeps.kept kept.nodes) kept.keeps.commas)
+    (kept-leaves pat_part ns _ answer c.keep_checked-answer.result read.grows (rw (sym c.len-start.ensures) from) kept.keeps.kept (rw (sym c.len-start.ensures) kept.nodes))
 
 pub returns-clause-binds : goal.returns-clause-binds
 returns-clause-binds g c = λ runs. bound-marked g.I.Tokens.model g.B.BodyForms.forms

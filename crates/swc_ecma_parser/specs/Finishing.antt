@@ -1,0 +1,63 @@
+-- What is looked for in an answer before a call hands it out: cover names that are left in it.
+use Rattle.std.specs.Prelude.{◌≡◌, ℕ, Bool, true, false, not, ◌||◌, List, [], ◌∷◌, Result, Err, MatchResult}
+use Rattle.swc_context.specs.declared.error.Error.{Error}
+use Rattle.swc_context.specs.declared.span.Span.{Span}
+use Rattle.swc_input.specs.Buffer.{last_position, state_of}
+use Rattle.swc_input.specs.Recording.{is_silent}
+use Rattle.swc_input.specs.Source.{Model}
+use Rattle.swc_input.specs.declared.buffer.Buffer.{Buffer}
+use Rattle.swc_ast.specs.Tree.{Tree}
+use Rattle.swc_ast.specs.declared.spanned.Spanned.{Ghosts}
+use Rattle.swc_grammar.specs.Scope.{Scope}
+use Rattle.swc_nodes.specs.GrowingNodes.{tree_at}
+use Rattle.swc_nodes.specs.NodeParts.{Part}
+use Rattle.swc_steps.specs.Parsing.{scope, Checks, Forgoes}
+use Rattle.swc_verifier.specs.CoverNames.{parts_covers_left}
+use Rattle.swc_ecma_parser.specs.Calls.{buffer_of, nodes_of, with_buffer, Kept, MovesOut, RemembersParts}
+use Rattle.swc_ecma_parser.specs.declared.parser.Parser.{Parser}
+
+abbrev pub no_places : List Span → Bool
+no_places [] = true
+no_places (s ∷ ss) = false
+
+-- Is no cover name left in parts, if the syntax is pedantic?
+abbrev pub parts_done : {F C K : Type 0} → Scope → (ℕ → Tree F C K) → List Part → Bool
+parts_done c at ps = not c.syntax.pedantic || no_places (parts_covers_left at ps)
+
+module _ {S : Type 0} (model : Model S) where
+  -- A fault is recorded unless all is well. Where all is, and where no fault is recorded at all, nothing is done.
+  pub record ChecksCovers (well : Bool) (b c : Buffer S) : Type 0 where
+    pub checks : Checks model well b c
+    pub still : well ≡ true → c ≡ b
+    pub silent : is_silent (state_of model b) ≡ true → c ≡ b
+
+  -- of an item, and of an answer that is one; or memory was wanted
+  abbrev pub ChecksItem : {T : Type 0} → Bool → Buffer S → Result T Error → Buffer S → Type 0
+  ChecksItem well b r c = MatchResult r (λ t. ChecksCovers well b c) (λ e. Forgoes model b e c)
+
+  abbrev pub ChecksAnswer : {X : Type 0} → (X → Bool) → Buffer S → Result X Error → Result X Error → Buffer S → Type 0
+  ChecksAnswer well b answer r c = MatchResult answer
+      (λ x. MatchResult r (λ y. (y ≡ x) × ChecksCovers (well x) b c) (λ e. Forgoes model b e c))
+      (λ e. (r ≡ Err e) × (c ≡ b))
+
+module _ {S H F C K X : Type 0} {fg : Ghosts F} {cg : Ghosts C} {kg : Ghosts K} (model : Model S)
+    (parts : X → List Part) (p : Parser S H F C K fg cg kg) (answer : Result X Error) (q : Parser S H F C K fg cg kg) where
+  -- From the parser p to q an answer was looked through.
+  abbrev pub LooksThroughAnswer : Result X Error → Type 0
+  LooksThroughAnswer checked = ChecksAnswer model (λ x. parts_done (scope model (buffer_of p)) (tree_at (nodes_of p)) (parts x))
+      (buffer_of p) answer checked (buffer_of q)
+
+  -- What is left of it was kept among the nodes,
+  pub record KeepsChecked (r : Result X Error) : Type 0 where
+    pub checked : Result X Error
+    pub checks : LooksThroughAnswer checked
+    pub kept : Kept (last_position (buffer_of q)) checked r
+    pub commas : RemembersParts parts p checked r q
+
+  -- or moved out of them.
+  pub record MovesCheckedOut {T : Type 0} (by : (ℕ → Tree F C K) → X → Tree F C K) (view : T → Tree F C K) (r : Result T Error)
+      : Type 0 where
+    pub checked : Result X Error
+    pub checks : LooksThroughAnswer checked
+    pub moved : MovesOut by view (with_buffer (buffer_of q) p) checked r
+    pub commas : RemembersParts parts p checked r q
