@@ -1,6 +1,6 @@
 -- What a call of a hook ensures that refuses, or that records a fault and then reads.
-use Rattle.std.proofs.Common.{◌≡◌, ◌≢◌, ◌<◌, List, [], ◌∷◌, ◌++◌, Result, Err, length}
-use Rattle.std.proofs.Common.{sym, ap, ◌∙◌, arith, length-append}
+use Rattle.std.proofs.Common.{◌≡◌, ◌≢◌, ◌<◌, List, [], ◌∷◌, ◌++◌, Result, Err, IfErr, length}
+use Rattle.std.proofs.Common.{sym, ap, subst, ◌∙◌, arith, length-append}
 use Rattle.std.proofs.lemmas.List.{append-nil, nil_from_length}
 use Rattle.swc_context.specs.declared.error.Error.{Error}
 use Rattle.swc_context.specs.declared.error.SyntaxError.TheVariants as kind
@@ -36,6 +36,18 @@ module _ {S : Type 0} (model : Model S) where
     less = let l = took.2 in let m = read.lower in omega arith;
     clean = λ loud quiet. tt;
     refused = own;
+  }
+
+  -- what a call that refused ensures says nothing of its reading, so it holds of any
+  pub refuses_alike : {V W : Type 0} (reads : Reading V) (other : Reading W) (b c : Buffer S) (r : Result V Error) (e : Error) → r ≡ Err e →
+      Hooked model reads b r c → Hooked model other b (Err e) c
+  refuses_alike reads other b c r e is h = record {
+    taken = h.taken;
+    some = h.some;
+    read = h.read;
+    less = h.less;
+    clean = λ loud quiet. tt;
+    refused = subst (λ s. IfErr s (λ f. f.kind ≢ kind.ParserFailed)) is h.refused;
   }
 
   -- A fault was recorded, from b to c, and then a body was read, to d, and more tokens, to e. Whatever they were that is lawful: where

@@ -1,13 +1,11 @@
 // Lists that are cut after each token. Each call over them returns, keeps the context, and leaves what it didn't consume.
-use crate::runs::{first_of, numbered, run, source_of, worked_row};
+use crate::runs::{first_of, numbered, parser_of, run, source_of, worked_row};
 use crate::worked::WORKED;
 use bench_lower::rows::Row;
 use bench_lower::tokens::tokens_of;
 use std::alloc::{AllocError, Global};
 use std::test::Fail;
-use swc_bodies::token_bodies::TokenBodies;
 use swc_context::span::Span;
-use swc_ecma_parser::parser::Parser;
 use swc_input::buffer::Buffer;
 use swc_input::listed::TokensInput;
 use swc_input::token::TokenAndSpan;
@@ -71,21 +69,36 @@ pub(crate) fn check_left(
 fn run_over(alloc: Global, row: Row<'_>, tokens: &[TokenAndSpan], call: &str) -> Result<(), Fail> {
     let copy = first_of(alloc, tokens, tokens.len())?;
     let source = source_of(alloc, copy, row.setting, "loud")?;
-    let mut parser = Parser::new_from(alloc, source, TokenBodies::new(alloc));
+    let mut parser = parser_of(alloc, source);
     run(&mut parser, call)?;
     check_left(alloc, parser.buffer(), tokens)
+}
+
+/// Makes the row's call, and the one that answers a number, over the first tokens, as many as said.
+fn hold_cut(
+    alloc: Global,
+    row: Row<'_>,
+    tokens: &[TokenAndSpan],
+    count: usize,
+) -> Result<(), Fail> {
+    let cut = first_of(alloc, tokens, count)?;
+    run_over(alloc, row, &cut, row.calls)?;
+    run_over(alloc, row, &cut, numbered(row.calls))
+}
+
+/// Cuts the row's list after each token.
+fn hold_each_cut(alloc: Global, row: Row<'_>) -> Result<(), Fail> {
+    let tokens = tokens_of(alloc, row.text)?;
+    for count in 0..tokens.len().saturating_add(1) {
+        hold_cut(alloc, row, &tokens, count)?;
+    }
+    Ok(())
 }
 
 #[test]
 fn lists_that_are_cut(rt: HostRuntime) -> Result<(), Fail> {
     for line in WORKED.lines() {
-        let row = worked_row(line).ok_or(line)?;
-        let tokens = tokens_of(rt.alloc(), row.text)?;
-        for count in 0..tokens.len().saturating_add(1) {
-            let cut = first_of(rt.alloc(), &tokens, count)?;
-            run_over(rt.alloc(), row, &cut, row.calls)?;
-            run_over(rt.alloc(), row, &cut, numbered(row.calls))?;
-        }
+        hold_each_cut(rt.alloc(), worked_row(line)?)?;
     }
     Ok(())
 }

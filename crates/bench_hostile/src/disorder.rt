@@ -1,14 +1,12 @@
 // Lists with a fault in place of a token, and lists whose places go backwards. Each call over them returns, and keeps the
 // context; what it answers and records isn't looked at.
-use crate::runs::{first_of, numbered, run, source_of, worked_row};
+use crate::runs::{first_of, numbered, parser_of, run, source_of, worked_row};
 use crate::worked::WORKED;
 use bench_lower::rows::Row;
 use bench_lower::tokens::tokens_of;
 use std::alloc::{AllocError, Global};
 use std::test::Fail;
-use swc_bodies::token_bodies::TokenBodies;
 use swc_context::error::{Error, SyntaxError};
-use swc_ecma_parser::parser::Parser;
 use swc_input::token::{Token, TokenAndSpan};
 
 /// Words of settings: faults are recorded, and in two ways none is.
@@ -38,13 +36,9 @@ fn with_fault(
 
 /// The tokens, each with the place of the one that stands as far from the other end.
 fn backwards(alloc: Global, tokens: &[TokenAndSpan]) -> Result<Vec<TokenAndSpan>, AllocError> {
-    let mut out = Vec::new(alloc);
-    for (found, other) in tokens.iter().zip(tokens.iter().rev()) {
-        out.push(TokenAndSpan {
-            token: found.token.try_clone()?,
-            had_line_break: found.had_line_break,
-            span: other.span,
-        })?;
+    let mut out = first_of(alloc, tokens, tokens.len())?;
+    for (found, other) in out.iter_mut().zip(tokens.iter().rev()) {
+        found.span = other.span;
     }
     Ok(out)
 }
@@ -59,7 +53,7 @@ fn run_over(
 ) -> Result<(), Fail> {
     let tokens = first_of(alloc, tokens, tokens.len())?;
     let source = source_of(alloc, tokens, row.setting, loudness)?;
-    let mut parser = Parser::new_from(alloc, source, TokenBodies::new(alloc));
+    let mut parser = parser_of(alloc, source);
     run(&mut parser, call)
 }
 
@@ -72,26 +66,33 @@ fn hold(alloc: Global, row: Row<'_>, tokens: &[TokenAndSpan]) -> Result<(), Fail
     Ok(())
 }
 
-#[test]
-fn a_fault_in_place_of_each_token(rt: HostRuntime) -> Result<(), Fail> {
-    for line in WORKED.lines() {
-        let row = worked_row(line).ok_or(line)?;
-        let tokens = tokens_of(rt.alloc(), row.text)?;
-        for at in 0..tokens.len() {
-            let faulty = with_fault(rt.alloc(), &tokens, at)?;
-            hold(rt.alloc(), row, &faulty)?;
-        }
+/// The row's calls have to return with a fault in place of each of its tokens.
+fn hold_faulty(alloc: Global, row: Row<'_>) -> Result<(), Fail> {
+    let tokens = tokens_of(alloc, row.text)?;
+    for at in 0..tokens.len() {
+        hold(alloc, row, &with_fault(alloc, &tokens, at)?)?;
     }
     Ok(())
 }
 
 #[test]
+fn a_fault_in_place_of_each_token(rt: HostRuntime) -> Result<(), Fail> {
+    for line in WORKED.lines() {
+        hold_faulty(rt.alloc(), worked_row(line)?)?;
+    }
+    Ok(())
+}
+
+/// The row's calls have to return over its tokens with their places turned round.
+fn hold_backwards(alloc: Global, row: Row<'_>) -> Result<(), Fail> {
+    let tokens = tokens_of(alloc, row.text)?;
+    hold(alloc, row, &backwards(alloc, &tokens)?)
+}
+
+#[test]
 fn places_that_go_backwards(rt: HostRuntime) -> Result<(), Fail> {
     for line in WORKED.lines() {
-        let row = worked_row(line).ok_or(line)?;
-        let tokens = tokens_of(rt.alloc(), row.text)?;
-        let backwards = backwards(rt.alloc(), &tokens)?;
-        hold(rt.alloc(), row, &backwards)?;
+        hold_backwards(rt.alloc(), worked_row(line)?)?;
     }
     Ok(())
 }

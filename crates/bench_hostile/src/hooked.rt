@@ -9,10 +9,11 @@ use bench_lower::rows::{Row, expect, row_of};
 use bench_lower::tokens::tokens_of;
 use std::alloc::{AllocError, Global};
 use std::test::Fail;
-use swc_bodies::bodies::Bodies;
-use swc_bodies::none::NoBodies;
+use swc_context::error::PResult;
+use swc_context::span::Span;
 use swc_ecma_parser::parser::Parser;
-use swc_ecma_parser::printing::print::{Kept, PrintNodes};
+use swc_ecma_parser::printing::print::PrintNodes;
+use swc_input::buffer::Buffer;
 use swc_input::listed::TokensInput;
 use swc_input::token::TokenAndSpan;
 use swc_input::tokens::Tokens;
@@ -93,111 +94,87 @@ NoBodies 1 | parse_expr_id | script | - class {} | Unary(-, Invalid) | Unexpecte
 /// How the hooks of the loop over the worked rows are hostile.
 const MANNERS: [Manner; 3] = [Manner::RefuseAt, Manner::RecordAt, Manner::ReadOnAt];
 
-/// Writes the expression that is read, or the refusal.
-fn write_expr<B: Bodies<BreakableInput>>(
-    out: &mut String,
-    parser: &mut Parser<BreakableInput, B>,
-) -> Result<(), Fail>
-where
-    B::Fun: Kept,
-    B::Class: Kept,
-    B::Block: Kept,
-{
-    match parser.parse_expr_id() {
-        Ok(id) if parser.nodes().has_expr(id) => {
-            out.push_str(parser.nodes().print_expr(id)?.as_str())?;
-        }
-        Ok(_) => out.push_str("no node")?,
-        Err(fault) => write!(out, "refused: {}", fault.brief())?,
+/// Reads an expression, and answers its text, if it is the number of one.
+fn read_expr(parser: &mut Parser<BreakableInput, FailAt>) -> PResult<Option<String>> {
+    let id = parser.parse_expr_id()?;
+    if !parser.nodes().has_expr(id) {
+        return Ok(None);
     }
-    Ok(())
+    Ok(Some(parser.nodes().print_expr(id)?))
 }
 
-/// Writes the pattern that is read, or the refusal.
-fn write_pat<B: Bodies<BreakableInput>>(
-    out: &mut String,
-    parser: &mut Parser<BreakableInput, B>,
-) -> Result<(), Fail>
-where
-    B::Fun: Kept,
-    B::Class: Kept,
-    B::Block: Kept,
-{
-    match parser.parse_pat_id() {
-        Ok(id) if parser.nodes().has_pat(id) => {
-            out.push_str(parser.nodes().print_pat(id)?.as_str())?;
-        }
-        Ok(_) => out.push_str("no node")?,
-        Err(fault) => write!(out, "refused: {}", fault.brief())?,
+/// Reads a pattern, and answers its text, if it is the number of one.
+fn read_pat(parser: &mut Parser<BreakableInput, FailAt>) -> PResult<Option<String>> {
+    let id = parser.parse_pat_id()?;
+    if !parser.nodes().has_pat(id) {
+        return Ok(None);
     }
-    Ok(())
+    Ok(Some(parser.nodes().print_pat(id)?))
+}
+
+/// Writes the text, or the refusal.
+fn write_text(out: &mut String, answer: PResult<Option<String>>) -> Result<(), AllocError> {
+    match answer {
+        Ok(Some(text)) => out.push_str(text.as_str()),
+        Ok(None) => out.push_str("no node"),
+        Err(fault) => write!(out, "refused: {}", fault.brief()),
+    }
 }
 
 /// Writes whether no token is left, or the refusal.
-fn write_end<B: Bodies<BreakableInput>>(
-    out: &mut String,
-    parser: &mut Parser<BreakableInput, B>,
-) -> Result<(), AllocError> {
-    match parser.at_end() {
+fn write_end(out: &mut String, answer: PResult<bool>) -> Result<(), AllocError> {
+    match answer {
         Ok(is_end) => write!(out, "{is_end}"),
         Err(fault) => write!(out, "refused: {}", fault.brief()),
     }
 }
 
 /// Makes the calls, and writes what they answer.
-fn write_calls<B: Bodies<BreakableInput>>(
+fn write_calls(
     out: &mut String,
-    parser: &mut Parser<BreakableInput, B>,
+    parser: &mut Parser<BreakableInput, FailAt>,
     calls: &str,
-) -> Result<(), Fail>
-where
-    B::Fun: Kept,
-    B::Class: Kept,
-    B::Block: Kept,
-{
+) -> Result<(), AllocError> {
     for (at, call) in calls.split("; ").enumerate() {
         if at > 0 {
             out.push_str("; ")?;
         }
         match call {
-            "parse_expr_id" => write_expr(out, parser)?,
-            "parse_pat_id" => write_pat(out, parser)?,
-            _ => write_end(out, parser)?,
+            "parse_expr_id" => write_text(out, read_expr(parser))?,
+            "parse_pat_id" => write_text(out, read_pat(parser))?,
+            _ => write_end(out, parser.at_end())?,
         }
     }
     Ok(())
 }
 
+/// The place of the first token that is left, whether the source has failed or not.
+fn next_place(input: &mut Buffer<BreakableInput>) -> Option<Span> {
+    if input.cur().is_some() {
+        return Some(input.cur_span());
+    }
+    match input.input().take_left() {
+        Some(token) => Some(token.span),
+        None => None,
+    }
+}
+
 /// Writes the faults that were recorded, and the place of the first token that is left.
-fn write_rest<B: Bodies<BreakableInput>>(
+fn write_rest(
     out: &mut String,
-    parser: &mut Parser<BreakableInput, B>,
+    parser: &mut Parser<BreakableInput, FailAt>,
 ) -> Result<(), AllocError> {
     out.push_str(" | ")?;
     write_faults(out, &parser.take_errors())?;
     out.push_str(" | ")?;
-    let input = parser.buffer();
-    if input.cur().is_some() {
-        return write!(out, "{}", input.cur_span());
-    }
-    match input.input().take_left() {
-        Some(token) => write!(out, "{}", token.span),
+    match next_place(parser.buffer()) {
+        Some(place) => write!(out, "{place}"),
         None => out.push_str("end"),
     }
 }
 
 /// What is made of the tokens with the hook. The context has to be the one from before.
-fn shown<B: Bodies<BreakableInput>>(
-    alloc: Global,
-    source: TokensInput,
-    hook: B,
-    calls: &str,
-) -> Result<String, Fail>
-where
-    B::Fun: Kept,
-    B::Class: Kept,
-    B::Block: Kept,
-{
+fn shown(alloc: Global, source: TokensInput, hook: FailAt, calls: &str) -> Result<String, Fail> {
     let mut out = String::new(alloc);
     let before = source.ctx();
     let mut parser = Parser::new_from(alloc, BreakableInput::new(source), hook);
@@ -210,27 +187,39 @@ where
     }
 }
 
+/// The hook that reads as `TokenBodies` does, and makes its source fail at the call of the number.
+fn fails_at(alloc: Global, number: u32) -> FailAt {
+    FailAt::new(HostileBodies::new(alloc, Manner::TokenBodies, 0), number)
+}
+
+/// The hook that is written so. All are of one type, of which most never make the source fail.
+fn hook_of(alloc: Global, hook: &str) -> Option<FailAt> {
+    let (name, number) = hook.split_once(' ')?;
+    let number = number.parse().ok()?;
+    if name == "FailAt" {
+        return Some(fails_at(alloc, number));
+    }
+    Some(FailAt::new(HostileBodies::new(alloc, Manner::named(name)?, number), 0))
+}
+
 /// What is made of the row with the hook that is written so.
 fn found(alloc: Global, hook: &str, row: Row<'_>) -> Result<String, Fail> {
-    let (name, number) = hook.split_once(' ').ok_or("no hook")?;
-    let number = number.parse()?;
     let source = source_of(alloc, tokens_of(alloc, row.text)?, row.setting, "loud")?;
-    match Manner::named(name) {
-        Some(manner) => {
-            let hook = HostileBodies::new(alloc, manner, number);
-            shown(alloc, source, hook, row.calls)
-        }
-        None if name == "FailAt" => shown(alloc, source, FailAt::new(alloc, number), row.calls),
-        None => shown(alloc, source, NoBodies, row.calls),
-    }
+    let hook = hook_of(alloc, hook).ok_or("no hook")?;
+    shown(alloc, source, hook, row.calls)
+}
+
+/// What is made of the line's row has to be as it says.
+pub(crate) fn hold(alloc: Global, line: &str) -> Result<(), Fail> {
+    let (hook, rest) = line.split_once(" | ").ok_or(line)?;
+    let row = row_of(rest).ok_or(line)?;
+    expect(line, &found(alloc, hook, row)?, row.answer)
 }
 
 #[test]
 fn hostile_hooks(rt: HostRuntime) -> Result<(), Fail> {
     for line in HOOKED.lines() {
-        let (hook, rest) = line.split_once(" | ").ok_or(line)?;
-        let row = row_of(rest).ok_or(line)?;
-        expect(line, &found(rt.alloc(), hook, row)?, row.answer)?;
+        hold(rt.alloc(), line)?;
     }
     Ok(())
 }
@@ -263,25 +252,25 @@ fn run_failing(
 ) -> Result<(), Fail> {
     let copy = first_of(alloc, tokens, tokens.len())?;
     let source = source_of(alloc, copy, row.setting, "loud")?;
-    let _ = shown(
-        alloc,
-        source,
-        FailAt::new(alloc, number),
-        numbered(row.calls),
-    )?;
+    let _ = shown(alloc, source, fails_at(alloc, number), numbered(row.calls))?;
+    Ok(())
+}
+
+/// Makes the row's calls with each hook that is hostile at one of the first calls.
+fn hold_worked(alloc: Global, row: Row<'_>) -> Result<(), Fail> {
+    let tokens = tokens_of(alloc, row.text)?;
+    for number in 1..4 {
+        run_over(alloc, row, &tokens, row.calls, number)?;
+        run_over(alloc, row, &tokens, numbered(row.calls), number)?;
+        run_failing(alloc, row, &tokens, number)?;
+    }
     Ok(())
 }
 
 #[test]
 fn worked_rows_with_hostile_hooks(rt: HostRuntime) -> Result<(), Fail> {
     for line in WORKED.lines() {
-        let row = worked_row(line).ok_or(line)?;
-        let tokens = tokens_of(rt.alloc(), row.text)?;
-        for number in 1..4 {
-            run_over(rt.alloc(), row, &tokens, row.calls, number)?;
-            run_over(rt.alloc(), row, &tokens, numbered(row.calls), number)?;
-            run_failing(rt.alloc(), row, &tokens, number)?;
-        }
+        hold_worked(rt.alloc(), worked_row(line)?)?;
     }
     Ok(())
 }

@@ -1,5 +1,7 @@
-// Hooks that are lawful and not faithful: at one call they do otherwise than the hook that keeps tokens.
-ghost use Rattle.std.specs.Prelude.{◌≡◌, ◌≢◌, ◌<◌, ◌∷◌, [], true, Err, IsSome, OnOk, IfErr};
+// A hook of one type for all that the tests want of hooks: it keeps tokens, or reads nothing, or does otherwise at one
+// call. What is generic over hooks costs the check several times as much as what takes this one. It is lawful, and not
+// faithful.
+ghost use Rattle.std.specs.Prelude.{◌≡◌, ◌≢◌, ◌<◌, ◌∷◌, [], true, Err, IsErr, IsSome, OnOk, IfErr};
 ghost use Rattle.swc_context.specs.declared.span.Span.{Span};
 ghost use Rattle.swc_input.specs.declared.token.TokenAndSpan.{TokenAndSpan};
 ghost use Rattle.swc_input.specs.Plain.{plain};
@@ -11,7 +13,8 @@ ghost use Rattle.bench_hostile.specs.Breaking.{broken};
 
 use crate::sources::BreakableInput;
 use std::alloc::Global;
-use swc_bodies::bodies::{Bodies, BodyForms};
+use swc_bodies::bodies::{Bodies, BodyForms, ReplayBodies};
+use swc_bodies::none::NoBodies;
 use swc_bodies::token_bodies::TokenBodies;
 use swc_bodies::token_body::TokenBody;
 use swc_context::error::{Error, PResult, SyntaxError};
@@ -19,9 +22,13 @@ use swc_context::span::Span;
 use swc_input::buffer::Buffer;
 use swc_input::tokens::Tokens;
 
-/// What a hook does at one of its calls.
+/// What a hook does at one of its calls, or at each.
 #[derive(Clone, Copy)]
 pub enum Manner {
+    /// Reads each time as `TokenBodies` does, whatever the number.
+    TokenBodies,
+    /// Refuses each time as `NoBodies` does, whatever the number.
+    NoBodies,
     /// Consumes one token, and refuses `Lex` at it.
     RefuseAt,
     /// Records `Lex` at the first token, and then reads.
@@ -31,9 +38,11 @@ pub enum Manner {
 }
 
 impl Manner {
-    /// How a hook of the name is hostile.
+    /// What a hook of the name does.
     pub fn named(name: &str) -> Option<Manner> {
         match name {
+            "TokenBodies" => Some(Manner::TokenBodies),
+            "NoBodies" => Some(Manner::NoBodies),
             "RefuseAt" => Some(Manner::RefuseAt),
             "RecordAt" => Some(Manner::RecordAt),
             "ReadOnAt" => Some(Manner::ReadOnAt),
@@ -58,7 +67,7 @@ impl Turn {
     }
 }
 
-/// A hook that reads as `TokenBodies` does, but for one call.
+/// A hook that reads as `TokenBodies` does, but for one call, or refuses each as `NoBodies` does.
 #[derive(Drop)]
 pub struct HostileBodies {
     taker: TokenBodies,
@@ -66,10 +75,10 @@ pub struct HostileBodies {
     turn: Turn,
 }
 
-/// A hook that reads as `TokenBodies` does, and makes its source fail behind what one call took.
+/// A hook that reads as another one does, and makes its source fail behind what one call took.
 #[derive(Drop)]
 pub(crate) struct FailAt {
-    taker: TokenBodies,
+    reader: HostileBodies,
     turn: Turn,
 }
 
@@ -83,21 +92,21 @@ impl HostileBodies {
         }
     }
 
-    /// What is done otherwise at this call.
-    fn turn(&mut self) -> Option<Manner> {
-        if self.turn.is_now() {
-            Some(self.manner)
+    /// What is done at this call.
+    fn turn(&mut self) -> Manner {
+        if self.turn.is_now() || matches!(self.manner, Manner::NoBodies) {
+            self.manner
         } else {
-            None
+            Manner::TokenBodies
         }
     }
 }
 
 impl FailAt {
-    /// A hook that makes its source fail at the call of the number, counted from 1.
-    pub(crate) fn new(alloc: Global, number: u32) -> FailAt {
+    /// A hook that makes its source fail at the call of the number, counted from 1; at none, if that is 0.
+    pub(crate) fn new(reader: HostileBodies, number: u32) -> FailAt {
         FailAt {
-            taker: TokenBodies::new(alloc),
+            reader,
             turn: Turn { left: number },
         }
     }
@@ -142,6 +151,17 @@ fn record<I: Tokens>(input: &mut Buffer<I>) -> PResult<()>
     }
 }
 
+/// The refusal of a hook that reads nothing.
+fn refusal(answer: PResult<Span>) -> Error
+    requires { IsErr answer }
+    ensures { answer ≡ Err result }
+{
+    match answer {
+        Ok(_) => unreachable!(),
+        Err(fault) => fault,
+    }
+}
+
 /// What comes before the body: the current token is refused, and consumed, or a fault is recorded at it.
 fn begin<I: Tokens>(manner: Manner, input: &mut Buffer<I>) -> PResult<()>
     requires { is_fit (current input.old) ≡ true }
@@ -152,7 +172,7 @@ fn begin<I: Tokens>(manner: Manner, input: &mut Buffer<I>) -> PResult<()>
 {
     match manner {
         Manner::RefuseAt => Err(refuse(input)),
-        Manner::RecordAt | Manner::ReadOnAt => record(input),
+        _ => record(input),
     }
 }
 
@@ -196,8 +216,9 @@ impl<I: Tokens> Bodies<I> for HostileBodies {
 
     fn fun(&mut self, input: &mut Buffer<I>) -> PResult<TokenBody> {
         match self.turn() {
-            None => self.taker.fun(input),
-            Some(manner) => {
+            Manner::TokenBodies => self.taker.fun(input),
+            Manner::NoBodies => Err(refusal(NoBodies.fun(input))),
+            manner => {
                 begin(manner, input)?;
                 let answer = self.taker.fun(input);
                 end(manner, input);
@@ -208,8 +229,9 @@ impl<I: Tokens> Bodies<I> for HostileBodies {
 
     fn class(&mut self, input: &mut Buffer<I>) -> PResult<TokenBody> {
         match self.turn() {
-            None => self.taker.class(input),
-            Some(manner) => {
+            Manner::TokenBodies => self.taker.class(input),
+            Manner::NoBodies => Err(refusal(NoBodies.class(input))),
+            manner => {
                 begin(manner, input)?;
                 let answer = self.taker.class(input);
                 end(manner, input);
@@ -220,8 +242,9 @@ impl<I: Tokens> Bodies<I> for HostileBodies {
 
     fn block(&mut self, input: &mut Buffer<I>) -> PResult<TokenBody> {
         match self.turn() {
-            None => self.taker.block(input),
-            Some(manner) => {
+            Manner::TokenBodies => self.taker.block(input),
+            Manner::NoBodies => Err(refusal(NoBodies.block(input))),
+            manner => {
                 begin(manner, input)?;
                 let answer = self.taker.block(input);
                 end(manner, input);
@@ -231,6 +254,16 @@ impl<I: Tokens> Bodies<I> for HostileBodies {
     }
 
     ghost lawful = { token_forms_read };
+}
+
+// What is promised of bodies that are read again speaks of the forms alone.
+impl ReplayBodies for HostileBodies {
+    ghost use Rattle.swc_bodies.specs.Laws.{token_forms_read};
+    ghost use Rattle.swc_bodies.specs.Replaying.{token_forms_replay};
+
+    ghost lawful = { token_forms_read };
+
+    ghost replays = { token_forms_replay };
 }
 
 /// Makes the source fail.
@@ -259,7 +292,7 @@ impl Bodies<BreakableInput> for FailAt {
     ghost is_faithful = { false };
 
     fn fun(&mut self, input: &mut Buffer<BreakableInput>) -> PResult<TokenBody> {
-        let answer = self.taker.fun(input);
+        let answer = self.reader.fun(input);
         if self.turn.is_now() {
             fail(input);
         }
@@ -267,7 +300,7 @@ impl Bodies<BreakableInput> for FailAt {
     }
 
     fn class(&mut self, input: &mut Buffer<BreakableInput>) -> PResult<TokenBody> {
-        let answer = self.taker.class(input);
+        let answer = self.reader.class(input);
         if self.turn.is_now() {
             fail(input);
         }
@@ -275,7 +308,7 @@ impl Bodies<BreakableInput> for FailAt {
     }
 
     fn block(&mut self, input: &mut Buffer<BreakableInput>) -> PResult<TokenBody> {
-        let answer = self.taker.block(input);
+        let answer = self.reader.block(input);
         if self.turn.is_now() {
             fail(input);
         }

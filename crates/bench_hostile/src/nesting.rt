@@ -1,5 +1,5 @@
 // Expressions that stand in one another, 200 deep, and chains of 100,000 links, read into boxes.
-use crate::runs::source_of;
+use crate::runs::{drop_pat, source_of};
 use std::alloc::{AllocError, Global};
 use std::test::Fail;
 use swc_bodies::token_bodies::TokenBodies;
@@ -37,8 +37,23 @@ fn nested(alloc: Global, before: &str, behind: &str) -> Result<String, AllocErro
     Ok(text)
 }
 
+/// A name with so many of these links behind it.
+fn chain(alloc: Global, link: &str) -> Result<String, AllocError> {
+    let mut text = String::from_str(alloc, "a")?;
+    push_often(&mut text, link, LENGTH)?;
+    Ok(text)
+}
+
+/// A parser over the text.
+fn parser_over(alloc: Global, text: &str) -> Result<Parser<TokensInput, TokenBodies>, Fail> {
+    let tokens = read_tokens(alloc, text.as_bytes())?;
+    let source = source_of(alloc, tokens, "script", "loud")?;
+    Ok(Parser::new_from(alloc, source, TokenBodies::new(alloc)))
+}
+
 /// The text has to be one expression, with no fault recorded.
-fn check(parser: &mut Parser<TokensInput, TokenBodies>, text: &str) -> Result<(), Fail> {
+fn check(alloc: Global, text: &str) -> Result<(), Fail> {
+    let mut parser = parser_over(alloc, text)?;
     let _root = parser.parse_expr_id()?;
     if parser.at_end()? && parser.take_errors().is_empty() {
         Ok(())
@@ -50,35 +65,28 @@ fn check(parser: &mut Parser<TokensInput, TokenBodies>, text: &str) -> Result<()
 #[test]
 fn deep_nesting(rt: HostRuntime) -> Result<(), Fail> {
     for (before, behind) in ROUND {
-        let text = nested(rt.alloc(), before, behind)?;
-        let tokens = read_tokens(rt.alloc(), text.as_bytes())?;
-        let source = source_of(rt.alloc(), tokens, "script", "loud")?;
-        let mut parser = Parser::new_from(rt.alloc(), source, TokenBodies::new(rt.alloc()));
-        check(&mut parser, &text)?;
+        check(rt.alloc(), &nested(rt.alloc(), before, behind)?)?;
     }
     Ok(())
 }
 
 /// Reads a chain into boxes, moves them in among the nodes and out again, as what is assigned to, and lets all go. None of
 /// that takes more of the machine's stack than a short chain.
-fn check_chain(parser: &mut Parser<TokensInput, TokenBodies>, link: &str) -> Result<(), Fail> {
+fn check_chain(alloc: Global, link: &str) -> Result<(), Fail> {
+    let mut parser = parser_over(alloc, &chain(alloc, link)?)?;
     let expr = parser.parse_expr()?;
-    if !parser.at_end()? {
-        return Err(Fail::new(format_args!("not read whole: {link}")));
+    drop_pat(parser.reparse_expr_as_pat(PatType::AssignPat, expr));
+    if parser.at_end()? {
+        Ok(())
+    } else {
+        Err(Fail::new(format_args!("not read whole: {link}")))
     }
-    let _pattern = parser.reparse_expr_as_pat(PatType::AssignPat, expr);
-    Ok(())
 }
 
 #[test]
 fn long_chains_in_boxes(rt: HostRuntime) -> Result<(), Fail> {
     for link in LINKS {
-        let mut text = String::from_str(rt.alloc(), "a")?;
-        push_often(&mut text, link, LENGTH)?;
-        let tokens = read_tokens(rt.alloc(), text.as_bytes())?;
-        let source = source_of(rt.alloc(), tokens, "script", "loud")?;
-        let mut parser = Parser::new_from(rt.alloc(), source, TokenBodies::new(rt.alloc()));
-        check_chain(&mut parser, link)?;
+        check_chain(rt.alloc(), link)?;
     }
     Ok(())
 }

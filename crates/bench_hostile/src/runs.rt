@@ -1,8 +1,9 @@
 // Calls of the parser over lists of tokens: each has to return, and to keep the context.
+use crate::hooks::{HostileBodies, Manner};
 use bench_lower::rows::Row;
 use std::alloc::{AllocError, Global};
 use std::test::Fail;
-use swc_bodies::bodies::{Bodies, ExprOf};
+use swc_bodies::bodies::ExprOf;
 use swc_context::context::{Context, EsVersion, Syntax};
 use swc_context::error::PResult;
 use swc_ecma_parser::parser::{Parser, PatOf};
@@ -12,10 +13,10 @@ use swc_input::tokens::Tokens;
 use swc_trees::letting_go::{let_go, let_go_args, let_go_pat};
 
 /// The row that the line is, which has no answer: `call | setting | text`.
-pub(crate) fn worked_row(line: &str) -> Option<Row<'_>> {
-    let (calls, rest) = line.split_once(" | ")?;
-    let (setting, text) = rest.split_once(" | ")?;
-    Some(Row {
+pub(crate) fn worked_row(line: &str) -> Result<Row<'_>, Fail> {
+    let (calls, rest) = line.split_once(" | ").ok_or(line)?;
+    let (setting, text) = rest.split_once(" | ").ok_or(line)?;
+    Ok(Row {
         calls,
         setting,
         text,
@@ -80,11 +81,17 @@ fn set(context: &mut Context, syntax: &mut Syntax, word: &str) -> Option<()> {
     Some(())
 }
 
+/// A parser over the source, whose hook reads as `TokenBodies` does.
+pub(crate) fn parser_of(alloc: Global, source: TokensInput) -> Parser<TokensInput, HostileBodies> {
+    Parser::new_from(
+        alloc,
+        source,
+        HostileBodies::new(alloc, Manner::TokenBodies, 0),
+    )
+}
+
 /// Makes the call. The context has to be the one from before.
-pub(crate) fn run<B: Bodies<TokensInput>>(
-    parser: &mut Parser<TokensInput, B>,
-    call: &str,
-) -> Result<(), Fail> {
+pub(crate) fn run(parser: &mut Parser<TokensInput, HostileBodies>, call: &str) -> Result<(), Fail> {
     let before = parser.input().ctx();
     make(parser, call)?;
     if parser.input().ctx() == before {
@@ -104,19 +111,16 @@ pub(crate) fn numbered(call: &str) -> &'static str {
 }
 
 /// Makes the call, and lets go of its answer.
-fn make<B: Bodies<TokensInput>>(
-    parser: &mut Parser<TokensInput, B>,
-    call: &str,
-) -> Result<(), Fail> {
+fn make(parser: &mut Parser<TokensInput, HostileBodies>, call: &str) -> Result<(), Fail> {
     match call {
-        "parse_expr" => drop_expr::<B>(parser.parse_expr()),
-        "parse_assignment_expr" => drop_expr::<B>(parser.parse_assignment_expr()),
-        "parse_bin_expr" => drop_expr::<B>(parser.parse_bin_expr()),
-        "parse_unary_expr" => drop_expr::<B>(parser.parse_unary_expr()),
-        "parse_for_head_prefix" => drop_expr::<B>(parser.parse_for_head_prefix()),
-        "parse_pat" => drop_pat::<B>(parser.parse_pat()),
-        "parse_binding_pat_or_ident" => drop_pat::<B>(parser.parse_binding_pat_or_ident()),
-        "parse_binding_element" => drop_pat::<B>(parser.parse_binding_element()),
+        "parse_expr" => drop_expr(parser.parse_expr()),
+        "parse_assignment_expr" => drop_expr(parser.parse_assignment_expr()),
+        "parse_bin_expr" => drop_expr(parser.parse_bin_expr()),
+        "parse_unary_expr" => drop_expr(parser.parse_unary_expr()),
+        "parse_for_head_prefix" => drop_expr(parser.parse_for_head_prefix()),
+        "parse_pat" => drop_pat(parser.parse_pat()),
+        "parse_binding_pat_or_ident" => drop_pat(parser.parse_binding_pat_or_ident()),
+        "parse_binding_element" => drop_pat(parser.parse_binding_element()),
         "parse_args(false)" => {
             if let Ok(args) = parser.parse_args(false) {
                 let_go_args(args);
@@ -133,10 +137,7 @@ fn make<B: Bodies<TokensInput>>(
 }
 
 /// The same of calls that answer numbers of nodes, or have no trees.
-fn make_numbered<B: Bodies<TokensInput>>(
-    parser: &mut Parser<TokensInput, B>,
-    call: &str,
-) -> Result<(), Fail> {
+fn make_numbered(parser: &mut Parser<TokensInput, HostileBodies>, call: &str) -> Result<(), Fail> {
     match call {
         "parse_expr_id" => drop(parser.parse_expr_id()),
         "parse_pat_id" => drop(parser.parse_pat_id()),
@@ -145,12 +146,12 @@ fn make_numbered<B: Bodies<TokensInput>>(
         "parse_for_head(false)" => drop(parser.parse_for_head_id(false)),
         "parse_for_head(true)" => drop(parser.parse_for_head_id(true)),
         "parse_prop_name" => drop(parser.parse_prop_name_id()),
-        "parse_lit" => drop(parser.parse_lit()),
         "parse_ident_ref" => drop(parser.parse_ident_ref()),
         "parse_label_ident" => drop(parser.parse_label_ident()),
         "parse_ident_name" => drop(parser.parse_ident_name()),
         "parse_binding_ident" => drop(parser.parse_binding_ident()),
         "parse_opt_binding_ident" => drop(parser.parse_opt_binding_ident()),
+        "parse_lit" => drop(parser.parse_lit()),
         "parse_module_export_name" => drop(parser.parse_module_export_name()),
         "parse_private_name" => drop(parser.parse_private_name()),
         "parse_maybe_private_name" => drop(parser.parse_maybe_private_name()),
@@ -159,13 +160,14 @@ fn make_numbered<B: Bodies<TokensInput>>(
     Ok(())
 }
 
-fn drop_expr<B: Bodies<TokensInput>>(answer: PResult<Box<ExprOf<B>>>) {
+fn drop_expr(answer: PResult<Box<ExprOf<HostileBodies>>>) {
     if let Ok(expr) = answer {
         let_go(expr);
     }
 }
 
-fn drop_pat<B: Bodies<TokensInput>>(answer: PResult<PatOf<B>>) {
+/// Lets go of a pattern.
+pub(crate) fn drop_pat(answer: PResult<PatOf<HostileBodies>>) {
     if let Ok(pat) = answer {
         let_go_pat(pat);
     }

@@ -3,6 +3,7 @@
 #![tactic(auto)]
 
 mod calls;
+mod names;
 mod rows;
 mod shown;
 
@@ -14,10 +15,7 @@ use std::alloc::Global;
 use std::io::{Read, Write};
 use std::process::ExitCode;
 use std::{io, str};
-use swc_ecma_parser::bodies::none::NoBodies;
-use swc_ecma_parser::bodies::token_bodies::TokenBodies;
 use swc_ecma_parser::input::capturing::Capturing;
-use swc_ecma_parser::input::listed::TokensInput;
 
 /// The status where no line was written: memory was wanted before the first call, or there is no such row.
 const NOT_BEGUN: u8 = 3;
@@ -48,27 +46,19 @@ fn write_lines(alloc: Global, out: &mut String, row: Row<'_>) -> Option<()> {
     }
     let source = source_of(alloc, row)?;
     if !row.setting.starts_with("kept") {
-        return write_hooked(alloc, out, source, row);
+        return answers(alloc, out, source, hook_of(alloc, row.hook)?, row.calls).ok();
     }
     let source = Capturing::new(alloc, source);
     match row.calls {
         "next" => show_kept(out, source, row.text.len().saturating_add(1)).ok(),
-        _ => answers(alloc, out, source, TokenBodies::new(alloc), row.calls).ok(),
+        _ => answers(alloc, out, source, hook_of(alloc, row.hook)?, row.calls).ok(),
     }
 }
 
-/// Makes the calls with the hook of the row.
-fn write_hooked(alloc: Global, out: &mut String, source: TokensInput, row: Row<'_>) -> Option<()> {
-    let (name, number) = row.hook.split_once(' ')?;
-    match name {
-        "TokenBodies" => answers(alloc, out, source, TokenBodies::new(alloc), row.calls).ok(),
-        "NoBodies" => answers(alloc, out, source, NoBodies, row.calls).ok(),
-        _ => {
-            let manner = Manner::named(name)?;
-            let hook = HostileBodies::new(alloc, manner, number.parse().ok()?);
-            answers(alloc, out, source, hook, row.calls).ok()
-        }
-    }
+/// The hook that is written so, as a name and a number.
+fn hook_of(alloc: Global, hook: &str) -> Option<HostileBodies> {
+    let (name, number) = hook.split_once(' ')?;
+    Some(HostileBodies::new(alloc, Manner::named(name)?, number.parse().ok()?))
 }
 
 fn main(rt: HostRuntime) -> ExitCode {
