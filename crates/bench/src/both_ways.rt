@@ -282,23 +282,11 @@ fn hold(alloc: Global, rows: &str) -> Result<(), Fail> {
 }
 
 #[test]
-fn reads_plain_lists_both_ways(rt: HostRuntime) -> Result<(), Fail> {
-    hold(rt.alloc(), PLAIN)
-}
-
-#[test]
-fn reads_words_of_strict_code_both_ways(rt: HostRuntime) -> Result<(), Fail> {
-    hold(rt.alloc(), STRICT_WORDS)
-}
-
-#[test]
-fn reads_await_both_ways(rt: HostRuntime) -> Result<(), Fail> {
-    hold(rt.alloc(), AWAIT)
-}
-
-#[test]
-fn reads_yield_both_ways(rt: HostRuntime) -> Result<(), Fail> {
-    hold(rt.alloc(), YIELD)
+fn reads_lists_both_ways(rt: HostRuntime) -> Result<(), Fail> {
+    for rows in [PLAIN, STRICT_WORDS, AWAIT, YIELD] {
+        hold(rt.alloc(), rows)?;
+    }
+    Ok(())
 }
 
 /// A word that stands in parentheses as a name, whether it is a keyword or not, a setting, and in which ways that is

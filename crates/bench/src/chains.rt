@@ -48,14 +48,18 @@ fn check(alloc: Global, turns: usize, operators: &str, nodes: usize) -> Result<(
     Ok(())
 }
 
-#[test]
-fn chain_of_powers(rt: HostRuntime) -> Result<(), Fail> {
-    check(rt.alloc(), 99_999, "**", 199_999)
-}
+/// How often the operators of a chain come, which ones, and how many nodes stand for it.
+const CHAINS: [(usize, &str, usize); 4] = [
+    (99_999, "**", 199_999),
+    (10_000, "+", 20_001),
+    (10_000, "&&", 20_001),
+    (10_000, "+ ** &&", 60_001),
+];
 
 #[test]
-fn chains_of_other_operators(rt: HostRuntime) -> Result<(), Fail> {
-    check(rt.alloc(), 10_000, "+", 20_001)?;
-    check(rt.alloc(), 10_000, "&&", 20_001)?;
-    check(rt.alloc(), 10_000, "+ ** &&", 60_001)
+fn chains_of_operators(rt: HostRuntime) -> Result<(), Fail> {
+    for (turns, operators, nodes) in CHAINS {
+        check(rt.alloc(), turns, operators, nodes)?;
+    }
+    Ok(())
 }

@@ -430,52 +430,24 @@ fn hold(alloc: Global, rows: &str) -> Result<(), Fail> {
     Ok(())
 }
 
+/// The tables of calls.
+const TABLES: [&str; 10] = [
+    CALLS,
+    PATTERNS,
+    ARROWS,
+    HEADS,
+    REFINING,
+    VERIFYING,
+    LEFT_HAND,
+    HANDED_OVER,
+    REACHING,
+    PEDANTIC,
+];
+
 #[test]
 fn calls_of_the_parser(rt: HostRuntime) -> Result<(), Fail> {
-    hold(rt.alloc(), CALLS)
-}
-
-#[test]
-fn calls_on_patterns(rt: HostRuntime) -> Result<(), Fail> {
-    hold(rt.alloc(), PATTERNS)
-}
-
-#[test]
-fn calls_on_arrow_functions(rt: HostRuntime) -> Result<(), Fail> {
-    hold(rt.alloc(), ARROWS)
-}
-
-#[test]
-fn calls_on_heads_of_for(rt: HostRuntime) -> Result<(), Fail> {
-    hold(rt.alloc(), HEADS)
-}
-
-#[test]
-fn calls_that_make_patterns(rt: HostRuntime) -> Result<(), Fail> {
-    hold(rt.alloc(), REFINING)
-}
-
-#[test]
-fn calls_that_look_for_left_over_names(rt: HostRuntime) -> Result<(), Fail> {
-    hold(rt.alloc(), VERIFYING)
-}
-
-#[test]
-fn calls_on_left_hand_sides(rt: HostRuntime) -> Result<(), Fail> {
-    hold(rt.alloc(), LEFT_HAND)
-}
-
-#[test]
-fn calls_of_the_hook_and_of_parts_of_parsers(rt: HostRuntime) -> Result<(), Fail> {
-    hold(rt.alloc(), HANDED_OVER)
-}
-
-#[test]
-fn calls_that_walk_over_nodes(rt: HostRuntime) -> Result<(), Fail> {
-    hold(rt.alloc(), REACHING)
-}
-
-#[test]
-fn calls_in_a_pedantic_syntax(rt: HostRuntime) -> Result<(), Fail> {
-    hold(rt.alloc(), PEDANTIC)
+    for rows in TABLES {
+        hold(rt.alloc(), rows)?;
+    }
+    Ok(())
 }

@@ -116,29 +116,11 @@ fn found(alloc: Global, row: Long<'_>) -> Result<String, AllocError> {
     }
 }
 
-/// Tries the rows of a kind.
-fn try_rows(alloc: Global, kind: &str) -> Result<(), Fail> {
+#[test]
+fn reads_long_texts(rt: HostRuntime) -> Result<(), Fail> {
     for line in ROWS.lines() {
         let row = long_of(line).ok_or(line)?;
-        if row.kind == kind {
-            let found = found(alloc, row)?;
-            expect(line, &found, row.wanted)?;
-        }
+        expect(line, &found(rt.alloc(), row)?, row.wanted)?;
     }
     Ok(())
-}
-
-#[test]
-fn reads_a_long_expression(rt: HostRuntime) -> Result<(), Fail> {
-    try_rows(rt.alloc(), "expr")
-}
-
-#[test]
-fn reads_a_long_program(rt: HostRuntime) -> Result<(), Fail> {
-    try_rows(rt.alloc(), "program")
-}
-
-#[test]
-fn reads_a_long_template(rt: HostRuntime) -> Result<(), Fail> {
-    try_rows(rt.alloc(), "template")
 }

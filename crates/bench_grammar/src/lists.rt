@@ -298,6 +298,18 @@ a { } ( ) , = [ ] | pedantic | 0 1 2 7 20 68 220
 a { } ( ) = => async | pedantic | 0 2 1 14 18 106 286
 ";
 
+/// The symbol of each table, and its rows.
+const TABLES: [(&str, &str); 8] = [
+    ("Whole", LISTS),
+    ("Whole", LEFT_HAND_SIDES),
+    ("Whole", ASSIGNMENTS),
+    ("Whole", ARROWS),
+    ("Whole", BODIES),
+    ("Whole", PLACES),
+    ("ForHead", HEADS),
+    ("Whole", PEDANTIC),
+];
+
 /// The lists of one token more.
 fn longer(alloc: Global, lists: &[String], tokens: &str) -> Result<Vec<String>, AllocError> {
     let mut longer = Vec::new(alloc);
@@ -416,40 +428,8 @@ pub(crate) fn agree_in(
 
 #[test]
 fn reads_what_the_productions_derive(rt: HostRuntime) -> Result<(), AllocError> {
-    agree_in(&rt, rt.alloc(), "Whole", LISTS)
-}
-
-#[test]
-fn reads_left_hand_sides(rt: HostRuntime) -> Result<(), AllocError> {
-    agree_in(&rt, rt.alloc(), "Whole", LEFT_HAND_SIDES)
-}
-
-#[test]
-fn reads_assignments(rt: HostRuntime) -> Result<(), AllocError> {
-    agree_in(&rt, rt.alloc(), "Whole", ASSIGNMENTS)
-}
-
-#[test]
-fn reads_arrow_functions(rt: HostRuntime) -> Result<(), AllocError> {
-    agree_in(&rt, rt.alloc(), "Whole", ARROWS)
-}
-
-#[test]
-fn reads_bodies_of_arrow_functions(rt: HostRuntime) -> Result<(), AllocError> {
-    agree_in(&rt, rt.alloc(), "Whole", BODIES)
-}
-
-#[test]
-fn reads_assignments_to_patterns(rt: HostRuntime) -> Result<(), AllocError> {
-    agree_in(&rt, rt.alloc(), "Whole", PLACES)
-}
-
-#[test]
-fn reads_heads_of_for(rt: HostRuntime) -> Result<(), AllocError> {
-    agree_in(&rt, rt.alloc(), "ForHead", HEADS)
-}
-
-#[test]
-fn reads_in_a_pedantic_syntax(rt: HostRuntime) -> Result<(), AllocError> {
-    agree_in(&rt, rt.alloc(), "Whole", PEDANTIC)
+    for (symbol, rows) in TABLES {
+        agree_in(&rt, rt.alloc(), symbol, rows)?;
+    }
+    Ok(())
 }

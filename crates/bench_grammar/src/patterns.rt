@@ -59,11 +59,9 @@ a { } = ) | pedantic | 0 1 1 1 2 2 5 6 11
 ";
 
 #[test]
-fn reads_patterns(rt: HostRuntime) -> Result<(), AllocError> {
-    agree_in(&rt, rt.alloc(), "Pattern", PATTERNS)
-}
-
-#[test]
-fn reads_parameters(rt: HostRuntime) -> Result<(), AllocError> {
-    agree_in(&rt, rt.alloc(), "Parameters", PARAMETERS)
+fn reads_patterns_and_parameters(rt: HostRuntime) -> Result<(), AllocError> {
+    for (symbol, rows) in [("Pattern", PATTERNS), ("Parameters", PARAMETERS)] {
+        agree_in(&rt, rt.alloc(), symbol, rows)?;
+    }
+    Ok(())
 }

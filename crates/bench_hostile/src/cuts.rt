@@ -1,6 +1,5 @@
 // Lists that are cut after each token. Each call over them returns, keeps the context, and leaves what it didn't consume.
-use crate::runs::{first_of, numbered, parser_of, run, source_of, worked_row};
-use crate::worked::WORKED;
+use crate::runs::{first_of, numbered, parser_of, run, source_of};
 use bench_lower::rows::Row;
 use bench_lower::tokens::tokens_of;
 use std::alloc::{AllocError, Global};
@@ -87,18 +86,10 @@ fn hold_cut(
 }
 
 /// Cuts the row's list after each token.
-fn hold_each_cut(alloc: Global, row: Row<'_>) -> Result<(), Fail> {
+pub(crate) fn hold_each_cut(alloc: Global, row: Row<'_>) -> Result<(), Fail> {
     let tokens = tokens_of(alloc, row.text)?;
     for count in 0..tokens.len().saturating_add(1) {
         hold_cut(alloc, row, &tokens, count)?;
-    }
-    Ok(())
-}
-
-#[test]
-fn lists_that_are_cut(rt: HostRuntime) -> Result<(), Fail> {
-    for line in WORKED.lines() {
-        hold_each_cut(rt.alloc(), worked_row(line)?)?;
     }
     Ok(())
 }

@@ -1,7 +1,6 @@
 // Lists with a fault in place of a token, and lists whose places go backwards. Each call over them returns, and keeps the
 // context; what it answers and records isn't looked at.
-use crate::runs::{first_of, numbered, parser_of, run, source_of, worked_row};
-use crate::worked::WORKED;
+use crate::runs::{first_of, numbered, parser_of, run, source_of};
 use bench_lower::rows::Row;
 use bench_lower::tokens::tokens_of;
 use std::alloc::{AllocError, Global};
@@ -67,7 +66,7 @@ fn hold(alloc: Global, row: Row<'_>, tokens: &[TokenAndSpan]) -> Result<(), Fail
 }
 
 /// The row's calls have to return with a fault in place of each of its tokens.
-fn hold_faulty(alloc: Global, row: Row<'_>) -> Result<(), Fail> {
+pub(crate) fn hold_faulty(alloc: Global, row: Row<'_>) -> Result<(), Fail> {
     let tokens = tokens_of(alloc, row.text)?;
     for at in 0..tokens.len() {
         hold(alloc, row, &with_fault(alloc, &tokens, at)?)?;
@@ -75,24 +74,8 @@ fn hold_faulty(alloc: Global, row: Row<'_>) -> Result<(), Fail> {
     Ok(())
 }
 
-#[test]
-fn a_fault_in_place_of_each_token(rt: HostRuntime) -> Result<(), Fail> {
-    for line in WORKED.lines() {
-        hold_faulty(rt.alloc(), worked_row(line)?)?;
-    }
-    Ok(())
-}
-
 /// The row's calls have to return over its tokens with their places turned round.
-fn hold_backwards(alloc: Global, row: Row<'_>) -> Result<(), Fail> {
+pub(crate) fn hold_backwards(alloc: Global, row: Row<'_>) -> Result<(), Fail> {
     let tokens = tokens_of(alloc, row.text)?;
     hold(alloc, row, &backwards(alloc, &tokens)?)
-}
-
-#[test]
-fn places_that_go_backwards(rt: HostRuntime) -> Result<(), Fail> {
-    for line in WORKED.lines() {
-        hold_backwards(rt.alloc(), worked_row(line)?)?;
-    }
-    Ok(())
 }

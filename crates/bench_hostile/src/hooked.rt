@@ -1,10 +1,9 @@
 // Calls of the parser over hooks that are hostile: each returns, keeps the context, and leaves what wasn't consumed.
 use crate::cuts::check_left;
 use crate::hooks::{FailAt, HostileBodies, Manner};
-use crate::outcomes::write_faults;
-use crate::runs::{first_of, numbered, run, source_of, worked_row};
+use crate::outcomes::{OUTCOMES, write_faults};
+use crate::runs::{first_of, numbered, run, source_of};
 use crate::sources::BreakableInput;
-use crate::worked::WORKED;
 use bench_lower::rows::{Row, expect, row_of};
 use bench_lower::tokens::tokens_of;
 use std::alloc::{AllocError, Global};
@@ -210,16 +209,24 @@ fn found(alloc: Global, hook: &str, row: Row<'_>) -> Result<String, Fail> {
 }
 
 /// What is made of the line's row has to be as it says.
-pub(crate) fn hold(alloc: Global, line: &str) -> Result<(), Fail> {
+fn hold(alloc: Global, line: &str) -> Result<(), Fail> {
     let (hook, rest) = line.split_once(" | ").ok_or(line)?;
     let row = row_of(rest).ok_or(line)?;
     expect(line, &found(alloc, hook, row)?, row.answer)
 }
 
+/// Each row of the table has to be as it says.
+fn hold_rows(alloc: Global, rows: &str) -> Result<(), Fail> {
+    for line in rows.lines() {
+        hold(alloc, line)?;
+    }
+    Ok(())
+}
+
 #[test]
-fn hostile_hooks(rt: HostRuntime) -> Result<(), Fail> {
-    for line in HOOKED.lines() {
-        hold(rt.alloc(), line)?;
+fn hostile_hooks_and_cut_lists(rt: HostRuntime) -> Result<(), Fail> {
+    for rows in [HOOKED, OUTCOMES] {
+        hold_rows(rt.alloc(), rows)?;
     }
     Ok(())
 }
@@ -257,20 +264,12 @@ fn run_failing(
 }
 
 /// Makes the row's calls with each hook that is hostile at one of the first calls.
-fn hold_worked(alloc: Global, row: Row<'_>) -> Result<(), Fail> {
+pub(crate) fn hold_with_hooks(alloc: Global, row: Row<'_>) -> Result<(), Fail> {
     let tokens = tokens_of(alloc, row.text)?;
     for number in 1..4 {
         run_over(alloc, row, &tokens, row.calls, number)?;
         run_over(alloc, row, &tokens, numbered(row.calls), number)?;
         run_failing(alloc, row, &tokens, number)?;
-    }
-    Ok(())
-}
-
-#[test]
-fn worked_rows_with_hostile_hooks(rt: HostRuntime) -> Result<(), Fail> {
-    for line in WORKED.lines() {
-        hold_worked(rt.alloc(), worked_row(line)?)?;
     }
     Ok(())
 }

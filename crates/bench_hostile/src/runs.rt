@@ -101,8 +101,8 @@ pub(crate) fn run(parser: &mut Parser<TokensInput, HostileBodies>, call: &str) -
     }
 }
 
-/// The call that reads what this one does, and answers the number of a node; for one on a part of an expression it reads
-/// an expression.
+/// The call that reads what this one does, and answers the number of a node; for one on a part of an expression it
+/// reads an expression.
 pub(crate) fn numbered(call: &str) -> &'static str {
     match call {
         "parse_pat" => "parse_pat_id",

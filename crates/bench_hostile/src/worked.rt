@@ -1,4 +1,11 @@
-// Rows of the calls that hostile lists are made of.
+// Rows of the calls that hostile lists are made of, and each of these lists.
+use crate::cuts::hold_each_cut;
+use crate::disorder::{hold_backwards, hold_faulty};
+use crate::hooked::hold_with_hooks;
+use crate::runs::worked_row;
+use bench_lower::rows::Row;
+use std::alloc::Global;
+use std::test::Fail;
 
 /// Calls, settings and texts, as rows of other tables have them, without their answers. In a text with an `@` each token
 /// has its place, and `E(Lex)` is an error token.
@@ -265,3 +272,20 @@ parse_expr | script | async (a = await b) => c
 parse_pat | script | {[a + b]: c, [d = e]: f}
 parse_arrow_params | module | (eval, {a: [arguments]})
 parse_expr | script | [{a: a.b, ...[a.b]} = d]"#;
+
+/// The row's calls have to return over its tokens with faults among them, with places that go backwards, cut, and with
+/// hostile hooks.
+fn hold(alloc: Global, row: Row<'_>) -> Result<(), Fail> {
+    hold_faulty(alloc, row)?;
+    hold_backwards(alloc, row)?;
+    hold_each_cut(alloc, row)?;
+    hold_with_hooks(alloc, row)
+}
+
+#[test]
+fn worked_rows(rt: HostRuntime) -> Result<(), Fail> {
+    for line in WORKED.lines() {
+        hold(rt.alloc(), worked_row(line)?)?;
+    }
+    Ok(())
+}
