@@ -1,16 +1,11 @@
-// Rows of tables in tests, and what is said of those that differ.
+// Rows of tests, and what is said of those that differ.
 'use strict';
 
-const { readFileSync } = require('fs');
-const { spawnSync } = require('child_process');
+const { execFileSync, spawnSync } = require('child_process');
 
-/** The text of a table: the constant of the name in the file, between `r"` or `r#"` and the end of that. */
-function rowsOf(file, name) {
-  const found = new RegExp(`const ${name}: &str =\\s*r(#*)"([^]*?)"\\1;`).exec(readFileSync(file, 'utf8'));
-  if (!found) {
-    throw new Error(`no table ${name} in ${file}`);
-  }
-  return found[2];
+/** The rows of a file of crates/rows/data, each with its `text` and its `answers`, with line breaks for `\n`. */
+function rowsOf(name) {
+  return JSON.parse(execFileSync('tests/rows.py', [name]));
 }
 
 /** What a program writes when it is run on a text: its answer, or what it says is wrong. */

@@ -1,75 +1,75 @@
 #!/usr/bin/env python3
-"""Counts the expressions, patterns and parameters among all lists of a few tokens, apart from the parser and from the productions that it is
-tested against.
+"""Counts the expressions, patterns and parameters among all lists of a few tokens, apart from the parser and from the productions.
 
     tests/count_lists.py
 
-Reads the rows of crates/bench_grammar/src/lists.rt and patterns.rt, `tokens | mode | counts`, and counts anew how many lists of no token, of
-one, of two and so on are expressions, or what the name of the table in patterns.rt says. Prints each row whose counts differ, with the right
-ones. Status 0 if none does.
+Reads the rows of crates/lists/data, `SYMBOL LONGEST | MODE | TOKENS | COUNTS CHECKSUM`, and counts anew how many lists of no token, of one, of two
+and so on are what the symbol says. tests/derive.py makes these counts of productions, this script by the rules below: a mistake in one of the two
+shows as a difference. Prints each row whose counts differ, with the right ones. Status 0 if none does.
 
 A list is walked from left to right. What matters of its front: the open parentheses, brackets and conditionals, whether an operand comes next, and
-which operators stand in these (`??` may not stand beside `||` or `&&`) and before the operand (none may stand left of `**`). Between
-brackets an item begins behind the bracket and behind each comma: there dots may stand, a comma (which makes a hole), or the end. Between
-braces so does a property: dots, `*`, a name, another key, or the end. Behind a name that isn't reserved the property may end, or `=` stand;
-behind each key `:` may, or a method's parameters in parentheses and its block; behind `get`, `set` and `async` another key, and behind `async`
-a `*` too. Behind these a method has to come, which has no parameter behind `get`, and behind `set` one, with a comma or none. In parentheses
-that are no arguments, in brackets behind an operand, in templates and outside of all these a comma stands between two expressions.
+which operators are in these (`??` may not be beside `||` or `&&`) and before the operand (none may be left of `**`). Between brackets an item begins
+after the bracket and after each comma: there may be dots, a comma (which makes a hole), or the end. Between braces so does a property: dots, `*`, a
+name, another key, or the end. After a name that isn't reserved the property may end, or have `=`; after each key there may be `:`, or a method's
+parameters in parentheses and its block; after `get`, `set` and `async` another key, and after `async` a `*` too. After these a method has to come,
+which has no parameter after `get`, and after `set` one, with a comma or none. In parentheses that are no arguments, in brackets after an operand, in
+templates and outside of all these a comma is between two expressions.
 
-A pattern is a name that may be bound, or brackets or braces round others. Between brackets an element begins behind the bracket and behind each
-comma: there dots may stand, a comma (which makes a hole), or the end. An element is a pattern and, behind a `=`, an assignment expression or
-none. Behind dots a pattern stands and then the end. Between braces a property begins behind the brace and behind each comma: dots and a name
-that may be bound, and then the end; a name that isn't reserved; any word, `=` and an assignment expression; or a key, `:` and an element.
-Parameters are elements with commas between them, behind the last one dots and a pattern, or a comma or not, and then `)`. Names that strict
-code bars are barred in modules alone, since no fault of theirs is recorded elsewhere.
+A pattern is a name that may be bound, or brackets or braces with others in them. Between brackets an element begins after the bracket and after each
+comma: there may be dots, a comma (which makes a hole), or the end. An element is a pattern and, after a `=`, an assignment expression or none. After
+dots there is a pattern and then the end. Between braces a property begins after the brace and after each comma: dots and a name that may be bound, and
+then the end; a name that isn't reserved; any word, `=` and an assignment expression; or a key, `:` and an element. Parameters are elements with commas
+between them, after the last one dots and a pattern, or a comma or not, and then `)`. Names that strict code bars are barred in modules alone, since no
+fault of theirs is recorded elsewhere.
 
-Behind an operand links may stand: a `.` and any word, or one behind `#`; a bracket and expressions; a parenthesis and arguments, which are
-items as between brackets, but no hole; a template. In a module `delete` and a name alone is no operand, and one with a link or an update
-behind the name is. Behind `new` an operand stands that no prefix operator begins, or, where a function is around, `. target`, which is one
-together with it. The first arguments behind an operand are those of the last `new` before it that has none. Where each has some, `?` and `.`
-may stand before a name, a bracket or arguments, and no template behind these. Where no `new` before it has none, `super` stands before
-arguments, and so do `import` and `import . source`, whose arguments end with no comma; in a module `import . meta` is an operand. What begins,
-goes on with and ends a template are tokens of their own; between them expressions stand.
+After an operand there may be links: a `.` and any word, or one after `#`; a bracket and expressions; a parenthesis and arguments, which are items as
+between brackets, but no hole; a template. In a module `delete` and a name alone is no operand, and one with a link or an update after the name is.
+After `new` there is an operand that no prefix operator begins, or, in a function, `. target`, which is one together with it. The first arguments after
+an operand are those of the last `new` before it that has none. Where each has some, `?` and `.` may be before a name, a bracket or arguments, and no
+template after these. Where no `new` before it has none, `super` is before arguments, and so are `import` and `import . source`, whose arguments end
+with no comma; in a module `import . meta` is an operand. What begins, goes on with and ends a template are tokens of their own; between them there are
+expressions.
 
-An operand may be written to if it is a name (in strict code not `eval`), ends with the link to a name or a bracket and has no `? .`, or is
-such an operand alone in parentheses; and if each `new` before it has arguments. `++` and `--` stand before such an operand, or behind it on its
-line, and then no link follows. `=` and `+=` stand behind one with which an assignment expression begins. A `?` that no `.` follows opens a
-conditional, which its `:` closes; in it one assignment expression stands, and behind it another.
+An operand may be written to if it is a name (in strict code not `eval`), ends with the link to a name or a bracket and has no `? .`, or is such an
+operand alone in parentheses; and if each `new` before it has arguments. `++` and `--` are before such an operand, or after it on its line, and then no
+link follows. `=` and `+=` are after one with which an assignment expression begins. A `?` that no `.` follows opens a conditional, which its `:`
+closes; in it there is one assignment expression, and after it another.
 
-In a generator an assignment expression may be `yield`, `yield` and another on its line, or `yield *` and another. In async code `await` is a
-prefix operator. Elsewhere it is a name where a line break, a comma, what closes something or the end follows; that may be written to, and no link
-or update stands behind it. It is none in a module, and none where a `*` follows, on whichever line. Where something else follows it is a prefix
-operator, but not in a generator. Behind `new` it is a name like `a`, in scripts and generators that aren't strict. A token that is written with
-`\\r` has a line break before it.
+In a generator an assignment expression may be `yield`, `yield` and another on its line, or `yield *` and another. In async code `await` is a prefix
+operator. Elsewhere it is a name where a line break, a comma, what closes something or the end follows; that may be written to, and no link or update
+is after it. It is none in a module, and none where a `*` follows, on whichever line. Where something else follows it is a prefix operator, but not in
+a generator. After `new` it is a name like `a`, in scripts and generators that aren't strict. A token that is written with `\\r` has a line break
+before it.
 
-Before `=>`, where an assignment expression begins, may stand a name that is an operand, but for `let`; `async` and a name that may be bound and
-isn't reserved, on its line; or a list in parentheses, with `async` before it on its line or not, of patterns that are bound: their names are
-those of operands, `await` is one where nothing but a comma or what closes something stands behind it, and in modules none is `eval` or
-`arguments`. No line break stands before `=>`, but behind `async` and a name. Behind it a block stands, or an assignment expression; there
-`yield` and `await` are those of code in no generator, and in async code behind `async`. What begins with `async` and a parenthesis on its line
-else is a call. Among its arguments, and in parentheses, no object stands by itself that has a property with a name and `=`. Behind a block that
-is a body the assignment expression ends.
+Before `=>`, where an assignment expression begins, there may be a name that is an operand, but for `let`; `async` and a name that may be bound and
+isn't reserved, on its line; or a list in parentheses, with `async` before it on its line or not, of patterns that are bound: their names are those of
+operands, `await` is one where nothing but a comma or what closes something is after it, and in modules none is `eval` or `arguments`. No line break is
+before `=>`, but after `async` and a name. After it there is a block, or an assignment expression; there `yield` and `await` are those of code in no
+generator, and in async code after `async`. Otherwise what begins with `async` and a parenthesis on its line is a call. Among its arguments, and in
+parentheses, no object is by itself that has a property with a name and `=`. After a block that is a body the assignment expression ends.
 
-Where an assignment expression begins, brackets or braces may stand before `=`. In them stand operands that may be written to, and brackets and
-braces of the same kind, with `=` and an assignment expression behind them or not; behind dots one without, and then the end. So what a list
-may be is known later, and it is walked as all that it may be at once. The head of a `for` begins with an expression, behind which `;`, `)` or
-nothing stands, or with what may stand before `=`, and then `of` or `in`; behind `async`, with which an assignment expression begins, `of` on its
-line is that in a `for await` alone.
+Where an assignment expression begins, brackets or braces may be before `=`. In them there are operands that may be written to, and brackets and braces
+of the same kind, with `=` and an assignment expression after them or not; after dots one without, and then the end. So what a list may be is known
+later, and it is walked as all that it may be at once. The head of a `for` begins with an expression, after which there is `;`, `)` or nothing, or with
+what may be before `=`, and then `of` or `in`; after `async`, with which an assignment expression begins, `of` on its line is that in a `for await`
+alone.
 
-In a pedantic mode `#` and a name are an operand only before `in`, where that is an operator, and behind no prefix operator, no `new`, and no
-operator that binds as `in` does or tighter. `import` has one argument and no comma behind it, or with attributes one or two and a comma or
-none; no dots. No line break stands before `=>` at all. No property with a name and `=` stands in braces that are an operand.
+In a pedantic mode `#` and a name are an operand only before `in`, where that is an operator, and after no prefix operator, no `new`, and no operator
+that binds as `in` does or tighter. `import` has one argument and no comma after it, or with attributes one or two and a comma or none; no dots. No line
+break is before `=>` at all. No property with a name and `=` is in braces that are an operand.
 
-A block, a function and a class are taken whole. Of each it matters how many brackets are open. Within its own brace, braces alone are
-counted; before that brace all brackets are, where any that closes may close any that opens. There are no rows with templates and braces, of
-which either may end the other, nor such with `/`, which begins a regular expression where no operand stands before it.
+A block, a function and a class are taken whole. What matters is how many brackets are open: within its own brace, braces alone are counted; before that
+brace all brackets are, where any that closes may close any that opens. There are no rows with templates and braces, of which either may end the other,
+nor such with `/`, which begins a regular expression where no operand is before it.
 """
-import re
 import sys
 from collections import Counter, namedtuple
 from pathlib import Path
 
-SOURCES = Path(__file__).parent.parent / "crates/bench_grammar/src"
+sys.dont_write_bytecode = True
+from derive import features_of
+
+DATA = Path(__file__).parent.parent / "crates/lists/data"
 PREFIX = set("+ - ! ~ void typeof delete".split())
 BINARY = set("?? || && | ^ & == != === !== < > <= >= instanceof in << >> >>> + - * / % **".split())
 UPDATE = ("++", "--")
@@ -81,16 +81,16 @@ BARRED = {
     "let": {"module"},
     "yield": {"strict", "generator"},
     "implements": {"strict"},
-    "arguments": {"class-field"},
+    "arguments": {"class_field"},
     "static": {"module"},
 }
-RESERVED = {**BARRED, "let": {"strict"}, "await": {"module", "async", "static-block"}, "arguments": set(), "static": set()}
+RESERVED = {**BARRED, "let": {"strict"}, "await": {"module", "async", "static_block"}, "arguments": set(), "static": set()}
 # The names that some modes bar as names that are bound.
 UNBOUND = {
     **dict.fromkeys(("let", "static", "implements", "eval"), {"module"}),
-    "arguments": {"module", "class-field"},
+    "arguments": {"module", "class_field"},
     "yield": {"module", "generator"},
-    "await": {"module", "async", "static-block"},
+    "await": {"module", "async", "static_block"},
     "async": set(),
 }
 PROPERTY = {"{", "name", "key", "get", "set", "async", "*", "method", "getter", "setter", "params", "shell", "one", "done"}
@@ -99,48 +99,40 @@ PATTERN = {"pattern", "element", "rest", "rest name", "elements", "properties", 
 PATTERN |= {"bound", "shut", "short", "word", "pkey", "whole", "named"}
 # Where only `=>` may follow, and in which code the body of the arrow function is then.
 BEFORE_ARROW = {"arrow": "plain", "async arrow": "async", "async list": "async"}
-# What closes a list in which no object with a name and `=` stands by itself.
+# What closes a list in which no object with a name and `=` is by itself.
 BARE = (")", ")@")
-# What a mode has beside its name.
-FEATURES = {"module": {"strict"}, "generator": {"function", "target"}, "async": {"function", "target"}}
-FEATURES |= {"for-of": {"without-in", "head"}, "for-await": {"without-in", "head"}}
-FEATURES |= {"for-of-strict": {"strict"} | FEATURES["for-of"], "for-of-module": {"module", "strict"} | FEATURES["for-of"]}
-FEATURES |= {"for-of-generator": {"generator"} | FEATURES["generator"] | FEATURES["for-of"]}
-FEATURES |= {"for-await-async": {"for-await", "async"} | FEATURES["async"] | FEATURES["for-await"]}
-FEATURES |= {"pedantic-attributes": {"pedantic", "attributes"}, "pedantic-without-in": {"pedantic", "without-in"}}
-FEATURES |= {"pedantic-generator": {"pedantic", "generator"} | FEATURES["generator"]}
-FEATURES |= {"pedantic-for-of": {"pedantic"} | FEATURES["for-of"]}
+HEADS = {"ForHead", "ForAwaitHead"}
 # A template, and what begins one.
 TEMPLATE = ("``", "`${")
-# What `before` is behind a comma, by what closes the list; nothing closes the whole.
-BEHIND_COMMA = {"": "", ")": "", "].": "", "`": "", "]": ",", "}": "{", ").": "args", ")!": "last"}
-BEHIND_COMMA |= {")shell": "params+", ")one": "shut", ")whole": "params+", ")@": "args"}
-BEHIND_COMMA |= {")arrow": "params+", ")async list": "params+"}
+# What `before` is after a comma, by what closes the list; nothing closes the whole.
+AFTER_COMMA = {"": "", ")": "", "].": "", "`": "", "]": ",", "}": "{", ").": "args", ")!": "last"}
+AFTER_COMMA |= {")shell": "params+", ")one": "shut", ")whole": "params+", ")@": "args"}
+AFTER_COMMA |= {")arrow": "params+", ")async list": "params+"}
 for after in ("bound", "shut", "whole", "assigned"):
-    BEHIND_COMMA |= {"]" + after: "elements", "}" + after: "properties"}
+    AFTER_COMMA |= {"]" + after: "elements", "}" + after: "properties"}
 
-# What closes the arguments of `import` where they are counted, behind a comma: one more or none, and none.
+# What closes the arguments of `import` where they are counted, after a comma: one more or none, and none.
 COUNTED = {")2": ")3", ")3": ")4"}
 
 # outer: of each open parenthesis, bracket, template or conditional, what closes it, and outside it the family, whether the operand has a prefix
-# operator, `news`, `lead` and `must`; behind what closes it stands where a property is after that, or a `.` if it is a link, or a `!` if it is a
+# operator, `news`, `lead` and `must`; after what closes it there is where a property is then, or a `.` if it is a link, or a `!` if it is a
 # call of `import`. family: `??`, `||` (which is that of `&&` too) or none. before: the token before; `args` where an argument may begin, `last`
 # where one has to; where an operand is complete, `delete` if it is one with a link or an update alone, `yield` and `await` if an operand of these
 # may come, `update` if no link may. wants: `assign` where an assignment expression begins, `operand` where only an operand does, or nothing.
 # prefixed: that operand, or the last one, has a prefix operator. whole: of what is taken whole, whether its own brace is open, how many brackets
 # are open beside that, and whether it is a method's block, or none. news: before that operand, or the last one, how many `new` have no
-# arguments; -1 if it is an optional chain. lead: that operand is all there is of an assignment expression (`first`), and of what stands in its
+# arguments; -1 if it is an optional chain. lead: that operand is all there is of an assignment expression (`first`), and of what is in its
 # bracket (`only`), or nothing. must: that operand has `++` or `--` before it. target: the operand that is complete may be written to, if each
 # `new` has arguments. what: which patterns are read, those that are bound, those of arrow functions (`cover`), or those that are written to
 # (`place`). place: the operand is one that is written to, in a rest (`rest`) or not (`one`), or may be any. covered: of an object, whether a
-# property has a name and `=`. area: whether the operand stands in the body of an arrow function (`plain`), or of an async one, or in none.
-# level: the same of the bracket. free: the operand that is wanted stands behind an operator that binds less tightly than `in`.
+# property has a name and `=`. area: whether the operand is in the body of an arrow function (`plain`), or of an async one, or in none.
+# level: the same of the bracket. free: the operand that is wanted is after an operator that binds less tightly than `in`.
 FIELDS = "outer family before wants prefixed whole news lead must target what place covered area level free"
 Front = namedtuple("Front", FIELDS, defaults=(None, 0, "only", False, False, "", "", False, "", "", False))
 
 
 def begun(front, before):
-    """The front with a token more behind which another assignment expression begins."""
+    """The front with a token more after which another assignment expression begins."""
     front = front._replace(family="", before=before, wants="assign", prefixed=False, whole=None)
     return front._replace(news=0, lead="first", must=False, target=False, place="")
 
@@ -178,7 +170,7 @@ def writable(front):
 
 
 def fitting(front):
-    """Whether the operand that is complete is one that `++` or `--` before it may write to, if these stand there."""
+    """Whether the operand that is complete is one that `++` or `--` before it may write to, if these are there."""
     return front.before != "delete" and (not front.must or writable(front._replace(must=False)))
 
 
@@ -206,14 +198,14 @@ def within(front, token):
 
 
 def key(front, token, close):
-    """The front with a token more where a key begins, behind which stands what `close` names, or None."""
+    """The front with a token more where a key begins, after which there is what `close` names, or None."""
     if token == "[":
         return opened(front, "]" + close, "", 0)
     return front._replace(before=close) if token == "1" or token.isalpha() else None
 
 
 def bound(front, token, after, mode):
-    """The front with a token more with which a pattern begins, behind which stands what `after` names, or None."""
+    """The front with a token more with which a pattern begins, after which there is what `after` names, or None."""
     if token in ("[", "{"):
         close, before = {"[": ("]", "elements"), "{": ("}", "properties")}[token]
         return opened(front, close + after, before, 0, front.what)
@@ -248,7 +240,7 @@ def pattern(front, token, mode):
     if before in ("short", "bound", "named", "shut", "elements", "properties", "params+") and close and token == close[0]:
         return closed(front)
     if before in ("short", "bound", "named") and token == ",":
-        return front._replace(before=BEHIND_COMMA[close]) if close else None
+        return front._replace(before=AFTER_COMMA[close]) if close else None
     if before == "elements" and token == ",":
         return front
     if before in ("elements", "params+"):
@@ -325,16 +317,16 @@ def template(front, token):
 
 
 def constructed(front, token, mode):
-    """The front with a token more behind `new`, where that may not be what an operand is elsewhere, or None."""
+    """The front with a token more after `new`, where that may not be what an operand is elsewhere, or None."""
     if front.before == "new .":
         return done(front._replace(news=front.news - 1)) if token == "target" else None
     if token == "await":
-        return done(front, True) if not mode & {"strict", "async", "static-block"} else None
+        return done(front, True) if not mode & {"strict", "async", "static_block"} else None
     return front._replace(before="new .") if token == "." and "target" in mode else None
 
 
 def called(front, token, mode):
-    """The front with a token more behind `super` or `import`, or None."""
+    """The front with a token more after `super` or `import`, or None."""
     if front.before == "import ." and token == "meta" and "module" in mode:
         return done(front)
     if (front.before, token) in (("import", "."), ("import .", "source")):
@@ -347,7 +339,7 @@ def called(front, token, mode):
 
 
 def asked(front, token, mode):
-    """The front with a token more behind a `?`, which begins a link or stands in a conditional, or None."""
+    """The front with a token more after a `?`, which begins a link or is in a conditional, or None."""
     if token == ".":
         return front._replace(before="?.", news=-1) if front.news <= 0 else None
     front = front._replace(before=front.before[:-1])
@@ -360,7 +352,7 @@ def conditional(front):
 
 
 def prefix(front, token, mode):
-    """The front with a prefix operator more, or a word that may be one, or None. The operators behind `++` and `--` make no target."""
+    """The front with a prefix operator more, or a word that may be one, or None. The operators after `++` and `--` make no target."""
     front = front._replace(free=False)
     if token in UPDATE:
         return None if front.must else front._replace(before=token, wants="operand", lead="", must=True)
@@ -449,13 +441,13 @@ def ended(front, token):
     if is_comma and close in COUNTED:
         last = (COUNTED[close],) + front.outer[-1][1:]
         return begun(front._replace(outer=front.outer[:-1] + (last,), area=front.level), "counted")
-    if not is_comma or close not in BEHIND_COMMA or front.place == "rest":
+    if not is_comma or close not in AFTER_COMMA or front.place == "rest":
         return None
-    return begun(front._replace(area=front.level), BEHIND_COMMA[close])
+    return begun(front._replace(area=front.level), AFTER_COMMA[close])
 
 
-def behind_word(front, token, is_broken, mode):
-    """The front with a token more behind `yield`, or outside async code `await`, or None."""
+def after_word(front, token, is_broken, mode):
+    """The front with a token more after `yield`, or outside async code `await`, or None."""
     if front.before == "yield":
         ending = ended(front, token) or stopped(front, token, mode)
         if ending or is_broken:
@@ -469,29 +461,29 @@ def behind_word(front, token, is_broken, mode):
     return operand(front._replace(before="", wants="operand", lead="", prefixed=True), token, mode)
 
 
-def behind_async(front, token, is_broken, mode):
-    """The front with a token more behind `async`, where that begins no arrow function, or None."""
+def after_async(front, token, is_broken, mode):
+    """The front with a token more after `async`, where that begins no arrow function, or None."""
     at_head = front.before == "async head" and not is_broken
     front = front._replace(before="")
     if token == "function" and not is_broken:
         return front._replace(wants="operand", whole=(False, 0, False))
     if at_head and token == "(":
         return opened(front, ")@", "args", front.news)
-    if at_head and token == "of" and "for-await" not in mode:
+    if at_head and token == "of" and "ForAwaitHead" not in mode:
         return None
     return operator(front, token, is_broken, mode)
 
 
 def written(front, token, mode):
-    """The front with `of` or `in` more, behind what is all of the head of a `for` so far and may be written to, or None."""
-    is_head = "head" in mode and token in ("of", "in") and not front.outer and front.lead == "only"
-    return front._replace(before="whole", wants="operand") if is_head else None
+    """The front with `of` or `in` more, after what is all of the head of a `for` so far and may be written to, or None."""
+    is_last = mode & HEADS and token in ("of", "in") and not front.outer and front.lead == "only"
+    return front._replace(before="whole", wants="operand") if is_last else None
 
 
 def stopped(front, token, mode):
-    """The front with `;` or `)` more, behind what is all of the head of a `for`, or None."""
-    is_head = "head" in mode and token in (";", ")") and not front.outer
-    return front._replace(before="whole", wants="operand") if is_head else None
+    """The front with `;` or `)` more, after what is all of the head of a `for`, or None."""
+    is_last = mode & HEADS and token in (";", ")") and not front.outer
+    return front._replace(before="whole", wants="operand") if is_last else None
 
 
 def operator(front, token, is_broken, mode):
@@ -499,10 +491,10 @@ def operator(front, token, is_broken, mode):
     if front.before == "in" and token != "in":
         return None
     if front.before in ("yield", "await"):
-        return behind_word(front, token, is_broken, mode)
+        return after_word(front, token, is_broken, mode)
     if front.before in ("async", "async head"):
-        return behind_async(front, token, is_broken, mode)
-    if token in ("of", "in") and "head" in mode and not front.outer:
+        return after_async(front, token, is_broken, mode)
+    if token in ("of", "in") and mode & HEADS and not front.outer:
         return written(front, token, mode) if writable(front) else None
     if fitting(front) and stopped(front, token, mode):
         return stopped(front, token, mode)
@@ -530,7 +522,7 @@ def operator(front, token, is_broken, mode):
     mixed = front.family and family != front.family
     if token not in BINARY or mixed or (token == "**" and front.prefixed) or front.place:
         return None
-    if token == "in" and "without-in" in mode and not front.outer:
+    if token == "in" and "without_in" in mode and not front.outer:
         return None
     front = front._replace(family=family, before="", wants="operand", prefixed=False, whole=None)
     return front._replace(news=0, lead="", must=False, target=False, free=token in LOOSER)
@@ -538,10 +530,7 @@ def operator(front, token, is_broken, mode):
 
 def features(mode, area):
     """What a mode has, in the body of an arrow function or in none."""
-    has = {mode} | FEATURES.get(mode, set())
-    if area:
-        has = has - {"generator", "async"} | {"function"} | ({"async"} if area == "async" else set())
-    return has
+    return mode - {"generator", "async"} | {"function"} | ({"async"} if area == "async" else set()) if area else mode
 
 
 def others(front, token, mode):
@@ -571,7 +560,7 @@ def others(front, token, mode):
 
 
 def followed(front, token, mode):
-    """The fronts with a token more, before which a line break stands where it is written with one."""
+    """The fronts with a token more, before which there is a line break where it is written with one."""
     mode = features(mode, front.area)
     is_broken = token.startswith("\\r")
     bare = token[2:] if is_broken else token
@@ -586,19 +575,21 @@ def complete(front, mode):
     """Whether the front is an expression, or another whole."""
     if front.before == "whole":
         return not front.outer
-    is_barred = front.before == "in" or (front.before == "await" and "module" in features(mode, ""))
+    is_barred = front.before == "in" or (front.before == "await" and "module" in mode)
     return not front.wants and not front.outer and fitting(front) and not is_barred
 
 
-# Where the lists of a table begin, but those of expressions.
+# Where the lists of a symbol begin, but those of expressions.
 BEGINNINGS = {
-    "PATTERNS": Front((), "", "pattern", "operand", False),
-    "PARAMETERS": opened(Front((), "", "", "operand", False), ")whole", "params+", 0),
+    "Pattern": Front((), "", "pattern", "operand", False),
+    "Parameters": opened(Front((), "", "", "operand", False), ")whole", "params+", 0),
 }
 
 
-def counts(table, tokens, mode, longest):
-    lists = Counter([frozenset([BEGINNINGS.get(table, Front((), "", "", "assign", False))])])
+def counts(symbol, mode, tokens, longest):
+    """How many of the lists of no token, of one, of two and so on are what the symbol is."""
+    mode = features_of(symbol, mode, "")
+    lists = Counter([frozenset([BEGINNINGS.get(symbol, Front((), "", "", "assign", False))])])
     for _ in range(longest + 1):
         yield sum(n for fronts, n in lists.items() if any(complete(front, mode) for front in fronts))
         longer = Counter()
@@ -611,11 +602,13 @@ def counts(table, tokens, mode, longest):
 
 
 status = 0
-for source in ("lists.rt", "patterns.rt"):
-    for table, rows in re.findall(r"^const (\w+): &str = \"\\\n(.*?)^\";", (SOURCES / source).read_text(), re.M | re.S):
-        for tokens, mode, given in re.findall(r"^(\S.*?) \| ([\w-]+) \| ([\d ]+)", rows, re.M):
-            right = " ".join(map(str, counts(table, tokens.split(), mode, len(given.split()) - 1)))
-            if given.strip() != right:
-                print(tokens, mode, right, sep=" | ")
+for path in sorted(DATA.glob("*.rows")):
+    for row in path.read_text().splitlines():
+        if " | " in row:
+            call, mode, tokens, given = row.split(" | ")
+            symbol, longest = call.split(" ")
+            right = " ".join(map(str, counts(symbol, mode, tokens.replace("\\|", "|").split(" "), int(longest))))
+            if given.rpartition(" ")[0] != right:
+                print(call, mode, tokens, right, sep=" | ")
                 status = 1
 sys.exit(status)

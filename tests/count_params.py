@@ -3,10 +3,10 @@
 
     tests/count_params.py
 
-Reads the rows of crates/bench/src/both_ways.rt, `tokens | setting | counts | number | number`, and counts anew how many lists of no token, of one, of
-two and so on are read cleanly in both ways: as what stands in the parentheses of an arrow function's parameters, by way of expressions, and as formal
-parameters. The numbers are of the lists of all these lengths that are read so in the first way alone, and in the second alone. Prints each row that
-differs, with the right one. Status 0 if none does.
+Reads the rows of crates/rows/data/both_ways.rows (docs/TESTS.md), and counts anew how many lists of no token, of one, of two and so on are read
+cleanly in both ways: as what is in the parentheses of an arrow function's parameters, by way of expressions, and as formal parameters. The two
+numbers after that are of the lists of all these lengths that are read so in the first way alone, and in the second alone. Prints each row that
+differs, with the right numbers. Status 0 if none does.
 
 A list is read by the grammar of FormalParameters (ECMA-262, 15.1), in both ways: elements with commas between them, behind the last one a comma or
 dots and a pattern. An element is a pattern and, behind a `=`, an assignment expression or none. A pattern is a name that is bound, or brackets or
@@ -23,12 +23,12 @@ between them; in a generator `yield`, with an assignment expression behind it or
 in strict code not `eval` or `arguments`, an operand that ends with a bracket, or one of these in parentheses; or brackets and braces round others. A word
 `await` is an operand as it is bound, and a prefix operator else, but in generators.
 """
-import re
 import sys
 from itertools import product
-from pathlib import Path
 
-SOURCE = Path(__file__).parent.parent / "crates/bench/src/both_ways.rt"
+sys.dont_write_bytecode = True
+from rows import read
+
 # Which modes bar a word as an operand, as a name that is bound, and as a word alone between braces. `yield` in a generator and `await` in async code
 # and in modules are operators. The other words are names.
 BARRED = {"let": {"module"}, "static": {"module"}, "implements": {"strict"}, "yield": {"strict", "generator"}}
@@ -273,13 +273,15 @@ def counted(tokens, setting, longest):
             both[-1] += arrow and formal
             arrow_alone += arrow and not formal
             formal_alone += formal and not arrow
-    return f"{' '.join(map(str, both))} | {arrow_alone} | {formal_alone}"
+    return [" ".join(map(str, both)), str(arrow_alone), str(formal_alone)]
 
 
 status = 0
-for tokens, setting, given in re.findall(r"^(\S.*?) \| ([\w ]+) \| (\d[\d ]* \| \d+ \| \d+)$", SOURCE.read_text(), re.M):
-    right = counted(tokens.split(), setting, given.split(" | ")[0].count(" "))
-    if given != right:
-        print(tokens, setting, right, sep=" | ")
-        status = 1
+for row in read("both_ways.rows"):
+    _, longest = row.calls.rsplit(" ", 1)
+    if longest.isdecimal():
+        right = counted(row.text.split(), row.setting, int(longest))
+        if row.answers != right:
+            print(*row[:3], *right, sep=" | ")
+            status = 1
 sys.exit(status)

@@ -3,8 +3,8 @@
 //     node tests/expressions_acorn.js [SCOPES FORMATTER FILE ..]
 //
 // The names of an expression are found by a walk over acorn's tree. A layout has to be read as the tree of its text,
-// places and comments apart. Without a file it compares the programs' own texts, and each row of bench_clients. With
-// files it runs SCOPES and FORMATTER, the built programs, on each expression that is a statement of a file or a value
+// places and comments apart. Without a file it compares the programs' own texts, and the rows of names.rows and
+// layouts.rows in crates/rows/data. With files it runs SCOPES and FORMATTER, the built programs, on each expression that is a statement of a file or a value
 // that it declares. The status is 1 where anything differs. Run it at the top of the repository; node needs its package
 // acorn.
 'use strict';
@@ -12,9 +12,6 @@
 const { readFileSync } = require('fs');
 const { expressionsOf, isBare, parseExpression } = require('./acorn_trees.js');
 const { rowsOf, runOn, Report } = require('./acorn_rows.js');
-
-const NAMED = 'crates/bench_clients/src/named.rt';
-const LAYOUTS = 'crates/bench_clients/src/layouts.rt';
 
 /** Rows that are read here, though ECMA-262 has no such expression (docs/DIFFERENCES.md). */
 const READ_HERE_ALONE = ['[{a = 1}]', 'f({a = b})'];
@@ -114,14 +111,12 @@ function namesText(text) {
 function compareNames(report) {
   const text = readFileSync('crates/scopes/stdin', 'utf8');
   report.compare('crates/scopes', namesText(text), readFileSync('crates/scopes/stdout', 'utf8'));
-  for (const row of rowsOf(NAMED, 'ROWS').trimEnd().split('\n')) {
-    const [escaped, wanted] = row.split(' | ');
-    const rowText = escaped.replaceAll('\\n', '\n');
-    if (READ_HERE_ALONE.includes(rowText)) {
+  for (const row of rowsOf('names.rows')) {
+    if (READ_HERE_ALONE.includes(row.text)) {
       report.skip();
     } else {
-      const names = namesOf(rowText).map(({ name, start, end, how }) => `${name} ${start}..${end} ${how}`);
-      report.compare(rowText, names.join('; ') || 'none', wanted);
+      const names = namesOf(row.text).map(({ name, start, end, how }) => `${name} ${start}..${end} ${how}`);
+      report.compare(row.text, names.join('; ') || 'none', row.answers[0]);
     }
   }
 }
@@ -143,9 +138,8 @@ function treeOf(text) {
 function compareLayouts(report) {
   const texts = ['stdin', 'stdout'].map(name => readFileSync(`crates/formatter/${name}`, 'utf8'));
   report.compare('crates/formatter', treeOf(texts[0]), treeOf(texts[1]));
-  for (const row of rowsOf(LAYOUTS, 'LAYOUTS').trimEnd().split('\n')) {
-    const [text, layout] = row.split(' | ').map(part => part.replaceAll('\\n', '\n'));
-    report.compare(text, treeOf(text), treeOf(layout));
+  for (const { text, answers } of rowsOf('layouts.rows')) {
+    report.compare(text, treeOf(text), treeOf(answers[0]));
   }
 }
 

@@ -1,30 +1,29 @@
 #!/usr/bin/env python3
 """Refuses each request for memory of each row in turn, and looks at what is answered then.
 
-    tests/refusing.py LIBRARY REFUSING SHOW_EXPR
+    tests/refusing.py LIBRARY ROWS SHOW_EXPR
 
-LIBRARY is tests/refuse.c, compiled. Rows are runs of the program SHOW_EXPR (crates/bench/src/program.rt), and calls of a parser, which the
-program REFUSING makes (crates/bench_hostile/src/worked.rt, and those below). A row is run with no request refused, which has to be as the row
-says where it says so; and then with its first request refused, with its second, and so on, until a run meets no refusal.
+LIBRARY is tests/refuse.c, compiled. The rows are those of crates/rows/data (docs/TESTS.md): runs of the program SHOW_EXPR (program.rows), and
+calls of a parser, which `ROWS calls` makes. A row is run with no request refused, which has to be as the row says where it says so; and then
+with its first request refused, with its second, and so on, until a run meets no refusal.
 
-Until one such run has come as far as the calls, REFUSING writes nothing and ends with 3. From then on each call answers what it answers with
-no request refused, up to one that is refused as `OutOfMemory`. The faults that are recorded then are a beginning of those of the row, a second
-`take_errors` hands out none, each parsing call behind it and `at_end` are refused as `ParserFailed`, and each call leaves the context that it
-found. What a call hands out may itself want memory to be printed, and a call that answers no fault may want memory too (`set_ctx`,
-`try_clone`): then `no memory` is written, and the calls behind it answer what they answer with no request refused.
+Until one such run has come as far as the calls, `ROWS calls` writes nothing and ends with 3. From then on each call answers what it answers
+with no request refused, up to one that is refused as `OutOfMemory`. The faults that are recorded then are a beginning of those of the row, a
+second `take_errors` hands out none, each parsing call after it and `at_end` are refused as `ParserFailed`, and each call leaves the context
+that it found. What a call hands out may itself need memory to be printed, and a call that answers no fault may need memory too (`set_ctx`,
+`try_clone`): then `no memory` is written, and the calls after it answer what they answer with no request refused.
 
-Each row is called once as it stands, and once by numbers of nodes, where there is such a call, over a source that keeps its tokens. A row on
-which such a source is called itself (`next`) answers, a line for each token, what is kept, and then whether the source failed: up to there
-the lines are those of the row.
+The rows of hostile.rows, and those below, are called once as they are, and once by numbers of nodes, where there is such a call, over a source
+that keeps its tokens. A row on which such a source is called itself (`next`) answers, a line for each token, what is kept, and then whether
+the source failed: up to there the lines are those of the row.
 
-A row of a hook (crates/bench_hostile/src/hooked.rt) is called in boxes and by numbers, over a source that keeps nothing. Left out are hooks
-that make their source fail, for which want of memory is the row's own answer. On a source that gives slashes (crates/bench/src/calls.rt and
-captured.rt) an expression is read while its tokens are kept, and again of these by another parser, and the calls behind it are made on both.
-Where the first parser read all there was, with no fault recorded, both answer the same; where it wanted memory, the other one reads what was
-kept until then, and wants none.
+A row of a hook (hooks.rows) is called in boxes and by numbers, over a source that keeps nothing. Left out are hooks that make their source
+fail, for which out of memory is the row's own answer. On a source that gives slashes (calls.rows and kept.rows) an expression is read while
+its tokens are kept, and again of these by another parser, and the calls after it are made on both. Where the first parser read all there was,
+with no fault recorded, both answer the same; where it was out of memory, the other one reads what was kept until then, and needs none.
 
 Runs of SHOW_EXPR end with 3 and the usage, up to one that can't read standard input, which says that and ends with 3 too; then with 2 and
-`refused: OutOfMemory`, behind which the recorded faults are a beginning of those of the row, or as the row says.
+`refused: OutOfMemory`, after which the recorded faults are a beginning of those of the row, or as the row says.
 
 Status 0 if all of that holds.
 """
@@ -35,7 +34,11 @@ import sys
 from collections import namedtuple
 from multiprocessing import Pool
 
-# Calls, a setting and a text, as in crates/bench_hostile/src/worked.rt.
+sys.dont_write_bytecode = True
+import rows
+from rows import unescaped
+
+# Calls, a setting and a text, as in a row.
 ROWS = r'''parse_expr | script | -a ** b
 verify_expr | script | [{a = 1}]
 verify_expr | script | [{a = 1}, () => ({b = 2}), {m(p = {c = 3}) {}}]
@@ -76,7 +79,12 @@ parse_maybe_private_name | script | #a
 parse_for_head(false) | script | [a, {b}] of c
 parse_for_head(false) | script | a + b; c'''
 
-# Texts that are cut behind a token.
+# Texts with faults beside a tree, which are read in the settings that record none, too.
+FAULTY = ['{a = 1}', '[a, -b ** c]', 'f(a, ...)', '(a.b, [c]) => d', '({get a(b) {}, a: * })', '`\\u${a}`', 'new a?.b(c)', 'delete let', '() => {} + * a',
+          'a + * b - (c, )']
+SILENT = ['script ignore_error', 'script no_early_errors']
+
+# Texts that are cut after a token.
 CUT = ['', '(', '(a', '(a,', '(a, [', '(a, [b', '(a, [b]', '(a, [b],', '(a, [b], {', '(a, [b], {c', '(a, [b], {c =', '(a, [b], {c = 1',
        '(a, [b], {c = 1}', '(a, [b], {c = 1})', '(a, [b], {c = 1}) =>', 'a', 'a?', 'a?.', 'a?.b', 'a?.b.']
 
@@ -87,17 +95,17 @@ BY_NUMBER = {'parse_expr': 'parse_expr_id', 'parse_pat': 'parse_pat_id', 'parse_
              'parse_arrow_params': 'parse_arrow_params_id'}
 IN_BOXES = {number: call for call, number in BY_NUMBER.items()}
 
-# The calls behind those of a row, of which each has one of `take_errors` behind it.
+# The calls after those of a row, of which each has one of `take_errors` after it.
 AFTERWARDS = ['take_errors', 'parse_expr', 'parse_pat', 'at_end']
 
-# The tables of calls with what they answer, and the calls whose answers are written here as there.
-ANSWERS = {'calls': 'CALLS', 'patterns': 'PATTERNS', 'arrows': 'ARROWS', 'heads': 'HEADS', 'left_hand': 'LEFT_HAND'}
+# The files of calls with what they answer, and the calls whose answers are written here as there.
+ANSWERS = ['calls.rows', 'patterns.rows', 'arrows.rows', 'heads.rows', 'left_hand.rows']
 WRITTEN_SO = ['parse_expr', 'parse_assignment_expr', 'parse_bin_expr', 'parse_unary_expr', 'parse_for_head_prefix', 'parse_pat',
               'parse_binding_pat_or_ident', 'parse_binding_element']
 # What the hook reads, which is another one there.
 HOOKED = re.compile(r'function|class|\) (=> )?{')
-# A row of an expression over a source that gives slashes.
-SLASHES = re.compile(r'parse_expr(; (take; )?kept)? \| \w+ slashes \|')
+# The calls of a row that reads an expression over a source that gives slashes.
+SLASHES = re.compile(r'(kept: )?parse_expr(; (take; )?kept)?')
 
 SAID = b'a request was refused\n'
 USAGE = 'usage: '
@@ -111,84 +119,77 @@ Row = namedtuple('Row', 'line command text calls says')
 Run = namedtuple('Run', 'status output said was_refused')
 
 
-def table(path, name):
-    """The lines of a table, which is the text of a constant."""
-    with open(path, encoding='utf-8') as file:
-        found = re.search(r'const %s: &str =\s*r(#?)"(.*?)"\1;' % name, file.read(), re.S)
-    return found.group(2).split('\n')
-
-
-def unescaped(text):
-    return text.replace('\\n', '\n')
-
-
 def program_rows(show_expr):
-    for line in table('crates/bench/src/program.rt', 'RUNS'):
-        calls, arguments, text, output, status = line.split(' | ')
-        if calls == 'show_expr' and not output.startswith('stderr: '):
-            yield Row(line, [show_expr, *arguments.split()], unescaped(text), None, (int(status), unescaped(output)))
+    for row in rows.read('program.rows'):
+        if row.calls == 'program: runs' and not row.answers[0].startswith('stderr: '):
+            said = {'': row.answers, **{' ' + manner: said.split(' | ') for manner, said in row.others.items()}}
+            for manner, (*lines, status) in said.items():
+                command = [show_expr, *(row.setting + manner).split()]
+                yield Row(line_of(row), command, unescaped(row.text), None, (int(status), ''.join(line + '\n' for line in lines)))
+
+
+def line_of(row):
+    return ' | '.join(row[:3])
 
 
 def answers_of_calls():
-    """What the tables of calls say of one call alone: the lines of its answer and of the faults recorded."""
+    """What the rows say of one call alone: the lines of its answer and of the faults recorded."""
     said = {}
-    for file, name in ANSWERS.items():
-        for line in table('crates/bench/src/%s.rt' % file, name):
-            call, setting, text, answer, faults, _ = (line.split(' | ') + [''] * 5)[:6]
-            if call in WRITTEN_SO and not HOOKED.search(text):
-                said['%s | %s | %s' % (call, setting, text)] = [re.escape(answer), faults_line(faults)]
+    for row in (row for name in ANSWERS for row in rows.read(name)):
+        if row.calls in WRITTEN_SO and not HOOKED.search(row.text):
+            said[line_of(row)] = [re.escape(row.answers[0]), faults_line(row)]
     return said
 
 
-def faults_line(faults):
-    """The pattern of the line of these faults, which a table parts by commas."""
-    return '' if faults == 'none' else re.escape(faults.replace(', ', ';')) + ';'
+def faults_line(row):
+    """The pattern of the line of the row's faults, which commas part there."""
+    return ''.join(re.escape(faults.replace(', ', ';')) + ';' for faults in row.answers[1:])
 
 
-def calls_of(refusing, line, setting, calls, text, says):
+def calls_of(program, line, setting, calls, text, says):
     if calls[0] not in ('next', 'try_clone'):
         calls = [each for call in calls for each in (call, 'take_errors')] + AFTERWARDS
-    return Row(line, [refusing], '%s\n%s\n%s' % (setting, '; '.join(calls), unescaped(text)), calls, says)
+    return Row(line, [program, 'calls'], '%s\n%s\n%s' % (setting, '; '.join(calls), unescaped(text)), calls, says)
 
 
-def call_rows(refusing):
-    lines = table('crates/bench_hostile/src/worked.rt', 'WORKED') + ROWS.split('\n')
+def call_rows(program):
+    lines = [line_of(row).removeprefix('hostile: ') for row in rows.read('hostile.rows')] + ROWS.split('\n')
     lines += ['parse_expr | script | ' + text for text in CUT + NESTED]
+    lines += ['parse_expr | %s | %s' % (setting, text) for setting in SILENT for text in FAULTY]
     said = answers_of_calls()
     for line in dict.fromkeys(lines):
         calls, setting, text = line.split(' | ')
         calls = calls.split('; ')
-        yield calls_of(refusing, line, setting, calls, text, said.get(line))
+        yield calls_of(program, line, setting, calls, text, said.get(line))
         if setting != 'kept' and calls != ['try_clone']:
-            yield calls_of(refusing, line, 'kept ' + setting, [BY_NUMBER.get(call, call) for call in calls], text, said.get(line))
+            yield calls_of(program, line, 'kept ' + setting, [BY_NUMBER.get(call, call) for call in calls], text, said.get(line))
 
 
-def hook_rows(refusing):
-    for line in table('crates/bench_hostile/src/hooked.rt', 'HOOKED'):
-        hook, calls, setting, text, answer, faults, _ = line.split(' | ')
+def hook_rows(program):
+    for row in rows.read('hooks.rows'):
+        _, hook, calls = row.calls.split(': ')
         if hook.startswith('FailAt'):
             continue
         calls = calls.split('; ')
-        faults = faults_line(faults) if len(calls) == 1 else '.*'
-        says = [each for tree in answer.split('; ') for each in (tree_line(tree), faults)]
+        faults = faults_line(row) if len(calls) == 1 else '.*'
+        says = [each for tree in row.answers[0].split('; ') for each in (tree_line(tree), faults)]
         for made in (calls, [IN_BOXES[call] for call in calls]):
-            yield calls_of(refusing, line, '%s with %s' % (setting, hook), made, text, says)
+            yield calls_of(program, line_of(row), '%s with %s' % (row.setting, hook), made, row.text, says)
 
 
 def tree_line(answer):
-    """The pattern of the line of this answer, which a table has without a tree's place."""
+    """The pattern of the line of this answer, which a row has without a tree's place."""
     return re.escape(answer) + ('' if answer.startswith('refused') else PLACE)
 
 
-def slash_rows(refusing):
-    """Expressions over a source that gives slashes, which the program reads before the first call. It looks for a token behind each, too."""
+def slash_rows(program):
+    """Expressions over a source that gives slashes, which the program reads before the first call. It looks for a token after each, too."""
     calls = ['take_errors'] + AFTERWARDS
-    for line in table('crates/bench/src/calls.rt', 'CALLS') + table('crates/bench/src/captured.rt', 'CALLS'):
-        if SLASHES.match(line):
-            _, setting, text, answer, faults, left = (line.split(' | ') + ['none', 'end'])[:6]
-            says = [re.escape(answer.split('; ')[0]), str(left == 'end').lower(), faults_line(faults)]
-            text = '%s\n%s\n%s' % (setting, '; '.join(calls), unescaped(text))
-            yield Row(line, [refusing], text, ['parse_expr', 'at_end'] + calls, says)
+    for row in rows.read('calls.rows') + rows.read('kept.rows'):
+        if SLASHES.fullmatch(row.calls) and row.setting.endswith(' slashes'):
+            says = [re.escape(row.answers[0].split('; ')[0]), str(row.left == 'end').lower(), faults_line(row)]
+            text = '%s\n%s\n%s' % (row.setting, '; '.join(calls), unescaped(row.text))
+            yield Row(line_of(row), [program, 'calls'], text, ['parse_expr', 'at_end'] + calls, says)
 
 
 def run(row, number):
@@ -209,7 +210,7 @@ def is_said(row, whole):
 
 
 def is_read_again(lines, count):
-    """Whether a second parser answers the same, of which the lines behind that number are, where the first one read all, with no fault."""
+    """Whether a second parser answers the same, of which the lines after that number are, where the first one read all, with no fault."""
     first, again = lines[:count], lines[count:-1]
     is_clean = not first[0].startswith('refused') and first[1:3] == ['true', '']
     return not again or not is_clean or first == again
@@ -226,7 +227,7 @@ def fault_lines(run):
 
 
 def stage_of_program(row, whole, run):
-    """How far a run of the program came: 0 to its arguments, 1 to standard input, 2 behind it. None if it isn't as it must be."""
+    """How far a run of the program came: 0 to its arguments, 1 to standard input, 2 past it. None if it isn't as it must be."""
     if run.status == 3 and not run.output:
         return 0 if run.said.startswith(USAGE) else 1 if run.said == UNREADABLE else None
     if run.said:
@@ -238,7 +239,7 @@ def stage_of_program(row, whole, run):
 
 
 def is_afterwards(call, found, wanted, has_failed):
-    """Whether a call answers as it must behind one that wanted memory."""
+    """Whether a call answers as it must after one that was out of memory."""
     if call in ('take_errors', 'copy_errors'):
         return is_beginning(found.split(';')[:-1], wanted.split(';')[:-1])
     if has_failed and call != 'set_ctx':
@@ -267,15 +268,14 @@ def stage_of_calls(row, whole, run):
 
 
 def are_as_wanted(calls, found, wanted):
-    """Whether the lines of a parser are the wanted ones, up to one that wants memory, and behind it as they must be."""
+    """Whether the lines of a parser are the wanted ones, up to one that is out of memory, and after it as they must be."""
     at = next((at for at, line in enumerate(found) if line != wanted[at]), len(found))
     if at == len(found):
         return True
     has_failed = bool(WANTED.fullmatch(found[at]))
     if not has_failed and not is_part(found[at], wanted[at]):
         return False
-    behind = range(at + 1, len(calls))
-    return all(is_afterwards(calls[it], found[it], wanted[it], has_failed) for it in behind)
+    return all(is_afterwards(calls[it], found[it], wanted[it], has_failed) for it in range(at + 1, len(calls)))
 
 
 def is_part(found, wanted):
@@ -308,17 +308,17 @@ def begin(path):
 
 
 def main():
-    path, refusing, show_expr = sys.argv[1:]
-    rows = [*program_rows(show_expr), *call_rows(refusing), *hook_rows(refusing), *slash_rows(refusing)]
+    path, program, show_expr = sys.argv[1:]
+    all_rows = [*program_rows(show_expr), *call_rows(program), *hook_rows(program), *slash_rows(program)]
     counts = [0, 0, 0]
     with Pool(os.cpu_count(), begin, [path]) as pool:
-        for *some, wrong in pool.imap_unordered(refuse_each, rows, 4):
+        for *some, wrong in pool.imap_unordered(refuse_each, all_rows, 4):
             counts = [one + more for one, more in zip(counts, some)]
             if wrong:
                 print('%s\n  with request %d refused (0: none): %s' % wrong)
                 return 1
-    runs = counts[0] + 2 * len(rows)
-    print('%d rows, %d runs, %d requests refused: %d before the first call, %d that change no answer' % (len(rows), runs, *counts))
+    runs = counts[0] + 2 * len(all_rows)
+    print('%d rows, %d runs, %d requests refused: %d before the first call, %d that change no answer' % (len(all_rows), runs, *counts))
     return 0
 
 

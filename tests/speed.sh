@@ -6,8 +6,8 @@
 # The texts are one long expression, `a + 1 * b - a + 1 * b - .. - a`, of 0.25, 0.5 and 1 MB, bare and in 100 parentheses, and chains of links,
 # `a.b(c).b(c)..` and `a?.b[c]?.b[c]..`, of 25,000, 50,000 and 100,000 such pairs; and nested destructuring, `[{a: [b, c = 1, ..]}, ..]`, of 0.25,
 # 0.5 and 1 MB, left of `=` and as the parameter of an arrow function, which is refined from expressions to patterns. The least of five runs counts.
-# Where node and its package acorn are installed, acorn parses the same texts. The stack is as large as the system lets it grow, which builds need that print by recursion. Then
-# the longest texts are run on a stack of 1 MB, and it is looked for how many levels of each kind of nesting one of 8 MB holds.
+# Where node and its package acorn are installed, acorn parses the same texts. The stack is as large as the system lets it grow. Then the longest
+# texts are run on a stack of 1 MB.
 cd "$(dirname "$0")/.." || exit 2
 program=crates/show_expr/out/show_expr
 if [ ! -x "$program" ]; then
@@ -32,9 +32,6 @@ def text_of(size, depth):
     return b'(' * depth + UNIT * (size // len(UNIT)) + b'a' + b')' * depth + b'\n'
 
 
-NESTINGS = [(b'(', b')'), (b'[', b']'), (b'{a: ', b'}'), (b'f(', b')'), (b'a[', b']'), (b'`${', b'}`'), (b'!', b''), (b'new ', b''),
-            (b'a => ', b''), (b'([', b']) => 1'), (b'a = ', b''), (b'a ? a : ', b''), (b'a ? ', b' : a')]
-
 PATTERN = b'{a: [b, {c = 1, d: [, e]}, f = g], ...h}, '
 
 
@@ -46,37 +43,22 @@ def chain_of(link, pairs):
     return b'a' + link * pairs + b'\n'
 
 
-commands = [(name, [name, 'expr', 'script']) for name in sys.argv[1:]]
+proved, *others = sys.argv[1:]
+commands = [(name, [path, 'expr', 'script']) for name, path in [('show_expr', proved), *zip(others, others)]]
 node = shutil.which('node')
 if node and run([node, '--stack-size=60000', '-e', ACORN], b'a').status == 0:
     commands.append(('acorn', [node, '--stack-size=60000', '-e', ACORN]))
 print('| program | text | bytes | processor seconds | peak memory, MB | ended |')
 print('|---|---|---|---|---|---|')
 texts = [(name, text_of(size, depth)) for name, depth in (('bare', 0), ('in 100 parentheses', 100)) for size in (250_000, 500_000, 1_000_000)]
-chains = [(name, chain_of(link, pairs)) for name, link in (('`a.b(c)..`', b'.b(c)'), ('`a?.b[c]..`', b'?.b[c]')) for pairs in (25_000, 50_000, 100_000)]
-patterns = [(name, pattern_of(size, before, behind)) for name, before, behind in (('`[..] = x`', b'', b' = x'), ('`([..]) => x`', b'(', b') => x')) for size in (250_000, 500_000, 1_000_000)]
+links = ('`a.b(c)..`', b'.b(c)'), ('`a?.b[c]..`', b'?.b[c]')
+chains = [(name, chain_of(link, pairs)) for name, link in links for pairs in (25_000, 50_000, 100_000)]
+refined = ('`[..] = x`', b'', b' = x'), ('`([..]) => x`', b'(', b') => x')
+patterns = [(name, pattern_of(size, before, after)) for name, before, after in refined for size in (250_000, 500_000, 1_000_000)]
 for text_name, text in texts + chains + patterns:
     for name, command in commands:
         least = runs(command, text)
         print('| %s | %s | %d | %.2f | %.0f | %s |' % (name, text_name, len(text), least.seconds, least.megabytes, ended(least.status)), flush=True)
 for text_name, text in (texts[2], chains[2], chains[5]):
     print('on a stack of 1 MB, %s, %d bytes: %s' % (text_name, len(text), ended(run(commands[0][1], text, 1 << 20).status)))
-
-
-def levels_of(before, behind):
-    """How many of what stands before and behind one operand a stack of 8 MB holds."""
-    low, high = 0, 200_000
-    while high - low > 10:
-        middle = (low + high) // 2
-        status = run(commands[0][1], before * middle + b'a' + behind * middle, 8 << 20).status
-        low, high = (middle, high) if os.WIFEXITED(status) else (low, middle)
-    return low
-
-
-print()
-print('| nested | levels in 8 MB | bytes a level |')
-print('|---|---|---|')
-for before, behind in NESTINGS:
-    levels = levels_of(before, behind)
-    print('| `%s` | %d | %d |' % ((before + b'a' + behind).decode(), levels, (8 << 20) // max(levels, 1)), flush=True)
 END

@@ -1,12 +1,12 @@
-// Compares the trees of programs with those that acorn reads. The tables of bench_clients and what the program
-// `statements` has to print hold the expected trees; acorn's are printed by acorn_trees.js.
+// Compares the trees of programs with those that acorn reads. The expected trees are in crates/rows/data/programs.trees
+// and in what the program `statements` has to print; acorn's are printed by acorn_trees.js.
 //
 //     node tests/statements_acorn.js                     the trees that are written in tests
 //     node tests/statements_acorn.js PROGRAM             short programs, and such in one another
 //     node tests/statements_acorn.js PROGRAM FILE ..     files
 //
-// PROGRAM is a built `statements`. Without it the ten programs of bench_clients and the program's own text are
-// compared, and acorn has to refuse what is refused in bench_clients. With it the program is run on each row of
+// PROGRAM is a built `statements`. Without it the programs of programs.trees and the program's own text are compared,
+// and acorn has to refuse those of refused_programs.rows. With it the program is run on each row of
 // short_programs.txt, and on programs that are put together of those that both read; or on each file that is ASCII and
 // that acorn reads as a script. The status is 1 where anything differs. Run it at the top of the repository; node needs
 // its package acorn.
@@ -19,8 +19,7 @@ const { readFileSync } = require('fs');
 const { isProgram, programTree } = require('./acorn_trees.js');
 const { rowsOf, runOn, Report } = require('./acorn_rows.js');
 
-const PROGRAMS = 'crates/bench_clients/src/programs.rt';
-const FAULTS = 'crates/bench_clients/src/faults.rt';
+const PROGRAMS = 'crates/rows/data/programs.trees';
 const OWN = 'crates/statements';
 
 /** Programs that ECMA-262 has, and that are refused: a heritage with a brace, what isn't ASCII, and modules. */
@@ -41,7 +40,7 @@ function acornTree(text) {
 }
 
 function compareTables(report) {
-  const programs = rowsOf(PROGRAMS, 'PROGRAMS').split('====\n').map(row => row.split('----\n'));
+  const programs = readFileSync(PROGRAMS, 'latin1').split('====\n').slice(1).map(row => row.split('----\n'));
   programs.push([readFileSync(`${OWN}/stdin`, 'latin1'), readFileSync(`${OWN}/stdout`, 'latin1')]);
   for (const [text, wanted] of programs) {
     report.compare(text.split('\n', 1)[0], acornTree(text), wanted);
@@ -50,8 +49,7 @@ function compareTables(report) {
 
 /** What is refused here has to be no script. Those that are refused here alone have to be scripts or modules. */
 function compareFaults(report) {
-  for (const row of rowsOf(FAULTS, 'PROGRAMS').trimEnd().split('\n')) {
-    const text = row.split(' | ')[0].replaceAll('\\n', '\n');
+  for (const { text } of rowsOf('refused_programs.rows')) {
     const isKnown = REFUSED_HERE_ALONE.includes(text);
     const isRead = isProgram(text, 'script') || (isKnown && isProgram(text, 'module'));
     report.compare(text, isRead ? 'read' : 'refused', isKnown ? 'read' : 'refused');

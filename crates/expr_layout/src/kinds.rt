@@ -82,7 +82,7 @@ fn put_kind(pieces: &mut Pieces, nodes: &Nodes, node: &AnyNode) -> Result<(), Al
     }
 }
 
-/// Adds the pieces of an operation, or of a pattern that is a plain one with something before or behind it.
+/// Adds the pieces of an operation, or of a pattern that is a plain one with something before or after it.
 fn put_operation(pieces: &mut Pieces, node: &AnyNode) -> Result<(), AllocError> {
     match node {
         Node::Update {
@@ -143,7 +143,7 @@ fn put_two(
     put_after(pieces, " ", right)
 }
 
-/// Adds a prefix operator and its operand. A blank stands behind a word, and between two signs.
+/// Adds a prefix operator and its operand. A blank is after a word, and between two signs.
 fn put_unary(
     pieces: &mut Pieces,
     op: UnaryOp,
@@ -164,7 +164,7 @@ fn is_signed(nodes: &Nodes, expr: ExprId) -> bool {
     expr.0 < nodes.len() && matches!(nodes.get(expr.0), Node::Unary { .. } | Node::Update { .. })
 }
 
-/// Whether the expression is a number, which a dot right behind it would be read as a part of.
+/// Whether the expression is a number, which a dot right after it would be read as a part of.
 fn is_number(nodes: &Nodes, expr: ExprId) -> bool {
     expr.0 < nodes.len() && matches!(nodes.get(expr.0), Node::Num(_))
 }

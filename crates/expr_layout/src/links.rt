@@ -9,7 +9,7 @@ use swc_ecma_parser::ast::expr::{
 use swc_ecma_parser::bodies::token_body::TokenBody;
 use swc_ecma_parser::nodes::node::{ExprId, PatId};
 
-/// Adds the pieces of a member. Before the dot behind a number stands a blank.
+/// Adds the pieces of a member. Before the dot after a number stands a blank.
 pub fn put_member(
     pieces: &mut Pieces,
     member: &MemberExpr<ExprId>,
@@ -19,7 +19,7 @@ pub fn put_member(
     put_link(pieces, member, dot, "[")
 }
 
-/// Adds the object of a member and what names it, behind a dot or a bracket.
+/// Adds the object of a member and what names it, after a dot or a bracket.
 fn put_link(
     pieces: &mut Pieces,
     member: &MemberExpr<ExprId>,
@@ -51,7 +51,7 @@ pub fn put_super_prop(pieces: &mut Pieces, prop: &SuperProp<ExprId>) -> Result<(
     }
 }
 
-/// Adds the pieces of a call. Behind the name `async` a line begins, so that no parameters of an arrow function are
+/// Adds the pieces of a call. After the name `async` a line begins, so that no parameters of an arrow function are
 /// read.
 pub fn put_call(
     pieces: &mut Pieces,
@@ -107,7 +107,7 @@ pub fn put_chain(pieces: &mut Pieces, chain: &OptChainExpr<ExprId>) -> Result<()
     }
 }
 
-/// Adds the pieces of a template: its texts as they are written, and an expression behind each as far as there are any.
+/// Adds the pieces of a template: its texts as they are written, and an expression after each as far as there are any.
 pub fn put_tpl(pieces: &mut Pieces, tpl: &Tpl<ExprId>) -> Result<(), AllocError> {
     put(pieces, "`")?;
     for (index, quasi) in tpl.quasis.iter().enumerate() {

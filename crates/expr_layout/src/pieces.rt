@@ -15,7 +15,7 @@ pub enum Piece {
     Open,
     /// The next line, of another item.
     Line,
-    /// The next line, behind the items.
+    /// The next line, after the items.
     Close,
 }
 

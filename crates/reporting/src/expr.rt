@@ -4,6 +4,7 @@ ghost use Rattle.swc_nodes.specs.NodeParts.{expr_part};
 ghost use Rattle.swc_nodes.specs.GrowingNodes.{From};
 ghost use Rattle.swc_ecma_parser.specs.Calls.{nodes_of};
 
+use crate::{LEVELS, Refusal};
 use std::alloc::Global;
 use swc_ecma_parser::bodies::token_bodies::TokenBodies;
 use swc_ecma_parser::context::context::{Context, EsVersion, Syntax};
@@ -21,25 +22,29 @@ pub type Nodes = NodesOf<TokenBodies>;
 /// The nodes of a part of a text that is one expression of a script, and the number of this. `start` is where the part
 /// begins: all places are of the whole text.
 ///
-/// The first fault is a refusal, also where it was recorded and a tree was read. A token that is left behind the
-/// expression is `Unexpected`, where a comma is wanted. The number that is answered is one of the nodes'.
-pub fn read_expr(alloc: Global, part: &[u8], start: BytePos) -> PResult<(Nodes, ExprId)>
+/// The first fault is a refusal, also where it was recorded and a tree was read. A token that is left after the
+/// expression is `Unexpected`, where a comma is wanted. What is nested deeper than `LEVELS` is refused. The number that
+/// is answered is one of the nodes'.
+pub fn read_expr(alloc: Global, part: &[u8], start: BytePos) -> Result<(Nodes, ExprId), Refusal>
     ensures stands { IfOk result (λ read. From 0 read.0 (expr_part read.1)) }
 {
     let tokens = read_tokens_at(alloc, part, start)?;
     let (context, syntax) = (Context::script(), Syntax::default());
     let source = TokensInput::new_at(alloc, start, tokens, context, syntax, EsVersion::default());
     let mut parser = Parser::new_from(alloc, source, TokenBodies::new(alloc));
+    parser.limit_nesting(LEVELS);
     let read = read_to_end(&mut parser);
+    let is_too_deep = parser.is_too_deep();
     let recorded = parser.take_errors().into_iter().next();
     let nodes = parser.into_nodes();
     match (recorded, read) {
-        (Some(fault), _) | (None, Err(fault)) => Err(fault),
+        (Some(fault), _) => Err(Refusal::Fault(fault)),
+        (None, Err(fault)) => Err(Refusal::new(fault, is_too_deep)),
         (None, Ok(expr)) => Ok((nodes, expr)),
     }
 }
 
-/// Reads an expression, behind which no token may be left.
+/// Reads an expression, after which no token may be left.
 fn read_to_end(parser: &mut Parser<TokensInput, TokenBodies>) -> PResult<ExprId>
     ensures stands { IfOk result (λ expr. From 0 (nodes_of parser.new) (expr_part expr)) }
 {

@@ -36,7 +36,7 @@ impl Lines {
     }
 }
 
-/// Whether a line ends with the first byte: an LF, or a CR that no LF stands behind.
+/// Whether a line ends with the first byte: an LF, or a CR that no LF is after.
 fn ends_line(rest: &[u8]) -> bool {
     match rest {
         [b'\r', b'\n', ..] => false,

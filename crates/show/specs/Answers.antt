@@ -56,7 +56,7 @@ pub record Judged (s : Symbol) (c : Context) (x : Syntax) (ts : List TokenAndSpa
     (recorded : List Error) : Type 0 where
   -- Where no token is left and nothing was recorded, the written grammar derives a tree from all of them.
   pub sound : IfOk shown (λ v. v.unread ≡ false → recorded ≡ [] → Derived s c x ts)
-  -- Where it derives a tree from all of them, that is so, or memory was wanted.
+  -- Where it derives a tree from all of them, that is so, or memory ran out.
   pub complete : Derived s c x ts
       → MatchResult shown (λ v. (v.unread ≡ false) × (recorded ≡ [])) (λ e. e.kind ≡ OutOfMemory)
 
@@ -69,6 +69,6 @@ pub data Answers (s : Symbol) (c : Context) (x : Syntax) (text : List ℕ)
   judged : {ts : List TokenAndSpan} {shown : Result Shown Error} {recorded : List Error} → AreTokens text ts
       → Judged s c x ts shown recorded → Answers s c x text shown recorded
 
--- what was read is shown: whether tokens are left behind it, or the refusal; there may be no memory for its text
+-- what was read is shown: whether tokens are left after it, or the refusal; there may be no memory for its text
 abbrev pub Shows : {N : Type 0} → Result (N × Bool) Error → Result Shown Error → Type 0
 Shows read shown = MatchResult read (λ r. MatchResult shown (λ v. v.unread ≡ r.1) (λ e. e.kind ≡ OutOfMemory)) (λ e. shown ≡ Err e)

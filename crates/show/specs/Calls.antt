@@ -63,10 +63,13 @@ status (Ok s) [] = 0
 status (Ok s) (e ∷ es) = 1
 
 -- the status of a run that reads a symbol in a context by a syntax, over an input that gives these bytes, where they
--- are known
-pub data Runs (s : Symbol) (c : Context) (x : Syntax) (given : Option (List ℕ)) : ℕ → Type 0 where
-  -- The input couldn't be read, or the answer couldn't be written.
-  fails : Runs s c x given 3
+-- are known, and may be unreadable, and an output that may be unwritable
+pub data Runs (s : Symbol) (c : Context) (x : Syntax) (given : Option (List ℕ)) (unreadable unwritable : Type 0)
+    : ℕ → Type 0 where
+  -- The input couldn't be read.
+  unread : unreadable → Runs s c x given unreadable unwritable 3
+  -- The answer couldn't be written.
+  unwritten : unwritable → Runs s c x given unreadable unwritable 3
   -- What the input gave was answered.
   answers : {text : List ℕ} {shown : Result Shown Error} {recorded : List Error} → IfSome given (λ bytes. text ≡ bytes)
-      → Answers s c x text shown recorded → Runs s c x given (status shown recorded)
+      → Answers s c x text shown recorded → Runs s c x given unreadable unwritable (status shown recorded)

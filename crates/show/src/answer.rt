@@ -40,7 +40,7 @@ pub struct Asked {
 #[derive(Drop)]
 pub struct Shown {
     pub tree: String,
-    /// Tokens are left behind the tree.
+    /// Tokens are left after the tree.
     pub unread: bool,
 }
 
@@ -103,6 +103,7 @@ fn answer_expr(alloc: Global, tokens: Vec<TokenAndSpan>, ctx: Context, syntax: S
         read,
         nodes,
         recorded,
+        too_deep: _,
     } = parse_whole_expr(
         alloc,
         tokens,
@@ -110,6 +111,7 @@ fn answer_expr(alloc: Global, tokens: Vec<TokenAndSpan>, ctx: Context, syntax: S
         syntax,
         EsVersion::default(),
         TokenBodies::new(alloc),
+        usize::MAX,
     );
     let shown = show_expr(&nodes, read);
     // The program ends soon: its memory goes back as a whole, faster than a node at a time.
@@ -125,6 +127,7 @@ fn answer_pat(alloc: Global, tokens: Vec<TokenAndSpan>, ctx: Context, syntax: Sy
         read,
         nodes,
         recorded,
+        too_deep: _,
     } = parse_whole_pat(
         alloc,
         tokens,
@@ -132,6 +135,7 @@ fn answer_pat(alloc: Global, tokens: Vec<TokenAndSpan>, ctx: Context, syntax: Sy
         syntax,
         EsVersion::default(),
         TokenBodies::new(alloc),
+        usize::MAX,
     );
     let shown = show_pat(&nodes, read);
     forget(nodes);

@@ -4,3 +4,4 @@
 pub mod answer;
 mod arguments;
 pub mod run;
+pub mod streams;

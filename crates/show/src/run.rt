@@ -3,11 +3,11 @@ ghost use Rattle.std.specs.Prelude.{◌≡◌, ◌≢◌, ◌≤◌, map, IfSome
 ghost use Rattle.show.specs.Answers.{symbol_of};
 ghost use Rattle.show.specs.Calls.{Asks, asked_by, Runs};
 
-use crate::answer::{Answer, answer_to};
+use crate::answer::answer_to;
 use crate::arguments::asked_by;
+use crate::streams::{Input, Output};
 use std::alloc::Global;
-use std::io;
-use std::io::{Read, Write};
+use std::io::Write;
 
 const BAD_CALL: u8 = 3;
 
@@ -16,14 +16,14 @@ const USAGE: &str = "usage: show_expr expr|pat script|module|strict|generator|as
 const UNREADABLE: &str = "cannot read standard input";
 
 /// Reads the input as the arguments say, and writes on `output` the tree, or `refused: ` and the
-/// fault; then `unread` where tokens are left behind the tree; then each recorded fault on a line
+/// fault; then `unread` where tokens are left after the tree; then each recorded fault on a line
 /// of its own.
 ///
 /// Answers the program's status: 0 where nothing was recorded, 1 where something was, 2 for a
 /// refusal, and 3 for bad arguments (the usage is written on `complaints`, and nothing is read),
-/// for input that can't be read (also for want of memory), and for a write that fails. The text of
-/// the tree is built before anything is written.
-pub fn run<R: Read, W: Write, C: Write>(
+/// for input that can't be read (also when out of memory), and for a write that fails, and only
+/// then. The text of the tree is built before anything is written.
+pub fn run<R: Input, W: Output, C: Write>(
     alloc: Global,
     arguments: &[&str],
     input: &mut R,
@@ -31,7 +31,8 @@ pub fn run<R: Read, W: Write, C: Write>(
     complaints: &mut C,
 ) -> u8
     ensures status { IfSome (asked_by (map (λ a. a.now) arguments.now))
-        (λ a. Runs (symbol_of a.what) a.context a.syntax (R.remaining input.old) result) }
+        (λ a. Runs (symbol_of a.what) a.context a.syntax (R.given input.old) (R.fails input.old) (W.fails output.old)
+        result) }
     ensures bad_call { ¬ Asks (map (λ a. a.now) arguments.now) → result ≡ 3 }
     ensures unread { ¬ Asks (map (λ a. a.now) arguments.now) → input.new ≡ input.old }
     ensures unwritten { ¬ Asks (map (λ a. a.now) arguments.now) → output.new ≡ output.old }
@@ -40,31 +41,13 @@ pub fn run<R: Read, W: Write, C: Write>(
         let _ = writeln!(complaints, "{USAGE}");
         return BAD_CALL;
     };
-    let mut text = Vec::new(alloc);
-    if input.read_to_end(&mut text).is_err() {
+    let Ok(text) = input.read_all(alloc) else {
         let _ = writeln!(complaints, "{UNREADABLE}");
         return BAD_CALL;
-    }
+    };
     let answer = answer_to(alloc, &text, asked);
-    match write_answer(output, &answer) {
+    match output.write_answer(&answer) {
         Ok(()) => answer.status(),
         Err(_) => BAD_CALL,
     }
-}
-
-fn write_answer<W: Write>(output: &mut W, answer: &Answer) -> io::Result<()> {
-    match &answer.shown {
-        Ok(shown) => {
-            let tree = shown.tree.as_str();
-            writeln!(output, "{tree}")?;
-            if shown.unread {
-                writeln!(output, "unread")?;
-            }
-        }
-        Err(refusal) => writeln!(output, "refused: {}", refusal.brief())?,
-    }
-    for error in &answer.recorded {
-        writeln!(output, "{}", error.brief())?;
-    }
-    output.flush()
 }

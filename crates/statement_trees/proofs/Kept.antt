@@ -135,7 +135,7 @@ module _ (b c : Buffer TokensInput) (n : ℕ) where
   unfolding effort
   takes_effort h = omega (arith, h)
 
--- the same, behind what was read before
+-- the same, after what was read before
 module _ (a b c : Buffer TokensInput) (k n : ℕ) where
   pub lower_after : effort b n ≤ effort a k → to_come listed_model c ≤ to_come listed_model b → effort c n ≤ effort a k
   lower_after l h = let step : effort c n ≤ effort b n = lower_effort b c n h in omega (arith, l, step)
@@ -143,6 +143,6 @@ module _ (a b c : Buffer TokensInput) (k n : ℕ) where
   pub takes_after : effort b n ≤ effort a k → to_come listed_model c < to_come listed_model b → effort c n + 5 ≤ effort a k
   takes_after l h = let step : effort c n + 5 ≤ effort b n = takes_effort b c n h in omega (arith, l, step)
 
-  -- where one part is due behind it
+  -- where one part is due after it
   pub puts_after : effort b n ≤ effort a k → to_come listed_model c < to_come listed_model b → effort c n + 1 < effort a k
   puts_after l h = let step : effort c n + 5 ≤ effort b n = takes_effort b c n h in omega (arith, l, step)

@@ -7,6 +7,7 @@ ghost use Rattle.statement_trees.specs.Contexts.{context_of, work, Takes, body_c
 
 use crate::script::{Outline, Script};
 use crate::statement::Due;
+use reporting::{LEVELS, Refusal};
 use std::alloc::Global;
 use std::collections::VecDeque;
 use swc_ecma_parser::bodies::deferred::{DeferredBodies, Waiting};
@@ -22,8 +23,9 @@ use swc_ecma_parser::tokens::read_tokens;
 /// The sign of a generator.
 const STAR: Token = Token::BinOp(BinOpToken::Mul);
 
-/// The tree of a program, as text. A fault that the parser recorded is refused as any other.
-pub fn tree_of(alloc: Global, text: &[u8]) -> PResult<String> {
+/// The tree of a program, as text. A fault that the parser recorded is refused as any other, and so is an expression or a
+/// pattern that is nested deeper than `LEVELS`; statements may be nested as deeply as they are.
+pub fn tree_of(alloc: Global, text: &[u8]) -> Result<String, Refusal> {
     let tokens = read_tokens(alloc, text)?;
     let most = tokens.len();
     let mut script = Script {
@@ -60,7 +62,9 @@ fn parser_over(
 {
     let (syntax, target) = (Syntax::default(), EsVersion::default());
     let source = TokensInput::new(alloc, tokens, context, syntax, target);
-    Parser::new_from(alloc, source, DeferredBodies::new(alloc))
+    let mut parser = Parser::new_from(alloc, source, DeferredBodies::new(alloc));
+    parser.limit_nesting(LEVELS);
+    parser
 }
 
 impl Script {
@@ -79,19 +83,22 @@ impl Script {
         self.body()
     }
 
-    /// Refuses want of memory, the first fault that was recorded, and what is left behind what was read.
-    fn end_pass(&mut self, answer: PResult<()>) -> PResult<()>
+    /// Refuses out of memory, the first fault that was recorded, and what is left after what was read.
+    fn end_pass(&mut self, answer: PResult<()>) -> Result<(), Refusal>
         ensures context { context_of self.new ≡ context_of self.old }
     {
         if self.outline.failed {
-            return Err(self.parser.buffer().out_of_memory());
+            return Err(Refusal::Fault(self.parser.buffer().out_of_memory()));
         }
         if let Some(fault) = self.parser.take_errors().into_iter().next() {
-            return Err(fault);
+            return Err(Refusal::Fault(fault));
         }
-        answer?;
+        if let Err(fault) = answer {
+            return Err(Refusal::new(fault, self.parser.is_too_deep()));
+        }
         if self.parser.buffer().cur().is_some() {
-            return Err(self.parser.buffer().unexpected(SyntaxError::TS1109));
+            let left = self.parser.buffer().unexpected(SyntaxError::TS1109);
+            return Err(Refusal::Fault(left));
         }
         Ok(())
     }
@@ -161,7 +168,7 @@ impl Script {
         self.expect(&Token::RParen, Wanted::RParen)
     }
 
-    /// A class (ECMA-262, 15.7), behind that word. What stands behind its name is read in a context of its own.
+    /// A class (ECMA-262, 15.7), after that word. What is after its name is read in a context of its own.
     fn class(&mut self) -> PResult<()>
         ensures context { context_of self.new ≡ context_of self.old }
     {
@@ -185,7 +192,7 @@ impl Script {
         Ok(())
     }
 
-    /// What stands behind the name of a class.
+    /// What is after the name of a class.
     fn members(&mut self) -> PResult<()>
         ensures context { context_of self.new ≡ context_of self.old }
     {

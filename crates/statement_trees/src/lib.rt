@@ -3,8 +3,8 @@
 //! Scripts are read (ECMA-262, 14, 15 and 16.1): all statements, declarations, functions and classes. A line stands for
 //! a statement, a clause or a member; what it holds stands below it, two blanks deeper. Expressions and patterns are
 //! written as swc_print writes them. A function, a class, and the block of a method or an arrow function is read in a
-//! pass of its own, from the tokens that the hook kept: behind `with` a line names its places, in their order, and each
-//! stands behind the program as `at` and its place.
+//! pass of its own, from the tokens that the hook kept: after `with` a line names its places, in their order, and each
+//! is after the program as `at` and its place.
 //!
 //! It isn't promised that these trees are those of ECMA-262. Not looked at are: `"use strict"`; names that are bound
 //! twice, or are missing in a declaration; `let` as a name; whether a label, a loop or a `switch` is there for `break`

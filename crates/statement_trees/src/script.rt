@@ -28,7 +28,7 @@ type Nodes = NodesOf<DeferredBodies>;
 
 /// A tree as text: a line for each of its nodes, indented by two blanks for each node that it stands in.
 ///
-/// Want of memory is remembered, and told at the end of a pass: so nothing that is written can be refused.
+/// Out of memory is remembered, and told at the end of a pass: so nothing that is written can be refused.
 #[derive(Drop)]
 pub(crate) struct Outline {
     pub(crate) text: String,
@@ -41,7 +41,7 @@ impl Outline {
         self.failed |= self.text.push_str(text).is_err();
     }
 
-    /// Writes a text in the current line, behind a blank.
+    /// Writes a text in the current line, after a blank.
     pub(crate) fn put_word(&mut self, text: &str) {
         self.put(" ");
         self.put(text);
@@ -301,7 +301,7 @@ impl Script {
         met
     }
 
-    /// Puts off what is due, the first of it on top of the stack. Want of memory is remembered.
+    /// Puts off what is due, the first of it on top of the stack. Out of memory is remembered.
     pub(crate) fn put_off(&mut self, depth: usize, rest: &[Due])
         ensures context { context_of self.new ≡ context_of self.old }
         ensures adds { work self.new ≤ work self.old + length rest.now }

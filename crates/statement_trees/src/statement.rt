@@ -16,7 +16,7 @@ use swc_ecma_parser::nodes::node::ForHeadId;
 pub(crate) enum Due {
     /// Statements, up to what begins none.
     List,
-    /// The clauses of a `switch`, and the `}` behind them.
+    /// The clauses of a `switch`, and the `}` after them.
     Clauses,
     /// A statement that is a part of another one.
     Body,
@@ -32,7 +32,7 @@ pub(crate) enum Due {
     Param,
     /// An expression in parentheses.
     Parens,
-    /// The head of a `for`, behind that word.
+    /// The head of a `for`, after that word.
     Head,
     /// Names that are declared, with their values.
     Names(Keyword),
@@ -40,7 +40,7 @@ pub(crate) enum Due {
     Thrown,
     /// What is returned, or nothing.
     Returned,
-    /// The label behind `break` or `continue`, or nothing.
+    /// The label after `break` or `continue`, or nothing.
     Target,
     /// `{`, the end of the line, and then statements and `}`.
     Block,
@@ -62,19 +62,19 @@ pub(crate) enum Due {
     Line,
 }
 
-/// What is due behind the `while` of a `do`.
+/// What is due after the `while` of a `do`.
 const DO_TEST: &[Due] = &[Due::Parens, Due::Semicolon, Due::Line];
 
-/// What is due behind `else`.
+/// What is due after `else`.
 const BRANCH: &[Due] = &[Due::Line, Due::Body];
 
-/// What is due behind `finally`.
+/// What is due after `finally`.
 const LAST: &[Due] = &[Due::Block];
 
-/// What is due behind `catch`.
+/// What is due after `catch`.
 const HANDLER: &[Due] = &[Due::Param, Due::Block, Due::Finally];
 
-/// What is due behind the keyword of a statement, if one begins with it.
+/// What is due after the keyword of a statement, if one begins with it.
 fn behind(word: Keyword) -> Option<&'static [Due]>
     ensures { IfSome result (λ rest. length rest.now ≤ 4) }
 {
@@ -108,7 +108,7 @@ impl Script {
         Ok(())
     }
 
-    /// Reads a part, and puts off what is due behind its beginning.
+    /// Reads a part, and puts off what is due after its beginning.
     fn step(&mut self, due: Due, depth: usize) -> PResult<()>
         ensures context { context_of self.new ≡ context_of self.old }
         ensures lower { OnOk result (work self.new ≤ work self.old) }
@@ -155,7 +155,7 @@ impl Script {
         Ok(())
     }
 
-    /// Reads a part behind whose beginning nothing is due.
+    /// Reads a part after whose beginning nothing is due.
     #[tactic(auto, unfolding(crate::specs::Contexts::effort))]
     pub(crate) fn part(&mut self, due: Due) -> PResult<()>
         ensures context { context_of self.new ≡ context_of self.old }
@@ -210,7 +210,7 @@ impl Script {
         Ok(())
     }
 
-    /// A statement, up to what is due behind its beginning.
+    /// A statement, up to what is due after its beginning.
     fn statement(&mut self, depth: usize) -> PResult<&'static [Due]>
         ensures context { context_of self.new ≡ context_of self.old }
         ensures falls { IfOk result (λ rest. work self.new + length rest.now < work self.old) }
@@ -249,7 +249,7 @@ impl Script {
         Ok(&[Due::End])
     }
 
-    /// Consumes the keyword of a statement where one is current, and writes it. What is due behind it.
+    /// Consumes the keyword of a statement where one is current, and writes it. What is due after it.
     fn take_word(&mut self) -> Option<&'static [Due]>
         ensures context { context_of self.new ≡ context_of self.old }
         ensures lower { work self.new ≤ work self.old }
@@ -343,7 +343,7 @@ impl Script {
         Ok(())
     }
 
-    /// The head of a `for` (ECMA-262, 14.7.4 and 14.7.5), behind that word. `await` stands in async code alone.
+    /// The head of a `for` (ECMA-262, 14.7.4 and 14.7.5), after that word. `await` stands in async code alone.
     fn for_head(&mut self) -> PResult<()>
         ensures context { context_of self.new ≡ context_of self.old }
         ensures lower { work self.new ≤ work self.old }

@@ -1,4 +1,4 @@
-// Words that are current, and what stands behind them.
+// Words that are current, and what is after them.
 #![tactic(auto, unfolding(crate::specs::Contexts::effort))]
 
 ghost use Rattle.std.specs.Prelude.{◌≡◌, ◌≤◌, true, IsSome};
@@ -66,7 +66,7 @@ impl Script {
         is_function && !input.has_linebreak_between_cur_and_peeked()
     }
 
-    /// Whether a word is current, and `:` stands behind it.
+    /// Whether a word is current, and `:` is after it.
     pub(crate) fn at_label(&mut self) -> bool
         ensures context { context_of self.new ≡ context_of self.old }
         ensures lower { work self.new ≤ work self.old }

@@ -50,7 +50,7 @@ use Rattle.swc_steps.proofs.Steps.{Reader, give, on_call, on_call_read, on_then,
 
 -- ---- tokens
 
--- what was read, and what is read behind it
+-- what was read, and what is read after it
 then_read : {A B : Type 0} (o : Out A) (f : A × List TokenAndSpan → Out B) {r : B × List TokenAndSpan}
     → (o >>= f) ≡ Some r → (p : A × List TokenAndSpan) × (o ≡ Some p) × (f p ≡ Some r)
 then_read None f h = cc
@@ -258,9 +258,9 @@ module _ {F C K : Type 0} {fun_at : F → Span} {class_at : C → Span} {block_a
       let (q, a, l) = then_read (args_inside hook false x p.1) _ k in
       opened_operand b p.0.0 p.0.1 ts p.1 q.1 us q.0 e o a l
 
-  -- ---- what stands behind it
+  -- ---- what is after it
 
-  -- Behind an operand its links, `++` or `--`, and operators: the grammar derives all of it, as operators.
+  -- After an operand its links, `++` or `--`, and operators: the grammar derives all of it, as operators.
   pub operators_read : (xs ts us vs ws : List TokenAndSpan) (e l u k : Tree F C K) → Operand hook x xs ts e
       → run hook (links true e) x ts ≡ Some (l, us) → run hook (updates l) x us ≡ Some (u, vs)
       → run hook (climb u 0) x vs ≡ Some (k, ws) → Reads hook (Level 1) x xs ws k
@@ -375,7 +375,7 @@ module _ {S : Type 0} {model : Model S} {sure : Bool} where
 
 module _ {S F C K : Type 0} {fun_at : F → Span} {class_at : C → Span} {block_at : K → Span} {model : Model S}
     {sure : Bool} (hook : Hook F C K) (lawful : LawfulHook fun_at class_at block_at hook) where
-  -- ---- behind an operand in the code: its links, `++` or `--`, and operators
+  -- ---- after an operand in the code: its links, `++` or `--`, and operators
 
   pub operators_heard : {e l u k : Tree F C K} {b c d m n : Buffer S} (h : HearsOperand model sure hook e b c)
       → On model sure (run hook (links true e)) (give l) c d → On model sure (run hook (updates l)) (give u) d m
@@ -388,7 +388,7 @@ module _ {S F C K : Type 0} {fun_at : F → Span} {class_at : C → Span} {block
       (on_then (on_call (λ x l. run hook (updates l.0) x l.1 >>= (λ u. run hook (climb u.0 0) x u.1)) (λ x ts. refl) i)
       (on_then (on_call (λ x u. run hook (climb u.0 0) x u.1) (λ x ts. refl) j) w))
 
-  -- so what is read behind these may be said of a tree that holds nothing that was refused
+  -- so what is read after these may be said of a tree that holds nothing that was refused
   pub operators_known : {A : Type 0} {f r w : Reader A} {e l u k : Tree F C K} {b c d m n : Buffer S}
       → HearsOperand model sure hook e b c
       → On model sure (run hook (links true e)) (give l) c d → On model sure (run hook (updates l)) (give u) d m

@@ -49,7 +49,7 @@ module _ {F C K : Type 0} (hook : Hook F C K) where
   unfolding arrow_behind
   arrow_splits lo a in_parens ps x ts = refl
 
--- behind a body that was read
+-- after a body that was read
 pub end_same : {F C K : Type 0} {fg : Ghosts F} {cg : Ghosts C} {kg : Ghosts K} (hook : Hook F C K)
     → LawfulHook fg.place cg.place kg.place hook → {ns : Nodes F C K fg cg kg} {k : ℕ} (lo : BytePos)
     (a in_parens : Bool)

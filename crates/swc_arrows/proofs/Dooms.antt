@@ -21,7 +21,7 @@ use Rattle.swc_steps.proofs.Steps.Tokens.{on_then}
 use Rattle.swc_arrows.specs.Answers.{Doomed, Fails, Opens}
 
 module _ {S : Type 0} {model : Model S} where
-  -- a call that is refused for want of memory alone, behind what was consumed
+  -- a call that is refused only when out of memory, after what was consumed
   pub tries_later : {T : Type 0} {b c : Buffer S} (d : Buffer S) (r : Result T Error) → Leads model b c
       → Tries model c r d → Tries model b r d
   tries_later d (Ok x) p h = leads_then p h
@@ -57,7 +57,7 @@ module _ {S : Type 0} {model : Model S} {sure : Bool} where
     none = h.none;
   }
 
-  -- reading f is reading whatever one likes, behind it
+  -- reading f is reading whatever one likes, after it
   unfoldable pub doomed_on : {A : Type 0} {f g : Reader A} {b c : Buffer S} → Doomed model sure f b c
       → On model sure f g b c
   doomed_on h = record {
@@ -118,7 +118,7 @@ module _ {S : Type 0} {model : Model S} {sure : Bool} where
   unfolding doomed_after leads_then
   opens_fails h p = record { doomed = doomed_after h.on p; onward = onward_then h.onward p.leads }
 
-  -- ---- from a place on, one token behind
+  -- ---- from a place on, one token after
 
   pub opens_later : {A : Type 0} {f g h : Reader A} {b c d : Buffer S} → Opens model sure f g b c
       → On model sure g h c d
@@ -141,7 +141,7 @@ module _ {S : Type 0} {model : Model S} {sure : Bool} where
   unfolding doomed_after leads_then spent
   fails_after p h = record { doomed = doomed_after p h.doomed; onward = onward_later (spent p.leads) h.onward }
 
-  -- q is called, and what is left behind what it read
+  -- q is called, and what is left after what it read
   pub opens_call : {A B : Type 0} {f : Reader A} {q : Reader B} {t : B} {b c : Buffer S}
       (k : Scope → B × List TokenAndSpan → Out A) → ((x : Scope) (ts : List TokenAndSpan) → f x ts ≡ (q x ts >>= k x))
       → Heard model sure q t b c → Opens model sure f (λ x ts. k x (t, ts)) b c
@@ -156,7 +156,7 @@ module _ {S : Type 0} {model : Model S} {sure : Bool} where
   unfolding on_call_read on_call
   opens_call_read k step h same = record { on = on_call_read k step h.on same; onward = h.onward }
 
-  -- A call was refused, which was recorded, and a token at least was consumed behind it.
+  -- A call was refused, which was recorded, and a token at least was consumed after it.
   pub recovered_fails : {A : Type 0} {f : Reader A} {b c d m : Buffer S} {e : Error} → Unheard model sure f b e c
       → e.kind ≢ OutOfMemory → Leads model c d → (Loud model c → recorded model c < recorded model d)
       → (q : Leads model d m) → Onward model d q.taken m → Fails model sure f b m

@@ -1,4 +1,4 @@
--- Arrow functions behind their bodies: their nodes, and operators that may not follow.
+-- Arrow functions after their bodies: their nodes, and operators that may not follow.
 use Rattle.std.proofs.Common.{◌≡◌, ℕ, suc, zero, ◌<◌, Bool, true, false, ◌&&◌, ◌||◌, if◌then◌else◌, List, [], ◌∷◌}
 use Rattle.std.proofs.Common.{Some, None, OnOk, Result, Ok, Err, IsErrAnd, length, refl, sym, ap, subst, ◌∙◌, arith}
 use Rattle.std.specs.Prelude.{slice_index_or}
@@ -100,7 +100,7 @@ module _ {F C K : Type 0} where
   sign_by e ts true false t = refl
   sign_by e ts false j t = refl
 
-  -- behind the body: a look at the operator there, and the node
+  -- after the body: a look at the operator there, and the node
   pub end_splits : (lo hi : BytePos) (is_async in_parens bars : Bool) (ps : Trees F C K) (b : Tree F C K)
       → bars ≡ (in_parens && is_block b) → (x : Scope) (ts : List TokenAndSpan)
       → arrow_end lo hi is_async in_parens ps b ts

@@ -98,7 +98,7 @@ pub first_says : (c : Context) (o : Option TokenAndSpan) → Says c o (first_kin
 first_says c None = record { paren = refl; async = refl; alone = refl }
 first_says c (Some t) = token_says c t.token t refl
 
--- ---- the one behind it
+-- ---- the one after it
 
 pub record Behind (x : Scope) (o : Option TokenAndSpan) (a p w : Bool) : Type 0 where
   pub arrow : is_arrow_here o ≡ a
@@ -149,7 +149,7 @@ next_says x (Some t) = by_break t.had_line_break refl
 
 -- ---- both
 
--- what the clean parser asks for: an arrow function with a name, a list, and behind `async` a word or a list
+-- what the clean parser asks for: an arrow function with a name, a list, and after `async` a word or a list
 pub record Picks (x : Scope) (ts : List TokenAndSpan) (a p n l : Bool) : Type 0 where
   pub arrow : begins_arrow x ts ≡ a
   pub paren : at_token is_lparen (first ts) ≡ p

@@ -109,7 +109,7 @@ module _ {F C K : Type 0} (hook : Hook F C K) (x : Scope) where
   named n = take (λ t. check (not t.had_line_break) (check (is_arrow t.token) (read (ArrowBody false) x
       (λ b. gives (arrow_e (to n.at (span_of b)) false b (cons (ident_e n.at n.text) nil))))))
 
-  -- behind the name, by whether it may stand and be bound
+  -- after the name, by whether it may stand and be bound
   name_by : (refers binds : Bool) (n : Spelling) (us : List TokenAndSpan) → is_arrow_here (first us) ≡ true
       → binds ≡ name_ok x.context n
       → exec hook (run hook) None (plan (given (if refers && binds then Some n else None) ▸ named)) us
@@ -163,7 +163,7 @@ module _ {F C K : Type 0} (hook : Hook F C K) (x : Scope) where
       (then_calls (run hook (at (Args false)) (with_in x) us) _ (λ es vs. run hook (parens t.span es) x vs)
       (λ es vs. last hook None (parens t.span es) x vs refl))
 
-  -- ---- the same behind `async`
+  -- ---- the same after `async`
 
   async_by : (o : Option Spelling) (us : List TokenAndSpan) → is_lparen_here (first us) ≡ true
       → exec hook (run hook) None (given o ▸ (λ n. take (λ t. check (not t.had_line_break) (check (is_lparen t.token)
@@ -215,7 +215,7 @@ module _ {F C K : Type 0} (hook : Hook F C K) (x : Scope) where
 
   -- ---- `async`, a name, and `=>`
 
-  -- behind `async`: the name is `of` alone exactly where the head of a `for await` may take `async` for a name, if it
+  -- after `async`: the name is `of` alone exactly where the head of a `for await` may take `async` for a name, if it
   -- is one of these
   of_alone : (us : List TokenAndSpan) → is_of_alone x.context us ≡ false
       → (before_of_here x (first us) && not (at_token is_arrow (second us))) ≡ false
@@ -229,7 +229,7 @@ module _ {F C K : Type 0} (hook : Hook F C K) (x : Scope) where
       by_loop true false o a h = refl
       by_loop false w o a h = refl
 
-  -- what stands behind that name
+  -- what is after that name
   abbrev parameter : Spelling → Spelling → Side F C K Assign
   parameter s n = peek (λ t. x.syntax.pedantic && t.had_line_break) (take (λ t. check (is_arrow t.token)
       (read (ArrowBody true) x
@@ -291,7 +291,7 @@ module _ {F C K : Type 0} (hook : Hook F C K) (x : Scope) where
 module _ {F C K : Type 0} (hook : Hook F C K) (x : Scope) (n : x.head ≡ false) where
   -- ---- `async` as an identifier, where no assignment expression begins
 
-  -- behind it
+  -- after it
   abbrev goes : Out (Tree F C K) → Out (Tree F C K)
   goes o = o >>= (λ p. run hook (links true p.0) x p.1 >>= (λ l. run hook (updates l.0) x l.1
       >>= (λ u. run hook (climb u.0 0) x u.1)))
@@ -418,7 +418,7 @@ module _ {F C K : Type 0} (hook : Hook F C K) (x : Scope) where
       ∙ sym (ap (λ b. if b then async_of hook s x us else async_param hook s x us) e
       ∙ ap (λ b. if b then base_behind hook (ident_e s.at s.text) x us else None) w)
 
-  -- is what the head of a `for` has, and no `=>` behind it
+  -- is what the head of a `for` has, and no `=>` after it
   alone_parts : (us : List TokenAndSpan) → is_of_alone x.context us ≡ true
       → (x.context.expr_ctx.for_loop_init ≡ true) × (at_token is_of (first us) ≡ true)
       × (at_token is_arrow (second us) ≡ false)

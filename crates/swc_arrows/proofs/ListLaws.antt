@@ -1,4 +1,4 @@
--- What the clean parser reads behind a list in parentheses, as the code goes it (13.2.9, 15.3, 15.9).
+-- What the clean parser reads after a list in parentheses, as the code goes it (13.2.9, 15.3, 15.9).
 use Rattle.std.proofs.Common.{◌≡◌, Bool, true, false, not, ◌&&◌, if◌then◌else◌, List, [], ◌∷◌, Option, Some, None}
 use Rattle.std.proofs.Common.{ℕ, map, refl, sym, ap, subst, ◌∙◌}
 use Rattle.std.specs.Prelude.{is_some}
@@ -65,7 +65,7 @@ sees_sign false [] = refl
 sees_sign b (t ∷ ts) = refl
 
 module _ {F C K : Type 0} (hook : Hook F C K) (x : Scope) where
-  -- ---- `=>` behind it
+  -- ---- `=>` after it
 
   abbrev ends : Span → Bool → Trees F C K → Side F C K Assign
   ends s a ps = take (λ t. check (not t.had_line_break) (check (is_arrow t.token) (read (ArrowBody a) x (λ b.
@@ -74,7 +74,7 @@ module _ {F C K : Type 0} (hook : Hook F C K) (x : Scope) where
   abbrev heads : Span → Bool → Option (Trees F C K) → Side F C K Assign
   heads s a o = given o ▸ (λ ps. check (heads_ok x.context ps) (ends s a ps))
 
-  -- the body, and what stands behind it
+  -- the body, and what is after it
   body_ends : (s : Span) (a : Bool) (ps : Trees F C K) (us : List TokenAndSpan)
       → exec hook (run hook) None (plan (read (ArrowBody a) x (λ b.
       peek (λ t. is_block b && is_sign t.token) (gives (arrow_e (to s (span_of b)) a b ps))))) us
@@ -152,7 +152,7 @@ module _ {F C K : Type 0} (hook : Hook F C K) (x : Scope) where
       ∙ told_turned names t.had_line_break goes
       ∙ sym (closed_turned o s es t us a names t.had_line_break taken refl)
 
-  -- ---- no `=>` behind it
+  -- ---- no `=>` after it
 
   base_reads : x.head ≡ false → (e : Tree F C K) (ts : List TokenAndSpan)
       → exec hook (run hook) (Some 2) (behind_base x e) ts ≡ base_behind hook e x ts
@@ -219,7 +219,7 @@ module _ {F C K : Type 0} (hook : Hook F C K) (x : Scope) where
       by_params None = refl
       by_params (Some ps) = refl
 
-  -- what stands behind a list in parentheses; the first of its items begins, and the last one ends, where the nodes say
+  -- what is after a list in parentheses; the first of its items begins, and the last one ends, where the nodes say
   pub list_reads : x.head ≡ false → (lo hi : BytePos) (s : Span) (es : Tree F C K) (ts : List TokenAndSpan) → Refines es
       → paren_closed (paren_of x s es) ts ≡ paren_closed (paren_from lo hi x s es) ts
       → list_behind hook None s es x ts ≡ list_closed hook lo hi None s es x ts
@@ -239,7 +239,7 @@ module _ {F C K : Type 0} (hook : Hook F C K) (x : Scope) where
           paren_base n s es (t ∷ us) h ∙ ap (λ o. o >>= (λ p. base_behind hook p.0 x p.1)) same
           ∙ sym (closed_base hook lo hi None s es x (t ∷ us) h)
 
-  -- the same behind `async`
+  -- the same after `async`
   pub async_list_reads : x.head ≡ false → (lo hi : BytePos) (n : Spelling) (es : Tree F C K) (ts : List TokenAndSpan)
       → Refines es → list_behind hook (Some (ident_e n.at n.text)) n.at es x ts
       ≡ list_closed hook lo hi (Some (ident_e n.at n.text)) n.at es x ts
@@ -282,7 +282,7 @@ module _ {F C K : Type 0} {fg : Ghosts F} {cg : Ghosts C} {kg : Ghosts K} where
 
 module _ {F C K : Type 0} {fg : Ghosts F} {cg : Ghosts C} {kg : Ghosts K} (hook : Hook F C K)
     (lawful : LawfulHook fg.place cg.place kg.place hook) where
-  -- What stands behind a list that was read, wherever that is: the ring's reading goes on by it.
+  -- What is after a list that was read, wherever that is: the ring's reading goes on by it.
   pub list_closes : {ns : Nodes F C K fg cg kg} {k : ℕ} (o : Option (Tree F C K)) (s : Span)
       (list : Listed (ExprOrSpread ExprId)) (y : Scope) (vs us : List TokenAndSpan) → Apart k ns (args_parts list.items)
       → args_inside hook false y vs ≡ Some (args_at ns list, us) → is_callee s o → (x : Scope) (ts : List TokenAndSpan)

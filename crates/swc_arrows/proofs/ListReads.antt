@@ -66,7 +66,7 @@ module _ {F C K : Type 0} (hook : Hook F C K) where
   async_opens true h x ts = refl
   async_opens false h x ts = absurd cc
 
-  -- ---- and behind it
+  -- ---- and after it
 
   pub heads_splits : (o : Option (Tree F C K)) (s : Span) (es : Tree F C K) (x : Scope) (ts : List TokenAndSpan)
       → heads_closed hook o s es x ts
@@ -127,7 +127,7 @@ pub appended : {F C K : Type 0} {fg : Ghosts F} {cg : Ghosts C} {kg : Ghosts K} 
 appended le w = kept-less le (kept-grows w)
 
 module _ {F C K : Type 0} {fg : Ghosts F} {cg : Ghosts C} {kg : Ghosts K} where
-  -- parts behind others lie from where these do
+  -- parts after others lie from where these do
   pub floor_up : {ns : Nodes F C K fg cg kg} {k : ℕ} (ps qs : List Part) → Apart k ns (ps ++ qs)
       → k ≤ floor (seat_at ns) (count ns) qs
   floor_up {ns} {k} ps qs a =

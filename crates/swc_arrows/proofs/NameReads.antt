@@ -55,7 +55,7 @@ pub ok_strict : (m s o : Bool) → s ≡ true → o ≡ true → not ((m && s) &
 ok_strict true s o h k = rw (h, k) refl
 ok_strict false s o h k = refl
 
--- ---- `=>` behind a parameter
+-- ---- `=>` after a parameter
 
 and_false : (a : Bool) → (a && false) ≡ false
 and_false true = refl

@@ -1,4 +1,4 @@
--- What is told of the token behind the current one, on its line.
+-- What is told of the token after the current one, on its line.
 use Rattle.std.proofs.Common.{◌≡◌, Bool, true, if◌then◌else◌, List, [], ◌∷◌, ◌++◌, Option, Some, None, IsSome}
 use Rattle.std.proofs.Common.{MatchOption, refl, sym, ap, subst, ◌∙◌}
 use Rattle.swc_context.specs.declared.context.Context.{Context}

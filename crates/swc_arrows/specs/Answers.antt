@@ -1,5 +1,5 @@
 -- What answers hold of numbers where an assignment expression may be an arrow function (15.3, 15.9), and what is left
--- to read behind them.
+-- to read after them.
 use Rattle.std.specs.Prelude.{◌≡◌, ◌<◌, ◌≤◌, ℕ, Bool, true, false, List, [], ◌∷◌, Option, Some, None, Result}
 use Rattle.std.specs.Prelude.{MatchResult, OnOk, IfOk}
 use Rattle.swc_context.specs.declared.span.BytePos.{BytePos}
@@ -101,7 +101,7 @@ abbrev pub IsArrow : Beginning → Type 0
 IsArrow (begins.Arrow h) = Unit {0}
 IsArrow (begins.Base e) = ⊥
 
--- the beginning of an arrow function with one parameter, or want of memory
+-- the beginning of an arrow function with one parameter, or out of memory
 abbrev pub OneParam : BytePos → Bool → PatId → BytePos → Result Beginning Error → Type 0
 OneParam start is_async param at r = MatchResult r
     (λ b. (h : ArrowHead) × (b ≡ begins.Arrow h) × (h.start ≡ start)
@@ -145,7 +145,7 @@ module _ {S : Type 0} (model : Model S) (sure : Bool) where
     pub on : On model sure f g b c
     pub onward : Onward model b on.leads.taken c
 
-  -- where a binary operator is barred behind an arrow function: one was recorded, or there is none
+  -- where a binary operator is barred after an arrow function: one was recorded, or there is none
   abbrev pub SignChecked : Bool → Bool → Buffer S → Buffer S → Type 0
   SignChecked bars true b c = Doomed (no_sign bars) b c
   SignChecked bars false b c = On model sure (no_sign bars) (λ x ts. Some (tt, ts)) b c
@@ -156,7 +156,7 @@ pub record Based {S F C K : Type 0} (model : Model S) (sure : Bool) (hook : Hook
   pub opens : Opens model sure f (base_behind hook e) b c
   pub heard : HearsOperand model sure hook e b c
 
--- The same of a whole operand, by a reader of it: operators behind it join what holds nothing that was refused.
+-- The same of a whole operand, by a reader of it: operators after it join what holds nothing that was refused.
 pub record Operanded {S F C K : Type 0} (model : Model S) (sure : Bool) (hook : Hook F C K)
     (f : Scope → List TokenAndSpan → Out (Tree F C K)) (e : Tree F C K) (b c : Buffer S) : Type 0 where
   pub opens : Opens model sure f (operand_behind hook e) b c
@@ -182,14 +182,14 @@ module _ {S F C K : Type 0} {fg : Ghosts F} {cg : Ghosts C} {kg : Ghosts K} (mod
 
 module _ {S F C K : Type 0} {fg : Ghosts F} {cg : Ghosts C} {kg : Ghosts K} (model : Model S) (sure : Bool)
     (f : Scope → List TokenAndSpan → Out (Tree F C K)) where
-  -- Behind the `=>` of an arrow function: it was read, or operators follow it, which was recorded.
+  -- After the `=>` of an arrow function: it was read, or operators follow it, which was recorded.
   abbrev pub Arrowed : Nodes F C K fg cg kg → ArrowOrBase → Buffer S → Buffer S → Type 0
   Arrowed ns (arrow_or.Arrow e) b c = Heard model sure f (tree_at ns e.0) b c
   Arrowed ns (arrow_or.Base e) b c = ⊥
   Arrowed ns (arrow_or.Operand e) b c = Fails model sure f b c
   Arrowed ns arrow_or.Other b c = ⊥
 
-  -- Behind the body of an arrow function: it is whole, or operators follow it, which was recorded.
+  -- After the body of an arrow function: it is whole, or operators follow it, which was recorded.
   abbrev pub Ended : Nodes F C K fg cg kg → ArrowOrBase → Buffer S → Buffer S → Type 0
   Ended ns (arrow_or.Arrow e) b c = On model sure f (λ x ts. Some (tree_at ns e.0, ts)) b c
   Ended ns (arrow_or.Base e) b c = ⊥
@@ -220,7 +220,7 @@ module _ {S H F C K : Type 0} {fg : Ghosts F} {cg : Ghosts C} {kg : Ghosts K} (m
 
 module _ {S H F C K : Type 0} {fg : Ghosts F} {cg : Ghosts C} {kg : Ghosts K} (model : Model S) (sure : Bool)
     (f : Scope → List TokenAndSpan → Out (Tree F C K)) where
-  -- the same, behind the `=>` of an arrow function
+  -- the same, after the `=>` of an arrow function
   pub record ReadsArrow (k : ℕ) (p : Productions S H F C K fg cg kg) (r : Result ArrowOrBase Error)
       (q : Productions S H F C K fg cg kg) : Type 0 where
     pub reads : MatchResult r (λ a. Arrowed model sure f q.nodes a p.input q.input)
@@ -229,7 +229,7 @@ module _ {S H F C K : Type 0} {fg : Ghosts F} {cg : Ghosts C} {kg : Ghosts K} (m
     pub grows : Grows p.nodes q.nodes
     pub from : IfOk r (λ a. arrow_or_base_of k q.nodes a)
 
-  -- the same, behind the body
+  -- the same, after the body
   pub record EndsArrow (k : ℕ) (p : Productions S H F C K fg cg kg) (r : Result ArrowOrBase Error)
       (q : Productions S H F C K fg cg kg) : Type 0 where
     pub reads : MatchResult r (λ a. Ended model sure f q.nodes a p.input q.input)

@@ -33,7 +33,7 @@ abbrev pub first_kind : Context → Option TokenAndSpan → FirstKind
 first_kind c None = first_is.Other
 first_kind c (Some t) = token_kind c t.token
 
--- the token behind it, on its line
+-- the token after it, on its line
 abbrev pub next_token : Context → Token → NextKind
 next_token c token.Arrow = next_is.Arrow
 next_token c token.LParen = next_is.Paren

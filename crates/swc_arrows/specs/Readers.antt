@@ -68,7 +68,7 @@ ends_statement t = false
 abbrev pub statement_ends : Scope → List TokenAndSpan → Out (Unit {0})
 statement_ends c ts = if breaks_at (first ts) || at_token ends_statement (first ts) then Some (tt, ts) else None
 
--- behind `async`: the word `of`, which the head of a `for` doesn't take for a parameter where no `=>` stands behind it
+-- after `async`: the word `of`, which the head of a `for` doesn't take for a parameter where no `=>` is after it
 abbrev pub is_of_alone : Context → List TokenAndSpan → Bool
 is_of_alone c ts =
     c.expr_ctx.for_loop_init && (at_token is_of (first ts) && not (at_token is_arrow (second ts)))
@@ -77,14 +77,14 @@ abbrev pub of_alone : Scope → List TokenAndSpan → Out Bool
 of_alone c ts = Some (is_of_alone c.context ts, ts)
 
 module _ {F C K : Type 0} where
-  -- behind the body, which ends at a position: behind parameters in parentheses and a block no binary operator stands
+  -- after the body, which ends at a position: after parameters in parentheses and a block no binary operator stands
   abbrev pub arrow_end : BytePos → BytePos → Bool → Bool → Trees F C K → Tree F C K → List TokenAndSpan
       → Out (Tree F C K)
   arrow_end lo hi is_async in_parens ps b ts =
       if in_parens && (is_block b && at_token is_sign (first ts)) then None else
       Some (arrow_e (from_to lo hi) is_async b ps, ts)
 
-  -- a call of `async`, behind its arguments
+  -- a call of `async`, after its arguments
   abbrev pub async_call : Tree F C K → Tree F C K → Scope → List TokenAndSpan → Out (Tree F C K)
   async_call e es c ts =
       if covers_ok c.syntax.pedantic es then Some (
@@ -106,7 +106,7 @@ module _ {F C K : Type 0} where
 
   -- ---- operands, which links may follow, by themselves
 
-  -- the same list, behind which no `=>` stands
+  -- the same list, after which no `=>` stands
   unfoldable pub base_look : BytePos → BytePos → Option (Tree F C K) → Span → Tree F C K → Scope → List TokenAndSpan
       → Out (Tree F C K)
   base_look lo hi o s es c ts = if at_token is_arrow (first ts) then None else base_closed lo hi o s es c ts
@@ -116,7 +116,7 @@ module _ {F C K : Type 0} where
   base_plain None s es c ts = paren_closed (paren_of c s es) ts
   base_plain (Some e) s es c ts = if at_token is_arrow (first ts) then None else async_call e es c ts
 
-  -- `async`, which is an identifier in the head of a `for await` alone, where `of` stands by itself behind it
+  -- `async`, which is an identifier in the head of a `for await` alone, where `of` stands by itself after it
   abbrev pub of_base : Spelling → Scope → List TokenAndSpan → Out (Tree F C K)
   of_base n c ts = if c.context.expr_ctx.for_await_loop_init then Some (ident_e n.at n.text, ts) else None
 
@@ -144,7 +144,7 @@ module _ {F C K : Type 0} (hook : Hook F C K) where
   listed_base b c ts = list_opening b c ts >>= (λ p. args_inside hook false c p.1
       >>= (λ q. base_plain p.0.0 p.0.1 q.0 c q.1))
 
-  -- behind an operand, or what q reads: its links, `++` or `--`, and operators
+  -- after an operand, or what q reads: its links, `++` or `--`, and operators
   unfoldable pub operators_behind : (Scope → List TokenAndSpan → Out (Tree F C K)) → Scope → List TokenAndSpan
       → Out (Tree F C K)
   operators_behind q c ts = q c ts >>= (λ p. run hook (links true p.0) c p.1
@@ -152,23 +152,23 @@ module _ {F C K : Type 0} (hook : Hook F C K) where
 
   -- ---- no arrow function
 
-  -- what binary operators join, and what stands behind it
+  -- what binary operators join, and what is after it
   unfoldable pub others : Scope → List TokenAndSpan → Out (Tree F C K)
   others c ts = run hook (sym (Level 1)) c ts >>= (λ p. run hook (assigns p.0) c p.1)
 
-  -- behind what an operand begins with: its links, `++` or `--`, operators, and what stands behind these
+  -- after what an operand begins with: its links, `++` or `--`, operators, and what is after these
   unfoldable pub base_behind : Tree F C K → Scope → List TokenAndSpan → Out (Tree F C K)
   base_behind e c ts =
       run hook (links true e) c ts >>= (λ l. run hook (updates l.0) c l.1
       >>= (λ u. run hook (climb u.0 0) c u.1 >>= (λ k. run hook (assigns k.0) c k.1)))
 
-  -- behind a whole operand
+  -- after a whole operand
   unfoldable pub operand_behind : Tree F C K → Scope → List TokenAndSpan → Out (Tree F C K)
   operand_behind e c ts = run hook (climb e 0) c ts >>= (λ k. run hook (assigns k.0) c k.1)
 
   -- ---- arrow functions
 
-  -- behind the `=>`
+  -- after the `=>`
   unfoldable pub arrow_behind : BytePos → Bool → Bool → Trees F C K → Scope → List TokenAndSpan → Out (Tree F C K)
   arrow_behind lo is_async in_parens ps c ts =
       run hook (sym (ArrowBody is_async)) c ts
@@ -186,7 +186,7 @@ module _ {F C K : Type 0} (hook : Hook F C K) where
   unfoldable pub block_inside : (K → Span) → Scope → List TokenAndSpan → Out (Tree F C K)
   block_inside place c ts = by_hook hook.block c ts >>= (λ p. Some (block_e (place p.0) p.0, p.1))
 
-  -- behind `async`, so spelled: a name, and `=>`
+  -- after `async`, so spelled: a name, and `=>`
   abbrev pub async_param : Spelling → Scope → List TokenAndSpan → Out (Tree F C K)
   async_param n c ts = word may_bind c ts >>= (λ p. arrow_on_line c p.1 >>= (λ l. expected is_arrow c l.1
       >>= (λ q. arrow_behind n.at.lo true false (cons (ident_e p.0.at p.0.text) nil) c q.1)))
@@ -203,16 +203,16 @@ module _ {F C K : Type 0} (hook : Hook F C K) where
 
   -- ---- lists in parentheses
 
-  -- behind such a list, which begins at s, with `async`, as an identifier, before it or not
+  -- after such a list, which begins at s, with `async`, as an identifier, before it or not
   abbrev pub list_behind : Option (Tree F C K) → Span → Tree F C K → Scope → List TokenAndSpan → Out (Tree F C K)
   list_behind None s es c ts = run hook (parens s es) c ts
   list_behind (Some e) s es c ts = run hook (asyncs (spelling_of e) es) c ts
 
-  -- behind its parenthesis
+  -- after its parenthesis
   unfoldable pub list_rest : Option (Tree F C K) → Span → Scope → List TokenAndSpan → Out (Tree F C K)
   list_rest o s c ts = args_inside hook false c ts >>= (λ q. list_behind o s q.0 c q.1)
 
-  -- The same as the code goes it, which refines the list at once where `=>` stands behind it. Where the list holds
+  -- The same as the code goes it, which refines the list at once where `=>` is after it. Where the list holds
   -- nothing that was refused, that is what is above; the first of its items begins, and the last one ends, at other
   -- positions than their places say, where it does.
   abbrev pub heads_refined : Option (Tree F C K) → Span → Tree F C K → Scope → List TokenAndSpan → Out (Tree F C K)

@@ -1,4 +1,4 @@
-// The bodies of arrow functions (ECMA-262, 15.3 and 15.9), and what may stand behind them.
+// The bodies of arrow functions (ECMA-262, 15.3 and 15.9), and what may are after them.
 ghost use Rattle.std.specs.Prelude.{◌≡◌, ◌≤◌, ◌++◌, ◌&&◌, ℕ, Bool, true, OnOk, IfOk, MatchResult, Some};
 ghost use Rattle.swc_context.specs.Contexts.{arrow_body};
 ghost use Rattle.swc_bodies.specs.Readings.{is_brace};
@@ -34,7 +34,7 @@ pub enum ArrowOrBase {
     Arrow(ExprId),
     /// An operand, which links may follow.
     Base(ExprId),
-    /// An arrow function with parameters in parentheses and a block, and an operator behind it, which was recorded: its
+    /// An arrow function with parameters in parentheses and a block, and an operator after it, which was recorded: its
     /// left operand.
     Operand(ExprId),
     /// Nothing: no arrow function begins here.
@@ -54,7 +54,7 @@ pub fn enter_arrow_body<I: Tokens>(input: &mut Buffer<I>, is_async: bool) -> Con
     ctx
 }
 
-/// Whether the body is a block. Consumes nothing, and is refused only for want of memory.
+/// Whether the body is a block. Consumes nothing, and is refused only when out of memory.
 pub fn begins_block<I: Tokens>(input: &mut Buffer<I>) -> PResult<bool>
     ensures looks { Looks I.model input.old result input.new }
     ensures value { IfOk result (λ r. r ≡ at_token is_brace (seen input.new)) }
@@ -76,7 +76,7 @@ pub fn parse_block_body<I: Tokens, B: Bodies<I>>(
 }
 
 /// An arrow function of its beginning and its body (ECMA-262, 15.3 and 15.9). A binary operator other than `in` and
-/// `instanceof` behind parameters in parentheses and a block is recorded as `TS1005`, at the operator: operators are
+/// `instanceof` after parameters in parentheses and a block is recorded as `TS1005`, at the operator: operators are
 /// read on there.
 pub fn arrow_function<I: Tokens, B: Bodies<I>>(
     p: &mut Productions<I, B>,
@@ -100,7 +100,7 @@ pub fn arrow_function<I: Tokens, B: Bodies<I>>(
     Ok(ArrowOrBase::Arrow(arrow))
 }
 
-/// Whether no binary operator may stand behind an arrow function but for `in` and `instanceof`: where its parameters
+/// Whether no binary operator may are after an arrow function but for `in` and `instanceof`: where its parameters
 /// stand in parentheses, and its body is a block.
 fn bars_signs<K>(in_parens: bool, body: &BlockStmtOrExpr<ExprId, K>) -> bool
     ensures { result ≡ (in_parens && has_block body.now) }
@@ -109,7 +109,7 @@ fn bars_signs<K>(in_parens: bool, body: &BlockStmtOrExpr<ExprId, K>) -> bool
 }
 
 /// Whether a binary operator stands where it `bars` them, but for `in` and `instanceof`: it is recorded as `TS1005`.
-/// Refused only for want of memory.
+/// Refused only when out of memory.
 fn check_sign<I: Tokens>(input: &mut Buffer<I>, bars: bool) -> PResult<bool>
     ensures checks { (sure : Bool) → MatchResult result (λ r. SignChecked I.model sure bars r input.old input.new)
         (λ e. Unheard I.model sure (no_sign bars) input.old e input.new) }
@@ -126,7 +126,7 @@ fn check_sign<I: Tokens>(input: &mut Buffer<I>, bars: bool) -> PResult<bool>
     Ok(true)
 }
 
-/// Whether a binary operator is current, but for `in` and `instanceof`. Refused only for want of memory.
+/// Whether a binary operator is current, but for `in` and `instanceof`. Refused only when out of memory.
 fn is_at_sign<I: Tokens>(input: &mut Buffer<I>) -> PResult<bool>
     ensures looks { Looks I.model input.old result input.new }
     ensures value { IfOk result (λ r. r ≡ at_token is_sign (seen input.new)) }
@@ -137,7 +137,7 @@ fn is_at_sign<I: Tokens>(input: &mut Buffer<I>) -> PResult<bool>
     Ok(matches!(input.cur_debug(), Some(Token::BinOp(_))))
 }
 
-/// Records `TS1005` behind operators that followed an arrow function with a block, at the current token, unless a
+/// Records `TS1005` after operators that followed an arrow function with a block, at the current token, unless a
 /// semicolon may stand there (ECMA-262, 12.10).
 #[inline(never)]
 pub fn check_operators_end<I: Tokens>(input: &mut Buffer<I>) -> PResult<()>

@@ -21,7 +21,7 @@ pub enum HeadKind {
     /// `async`, and a word that may be bound on its line: an async arrow function (ECMA-262, 15.9), but for `of` in the
     /// head of a `for`.
     AsyncName,
-    /// A list in parentheses, or `async` and such a list on its line: the token behind it tells.
+    /// A list in parentheses, or `async` and such a list on its line: the token after it tells.
     List { is_async: bool },
     /// No arrow function.
     Other,
@@ -40,7 +40,7 @@ pub enum FirstKind {
     Other,
 }
 
-/// What stands behind the first token, on its line.
+/// What is after the first token, on its line.
 #[derive(Clone, Copy)]
 pub enum NextKind {
     /// `=>`
@@ -54,7 +54,7 @@ pub enum NextKind {
 }
 
 /// What the assignment expression begins with whose first token is current. Consumes nothing, and is refused only for
-/// want of memory.
+/// out of memory.
 #[inline(never)]
 pub fn head_kind<I: Tokens>(input: &mut Buffer<I>) -> PResult<HeadKind>
     requires { IsSome (current input.old) }
@@ -76,7 +76,7 @@ pub fn head_kind<I: Tokens>(input: &mut Buffer<I>) -> PResult<HeadKind>
     }
 }
 
-/// What `async` begins, and a name that may stand before `=>`, by what stands behind it.
+/// What `async` begins, and a name that may stand before `=>`, by what is after it.
 fn async_head(next: NextKind) -> HeadKind
     ensures { result ≡ async_head next }
 {
@@ -119,7 +119,7 @@ fn word_kind(ctx: Context, word: &Word) -> FirstKind
     }
 }
 
-/// What stands behind the current token, on its line. Refused only for want of memory.
+/// What is after the current token, on its line. Refused only when out of memory.
 fn next_kind<I: Tokens>(input: &mut Buffer<I>) -> PResult<NextKind>
     requires { IsSome (current input.old) }
     ensures tells { Tells I.model (λ ts. next_kind (context I.model input.old) (second ts)) input.old result input.new }
@@ -143,7 +143,7 @@ fn next_kind<I: Tokens>(input: &mut Buffer<I>) -> PResult<NextKind>
     }
 }
 
-/// What the token behind the current one is, on whatever line; nothing where there is none.
+/// What the token after the current one is, on whatever line; nothing where there is none.
 fn peek_kind<I: Tokens>(input: &mut Buffer<I>, ctx: Context) -> Option<NextKind>
     requires { IsSome (current input.old) }
     ensures peeked { Peeked I.model input.old input.new }
@@ -155,7 +155,7 @@ fn peek_kind<I: Tokens>(input: &mut Buffer<I>, ctx: Context) -> Option<NextKind>
     }
 }
 
-/// What a token is behind the first one.
+/// What a token is after the first one.
 fn next_token(ctx: Context, token: &Token) -> NextKind
     ensures { result ≡ next_token ctx token.now }
 {

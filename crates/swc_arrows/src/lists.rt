@@ -69,7 +69,7 @@ pub fn open_list<I: Tokens, B: Bodies<I>>(
     })
 }
 
-/// What a list is that was read: the parameters of an arrow function, where `=>` stands behind it; else what stands in
+/// What a list is that was read: the parameters of an arrow function, where `=>` is after it; else what stands in
 /// parentheses (ECMA-262, 13.2.9), or the arguments of a call of `async` (13.3.8), among which an object literal with a
 /// property `name = value` is recorded, unless the syntax is pedantic. A line break before `=>` is refused as
 /// `LineBreakBeforeArrow`, from where the list begins through its `)`.
@@ -118,7 +118,7 @@ fn close_base<I: Tokens, B: Bodies<I>>(
     }
 }
 
-/// The list as the parameters of an arrow function, behind which `=>` is current.
+/// The list as the parameters of an arrow function, after which `=>` is current.
 fn parse_heads<I: Tokens, B: Bodies<I>>(
     p: &mut Productions<I, B>,
     start: ListStart,
@@ -143,7 +143,7 @@ fn parse_heads<I: Tokens, B: Bodies<I>>(
     }))
 }
 
-/// Refuses `=>` behind a line break, from `start` through `end`.
+/// Refuses `=>` after a line break, from `start` through `end`.
 fn refuse_line_break<I: Tokens>(input: &mut Buffer<I>, start: Span, end: Span) -> PResult<()>
     ensures continues { ContinuesAlone I.model (λ u. u) on_line input.old result input.new }
     ensures falls { OnOk result (to_come I.model input.new ≤ to_come I.model input.old) }

@@ -51,7 +51,7 @@ pub enum Beginning {
     Base(ExprId),
 }
 
-/// A name, which is current, and `=>` behind it (ECMA-262, 15.3). In strict code `eval` and `arguments` are recorded
+/// A name, which is current, and `=>` after it (ECMA-262, 15.3). In strict code `eval` and `arguments` are recorded
 /// for modules.
 #[inline(never)]
 pub fn parse_arrow_name<I: Tokens, B: Bodies<I>>(p: &mut Productions<I, B>) -> PResult<Beginning>
@@ -72,7 +72,7 @@ pub fn parse_arrow_name<I: Tokens, B: Bodies<I>>(p: &mut Productions<I, B>) -> P
 
 /// `async`, which is current, a name that is bound, and `=>` (ECMA-262, 15.9). Where the syntax is pedantic, a line
 /// break before `=>` is refused as `LineBreakBeforeArrow`, from `async` through the name. Where the name is `of` in the
-/// head of a `for`, and no `=>` stands behind it, `async` is an identifier, and the rest stays: that is recorded as
+/// head of a `for`, and no `=>` is after it, `async` is an identifier, and the rest stays: that is recorded as
 /// `TS1106`, at `async`, but in the head of a `for await` (14.7.5).
 #[inline(never)]
 pub fn parse_async_name<I: Tokens, B: Bodies<I>>(p: &mut Productions<I, B>) -> PResult<Beginning>
@@ -95,7 +95,7 @@ pub fn parse_async_name<I: Tokens, B: Bodies<I>>(p: &mut Productions<I, B>) -> P
     one_param(p, start, true, param)
 }
 
-/// Refuses `=>` behind a line break, where the syntax is pedantic, from `start` through the token consumed last. Any
+/// Refuses `=>` after a line break, where the syntax is pedantic, from `start` through the token consumed last. Any
 /// other token may stand there.
 fn refuse_arrow_line<I: Tokens>(input: &mut Buffer<I>, start: BytePos) -> PResult<()>
     ensures continues { ContinuesAlone I.model (λ u. u) arrow_on_line input.old result input.new }
@@ -112,7 +112,7 @@ fn refuse_arrow_line<I: Tokens>(input: &mut Buffer<I>, start: BytePos) -> PResul
     Ok(())
 }
 
-/// The beginning of an arrow function from `start` on, in bytes, with one parameter. Refused only for want of memory.
+/// The beginning of an arrow function from `start` on, in bytes, with one parameter. Refused only when out of memory.
 fn one_param<I: Tokens, B: Bodies<I>>(
     p: &Productions<I, B>,
     start: BytePos,
@@ -173,8 +173,8 @@ fn check_arrow_name<I: Tokens>(input: &mut Buffer<I>, name: &Ident) -> PResult<(
     emit_strict_mode_err(input, name.span, SyntaxError::EvalAndArgumentsInStrict)
 }
 
-/// Whether the word `of` is current, in the head of a `for`, and no `=>` behind it. Consumes nothing, and is refused
-/// only for want of memory.
+/// Whether the word `of` is current, in the head of a `for`, and no `=>` after it. Consumes nothing, and is refused
+/// only when out of memory.
 fn is_of_alone<I: Tokens>(input: &mut Buffer<I>) -> PResult<bool>
     ensures tells { ContinuesAlone I.model (λ b. b) of_alone input.old result input.new }
     ensures falls { OnOk result (to_come I.model input.new ≤ to_come I.model input.old) }
@@ -201,7 +201,7 @@ fn is_of<I: Tokens>(input: &Buffer<I>) -> bool
     }
 }
 
-/// Whether no `=>` stands behind the current token. Refused only for want of memory.
+/// Whether no `=>` is after the current token. Refused only when out of memory.
 fn is_no_arrow_next<I: Tokens>(input: &mut Buffer<I>) -> PResult<bool>
     requires { IsSome (current input.old) }
     ensures tells { Tells I.model (λ ts. not (at_token is_arrow (second ts))) input.old result input.new }
@@ -219,7 +219,7 @@ fn is_no_arrow_next<I: Tokens>(input: &mut Buffer<I>) -> PResult<bool>
     }
 }
 
-/// Whether the token behind the current one is `=>`; nothing where there is none.
+/// Whether the token after the current one is `=>`; nothing where there is none.
 fn peek_arrow<I: Tokens>(input: &mut Buffer<I>) -> Option<bool>
     requires { IsSome (current input.old) }
     ensures peeked { Peeked I.model input.old input.new }

@@ -12,7 +12,7 @@ array_p s ps = node array s ps
 pattern abbrev pub object_p : {F C K : Type 0} → Span → Trees F C K → Tree F C K
 object_p s ps = node object s ps
 
--- a pattern with its initialiser; one behind dots, which are a node; a property that is a name, with its initialiser or
+-- a pattern with its initialiser; one after dots, which are a node; a property that is a name, with its initialiser or
 -- `hole_e`
 pattern abbrev pub default_p : {F C K : Type 0} → Span → Tree F C K → Tree F C K → Tree F C K
 default_p s p e = node default s (cons p (cons e nil))

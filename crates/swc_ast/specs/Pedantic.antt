@@ -11,7 +11,7 @@ abbrev pub is_cover_kind : {F C K : Type 0} → Kind F C K → Bool
 is_cover_kind cover = true
 is_cover_kind k = false
 
--- May the first part be `#` and a name, as on the left of `in` (13.10.1); and the parts behind it, as in a member,
+-- May the first part be `#` and a name, as on the left of `in` (13.10.1); and the parts after it, as in a member,
 -- which a link names so?
 abbrev pub takes_private_first : {F C K : Type 0} → Kind F C K → Bool
 takes_private_first (bin binary.In) = true

@@ -88,7 +88,7 @@ pub struct ExprOrSpread<E> {
     pub expr: E,
 }
 
-/// What stands behind an object to name its member (ECMA-262, 13.3).
+/// What is after an object to name its member (ECMA-262, 13.3).
 #[derive(Drop)]
 pub enum MemberProp<E> {
     Ident(IdentName),
@@ -96,7 +96,7 @@ pub enum MemberProp<E> {
     Computed(ComputedPropName<E>),
 }
 
-/// What stands behind `super` to name its property (ECMA-262, 13.3.7).
+/// What is after `super` to name its property (ECMA-262, 13.3.7).
 #[derive(Drop)]
 pub enum SuperProp<E> {
     Ident(IdentName),
@@ -304,7 +304,7 @@ pub enum Expr<F, C, K> {
 }
 
 // Not derived: a loop along the part that may be a long chain. Operators of one level and links lean to the left; `**`,
-// and what stands behind a prefix, `=`, `=>` or the `:` of a conditional, to the right. All else is nested.
+// and what is after a prefix, `=`, `=>` or the `:` of a conditional, to the right. All else is nested.
 impl<F: Drop, C: Drop, K: Drop> Drop for Expr<F, C, K> {
     #[cycle(ast)]
     fn drop(mut self) {

@@ -12,7 +12,7 @@ use Rattle.swc_bodies.specs.Body.{Body}
 use Rattle.swc_bodies.specs.Deferred.{by_place, found}
 use Rattle.swc_bodies.specs.Readings.{Reading, Faithful}
 
--- the place of a body is answered, or memory is wanted
+-- the place of a body is answered, or memory runs out
 abbrev pub Answers : Body → BytePos → Result Span Error → Type 0
 Answers body at r = MatchResult r (λ place. place ≡ body.span) (λ e. e ≡ no_memory at)
 
@@ -22,7 +22,7 @@ put-found body at (Ok w) place answer lies left quiet = (answer ∙ lies, left, 
 put-found body at (Err e) place answer lies left quiet = ap (λ x. x.kind) answer
 
 module _ {S : Type 0} (model : Model S) (reads : Reading Body) (b c : Buffer S) where
-  -- a body was read, and then kept, or refused for want of memory
+  -- a body was read, and then kept, or refused when out of memory
   pub put-faithful : (body : Body) (at : BytePos) (r : Result Span Error) → Faithful model reads b (Ok body) c →
       Answers body at r → Faithful model (by_place reads) b r c
   put-faithful body at r faithful answer = λ loud ts place rest known read.

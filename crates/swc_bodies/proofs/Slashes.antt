@@ -39,7 +39,7 @@ either : (a b : Bool) → b ≡ true → (a || b) ≡ true
 either true b h = refl
 either false b h = h
 
--- tokens in the order of the text, behind tokens of which none is let go for the first of them
+-- tokens in the order of the text, after tokens of which none is let go for the first of them
 kept-all : (ks : List TokenAndSpan) (t : TokenAndSpan) (ts : List TokenAndSpan) → in_order (t ∷ ts) ≡ true
     → cleared t.span.lo ks ≡ ks → kept_on ks (t ∷ ts) ≡ ks ++ without_slashes (t ∷ ts)
 kept-all ks t [] h k = ap (λ l. l ++ t ∷ []) k

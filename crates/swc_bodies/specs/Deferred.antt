@@ -23,7 +23,7 @@ waiting h = h.waiting.items
 abbrev pub in_context : Context → Body → Waiting
 in_context c b = record { context = c; body = b }
 
--- A body was read, from the buffer b to c, and put behind those that waited, with the context of b; its place is the
+-- A body was read, from the buffer b to c, and put after those that waited, with the context of b; its place is the
 -- answer. The body is what the reading gives (`read`, `faithful`).
 pub record Waits {S : Type 0} (model : Model S) (reads : Reading Body) (h : DeferredBodies) (b : Buffer S) (place : Span) (k : DeferredBodies) (c : Buffer S) : Type 0 where
   pub body : Body

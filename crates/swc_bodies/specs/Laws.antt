@@ -26,7 +26,7 @@ plain-sign t = refl
 pub plain-sign-at : (t : TokenAndSpan) → sign_at (plain t) ≡ sign_at t
 plain-sign-at t = ap (on_line t.had_line_break) (plain-sign t.token)
 
--- behind the body nothing is taken
+-- after the body nothing is taken
 going : (p : Place) (s : Sign) (q : Place) → after p s ≡ Some q → is_end p ≡ false
 going place.End s q h = cc
 going p s q h = refl
@@ -135,7 +135,7 @@ place_if-true p q false h = cc
 opens-by : (f : Token → Bool) (p : Place) → Opens (λ t. place_if p (f t)) (begins f)
 opens-by f p t own q v h alone = place_if-true p q (f t.token) h
 
--- the first word of a function is `function`, or `async` with `function` behind it
+-- the first word of a function is `function`, or `async` with `function` after it
 function-alone : (t : Token) → is_function t ≡ true → is_async t ≡ false
 function-alone (token.Word (word.Keyword keyword.Function)) h = refl
 function-alone t h = cc

@@ -101,7 +101,7 @@ Loud model b = is_silent (model.state (source b)) ≡ false
 module _ {S V : Type 0} (model : Model S) where
   -- A call of a hook, from b to c, that answered r: it took a token at least, and fewer are to come. Where faults are recorded, and it
   -- answers a value and records none, the value is what the reading gives, whatever comes after. Of a source that fails nothing is
-  -- asked: then the parser answers want of memory, in place of r.
+  -- asked: then the parser answers out of memory, in place of r.
   pub record Hooked (reads : Reading V) (b : Buffer S) (r : Result V Error) (c : Buffer S) : Type 0 where
     pub taken : List TokenAndSpan
     pub some : 1 ≤ length taken
@@ -111,7 +111,7 @@ module _ {S V : Type 0} (model : Model S) where
         → Future model c rest → reads (model.state (source b)).context (taken ++ rest) ≡ Some (v, rest))
     pub refused : IfErr r (λ e. e.kind ≢ ParserFailed)
 
-  -- Over a listed source, and where faults are recorded, a faithful hook reads cleanly what its reading gives, or answers want of memory.
+  -- Over a listed source, and where faults are recorded, a faithful hook reads cleanly what its reading gives, or answers out of memory.
   abbrev pub Faithful : Reading V → Buffer S → Result V Error → Buffer S → Type 0
   Faithful reads b r c = Loud model b → (ts : List TokenAndSpan) (v : V) (rest : List TokenAndSpan) → Known model b ts →
       reads (model.state (source b)).context ts ≡ Some (v, rest) →

@@ -104,7 +104,7 @@ late-goes : (at : BytePos) (ts : List TokenAndSpan) (t : TokenAndSpan) → ends_
 late-goes at [] t h = ap (λ l. in_front l t []) h
 late-goes at (x ∷ ts) t h = ap (in_front (ends_behind at x) x) (late-goes at ts t h)
 
--- behind a slash, a regular expression found at it is kept as if the slash hadn't been there
+-- after a slash, a regular expression found at it is kept as if the slash hadn't been there
 pub kept-pair : (ks : List TokenAndSpan) (a b : TokenAndSpan) → is_pair a b ≡ true → kept (kept ks a) b ≡ kept ks b
 kept-pair ks a b h =
     let p = pair a b h in
@@ -134,7 +134,7 @@ same-place (place.Inside depth) q h = cc
 same-place place.End q h = cc
 
 module _ (from : BytePos) where
-  -- from behind the end nothing is taken
+  -- from after the end nothing is taken
   at-end : (ts ks : List TokenAndSpan) (to : BytePos) (v : Body) (rest : List TokenAndSpan)
       → taken_on from ts place.End ks to ≡ Some (v, rest)
       → taken_on from (without_slashes ts) place.End ks to ≡ Some (v, without_slashes rest)

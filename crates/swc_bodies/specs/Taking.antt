@@ -29,7 +29,7 @@ sign_of token.RBrace = sign.CloseBrace
 sign_of (token.Error e) = sign.Fault
 sign_of t = sign.Other
 
--- `function` is wanted on the line of `async` alone: behind a line break it is a token like others
+-- `function` is wanted on the line of `async` alone: after a line break it is a token like others
 abbrev pub on_line : Bool → Sign → Sign
 on_line true sign.Function = sign.Other
 on_line b s = s
@@ -51,7 +51,7 @@ abbrev pub ended : ℕ → Place
 ended zero = place.End
 ended (suc depth) = place.Inside depth
 
--- behind a token before the body's brace, within as many brackets
+-- after a token before the body's brace, within as many brackets
 abbrev pub before : ℕ → Sign → Option Place
 before depth sign.Function = Some (place.Head depth)
 before depth sign.Open = Some (place.Head (depth + 1))
@@ -62,7 +62,7 @@ before depth sign.CloseBrace = closed depth
 before depth sign.Fault = None
 before depth sign.Other = Some (place.Head depth)
 
--- behind a token within the body's brace, and within as many more
+-- after a token within the body's brace, and within as many more
 abbrev pub inside : ℕ → Sign → Option Place
 inside depth sign.Hole = Some (place.Inside (depth + 1))
 inside depth sign.Brace = Some (place.Inside (depth + 1))
@@ -74,7 +74,7 @@ abbrev pub behind_async : Sign → Option Place
 behind_async sign.Function = Some (place.Head 0)
 behind_async s = None
 
--- behind a token, if it may stand there
+-- after a token, if it may stand there
 abbrev pub after : Place → Sign → Option Place
 after place.Async s = behind_async s
 after (place.Head depth) s = before depth s
@@ -95,7 +95,7 @@ is_full (place.Head depth) = nat_eq depth most_open
 is_full (place.Inside depth) = nat_eq depth most_open
 is_full p = false
 
--- behind the first of the tokens, if it may stand there
+-- after the first of the tokens, if it may stand there
 abbrev pub next : Place → List TokenAndSpan → Option Place
 next p [] = None
 next p (t ∷ ts) = after p (sign_at t)
@@ -116,7 +116,7 @@ taken_on from (t ∷ ts) p ks to = elim (is_end p) [
   | false ↦ elim (after p (sign_at t)) [ None ↦ None | Some q ↦ taken_on from ts q (kept ks t) t.span.hi ]
 ]
 
--- behind the first of the tokens, where a body may begin with it
+-- after the first of the tokens, where a body may begin with it
 abbrev pub begun : (Token → Option Place) → List TokenAndSpan → Option Place
 begun first [] = None
 begun first (t ∷ ts) = first t.token
@@ -134,7 +134,7 @@ abbrev pub or_async : Bool → Token → Option Place
 or_async true t = Some (place.Head 0)
 or_async false t = place_if place.Async (is_async t)
 
--- with which token each body begins, and behind which place
+-- with which token each body begins, and after which place
 abbrev pub function_first : Token → Option Place
 function_first t = or_async (is_function t) t
 

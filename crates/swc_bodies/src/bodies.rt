@@ -33,7 +33,7 @@ pub type ExprOf<B> = Expr<<B as BodyForms>::Fun, <B as BodyForms>::Class, <B as 
 /// A hook over a kind of source.
 ///
 /// Each call takes tokens through the buffer alone, one at least, so that fewer are to come, and keeps the context. It
-/// may record faults, and refuse. Where the source has failed, the parser refuses for want of memory, whatever the hook
+/// may record faults, and refuse. Where the source has failed, the parser refuses when out of memory, whatever the hook
 /// answered.
 pub trait Bodies<I: Tokens>: BodyForms + Drop {
     /// The hook reads all that its readings give, and so completeness may be claimed of a parser with it.
@@ -65,7 +65,7 @@ pub trait Bodies<I: Tokens>: BodyForms + Drop {
 /// A source may give `/` or `/=` first and then, once it is told that a regular expression begins there (ECMA-262,
 /// 12.9.5), the whole of it, from the same place on. `Capturing` and `TokenBodies` let such a slash go. The law
 /// (`replays`): what the hook reads of tokens with such slashes it reads, with the same value, of the same tokens
-/// without any of them; and what is left behind it is what was left, without them.
+/// without any of them; and what is left after it is what was left, without them.
 ///
 /// So a value may hold neither these slashes nor how many tokens there were. A hook meets the law that reads no body,
 /// as `NoBodies`, that keeps tokens by the rule of `Capturing`, as `TokenBodies`, or that answers the places of these,

@@ -5,7 +5,7 @@ ghost use Rattle.swc_input.specs.Kinds.{at_token};
 ghost use Rattle.swc_input.specs.Recording.{no_memory};
 ghost use Rattle.swc_bodies.specs.Deferred.{waiting, in_context, place_forms, Waits};
 ghost use Rattle.swc_bodies.specs.Readings.{Hooked, Faithful, at_function, is_class, is_brace};
-ghost use Rattle.swc_bodies.specs.Steps.{NoBody};
+ghost use Rattle.swc_bodies.specs.Steps.{NoBody, Quiet};
 ghost use Rattle.swc_bodies.specs.Taking.{token_forms};
 
 use crate::bodies::{Bodies, BodyForms, ReplayBodies};
@@ -34,14 +34,14 @@ pub struct Waiting {
 /// The hook that keeps the tokens of functions, classes and blocks for passes of their own, and has their places alone
 /// in the tree.
 ///
-/// Each call takes the tokens that `TokenBodies` takes, and puts the body behind those that wait. It answers the body's
+/// Each call takes the tokens that `TokenBodies` takes, and puts the body after those that wait. It answers the body's
 /// place: from where its first token begins to where its last one ends. It refuses what `TokenBodies` refuses, in the
-/// same way. Where memory to keep the body is wanted, it is let go, and the refusal is `OutOfMemory`, an empty span
+/// same way. Where there is no memory to keep the body, it is let go, and the refusal is `OutOfMemory`, an empty span
 /// where the token consumed last ends. No refusal changes which bodies wait. The hook records no fault itself.
 ///
 /// `pop` hands out the body that was read last first. A client reads each with a parser of its own, over the body's
 /// tokens and in the context that comes with it. Where that parser has this hook too, what stands within the body is
-/// put behind the bodies that still wait: so a loop that ends when `pop` answers `None` reads all, however deep they
+/// put after the bodies that still wait: so a loop that ends when `pop` answers `None` reads all, however deep they
 /// stand.
 ///
 /// Tokens are moved, and none is copied. Over all these passes a token is moved once for each body that it stands in:
@@ -86,7 +86,7 @@ impl DeferredBodies {
         self.waiting.pop()
     }
 
-    /// Puts a body behind those that wait, and answers its place.
+    /// Puts a body after those that wait, and answers its place.
     fn keep<I: Tokens>(
         &mut self,
         context: Context,
@@ -131,6 +131,7 @@ impl<I: Tokens> Bodies<I> for DeferredBodies {
             (λ place. Waits I.model token_forms.fun self.old input.old place self.new input.new)
             (λ e. waiting self.new ≡ waiting self.old) }
         ensures refused { IfErr result (λ e. NoBody I.model e input.new) }
+        ensures quiet { Quiet I.model input.old input.new }
     {
         let context = input.get_ctx();
         let body = self.taker.fun(input)?;
@@ -145,6 +146,7 @@ impl<I: Tokens> Bodies<I> for DeferredBodies {
             (λ place. Waits I.model token_forms.class self.old input.old place self.new input.new)
             (λ e. waiting self.new ≡ waiting self.old) }
         ensures refused { IfErr result (λ e. NoBody I.model e input.new) }
+        ensures quiet { Quiet I.model input.old input.new }
     {
         let context = input.get_ctx();
         let body = self.taker.class(input)?;
@@ -159,6 +161,7 @@ impl<I: Tokens> Bodies<I> for DeferredBodies {
             (λ place. Waits I.model token_forms.block self.old input.old place self.new input.new)
             (λ e. waiting self.new ≡ waiting self.old) }
         ensures refused { IfErr result (λ e. NoBody I.model e input.new) }
+        ensures quiet { Quiet I.model input.old input.new }
     {
         let context = input.get_ctx();
         let body = self.taker.block(input)?;

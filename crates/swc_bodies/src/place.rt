@@ -29,13 +29,13 @@ pub(crate) enum Sign {
 /// Where in a body the tokens taken so far end.
 #[derive(Clone, Copy)]
 pub(crate) enum Place {
-    /// Behind `async`, where `function` is wanted.
+    /// After `async`, where `function` is wanted.
     Async,
     /// Before the body's brace, within as many brackets.
     Head(u64),
     /// Within the body's brace, and within as many more.
     Inside(u64),
-    /// Behind the brace that closes the body.
+    /// After the brace that closes the body.
     End,
 }
 
@@ -55,7 +55,7 @@ pub(crate) fn sign_of(token: &Token) -> Sign
     }
 }
 
-/// What the token is to a body, behind a line break or not: `function` is wanted on the line of `async` alone.
+/// What the token is to a body, after a line break or not: `function` is wanted on the line of `async` alone.
 pub(crate) fn sign_at(token: &Token, had_line_break: bool) -> Sign
     ensures { result ≡ on_line had_line_break (sign_of token.now) }
 {
@@ -65,7 +65,7 @@ pub(crate) fn sign_at(token: &Token, had_line_break: bool) -> Sign
     }
 }
 
-/// Behind a token before the body's brace.
+/// After a token before the body's brace.
 fn before(depth: u64, sign: Sign) -> Option<Place>
     requires { depth < most_open }
     ensures { result ≡ before depth sign }
@@ -80,7 +80,7 @@ fn before(depth: u64, sign: Sign) -> Option<Place>
     }
 }
 
-/// Behind a token within the body's brace.
+/// After a token within the body's brace.
 fn inside(depth: u64, sign: Sign) -> Option<Place>
     requires { depth < most_open }
     ensures { result ≡ inside depth sign }
@@ -109,7 +109,7 @@ impl Place {
         matches!(self, Place::End)
     }
 
-    /// The place behind a token, if it may stand here.
+    /// The place after a token, if it may stand here.
     pub(crate) fn after(self, sign: Sign) -> Option<Place>
         requires { is_full self ≡ false }
         ensures { result ≡ after self sign }

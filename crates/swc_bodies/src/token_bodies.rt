@@ -8,7 +8,7 @@ ghost use Rattle.swc_bodies.specs.declared.place.Place.{Place};
 ghost use Rattle.swc_bodies.specs.Readings.{Hooked, Faithful};
 ghost use Rattle.swc_bodies.specs.Readings.{at_function, either_one, is_function, is_async, is_class, is_brace};
 ghost use Rattle.swc_bodies.specs.Taking.{is_full, at_current, begun, taken, function_first, class_first, block_first};
-ghost use Rattle.swc_bodies.specs.Steps.{KeepsOne, GoesOn, Stops, NoBody};
+ghost use Rattle.swc_bodies.specs.Steps.{KeepsOne, GoesOn, Stops, NoBody, Quiet};
 
 use crate::bodies::{Bodies, BodyForms, ReplayBodies};
 use crate::place::{Place, sign_at};
@@ -22,7 +22,7 @@ use swc_input::keeping::keep;
 use swc_input::token::{Token, TokenAndSpan};
 use swc_input::tokens::Tokens;
 
-/// The place behind the current token, if that may stand here. Consumes nothing.
+/// The place after the current token, if that may stand here. Consumes nothing.
 fn after_current<I: Tokens>(place: Place, input: &mut Buffer<I>) -> Option<Place>
     requires { is_full place ≡ false }
     ensures looked { Looked I.model input.old input.new }
@@ -35,7 +35,7 @@ fn after_current<I: Tokens>(place: Place, input: &mut Buffer<I>) -> Option<Place
     }
 }
 
-/// The place behind the current token. One that may not stand here is refused, as `Unexpected` with `{`.
+/// The place after the current token. One that may not stand here is refused, as `Unexpected` with `{`.
 fn next_place<I: Tokens>(place: Place, input: &mut Buffer<I>) -> PResult<Place>
     ensures { MatchResult result (λ next. GoesOn I.model input.old place next input.new)
         (λ e. Stops I.model input.old place e input.new) }
@@ -76,6 +76,7 @@ fn take_body<I: Tokens>(alloc: Global, first: Place, input: &mut Buffer<I>) -> P
     ensures faithful { (begins : Token → Option Place) → begun begins (given_one (current input.old)) ≡ Some first
         → Faithful I.model (taken begins) input.old result input.new }
     ensures refused { IfErr result (λ e. NoBody I.model e input.new) }
+    ensures quiet { Quiet I.model input.old input.new }
 {
     let from = input.cur_span().lo;
     let mut kept = Vec::new(alloc);
@@ -98,14 +99,14 @@ fn take_body<I: Tokens>(alloc: Global, first: Place, input: &mut Buffer<I>) -> P
 ///
 /// Each call takes the tokens to the first `{` that stands in no bracket, and through the `}` that
 /// closes it. Before that brace `(`, `[`, `${` and `{` open a bracket, and `)`, `]` and `}` close one,
-/// whichever was opened; behind it `{` and `${` open, `}` closes, and no other bracket counts. Each
-/// token is moved, and none is copied. Before one is kept, those kept at the end that end behind its
+/// whichever was opened; after it `{` and `${` open, `}` closes, and no other bracket counts. Each
+/// token is moved, and none is copied. Before one is kept, those kept at the end that end after its
 /// start are let go: where the tokens come in order, all are kept.
 ///
 /// A closing bracket before the brace, where none is open, is refused as `Unexpected` with `{`, at
 /// that token, and isn't consumed; so is what follows `async` and isn't `function` on the same line. The end of the
 /// tokens is refused as `Eof`, an empty span where the token consumed last ends. An error token is
-/// consumed, and its error is the refusal. Want of memory, and 2^64 - 1 open brackets, are refused as
+/// consumed, and its error is the refusal. Out of memory, and 2^64 - 1 open brackets, are refused as
 /// `OutOfMemory`, an empty span at that place too. What was taken before a refusal stays consumed.
 /// The hook records no fault itself.
 #[derive(Drop)]
@@ -132,7 +133,7 @@ impl BodyForms for TokenBodies {
     ghost forms = { token_forms };
 }
 
-/// The place behind the first word of a function, `function` or `async`.
+/// The place after the first word of a function, `function` or `async`.
 fn behind_word(token: &Token) -> Place
     requires { either_one (is_function token.now) (is_async token.now) ≡ true }
     ensures { function_first token.now ≡ Some result }
@@ -143,7 +144,7 @@ fn behind_word(token: &Token) -> Place
     }
 }
 
-/// The place behind the current word, with which a function begins.
+/// The place after the current word, with which a function begins.
 fn behind_current<I: Tokens>(input: &Buffer<I>) -> Place
     requires { at_function (current input.now) ≡ true }
     ensures { begun function_first (given_one (current input.now)) ≡ Some result }
@@ -164,6 +165,7 @@ impl<I: Tokens> Bodies<I> for TokenBodies {
         ensures hooked { Hooked I.model (taken function_first) input.old result input.new }
         ensures faithful { Faithful I.model (taken function_first) input.old result input.new }
         ensures refused { IfErr result (λ e. NoBody I.model e input.new) }
+        ensures quiet { Quiet I.model input.old input.new }
     {
         let first = behind_current(input);
         take_body(self.alloc, first, input)
@@ -174,6 +176,7 @@ impl<I: Tokens> Bodies<I> for TokenBodies {
         ensures hooked { Hooked I.model (taken class_first) input.old result input.new }
         ensures faithful { Faithful I.model (taken class_first) input.old result input.new }
         ensures refused { IfErr result (λ e. NoBody I.model e input.new) }
+        ensures quiet { Quiet I.model input.old input.new }
     {
         take_body(self.alloc, Place::Head(0), input)
     }
@@ -183,6 +186,7 @@ impl<I: Tokens> Bodies<I> for TokenBodies {
         ensures hooked { Hooked I.model (taken block_first) input.old result input.new }
         ensures faithful { Faithful I.model (taken block_first) input.old result input.new }
         ensures refused { IfErr result (λ e. NoBody I.model e input.new) }
+        ensures quiet { Quiet I.model input.old input.new }
     {
         take_body(self.alloc, Place::Inside(0), input)
     }

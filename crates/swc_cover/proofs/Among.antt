@@ -44,7 +44,7 @@ module _ {F C K : Type 0} where
     falls-more e xs f.1 (λ d i. h d (inr i)),
   )
 
-  -- an entry between others: those before it have greater numbers, and those behind it smaller ones
+  -- an entry between others: those before it have greater numbers, and those after it smaller ones
   pub falls-before : (e : Lifted F C K) (xs ys : List (Lifted F C K)) → Fall (xs ++ e ∷ ys) → (d : Lifted F C K) →
       In d xs → e.number < d.number
   falls-before e [] ys f d i = absurd i

@@ -101,7 +101,7 @@ module _ {S : Type 0} {model : Model S} where
   unfit-memory laws b at e h = let f = forgoes_here laws b at e h in
       record { refuses = forgoes_refuses f; unfit = λ n. absurd (n f.kind) }
 
-  -- ---- after the check: want of memory, or the names that are bound
+  -- ---- after the check: out of memory, or the names that are bound
 
   pub memory-later : {whole fit ok : Bool} {b c : Buffer S} (at : BytePos) (e : Error) →
       ChecksWhole model whole fit b c → e ≡ no_memory at → Unfitting model ok b e c

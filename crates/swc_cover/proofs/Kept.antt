@@ -51,7 +51,7 @@ module _ {F C K : Type 0} {fg : Ghosts F} {cg : Ghosts C} {kg : Ghosts K} where
       KeptTo (floor (seat_at ns) (count ns) ps) ns ns
   parts-kept {ns} ps a = record { kept = refl; above = floor-under (seat_at ns) 0 ps (count ns) a.chained }
 
-  -- nodes were appended behind those that stay
+  -- nodes were appended after those that stay
   pub kept-more : {ns ms ks : Nodes F C K fg cg kg} {k : ℕ} → KeptTo k ns ms → Grows ms ks → KeptTo k ns ks
   kept-more {ns} {ms} {ks} {k} h g =
       let a = h.above in

@@ -23,4 +23,5 @@ pub mod Named
 pub mod Ties
 pub mod Refines
 pub mod Clear
+pub mod FaultsNoted
 pub mod Rewriting

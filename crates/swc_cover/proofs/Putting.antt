@@ -302,7 +302,7 @@ module _ {F C K : Type 0} {fg : Ghosts F} {cg : Ghosts C} {kg : Ghosts K} where
       Putting old k base ls left ids now → top ids ≤ e.number
   set-room e less d s = s.room e (subst (λ v. In e v) (sym d) (in-right e less (e ∷ []) (inl refl)))
 
-  -- an entry stays done as nodes are appended and numbers are set behind
+  -- an entry stays done as nodes are appended and numbers are set after
   done-later : {old now then : Nodes F C K fg cg kg} {k i j : ℕ} {ids more : Numbers} (d : Lifted F C K) →
       Grows now then → SetsTo i j ids more → d.number < top ids → Done old k now ids d → Done old k then more d
   done-later {old} {now} {then} {k} {i} {j} {ids} {more} d g t lt x =

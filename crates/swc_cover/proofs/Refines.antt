@@ -166,7 +166,7 @@ module _ {S H F C K : Type 0} {fg : Ghosts F} {cg : Ghosts C} {kg : Ghosts K} {m
       none-by (fits_at model t id p) (tree_at q.nodes pat.0) r.pattern
       (cannot-fit (fits_at model t id p) (λ w. (r.checks.passes w).1) lt)
 
-  -- it was refused: the same, but for want of memory
+  -- it was refused: the same, except when out of memory
   pub unrefined-none : {p q : Productions S H F C K fg cg kg} {t : PatType} {id : ExprId} {e : Error} →
       From 0 p.nodes (expr_part id) → Unrefined model t id p e q → e.kind ≢ OutOfMemory →
       pattern_as (context model p.input).strict t (tree_at p.nodes id.0) ≡ None

@@ -1,5 +1,6 @@
 pub mod Moving
 pub mod Nodes
+pub mod Noting
 pub mod Rewriting
 pub mod Roles
 pub mod Below

@@ -16,7 +16,7 @@ abbrev pub In : {A : Type 0} → A → List A → Type 0
 In a [] = ⊥
 In a (x ∷ xs) = (a ≡ x) ⊎ In a xs
 
--- behind the last old number that has a new one
+-- after the last old number that has a new one
 abbrev pub top : Numbers → ℕ
 top ids = ids.from + length ids.ids.items
 

@@ -89,7 +89,7 @@ module _ {F C K : Type 0} {fg : Ghosts F} {cg : Ghosts C} {kg : Ghosts K} where
   AddsItem ns was (Some d) e false ms now = (ms ≡ ns) × (now ≡ was)
   AddsItem ns was (Some d) e true ms now = AddsRest ns was d e ms now
 
-  -- what an element became was put behind the others
+  -- what an element became was put after the others
   abbrev pub Adds : Nodes F C K fg cg kg → List (Option PatId) → Bool → Option (ExprOrSpread ExprId) → Bool →
       Nodes F C K fg cg kg → List (Option PatId) → Bool → Type 0
   Adds ns was seen None last ms now s = (ms ≡ ns) × (now ≡ (if seen then was ++ None ∷ [] else was)) × (s ≡ seen)

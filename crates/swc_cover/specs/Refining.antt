@@ -35,12 +35,12 @@ module _ {S : Type 0} (model : Model S) where
     pub passes : well ≡ true → (leads.taken ≡ []) × (recorded model c ≡ recorded model b)
     pub notes : whole ≡ true → well ≡ false → Loud model b → recorded model b < recorded model c
 
-  -- a refusal where not all is well, but for want of memory
+  -- a refusal where not all is well, except when out of memory
   pub record Unfitting (well : Bool) (b : Buffer S) (e : Error) (c : Buffer S) : Type 0 where
     pub refuses : Refuses model b e c
     pub unfit : e.kind ≢ OutOfMemory → well ≡ false
 
--- whether the items in parentheses are parameters, with a comma behind them or not, and bind what they may
+-- whether the items in parentheses are parameters, with a comma after them or not, and bind what they may
 abbrev pub takes_heads : {F C K : Type 0} → Context → Option (Trees F C K) → Bool
 takes_heads c None = false
 takes_heads c (Some ps) = heads_ok c ps
@@ -55,7 +55,7 @@ module _ {F C K : Type 0} {fg : Ghosts F} {cg : Ghosts C} {kg : Ghosts K} where
   abbrev pub pats_at : Nodes F C K fg cg kg → List PatId → Trees F C K
   pats_at ns ps = trees (map (λ p. tree_at ns p.0) ps)
 
-  -- the smallest number that is reached from items; that behind all nodes, where there is no item
+  -- the smallest number that is reached from items; that after all nodes, where there is no item
   abbrev pub items_floor : Nodes F C K fg cg kg → List (ExprOrSpread ExprId) → ℕ
   items_floor ns xs = floor (seat_at ns) (count ns) (flat item_parts xs)
 

@@ -98,7 +98,7 @@ is_invalid t = false
 
 -- ---- at the node, whose parts became what they are to
 
--- a spread is a rest where it is the last, and else dropped; holes behind all else are dropped
+-- a spread is a rest where it is the last, and else dropped; holes after all else are dropped
 abbrev pub put_elem : {F C K : Type 0} → Tree F C K → Trees F C K → Trees F C K → Trees F C K
 put_elem (node spread s (cons d (cons t us))) nil ps = cons (node rest (span_of t) (cons d (cons t nil))) nil
 put_elem (node item s (cons t us)) more ps = cons t ps
@@ -163,7 +163,7 @@ abbrev pub first_as : {F C K : Type 0} → Role → Trees F C K → Role
 first_as r nil = Keep
 first_as r (cons t ts) = r
 
--- what a part is to become, behind which others stand
+-- what a part is to become, after which others stand
 abbrev pub again_as : {F C K : Type 0} → Kind F C K → Trees F C K → Role
 again_as (array_with c) ts = Rebind
 again_as default ts = first_as Rebind ts

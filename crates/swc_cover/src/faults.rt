@@ -41,7 +41,7 @@ pub(crate) enum FaultKind {
     InvalidPat,
     /// A rest that isn't the last.
     NonLastRestParam,
-    /// A comma behind a rest.
+    /// A comma after a rest.
     CommaAfterRestElement,
     /// A parameter that is a rest and isn't the last.
     TS1014,
@@ -79,7 +79,7 @@ pub(crate) fn find_faults<F: Spanned + Drop, C: Spanned + Drop, K: Spanned + Dro
     check_expr(faults, nodes, pat_type.way(strict), id)
 }
 
-/// The same of items in parentheses that become parameters, with a comma behind the last or not.
+/// The same of items in parentheses that become parameters, with a comma after the last or not.
 pub(crate) fn find_item_faults<F: Spanned + Drop, C: Spanned + Drop, K: Spanned + Drop>(
     faults: &mut Vec<Fault>,
     nodes: &Nodes<F, C, K>,
@@ -357,7 +357,7 @@ fn record_if(
     Ok(())
 }
 
-/// Records a comma behind the last element or property, which is a rest.
+/// Records a comma after the last element or property, which is a rest.
 fn record_comma(faults: &mut Vec<Fault>, comma: Option<Span>) -> Result<(), AllocError>
     ensures { IfOk result (λ _. faults.new.items ≡ faults.old.items ++ comma_faults comma) }
 {

@@ -6,6 +6,7 @@ ghost use Rattle.swc_ast.specs.Tree.{trees};
 ghost use Rattle.swc_cover.specs.Below.{PatElemFrom, PatPropFrom, PatElemsBelow, PatPropsBelow};
 ghost use Rattle.swc_cover.specs.Heads.{name_spans, reserved_spans, all_reserved, prop_reserved, props_reserved};
 ghost use Rattle.swc_cover.specs.Heads.{has_none, names_ok};
+ghost use Rattle.swc_cover.specs.Noting.{name_error, names_bound, NotesStrict};
 ghost use Rattle.swc_input.specs.Buffer.{context, to_come};
 ghost use Rattle.swc_nodes.specs.Lists.{pat_elem_trees, pat_props_trees};
 ghost use Rattle.swc_nodes.specs.NodeTree.{pat_prop_of};
@@ -23,7 +24,6 @@ use swc_input::buffer::Buffer;
 use swc_input::tokens::Tokens;
 use swc_nodes::node::{Node, PatId, PatPropNode};
 use swc_nodes::nodes::{Nodes, NodesOf};
-use swc_steps::tokens::emit_strict_mode_err;
 
 /// Records each name `eval` and `arguments` that parameters bind in strict code, in a module; elsewhere these faults
 /// wait.
@@ -36,6 +36,9 @@ pub fn check_heads<I: Tokens, B: Bodies<I>>(
     ensures checks { Checked I.model
         (names_ok (context I.model input.old) (trees (map (λ p. tree_at nodes.now p.0) pats.now.items)))
         input.old result input.new }
+    ensures notes { OnOk result (NotesStrict I.model
+        (names_bound (context I.model input.old) (trees (map (λ p. tree_at nodes.now p.0) pats.now.items)))
+        input.old input.new) }
     ensures falls { OnOk result (to_come I.model input.new ≤ to_come I.model input.old) }
 {
     if !input.get_ctx().strict {
@@ -52,10 +55,11 @@ pub fn check_heads<I: Tokens, B: Bodies<I>>(
 fn record_names<I: Tokens>(input: &mut Buffer<I>, spans: &Vec<Span>) -> PResult<()>
     ensures checks { Checked I.model
         (not (context I.model input.old).module || has_none spans.now.items) input.old result input.new }
+    ensures notes { OnOk result (NotesStrict I.model (map name_error spans.now.items) input.old input.new) }
     ensures falls { OnOk result (to_come I.model input.new ≤ to_come I.model input.old) }
 {
     for span in spans {
-        emit_strict_mode_err(input, *span, SyntaxError::EvalAndArgumentsInStrict)?;
+        input.emit_strict_mode_err(*span, SyntaxError::EvalAndArgumentsInStrict)?;
     }
     Ok(())
 }

@@ -27,7 +27,7 @@ pub struct Dotted {
     pub held: ExprId,
 }
 
-/// Makes patterns of items, and lets go of all behind them, as `refine` does of one expression. All are taken from
+/// Makes patterns of items, and lets go of all after them, as `refine` does of one expression. All are taken from
 /// the end before the first is appended again. A spread that is the last becomes a rest; any other is dropped.
 pub fn refine_items<F: Spanned + Drop, C: Spanned + Drop, K: Spanned + Drop>(
     nodes: &mut Nodes<F, C, K>,

@@ -267,8 +267,8 @@ fn patterns<F: Spanned + Drop, C: Spanned + Drop, K: Spanned + Drop>(
     Ok(pats)
 }
 
-/// Puts what an element becomes behind those that stand behind it, and answers whether one of all these is no hole.
-/// Holes that stand behind all others are none of them, and a spread is one, as a rest, where it is the last.
+/// Puts what an element becomes after those that are after it, and answers whether one of all these is no hole.
+/// Holes that are after all others are none of them, and a spread is one, as a rest, where it is the last.
 fn add_elem<F: Spanned + Drop, C: Spanned + Drop, K: Spanned + Drop>(
     nodes: &mut Nodes<F, C, K>,
     pats: &mut Vec<Option<PatId>>,
@@ -295,7 +295,7 @@ fn add_elem<F: Spanned + Drop, C: Spanned + Drop, K: Spanned + Drop>(
     }
 }
 
-/// Puts the pattern of an item behind others: a spread becomes a rest where it is the last, and is dropped elsewhere.
+/// Puts the pattern of an item after others: a spread becomes a rest where it is the last, and is dropped elsewhere.
 fn add_item<F: Spanned + Drop, C: Spanned + Drop, K: Spanned + Drop>(
     nodes: &mut Nodes<F, C, K>,
     pats: &mut Vec<Option<PatId>>,

@@ -25,7 +25,7 @@ pub struct Lifted<F, C, K> {
     pub node: Node<F, C, K>,
 }
 
-/// Makes a pattern of an expression, and lets go of all behind it. Nodes with numbers below all that is reached from
+/// Makes a pattern of an expression, and lets go of all after it. Nodes with numbers below all that is reached from
 /// the expression stay; it and what it holds are taken from the end, and appended again in their order.
 pub fn refine<F: Spanned + Drop, C: Spanned + Drop, K: Spanned + Drop>(
     nodes: &mut Nodes<F, C, K>,
@@ -77,7 +77,7 @@ pub fn move_over<F: Spanned + Drop, C: Spanned + Drop, K: Spanned + Drop>(
     Ok(ids)
 }
 
-/// The smallest number that is reached from parts; the number behind all nodes, where there is no part.
+/// The smallest number that is reached from parts; the number after all nodes, where there is no part.
 fn lowest<F: Spanned + Drop, C: Spanned + Drop, K: Spanned + Drop>(
     nodes: &Nodes<F, C, K>,
     roots: &Vec<Duty>,

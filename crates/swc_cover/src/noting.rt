@@ -5,11 +5,13 @@ ghost use Rattle.swc_ast.specs.Trees.{is_valid, are_valid};
 ghost use Rattle.swc_cover.specs.Faults.{params_verdict};
 ghost use Rattle.swc_cover.specs.Fits.{Binding, elems_fit};
 ghost use Rattle.swc_cover.specs.Heads.{has_none};
+ghost use Rattle.swc_cover.specs.Noting.{errors_of, kind_is, JudgesBy};
 ghost use Rattle.swc_cover.specs.PatTypes.{fits_as, verdict_as};
 ghost use Rattle.swc_cover.specs.Clear.{is_clear};
 ghost use Rattle.swc_cover.specs.Refining.{ChecksWhole, Unfitting, items_at};
 ghost use Rattle.swc_input.specs.Buffer.{context, current, to_come};
 ghost use Rattle.swc_input.specs.Kinds.{at_token};
+ghost use Rattle.swc_input.specs.Recordings.{NotesAll};
 ghost use Rattle.swc_grammar.specs.Clean.{no_error};
 ghost use Rattle.swc_nodes.specs.NodeParts.{expr_part, flat, item_parts};
 ghost use Rattle.swc_nodes.specs.GrowingNodes.{tree_at, Apart, From};
@@ -25,7 +27,6 @@ use swc_input::buffer::Buffer;
 use swc_input::tokens::Tokens;
 use swc_nodes::node::ExprId;
 use swc_nodes::nodes::NodesOf;
-use swc_steps::tokens::{emit_err, syntax_error};
 
 /// Records what is wrong where the expression becomes a pattern, in its order, and refuses a method.
 pub fn check_pat<I: Tokens, B: Bodies<I>>(
@@ -44,6 +45,8 @@ pub fn check_pat<I: Tokens, B: Bodies<I>>(
         input.old input.new) }
     ensures unclear { IfErr result (λ e. e.kind ≢ OutOfMemory
         → is_clear (verdict_as (context I.model input.old).strict pat_type (tree_at nodes.now id.0)) ≡ false) }
+    ensures judges { JudgesBy I.model (verdict_as (context I.model input.old).strict pat_type (tree_at nodes.now id.0))
+        input.old result input.new }
     ensures kept { OnOk result (at_token no_error (seen input.old) ≡ true → current input.new ≡ current input.old) }
     ensures falls { OnOk result (to_come I.model input.new ≤ to_come I.model input.old) }
 {
@@ -55,7 +58,7 @@ pub fn check_pat<I: Tokens, B: Bodies<I>>(
     }
 }
 
-/// The same of items in parentheses that become parameters, with a comma behind the last or not.
+/// The same of items in parentheses that become parameters, with a comma after the last or not.
 pub fn check_items<I: Tokens, B: Bodies<I>>(
     input: &mut Buffer<I>,
     nodes: &NodesOf<B>,
@@ -71,6 +74,8 @@ pub fn check_items<I: Tokens, B: Bodies<I>>(
         (is_clear (params_verdict trailing_comma (items_at nodes.now items.now.items))) input.old input.new) }
     ensures unclear { IfErr result (λ e. e.kind ≢ OutOfMemory
         → is_clear (params_verdict trailing_comma (items_at nodes.now items.now.items)) ≡ false) }
+    ensures judges { JudgesBy I.model (params_verdict trailing_comma (items_at nodes.now items.now.items))
+        input.old result input.new }
     ensures kept { OnOk result (at_token no_error (seen input.old) ≡ true → current input.new ≡ current input.old) }
     ensures falls { OnOk result (to_come I.model input.new ≤ to_come I.model input.old) }
 {
@@ -91,31 +96,35 @@ fn record_found<I: Tokens>(
         × Checks I.model (has_none faults.now.items) input.old input.new) }
     ensures refuses { IfErr result (λ e. Refuses I.model input.old e input.new
         × (e.kind ≢ OutOfMemory → IsSome refused)) }
+    ensures judges { JudgesBy I.model (record { faults = faults.now.items; refused = refused })
+        input.old result input.new }
     ensures kept { OnOk result (at_token no_error (seen input.old) ≡ true → current input.new ≡ current input.old) }
     ensures falls { OnOk result (to_come I.model input.new ≤ to_come I.model input.old) }
 {
     record_all(input, faults)?;
     match refused {
-        Some(span) => Err(syntax_error(input, span.in_order(), SyntaxError::InvalidPat)),
+        Some(span) => Err(input.syntax_error(span.in_order(), SyntaxError::InvalidPat)),
         None => Ok(()),
     }
 }
 
-/// Records the faults, one after another.
+/// Records the faults, one after another, and no others.
 fn record_all<I: Tokens>(input: &mut Buffer<I>, faults: &Vec<Fault>) -> PResult<()>
     ensures checks { Checked I.model (has_none faults.now.items) input.old result input.new }
+    ensures notes { OnOk result (NotesAll I.model (errors_of faults.now.items) input.old input.new) }
     ensures kept { OnOk result (at_token no_error (seen input.old) ≡ true → current input.new ≡ current input.old) }
     ensures falls { OnOk result (to_come I.model input.new ≤ to_come I.model input.old) }
 {
     for fault in faults {
-        emit_err(input, fault.span.in_order(), kind_of(fault.kind))?;
+        input.emit_err(fault.span.in_order(), kind_of(fault.kind))?;
     }
     Ok(())
 }
 
-/// The kind of the fault.
+/// As what the fault is recorded.
 fn kind_of(kind: FaultKind) -> SyntaxError
-    ensures { result ≢ OutOfMemory }
+    ensures is { result ≡ kind_is kind }
+    ensures fault { result ≢ OutOfMemory }
 {
     match kind {
         FaultKind::NotSimpleAssign => SyntaxError::NotSimpleAssign,

@@ -14,7 +14,7 @@ use swc_ast::spanned::Spanned;
 use swc_nodes::node::{ExprId, Node, PatId};
 use swc_nodes::nodes::Nodes;
 
-/// Makes a pattern of an expression, and lets go of all behind it. Nodes with numbers below all that is reached from
+/// Makes a pattern of an expression, and lets go of all after it. Nodes with numbers below all that is reached from
 /// the expression stay; it and what it holds are taken from the end, and appended again in their order.
 pub fn refine_pat<F: Spanned + Drop, C: Spanned + Drop, K: Spanned + Drop>(
     nodes: &mut Nodes<F, C, K>,

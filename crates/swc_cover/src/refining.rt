@@ -4,6 +4,8 @@ ghost use Rattle.swc_context.specs.declared.error.SyntaxError.TheVariants.{OutOf
 ghost use Rattle.swc_cover.specs.Clear.{is_clear};
 ghost use Rattle.swc_cover.specs.Faults.{params_verdict};
 ghost use Rattle.swc_cover.specs.Heads.{names_ok};
+ghost use Rattle.swc_cover.specs.Items.{want_items};
+ghost use Rattle.swc_cover.specs.Noting.{names_bound, JudgesBy, JudgesParams};
 ghost use Rattle.swc_cover.specs.PatTypes.{verdict_as};
 ghost use Rattle.swc_grammar.specs.Clean.{no_error};
 ghost use Rattle.swc_input.specs.Kinds.{at_token};
@@ -27,7 +29,7 @@ use swc_nodes::node::{ExprId, PatId};
 use swc_steps::productions::Productions;
 
 /// Makes a pattern of an expression, and records what is wrong of it. Nodes with numbers below all that is reached from
-/// the expression stay; those behind it are let go.
+/// the expression stay; those after it are let go.
 pub fn reparse_expr_as_pat<I: Tokens, B: Bodies<I>>(
     p: &mut Productions<I, B>,
     pat_type: PatType,
@@ -40,6 +42,8 @@ pub fn reparse_expr_as_pat<I: Tokens, B: Bodies<I>>(
         (tree_at p.old.nodes id.0))) p.old.input p.new.input) }
     ensures unclear { IfErr result (λ e. e.kind ≢ OutOfMemory
         → is_clear (verdict_as (context I.model p.old.input).strict pat_type (tree_at p.old.nodes id.0)) ≡ false) }
+    ensures judges { JudgesBy I.model (verdict_as (context I.model p.old.input).strict pat_type (tree_at p.old.nodes id.0))
+        p.old.input result p.new.input }
     ensures kept { OnOk result
         (at_token no_error (seen p.old.input) ≡ true → current p.new.input ≡ current p.old.input) }
     ensures falls { OnOk result (to_come I.model p.new.input ≤ to_come I.model p.old.input) }
@@ -51,7 +55,7 @@ pub fn reparse_expr_as_pat<I: Tokens, B: Bodies<I>>(
     }
 }
 
-/// Makes parameters of the items in parentheses, with a comma behind the last or not, and records what is wrong of
+/// Makes parameters of the items in parentheses, with a comma after the last or not, and records what is wrong of
 /// them.
 pub fn parse_paren_items_as_params<I: Tokens, B: Bodies<I>>(
     p: &mut Productions<I, B>,
@@ -68,6 +72,9 @@ pub fn parse_paren_items_as_params<I: Tokens, B: Bodies<I>>(
         && names_ok (context I.model p.old.input) (pats_at p.new.nodes pats.items)) p.old.input p.new.input) }
     ensures unclear { IfErr result (λ e. e.kind ≢ OutOfMemory
         → is_clear (params_verdict trailing_comma (items_at p.old.nodes items.now.items)) ≡ false) }
+    ensures judges { JudgesParams I.model (params_verdict trailing_comma (items_at p.old.nodes items.now.items))
+        (names_bound (context I.model p.old.input) (want_items (items_at p.old.nodes items.now.items)))
+        p.old.input result p.new.input }
     ensures falls { OnOk result (to_come I.model p.new.input ≤ to_come I.model p.old.input) }
 {
     check_items::<I, B>(&mut p.input, &p.nodes, items, trailing_comma)?;

@@ -287,7 +287,7 @@ fn pat_props_places(
     Ok(places)
 }
 
-/// Puts the parts of a node behind those that are still to be taken.
+/// Puts the parts of a node after those that are still to be taken.
 pub fn add_duties<F: Spanned, C: Spanned, K: Spanned>(
     pending: &mut Vec<Duty>,
     alloc: Global,
@@ -304,7 +304,7 @@ pub fn add_duties<F: Spanned, C: Spanned, K: Spanned>(
     add_parts(pending, becomes, role, &places, &parts)
 }
 
-/// Puts parts behind those that are still to be taken.
+/// Puts parts after those that are still to be taken.
 fn add_parts(
     pending: &mut Vec<Duty>,
     becomes: Becomes,

@@ -108,7 +108,7 @@ module _ {F C K : Type 0} where
           ∙ sym (ap (λ b. if b && names_ok x.context ps then Some (node args no_span ps, us) else None) (clear ∙ f))
 
 module _ {F C K : Type 0} (hook : Hook F C K) where
-  -- behind the parenthesis at s
+  -- after the parenthesis at s
   abbrev behind : Scope → Span → List TokenAndSpan → Out (Tree F C K)
   behind x s us =
       and_then (run hook (at (Args false)) (with_in x) us)
@@ -162,7 +162,7 @@ module _ {F C K : Type 0} (hook : Hook F C K) where
 -- ---- what the steps of the code read
 
 module _ {S A B : Type 0} {model : Model S} {sure : Bool} {f g : Reader A} {q : Reader B} {t : B} {u : A} {b c d : Buffer S} where
-  -- what was read, and what is read behind it, where that is known to be what q read
+  -- what was read, and what is read after it, where that is known to be what q read
   pub heard_behind : (k : Scope → B × List TokenAndSpan → Out A) → ((x : Scope) (ts : List TokenAndSpan)
       → f x ts ≡ (q x ts >>= k x)) → Heard model sure q t b c → ((x : Scope) (ts us : List TokenAndSpan)
       → q x ts ≡ Some (t, us) → (y : Scope) (ys : List TokenAndSpan) → k y (t, ys) ≡ g y ys)

@@ -1,5 +1,5 @@
 -- From what the two calls promise to the law of the cover grammar and its converse.
-use Rattle.std.proofs.Common.{◌≡◌, Bool, true, false, not, ◌||◌, List, [], ◌∷◌, ◌++◌, Option, Some, None, Result, Ok, Err}
+use Rattle.std.proofs.Common.{◌≡◌, ℕ, Bool, true, false, not, ◌||◌, List, [], ◌∷◌, ◌++◌, Option, Some, None, Result, Ok, Err}
 use Rattle.std.proofs.Common.{IfOk, MatchResult, map, refl, sym, ap, subst, ◌∙◌}
 use Rattle.std.specs.declared.alloc.Global.{Global}
 use Rattle.std.specs.declared.vec.Vec.{Vec}
@@ -41,7 +41,7 @@ use Rattle.swc_laws.proofs.PedanticTrees.{all-covers-erased}
 use Rattle.swc_steps.specs.Parsing.{scope, scope_of}
 use Rattle.swc_ecma_parser.specs.BothWays.{ConverseLaw, CoverLaw, Fresh, Left, Same, StandsBefore, faults}
 use Rattle.swc_ecma_parser.specs.BothWays.{patterns, param_patterns}
-use Rattle.swc_ecma_parser.specs.Calls.{buffer_of, has_failed}
+use Rattle.swc_ecma_parser.specs.Calls.{buffer_of, has_failed, with_bound}
 use Rattle.swc_ecma_parser.specs.Promise.{Finished, Promised, PromisedParams, ReadsAs, ClosedBy, covers_done, heads_in_boxes}
 use Rattle.swc_ecma_parser.specs.Promise.{items_done, only_items, params_in_boxes}
 use Rattle.swc_ecma_parser.specs.WholeList.{plain_list, IsHeeded}
@@ -211,16 +211,19 @@ module _ {H F C K : Type 0} {fg : Ghosts F} {cg : Ghosts C} {kg : Ghosts K} (sur
 -- ---- new parsers
 
 module _ {H F C K : Type 0} {fg : Ghosts F} {cg : Ghosts C} {kg : Ghosts K} where
+  -- with a bound
   pub fresh : {P : Parser TokensInput H F C K fg cg kg → Parser TokensInput H F C K fg cg kg → Type 0}
       {q : Parser TokensInput H F C K fg cg kg}
-      (input : TokensInput) (ts : List TokenAndSpan) (c : Context) (x : Syntax) (v : EsVersion) (p : Parser TokensInput H F C K fg cg kg)
-      → listed_state input ≡ new_state ts c x v → buffer_of p ≡ buffer.fresh input (last_position (buffer_of p)) → has_failed p ≡ false
-      → P p q → Fresh P c x (plain_list ts) q
-  fresh input ts c x v p is new runs call =
-      let at = last_position (buffer_of p) in
+      {n : ℕ} {p : Parser TokensInput H F C K fg cg kg}
+      (input : TokensInput) (ts : List TokenAndSpan) (c : Context) (x : Syntax) (v : EsVersion) (o : Parser TokensInput H F C K fg cg kg)
+      → listed_state input ≡ new_state ts c x v → buffer_of o ≡ buffer.fresh input (last_position (buffer_of o)) → has_failed o ≡ false
+      → p ≡ with_bound n o → P p q → Fresh P c x (plain_list ts) q
+  fresh {p = p} input ts c x v o is unread ran bounded call =
+      let at = last_position (buffer_of o) in
+      let new : buffer_of p ≡ buffer.fresh input at = ap (λ r. buffer_of r) bounded ∙ unread in
       record {
         start = p;
-        runs = runs;
+        runs = ap (λ r. has_failed r) bounded ∙ ran;
         left = rw (new) (fresh-known input at ts c x v is);
         clean = ap (λ b. (listed_state (source b)).errors) new ∙ ap (λ s. s.errors) is;
         loud = λ heeded. rw (new) (fresh-loud input at ts c x v is heeded);

@@ -18,7 +18,7 @@ use Rattle.swc_ecma_parser.proofs.Top.{Meets}
 pub not_both : {b : Bool} → b ≡ true → b ≡ false → ⊥
 not_both t f = let e : true ≡ false = sym t ∙ f in cc
 
--- a parser that ran has failed where it answers want of memory
+-- a parser that ran has failed where it answers out of memory
 pub failing : {T : Type 0} {was is f : Bool} (a r : Result T Error) → was ≡ false → f ≡ was → r ≡ a → is ≡ (f || wants_memory a) → is ≡ wants_memory r
 failing a r runs same e h = h ∙ ap (λ v. v || wants_memory a) (same ∙ runs) ∙ ap (λ v. wants_memory v) (sym e)
 
@@ -58,7 +58,7 @@ module _ {S H T F C K : Type 0} {fg : Ghosts F} {cg : Ghosts C} {kg : Ghosts K} 
     fails = λ runs. absurd (not_both h.0 runs);
   }
 
-  -- the buffer, the nodes and the commas before the parser remembers want of memory
+  -- the buffer, the nodes and the commas before the parser remembers that it is out of memory
   pub promised : {p q : Parser S H F C K fg cg kg} {f : Bool} (b : Buffer S) (ns : Nodes F C K fg cg kg) (cs : TrailingCommas) (a r : Result T Error) → has_failed p ≡ false → f ≡ has_failed p →
       r ≡ a → buffer_of q ≡ b → nodes_of q ≡ ns → commas_of q ≡ cs → has_failed q ≡ (f || wants_memory a) → Meets model sure (answer.derives hook s) (answer.tree ns) s (buffer_of p) a b
       → MatchResult a (λ x. RemembersAll model (answer.marked hook s) answer.strip (answer.tree ns x) (buffer_of p) b (commas_of p) cs) (λ x. x.kind ≢ OutOfMemory → cs ≡ commas_of p)

@@ -106,7 +106,7 @@ module _ {S H F C K : Type 0} {fg : Ghosts F} {cg : Ghosts C} {kg : Ghosts K} {m
       → PromisedPrefix model sure hook p (Err e) p
   prefix-again h same = record { promised = promised-again h same; words = λ runs. absurd (not_both h.0 runs) }
 
-  -- the buffer before the parser remembers want of memory
+  -- the buffer before the parser remembers that it is out of memory
   pub words-of : (p q : Parser S H F C K fg cg kg) {b : Buffer S} {a r : Result (Box (ExprOf F C K) Global) Error}
       → (sure ≡ true → Complete model (ReadsPrefix hook Expr) (tree_by fg.place cg.place kg.place) HeadStops (buffer_of p) a b)
       → r ≡ a → buffer_of q ≡ b

@@ -76,7 +76,7 @@ sees_first [] = refl
 sees_first (t ∷ ts) = refl
 
 module _ {F C K : Type 0} where
-  -- behind the expression
+  -- after the expression
   abbrev pub tail : Scope → Tree F C K × List TokenAndSpan → Out (ForHead F C K)
   tail x p = for_tail x.context.strict p.0 p.1
 
@@ -155,7 +155,7 @@ module _ {S F C K : Type 0} {fg : Ghosts F} {cg : Ghosts C} {kg : Ghosts K} {mod
   on_tail : On model sure (for_head hook is_await) (tail_made (tree_of ns e)) b c
   on_tail = on_call_read tail (head_splits hook is_await) h.on read_tail
 
-  -- memory was wanted for the look behind it
+  -- memory ran out for the look after it
   pub tail-unheard : {d : Buffer S} {x : Error} → Unheard model sure (tail_made (tree_of ns e)) c x d
       → Unheard model sure (for_head hook is_await) b x d
   tail-unheard u = steps.unheard_after on_tail u
@@ -388,7 +388,7 @@ module _ {S F C K : Type 0} {fg : Ghosts F} {cg : Ghosts C} {kg : Ghosts K} (mod
         finished-parses model sure head_done (for_head hook is_await) (for_head_at ns) well_head b c d answer r reads checks
         (λ h. parts-told (scope model c) (tree_at ns) (for_head_parts h) (head_tree (for_head_at ns h)) (head_left (tree_at ns) h))
 
-  -- Where no fault was recorded nothing was done, so the token behind the head is the one that it was told by.
+  -- Where no fault was recorded nothing was done, so the token after the head is the one that it was told by.
   still : (h : ForHeadId) → Leads model b c → ChecksCovers model (well_head h) c d
       → ((scope model b).syntax.pedantic ≡ true → Unmarred model b d) → d ≡ c
   still h leads checks quiet =
@@ -436,7 +436,7 @@ module _ {S T F C K : Type 0} {fg : Ghosts F} {cg : Ghosts C} {kg : Ghosts K} (m
     (laws : LawfulHook fg.place cg.place kg.place hook) (is_await : Bool) (derives : Derivation (ForHead F C K))
     (strip : ForHead F C K → ForHead F C K) (by : DerivesAs hook is_await derives strip) (view : T → ForHead F C K)
     (ns : Nodes F C K fg cg kg) (b c : Buffer S) where
-  -- what was answered stands for what was read, as `strip` leaves it, or memory was wanted
+  -- what was answered stands for what was read, as `strip` leaves it, or memory ran out
   abbrev pub StandsFor : Result ForHeadId Error → Result T Error → Type 0
   StandsFor answer r = MatchResult answer
       (λ x. MatchResult r (λ t. view t ≡ strip (for_head_at ns x)) (λ e. e ≡ no_memory (last_position c)))
@@ -555,7 +555,7 @@ module _ {S H T F C K : Type 0} {fg : Ghosts F} {cg : Ghosts C} {kg : Ghosts K} 
     fails = λ runs. absurd (not_both h.0 runs);
   }
 
-  -- the buffer, the nodes and the commas before the parser remembers want of memory
+  -- the buffer, the nodes and the commas before the parser remembers that it is out of memory
   pub promised-head : {p q : Parser S H F C K fg cg kg} {f : Bool} (b : Buffer S) (ns : Nodes F C K fg cg kg) (cs : TrailingCommas)
       (a r : Result T Error) → has_failed p ≡ false → f ≡ has_failed p → r ≡ a → buffer_of q ≡ b → nodes_of q ≡ ns
       → commas_of q ≡ cs → has_failed q ≡ (f || wants_memory a)

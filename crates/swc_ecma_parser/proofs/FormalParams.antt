@@ -1,6 +1,7 @@
 -- From what is read of formal parameters to what is promised of them.
 use Rattle.std.proofs.Common.{◌≡◌, ◌≢◌, ℕ, Bool, true, false, List, [], ◌∷◌, ◌++◌, not, if◌then◌else◌, Some, None}
 use Rattle.std.proofs.Common.{Result, Ok, Err, IfOk, OnOk, MatchResult, map, length, ◌||◌, refl, sym, ap, subst, ◌∙◌, append_assoc}
+use Rattle.std.proofs.Common.{arith}
 use Rattle.std.specs.declared.alloc.Global.{Global}
 use Rattle.std.specs.declared.vec.Vec.{Vec}
 use Rattle.swc_context.specs.declared.error.Error.{Error}
@@ -9,15 +10,15 @@ use Rattle.swc_context.specs.declared.span.BytePos.{BytePos}
 use Rattle.swc_context.specs.declared.span.Span.{Span}
 use Rattle.swc_input.specs.declared.buffer.Buffer.{Buffer}
 use Rattle.swc_input.specs.declared.token.TokenAndSpan.{TokenAndSpan}
-use Rattle.swc_input.specs.Buffer.{Future, Known, held, last_position, previous}
+use Rattle.swc_input.specs.Buffer.{Future, Known, last_position, previous}
 use Rattle.swc_input.specs.Laws.{Known-after, Known-Future}
 use Rattle.swc_input.specs.Recording.{no_memory}
 use Rattle.swc_input.specs.Source.{Model}
 use Rattle.swc_ast.specs.Parts.{param_tree}
-use Rattle.swc_ast.specs.Pedantic.{all_privates_ok, none_left, privates_ok}
+use Rattle.swc_ast.specs.Pedantic.{all_privates_ok, none_left}
 use Rattle.swc_ast.specs.Tree.{Tree, node, Trees, args, nil, cons, no_span, trees}
 use Rattle.swc_ast.specs.TreeOf.{pat_tree}
-use Rattle.swc_ast.specs.Trees.{are_grouped, are_valid, grouped_at, is_grouped, is_valid, items_of, listed, unmarked, all_unmarked}
+use Rattle.swc_ast.specs.Trees.{are_grouped, are_valid, items_of, listed, unmarked, all_unmarked}
 use Rattle.swc_ast.specs.declared.function.Param.{Param}
 use Rattle.swc_ast.specs.declared.pat.Pat.{Pat as PatOf}
 use Rattle.swc_ast.specs.declared.spanned.Spanned.{Ghosts}
@@ -31,10 +32,10 @@ use Rattle.swc_grammar.specs.Tokens.{is_rparen}
 use Rattle.swc_grammar.specs.Words.{◌>>=◌}
 use Rattle.swc_grammar.proofs.Complete as clean_all
 use Rattle.swc_grammar.proofs.Cut.{cut-append}
-use Rattle.swc_grammar.proofs.Direct.{params-bind}
 use Rattle.swc_grammar.proofs.MarkedBinds.{all-same-binds}
+use Rattle.swc_grammar.proofs.Marks.{same-grouped, same-valid}
 use Rattle.swc_grammar.proofs.Sound as clean
-use Rattle.swc_laws.proofs.PedanticTrees.{all-covers-unmarked}
+use Rattle.swc_laws.proofs.PedanticTrees.{all-covers-unmarked, all-privates-unmarked}
 use Rattle.swc_nodes.specs.Commas.{comma_at, commas_in, commas_of_all, part_commas, recalled, Recalls}
 use Rattle.swc_nodes.specs.GrowingNodes.{tree_at, bare_at, Apart, CutTo}
 use Rattle.swc_nodes.specs.NodeParts.{flat, param_parts}
@@ -43,21 +44,23 @@ use Rattle.swc_nodes.specs.declared.node.PatId.{PatId}
 use Rattle.swc_nodes.specs.declared.nodes.Nodes.{Nodes}
 use Rattle.swc_patterns.specs.Answers.{params_at, params_of}
 use Rattle.swc_patterns.specs.Params.{params_close}
+use Rattle.swc_patterns.specs.ParamsRead.{AllReadAlone}
 use Rattle.swc_steps.specs.Keys.{expected}
 use Rattle.swc_steps.specs.Lists.{eaten}
 use Rattle.swc_steps.specs.Parsing.{scope, recorded, Checks, Loud, Acts, On, Unheard}
 use Rattle.swc_steps.proofs.Hearing.{same_faults}
 use Rattle.swc_steps.proofs.Steps.{Reader, forgoes_later, forgoes_refuses, on_call, on_checked_in, on_then, on_within_call, spent}
-use Rattle.swc_steps.proofs.Steps.{unheard_call, unheard_memory}
+use Rattle.swc_steps.proofs.Steps.{more_recorded, unheard_call, unheard_memory}
 use Rattle.swc_verifier.specs.CoverNames.{covers_left, covers_left_of_all, parts_covers_left}
 use Rattle.swc_ecma_parser.specs.Calls.{buffer_of, nodes_of, commas_of, has_failed, wants_memory, parser_failed, params_tree, Kept}
 use Rattle.swc_ecma_parser.specs.Finishing.{parts_done, ChecksAnswer}
-use Rattle.swc_ecma_parser.specs.Promise.{ClosedBy, Derivation, DerivesParams, Finished, MayClose, ParamsAnswer, PromisedParams}
+use Rattle.swc_ecma_parser.specs.Promise.{ClosedBy, Derivation, DerivesOnlyParams, DerivesParams, Finished, ParamsAnswer, PromisedParams}
 use Rattle.swc_ecma_parser.specs.Promise.{RemembersParams, Unmarred, items_done, pats_of}
 use Rattle.swc_ecma_parser.specs.declared.parser.Parser.{Parser}
 use Rattle.swc_ecma_parser.proofs.Calling.{failing, not_both}
 use Rattle.swc_ecma_parser.proofs.Finished.{finished, finished-from, finished-into, parts-told}
-use Rattle.swc_ecma_parser.proofs.Top.{as_many, memory, parts, right_of, well, well_bare}
+use Rattle.swc_ecma_parser.proofs.ParamsAlone.{AllFine, all-fine}
+use Rattle.swc_ecma_parser.proofs.Top.{as_many, memory, parts}
 
 -- ---- patterns of parameters
 
@@ -199,12 +202,22 @@ module _ {S F C K : Type 0} {fg : Ghosts F} {cg : Ghosts C} {kg : Ghosts K} (mod
       subst (λ v. Unheard model sure (read_params hook) b v d) (sym same)
       (subst (λ v. Unheard model sure (read_params hook) b e v) (sym stays) (unheard_call if_done (λ k ts. refl) u))
 
--- ---- what is known comes once
-
-same_known : {S : Type 0} {model : Model S} {c : Buffer S} (xs ys : List TokenAndSpan) → Known model c xs → Known model c ys → xs ≡ ys
-same_known {c = c} xs ys k l =
-    let same : k.more ≡ l.more = let a = k.known in let b = l.known in cc in
-    k.begins ∙ ap (λ v. held c ++ v) same ∙ sym l.begins
+  -- and each of them is read by itself
+  pub params-alone : (answer r : Result (Vec (Param PatId) Global) Error)
+      → MatchResult answer (λ x. On model sure (run hook (at Params)) (params_close (params_at ns x)) b c)
+      (λ e. Unheard model sure (run hook (at Params)) b e c)
+      → (Loud model b → recorded model c ≡ recorded model b
+      → IfOk answer (λ x. AllReadAlone hook (scope model b) (params_at ns x)))
+      → ChecksAnswer model (λ x. parts_done (scope model c) (tree_at ns) (flat param_parts x.items)) c answer r d
+      → Loud model b → recorded model d ≡ recorded model b
+      → IfOk r (λ x. AllReadAlone hook (scope model b) (params_at ns x))
+  params-alone (Ok x) (Ok y) on each (same, checks) l n =
+      let m0 = more_recorded on.leads in
+      let m1 = more_recorded checks.checks.leads in
+      subst (λ v. AllReadAlone hook (scope model b) (params_at ns v)) (sym same) (each l (omega (arith, n)))
+  params-alone (Ok x) (Err e) on each forgoes l n = tt
+  params-alone (Err e) (Ok y) u each (same, stays) l n = absurd cc
+  params-alone (Err e) (Err x) u each (same, stays) l n = tt
 
 -- What derives parameters, beside the trees with their marks of commas: trees that `strip` leaves of them.
 pub record Derives {F C K : Type 0} (hook : Hook F C K) (derives : Derivation (Tree F C K)) (strip : Trees F C K → Trees F C K) : Type 0 where
@@ -215,10 +228,9 @@ pub record Derives {F C K : Type 0} (hook : Hook F C K) (derives : Derivation (T
   pub covers : (c : Scope) (xs ys : List TokenAndSpan) (t : Tree F C K) (d : derives c xs ys t) → items_done c (marked c xs ys t d) ≡ true
   pub list : (c : Scope) (xs ys : List TokenAndSpan) (t : Tree F C K) (d : derives c xs ys t) (s : Span) (m : Trees F C K)
       → marked c xs ys t d ≡ listed None s m → t ≡ listed None s (strip m)
-  pub grouped : (c : Scope) (xs ys : List TokenAndSpan) (t : Tree F C K) → derives c xs ys t → is_grouped t ≡ true
-  pub valid : (c : Scope) (xs ys : List TokenAndSpan) (t : Tree F C K) → derives c xs ys t → is_valid t ≡ true
-  pub privates : (c : Scope) (xs ys : List TokenAndSpan) (t : Tree F C K) → derives c xs ys t → c.syntax.pedantic ≡ true
-      → privates_ok false t ≡ true
+  pub grouped : (m : Trees F C K) → are_grouped (strip m) ≡ are_grouped m
+  pub valid : (m : Trees F C K) → are_valid (strip m) ≡ are_valid m
+  pub privates : (m : Trees F C K) → all_privates_ok false false (strip m) ≡ all_privates_ok false false m
   pub binds : (m : Trees F C K) → all_bind_names any (strip m) ≡ all_bind_names any m
 
 bare_done : {F C K : Type 0} (c : Scope) (m : Tree F C K) → items_done c (unmarked m) ≡ items_done c m
@@ -236,9 +248,9 @@ derives-bare hook = record {
   read = λ c xs ys t d. d.read.read;
   covers = λ c xs ys t d. sym (bare_done c d.read.marked) ∙ ap (λ v. items_done c v) d.read.same ∙ d.covers;
   list = λ c xs ys t d s m e. sym d.read.same ∙ ap (λ v. unmarked v) e;
-  grouped = λ c xs ys t d. (well_bare hook Params).grouped c xs ys t d.read;
-  valid = λ c xs ys t d. (well_bare hook Params).valid c xs ys t d.read;
-  privates = λ c xs ys t d y. (well_bare hook Params).privates c xs ys t d.read y;
+  grouped = λ m. same-grouped (node args no_span m);
+  valid = λ m. same-valid (node args no_span m);
+  privates = λ m. all-privates-unmarked false false m;
   binds = λ m. all-same-binds any m;
 }
 
@@ -249,9 +261,9 @@ derives-marked hook = record {
   read = λ c xs ys t d. d.read;
   covers = λ c xs ys t d. d.covers;
   list = λ c xs ys t d s m e. e;
-  grouped = λ c xs ys t d. (well hook Params).grouped c xs ys t d.read;
-  valid = λ c xs ys t d. (well hook Params).valid c xs ys t d.read;
-  privates = λ c xs ys t d y. (well hook Params).privates c xs ys t d.read y;
+  grouped = λ m. refl;
+  valid = λ m. refl;
+  privates = λ m. refl;
   binds = λ m. refl;
 }
 
@@ -264,14 +276,12 @@ pub record MeetsParams {S F C K T : Type 0} (model : Model S) (sure : Bool) (hoo
   pub complete : sure ≡ true → Loud model b → (ts ys : List TokenAndSpan) (t : Tree F C K) → Known model b ts
       → derives (scope model b) ts ys t
       → MatchResult r (λ v. ClosedBy model (view v) t c ys × Unmarred model b c) (λ e. e.kind ≡ OutOfMemory)
-  pub one_tree : sure ≡ true → Loud model b → (ts : List TokenAndSpan) (t : Tree F C K) → Known model b ts
-      → derives (scope model b) ts [] t
-      → IfOk r (λ v. (close : TokenAndSpan) → Known model c (close ∷ []) → t ≡ listed None close.span (view v))
-  pub grouped : Loud model b → IfOk r (λ v. Unmarred model b c → MayClose model c → are_grouped (view v) ≡ true)
-  pub valid : Loud model b → IfOk r (λ v. Unmarred model b c → MayClose model c → are_valid (view v) ≡ true)
+  pub one_tree : Loud model b → IfOk r (λ v. Unmarred model b c → DerivesOnlyParams model derives (view v) b c)
+  pub grouped : Loud model b → IfOk r (λ v. Unmarred model b c → are_grouped (view v) ≡ true)
+  pub valid : Loud model b → IfOk r (λ v. Unmarred model b c → are_valid (view v) ≡ true)
   pub privates : Loud model b → (scope model b).syntax.pedantic ≡ true
-      → IfOk r (λ v. Unmarred model b c → MayClose model c → all_privates_ok false false (view v) ≡ true)
-  pub binds : Loud model b → IfOk r (λ v. Unmarred model b c → MayClose model c → all_bind_names any (view v) ≡ true)
+      → IfOk r (λ v. Unmarred model b c → all_privates_ok false false (view v) ≡ true)
+  pub binds : Loud model b → IfOk r (λ v. Unmarred model b c → all_bind_names any (view v) ≡ true)
   pub commas : MatchResult r (λ v. RemembersParams model hook strip (view v) b c old new) (λ e. e.kind ≢ OutOfMemory → new ≡ old)
 
 module _ {S F C K : Type 0} {fun_at : F → Span} {class_at : C → Span} {block_at : K → Span} (model : Model S) (sure : Bool)
@@ -340,42 +350,42 @@ module _ {S F C K : Type 0} {fun_at : F → Span} {class_at : C → Span} {block
           same_faults on.leads.read.errors counted,
         )
 
-    one : sure ≡ true → Loud model b → (ts : List TokenAndSpan) (t : Tree F C K) → Known model b ts
-        → derives (scope model b) ts [] t → (close : TokenAndSpan) → Known model c (close ∷ [])
-        → t ≡ listed None close.span pats
-    one y l ts t k d close known =
-        let found = (completed y l ts [] t k d).0 in
-        let same : found.close ≡ close = let e = same_known (found.close ∷ []) (close ∷ []) found.known known in cc in
-        found.list ∙ ap (λ v. listed None v.span pats) same
+    one : Loud model b → Unmarred model b c → DerivesOnlyParams model derives pats b c
+    one l same = record {
+      consumed = on.leads.taken;
+      read = on.leads.read;
+      only = λ t ys fut h u d.
+          let own = on.leads.taken ++ t ∷ [] in
+          let x = scope model b in
+          let m = by.marked x own [] u d in
+          let read = clean_all.complete hook (by.read x own [] u d) tt in
+          let here = clean_all.complete hook (whole l same t ys fut h) tt in
+          let is = (parts (m, []) (listed None t.span marked, []) (sym read ∙ here)).0 in
+          by.list x own [] u d t.span marked is ∙ ap (λ v. listed None t.span v) strips;
+    }
 
-    stripped_whole : Loud model b → Unmarred model b c → (m : MayClose model c)
-        → derives (scope model b) (on.leads.taken ++ m.close ∷ []) [] (listed None m.close.span pats)
-    stripped_whole l same m =
-        stripped_of (on.leads.taken ++ m.close ∷ []) [] m.close (whole l same m.close m.behind m.may m.is)
-        (front_read l same m.close m.behind m.may m.is).1
+    module _ (alone : Loud model b → recorded model c ≡ recorded model b → AllReadAlone hook (scope model b) marked) where
+      fine_pats : Loud model b → Unmarred model b c → AllFine (scope model b).syntax.pedantic marked
+      fine_pats l same = all-fine hook laws (scope model b) marked (alone l (ap length same))
 
-    grouped_pats : Loud model b → Unmarred model b c → MayClose model c → are_grouped pats ≡ true
-    grouped_pats l same m =
-        right_of (grouped_at (listed None m.close.span pats)) (are_grouped pats)
-        (by.grouped (scope model b) _ [] _ (stripped_whole l same m))
+      grouped_pats : Loud model b → Unmarred model b c → are_grouped pats ≡ true
+      grouped_pats l same = ap (λ v. are_grouped v) (sym strips) ∙ by.grouped marked ∙ (fine_pats l same).grouped
 
-    valid_pats : Loud model b → Unmarred model b c → MayClose model c → are_valid pats ≡ true
-    valid_pats l same m =
-        right_of true (are_valid pats) (by.valid (scope model b) _ [] _ (stripped_whole l same m))
+      valid_pats : Loud model b → Unmarred model b c → are_valid pats ≡ true
+      valid_pats l same = ap (λ v. are_valid v) (sym strips) ∙ by.valid marked ∙ (fine_pats l same).valid
 
-    placed_pats : Loud model b → (scope model b).syntax.pedantic ≡ true → Unmarred model b c → MayClose model c
-        → all_privates_ok false false pats ≡ true
-    placed_pats l y same m = by.privates (scope model b) _ [] _ (stripped_whole l same m) y
+      placed_pats : Loud model b → (scope model b).syntax.pedantic ≡ true → Unmarred model b c
+          → all_privates_ok false false pats ≡ true
+      placed_pats l y same =
+          ap (λ v. all_privates_ok false false v) (sym strips) ∙ by.privates marked ∙ (fine_pats l same).privates y
 
-    bound_pats : Loud model b → Unmarred model b c → MayClose model c → all_bind_names any pats ≡ true
-    bound_pats l same m =
-        ap (λ v. all_bind_names any v) (sym strips) ∙ by.binds marked
-        ∙ params-bind hook (whole l same m.close m.behind m.may m.is)
+      bound_pats : Loud model b → Unmarred model b c → all_bind_names any pats ≡ true
+      bound_pats l same = ap (λ v. all_bind_names any v) (sym strips) ∙ by.binds marked ∙ (fine_pats l same).binds
 
 module _ {S F C K T : Type 0} {fg : Ghosts F} {cg : Ghosts C} {kg : Ghosts K} (model : Model S) (sure : Bool) (hook : Hook F C K)
     (laws : LawfulHook fg.place cg.place kg.place hook) (derives : Derivation (Tree F C K)) (strip : Trees F C K → Trees F C K)
     (by : Derives hook derives strip) (view : T → Trees F C K) (ns : Nodes F C K fg cg kg) (b c : Buffer S) (old new : TrailingCommas) where
-  -- the answer stands for what the numbers stood for, as `strip` leaves it, or memory was wanted
+  -- the answer stands for what the numbers stood for, as `strip` leaves it, or memory ran out
   abbrev pub StandsFor : Result (Vec (Param PatId) Global) Error → Result T Error → Type 0
   StandsFor answer r = MatchResult answer
       (λ x. MatchResult r (λ v. strip (params_at ns x) ≡ view v) (λ e. e ≡ no_memory (last_position c))) (λ e. r ≡ Err e)
@@ -383,20 +393,22 @@ module _ {S F C K T : Type 0} {fg : Ghosts F} {cg : Ghosts C} {kg : Ghosts K} (m
   pub meets-params : (answer : Result (Vec (Param PatId) Global) Error) (r : Result T Error)
       → MatchResult answer (λ x. On model sure (read_params hook) (params_close (params_at ns x)) b c)
       (λ e. Unheard model sure (read_params hook) b e c)
+      → (Loud model b → recorded model c ≡ recorded model b
+      → IfOk answer (λ x. AllReadAlone hook (scope model b) (params_at ns x)))
       → StandsFor answer r
       → MatchResult answer (λ x. OnOk r (Recalls (part_commas (tree_at ns) (flat param_parts x.items)) old new)) (λ e. new ≡ old)
       → MeetsParams model sure hook derives strip view b r c old new
-  meets-params (Ok x) (Ok v) on strips q =
+  meets-params (Ok x) (Ok v) on alone strips q =
       let pats = params_at ns x in
       record {
         acts = on.leads;
         sound = derived_as model sure hook laws pats b c on derives strip by (view v) strips;
         complete = completed model sure hook laws pats b c on derives strip by (view v) strips;
         one_tree = one model sure hook laws pats b c on derives strip by (view v) strips;
-        grouped = grouped_pats model sure hook laws pats b c on derives strip by (view v) strips;
-        valid = valid_pats model sure hook laws pats b c on derives strip by (view v) strips;
-        privates = placed_pats model sure hook laws pats b c on derives strip by (view v) strips;
-        binds = bound_pats model sure hook laws pats b c on derives strip by (view v) strips;
+        grouped = grouped_pats model sure hook laws pats b c on derives strip by (view v) strips alone;
+        valid = valid_pats model sure hook laws pats b c on derives strip by (view v) strips alone;
+        privates = placed_pats model sure hook laws pats b c on derives strip by (view v) strips alone;
+        binds = bound_pats model sure hook laws pats b c on derives strip by (view v) strips alone;
         commas = record {
           marked = pats;
           same = strips;
@@ -404,19 +416,19 @@ module _ {S F C K T : Type 0} {fg : Ghosts F} {cg : Ghosts C} {kg : Ghosts K} (m
           recalls = λ k. q k ∙ ap (λ ls. recalled ls k (comma_at old k)) (sym (pats_commas (tree_at ns) x.items));
         };
       }
-  meets-params (Ok x) (Err e) on m q = record {
+  meets-params (Ok x) (Err e) on alone m q = record {
     acts = forgoes_refuses (record { spends = spent on.leads; kind = ap (λ v. v.kind) m });
     sound = λ l. tt;
     complete = λ y l ts ys t k d. ap (λ v. v.kind) m;
-    one_tree = λ y l ts t k d. tt;
+    one_tree = λ l. tt;
     grouped = λ l. tt;
     valid = λ l. tt;
     privates = λ l y. tt;
     binds = λ l. tt;
     commas = λ n. absurd (n (ap (λ v. v.kind) m));
   }
-  meets-params (Err e) (Ok v) u m q = absurd cc
-  meets-params (Err e) (Err x) u m q = subst (λ w. MeetsParams model sure hook derives strip view b w c old new) (sym m) (record {
+  meets-params (Err e) (Ok v) u alone m q = absurd cc
+  meets-params (Err e) (Err x) u alone m q = subst (λ w. MeetsParams model sure hook derives strip view b w c old new) (sym m) (record {
     acts = u.refuses;
     sound = λ l. tt;
     complete = λ y l ts ys t k d.
@@ -426,7 +438,7 @@ module _ {S F C K T : Type 0} {fg : Ghosts F} {cg : Ghosts C} {kg : Ghosts K} (m
         finished-into (items_done (scope model b)) (run hook (at Params) (scope model b) ts) (by.marked (scope model b) ts ys t d) ys
         (clean_all.complete hook (by.read (scope model b) ts ys t d) tt) (by.covers (scope model b) ts ys t d) in
         cc);
-    one_tree = λ y l ts t k d. tt;
+    one_tree = λ l. tt;
     grouped = λ l. tt;
     valid = λ l. tt;
     privates = λ l y. tt;
@@ -484,7 +496,7 @@ module _ {S H T F C K : Type 0} {fg : Ghosts F} {cg : Ghosts C} {kg : Ghosts K} 
     fails = λ runs. absurd (not_both h.0 runs);
   }
 
-  -- the buffer, the nodes and the commas before the parser remembers want of memory
+  -- the buffer, the nodes and the commas before the parser remembers that it is out of memory
   pub promised-params : {p q : Parser S H F C K fg cg kg} {f : Bool} (b : Buffer S) (ns : Nodes F C K fg cg kg) (cs : TrailingCommas)
       (a r : Result T Error) → has_failed p ≡ false → f ≡ has_failed p →
       r ≡ a → buffer_of q ≡ b → nodes_of q ≡ ns → commas_of q ≡ cs → has_failed q ≡ (f || wants_memory a)

@@ -92,7 +92,7 @@ module _ {F C K : Type 0} {fg : Ghosts F} {cg : Ghosts C} {kg : Ghosts K} where
   kept-moved by ms ns at k (Err x) r same e = same
 
 module _ {S F C K X : Type 0} {fg : Ghosts F} {cg : Ghosts C} {kg : Ghosts K} (model : Model S) (sure : Bool) (f : Reader (Tree F C K)) (by : Nodes F C K fg cg kg → X → Tree F C K) where
-  -- what is answered by number, or memory was wanted
+  -- what is answered by number, or memory ran out
   pub kept-parses : (ms ns : Nodes F C K fg cg kg) (k : ℕ) (b c : Buffer S) (answer r : Result X Error) → Parses model sure (by ms) f b answer c → Kept (last_position c) answer r →
       MatchResult r (λ id. ns ≡ ms) (λ e. CutTo k ms ns) → Parses model sure (by ns) f b r c
   kept-parses ms ns k b c (Ok x) (Ok y) h same e =
@@ -102,7 +102,7 @@ module _ {S F C K X : Type 0} {fg : Ghosts F} {cg : Ghosts C} {kg : Ghosts K} (m
   kept-parses ms ns k b c (Err x) r h same e = subst (λ v. Parses model sure (by ns) f b v c) (sym same) h
 
 module _ {S A X T : Type 0} (model : Model S) (sure : Bool) (f : Reader A) (by : X → A) (bare_by : X → A) (view : T → A) where
-  -- what is answered in boxes stands for what the numbers stood for, as `strip` leaves it, or memory was wanted
+  -- what is answered in boxes stands for what the numbers stood for, as `strip` leaves it, or memory ran out
   pub moved-as : (strip : A → A) (b c : Buffer S) (answer : Result X Error) (r : Result T Error) → Parses model sure by f b answer c → ((x : X) → strip (by x) ≡ bare_by x) →
       MatchResult answer (λ x. MatchResult r (λ t. view t ≡ bare_by x) (λ e. e ≡ no_memory (last_position c))) (λ e. r ≡ Err e) → Parses model sure view (stripped strip f) b r c
   moved-as strip b c (Ok x) (Ok t) h same m =

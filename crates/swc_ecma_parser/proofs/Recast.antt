@@ -1,4 +1,4 @@
--- What expressions become that were put behind all nodes, marked with their commas, and made patterns of.
+-- What expressions become that were put after all nodes, marked with their commas, and made patterns of.
 use Rattle.std.proofs.Common.{◌≡◌, ℕ, ◌≤◌, Bool, true, false, List, take, Option, Some}
 use Rattle.std.proofs.Common.{None, Result, Ok, Err, IfOk, IfErr, refl, sym, ap, ◌∙◌, arith}
 use Rattle.std.specs.Prelude.{if◌then◌else◌}
@@ -79,7 +79,7 @@ heads-are c None ps h = absurd cc
 heads-are c (Some qs) ps h = ap (λ v. Some v) (sym (from-if (heads_ok c qs) qs ps h))
 
 module _ {F C K : Type 0} {fg : Ghosts F} {cg : Ghosts C} {kg : Ghosts K} where
-  -- nodes that there were stay while others are put behind them, marked and changed
+  -- nodes that there were stay while others are put after them, marked and changed
   kept-through : {ns ms ls qs : Nodes F C K fg cg kg} {j : ℕ} {m : Marker} → Grows ns ms → Marks m (count ns) ms ls
       → count ns ≤ j → KeptTo j ls qs
       → KeptTo (count ns) ns qs
@@ -118,7 +118,7 @@ module _ {S H F C K : Type 0} {fg : Ghosts F} {cg : Ghosts C} {kg : Ghosts K} (m
     pub from-put : From (count (nodes_of p)) ls (expr_part id)
     from-put = marks-from marks made.from
 
-    tree-put : tree_at ls id.0 ≡ marked_expr p e
+    pub tree-put : tree_at ls id.0 ≡ marked_expr p e
     tree-put = marks.stands (expr_part id) made.from ∙ ap (λ t. marked_by (marks_of p) t) made.stands
 
     pattern-put : pattern_of model pat_type e p
@@ -188,7 +188,7 @@ module _ {S H F C K : Type 0} {fg : Ghosts F} {cg : Ghosts C} {kg : Ghosts K} (m
     floor-put : count (nodes_of p) ≤ items_floor ls ids.items
     floor-put = floor-above (seat_at ls) (count (nodes_of p)) (args_parts ids) (count ls) apart-put.chained
 
-    items-put : items_at ls ids.items ≡ marked_items p xs.items
+    pub items-put : items_at ls ids.items ≡ marked_items p xs.items
     items-put =
         items (marks_of p) (tree_at ms) (tree_at ls) ids.items (apart-marked marks apart)
         ∙ ap (λ t. all_marked_by (marks_of p) (items_of t)) same

@@ -1,5 +1,5 @@
 -- From what becomes of expressions among the nodes to what is promised of the answer in boxes.
-use Rattle.std.proofs.Common.{◌≡◌, ℕ, ◌≤◌, Bool, true, false, List, [], ◌∷◌, map, length, Option, Some}
+use Rattle.std.proofs.Common.{◌≡◌, ◌≢◌, ℕ, ◌≤◌, Bool, true, false, List, [], ◌∷◌, map, length, Option, Some}
 use Rattle.std.proofs.Common.{None, Result, Ok, Err, IfOk, MatchOption, MatchResult, ◌||◌, refl, sym, ap, subst}
 use Rattle.std.proofs.Common.{◌∙◌, arith}
 use Rattle.std.specs.Option.{is_some}
@@ -7,6 +7,7 @@ use Rattle.std.specs.declared.alloc.Global.{Global}
 use Rattle.std.specs.declared.vec.Vec.{Vec}
 use Rattle.swc_context.specs.declared.error.Error.{Error}
 use Rattle.swc_context.specs.declared.error.SyntaxError.TheVariants.{OutOfMemory}
+use Rattle.swc_context.specs.declared.span.BytePos.{BytePos}
 use Rattle.swc_input.specs.Buffer.{Read, last_position, previous}
 use Rattle.swc_input.specs.Recording.{no_memory}
 use Rattle.swc_input.specs.Source.{Model}
@@ -114,29 +115,32 @@ of-answer P Q T (Err e) h f = tt
 -- ---- what is promised
 
 module _ {S H T A F C K : Type 0} {fg : Ghosts F} {cg : Ghosts C} {kg : Ghosts K} {model : Model S} {valid : Bool}
-    {pattern : Option A} {becomes : A} {strip : A → A} {view : T → A} where
+    {pattern : Option A} {becomes : A} {strip : A → A} {view : T → A}
+    {Records : Buffer S → Result T Error → Buffer S → Type 0} where
   pub refinement-again : {p : Parser S H F C K fg cg kg} {e : Error}
       → (has_failed p ≡ true) × (e ≡ parser_failed (previous (buffer_of p)))
-      → PromisedRefinement model valid pattern becomes strip view p (Err e) p
+      → PromisedRefinement model valid pattern becomes strip view Records p (Err e) p
   refinement-again h = record {
     again = λ failed. (refl, ap (λ x. Err x) h.1);
     acts = λ runs. absurd (not_both h.0 runs);
     sound = λ runs. absurd (not_both h.0 runs);
     complete = λ runs. absurd (not_both h.0 runs);
+    records = λ runs. absurd (not_both h.0 runs);
     tree = tt;
     commas = refl;
     nodes = refl;
     fails = λ runs. absurd (not_both h.0 runs);
   }
 
-  -- the buffer, the nodes and the commas before the parser remembers want of memory
+  -- the buffer, the nodes and the commas before the parser remembers that it is out of memory
   pub promised-refinement : {p q : Parser S H F C K fg cg kg} {f : Bool} (b : Buffer S) (ns : Nodes F C K fg cg kg)
       (cs : TrailingCommas)
       (a r : Result T Error) → has_failed p ≡ false → f ≡ has_failed p →
       r ≡ a → buffer_of q ≡ b → nodes_of q ≡ ns → commas_of q ≡ cs → has_failed q ≡ (f || wants_memory a)
       → MeetsRefinement model valid pattern becomes strip view (buffer_of p) a b
-      → cs ≡ commas_of p → SameNodes (nodes_of p) ns → PromisedRefinement model valid pattern becomes strip view p r q
-  promised-refinement {p} {q} b ns cs a r runs same e buffer nodes commas fails done same_commas kept =
+      → Records (buffer_of p) a b → cs ≡ commas_of p → SameNodes (nodes_of p) ns
+      → PromisedRefinement model valid pattern becomes strip view Records p r q
+  promised-refinement {p} {q} b ns cs a r runs same e buffer nodes commas fails done noted same_commas kept =
       let meets : MeetsRefinement model valid pattern becomes strip view (buffer_of p) r (buffer_of q) =
       rw (e, buffer) done in
       record {
@@ -144,11 +148,24 @@ module _ {S H T A F C K : Type 0} {fg : Ghosts F} {cg : Ghosts C} {kg : Ghosts K
         acts = λ w. meets.acts;
         sound = λ w. meets.sound;
         complete = λ w. meets.complete;
+        records = λ w. rw (e, buffer) noted;
         tree = meets.tree;
         commas = commas ∙ same_commas;
         nodes = rw (nodes) kept;
         fails = λ w. failing a r runs same e fails;
       }
+
+-- what was recorded and refused before the answer was moved out
+pub records-moved : {X T : Type 0} (Done : Type 0) (Refuses : Error → Type 0) (at : BytePos) (Stands : X → T → Type 0)
+    (answer : Result X Error) (r : Result T Error)
+    → MatchResult answer (λ x. Done) (λ e. e.kind ≢ OutOfMemory → Refuses e)
+    → MatchResult answer (λ x. MatchResult r (λ t. Stands x t) (λ e. e ≡ no_memory at)) (λ e. r ≡ Err e)
+    → MatchResult r (λ t. Done) (λ e. e.kind ≢ OutOfMemory → Refuses e)
+records-moved Done Refuses at Stands (Ok x) (Ok t) done m = done
+records-moved Done Refuses at Stands (Ok x) (Err e) done m = λ n. absurd (n (ap (λ v. v.kind) m))
+records-moved Done Refuses at Stands (Err e) (Ok t) refuses m = absurd cc
+records-moved Done Refuses at Stands (Err e) (Err x) refuses m =
+    let same : x ≡ e = cc in subst (λ v. v.kind ≢ OutOfMemory → Refuses v) (sym same) refuses
 
 -- ---- lists of patterns
 

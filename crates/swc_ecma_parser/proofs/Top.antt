@@ -31,7 +31,7 @@ use Rattle.swc_grammar.proofs.Marks.{same-grouped, same-valid}
 use Rattle.swc_laws.proofs.PedanticTrees.{privates-unmarked}
 use Rattle.swc_laws.proofs.Privates.{privates}
 use Rattle.swc_steps.specs.Parsing.{scope, recorded, Loud, Consumes, Heard, Parses, TookLiteral}
-use Rattle.swc_ecma_parser.specs.Promise.{Derivation, Anywhere, EndsAt, Unmarred, Derives, Sound, Complete, OneTree}
+use Rattle.swc_ecma_parser.specs.Promise.{Derivation, Anywhere, EndsAt, Unmarred, Derives, DerivesOnly, Sound, Complete, OneTree}
 use Rattle.swc_ecma_parser.specs.Promise.{Grouped, Valid, PrivatesPlaced, PromisedLit, only_items, items_and_comma, ReadsAs}
 use Rattle.swc_steps.proofs.Hearing.{same_faults}
 use Rattle.swc_steps.proofs.Steps.{Reader, consumes_of}
@@ -47,7 +47,7 @@ pub record Meets {S F C K T : Type 0} (model : Model S) (sure : Bool) (derives :
   pub reads : Consumes model b r c
   pub sound : Sound model derives view b r c
   pub complete : sure ≡ true → Complete model derives view (EndsAt s) b r c
-  pub one_tree : sure ≡ true → EndsAt s [] → OneTree model derives view b r c
+  pub one_tree : OneTree model derives view (EndsAt s) b r c
   pub grouped : Grouped model view b r c
   pub valid : Valid model view b r c
   pub privates : PrivatesPlaced model view b r c
@@ -176,7 +176,7 @@ as_many {es} {fs} h none =
     let l = length-append es h.more in
     ⊎_elim (λ lt. absurd (none lt)) (λ ge. omega arith) (cases_lt (length es) (length fs))
 
--- whether a kind is want of memory can be told
+-- whether a kind is out of memory can be told
 pub memory : (k : SyntaxError) → (k ≢ OutOfMemory → ⊥) → k ≡ OutOfMemory
 memory OutOfMemory h = refl
 memory k h = absurd (h (λ e. cc))
@@ -216,9 +216,26 @@ module _ {S T A : Type 0} (model : Model S) (sure : Bool) (derives : Derivation 
   complete y stops is b (Ok x) c h = λ l ts ys t k d e. answered y x b c ts ys t h l k (is.complete (scope model b) ts ys t d e)
   complete y stops is b (Err x) c u = λ l ts ys t k d e. memory x.kind (λ n. let f0 = u.none n y l ts k in let f1 = is.complete (scope model b) ts ys t d e in cc)
 
-  pub one_tree : sure ≡ true → (stops : List TokenAndSpan → Type 0) → stops [] → IsComplete derives stops f → (b : Buffer S) (r : Result T Error) (c : Buffer S) → Parses model sure view f b r c → OneTree model derives view b r c
-  one_tree y stops stop is b (Ok x) c h = λ l ts t k d. λ same end. sym (answered y x b c ts [] t h l k (is.complete (scope model b) ts [] t d stop)).0
-  one_tree y stops stop is b (Err e) c h = λ l ts t k d. tt
+  -- what f reads is all that is derived
+  only : IsSound derives f → (stops : List TokenAndSpan → Type 0) → IsComplete derives stops f → (x : T) (b c : Buffer S)
+      → Heard model sure f (view x) b c → Loud model b → Unmarred model b c → DerivesOnly model derives view stops (view x) b c
+  only is stops all x b c h l same =
+      let here = scope model b in
+      let d = derived is (view x) b c h l same in
+      record {
+        consumed = d.consumed;
+        read = d.read;
+        alone = λ stop u e.
+            (parts (u, []) (view x, []) (sym (all.complete here d.consumed [] u e stop) ∙ all.complete here d.consumed [] (view x) d.whole stop)).0;
+        before = λ ys fut stop u e.
+            (parts (u, ys) (view x, ys)
+            (sym (all.complete here (d.consumed ++ ys) ys u e stop) ∙ all.complete here (d.consumed ++ ys) ys (view x) (d.front ys fut) stop)).0;
+      }
+
+  pub one_tree : IsSound derives f → (stops : List TokenAndSpan → Type 0) → IsComplete derives stops f → (b : Buffer S) (r : Result T Error) (c : Buffer S)
+      → Parses model sure view f b r c → OneTree model derives view stops b r c
+  one_tree is stops all b (Ok x) c h = λ l same. only is stops all x b c h l same
+  one_tree is stops all b (Err e) c h = λ l. tt
 
 -- where the reading of a symbol may stop, the clean parser reads all that is derived
 pub record Stopping (s : Symbol) : Type 0 where
@@ -271,7 +288,7 @@ module _ {S F C K T : Type 0} (model : Model S) (sure : Bool) (hook : Hook F C K
     reads = consumes_of model sure view f b c r h;
     sound = sound model sure derives view f is_sound b r c h;
     complete = λ y. complete model sure derives view f y (EndsAt s) is_complete b r c h;
-    one_tree = λ y stop. one_tree model sure derives view f y (EndsAt s) stop is_complete b r c h;
+    one_tree = one_tree model sure derives view f is_sound (EndsAt s) is_complete b r c h;
     grouped = holds model sure derives view f is_sound (λ k t. is_grouped t ≡ true) all.grouped b r c h;
     valid = holds model sure derives view f is_sound (λ k t. is_valid t ≡ true) all.valid b r c h;
     privates = λ l y. privates_of b c r y (holds model sure derives view f is_sound

@@ -17,7 +17,8 @@ use Rattle.swc_nodes.specs.declared.commas.TrailingCommas.{TrailingCommas}
 use Rattle.swc_nodes.specs.declared.node.ExprId.{ExprId}
 use Rattle.swc_nodes.specs.declared.nodes.Nodes.{Nodes}
 use Rattle.swc_verifier.specs.CoverNames.{cover_names}
-use Rattle.swc_verifier.specs.Faults.{cover_faults, begins_fit, Appends, RecordsAll}
+use Rattle.swc_input.specs.Recordings.{RecordsAll}
+use Rattle.swc_verifier.specs.Faults.{cover_faults, begins_fit, Appends}
 use Rattle.swc_steps.specs.Parsing.{Loud, Tries}
 use Rattle.swc_steps.proofs.Steps.{spent}
 use Rattle.swc_ecma_parser.specs.Calls.{buffer_of, nodes_of, commas_of, has_failed, wants_memory, parser_failed}
@@ -138,7 +139,7 @@ module _ {S H T F C K : Type 0} {fg : Ghosts F} {cg : Ghosts C} {kg : Ghosts K} 
     fails = λ runs. absurd (not_both h.0 runs);
   }
 
-  -- the buffer, the nodes and the commas before the parser remembers want of memory
+  -- the buffer, the nodes and the commas before the parser remembers that it is out of memory
   pub promised-verification : {p q : Parser S H F C K fg cg kg} {f : Bool} (b : Buffer S) (ns : Nodes F C K fg cg kg) (cs : TrailingCommas)
       (a r : Result T Error) → has_failed p ≡ false → f ≡ has_failed p
       → r ≡ a → buffer_of q ≡ b → nodes_of q ≡ ns → commas_of q ≡ cs → has_failed q ≡ (f || wants_memory a)

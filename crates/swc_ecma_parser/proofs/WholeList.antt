@@ -1,5 +1,5 @@
 -- From one tree read, and the end looked for, to the headline.
-use Rattle.std.proofs.Common.{◌≡◌, Bool, true, false, not, ◌||◌, List, [], ◌∷◌, ◌++◌, Option, Some, None, Result, IfOk, IsSome, MatchResult, refl, sym, ap, subst, ◌∙◌}
+use Rattle.std.proofs.Common.{◌≡◌, ℕ, Bool, true, false, not, ◌||◌, List, [], ◌∷◌, ◌++◌, Option, Some, None, Result, IfOk, IsSome, MatchResult, refl, sym, ap, subst, ◌∙◌}
 use Rattle.std.proofs.lemmas.List.{append-nil}
 use Rattle.swc_context.specs.Contexts.{view}
 use Rattle.swc_context.specs.declared.context.Context.{Context}
@@ -25,7 +25,7 @@ use Rattle.swc_grammar.specs.Reads.{Reads}
 use Rattle.swc_nodes.specs.NodeParts.{Part}
 use Rattle.swc_nodes.specs.declared.nodes.Nodes.{Nodes}
 use Rattle.swc_steps.specs.Parsing.{scope_of, scope, Loud}
-use Rattle.swc_ecma_parser.specs.Calls.{buffer_of, has_failed, nodes_of}
+use Rattle.swc_ecma_parser.specs.Calls.{buffer_of, has_failed, nodes_of, with_bound}
 use Rattle.swc_ecma_parser.specs.Promise.{EndsAt, Finished, Unmarred, covers_done}
 use Rattle.swc_ecma_parser.specs.WholeList.{plain_list, IsHeeded, Headline, Tries, tried, refused, lost}
 use Rattle.swc_ecma_parser.specs.declared.parser.Parser.{Parser}
@@ -111,11 +111,13 @@ module _ (input : TokensInput) (at : BytePos) (ts : List TokenAndSpan) (c : Cont
 
 module _ {H N F C K : Type 0} {fg : Ghosts F} {cg : Ghosts C} {kg : Ghosts K} {sure : Bool} {hook : Hook F C K}
     (tree : Nodes F C K fg cg kg → N → Tree F C K) (part : N → Part) (s : Symbol) (stops : EndsAt s []) where
-  -- by a new parser
-  pub headline : {p q : Parser TokensInput H F C K fg cg kg} {r : Result (N × Bool) Error} (input : TokensInput) (at : BytePos) (ts : List TokenAndSpan) (c : Context) (x : Syntax) (v : EsVersion)
-      → listed_state input ≡ new_state ts c x v → buffer_of p ≡ fresh input at → has_failed p ≡ false → IsHeeded c x → Tries listed_model sure hook tree part s p r q
+  -- by a new parser with a bound
+  pub headline : {n : ℕ} {p q : Parser TokensInput H F C K fg cg kg} {r : Result (N × Bool) Error} (o : Parser TokensInput H F C K fg cg kg) (input : TokensInput) (at : BytePos) (ts : List TokenAndSpan) (c : Context) (x : Syntax) (v : EsVersion)
+      → listed_state input ≡ new_state ts c x v → buffer_of o ≡ fresh input at → has_failed o ≡ false → p ≡ with_bound n o → IsHeeded c x → Tries listed_model sure hook tree part s p r q
       → Headline sure hook s tree c x (plain_list ts) r (nodes_of q) (listed_state (source (buffer_of q))).errors
-  headline {p} {q} {r} input at ts c x v is new runs heeded t =
+  headline {p = p} {q = q} {r = r} o input at ts c x v is unread ran bounded heeded t =
+      let new : buffer_of p ≡ fresh input at = ap (λ b. buffer_of b) bounded ∙ unread in
+      let runs : has_failed p ≡ false = ap (λ b. has_failed b) bounded ∙ ran in
       let known : Known listed_model (buffer_of p) (plain_list ts) = rw (new) (fresh-known input at ts c x v is) in
       let loud : Loud listed_model (buffer_of p) = rw (new) (fresh-loud input at ts c x v is heeded) in
       let clean : (listed_state (source (buffer_of p))).errors ≡ [] = ap (λ b. (listed_state (source b)).errors) new ∙ ap (λ s. s.errors) is in

@@ -1,4 +1,4 @@
--- A list in parentheses, read as the parameters of an arrow function by way of expressions (ECMA-262, 15.3), and behind
+-- A list in parentheses, read as the parameters of an arrow function by way of expressions (ECMA-262, 15.3), and after
 -- its parenthesis as formal parameters (15.1): the law of the cover grammar and its converse, in their own words.
 use Rattle.std.specs.Prelude.{◌≡◌, Bool, true, false, List, [], ◌∷◌, map, Result, IfOk, MatchResult}
 use Rattle.std.specs.declared.alloc.Global.{Global}
@@ -18,13 +18,15 @@ use Rattle.swc_ast.specs.TreeOf.{pat_tree}
 use Rattle.swc_ast.specs.declared.function.Param.{Param}
 use Rattle.swc_ast.specs.declared.pat.Pat.{Pat}
 use Rattle.swc_ast.specs.declared.spanned.Spanned.{Ghosts}
+use Rattle.swc_bodies.specs.Readings.{Hook}
 use Rattle.swc_grammar.specs.Clean.{first}
 use Rattle.swc_grammar.specs.Patterns.{all_bind_names}
+use Rattle.swc_grammar.specs.Symbols.{Heads}
 use Rattle.swc_grammar.specs.Tokens.{is_lparen, is_rparen}
 use Rattle.swc_laws.specs.Bound.{Spelled, is_free_name, is_kept_name}
 use Rattle.swc_steps.specs.Parsing.{scope, scope_of, Loud}
 use Rattle.swc_ecma_parser.specs.Calls.{buffer_of, has_failed}
-use Rattle.swc_ecma_parser.specs.Promise.{pats_of}
+use Rattle.swc_ecma_parser.specs.Promise.{Promised, PromisedParams, heads_in_boxes, params_in_boxes, pats_of}
 use Rattle.swc_ecma_parser.specs.WholeList.{IsHeeded}
 use Rattle.swc_ecma_parser.specs.declared.parser.Parser.{Parser}
 
@@ -49,7 +51,7 @@ module _ {H F C K : Type 0} {fg : Ghosts F} {cg : Ghosts C} {kg : Ghosts K} wher
   abbrev pub faults : Parser TokensInput H F C K fg cg kg → List Error
   faults p = (listed_state (source (buffer_of p))).errors
 
-  -- A new parser over the tokens ts, in the context c and by the syntax x, made the call P, and is q behind it.
+  -- A new parser over the tokens ts, in the context c and by the syntax x, made the call P, and is q after it.
   pub record Fresh (P : Parser TokensInput H F C K fg cg kg → Parser TokensInput H F C K fg cg kg → Type 0)
       (c : Context) (x : Syntax) (ts : List TokenAndSpan) (q : Parser TokensInput H F C K fg cg kg) : Type 0 where
     pub start : Parser TokensInput H F C K fg cg kg
@@ -60,14 +62,25 @@ module _ {H F C K : Type 0} {fg : Ghosts F} {cg : Ghosts C} {kg : Ghosts K} wher
     pub stands : scope listed_model (buffer_of start) ≡ scope_of (view c) x
     pub call : P start q
 
-  -- a `)` comes next, and behind it the tokens ys
+  -- A new parser read the tokens ts as the parameters of an arrow function, and as formal parameters.
+  abbrev pub ReadsArrow : Bool → Hook F C K → Context → Syntax → List TokenAndSpan
+      → Result (Vec (Pat F C K) Global) Error → Parser TokensInput H F C K fg cg kg → Type 0
+  ReadsArrow sure hook c x ts read q =
+      Fresh (λ a b. Promised listed_model sure hook heads_in_boxes Heads a read b) c x ts q
+
+  abbrev pub ReadsFormal : Bool → Hook F C K → Context → Syntax → List TokenAndSpan
+      → Result (Vec (Param (Pat F C K)) Global) Error → Parser TokensInput H F C K fg cg kg → Type 0
+  ReadsFormal sure hook c x ts read q =
+      Fresh (λ a b. PromisedParams listed_model sure hook params_in_boxes a read b) c x ts q
+
+  -- a `)` comes next, and after it the tokens ys
   pub record StandsBefore (q : Parser TokensInput H F C K fg cg kg) (ys : List TokenAndSpan) : Type 0 where
     pub close : TokenAndSpan
     pub is : is_rparen close.token ≡ true
     pub left : Left q (close ∷ ys)
 
   -- What is read cleanly as the parameters of an arrow function is read cleanly as formal parameters, which are the
-  -- same patterns, up to the same place, or memory was wanted.
+  -- same patterns, up to the same place, or memory ran out.
   abbrev pub CoverLaw : Bool → Context → Syntax → List TokenAndSpan
       → Result (Vec (Pat F C K) Global) Error → Parser TokensInput H F C K fg cg kg
       → Result (Vec (Param (Pat F C K)) Global) Error → Parser TokensInput H F C K fg cg kg → Type 0
@@ -77,8 +90,8 @@ module _ {H F C K : Type 0} {fg : Ghosts F} {cg : Ghosts C} {kg : Ghosts K} wher
       → (ys : List TokenAndSpan) → Left p ys
       → MatchResult formal (λ w. Same fg cg kg v w × StandsBefore q ys × (faults q ≡ [])) (λ e. e.kind ≡ OutOfMemory))
 
-  -- What is read cleanly as formal parameters, up to a `)` and behind a `(`, and binds free names, is read cleanly as
-  -- the parameters of an arrow function, which are the same patterns, or memory was wanted.
+  -- What is read cleanly as formal parameters, up to a `)` and after a `(`, and binds free names, is read cleanly as
+  -- the parameters of an arrow function, which are the same patterns, or memory ran out.
   abbrev pub ConverseLaw : Bool → Context → Syntax → List TokenAndSpan
       → Result (Vec (Pat F C K) Global) Error → Parser TokensInput H F C K fg cg kg
       → Result (Vec (Param (Pat F C K)) Global) Error → Parser TokensInput H F C K fg cg kg → Type 0

@@ -31,7 +31,7 @@ module _ {S : Type 0} (model : Model S) where
     pub still : well ≡ true → c ≡ b
     pub silent : is_silent (state_of model b) ≡ true → c ≡ b
 
-  -- of an item, and of an answer that is one; or memory was wanted
+  -- of an item, and of an answer that is one; or memory ran out
   abbrev pub ChecksItem : {T : Type 0} → Bool → Buffer S → Result T Error → Buffer S → Type 0
   ChecksItem well b r c = MatchResult r (λ t. ChecksCovers well b c) (λ e. Forgoes model b e c)
 

@@ -157,11 +157,11 @@ module _ {S F C K : Type 0} (model : Model S) (hook : Hook F C K) (is_await : Bo
     pub derived : Loud model b → Unmarred model b c → DerivesHead model (ReadsHead hook is_await) marked b c
     pub recalls : Recalls (commas_in (head_tree marked)) old new
 
--- What is promised of the reading of a head of a `for`, or of a `for await`, from b to c, where it answers r. The token behind the head stays.
+-- What is promised of the reading of a head of a `for`, or of a `for await`, from b to c, where it answers r. The token after the head stays.
 pub record HeadPromise {S T F C K : Type 0} (model : Model S) (sure : Bool) (derives : Derivation (ForHead F C K)) (view : T → ForHead F C K)
     (b : Buffer S) (r : Result T Error) (c : Buffer S) : Type 0 where
   -- One token at least was consumed, or it refuses, and what was consumed isn't lost; the context is what it was, no recorded fault was
-  -- taken out, and no want of memory recorded.
+  -- taken out, and no `OutOfMemory` recorded.
   pub reads : Consumes model b r c
   -- It is a target where `of` or `in` comes next, and an expression elsewhere: faults or not, but where the syntax is pedantic if no fault
   -- was recorded.
@@ -170,7 +170,7 @@ pub record HeadPromise {S T F C K : Type 0} (model : Model S) (sure : Bool) (der
   -- What is answered with no fault recorded is derived from the tokens consumed, by the token that follows.
   pub sound : Loud model b → IfOk r (λ h. Unmarred model b c → DerivesHead model derives (view h) b c)
   -- Over a listed source, with a faithful hook: what is derived from the tokens to come, up to the end, `of`, `in`, `;` or `)`, is answered,
-  -- with no fault recorded, and what follows it is left; or the answer is want of memory.
+  -- with no fault recorded, and what follows it is left; or the answer is out of memory.
   pub complete : sure ≡ true → Complete model derives view HeadStops b r c
   -- No other head is derived up to such a token, nor up to another one of these than what was answered.
   pub one_head : sure ≡ true → Loud model b → (ts ys : List TokenAndSpan) (h : ForHead F C K) → Known model b ts
@@ -185,16 +185,16 @@ pub record HeadPromise {S T F C K : Type 0} (model : Model S) (sure : Bool) (der
 -- What a call promises that reads a head, from the parser p to q, where it answers r.
 pub record PromisedHead {S H T F C K : Type 0} {fg : Ghosts F} {cg : Ghosts C} {kg : Ghosts K} (model : Model S) (sure : Bool) (hook : Hook F C K)
     (answer : HeadAnswer T F C K fg cg kg) (is_await : Bool) (p : Parser S H F C K fg cg kg) (r : Result T Error) (q : Parser S H F C K fg cg kg) : Type 0 where
-  -- A parser that met want of memory does nothing, and refuses as `ParserFailed` at the token consumed last.
+  -- A parser that ran out of memory does nothing, and refuses as `ParserFailed` at the token consumed last.
   pub again : has_failed p ≡ true → (q ≡ p) × (r ≡ Err (parser_failed (previous (buffer_of p))))
   -- any other reads the head
   pub promise : has_failed p ≡ false
       → HeadPromise model sure (answer.derives hook is_await) (answer.head (nodes_of q)) (buffer_of p) r (buffer_of q)
-  -- The commas of the answer's literals were remembered; what is refused but for want of memory leaves what there was.
+  -- The commas of the answer's literals were remembered; what is refused but when out of memory leaves what there was.
   pub commas : MatchResult r
       (λ h. RemembersHead model hook is_await answer.strip (answer.head (nodes_of q) h) (buffer_of p) (buffer_of q) (commas_of p) (commas_of q))
       (λ e. e.kind ≢ OutOfMemory → commas_of q ≡ commas_of p)
   -- what becomes of the nodes
   pub nodes : answer.leaves (nodes_of p) r (nodes_of q)
-  -- it has failed from now on where it refuses for want of memory, and only there
+  -- it has failed from now on where it refuses when out of memory, and only there
   pub fails : has_failed p ≡ false → has_failed q ≡ wants_memory r

@@ -138,15 +138,23 @@ module _ {S T A : Type 0} (model : Model S) (derives : Derivation A) (view : T �
   Sound b r c = Loud model b → IfOk r (λ x. Unmarred model b c → Derives (view x) b c)
 
   -- Over a listed source: what is derived from the tokens to come, up to where a reading may stop, is answered, with no fault
-  -- recorded, and what follows it is left; or the answer is want of memory.
+  -- recorded, and what follows it is left; or the answer is out of memory.
   abbrev pub Complete : (List TokenAndSpan → Type 0) → Buffer S → Result T Error → Buffer S → Type 0
   Complete stops b r c = Loud model b → (ts ys : List TokenAndSpan) (t : A) → Known model b ts → derives (scope model b) ts ys t
       → stops ys → MatchResult r (λ x. (view x ≡ t) × Known model c ys × Unmarred model b c) (λ e. e.kind ≡ OutOfMemory)
 
-  -- Over a listed source: where all tokens to come were read with no fault recorded, nothing is derived from them but the answer.
-  abbrev pub OneTree : Buffer S → Result T Error → Buffer S → Type 0
-  OneTree b r c = Loud model b → (ts : List TokenAndSpan) (t : A) → Known model b ts → derives (scope model b) ts [] t →
-      IfOk r (λ x. Unmarred model b c → Known model c [] → t ≡ view x)
+  -- Between b and c tokens were consumed from which nothing is derived but t: as a list of their own, if a reading may stop at its end,
+  -- and with what may follow them, if a reading may stop before that.
+  pub record DerivesOnly (stops : List TokenAndSpan → Type 0) (t : A) (b c : Buffer S) : Type 0 where
+    pub consumed : List TokenAndSpan
+    pub read : Read model b consumed c
+    pub alone : stops [] → (u : A) → derives (scope model b) consumed [] u → u ≡ t
+    pub before : (ys : List TokenAndSpan) → Future model c ys → stops ys → (u : A) → derives (scope model b) (consumed ++ ys) ys u
+        → u ≡ t
+
+  -- Where no fault was recorded, nothing is derived from the tokens consumed but the answer.
+  abbrev pub OneTree : (List TokenAndSpan → Type 0) → Buffer S → Result T Error → Buffer S → Type 0
+  OneTree stops b r c = Loud model b → IfOk r (λ x. Unmarred model b c → DerivesOnly stops (view x) b c)
 
 module _ {S F C K T : Type 0} (model : Model S) (view : T → Tree F C K) where
   -- In a tree answered with no fault recorded operators group as their levels say, and none of `??` stands directly over or under one
@@ -244,7 +252,7 @@ pat_prop_in_boxes {F} {C} {K} {fg = fg} {cg = cg} {kg = kg} = record {
   leaves = λ ns r ms. SameNodes ns ms;
 }
 
--- a list of items, without the token that closes it: its items alone, and with the place of a comma behind the last one, or none
+-- a list of items, without the token that closes it: its items alone, and with the place of a comma after the last one, or none
 abbrev pub only_items : {F C K : Type 0} → Tree F C K → Tree F C K
 only_items t = node args no_span (items_of (unmarked t))
 
@@ -278,7 +286,7 @@ args_in_boxes {fg = fg} {cg = cg} {kg = kg} = record {
   leaves = λ ns r ms. SameNodes ns ms;
 }
 
--- a list in boxes, with the comma behind the last item
+-- a list in boxes, with the comma after the last item
 abbrev pub list_in_boxes : {F C K : Type 0} {fg : Ghosts F} {cg : Ghosts C} {kg : Ghosts K}
     → Answer (Vec (ExprOrSpread (Box (ExprOf F C K) Global)) Global × Option Span) F C K fg cg kg
 list_in_boxes {fg = fg} {cg = cg} {kg = kg} = record {
@@ -367,29 +375,29 @@ module _ {S F C K : Type 0} (model : Model S) (derives : Derivation (Tree F C K)
 pub record Promised {S H T F C K : Type 0} {fg : Ghosts F} {cg : Ghosts C} {kg : Ghosts K} (model : Model S) (sure : Bool)
     (hook : Hook F C K) (answer : Answer T F C K fg cg kg) (s : Symbol) (p : Parser S H F C K fg cg kg) (r : Result T Error)
     (q : Parser S H F C K fg cg kg) : Type 0 where
-  -- A parser that met want of memory does nothing, and refuses as `ParserFailed` at the token consumed last.
+  -- A parser that ran out of memory does nothing, and refuses as `ParserFailed` at the token consumed last.
   pub again : has_failed p ≡ true → (q ≡ p) × (r ≡ Err (parser_failed (previous (buffer_of p))))
   -- Any other reads: one token at least was consumed, or it refuses, and what was consumed isn't lost; the context is what it was, no
-  -- recorded fault was taken out, and no want of memory recorded.
+  -- recorded fault was taken out, and no `OutOfMemory` recorded.
   pub reads : has_failed p ≡ false → Consumes model (buffer_of p) r (buffer_of q)
   -- What is answered is what the grammar derives, and finished if the answer is a whole; and where the hook is faithful, what is derived so
   -- is answered.
   pub sound : has_failed p ≡ false → Sound model (answer.derives hook s) (answer.tree (nodes_of q)) (buffer_of p) r (buffer_of q)
   pub complete : has_failed p ≡ false → sure ≡ true
       → Complete model (answer.derives hook s) (answer.tree (nodes_of q)) (EndsAt s) (buffer_of p) r (buffer_of q)
-  pub one_tree : has_failed p ≡ false → sure ≡ true → EndsAt s []
-      → OneTree model (answer.derives hook s) (answer.tree (nodes_of q)) (buffer_of p) r (buffer_of q)
+  pub one_tree : has_failed p ≡ false
+      → OneTree model (answer.derives hook s) (answer.tree (nodes_of q)) (EndsAt s) (buffer_of p) r (buffer_of q)
   pub grouped : has_failed p ≡ false → Grouped model (answer.tree (nodes_of q)) (buffer_of p) r (buffer_of q)
   pub valid : has_failed p ≡ false → Valid model (answer.tree (nodes_of q)) (buffer_of p) r (buffer_of q)
   pub privates : has_failed p ≡ false → PrivatesPlaced model (answer.tree (nodes_of q)) (buffer_of p) r (buffer_of q)
-  -- The commas of the answer's literals were remembered; what is refused but for want of memory leaves what there was.
+  -- The commas of the answer's literals were remembered; what is refused but when out of memory leaves what there was.
   pub commas : MatchResult r
       (λ x. RemembersAll model (answer.marked hook s) answer.strip (answer.tree (nodes_of q) x)
       (buffer_of p) (buffer_of q) (commas_of p) (commas_of q))
       (λ e. e.kind ≢ OutOfMemory → commas_of q ≡ commas_of p)
   -- what becomes of the nodes
   pub nodes : answer.leaves (nodes_of p) r (nodes_of q)
-  -- it has failed from now on where it refuses for want of memory, and only there
+  -- it has failed from now on where it refuses when out of memory, and only there
   pub fails : has_failed p ≡ false → has_failed q ≡ wants_memory r
 
 -- What a call on a name does and promises, from b to c: by the calls of swc_ident, and that what is answered is what the grammar
@@ -463,6 +471,14 @@ module _ {S F C K : Type 0} (model : Model S) (derives : Derivation (Tree F C K)
     pub whole : (t : TokenAndSpan) (ys : List TokenAndSpan) → Future model c (t ∷ ys) → is_rparen t.token ≡ true
         → derives (scope model b) (consumed ++ t ∷ []) [] (listed None t.span pats)
 
+module _ {S F C K : Type 0} (model : Model S) (derives : Derivation (Tree F C K)) where
+  -- From these tokens, and a `)` that may come next, nothing else is derived.
+  pub record DerivesOnlyParams (pats : Trees F C K) (b c : Buffer S) : Type 0 where
+    pub consumed : List TokenAndSpan
+    pub read : Read model b consumed c
+    pub only : (t : TokenAndSpan) (ys : List TokenAndSpan) → Future model c (t ∷ ys) → is_rparen t.token ≡ true
+        → (u : Tree F C K) → derives (scope model b) (consumed ++ t ∷ []) [] u → u ≡ listed None t.span pats
+
 module _ {S F C K : Type 0} (model : Model S) (hook : Hook F C K) (strip : Trees F C K → Trees F C K) where
   -- Between b and c the commas of literals were remembered, as `RemembersAll` has it: of those of patterns that have their marks.
   pub record RemembersParams (pats : Trees F C K) (b c : Buffer S) (old new : TrailingCommas) : Type 0 where
@@ -472,68 +488,56 @@ module _ {S F C K : Type 0} (model : Model S) (hook : Hook F C K) (strip : Trees
     pub recalls : Recalls (commas_of_all marked) old new
 
 module _ {S F C K : Type 0} (model : Model S) where
-  -- A `)` comes next, and the tokens ys behind it; t is the list of these patterns that it closes.
+  -- A `)` comes next, and the tokens ys after it; t is the list of these patterns that it closes.
   pub record ClosedBy (pats : Trees F C K) (t : Tree F C K) (c : Buffer S) (ys : List TokenAndSpan) : Type 0 where
     pub close : TokenAndSpan
     pub is : is_rparen close.token ≡ true
     pub known : Known model c (close ∷ ys)
     pub list : t ≡ listed None close.span pats
 
--- a `)` may come next
-pub record MayClose {S : Type 0} (model : Model S) (c : Buffer S) : Type 0 where
-  pub close : TokenAndSpan
-  pub is : is_rparen close.token ≡ true
-  pub behind : List TokenAndSpan
-  pub may : Future model c (close ∷ behind)
-
 -- What a call on parameters promises, from the parser p to q, where it answers r. The `)` that closes them stays; without it nothing is
--- derived, and what is answered is promised to be nothing.
+-- derived, and what is answered is promised to be patterns alone.
 pub record PromisedParams {S H T F C K : Type 0} {fg : Ghosts F} {cg : Ghosts C} {kg : Ghosts K} (model : Model S) (sure : Bool)
     (hook : Hook F C K) (answer : ParamsAnswer T F C K fg cg kg) (p : Parser S H F C K fg cg kg) (r : Result T Error)
     (q : Parser S H F C K fg cg kg) : Type 0 where
-  -- A parser that met want of memory does nothing, and refuses as `ParserFailed` at the token consumed last.
+  -- A parser that ran out of memory does nothing, and refuses as `ParserFailed` at the token consumed last.
   pub again : has_failed p ≡ true → (q ≡ p) × (r ≡ Err (parser_failed (previous (buffer_of p))))
-  -- Any other acts: what was consumed isn't lost; the context is what it was, no recorded fault was taken out, and no want of memory
+  -- Any other acts: what was consumed isn't lost; the context is what it was, no recorded fault was taken out, and no out of memory
   -- recorded.
   pub acts : has_failed p ≡ false → Acts model (buffer_of p) r (buffer_of q)
-  -- What is answered with no fault recorded is derived from the tokens consumed and a `)` behind them.
+  -- What is answered with no fault recorded is derived from the tokens consumed and a `)` after them.
   pub sound : has_failed p ≡ false → Loud model (buffer_of p) → IfOk r (λ v. Unmarred model (buffer_of p) (buffer_of q)
       → DerivesParams model (answer.derives hook Params) (answer.pats (nodes_of q) v) (buffer_of p) (buffer_of q))
   -- Over a listed source, with a faithful hook: what is derived from the tokens to come, with the `)` that closes it, is answered, with
-  -- no fault recorded, and the `)` and what follows it is left; or the answer is want of memory.
+  -- no fault recorded, and the `)` and what follows it is left; or the answer is out of memory.
   pub complete : has_failed p ≡ false → sure ≡ true → Loud model (buffer_of p)
       → (ts ys : List TokenAndSpan) (t : Tree F C K) → Known model (buffer_of p) ts
       → answer.derives hook Params (scope model (buffer_of p)) ts ys t
       → MatchResult r
       (λ v. ClosedBy model (answer.pats (nodes_of q) v) t (buffer_of q) ys × Unmarred model (buffer_of p) (buffer_of q))
       (λ e. e.kind ≡ OutOfMemory)
-  -- Over a listed source: where all tokens but a last `)` were read with no fault recorded, nothing is derived from all but the answer.
-  pub one_tree : has_failed p ≡ false → sure ≡ true → Loud model (buffer_of p)
-      → (ts : List TokenAndSpan) (t : Tree F C K) → Known model (buffer_of p) ts
-      → answer.derives hook Params (scope model (buffer_of p)) ts [] t
-      → IfOk r (λ v. (close : TokenAndSpan) → Known model (buffer_of q) (close ∷ [])
-      → t ≡ listed None close.span (answer.pats (nodes_of q) v))
-  -- Where a `)` may come next, in the patterns answered with no fault recorded operators group as their levels say, they hold no
+  -- Where no fault was recorded, nothing else is derived from the tokens consumed and a `)` after them.
+  pub one_tree : has_failed p ≡ false → Loud model (buffer_of p) → IfOk r (λ v. Unmarred model (buffer_of p) (buffer_of q)
+      → DerivesOnlyParams model (answer.derives hook Params) (answer.pats (nodes_of q) v) (buffer_of p) (buffer_of q))
+  -- Whether a `)` comes next or not: in the patterns answered with no fault recorded operators group as their levels say, they hold no
   -- `Invalid`, private names stand where they may if the syntax is pedantic, and the patterns bind names alone.
   pub grouped : has_failed p ≡ false → Loud model (buffer_of p)
-      → IfOk r (λ v. Unmarred model (buffer_of p) (buffer_of q) → MayClose model (buffer_of q)
-      → are_grouped (answer.pats (nodes_of q) v) ≡ true)
+      → IfOk r (λ v. Unmarred model (buffer_of p) (buffer_of q) → are_grouped (answer.pats (nodes_of q) v) ≡ true)
   pub valid : has_failed p ≡ false → Loud model (buffer_of p)
-      → IfOk r (λ v. Unmarred model (buffer_of p) (buffer_of q) → MayClose model (buffer_of q)
-      → are_valid (answer.pats (nodes_of q) v) ≡ true)
+      → IfOk r (λ v. Unmarred model (buffer_of p) (buffer_of q) → are_valid (answer.pats (nodes_of q) v) ≡ true)
   pub privates : has_failed p ≡ false → Loud model (buffer_of p) → (scope model (buffer_of p)).syntax.pedantic ≡ true
-      → IfOk r (λ v. Unmarred model (buffer_of p) (buffer_of q) → MayClose model (buffer_of q)
+      → IfOk r (λ v. Unmarred model (buffer_of p) (buffer_of q)
       → all_privates_ok false false (answer.pats (nodes_of q) v) ≡ true)
   pub binds : has_failed p ≡ false → Loud model (buffer_of p)
-      → IfOk r (λ v. Unmarred model (buffer_of p) (buffer_of q) → MayClose model (buffer_of q)
+      → IfOk r (λ v. Unmarred model (buffer_of p) (buffer_of q)
       → all_bind_names any (answer.pats (nodes_of q) v) ≡ true)
-  -- The commas of literals in initialisers and keys were remembered; what is refused but for want of memory leaves what there was.
+  -- The commas of literals in initialisers and keys were remembered; what is refused but when out of memory leaves what there was.
   pub commas : MatchResult r
       (λ v. RemembersParams model hook answer.strip (answer.pats (nodes_of q) v) (buffer_of p) (buffer_of q) (commas_of p) (commas_of q))
       (λ e. e.kind ≢ OutOfMemory → commas_of q ≡ commas_of p)
   -- what becomes of the nodes
   pub nodes : answer.leaves (nodes_of p) r (nodes_of q)
-  -- it has failed from now on where it refuses for want of memory, and only there
+  -- it has failed from now on where it refuses when out of memory, and only there
   pub fails : has_failed p ≡ false → has_failed q ≡ wants_memory r
 
 -- what a hook reads where a statement stands, of the context alone
@@ -541,13 +545,13 @@ abbrev pub ReadsBody : {V : Type 0} → Reading V → Derivation V
 ReadsBody reads c xs ys v = reads c.context xs ≡ Some (v, ys)
 
 -- What a call does and promises by which the hook reads a function, a class or a block where a statement stands, from b to c, where it
--- answers r. A source that failed is want of memory.
+-- answers r. A source that failed is out of memory.
 pub record HookReads {S V : Type 0} (model : Model S) (sure : Bool) (reads : Reading V) (b : Buffer S) (r : Result V Error)
     (c : Buffer S) : Type 0 where
   pub consumes : Consumes model b r c
   -- What is answered with no fault recorded is what the hook reads of the tokens consumed, whatever follows.
   pub sound : Sound model (ReadsBody reads) (λ (v : V). v) b r c
-  -- Over a listed source, with a faithful hook: what it reads of the tokens to come is answered; or the answer is want of memory.
+  -- Over a listed source, with a faithful hook: what it reads of the tokens to come is answered; or the answer is out of memory.
   pub complete : sure ≡ true → Complete model (ReadsBody reads) (λ (v : V). v) Anywhere b r c
   -- fewer tokens are to come
   pub less : OnOk r (to_come model c < to_come model b)

@@ -11,6 +11,7 @@ use Rattle.swc_context.specs.declared.error.SyntaxError.TheVariants.{OutOfMemory
 use Rattle.swc_context.specs.declared.span.Span.{Span}
 use Rattle.swc_input.specs.Source.{Model}
 use Rattle.swc_input.specs.Buffer.{Read, context, previous}
+use Rattle.swc_input.specs.declared.buffer.Buffer.{Buffer}
 use Rattle.swc_ast.specs.Parts.{item_trees}
 use Rattle.swc_ast.specs.Tree.{Tree, Trees, trees}
 use Rattle.swc_ast.specs.TreeOf.{pat_tree}
@@ -25,9 +26,11 @@ use Rattle.swc_nodes.specs.Marking.{Marker, marked_by, all_marked_by}
 use Rattle.swc_nodes.specs.NodeParts.{Part}
 use Rattle.swc_nodes.specs.GrowingNodes.{count, Apart, SameNodes}
 use Rattle.swc_nodes.specs.declared.nodes.Nodes.{Nodes}
+use Rattle.swc_cover.specs.Faults.{Verdict, params_verdict}
 use Rattle.swc_cover.specs.Items.{want_items}
 use Rattle.swc_cover.specs.Moving.{KeptTo}
-use Rattle.swc_cover.specs.PatTypes.{pattern_as, want_as}
+use Rattle.swc_cover.specs.Noting.{names_bound, JudgesBy, JudgesParams}
+use Rattle.swc_cover.specs.PatTypes.{pattern_as, verdict_as, want_as}
 use Rattle.swc_cover.specs.Refining.{ChecksWhole, Unfitting}
 use Rattle.swc_cover.specs.declared.pat_type.PatType.{PatType}
 use Rattle.swc_steps.specs.Parsing.{Acts, Loud}
@@ -38,14 +41,16 @@ use Rattle.swc_ecma_parser.specs.declared.parser.Parser.{Parser}
 
 -- What a call promises that makes patterns of expressions, from the parser p to q, where it answers r. By the grammar
 -- the expressions are `pattern`, if they are patterns of the kind that is asked for; `becomes` is what is made of them
--- in any case, with `Invalid` where a fault is recorded. Both have the marks of commas, which `strip` takes away.
+-- in any case, with `Invalid` where a fault is recorded. Both have the marks of commas, which `strip` takes away. Records
+-- says which faults are recorded, in their order, and what is refused.
 pub record PromisedRefinement {S H T A F C K : Type 0} {fg : Ghosts F} {cg : Ghosts C} {kg : Ghosts K}
     (model : Model S) (valid : Bool) (pattern : Option A) (becomes : A) (strip : A → A) (view : T → A)
+    (Records : Buffer S → Result T Error → Buffer S → Type 0)
     (p : Parser S H F C K fg cg kg) (r : Result T Error) (q : Parser S H F C K fg cg kg) : Type 0 where
-  -- A parser that met want of memory does nothing, and refuses as `ParserFailed` at the token consumed last.
+  -- A parser that ran out of memory does nothing, and refuses as `ParserFailed` at the token consumed last.
   pub again : has_failed p ≡ true → (q ≡ p) × (r ≡ Err (parser_failed (previous (buffer_of p))))
   -- Any other acts: what was consumed isn't lost; the context is what it was, no recorded fault was taken out, and no
-  -- want of memory recorded.
+  -- out of memory recorded.
   pub acts : has_failed p ≡ false → Acts model (buffer_of p) r (buffer_of q)
   -- Where the expressions hold no `Invalid`, and faults are recorded: what is answered with no fault recorded is the
   -- pattern that they are.
@@ -57,16 +62,18 @@ pub record PromisedRefinement {S H T A F C K : Type 0} {fg : Ghosts F} {cg : Gho
       → MatchResult r
       (λ x. (view x ≡ strip m) × Read model (buffer_of p) [] (buffer_of q) × Unmarred model (buffer_of p) (buffer_of q))
       (λ e. e.kind ≡ OutOfMemory)
+  -- the faults that are recorded, and no others, and what is refused
+  pub records : has_failed p ≡ false → Records (buffer_of p) r (buffer_of q)
   -- what is answered in any case
   pub tree : IfOk r (λ x. view x ≡ strip becomes)
   -- what is remembered of commas stays: it isn't forgotten by use
   pub commas : commas_of q ≡ commas_of p
   -- the nodes are what they were
   pub nodes : SameNodes (nodes_of p) (nodes_of q)
-  -- it has failed from now on where it refuses for want of memory, and only there
+  -- it has failed from now on where it refuses when out of memory, and only there
   pub fails : has_failed p ≡ false → has_failed q ≡ wants_memory r
 
--- the parameters that items in parentheses are, where a comma stands behind them or none, and they bind what they may
+-- the parameters that items in parentheses are, where a comma is after them or none, and they bind what they may
 -- in the context
 abbrev pub heads_among : {F C K : Type 0} → Context → Option (Trees F C K) → Option (Trees F C K)
 heads_among c None = None
@@ -101,26 +108,35 @@ module _ {S H F C K : Type 0} {fg : Ghosts F} {cg : Ghosts C} {kg : Ghosts K} wh
       → Parser S H F C K fg cg kg → Option (Trees F C K)
   params_of model xs comma p = heads_as (context model (buffer_of p)) comma (marked_items p xs)
 
+  -- what is wrong of it, and of items in parentheses the names that they bind in strict code and may not
+  abbrev pub verdict_of : Model S → PatType → Box (Expr F C K) Global → Parser S H F C K fg cg kg → Verdict
+  verdict_of model pat_type e p = verdict_as (context model (buffer_of p)).strict pat_type (marked_expr p e)
+
+  abbrev pub names_of : Model S → List (ExprOrSpread (Box (Expr F C K) Global)) → Parser S H F C K fg cg kg → List Error
+  names_of model xs p = names_bound (context model (buffer_of p)) (want_items (marked_items p xs))
+
   -- an expression becomes a pattern of the kind
   abbrev pub RefinesExpr : Model S → PatType → Box (Expr F C K) Global → Parser S H F C K fg cg kg
       → Result (Pat F C K) Error → Parser S H F C K fg cg kg → Type 0
   RefinesExpr model pat_type e p r q =
       PromisedRefinement model (is_valid (tree_by fg.place cg.place kg.place e)) (pattern_of model pat_type e p)
-      (want_as pat_type (marked_expr p e)) unmarked (pat_tree F C K fg.place cg.place kg.place) p r q
+      (want_as pat_type (marked_expr p e)) unmarked (pat_tree F C K fg.place cg.place kg.place)
+      (JudgesBy model (verdict_of model pat_type e p)) p r q
 
-  -- items in parentheses, with a comma behind the last or none, become parameters
+  -- items in parentheses, with a comma after the last or none, become parameters
   abbrev pub RefinesItems : Model S → List (ExprOrSpread (Box (Expr F C K) Global)) → Option Span
       → Parser S H F C K fg cg kg → Result (Vec (Pat F C K) Global) Error → Parser S H F C K fg cg kg → Type 0
   RefinesItems model xs comma p r q =
       PromisedRefinement model (are_valid (boxed_items fg.place cg.place kg.place xs)) (params_of model xs comma p)
       (want_items (marked_items p xs)) all_unmarked
-      (λ v. trees (map (pat_tree F C K fg.place cg.place kg.place) v.items)) p r q
+      (λ v. trees (map (pat_tree F C K fg.place cg.place kg.place) v.items))
+      (JudgesParams model (params_verdict comma (marked_items p xs)) (names_of model xs p)) p r q
 
 -- ---- among the nodes, before the answer is moved out of them
 
 module _ {S H A X F C K : Type 0} {fg : Ghosts F} {cg : Ghosts C} {kg : Ghosts K} (model : Model S) (valid : Bool)
     (pattern : Option A) (becomes : A) (of : Nodes F C K fg cg kg → X → A) (parts : X → List Part) where
-  -- Expressions were put behind all nodes, checked and made patterns of: nodes that there were stay, and new ones stand
+  -- Expressions were put after all nodes, checked and made patterns of: nodes that there were stay, and new ones stand
   -- for what they become.
   pub record Recast (p : Parser S H F C K fg cg kg) (x : X) (q : Parser S H F C K fg cg kg) : Type 0 where
     pub checks : ChecksWhole model valid (is_some pattern) (buffer_of p) (buffer_of q)

@@ -8,7 +8,7 @@ use Rattle.swc_context.specs.declared.context.Context.{Context}
 use Rattle.swc_context.specs.declared.context.Syntax.{Syntax}
 use Rattle.swc_context.specs.declared.error.Error.{Error}
 use Rattle.swc_context.specs.declared.error.SyntaxError.TheVariants.{OutOfMemory}
-use Rattle.swc_input.specs.Buffer.{fresh, last_position, source, state_of}
+use Rattle.swc_input.specs.Buffer.{fresh, last_position, source, state_of, with_source}
 use Rattle.swc_input.specs.Capturing.{capturing_model, tokens_kept, within}
 use Rattle.swc_input.specs.Kept.{kept_of, one_by_one}
 use Rattle.swc_input.specs.Listed.{listed_model}
@@ -27,9 +27,9 @@ use Rattle.swc_grammar.specs.Symbols.{Expr}
 use Rattle.swc_laws.specs.Replay.{Joined}
 use Rattle.swc_steps.specs.Parsing.{scope_of}
 use Rattle.swc_ecma_parser.specs.BothWays.{Fresh, Left, faults}
-use Rattle.swc_ecma_parser.specs.Calls.{Called, SeesEnd, buffer_of, has_failed, tree_by}
+use Rattle.swc_ecma_parser.specs.Calls.{Called, SeesEnd, buffer_of, has_failed, tree_by, with_buffer}
 use Rattle.swc_ecma_parser.specs.Promise.{Finished, Promised, covers_done, in_boxes}
-use Rattle.swc_ecma_parser.specs.WholeList.{IsHeeded}
+use Rattle.swc_ecma_parser.specs.WholeList.{IsHeeded, plain_list}
 use Rattle.swc_ecma_parser.specs.declared.parser.Parser.{Parser}
 
 -- the scope in which what a source gives is read
@@ -41,15 +41,15 @@ abbrev pub boxed : {F C K : Type 0} → Ghosts F → Ghosts C → Ghosts K → B
 boxed fg cg kg e = tree_by fg.place cg.place kg.place e
 
 module _ {H F C K : Type 0} {fg : Ghosts F} {cg : Ghosts C} {kg : Ghosts K} where
-  -- The tree t was read again, with no fault recorded and no token left, or memory was wanted.
+  -- The tree t was read again, with no fault recorded and no token left, or memory ran out.
   abbrev pub ReadAgain : Tree F C K → Result (Box (ExprOf F C K) Global) Error
       → Parser TokensInput H F C K fg cg kg → Type 0
   ReadAgain t again q =
       MatchResult again (λ e. (boxed fg cg kg e ≡ t) × Left q [] × (faults q ≡ [])) (λ e. e.kind ≡ OutOfMemory)
 
 module _ {S H F C K : Type 0} {fg : Ghosts F} {cg : Ghosts C} {kg : Ghosts K} (model : Model S) where
-  -- A new parser read an expression from the source s, of which nothing was kept yet, and looked for the end behind it;
-  -- p is the parser behind both.
+  -- A new parser read an expression from the source s, of which nothing was kept yet, and looked for the end after it;
+  -- p is the parser after both.
   pub record ReadsKeeping (sure : Bool) (hook : Hook F C K) (s : S) (read : Result (Box (ExprOf F C K) Global) Error)
       (at_end : Result Bool Error) (p : Parser (Capturing S) H F C K fg cg kg) : Type 0 where
     pub start : Parser (Capturing S) H F C K fg cg kg
@@ -62,19 +62,43 @@ module _ {S H F C K : Type 0} {fg : Ghosts F} {cg : Ghosts C} {kg : Ghosts K} (m
     pub call : Promised (capturing_model model) sure hook in_boxes Expr start read behind
     pub look : Called (SeesEnd (capturing_model model)) behind at_end p
 
-  -- From p to q the tokens that its source kept were handed out, with the source's context and syntax. The source within
-  -- it stays.
+  -- From p to q the tokens that its source kept were handed out, with the source's context and syntax, and it keeps none
+  -- of them. The source within it stays, and so does all else of the parser.
   pub record HandsOut (tokens : List TokenAndSpan) (c : Context) (x : Syntax) (p q : Parser (Capturing S) H F C K fg cg kg)
       : Type 0 where
     pub taken : tokens ≡ tokens_kept (source (buffer_of p))
     pub context : c ≡ (model.state (within (source (buffer_of p)))).context
     pub syntax : x ≡ (model.state (within (source (buffer_of p)))).syntax
+    pub none_left : tokens_kept (source (buffer_of q)) ≡ []
     pub stays : within (source (buffer_of q)) ≡ within (source (buffer_of p))
+    pub same : q ≡ with_buffer (with_source (source (buffer_of q)) (buffer_of p)) p
+
+module _ {H F C K : Type 0} {fg : Ghosts F} {cg : Ghosts C} {kg : Ghosts K} where
+  -- A new parser read an expression from the tokens ts.
+  abbrev pub ReadsKept : Bool → Hook F C K → Context → Syntax → List TokenAndSpan
+      → Result (Box (ExprOf F C K) Global) Error → Parser TokensInput H F C K fg cg kg → Type 0
+  ReadsKept sure hook c x ts read q =
+      Fresh (λ a b. Promised listed_model sure hook in_boxes Expr a read b) c x ts q
+
+-- An expression was read from the source s while its tokens were kept, and these were handed out: p is the parser after
+-- both. A new parser read them again, in the source's context and syntax, and is q after that. Whether the hook is
+-- faithful is said of each source.
+pub record ReadsTwice {S H F C K : Type 0} {fg : Ghosts F} {cg : Ghosts C} {kg : Ghosts K} (model : Model S)
+    (sure_first sure_again : Bool) (hook : Hook F C K) (s : S) (first : Result (Box (ExprOf F C K) Global) Error)
+    (at_end : Result Bool Error) (p : Parser (Capturing S) H F C K fg cg kg)
+    (again : Result (Box (ExprOf F C K) Global) Error) (q : Parser TokensInput H F C K fg cg kg) : Type 0 where
+  pub keeping : Parser (Capturing S) H F C K fg cg kg
+  pub tokens : List TokenAndSpan
+  pub context : Context
+  pub syntax : Syntax
+  pub reads : ReadsKeeping model sure_first hook s first at_end keeping
+  pub hands_out : HandsOut model tokens context syntax keeping p
+  pub reads_again : ReadsKept sure_again hook context syntax (plain_list tokens) again q
 
 module _ {S H F C K : Type 0} {fg : Ghosts F} {cg : Ghosts C} {kg : Ghosts K} (model : Model S) (sure : Bool)
     (hook : Hook F C K) (s : S) where
   -- An expression with the tree t was read cleanly of all that the source s gives: p is the parser that read it. What is
-  -- kept of that was read again, by a parser that is q behind it.
+  -- kept of that was read again, by a parser that is q after it.
   pub record Replayed (t : Tree F C K) (p : Parser (Capturing S) H F C K fg cg kg)
       (again : Result (Box (ExprOf F C K) Global) Error) (q : Parser TokensInput H F C K fg cg kg) : Type 0 where
     -- the tokens that the source gave, up to its end
@@ -84,10 +108,9 @@ module _ {S H F C K : Type 0} {fg : Ghosts F} {cg : Ghosts C} {kg : Ghosts K} (m
     -- The grammar derives the tree from them, and it is finished.
     pub derived : Finished covers_done (ReadsUnmarked hook Expr) (scope_at (model.state s)) consumed [] t
     -- What is kept of them is what was read again, by a new parser in the same context.
-    pub kept : Fresh (λ a b. Promised listed_model sure hook in_boxes Expr a again b) (model.state s).context
-        (model.state s).syntax (kept_of consumed) q
+    pub kept : ReadsKept sure hook (model.state s).context (model.state s).syntax (kept_of consumed) again q
     -- The same tree was read again, with a faithful hook, where each token begins where the one before it ends, or
-    -- behind: then all are kept.
+    -- after: then all are kept.
     pub all_kept : sure ≡ true → one_by_one consumed → ReadAgain t again q
     -- So it was where they are in the order of the text, and a derivation of all of them takes no slash by itself at which
     -- a regular expression was found,

@@ -15,7 +15,8 @@ use Rattle.swc_nodes.specs.NodeParts.{expr_part}
 use Rattle.swc_nodes.specs.GrowingNodes.{count, Made, SameNodes}
 use Rattle.swc_nodes.specs.declared.node.ExprId.{ExprId}
 use Rattle.swc_verifier.specs.CoverNames.{cover_names}
-use Rattle.swc_verifier.specs.Faults.{cover_faults, begins_fit, Appends, RecordsAll}
+use Rattle.swc_input.specs.Recordings.{RecordsAll}
+use Rattle.swc_verifier.specs.Faults.{cover_faults, begins_fit, Appends}
 use Rattle.swc_steps.specs.Parsing.{Forgoes, Leads, Loud, Tries}
 use Rattle.swc_ecma_parser.specs.Calls.{buffer_of, nodes_of, commas_of, has_failed, parser_failed, tree_by}
 use Rattle.swc_ecma_parser.specs.Calls.{wants_memory}
@@ -25,10 +26,10 @@ use Rattle.swc_ecma_parser.specs.declared.parser.Parser.{Parser}
 pub record PromisedVerification {S H T F C K : Type 0} {fg : Ghosts F} {cg : Ghosts C} {kg : Ghosts K}
     (model : Model S) (given : Tree F C K) (view : T → Tree F C K)
     (p : Parser S H F C K fg cg kg) (r : Result T Error) (q : Parser S H F C K fg cg kg) : Type 0 where
-  -- A parser that met want of memory does nothing, and refuses as `ParserFailed` at the token consumed last.
+  -- A parser that ran out of memory does nothing, and refuses as `ParserFailed` at the token consumed last.
   pub again : has_failed p ≡ true → (q ≡ p) × (r ≡ Err (parser_failed (previous (buffer_of p))))
-  -- Any other refuses for want of memory alone: what was consumed isn't lost; the context is what it was, no recorded
-  -- fault was taken out, and no want of memory recorded.
+  -- Any other refuses only when out of memory: what was consumed isn't lost; the context is what it was, no recorded
+  -- fault was taken out, and no `OutOfMemory` recorded.
   pub acts : has_failed p ≡ false → Tries model (buffer_of p) r (buffer_of q)
   -- what is answered is what was given, with all its places
   pub tree : IfOk r (λ x. view x ≡ given)
@@ -48,7 +49,7 @@ pub record PromisedVerification {S H T F C K : Type 0} {fg : Ghosts F} {cg : Gho
   pub commas : commas_of q ≡ commas_of p
   -- the nodes are what they were
   pub nodes : SameNodes (nodes_of p) (nodes_of q)
-  -- it has failed from now on where it refuses for want of memory, and only there
+  -- it has failed from now on where it refuses when out of memory, and only there
   pub fails : has_failed p ≡ false → has_failed q ≡ wants_memory r
 
 module _ {S H F C K : Type 0} {fg : Ghosts F} {cg : Ghosts C} {kg : Ghosts K} where
@@ -69,12 +70,12 @@ module _ {S : Type 0} (model : Model S) (es : List Error) where
     pub listed : Loud model b → (ts : List TokenAndSpan) → Known model b ts → begins_fit ts ≡ true → Appends model es b c
     pub silent : is_silent (state_of model b) ≡ true → c ≡ b
 
-  -- the same, or memory was wanted
+  -- the same, or memory ran out
   abbrev pub TriesFaults : {T : Type 0} → Buffer S → Result T Error → Buffer S → Type 0
   TriesFaults b r c = MatchResult r (λ x. RecordsFaults b c) (λ e. Forgoes model b e c)
 
 module _ {S H F C K : Type 0} {fg : Ghosts F} {cg : Ghosts C} {kg : Ghosts K} (model : Model S) (t : Tree F C K) where
-  -- An expression was put behind all nodes, and the names left over in it were recorded; or memory was wanted.
+  -- An expression was put after all nodes, and the names left over in it were recorded; or memory ran out.
   abbrev pub LooksThrough : Parser S H F C K fg cg kg → Result ExprId Error → Parser S H F C K fg cg kg → Type 0
   LooksThrough p r q =
       TriesFaults model (cover_faults (cover_names t)) (buffer_of p) r (buffer_of q)

@@ -30,7 +30,7 @@ IsHeeded c x = (c.ignore_error ≡ false) × (x.early_errors ≡ true)
 
 module _ {N F C K : Type 0} {fg : Ghosts F} {cg : Ghosts C} {kg : Ghosts K} where
   -- In the context c, of which four flags decide nothing (`view`), and by the syntax x, what is read of the tokens ts as the symbol s: what
-  -- has the number of a tree and whether tokens are left behind it, or a refusal; the nodes; and the faults that were recorded
+  -- has the number of a tree and whether tokens are left after it, or a refusal; the nodes; and the faults that were recorded
   pub record Headline (sure : Bool) (hook : Hook F C K) (s : Symbol) (tree : Nodes F C K fg cg kg → N → Tree F C K) (c : Context) (x : Syntax) (ts : List TokenAndSpan)
       (read : Result (N × Bool) Error) (nodes : Nodes F C K fg cg kg) (recorded : List Error) : Type 0 where
     -- A tree answered with no token left and no fault recorded is derived by the written grammar from the whole list, and is finished.

@@ -1,11 +1,8 @@
 // A list in parentheses, read in both ways: as expressions that become the parameters of an arrow function, and as
 // formal parameters.
 ghost use Rattle.std.specs.Prelude.{◌≡◌, IfOk};
-ghost use Rattle.swc_grammar.specs.Symbols.{Heads};
 ghost use Rattle.swc_grammar.specs.Words.{rest};
-ghost use Rattle.swc_input.specs.Listed.{listed_model};
-ghost use Rattle.swc_ecma_parser.specs.BothWays.{ConverseLaw, CoverLaw, Fresh};
-ghost use Rattle.swc_ecma_parser.specs.Promise.{Promised, PromisedParams, heads_in_boxes, params_in_boxes};
+ghost use Rattle.swc_ecma_parser.specs.BothWays.{ConverseLaw, CoverLaw, ReadsArrow, ReadsFormal};
 ghost use Rattle.swc_ecma_parser.specs.WholeList.{plain_list};
 
 use crate::parser::{Parser, PatOf};
@@ -18,12 +15,12 @@ use swc_input::listed::TokensInput;
 use swc_input::token::TokenAndSpan;
 
 /// What a call read of a list of tokens, and the parser that made the call: it has the faults that were recorded, and
-/// reads on behind what was read.
+/// reads on after what was read.
 #[derive(Drop)]
 pub struct ReadBy<T, B: Bodies<TokensInput>> {
     /// The answer of the call.
     pub read: PResult<T>,
-    /// The parser behind it.
+    /// The parser after it.
     pub parser: Parser<TokensInput, B>,
 }
 
@@ -32,25 +29,26 @@ pub struct ReadBy<T, B: Bodies<TokensInput>> {
 pub struct BothWays<B: Bodies<TokensInput>> {
     /// By way of expressions, as `Parser::parse_arrow_params` reads it.
     pub arrow: ReadBy<Vec<PatOf<B>>, B>,
-    /// Directly, as `Parser::parse_formal_params` reads what stands behind the parenthesis.
+    /// Directly, as `Parser::parse_formal_params` reads what is after the parenthesis.
     pub formal: ReadBy<Vec<Param<PatOf<B>>>, B>,
 }
 
 /// Reads a list of tokens that begins with `(` in both ways (ECMA-262, 15.3 and 15.1): from the parenthesis on as the
-/// parameters of an arrow function, and from the token behind it on as formal parameters. Each parser is new, and both
-/// hooks are of one type, so that they read the same. Is refused for want of memory alone; what the calls refuse stands
-/// in the answer.
+/// parameters of an arrow function (`arrow`), and from the token after it on as formal parameters (`formal`). Each
+/// parser is new, and both hooks are of one type, so that they read the same. `levels` bounds both parsers
+/// (`Parser::limit_nesting`; `usize::MAX` is no bound), which tell whether it was met (`Parser::is_too_deep`). Is refused
+/// only when out of memory; what the calls refuse is in the answer.
 ///
 /// The law of the cover grammar (`cover`): in a script, or in a module whose code is strict, and where early errors are
 /// on and not ignored, a list that is read as an arrow's parameters with no fault recorded is read as formal parameters
 /// with none, and both are the same patterns, places apart; then the second parser stands before the `)`, and what is
-/// left behind that is what the first one left; or memory was wanted. The hook has to be faithful, no identifier of
+/// left after that is what the first one left; or memory ran out. The hook has to be faithful, no identifier of
 /// the list may spell a keyword (in a generator `yield` as such a token is a reference, but isn't bound), and in a
 /// static block no pattern may bind `await`.
 ///
-/// And its converse (`converse`): formal parameters behind a `(` that are read up to a `)` with no fault recorded, and
+/// And its converse (`converse`): formal parameters after a `(` that are read up to a `)` with no fault recorded, and
 /// bind no word that some mode reserves, nor `await`, `yield`, `eval` or `arguments`, are read as an arrow's
-/// parameters with none, and are the same patterns, places apart; or memory was wanted.
+/// parameters with none, and are the same patterns, places apart; or memory ran out.
 pub fn read_both_ways<B: Bodies<TokensInput>>(
     alloc: Global,
     tokens: Vec<TokenAndSpan>,
@@ -59,19 +57,24 @@ pub fn read_both_ways<B: Bodies<TokensInput>>(
     target: EsVersion,
     bodies: B,
     again: B,
+    levels: usize,
 ) -> Result<BothWays<B>, AllocError>
+    ensures arrow { IfOk result (λ w. ReadsArrow B.is_faithful B.forms ctx syntax (plain_list tokens.items)
+        w.arrow.read w.arrow.parser) }
+    ensures formal { IfOk result (λ w. ReadsFormal B.is_faithful B.forms ctx syntax (rest (plain_list tokens.items))
+        w.formal.read w.formal.parser) }
     ensures cover { IfOk result (λ w. CoverLaw B.is_faithful ctx syntax (plain_list tokens.items)
         w.arrow.read w.arrow.parser w.formal.read w.formal.parser) }
     ensures converse { IfOk result (λ w. ConverseLaw B.is_faithful ctx syntax (plain_list tokens.items)
         w.arrow.read w.arrow.parser w.formal.read w.formal.parser) }
 {
     let behind = behind_first(alloc, &tokens)?;
-    let arrow = read_arrow_params(alloc, tokens, ctx, syntax, target, bodies);
-    let formal = read_formal_params(alloc, behind, ctx, syntax, target, again);
+    let arrow = read_arrow_params(alloc, tokens, ctx, syntax, target, bodies, levels);
+    let formal = read_formal_params(alloc, behind, ctx, syntax, target, again, levels);
     Ok(BothWays { arrow, formal })
 }
 
-/// The tokens behind the first one, each an equal one of its own.
+/// The tokens after the first one, each an equal one of its own.
 fn behind_first(alloc: Global, tokens: &[TokenAndSpan]) -> Result<Vec<TokenAndSpan>, AllocError>
     ensures { IfOk result (λ v. plain_list v.items ≡ rest (plain_list tokens.now)) }
 {
@@ -100,12 +103,13 @@ fn read_arrow_params<B: Bodies<TokensInput>>(
     syntax: Syntax,
     target: EsVersion,
     bodies: B,
+    levels: usize,
 ) -> ReadBy<Vec<PatOf<B>>, B>
-    ensures { Fresh (λ p q. Promised listed_model B.is_faithful B.forms heads_in_boxes Heads p result.read q)
-        ctx syntax (plain_list tokens.items) result.parser }
+    ensures { ReadsArrow B.is_faithful B.forms ctx syntax (plain_list tokens.items) result.read result.parser }
 {
     let source = TokensInput::new(alloc, tokens, ctx, syntax, target);
     let mut parser = Parser::new_from(alloc, source, bodies);
+    parser.limit_nesting(levels);
     let read = parser.parse_arrow_params();
     ReadBy { read, parser }
 }
@@ -118,12 +122,13 @@ fn read_formal_params<B: Bodies<TokensInput>>(
     syntax: Syntax,
     target: EsVersion,
     bodies: B,
+    levels: usize,
 ) -> ReadBy<Vec<Param<PatOf<B>>>, B>
-    ensures { Fresh (λ p q. PromisedParams listed_model B.is_faithful B.forms params_in_boxes p result.read q)
-        ctx syntax (plain_list tokens.items) result.parser }
+    ensures { ReadsFormal B.is_faithful B.forms ctx syntax (plain_list tokens.items) result.read result.parser }
 {
     let source = TokensInput::new(alloc, tokens, ctx, syntax, target);
     let mut parser = Parser::new_from(alloc, source, bodies);
+    parser.limit_nesting(levels);
     let read = parser.parse_formal_params();
     ReadBy { read, parser }
 }

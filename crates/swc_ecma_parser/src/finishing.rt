@@ -13,7 +13,7 @@ use swc_nodes::nodes::Nodes;
 use swc_verifier::verifier::record_cover_names;
 
 /// Where the syntax is pedantic, records the cover names that are left in an answer (ECMA-262, 13.2.5.1), each as
-/// `AssignProperty`, in the order of the source. Beside the answer's own refusal it is refused only for want of memory.
+/// `AssignProperty`, in the order of the source. Beside the answer's own refusal it is refused only when out of memory.
 pub(crate) fn check_answer<
     I: Tokens,
     F: Spanned + Drop,

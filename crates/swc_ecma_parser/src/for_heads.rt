@@ -25,16 +25,17 @@ use swc_steps::tokens::{look, set_ctx};
 
 /// What the head of a `for`, or of a `for await`, begins with (ECMA-262, 14.7.4 and 14.7.5), where that is no
 /// declaration: an expression, which becomes a pattern that is assigned to (13.15.5) where `of` or `in` is current
-/// behind it.
+/// after it.
 pub(crate) fn parse_for_head<I: Tokens, B: Bodies<I>>(
     p: &mut Productions<I, B>,
+    room: usize,
     is_await: bool,
 ) -> PResult<ForHeadId>
     ensures produces { Produces I.model B.is_faithful for_head_of for_head_at (for_head B.forms is_await)
         (count p.old.nodes) p.old result p.new }
     ensures which { IfOk result (λ h. is_target_id h ≡ at_token is_each_word (seen p.new.input)) }
 {
-    let expr = parse_head_expr(p, is_await)?;
+    let expr = parse_head_expr(p, room, is_await)?;
     look(&mut p.input)?;
     if is_each(&p.input) {
         let target = reparse_expr_as_pat(p, PatType::AssignPat, expr)?;
@@ -48,6 +49,7 @@ pub(crate) fn parse_for_head<I: Tokens, B: Bodies<I>>(
 /// before, also after a refusal.
 pub(crate) fn parse_head_expr<I: Tokens, B: Bodies<I>>(
     p: &mut Productions<I, B>,
+    room: usize,
     is_await: bool,
 ) -> PResult<ExprId>
     ensures produces { Produces I.model B.is_faithful itself tree_of (head_expr B.forms is_await)
@@ -57,7 +59,7 @@ pub(crate) fn parse_head_expr<I: Tokens, B: Bodies<I>>(
 {
     let ctx = p.get_ctx();
     set_ctx(&mut p.input, head_context(ctx, is_await));
-    let expr = parse_expr(p);
+    let expr = parse_expr(p, room);
     set_ctx(&mut p.input, ctx);
     expr
 }

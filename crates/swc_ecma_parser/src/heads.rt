@@ -15,10 +15,11 @@ use swc_steps::productions::Productions;
 /// arguments are, and then made parameters of.
 pub(crate) fn parse_arrow_params<I: Tokens, B: Bodies<I>>(
     p: &mut Productions<I, B>,
+    room: usize,
 ) -> PResult<Vec<PatId>>
     ensures { Produces I.model B.is_faithful heads_of heads_at (heads_items B.forms) (count p.old.nodes)
         p.old result p.new }
 {
-    let list = parse_arguments(p, false)?;
+    let list = parse_arguments(p, room, false)?;
     parse_paren_items_as_params(p, &list.items, list.trailing_comma)
 }

@@ -1,12 +1,12 @@
 // The parser that is called from outside.
-ghost use Rattle.std.specs.Prelude.{◌≡◌, ◌||◌, ℕ, true, false, [], None, IfErr, IfOk, OnOk, MatchResult};
+ghost use Rattle.std.specs.Prelude.{◌≡◌, ◌≢◌, ◌||◌, ℕ, true, false, [], None, IfErr, IfOk, OnOk, MatchResult};
 ghost use Rattle.swc_input.specs.Buffer.{last_position, previous, source, state_of, with_source, fresh};
 ghost use Rattle.swc_nodes.specs.Commas.{comma_at, part_commas, Recalls};
 ghost use Rattle.swc_nodes.specs.NumberedTrees.{floor};
 ghost use Rattle.swc_nodes.specs.GrowingNodes.{count, seat_at, tree_at, bare_at, Apart, Left, CutTo};
 ghost use Rattle.swc_grammar.specs.Symbols.{Expr, Assign, Level, Unary};
 ghost use Rattle.swc_ecma_parser.specs.Calls.{buffer_of, hook_of, nodes_of, commas_of, with_buffer, with_hook};
-ghost use Rattle.swc_ecma_parser.specs.Calls.{with_nodes, has_failed};
+ghost use Rattle.swc_ecma_parser.specs.Calls.{with_nodes, with_bound, bound_of, met_bound, has_failed};
 ghost use Rattle.swc_ecma_parser.specs.Calls.{wants_memory, found_import};
 ghost use Rattle.swc_ecma_parser.specs.Calls.{parser_failed, Called, SeesEnd, Kept, MovesOut, RemembersParts};
 ghost use Rattle.swc_ecma_parser.specs.Finishing.{KeepsChecked, MovesCheckedOut};
@@ -59,14 +59,14 @@ pub type PatOf<B> = Pat<<B as BodyForms>::Fun, <B as BodyForms>::Class, <B as Bo
 ///
 /// Each call that answers a `PResult` reads on from where the last one stopped, also after a
 /// refusal, and keeps the context of the source. A fault that leaves a tree is recorded, and handed
-/// out by `take_errors`. Want of memory is refused as `OutOfMemory`, at the end of the token
+/// out by `take_errors`. Out of memory is refused as `OutOfMemory`, at the end of the token
 /// consumed last; from then on each of these calls refuses, as `ParserFailed` at the token consumed
 /// last.
 ///
 /// Where early errors are on and not ignored, the calls on expressions and patterns answer by the written
 /// grammar: a tree answered with no fault recorded is one that it derives from the tokens consumed
 /// (`sound`), and over a listed source a tree that it derives up to the end or a hard stop is
-/// answered, unless memory is wanted (`complete`); no other is derived from all tokens
+/// answered, unless memory runs out (`complete`); no other is derived from all tokens
 /// (`one_tree`); operators group by their precedence (`grouped`), and no `Invalid` stands in for
 /// what was refused (`valid`); patterns bind names alone (`binds`).
 ///
@@ -80,6 +80,7 @@ pub struct Parser<I: Tokens, B: Bodies<I>> {
     productions: Productions<I, B>,
     commas: TrailingCommas,
     failed: bool,
+    room: usize,
 }
 
 // Not derived: so letting go of a parser is a call, and is proved here alone.
@@ -89,6 +90,7 @@ impl<I: Tokens, B: Bodies<I>> Drop for Parser<I, B> {
             productions: _,
             commas: _,
             failed: _,
+            room: _,
         } = self;
     }
 }
@@ -102,6 +104,8 @@ impl<I: Tokens, B: Bodies<I>> Parser<I, B> {
         ensures nodes { count (nodes_of result) ≡ 0 }
         ensures commas { (start : ℕ) → comma_at (commas_of result) start ≡ None }
         ensures module_item { found_import result ≡ false }
+        ensures unbounded { bound_of result ≡ usize.MAX }
+        ensures not_deep { met_bound result ≡ false }
     {
         Parser::over(alloc, Buffer::new(input), bodies)
     }
@@ -115,6 +119,8 @@ impl<I: Tokens, B: Bodies<I>> Parser<I, B> {
         ensures nodes { count (nodes_of result) ≡ 0 }
         ensures commas { (start : ℕ) → comma_at (commas_of result) start ≡ None }
         ensures module_item { found_import result ≡ false }
+        ensures unbounded { bound_of result ≡ usize.MAX }
+        ensures not_deep { met_bound result ≡ false }
     {
         Parser {
             productions: Productions {
@@ -123,10 +129,38 @@ impl<I: Tokens, B: Bodies<I>> Parser<I, B> {
                 bodies,
                 nodes: Nodes::new(alloc),
                 found_module_item: false,
+                too_deep: false,
             },
             commas: TrailingCommas::new(alloc),
             failed: false,
+            room: usize::MAX,
         }
+    }
+
+    /// Bounds how deeply what later calls read may be nested. What is deeper is refused as `OutOfMemory`, at the end of
+    /// the token consumed last, and the parser has failed; `is_too_deep` tells this from a refused request for memory. A
+    /// new parser has the bound `usize::MAX`, which is none: no list of tokens is as long.
+    ///
+    /// A level is an assignment expression, an operand after a prefix operator or `await`, what `new` constructs, or an
+    /// array or object pattern. So parentheses, brackets, arguments, templates and bodies of arrow functions each take
+    /// one, and chains of operators or links none. What a hook reads is its own: a parser in it needs a bound of its own.
+    ///
+    /// At most 20 calls of productions are nested for each level, and 20 more: that is the measure by which they are
+    /// proved to return. How much stack they take is only measured (docs/SPEED.md).
+    pub fn limit_nesting(&mut self, levels: usize)
+        ensures { self.new ≡ with_bound levels self.old }
+    {
+        self.room = levels;
+    }
+
+    /// Whether the parser has failed because a call read what is nested deeper than `limit_nesting` allows. Then that
+    /// call was refused as `OutOfMemory` though no request for memory was refused, and later calls are refused as
+    /// `ParserFailed`: so it stays true. It is never true without a bound.
+    pub fn is_too_deep(&self) -> bool
+        ensures told { bound_of self.now ≢ usize.MAX → result ≡ met_bound self.now }
+        ensures never { bound_of self.now ≡ usize.MAX → result ≡ false }
+    {
+        self.room != usize::MAX && self.productions.too_deep
     }
 
     /// The source. What is written to it through the answer, and that alone, changes the parser.
@@ -171,6 +205,7 @@ impl<I: Tokens, B: Bodies<I>> Parser<I, B> {
             productions,
             commas: _,
             failed: _,
+            room: _,
         } = self;
         productions.into_parts()
     }
@@ -186,7 +221,7 @@ impl<I: Tokens, B: Bodies<I>> Parser<I, B> {
         self.productions.input.input().take_errors()
     }
 
-    /// Whether no token is left. Consumes nothing, and is refused for want of memory alone.
+    /// Whether no token is left. Consumes nothing, and is refused only when out of memory.
     pub fn at_end(&mut self) -> PResult<bool>
         ensures { Called (SeesEnd I.model) self.old result self.new }
     {
@@ -218,6 +253,7 @@ impl<I: Tokens, B: Bodies<I>> Parser<I, B> {
             productions,
             commas: _,
             failed: _,
+            room: _,
         } = self;
         productions.into_nodes()
     }
@@ -230,7 +266,7 @@ impl<I: Tokens, B: Bodies<I>> Parser<I, B> {
         self.productions.nodes.cut(0);
     }
 
-    /// The place of a comma behind the last element of an array literal, or the last property of an object literal,
+    /// The place of a comma after the last element of an array literal, or the last property of an object literal,
     /// that begins at `start`, a position in bytes: of the one in the last answer that has one there, or that was made
     /// by `make_object` since. Those in bodies of arrow functions aren't remembered.
     ///
@@ -251,7 +287,7 @@ impl<I: Tokens, B: Bodies<I>> Parser<I, B> {
     {
         self.begin()?;
         let start = self.productions.nodes.len();
-        let answer = parse_expr(&mut self.productions);
+        let answer = parse_expr(&mut self.productions, self.room);
         let answer = self.keep_checked(start, answer);
         self.finish(answer)
     }
@@ -265,7 +301,7 @@ impl<I: Tokens, B: Bodies<I>> Parser<I, B> {
     {
         self.begin()?;
         let start = self.productions.nodes.len();
-        let answer = parse_expr(&mut self.productions);
+        let answer = parse_expr(&mut self.productions, self.room);
         let answer = self.move_out_checked(start, answer);
         self.finish(answer)
     }
@@ -273,8 +309,8 @@ impl<I: Tokens, B: Bodies<I>> Parser<I, B> {
     /// An assignment expression (ECMA-262, 13.15): binary operators and their operands, as `parse_bin_expr` reads
     /// them; a conditional of such (13.14), in whose middle `in` is an operator; an assignment to a simple target, or
     /// by `=` to an array or object literal, which becomes a pattern (13.15.5); an arrow function, async or not (15.3
-    /// and 15.9); or `yield` (15.5), in a generator. Behind a conditional, a binary operator, a prefix operator, `++`
-    /// and `--` no assignment is read, and behind an arrow function nothing is.
+    /// and 15.9); or `yield` (15.5), in a generator. After a conditional, a binary operator, a prefix operator, `++`
+    /// and `--` no assignment is read, and after an arrow function nothing is.
     ///
     /// The end is refused as `Eof`, where the token consumed last ends. What stands left of `=`, is no literal that
     /// becomes a pattern and can't be written to is recorded as `TS2406`, left of another operator as
@@ -283,25 +319,25 @@ impl<I: Tokens, B: Bodies<I>> Parser<I, B> {
     /// faults that `reparse_expr_as_pat` records of an `AssignPat`. What follows the middle of a conditional and is no
     /// `:` is refused as `Expected`, at the current token. `yield` in parameters outside a function is refused as
     /// `YieldParamInGen`, at the word; a refusal of its operand is labelled (`WithLabel`) with the place of the word
-    /// and of the `*` behind it.
+    /// and of the `*` after it.
     ///
     /// An arrow function begins with a word that may be a reference, on the line of the `=>`; with a list in
-    /// parentheses, as `parse_args_or_pats` reads it, behind which `=>` stands; or with `async`, on its line, and one
+    /// parentheses, as `parse_args_or_pats` reads it, after which `=>` stands; or with `async`, on its line, and one
     /// of these. A line break between the list and `=>` is refused as `LineBreakBeforeArrow`, from the start of the
-    /// list, or of `async`, through the `)`; and where the syntax is pedantic, one between the name behind `async` and
+    /// list, or of `async`, through the `)`; and where the syntax is pedantic, one between the name after `async` and
     /// `=>`, from `async` through the name (15.9). The items have the faults that `parse_paren_items_as_params`
     /// records; a name in place of a list has those of an identifier, and as `eval` or `arguments` in strict code
     /// `EvalAndArgumentsInStrict`. The body is a block, which the hook reads, or an assignment expression. A binary
-    /// operator behind a block whose parameters stand in parentheses is recorded as `TS1005`, at the operator, and
+    /// operator after a block whose parameters stand in parentheses is recorded as `TS1005`, at the operator, and
     /// read; and so is once more what then follows, unless a semicolon may stand there. Before `of` in a head of `for`,
-    /// `async` is an identifier, if no `=>` stands behind `of`, and recorded as `TS1106` unless the head is one of
+    /// `async` is an identifier, if no `=>` is after `of`, and recorded as `TS1106` unless the head is one of
     /// `for await`.
     pub fn parse_assignment_expr(&mut self) -> PResult<Box<ExprOf<B>>>
         ensures promised { Promised I.model B.is_faithful B.forms in_boxes Assign self.old result self.new }
     {
         self.begin()?;
         let start = self.productions.nodes.len();
-        let answer = parse_assignment_expr(&mut self.productions);
+        let answer = parse_assignment_expr(&mut self.productions, self.room);
         let answer = self.move_out_checked(start, answer);
         self.finish(answer)
     }
@@ -313,7 +349,7 @@ impl<I: Tokens, B: Bodies<I>> Parser<I, B> {
     {
         self.begin()?;
         let start = self.productions.nodes.len();
-        let answer = parse_assignment_expr(&mut self.productions);
+        let answer = parse_assignment_expr(&mut self.productions, self.room);
         let answer = self.keep_checked(start, answer);
         self.finish(answer)
     }
@@ -332,13 +368,13 @@ impl<I: Tokens, B: Bodies<I>> Parser<I, B> {
     {
         self.begin()?;
         let start = self.productions.nodes.len();
-        let answer = parse_bin_expr(&mut self.productions);
+        let answer = parse_bin_expr(&mut self.productions, self.room);
         let answer = self.move_out_checked(start, answer);
         self.finish(answer)
     }
 
     /// A unary expression (ECMA-262, 13.5): any number of `delete`, `void`, `typeof`, `+`, `-`, `~`, `!`, `++` and `--`
-    /// (13.4) and `await` (15.8), and then a left-hand side (13.3), with `++` or `--` behind it on the same line or
+    /// (13.4) and `await` (15.8), and then a left-hand side (13.3), with `++` or `--` after it on the same line or
     /// without: a primary expression, `new`, `super` or `import`, with its links. A primary expression (13.2) is
     /// `this`, a literal, a regular expression, a template, an array or object literal, an identifier, `#` and a name
     /// (where the syntax is pedantic, recorded or refused as by `parse_bin_expr`), expressions in parentheses, or a
@@ -347,30 +383,30 @@ impl<I: Tokens, B: Bodies<I>> Parser<I, B> {
     /// expression: no arrow function is read, and `async` before no function on its line is an identifier.
     ///
     /// A refused operand of `delete`, `void`, `typeof`, `+`, `-`, `~` or `!` is recorded, and a node of `Invalid`
-    /// stands in its place, at one position, that before the operand; behind `++`, `--` and `await` it is refused.
+    /// stands in its place, at one position, that before the operand; after `++`, `--` and `await` it is refused.
     /// `delete` of an identifier has the fault `TS1102`, and an identifier that is a word of strict code twice
     /// `InvalidIdentInStrict`; these are recorded in modules, and wait elsewhere. What `++` and `--` can't write to is
     /// recorded as `TS2406`, at its place. `await` before `*` is refused as `AwaitStar`, at the `*`; the identifier
     /// `await` is recorded in a module as `InvalidIdentInAsync`, at the word; the operator in a function that isn't
-    /// async as `AwaitInFunction`, at the token behind it, and in parameters outside a function as
+    /// async as `AwaitInFunction`, at the token after it, and in parameters outside a function as
     /// `AwaitParamInAsync`, at the word.
     ///
     /// What begins no primary expression is refused as `TS1109`, at the current token or, at the end, at the token
-    /// consumed last; `()` as `EmptyParenExpr`, at the parentheses, and an expression behind dots in parentheses as
-    /// `SpreadInParenExpr`, at the expression. A comma behind the last expression in parentheses is recorded as
+    /// consumed last; `()` as `EmptyParenExpr`, at the parentheses, and an expression after dots in parentheses as
+    /// `SpreadInParenExpr`, at the expression. A comma after the last expression in parentheses is recorded as
     /// `TS1109`, at the comma, and a property `name = value` of an object literal among them as `AssignProperty`, at
     /// the property, unless the syntax is pedantic. What follows an item of parentheses and is neither `,` nor `)`, and
     /// what follows an element of an array and is neither `,` nor `]`, is refused as `Expected`, at the current token,
-    /// and the end there as `Eof`; what follows `#` and is no word as `ExpectedIdent`. `=>` behind a list in
-    /// parentheses is refused from the list's start through its `)`, as `LineBreakBeforeArrow` behind a line break and
-    /// as `ArrowNotAllowed` elsewhere. A refusal behind `...` is labelled with the place of the dots (`WithLabel`).
+    /// and the end there as `Eof`; what follows `#` and is no word as `ExpectedIdent`. `=>` after a list in
+    /// parentheses is refused from the list's start through its `)`, as `LineBreakBeforeArrow` after a line break and
+    /// as `ArrowNotAllowed` elsewhere. A refusal after `...` is labelled with the place of the dots (`WithLabel`).
     /// What the hook refuses is refused.
     pub fn parse_unary_expr(&mut self) -> PResult<Box<ExprOf<B>>>
         ensures promised { Promised I.model B.is_faithful B.forms in_boxes Unary self.old result self.new }
     {
         self.begin()?;
         let start = self.productions.nodes.len();
-        let answer = parse_unary_expr(&mut self.productions);
+        let answer = parse_unary_expr(&mut self.productions, self.room);
         let answer = self.move_out_checked(start, answer);
         self.finish(answer)
     }
@@ -511,7 +547,7 @@ impl<I: Tokens, B: Bodies<I>> Parser<I, B> {
         numbers.take(&mut self.productions.nodes, self.productions.alloc)
     }
 
-    /// After want of memory, refuses.
+    /// After it ran out of memory, refuses.
     fn begin(&self) -> PResult<()>
         ensures runs { OnOk result (has_failed self.now ≡ false) }
         ensures again { IfErr result
@@ -524,7 +560,7 @@ impl<I: Tokens, B: Bodies<I>> Parser<I, B> {
         Ok(())
     }
 
-    /// Remembers want of memory.
+    /// Remembers out of memory.
     fn finish<T>(&mut self, answer: PResult<T>) -> PResult<T>
         ensures answer { result ≡ answer }
         ensures buffer { buffer_of self.new ≡ buffer_of self.old }

@@ -1,9 +1,5 @@
 // An expression that is read while its tokens are kept, and what is kept of these read again.
-ghost use Rattle.swc_grammar.specs.Symbols.{Expr};
-ghost use Rattle.swc_input.specs.Listed.{listed_model};
-ghost use Rattle.swc_ecma_parser.specs.BothWays.{Fresh};
-ghost use Rattle.swc_ecma_parser.specs.Promise.{Promised, in_boxes};
-ghost use Rattle.swc_ecma_parser.specs.Replaying.{HandsOut, ReadsKeeping, ReplayLaw};
+ghost use Rattle.swc_ecma_parser.specs.Replaying.{HandsOut, ReadsKeeping, ReadsKept, ReadsTwice, ReplayLaw};
 ghost use Rattle.swc_ecma_parser.specs.WholeList.{plain_list};
 
 use crate::both_ways::ReadBy;
@@ -22,9 +18,9 @@ use swc_input::tokens::Tokens;
 pub struct ReadKeeping<I: Tokens, B: Bodies<Capturing<I>>> {
     /// The answer of `Parser::parse_expr`.
     pub read: PResult<Box<ExprOf<B>>>,
-    /// The answer of `Parser::at_end` behind it.
+    /// The answer of `Parser::at_end` after it.
     pub at_end: PResult<bool>,
-    /// The parser behind both: it has the faults that were recorded, and reads on behind what was read.
+    /// The parser after both: it has the faults that were recorded, and reads on after what was read.
     pub parser: Parser<Capturing<I>, B>,
 }
 
@@ -38,20 +34,22 @@ pub struct ReadTwice<I: Tokens, B: Bodies<Capturing<I>> + Bodies<TokensInput>> {
 }
 
 /// Reads an expression (ECMA-262, 13.16) from a source while its tokens are kept, by `Capturing`, and then reads what
-/// was kept again, as a list. Each parser is new; the second one reads in the context and the syntax of the source; and
-/// both hooks are of one type, so that they read the same. What the calls refuse stands in the answer.
+/// was kept again, as a list (`twice`). Each parser is new; the second one reads in the context and the syntax of the
+/// source; and both hooks are of one type, so that they read the same. What the calls refuse is in the answer. `levels`
+/// bounds both parsers (`Parser::limit_nesting`; `usize::MAX` is no bound), which tell whether it was met
+/// (`Parser::is_too_deep`).
 ///
 /// The law of replay (`replay`). Let early errors be on and not ignored, the first call answer a tree with no token
-/// left behind it, and no fault be recorded. Then the grammar derives the tree from the tokens that the source gave up
+/// left after it, and no fault be recorded. Then the grammar derives the tree from the tokens that the source gave up
 /// to its end. With a hook that is faithful over lists the second call answers the same tree, places included, with no
-/// fault recorded and no token left, or memory was wanted:
+/// fault recorded and no token left, or memory ran out:
 ///
-/// - where each token begins where the one before it ends, or behind (`all_kept`);
-/// - and where some regular expressions stand behind the slashes at which they were found. Each of them begins where
+/// - where each token begins where the one before it ends, or after (`all_kept`);
+/// - and where some regular expressions are after the slashes at which they were found. Each of them begins where
 ///   its slash does, has the slash's mark of a line break, and ends no earlier than it begins; no such slash is empty;
-///   and each was read behind its slash (12.9.5), so that none of these slashes is an operator (13.7 and 13.15). That
+///   and each was read after its slash (12.9.5), so that none of these slashes is an operator (13.7 and 13.15). That
 ///   may be known of a derivation (`joined`). Or the tokens show it (`wanted`): each such slash stands first, or not
-///   behind a literal, a closing sign, `++`, `--`, a name, or a word but for `delete`, `in`, `instanceof`, `new`,
+///   after a literal, a closing sign, `++`, `--`, a name, or a word but for `delete`, `in`, `instanceof`, `new`,
 ///   `typeof` and `void`. Then what the hook reads has to end with one of those.
 pub fn read_again<I: Tokens, B: Bodies<Capturing<I>> + Bodies<TokensInput> + ReplayBodies>(
     alloc: Global,
@@ -59,13 +57,17 @@ pub fn read_again<I: Tokens, B: Bodies<Capturing<I>> + Bodies<TokensInput> + Rep
     target: EsVersion,
     bodies: B,
     again: B,
+    levels: usize,
 ) -> ReadTwice<I, B>
+    ensures twice { ReadsTwice I.model ⟦<B as Bodies<Capturing<I>>>⟧.is_faithful
+        ⟦<B as Bodies<TokensInput>>⟧.is_faithful B.forms source result.first.read result.first.at_end
+        result.first.parser result.again.read result.again.parser }
     ensures replay { ReplayLaw I.model ⟦<B as Bodies<TokensInput>>⟧.is_faithful B.forms source
         result.first.read result.first.at_end result.first.parser result.again.read result.again.parser }
 {
-    let mut first = read_keeping(alloc, source, bodies);
+    let mut first = read_keeping(alloc, source, bodies, levels);
     let (tokens, ctx, syntax) = hand_out(&mut first.parser);
-    let again = read_kept(alloc, tokens, ctx, syntax, target, again);
+    let again = read_kept(alloc, tokens, ctx, syntax, target, again, levels);
     ReadTwice { first, again }
 }
 
@@ -74,10 +76,12 @@ fn read_keeping<I: Tokens, B: Bodies<Capturing<I>>>(
     alloc: Global,
     source: I,
     bodies: B,
+    levels: usize,
 ) -> ReadKeeping<I, B>
     ensures { ReadsKeeping I.model B.is_faithful B.forms source result.read result.at_end result.parser }
 {
     let mut parser = Parser::new_from(alloc, Capturing::new(alloc, source), bodies);
+    parser.limit_nesting(levels);
     let read = parser.parse_expr();
     let at_end = parser.at_end();
     ReadKeeping {
@@ -107,12 +111,13 @@ fn read_kept<B: Bodies<TokensInput>>(
     syntax: Syntax,
     target: EsVersion,
     bodies: B,
+    levels: usize,
 ) -> ReadBy<Box<ExprOf<B>>, B>
-    ensures { Fresh (λ p q. Promised listed_model B.is_faithful B.forms in_boxes Expr p result.read q)
-        ctx syntax (plain_list tokens.items) result.parser }
+    ensures { ReadsKept B.is_faithful B.forms ctx syntax (plain_list tokens.items) result.read result.parser }
 {
     let source = TokensInput::new(alloc, tokens, ctx, syntax, target);
     let mut parser = Parser::new_from(alloc, source, bodies);
+    parser.limit_nesting(levels);
     let read = parser.parse_expr();
     ReadBy { read, parser }
 }

@@ -47,7 +47,7 @@ pub(crate) trait Take<F: Spanned + Drop, C: Spanned + Drop, K: Spanned + Drop> {
         requires { Apart 0 nodes.now (parts self.now) }
         ensures { OnOk result (Recalls (part_commas (tree_at nodes.now) (parts self.now)) commas.old commas.new) };
 
-    /// Moves it out, and lets go of all nodes behind it.
+    /// Moves it out, and lets go of all nodes after it.
     fn take(self, nodes: &mut Nodes<F, C, K>, alloc: Global) -> Result<Self::Whole, AllocError>
         requires { Apart 0 nodes.old (parts self) }
         ensures left { Left (floor (seat_at nodes.old) (count nodes.old) (parts self)) nodes.old nodes.new }

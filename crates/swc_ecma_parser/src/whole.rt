@@ -22,20 +22,23 @@ use swc_nodes::nodes::NodesOf;
 /// What was made of a whole list of tokens.
 #[derive(Drop)]
 pub struct Whole<N, B: Bodies<TokensInput>> {
-    /// The number of the expression or pattern, and whether tokens are left behind it; or the refusal.
+    /// The number of the expression or pattern, and whether tokens are left after it; or the refusal.
     pub read: PResult<(N, bool)>,
     /// The nodes of its tree.
     pub nodes: NodesOf<B>,
     /// The faults that were recorded.
     pub recorded: Vec<Error>,
+    /// Whether they are nested too deeply, which is refused as `OutOfMemory`.
+    pub too_deep: bool,
 }
 
-/// Reads a list of tokens as one expression (ECMA-262, 13.16), with a parser of its own.
+/// Reads a list of tokens as one expression (ECMA-262, 13.16), with a parser of its own, which `levels` bounds
+/// (`Parser::limit_nesting`; `usize::MAX` is no bound).
 ///
-/// Refuses as `Parser::parse_expr` does, and for want of memory. Where early errors are on and not
-/// ignored (`headline`): a tree answered with no token left behind it and no fault recorded is one
+/// Refuses as `Parser::parse_expr` does, and when out of memory. Where early errors are on and not
+/// ignored (`headline`): a tree answered with no token left after it and no fault recorded is one
 /// that the written grammar derives from the list; and with a faithful hook each tree that it
-/// derives from the list is answered so, unless memory is wanted. Where the syntax is pedantic, that is so of trees in
+/// derives from the list is answered so, unless memory runs out. Where the syntax is pedantic, that is so of trees in
 /// which no property `name = value` of an object literal is left (ECMA-262, 13.2.5.1).
 pub fn parse_whole_expr<B: Bodies<TokensInput>>(
     alloc: Global,
@@ -44,6 +47,7 @@ pub fn parse_whole_expr<B: Bodies<TokensInput>>(
     syntax: Syntax,
     target: EsVersion,
     bodies: B,
+    levels: usize,
 ) -> Whole<ExprId, B>
     ensures stands { IfOk result.read (λ r. From 0 result.nodes (expr_part r.0)) }
     ensures headline { IsHeeded ctx syntax
@@ -52,17 +56,20 @@ pub fn parse_whole_expr<B: Bodies<TokensInput>>(
 {
     let source = TokensInput::new(alloc, tokens, ctx, syntax, target);
     let mut parser = Parser::new_from(alloc, source, bodies);
+    parser.limit_nesting(levels);
     let read = try_whole_expr(&mut parser);
     let recorded = parser.take_errors();
+    let too_deep = parser.is_too_deep();
     let nodes = parser.into_nodes();
     Whole {
         read,
         nodes,
         recorded,
+        too_deep,
     }
 }
 
-/// Reads one expression: its number, and whether tokens are left behind it.
+/// Reads one expression: its number, and whether tokens are left after it.
 fn try_whole_expr<B: Bodies<TokensInput>>(
     parser: &mut Parser<TokensInput, B>,
 ) -> PResult<(ExprId, bool)>
@@ -75,9 +82,10 @@ fn try_whole_expr<B: Bodies<TokensInput>>(
     Ok((expr, !at_end))
 }
 
-/// Reads a list of tokens as one binding pattern (ECMA-262, 14.3.3), with a parser of its own.
+/// Reads a list of tokens as one binding pattern (ECMA-262, 14.3.3), with a parser of its own, which `levels` bounds
+/// (`Parser::limit_nesting`; `usize::MAX` is no bound).
 ///
-/// Refuses as `Parser::parse_pat` does, and for want of memory. What it answers is judged (`headline`) as by
+/// Refuses as `Parser::parse_pat` does, and when out of memory. What it answers is judged (`headline`) as by
 /// `parse_whole_expr`.
 pub fn parse_whole_pat<B: Bodies<TokensInput>>(
     alloc: Global,
@@ -86,6 +94,7 @@ pub fn parse_whole_pat<B: Bodies<TokensInput>>(
     syntax: Syntax,
     target: EsVersion,
     bodies: B,
+    levels: usize,
 ) -> Whole<PatId, B>
     ensures stands { IfOk result.read (λ r. From 0 result.nodes (pat_part r.0)) }
     ensures headline { IsHeeded ctx syntax
@@ -94,17 +103,20 @@ pub fn parse_whole_pat<B: Bodies<TokensInput>>(
 {
     let source = TokensInput::new(alloc, tokens, ctx, syntax, target);
     let mut parser = Parser::new_from(alloc, source, bodies);
+    parser.limit_nesting(levels);
     let read = try_whole_pat(&mut parser);
     let recorded = parser.take_errors();
+    let too_deep = parser.is_too_deep();
     let nodes = parser.into_nodes();
     Whole {
         read,
         nodes,
         recorded,
+        too_deep,
     }
 }
 
-/// Reads one pattern: its number, and whether tokens are left behind it.
+/// Reads one pattern: its number, and whether tokens are left after it.
 fn try_whole_pat<B: Bodies<TokensInput>>(
     parser: &mut Parser<TokensInput, B>,
 ) -> PResult<(PatId, bool)>

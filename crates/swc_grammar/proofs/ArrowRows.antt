@@ -94,7 +94,7 @@ module _ {F C K : Type 0} (hook : Hook F C K) where
   unfolding answer
   arguments_alone = refl
 
-  -- behind a list a `=>` on a line of its own lets nothing be read, nor does one behind a list that is an operand
+  -- after a list a `=>` on a line of its own lets nothing be read, nor does one after a list that is an operand
   list_and_line : answer hook script
       (open_at 0 1 ∷ a 1 2 ∷ close_at 2 3 ∷ tk token.Arrow true (place 4 6) ∷ b 7 8 ∷ []) ≡ None
   unfolding answer
@@ -105,7 +105,7 @@ module _ {F C K : Type 0} (hook : Hook F C K) where
   unfolding answer
   operand_and_arrow = refl
 
-  -- behind a name that is an operand it is left
+  -- after a name that is an operand it is left
   name_and_arrow : (t : Tree F C K)
       × (answer hook script (one 0 1 ∷ sign_at sign.Add 2 3 ∷ a 4 5 ∷ to_at 6 8 ∷ b 9 10 ∷ [])
       ≡ Some (t, to_at 6 8 ∷ b 9 10 ∷ []))
@@ -164,7 +164,7 @@ module _ {F C K : Type 0} (hook : Hook F C K) where
   unfolding answer
   rest_holes = refl
 
--- () => {}; behind it `|| a` lets nothing be read, and `in a` is left
+-- () => {}; after it `|| a` lets nothing be read, and `in a` is left
 module _ {F C : Type 0} where
   block_body : (t : Tree F C Span) × (answer braces script
       (open_at 0 1 ∷ close_at 1 2 ∷ to_at 3 5 ∷ brace_at 6 7 ∷ unbrace_at 7 8 ∷ []) ≡ Some (t, []))

@@ -198,7 +198,7 @@ module _ {F C K : Type 0} (hook : Hook F C K) where
   unfolding answer
   await_param_async = refl
 
-  -- async (x = await a) => 1: as an argument, which is read before what stands behind the list is seen; so in a script,
+  -- async (x = await a) => 1: as an argument, which is read before what is after the list is seen; so in a script,
   -- and in async code, but not in a function that is none
   await_default : (t : Tree F C K) × (answer hook script
       (async ∷ open_at 6 7 ∷ x 7 8 ∷ equals_at 9 10 ∷ await 11 16 ∷ a 17 18 ∷ close_at 18 19 ∷ to_at 20 22 ∷ one 23 24
@@ -291,13 +291,13 @@ module _ {F C K : Type 0} (hook : Hook F C K) where
   unfolding answer
   cover_new = (_, refl)
 
-  -- nor behind a line break, where it is a call of a name too: async, line break, ({a = 1})
+  -- nor after a line break, where it is a call of a name too: async, line break, ({a = 1})
   cover_apart : (t : Tree F C K) × (answer hook script
       (async ∷ tk token.LParen true (place 6 7) ∷ cover_at 7 (close_at 14 15 ∷ [])) ≡ Some (t, []))
   unfolding answer
   cover_apart = (_, refl)
 
-  -- async, line break, (x); and `=>` behind it is left
+  -- async, line break, (x); and `=>` after it is left
   call_apart : answer hook script (async ∷ tk token.LParen true (place 6 7) ∷ x 7 8 ∷ close_at 8 9 ∷ to_at 10 12
       ∷ one 13 14 ∷ [])
       ≡ Some (
@@ -375,7 +375,7 @@ module _ {F C K : Type 0} (hook : Hook F C K) where
   unfolding answer
   of_member = (_, refl)
 
--- async x => {}, and `|| a` behind it is left; async () => {}, behind which `|| a` lets nothing be read
+-- async x => {}, and `|| a` after it is left; async () => {}, after which `|| a` lets nothing be read
 module _ {F C : Type 0} where
   block_body : (t : Tree F C Span) × (answer braces script
       (async ∷ x 6 7 ∷ to_at 8 10 ∷ brace_at 11 12 ∷ unbrace_at 12 13 ∷ sign_at sign.LogicalOr 14 16 ∷ a 17 18 ∷ [])

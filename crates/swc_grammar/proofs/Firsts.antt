@@ -74,7 +74,7 @@ use Rattle.swc_context.specs.declared.word.Word.{Word}
 use Rattle.swc_grammar.specs.Reads.{calm-two}
 use Rattle.swc_context.specs.Reserved.{strict_binding_words}
 
--- X holds where the rest of a side, behind the token that it tests, can be followed
+-- X holds where the rest of a side, after the token that it tests, can be followed
 abbrev pub Under : {F C K A : Type 0} → Type 0 → Rule Symbol (Answer F C K) Body (Value F C K) A → Type 0
 Under X (check b r) = b ≡ true → Under X r
 Under X never = Unit {0}
@@ -204,7 +204,7 @@ async-first c t s n h = absurd cc
 joined : (a b : Bool) → a ≡ true → b ≡ true → (a && b) ≡ true
 joined a b h k = rw (h, k) refl
 
--- a reference that an arrow may stand behind, whether it may be bound or not
+-- a reference that an arrow may are after, whether it may be bound or not
 pub alone-first : (c : Scope) (t : Token) → is_alone c.context t ≡ true → begins_primary c t ≡ true
 alone-first c (token.Word w) h = by-word (is_put_off w) refl (both (is_reference c.context w) (is_arrow_word w) h).0
   where

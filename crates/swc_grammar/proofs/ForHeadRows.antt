@@ -43,7 +43,7 @@ semi lo hi = tok token.Semi lo hi
 abbrev await : ℕ → ℕ → TokenAndSpan
 await lo hi = word_at (word.Keyword keyword.Await) lo hi
 
--- `async` at the start; `of x` and `in x` behind it or another word
+-- `async` at the start; `of x` and `in x` after it or another word
 abbrev async : TokenAndSpan
 async = name_at (codes "async") 0 5
 
@@ -219,7 +219,7 @@ module _ {F C K : Type 0} (hook : Hook F C K) where
   unfolding run
   await_apart = refl
 
-  -- yield of x, in a generator: an expression, behind which `x` is left
+  -- yield of x, in a generator: an expression, after which `x` is left
   yield_of : for_head hook false generator
       (word_at (word.Keyword keyword.Yield) 0 5 ∷ name_at (codes "of") 6 8 ∷ x 9 10 ∷ [])
       ≡ Some (for_expr (yield_e (place 0 8) false (ident (codes "of") 6 8)), x 9 10 ∷ [])

@@ -131,7 +131,7 @@ module _ {F C K : Type 0} (hook : Hook F C K) where
       → for_head hook is_await c xs ≡ None → HeadStops ys → ReadsHead hook is_await c xs ys h → ⊥
   head-refused n s d = let k = head-front d s in absurd cc
 
--- Of what follows a head its first token decides, and nothing behind that: the rest may be taken away. That token may not,
+-- Of what follows a head its first token decides, and nothing after that: the rest may be taken away. That token may not,
 -- as before the end each head is an expression.
 module _ {F C K : Type 0} {hook : Hook F C K} {is_await : Bool} {c : Scope} where
   pub head-cut : {h : ForHead F C K} (xs : List TokenAndSpan) (y : TokenAndSpan) (ys zs : List TokenAndSpan)
@@ -144,7 +144,7 @@ module _ {F C K : Type 0} {hook : Hook F C K} {is_await : Bool} {c : Scope} wher
   head-consumed (target-head d a k n) = consumed d
   head-consumed (expr-head d n) = consumed d
 
-  -- so a head is one of its own tokens and the one behind them
+  -- so a head is one of its own tokens and the one after them
   pub head-next : {h : ForHead F C K} (own ys : List TokenAndSpan) → ReadsHead hook is_await c (own ++ ys) ys h
       → ReadsHead hook is_await c (own ++ next ys) (next ys) h
   head-next own [] d = d

@@ -392,7 +392,7 @@ module _ {F C K : Type 0} where
       (leaf (call_e s l (items_of es)) (rw (g.valid, items-valid es k.valid) refl) refl
       (rw (g.grouped, items-grouped es k.grouped) refl) (omega arith))
 
-  -- elements behind a hole
+  -- elements after a hole
   put-valid : (ps : Trees F C K) → are_valid ps ≡ true → are_valid (put_element true hole_e ps) ≡ true
   put-valid nil h = refl
   put-valid (cons p ps) h = h

@@ -30,7 +30,7 @@ same-if : {A B D : Type 0} (f : A → D) (g : B → D) (b : Bool) (x y : A) (u v
 same-if f g true x y u v h k = h refl
 same-if f g false x y u v h k = k refl
 
--- behind `async`, where it begins neither an arrow function with a name nor a list
+-- after `async`, where it begins neither an arrow function with a name nor a list
 quiet-case : (l f p q o w : Bool) → (not l && p) ≡ false → ((not l && q) && not (o && not w)) ≡ false
     → (not l && (f || (true && (p || (q && not o))))) ≡ (not l && (f || (false && (p || (q && not o)))))
 quiet-case true f p q o w h k = refl
@@ -179,7 +179,7 @@ module _ {F C K : Type 0} (hook : Hook F C K) where
         (λ h. prefixed (prefix_at (first ts))))
         ∙ sym_path (knot hook (sym Unary) (inner c) ts)
 
-    -- and operators behind it
+    -- and operators after it
     pub level-run : run hook (sym (Level 1)) (at_head c) ts ≡ run hook (sym (Level 1)) (inner c) ts
     level-run =
         let f : Plan F C K (Tree F C K) → Out (Tree F C K) = λ v. exec hook (run hook) (Some 12) v ts in

@@ -159,7 +159,7 @@ module _ {F C K : Type 0} (hook : Hook F C K) where
   links_split (suc n) c l ts h =
       split_by c l ts (λ e vs lt. links_split n c e vs (omega (arith, lt, h))) (beside ts) refl refl
 
-  -- behind those without calls no more of them come
+  -- after those without calls no more of them come
   ends_by : (c : Scope) (l : Tree F C K) (ts : List TokenAndSpan) (r : Tree F C K × List TokenAndSpan)
       → ((e : Tree F C K) (vs : List TokenAndSpan) → length vs < length ts
       → run hook (links false e) c vs ≡ Some r → no_link false r.1 ≡ true)
@@ -306,7 +306,7 @@ module _ {F C K : Type 0} (hook : Hook F C K) where
       (with_calls (inner c)))
       ∙ flip (ap (λ o. and_then o (with_calls (inner c))) (on_new false c t us n))
 
-  -- one that holds no calls, and links behind it that may be calls
+  -- one that holds no calls, and links after it that may be calls
   pub lhs_parts : (c : Scope) (ts : List TokenAndSpan) → at_token is_super (first ts) ≡ false
       → at_token is_import (first ts) ≡ false
       → run hook (sym (Lhs true)) c ts ≡ and_then (run hook (sym (Lhs false)) c ts) (with_calls (inner c))

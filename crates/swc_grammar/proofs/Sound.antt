@@ -72,7 +72,7 @@ use Rattle.swc_input.specs.Kinds.{is_hash}
 use Rattle.swc_grammar.proofs.Induct.{follows-given}
 use Rattle.swc_grammar.proofs.Only.{lparen-is}
 
--- What stands on the left of the operators above the precedence m: an operand by itself; a node, behind which no
+-- What stands on the left of the operators above the precedence m: an operand by itself; a node, after which no
 -- operator is read that its own level has to take, and no `**`; or `#` and a name before an `in` that takes them.
 pub data OnLeft {F C K : Type 0} (hook : Hook F C K) (c : Scope) (m : ℕ) (xs ts : List TokenAndSpan)
     (l : Tree F C K) : Type 0 where
@@ -84,7 +84,7 @@ pub data OnLeft {F C K : Type 0} (hook : Hook F C K) (c : Scope) (m : ℕ) (xs t
       → Reads hook (Level 8) (inner c) us ys r
       → Reads hook (Level 7) c xs ys (bin_e (to (span_of l) (span_of r)) binary.In l r)) → OnLeft hook c m xs ts l
 
--- What is read as a left-hand side: one with links, or `new` without arguments, behind which none stand.
+-- What is read as a left-hand side: one with links, or `new` without arguments, after which none stand.
 pub data Sided {F C K : Type 0} (hook : Hook F C K) (b : Bool) (c : Scope) (xs ts : List TokenAndSpan)
     (l : Tree F C K) : Type 0 where
   linked-side : Reads hook (Left b) c xs ts l → Sided hook b c xs ts l
@@ -239,7 +239,7 @@ module _ {F C K : Type 0} (hook : Hook F C K)
   choice-sound g (pick {r = x} q) ts r h = by q (side-sound g x ts r h)
   choice-sound g (pick_apart {r = x} q) ts r h = by q (side-sound g x ts r (apart-read hook p g (plan x) ts r h).0)
 
-  -- a call that stands last, and one with something behind it
+  -- a call that stands last, and one with something after it
   last-sound : (g : Option ℕ) (k : Call F C K) (c : Scope) (ts : List TokenAndSpan)
       (r : Ans F C K k × List TokenAndSpan)
       → exec hook p g (read k c (λ v. gives v)) ts ≡ Some r → Means hook k c ts r
@@ -261,7 +261,7 @@ module _ {F C K : Type 0} (hook : Hook F C K)
   is-false true h = absurd cc
   is-false false h = refl
 
-  -- Behind a left-hand side `++` or `--`; behind operators the rest of a conditional, or of an assignment; behind
+  -- After a left-hand side `++` or `--`; after operators the rest of a conditional, or of an assignment; after
   -- expressions a comma and one more.
   updates-sound : (c : Scope) (i : Bool) (l : Tree F C K) (xs ts : List TokenAndSpan)
       (r : Tree F C K × List TokenAndSpan)
@@ -330,7 +330,7 @@ module _ {F C K : Type 0} (hook : Hook F C K)
       call-sound (Some 15) (sym Assign) c (λ e. read (seqs (cons e nil)) c (λ v. gives v)) ts r h in
       last-sound (Some 15) (seqs (cons q.0 nil)) c q.1 r k ts (exprs_e (cons q.0 nil)) refl (by exprs-one (part e gave))
 
-  -- a list in parentheses, and what stands behind it
+  -- a list in parentheses, and what is after it
   heads-held : (c : Scope) (a : TokenAndSpan) (es : Tree F C K) (ps : Trees F C K) (xs ts : List TokenAndSpan)
       {ys : List TokenAndSpan} {t : Tree F C K} → is_lparen a.token ≡ true → as_params es ≡ Some ps
       → Reads hook (Args false) (with_in c) xs ts es
@@ -340,7 +340,7 @@ module _ {F C K : Type 0} (hook : Hook F C K)
   heads-held c a es ps xs ts y e d (held j w) =
       by arrow-heads (part (by heads (took (held y (part d (follows-given (as_params es) _ ps e (held j gave)))))) w)
 
-  -- a primary expression at the head, and what stands behind it
+  -- a primary expression at the head, and what is after it
   behind-sound : (c : Scope) (l0 : Tree F C K) (xs ts : List TokenAndSpan) (r : Tree F C K × List TokenAndSpan)
       → at_token is_await (first xs) ≡ false → Reads hook Primary (at_head c) xs ts l0
       → exec hook p (Some 2) (behind_base c l0) ts ≡ Some r → Reads hook Assign c xs r.1 r.0
@@ -386,7 +386,7 @@ module _ {F C K : Type 0} (hook : Hook F C K)
       call-sound None (sym (Args false)) (with_in c) (λ es. read (parens t.span es) c (λ v. gives v)) us r h in
       last-sound None (parens t.span q.0) c q.1 r k t us z refl e
 
-  -- the same behind `async`
+  -- the same after `async`
   async-heads-held : (c : Scope) (n : Spelling) (a b : TokenAndSpan) (es : Tree F C K) (ps : Trees F C K)
       (xs ts : List TokenAndSpan)
       {ys : List TokenAndSpan} {t : Tree F C K} → async_name c a.token a.span ≡ Some n → not b.had_line_break ≡ true
@@ -473,7 +473,7 @@ module _ {F C K : Type 0} (hook : Hook F C K)
           call-sound (Some 11) (sym (Lhs true)) c (λ l. read (updates l) (inner c) (λ v. gives v)) ts r j in
           last-sound (Some 11) (updates q.0) (inner c) q.1 r k c.head ts y (side-read hook e)
 
-  -- a link, and what stands behind it
+  -- a link, and what is after it
   link-sound : {b : Bool} {c : Scope} (i : Bool) (g : Option ℕ) (x : Link F C K b c) (l : Tree F C K)
       (xs ts : List TokenAndSpan) (r : Tree F C K × List TokenAndSpan)
       → Reads hook (Left b) (with_head i c) xs ts l → exec hook p g (linked x l) ts ≡ Some r
@@ -493,7 +493,7 @@ module _ {F C K : Type 0} (hook : Hook F C K)
       let (q, e, k) = call-sound (Some 10) (sym (Base b)) c (λ e. read (links b e) (inner c) (λ v. gives v)) ts r h in
       last-sound (Some 10) (links b q.0) (inner c) q.1 r k c.head ts (by left-base (part e gave))
 
-  -- behind `new` and what it constructs
+  -- after `new` and what it constructs
   constructs-sound : (g : Option ℕ) (b : Bool) (c : Scope) (i : Bool) (a : TokenAndSpan) (s : Span) (l : Tree F C K)
       (xs ts : List TokenAndSpan) (r : Tree F C K × List TokenAndSpan) → is_new a.token ≡ true → a.span ≡ s
       → not (is_chain l) ≡ true → Sided hook false (inner c) xs ts l
@@ -623,7 +623,7 @@ module _ {F C K : Type 0} (hook : Hook F C K)
       last-sound None (climb (bin_e (to (span_of l) (span_of q.0)) op l q.0) m) c q.1 r h5 small i xs
       (node (precedence_of op) above (below-exp op) whole own below))
 
-  -- `#` and a name before `in`, and operators behind them
+  -- `#` and a name before `in`, and operators after them
   private-sound : (c : Scope) (m : ℕ) (ts : List TokenAndSpan) (r : Tree F C K × List TokenAndSpan)
       → begins_private (nat_lt m 7) c ts ≡ true
       → exec hook p (Some 12) (private_operand c >>= (λ e. read (climb e m) (inner c) (λ v. gives v))) ts ≡ Some r

@@ -95,10 +95,10 @@ abbrev pub hear_then : {V A : Type 0} → Out V → List TokenAndSpan → (V →
 hear_then None ts f = None
 hear_then (Some p) ts f = if nat_lt (length p.1) (length ts) then f p.0 (whole_span (before ts p.1)) p.1 else None
 
--- Where the recursion goes on: at a symbol; behind a left-hand side that was read so far, at its links, with calls or
--- without; behind `new`, at its place, and what is constructed, at the arguments, or none; behind a left-hand side, at
--- `++` or `--`; behind an operand, at the operators above the precedence m; behind what these are read to, at `?` or an
--- operator that writes; and behind expressions with commas between them, at the next comma.
+-- Where the recursion goes on: at a symbol; after a left-hand side that was read so far, at its links, with calls or
+-- without; after `new`, at its place, and what is constructed, at the arguments, or none; after a left-hand side, at
+-- `++` or `--`; after an operand, at the operators above the precedence m; after what these are read to, at `?` or an
+-- operator that writes; and after expressions with commas between them, at the next comma.
 pub data Call (F C K : Type 0) : Type 0 where
   sym : Symbol → Call F C K
   links : Bool → Tree F C K → Call F C K
@@ -108,7 +108,7 @@ pub data Call (F C K : Type 0) : Type 0 where
   assigns : Tree F C K → Call F C K
   seqs : Trees F C K → Call F C K
   defaults : Tree F C K → Call F C K
-  -- behind a list in parentheses, at its place, where an arrow may stand; and behind `async` and such a list
+  -- after a list in parentheses, at its place, where an arrow may stand; and after `async` and such a list
   parens : Span → Tree F C K → Call F C K
   asyncs : Spelling → Tree F C K → Call F C K
 
@@ -279,7 +279,7 @@ no_assign_at (Some t) = not (is_question t.token) && not (is_assign t.token)
 abbrev pub ends_assign : List TokenAndSpan → Bool
 ends_assign ts = ends_unary ts && no_assign_at (first ts)
 
--- `yield`, where it is an operator; whether what stands behind it goes on with it; and whether what stands behind
+-- `yield`, where it is an operator; whether what is after it goes on with it; and whether what is after
 -- `await` makes it an identifier, outside async code
 abbrev pub begins_yield : Scope → List TokenAndSpan → Bool
 begins_yield c ts = at_token is_yield (first ts) && c.context.in_generator
@@ -296,7 +296,7 @@ ends_await_at (Some t) = ends_await t
 abbrev pub begins_new : List TokenAndSpan → Bool
 begins_new ts = at_token is_new (first ts) && not (at_token is_dot (second ts))
 
--- A reference alone, and `=>` behind it on its line: an arrow function and no other expression, even where that name
+-- A reference alone, and `=>` after it on its line: an arrow function and no other expression, even where that name
 -- may not stand or not be bound (an early error, which the code records).
 abbrev pub is_alone : Context → Token → Bool
 is_alone c t = at_word (λ w. is_reference c w && is_arrow_word w) t
@@ -308,7 +308,7 @@ is_arrow_here (Some t) = not t.had_line_break && is_arrow t.token
 abbrev pub begins_arrow : Scope → List TokenAndSpan → Bool
 begins_arrow c ts = at_token (is_alone c.context) (first ts) && is_arrow_here (second ts)
 
--- `async`, and on its line `(`, or a word that may be bound; where that may be `of` alone, `=>` behind it
+-- `async`, and on its line `(`, or a word that may be bound; where that may be `of` alone, `=>` after it
 abbrev pub is_lparen_here : Option TokenAndSpan → Bool
 is_lparen_here None = false
 is_lparen_here (Some t) = not t.had_line_break && is_lparen t.token
@@ -374,7 +374,7 @@ Stop (ArrowBody is_async) c ys = (ends_assign ys ≡ true) × Bound (in_context 
 Stop Assign c ys = (ends_assign ys ≡ true) × Bound c 0 ys
 Stop Item c ys = (ends_assign ys ≡ true) × Bound c 0 ys
 
--- a choice: none of a symbol's productions, or one; or one behind which no `=>` may come next, which would be read as
+-- a choice: none of a symbol's productions, or one; or one after which no `=>` may come next, which would be read as
 -- that of an arrow function
 pub data Choice (F C K : Type 0) (s : Symbol) (c : Scope) : Type 0 where
   none : Choice F C K s c
@@ -398,8 +398,8 @@ module _ {F C K : Type 0} where
   chosen (pick {r = r} p) = plan r
   chosen (pick_apart {r = r} p) = plan r >>= apart
 
-  -- What stands behind a part that was read: behind a left-hand side `++` or `--`; behind operators `?` and the rest of
-  -- a conditional, or an operator that writes and what it writes; behind expressions a comma and one more.
+  -- What is after a part that was read: after a left-hand side `++` or `--`; after operators `?` and the rest of
+  -- a conditional, or an operator that writes and what it writes; after expressions a comma and one more.
   abbrev pub update_tail : Scope → Tree F C K → Side F C K Unary
   update_tail c l = do
     (op, s) ← one_on_line update_here
@@ -452,7 +452,7 @@ module _ {F C K : Type 0} where
     e ← symbol (sym Assign) c
     symbol (seqs (cons e nil)) c
 
-  -- behind `yield`: an operand or none, by the token that stands there
+  -- after `yield`: an operand or none, by the token that stands there
   abbrev pub yield_by : (c : Scope) → Option TokenAndSpan → Choice F C K Assign c
   yield_by c u =
       if not (yield_ok c.context) then none else
@@ -464,13 +464,13 @@ module _ {F C K : Type 0} where
     e ← symbol (sym (Level 1)) (at_head c)
     symbol (assigns e) c
 
-  -- a list in parentheses, of which the token behind it tells what it is
+  -- a list in parentheses, of which the token after it tells what it is
   abbrev pub listed_head : Scope → Plan F C K (Tree F C K)
   listed_head c = take (λ t. do
     es ← symbol (sym (Args false)) (with_in c)
     symbol (parens t.span es) c)
 
-  -- the same behind `async`
+  -- the same after `async`
   abbrev pub async_head : Scope → Plan F C K (Tree F C K)
   async_head c = do
     n ← one (async_name c)
@@ -487,7 +487,7 @@ module _ {F C K : Type 0} where
       (if begins_async_list ts then async_head c else
       (if at_token no_error (first ts) then assigned c else never)))))
 
-  -- behind that list: the rest of an arrow function, or what stands behind an expression in parentheses
+  -- after that list: the rest of an arrow function, or what is after an expression in parentheses
   abbrev pub arrow_tail : Scope → Tree F C K → Side F C K Assign
   arrow_tail c hs = do
     token_on_line is_arrow
@@ -512,7 +512,7 @@ module _ {F C K : Type 0} where
   paren_tail c s es =
       check (paren_ok c.syntax.pedantic es) (behind_base c (paren_e (to s (span_of es)) (seq_of (held_exprs (items_of es)))))
 
-  -- behind that list after `async`: the rest of an arrow function, or what stands behind a call
+  -- after that list after `async`: the rest of an arrow function, or what is after a call
   abbrev pub async_arrow_tail : Scope → Spelling → Tree F C K → Side F C K Assign
   async_arrow_tail c n hs = do
     token_on_line is_arrow
@@ -531,7 +531,7 @@ module _ {F C K : Type 0} where
       check (covers_ok c.syntax.pedantic es)
       (behind_base c (call_e (to n.at (span_of es)) (ident_e n.at n.text) (items_of es)))
 
-  -- behind `await`: an operand or none, by the token that stands there
+  -- after `await`: an operand or none, by the token that stands there
   abbrev pub await_by : (c : Scope) → Option TokenAndSpan → Choice F C K Unary c
   await_by c u =
       if at_token is_star u then none else
@@ -569,7 +569,7 @@ module _ {F C K : Type 0} where
   linked no_more l = gives l
   linked {b = b} {c = c} (more {f = f} p) l = take (λ t. plan (f l t) >>= (λ e. symbol (links b e) c))
 
-  -- The link that comes next, by its first token; behind a `.` by the next one, and behind `?` and `.` too.
+  -- The link that comes next, by its first token; after a `.` by the next one, and after `?` and `.` too.
   abbrev pub dot_link : {b : Bool} {c : Scope} → Option TokenAndSpan → Link F C K b c
   dot_link u = if at_token is_hash u then more (λ i. member-private) else more (λ i. member-name)
 
@@ -591,7 +591,7 @@ module _ {F C K : Type 0} where
       (if at_token is_question (first ts) && at_token is_dot (second ts) then chain_link (third ts) else
       call_link b (first ts))))
 
-  -- What a left-hand side with links begins with: where that is `super` or `import`, by the token behind it, and behind a
+  -- What a left-hand side with links begins with: where that is `super` or `import`, by the token after it, and after a
   -- `.` by the next one. And `new`, but for `new.target`: what it constructs, and its arguments, or none.
   abbrev pub super_call : (b : Bool) {c : Scope} → Choice F C K (Base b) c
   super_call true = pick super-call
@@ -644,7 +644,7 @@ module _ {F C K : Type 0} where
   abbrev pub args_tail : (i : Bool) (c : Scope) → List TokenAndSpan → Choice F C K (ArgsTail i) c
   args_tail i c ts = if at_token is_comma (first ts) then pick args-tail-more else pick args-tail-end
 
-  -- `async`, behind which no `function` stands
+  -- `async`, after which no `function` stands
   abbrev pub async_primary : (c : Scope) → Option TokenAndSpan → Choice F C K Primary c
   async_primary c u = if c.head && is_lparen_here u then pick_apart async-call else pick async-ident
 
@@ -693,7 +693,7 @@ module _ {F C K : Type 0} where
   abbrev pub async_method : {c : Scope} → Option TokenAndSpan → Choice F C K Prop c
   async_method u = if at_token is_star u then pick prop-async-generator else pick prop-async
 
-  -- A property that begins with a word: first by the token behind it, then by the word. A `?` there is a fault.
+  -- A property that begins with a word: first by the token after it, then by the word. A `?` there is a fault.
   abbrev pub prop_word : {c : Scope} → Option TokenAndSpan → Option TokenAndSpan → Choice F C K Prop c
   prop_word t u =
       if at_token ends_prop u then pick prop-short else
@@ -750,7 +750,7 @@ module _ {F C K : Type 0} where
   abbrev pub pat_props_tail : (c : Scope) → List TokenAndSpan → Choice F C K PatPropsTail c
   pat_props_tail c ts = if at_token is_comma (first ts) then pick pat-props-tail-more else pick pat-props-tail-end
 
-  -- a property that begins with a word, by the token behind it
+  -- a property that begins with a word, by the token after it
   abbrev pub pat_prop_word : {c : Scope} → Option TokenAndSpan → Choice F C K PatProp c
   pat_prop_word u =
       if at_token is_colon u then pick pat-prop-key else
@@ -770,7 +770,7 @@ module _ {F C K : Type 0} where
   abbrev pub arrow_block : (is_async : Bool) (c : Scope) → List TokenAndSpan → Choice F C K (ArrowBody is_async) c
   arrow_block is_async c ts = if begins is_brace ts then pick body-block else pick body-expr
 
-  -- behind an operator: what stands right of it, and their node, with the least precedence to go on with
+  -- after an operator: what stands right of it, and their node, with the least precedence to go on with
   abbrev pub bin_op : BinaryOp → Tree F C K → ℕ → Scope → Plan F C K (Tree F C K × Option ℕ)
   bin_op op l m c = do
     must (exp_ok op l)

@@ -81,7 +81,7 @@ pub record ReadsHeadUnmarked {F C K : Type 0} (hook : Hook F C K) (is_await : Bo
   pub read : ReadsHead hook is_await c xs ys marked
   pub same : unmarked_head marked ≡ h
 
--- Of what follows a head its first token decides, and nothing behind that.
+-- Of what follows a head its first token decides, and nothing after that.
 abbrev pub next : List TokenAndSpan → List TokenAndSpan
 next [] = []
 next (y ∷ ys) = y ∷ []

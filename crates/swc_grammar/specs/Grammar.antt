@@ -45,7 +45,7 @@ use Rattle.swc_grammar.specs.Parts.{update_here, assign_here, operator_here, imp
 use Rattle.swc_grammar.specs.Cover.{as_literal, as_params, heads_ok}
 
 pub data Production {F C K : Type 0} : (s : Symbol) → Scope → Side F C K s → Type 0 where
-  -- Identifier references (13.1), of which `async` is one where nothing behind it makes it more
+  -- Identifier references (13.1), of which `async` is one where nothing after it makes it more
   ident-expr : {c : Scope} → Production Primary c (do
     n ← one (reference c)
     gives (ident_e n.at n.text))
@@ -72,7 +72,7 @@ pub data Production {F C K : Type 0} : (s : Symbol) → Scope → Side F C K s �
     e ← one lit_of
     gives e)
   primary-literal : {c : Scope} → Production Primary c (symbol Literal (inner c))
-  -- Regular expressions (13.2.7), as a token alone, or behind the slash at which a lexer found it
+  -- Regular expressions (13.2.7), as a token alone, or after the slash at which a lexer found it
   regex-alone : {c : Scope} → Production Primary c (do
     e ← one regex_of
     gives e)
@@ -229,7 +229,7 @@ pub data Production {F C K : Type 0} : (s : Symbol) → Scope → Side F C K s �
     es ← symbol (Args false) (with_in c)
     must (paren_ok c.syntax.pedantic es)
     gives (paren_e (to s (span_of es)) (seq_of (held_exprs (items_of es)))))
-  -- Left-hand sides (13.3): with links, or `new` without arguments (NewExpression, 13.3.5), behind which no link is read.
+  -- Left-hand sides (13.3): with links, or `new` without arguments (NewExpression, 13.3.5), after which no link is read.
   -- What is constructed is no optional chain.
   lhs-left : {c : Scope} {b : Bool} → Production (Lhs b) c (symbol (Left b) c)
   new-bare : {c : Scope} {b : Bool} → Production (Lhs b) c (do
@@ -377,7 +377,7 @@ pub data Production {F C K : Type 0} : (s : Symbol) → Scope → Side F C K s �
     es ← symbol (Args i) c
     must (comma_ok (not i || import_comma_ok c) es)
     gives (behind_comma s es))
-  -- UpdateExpression (13.4): what is written to is a valid simple target, and an operator behind it stands on its line.
+  -- UpdateExpression (13.4): what is written to is a valid simple target, and an operator after it stands on its line.
   -- No left-hand side that is an operand by itself begins with `await`.
   unary-left : {c : Scope} → Production Unary c (do
     ahead (λ t. is_await t.token)
@@ -508,7 +508,7 @@ pub data Production {F C K : Type 0} : (s : Symbol) → Scope → Side F C K s �
     s ← token is_brace
     ps ← symbol PatProps c
     gives (object_p (to s (span_of ps)) (items_of ps)))
-  -- with an initialiser (SingleNameBinding, BindingElement), in which `in` is an operator; and behind dots
+  -- with an initialiser (SingleNameBinding, BindingElement), in which `in` is an operator; and after dots
   element-pat : {c : Scope} → Production Element c (symbol Pat c)
   element-default : {c : Scope} → Production Element c (do
     p ← symbol Pat c
@@ -615,7 +615,7 @@ pub data Production {F C K : Type 0} : (s : Symbol) → Scope → Side F C K s �
     b ← symbol (ArrowBody false) c
     ahead (λ t. is_block b && is_sign t.token)
     gives (arrow_e (to (span_of hs) (span_of b)) false b (items_of hs)))
-  -- Async arrow functions (15.9): the word behind `async` stands on its line, and so does the `(`.
+  -- Async arrow functions (15.9): the word after `async` stands on its line, and so does the `(`.
   arrow-async-name : {c : Scope} → Production Assign c (do
     s ← one (async_name c)
     n ← one_on_line (async_param c)

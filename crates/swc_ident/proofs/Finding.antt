@@ -94,14 +94,6 @@ module _ {S : Type 0} {model : Model S} where
 
   -- ---- after a look
 
-  pub unnamed_later : {judge : Judges} {b c d : Buffer S} {e : Error} → Laws model → Looked model b c → Unnamed model judge c e d → Unnamed model judge b e d
-  unnamed_later laws l (no_memory xs r k) = let x = reads_then laws (looked_reads l) (xs, r) in no_memory x.0 x.1 k
-  unnamed_later laws l (not_fit r f) = not_fit (record { here = r.here; looked = looked_then laws l r.looked; read = r.read; lives = r.lives; answer = r.answer }) f
-  unnamed_later laws l (no_word r fits f) = no_word (record { here = r.here; looked = looked_then laws l r.looked; read = r.read; lives = r.lives; answer = r.answer }) fits f
-  unnamed_later {judge = judge} laws l (refused_word {w = w} {at = at} {spoken = s0} {noted = n0} s v n r) =
-      let P : List Fault → Type 0 = λ fs. Notes model at fs s0 n0 in
-      refused_word (passed_later laws l s) (ap (λ x. (judge x w).refusal) (sym (same_context l)) ∙ v) (subst P (ap (λ x. (judge x w).faults) (same_context l)) n) r
-
   pub named_later : {judge : Judges} {text : List ℕ} {at : Span} {b c d : Buffer S} → Laws model → Looked model b c → Named model judge text at c d → Named model judge text at b d
   named_later {judge = judge} {at = at} {d = d} laws l n =
       let x = reads_then laws (looked_reads l) (n.consumed, n.read) in
@@ -182,7 +174,7 @@ module _ {S : Type 0} {model : Model S} where
       let P : List Fault → Type 0 = λ fs. Notes model at fs c d in
       refused_word s (ap (λ x. (judge x w).refusal) (sym here) ∙ refuses) (subst P (same ∙ ap (λ x. (judge x w).faults) here) n) r
 
-  -- where a word is current, only want of memory keeps a name from being read
+  -- where a word is current, only out of memory keeps a name from being read
   pub word_forgone : {b c : Buffer S} {e : Error} → at_token is_word (current b) ≡ true → Unnamed model name_of_any b e c → Forgone model b e c
   word_forgone h (no_memory xs r k) = record { consumed = xs; read = r; kind = k }
   word_forgone {b = b} h (not_fit r f) =
@@ -237,7 +229,7 @@ module _ {S : Type 0} {model : Model S} where
       let was : f s.took.was.token ≡ true = ap (at_token f) (sym s.took.current) ∙ here in
       ap (λ x. is_bindable x (token.Word w)) (sym (same_context l)) ∙ ap f s.took.token ∙ was
 
-  -- where a word that may be bound is current, the table alone and want of memory refuse it
+  -- where a word that may be bound is current, the table alone and out of memory refuse it
   pub unbindable_later : {b c d : Buffer S} {e : Error} → Laws model → Looked model b c → at_token (is_bindable (context model c)) (current c) ≡ true →
       Unnamed model binding_verdict c e d → Unbindable model b e d
   unbindable_later laws l may (no_memory xs r k) = let x = reads_then laws (looked_reads l) (xs, r) in no_memory_to_bind x.0 x.1 k

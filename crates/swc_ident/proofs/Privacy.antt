@@ -28,7 +28,7 @@ pub joins_hash : {S : Type 0} (b : Buffer S) (hash : Span) (next : BytePos) → 
 joins_hash b hash next h e = sym (next_is (current b) (last_position b) next h) ∙ same_position next hash.hi e
 
 module _ {S : Type 0} {model : Model S} where
-  -- want of memory behind the `#`
+  -- out of memory after the `#`
   pub private_forgone : {b c d : Buffer S} {e : Error} {at : Span} {last : BytePos} → Laws model → Hashed model b at c → Looked model c d → e ≡ rec.no_memory last → Unprivate model b e d
   private_forgone laws s l h = let x = reads_then laws (passed_reads laws s) (looked_reads l) in no_memory_either x.0 x.1 (ap (λ x. x.kind) h)
 

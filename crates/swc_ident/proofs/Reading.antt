@@ -76,6 +76,7 @@ module _ {S : Type 0} {model : Model S} where
           looked = l;
           read = subst P here r.read;
           lives = let L : Buffer S → Type 0 = λ v. Lives model v d in subst L here r.lives;
+          same = r.same ∙ ap source here;
           answer = subst Q here r.answer ∙ ap (λ x. refusal (current c) (model.state (source c)).failed (last_position c) x) same;
         },
         refl,
@@ -84,9 +85,9 @@ module _ {S : Type 0} {model : Model S} where
   -- what is refused at what was seen
   pub passed_over : {b c d : Buffer S} {f : Buffer S → Error} {e : Error} (v : Bool) → Laws model → Seen model b v c → Refused model c f e d →
       (x : Refused model b f e d) × (current x.here ≡ current c)
-  passed_over v laws s r = (record { here = r.here; looked = looked_then laws s.looked r.looked; read = r.read; lives = r.lives; answer = r.answer }, same_seen v laws s r.looked)
+  passed_over v laws s r = (record { here = r.here; looked = looked_then laws s.looked r.looked; read = r.read; lives = r.lives; same = r.same; answer = r.answer }, same_seen v laws s r.looked)
 
-  -- ---- want of memory
+  -- ---- out of memory
 
   pub forgone_here : {b : Buffer S} {e : Error} {at : BytePos} → Laws model → e ≡ rec.no_memory at → Forgone model b e b
   forgone_here {b} laws h = record { consumed = []; read = Read-same laws b; kind = ap (λ x. x.kind) h }

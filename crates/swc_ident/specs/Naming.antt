@@ -87,7 +87,7 @@ module _ {S : Type 0} (model : Model S) where
     pub consumed : List TokenAndSpan
     pub read : Read model b consumed c
 
-  -- Why no name was answered: want of memory; an error token, or the end; a token that is no word; or a word that isn't taken, which was
+  -- Why no name was answered: out of memory; an error token, or the end; a token that is no word; or a word that isn't taken, which was
   -- consumed, and whose faults were noted.
   pub data Unnamed (judge : Judges) (b : Buffer S) (e : Error) (c : Buffer S) : Type 0 where
     no_memory : (xs : List TokenAndSpan) → Read model b xs c → e.kind ≡ kind.OutOfMemory → Unnamed judge b e c
@@ -96,7 +96,7 @@ module _ {S : Type 0} (model : Model S) where
     refused_word : {w : Word} {k : SyntaxError} {at : Span} {spoken noted : Buffer S} → Spoken b w at spoken → (judge (context model b) w).refusal ≡ Some k →
         Notes at (judge (context model b) w).faults spoken noted → Refused model noted (λ here. fault_at at k) e c → Unnamed judge b e c
 
-  -- Why a word that may be bound where it stands isn't: memory was wanted; or the table refuses the word, which was consumed, and whose
+  -- Why a word that may be bound where it stands isn't: memory ran out; or the table refuses the word, which was consumed, and whose
   -- faults were noted. So the end and an error token are never refused.
   pub data Unbindable (b : Buffer S) (e : Error) (c : Buffer S) : Type 0 where
     no_memory_to_bind : (xs : List TokenAndSpan) → Read model b xs c → e.kind ≡ kind.OutOfMemory → Unbindable b e c

@@ -26,7 +26,7 @@ abbrev pub word_faults : Context → Word → List Fault
 word_faults c w = (ident_verdict true true c w).faults
 
 module _ {S : Type 0} (model : Model S) where
-  -- want of memory, whatever was consumed
+  -- out of memory, whatever was consumed
   pub record Forgone (b : Buffer S) (e : Error) (c : Buffer S) : Type 0 where
     pub consumed : List TokenAndSpan
     pub read : Read model b consumed c

@@ -202,7 +202,7 @@ pub fn parse_binding_ident<I: Tokens>(alloc: Global, input: &mut Buffer<I>) -> P
 /// A word that is bound, if one is current that `Context::is_reserved` doesn't reserve (ECMA-262, 13.1).
 ///
 /// Such a word is read as by `parse_binding_ident`. Before any other token, an error token too, and
-/// at the end the answer is `None`, and nothing is consumed: there only want of memory is refused.
+/// at the end the answer is `None`, and nothing is consumed: there only out of memory is refused.
 pub fn parse_opt_binding_ident<I: Tokens>(
     alloc: Global,
     input: &mut Buffer<I>,

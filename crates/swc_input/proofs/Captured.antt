@@ -21,7 +21,7 @@ last-ends (t ∷ u ∷ us) x xs o =
     let e : length (t ∷ u ∷ us) - 1 ≡ suc (length (u ∷ us) - 1) = omega arith in
     ap (λ n. is_late x.span.lo (slice_get (t ∷ u ∷ us) n)) e ∙ last-ends (u ∷ us) x xs o.1
 
--- where each token begins where the one before it ends, or behind, all are kept
+-- where each token begins where the one before it ends, or after, all are kept
 pub kept-one-by-one : (ts xs : List TokenAndSpan) → one_by_one (ts ++ xs) → kept_on ts xs ≡ ts ++ xs
 kept-one-by-one ts [] o = sym (append-nil ts)
 kept-one-by-one ts (x ∷ xs) o =
@@ -40,7 +40,7 @@ slash-goes : (a b : Token) → kept_of (token a 0 1 ∷ token b 0 3 ∷ []) ≡ 
 slash-goes a b = refl
 
 -- Of all that a new buffer, over a source of which nothing was kept yet, took from it, that is kept by the rule: what was consumed, and then
--- what is held. The source within gave the same, and behind it the token that was lost, if one was.
+-- what is held. The source within gave the same, and after it the token that was lost, if one was.
 pub captured : {S : Type 0} (model : Model S) (b c : Buffer (Capturing S)) (xs : List TokenAndSpan) → held b ≡ [] → tokens_kept (source b) ≡ [] →
     Took (capturing_model model) b xs c → map plain (tokens_kept (source c)) ≡ kept_of (xs ++ held c)
 captured model b c xs none new took =

@@ -32,7 +32,7 @@ counted_kind_fault kind.OutOfMemory = λ h. cc
 counted_kind_fault kind.ParserFailed = λ h. cc
 counted_kind_fault k = λ h. cc
 
--- the error of a token, as it counts, is never want of memory
+-- the error of a token, as it counts, is never out of memory
 pub counted_fault : (e : Error) → IsFault (counted e)
 counted_fault e = counted_kind_fault e.kind
 
@@ -57,15 +57,15 @@ module _ {S : Type 0} (model : Model S) where
   no_memory_by b c at (Ok u) d p = tt
   no_memory_by b c at (Err f) d p = (d.0, d.1, p)
 
-  pub refused_by : (b h c : Buffer S) (e : Buffer S → Error) (r : Error) → Looked model b h → Read model h (error_token (current h)) c → Lives model h c →
+  pub refused_by : (b h c : Buffer S) (e : Buffer S → Error) (r : Error) → Looked model b h → Read model h (error_token (current h)) c → Lives model h c → source c ≡ source h →
       r ≡ refusal (current h) (model.state (source h)).failed (last_position h) (e h) → Refused model b e r c
-  refused_by b h c e r l d v p = record { here = h; looked = l; read = d; lives = v; answer = p }
+  refused_by b h c e r l d v s p = record { here = h; looked = l; read = d; lives = v; same = s; answer = p }
 
   -- at a token that doesn't fit
-  pub unfit_by : (b h c : Buffer S) (e : Buffer S → Error) (r : Error) → Looked model b h → Read model h (error_token (current h)) c → Lives model h c →
+  pub unfit_by : (b h c : Buffer S) (e : Buffer S → Error) (r : Error) → Looked model b h → Read model h (error_token (current h)) c → Lives model h c → source c ≡ source h →
       r ≡ refusal (current h) (model.state (source h)).failed (last_position h) (e h) → is_fit (current h) ≡ false →
       (x : Refused model b e r c) × (is_fit (current x.here) ≡ false)
-  unfit_by b h c e r l d v p f = (record { here = h; looked = l; read = d; lives = v; answer = p }, f)
+  unfit_by b h c e r l d v s p f = (record { here = h; looked = l; read = d; lives = v; same = s; answer = p }, f)
 
   kept_at : (o : Option TokenAndSpan) (b h c : Buffer S) → current b ≡ o → Looked model b h → (error_here (current h) ≡ None → current c ≡ current h) →
       is_fit o ≡ true → current c ≡ o

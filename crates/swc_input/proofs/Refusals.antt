@@ -1,5 +1,5 @@
--- What a refusal may be: never the parser's own failure, and want of memory only where the source has failed.
-use Rattle.std.proofs.Common.{◌≡◌, ◌≢◌, Bool, true, false, not, IsTrue, IsSome, List, Option, Some, None, refl, sym, ◌∙◌, ap}
+-- What a refusal may be: never the parser's own failure, and out of memory only where the source has failed.
+use Rattle.std.proofs.Common.{◌≡◌, ◌≢◌, Bool, true, false, not, IsTrue, IsSome, Option, Some, None, refl, sym, ◌∙◌, ap, subst}
 use Rattle.swc_context.specs.declared.error.Error.{Error}
 use Rattle.swc_context.specs.declared.error.SyntaxError.{SyntaxError}
 use Rattle.swc_context.specs.declared.error.SyntaxError.TheVariants as kind
@@ -9,7 +9,8 @@ use Rattle.swc_input.specs.declared.token.Token.{Token}
 use Rattle.swc_input.specs.declared.token.Token.TheVariants as token
 use Rattle.swc_input.specs.declared.token.TokenAndSpan.{TokenAndSpan}
 use Rattle.swc_input.specs.Source.{Model, Laws, IsFault}
-use Rattle.swc_input.specs.Buffer.{current, source, last_position}
+use Rattle.swc_input.specs.Buffer.{Looked, current, source, last_position}
+use Rattle.swc_input.specs.Laws.{Looked-served, Looked-some}
 use Rattle.swc_input.specs.Recording.{Refused, no_memory, counted_kind, error_in, error_or, error_here, is_some, is_fit, refusal, unfit}
 use Rattle.swc_input.proofs.Emits.{counted_fault}
 
@@ -37,6 +38,10 @@ refusal-memory None true at e fault h = (refl, refl, refl)
 refusal-memory None false at e fault h = absurd (fault h)
 refusal-memory (Some t) f at e fault h = absurd (error_or_fault t.token e fault h)
 
+refusal-failed : (o : Option TokenAndSpan) (f : Bool) (at : BytePos) (e : Error) → o ≡ None → f ≡ true → (refusal o f at e).kind ≡ kind.OutOfMemory
+refusal-failed None true at e none failed = refl
+refusal-failed o f at e none failed = cc
+
 -- a token that doesn't fit is refused by the kind, or as `Eof`
 pub unfit-kind : (o : Option TokenAndSpan) (at : BytePos) (k other : SyntaxError) → kind.Eof ≢ other → k ≢ other → (unfit o at k).kind ≢ other
 unfit-kind None at k other end own = end
@@ -56,18 +61,21 @@ module _ {S : Type 0} (model : Model S) where
   Refused-kind b c e f own r h =
       refusal-kind (current r.here) (model.state (source r.here)).failed (last_position r.here) (e r.here) (own r.here) (ap (λ x. x.kind) (sym r.answer) ∙ h)
 
-  -- want of memory is refused where the look met a failed source
+  -- out of memory is refused where the look met a failed source
   pub Refused-memory : (b c : Buffer S) (e : Buffer S → Error) (f : Error) → ((here : Buffer S) → IsFault (e here)) → (r : Refused model b e f c) → f.kind ≡ kind.OutOfMemory →
       (current r.here ≡ None) × ((model.state (source r.here)).failed ≡ true) × (f ≡ no_memory (last_position r.here))
   Refused-memory b c e f fault r h =
       let m = refusal-memory (current r.here) (model.state (source r.here)).failed (last_position r.here) (e r.here) (fault r.here) (ap (λ x. x.kind) (sym r.answer) ∙ h) in
       (m.0, m.1, r.answer ∙ m.2)
 
-  -- over a listed source want of memory is never refused
-  pub Refused-listed : (laws : Laws model) (b c : Buffer S) (e : Buffer S → Error) (f : Error) (m : List TokenAndSpan) →
-      ((here : Buffer S) → IsFault (e here)) → Refused model b e f c → (model.state (source b)).known ≡ Some m → IsFault f
-  Refused-listed laws b c e f m fault r known h =
+  -- where a look met no token since the source has failed, the refusal is out of memory
+  pub Refused-failed : (laws : Laws model) (b h c : Buffer S) (e : Buffer S → Error) (f : Error) → Looked model b h → current h ≡ None → (model.state h.iter).failed ≡ true →
+      Refused model h e f c → f.kind ≡ kind.OutOfMemory
+  Refused-failed laws b h c e f l none failed r =
       let took = r.looked.look.read.took in
-      let k = (laws.gave b.iter r.here.iter took.given took.gave).known m known in
-      let sound = (laws.lawful r.here.iter).sure k.0 k.1 in
-      let failed = (Refused-memory b c e f fault r h).1 in cc
+      let fails = ((laws.gave h.iter r.here.iter took.given took.gave).failed failed).1 in
+      let never : IsSome (current r.here) → IsSome (current h) = λ some. Looked-some laws l ((Looked-served laws r.looked some).before fails).1 in
+      elim (current r.here) as (λ o. current r.here ≡ o → f.kind ≡ kind.OutOfMemory) [
+        | None ↦ (λ at. ap (λ x. x.kind) r.answer ∙ refusal-failed (current r.here) (model.state (source r.here)).failed (last_position r.here) (e r.here) at fails)
+        | Some t ↦ (λ at. let some = subst IsSome none (never (subst IsSome (sym at) refl)) in cc)
+      ] refl

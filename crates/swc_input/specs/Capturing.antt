@@ -7,9 +7,9 @@ use Rattle.swc_input.specs.declared.capturing.Capturing.{Capturing}
 use Rattle.swc_input.specs.declared.token.TokenAndSpan.{TokenAndSpan}
 use Rattle.swc_input.specs.Kept.{kept, kept_on}
 use Rattle.swc_input.specs.Plain.{plain}
-use Rattle.swc_input.specs.Source.{Source, Model, Laws, IsLawful, Gave, Unmoved, given_one}
+use Rattle.swc_input.specs.Source.{Source, Model, Hint, Laws, IsLawful, Gave, Unmoved, given_one}
 
--- the source within; the tokens that are kept; whether a token was lost, since memory to keep it was wanted
+-- the source within; the tokens that are kept; whether a token was lost, since there was no memory to keep it
 abbrev pub within : {S : Type 0} → Capturing S → S
 within s = s.inner
 
@@ -31,7 +31,7 @@ either_failed false b = b
 abbrev pub capturing_state : Bool → Source → Source
 capturing_state lost s = record s { failed = either_failed lost s.failed; known = None }
 
--- Between s and t the tokens xs were given, by any calls of a source. The source within gave them, and behind them the token that was
+-- Between s and t the tokens xs were given, by any calls of a source. The source within gave them, and after them the token that was
 -- lost, if one was. Those that were kept at s, and then xs, are kept at t.
 pub record Captures {S : Type 0} (model : Model S) (s : Capturing S) (xs : List TokenAndSpan) (t : Capturing S) : Type 0 where
   pub unkept : Option TokenAndSpan
@@ -41,8 +41,14 @@ pub record Captures {S : Type 0} (model : Model S) (s : Capturing S) (xs : List 
   -- once a token was lost nothing is given any more, nor asked of the source within
   pub over : has_lost s ≡ true → (xs ≡ []) × (unkept ≡ None) × (has_lost t ≡ true)
 
+-- a hint is handed on, and what is kept stays
+pub record Passes {S : Type 0} (model : Model S) (s : Capturing S) (h : Hint) (t : Capturing S) : Type 0 where
+  pub told : model.told (within s) h (within t)
+  pub kept : tokens_kept t ≡ tokens_kept s
+  pub lost : has_lost t ≡ has_lost s
+
 abbrev pub capturing_model : {S : Type 0} → Model S → Model (Capturing S)
-capturing_model model = record { state = λ s. capturing_state (has_lost s) (model.state (within s)); gives = Captures model }
+capturing_model model = record { state = λ s. capturing_state (has_lost s) (model.state (within s)); gives = Captures model; told = Passes model }
 
 kept_on-append : (ts xs ys : List TokenAndSpan) → kept_on ts (xs ++ ys) ≡ kept_on (kept_on ts xs) ys
 kept_on-append ts [] ys = refl
@@ -56,7 +62,6 @@ module _ {S : Type 0} {model : Model S} (laws : Laws model) where
   capturing_lawful : (s : Capturing S) → IsLawful (capturing_state (has_lost s) (model.state (within s)))
   capturing_lawful s = record {
     none_waits = (laws.lawful (within s)).none_waits;
-    sure = λ m h. cc;
     over = λ m h e. cc;
   }
 
@@ -101,7 +106,7 @@ module _ {S : Type 0} {model : Model S} (laws : Laws model) where
         })
   ] refl
 
-  -- after want of memory, of its own or of the source within, nothing comes
+  -- after it ran out of memory, of its own or of the source within, nothing comes
   failed_gives : (s t : Capturing S) (xs : List TokenAndSpan) (b : Bool) → has_lost s ≡ b → Captures model s xs t → either_failed b (model.state (within s)).failed ≡ true →
       (xs ≡ []) × (either_failed (has_lost t) (model.state (within t)).failed ≡ true)
   failed_gives s t xs true e c h = let o = c.over e in (o.0, ap (λ b. either_failed b (model.state (within t)).failed) o.2)

@@ -106,7 +106,7 @@ module _ {S : Type 0} {model : Model S} (laws : Laws model) where
   pub Refused-read : (b c : Buffer S) (e : Buffer S → Error) (f : Error) → Refused model b e f c → (xs : List TokenAndSpan) × Read model b xs c
   Refused-read b c e f r = (error_token r.here.cur, Read-late b r.here c (error_token r.here.cur) r.looked.look.read r.read)
 
-  -- what may come after a call may, behind what the call consumed, come before it
+  -- what may come after a call may, after what the call consumed, come before it
   pub Future-before : (b c : Buffer S) (xs rest : List TokenAndSpan) → Took model b xs c → Future model c rest → Future model b (xs ++ rest)
   Future-before b c xs rest p f = let g = laws.gave b.iter c.iter p.given p.gave in record {
     more = p.given ++ f.more;

@@ -6,4 +6,5 @@ pub mod Laws
 pub mod Listed
 pub mod Plain
 pub mod Recording
+pub mod Recordings
 pub mod Source

@@ -97,12 +97,11 @@ abbrev pub with_contexts : TokensInput → TokenContexts → TokensInput
 with_contexts s contexts = record s { contexts = contexts }
 
 abbrev pub listed_model : Model TokensInput
-listed_model = record { state = listed_state; gives = ListedGives }
+listed_model = record { state = listed_state; gives = ListedGives; told = λ s h t. t ≡ s }
 
 pub listed_lawful : (s : TokensInput) → IsLawful (listed_state s)
 listed_lawful s = record {
   none_waits = λ h. let none = s.none_waits h in let long = s.module_errors.ok in nil_from_length s.module_errors.items (omega arith);
-  sure = λ m h. refl;
   over = λ m h e. let same : coming s ≡ m = cc in sym same ∙ is_nil-nil (coming s) e;
 }
 

@@ -1,4 +1,4 @@
--- How faults are recorded, how refusals are made, and how want of memory and the end are told apart.
+-- How faults are recorded, how refusals are made, and how out of memory and the end are told apart.
 use Rattle.std.specs.Prelude.{◌≡◌, Bool, true, false, not, ◌||◌, List, [], ◌∷◌, ◌++◌, Option, Some, None}
 use Rattle.swc_context.specs.declared.error.Error.{Error}
 use Rattle.swc_context.specs.declared.error.SyntaxError.{SyntaxError}
@@ -20,7 +20,7 @@ is_silent s = s.context.ignore_error || not s.syntax.early_errors
 abbrev pub error_at : BytePos → SyntaxError → Error
 error_at at kind = record { span = record { lo = at; hi = at }; kind = kind }
 
--- the refusal for want of memory
+-- the refusal when out of memory
 abbrev pub no_memory : BytePos → Error
 no_memory at = error_at at kind.OutOfMemory
 
@@ -68,7 +68,7 @@ abbrev pub error_or : Option Error → Error → Error
 error_or None e = e
 error_or (Some x) e = x
 
--- the refusal that is answered in place of e where the current token is o: the error of an error token, and want of memory where
+-- the refusal that is answered in place of e where the current token is o: the error of an error token, and out of memory where
 -- the source has failed
 abbrev pub refusal : Option TokenAndSpan → Bool → BytePos → Error → Error
 refusal None true at e = no_memory at
@@ -96,6 +96,8 @@ module _ {S : Type 0} (model : Model S) where
     pub looked : Looked model b here
     pub read : Read model here (error_token (current here)) c
     pub lives : Lives model here c
+    -- and nothing was recorded, nor set waiting
+    pub same : source c ≡ source here
     pub answer : r ≡ refusal (current here) (model.state (source here)).failed (last_position here) (e here)
 
   -- a look that tells the end from a failed source: true at a token, false at the end

@@ -17,7 +17,7 @@ pub record Source : Type 0 where
   -- the faults that were recorded, and the faults of modules that wait for the context to become one
   pub errors : List Error
   pub waiting : List Error
-  -- the source met want of memory
+  -- the source ran out of memory
   pub failed : Bool
   -- the end was given, so no token comes any more
   pub ended : Bool
@@ -68,16 +68,16 @@ hint_brings (Some start) = 1
 abbrev pub Hinted : Option BytePos → Source → Source → Type 0
 Hinted start s t = (b : ℕ) × (t ≡ record s { bound = b }) × (b ≤ s.bound + hint_brings start)
 
--- in a module no fault waits; a listed source never fails, and gives all its tokens before its end
+-- In a module no fault waits. A listed source gives all its tokens before its end; it fails only when it is out of memory, and an
+-- end that it gives is no failure.
 pub record IsLawful (s : Source) : Type 0 where
   pub none_waits : s.context.module ≡ true → s.waiting ≡ []
-  pub sure : (m : List TokenAndSpan) → s.known ≡ Some m → s.failed ≡ false
   pub over : (m : List TokenAndSpan) → s.known ≡ Some m → s.ended ≡ true → m ≡ []
 
 abbrev pub IsFault : Error → Type 0
 IsFault e = e.kind ≢ OutOfMemory
 
--- fs are the faults es and then more, of which none is want of memory
+-- fs are the faults es and then more, of which none is out of memory
 pub record Keeps (es fs : List Error) : Type 0 where
   pub more : List Error
   pub added : fs ≡ es ++ more
@@ -116,6 +116,11 @@ pub record Gave (s : Source) (xs : List TokenAndSpan) (t : Source) : Type 0 wher
   pub known : (m : List TokenAndSpan) → s.known ≡ Some m → (n : List TokenAndSpan) × (t.known ≡ Some n) × (m ≡ xs ++ n)
   pub unknown : s.known ≡ None → t.known ≡ None
 
+-- a hint to a source: whether an expression may begin; where a regular expression begins, or that none does
+pub data Hint : Type 0 where
+  expression : Bool → Hint
+  regexp : Option BytePos → Hint
+
 abbrev pub given_one : Option TokenAndSpan → List TokenAndSpan
 given_one None = []
 given_one (Some t) = plain t ∷ []
@@ -124,6 +129,8 @@ given_one (Some t) = plain t ∷ []
 pub record Model (S : Type 0) : Type 1 where
   pub state : S → Source
   pub gives : S → List TokenAndSpan → S → Type 0
+  -- and that a hint led from one to another
+  pub told : S → Hint → S → Type 0
 
 -- the laws of a source
 pub record Laws {S : Type 0} (model : Model S) : Type 0 where

@@ -104,6 +104,7 @@ impl<I: Tokens> Buffer<I> {
     }
 
     /// Consumes the current token.
+    #[inline(never)]
     pub fn bump(&mut self) -> Token
         requires { IsSome (current self.old) }
         ensures { Bumped I.model self.old result self.new }
@@ -124,6 +125,7 @@ impl<I: Tokens> Buffer<I> {
         self.cur.is_some()
     }
 
+    #[inline(never)]
     fn fill_next(&mut self)
         requires { IsSome (current self.old) }
         ensures { Peeked I.model self.old self.new }
@@ -172,6 +174,7 @@ impl<I: Tokens> Buffer<I> {
         }
     }
 
+    #[inline(never)]
     fn fill(&mut self)
         ensures { Looked I.model self.old self.new }
     {
@@ -232,6 +235,7 @@ impl<I: Tokens> Buffer<I> {
         ensures falls { result ≡ true → to_come I.model self.new < to_come I.model self.old }
         ensures stays { result ≡ false → Looked I.model self.old self.new
             × MatchOption (current self.new) ⊤ (λ t. ⟦<Token as PartialEq>⟧.eq expected.now t.token ≡ false) }
+        ensures same { (here : Buffer I) × Looked I.model self.old here × (source self.new ≡ source here) }
     {
         let here = self.is(expected);
         if here {
@@ -317,7 +321,7 @@ impl<I: Tokens> Buffer<I> {
         self.iter.set_next_regexp(start);
     }
 
-    /// The source met want of memory.
+    /// The source ran out of memory.
     pub fn failed(&self) -> bool
         ensures { result ≡ (state_of I.model self.now).failed }
     {

@@ -14,11 +14,11 @@ use swc_context::span::BytePos;
 
 /// A source that gives what another source gives, and keeps a copy of each token.
 ///
-/// Before a token is kept, those kept at the end that end behind its start, in bytes, are let go: so of a slash and the
+/// Before a token is kept, those kept at the end that end after its start, in bytes, are let go: so of a slash and the
 /// regular expression that begins there, the latter is kept. Where each token begins where the one before it ends, or
-/// behind, all are kept, and empty ones too, as the text of a template may be.
+/// after, all are kept, and empty ones too, as the text of a template may be.
 ///
-/// A token of which no copy could be kept, for want of memory, isn't handed on: the source has failed then, gives
+/// A token of which no copy could be kept, when out of memory, isn't handed on: the source has failed then, gives
 /// nothing any more, and asks for nothing. Every other call is that of the source within, and leaves what is kept.
 pub struct Capturing<I> {
     inner: I,
@@ -73,7 +73,7 @@ impl<I: Tokens> Capturing<I> {
     }
 }
 
-/// Keeps a copy of the token. Refused only for want of memory, and then nothing changes.
+/// Keeps a copy of the token. Refused only when out of memory, and then nothing changes.
 #[tactic(auto, using(crate::proofs::Kept::copy_kept))]
 fn keep_copy(tokens: &mut Vec<TokenAndSpan>, token: &TokenAndSpan) -> Result<(), AllocError>
     ensures kept { OnOk result (map plain tokens.new.items ≡ kept (map plain tokens.old.items) (plain token.now)) }
@@ -83,7 +83,7 @@ fn keep_copy(tokens: &mut Vec<TokenAndSpan>, token: &TokenAndSpan) -> Result<(),
     keep(tokens, copy)
 }
 
-/// Keeps a copy of the token and hands it on; where memory to keep it is wanted, nothing changes, and it is let go.
+/// Keeps a copy of the token and hands it on; where there is no memory to keep it, nothing changes, and it is let go.
 fn hand_on(tokens: &mut Vec<TokenAndSpan>, token: TokenAndSpan) -> Option<TokenAndSpan>
     ensures { MatchOption result (tokens.new.items ≡ tokens.old.items)
         (λ x. (x ≡ token) × (map plain tokens.new.items ≡ kept (map plain tokens.old.items) (plain token))) }

@@ -10,7 +10,7 @@ use swc_context::span::BytePos;
 /// Lets a token go, apart from callers whose proofs would have a case for each kind.
 fn let_go(_token: Option<TokenAndSpan>) {}
 
-/// Whether the last token ends behind the position.
+/// Whether the last token ends after the position.
 fn ends_late(tokens: &Vec<TokenAndSpan>, at: BytePos) -> bool
     ensures { result ≡ is_late at (slice_get tokens.now.items (length tokens.now.items - 1)) }
 {
@@ -20,7 +20,7 @@ fn ends_late(tokens: &Vec<TokenAndSpan>, at: BytePos) -> bool
     }
 }
 
-/// Lets go of the tokens at the end that end behind the position.
+/// Lets go of the tokens at the end that end after the position.
 fn clear(tokens: &mut Vec<TokenAndSpan>, at: BytePos)
     ensures cleared { tokens.new.items ≡ cleared at tokens.old.items }
     ensures room { vec_capacity tokens.new ≡ vec_capacity tokens.old }
@@ -31,8 +31,8 @@ fn clear(tokens: &mut Vec<TokenAndSpan>, at: BytePos)
     }
 }
 
-/// Keeps a token behind the others: those at the end that end behind its start, in bytes, are let go first, and so none
-/// where the last one ends at that start or before. Refused only for want of memory, and then nothing changes.
+/// Keeps a token after the others: those at the end that end after its start, in bytes, are let go first, and so none
+/// where the last one ends at that start or before. Refused only when out of memory, and then nothing changes.
 #[tactic(auto, using(crate::proofs::Kept::all_kept))]
 pub fn keep(tokens: &mut Vec<TokenAndSpan>, token: TokenAndSpan) -> Result<(), AllocError>
     ensures kept { OnOk result (tokens.new.items ≡ kept tokens.old.items token) }

@@ -1,4 +1,4 @@
-// Faults that are recorded, refusals, and want of memory.
+// Faults that are recorded, refusals, and out of memory.
 ghost use Rattle.std.specs.Prelude.{◌≡◌, ◌≢◌, true, false, List, [], ◌∷◌, ◌++◌, None, IsSome};
 ghost use Rattle.std.specs.Prelude.{IsOk, OnOk, IfOk, IfErr};
 ghost use Rattle.swc_context.specs.declared.error.SyntaxError.TheVariants.{OutOfMemory, Eof};
@@ -16,7 +16,7 @@ use std::alloc::AllocError;
 use swc_context::error::{Error, PResult, SyntaxError};
 use swc_context::span::Span;
 
-/// The error of a token, as it counts: want of memory and a failed parser are the parser's alone.
+/// The error of a token, as it counts: out of memory and a failed parser are the parser's alone.
 pub fn counted_error(error: Error) -> Error
     ensures { result ≡ counted error }
 {
@@ -43,7 +43,7 @@ fn let_go(_error: Error) {}
 fn let_kind_go(_kind: SyntaxError) {}
 
 impl<I: Tokens> Buffer<I> {
-    /// The refusal for want of memory, at the end of the token consumed last.
+    /// The refusal when out of memory, at the end of the token consumed last.
     pub fn out_of_memory(&self) -> Error
         ensures { result ≡ no_memory (last_position self.now) }
     {
@@ -51,7 +51,7 @@ impl<I: Tokens> Buffer<I> {
         Error::new(Span { lo: last, hi: last }, SyntaxError::OutOfMemory)
     }
 
-    /// Whether a token is current, and not the end. Where the source has failed, want of memory is refused.
+    /// Whether a token is current, and not the end. Where the source has failed, out of memory is refused.
     pub fn has_cur(&mut self) -> PResult<bool>
         ensures looked { Looked I.model self.old self.new }
         ensures lives { OnOk result (Lives I.model self.old self.new) }
@@ -215,7 +215,7 @@ impl<I: Tokens> Buffer<I> {
     }
 
     /// A refusal of the kind at the place, unless an error token is current: that is consumed, and
-    /// its error is the refusal. Where the source has failed, it is want of memory.
+    /// its error is the refusal. Where the source has failed, it is out of memory.
     pub fn syntax_error(&mut self, span: Span, kind: SyntaxError) -> Error
         ensures { Refused I.model self.old (λ here. record { span = span; kind = kind }) result self.new }
     {
@@ -269,6 +269,7 @@ impl<I: Tokens> Buffer<I> {
             ≡ refusal (current self.old) (state_of I.model self.old).failed (last_position self.old) error }
         ensures read { Read I.model self.old (error_token (current self.old)) self.new }
         ensures lives { Lives I.model self.old self.new }
+        ensures same { source self.new ≡ source self.old }
     {
         if !self.knows_cur() && self.failed() {
             let_go(error);

@@ -104,7 +104,7 @@ fn clone_cooked(cooked: &Result<Atom, Error>) -> Result<Result<Atom, Error>, All
 }
 
 impl Token {
-    /// An equal token of its own. The only error is want of memory.
+    /// An equal token of its own. The only error is out of memory.
     pub fn try_clone(&self) -> Result<Token, AllocError>
         ensures { IfOk result (λ t. plain_token t ≡ plain_token self.now) }
     {
@@ -154,7 +154,7 @@ impl Token {
 }
 
 impl TokenAndSpan {
-    /// An equal token of its own. The only error is want of memory.
+    /// An equal token of its own. The only error is out of memory.
     pub fn try_clone(&self) -> Result<TokenAndSpan, AllocError>
         ensures { IfOk result (λ t. plain t ≡ plain self.now) }
     {

@@ -6,6 +6,7 @@ ghost use Rattle.swc_context.specs.declared.context.TokenContexts.{TokenContexts
 ghost use Rattle.swc_context.specs.contracts.context.TokenContexts.{the_row as contexts_row};
 ghost use Rattle.swc_input.specs.declared.token.TokenAndSpan.{TokenAndSpan};
 ghost use Rattle.swc_input.specs.Source.{Model, Laws, Asked, HeldBack, Hinted, Unmoved};
+ghost use Rattle.swc_input.specs.Source.{expression, regexp};
 ghost use Rattle.swc_input.specs.Source.{with_context, with_error, with_module_error};
 
 use crate::token::TokenAndSpan;
@@ -16,7 +17,7 @@ use swc_context::span::BytePos;
 
 /// A source of tokens, which also keeps the context and the faults that were recorded.
 ///
-/// `next` gives the tokens. A `None` of a source that has `failed` is want of memory and not the
+/// `next` gives the tokens. A `None` of a source that has `failed` is out of memory and not the
 /// end; any other `None` is the end, and stays.
 pub trait Tokens: Iterator<Item = TokenAndSpan> {
     /// What contracts see of a source: its states, and which tokens calls gave between two of them.
@@ -52,12 +53,14 @@ pub trait Tokens: Iterator<Item = TokenAndSpan> {
 
     /// Hints to a lexer whether an expression may begin here.
     fn set_expr_allowed(&mut self, allow: bool)
+        ensures told { model.told self.old (expression allow) self.new }
         ensures gave { model.gives self.old [] self.new }
         ensures state { model.state self.new ≡ model.state self.old };
 
     /// Hints to a lexer that a regular expression begins at the slash that it gave last, which may then come once
     /// more, as part of a regular expression; or, by `None`, that none begins: that brings no token.
     fn set_next_regexp(&mut self, start: Option<BytePos>)
+        ensures told { model.told self.old (regexp start) self.new }
         ensures gave { model.gives self.old [] self.new }
         ensures state { Hinted start (model.state self.old) (model.state self.new) };
 
@@ -74,14 +77,14 @@ pub trait Tokens: Iterator<Item = TokenAndSpan> {
         ensures gave { model.gives self.old [] self.new }
         ensures state { model.state self.new ≡ model.state self.old };
 
-    /// Records a fault. Refused only for want of memory, and then nothing changes.
+    /// Records a fault. Refused only when out of memory, and then nothing changes.
     fn add_error(&mut self, error: Error) -> Result<(), AllocError>
         ensures gave { model.gives self.old [] self.new }
         ensures added { OnOk result (model.state self.new ≡ with_error error (model.state self.old)) }
         ensures unchanged { OnErr result (model.state self.new ≡ model.state self.old) };
 
     /// Records a fault that is one in modules alone: outside a module it waits. Refused only for
-    /// want of memory, and then nothing changes.
+    /// out of memory, and then nothing changes.
     fn add_module_mode_error(&mut self, error: Error) -> Result<(), AllocError>
         ensures gave { model.gives self.old [] self.new }
         ensures added { OnOk result (model.state self.new ≡ with_module_error error (model.state self.old)) }
@@ -93,7 +96,7 @@ pub trait Tokens: Iterator<Item = TokenAndSpan> {
         ensures taken { result.items ≡ (model.state self.old).errors }
         ensures emptied { model.state self.new ≡ record (model.state self.old) { errors = [] } };
 
-    /// The source met want of memory.
+    /// The source ran out of memory.
     fn failed(&self) -> bool
         ensures { result ≡ (model.state self.now).failed };
 

@@ -109,7 +109,7 @@ module _ {F C K : Type 0} (hook : Hook F C K) where
     pub maps : (m : Role) → as_pat m tree ≡ Some pat
     pub same : erase pat ≡ erase q
 
-  -- behind dots
+  -- after dots
   record BackRest (c : Scope) (xs ys : List TokenAndSpan) (r : Tree F C K) : Type 0 where
     pub at : TokenAndSpan
     pub tail : List TokenAndSpan
@@ -144,7 +144,7 @@ module _ {F C K : Type 0} (hook : Hook F C K) where
     pub maps : (m : Role) → as_props m (comma_of tree) (items_of tree) ≡ Some pats
     pub same : erase_all pats ≡ erase_all (items_of qs)
 
-  -- what stands behind a pattern makes no more of the name `async`
+  -- what is after a pattern makes no more of the name `async`
   abbrev Quiet : Scope → List TokenAndSpan → Type 0
   Quiet c ys =
       (sees (goes_on_async (at_head (with_in c))) ys ≡ false) × (sees_two (of_arrow (at_head (with_in c))) ys ≡ false)

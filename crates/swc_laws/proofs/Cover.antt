@@ -322,7 +322,7 @@ module _ {F C K : Type 0} (hook : Hook F C K) where
     same = joined p v.tree nil nil v.same refl;
   }
 
-  -- an item behind dots
+  -- an item after dots
   dots-law : (d : Scope) (a : TokenAndSpan) (ms ys : List TokenAndSpan) (e : Tree F C K) → is_dots a.token ≡ true
       → AssignLaw hook d ms ys e → ItemLaw hook d (a ∷ ms) ys (spread_e a.span e)
   dots-law d a ms ys e h k = (

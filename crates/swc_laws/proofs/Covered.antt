@@ -63,7 +63,7 @@ module _ {F C K : Type 0} where
   last-none None (cons t ts) h = absurd cc
   last-none (Some s) ts h = absurd cc
 
-  -- a comma behind a list of no parts changes nothing
+  -- a comma after a list of no parts changes nothing
   pub elements-behind : (m : Role) (s : Span) (comma : Option Span) (ts : Trees F C K)
       → as_elements m (last_comma s comma ts) ts ≡ as_elements m comma ts
   elements-behind m s comma nil = refl
@@ -163,7 +163,7 @@ module _ {F C K : Type 0} (hook : Hook F C K) where
   PropsLaw s d xs ys es = (m : Role) (c : Scope) → d ≡ with_in c → (ps : Trees F C K)
       → as_props m (comma_of es) (items_of es) ≡ Some ps → props_bind_names (bound c) ps ≡ true → CoversAll s c xs ys ps
 
-  -- behind a key: a value, or what makes no pattern
+  -- after a key: a value, or what makes no pattern
   pub data After (d : Scope) (ys : List TokenAndSpan) : List TokenAndSpan → Tree F C K → Type 0 where
     valued : {a : TokenAndSpan} {ms : List TokenAndSpan} {e : Tree F C K} → is_colon a.token ≡ true
         → AssignLaw (with_in d) ms ys e → After d ys (a ∷ ms) (value_e (span_of e) e)
@@ -204,7 +204,7 @@ module _ {F C K : Type 0} (hook : Hook F C K) where
   pattern-of n (alone v) = v
   pattern-of n (with-default h v) = absurd cc
 
-  -- a pattern behind dots
+  -- a pattern after dots
   pub rest-of : {c : Scope} {a : TokenAndSpan} {xs ys : List TokenAndSpan} {p : Tree F C K} (s : Span)
       → is_dots a.token ≡ true → Covers Pat c xs ys p
       → Covers Rest c (a ∷ xs) ys (rest_p s (node dots a.span nil) p)

@@ -66,7 +66,7 @@ right : (u v : Bool) → (u || v) ≡ false → v ≡ false
 right true v h = cc
 right false v h = h
 
--- behind `await` and `yield` both count alike, as they have the same mark
+-- after `await` and `yield` both count alike, as they have the same mark
 same-ends : (t u : Token) (m n : Bool) → is_slash t ≡ true → is_regex u ≡ true → m ≡ n
     → (n || ends_operand u) ≡ (m || ends_operand t)
 same-ends (token.BinOp sign.Div) (token.Regex exp flags) m n h k e = ap (λ v. v || false) (sym e)
@@ -101,7 +101,7 @@ dull-not-goes a b h k =
     let e : goes_on_yield b ≡ goes_on_yield a = same-goes a.token b.token _ _ p.slash p.regex p.mark in
     rw (never-star b.token p.regex, e) (right (is_star a.token) (not (goes_on_yield a)) k)
 
--- and behind `async`
+-- and after `async`
 no-async : (c : Scope) (t : Token) (m : Bool) → is_regex t ≡ true
     → (not m && (is_function t || (c.head && (is_lparen t || (is_bindable c t && not (before_of c t)))))) ≡ false
 no-async c (token.Regex exp flags) m h = never (not m) c.head
@@ -266,7 +266,7 @@ module _ {F C K : Type 0} {fun_at : F → Span} {class_at : C → Span} {block_a
             ∙ hears-place hook laws b c (without_slashes xs) v (without_slashes ms) k,
       )
 
-  -- a regular expression behind its slash, or alone
+  -- a regular expression after its slash, or alone
   found-again : (c : Scope) (a b : TokenAndSpan) (us : List TokenAndSpan) (x : Tree F C K) → is_slash_here a.token ≡ true
       → regex_of b.token b.span ≡ Some x
       → Reads hook Primary c (without_slashes (a ∷ b ∷ us)) (without_slashes us) (at_place (to a.span (span_of x)) x)

@@ -1,5 +1,5 @@
--- Where operands are wanted at the slashes at which regular expressions were found, each reading reads these behind
--- their slashes: nothing that is read ends before an operand, and an operator stands behind something read.
+-- Where operands are wanted at the slashes at which regular expressions were found, each reading reads these after
+-- their slashes: nothing that is read ends before an operand, and an operator is after something read.
 use Rattle.std.specs.Prelude.{◌≡◌, Bool, true, false, not, ◌&&◌, ◌||◌, List, [], ◌∷◌, ◌++◌, Option, Some, None}
 use Rattle.std.proofs.Common.{refl, sym, ap, subst, ◌∙◌}
 use Rattle.swc_context.specs.declared.operator.AssignOp.TheVariants as assign
@@ -164,7 +164,7 @@ module _ {F C K : Type 0} where
   Dead (check b r) = b ≡ true → Dead r
   Dead r = ⊥
 
-  -- No slash is taken but behind something that was read.
+  -- No slash is taken but after something that was read.
   abbrev NoSlash : {A : Type 0} → Bool → Rule Symbol (Answer F C K) Body (Value F C K) A → Type 0
   NoSlash b (gives a) = Unit {0}
   NoSlash b never = Unit {0}
@@ -255,7 +255,7 @@ named-too o (token.BigInt raw) h = refl
 named-too o (token.Regex exp flags) h = refl
 named-too o t h = cc
 
--- a list that goes on behind tokens of which the last may end something
+-- a list that goes on after tokens of which the last may end something
 past : (b o : Bool) (own ms : List TokenAndSpan) → ends_well own ≡ true → wanted_behind b o (own ++ ms) ≡ true
     → (o' : Bool) × (wanted_behind true o' ms ≡ true)
 past b o [] ms e w = absurd cc
@@ -313,7 +313,7 @@ module _ {F C K : Type 0} (hook : Hook F C K) (closes : EndsBodies hook) where
         | false ↦ (λ e. refl)
       ] refl
 
-  -- where operands are wanted in a list, behind what asks for it
+  -- where operands are wanted in a list, after what asks for it
   pub record Goes (asked : Bool) (ys : List TokenAndSpan) : Type 0 where
     pub behind : Bool
     pub named : Bool
@@ -321,8 +321,8 @@ module _ {F C K : Type 0} (hook : Hook F C K) (closes : EndsBodies hook) where
     pub wanted : wanted_behind behind named ys ≡ true
 
   mutual
-    -- where operands are wanted, behind whatever token, what is read is joined; and where it ends, they are wanted
-    -- behind what was read
+    -- where operands are wanted, after whatever token, what is read is joined; and where it ends, they are wanted
+    -- after what was read
     pub all-joined : {s : Symbol} {c : Scope} {xs ys : List TokenAndSpan} {t : Answer F C K s} (b o : Bool)
         (d : Reads hook s c xs ys t) → wanted_behind b o xs ≡ true → Joined d × Goes (is_ended s) ys
     all-joined {s = s} b o (by p d) w =

@@ -1,5 +1,5 @@
 -- Replay: the tokens that are kept of a list are derived as that list was, where each regular expression that was found
--- at a slash was read behind this slash.
+-- at a slash was read after this slash.
 use Rattle.std.specs.Prelude.{◌≡◌, Bool, true, false, not, ◌&&◌, List, []}
 use Rattle.swc_input.specs.declared.token.TokenAndSpan.{TokenAndSpan}
 use Rattle.swc_bodies.specs.Readings.{Hook}
@@ -10,13 +10,13 @@ use Rattle.swc_grammar.specs.Symbols.{Symbol, Answer, Side}
 use Rattle.swc_grammar.specs.Grammar.{Production, regex-slash}
 use Rattle.swc_grammar.specs.Reads.{Reads, by, Follows, gave, took, held, calm, calm-two, part, heard}
 
--- the production of a regular expression behind the slash at which it was found
+-- the production of a regular expression after the slash at which it was found
 abbrev pub is_joining : {F C K : Type 0} {s : Symbol} {c : Scope} {r : Side F C K s} → Production s c r → Bool
 is_joining regex-slash = true
 is_joining p = false
 
 module _ {F C K : Type 0} {hook : Hook F C K} where
-  -- By no other production than that one a slash is taken behind which stands the regular expression found at it: so as
+  -- By no other production than that one a slash is taken after which stands the regular expression found at it: so as
   -- an operator none is.
   abbrev mutual
     pub Joined : {s : Symbol} {c : Scope} {xs ys : List TokenAndSpan} {t : Answer F C K s}
@@ -39,7 +39,7 @@ abbrev pub Replay : {F C K : Type 0} → Hook F C K → Symbol → Type 0
 Replay {F} {C} {K} hook s = (c : Scope) (xs : List TokenAndSpan) (t : Answer F C K s) (d : Reads hook s c xs [] t)
     → in_order xs ≡ true → Joined d → Reads hook s c (kept_of xs) [] t
 
--- the same of a list which itself shows that each such regular expression was read behind its slash, as an operand is
+-- the same of a list which itself shows that each such regular expression was read after its slash, as an operand is
 -- wanted there
 abbrev pub ReplayWanted : {F C K : Type 0} → Hook F C K → Symbol → Type 0
 ReplayWanted {F} {C} {K} hook s = EndsBodies hook → (c : Scope) (xs : List TokenAndSpan) (t : Answer F C K s)

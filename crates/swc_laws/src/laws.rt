@@ -23,7 +23,7 @@ pub fn converse<B: BodyForms>()
 {}
 
 /// Replay: where the grammar derives an expression from a whole list of tokens in the order of the text, and reads each
-/// regular expression that was found at a slash behind that slash, it derives the same tree from the tokens that are
+/// regular expression that was found at a slash after that slash, it derives the same tree from the tokens that are
 /// kept of the list, in the same context. That they are read so may be known of the reading (`joined`), or be seen of
 /// the list (`wanted`): an operand is wanted where each such slash stands.
 pub fn replay<B: ReplayBodies>()

@@ -63,7 +63,7 @@ pub super_may_not : (x : Scope) (ts : List TokenAndSpan) → super_ok x ≡ fals
 unfolding super_here
 super_may_not x ts h = rw h refl
 
--- ---- the first tokens behind `super`
+-- ---- the first tokens after `super`
 
 pub super_begins : (b : Bool) (x : Scope) (ts : List TokenAndSpan)
     → super_head b x ts ≡ (eaten is_dot x ts >>= (λ p. head_dot b p.0 x p.1))
@@ -168,7 +168,7 @@ module _ {F C K : Type 0} (hook : Hook F C K) where
 
   -- ---- `super` (13.3.7)
 
-  -- a name behind the `.`
+  -- a name after the `.`
   name_one : (n : Option Spelling) (s : Span) (x : Scope) (us : List TokenAndSpan)
       → exec hook (run hook) None
       (plan {A = Tree F C K} (given n ▸ (λ n. must (super_ok x) >> gives (super_named s n.at n.text)))) us
@@ -177,7 +177,7 @@ module _ {F C K : Type 0} (hook : Hook F C K) where
   name_one None s x us = refl
   name_one (Some n) s x us = may_by (super_ok x) (super_named s n.at n.text) us
 
-  -- behind the expression in brackets
+  -- after the expression in brackets
   closes : (s q : Span) (e : Tree F C K) (x : Scope) (us : List TokenAndSpan)
       → exec hook (run hook) None
       (take (λ t. check (is_rbracket t.token) (check (super_ok x) (gives (super_in s q t.span e))))) us
@@ -190,7 +190,7 @@ module _ {F C K : Type 0} (hook : Hook F C K) where
       then_token is_rbracket x (t ∷ us) (λ r vs. if super_ok x then Some (super_in s q r e, vs) else None)
       ∙ bind_same (expected is_rbracket x (t ∷ us)) _ _ (λ r. may_by (super_ok x) (super_in s q r.0 e) r.1)
 
-  -- the token behind `super`
+  -- the token after `super`
   super_second : (b : Bool) (x : Scope) (n : Bool) (s : Span) (v : Token) (m : Bool) (q : Span)
       (us : List TokenAndSpan)
       → exec hook (run hook) (Some 9) (chosen (super_base {F = F} {C = C} {K = K} b {c = x} (Some (tk v m q))))
@@ -235,7 +235,7 @@ module _ {F C K : Type 0} (hook : Hook F C K) where
       (λ es ws. import_node s i es x ws))
       ∙ bind_same (expected is_lparen x (t ∷ us)) _ _ (λ r. calls (run hook (at (Args true)) (with_in x) r.1) _)
 
-  -- what is called, and behind it a call
+  -- what is called, and after it a call
   called : (i : Import) (s : Span) (x : Scope) (o : Out Span)
       → (o >>= (λ p. import_args hook s (import_e i.span i.phase) x p.1))
       ≡ ((o >>= (λ p. Some (begun.Call i, p.1))) >>= (λ p. import_left hook s p.0 x p.1))
@@ -249,7 +249,7 @@ module _ {F C K : Type 0} (hook : Hook F C K) where
   meta_by true s q x us = refl
   meta_by false s q x us = refl
 
-  -- the token behind `import` and the `.`
+  -- the token after `import` and the `.`
   import_third : (b is_m is_s : Bool) (x : Scope) (n : Bool) (s : Span) (m : Bool) (q : Span) (u : TokenAndSpan)
       (us : List TokenAndSpan)
       → is_meta u.token ≡ is_m → is_source u.token ≡ is_s
@@ -277,7 +277,7 @@ module _ {F C K : Type 0} (hook : Hook F C K) where
   import_dot_first b x n s m q (u ∷ us) =
       import_third b (is_meta u.token) (is_source u.token) x n s m q u us refl refl
 
-  -- the token behind `import`
+  -- the token after `import`
   import_second : (b : Bool) (x : Scope) (n : Bool) (s : Span) (v : Token) (m : Bool) (q : Span)
       (us : List TokenAndSpan)
       → exec hook (run hook) (Some 9)

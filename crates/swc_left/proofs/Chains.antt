@@ -33,7 +33,7 @@ module _ {S F C K : Type 0} {model : Model S} {sure : Bool} (hook : Hook F C K) 
 module _ {S H F C K : Type 0} {fg : Ghosts F} {cg : Ghosts C} {kg : Ghosts K} {model : Model S} {sure : Bool}
     (hook : Hook F C K) (a p : Productions S H F C K fg cg kg) (b : Bool) {f : Reader (Tree F C K)} {k : ℕ}
     {q : Productions S H F C K fg cg kg} {d : Buffer S} {e : ExprId} {h : LinkHead} {o : Option LinkHead} where
-  -- the link behind e was read, with it as n
+  -- the link after e was read, with it as n
   pub linked : {n : ExprId} → On model sure f (run hook (links b (tree_of p.nodes e))) a.input p.input
       × (to_come model p.input ≤ to_come model a.input) × Grows a.nodes p.nodes × From k p.nodes (expr_part e)
       → o ≡ Some h → On model sure (link_head b) (give o) p.input d → to_come model d ≤ to_come model p.input

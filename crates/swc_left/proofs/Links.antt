@@ -87,7 +87,7 @@ unfolding chain_head
 chain_splits x ts = refl
 
 module _ {F C K : Type 0} where
-  -- what names a member behind a `.`
+  -- what names a member after a `.`
   pub member_private : (x : Scope) (ts : List TokenAndSpan) → at_token is_hash (first ts) ≡ true
       → member_name {F = F} {C = C} {K = K} x ts
       ≡ (hash_name x ts >>= (λ p. Some ((private_e p.0.0.at p.0.0.text, p.0.1), p.1)))
@@ -172,7 +172,7 @@ module _ {F C K : Type 0} (hook : Hook F C K) where
       (last hook None (constructs b t.span l) y vs refl ∙ constructs_reads b t.span l y vs))
       ∙ ap (λ v. construct_tail hook b t.span v us) (inner_is x none)
 
-  -- the word behind `new` and the `.`
+  -- the word after `new` and the `.`
   abbrev as_target : Span → Scope → Span → List TokenAndSpan → Out (Tree F C K)
   as_target s x q vs = if new_target_ok x.context then Some (meta_e (to s q) kind.NewTarget, vs) else None
 
@@ -182,7 +182,7 @@ module _ {F C K : Type 0} (hook : Hook F C K) where
   target_reads s x [] = then_token is_target x [] (as_target s x)
   target_reads s x (t ∷ us) = then_token is_target x (t ∷ us) (as_target s x)
 
-  -- a base, and the links behind it
+  -- a base, and the links after it
   base_links : (b : Bool) (x : Scope) (ts : List TokenAndSpan) → x.head ≡ false → begins_new ts ≡ false
       → run hook (at (Lhs b)) x ts ≡ (run hook (at (Base b)) x ts >>= (λ p. run hook (links b p.0) x p.1))
   base_links b x ts none h =
@@ -227,7 +227,7 @@ module _ {F C K : Type 0} (hook : Hook F C K) where
       base_links b x ts none (ap (λ v. v && not (at_token is_dot (second ts))) h)
       ∙ ap (λ o. o >>= (λ p. run hook (links b p.0) x p.1)) (base_splits hook b x ts h)
 
-  -- one that begins with neither `super` nor `import`: a member expression, and the links behind it
+  -- one that begins with neither `super` nor `import`: a member expression, and the links after it
   pub lhs_parts : (x : Scope) (ts : List TokenAndSpan) → x.head ≡ false
       → (at_token is_super (first ts) || at_token is_import (first ts)) ≡ false
       → run hook (at (Lhs true)) x ts ≡ (run hook (at (Lhs false)) x ts >>= (λ p. run hook (links true p.0) x p.1))
@@ -236,7 +236,7 @@ module _ {F C K : Type 0} (hook : Hook F C K) where
       members hook x ts n k ∙ calls (run hook (at (Lhs false)) x ts) (λ l us. run hook (links true l) (inner x) us)
       ∙ ap (λ v. run hook (at (Lhs false)) x ts >>= (λ p. run hook (links true p.0) v p.1)) (inner_is x none)
 
-  -- a link behind its first tokens, by these
+  -- a link after its first tokens, by these
   pub tail_name : (k : LinkHead) (o : Bool) (l : Tree F C K) (x : Scope) (ts : List TokenAndSpan) → k ≡ head.Name o
       → link_tail hook k l x ts ≡ dot_tail o l x ts
   unfolding link_tail
@@ -269,7 +269,7 @@ module _ {F C K : Type 0} (hook : Hook F C K) where
       (λ e vs. last hook None (links b e) x vs refl)
       ∙ ap (λ v. v >>= (λ q. run hook (links b q.0) x q.1)) h
 
-  -- the sides of links, behind the tokens that begin them
+  -- the sides of links, after the tokens that begin them
   abbrev name_side : Bool → Tree F C K → Scope → Side F C K (Left true)
   name_side o l x =
       one_of (any_name x) ▸ (λ n. gives (link_e o l (member_e (to (span_of l) n.at) l (name_e n.at n.text))))
@@ -309,7 +309,7 @@ module _ {F C K : Type 0} (hook : Hook F C K) where
   abbrev as_member : Bool → Tree F C K → (Tree F C K × BytePos) × List TokenAndSpan → Out (Tree F C K)
   as_member o l p = Some (link_e o l (member_e (from_to (span_of l).lo p.0.1) l p.0.0), p.1)
 
-  -- a name behind the `.`
+  -- a name after the `.`
   name_one : (o : Bool) (n : Option Spelling) (l : Tree F C K) (us : List TokenAndSpan)
       → exec hook (run hook) None
       (plan (given n ▸ (λ n. gives (link_e o l (member_e (to (span_of l) n.at) l (name_e n.at n.text)))))) us
@@ -338,7 +338,7 @@ module _ {F C K : Type 0} (hook : Hook F C K) where
   private_token o l q x (token.Word w) b s us = joined_name o (is_joined q s) (spelling (word_text w) s) q l us
   private_token o l q x v b s us = not_joined o (is_joined q s) l
 
-  -- behind the `.`
+  -- after the `.`
   dot_token : (b : Bool) (l : Tree F C K) (x : Scope) (n : Bool) (s : Span) (v : Token) (m : Bool) (q : Span)
       (us : List TokenAndSpan)
       → exec hook (run hook) (Some 1) (linked (link b x (tk token.Dot n s ∷ (tk v m q ∷ us))) l)
@@ -359,7 +359,7 @@ module _ {F C K : Type 0} (hook : Hook F C K) where
   dot_follows b l x n s [] = refl
   dot_follows b l x n s (u ∷ us) = dot_token b l x n s u.token u.had_line_break u.span us
 
-  -- behind the expression in brackets
+  -- after the expression in brackets
   closes : (o : Bool) (s : Span) (l e : Tree F C K) (x : Scope) (us : List TokenAndSpan)
       → exec hook (run hook) None
       (take (λ t. check (is_rbracket t.token)
@@ -389,7 +389,7 @@ module _ {F C K : Type 0} (hook : Hook F C K) where
   unfolding tagged_tail
   tagged_reads l s x us = calls (run hook (at (Parts true)) (inner x) us) _
 
-  -- behind `?` and `.`
+  -- after `?` and `.`
   chain_token : (b : Bool) (l : Tree F C K) (x : Scope) (n : Bool) (s : Span) (m : Bool) (q : Span)
       (v : Token) (k : Bool) (r : Span) (us : List TokenAndSpan)
       → exec hook (run hook) (Some 1)

@@ -1,4 +1,4 @@
--- Which link comes next, by the current token, and by the one behind a `?`.
+-- Which link comes next, by the current token, and by the one after a `?`.
 use Rattle.std.proofs.Common.{◌≡◌, Bool, true, false, Option, Some, None, Result, Ok, Err, refl, sym, ap, ◌∙◌}
 use Rattle.swc_context.specs.declared.error.Error.{Error}
 use Rattle.swc_input.specs.declared.buffer.Buffer.{Buffer}

@@ -144,7 +144,7 @@ module _ {F C K : Type 0} where
       (sym (trees_append-assoc exprs (cons e nil) (exprs_of ps)))
 
 module _ {F C K : Type 0} (hook : Hook F C K) where
-  -- behind a text and what stands behind that
+  -- after a text and what is after that
   abbrev parts_left : Bool → Tree F C K → Option Span → Scope → List TokenAndSpan → Out (Tree F C K)
   parts_left is_tagged t (Some s) x us = Some (parts_e s (cons t nil) nil, us)
   parts_left is_tagged t None x us =
@@ -154,7 +154,7 @@ module _ {F C K : Type 0} (hook : Hook F C K) where
   abbrev parts_from : Bool → Scope → TplElement × List TokenAndSpan → Out (Tree F C K)
   parts_from is_tagged x p = tpl_end x p.1 >>= (λ q. parts_left is_tagged (quasi_tree p.0) q.0 x q.1)
 
-  -- the sides behind a text: the backquote that closes the template, or an expression and what follows it
+  -- the sides after a text: the backquote that closes the template, or an expression and what follows it
   abbrev end_side : (is_tagged : Bool) → Tree F C K → Side F C K (Parts is_tagged)
   end_side is_tagged t = take (λ v. check (is_backquote v.token) (gives (parts_e v.span (cons t nil) nil)))
 
@@ -174,7 +174,7 @@ module _ {F C K : Type 0} (hook : Hook F C K) where
   end_first is_tagged None x u us h = refl
   end_first is_tagged (Some q) x u us h = rw h refl
 
-  -- behind the expression
+  -- after the expression
   parts_rest : (is_tagged : Bool) (t e : Tree F C K) (x : Scope) (us : List TokenAndSpan)
       → exec hook (run hook) None (plan (parts_side is_tagged t e x)) us
       ≡ (tpl_expr_close hook e x us
@@ -193,7 +193,7 @@ module _ {F C K : Type 0} (hook : Hook F C K) where
       closes (u ∷ us) = then_token is_rbrace x (u ∷ us) (λ q vs. and_then (run hook (at (Parts is_tagged)) x vs)
           (λ ps ws. Some (put_part t e ps, ws)))
 
-  -- behind the `${`, and from it on
+  -- after the `${`, and from it on
   expr_rest : (is_tagged : Bool) (t : Tree F C K) (x : Scope) (us : List TokenAndSpan)
       → and_then (run hook (at Expr) (with_in x) us)
       (λ e vs. exec hook (run hook) None (plan (parts_side is_tagged t e x)) vs)
@@ -249,7 +249,7 @@ module _ {F C K : Type 0} (hook : Hook F C K) where
       (text_is is_tagged is_last t.token t.span)
       ∙ more_first is_tagged (quasi_of is_tagged is_last t.token t.span) x us h
 
-  -- one text, and what stands behind it
+  -- one text, and what is after it
   parts_step : (is_tagged : Bool) (x : Scope) (ts : List TokenAndSpan)
       → run hook (at (Parts is_tagged)) x ts ≡ (tpl_element is_tagged x ts >>= parts_from is_tagged x)
   unfolding tpl_element
@@ -290,7 +290,7 @@ module _ {F C K : Type 0} (hook : Hook F C K) where
       ∙ bind_same (run hook (at (Parts is_tagged)) x r.1) _ _ (λ w.
       ap (λ v. Some (v, w.1)) (parts_twice texts exprs t r.0 w.0)))
 
-  -- a text behind those that stand before, and what stands behind it
+  -- a text after those that stand before, and what is after it
   pub behind_splits : (is_tagged : Bool) (texts exprs : Trees F C K) (x : Scope) (ts : List TokenAndSpan)
       → parts_behind hook is_tagged texts exprs x ts
       ≡ (tpl_element is_tagged x ts

@@ -33,7 +33,7 @@ here_by may ts = if may then Some (tt, ts) else None
 unfoldable pub super_here : Scope → List TokenAndSpan → Out (Unit {0})
 super_here c ts = here_by (super_ok c) ts
 
--- ---- the first tokens behind `super` (13.3.7): of a property of it, or of a call, where there may be one
+-- ---- the first tokens after `super` (13.3.7): of a property of it, or of a call, where there may be one
 
 abbrev pub head_paren : Option Span → Scope → List TokenAndSpan → Out SuperHead
 head_paren (Some q) c ts = Some (head.Call, ts)
@@ -60,7 +60,7 @@ super_head b c ts = eaten is_dot c ts >>= (λ p. head_dot b p.0 c p.1)
 abbrev pub callee_of : Span → ImportPhase → Import
 callee_of s p = record { span = s; phase = p }
 
--- what is called, and the parenthesis behind it, where there may be a call
+-- what is called, and the parenthesis after it, where there may be a call
 abbrev pub callee_by : Bool → Import → Scope → List TokenAndSpan → Out ImportHead
 callee_by true i c ts = expected is_lparen c ts >>= (λ p. Some (begun.Call i, p.1))
 callee_by false i c ts = None
@@ -68,7 +68,7 @@ callee_by false i c ts = None
 unfoldable pub import_callee : Bool → Import → Scope → List TokenAndSpan → Out ImportHead
 import_callee b i c ts = callee_by b i c ts
 
--- behind the `.`: `source` and a parenthesis, or `meta`
+-- after the `.`: `source` and a parenthesis, or `meta`
 abbrev pub import_source : Bool → Span → Option Span → Scope → List TokenAndSpan → Out ImportHead
 import_source b s (Some q) c ts = import_callee b (callee_of (to s q) phase.Source) c ts
 import_source b s None c ts = None
@@ -88,25 +88,25 @@ unfoldable pub import_head : Bool → Span → Scope → List TokenAndSpan → O
 import_head b s c ts = eaten is_dot c ts >>= (λ p. import_dot b s p.0 c p.1)
 
 module _ {F C K : Type 0} where
-  -- a property of `super`, behind it
+  -- a property of `super`, after it
   abbrev pub allowed : Tree F C K → Scope → List TokenAndSpan → Out (Tree F C K)
   allowed t c ts = super_here c ts >>= (λ q. Some (t, q.1))
 
-  -- by its name, behind the `.`, `super` being at s
+  -- by its name, after the `.`, `super` being at s
   abbrev pub super_named : Span → Span → List ℕ → Tree F C K
   super_named s at text = super_prop_e (to s at) s (name_e at text)
 
   unfoldable pub super_name_tail : Span → Scope → List TokenAndSpan → Out (Tree F C K)
   super_name_tail s c ts = word may_name c ts >>= (λ p. allowed (super_named s p.0.at p.0.text) c p.1)
 
-  -- in brackets, of which the first is at q, behind its expression
+  -- in brackets, of which the first is at q, after its expression
   abbrev pub super_in : Span → Span → Span → Tree F C K → Tree F C K
   super_in s q end e = super_prop_e (to s end) s (computed_e (to q end) e)
 
   abbrev pub super_close : Span → Span → Tree F C K → Scope → List TokenAndSpan → Out (Tree F C K)
   super_close s q e c ts = expected is_rbracket c ts >>= (λ p. allowed (super_in s q p.0 e) c p.1)
 
-  -- a call of i, which begins at s, behind its arguments es
+  -- a call of i, which begins at s, after its arguments es
   abbrev pub callee_node : Span → Tree F C K → Tree F C K → Scope → List TokenAndSpan → Out (Tree F C K)
   callee_node s i es c ts = Some (call_e (to s (span_of es)) i (items_of es), ts)
 
@@ -114,22 +114,22 @@ module _ {F C K : Type 0} where
   abbrev pub import_node : Span → Tree F C K → Tree F C K → Scope → List TokenAndSpan → Out (Tree F C K)
   import_node s i es c ts = if import_args_ok c true es then callee_node s i es c ts else None
 
-  -- `import.meta`, which is at s, behind it
+  -- `import.meta`, which is at s, after it
   abbrev pub import_meta_node : Span → Scope → List TokenAndSpan → Out (Tree F C K)
   import_meta_node s c ts = Some (meta_e s kind.ImportMeta, ts)
 
 module _ {F C K : Type 0} (hook : Hook F C K) where
   -- ---- `super` (13.3.7), which is at s
 
-  -- a property in brackets, in which `in` is an operator, behind the one at q
+  -- a property in brackets, in which `in` is an operator, after the one at q
   unfoldable pub super_computed_tail : Span → Span → Scope → List TokenAndSpan → Out (Tree F C K)
   super_computed_tail s q c ts = whole_inside hook c ts >>= (λ p. super_close s q p.0 c p.1)
 
-  -- a call, behind its parenthesis
+  -- a call, after its parenthesis
   unfoldable pub super_args_tail : Span → Scope → List TokenAndSpan → Out (Tree F C K)
   super_args_tail s c ts = args_inside hook false c ts >>= (λ p. callee_node s (super_e s) p.0 c p.1)
 
-  -- behind the first tokens, and from them on
+  -- after the first tokens, and from them on
   abbrev pub super_left : Span → SuperHead → Scope → List TokenAndSpan → Out (Tree F C K)
   super_left s head.Name c ts = super_name_tail s c ts
   super_left s (head.Computed q) c ts = super_computed_tail s q c ts
@@ -141,11 +141,11 @@ module _ {F C K : Type 0} (hook : Hook F C K) where
 
   -- ---- `import` (13.3.10, 13.3.12), which is at s
 
-  -- a call of i, behind its parenthesis
+  -- a call of i, after its parenthesis
   abbrev pub import_args : Span → Tree F C K → Scope → List TokenAndSpan → Out (Tree F C K)
   import_args s i c ts = args_inside hook true c ts >>= (λ p. import_node s i p.0 c p.1)
 
-  -- behind the first tokens, and from them on
+  -- after the first tokens, and from them on
   abbrev pub import_left : Span → ImportHead → Scope → List TokenAndSpan → Out (Tree F C K)
   import_left s (begun.Meta q) c ts = import_meta_node q c ts
   import_left s (begun.Call i) c ts = import_args s (import_e i.span i.phase) c ts

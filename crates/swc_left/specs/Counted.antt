@@ -9,7 +9,7 @@ module _ {X : Type 0} where
   abbrev pub is_plain : ExprOrSpread X → Bool
   is_plain x = not (is_some x.spread)
 
-  -- one item, or where `two` may be also two, and none behind dots
+  -- one item, or where `two` may be also two, and none after dots
   abbrev pub few_items : Bool → List (ExprOrSpread X) → Bool
   few_items two (x ∷ []) = is_plain x
   few_items two (x ∷ (y ∷ [])) = two && (is_plain x && is_plain y)

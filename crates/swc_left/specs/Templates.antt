@@ -30,7 +30,7 @@ abbrev pub is_template : Token → Bool
 is_template (token.Template raw cooked) = true
 is_template t = false
 
--- behind a text: the backquote that closes the template, by its place, or the `${` of an expression
+-- after a text: the backquote that closes the template, by its place, or the `${` of an expression
 abbrev pub tpl_end_by : Option Span → Scope → List TokenAndSpan → Out (Option Span)
 tpl_end_by (Some s) c ts = Some (Some s, ts)
 tpl_end_by None c ts = expected is_dollar_brace c ts >>= (λ p. Some (None, p.1))
@@ -50,7 +50,7 @@ abbrev pub quasi_of : Bool → Bool → Token → Span → Option TplElement
 quasi_of is_tagged is_last (token.Template raw cooked) s = quasi_by is_last s raw (cooked_of is_tagged cooked)
 quasi_of is_tagged is_last t s = None
 
--- a text, which is the last one where a backquote stands behind it
+-- a text, which is the last one where a backquote is after it
 abbrev pub text_at : Bool → Option TokenAndSpan → List TokenAndSpan → Out TplElement
 text_at is_tagged None us = None
 text_at is_tagged (Some t) us = one (quasi_of is_tagged (at_token is_backquote (first us)) t.token t.span) us
@@ -64,26 +64,26 @@ module _ {F C K : Type 0} where
   parts_before texts exprs ps =
       parts_e (span_of ps) (trees_append texts (texts_of ps)) (trees_append exprs (exprs_of ps))
 
-  -- a template with the tag l, which is no optional chain, behind its parts; its backquote is at s
+  -- a template with the tag l, which is no optional chain, after its parts; its backquote is at s
   abbrev pub tagged_node : Span → Tree F C K → Tree F C K → Scope → List TokenAndSpan → Out (Tree F C K)
   tagged_node s l ps c ts =
       if not (is_chain l) then
       Some (tagged_e (to (span_of l) (span_of ps)) l (tpl_e (to s (span_of ps)) ps), ts) else None
 
 module _ {F C K : Type 0} (hook : Hook F C K) where
-  -- an expression between two texts, in which `in` is an operator: behind it, and behind the `${`
+  -- an expression between two texts, in which `in` is an operator: after it, and after the `${`
   abbrev pub tpl_expr_close : Tree F C K → Scope → List TokenAndSpan → Out (Tree F C K)
   tpl_expr_close e c ts = expected is_rbrace c ts >>= (λ q. Some (e, q.1))
 
   abbrev pub tpl_expr_tail : Scope → List TokenAndSpan → Out (Tree F C K)
   tpl_expr_tail c ts = whole_inside hook c ts >>= (λ p. tpl_expr_close p.0 c p.1)
 
-  -- Behind some texts, and as many expressions: those that are left, to where the template is closed.
+  -- After some texts, and as many expressions: those that are left, to where the template is closed.
   unfoldable pub parts_behind : Bool → Trees F C K → Trees F C K → Scope → List TokenAndSpan → Out (Tree F C K)
   parts_behind is_tagged texts exprs c ts =
       run hook (sym (Parts is_tagged)) c ts >>= (λ p. Some (parts_before texts exprs p.0, p.1))
 
-  -- The same behind one more text, and the backquote that closes the template or the `${` of an expression: nothing, or
+  -- The same after one more text, and the backquote that closes the template or the `${` of an expression: nothing, or
   -- that expression and what follows it; and from the backquote or the `${` on.
   abbrev pub parts_by : Bool → Trees F C K → Trees F C K → Option Span → Scope → List TokenAndSpan
       → Out (Tree F C K)
@@ -94,12 +94,12 @@ module _ {F C K : Type 0} (hook : Hook F C K) where
   abbrev pub parts_after : Bool → Trees F C K → Trees F C K → Scope → List TokenAndSpan → Out (Tree F C K)
   parts_after is_tagged texts exprs c ts = tpl_end c ts >>= (λ p. parts_by is_tagged texts exprs p.0 c p.1)
 
-  -- a template, behind its backquote at s
+  -- a template, after its backquote at s
   abbrev pub template_tail : Bool → Span → Scope → List TokenAndSpan → Out (Tree F C K)
   template_tail is_tagged s c ts =
       run hook (sym (Parts is_tagged)) c ts >>= (λ p. Some (tpl_e (to s (span_of p.0)) p.0, p.1))
 
-  -- a template with the tag l, behind its backquote at s
+  -- a template with the tag l, after its backquote at s
   unfoldable pub tagged_tail : Span → Tree F C K → Scope → List TokenAndSpan → Out (Tree F C K)
   tagged_tail s l c ts = run hook (sym (Parts true)) (inner c) ts >>= (λ p. tagged_node s l p.0 c p.1)
 

@@ -14,8 +14,8 @@ use swc_input::tokens::Tokens;
 use swc_nodes::node::ExprId;
 use swc_steps::tokens::{Listed, Sign, emit_err, is_sign, look, separate, syntax_error};
 
-/// Consumes what stands behind an argument: a comma, whose place is answered, or nothing where the parenthesis that
-/// closes the list is current. Behind the last argument of `import` a comma may be refused.
+/// Consumes what is after an argument: a comma, whose place is answered, or nothing where the parenthesis that
+/// closes the list is current. After the last argument of `import` a comma may be refused.
 #[inline(never)]
 pub fn separate_args<I: Tokens>(
     input: &mut Buffer<I>,
@@ -56,7 +56,7 @@ fn refuse_last_comma<I: Tokens>(input: &mut Buffer<I>, start: Span, comma: Span)
     Err(syntax_error(input, span, kind))
 }
 
-/// Whether a comma may stand behind the last argument of `import`.
+/// Whether a comma may are after the last argument of `import`.
 fn import_comma_allowed<I: Tokens>(input: &Buffer<I>) -> bool
     ensures { result ≡ import_comma_ok (scope I.model input.now) }
 {
@@ -100,7 +100,7 @@ fn import_args_allowed<I: Tokens>(
     is_few_items(items, syntax.import_attributes)
 }
 
-/// Whether there is one item, or where `two` may be also two, and none behind dots.
+/// Whether there is one item, or where `two` may be also two, and none after dots.
 fn is_few_items(items: &Vec<ExprOrSpread<ExprId>>, two: bool) -> bool
     ensures { result ≡ few_items two items.now.items }
 {

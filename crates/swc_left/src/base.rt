@@ -29,7 +29,7 @@ use swc_steps::tokens::{
     syntax_error, unexpected,
 };
 
-/// What stands behind `super` (ECMA-262, 13.3.7), by its first tokens, which were consumed.
+/// What is after `super` (ECMA-262, 13.3.7), by its first tokens, which were consumed.
 #[derive(Clone, Copy)]
 pub enum SuperHead {
     /// `.`: a property, by its name.
@@ -42,7 +42,7 @@ pub enum SuperHead {
     Other,
 }
 
-/// A link of an optional chain behind `super`, which may have none, by its first tokens, which were consumed.
+/// A link of an optional chain after `super`, which may have none, by its first tokens, which were consumed.
 #[derive(Clone, Copy)]
 pub enum SuperChain {
     /// `?.`, and neither a bracket nor a parenthesis.
@@ -58,11 +58,11 @@ pub enum SuperChain {
 pub enum ImportHead {
     /// `import.meta` (ECMA-262, 13.3.12), at the place.
     Meta(Span),
-    /// A call of `import` (13.3.10), behind its parenthesis.
+    /// A call of `import` (13.3.10), after its parenthesis.
     Call(Import),
 }
 
-/// A property of `super` at `start` (ECMA-262, 13.3.7), by its name, behind the `.`. Where `super` may have none,
+/// A property of `super` at `start` (ECMA-262, 13.3.7), by its name, after the `.`. Where `super` may have none,
 /// that is refused as `InvalidSuper`, at the name. A private name is refused there too: as `InvalidSuperCall`,
 /// where `super` may have properties.
 pub fn parse_super_name<I: Tokens, B: Bodies<I>>(
@@ -86,7 +86,7 @@ pub fn parse_super_name<I: Tokens, B: Bodies<I>>(
     p.made(node)
 }
 
-/// A property of `super` at `start` (ECMA-262, 13.3.7), by `expr`, which stands behind the bracket at `bracket`: the
+/// A property of `super` at `start` (ECMA-262, 13.3.7), by `expr`, which is after the bracket at `bracket`: the
 /// bracket that closes it. Where `super` may have none, that is refused as `InvalidSuper`, at that bracket.
 pub fn super_computed<I: Tokens, B: Bodies<I>>(
     p: &mut Productions<I, B>,
@@ -111,8 +111,8 @@ pub fn super_computed<I: Tokens, B: Bodies<I>>(
     p.made(node)
 }
 
-/// A call of `super` or `import` (ECMA-262, 13.3.7 and 13.3.10), which begins at `start`, behind its arguments.
-/// Consumes nothing, and is refused only for want of memory.
+/// A call of `super` or `import` (ECMA-262, 13.3.7 and 13.3.10), which begins at `start`, after its arguments.
+/// Consumes nothing, and is refused only when out of memory.
 #[inline(never)]
 pub fn callee_call<I: Tokens, B: Bodies<I>>(
     p: &mut Productions<I, B>,
@@ -131,9 +131,9 @@ pub fn callee_call<I: Tokens, B: Bodies<I>>(
     p.made(node)
 }
 
-/// A call of `import` (ECMA-262, 13.3.10), which begins at `start`, behind its arguments, whose parenthesis opens at
+/// A call of `import` (ECMA-262, 13.3.10), which begins at `start`, after its arguments, whose parenthesis opens at
 /// `open`. Where the syntax is pedantic, arguments that are none, too many or a spread are recorded. Consumes nothing,
-/// and is refused only for want of memory.
+/// and is refused only when out of memory.
 #[inline(never)]
 pub fn import_call<I: Tokens, B: Bodies<I>>(
     p: &mut Productions<I, B>,
@@ -152,7 +152,7 @@ pub fn import_call<I: Tokens, B: Bodies<I>>(
     callee_call(p, start, Callee::Import(import), list)
 }
 
-/// Refuses a name behind `super` and `?.`, as `InvalidSuper`, and where `super` may have properties, with `no_call`
+/// Refuses a name after `super` and `?.`, as `InvalidSuper`, and where `super` may have properties, with `no_call`
 /// as `InvalidSuperCall`.
 pub fn refuse_super_name<I: Tokens, B: Bodies<I>>(
     p: &mut Productions<I, B>,
@@ -189,7 +189,7 @@ pub fn import_head<I: Tokens, B: Bodies<I>>(
     }
 }
 
-/// The same behind the `.`. Another word there is consumed, and the token behind it refused.
+/// The same after the `.`. Another word there is consumed, and the token after it refused.
 fn import_member<I: Tokens>(
     alloc: Global,
     input: &mut Buffer<I>,
@@ -240,7 +240,7 @@ pub fn import_meta<I: Tokens, B: Bodies<I>>(
     p.made(node)
 }
 
-/// What stands behind `super`, by the first tokens of it.
+/// What is after `super`, by the first tokens of it.
 pub fn super_head<I: Tokens>(input: &mut Buffer<I>, no_call: bool) -> PResult<SuperHead>
     ensures continues { ContinuesAlone I.model (λ h. h) (super_head (not no_call)) input.old result input.new }
     ensures falls { OnOk result (to_come I.model input.new ≤ to_come I.model input.old) }
@@ -262,7 +262,7 @@ pub fn super_head<I: Tokens>(input: &mut Buffer<I>, no_call: bool) -> PResult<Su
     }
 }
 
-/// The first tokens of a link of an optional chain behind `super`, up to what is in it. Any other token is refused: as
+/// The first tokens of a link of an optional chain after `super`, up to what is in it. Any other token is refused: as
 /// `InvalidSuper`, and with `no_call` as `InvalidSuperCall`.
 pub fn super_chain<I: Tokens>(input: &mut Buffer<I>, no_call: bool) -> PResult<SuperChain>
     ensures acts { Acts I.model input.old result input.new }
@@ -296,7 +296,7 @@ fn super_chain_link<I: Tokens>(input: &mut Buffer<I>) -> PResult<SuperChain>
     }
 }
 
-/// What is called, and the parenthesis behind it (ECMA-262, 13.3.10). With `no_call`, a call is refused.
+/// What is called, and the parenthesis after it (ECMA-262, 13.3.10). With `no_call`, a call is refused.
 fn import_callee<I: Tokens>(
     input: &mut Buffer<I>,
     import: Import,
@@ -333,7 +333,7 @@ fn require_super<I: Tokens>(input: &mut Buffer<I>) -> PResult<()>
     Err(syntax_error(input, span, SyntaxError::InvalidSuper))
 }
 
-/// Refuses what stands behind `super` at the token consumed last: as `InvalidSuper`, and where `super` may have
+/// Refuses what is after `super` at the token consumed last: as `InvalidSuper`, and where `super` may have
 /// properties, with `no_call` as `InvalidSuperCall`.
 fn refuse_super_link<I: Tokens>(input: &mut Buffer<I>, no_call: bool) -> Error
     ensures { Refuses I.model input.old result input.new }
@@ -345,7 +345,7 @@ fn refuse_super_link<I: Tokens>(input: &mut Buffer<I>, no_call: bool) -> Error
     syntax_error(input, span, SyntaxError::InvalidSuper)
 }
 
-/// Refuses brackets behind `super` and `?.`, behind the expression in them: as `InvalidSuper`, and where `super` may
+/// Refuses brackets after `super` and `?.`, after the expression in them: as `InvalidSuper`, and where `super` may
 /// have properties, with `no_call` as `InvalidSuperCall`; another token than the one that closes them where that is
 /// expected.
 pub fn refuse_super_brackets<I: Tokens>(input: &mut Buffer<I>, no_call: bool) -> Error
@@ -357,7 +357,7 @@ pub fn refuse_super_brackets<I: Tokens>(input: &mut Buffer<I>, no_call: bool) ->
     }
 }
 
-/// Refuses arguments behind `super` and `?.`, at the token consumed last: as `SuperCallOptional`.
+/// Refuses arguments after `super` and `?.`, at the token consumed last: as `SuperCallOptional`.
 pub fn refuse_super_args<I: Tokens>(input: &mut Buffer<I>) -> Error
     ensures { Refuses I.model input.old result input.new }
 {
@@ -365,7 +365,7 @@ pub fn refuse_super_args<I: Tokens>(input: &mut Buffer<I>) -> Error
     syntax_error(input, span, SyntaxError::SuperCallOptional)
 }
 
-/// Refuses the current token behind `super`: as `InvalidSuper`, and with `no_call` as `InvalidSuperCall`.
+/// Refuses the current token after `super`: as `InvalidSuper`, and with `no_call` as `InvalidSuperCall`.
 fn refuse_super_token<I: Tokens>(input: &mut Buffer<I>, no_call: bool) -> Error
     ensures { Refuses I.model input.old result input.new }
 {

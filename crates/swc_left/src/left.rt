@@ -47,7 +47,7 @@ pub enum Link {
     Template,
 }
 
-/// The first tokens of a link, behind which it is read on. It is `optional` where they begin with `?.`.
+/// The first tokens of a link, after which it is read on. It is `optional` where they begin with `?.`.
 #[derive(Clone, Copy)]
 pub enum LinkHead {
     /// `.` or `?.`: a member, by its name.
@@ -60,7 +60,7 @@ pub enum LinkHead {
     Template { start: Span },
 }
 
-/// `new.target` (ECMA-262, 13.3.12), behind the `.`; `new` is at `start`. Where there is none, that is recorded
+/// `new.target` (ECMA-262, 13.3.12), after the `.`; `new` is at `start`. Where there is none, that is recorded
 /// at the whole.
 pub fn parse_new_target<I: Tokens, B: Bodies<I>>(
     p: &mut Productions<I, B>,
@@ -83,7 +83,7 @@ pub fn parse_new_target<I: Tokens, B: Bodies<I>>(
     p.made(node)
 }
 
-/// The node of `new` at `start` (ECMA-262, 13.3.5) with its arguments. Refused only for want of memory.
+/// The node of `new` at `start` (ECMA-262, 13.3.5) with its arguments. Refused only when out of memory.
 pub fn new_expr<I: Tokens, B: Bodies<I>>(
     p: &mut Productions<I, B>,
     start: Span,
@@ -100,7 +100,7 @@ pub fn new_expr<I: Tokens, B: Bodies<I>>(
     p.made(node)
 }
 
-/// A member of `obj` (ECMA-262, 13.3.2), behind the `.`; `optional`, where `?` stands before it.
+/// A member of `obj` (ECMA-262, 13.3.2), after the `.`; `optional`, where `?` stands before it.
 pub fn parse_dot_member<I: Tokens, B: Bodies<I>>(
     p: &mut Productions<I, B>,
     obj: ExprId,
@@ -115,7 +115,7 @@ pub fn parse_dot_member<I: Tokens, B: Bodies<I>>(
     p.made(node)
 }
 
-/// What names a member behind a `.`, any word or a private name, and where it ends, in bytes.
+/// What names a member after a `.`, any word or a private name, and where it ends, in bytes.
 pub(crate) fn parse_member_name<I: Tokens, B: Bodies<I>>(
     p: &mut Productions<I, B>,
 ) -> PResult<(MemberProp<ExprId>, BytePos)>
@@ -132,7 +132,7 @@ pub(crate) fn parse_member_name<I: Tokens, B: Bodies<I>>(
     Ok((MemberProp::Ident(name), end))
 }
 
-/// A member of `obj` (ECMA-262, 13.3.2), behind the bracket at `start` and the expression `expr`: the bracket that
+/// A member of `obj` (ECMA-262, 13.3.2), after the bracket at `start` and the expression `expr`: the bracket that
 /// closes it; `optional`, where `?.` stands before these.
 pub fn computed_member<I: Tokens, B: Bodies<I>>(
     p: &mut Productions<I, B>,
@@ -157,7 +157,7 @@ pub fn computed_member<I: Tokens, B: Bodies<I>>(
 }
 
 /// The node of a call (ECMA-262, 13.3.6), with its arguments; `optional`, where `?.` stands before these. Refused
-/// only for want of memory.
+/// only when out of memory.
 #[inline(never)]
 pub fn call_expr<I: Tokens, B: Bodies<I>>(
     p: &mut Productions<I, B>,
@@ -218,8 +218,8 @@ fn open_link<I: Tokens>(input: &mut Buffer<I>, link: Link) -> PResult<LinkHead>
     }
 }
 
-/// Consumes the first tokens of a link of an optional chain (ECMA-262, 13.3.9), behind its `?`: the `.`, and the
-/// bracket or the parenthesis behind it. Where neither is there, a name has to be.
+/// Consumes the first tokens of a link of an optional chain (ECMA-262, 13.3.9), after its `?`: the `.`, and the
+/// bracket or the parenthesis after it. Where neither is there, a name has to be.
 fn open_chain<I: Tokens>(input: &mut Buffer<I>) -> PResult<LinkHead>
     ensures heads { ParsesAlone I.model (λ h. h) chain_head input.old result input.new }
     ensures falls { OnOk result (to_come I.model input.new < to_come I.model input.old) }
@@ -240,7 +240,7 @@ fn open_chain<I: Tokens>(input: &mut Buffer<I>) -> PResult<LinkHead>
     }
 }
 
-/// The link that comes next; with `no_call`, a parenthesis begins none. Refused only for want of memory.
+/// The link that comes next; with `no_call`, a parenthesis begins none. Refused only when out of memory.
 fn next_link<I: Tokens>(input: &mut Buffer<I>, no_call: bool) -> PResult<Option<Link>>
     ensures tells { Tells I.model (link_here (not no_call)) input.old result input.new }
     ensures some { IfOk result (λ r. IsSome r → IsSome (current input.new)) }
@@ -266,7 +266,7 @@ fn cur_link<I: Tokens>(input: &Buffer<I>, no_call: bool) -> Option<Link>
     }
 }
 
-/// The link of an optional chain that `?` begins, where a `.` stands behind it. Refused only for want of memory.
+/// The link of an optional chain that `?` begins, where a `.` is after it. Refused only when out of memory.
 pub(crate) fn chain_behind<I: Tokens>(input: &mut Buffer<I>) -> PResult<Option<Link>>
     requires { IsSome (current input.old) }
     ensures tells { Tells I.model (λ ts. chain_at (first (rest ts))) input.old result input.new }
@@ -284,7 +284,7 @@ pub(crate) fn chain_behind<I: Tokens>(input: &mut Buffer<I>) -> PResult<Option<L
     }
 }
 
-/// The same; nothing where no token is behind it.
+/// The same; nothing where no token is after it.
 fn peek_chain<I: Tokens>(input: &mut Buffer<I>) -> Option<Option<Link>>
     requires { IsSome (current input.old) }
     ensures peeked { Peeked I.model input.old input.new }

@@ -37,8 +37,8 @@ pub struct TplParts {
     pub end: Span,
 }
 
-/// The node of a template with the tag `tag` (ECMA-262, 13.3.11), behind its `parts`; the backquote that opens it is
-/// at `start`. A tag that is an optional chain is recorded. Refused only for want of memory.
+/// The node of a template with the tag `tag` (ECMA-262, 13.3.11), after its `parts`; the backquote that opens it is
+/// at `start`. A tag that is an optional chain is recorded. Refused only when out of memory.
 pub fn tagged_tpl<I: Tokens, B: Bodies<I>>(
     p: &mut Productions<I, B>,
     tag: ExprId,
@@ -58,7 +58,7 @@ pub fn tagged_tpl<I: Tokens, B: Bodies<I>>(
     p.made(node)
 }
 
-/// A text of a template (ECMA-262, 12.9.6), the last one where a backquote stands behind it. Without a tag a bad
+/// A text of a template (ECMA-262, 12.9.6), the last one where a backquote is after it. Without a tag a bad
 /// escape in it is refused.
 pub fn parse_tpl_element<I: Tokens>(input: &mut Buffer<I>, is_tagged: bool) -> PResult<TplElement>
     ensures parses { ParsesAlone I.model (λ quasi. quasi) (tpl_element is_tagged) input.old result input.new }
@@ -83,7 +83,7 @@ pub fn parse_tpl_element<I: Tokens>(input: &mut Buffer<I>, is_tagged: bool) -> P
     })
 }
 
-/// Consumes what stands behind a text of a template: the backquote that closes the template, whose place is answered,
+/// Consumes what is after a text of a template: the backquote that closes the template, whose place is answered,
 /// or the `${` of an expression.
 pub fn eat_tpl_end<I: Tokens>(input: &mut Buffer<I>) -> PResult<Option<Span>>
     ensures ends { ParsesAlone I.model (λ o. o) tpl_end input.old result input.new }

@@ -26,7 +26,7 @@ use Rattle.swc_nodes.proofs.Held.{from-apart, tree-later}
 use Rattle.swc_nodes.proofs.Lists.{list-made}
 
 module _ {F C K : Type 0} {fg : Ghosts F} {cg : Ghosts C} {kg : Ghosts K} where
-  -- the parts behind others lie apart too
+  -- the parts after others lie apart too
   pub apart-back : {ns : Nodes F C K fg cg kg} {k : ℕ} (ps qs : List Part) → Apart k ns (ps ++ qs) → Apart 0 ns qs
   apart-back {ns} {k} ps qs a = record { chained = chain-second (seat_at ns) k ps qs (count ns) a.chained }
 

@@ -77,7 +77,7 @@ each_in : {A : Type 0} (P : A → Type 0) (xs : List A) → ((x : A) → Contain
 each_in P xs h = All-weaker (Contains xs) P h xs (All-contains_itself xs)
 
 module _ {F C K : Type 0} (at : ℕ → Seat F C K) where
-  -- all that is reached from each of the parts lies behind the part before it, from the number lo on
+  -- all that is reached from each of the parts lies after the part before it, from the number lo on
   abbrev pub Spread : ℕ → List Part → Type 0
   Spread lo [] = Unit {0}
   Spread lo (p ∷ ps) = (lo ≤ (at p.at).first) × ((at p.at).first ≤ p.at) × Spread (suc p.at) ps
@@ -228,7 +228,7 @@ module _ {F C K : Type 0} {fg : Ghosts F} {cg : Ghosts C} {kg : Ghosts K} where
         ap (left_over ns) (ap ats taken ∙ ats-append b (p ∷ [])) ∙ sum_by_push w (ats b) p.at in
         let u = first_under ns p.at in omega arith
 
-    -- it has one, whose parts are put behind what is left
+    -- it has one, whose parts are put after what is left
     module _ {x : Node F C K} {r : List Part} (stood : Stood ns p.at x) (lt : p.at < count ns)
         (put : r ≡ b ++ slots x) where
       put_left : (q : Part) → Contains b q → Contains r q

@@ -102,7 +102,7 @@ module _ {F C K : Type 0} {fg : Ghosts F} {cg : Ghosts C} {kg : Ghosts K} where
   operands-more {ns} {ms} {k} ws w e g a f =
       subst (Apart k ms) (sym (parts_more ws w e)) (apart-more-one g a f)
 
-  -- the left operand of the operator on top, and its right one behind it
+  -- the left operand of the operator on top, and its right one after it
   pub operands-top : {ns : Nodes F C K fg cg kg} {k : ℕ} (ws : List PendingOperator) (w : PendingOperator) (e : ExprId)
       → Apart k ns (operand_parts (ws ++ w ∷ []) e)
       → From 0 ns (expr_part w.left) × From (w.left.0 + 1) ns (expr_part e)

@@ -97,7 +97,7 @@ module _ {F C K : Type 0} {fg : Ghosts F} {cg : Ghosts C} {kg : Ghosts K} where
       ap (λ v. left_over ns (ats v)) e ∙ ap (left_over ns) (ats-append qs more) ∙ sum_by-append (weight (seat_at ns)) (ats qs) (ats more) in
       omega arith
 
-  -- ---- one turn: the last part is taken from the parts a, and the first of its own parts are put behind what is left of them
+  -- ---- one turn: the last part is taken from the parts a, and the first of its own parts are put after what is left of them
 
   pub last_below : (ns : Nodes F C K fg cg kg) (a b : List Part) (p : Part) → AreNumbers ns (ats a) → a ≡ b ++ p ∷ [] → p.at < count ns
   last_below ns a b p all e = (All-pop (λ k. k < count ns) (ats a) (ats b) (Some p.at) (ats_taken a b p e) all).1

@@ -1,4 +1,4 @@
--- Where commas stand behind the last parts of literals, by where these begin.
+-- Where commas are after the last parts of literals, by where these begin.
 use Rattle.std.specs.Prelude.{◌≡◌, ◌≢◌, ℕ, List, [], ◌∷◌, ◌++◌, Option, None, nat_eq, if◌then◌else◌}
 use Rattle.std.specs.BTreeMap.{get}
 use Rattle.std.specs.Ordering.{nat_cmp}
@@ -20,7 +20,7 @@ pub record Remembers (start : ℕ) (comma : Option Span) (old new : TrailingComm
 
 -- ---- the literals of a tree, and its array and object patterns, which have no comma
 
--- where a literal begins, and the comma behind its last part, or that there is none
+-- where a literal begins, and the comma after its last part, or that there is none
 abbrev pub Literal : Type 0
 Literal = ℕ × Option Span
 

@@ -24,6 +24,6 @@ module _ {F C K : Type 0} {fg : Ghosts F} {cg : Ghosts C} {kg : Ghosts K} where
   PartsFirst ns list = (before behind : List Part) (p q : Part) → list ≡ before ++ p ∷ behind
       → Contains (parts_at ns p.at) q → Contains before q
 
--- each has a smaller number than all behind it: so none comes twice
+-- each has a smaller number than all after it: so none comes twice
 abbrev pub NumbersRise : List PartId → Type 0
 NumbersRise list = AllPairs (λ p q. (part_of p).at < (part_of q).at) list

@@ -19,7 +19,7 @@ impl<F: Spanned + Drop, C: Spanned + Drop, K: Spanned + Drop> Nodes<F, C, K> {
     /// An arrow function (ECMA-262, 15.3 and 15.9) from `start`, a position in bytes, to where its body ends: an
     /// expression with its last token, a block where the hook has it.
     ///
-    /// All that is reached from a parameter lies behind the one before it, and all that is reached from the body behind
+    /// All that is reached from a parameter lies after the one before it, and all that is reached from the body after
     /// them (`is_arrow_apart`).
     pub fn arrow_expr(
         &mut self,

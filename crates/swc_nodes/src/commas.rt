@@ -1,4 +1,4 @@
-// Where commas stand behind the last parts of literals.
+// Where commas are after the last parts of literals.
 ghost use Rattle.std.specs.Prelude.{◌≡◌, ◌++◌, ℕ, None, IfOk, OnOk, OnErr, map};
 ghost use Rattle.swc_nodes.specs.Commas.{comma_at, Remembers, Recalls, node_comma, outer_parts, part_commas};
 ghost use Rattle.swc_nodes.specs.GrowingNodes.{tree_at, Apart};
@@ -13,7 +13,7 @@ use std::collections::BTreeMap;
 use swc_ast::spanned::Spanned;
 use swc_context::span::{BytePos, Span};
 
-/// The places of commas behind the last element of an array literal, or the last property of an object literal
+/// The places of commas after the last element of an array literal, or the last property of an object literal
 /// (ECMA-262, 13.2.4 and 13.2.5), by the places where the literals begin. Trees in boxes don't hold them.
 pub struct TrailingCommas {
     by_start: BTreeMap<u32, Span>,
@@ -68,7 +68,7 @@ impl TrailingCommas {
     /// Remembers the commas of all literals that are reached from the parts of an item, which lie apart, but for those
     /// in the bodies of arrow functions: each at the place where the literal begins, or forgets what was there where it
     /// has none; so it does of array and object patterns, which have none. Goes without recursion, and is refused only
-    /// for want of memory.
+    /// when out of memory.
     ///
     /// A node comes before its parts, and of these the last one first. Where several begin at one place, as in no text,
     /// that of the last one is remembered.
@@ -125,7 +125,7 @@ impl TrailingCommas {
     }
 }
 
-/// Puts the parts of a node behind those of a list, but for the body of an arrow function.
+/// Puts the parts of a node after those of a list, but for the body of an arrow function.
 fn list_outer<F: Spanned + Drop, C: Spanned + Drop, K: Spanned + Drop>(
     node: &Node<F, C, K>,
     due: &mut Vec<PartId>,

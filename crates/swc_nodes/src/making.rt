@@ -63,8 +63,8 @@ impl<F: Spanned + Drop, C: Spanned + Drop, K: Spanned + Drop> Nodes<F, C, K> {
 
     /// An array literal (ECMA-262, 13.2.4) from `start` to `end`, positions in bytes, with a `None` for each hole.
     ///
-    /// `trailing_comma` is the place of a comma behind the last element, which is no hole. All that is reached from an
-    /// element lies behind the element before it (`are_elems_apart`).
+    /// `trailing_comma` is the place of a comma after the last element, which is no hole. All that is reached from an
+    /// element lies after the element before it (`are_elems_apart`).
     pub fn array_lit(
         &mut self,
         start: BytePos,
@@ -87,8 +87,8 @@ impl<F: Spanned + Drop, C: Spanned + Drop, K: Spanned + Drop> Nodes<F, C, K> {
 
     /// An object literal (ECMA-262, 13.2.5) from `start` to `end`, positions in bytes.
     ///
-    /// `trailing_comma` is the place of a comma behind the last property. All that is reached from a part of a property
-    /// lies behind the part before it (`are_props_apart`).
+    /// `trailing_comma` is the place of a comma after the last property. All that is reached from a part of a property
+    /// lies after the part before it (`are_props_apart`).
     pub fn object_lit(
         &mut self,
         start: BytePos,
@@ -147,8 +147,8 @@ impl<F: Spanned + Drop, C: Spanned + Drop, K: Spanned + Drop> Nodes<F, C, K> {
 
     /// A member of `obj` (ECMA-262, 13.3.2), to `end`, a position in bytes.
     ///
-    /// Where it is `optional`, behind `?.`, or `obj` is of an optional chain, it is of one (13.3.9). All that is
-    /// reached from an expression in brackets lies behind `obj`.
+    /// Where it is `optional`, after `?.`, or `obj` is of an optional chain, it is of one (13.3.9). All that is
+    /// reached from an expression in brackets lies after `obj`.
     pub fn member_expr(
         &mut self,
         obj: ExprId,
@@ -177,8 +177,8 @@ impl<F: Spanned + Drop, C: Spanned + Drop, K: Spanned + Drop> Nodes<F, C, K> {
 
     /// A call of `callee` (ECMA-262, 13.3.6), to `end`, a position in bytes.
     ///
-    /// Where it is `optional`, behind `?.`, or `callee` is of an optional chain, it is of one (13.3.9). All that is
-    /// reached from an argument lies behind the one before it, and behind `callee`.
+    /// Where it is `optional`, after `?.`, or `callee` is of an optional chain, it is of one (13.3.9). All that is
+    /// reached from an argument lies after the one before it, and after `callee`.
     pub fn call_expr(
         &mut self,
         callee: ExprId,
@@ -232,7 +232,7 @@ impl<F: Spanned + Drop, C: Spanned + Drop, K: Spanned + Drop> Nodes<F, C, K> {
     /// A call of what may be `super` or `import` (ECMA-262, 13.3.7 and 13.3.10), from `start` to `end`, positions in
     /// bytes.
     ///
-    /// All that is reached from an argument lies behind the one before it, and behind an expression that is called.
+    /// All that is reached from an argument lies after the one before it, and after an expression that is called.
     pub fn callee_call(
         &mut self,
         start: BytePos,
@@ -276,7 +276,7 @@ impl<F: Spanned + Drop, C: Spanned + Drop, K: Spanned + Drop> Nodes<F, C, K> {
 
     /// `new` with arguments (ECMA-262, 13.3.5), from `start` to `end`, positions in bytes.
     ///
-    /// All that is reached from an argument lies behind the one before it, and behind `callee`.
+    /// All that is reached from an argument lies after the one before it, and after `callee`.
     pub fn new_expr(
         &mut self,
         start: BytePos,
@@ -322,7 +322,7 @@ impl<F: Spanned + Drop, C: Spanned + Drop, K: Spanned + Drop> Nodes<F, C, K> {
     /// A template (ECMA-262, 13.2.8) from `start` to `end`, positions in bytes: its texts, and the expressions between
     /// them.
     ///
-    /// All that is reached from an expression lies behind the one before it.
+    /// All that is reached from an expression lies after the one before it.
     pub fn tpl(
         &mut self,
         start: BytePos,
@@ -346,7 +346,7 @@ impl<F: Spanned + Drop, C: Spanned + Drop, K: Spanned + Drop> Nodes<F, C, K> {
 
     /// A template with a tag (ECMA-262, 13.3.11): the template goes from `start` to `end`, positions in bytes.
     ///
-    /// All that is reached from an expression lies behind the one before it, and behind `tag`.
+    /// All that is reached from an expression lies after the one before it, and after `tag`.
     pub fn tagged_tpl(
         &mut self,
         tag: ExprId,
@@ -376,7 +376,7 @@ impl<F: Spanned + Drop, C: Spanned + Drop, K: Spanned + Drop> Nodes<F, C, K> {
         Ok(ExprId(self.push(Node::TaggedTpl { span, tag, tpl })?))
     }
 
-    /// `++` or `--` and its operand, which stands behind it (ECMA-262, 13.4); from `start`, a position in bytes.
+    /// `++` or `--` and its operand, which is after it (ECMA-262, 13.4); from `start`, a position in bytes.
     pub fn update_prefix(
         &mut self,
         start: BytePos,
@@ -461,7 +461,7 @@ impl<F: Spanned + Drop, C: Spanned + Drop, K: Spanned + Drop> Nodes<F, C, K> {
 
     /// A binary operator and its operands (ECMA-262, 13.6 to 13.13).
     ///
-    /// All that is reached from the right one lies behind the left one: its `first` is above the left one's number.
+    /// All that is reached from the right one lies after the left one: its `first` is above the left one's number.
     pub fn bin_op(
         &mut self,
         op: BinaryOp,
@@ -490,7 +490,7 @@ impl<F: Spanned + Drop, C: Spanned + Drop, K: Spanned + Drop> Nodes<F, C, K> {
 
     /// A conditional (ECMA-262, 13.14): what it tests, what it is where that holds, and what else.
     ///
-    /// All that is reached from one of them lies behind the one before it.
+    /// All that is reached from one of them lies after the one before it.
     pub fn cond_expr(
         &mut self,
         test: ExprId,
@@ -520,7 +520,7 @@ impl<F: Spanned + Drop, C: Spanned + Drop, K: Spanned + Drop> Nodes<F, C, K> {
 
     /// An assignment (ECMA-262, 13.15) of `value` to what may be assigned to as it stands (`has_target`).
     ///
-    /// All that is reached from `value` lies behind `left`.
+    /// All that is reached from `value` lies after `left`.
     pub fn assign_expr(
         &mut self,
         op: AssignOp,
@@ -561,7 +561,7 @@ impl<F: Spanned + Drop, C: Spanned + Drop, K: Spanned + Drop> Nodes<F, C, K> {
         })?))
     }
 
-    /// `yield`, with a `*` behind it where it is to `delegate`, and its operand (ECMA-262, 15.5); from `start`, a
+    /// `yield`, with a `*` after it where it is to `delegate`, and its operand (ECMA-262, 15.5); from `start`, a
     /// position in bytes.
     pub fn yield_expr(
         &mut self,
@@ -588,7 +588,7 @@ impl<F: Spanned + Drop, C: Spanned + Drop, K: Spanned + Drop> Nodes<F, C, K> {
 
     /// Expressions with commas between them (ECMA-262, 13.16), of which there is one at least; one alone is itself.
     ///
-    /// All that is reached from an expression lies behind the one before it.
+    /// All that is reached from an expression lies after the one before it.
     pub fn seq_expr(&mut self, exprs: Vec<ExprId>) -> Result<ExprId, AllocError>
         requires some { 1 ≤ length exprs.items }
         requires apart { Apart 0 self.old (exprs_parts exprs) }

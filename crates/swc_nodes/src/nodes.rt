@@ -10,7 +10,7 @@ use std::alloc::{AllocError, Global};
 use swc_ast::spanned::Spanned;
 use swc_bodies::bodies::BodyForms;
 
-/// The nodes of trees, each behind its parts. What is reached from one part of a node lies behind
+/// The nodes of trees, each after its parts. What is reached from one part of a node lies after
 /// the part before it, in the order of the source, so no node is a part of two.
 ///
 /// A number keeps its tree as nodes are appended. Letting go of nodes takes no recursion over trees.
@@ -113,7 +113,7 @@ impl<F: Spanned + Drop, C: Spanned + Drop, K: Spanned + Drop> Nodes<F, C, K> {
         Ok(id)
     }
 
-    /// Takes out the node that has the number, and lets go of all behind it.
+    /// Takes out the node that has the number, and lets go of all after it.
     pub fn pop_at(&mut self, id: usize) -> Node<F, C, K>
         requires { id < count self.old }
         ensures { Popped self.old id result self.new }
@@ -122,8 +122,8 @@ impl<F: Spanned + Drop, C: Spanned + Drop, K: Spanned + Drop> Nodes<F, C, K> {
         self.nodes.remove(id)
     }
 
-    /// Puts commas behind the last parts of the array and object literals that have numbers from `from` on, where
-    /// `commas` has one for where the literal begins, and takes those away that stand behind others.
+    /// Puts commas after the last parts of the array and object literals that have numbers from `from` on, where
+    /// `commas` has one for where the literal begins, and takes those away that are after others.
     pub(crate) fn mark_from(&mut self, from: usize, commas: &TrailingCommas)
         ensures { Marks (comma_at commas.now) from self.old self.new }
     {

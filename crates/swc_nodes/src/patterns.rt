@@ -39,7 +39,7 @@ impl<F: Spanned + Drop, C: Spanned + Drop, K: Spanned + Drop> Nodes<F, C, K> {
     /// An array pattern (ECMA-262, 14.3.3) from `start` to `end`, positions in bytes, with a `None` for each hole.
     ///
     /// The elements are taken as they stand: holes at the end are dropped before. All that is reached from an element
-    /// lies behind the element before it (`are_pat_elems_apart`).
+    /// lies after the element before it (`are_pat_elems_apart`).
     pub fn array_pat(
         &mut self,
         start: BytePos,
@@ -58,7 +58,7 @@ impl<F: Spanned + Drop, C: Spanned + Drop, K: Spanned + Drop> Nodes<F, C, K> {
 
     /// An object pattern (ECMA-262, 14.3.3) from `start` to `end`, positions in bytes.
     ///
-    /// All that is reached from a part of a property lies behind the part before it (`are_pat_props_apart`).
+    /// All that is reached from a part of a property lies after the part before it (`are_pat_props_apart`).
     pub fn object_pat(
         &mut self,
         start: BytePos,
@@ -79,7 +79,7 @@ impl<F: Spanned + Drop, C: Spanned + Drop, K: Spanned + Drop> Nodes<F, C, K> {
     /// A pattern with its initialiser (ECMA-262, 14.3.3) from `start`, a position in bytes, to where the last token of
     /// `value` ends.
     ///
-    /// All that is reached from `value` lies behind `left`.
+    /// All that is reached from `value` lies after `left`.
     pub fn default_pat(
         &mut self,
         start: BytePos,
@@ -104,7 +104,7 @@ impl<F: Spanned + Drop, C: Spanned + Drop, K: Spanned + Drop> Nodes<F, C, K> {
         })?))
     }
 
-    /// A rest (ECMA-262, 14.3.3 and 15.1): dots, and the pattern behind them.
+    /// A rest (ECMA-262, 14.3.3 and 15.1): dots, and the pattern after them.
     pub fn rest_pat(&mut self, dots: Span, arg: PatId) -> Result<PatId, AllocError>
         requires { From 0 self.old (pat_part arg) }
         ensures grows { Grows self.old self.new }
@@ -126,7 +126,7 @@ impl<F: Spanned + Drop, C: Spanned + Drop, K: Spanned + Drop> Nodes<F, C, K> {
     /// An assignment to an array or object pattern (ECMA-262, 13.15.5; `has_target` tells). It ends with the last token
     /// of `value`.
     ///
-    /// All that is reached from `value` lies behind `left`.
+    /// All that is reached from `value` lies after `left`.
     pub fn assign_pat_expr(&mut self, left: PatId, value: ExprId) -> Result<ExprId, AllocError>
         requires left { From 0 self.old (target_part (target.Pat left)) }
         requires right { From (left.0 + 1) self.old (expr_part value) }
@@ -156,7 +156,7 @@ impl<F: Spanned + Drop, C: Spanned + Drop, K: Spanned + Drop> Nodes<F, C, K> {
         Ok(PatId(self.push(Node::PatInvalid(Invalid { span }))?))
     }
 
-    /// A property of an object pattern: a key, and the pattern behind its colon (ECMA-262, 14.3.3).
+    /// A property of an object pattern: a key, and the pattern after its colon (ECMA-262, 14.3.3).
     pub fn key_pat_prop(&self, key: PropName<ExprId>, value: PatId) -> PatPropNode
         requires { From 0 self.now (pat_part value) }
         ensures tree { pat_prop_of F.place C.place K.place (tree_at self.now) result
@@ -171,7 +171,7 @@ impl<F: Spanned + Drop, C: Spanned + Drop, K: Spanned + Drop> Nodes<F, C, K> {
         PatPropNode::KeyValue { span, key, value }
     }
 
-    /// A property of an object pattern: a name, and the initialiser behind its `=` (ECMA-262, 14.3.3). It ends with the
+    /// A property of an object pattern: a name, and the initialiser after its `=` (ECMA-262, 14.3.3). It ends with the
     /// last token of that.
     pub fn default_pat_prop(&self, name: BindingIdent, value: ExprId) -> PatPropNode
         requires { From 0 self.now (expr_part value) }
@@ -192,7 +192,7 @@ impl<F: Spanned + Drop, C: Spanned + Drop, K: Spanned + Drop> Nodes<F, C, K> {
         }
     }
 
-    /// The rest of an object pattern (ECMA-262, 14.3.3): dots, and the pattern behind them.
+    /// The rest of an object pattern (ECMA-262, 14.3.3): dots, and the pattern after them.
     pub fn rest_pat_prop(&self, dots: Span, arg: PatId) -> PatPropNode
         requires { From 0 self.now (pat_part arg) }
         ensures tree { pat_prop_of F.place C.place K.place (tree_at self.now) result

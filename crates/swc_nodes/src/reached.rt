@@ -9,13 +9,13 @@ use crate::nodes::Nodes;
 use std::alloc::AllocError;
 use swc_ast::spanned::Spanned;
 
-/// All that is reached from an item: its parts, their nodes' parts, and so on, each behind the parts of its own node.
-/// An `ExprId` or a `PatId` is its one part itself, and so comes last. Beside them `Nodes` may hold others, as behind a
+/// All that is reached from an item: its parts, their nodes' parts, and so on, each after the parts of its own node.
+/// An `ExprId` or a `PatId` is its one part itself, and so comes last. Beside them `Nodes` may hold others, as after a
 /// recorded fault, which nothing reaches: who wants the nodes of a tree goes over these.
 ///
 /// What no node has the number of is left out. Where the item's parts lie apart, as those of each node do, and what the
 /// parser answers, the numbers rise, and so none comes twice; so they do from one part, whichever it is. Takes time and
-/// memory in proportion to how many there are, goes without recursion, and is refused only for want of memory.
+/// memory in proportion to how many there are, goes without recursion, and is refused only when out of memory.
 pub fn reached<T: Parts, F: Spanned + Drop, C: Spanned + Drop, K: Spanned + Drop>(
     nodes: &Nodes<F, C, K>,
     item: &T,

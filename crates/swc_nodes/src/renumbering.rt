@@ -334,7 +334,7 @@ fn renumber_both<F: Spanned, C: Spanned, K: Spanned, T: Numbered<F, C, K>, U: Nu
 }
 
 /// Renumbers the operands of an operation, or the parts of a pattern that is a plain one with something before or
-/// behind it.
+/// after it.
 fn renumber_operation<F: Spanned, C: Spanned, K: Spanned>(node: &mut Node<F, C, K>, ids: &Numbers)
     requires { is_operation node.old ≡ true }
     ensures renumbered { Renumbered slots (marked_tree F.place C.place K.place) ids.now node.old node.new }

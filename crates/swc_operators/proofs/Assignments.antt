@@ -139,14 +139,14 @@ module _ {F C K : Type 0} (hook : Hook F C K) where
       then_last None = refl
       then_last (Some p) = last hook (Some 14) (assigns p.0) x p.1 refl
 
-  -- behind the `:` of a conditional
+  -- after the `:` of a conditional
   alt_reads : (l e : Tree F C K) (x : Scope) (t : TokenAndSpan) (us : List TokenAndSpan)
       → (if is_colon t.token then and_then (run hook (at Assign) x us)
       (λ a vs. Some (cond_e (to (span_of l) (span_of a)) l e a, vs)) else None)
       ≡ (if is_colon t.token then cond_close hook (span_of l).lo l e x us else None)
   alt_reads l e x t us = ap (λ o. if is_colon t.token then o else None) (calls (run hook (at Assign) x us) _)
 
-  -- behind the middle of a conditional
+  -- after the middle of a conditional
   colon_reads : (l e : Tree F C K) (x : Scope) (us : List TokenAndSpan)
       → exec hook (run hook) None
       (take (λ t. check (is_colon t.token) (read (at Assign) x (λ a. gives (cond_e (to (span_of l) (span_of a)) l e a))))) us
@@ -155,7 +155,7 @@ module _ {F C K : Type 0} (hook : Hook F C K) where
   colon_reads l e x (t ∷ us) =
       alt_reads l e x t us ∙ then_token is_colon x (t ∷ us) (λ q vs. cond_close hook (span_of l).lo l e x vs)
 
-  -- behind what binary operators join
+  -- after what binary operators join
   pub assigns_cond : (l : Tree F C K) (x : Scope) (ts : List TokenAndSpan) → at_token is_question (first ts) ≡ true
       → run hook (assigns l) x ts ≡ behind (cond_tail hook (span_of l).lo l) x ts
   unfolding cond_tail inside expected eaten
@@ -300,7 +300,7 @@ module _ {F C K : Type 0} (hook : Hook F C K) where
   is_false true h = absurd cc
   is_false false h = refl
 
-  -- behind `yield`, where an operand stands there: with a `*` before it or not
+  -- after `yield`, where an operand stands there: with a `*` before it or not
   star_reads : (s : Span) (x : Scope) (t : TokenAndSpan) (us : List TokenAndSpan) → is_star t.token ≡ true
       → t.had_line_break ≡ false
       → exec hook (run hook) None (plan (take (λ u. check (not u.had_line_break) (check (is_star u.token)
@@ -315,7 +315,7 @@ module _ {F C K : Type 0} (hook : Hook F C K) where
   unfolding eaten
   plain_reads s x us h = rw h (calls (run hook (at Assign) x us) _)
 
-  -- by what stands behind the word, where it is an operator
+  -- by what is after the word, where it is an operator
   yield_reads : (s : Span) (w : Bool) (x : Scope) (us : List TokenAndSpan) → x.context.in_generator ≡ true
       → run hook (at Assign) x (tk (token.Word (written.Keyword keyword.Yield)) w s ∷ us) ≡ yield_tail hook s x us
   unfolding yield_tail yield_operand
@@ -409,7 +409,7 @@ module _ {F C K : Type 0} (hook : Hook F C K) where
   unfolding yield_operand
   yield_operand_splits s x ts = refl
 
-  -- ---- assignments, behind the operator
+  -- ---- assignments, after the operator
 
   pub assign_well : (op : AssignOp) (l : Tree F C K) (x : Scope) (ts : List TokenAndSpan)
       → is_target x.context.strict l ≡ true → assign_expr hook op l x ts ≡ behind (assign_tail hook op l) x ts
@@ -432,7 +432,7 @@ module _ {F C K : Type 0} (hook : Hook F C K) where
   unfolding cond_tail
   cond_tail_splits lo l x ts = refl
 
-  -- behind what binary operators join: a conditional, or something else; all of it, where the conditional begins where
+  -- after what binary operators join: a conditional, or something else; all of it, where the conditional begins where
   -- what it tests does
   pub from_question : (lo : BytePos) (l : Tree F C K) (x : Scope) (ts : List TokenAndSpan) → at_token is_question (first ts) ≡ true
       → assigns_from hook lo l x ts ≡ behind (cond_tail hook lo l) x ts

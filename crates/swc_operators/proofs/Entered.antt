@@ -1,4 +1,4 @@
--- What is read in a context that was set, and set back behind it.
+-- What is read in a context that was set, and set back after it.
 use Rattle.std.proofs.Common.{◌≡◌, ℕ, Bool, List, Option, Result, refl, sym, ap, ◌∙◌, arith}
 use Rattle.swc_context.specs.Contexts.{view as deciding}
 use Rattle.swc_context.specs.declared.context.Context.{Context}

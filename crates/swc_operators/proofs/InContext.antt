@@ -1,4 +1,4 @@
--- What a production reads in a context that was set for it, and set back behind it.
+-- What a production reads in a context that was set for it, and set back after it.
 use Rattle.std.proofs.Common.{◌≡◌, ℕ, Bool, List, Result, refl, sym, ap, subst, ◌∙◌}
 use Rattle.swc_context.specs.Contexts.{view as deciding}
 use Rattle.swc_context.specs.declared.context.Context.{Context}

@@ -19,7 +19,7 @@ told_here f b {y = y} ts same e h =
     ∙ ap (λ v. f && (y.syntax.pedantic && at_token is_hash v)) e ∙ h
 
 module _ {F C K : Type 0} (hook : Hook F C K) where
-  -- behind a left-hand side's links, and behind what begins one
+  -- after a left-hand side's links, and after what begins one
   abbrev pub updated : Scope → Tree F C K × List TokenAndSpan → Out (Tree F C K)
   updated x p = run hook (updates p.0) x p.1
 

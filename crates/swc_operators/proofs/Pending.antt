@@ -233,7 +233,7 @@ module _ {F C K : Type 0} (hook : Hook F C K) where
       ∙ ap (λ t. through hook (tree_of ms) (min_right w.op) ws x o >>= (λ p. on_joined hook w.op t m p.0 x p.1))
       (sym same)
 
-  -- behind an operator
+  -- after an operator
   operand_on : (l : Tree F C K) (m : ℕ) (op : BinaryOp) (x : Scope) (ts : List TokenAndSpan)
       → on_operand hook op l m x ts
       ≡ (operand hook (nat_lt (min_right op) 7) x ts
@@ -253,7 +253,7 @@ module _ {F C K : Type 0} (hook : Hook F C K) where
       ∙ through_push tree 0 vs w x (Some (tree e, ts))
       ∙ ap (through hook tree 0 vs x) (climb_joins w.op (tree w.left) (tree e) (least_above 0 vs) x ts)
 
--- a `#` and a name are free behind the operator on top
+-- a `#` and a name are free after the operator on top
 free_is : {free : Bool} (ws vs : List PendingOperator) (e : ExprId) (op : BinaryOp) → free ≡ nat_lt (least_above 0 vs) 7
     → vs ≡ ws ++ waiting e op ∷ [] → free ≡ nat_lt (min_right op) 7
 free_is ws vs e op is pushed =
@@ -295,7 +295,7 @@ module _ {S F C K : Type 0} {model : Model S} {sure : Bool} (hook : Hook F C K) 
       s.on_seen here (λ x ts same e. climb_takes hook op l m x ts (s.no_head same)
       (rule.same_op (operator_at (context model c) (seen c)) (Some op) same e refl a.0) a.1)
 
-  -- what is read behind an operand, and through all that wait; the operator that is current is taken
+  -- what is read after an operand, and through all that wait; the operator that is current is taken
   pub on_taken : {f : s.Reader (Tree F C K)} {a b c d : Buffer S} (tree : ExprId → Tree F C K)
       (ws : List PendingOperator) (e : ExprId) (op : BinaryOp) → On model sure f (pending_reads hook tree ws e) a b
       → Here model b c → Some op ≡ operator_above (least_above 0 ws) (operator_at (context model c) (seen c))

@@ -1,4 +1,4 @@
--- A sequence (13.16), from the comma behind its first expression on.
+-- A sequence (13.16), from the comma after its first expression on.
 use Rattle.std.proofs.Common.{ℕ, Bool, Some, Result, refl}
 use Rattle.swc_context.specs.declared.error.Error.{Error}
 use Rattle.swc_context.specs.declared.span.Span.{Span}

@@ -45,7 +45,7 @@ if_off true x y h = absurd cc
 if_off false x y h = refl
 
 module _ {F C K : Type 0} where
-  -- `++` or `--` behind l, which is written to, and what is left behind it
+  -- `++` or `--` after l, which is written to, and what is left after it
   abbrev pub update_put : UpdateOp → Tree F C K → Option TokenAndSpan → List TokenAndSpan → Out (Tree F C K)
   update_put op l None us = None
   update_put op l (Some t) us = Some (update_e (to (span_of l) t.span) op false l, us)
@@ -91,7 +91,7 @@ module _ {F C K : Type 0} (hook : Hook F C K) where
   unfolding update_tail
   update_splits s op x ts = refl
 
-  -- a left-hand side, and what stands behind it
+  -- a left-hand side, and what is after it
   pub operand_splits : (x : Scope) (ts : List TokenAndSpan) → x.head ≡ false
       → at_token is_update (first ts) ≡ false → at_token is_await (first ts) ≡ false → prefix_at (first ts) ≡ None
       → run hook (at Unary) x ts ≡ (run hook (at (Lhs true)) x ts >>= (λ p. run hook (updates p.0) x p.1))
@@ -127,7 +127,7 @@ module _ {F C K : Type 0} (hook : Hook F C K) where
   if_some true o a h = cc
   if_some false o a h = (refl, h)
 
-  -- the operator stands behind l, which it writes to, or doesn't
+  -- the operator is after l, which it writes to, or doesn't
   pub updates_well : (op : UpdateOp) (l : Tree F C K) (x : Scope) (t : TokenAndSpan) (ts : List TokenAndSpan)
       → update_behind (Some t) ≡ Some op → is_target x.context.strict l ≡ true
       → run hook (updates l) x (t ∷ ts) ≡ Some (update_e (to (span_of l) t.span) op false l, ts)
@@ -162,7 +162,7 @@ module _ {F C K : Type 0} (hook : Hook F C K) where
   await_apart (token.Word w) h = refl
   await_apart t h = absurd cc
 
-  -- what stands behind the word is what the production looks at
+  -- what is after the word is what the production looks at
   sees_end : (us : List TokenAndSpan) → at_token is_star (first us) ≡ false → ends_await_at (first us) ≡ true
       → sees (λ t. is_star t.token || not (ends_await t)) us ≡ false
   sees_end [] h e = refl
@@ -282,7 +282,7 @@ module _ {F C K : Type 0} where
   unfolding await_ident
   ident_ill s x ts h = rw h refl
 
--- a token, and what is read behind it, which may be nothing
+-- a token, and what is read after it, which may be nothing
 module _ {S : Type 0} (model : Model S) (sure : Bool) {T A : Type 0} (view : T → A) (f g : Reader A) where
   pub parses_first : {b c : Buffer S} {k : Token} (d : Buffer S) (r : Result T Error) (laws : Laws model)
       (h : Bumped model b k c) → ((x : Scope) (ts : List TokenAndSpan) → f x (plain h.was ∷ ts) ≡ g x ts)

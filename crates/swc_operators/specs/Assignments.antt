@@ -43,7 +43,7 @@ assign_at (Some t) l = if is_operation l then None else assign_of t.token
 module _ {F C K : Type 0} (hook : Hook F C K) where
   -- ---- sequences (13.16)
 
-  -- behind some expressions and a comma, and behind some expressions, where a comma was taken or not
+  -- after some expressions and a comma, and after some expressions, where a comma was taken or not
   unfoldable pub seqs_more : Trees F C K → Scope → List TokenAndSpan → Out (Tree F C K)
   seqs_more es c ts =
       run hook (sym Assign) c ts >>= (λ p. run hook (seqs (trees_append es (cons p.0 nil))) c p.1)
@@ -61,7 +61,7 @@ module _ {F C K : Type 0} (hook : Hook F C K) where
 
   -- ---- conditionals (13.14)
 
-  -- that begin at a position: of what t tests, behind its middle e and the `:`; behind its middle; and behind the `?`
+  -- that begin at a position: of what t tests, after its middle e and the `:`; after its middle; and after the `?`
   abbrev pub cond_close : BytePos → Tree F C K → Tree F C K → Scope → List TokenAndSpan → Out (Tree F C K)
   cond_close lo t e c ts =
       run hook (sym Assign) c ts >>= (λ q. Some (cond_e (from_to lo (span_of q.0).hi) t e q.0, q.1))
@@ -74,7 +74,7 @@ module _ {F C K : Type 0} (hook : Hook F C K) where
 
   -- ---- assignments (13.15)
 
-  -- to l, behind the operator, and from that on
+  -- to l, after the operator, and from that on
   unfoldable pub assign_tail : AssignOp → Tree F C K → Scope → List TokenAndSpan → Out (Tree F C K)
   assign_tail op l c ts =
       run hook (sym Assign) c ts >>= (λ p. Some (assign_e (to (span_of l) (span_of p.0)) op l p.0, p.1))
@@ -82,7 +82,7 @@ module _ {F C K : Type 0} (hook : Hook F C K) where
   unfoldable pub assign_expr : AssignOp → Tree F C K → Scope → List TokenAndSpan → Out (Tree F C K)
   assign_expr op l c ts = if is_target c.context.strict l then assign_tail op l c (rest ts) else None
 
-  -- to what the literal behind the operator `=` is as a pattern, or to nothing, from the operator on
+  -- to what the literal after the operator `=` is as a pattern, or to nothing, from the operator on
   abbrev pub pattern_by : Option (Tree F C K) → Scope → List TokenAndSpan → Out (Tree F C K)
   pattern_by None c us = None
   pattern_by (Some t) c us = assign_tail write.Assign t c us
@@ -100,7 +100,7 @@ module _ {F C K : Type 0} (hook : Hook F C K) where
   abbrev pub assign_by : AssignOp → Tree F C K → Scope → List TokenAndSpan → Out (Tree F C K)
   assign_by op l c ts = if refines op l then assign_refined l c ts else assign_expr op l c ts
 
-  -- behind what binary operators join: such an operator, or none
+  -- after what binary operators join: such an operator, or none
   abbrev pub assigned_by : Option AssignOp → Tree F C K → Scope → List TokenAndSpan → Out (Tree F C K)
   assigned_by None l c ts = Some (l, ts)
   assigned_by (Some op) l c ts = assign_by op l c ts
@@ -113,7 +113,7 @@ module _ {F C K : Type 0} (hook : Hook F C K) where
 
   -- ---- `yield` (15.5)
 
-  -- its operand, behind the `*` or none, where `yield` is at s; from the `*` on; behind the word; and from that on
+  -- its operand, after the `*` or none, where `yield` is at s; from the `*` on; after the word; and from that on
   abbrev pub yield_arg : Span → Option Span → Scope → List TokenAndSpan → Out (Tree F C K)
   yield_arg s o c ts =
       run hook (sym Assign) c ts >>= (λ q. Some (yield_e (to s (span_of q.0)) (is_some o) q.0, q.1))

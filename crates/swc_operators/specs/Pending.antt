@@ -1,4 +1,4 @@
--- What is read behind an operand, while operators below it wait for their right operands (13.6 to 13.13), by the clean
+-- What is read after an operand, while operators below it wait for their right operands (13.6 to 13.13), by the clean
 -- parser.
 use Rattle.std.specs.Prelude.{ℕ, if◌then◌else◌, nat_le, nat_lt, List, [], ◌∷◌, Option, Some, None}
 use Rattle.swc_context.specs.Operators.{precedence_of}
@@ -21,7 +21,7 @@ operator_above m None = None
 operator_above m (Some op) = if nat_le (precedence_of op) m then None else Some op
 
 module _ {F C K : Type 0} where
-  -- an operator, which stands first, is taken behind its left operand l
+  -- an operator, which stands first, is taken after its left operand l
   unfoldable pub operator_taken : BinaryOp → Tree F C K → Scope → List TokenAndSpan → Out (Unit {0})
   operator_taken op l c ts = if exp_ok op l then Some (tt, rest ts) else None
 
@@ -34,12 +34,12 @@ module _ {F C K : Type 0} (hook : Hook F C K) where
   unfoldable pub join : BinaryOp → Tree F C K → Tree F C K → Scope → List TokenAndSpan → Out (Tree F C K)
   join op l r c ts = if nullish_ok op l r then turned hook (joined op l r) None c ts else None
 
-  -- Behind the right operand r of an operator, the left one of which is l: the node of both, and then on, through
+  -- After the right operand r of an operator, the left one of which is l: the node of both, and then on, through
   -- operators above the precedence m.
   abbrev pub on_joined : BinaryOp → Tree F C K → ℕ → Tree F C K → Scope → List TokenAndSpan → Out (Tree F C K)
   on_joined op l m r c ts = bin_op_node hook op l m r ts >>= (λ p. turned hook p.0.0 p.0.1 c p.1)
 
-  -- behind that operator, from its right operand on
+  -- after that operator, from its right operand on
   abbrev pub on_operand : BinaryOp → Tree F C K → ℕ → Scope → List TokenAndSpan → Out (Tree F C K)
   on_operand op l m c ts =
       (operand hook (nat_lt (min_right op) 7) c ts >>= (λ p. run hook (climb p.0 (min_right op)) c p.1))
@@ -51,17 +51,17 @@ module _ {F C K : Type 0} (hook : Hook F C K) where
   through tree m [] c o = o
   through tree m (w ∷ ws) c o = through tree (min_right w.op) ws c o >>= (λ p. on_joined w.op (tree w.left) m p.0 c p.1)
 
-  -- behind the operand e, which was read above them
+  -- after the operand e, which was read above them
   unfoldable pub pending_reads : (ExprId → Tree F C K) → List PendingOperator → ExprId → Scope → List TokenAndSpan
       → Out (Tree F C K)
   pending_reads tree ws e c ts = through tree 0 ws c (run hook (climb (tree e) (least_above 0 ws)) c ts)
 
-  -- behind the operand e, where no operator follows that belongs to it
+  -- after the operand e, where no operator follows that belongs to it
   abbrev pub pending_left : (ExprId → Tree F C K) → List PendingOperator → ExprId → Scope → List TokenAndSpan
       → Out (Tree F C K)
   pending_left tree ws e c ts = through tree 0 ws c (Some (tree e, ts))
 
-  -- behind an operator that was taken above them, from its right operand on; its left one is e
+  -- after an operator that was taken above them, from its right operand on; its left one is e
   abbrev pub pending_operand : (ExprId → Tree F C K) → List PendingOperator → ExprId → BinaryOp → Scope
       → List TokenAndSpan → Out (Tree F C K)
   pending_operand tree ws e op c ts = through tree 0 ws c (on_operand op (tree e) (least_above 0 ws) c ts)

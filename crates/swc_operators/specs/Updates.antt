@@ -24,7 +24,7 @@ abbrev pub update_behind : Option TokenAndSpan → Option UpdateOp
 update_behind o = if breaks_at o then None else update_at o
 
 module _ {F C K : Type 0} where
-  -- `++` or `--` and the operand e behind it; it is at s
+  -- `++` or `--` and the operand e after it; it is at s
   unfoldable pub update_node : Span → UpdateOp → Scope → Tree F C K → List TokenAndSpan → Out (Tree F C K)
   update_node s op c e ts =
       if is_target c.context.strict e then Some (update_e (to s (span_of e)) op true e, ts) else None
@@ -34,7 +34,7 @@ module _ {F C K : Type 0} where
   await_ident s c ts = if await_ident_ok c.context then Some (ident_e s (codes "await"), ts) else None
 
 module _ {F C K : Type 0} (hook : Hook F C K) where
-  -- behind `++` or `--` at s, and from that on
+  -- after `++` or `--` at s, and from that on
   unfoldable pub update_tail : Span → UpdateOp → Scope → List TokenAndSpan → Out (Tree F C K)
   update_tail s op c ts = run hook (sym Unary) (inner c) ts >>= (λ p. update_node s op c p.0 p.1)
 
@@ -45,7 +45,7 @@ module _ {F C K : Type 0} (hook : Hook F C K) where
   unfoldable pub update_prefix : UpdateOp → Scope → List TokenAndSpan → Out (Tree F C K)
   update_prefix op c ts = update_by op (first ts) c (rest ts)
 
-  -- behind `await` at s: its operand; that, or none; and from the word on
+  -- after `await` at s: its operand; that, or none; and from the word on
   abbrev pub await_reads : Span → Scope → List TokenAndSpan → Out (Tree F C K)
   await_reads s c ts = run hook (sym Unary) (inner c) ts >>= (λ p. Some (await_e (to s (span_of p.0)) p.0, p.1))
 

@@ -33,7 +33,7 @@ use swc_nodes::nodes::NodesOf;
 use swc_steps::productions::Productions;
 use swc_steps::tokens::{emit_err, is_after_line_break, syntax_error};
 
-/// The operator that writes which the current token is, where `left` stands before it: none behind an operation.
+/// The operator that writes which the current token is, where `left` stands before it: none after an operation.
 pub fn cur_assign_op<I: Tokens, B: Bodies<I>>(
     p: &Productions<I, B>,
     left: ExprId,
@@ -48,7 +48,7 @@ pub fn cur_assign_op<I: Tokens, B: Bodies<I>>(
     }
 }
 
-/// The context of the middle of a conditional, in which `in` counts as an operator, and behind which a colon is
+/// The context of the middle of a conditional, in which `in` counts as an operator, and after which a colon is
 /// expected.
 pub fn cond_middle(ctx: Context) -> Context
     ensures { result ≡ cond_middle ctx }
@@ -106,7 +106,7 @@ pub fn refuse_yield_param<I: Tokens>(input: &mut Buffer<I>) -> PResult<()>
     Ok(())
 }
 
-/// Whether an operand of `yield` begins here, on the same line. Refused only for want of memory.
+/// Whether an operand of `yield` begins here, on the same line. Refused only when out of memory.
 #[inline(never)]
 pub fn goes_on_yield<I: Tokens>(input: &mut Buffer<I>) -> PResult<bool>
     ensures looks { Looks I.model input.old result input.new }

@@ -44,7 +44,7 @@ use swc_steps::tokens::{
 };
 
 /// Records, before an operator, that its left operand, which begins at `first`, was refused: a node of `Invalid`
-/// stands in for it. Elsewhere the refusal stands, and so does want of memory.
+/// stands in for it. Elsewhere the refusal stands, and so does out of memory.
 #[inline(never)]
 pub fn recover_left<I: Tokens, B: Bodies<I>>(
     p: &mut Productions<I, B>,
@@ -86,7 +86,7 @@ fn stand_in<I: Tokens, B: Bodies<I>>(
 }
 
 /// The operator that is current, if one of a precedence above `min_prec` is. Consumes nothing, and is refused only for
-/// want of memory.
+/// out of memory.
 pub fn next_operator<I: Tokens>(input: &mut Buffer<I>, min_prec: u8) -> PResult<Option<BinaryOp>>
     ensures looks { Looks I.model input.old result input.new }
     ensures value { IfOk result
@@ -118,7 +118,7 @@ pub fn private_may_follow(pending: &PendingOperators) -> bool
     pending.min_prec() < BinaryOp::In.precedence()
 }
 
-/// Consumes the operator `op`, which is current, behind its left operand (ECMA-262, 13.6 to 13.13), and puts both on
+/// Consumes the operator `op`, which is current, after its left operand (ECMA-262, 13.6 to 13.13), and puts both on
 /// what is pending: what is read next is its right operand. A prefix operator left of `**` is refused.
 #[inline(never)]
 pub fn take_operator<I: Tokens, B: Bodies<I>>(
@@ -144,9 +144,9 @@ pub fn take_operator<I: Tokens, B: Bodies<I>>(
     }
 }
 
-/// An operator that was pending and its right operand (ECMA-262, 13.6 to 13.13), which was read behind the left one:
+/// An operator that was pending and its right operand (ECMA-262, 13.6 to 13.13), which was read after the left one:
 /// the node. An operand of `??` that is a node of `||` or `&&` is recorded, and so is a node of these that has one of
-/// `??` on its left. Consumes nothing, and is refused only for want of memory.
+/// `??` on its left. Consumes nothing, and is refused only when out of memory.
 pub fn join_operands<I: Tokens, B: Bodies<I>>(
     p: &mut Productions<I, B>,
     operator: PendingOperator,
@@ -202,7 +202,7 @@ pub fn parse_await_ident<I: Tokens, B: Bodies<I>>(
 }
 
 /// A prefix operator at `start`, and its operand (ECMA-262, 13.5). For modules, an identifier as the operand of
-/// `delete` is recorded. Consumes nothing, and is refused only for want of memory.
+/// `delete` is recorded. Consumes nothing, and is refused only when out of memory.
 pub fn unary_expr<I: Tokens, B: Bodies<I>>(
     p: &mut Productions<I, B>,
     start: Span,
@@ -236,7 +236,7 @@ pub fn unary_expr_without_operand<I: Tokens, B: Bodies<I>>(
     unary_expr(p, start, op, arg)
 }
 
-/// Records a refusal, unless it is want of memory: a node of `Invalid`, at the position before `first`, stands in for
+/// Records a refusal, unless it is out of memory: a node of `Invalid`, at the position before `first`, stands in for
 /// the operand that begins there. The token before it ends at `last`.
 fn recover<I: Tokens, B: Bodies<I>>(
     p: &mut Productions<I, B>,
@@ -277,7 +277,7 @@ fn instead(_first: Error, second: Error) -> Error
     second
 }
 
-/// The operator that is current, if one is. Refused only for want of memory.
+/// The operator that is current, if one is. Refused only when out of memory.
 fn look_for_operator<I: Tokens>(input: &mut Buffer<I>) -> PResult<Option<BinaryOp>>
     ensures looks { Looks I.model input.old result input.new }
     ensures value { IfOk result (λ o. o ≡ operator_at (context I.model input.new) (seen input.new)) }
@@ -324,7 +324,7 @@ fn is_await_token(token: &Token) -> bool
 }
 
 /// Whether `await`, which was consumed, is an identifier: outside async code, where no operand follows. Refused only
-/// for want of memory.
+/// when out of memory.
 pub fn is_await_ident<I: Tokens>(input: &mut Buffer<I>) -> PResult<bool>
     ensures looks { Looks I.model input.old result input.new }
     ensures value { IfOk result
@@ -358,7 +358,7 @@ fn check_await_ident<I: Tokens>(input: &mut Buffer<I>, start: Span) -> PResult<(
     Ok(())
 }
 
-/// Records that `await`, at `start`, is no operator: in a function that isn't async, at the token behind it, and in
+/// Records that `await`, at `start`, is no operator: in a function that isn't async, at the token after it, and in
 /// parameters outside a function.
 pub fn check_await<I: Tokens>(input: &mut Buffer<I>, start: Span) -> PResult<()>
     ensures checks { Checked I.model (await_ok (context I.model input.old)) input.old result input.new }
@@ -375,7 +375,7 @@ pub fn check_await<I: Tokens>(input: &mut Buffer<I>, start: Span) -> PResult<()>
     Ok(())
 }
 
-/// The text, as a name. Refused only for want of memory.
+/// The text, as a name. Refused only when out of memory.
 fn text_of<I: Tokens>(alloc: Global, input: &Buffer<I>, text: &str) -> PResult<Atom>
     ensures text { IfOk result (λ t. t ≡ text.now) }
     ensures refused { IfErr result (λ e. e ≡ no_memory (last_position input.now)) }
@@ -399,7 +399,7 @@ pub fn cur_update_op<I: Tokens>(input: &Buffer<I>) -> Option<UpdateOp>
     }
 }
 
-/// The same, where no line break stands before it. Refused only for want of memory.
+/// The same, where no line break stands before it. Refused only when out of memory.
 fn update_behind_cur<I: Tokens>(input: &mut Buffer<I>) -> PResult<Option<UpdateOp>>
     ensures looks { Looks I.model input.old result input.new }
     ensures value { IfOk result (λ r. r ≡ update_behind (seen input.new)) }

@@ -36,7 +36,7 @@ pub fn update_prefix<I: Tokens, B: Bodies<I>>(
 }
 
 /// Whether `await`, which was consumed, is an identifier (ECMA-262, 13.1): outside async code, where no operand
-/// follows. A `*` behind it is refused. Consumes nothing.
+/// follows. A `*` after it is refused. Consumes nothing.
 pub fn is_await_name<I: Tokens>(input: &mut Buffer<I>) -> PResult<bool>
     ensures names { ContinuesAlone I.model (λ b. b) await_names input.old result input.new }
     ensures falls { OnOk result (to_come I.model input.new ≤ to_come I.model input.old) }

@@ -1,4 +1,4 @@
-// Contexts that are set round what is read, and set back behind it.
+// Contexts that are set round what is read, and set back after it.
 ghost use Rattle.std.specs.Prelude.{◌≡◌};
 ghost use Rattle.swc_context.specs.Contexts.{view as deciding};
 ghost use Rattle.swc_grammar.specs.Tokens.{include_in};

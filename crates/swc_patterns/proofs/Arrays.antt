@@ -53,7 +53,7 @@ pub next_goes : (s : Stage) (x : Scope) (ts : List TokenAndSpan) → at_token is
 unfolding next_element
 next_goes s x ts h = rw h refl
 
--- the bracket, where no comma stands before it behind a rest
+-- the bracket, where no comma stands before it after a rest
 pub ends_well : (r : SeenRest) (x : Scope) (ts : List TokenAndSpan) → not (has_comma r) ≡ true
     → ended (stage_of r) x ts ≡ (expected is_rbracket x ts >>= (λ p. Some (next.End p.0, p.1)))
 ends_well seen.No x ts h = refl
@@ -171,7 +171,7 @@ module _ {F C K : Type 0} where
   bare_first : (p es : Tree F C K) → Bare es → Bare (put_first p es)
   bare_first p es h = ap (λ v. listed v (span_of es) (cons p (items_of es))) (ap comma_of h)
 
-  -- behind a rest: the bracket alone
+  -- after a rest: the bracket alone
   abbrev closes_with : Tree F C K → List TokenAndSpan → Out (Tree F C K)
   closes_with p [] = None
   closes_with p (t ∷ ts) = if is_rbracket t.token then Some (listed None t.span (cons p nil), ts) else None
@@ -296,7 +296,7 @@ module _ {F C K : Type 0} (hook : Hook F C K) where
   rest_close p [] = refl
   rest_close p (t ∷ vs) = refl
 
-  -- behind a rest
+  -- after a rest
   rest_token : (before : List (Option (Tree F C K))) (p : Tree F C K) (x : Scope) (v : Token) (b : Bool) (s : Span)
       (vs : List TokenAndSpan)
       → (closes_with p (tk v b s ∷ vs) >>= left before)
@@ -316,7 +316,7 @@ module _ {F C K : Type 0} (hook : Hook F C K) where
       → run hook (at Rest) x (tk token.DotDotDot b s ∷ us) ≡ item_read hook (Some s) x us
   rest_is x b s us = knot hook (at Rest) x (tk token.DotDotDot b s ∷ us) ∙ calls (run hook (at Pat) x us) _
 
-  -- behind an element that is no rest
+  -- after an element that is no rest
   item_left : (before : List (Option (Tree F C K))) (p : Tree F C K) (x : Scope) (us : List TokenAndSpan)
       → (and_then (run hook (at PatElementsTail) x us) (λ es vs. Some (put_first p es, vs)) >>= left before)
       ≡ behind_element hook false going (before ++ Some p ∷ []) x us
@@ -371,7 +371,7 @@ module _ {F C K : Type 0} (hook : Hook F C K) where
   never_by true before x ts = refl
   never_by false before x ts = refl
 
-  -- behind some elements the list is closed, or goes on
+  -- after some elements the list is closed, or goes on
   pub elements_turn : (s : Stage) (before : List (Option (Tree F C K))) (x : Scope) (ts : List TokenAndSpan)
       → elements_left hook s before x ts ≡ (next_element s x ts >>= (λ p. elements_with hook p.0 s before x p.1))
   unfolding elements_left next_element

@@ -1,4 +1,4 @@
--- Which pattern the current token begins (14.3.3), and what is left of an object pattern behind its brace.
+-- Which pattern the current token begins (14.3.3), and what is left of an object pattern after its brace.
 use Rattle.std.proofs.Common.{◌≡◌, Bool, true, false, if◌then◌else◌, List, ◌∷◌, Option, Some, Result, refl, ap, ◌∙◌}
 use Rattle.swc_context.specs.declared.error.Error.{Error}
 use Rattle.swc_context.specs.declared.span.BytePos.{BytePos}
@@ -48,7 +48,7 @@ pub is_object : (t : Option TokenAndSpan) → pat_kind t ≡ kind.Object → at_
 is_object t h = object_by (at_token is_lbracket t) (at_token is_brace t) h
 
 module _ {F C K : Type 0} (hook : Hook F C K) where
-  -- behind the brace, where the pattern begins at lo
+  -- after the brace, where the pattern begins at lo
   abbrev object_rest : BytePos → Scope → List TokenAndSpan → Out (Tree F C K)
   object_rest lo x ts = run hook (at PatProps) x ts >>= (λ p. Some (object_pat_of lo p.0, p.1))
 
@@ -74,7 +74,7 @@ module _ {S F C K : Type 0} {model : Model S} {sure : Bool} (hook : Hook F C K) 
       (λ x ts. object_opens hook is took refl x ts))
       (s.unheard_call (λ x p. Some (object_pat_of took.was.span.lo p.0, p.1)) (λ x ts. refl) u))
 
-  -- behind the properties l, where the rests among them are checked
+  -- after the properties l, where the rests among them are checked
   pub object_reads : {T : Type 0} (view : T → Tree F C K) (l : Tree F C K) (r : Result T Error)
       {a b c d : Buffer S} (e : Buffer S) {k : Token} {lo : BytePos} → Here model a b → pat_kind (seen b) ≡ kind.Object
       → (took : Bumped model b k c) → took.was.span.lo ≡ lo

@@ -1,4 +1,4 @@
--- Behind a rest that is the last of its list: the token that closes the list, and no comma.
+-- After a rest that is the last of its list: the token that closes the list, and no comma.
 use Rattle.std.specs.Prelude.{◌≡◌, Bool, true, false, if◌then◌else◌, List, [], ◌∷◌, Option, Some, None}
 use Rattle.std.proofs.Common.{refl}
 use Rattle.swc_context.specs.declared.span.Span.{Span}
@@ -13,7 +13,7 @@ use Rattle.swc_steps.specs.Keys.{expected, expected_by}
 use Rattle.swc_steps.specs.Lists.{eaten, eaten_by, closed, separated}
 
 module _ {A : Type 0} (f : Token → Bool) (k : Span × List TokenAndSpan → Out A) where
-  -- behind the comma there, or none
+  -- after the comma there, or none
   abbrev pub closing_by : Scope → Option Span → List TokenAndSpan → Out A
   closing_by x None us = expected f x us >>= k
   closing_by x (Some s) us = None

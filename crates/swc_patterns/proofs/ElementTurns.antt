@@ -79,7 +79,7 @@ module _ {S F C K : Type 0} {model : Model S} {sure : Bool} (hook : Hook F C K) 
 module _ {S F C K : Type 0} {model : Model S} {sure : Bool} (hook : Hook F C K) {f : Reader (Tree F C K)}
     (is_rest : Bool) (stage : Stage) (before : List (Option (Tree F C K))) {a b : Buffer S}
     (so_far : On model sure f (behind_element hook is_rest stage before) a b) where
-  -- what stands behind it
+  -- what is after it
   pub separated : {c : Buffer S} {to : Stage} → On model sure (separated_item is_rbracket is_rest stage) (give to) b c
       → On model sure f (elements_left hook to before) a c
   separated o =
@@ -92,7 +92,7 @@ module _ {S F C K : Type 0} {model : Model S} {sure : Bool} (hook : Hook F C K) 
       s.unheard_after so_far (s.unheard_call (λ x p. elements_left hook p.0 before x p.1)
       (λ x ts. behind_element_splits hook is_rest stage before x ts) u)
 
--- a rest, over the pattern behind its dots
+-- a rest, over the pattern after its dots
 module _ {S F C K : Type 0} {model : Model S} {sure : Bool} (hook : Hook F C K) (dots : Span) where
   pub rest_begun : {t : Tree F C K} {a b : Buffer S} → On model sure (run hook (at Pat)) (give t) a b
       → On model sure (item_read hook (Some dots)) (give (rest_node dots t)) a b

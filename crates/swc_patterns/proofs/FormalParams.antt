@@ -46,7 +46,7 @@ next_param_none closing x [] h = refl
 next_param_none never x [] h = refl
 next_param_none s x (t ∷ ts) h = cc
 
--- at the parenthesis, behind a rest or not
+-- at the parenthesis, after a rest or not
 abbrev pub closed_params : Stage → Scope → List TokenAndSpan → Out NextParam
 closed_params s x ts = if is_never s then None else Some (next.End, ts)
 
@@ -133,7 +133,7 @@ module _ {F C K : Type 0} (hook : Hook F C K) where
   tail_is x [] = knot hook (at ParamsTail) x []
   tail_is x (t ∷ us) = tail_token x t.token t.had_line_break t.span us
 
-  -- behind a parameter: those that are left
+  -- after a parameter: those that are left
   abbrev left_from : Bool → Trees F C K → Scope → Tree F C K × List TokenAndSpan → Out (Tree F C K)
   left_from is_rest before x p = behind_param hook is_rest going (trees_append before (cons p.0 nil)) x p.1
 
@@ -177,7 +177,7 @@ module _ {F C K : Type 0} (hook : Hook F C K) where
       by_paren true = refl
       by_paren false = refl
 
-  rest_read : (x : Scope) (b : Bool) (s : Span) (us : List TokenAndSpan)
+  pub rest_read : (x : Scope) (b : Bool) (s : Span) (us : List TokenAndSpan)
       → run hook (at Rest) x (tk token.DotDotDot b s ∷ us)
       ≡ (run hook (at Pat) x us >>= (λ p. Some (rest_node s p.0, p.1)))
   rest_read x b s us = knot hook (at Rest) x (tk token.DotDotDot b s ∷ us) ∙ calls (run hook (at Pat) x us) _
@@ -286,7 +286,7 @@ module _ {F C K : Type 0} (hook : Hook F C K) where
       by_paren true = refl
       by_paren false = refl
 
-  -- behind some parameters the list ends, or goes on
+  -- after some parameters the list ends, or goes on
   pub params_turn : (s : Stage) (before : Trees F C K) (x : Scope) (ts : List TokenAndSpan)
       → params_left hook s before x ts
       ≡ (next_param s x ts >>= (λ p. params_with hook p.0 s before x p.1))

@@ -34,7 +34,7 @@ module _ {F C K : Type 0} (hook : Hook F C K) where
   unfolding default_value
   default_value_splits l x ts = refl
 
--- the pattern with the initialiser that was read behind its `=`
+-- the pattern with the initialiser that was read after its `=`
 module _ {S H F C K : Type 0} {fg : Ghosts F} {cg : Ghosts C} {kg : Ghosts K} {model : Model S} {sure : Bool}
     (hook : Hook F C K) (lawful : LawfulHook fg.place cg.place kg.place hook) where
   pub default_read : {k : ℕ} {p q o : Productions S H F C K fg cg kg} (left : PatId) (value : ExprId)

@@ -11,6 +11,7 @@ pub mod Lists
 pub mod ObjectLists
 pub mod Objects
 pub mod ParamTurns
+pub mod ParamsRead
 pub mod PartlyRead
 pub mod PatNodes
 pub mod PropNodes

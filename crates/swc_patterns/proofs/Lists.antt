@@ -31,14 +31,14 @@ module _ {F C K : Type 0} {fg : Ghosts F} {cg : Ghosts C} {kg : Ghosts K} where
       ap (λ t. t ∷ map (if_there ms) xs) (holed-one ns ms x first)
       ∙ ap (λ ts. if_there ns x ∷ ts) (holed-same ns ms xs others)
 
-  -- elements, and one that is read behind them
+  -- elements, and one that is read after them
   pub holed-more : {ns ms : Nodes F C K fg cg kg} {k : ℕ} (xs : List (Option PatId)) (x : Option PatId)
       → Grows ns ms → Apart k ns (flat (if_some one_pat) xs)
       → map (if_there ms) (xs ++ x ∷ []) ≡ map (if_there ns) xs ++ if_there ms x ∷ []
   holed-more {ns = ns} {ms = ms} xs x g a =
       map-more (if_there ms) xs x ∙ ap (λ ts. ts ++ if_there ms x ∷ []) (holed-same ns ms xs (apart-trees g a))
 
-  -- parameters, and one that is read behind them
+  -- parameters, and one that is read after them
   pub params-more : {ns ms : Nodes F C K fg cg kg} {k : ℕ} (xs : List (Param PatId)) (x : Param PatId)
       → Grows ns ms → Apart k ns (flat param_parts xs)
       → trees (map (λ p. pat_at ms p.pat) (xs ++ x ∷ []))

@@ -79,21 +79,21 @@ module _ {S F C K : Type 0} {model : Model S} {sure : Bool} (hook : Hook F C K) 
       → Unheard model sure (run hook (at PatProps)) a e c
   prop_refused u = unheard_after more (unheard_call _ (pat_prop_more_splits hook before) u)
 
-  -- memory is wanted for the list once the property was read
+  -- memory runs out for the list once the property was read
   pub unkept : {t : Tree F C K} {e : Error} (place : BytePos) → Heard model sure (pat_prop_item hook) t b c
       → e ≡ no_memory place → Unheard model sure (run hook (at PatProps)) a e c
   unkept {e = e} place item refused =
       unheard_memory (forgoes_later (leads_then more.leads item.on.leads)
       (forgoes_here more.leads.laws c place e refused))
 
-  -- what stands behind it is refused
+  -- what is after it is refused
   pub comma_refused : {t : Tree F C K} {e : Error} {d : Buffer S} → Heard model sure (pat_prop_item hook) t b c
       → Unheard model sure (separated is_rbrace) c e d → Unheard model sure (run hook (at PatProps)) a e d
   comma_refused {t} item u =
       unheard_after more (unheard_after (on_call _ (pat_prop_more_splits hook before) item.on)
       (unheard_call (λ x q. pat_props_left hook (trees_append before (cons t nil)) q.0 x q.1) (λ x ts. refl) u))
 
-  -- what is left behind it
+  -- what is left after it
   pub joined : {t : Tree F C K} {s : Option Span} {d : Buffer S} → Heard model sure (pat_prop_item hook) t b c
       → On model sure (separated is_rbrace) (give s) c d
       → On model sure (run hook (at PatProps)) (pat_props_left hook (trees_append before (cons t nil)) s) a d
@@ -104,7 +104,7 @@ module _ {S F C K : Type 0} {model : Model S} {sure : Bool} (hook : Hook F C K) 
 module _ {S H F C K : Type 0} {fg : Ghosts F} {cg : Ghosts C} {kg : Ghosts K} {model : Model S} {sure : Bool}
     (hook : Hook F C K) {xs : List PatPropNode} {comma : Option Span} {p q r : Productions S H F C K fg cg kg}
     (so : PatPropsRead model sure hook xs comma p q) where
-  -- a property was read, and put behind those before it
+  -- a property was read, and put after those before it
   pub added : {b c : Buffer S} {s : Option Span} (x : PatPropNode) (ys : List PatPropNode)
       → On model sure (run hook (at PatProps)) (pat_prop_more hook (trees (map (pat_prop_at q.nodes) xs))) p.input b
       → Heard model sure (pat_prop_item hook) (pat_prop_at r.nodes x) b c

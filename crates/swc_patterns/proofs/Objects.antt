@@ -47,7 +47,7 @@ use Rattle.swc_patterns.specs.declared.object.AfterPatKey.{AfterPatKey}
 use Rattle.swc_patterns.specs.Rests.{Stage, going, closing, never, is_never, behind_rest, rest_node}
 use Rattle.swc_patterns.proofs.Closing.{closing_by, rest_closes}
 
--- ---- behind a key
+-- ---- after a key
 
 pub after_pat_key_splits : (k : PropName ExprId) (x : Scope) (ts : List TokenAndSpan)
     → after_pat_key k x ts ≡ (eaten is_colon x ts >>= (λ p. after_by k p.0 x p.1))
@@ -87,7 +87,7 @@ pub name_ill : (n : IdentName) (x : Scope) (ts : List TokenAndSpan) → not (is_
 name_ill n x ts h = rw (not_false (is_reserved_word x.context n.sym) h) refl
 
 module _ {F C K : Type 0} where
-  -- a name with no colon behind it: `=`, or nothing, where the name isn't reserved
+  -- a name with no colon after it: `=`, or nothing, where the name isn't reserved
   abbrev pub name_left : Hook F C K → Span → List ℕ → Option Span → Scope → List TokenAndSpan → Out (Tree F C K)
   name_left hook s text (Some e) x us =
       inside hook x us >>= (λ p. Some (name_p (to s (span_of p.0)) (ident_e s text) p.0, p.1))
@@ -98,7 +98,7 @@ module _ {F C K : Type 0} where
   no_colon_left hook (name_e s text) x us = eaten is_equals x us >>= (λ p. name_left hook s text p.0 x p.1)
   no_colon_left hook k x us = None
 
-  -- what is left of a property behind its key
+  -- what is left of a property after its key
   abbrev pub key_left_by : Hook F C K → Tree F C K → Option Span → Scope → List TokenAndSpan → Out (Tree F C K)
   key_left_by hook k (Some s) x us =
       run hook (at Element) x us >>= (λ p. Some (key_value_e (to (span_of k) (span_of p.0)) k p.0, p.1))
@@ -125,7 +125,7 @@ again None = refl
 again (Some p) = refl
 
 module _ {F C K : Type 0} (hook : Hook F C K) where
-  -- ---- behind a key
+  -- ---- after a key
 
   name_by_is : (n : IdentName) (k : Tree F C K) (o : Option Span) (x : Scope) (us : List TokenAndSpan)
       → name_left hook n.span n.sym o x us ≡ (name_by n o x us >>= (λ p. pat_prop_left hook k p.0 x p.1))
@@ -253,7 +253,7 @@ module _ {F C K : Type 0} (hook : Hook F C K) where
   unfolding expected eaten
   value_colon k x d e vs = refl
 
-  -- a word, by the token behind it
+  -- a word, by the token after it
   word_first : (x : Scope) (w : Word) (b : Bool) (s : Span) (v : Token) (d : Bool) (e : Span) (vs : List TokenAndSpan)
       → run hook (at PatProp) x (tk (token.Word w) b s ∷ tk v d e ∷ vs)
       ≡ key_left hook (name_e s (word_text w)) x (tk v d e ∷ vs)
@@ -289,7 +289,7 @@ module _ {F C K : Type 0} (hook : Hook F C K) where
       ∙ then_calls (run hook (at Key) x (tk v b s ∷ us)) _ (λ k vs. value_left k x vs) (λ k vs. value_run k x vs)
       ∙ key_only x v b s us refl
 
-  -- a key, and what is left behind it
+  -- a key, and what is left after it
   pub pat_prop_splits : (x : Scope) (ts : List TokenAndSpan)
       → run hook (at PatProp) x ts ≡ (run hook (at Key) x ts >>= (λ p. key_left hook p.0 x p.1))
   pat_prop_splits x [] =
@@ -307,7 +307,7 @@ module _ {F C K : Type 0} (hook : Hook F C K) where
 
 -- ---- rests among properties
 
--- behind items of a stage, where one more stands, which gives another by itself
+-- after items of a stage, where one more stands, which gives another by itself
 abbrev pub stage_with : Stage → Stage → Stage
 stage_with going s = s
 stage_with s r = never
@@ -335,7 +335,7 @@ module _ {F C K : Type 0} where
       go_on (is_rest u) (props_stage (cons v us) comma) (props_stage (trees_append (cons v us) (cons t nil)) q)
       (props_stage (cons t nil) q) (stage_more (cons v us) comma t q)
 
-  -- behind a property, and behind a rest, where none stands before it
+  -- after a property, and after a rest, where none stands before it
   prop_stage : (before : Trees F C K) (comma : Option Span) → props_stage before comma ≡ going → (t : Tree F C K)
       → is_rest t ≡ false → (q : Option Span) → props_stage (trees_append before (cons t nil)) q ≡ going
   prop_stage before comma h t one q =
@@ -381,7 +381,7 @@ module _ {F C K : Type 0} (hook : Hook F C K) where
       ∙ bind_same (run hook (at Key) x ts) _ _ (λ p. left_only p.0 x p.1)
       ∙ sym (pat_prop_splits hook x ts)
 
-  -- what is read behind a property may take it for no rest
+  -- what is read after a property may take it for no rest
   behind_prop : {A : Type 0} (x : Scope) (ts : List TokenAndSpan) (f g : Tree F C K × List TokenAndSpan → Out A)
       → ((p : Tree F C K × List TokenAndSpan) → is_rest p.0 ≡ false → f p ≡ g p)
       → (run hook (at PatProp) x ts >>= f) ≡ (run hook (at PatProp) x ts >>= g)
@@ -423,7 +423,7 @@ module _ {F C K : Type 0} (hook : Hook F C K) where
   tail_is x [] = knot hook (at PatPropsTail) x []
   tail_is x (t ∷ us) = tail_token x t.token t.had_line_break t.span us
 
-  -- behind an item that was read: those that are left
+  -- after an item that was read: those that are left
   abbrev left_from : Trees F C K → Scope → Tree F C K × List TokenAndSpan → Out (Tree F C K)
   left_from before x p =
       separated is_rbrace x p.1 >>= (λ q. pat_props_left hook (trees_append before (cons p.0 nil)) q.0 x q.1)
@@ -546,7 +546,7 @@ module _ {F C K : Type 0} (hook : Hook F C K) where
       ap (λ o. o >>= with_items before) (knot hook (at PatProps) x []) ∙ more_step before comma h x []
   open_turn before comma h false x (t ∷ ts) e = item_step before comma h x t.token t.had_line_break t.span ts e
 
-  -- behind a rest nothing is read
+  -- after a rest nothing is read
   nothing_more : (before : Trees F C K) (comma : Option Span) → stage_with (props_stage before comma) going ≡ never
       → (x : Scope) (ts : List TokenAndSpan) → pat_prop_more hook before x ts ≡ None
   unfolding pat_prop_more pat_props_left
@@ -583,7 +583,7 @@ module _ {F C K : Type 0} (hook : Hook F C K) where
   turn_by closing before comma h x ts = closed_turn before comma h (at_token is_rbrace (first ts)) x ts
   turn_by never before comma h x ts = never_turn before comma h (at_token is_rbrace (first ts)) x ts
 
-  -- behind some properties the list is closed, or goes on
+  -- after some properties the list is closed, or goes on
   pub props_turn : (before : Trees F C K) (comma : Option Span) (x : Scope) (ts : List TokenAndSpan)
       → pat_props_left hook before comma x ts
       ≡ (eaten is_rbrace x ts >>= (λ p. pat_props_with hook before comma p.0 x p.1))
@@ -641,7 +641,7 @@ module _ {F C K : Type 0} (hook : Hook F C K) where
       let is = knot hook (at PatProps) x [] in is ∙ first_more x [] ∙ ap (λ o. o >>= with_items nil) (sym is)
   props_first x (t ∷ ts) = first_token x t.token t.had_line_break t.span ts
 
--- ---- behind all properties
+-- ---- after all properties
 
 module _ {F C K : Type 0} where
   -- the rests are checked, and the pattern is made

@@ -74,7 +74,7 @@ module _ {S F C K : Type 0} {model : Model S} {sure : Bool} (hook : Hook F C K) 
 module _ {S F C K : Type 0} {model : Model S} {sure : Bool} (hook : Hook F C K) {f : Reader (Tree F C K)}
     (is_rest : Bool) (stage : Stage) (before : Trees F C K) {a b : Buffer S}
     (so_far : On model sure f (behind_param hook is_rest stage before) a b) where
-  -- what stands behind it
+  -- what is after it
   pub separated : {c : Buffer S} {to : Stage} → On model sure (separated_item is_rparen is_rest stage) (give to) b c
       → On model sure f (params_left hook to before) a c
   separated o =
@@ -87,7 +87,7 @@ module _ {S F C K : Type 0} {model : Model S} {sure : Bool} (hook : Hook F C K) 
       s.unheard_after so_far (s.unheard_call (λ x p. params_left hook p.0 before x p.1)
       (λ x ts. behind_param_splits hook is_rest stage before x ts) u)
 
--- a rest: its pattern, and what is looked for behind it
+-- a rest: its pattern, and what is looked for after it
 module _ {S F C K : Type 0} {model : Model S} {sure : Bool} (dots : Span) (t : Tree F C K) {a b : Buffer S} where
   pub rest_bare : On model sure (eaten is_equals) (give None) a b
       → On model sure (rest_end dots t) (give (rest_node dots t)) a b
@@ -97,7 +97,7 @@ module _ {S F C K : Type 0} {model : Model S} {sure : Bool} (dots : Span) (t : T
       → Unheard model sure (rest_end dots t) a e b
   rest_unlooked u = s.unheard_call (λ x p. rest_by dots t p.0 p.1) (λ x ts. rest_end_splits dots t x ts) u
 
-  -- behind the `=` nothing is read, whatever stands there
+  -- after the `=` nothing is read, whatever stands there
   pub rest_ill : {e : Span} → On model sure (eaten is_equals) (give (Some e)) a b
       → On model sure (rest_end dots t) nothing a b
   rest_ill o = s.on_call (λ x p. rest_by dots t p.0 p.1) (λ x ts. rest_end_splits dots t x ts) o

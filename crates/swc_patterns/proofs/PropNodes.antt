@@ -57,7 +57,7 @@ module _ {F C K : Type 0} {fg : Ghosts F} {cg : Ghosts C} {kg : Ghosts K} where
       ap (λ s. key_value_e (to s (span_of (pat_at ns v))) (key_at ns k) (pat_at ns v))
       (key_place (λ e. tree_at ns e.0) k)
 
-  -- a key, and the element that was read behind it
+  -- a key, and the element that was read after it
   pub value_made : {ns ms : Nodes F C K fg cg kg} {i : ℕ} (k n : PropName ExprId) (v : PatId) (x : PatPropNode) → n ≡ k
       → pat_prop_at ms x ≡ key_value_e (to (prop_name_span n) (span_of (pat_at ms v))) (key_at ms n) (pat_at ms v)
       → pat_prop_parts x ≡ key_parts n ++ one_pat v → Grows ns ms → key_of i ns k → From (count ns) ms (pat_part v)
@@ -96,7 +96,7 @@ module _ {F C K : Type 0} {fg : Ghosts F} {cg : Ghosts C} {kg : Ghosts K} where
       subst (λ ps. Apart (count ns) os ps) (sym parts)
       (apart-lower (one_expr e) (grows-count g) (apart-from (expr_part e) from))
 
--- a name, and the initialiser that was read behind its `=`
+-- a name, and the initialiser that was read after its `=`
 module _ {S H F C K : Type 0} {fg : Ghosts F} {cg : Ghosts C} {kg : Ghosts K} {model : Model S} {sure : Bool}
     (hook : Hook F C K) (lawful : LawfulHook fg.place cg.place kg.place hook) (key : Tree F C K) (n : BindingIdent)
     (e : ExprId) (x : PatPropNode) {p q : Productions S H F C K fg cg kg} where

@@ -77,7 +77,7 @@ module _ {S F C K : Type 0} {model : Model S} {sure : Bool} (hook : Hook F C K) 
       (on_call (λ x p. pat_prop_left hook (prop_name_tree view k) p.0 x p.1) (key_left_splits hook view k)
       (on_answer found_is behind)))
 
--- ---- behind a key, whose tree is the view's
+-- ---- after a key, whose tree is the view's
 
 module _ {S F C K : Type 0} {model : Model S} {sure : Bool} (hook : Hook F C K) (view : ExprId → Tree F C K)
     (k : PropName ExprId) {a b c : Buffer S}
@@ -95,7 +95,7 @@ module _ {S F C K : Type 0} {model : Model S} {sure : Bool} (hook : Hook F C K) 
 module _ {S F C K : Type 0} {model : Model S} {sure : Bool} (hook : Hook F C K) (view : ExprId → Tree F C K)
     (k : PropName ExprId) {a b c d : Buffer S} {found : AfterPatKey}
     (named : On model sure (pat_prop_item hook) (key_left hook (prop_name_tree view k)) a b) where
-  -- an element behind a colon
+  -- an element after a colon
   pub value_refused : {e : Error} (n : PropName ExprId) → found ≡ after.Value n
       → On model sure (after_pat_key k) (give found) b c → Unheard model sure (run hook (at Element)) c e d
       → Unheard model sure (pat_prop_item hook) a e d
@@ -114,7 +114,7 @@ module _ {S F C K : Type 0} {model : Model S} {sure : Bool} (hook : Hook F C K) 
       (heard_call (λ x p. Some (key_value_e (to (span_of key) (span_of p.0)) key p.0, p.1)) (λ x ts. refl)
       (λ x ts. refl) h)
 
-  -- an initialiser behind `=`
+  -- an initialiser after `=`
   pub default_refused : {e : Error} (n : BindingIdent) → found ≡ after.Default n
       → On model sure (after_pat_key k) (give found) b c → Unheard model sure (inside hook) c e d
       → Unheard model sure (pat_prop_item hook) a e d

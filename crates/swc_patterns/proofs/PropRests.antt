@@ -1,16 +1,20 @@
 -- Rests among the properties of an object pattern, as they are looked at one after another.
 use Rattle.std.proofs.Common.{◌≡◌, ℕ, zero, suc, ◌+◌, ◌<◌, ◌≤◌, Bool, true, false, not, ◌&&◌, if◌then◌else◌, List, []}
-use Rattle.std.proofs.Common.{◌∷◌, Option, Some, None, Result, Ok, Err, IfOk, IfSome}
+use Rattle.std.proofs.Common.{◌∷◌, Option, Some, None, Result, Ok, Err, IfOk, IfSome, OnOk}
 use Rattle.std.proofs.Common.{length, take, map, get_or, refl, sym, ap, subst}
 use Rattle.std.proofs.Common.{◌∙◌, add-one, arith}
 use Rattle.std.specs.Option.{is_some}
 use Rattle.std.specs.Prelude.{slice_get}
 use Rattle.std.specs.declared.alloc.AllocError.{AllocError}
 use Rattle.std.proofs.lemmas.Option.{slice_get-get_or}
+use Rattle.swc_context.specs.Spans.{in_order}
 use Rattle.swc_context.specs.declared.error.Error.{Error}
+use Rattle.swc_context.specs.declared.error.SyntaxError.TheVariants.{CommaAfterRestElement, DotsWithoutIdentifier}
 use Rattle.swc_context.specs.declared.span.Span.{Span}
 use Rattle.swc_input.specs.declared.buffer.Buffer.{Buffer}
 use Rattle.swc_input.specs.declared.token.TokenAndSpan.{TokenAndSpan}
+use Rattle.swc_input.specs.Recording.{Refused}
+use Rattle.swc_input.specs.Recordings.{Judges, NotesAll, RefusesAfter}
 use Rattle.swc_input.specs.Source.{Model, Laws}
 use Rattle.swc_ast.specs.Patterns.{holds_ident}
 use Rattle.swc_ast.specs.Tree.{Tree, Trees, nil, cons, trees}
@@ -22,9 +26,11 @@ use Rattle.swc_nodes.specs.GrowingNodes.{count, seat_at, Apart, Made}
 use Rattle.swc_nodes.specs.declared.node.PatId.{PatId}
 use Rattle.swc_nodes.specs.declared.nodes.Nodes.{Nodes}
 use Rattle.swc_nodes.proofs.Chains.{chain-first, chain-second, chain-up, floor-under}
-use Rattle.swc_steps.specs.Parsing.{Checks, ContinuesAlone}
-use Rattle.swc_steps.proofs.Steps.{not_false, check_passes, checks_and, on_checked, continues_after}
+use Rattle.swc_steps.specs.Parsing.{Checked, Checks, ContinuesAlone}
+use Rattle.swc_steps.proofs.Emitted.{notes-none}
+use Rattle.swc_steps.proofs.Steps.{not_false, not_true, check_passes, checks_and, on_checked, continues_after, unheard_memory}
 use Rattle.swc_patterns.specs.Objects.{is_rest, props_stage, last_stage, rests_checked}
+use Rattle.swc_patterns.specs.RestFaults.{last_faults, last_refused}
 use Rattle.swc_patterns.specs.Rests.{Stage, closing, never}
 use Rattle.swc_patterns.specs.declared.object.RestProp.{RestProp}
 use Rattle.swc_patterns.proofs.Objects.{stage_with, stage_more}
@@ -72,7 +78,7 @@ module _ {X F C K : Type 0} (tree : X → Tree F C K) where
   take_all (x ∷ xs) zero h = absurd (omega (arith, h))
   take_all (x ∷ xs) (suc i) h = ap (cons (tree x)) (take_all xs i (omega (arith, h)))
 
--- the stage behind the last of properties, where none before it is a rest
+-- the stage after the last of properties, where none before it is a rest
 abbrev stage_if : Bool → Stage → Stage
 stage_if well s = if well then s else never
 
@@ -93,11 +99,53 @@ with_last true (Some r) s = by_name r.is_name
     by_name false = refl
 with_last false last s = refl
 
--- the last rest stands well, over a name, with no comma behind it
+-- the last rest stands well, over a name, with no comma after it
 pub last_checked : (o : Option RestProp) (r : RestProp) (comma : Option Span) (x : Scope) (ts : List TokenAndSpan)
     → o ≡ Some r → not r.is_name ≡ false → comma ≡ None
     → rests_checked (last_stage o comma) x ts ≡ Some (tt {0}, ts)
 last_checked o r comma x ts e h n = rw (e, not_false r.is_name h, n) refl
+
+pub unnamed : (o : Option RestProp) (r : RestProp) (comma : Option Span) (x : Scope) (ts : List TokenAndSpan) → o ≡ Some r
+    → not r.is_name ≡ true → rests_checked (last_stage o comma) x ts ≡ None
+unnamed o r comma x ts e h = rw (e, not_true r.is_name h) refl
+
+module _ {S : Type 0} (model : Model S) where
+  -- over no name
+  pub last_dotted : (b c : Buffer S) (o : Option RestProp) (r : RestProp) (comma : Option Span) {e : Error} {at : Span}
+      → o ≡ Some r → not r.is_name ≡ true → at ≡ in_order r.span
+      → Refused model b (λ here. record { span = at; kind = DotsWithoutIdentifier }) e c
+      → RefusesAfter model (last_faults o comma) (last_refused o) b e c
+  last_dotted b c o r comma {e} {at} is h place refused = record {
+    fault = record { span = at; kind = DotsWithoutIdentifier };
+    is = rw (is, not_true r.is_name h, place) refl;
+    noted = b;
+    notes = rw (is, not_true r.is_name h) (notes-none model b);
+    refused = refused;
+  }
+
+  -- over a name, with no comma after it
+  pub last_named : (b : Buffer S) (o : Option RestProp) (r : RestProp) (comma : Option Span) → o ≡ Some r
+      → not r.is_name ≡ false → comma ≡ None → (last_refused o ≡ None) × NotesAll model (last_faults o comma) b b
+  last_named b o r comma is h none = rw (is, not_false r.is_name h, none) (refl, notes-none model b)
+
+  -- or with one
+  comma_ill : (o : Option RestProp) (r : RestProp) (comma : Option Span) {s : Span} → o ≡ Some r → not r.is_name ≡ false
+      → comma ≡ Some s → (x : Scope) (ts : List TokenAndSpan) → rests_checked (last_stage o comma) x ts ≡ None
+  comma_ill o r comma is h there x ts = rw (is, not_false r.is_name h, there) refl
+
+  pub comma_checked : (b c : Buffer S) (o : Option RestProp) (r : RestProp) (comma : Option Span) {s : Span}
+      (q : Result (Unit {0}) Error) → o ≡ Some r → not r.is_name ≡ false → comma ≡ Some s → Checked model false b q c
+      → ContinuesAlone model (λ u. u) (rests_checked (last_stage o comma)) b q c
+  comma_checked b c o r comma (Ok t) is h there k = λ sure.
+      on_checked false k (λ x ts w. cc) (λ x ts w. comma_ill o r comma is h there x ts)
+  comma_checked b c o r comma (Err e) is h there k = λ sure. unheard_memory k
+
+  pub comma_judged : (b c : Buffer S) (o : Option RestProp) (r : RestProp) (comma : Option Span) {s : Span}
+      (q : Result (Unit {0}) Error) → o ≡ Some r → not r.is_name ≡ false → comma ≡ Some s
+      → OnOk q (NotesAll model (record { span = s; kind = CommaAfterRestElement } ∷ []) b c)
+      → Checked model false b q c → Judges model (last_faults o comma) (last_refused o) b q c
+  comma_judged b c o r comma (Ok t) is h there notes k = rw (is, not_false r.is_name h, there) (refl, notes)
+  comma_judged b c o r comma (Err e) is h there notes k = λ n. absurd (n k.kind)
 
 last_is : {F C K : Type 0} (t : Tree F C K) (new : Option RestProp) → is_some new ≡ is_rest t
     → IfSome new (λ r. r.is_name ≡ holds_ident t) → (comma : Option Span)

@@ -1,4 +1,4 @@
--- Rests in lists of patterns, as the code sees them, and what may be read behind them.
+-- Rests in lists of patterns, as the code sees them, and what may be read after them.
 use Rattle.std.proofs.Common.{◌≡◌, Bool, List, Some, None, refl}
 use Rattle.swc_input.specs.declared.token.Token.{Token}
 use Rattle.swc_input.specs.declared.token.TokenAndSpan.{TokenAndSpan}
@@ -9,7 +9,7 @@ use Rattle.swc_patterns.specs.Rests.{Stage, behind_item, behind_by, stage_of, pa
 use Rattle.swc_patterns.specs.declared.rest.SeenRest.{SeenRest}
 use Rattle.swc_patterns.specs.declared.rest.SeenRest.TheVariants as seen
 
--- behind an item that is no rest
+-- after an item that is no rest
 pub passed_stage : (r : SeenRest) → stage_of (passed r) ≡ behind_item (stage_of r)
 passed_stage seen.No = refl
 passed_stage (seen.Last rest None) = refl

@@ -88,12 +88,12 @@ module _ {F C K : Type 0} where
   plain_pat c ts = word may_bind c ts >>= (λ p. Some (ident_e p.0.at p.0.text, p.1))
 
 module _ {F C K : Type 0} (hook : Hook F C K) where
-  -- behind the bracket of an array pattern at s
+  -- after the bracket of an array pattern at s
   unfoldable pub array_pat_tail : Span → Scope → List TokenAndSpan → Out (Tree F C K)
   array_pat_tail s c ts =
       run hook (sym PatElements) c ts >>= (λ p. Some (array_from s p.0, p.1))
 
-  -- behind a pattern, and behind the `=` there
+  -- after a pattern, and after the `=` there
   unfoldable pub default_value : Tree F C K → Scope → List TokenAndSpan → Out (Tree F C K)
   default_value l c ts = inside hook c ts >>= (λ p. Some (default_p (to (span_of l) (span_of p.0)) l p.0, p.1))
 
@@ -101,12 +101,12 @@ module _ {F C K : Type 0} (hook : Hook F C K) where
   default_by l None c ts = Some (l, ts)
   default_by l (Some s) c ts = default_value l c ts
 
-  -- an element, or a pattern behind the dots at s
+  -- an element, or a pattern after the dots at s
   abbrev pub item_read : Option Span → Scope → List TokenAndSpan → Out (Tree F C K)
   item_read None c ts = run hook (sym Element) c ts
   item_read (Some s) c ts = run hook (sym Pat) c ts >>= (λ p. Some (rest_node s p.0, p.1))
 
-  -- behind some elements: those that are left, to where the list is closed
+  -- after some elements: those that are left, to where the list is closed
   abbrev pub elements_by : Stage → List (Option (Tree F C K)) → Scope → List TokenAndSpan → Out (Tree F C K)
   elements_by going before c ts =
       run hook (sym PatElements) c ts
@@ -118,7 +118,7 @@ module _ {F C K : Type 0} (hook : Hook F C K) where
   unfoldable pub elements_left : Stage → List (Option (Tree F C K)) → Scope → List TokenAndSpan → Out (Tree F C K)
   elements_left s before c ts = elements_by s before c ts
 
-  -- behind an element, a rest or not, and behind what stands before one
+  -- after an element, a rest or not, and after what stands before one
   unfoldable pub behind_element : Bool → Stage → List (Option (Tree F C K)) → Scope → List TokenAndSpan
       → Out (Tree F C K)
   behind_element is_rest s before c ts =

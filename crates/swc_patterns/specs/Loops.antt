@@ -16,7 +16,7 @@ use Rattle.swc_steps.specs.Parsing.{On}
 use Rattle.swc_patterns.specs.Answers.{pat_prop_at}
 use Rattle.swc_patterns.specs.Objects.{pat_props_left}
 
--- From p to q: properties of an object pattern were read, and the comma behind the last of them. Their parts lie apart
+-- From p to q: properties of an object pattern were read, and the comma after the last of them. Their parts lie apart
 -- among nodes that were appended, and what is left is read at q.
 pub record PatPropsRead {S H F C K : Type 0} {fg : Ghosts F} {cg : Ghosts C} {kg : Ghosts K} (model : Model S)
     (sure : Bool) (hook : Hook F C K) (props : List PatPropNode) (comma : Option Span)

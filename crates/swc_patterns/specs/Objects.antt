@@ -29,13 +29,13 @@ use Rattle.swc_patterns.specs.declared.object.AfterPatKey.{AfterPatKey}
 use Rattle.swc_patterns.specs.declared.object.AfterPatKey.TheVariants as after
 use Rattle.swc_patterns.specs.declared.object.RestProp.{RestProp}
 
--- ---- behind a key
+-- ---- after a key
 
 -- a name as an identifier that is bound
 abbrev pub bound : IdentName → BindingIdent
 bound n = record { id = record { span = n.span; sym = n.sym } }
 
--- behind a name: `=`, or nothing, where the name isn't reserved
+-- after a name: `=`, or nothing, where the name isn't reserved
 abbrev pub name_by : IdentName → Option Span → Scope → List TokenAndSpan → Out AfterPatKey
 name_by n (Some s) c ts = Some (after.Default (bound n), ts)
 name_by n None c ts =
@@ -74,7 +74,7 @@ module _ {F C K : Type 0} where
   name_node n = name_p n.at (ident_e n.at n.text) hole_e
 
 module _ {F C K : Type 0} (hook : Hook F C K) where
-  -- what is left of a property behind its key, whose tree is k
+  -- what is left of a property after its key, whose tree is k
   abbrev pub pat_prop_left : Tree F C K → AfterPatKey → Scope → List TokenAndSpan → Out (Tree F C K)
   pat_prop_left k (after.Value n) c ts =
       run hook (sym Element) c ts >>= (λ p. Some (key_value_e (to (span_of k) (span_of p.0)) k p.0, p.1))
@@ -91,13 +91,13 @@ module _ {F C K : Type 0} (hook : Hook F C K) where
   unfoldable pub pat_prop_item : Scope → List TokenAndSpan → Out (Tree F C K)
   pat_prop_item c ts = eaten is_dots c ts >>= (λ p. pat_prop_by p.0 c p.1)
 
--- ---- where rests may stand among properties: last, over a name, with no comma behind them
+-- ---- where rests may stand among properties: last, over a name, with no comma after them
 
 -- what is left where nothing is but the check
 abbrev pub rests_checked : Stage → Scope → List TokenAndSpan → Out (Unit {0})
 rests_checked s c ts = if is_never s then None else Some (tt, ts)
 
--- by the last of the properties, if it is a rest, and the comma behind it
+-- by the last of the properties, if it is a rest, and the comma after it
 abbrev pub last_stage : Option RestProp → Option Span → Stage
 last_stage None comma = going
 last_stage (Some r) comma = if r.is_name then behind_rest comma else never
@@ -113,7 +113,7 @@ module _ {F C K : Type 0} where
       if is_rest t then (if holds_ident t then behind_rest comma else never) else going
   props_stage (cons t (cons u us)) comma = if is_rest t then never else props_stage (cons u us) comma
 
-  -- behind all properties and the brace that closes them: the check of the rests, and the list
+  -- after all properties and the brace that closes them: the check of the rests, and the list
   abbrev pub props_done : Tree F C K → Scope → List TokenAndSpan → Out (Tree F C K)
   props_done l c ts =
       if is_never (props_stage (items_of l) (comma_of l)) then None else Some (listed None (span_of l) (items_of l), ts)
@@ -126,7 +126,7 @@ module _ {F C K : Type 0} where
   object_pat_from lo l c ts = props_done l c ts >>= (λ p. Some (object_pat_of lo p.0, p.1))
 
 module _ {F C K : Type 0} (hook : Hook F C K) where
-  -- behind some properties, and the comma behind the last of them: those that are left, to where the list is closed
+  -- after some properties, and the comma after the last of them: those that are left, to where the list is closed
   abbrev pub props_by : Stage → Trees F C K → Scope → List TokenAndSpan → Out (Tree F C K)
   props_by going before c ts =
       run hook (sym PatProps) c ts >>= (λ p. Some (put_before before p.0, p.1))
@@ -136,7 +136,7 @@ module _ {F C K : Type 0} (hook : Hook F C K) where
   unfoldable pub pat_props_left : Trees F C K → Option Span → Scope → List TokenAndSpan → Out (Tree F C K)
   pat_props_left before comma c ts = props_by (props_stage before comma) before c ts
 
-  -- one property or rest, and the comma behind it, or before the brace that closes the list
+  -- one property or rest, and the comma after it, or before the brace that closes the list
   unfoldable pub pat_prop_more : Trees F C K → Scope → List TokenAndSpan → Out (Tree F C K)
   pat_prop_more before c ts =
       pat_prop_item hook c ts

@@ -36,11 +36,11 @@ goes_on (next.Item (Some s)) = true
 goes_on n = false
 
 module _ {F C K : Type 0} where
-  -- behind all parameters: the parenthesis that closes them
+  -- after all parameters: the parenthesis that closes them
   unfoldable pub params_close : Trees F C K → Scope → List TokenAndSpan → Out (Tree F C K)
   params_close before c ts = expected is_rparen c ts >>= (λ p. Some (listed None p.0 before, p.1))
 
-  -- behind the pattern of a rest whose dots are at s: its node; an initialiser there is a fault
+  -- after the pattern of a rest whose dots are at s: its node; an initialiser there is a fault
   abbrev pub rest_by : Span → Tree F C K → Option Span → List TokenAndSpan → Out (Tree F C K)
   rest_by s t None ts = Some (rest_node s t, ts)
   rest_by s t (Some e) ts = None
@@ -49,12 +49,12 @@ module _ {F C K : Type 0} where
   rest_end s t c ts = eaten is_equals c ts >>= (λ p. rest_by s t p.0 p.1)
 
 module _ {F C K : Type 0} (hook : Hook F C K) where
-  -- a parameter, or a pattern behind the dots at s
+  -- a parameter, or a pattern after the dots at s
   abbrev pub param_read : Option Span → Scope → List TokenAndSpan → Out (Tree F C K)
   param_read None c ts = run hook (sym Element) c ts
   param_read (Some s) c ts = run hook (sym Pat) c ts >>= (λ p. rest_end s p.0 c p.1)
 
-  -- behind some parameters: those that are left, through the parenthesis that closes them
+  -- after some parameters: those that are left, through the parenthesis that closes them
   abbrev pub params_by : Stage → Trees F C K → Scope → List TokenAndSpan → Out (Tree F C K)
   params_by going before c ts =
       run hook (sym Params) c ts >>= (λ p. Some (put_before before p.0, p.1))
@@ -64,7 +64,7 @@ module _ {F C K : Type 0} (hook : Hook F C K) where
   unfoldable pub params_left : Stage → Trees F C K → Scope → List TokenAndSpan → Out (Tree F C K)
   params_left s before c ts = params_by s before c ts
 
-  -- behind a parameter, a rest or not, and behind what stands before one
+  -- after a parameter, a rest or not, and after what stands before one
   unfoldable pub behind_param : Bool → Stage → Trees F C K → Scope → List TokenAndSpan → Out (Tree F C K)
   behind_param is_rest s before c ts =
       separated_item is_rparen is_rest s c ts >>= (λ p. params_left p.0 before c p.1)

@@ -1,8 +1,9 @@
-// Object patterns (ECMA-262, 14.3.3): what stands behind a key, and where rests may stand.
+// Object patterns (ECMA-262, 14.3.3): what is after a key, and where rests may stand.
 ghost use Rattle.std.specs.Option.{is_some};
 ghost use Rattle.std.specs.Prelude.{ℕ, ◌≡◌, ◌≤◌, false, not, IfOk, IfSome, OnOk};
 ghost use Rattle.swc_context.specs.Reserved.{is_reserved_word};
 ghost use Rattle.swc_input.specs.Buffer.{context, to_come};
+ghost use Rattle.swc_input.specs.Recordings.{Judges, NotesAll};
 ghost use Rattle.swc_ast.specs.Patterns.{holds_ident};
 ghost use Rattle.swc_ast.specs.Trees.{items_of};
 ghost use Rattle.swc_nodes.specs.GrowingNodes.{Apart};
@@ -12,6 +13,7 @@ ghost use Rattle.swc_steps.specs.Parsing.{Checked, ContinuesAlone, GoesOn};
 ghost use Rattle.swc_patterns.specs.Answers.{pat_itself, pat_at, pat_prop_at, pat_props_at};
 ghost use Rattle.swc_patterns.specs.Objects.{after_pat_key, after_name, bound, object_pat_from, is_rest, props_stage};
 ghost use Rattle.swc_patterns.specs.Objects.{is_value, key_or, rests_checked, last_stage};
+ghost use Rattle.swc_patterns.specs.RestFaults.{earlier_faults, last_faults, last_refused};
 
 use crate::pat::made;
 use swc_ast::ident::{BindingIdent, Ident, IdentName};
@@ -24,22 +26,22 @@ use swc_input::tokens::Tokens;
 use swc_nodes::node::{ExprId, PatId, PatPropNode};
 use swc_nodes::nodes::NodesOf;
 use swc_steps::productions::Productions;
-use swc_steps::tokens::{Listed, Sign, eat, emit_err, syntax_error, unexpected};
+use swc_steps::tokens::{Listed, Sign, eat, emit_err, unexpected};
 
-/// What stands behind the key of a property of an object pattern.
+/// What is after the key of a property of an object pattern.
 #[derive(Drop)]
 pub enum AfterPatKey {
-    /// A colon, behind which an element stands.
+    /// A colon, after which an element stands.
     Value(PropName<ExprId>),
-    /// `=`, behind which the initialiser of the name stands.
+    /// `=`, after which the initialiser of the name stands.
     Default(BindingIdent),
     /// Nothing: the name is bound.
     Name(BindingIdent),
 }
 
-/// What stands behind the key of a property of an object pattern (ECMA-262, 14.3.3): a colon, or `=` behind a name,
+/// What is after the key of a property of an object pattern (ECMA-262, 14.3.3): a colon, or `=` after a name,
 /// which are consumed, or nothing. A name alone that is reserved where it stands is recorded as
-/// `ReservedWordInObjShorthandOrPat`, at the name. Behind another key than a name, another token is refused as
+/// `ReservedWordInObjShorthandOrPat`, at the name. After another key than a name, another token is refused as
 /// `Unexpected`, at that token, and the end as `Eof`.
 pub fn after_pat_key<I: Tokens>(
     input: &mut Buffer<I>,
@@ -61,7 +63,7 @@ pub fn after_pat_key<I: Tokens>(
     }
 }
 
-/// What stands behind a name: `=`, which is consumed, or nothing, where the name isn't reserved.
+/// What is after a name: `=`, which is consumed, or nothing, where the name isn't reserved.
 fn after_name<I: Tokens>(input: &mut Buffer<I>, name: IdentName) -> PResult<AfterPatKey>
     ensures after { ContinuesAlone I.model (λ a. a) (after_name name) input.old result input.new }
     ensures bare { IfOk result (λ a. is_value a ≡ false) }
@@ -101,9 +103,9 @@ fn check_name<I: Tokens>(input: &mut Buffer<I>, name: &IdentName) -> PResult<()>
     Ok(())
 }
 
-/// The object pattern (ECMA-262, 14.3.3) whose brace is at `start`, behind its properties and its closing brace. A rest
+/// The object pattern (ECMA-262, 14.3.3) whose brace is at `start`, after its properties and its closing brace. A rest
 /// that isn't the last property is recorded as `NonLastRestParam`, at the rest; a last one over no name is refused as
-/// `DotsWithoutIdentifier`, at the rest; the comma behind one over a name is recorded as `CommaAfterRestElement`.
+/// `DotsWithoutIdentifier`, at the rest; the comma after one over a name is recorded as `CommaAfterRestElement`.
 pub fn object_pat<I: Tokens, B: Bodies<I>>(
     p: &mut Productions<I, B>,
     start: BytePos,
@@ -128,7 +130,7 @@ pub struct RestProp {
     pub is_name: bool,
 }
 
-/// Records and refuses the rests that don't stand last, over a name, with no comma behind them, in their order.
+/// Records and refuses the rests that don't stand last, over a name, with no comma after them, in their order.
 fn check_rests<I: Tokens, B: Bodies<I>>(
     input: &mut Buffer<I>,
     nodes: &NodesOf<B>,
@@ -163,18 +165,19 @@ fn rest_of<I: Tokens, B: Bodies<I>>(nodes: &NodesOf<B>, prop: &PatPropNode) -> O
     }
 }
 
-/// Records a rest that another property stands behind, at its place.
+/// Records a rest that another property is after, at its place.
 pub fn check_earlier_rest<I: Tokens>(input: &mut Buffer<I>, rest: Option<RestProp>) -> PResult<()>
     ensures checks { Checked I.model (not (is_some rest)) input.old result input.new }
+    ensures notes { OnOk result (NotesAll I.model (earlier_faults rest) input.old input.new) }
     ensures falls { OnOk result (to_come I.model input.new ≤ to_come I.model input.old) }
 {
     match rest {
-        Some(rest) => emit_err(input, rest.span.in_order(), SyntaxError::NonLastRestParam),
+        Some(rest) => input.emit_err(rest.span.in_order(), SyntaxError::NonLastRestParam),
         None => Ok(()),
     }
 }
 
-/// Refuses a last rest that is over no name, at its place, and records the comma behind another.
+/// Refuses a last rest that is over no name, at its place, and records the comma after another.
 pub fn check_last_rest<I: Tokens>(
     input: &mut Buffer<I>,
     rest: Option<RestProp>,
@@ -182,6 +185,7 @@ pub fn check_last_rest<I: Tokens>(
 ) -> PResult<()>
     ensures checks { ContinuesAlone I.model (λ u. u) (rests_checked (last_stage rest comma))
         input.old result input.new }
+    ensures judges { Judges I.model (last_faults rest comma) (last_refused rest) input.old result input.new }
     ensures falls { OnOk result (to_come I.model input.new ≤ to_come I.model input.old) }
 {
     let Some(rest) = rest else {
@@ -189,10 +193,10 @@ pub fn check_last_rest<I: Tokens>(
     };
     if !rest.is_name {
         let kind = SyntaxError::DotsWithoutIdentifier;
-        return Err(syntax_error(input, rest.span.in_order(), kind));
+        return Err(input.syntax_error(rest.span.in_order(), kind));
     }
     match comma {
-        Some(comma) => emit_err(input, comma, SyntaxError::CommaAfterRestElement),
+        Some(comma) => input.emit_err(comma, SyntaxError::CommaAfterRestElement),
         None => Ok(()),
     }
 }

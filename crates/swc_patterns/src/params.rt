@@ -32,8 +32,8 @@ pub enum NextParam {
 }
 
 /// What stands before a formal parameter (ECMA-262, 15.1), where `rest` was seen before; or the parenthesis that closes
-/// the list, which stays, or the end. A rest with a comma and that parenthesis behind it is recorded as
-/// `CommaAfterRestElement`, at the comma, one with another parameter behind it as `TS1014`, at the rest.
+/// the list, which stays, or the end. A rest with a comma and that parenthesis after it is recorded as
+/// `CommaAfterRestElement`, at the comma, one with another parameter after it as `TS1014`, at the rest.
 pub fn next_param<I: Tokens>(input: &mut Buffer<I>, rest: SeenRest) -> PResult<NextParam>
     ensures next { ContinuesAlone I.model (λ n. n) (next_param (stage_of rest)) input.old result input.new }
     ensures falls { OnOk result (to_come I.model input.new ≤ to_come I.model input.old) }
@@ -60,7 +60,7 @@ fn param_head<I: Tokens>(input: &mut Buffer<I>, rest: SeenRest) -> PResult<NextP
     Ok(NextParam::Item(dots))
 }
 
-/// The rest of the dots and the pattern behind them, with an initialiser, which is recorded as `TS1048`, at the
+/// The rest of the dots and the pattern after them, with an initialiser, which is recorded as `TS1048`, at the
 /// pattern. What has the initialiser begins with the dots.
 pub fn rest_default<I: Tokens, B: Bodies<I>>(
     p: &mut Productions<I, B>,

@@ -85,7 +85,7 @@ fn parse_binding_ident<I: Tokens>(alloc: Global, input: &mut Buffer<I>) -> PResu
     ident::parse_binding_ident(alloc, input)
 }
 
-/// The number of a pattern's node. Refused only for want of memory.
+/// The number of a pattern's node. Refused only when out of memory.
 pub fn made<I: Tokens>(input: &Buffer<I>, id: Result<PatId, AllocError>) -> PResult<PatId>
     ensures ok { IfOk result (λ r. id ≡ Ok r) }
     ensures refused { IfErr result (λ e. e ≡ no_memory (last_position input.now)) }
@@ -96,7 +96,7 @@ pub fn made<I: Tokens>(input: &Buffer<I>, id: Result<PatId, AllocError>) -> PRes
     }
 }
 
-/// The pattern and its initialiser (ECMA-262, 14.3.3). Refused only for want of memory.
+/// The pattern and its initialiser (ECMA-262, 14.3.3). Refused only when out of memory.
 pub fn default_pat<I: Tokens, B: Bodies<I>>(
     p: &mut Productions<I, B>,
     left: PatId,
@@ -113,7 +113,7 @@ pub fn default_pat<I: Tokens, B: Bodies<I>>(
     made(&p.input, node)
 }
 
-/// The rest of the dots and the pattern behind them (ECMA-262, 14.3.3). Refused only for want of memory.
+/// The rest of the dots and the pattern after them (ECMA-262, 14.3.3). Refused only when out of memory.
 pub fn rest_pat<I: Tokens, B: Bodies<I>>(
     p: &mut Productions<I, B>,
     dots: Span,
@@ -140,8 +140,8 @@ pub enum NextElement {
 }
 
 /// What stands before an element of an array pattern (ECMA-262, 14.3.3), or the bracket that closes the list, where
-/// `rest` was seen before. A rest with a comma and that bracket behind it is recorded as `CommaAfterRestElement`, at
-/// the comma, one with anything else behind it as `NonLastRestParam`, at the rest. The end is refused as `Eof`.
+/// `rest` was seen before. A rest with a comma and that bracket after it is recorded as `CommaAfterRestElement`, at
+/// the comma, one with anything else after it as `NonLastRestParam`, at the rest. The end is refused as `Eof`.
 pub fn next_element<I: Tokens>(input: &mut Buffer<I>, rest: SeenRest) -> PResult<NextElement>
     ensures next { ContinuesAlone I.model (λ n. n) (next_element (stage_of rest)) input.old result input.new }
     ensures falls { OnOk result (to_come I.model input.new ≤ to_come I.model input.old) }
@@ -178,8 +178,8 @@ fn element_head<I: Tokens>(input: &mut Buffer<I>, rest: SeenRest) -> PResult<Nex
     }
 }
 
-/// The array pattern (ECMA-262, 14.3.3) whose bracket is at `start`, behind its elements and its closing bracket. Holes
-/// at the end are dropped. Refused only for want of memory.
+/// The array pattern (ECMA-262, 14.3.3) whose bracket is at `start`, after its elements and its closing bracket. Holes
+/// at the end are dropped. Refused only when out of memory.
 pub fn array_pat<I: Tokens, B: Bodies<I>>(
     p: &mut Productions<I, B>,
     start: Span,

@@ -1,4 +1,4 @@
-// Rests in lists of patterns (ECMA-262, 14.3.3 and 15.1), behind which nothing may stand.
+// Rests in lists of patterns (ECMA-262, 14.3.3 and 15.1), after which nothing may stand.
 ghost use Rattle.std.specs.Option.{is_some};
 ghost use Rattle.std.specs.Prelude.{◌≡◌, ◌≢◌, ◌≤◌, true, not, OnOk};
 ghost use Rattle.swc_context.specs.declared.error.SyntaxError.TheVariants.{OutOfMemory};
@@ -15,19 +15,19 @@ use swc_input::buffer::Buffer;
 use swc_input::tokens::Tokens;
 use swc_steps::tokens::{Sign, emit_err, separate};
 
-/// Whether a rest was read in a list of patterns, and what stands behind it.
+/// Whether a rest was read in a list of patterns, and what is after it.
 #[derive(Clone, Copy)]
 pub enum SeenRest {
     /// None was.
     No,
-    /// The item read last is one, at `rest`, with the comma behind it, where there is one.
+    /// The item read last is one, at `rest`, with the comma after it, where there is one.
     Last { rest: Span, comma: Option<Span> },
-    /// One was, at the place, and other items behind it.
+    /// One was, at the place, and other items after it.
     Earlier(Span),
 }
 
 impl SeenRest {
-    /// The same behind another item, which is no rest.
+    /// The same after another item, which is no rest.
     pub fn passed(self) -> SeenRest
         ensures { result ≡ passed self }
     {
@@ -51,7 +51,7 @@ pub(crate) fn check_comma<I: Tokens>(input: &mut Buffer<I>, rest: SeenRest) -> P
     }
 }
 
-/// The comma behind a rest that was read last.
+/// The comma after a rest that was read last.
 fn comma_behind(rest: SeenRest) -> Option<Span>
     ensures { result ≡ comma_behind rest }
 {
@@ -61,7 +61,7 @@ fn comma_behind(rest: SeenRest) -> Option<Span>
     }
 }
 
-/// Records a rest that another item stands behind, by the kind, at the rest.
+/// Records a rest that another item is after, by the kind, at the rest.
 pub(crate) fn check_last<I: Tokens>(
     input: &mut Buffer<I>,
     rest: SeenRest,
@@ -79,7 +79,7 @@ pub(crate) fn check_last<I: Tokens>(
     }
 }
 
-/// Consumes what stands behind an item of a list that `close` closes, a comma or nothing; behind the `dots` of a rest
+/// Consumes what is after an item of a list that `close` closes, a comma or nothing; after the `dots` of a rest
 /// it is one. Answers what was seen of rests then.
 pub fn separate_item<I: Tokens>(
     input: &mut Buffer<I>,

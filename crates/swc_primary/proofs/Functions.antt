@@ -175,7 +175,7 @@ module _ {F C K : Type 0} (hook : Hook F C K) where
             (sym (hears-place hook laws block c ts p.0 p.1 h))
             ∙ ap (λ o. o >>= (λ p. Some (method_function_node block_at m s ps p.0, p.1))) (sym e)
 
-    -- the check behind the block is one before it
+    -- the check after the block is one before it
     by_ok : (b : Bool) (s : Span) (ps : Trees F C K) (x : Scope) (ts : List TokenAndSpan) → accessor_ok m ps ≡ b
         → (method_block_by hook block_at m true s ps x ts >>= (λ p. method_by m p))
         ≡ method_block_by hook block_at m b s ps x ts
@@ -246,7 +246,7 @@ module _ {F C K : Type 0} (hook : Hook F C K) where
     unfolding method_left
     left_splits s x ts = refl
 
-    -- behind the parameters, and their closing parenthesis
+    -- after the parameters, and their closing parenthesis
     pub close_is : (s : Span) (ps : Trees F C K) (x : Scope) (ts : List TokenAndSpan)
         → (params_close ps x ts >>= (λ p. method_end hook block_at m s (items_of p.0) x p.1))
         ≡ method_close hook block_at m s ps x ts

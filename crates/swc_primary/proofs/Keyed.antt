@@ -53,7 +53,7 @@ only_same (cons t nil) h = refl
 only_same (cons t (cons u ts)) h = absurd cc
 
 module _ {F C K : Type 0} (hook : Hook F C K) where
-  -- ---- a key, and what stands behind it (13.2.5)
+  -- ---- a key, and what is after it (13.2.5)
 
   pub key_splits : (x : Scope) (ts : List TokenAndSpan)
       → by_production hook (λ c. prop-key) x ts ≡ (run hook (at Key) x ts >>= (λ p. behind_key hook p.0 x p.1))
@@ -90,7 +90,7 @@ module _ {F C K : Type 0} (hook : Hook F C K) where
 
   -- ---- methods (15.4)
 
-  -- a key, and behind it the function of a method of a kind, in which nothing is checked
+  -- a key, and after it the function of a method of a kind, in which nothing is checked
   method_is : (m : MethodKind) → ((f : Tree F C K) → function_ok (Some m) f ≡ true) → (s : Span) (x : Scope)
       (us : List TokenAndSpan)
       → and_then (run hook (at Key) x us)
@@ -128,7 +128,7 @@ module _ {F C K : Type 0} (hook : Hook F C K) where
       by_test k f ws true e = rw e (ap (λ t. Some (t, ws)) (same k f e))
       by_test k f ws false e = rw e refl
 
-  -- a sign, and what is read behind it
+  -- a sign, and what is read after it
   behind_sign : {A : Type 0} (f : Token → Bool) (x : Scope) (ts : List TokenAndSpan)
       (k h : Span → List TokenAndSpan → Out A) → ((s : Span) (us : List TokenAndSpan) → k s us ≡ h s us)
       → token_then f ts k ≡ (expected f x ts >>= (λ p. h p.0 p.1))
@@ -236,7 +236,7 @@ module _ {F C K : Type 0} {fg : Ghosts F} {cg : Ghosts C} {kg : Ghosts K} where
       → key_at ms k ≡ key_at ns k
   key_later {ns} {ms} k g a = key-same (tree_at ms) (tree_at ns) k (apart-trees g a)
 
-  -- the node of a key and the value behind it: its tree, and what it reaches
+  -- the node of a key and the value after it: its tree, and what it reaches
   value_tree : (ns : Nodes F C K fg cg kg) (k : PropName ExprId) (e : ExprId)
       → prop_of (key_at ns k) (value_e (span_of (tree_of ns e)) (tree_of ns e))
       ≡ prop_at ns (value_behind k (span_of (tree_of ns e)) e)

@@ -1,4 +1,4 @@
--- Which primary expression the current token begins, and what is left of a literal behind the token that opens it.
+-- Which primary expression the current token begins, and what is left of a literal after the token that opens it.
 use Rattle.std.proofs.Common.{◌≡◌, Bool, true, false, not, codes, ◌&&◌, List, [], ◌∷◌, ◌++◌, if◌then◌else◌, Option}
 use Rattle.std.proofs.Common.{refl, ◌∙◌}
 use Rattle.swc_input.specs.declared.buffer.Buffer.{Buffer}
@@ -210,7 +210,7 @@ looked {b = b} {c = c} h =
       end = h.end;
     }
 
--- ---- what is left of a literal behind the token that opens it
+-- ---- what is left of a literal after the token that opens it
 
 module _ {S F C K : Type 0} {model : Model S} (sure : Bool) (hook : Hook F C K) where
   pub array_begins : {a b d : Buffer S} {lo : BytePos} {ctx : Context} → Here model a b
@@ -238,7 +238,7 @@ module _ {S F C K : Type 0} {model : Model S} (sure : Bool) (hook : Hook F C K) 
       ∙ props.object_lit_splits hook (plain o.took.was).span x ts
       ∙ ap (λ v. run hook (at Props) (inner x) ts >>= (λ p. Some (object_from v p.0, p.1))) o.place)))
 
-  -- the list in its context, which is set back behind it
+  -- the list in its context, which is set back after it
   pub elements_read : {T : Type 0} (view : T → Tree F C K) {b d e f : Buffer S} {lo : BytePos} {ctx : Context}
       (r : Result T Error) → (o : Opens model include_in b lo ctx d)
       → Parses model sure view (run hook (at Elements)) d r e

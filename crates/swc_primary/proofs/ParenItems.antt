@@ -211,7 +211,7 @@ module _ {S F C K X : Type 0} {model : Model S} (at : X → Tree F C K) where
   paren_refused p (Err x) comma s xs e h k o =
       (refuses_later h.leads (refuses_later k.leads o.0), λ n. paren_spread at p comma s xs o.1)
 
--- ---- no `=>` behind the list
+-- ---- no `=>` after the list
 
 module _ {S F C K : Type 0} {model : Model S} {sure : Bool} (q : Scope → List TokenAndSpan → Out (Tree F C K)) where
   pub free_on : {b c : Buffer S} → On model sure arrow_free (give tt) b c

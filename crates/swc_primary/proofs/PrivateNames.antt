@@ -32,7 +32,7 @@ module _ {S : Type 0} {model : Model S} {sure : Bool} where
       → ((ts : List TokenAndSpan) → f (scope model b) ts ≡ g (scope model b) ts) → On model sure f g b b
   on_where laws b step = on_checked_in true (check_passes true laws b refl) (λ ts w. step ts) (λ ts w. cc)
 
-  -- behind a name, where the syntax isn't pedantic
+  -- after a name, where the syntax isn't pedantic
   pub on_lenient : {A : Type 0} {t : A} → Laws model → (b : Buffer S) → (scope model b).syntax.pedantic ≡ false
       → On model sure (λ x ts. if not x.syntax.pedantic then Some (t, ts) else None) (give t) b b
   on_lenient {t = t} laws b h = on_where laws b (λ ts. ap (λ v. if not v then Some (t, ts) else None) h)

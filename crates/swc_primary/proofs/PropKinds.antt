@@ -1,4 +1,4 @@
--- What a property is, by the token that it begins with and the one behind it.
+-- What a property is, by the token that it begins with and the one after it.
 use Rattle.std.proofs.Common.{◌≡◌, Bool, true, false, List, [], ◌∷◌, Option, Some, None, Result, Ok, Err, IsSome}
 use Rattle.std.proofs.Common.{MatchOption, refl, sym, ap, ◌∙◌}
 use Rattle.swc_context.specs.declared.error.Error.{Error}
@@ -69,7 +69,7 @@ module _ {S : Type 0} {model : Model S} (laws : Laws model) where
     told = λ ts fut here. sign_is ts (ap (at_token is_word) here ∙ n) ∙ ap sign_kind here ∙ sym e;
   }
 
-  -- what is behind a word
+  -- what is after a word
   pub tells_some : {b c : Buffer S} {a : Option PropKind} (n : Modifier) (k : PropKind) → a ≡ Some k → Peeked model b c
       → IsSome (current b) → MatchOption c.next (a ≡ None) (λ t. a ≡ Some (kind_at n t.token))
       → Told model (λ ts. kind_of n (first (rest ts))) k b c

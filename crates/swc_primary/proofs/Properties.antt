@@ -192,7 +192,7 @@ module _ {F C K : Type 0} (hook : Hook F C K) where
   short_splits x [] = refl
   short_splits x (t ∷ ts) = short_one (any_name x t.token t.span) x ts
 
-  -- a name with `=` and an expression behind it
+  -- a name with `=` and an expression after it
   cover_sign : (b : Bool) (n : Spelling) (x : Scope) (t : TokenAndSpan) (us : List TokenAndSpan)
       → (if b then and_then (run hook (at Assign) (with_in x) us)
       (λ e vs. Some (cover_e (to n.at (span_of e)) (ident_e n.at n.text) e, vs)) else None)
@@ -342,7 +342,7 @@ spread_dots ts h = spread_by (at_token is_dots (first ts)) _
     (no_other_spread (at_token is_star (first ts)) (at_token is_word (first ts)) (first ts) (second ts)) h
 
 module _ {F C K : Type 0} (hook : Hook F C K) where
-  -- dots, and what is read behind them
+  -- dots, and what is read after them
   spread_token : (x : Scope) (v : Token) (b : Bool) (s : Span) (us : List TokenAndSpan) → is_dots v ≡ true
       → run hook (at Prop) x (tk v b s ∷ us) ≡ spread_prop_tail hook s x us
   unfolding spread_prop_tail inside

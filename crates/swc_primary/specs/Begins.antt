@@ -17,7 +17,7 @@ use Rattle.swc_primary.specs.Properties.{spread_prop_tail, cover_tail}
 use Rattle.swc_primary.specs.Methods.{method_tail}
 use Rattle.swc_steps.specs.Parsing.{ident_spelling, On, Heard}
 
--- what is left of a property behind what it begins with; behind a name alone nothing
+-- what is left of a property after what it begins with; after a name alone nothing
 abbrev pub prop_left : {F C K : Type 0} → Hook F C K → PropHead → Scope → List TokenAndSpan → Out (Tree F C K)
 prop_left hook (head.Shorthand n) = λ c ts. Some (short_e (ident_spelling n).at (ident_spelling n).text, ts)
 prop_left hook (head.Spread s) = spread_prop_tail hook s

@@ -62,7 +62,7 @@ abbrev pub is_setter_in : Option MethodKind → Bool
 is_setter_in (Some kind.Setter) = true
 is_setter_in o = false
 
--- The node of a key and of what stands behind it: a value that lies at s; of a method that begins at s, and of a getter and a setter.
+-- The node of a key and of what is after it: a value that lies at s; of a method that begins at s, and of a getter and a setter.
 abbrev pub value_behind : {K : Type 0} → PropName ExprId → Span → ExprId → PropNode K
 value_behind k s e = prop.KeyValue (to (prop_name_span k) s) k e
 
@@ -157,9 +157,9 @@ abbrev pub method_by : {F C K : Type 0} → Option MethodKind → Tree F C K × 
 method_by m p = if function_ok m p.0 then Some p else None
 
 module _ {F C K : Type 0} (hook : Hook F C K) where
-  -- ---- a key, and what stands behind it (13.2.5)
+  -- ---- a key, and what is after it (13.2.5)
 
-  -- behind the colon: the value
+  -- after the colon: the value
   unfoldable pub after_colon : Scope → List TokenAndSpan → Out (Tree F C K)
   after_colon c ts = inside hook c ts >>= (λ p. Some (value_e (span_of p.0) p.0, p.1))
 
@@ -167,15 +167,15 @@ module _ {F C K : Type 0} (hook : Hook F C K) where
   after_by (Some s) c ts = after_colon c ts
   after_by None c ts = run hook (sym (Shell false false)) c ts
 
-  -- behind the key k
+  -- after the key k
   unfoldable pub behind_key : Tree F C K → Scope → List TokenAndSpan → Out (Tree F C K)
   behind_key k c ts = run hook (sym Behind) c ts >>= (λ p. Some (prop_of k p.0, p.1))
 
   -- ---- methods (15.4)
 
   module _ (block_at : K → Span) (m : Option MethodKind) where
-    -- A method's function, in the scope of its parameters, which begin at s: behind the parameters ps and their closing
-    -- parenthesis, where they are as they have to be; before that parenthesis; behind the opening one; and from that one on.
+    -- A method's function, in the scope of its parameters, which begin at s: after the parameters ps and their closing
+    -- parenthesis, where they are as they have to be; before that parenthesis; after the opening one; and from that one on.
     abbrev pub method_block_by : Bool → Span → Trees F C K → Scope → List TokenAndSpan → Out (Tree F C K)
     method_block_by false s ps c ts = None
     method_block_by true s ps c ts =
@@ -198,7 +198,7 @@ module _ {F C K : Type 0} (hook : Hook F C K) where
   unfoldable pub method_function : Option MethodKind → Scope → List TokenAndSpan → Out (Tree F C K)
   method_function m c ts = run hook (sym (Shell (async_in m) (generator_in m))) c ts >>= (λ p. method_by m p)
 
-  -- a method of a kind that begins at s, from its key on, and behind the key k
+  -- a method of a kind that begins at s, from its key on, and after the key k
   unfoldable pub method_behind_key : Option MethodKind → Span → Tree F C K → Scope → List TokenAndSpan → Out (Tree F C K)
   method_behind_key m s k c ts = method_function m c ts >>= (λ p. Some (method_tree m s k p.0, p.1))
 

@@ -32,12 +32,12 @@ open_by c p = if is_reserved_word c.context p.0.text then None else Some p
 unfoldable pub open_name : Scope → List TokenAndSpan → Out Spelling
 open_name c ts = word may_name c ts >>= open_by c
 
--- such a name, and the `=` behind it
+-- such a name, and the `=` after it
 unfoldable pub cover_name : Scope → List TokenAndSpan → Out Spelling
 cover_name c ts = open_name c ts >>= (λ p. expected is_equals c p.1 >>= (λ q. Some (p.0, q.1)))
 
 -- what a property is, by the tokens that it begins with; of one that begins with a word, by the word and the token
--- behind it
+-- after it
 abbrev pub modifier_of : Option TokenAndSpan → Modifier
 modifier_of t =
     if at_token is_get t then modifier.Get else
@@ -47,14 +47,14 @@ modifier_of t =
 abbrev pub async_kind : Bool → MethodKind
 async_kind with_star = if with_star then method.AsyncGenerator else method.Async
 
--- by what the word is to a key, and by whether a star stands behind it
+-- by what the word is to a key, and by whether a star is after it
 abbrev pub by_modifier : Modifier → Bool → PropKind
 by_modifier modifier.Get with_star = kind.Method method.Getter
 by_modifier modifier.Set with_star = kind.Method method.Setter
 by_modifier modifier.Async with_star = kind.Method (async_kind with_star)
 by_modifier modifier.Other with_star = kind.Unfit
 
--- by what the word is to a key, and by the token behind it
+-- by what the word is to a key, and by the token after it
 abbrev pub kind_of : Modifier → Option TokenAndSpan → PropKind
 kind_of m u =
     if at_token ends_prop u then kind.Shorthand else
@@ -88,19 +88,19 @@ abbrev pub cover_node : {F C K : Type 0} → Spelling → Tree F C K → Tree F 
 cover_node n v = cover_e (to n.at (span_of v)) (ident_e n.at n.text) v
 
 module _ {F C K : Type 0} (hook : Hook F C K) where
-  -- behind the brace at s
+  -- after the brace at s
   unfoldable pub object_lit_tail : Span → Scope → List TokenAndSpan → Out (Tree F C K)
   object_lit_tail s c ts =
       run hook (sym Props) (inner c) ts >>= (λ p. Some (object_e (comma_of p.0) (to s (span_of p.0)) (items_of p.0), p.1))
 
-  -- one property, and the comma behind it, or before the brace that closes the list
+  -- one property, and the comma after it, or before the brace that closes the list
   abbrev pub prop_item : Scope → List TokenAndSpan → Out (Tree F C K × Option Span)
   prop_item = with_comma (run hook (sym Prop)) (separated is_rbrace)
 
-  -- behind the dots of a property at s
+  -- after the dots of a property at s
   unfoldable pub spread_prop_tail : Span → Scope → List TokenAndSpan → Out (Tree F C K)
   spread_prop_tail s c ts = inside hook c ts >>= (λ p. Some (spread_prop_e s p.0, p.1))
 
-  -- a name with `=` and an expression behind it: behind the `=`
+  -- a name with `=` and an expression after it: after the `=`
   unfoldable pub cover_tail : Spelling → Scope → List TokenAndSpan → Out (Tree F C K)
   cover_tail n c ts = inside hook c ts >>= (λ p. Some (cover_node n p.0, p.1))

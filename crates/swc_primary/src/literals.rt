@@ -1,4 +1,4 @@
-// What opens array and object literals (ECMA-262, 13.2.4 and 13.2.5), and what stands behind their lists.
+// What opens array and object literals (ECMA-262, 13.2.4 and 13.2.5), and what is after their lists.
 ghost use Rattle.std.specs.Prelude.{ℕ, ◌≡◌, ◌<◌, true, Some};
 ghost use Rattle.swc_input.specs.Buffer.{context, to_come};
 ghost use Rattle.swc_input.specs.Kinds.{at_token};
@@ -64,8 +64,8 @@ pub fn open_object<I: Tokens>(input: &mut Buffer<I>) -> (BytePos, Context)
     (start, ctx)
 }
 
-/// The array literal (ECMA-262, 13.2.4) that begins at `start`, behind its elements and its closing bracket. Refused
-/// only for want of memory.
+/// The array literal (ECMA-262, 13.2.4) that begins at `start`, after its elements and its closing bracket. Refused
+/// only when out of memory.
 pub fn array_lit<I: Tokens, B: Bodies<I>>(
     p: &mut Productions<I, B>,
     start: BytePos,
@@ -82,8 +82,8 @@ pub fn array_lit<I: Tokens, B: Bodies<I>>(
     p.made(node)
 }
 
-/// The object literal (ECMA-262, 13.2.5) that begins at `start`, behind its properties and its closing brace. Refused
-/// only for want of memory.
+/// The object literal (ECMA-262, 13.2.5) that begins at `start`, after its properties and its closing brace. Refused
+/// only when out of memory.
 pub fn object_lit<I: Tokens, B: Bodies<I>>(
     p: &mut Productions<I, B>,
     start: BytePos,

@@ -1,4 +1,4 @@
-// What methods are made of behind their keys (ECMA-262, 15.4 to 15.6 and 15.8): parameters, blocks, and properties.
+// What methods are made of after their keys (ECMA-262, 15.4 to 15.6 and 15.8): parameters, blocks, and properties.
 ghost use Rattle.std.specs.Option.{is_some};
 ghost use Rattle.std.specs.Prelude.{ℕ, ◌≡◌, ◌≢◌, ◌<◌, ◌≤◌, true, not, ◌||◌, IfOk, OnOk, MatchResult};
 ghost use Rattle.swc_context.specs.Contexts.{method_params};
@@ -65,12 +65,12 @@ fn without_params(kind: Option<MethodKind>) -> SyntaxError
     }
 }
 
-/// The function of a method (ECMA-262, 15.4), behind its parameters, whose parenthesis is at `start`: that which closes
+/// The function of a method (ECMA-262, 15.4), after its parameters, whose parenthesis is at `start`: that which closes
 /// them, and a block, which the hook reads in the context of the method's body. It spans what was read, so without the
 /// key, which is at `key`.
 ///
 /// Parameters of a getter are recorded, at the key, and so is a setter that hasn't one; of a setter without any that is
-/// recorded once more behind the block, and what stands in for the missing one is put among its function's parameters.
+/// recorded once more after the block, and what stands in for the missing one is put among its function's parameters.
 /// A rest in a setter is recorded at its place, where it is the first.
 ///
 /// A missing `)` or `{` is refused as `Expected`, at the current token, and the end as `Eof`; what the hook refuses is

@@ -24,15 +24,15 @@ pub enum PropKind {
     Spread,
     /// A name alone.
     Shorthand,
-    /// A name with `=` and an expression behind it.
+    /// A name with `=` and an expression after it.
     Cover,
     /// A key, and its value or its method's function.
     Key,
     /// What a method of the kind begins with, and the method.
     Method(MethodKind),
-    /// A word with `?` behind it.
+    /// A word with `?` after it.
     Questioned,
-    /// A word, and behind it a token that goes on with none of these.
+    /// A word, and after it a token that goes on with none of these.
     Unfit,
 }
 
@@ -51,7 +51,7 @@ pub enum MethodKind {
     Setter,
 }
 
-/// What a word is to the key behind it.
+/// What a word is to the key after it.
 #[derive(Clone, Copy)]
 pub enum Modifier {
     /// `get`
@@ -80,7 +80,7 @@ impl MethodKind {
     }
 }
 
-/// What the property is that the current token begins, by that token and the one behind it. Refused only for want of
+/// What the property is that the current token begins, by that token and the one after it. Refused only for want of
 /// memory.
 pub(crate) fn prop_kind<I: Tokens>(input: &mut Buffer<I>) -> PResult<PropKind>
     ensures tells { Tells I.model prop_kind input.old result input.new }
@@ -100,7 +100,7 @@ pub(crate) fn is_word<I: Tokens>(input: &Buffer<I>) -> bool
     matches!(input.cur_debug(), Some(Token::Word(_)))
 }
 
-/// What the current token is to a key behind it.
+/// What the current token is to a key after it.
 pub(crate) fn modifier_here<I: Tokens>(input: &Buffer<I>) -> Modifier
     ensures { result ≡ modifier_of (seen input.now) }
 {
@@ -126,7 +126,7 @@ fn sign_kind<I: Tokens>(input: &Buffer<I>) -> PropKind
     }
 }
 
-/// What the property is that a word begins, by the token behind it. Refused only for want of memory.
+/// What the property is that a word begins, by the token after it. Refused only when out of memory.
 fn kind_behind<I: Tokens>(input: &mut Buffer<I>, modifier: Modifier) -> PResult<PropKind>
     requires { IsSome (current input.old) }
     ensures tells { Tells I.model (λ ts. kind_of modifier (first (rest ts))) input.old result input.new }
@@ -142,7 +142,7 @@ fn kind_behind<I: Tokens>(input: &mut Buffer<I>, modifier: Modifier) -> PResult<
     }
 }
 
-/// The same; nothing where no token is behind it.
+/// The same; nothing where no token is after it.
 fn peek_kind<I: Tokens>(input: &mut Buffer<I>, modifier: Modifier) -> Option<PropKind>
     requires { IsSome (current input.old) }
     ensures peeked { Peeked I.model input.old input.new }
@@ -155,7 +155,7 @@ fn peek_kind<I: Tokens>(input: &mut Buffer<I>, modifier: Modifier) -> Option<Pro
     }
 }
 
-/// What the property is that a word begins with the token behind it.
+/// What the property is that a word begins with the token after it.
 fn kind_at(modifier: Modifier, token: &Token) -> PropKind
     ensures { result ≡ kind_at modifier token.now }
 {
@@ -169,7 +169,7 @@ fn kind_at(modifier: Modifier, token: &Token) -> PropKind
     }
 }
 
-/// What the property is that a word begins with a key behind it, and maybe `*` between them.
+/// What the property is that a word begins with a key after it, and maybe `*` between them.
 fn by_modifier(modifier: Modifier, with_star: bool) -> PropKind
     ensures { result ≡ by_modifier modifier with_star }
 {
@@ -182,7 +182,7 @@ fn by_modifier(modifier: Modifier, with_star: bool) -> PropKind
     }
 }
 
-/// What the property is that a word with `?` behind it begins, by the current token, which stands behind the `?`.
+/// What the property is that a word with `?` after it begins, by the current token, which is after the `?`.
 pub(crate) fn questioned_kind<I: Tokens>(input: &Buffer<I>, modifier: Modifier) -> PropKind {
     match input.cur_debug() {
         Some(Token::Comma | Token::RBrace) => PropKind::Shorthand,

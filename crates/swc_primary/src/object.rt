@@ -40,7 +40,7 @@ use swc_steps::tokens::{
     Sign, bump, eat, emit_err, expect, look, parse_ident_name, require_cur, unexpected,
 };
 
-/// The bracket that closes the key of an expression, behind this; that which opens it is at `start`. Another token is
+/// The bracket that closes the key of an expression, after this; that which opens it is at `start`. Another token is
 /// refused as `Expected`, at that token, and the end as `Eof`.
 pub fn computed_prop_name<I: Tokens, B: Bodies<I>>(
     p: &mut Productions<I, B>,
@@ -112,9 +112,9 @@ pub enum PropHead {
 
 /// What a property begins with (ECMA-262, 13.2.5 and 15.4 to 15.6): a name alone, dots, a name and `=`, or what a
 /// method has before its key; nothing where a key comes. A name that stands for its value too, and is reserved where
-/// it stands, is recorded, at its place; so is `?` behind a word, which is read on as if it weren't there.
+/// it stands, is recorded, at its place; so is `?` after a word, which is read on as if it weren't there.
 ///
-/// A word with a token behind it that goes on with none of these is refused as `Unexpected`, at that token, and the end
+/// A word with a token after it that goes on with none of these is refused as `Unexpected`, at that token, and the end
 /// as `Eof`.
 pub fn parse_prop_head<I: Tokens, B: Bodies<I>>(
     alloc: Global,
@@ -149,7 +149,7 @@ pub fn parse_prop_head<I: Tokens, B: Bodies<I>>(
     }
 }
 
-/// A word with `?` behind it, which is recorded, and what it begins as if the `?` weren't there (ECMA-262, 13.2.5).
+/// A word with `?` after it, which is recorded, and what it begins as if the `?` weren't there (ECMA-262, 13.2.5).
 fn parse_questioned_head<I: Tokens>(alloc: Global, input: &mut Buffer<I>) -> PResult<PropHead>
     ensures parses { ParsesAlone I.model (λ h. h) nothing input.old result input.new }
     ensures falls { OnOk result (to_come I.model input.new < to_come I.model input.old) }
@@ -177,7 +177,7 @@ fn parse_open_name<I: Tokens>(alloc: Global, input: &mut Buffer<I>) -> PResult<I
     })
 }
 
-/// A name that stands for its value too, and the `=` behind it (ECMA-262, 13.2.5). A name that is reserved where it
+/// A name that stands for its value too, and the `=` after it (ECMA-262, 13.2.5). A name that is reserved where it
 /// stands is recorded, at its place. Another token than `=` is refused as `Expected`, at that token, and the end as
 /// `Eof`.
 fn parse_cover_name<I: Tokens>(alloc: Global, input: &mut Buffer<I>) -> PResult<Ident>
@@ -202,14 +202,14 @@ fn check_open_name<I: Tokens>(input: &mut Buffer<I>, name: &IdentName) -> PResul
     Ok(())
 }
 
-/// A word with `?` behind it, and the property that it begins as if the `?` weren't there.
+/// A word with `?` after it, and the property that it begins as if the `?` weren't there.
 #[derive(Drop)]
 struct Questioned {
     name: Ident,
     kind: PropKind,
 }
 
-/// A word with `?` behind it, which is recorded, and the `=` of a cover name or the `*` of an async generator behind
+/// A word with `?` after it, which is recorded, and the `=` of a cover name or the `*` of an async generator after
 /// that. A name that stands for its value too, and is reserved where it stands, is recorded.
 fn parse_questioned<I: Tokens>(alloc: Global, input: &mut Buffer<I>) -> PResult<Questioned>
     ensures parses { ParsesAlone I.model (λ q. q) nothing input.old result input.new }
@@ -228,7 +228,7 @@ fn parse_questioned<I: Tokens>(alloc: Global, input: &mut Buffer<I>) -> PResult<
     Ok(Questioned { name, kind })
 }
 
-/// A word and the `?` behind it, which is recorded at its place.
+/// A word and the `?` after it, which is recorded at its place.
 fn parse_questioned_name<I: Tokens>(alloc: Global, input: &mut Buffer<I>) -> PResult<IdentName>
     ensures parses { ParsesAlone I.model (λ n. n) nothing input.old result input.new }
     ensures falls { OnOk result (to_come I.model input.new < to_come I.model input.old) }
@@ -281,7 +281,7 @@ fn span_to<F: Spanned + Drop, C: Spanned + Drop, K: Spanned + Drop>(
     }
 }
 
-/// The property of dots and the expression behind them.
+/// The property of dots and the expression after them.
 pub fn spread_prop<F: Spanned + Drop, C: Spanned + Drop, K: Spanned + Drop>(
     nodes: &Nodes<F, C, K>,
     dots: Span,
@@ -299,7 +299,7 @@ pub fn spread_prop<F: Spanned + Drop, C: Spanned + Drop, K: Spanned + Drop>(
     })
 }
 
-/// The property of a name and the value behind its `=`.
+/// The property of a name and the value after its `=`.
 pub fn cover_prop<F: Spanned + Drop, C: Spanned + Drop, K: Spanned + Drop>(
     nodes: &Nodes<F, C, K>,
     key: Ident,
@@ -317,7 +317,7 @@ pub fn cover_prop<F: Spanned + Drop, C: Spanned + Drop, K: Spanned + Drop>(
     PropNode::Assign(AssignProp { span, key, value })
 }
 
-/// The property of a key and the value behind its colon.
+/// The property of a key and the value after its colon.
 pub fn key_prop<F: Spanned + Drop, C: Spanned + Drop, K: Spanned + Drop>(
     nodes: &Nodes<F, C, K>,
     key: PropName<ExprId>,
@@ -333,7 +333,7 @@ pub fn key_prop<F: Spanned + Drop, C: Spanned + Drop, K: Spanned + Drop>(
     PropNode::KeyValue { span, key, value }
 }
 
-/// The refusal of what stands behind a word that is a property's, at the token that doesn't fit.
+/// The refusal of what is after a word that is a property's, at the token that doesn't fit.
 fn unfit_prop<I: Tokens>(alloc: Global, input: &mut Buffer<I>) -> Error
     ensures refuses { Refuses I.model input.old result input.new }
 {

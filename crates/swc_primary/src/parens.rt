@@ -21,7 +21,7 @@ use swc_nodes::node::{ExprId, PropNode};
 use swc_nodes::nodes::NodesOf;
 use swc_steps::tokens::{Listed, Sign, emit_err, is_after_line_break, is_sign, syntax_error};
 
-/// Refuses `=>` behind a list in parentheses that is no list of parameters, at the place of the list: as
+/// Refuses `=>` after a list in parentheses that is no list of parameters, at the place of the list: as
 /// `LineBreakBeforeArrow` where it stands on another line, or else as `ArrowNotAllowed`.
 pub(crate) fn refuse_arrow<I: Tokens>(input: &mut Buffer<I>, list: Span) -> PResult<()>
     ensures free { ContinuesAlone I.model (λ u. u) arrow_free input.old result input.new }
@@ -88,7 +88,7 @@ pub fn check_item_covers<I: Tokens, B: Bodies<I>>(
     Ok(())
 }
 
-/// Records a comma behind the last expression in parentheses.
+/// Records a comma after the last expression in parentheses.
 fn check_last_comma<I: Tokens>(input: &mut Buffer<I>, comma: Option<Span>) -> PResult<()>
     ensures checks { Checked I.model (not (is_some comma)) input.old result input.new }
     ensures falls { OnOk result (to_come I.model input.new ≤ to_come I.model input.old) }
@@ -99,7 +99,7 @@ fn check_last_comma<I: Tokens>(input: &mut Buffer<I>, comma: Option<Span>) -> PR
     }
 }
 
-/// Refuses the first item of a list that stands behind dots, at its expression.
+/// Refuses the first item of a list that is after dots, at its expression.
 fn refuse_spread<I: Tokens, B: Bodies<I>>(
     input: &mut Buffer<I>,
     nodes: &NodesOf<B>,

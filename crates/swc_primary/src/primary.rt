@@ -92,7 +92,7 @@ pub enum PlainKind {
     Class,
     /// An identifier reference (ECMA-262, 13.1).
     Name,
-    /// `#`, behind which a private name stands (ECMA-262, 13.10.1).
+    /// `#`, after which a private name stands (ECMA-262, 13.10.1).
     Private,
     /// A regular expression, or the slash that begins one (ECMA-262, 13.2.7).
     Regex,
@@ -134,7 +134,7 @@ fn word_kind(ctx: Context, word: &Word) -> PlainKind
 
 /// A primary expression in which no other stands (ECMA-262, 13.2): `this`, a function, a literal, a class, an
 /// identifier, `#` and a name, or a regular expression. Another token is refused as `TS1109`, at that token. `async`
-/// is an identifier, unless `function` stands behind it on its line. Where the syntax is pedantic, `#` and a name are
+/// is an identifier, unless `function` is after it on its line. Where the syntax is pedantic, `#` and a name are
 /// recorded as `PrivateNameNotLeftOfIn`.
 #[inline(never)]
 pub fn parse_plain_primary<I: Tokens, B: Bodies<I>>(p: &mut Productions<I, B>) -> PResult<ExprId>
@@ -212,7 +212,7 @@ pub fn parse_class_expr<I: Tokens, B: Bodies<I>>(p: &mut Productions<I, B>) -> P
 }
 
 /// A function, which the hook reads, where a statement stands (ECMA-262, 15.2, 15.5, 15.6 and 15.8). Another token than
-/// `function`, and `async` with `function` behind it, is refused as `Expected`.
+/// `function`, and `async` with `function` after it, is refused as `Expected`.
 pub fn parse_function<I: Tokens, B: Bodies<I>>(p: &mut Productions<I, B>) -> PResult<B::Fun>
     ensures reads { Parses I.model B.is_faithful (λ v. v) (by_hook B.forms.fun) p.old.input result p.new.input }
     ensures falls { OnOk result (to_come I.model p.new.input < to_come I.model p.old.input) }
@@ -322,7 +322,7 @@ pub fn begins_private<I: Tokens>(input: &Buffer<I>, is_free: bool) -> bool
     syntax.pedantic && is_sign(input, Sign::Hash)
 }
 
-/// `#` and a name as the left operand of `in` (ECMA-262, 13.10.1), which stays. Where another token stands behind them,
+/// `#` and a name as the left operand of `in` (ECMA-262, 13.10.1), which stays. Where another token is after them,
 /// or `in` is no operator, they are recorded as `PrivateNameNotLeftOfIn`, from the `#` through the name; where the name
 /// doesn't begin where the `#` ends, refused as `SpaceBetweenHashAndIdent`, at the `#`, which alone is consumed.
 #[inline(never)]
@@ -380,9 +380,9 @@ fn private_node<I: Tokens, B: Bodies<I>>(
 }
 
 /// What stands in parentheses, of a list from the one at `start` on: one expression by itself, or a sequence. A `=>`
-/// behind the list is refused first. An object literal among the items with a property `name = value` is recorded,
-/// unless the syntax is pedantic. A comma behind the last item is recorded; an empty list is refused, and so is an
-/// expression behind dots.
+/// after the list is refused first. An object literal among the items with a property `name = value` is recorded,
+/// unless the syntax is pedantic. A comma after the last item is recorded; an empty list is refused, and so is an
+/// expression after dots.
 #[inline(never)]
 pub fn paren_items<I: Tokens, B: Bodies<I>>(
     p: &mut Productions<I, B>,

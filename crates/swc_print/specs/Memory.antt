@@ -1,4 +1,4 @@
--- The refusal for want of memory.
+-- The refusal when out of memory.
 use Rattle.swc_context.specs.declared.error.Error.{Error}
 use Rattle.swc_context.specs.declared.error.SyntaxError.TheVariants.{OutOfMemory}
 use Rattle.swc_context.specs.declared.span.BytePos.{BytePos}

@@ -45,6 +45,6 @@ is_operation (n.PatAssign s l r) = true
 is_operation (n.PatExpr e) = true
 is_operation x = is_infix x
 
--- The numbers of the parts, in their order, were laid behind the pieces that wait.
+-- The numbers of the parts, in their order, were laid after the pieces that wait.
 abbrev pub Lays : {T E : Type 0} → List Part → Pieces → Result T E → Pieces → Type 0
 Lays ps old r new = OnOk r (numbers new.waiting.items ≡ numbers old.waiting.items ++ ats ps)

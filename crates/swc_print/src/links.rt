@@ -114,7 +114,7 @@ pub fn put_chain<'a>(
     put_text(pieces, ")")
 }
 
-/// Appends the pieces of a template: its texts, and an expression behind each of them as far as there are any.
+/// Appends the pieces of a template: its texts, and an expression after each of them as far as there are any.
 pub fn put_tpl<'a>(pieces: &mut Pieces<'a>, tpl: &'a Tpl<ExprId>) -> Result<(), AllocError>
     ensures { Lays (tpl_shown tpl.now) pieces.old result pieces.new }
 {

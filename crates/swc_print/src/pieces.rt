@@ -68,7 +68,7 @@ pub fn put_named<'a>(
     put_text(pieces, name)
 }
 
-/// Appends a text, and a node behind it.
+/// Appends a text, and a node after it.
 pub fn put_after<'a>(
     pieces: &mut Pieces<'a>,
     text: &'a str,

@@ -47,12 +47,12 @@ pub trait PrintNodes {
 
     ghost has_pat: { Self → PatId → Type 0 };
 
-    /// The text of an expression. The only error is want of memory, `OutOfMemory` at 0..0.
+    /// The text of an expression. The only error is out of memory, `OutOfMemory` at 0..0.
     fn print_expr(&self, id: ExprId) -> PResult<String>
         requires { has_expr self.now id }
         ensures refused { IfErr result (λ e. e ≡ want_of_memory) };
 
-    /// The text of a pattern, in the same form. The only error is want of memory, `OutOfMemory` at 0..0.
+    /// The text of a pattern, in the same form. The only error is out of memory, `OutOfMemory` at 0..0.
     fn print_pat(&self, id: PatId) -> PResult<String>
         requires { has_pat self.now id }
         ensures refused { IfErr result (λ e. e ≡ want_of_memory) };

@@ -138,7 +138,7 @@ module _ {F C K : Type 0} {fg : Ghosts F} {cg : Ghosts C} {kg : Ghosts K} (ns : 
 -- ---- lists in parentheses
 
 module _ {S A B : Type 0} {model : Model S} {sure : Bool} {f g : Reader A} {q : Reader B} {t : B} {b c : Buffer S} where
-  -- q is called, and what is left behind what it read, where no assignment expression begins
+  -- q is called, and what is left after what it read, where no assignment expression begins
   opens_inside : (k : Scope → B × List TokenAndSpan → Out A) → ((x : Scope) (ts : List TokenAndSpan)
       → f x ts ≡ (q x ts >>= k x)) → Heard model sure q t b c → ((x : Scope) (ts us : List TokenAndSpan)
       → q x ts ≡ Some (t, us) → (y : Scope) (ys : List TokenAndSpan) → y.head ≡ false → k y (t, ys) ≡ g y ys)
@@ -158,7 +158,7 @@ module _ {S A B : Type 0} {model : Model S} {sure : Bool} {f g : Reader A} {q : 
 module _ {S F C K : Type 0} {fg : Ghosts F} {cg : Ghosts C} {kg : Ghosts K} {model : Model S} {sure : Bool}
     (hook : Hook F C K) (lawful : LawfulHook fg.place cg.place kg.place hook) {ns ms : Nodes F C K fg cg kg} {j k : ℕ}
     {b c d : Buffer S} where
-  -- behind such a list: what is left, by what is known of it
+  -- after such a list: what is left, by what is known of it
   pub list_opened : {f : Reader (Tree F C K)} (start : ListStart) (list : Listed (ExprOrSpread ExprId))
       → On model sure f (list_start_behind hook ns start) b c → is_callee start.at (callee_at ns start.callee)
       → Apart k ns (callee_parts start.callee) → Grows ns ms → Apart j ms (args_parts list.items)

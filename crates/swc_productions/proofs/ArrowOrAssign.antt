@@ -49,7 +49,7 @@ use Rattle.swc_arrows.proofs.BaseLaws.{operators_valid}
 use Rattle.swc_arrows.proofs.Dooms.{opens_heard, opens_later, fails_heard, fails_later, doomed_unheard}
 
 module _ {F C K : Type 0} (hook : Hook F C K) where
-  -- behind operators; behind a base, behind its links, and behind `++` or `--`, or none
+  -- after operators; after a base, after its links, and after `++` or `--`, or none
   abbrev pub climbed : Scope → Tree F C K × List TokenAndSpan → Out (Tree F C K)
   climbed x p = run hook (assigns p.0) x p.1
 
@@ -102,7 +102,7 @@ module _ {S A : Type 0} {model : Model S} {sure : Bool} {f g h q : Reader A} {t 
 
 module _ {S F C K : Type 0} {fun_at : F → Span} {class_at : C → Span} {block_at : K → Span} {model : Model S}
     {sure : Bool} (hook : Hook F C K) (lawful : LawfulHook fun_at class_at block_at hook) {f : Reader (Tree F C K)} where
-  -- links, and `++` or `--`, or none, behind a base
+  -- links, and `++` or `--`, or none, after a base
   pub operanded : {e l u : Tree F C K} {b c d m : Buffer S} → Based model sure hook f e b c
       → On model sure (run hook (links true e)) (give l) c m → On model sure (run hook (updates l)) (give u) m d
       → Operanded model sure hook f u b d
@@ -118,7 +118,7 @@ module _ {S F C K : Type 0} {fun_at : F → Span} {class_at : C → Span} {block
   }
 
 module _ {S F C K : Type 0} {model : Model S} {sure : Bool} (hook : Hook F C K) {f : Reader (Tree F C K)} where
-  -- operators behind an operand: what is read behind these may be said of a tree that holds nothing that was refused
+  -- operators after an operand: what is read after these may be said of a tree that holds nothing that was refused
   pub operators_left : {g : Reader (Tree F C K)} {e k : Tree F C K} {b c d : Buffer S} → Operanded model sure hook f e b c
       → On model sure (run hook (climb e 0)) (give k) c d
       → (is_valid k ≡ true → (y : Scope) (ys : List TokenAndSpan) → run hook (assigns k) y ys ≡ g y ys)
@@ -152,14 +152,14 @@ module _ {S H F C K : Type 0} {fg : Ghosts F} {cg : Ghosts C} {kg : Ghosts K} {m
 
 module _ {S H F C K : Type 0} {fg : Ghosts F} {cg : Ghosts C} {kg : Ghosts K} {model : Model S} {sure : Bool}
     {f h : Reader (Tree F C K)} {j k : ℕ} {p m q : Productions S H F C K fg cg kg} where
-  -- an operand and operators, and what stands behind these
+  -- an operand and operators, and what is after these
   pub finished : (r : Result ExprId Error) → Opens model sure f h p.input m.input → Grows p.nodes m.nodes → count p.nodes ≤ j
       → ((x : ExprId) → itself j q.nodes x → itself k q.nodes x)
       → Rewrites model sure itself h (λ ns e x ts. Some (tree_of ns e, ts)) j m r q → Produces model sure itself tree_of f k p r q
   finished (Ok x) o w le down s = yes (Ok x) (opens_heard (opens_later o s.reads)) (grows-kept w le s.kept) (down x s.from)
   finished (Err e) o w le down s = yes (Err e) (unheard_after o.on s.reads) (grows-kept w le s.kept) tt
 
-  -- the same behind a fault
+  -- the same after a fault
   pub failed : (r : Result ExprId Error) → Fails model sure f p.input m.input → Grows p.nodes m.nodes → count p.nodes ≤ j
       → ((x : ExprId) → itself j q.nodes x → itself k q.nodes x)
       → Rewrites model sure itself h (λ ns e x ts. Some (tree_of ns e, ts)) j m r q → Produces model sure itself tree_of f k p r q
@@ -177,7 +177,7 @@ module _ {S H F C K : Type 0} {fg : Ghosts F} {cg : Ghosts C} {kg : Ghosts K} {m
   lowered (Err e) le h = record { reads = h.reads; falls = h.falls; kept = kept-less le h.kept; from = tt }
 
 module _ {F C K : Type 0} {fg : Ghosts F} {cg : Ghosts C} {kg : Ghosts K} (hook : Hook F C K) where
-  -- what is behind operators, where these join what holds nothing that was refused
+  -- what is after operators, where these join what holds nothing that was refused
   pub left_from : {ns : Nodes F C K fg cg kg} {k : ℕ} (e : ExprId) → From k ns (expr_part e)
       → is_valid (tree_of ns e) ≡ true → (x : Scope) (ts : List TokenAndSpan)
       → run hook (assigns (tree_of ns e)) x ts ≡ assigns_from hook (start_at ns e.0) (tree_of ns e) x ts

@@ -15,7 +15,7 @@ use Rattle.swc_steps.proofs.Keys.{then_token}
 use Rattle.swc_steps.proofs.Lists.{calls, bind_same}
 
 module _ {F C K : Type 0} (hook : Hook F C K) where
-  -- behind the parenthesis: the arguments, which are counted
+  -- after the parenthesis: the arguments, which are counted
   abbrev pub args_counted : Bool → Scope → List TokenAndSpan → Out (Tree F C K)
   args_counted i x us = args_inside hook i x us >>= (λ q. counted i q.0 x q.1)
 

@@ -3,3 +3,4 @@
 
 pub mod pieces;
 pub mod ring;
+mod room;

@@ -20,13 +20,14 @@ use swc_steps::tokens::{Listed, Sign, expect};
 /// (13.3.10), where it `is_dynamic_import`.
 pub fn parse_arguments<I: Tokens, B: Bodies<I>>(
     p: &mut Productions<I, B>,
+    room: usize,
     is_dynamic_import: bool,
 ) -> PResult<Listed<ExprOrSpread<ExprId>>>
     ensures { Produces I.model B.is_faithful args_of args_at (run B.forms (sym (Arguments is_dynamic_import)))
         (count p.old.nodes) p.old result p.new }
 {
     let open = expect(&mut p.input, Sign::LParen)?;
-    let list = parse_args(p, is_dynamic_import)?;
+    let list = parse_args(p, room, is_dynamic_import)?;
     check_import_args(&mut p.input, open.lo, &list, is_dynamic_import)?;
     Ok(list)
 }
@@ -34,13 +35,14 @@ pub fn parse_arguments<I: Tokens, B: Bodies<I>>(
 /// A template (ECMA-262, 13.2.8), of which no node is made. Where it `is_tagged`, a text may have a bad escape.
 pub fn parse_template<I: Tokens, B: Bodies<I>>(
     p: &mut Productions<I, B>,
+    room: usize,
     is_tagged: bool,
 ) -> PResult<Tpl<ExprId>>
     ensures { Produces I.model B.is_faithful tpl_of tpl_at (run B.forms (sym (Template is_tagged)))
         (count p.old.nodes) p.old result p.new }
 {
     let start = expect(&mut p.input, Sign::BackQuote)?;
-    let parts = parse_tpl_elements(p, is_tagged)?;
+    let parts = parse_tpl_elements(p, room, is_tagged)?;
     let span = Span {
         lo: start.lo,
         hi: parts.end.hi,

@@ -14,10 +14,10 @@ ghost use Rattle.swc_input.specs.Kinds.{at_token};
 ghost use Rattle.swc_left.specs.Bases.{plain_base, super_tail, super_head, import_head};
 ghost use Rattle.swc_left.specs.Templates.{tpl_parts_of, tpl_parts_at};
 ghost use Rattle.swc_patterns.specs.Answers.{Leaves, pat_itself, pat_at, pat_elems_of, pat_elems_at, pat_prop_of};
-ghost use Rattle.swc_patterns.specs.Answers.{pat_prop_at, pat_props_of, pat_props_at, params_of, params_at};
+ghost use Rattle.swc_patterns.specs.Answers.{pat_prop_at, pat_props_of, pat_props_at};
 ghost use Rattle.swc_patterns.specs.Objects.{pat_prop_item, props_done};
-ghost use Rattle.swc_patterns.specs.Params.{params_close};
-ghost use Rattle.swc_grammar.specs.Symbols.{Pat, Element, PatElements, PatProps, Params};
+ghost use Rattle.swc_patterns.specs.ParamsRead.{LeavesParams};
+ghost use Rattle.swc_grammar.specs.Symbols.{Pat, Element, PatElements, PatProps};
 ghost use Rattle.swc_nodes.specs.Pending.{all_pending, operand_parts, first_operand};
 ghost use Rattle.swc_nodes.specs.NodeParts.{expr_part};
 ghost use Rattle.swc_nodes.specs.GrowingNodes.{count, tree_at, first_at, From, Apart, start_at};
@@ -31,6 +31,7 @@ ghost use Rattle.swc_steps.specs.Parsing.{elems_at, key_of, key_at, prop_of, pro
 ghost use Rattle.swc_steps.specs.Parsing.{args_at, shell_at, Consumes, Recovers};
 ghost use Rattle.swc_context.specs.declared.error.SyntaxError.TheVariants.{ParserFailed};
 
+use crate::room::deeper;
 use swc_arrows::bodies::ArrowOrBase;
 use swc_arrows::bodies::arrow_function;
 use swc_arrows::bodies::begins_block;
@@ -180,7 +181,7 @@ use swc_steps::tokens::set_ctx;
 use swc_steps::tokens::skip;
 
 /// The items of a list, up to the sign that closes the list: the loop of all lists. The expression reads an item, adds
-/// it to the items, and is the place of the comma behind it.
+/// it to the items, and is the place of the comma after it.
 macro_rules! listed {
     ($p:ident, $close:expr, $items:ident, $comma:expr) => {{
         let mut $items = Vec::new($p.alloc);
@@ -201,11 +202,11 @@ macro_rules! listed {
     }};
 }
 
-/// What is read in the context in which `in` counts as an operator (ECMA-262, 13.10), and set back behind it.
+/// What is read in the context in which `in` counts as an operator (ECMA-262, 13.10), and set back after it.
 macro_rules! with_in {
-    ($p:ident, $read:ident) => {{
+    ($p:ident, $room:ident, $read:ident) => {{
         let before = include_in(&mut $p.input);
-        let read = $read($p);
+        let read = $read($p, $room);
         leave(&mut $p.input, before, read)
     }};
 }
@@ -230,7 +231,10 @@ macro_rules! held {
 /// template without a tag (13.2.8); or one in which no other expression stands. No colon of a conditional is expected
 /// in a literal. The context is that from before, also after a refusal.
 #[cycle(productions)]
-pub fn parse_primary_expr<I: Tokens, B: Bodies<I>>(p: &mut Productions<I, B>) -> PResult<ExprId>
+pub fn parse_primary_expr<I: Tokens, B: Bodies<I>>(
+    p: &mut Productions<I, B>,
+    room: usize,
+) -> PResult<ExprId>
     ensures { Produces I.model B.is_faithful itself tree_of (run B.forms (sym Primary))
         (count p.old.nodes) p.old result p.new }
 {
@@ -239,24 +243,24 @@ pub fn parse_primary_expr<I: Tokens, B: Bodies<I>>(p: &mut Productions<I, B>) ->
         PrimaryKind::Paren => {
             let start = p.cur_span();
             skip(&mut p.input);
-            let list = parse_args(p, false)?;
+            let list = parse_args(p, room, false)?;
             paren_items(p, start, list)
         }
         PrimaryKind::Array => {
             let (start, ctx) = open_array(&mut p.input);
-            let elems = parse_elements(p);
+            let elems = parse_elements(p, room);
             set_ctx(&mut p.input, ctx);
             array_lit(p, start, elems?)
         }
         PrimaryKind::Object => {
             let (start, ctx) = open_object(&mut p.input);
-            let props = parse_props(p);
+            let props = parse_props(p, room);
             set_ctx(&mut p.input, ctx);
             object_lit(p, start, props?)
         }
         PrimaryKind::Template => {
             let start = expect(&mut p.input, Sign::BackQuote)?;
-            let parts = parse_tpl_elements(p, false)?;
+            let parts = parse_tpl_elements(p, room, false)?;
             let end = parts.end.hi;
             let node = p.nodes.tpl(start.lo, end, parts.quasis, parts.exprs);
             p.made(node)
@@ -265,10 +269,13 @@ pub fn parse_primary_expr<I: Tokens, B: Bodies<I>>(p: &mut Productions<I, B>) ->
     }
 }
 
-/// The elements of an array literal (ECMA-262, 13.2.4), a comma behind each, which may be missing behind the last one,
+/// The elements of an array literal (ECMA-262, 13.2.4), a comma after each, which may be missing after the last one,
 /// and the bracket that closes the literal. A comma where an element would stand is a hole (`None`).
 #[cycle(productions)]
-fn parse_elements<I: Tokens, B: Bodies<I>>(p: &mut Productions<I, B>) -> PResult<Listed<Elem>>
+fn parse_elements<I: Tokens, B: Bodies<I>>(
+    p: &mut Productions<I, B>,
+    room: usize,
+) -> PResult<Listed<Elem>>
     ensures { Produces I.model B.is_faithful elems_of elems_at (run B.forms (sym Elements))
         (count p.old.nodes) p.old result p.new }
 {
@@ -283,7 +290,7 @@ fn parse_elements<I: Tokens, B: Bodies<I>>(p: &mut Productions<I, B>) -> PResult
                     None
                 }
                 None => {
-                    let item = parse_expr_or_spread(p)?;
+                    let item = parse_expr_or_spread(p, room)?;
                     p.add(&mut items, Some(item))?;
                     separate(&mut p.input, Sign::RBracket)?
                 }
@@ -292,17 +299,18 @@ fn parse_elements<I: Tokens, B: Bodies<I>>(p: &mut Productions<I, B>) -> PResult
     )
 }
 
-/// An item of a list (ECMA-262, 13.2.4 and 13.3.8): an assignment expression, or one behind `...`. A refusal of the
+/// An item of a list (ECMA-262, 13.2.4 and 13.3.8): an assignment expression, or one after `...`. A refusal of the
 /// latter is labelled with the place of the dots.
 #[cycle(productions)]
 pub fn parse_expr_or_spread<I: Tokens, B: Bodies<I>>(
     p: &mut Productions<I, B>,
+    room: usize,
 ) -> PResult<ExprOrSpread<ExprId>>
     ensures { Produces I.model B.is_faithful item_of item_at (run B.forms (sym Item))
         (count p.old.nodes) p.old result p.new }
 {
     let spread = eat(&mut p.input, Sign::DotDotDot)?;
-    match parse_assignment_expr(p) {
+    match parse_assignment_expr(p, room) {
         Ok(expr) => Ok(ExprOrSpread { spread, expr }),
         Err(error) => Err(label_spread(p.alloc, &p.input, spread, error)),
     }
@@ -312,14 +320,17 @@ pub fn parse_expr_or_spread<I: Tokens, B: Bodies<I>>(
 /// `super` and `import`: there no `<` and no `>` belong to a type. The context is that from before, also after a
 /// refusal.
 #[cycle(productions)]
-pub fn parse_lhs_expr<I: Tokens, B: Bodies<I>>(p: &mut Productions<I, B>) -> PResult<ExprId>
+pub fn parse_lhs_expr<I: Tokens, B: Bodies<I>>(
+    p: &mut Productions<I, B>,
+    room: usize,
+) -> PResult<ExprId>
     ensures { Produces I.model B.is_faithful itself tree_of (run B.forms (sym (Lhs true)))
         (count p.old.nodes) p.old result p.new }
 {
     look(&mut p.input)?;
     if is_super_or_import(&p.input) {
-        let base = parse_base(p, false)?;
-        return parse_subscripts(p, base, false);
+        let base = parse_base(p, room, false)?;
+        return parse_subscripts(p, room, base, false);
     }
     let ctx = p.get_ctx();
     set_ctx(
@@ -329,41 +340,45 @@ pub fn parse_lhs_expr<I: Tokens, B: Bodies<I>>(p: &mut Productions<I, B>) -> PRe
             ..ctx
         },
     );
-    let member = parse_member_expr(p);
+    let member = parse_member_expr(p, room);
     set_ctx(&mut p.input, ctx);
     let callee = member?;
-    parse_subscripts(p, callee, false)
+    parse_subscripts(p, room, callee, false)
 }
 
 /// A member expression (ECMA-262, 13.3), or `new` without arguments: a left-hand side in which a parenthesis is no
 /// link, but that of `new`. With `new` (13.3.5), what it constructs, which is no optional chain, and its arguments, and
-/// links behind these, but for calls; or no arguments. Or `new.target` (13.3.12), and its links, but for calls.
+/// links after these, but for calls; or no arguments. Or `new.target` (13.3.12), and its links, but for calls.
 #[cycle(productions)]
-fn parse_member_expr<I: Tokens, B: Bodies<I>>(p: &mut Productions<I, B>) -> PResult<ExprId>
+fn parse_member_expr<I: Tokens, B: Bodies<I>>(
+    p: &mut Productions<I, B>,
+    room: usize,
+) -> PResult<ExprId>
     ensures { Produces I.model B.is_faithful itself tree_of (run B.forms (sym (Lhs false)))
         (count p.old.nodes) p.old result p.new }
 {
     look(&mut p.input)?;
     if !is_sign(&p.input, Sign::New) {
-        let base = parse_base(p, true)?;
-        return parse_subscripts(p, base, true);
+        let base = parse_base(p, room, true)?;
+        return parse_subscripts(p, room, base, true);
     }
     let start = p.cur_span();
     skip(&mut p.input);
     match eat(&mut p.input, Sign::Dot)? {
         Some(_) => {
             let target = parse_new_target(p, start)?;
-            return parse_subscripts(p, target, true);
+            return parse_subscripts(p, room, target, true);
         }
         None => {}
     }
-    let callee = parse_member_expr(p)?;
+    let less = deeper(&p.input, &mut p.too_deep, room)?;
+    let callee = parse_member_expr(p, less)?;
     refuse_opt_chain::<I, B>(&mut p.input, &p.nodes, callee)?;
     match eat(&mut p.input, Sign::LParen)? {
         Some(_) => {
-            let list = parse_args(p, false)?;
+            let list = parse_args(p, room, false)?;
             let base = new_expr(p, start, callee, list)?;
-            parse_subscripts(p, base, true)
+            parse_subscripts(p, room, base, true)
         }
         None => {
             let node = p.nodes.bare_new_expr(start.lo, callee);
@@ -378,6 +393,7 @@ fn parse_member_expr<I: Tokens, B: Bodies<I>>(p: &mut Productions<I, B>) -> PRes
 #[cycle(productions)]
 fn parse_subscripts<I: Tokens, B: Bodies<I>>(
     p: &mut Productions<I, B>,
+    room: usize,
     mut obj: ExprId,
     no_call: bool,
 ) -> PResult<ExprId>
@@ -394,15 +410,15 @@ fn parse_subscripts<I: Tokens, B: Bodies<I>>(
         match head {
             LinkHead::Name { optional } => obj = parse_dot_member(p, obj, optional)?,
             LinkHead::Computed { start, optional } => {
-                let expr = with_in!(p, parse_expr)?;
+                let expr = with_in!(p, room, parse_expr)?;
                 obj = computed_member(p, obj, start, expr, optional)?;
             }
             LinkHead::Call { optional } => {
-                let list = parse_args(p, false)?;
+                let list = parse_args(p, room, false)?;
                 obj = call_expr(p, obj, list, optional)?;
             }
             LinkHead::Template { start } => {
-                let parts = parse_tpl_elements(p, true)?;
+                let parts = parse_tpl_elements(p, room, true)?;
                 obj = tagged_tpl(p, obj, start, parts)?;
             }
         }
@@ -411,11 +427,12 @@ fn parse_subscripts<I: Tokens, B: Bodies<I>>(
 
 // ---- Object literals (ECMA-262, 13.2.5): properties, keys, and the functions of methods (15.4)
 
-/// The properties of an object literal (ECMA-262, 13.2.5), a comma behind each, which may be missing behind the last
+/// The properties of an object literal (ECMA-262, 13.2.5), a comma after each, which may be missing after the last
 /// one, and the brace that closes the literal.
 #[cycle(productions)]
 pub fn parse_props<I: Tokens, B: Bodies<I>>(
     p: &mut Productions<I, B>,
+    room: usize,
 ) -> PResult<Listed<PropNode<B::Block>>>
     ensures { Produces I.model B.is_faithful props_of props_at (run B.forms (sym Props))
         (count p.old.nodes) p.old result p.new }
@@ -425,7 +442,7 @@ pub fn parse_props<I: Tokens, B: Bodies<I>>(
         Sign::RBrace,
         items,
         {
-            let prop = parse_object_prop(p)?;
+            let prop = parse_object_prop(p, room)?;
             p.add(&mut items, prop)?;
             separate(&mut p.input, Sign::RBrace)?
         }
@@ -436,10 +453,11 @@ pub fn parse_props<I: Tokens, B: Bodies<I>>(
 /// which `in` counts as an operator; a key, and `:` and such an expression, or its method's function; or a method of
 /// another kind (15.4 to 15.6 and 15.8).
 ///
-/// Another token behind a key is refused as `Unexpected`, at that token, and the end as `Eof`.
+/// Another token after a key is refused as `Unexpected`, at that token, and the end as `Eof`.
 #[cycle(productions)]
 pub fn parse_object_prop<I: Tokens, B: Bodies<I>>(
     p: &mut Productions<I, B>,
+    room: usize,
 ) -> PResult<PropNode<B::Block>>
     ensures { Produces I.model B.is_faithful prop_of prop_at (run B.forms (sym Prop))
         (count p.old.nodes) p.old result p.new }
@@ -447,41 +465,42 @@ pub fn parse_object_prop<I: Tokens, B: Bodies<I>>(
     match parse_prop_head::<I, B>(p.alloc, &mut p.input)? {
         PropHead::Shorthand(name) => Ok(PropNode::Shorthand(name)),
         PropHead::Spread(dots) => {
-            let expr = with_in!(p, parse_assignment_expr)?;
+            let expr = with_in!(p, room, parse_assignment_expr)?;
             Ok(spread_prop(&p.nodes, dots, expr))
         }
         PropHead::Cover(name) => {
-            let value = with_in!(p, parse_assignment_expr)?;
+            let value = with_in!(p, room, parse_assignment_expr)?;
             Ok(cover_prop(&p.nodes, name, value))
         }
         PropHead::Key => {
-            let key = parse_prop_name(p)?;
+            let key = parse_prop_name(p, room)?;
             match eat(&mut p.input, Sign::Colon)? {
                 Some(_) => {
-                    let value = with_in!(p, parse_assignment_expr)?;
+                    let value = with_in!(p, room, parse_assignment_expr)?;
                     Ok(key_prop(&p.nodes, key, value))
                 }
                 None => {
                     let start = key.span();
-                    let function = parse_method(p, None, start)?;
+                    let function = parse_method(p, room, None, start)?;
                     Ok(method_of(None, start, key, function))
                 }
             }
         }
         PropHead::Method(kind, start) => {
-            let key = parse_prop_name(p)?;
-            let function = parse_method(p, Some(kind), key.span())?;
+            let key = parse_prop_name(p, room)?;
+            let function = parse_method(p, room, Some(kind), key.span())?;
             Ok(method_of(Some(kind), start, key, function))
         }
     }
 }
 
-/// The function of a method (ECMA-262, 15.4 to 15.6 and 15.8), behind its key at `key`: parameters, which are read in a
+/// The function of a method (ECMA-262, 15.4 to 15.6 and 15.8), after its key at `key`: parameters, which are read in a
 /// context of their own, and a block. Nothing stood before the key where the method is of no kind. The context is that
 /// from before, also after a refusal.
 #[cycle(productions)]
 fn parse_method<I: Tokens, B: Bodies<I>>(
     p: &mut Productions<I, B>,
+    room: usize,
     kind: Option<MethodKind>,
     key: Span,
 ) -> PResult<Function<PatId, B::Block>>
@@ -489,7 +508,7 @@ fn parse_method<I: Tokens, B: Bodies<I>>(
         (count p.old.nodes) p.old result p.new }
 {
     let (start, before) = open_params(&mut p.input, kind)?;
-    let params = held!(p, before, parse_formal_params(p));
+    let params = held!(p, before, parse_formal_params(p, room));
     let method = close_method(p, kind, key, start, params);
     set_ctx(&mut p.input, before);
     method
@@ -503,6 +522,7 @@ fn parse_method<I: Tokens, B: Bodies<I>>(
 #[cycle(productions)]
 pub fn parse_prop_name<I: Tokens, B: Bodies<I>>(
     p: &mut Productions<I, B>,
+    room: usize,
 ) -> PResult<PropName<ExprId>>
     ensures { Produces I.model B.is_faithful key_of key_at (run B.forms (sym Key))
         (count p.old.nodes) p.old result p.new }
@@ -510,7 +530,7 @@ pub fn parse_prop_name<I: Tokens, B: Bodies<I>>(
     let before = enter_prop_name(&mut p.input);
     match held!(p, before, eat(&mut p.input, Sign::LBracket)) {
         Some(start) => {
-            let expr = held!(p, before, with_in!(p, parse_assignment_expr));
+            let expr = held!(p, before, with_in!(p, room, parse_assignment_expr));
             let key = computed_prop_name(p, start, expr);
             set_ctx(&mut p.input, before);
             key
@@ -525,12 +545,13 @@ pub fn parse_prop_name<I: Tokens, B: Bodies<I>>(
 
 // ---- Templates, with a tag and without (ECMA-262, 13.2.8 and 13.3.11)
 
-/// The texts of a template, behind its backquote, between each two of them an expression in which `in` counts as an
+/// The texts of a template, after its backquote, between each two of them an expression in which `in` counts as an
 /// operator, in braces, and the backquote that closes the template. No colon of a conditional is expected in it. The
 /// context is that from before, also after a refusal.
 #[cycle(productions)]
 pub fn parse_tpl_elements<I: Tokens, B: Bodies<I>>(
     p: &mut Productions<I, B>,
+    room: usize,
     is_tagged: bool,
 ) -> PResult<TplParts>
     ensures { Produces I.model B.is_faithful tpl_parts_of tpl_parts_at (run B.forms (sym (Parts is_tagged)))
@@ -549,7 +570,7 @@ pub fn parse_tpl_elements<I: Tokens, B: Bodies<I>>(
             }
             None => {}
         }
-        let expr = held!(p, before, with_in!(p, parse_expr));
+        let expr = held!(p, before, with_in!(p, room, parse_expr));
         held!(p, before, expect(&mut p.input, Sign::RBrace));
         held!(p, before, p.add(&mut exprs, expr));
     }
@@ -557,13 +578,14 @@ pub fn parse_tpl_elements<I: Tokens, B: Bodies<I>>(
 
 // ---- Arguments (ECMA-262, 13.3.8), and those of `import` (13.3.10)
 
-/// Arguments (ECMA-262, 13.3.8), behind their parenthesis, in which `in` counts as an operator, and no colon of a
-/// conditional is expected, a comma behind each, which may be missing behind the last one, and the parenthesis that
-/// closes them. Those of `import`, where it `is_dynamic_import`, may have no comma behind the last one, unless import
+/// Arguments (ECMA-262, 13.3.8), after their parenthesis, in which `in` counts as an operator, and no colon of a
+/// conditional is expected, a comma after each, which may be missing after the last one, and the parenthesis that
+/// closes them. Those of `import`, where it `is_dynamic_import`, may have no comma after the last one, unless import
 /// attributes are read. The context is that from before, also after a refusal.
 #[cycle(productions)]
 pub fn parse_args<I: Tokens, B: Bodies<I>>(
     p: &mut Productions<I, B>,
+    room: usize,
     is_dynamic_import: bool,
 ) -> PResult<Listed<ExprOrSpread<ExprId>>>
     ensures { Produces I.model B.is_faithful args_of args_at (args_inside B.forms is_dynamic_import)
@@ -585,7 +607,7 @@ pub fn parse_args<I: Tokens, B: Bodies<I>>(
             }
             None => {}
         }
-        let arg = held!(p, before, parse_expr_or_spread(p));
+        let arg = held!(p, before, parse_expr_or_spread(p, room));
         held!(p, before, p.add(&mut items, arg));
         trailing_comma = held!(
             p,
@@ -603,38 +625,40 @@ pub fn parse_args<I: Tokens, B: Bodies<I>>(
 #[cycle(productions)]
 pub fn parse_base<I: Tokens, B: Bodies<I>>(
     p: &mut Productions<I, B>,
+    room: usize,
     no_call: bool,
 ) -> PResult<ExprId>
     ensures { Produces I.model B.is_faithful itself tree_of (plain_base B.forms (not no_call))
         (count p.old.nodes) p.old result p.new }
 {
     match eat(&mut p.input, Sign::Super)? {
-        Some(start) => return parse_super(p, start, no_call),
+        Some(start) => return parse_super(p, room, start, no_call),
         None => {}
     }
     let start = match eat(&mut p.input, Sign::Import)? {
         Some(start) => start,
-        None => return parse_primary_expr(p),
+        None => return parse_primary_expr(p, room),
     };
     match import_head(p, start, no_call)? {
         ImportHead::Meta(span) => import_meta(p, span),
         ImportHead::Call(import) => {
             let open = p.prev_span().lo;
-            let list = parse_args(p, true)?;
+            let list = parse_args(p, room, true)?;
             import_call(p, start, import, open, list)
         }
     }
 }
 
-/// A property of `super`, or a call of it (ECMA-262, 13.3.7), behind `super` at `start`. In brackets stands an
+/// A property of `super`, or a call of it (ECMA-262, 13.3.7), after `super` at `start`. In brackets stands an
 /// expression in which `in` counts as an operator. With `no_call`, a call is refused, as anything else is: a link of an
-/// optional chain, behind what it reads, and any other token as `InvalidSuper`, with `no_call` as `InvalidSuperCall`.
+/// optional chain, after what it reads, and any other token as `InvalidSuper`, with `no_call` as `InvalidSuperCall`.
 /// Of a link, arguments are refused as `SuperCallOptional`; a name or brackets as `InvalidSuper`, and where `super` may
 /// have properties, with `no_call` as `InvalidSuperCall`.
 #[cycle(productions)]
 #[inline(never)]
 fn parse_super<I: Tokens, B: Bodies<I>>(
     p: &mut Productions<I, B>,
+    room: usize,
     start: Span,
     no_call: bool,
 ) -> PResult<ExprId>
@@ -644,11 +668,11 @@ fn parse_super<I: Tokens, B: Bodies<I>>(
     match super_head(&mut p.input, no_call)? {
         SuperHead::Name => return parse_super_name(p, start),
         SuperHead::Computed(bracket) => {
-            let expr = with_in!(p, parse_expr)?;
+            let expr = with_in!(p, room, parse_expr)?;
             return super_computed(p, start, bracket, expr);
         }
         SuperHead::Call => {
-            let list = parse_args(p, false)?;
+            let list = parse_args(p, room, false)?;
             return callee_call(p, start, Callee::Super(Super { span: start }), list);
         }
         SuperHead::Other => {}
@@ -656,11 +680,11 @@ fn parse_super<I: Tokens, B: Bodies<I>>(
     match super_chain(&mut p.input, no_call)? {
         SuperChain::Name => refuse_super_name(p, no_call),
         SuperChain::Computed => {
-            with_in!(p, parse_expr)?;
+            with_in!(p, room, parse_expr)?;
             Err(refuse_super_brackets(&mut p.input, no_call))
         }
         SuperChain::Call => {
-            parse_args(p, false)?;
+            parse_args(p, room, false)?;
             Err(refuse_super_args(&mut p.input))
         }
     }
@@ -669,29 +693,33 @@ fn parse_super<I: Tokens, B: Bodies<I>>(
 // ---- Binary and unary operators, `++`, `--` and `await` (ECMA-262, 13.4 to 13.13 and 15.8)
 
 /// Binary operators of any precedence (ECMA-262, 13.13). Where the left operand was refused before an operator, that
-/// is recorded, and reading goes on there; elsewhere the refusal stands, and so does want of memory.
+/// is recorded, and reading goes on there; elsewhere the refusal stands, and so does out of memory.
 #[cycle(productions)]
 #[inline(never)]
-pub fn parse_bin_expr<I: Tokens, B: Bodies<I>>(p: &mut Productions<I, B>) -> PResult<ExprId>
+pub fn parse_bin_expr<I: Tokens, B: Bodies<I>>(
+    p: &mut Productions<I, B>,
+    room: usize,
+) -> PResult<ExprId>
     ensures { Produces I.model B.is_faithful itself tree_of (run B.forms (sym (Level 1)))
         (count p.old.nodes) p.old result p.new }
 {
     let first = cur_pos(&mut p.input)?;
-    match parse_operand(p, true) {
+    match parse_operand(p, room, true) {
         Ok(left) => {
             let pending = PendingOperators::new(p.alloc);
-            parse_operators(p, pending, left)
+            parse_operators(p, room, pending, left)
         }
-        Err(error) => recover_operators(p, error, first),
+        Err(error) => recover_operators(p, room, error, first),
     }
 }
 
 /// Reads on where the left operand of a binary operator, which begins at `first`, was refused, if an operator follows:
-/// that is recorded, and `Invalid` stands in for the operand. Elsewhere the refusal stands, and so does want of memory.
+/// that is recorded, and `Invalid` stands in for the operand. Elsewhere the refusal stands, and so does out of memory.
 #[cycle(productions)]
 #[inline(never)]
 fn recover_operators<I: Tokens, B: Bodies<I>>(
     p: &mut Productions<I, B>,
+    room: usize,
     error: Error,
     first: BytePos,
 ) -> PResult<ExprId>
@@ -702,17 +730,18 @@ fn recover_operators<I: Tokens, B: Bodies<I>>(
     let (left, op) = recover_left(p, error, first)?;
     take_operator(p, &mut pending, left, op)?;
     let is_free = private_may_follow(&pending);
-    let right = parse_operand(p, is_free)?;
-    parse_operators(p, pending, right)
+    let right = parse_operand(p, room, is_free)?;
+    parse_operators(p, room, pending, right)
 }
 
-/// Reads on behind the operand `left`, the right one of the operator on top, through all operators (ECMA-262, 13.6 to
+/// Reads on after the operand `left`, the right one of the operator on top, through all operators (ECMA-262, 13.6 to
 /// 13.13). One that binds tighter than what is pending is put on top, until its right operand was read; where none
 /// follows, the one on top is joined with its operands. So no recursion is needed, however many operators follow one
 /// another.
 #[cycle(productions)]
 fn parse_operators<I: Tokens, B: Bodies<I>>(
     p: &mut Productions<I, B>,
+    room: usize,
     mut pending: PendingOperators,
     mut left: ExprId,
 ) -> PResult<ExprId>
@@ -726,7 +755,7 @@ fn parse_operators<I: Tokens, B: Bodies<I>>(
             Some(op) => {
                 take_operator(p, &mut pending, left, op)?;
                 let is_free = private_may_follow(&pending);
-                left = parse_operand(p, is_free)?;
+                left = parse_operand(p, room, is_free)?;
             }
             None => {
                 check_nullish_left::<I, B>(&mut p.input, &p.nodes, left)?;
@@ -745,6 +774,7 @@ fn parse_operators<I: Tokens, B: Bodies<I>>(
 #[cycle(productions)]
 fn parse_operand<I: Tokens, B: Bodies<I>>(
     p: &mut Productions<I, B>,
+    room: usize,
     is_free: bool,
 ) -> PResult<ExprId>
     ensures { Produces I.model B.is_faithful itself tree_of (operand B.forms is_free)
@@ -753,35 +783,40 @@ fn parse_operand<I: Tokens, B: Bodies<I>>(
     look(&mut p.input)?;
     if begins_private(&p.input, is_free) {
         let name = parse_private_operand(p)?;
-        let callee = parse_subscripts(p, name, false)?;
+        let callee = parse_subscripts(p, room, name, false)?;
         return parse_update_postfix(p, callee);
     }
-    parse_unary_expr(p)
+    parse_unary_expr(p, room)
 }
 
 /// A unary expression (ECMA-262, 13.5): `++`, `--`, another prefix operator or `await`, and its operand; or a
-/// left-hand side, and `++` or `--` behind it on the same line.
+/// left-hand side, and `++` or `--` after it on the same line.
 #[cycle(productions)]
-pub fn parse_unary_expr<I: Tokens, B: Bodies<I>>(p: &mut Productions<I, B>) -> PResult<ExprId>
+pub fn parse_unary_expr<I: Tokens, B: Bodies<I>>(
+    p: &mut Productions<I, B>,
+    room: usize,
+) -> PResult<ExprId>
     ensures { Produces I.model B.is_faithful itself tree_of (run B.forms (sym Unary))
         (count p.old.nodes) p.old result p.new }
 {
     look(&mut p.input)?;
     match cur_update_op(&p.input) {
         Some(op) => {
+            let less = deeper(&p.input, &mut p.too_deep, room)?;
             let start = p.cur_span();
             skip(&mut p.input);
-            let arg = parse_unary_expr(p)?;
+            let arg = parse_unary_expr(p, less)?;
             return update_prefix(p, start, op, arg);
         }
         None => {}
     }
     match cur_prefix_op(&p.input) {
         Some(op) => {
+            let less = deeper(&p.input, &mut p.too_deep, room)?;
             let start = p.cur_span();
             skip(&mut p.input);
             let at = cur_pos(&mut p.input)?;
-            return match parse_unary_expr(p) {
+            return match parse_unary_expr(p, less) {
                 Ok(arg) => unary_expr(p, start, op, arg),
                 Err(error) => unary_expr_without_operand(p, start, op, error, at),
             };
@@ -795,11 +830,12 @@ pub fn parse_unary_expr<I: Tokens, B: Bodies<I>>(p: &mut Productions<I, B>) -> P
             return parse_await_ident(p, start);
         }
         check_await(&mut p.input, start)?;
-        let arg = parse_unary_expr(p)?;
+        let less = deeper(&p.input, &mut p.too_deep, room)?;
+        let arg = parse_unary_expr(p, less)?;
         let node = p.nodes.await_expr(start.lo, arg);
         return p.made(node);
     }
-    let expr = parse_lhs_expr(p)?;
+    let expr = parse_lhs_expr(p, room)?;
     parse_update_postfix(p, expr)
 }
 
@@ -808,11 +844,14 @@ pub fn parse_unary_expr<I: Tokens, B: Bodies<I>>(p: &mut Productions<I, B>) -> P
 
 /// An expression (ECMA-262, 13.16): an assignment expression, or several with commas between them.
 #[cycle(productions)]
-pub fn parse_expr<I: Tokens, B: Bodies<I>>(p: &mut Productions<I, B>) -> PResult<ExprId>
+pub fn parse_expr<I: Tokens, B: Bodies<I>>(
+    p: &mut Productions<I, B>,
+    room: usize,
+) -> PResult<ExprId>
     ensures { Produces I.model B.is_faithful itself tree_of (run B.forms (sym Expr))
         (count p.old.nodes) p.old result p.new }
 {
-    let first = parse_assignment_expr(p)?;
+    let first = parse_assignment_expr(p, room)?;
     match eat(&mut p.input, Sign::Comma)? {
         Some(_) => {}
         None => return Ok(first),
@@ -820,7 +859,7 @@ pub fn parse_expr<I: Tokens, B: Bodies<I>>(p: &mut Productions<I, B>) -> PResult
     let mut exprs = Vec::new(p.alloc);
     p.add(&mut exprs, first)?;
     loop {
-        let expr = parse_assignment_expr(p)?;
+        let expr = parse_assignment_expr(p, room)?;
         p.add(&mut exprs, expr)?;
         match eat(&mut p.input, Sign::Comma)? {
             Some(_) => {}
@@ -835,15 +874,19 @@ pub fn parse_expr<I: Tokens, B: Bodies<I>>(p: &mut Productions<I, B>) -> PResult
 /// An assignment expression (ECMA-262, 13.15), or an arrow function (15.3 and 15.9); or `yield` (15.5), and its
 /// operand.
 #[cycle(productions)]
-pub fn parse_assignment_expr<I: Tokens, B: Bodies<I>>(p: &mut Productions<I, B>) -> PResult<ExprId>
+pub fn parse_assignment_expr<I: Tokens, B: Bodies<I>>(
+    p: &mut Productions<I, B>,
+    room: usize,
+) -> PResult<ExprId>
     ensures { Produces I.model B.is_faithful itself tree_of (run B.forms (sym Assign))
         (count p.old.nodes) p.old result p.new }
 {
     require_cur(&mut p.input)?;
+    let less = deeper(&p.input, &mut p.too_deep, room)?;
     if is_yield_operator(&p.input) {
-        return parse_yield_expr(p);
+        return parse_yield_expr(p, less);
     }
-    parse_arrow_or_assign(p)
+    parse_arrow_or_assign(p, less)
 }
 
 /// `yield` (ECMA-262, 15.5), which is current, and its operand, with the `*` before it or not, where one begins on the
@@ -851,7 +894,10 @@ pub fn parse_assignment_expr<I: Tokens, B: Bodies<I>>(p: &mut Productions<I, B>)
 /// of `yield` and the `*`.
 #[cycle(productions)]
 #[inline(never)]
-fn parse_yield_expr<I: Tokens, B: Bodies<I>>(p: &mut Productions<I, B>) -> PResult<ExprId>
+fn parse_yield_expr<I: Tokens, B: Bodies<I>>(
+    p: &mut Productions<I, B>,
+    room: usize,
+) -> PResult<ExprId>
     requires { IsSome (current p.old.input) }
     ensures { Produces I.model B.is_faithful itself tree_of (yield_expr B.forms)
         (count p.old.nodes) p.old result p.new }
@@ -865,7 +911,7 @@ fn parse_yield_expr<I: Tokens, B: Bodies<I>>(p: &mut Productions<I, B>) -> PResu
     }
     let star = eat(&mut p.input, Sign::Star)?;
     let end = p.last_pos();
-    match parse_assignment_expr(p) {
+    match parse_assignment_expr(p, room) {
         Ok(arg) => {
             let node = p.nodes.yield_expr(start.lo, star.is_some(), arg);
             p.made(node)
@@ -878,11 +924,15 @@ fn parse_yield_expr<I: Tokens, B: Bodies<I>>(p: &mut Productions<I, B>) -> PResu
 }
 
 /// An assignment expression that `yield` doesn't begin (ECMA-262, 13.15): an arrow function (15.3 and 15.9); or what
-/// binary operators join, a conditional or an assignment. Behind an arrow function with parameters in parentheses and a
-/// block operators are read on, which is recorded as `TS1005`, and once more where no semicolon may stand behind them.
-/// Where the left operand was refused before an operator, that is recorded, and reading goes on there.
+/// binary operators join, a conditional or an assignment. After an arrow function with parameters in parentheses and a
+/// block operators are read on, which is recorded as `TS1005`, and once more where no semicolon may are after them.
+/// Where the left operand was refused before an operator, or an operand after such a function, that is recorded, and
+/// reading goes on there, with `Invalid` in place of all that was read before.
 #[cycle(productions)]
-fn parse_arrow_or_assign<I: Tokens, B: Bodies<I>>(p: &mut Productions<I, B>) -> PResult<ExprId>
+fn parse_arrow_or_assign<I: Tokens, B: Bodies<I>>(
+    p: &mut Productions<I, B>,
+    room: usize,
+) -> PResult<ExprId>
     requires looked { Here I.model p.old.input p.old.input }
     requires fit { at_token no_error (seen p.old.input) ≡ true }
     requires no_yield { (at_token is_yield (seen p.old.input)
@@ -891,39 +941,46 @@ fn parse_arrow_or_assign<I: Tokens, B: Bodies<I>>(p: &mut Productions<I, B>) -> 
         (count p.old.nodes) p.old result p.new }
 {
     let first = p.cur_span().lo;
-    let read = match parse_arrow_or_operand(p) {
+    let read = match parse_arrow_or_operand(p, room) {
         Ok(read) => read,
         Err(error) => {
-            let left = recover_operators(p, error, first)?;
-            return finish_assignment_expr(p, left);
+            let left = recover_operators(p, room, error, first)?;
+            return finish_assignment_expr(p, room, left);
         }
     };
     let pending = PendingOperators::new(p.alloc);
     match read {
         ArrowOrBase::Arrow(arrow) => Ok(arrow),
         ArrowOrBase::Base(operand) => {
-            let left = parse_operators(p, pending, operand)?;
-            finish_assignment_expr(p, left)
+            let left = parse_operators(p, room, pending, operand)?;
+            finish_assignment_expr(p, room, left)
         }
         ArrowOrBase::Operand(arrow) => {
-            let left = parse_operators(p, pending, arrow)?;
+            let left = match parse_operators(p, room, pending, arrow) {
+                Ok(left) => left,
+                Err(error) => {
+                    let left = recover_operators(p, room, error, first)?;
+                    return finish_assignment_expr(p, room, left);
+                }
+            };
             check_operators_end(&mut p.input)?;
             check_nullish_left::<I, B>(&mut p.input, &p.nodes, left)?;
-            finish_assignment_expr(p, left)
+            finish_assignment_expr(p, room, left)
         }
         ArrowOrBase::Other => {
-            let left = parse_bin_expr(p)?;
-            finish_assignment_expr(p, left)
+            let left = parse_bin_expr(p, room)?;
+            finish_assignment_expr(p, room, left)
         }
     }
 }
 
 /// What an assignment expression begins with, where that may be an arrow function (ECMA-262, 15.3 and 15.9), as
-/// `parse_arrow_or_base` reads it; with the links behind it, and `++` or `--`, where it is no arrow function.
+/// `parse_arrow_or_base` reads it; with the links after it, and `++` or `--`, where it is no arrow function.
 #[cycle(productions)]
 #[inline(never)]
 fn parse_arrow_or_operand<I: Tokens, B: Bodies<I>>(
     p: &mut Productions<I, B>,
+    room: usize,
 ) -> PResult<ArrowOrBase>
     requires looked { Here I.model p.old.input p.old.input }
     requires fit { at_token no_error (seen p.old.input) ≡ true }
@@ -932,9 +989,9 @@ fn parse_arrow_or_operand<I: Tokens, B: Bodies<I>>(
     ensures { MayBeOperand I.model B.is_faithful B.forms (run B.forms (sym Assign))
         (count p.old.nodes) p.old result p.new }
 {
-    match parse_arrow_or_base(p)? {
+    match parse_arrow_or_base(p, room)? {
         ArrowOrBase::Base(base) => {
-            let callee = parse_subscripts(p, base, false)?;
+            let callee = parse_subscripts(p, room, base, false)?;
             let operand = parse_update_postfix(p, callee)?;
             Ok(ArrowOrBase::Base(operand))
         }
@@ -944,9 +1001,12 @@ fn parse_arrow_or_operand<I: Tokens, B: Bodies<I>>(
 
 /// What an assignment expression begins with, where that may be an arrow function (ECMA-262, 15.3 and 15.9): the
 /// function; or an expression in parentheses, or a call of `async` (13.3.8), or in the head of a `for await` `async`
-/// before `of`, behind which links may stand. Elsewhere nothing is read.
+/// before `of`, after which links may stand. Elsewhere nothing is read.
 #[cycle(productions)]
-fn parse_arrow_or_base<I: Tokens, B: Bodies<I>>(p: &mut Productions<I, B>) -> PResult<ArrowOrBase>
+fn parse_arrow_or_base<I: Tokens, B: Bodies<I>>(
+    p: &mut Productions<I, B>,
+    room: usize,
+) -> PResult<ArrowOrBase>
     requires looked { Here I.model p.old.input p.old.input }
     requires fit { at_token no_error (seen p.old.input) ≡ true }
     requires no_yield { (at_token is_yield (seen p.old.input)
@@ -956,18 +1016,18 @@ fn parse_arrow_or_base<I: Tokens, B: Bodies<I>>(p: &mut Productions<I, B>) -> PR
 {
     match head_kind(&mut p.input)? {
         HeadKind::Name => match parse_arrow_name(p)? {
-            Beginning::Arrow(head) => parse_arrow_rest(p, head),
+            Beginning::Arrow(head) => parse_arrow_rest(p, room, head),
             Beginning::Base(base) => Ok(ArrowOrBase::Base(base)),
         },
         HeadKind::AsyncName => match parse_async_name(p)? {
-            Beginning::Arrow(head) => parse_arrow_rest(p, head),
+            Beginning::Arrow(head) => parse_arrow_rest(p, room, head),
             Beginning::Base(base) => Ok(ArrowOrBase::Base(base)),
         },
         HeadKind::List { is_async } => {
             let start = open_list(p, is_async)?;
-            let list = parse_args(p, false)?;
+            let list = parse_args(p, room, false)?;
             match close_list(p, start, list)? {
-                Beginning::Arrow(head) => parse_arrow_rest(p, head),
+                Beginning::Arrow(head) => parse_arrow_rest(p, room, head),
                 Beginning::Base(base) => Ok(ArrowOrBase::Base(base)),
             }
         }
@@ -975,10 +1035,11 @@ fn parse_arrow_or_base<I: Tokens, B: Bodies<I>>(p: &mut Productions<I, B>) -> PR
     }
 }
 
-/// An arrow function (ECMA-262, 15.3 and 15.9), behind its `=>`: reads its body.
+/// An arrow function (ECMA-262, 15.3 and 15.9), after its `=>`: reads its body.
 #[cycle(productions)]
 fn parse_arrow_rest<I: Tokens, B: Bodies<I>>(
     p: &mut Productions<I, B>,
+    room: usize,
     head: ArrowHead,
 ) -> PResult<ArrowOrBase>
     requires { Apart 0 p.old.nodes (pats_parts head.params) }
@@ -986,18 +1047,19 @@ fn parse_arrow_rest<I: Tokens, B: Bodies<I>>(
         (arrow_behind B.forms head.start head.is_async head.in_parens (pat_trees (tree_at p.old.nodes) head.params))
         k p.old result p.new }
 {
-    match parse_arrow_body(p, head.is_async) {
+    match parse_arrow_body(p, room, head.is_async) {
         Ok(body) => arrow_function(p, head, body),
         Err(error) => Err(error),
     }
 }
 
-/// The body of an arrow function (ECMA-262, 15.3 and 15.9), behind its `=>`: a block, which the hook reads, or an
+/// The body of an arrow function (ECMA-262, 15.3 and 15.9), after its `=>`: a block, which the hook reads, or an
 /// assignment expression. The context is that from before, also after a refusal; whether `import.` was read in it isn't
 /// told outside.
 #[cycle(productions)]
 fn parse_arrow_body<I: Tokens, B: Bodies<I>>(
     p: &mut Productions<I, B>,
+    room: usize,
     is_async: bool,
 ) -> PResult<BlockStmtOrExpr<ExprId, B::Block>>
     ensures reads { Produces I.model B.is_faithful body_of body_at (run B.forms (sym (ArrowBody is_async)))
@@ -1009,7 +1071,7 @@ fn parse_arrow_body<I: Tokens, B: Bodies<I>>(
     let body = if held!(p, before, begins_block(&mut p.input)) {
         parse_block_body(p)
     } else {
-        match parse_assignment_expr(p) {
+        match parse_assignment_expr(p, room) {
             Ok(expr) => Ok(BlockStmtOrExpr::Expr(expr)),
             Err(error) => Err(error),
         }
@@ -1025,6 +1087,7 @@ fn parse_arrow_body<I: Tokens, B: Bodies<I>>(
 #[cycle(productions)]
 fn finish_assignment_expr<I: Tokens, B: Bodies<I>>(
     p: &mut Productions<I, B>,
+    room: usize,
     left: ExprId,
 ) -> PResult<ExprId>
     requires from { From 0 p.old.nodes (expr_part left) }
@@ -1037,12 +1100,12 @@ fn finish_assignment_expr<I: Tokens, B: Bodies<I>>(
         skip(&mut p.input);
         let ctx = p.get_ctx();
         set_ctx(&mut p.input, cond_middle(ctx));
-        let middle = parse_assignment_expr(p);
+        let middle = parse_assignment_expr(p, room);
         set_ctx(&mut p.input, ctx);
         let cons = middle?;
         expect(&mut p.input, Sign::Colon)?;
         set_ctx(&mut p.input, cond_last(ctx));
-        let last = parse_assignment_expr(p);
+        let last = parse_assignment_expr(p, room);
         set_ctx(&mut p.input, ctx);
         let alt = last?;
         let node = p.nodes.cond_expr(left, cons, alt);
@@ -1054,7 +1117,7 @@ fn finish_assignment_expr<I: Tokens, B: Bodies<I>>(
     };
     let target = assign_target(p, op, left)?;
     skip(&mut p.input);
-    let right = parse_assignment_expr(p)?;
+    let right = parse_assignment_expr(p, room)?;
     assign_node(p, op, target, right)
 }
 
@@ -1064,21 +1127,23 @@ fn finish_assignment_expr<I: Tokens, B: Bodies<I>>(
 /// among whose properties no colon of a conditional is expected. Another token is refused as `Unexpected`, at that
 /// token, and the end as `Eof`. The context is that from before, also after a refusal.
 #[cycle(productions)]
-pub fn parse_pat<I: Tokens, B: Bodies<I>>(p: &mut Productions<I, B>) -> PResult<PatId>
+pub fn parse_pat<I: Tokens, B: Bodies<I>>(p: &mut Productions<I, B>, room: usize) -> PResult<PatId>
     ensures { Produces I.model B.is_faithful pat_itself pat_at (run B.forms (sym Pat))
         (count p.old.nodes) p.old result p.new }
 {
     look(&mut p.input)?;
     match pat_kind(&p.input) {
         PatKind::Array => {
+            let less = deeper(&p.input, &mut p.too_deep, room)?;
             let start = p.cur_span();
             skip(&mut p.input);
-            let elems = parse_pat_elements(p)?;
+            let elems = parse_pat_elements(p, less)?;
             array_pat(p, start, elems)
         }
         PatKind::Object => {
+            let less = deeper(&p.input, &mut p.too_deep, room)?;
             let (start, ctx) = open_object(&mut p.input);
-            let props = parse_pat_props(p);
+            let props = parse_pat_props(p, less);
             set_ctx(&mut p.input, ctx);
             object_pat(p, start, props?)
         }
@@ -1088,25 +1153,29 @@ pub fn parse_pat<I: Tokens, B: Bodies<I>>(p: &mut Productions<I, B>) -> PResult<
 
 /// A binding pattern, and its initialiser or none (ECMA-262, 14.3.3), in which `in` counts as an operator.
 #[cycle(productions)]
-pub fn parse_binding_element<I: Tokens, B: Bodies<I>>(p: &mut Productions<I, B>) -> PResult<PatId>
+pub fn parse_binding_element<I: Tokens, B: Bodies<I>>(
+    p: &mut Productions<I, B>,
+    room: usize,
+) -> PResult<PatId>
     ensures { Produces I.model B.is_faithful pat_itself pat_at (run B.forms (sym Element))
         (count p.old.nodes) p.old result p.new }
 {
-    let left = parse_pat(p)?;
+    let left = parse_pat(p, room)?;
     match eat(&mut p.input, Sign::Assign)? {
         Some(_) => {
-            let value = with_in!(p, parse_assignment_expr)?;
+            let value = with_in!(p, room, parse_assignment_expr)?;
             default_pat(p, left, value)
         }
         None => Ok(left),
     }
 }
 
-/// The elements of an array pattern (ECMA-262, 14.3.3), a comma behind each, which may be missing behind the last one,
+/// The elements of an array pattern (ECMA-262, 14.3.3), a comma after each, which may be missing after the last one,
 /// and the bracket that closes the pattern. A comma where an element would stand is a hole (`None`).
 #[cycle(productions)]
 fn parse_pat_elements<I: Tokens, B: Bodies<I>>(
     p: &mut Productions<I, B>,
+    room: usize,
 ) -> PResult<Listed<Option<PatId>>>
     ensures { Produces I.model B.is_faithful pat_elems_of pat_elems_at (run B.forms (sym PatElements))
         (count p.old.nodes) p.old result p.new }
@@ -1129,10 +1198,10 @@ fn parse_pat_elements<I: Tokens, B: Bodies<I>>(
             NextElement::Item(dots) => {
                 let pat = match dots {
                     Some(dots) => {
-                        let arg = parse_pat(p)?;
+                        let arg = parse_pat(p, room)?;
                         rest_pat(p, dots, arg)?
                     }
-                    None => parse_binding_element(p)?,
+                    None => parse_binding_element(p, room)?,
                 };
                 p.add(&mut items, Some(pat))?;
                 rest = separate_item(&mut p.input, Sign::RBracket, dots, rest)?;
@@ -1141,11 +1210,12 @@ fn parse_pat_elements<I: Tokens, B: Bodies<I>>(
     }
 }
 
-/// The properties of an object pattern (ECMA-262, 14.3.3), and rests among them, wherever they stand, a comma behind
-/// each, which may be missing behind the last one, and the brace that closes the pattern.
+/// The properties of an object pattern (ECMA-262, 14.3.3), and rests among them, wherever they stand, a comma after
+/// each, which may be missing after the last one, and the brace that closes the pattern.
 #[cycle(productions)]
 fn parse_pat_props<I: Tokens, B: Bodies<I>>(
     p: &mut Productions<I, B>,
+    room: usize,
 ) -> PResult<Listed<PatPropNode>>
     ensures { Leaves I.model B.is_faithful pat_props_of (run B.forms (sym PatProps))
         (λ ns l. props_done (pat_props_at ns l)) (count p.old.nodes) p.old result p.new }
@@ -1155,52 +1225,53 @@ fn parse_pat_props<I: Tokens, B: Bodies<I>>(
         Sign::RBrace,
         items,
         {
-            let prop = parse_object_pat_prop(p)?;
+            let prop = parse_object_pat_prop(p, room)?;
             p.add(&mut items, prop)?;
             separate(&mut p.input, Sign::RBrace)?
         }
     )
 }
 
-/// A property of an object pattern (ECMA-262, 14.3.3): a rest over any pattern; a key, and behind its `:` an element; a
-/// name alone; or a name, and behind its `=` an initialiser, in which `in` counts as an operator.
+/// A property of an object pattern (ECMA-262, 14.3.3): a rest over any pattern; a key, and after its `:` an element; a
+/// name alone; or a name, and after its `=` an initialiser, in which `in` counts as an operator.
 #[cycle(productions)]
 pub fn parse_object_pat_prop<I: Tokens, B: Bodies<I>>(
     p: &mut Productions<I, B>,
+    room: usize,
 ) -> PResult<PatPropNode>
     ensures { Produces I.model B.is_faithful pat_prop_of pat_prop_at (pat_prop_item B.forms)
         (count p.old.nodes) p.old result p.new }
 {
     match eat(&mut p.input, Sign::DotDotDot)? {
         Some(dots) => {
-            let arg = parse_pat(p)?;
+            let arg = parse_pat(p, room)?;
             return Ok(p.nodes.rest_pat_prop(dots, arg));
         }
         None => {}
     }
-    let key = parse_prop_name(p)?;
+    let key = parse_prop_name(p, room)?;
     match after_pat_key(&mut p.input, key)? {
         AfterPatKey::Value(key) => {
-            let value = parse_binding_element(p)?;
+            let value = parse_binding_element(p, room)?;
             Ok(p.nodes.key_pat_prop(key, value))
         }
         AfterPatKey::Default(name) => {
-            let value = with_in!(p, parse_assignment_expr)?;
+            let value = with_in!(p, room, parse_assignment_expr)?;
             Ok(p.nodes.default_pat_prop(name, value))
         }
         AfterPatKey::Name(name) => Ok(name_pat_prop(name)),
     }
 }
 
-/// Formal parameters (ECMA-262, 15.1), a comma behind each, which may be missing behind the last one, up to the
+/// Formal parameters (ECMA-262, 15.1), a comma after each, which may be missing after the last one, up to the
 /// parenthesis that closes them, which stays, or to the end where a parameter could begin. A rest may have an
 /// initialiser, which is recorded.
 #[cycle(productions)]
 pub fn parse_formal_params<I: Tokens, B: Bodies<I>>(
     p: &mut Productions<I, B>,
+    room: usize,
 ) -> PResult<Vec<Param<PatId>>>
-    ensures { Leaves I.model B.is_faithful params_of (run B.forms (sym Params))
-        (λ ns ps. params_close (params_at ns ps)) (count p.old.nodes) p.old result p.new }
+    ensures { LeavesParams I.model B.is_faithful B.forms (count p.old.nodes) p.old result p.new }
 {
     let mut params = Vec::new(p.alloc);
     let mut rest = SeenRest::No;
@@ -1210,16 +1281,16 @@ pub fn parse_formal_params<I: Tokens, B: Bodies<I>>(
             NextParam::Item(dots) => {
                 let pat = match dots {
                     Some(dots) => {
-                        let arg = parse_pat(p)?;
+                        let arg = parse_pat(p, room)?;
                         match eat(&mut p.input, Sign::Assign)? {
                             Some(_) => {
-                                let value = parse_assignment_expr(p)?;
+                                let value = parse_assignment_expr(p, room)?;
                                 rest_default(p, dots, arg, value)?
                             }
                             None => rest_pat(p, dots, arg)?,
                         }
                     }
-                    None => parse_binding_element(p)?,
+                    None => parse_binding_element(p, room)?,
                 };
                 let param = param_of(p, pat);
                 p.add(&mut params, param)?;

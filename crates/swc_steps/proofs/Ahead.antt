@@ -1,4 +1,4 @@
--- The token behind the current one: whether it is `function`, on the same line.
+-- The token after the current one: whether it is `function`, on the same line.
 use Rattle.std.proofs.Common.{◌≡◌, Bool, true, false, not, ◌&&◌, List, [], ◌∷◌, ◌++◌, Option, Some, None, IsSome}
 use Rattle.std.proofs.Common.{MatchOption, refl, sym, ap, subst, ◌∙◌}
 use Rattle.swc_input.specs.declared.buffer.Buffer.{Buffer}
@@ -32,7 +32,7 @@ here_plain : (t : TokenAndSpan) (f : Bool) → is_function t.token ≡ f
     → here_of (seen_of (Some t)) ≡ (f && not t.had_line_break)
 here_plain t f e = ap (λ v. v && not t.had_line_break) (plain_function t.token ∙ e)
 
--- the tokens to come, behind the first
+-- the tokens to come, after the first
 behind_first : (p q : Option TokenAndSpan) (more ts : List TokenAndSpan) → IsSome p
     → ts ≡ (given_one p ++ given_one q) ++ more → (q ≡ None → more ≡ []) → first (rest ts) ≡ seen_of q
 behind_first None q more ts s e n = cc
@@ -114,7 +114,7 @@ module _ {S : Type 0} {model : Model S} (laws : Laws model) where
   tells_function {c = c} {a = a} e p q some m r break =
       let k = answer_some c.next a true e m in function_behind p q some k.0 k.1 k.2 r break
 
--- what a look behind the current token answers, by a test of the token there
+-- what a look after the current token answers, by a test of the token there
 pub behind_some : {V : Type 0} (f : Option TokenAndSpan → V)
     → ((t : TokenAndSpan) → f (Some (plain t)) ≡ f (Some t)) → (o : Option TokenAndSpan) (a : Option V) (v : V)
     → a ≡ Some v → MatchOption o (a ≡ None) (λ t. a ≡ Some (f (Some t))) → (IsSome o) × (f (seen_of o) ≡ v)
@@ -141,7 +141,7 @@ module _ {S : Type 0} {model : Model S} (laws : Laws model) where
     told = λ ts fut here. h ts here;
   }
 
-  -- by the one behind it, or that there is none
+  -- by the one after it, or that there is none
   pub told_behind : {V : Type 0} (f : Option TokenAndSpan → V) {b c : Buffer S} (v : V) → Peeked model b c
       → IsSome (current b) → IsSome c.next → f (seen_of c.next) ≡ v
       → Told model (λ ts. f (first (rest ts))) v b c

@@ -31,7 +31,7 @@ neither true b h = absurd cc
 neither false b h = (refl, h)
 
 -- `super` and `import` are not `new`
--- ---- what stands behind an argument
+-- ---- what is after an argument
 
 pub args_separated : (i : Bool) (x : Scope) (ts : List TokenAndSpan)
     → separated_args i x ts ≡ (separated is_rparen x ts >>= (λ p. comma_behind i p.0 x p.1))
@@ -74,7 +74,7 @@ unfolding last_comma
 last_refused x ts h k =
     ap (λ b. last_by b (import_comma_ok x) ts) h ∙ ap (λ m. last_by true m ts) k
 
--- ---- no `=>` behind a list in parentheses
+-- ---- no `=>` after a list in parentheses
 
 pub arrow_stops : (x : Scope) (ts : List TokenAndSpan) → at_token is_arrow (first ts) ≡ true → arrow_free x ts ≡ None
 unfolding arrow_free
@@ -127,7 +127,7 @@ module _ {F C K : Type 0} (hook : Hook F C K) where
       knot hook (at (Args i)) x (t ∷ ts)
       ∙ rw (rparen-is t.token h) refl
 
-  -- an argument, and then those behind it
+  -- an argument, and then those after it
   args_runs : (i : Bool) (x : Scope) (ts : List TokenAndSpan) → at_token is_rparen (first ts) ≡ false
       → run hook (at (Args i)) x ts
       ≡ and_then (run hook (at Item) x ts) (λ e us. and_then (run hook (at (ArgsTail i)) x us)

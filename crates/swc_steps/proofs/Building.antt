@@ -51,7 +51,7 @@ module _ {F C K : Type 0} {fg : Ghosts F} {cg : Ghosts C} {kg : Ghosts K} where
             (record { above = omega arith; first = f.first; view = f.view }) b.1;
       }
 
-  -- an expression, and parts that were read behind it
+  -- an expression, and parts that were read after it
   pub apart_behind : {ns ms : Nodes F C K fg cg kg} {k : ℕ} {e : ExprId} {ps : List Part} → Grows ns ms
       → From k ns (expr_part e) → Apart (count ns) ms ps → Apart (first_at ns e.0) ms (one_expr e ++ ps)
   apart_behind {e = e} g f a = apart-more g (apart-from (expr_part e) (from_self f)) a

@@ -69,7 +69,7 @@ module _ {F C K : Type 0} {fg : Ghosts F} {cg : Ghosts C} {kg : Ghosts K} (hook 
 
 -- ---- expressions one after another
 
--- the first of a list, where one more is put behind it
+-- the first of a list, where one more is put after it
 pub head-more : {X : Type 0} (xs : List X) (x d : X) → 1 ≤ length xs → slice_index_or (xs ++ x ∷ []) 0 d ≡ slice_index_or xs 0 d
 head-more [] x d le = absurd (omega arith)
 head-more (y ∷ ys) x d le = refl
@@ -99,7 +99,7 @@ module _ {F C K : Type 0} {fg : Ghosts F} {cg : Ghosts C} {kg : Ghosts K} where
       sym (ap (λ p. seq_e (from_to p (last_end ns (y ∷ ys))) ts) first
       ∙ ap (λ p. seq_e (from_to (span_of (tree_of ns x)).lo p) ts) last)
 
-  -- behind others stands one that holds nothing that was refused
+  -- after others stands one that holds nothing that was refused
   last-behind : (ns : Nodes F C K fg cg kg) (s : Span) (zs : List ExprId) (e : ExprId) →
       last_place s (trees (map (tree_of ns) (zs ++ e ∷ []))) ≡ span_of (tree_of ns e)
   last-behind ns s [] e = refl
@@ -129,7 +129,7 @@ module _ {F C K : Type 0} {fg : Ghosts F} {cg : Ghosts C} {kg : Ghosts K} where
   begun-behind ns x zs e false lo from hi h =
       ap (λ p. seq_between p hi (trees (map (tree_of ns) (x ∷ zs ++ e ∷ [])))) (sym (h refl))
 
-  -- a sequence that was read behind its first expression, of which the last holds nothing that was refused
+  -- a sequence that was read after its first expression, of which the last holds nothing that was refused
   pub seq-read : (old ns : Nodes F C K fg cg kg) (first e : ExprId) (before xs : List ExprId) → Grows old ns →
       From 0 old (expr_part first) → 1 ≤ length before → slice_index_or before 0 first ≡ first → xs ≡ before ++ e ∷ [] →
       end_at ns e.0 ≡ (span_of (tree_of ns e)).hi →

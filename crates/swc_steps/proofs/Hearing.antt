@@ -65,7 +65,7 @@ module _ {S V : Type 0} (model : Model S) (laws : Laws model) (reads : Reading V
     none = λ n y l ts k. sym (viewed (context model b) ts) ∙ none_refused c x (f y) n l ts k;
   }
 
-  -- where it has failed, memory is wanted
+  -- where it has failed, memory runs out
   failed_parses : {c : Buffer S} (at : BytePos) (r : Result V Error) → Hooked model reads b r c
       → Parses model sure (λ (v : V). v) (by_hook reads) b (Err (no_memory at)) c
   failed_parses at r h = record {
@@ -77,7 +77,7 @@ module _ {S V : Type 0} (model : Model S) (laws : Laws model) (reads : Reading V
     none = λ n. absurd (n refl);
   }
 
-  -- the hook answered r, and q is answered: r itself, or want of memory where the source has failed
+  -- the hook answered r, and q is answered: r itself, or out of memory where the source has failed
   pub hook_parses : {c : Buffer S} (at : BytePos) (r q : Result V Error) → Hooked model reads b r c → (sure ≡ true → Faithful model reads b r c)
       → ((model.state (source c)).failed ≡ false → q ≡ r) → ((model.state (source c)).failed ≡ true → q ≡ Err (no_memory at))
       → Parses model sure (λ v. v) (by_hook reads) b q c

@@ -42,7 +42,7 @@ use Rattle.swc_nodes.specs.declared.node.ExprId.{ExprId}
 use Rattle.swc_nodes.proofs.Lists.{apart-none}
 use Rattle.swc_nodes.proofs.Standing.{grows-same}
 
--- what a call read, and what is run behind it
+-- what a call read, and what is run after it
 pub then_calls : {A B : Type 0} (o : Out A) (k f : A → List TokenAndSpan → Out B)
     → ((e : A) (us : List TokenAndSpan) → k e us ≡ f e us) → and_then o k ≡ (o >>= (λ p. f p.0 p.1))
 then_calls None k f h = refl
@@ -141,7 +141,7 @@ module _ {S H F C K : Type 0} {fg : Ghosts F} {cg : Ghosts C} {kg : Ghosts K} {m
       m.no (s.unheard_call (λ x q. Some (plain_key_tree q.0, q.1)) (λ x ts. refl) h) (grows-same _)
 
 module _ {F C K : Type 0} (hook : Hook F C K) where
-  -- behind the expression of a key
+  -- after the expression of a key
   closes : (s : Span) (e : Tree F C K) (x : Scope) (us : List TokenAndSpan)
       → exec hook (run hook) None (take (λ t. check (is_rbracket t.token) (gives (computed_e (to s t.span) e)))) us
       ≡ key_close s e x us

@@ -1,6 +1,7 @@
 pub mod Ahead
 pub mod Args
 pub mod Building
+pub mod Emitted
 pub mod Endings
 pub mod Hearing
 pub mod Keys

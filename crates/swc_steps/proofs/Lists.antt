@@ -50,7 +50,7 @@ pub closed_here : (f : Token → Bool) (x : Scope) (ts : List TokenAndSpan) → 
 unfolding closed
 closed_here f x ts h = rw h refl
 
--- what a call read, and what is run behind it
+-- what a call read, and what is run after it
 pub calls : {A B : Type 0} (o : Out A) (k : A → List TokenAndSpan → Out B) → and_then o k ≡ (o >>= (λ p. k p.0 p.1))
 calls None k = refl
 calls (Some p) k = refl
@@ -75,7 +75,7 @@ module _ {F C K : Type 0} where
   twice before (Some s) e es =
       ap (λ v. listed (comma_of es) (span_of es) v) (sym (trees_append-assoc before (cons e nil) (items_of es)))
 
-  -- where none follows, the comma behind the last is that of the list
+  -- where none follows, the comma after the last is that of the list
   pub ended : (before : Trees F C K) (comma : Option Span) (s : Span)
       → put_before before (behind comma (listed None s nil)) ≡ listed comma s before
   ended before None s = ap (λ v. listed None s v) (trees_append-nil before)
@@ -84,15 +84,15 @@ module _ {F C K : Type 0} where
 -- ---- any list that a symbol reads, to the token that closes it
 
 module _ {F C K : Type 0} (all : Scope → List TokenAndSpan → Out (Tree F C K)) where
-  -- behind an item: what is left behind the comma that stands there, or where none does
+  -- after an item: what is left after the comma that stands there, or where none does
   abbrev pub tail_left : Scope → Option Span × List TokenAndSpan → Out (Tree F C K)
   tail_left x q = all x q.1 >>= (λ p. Some (behind q.0 p.0, p.1))
 
-  -- behind an item and the comma that stands there, or none: the list from that item on
+  -- after an item and the comma that stands there, or none: the list from that item on
   abbrev pub list_from : Scope → (Tree F C K × Option Span) × List TokenAndSpan → Out (Tree F C K)
   list_from x p = all x p.1 >>= (λ q. Some (put_first p.0.0 (behind p.0.1 q.0), q.1))
 
-  -- an item, and what stands behind it
+  -- an item, and what is after it
   pub item_more : (item tail : Scope → List TokenAndSpan → Out (Tree F C K))
       (separates : Scope → List TokenAndSpan → Out (Option Span))
       → ((x : Scope) (us : List TokenAndSpan) → tail x us ≡ (separates x us >>= tail_left x))
@@ -110,7 +110,7 @@ module _ {F C K : Type 0} (all : Scope → List TokenAndSpan → Out (Tree F C K
       ∙ binds (separates x p.1) (λ q. Some ((p.0, q.0), q.1)) _)
       ∙ binds (item x ts) _ _
 
--- `all` reads a list, and `one` an item of it with the comma behind it
+-- `all` reads a list, and `one` an item of it with the comma after it
 pub record IsList {F C K : Type 0} (closes : Token → Bool) (all : Scope → List TokenAndSpan → Out (Tree F C K))
     (one : Scope → List TokenAndSpan → Out (Tree F C K × Option Span)) : Type 0 where
   pub close : (x : Scope) (t : TokenAndSpan) (ts : List TokenAndSpan) → closes t.token ≡ true
@@ -142,7 +142,7 @@ module _ {F C K : Type 0} {closes : Token → Bool} {all : Scope → List TokenA
       ∙ ap (λ v. Some (v, ts)) (ended before comma t.span)
   behind_by_test before comma false x ts h = behind_more before comma x ts h
 
-  -- behind some items the list is closed, or goes on
+  -- after some items the list is closed, or goes on
   pub list_splits : (before : Trees F C K) (comma : Option Span) (x : Scope) (ts : List TokenAndSpan)
       → left_behind all before comma x ts
       ≡ (eaten closes x ts >>= (λ p. left_by all one before comma p.0 x p.1))

@@ -104,7 +104,7 @@ module _ {S F C K : Type 0} {model : Model S} {sure : Bool} {all : Reader (Tree 
       unheard_after at (unheard_call _ (left_splits all (with_comma item separates) items)
       (unheard_call _ (with_comma_splits item separates) u))
 
-  -- or what stands behind it
+  -- or what is after it
   pub comma_behind_refused : {t : Tree F C K} {e : Error} {a : Buffer S} → Heard model sure item t c d
       → Unheard model sure separates d e a → Unheard model sure all b e a
   comma_behind_refused {t} h u =
@@ -112,7 +112,7 @@ module _ {S F C K : Type 0} {model : Model S} {sure : Bool} {all : Reader (Tree 
       (unheard_after (on_call _ (with_comma_splits item separates) h.on)
       (unheard_call (λ x q. Some ((t, q.0), q.1)) (λ x ts. refl) u)))
 
--- an item, and the comma behind it
+-- an item, and the comma after it
 pub separated : {S F C K : Type 0} {model : Model S} {sure : Bool} {item : Reader (Tree F C K)}
     {separates : Reader (Option Span)} {t : Tree F C K} {s : Option Span} {b c d : Buffer S}
     → Heard model sure item t b c → On model sure separates (give s) c d
@@ -120,7 +120,7 @@ pub separated : {S F C K : Type 0} {model : Model S} {sure : Bool} {item : Reade
 separated {item = item} {separates = separates} {t = t} h o =
     heard_more _ (with_comma_splits item separates) h (on_call (λ x q. Some ((t, q.0), q.1)) (λ x ts. refl) o)
 
--- memory is wanted for the list once the item was read
+-- memory runs out for the list once the item was read
 pub unkept : {S A B : Type 0} {model : Model S} {sure : Bool} {f g : Reader A} {item : Reader B} {t : B}
     {b c d : Buffer S} {e : Error} (place : BytePos) → On model sure f g b c → Heard model sure item t c d
     → e ≡ no_memory place → Unheard model sure f b e d
@@ -143,7 +143,7 @@ module _ {S H F C K : Type 0} {fg : Ghosts F} {cg : Ghosts C} {kg : Ghosts K} {m
 module _ {S H F C K X : Type 0} {fg : Ghosts F} {cg : Ghosts C} {kg : Ghosts K} {model : Model S} {sure : Bool}
     {all : Reader (Tree F C K)} {one : Reader (Tree F C K × Option Span)} {comma : Option Span}
     {p q r : Productions S H F C K fg cg kg} (parts : X → List Part) (tree : (ℕ → Tree F C K) → X → Tree F C K) where
-  -- and put behind them
+  -- and put after them
   pub added : {c : Buffer S} {s : Option Span} {x : X} (xs ys : List X) → OfParts parts tree
       → ItemsRead model sure all (trees (map (tree (tree_at q.nodes)) xs)) (flat parts xs) comma p q
       → On model sure all (left_from all one (trees (map (tree (tree_at q.nodes)) xs))) p.input c

@@ -113,7 +113,7 @@ module _ {S H F C K : Type 0} {fg : Ghosts F} {cg : Ghosts C} {kg : Ghosts K} {m
   node_on {p} {q} {t} {ns} {k} {j} at n r le made ok refused w g h =
       on r (node_continues model sure (tree_of q.nodes) at r t (made_tree q.nodes j t n r made ok) refused h) (grows-then w g) (made_from q.nodes k j t n r le made ok)
 
-  -- what was read behind the node e, and then what makes a node of both
+  -- what was read after the node e, and then what makes a node of both
   pub tail : {B : Type 0} {q0 : Reader B} {t : B} {p m q : Productions S H F C K fg cg kg} {k : ℕ} {e : ExprId} (r : Result ExprId Error) (then : Tree F C K → Scope → B × List TokenAndSpan → Out (Tree F C K)) →
       ((x : Scope) (ts : List TokenAndSpan) → f x ts ≡ (q0 x ts >>= then (tree_of p.nodes e) x)) → Heard model sure q0 t p.input m.input → Grows p.nodes m.nodes → From k p.nodes (expr_part e) →
       GoesOn model sure itself tree_of (λ x ts. then (tree_of m.nodes e) x (t, ts)) (first_at m.nodes e.0) m r q → Produces model sure itself tree_of f (first_at p.nodes e.0) p r q
@@ -121,7 +121,7 @@ module _ {S H F C K : Type 0} {fg : Ghosts F} {cg : Ghosts C} {kg : Ghosts K} {m
       let P : Tree F C K → Type 0 = λ l. GoesOn model sure itself tree_of (λ x ts. then l x (t, ts)) (first_at m.nodes e.0) m r q in
       call r (then (tree_of p.nodes e)) step h w (λ x. from-down (first_kept w from)) (subst P (tree-later w from) goes)
 
--- a node that is made is refused for want of memory alone
+-- a node that is made is refused only when out of memory
 pub out_of_memory : {T : Type 0} (at : BytePos) (r : Result T Error) → IfErr r (λ x. x ≡ no_memory at) → IfErr r (λ e. e.kind ≡ OutOfMemory)
 out_of_memory at (Ok x) h = tt
 out_of_memory at (Err e) h = ap (λ x. x.kind) h

@@ -223,7 +223,7 @@ module _ {S : Type 0} {model : Model S} where
 
   -- what is refused after a look is refused where it was looked
   pub refused_here : {b c : Buffer S} {f : Buffer S → Error} {e : Error} → Laws model → (r : Refused model b f e c) → Refused model r.here f e c
-  refused_here laws r = record { here = r.here; looked = looked_again laws r.looked; read = r.read; lives = r.lives; answer = r.answer }
+  refused_here laws r = record { here = r.here; looked = looked_again laws r.looked; read = r.read; lives = r.lives; same = r.same; answer = r.answer }
 
   spoken_here : {b c : Buffer S} {w : Word} {at : Span} → Laws model → (s : Spoken model b w at c) → Here model b s.here
   spoken_here laws s = here_at laws s.looked (λ e. let found = s.took.current in cc)

@@ -17,7 +17,6 @@ use Rattle.swc_input.specs.declared.token.TokenAndSpan.{TokenAndSpan}
 use Rattle.swc_input.specs.Plain.{plain_token}
 use Rattle.swc_input.specs.Source.{Model, Laws}
 use Rattle.swc_input.specs.Buffer.{current, last_position}
-use Rattle.swc_input.specs.Laws.{Known-after}
 use Rattle.swc_input.specs.Recording.{Refused, unfit}
 use Rattle.swc_input.proofs.Ends.{past_end}
 use Rattle.swc_input.proofs.Refusals.{unfit-kind}
@@ -32,13 +31,13 @@ use Rattle.swc_ident.specs.Naming.{expects, Named, Notes, none-noted}
 use Rattle.swc_ident.specs.Verdicts.{name_of_any}
 use Rattle.swc_steps.specs.Args.{hash_by, hash_name}
 use Rattle.swc_steps.specs.Parsing.{seen, seen_of, Refuses, Here, On, Heard, Unheard}
-use Rattle.swc_steps.proofs.Steps.{Reader, refused, on_seen, on_took, on_then, on_call, last_was, heard_after}
+use Rattle.swc_steps.proofs.Steps.{Reader, refused, here_refused, on_seen, on_took, on_then, on_call, last_was, heard_after}
 use Rattle.swc_steps.proofs.Steps.{heard_first, heard_answer, unheard_after, unheard_at, unheard_looked}
 use Rattle.swc_steps.proofs.Steps.{unheard_memory, on_looked}
 use Rattle.swc_steps.proofs.Naming.{goes, stops, here_at, honest-name, heard_name, refused_here, unheard_name}
 use Rattle.swc_steps.proofs.Naming.{was_there}
 
--- a name, behind the `#` at s
+-- a name, after the `#` at s
 abbrev named : Span → Spelling × List TokenAndSpan → Out (Spelling × BytePos)
 named s r = Some ((spelling r.0.text (to s r.0.at), r.0.at.hi), r.1)
 
@@ -48,7 +47,7 @@ name_behind s c us = word may_name c us >>= named s
 abbrev behind_hash : Span → Reader (Spelling × BytePos)
 behind_hash s c us = if begins_at s (first us) then name_behind s c us else None
 
--- behind a `#` that was consumed
+-- after a `#` that was consumed
 hash_goes : (s : Span) (x : Scope) (t : Token) (b : Bool) (p : Span) (ts : List TokenAndSpan) → token.Hash ≡ t → s ≡ p → hash_by x (Some (record { token = plain_token t; had_line_break = b; span = p })) ts ≡ behind_hash s x ts
 hash_goes s x t b p ts e q =
     ap (λ v. hash_by x (Some (record { token = plain_token v; had_line_break = b; span = p })) ts) (sym e) ∙ ap (λ v. behind_hash v x ts) (sym q)
@@ -94,11 +93,8 @@ module _ {S : Type 0} {model : Model S} {sure : Bool} where
   unheard_refused {f = f} {b = b} {c = c} {e = e} g laws r own step = record {
     refuses = refused laws g e own r;
     none = λ n y l ts k.
-        let w = Known-after laws b r.here [] ts r.looked.look.read.took k in
-        let runs = (laws.lawful r.here.iter).sure w.1.more w.1.known in
-        let here : Here model b r.here = record { laws = laws; looked = r.looked; served = record { before = λ f. absurd (let x : true ≡ false = sym f ∙ runs in cc) }; end = λ h. (r.looked.end h).1 runs } in
         let late : Refuses model r.here e c = refused laws g e own (refused_here laws r) in
-        let u : Unheard model sure f b e c = unheard_at here (λ x vs same h. step x vs h) late in
+        let u : Unheard model sure f b e c = unheard_at (here_refused r.looked late n) (λ x vs same h. step x vs h) late in
         u.none n y l ts k;
   }
 

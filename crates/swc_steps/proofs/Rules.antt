@@ -169,7 +169,7 @@ not_private true false true i z = refl
 not_private true true true i z = absurd cc
 
 module _ {F C K : Type 0} (hook : Hook F C K) where
-  -- what a call read, and what reads as what is run behind it does
+  -- what a call read, and what reads as what is run after it does
   then_calls : {A B : Type 0} (o : Out A) (k : A → List TokenAndSpan → Out B) (f : A → List TokenAndSpan → Out B)
       → ((e : A) (us : List TokenAndSpan) → k e us ≡ f e us) → and_then o k ≡ (o >>= (λ p. f p.0 p.1))
   then_calls None k f h = refl
@@ -457,7 +457,7 @@ module _ {F C K : Type 0} (hook : Hook F C K) where
 
   -- ---- binary operators (13.6 to 13.13)
 
-  -- behind `#` and a name no link stands before `in`, and no `++` or `--`
+  -- after `#` and a name no link stands before `in`, and no `++` or `--`
   private_stays : (e : Tree F C K) (x : Scope) (ts : List TokenAndSpan) → at_token is_in (first ts) ≡ true
       → behind_operand hook e x ts ≡ Some (e, ts)
   unfolding behind_operand
@@ -473,7 +473,7 @@ module _ {F C K : Type 0} (hook : Hook F C K) where
           ∙ knot hook (updates e) (inner x) us
       by-token v b s h = absurd cc
 
-  -- what the code reads as `#` and a name, of a token behind the `#` at s
+  -- what the code reads as `#` and a name, of a token after the `#` at s
   abbrev joined_by : Span → Bool → Option Spelling → List TokenAndSpan → Out (Spelling × BytePos)
   joined_by s j o us =
       if j then (one o us >>= (λ r. Some ((spelling r.0.text (to s r.0.at), r.0.at.hi), r.1))) else None

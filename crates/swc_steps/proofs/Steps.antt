@@ -18,7 +18,7 @@ pub use Rattle.swc_steps.proofs.Steps.Consumed.{forgoes_on, less, lower, more_re
 pub use Rattle.swc_steps.proofs.Steps.Consumed.{place_was, last_was, acts_later, acts_of, tries_node, acts_after}
 pub use Rattle.swc_steps.proofs.Steps.Consumed.{notes_after, falls_after, consumes_falls}
 pub use Rattle.swc_steps.proofs.Steps.Looks.{seen_some, looked_again, refused, here_now, looks, required, at_was}
-pub use Rattle.swc_steps.proofs.Steps.Looks.{literal_took, here_leads, told_leads}
+pub use Rattle.swc_steps.proofs.Steps.Looks.{literal_took, here_leads, here_refused, told_leads}
 pub use Rattle.swc_steps.proofs.Steps.Tokens.{on_here, on_by, on_seen, on_told, on_took, on_then, on_looked, on_same}
 pub use Rattle.swc_steps.proofs.Steps.Tokens.{heard_after, heard_then, on_to, heard_took, heard_first, on_none}
 pub use Rattle.swc_steps.proofs.Steps.Tokens.{on_answer, heard_answer}

@@ -17,7 +17,7 @@ use Rattle.swc_grammar.specs.Words.{◌>>=◌, rest, begins_at, word}
 use Rattle.swc_steps.specs.Lists.{separated, with_comma}
 use Rattle.swc_nodes.specs.Lists.{seq_between}
 
--- ---- names, and commas behind arguments
+-- ---- names, and commas after arguments
 
 -- a `#`, and a word that begins where it ends, with where that ends
 abbrev pub hash_by : Scope → Option TokenAndSpan → List TokenAndSpan → Out (Spelling × BytePos)
@@ -28,7 +28,7 @@ hash_by c (Some t) us = if is_hash t.token && begins_at t.span (first us) then
 unfoldable pub hash_name : Scope → List TokenAndSpan → Out (Spelling × BytePos)
 hash_name c ts = hash_by c (first ts) (rest ts)
 
--- Behind a comma: it may be the last of a list, or it isn't. Those of `import` may have none.
+-- After a comma: it may be the last of a list, or it isn't. Those of `import` may have none.
 abbrev pub last_by : Bool → Bool → List TokenAndSpan → Out (Unit {0})
 last_by closes may_end ts = if closes && not may_end then None else Some (tt, ts)
 
@@ -39,7 +39,7 @@ abbrev pub comma_behind : Bool → Option Span → Scope → List TokenAndSpan �
 comma_behind true (Some s) c ts = last_comma c ts >>= (λ p. Some (Some s, p.1))
 comma_behind i o c ts = Some (o, ts)
 
--- behind an argument, of `import` or another: a comma, or nothing before the parenthesis that closes the list
+-- after an argument, of `import` or another: a comma, or nothing before the parenthesis that closes the list
 unfoldable pub separated_args : Bool → Scope → List TokenAndSpan → Out (Option Span)
 separated_args i c ts = separated is_rparen c ts >>= (λ p. comma_behind i p.0 c p.1)
 
@@ -75,12 +75,12 @@ module _ {F C K : Type 0} (hook : Hook F C K) where
   unfoldable pub args_inside : Bool → Scope → List TokenAndSpan → Out (Tree F C K)
   args_inside i c ts = run hook (sym (Args i)) (with_in c) ts
 
-  -- one argument, and the comma behind it, or before the parenthesis that closes the list
+  -- one argument, and the comma after it, or before the parenthesis that closes the list
   abbrev pub arg_item : Bool → Scope → List TokenAndSpan → Out (Tree F C K × Option Span)
   arg_item i = with_comma (run hook (sym Item)) (separated_args i)
 
   -- ---- parentheses (13.2.9)
 
-  -- behind the parenthesis at s
+  -- after the parenthesis at s
   unfoldable pub paren_expr_tail : Span → Scope → List TokenAndSpan → Out (Tree F C K)
   paren_expr_tail s c ts = args_inside false c ts >>= (λ p. paren_closed (paren_of c s p.0) p.1)

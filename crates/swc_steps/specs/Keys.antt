@@ -71,12 +71,12 @@ module _ {F C K : Type 0} where
   abbrev pub key_plain : Scope → List TokenAndSpan → Out (Tree F C K)
   key_plain c ts = plain_key c ts >>= (λ p. Some (plain_key_tree p.0, p.1))
 
-  -- behind the expression of a key whose bracket is at s
+  -- after the expression of a key whose bracket is at s
   abbrev pub key_close : Span → Tree F C K → Scope → List TokenAndSpan → Out (Tree F C K)
   key_close s e c ts = expected is_rbracket c ts >>= (λ q. Some (computed_e (to s q.0) e, q.1))
 
 module _ {F C K : Type 0} (hook : Hook F C K) where
-  -- behind the bracket at s: an expression, in which `in` is an operator, and the bracket that closes the key
+  -- after the bracket at s: an expression, in which `in` is an operator, and the bracket that closes the key
   unfoldable pub computed_key : Span → Scope → List TokenAndSpan → Out (Tree F C K)
   computed_key s c ts = inside hook c ts >>= (λ p. key_close s p.0 c p.1)
 

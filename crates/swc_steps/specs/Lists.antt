@@ -66,7 +66,7 @@ eaten_by b ts = Some (None, ts)
 unfoldable pub eaten : (Token → Bool) → Scope → List TokenAndSpan → Out (Option Span)
 eaten f c ts = eaten_by (at_token f (first ts)) ts
 
--- behind an item of a list: a comma, or nothing before the token that closes the list
+-- after an item of a list: a comma, or nothing before the token that closes the list
 unfoldable pub closed : (Token → Bool) → Scope → List TokenAndSpan → Out (Unit {0})
 closed f c ts = if at_token f (first ts) then Some (tt, ts) else None
 
@@ -77,7 +77,7 @@ separated_by f None c ts = closed f c ts >>= (λ p. Some (None, p.1))
 unfoldable pub separated : (Token → Bool) → Scope → List TokenAndSpan → Out (Option Span)
 separated f c ts = eaten is_comma c ts >>= (λ p. separated_by f p.0 c p.1)
 
--- what is left of a list behind an item and a comma, or none
+-- what is left of a list after an item and a comma, or none
 abbrev pub behind : {F C K : Type 0} → Option Span → Tree F C K → Tree F C K
 behind None e = e
 behind (Some s) e = behind_comma s e
@@ -87,12 +87,12 @@ abbrev pub put_before : {F C K : Type 0} → Trees F C K → Tree F C K → Tree
 put_before ts e = listed (comma_of e) (span_of e) (trees_append ts (items_of e))
 
 module _ {F C K : Type 0} where
-  -- an item, and the comma behind it, or none
+  -- an item, and the comma after it, or none
   unfoldable pub with_comma : (Scope → List TokenAndSpan → Out (Tree F C K))
       → (Scope → List TokenAndSpan → Out (Option Span)) → Scope → List TokenAndSpan → Out (Tree F C K × Option Span)
   with_comma item separates c ts = item c ts >>= (λ p. separates c p.1 >>= (λ q. Some ((p.0, q.0), q.1)))
 
-  -- the same, or a hole, which is a comma, and has none behind it
+  -- the same, or a hole, which is a comma, and has none after it
   abbrev pub elided_by : (Scope → List TokenAndSpan → Out (Tree F C K × Option Span)) → Option Span → Scope
       → List TokenAndSpan → Out (Tree F C K × Option Span)
   elided_by one None c ts = one c ts
@@ -102,9 +102,9 @@ module _ {F C K : Type 0} where
       → Out (Tree F C K × Option Span)
   or_elided one c ts = eaten is_comma c ts >>= (λ p. elided_by one p.0 c p.1)
 
--- of a list that `all` reads, and of which `one` reads an item with the comma behind it
+-- of a list that `all` reads, and of which `one` reads an item with the comma after it
 module _ {F C K : Type 0} (all : Scope → List TokenAndSpan → Out (Tree F C K)) where
-  -- Behind some items, and the comma behind the last of them: those that are left, to where the list is closed; and
+  -- After some items, and the comma after the last of them: those that are left, to where the list is closed; and
   -- from the next item on.
   unfoldable pub left_behind : Trees F C K → Option Span → Scope → List TokenAndSpan → Out (Tree F C K)
   left_behind before comma c ts = all c ts >>= (λ p. Some (put_before before (behind comma p.0), p.1))
@@ -122,7 +122,7 @@ module _ {F C K : Type 0} (all : Scope → List TokenAndSpan → Out (Tree F C K
 module _ {F C K : Type 0} (hook : Hook F C K) where
   -- ---- array literals (13.2.4)
 
-  -- elements among which `in` is an operator, and behind the bracket at s
+  -- elements among which `in` is an operator, and after the bracket at s
   unfoldable pub elements_inside : Scope → List TokenAndSpan → Out (Tree F C K)
   elements_inside c ts = run hook (sym Elements) (with_in c) ts
 
@@ -130,7 +130,7 @@ module _ {F C K : Type 0} (hook : Hook F C K) where
   array_lit_tail s c ts =
       elements_inside c ts >>= (λ p. Some (array_e (comma_of p.0) (to s (span_of p.0)) (items_of p.0), p.1))
 
-  -- one element, and the comma behind it, or before the bracket that closes the list
+  -- one element, and the comma after it, or before the bracket that closes the list
   abbrev pub element_item : Scope → List TokenAndSpan → Out (Tree F C K × Option Span)
   element_item = with_comma (run hook (sym Item)) (separated is_rbracket)
 

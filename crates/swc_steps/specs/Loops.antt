@@ -14,7 +14,7 @@ use Rattle.swc_steps.specs.declared.productions.Productions.{Productions}
 use Rattle.swc_steps.specs.Lists.{left_behind}
 use Rattle.swc_steps.specs.Parsing.{On}
 
--- From p to q: of a list that `all` reads, items were read, and the comma behind the last of them. Their parts lie apart
+-- From p to q: of a list that `all` reads, items were read, and the comma after the last of them. Their parts lie apart
 -- among nodes that were appended, and what is left is read at q.
 pub record ItemsRead {S H F C K : Type 0} {fg : Ghosts F} {cg : Ghosts C} {kg : Ghosts K} (model : Model S) (sure : Bool)
     (all : Scope → List TokenAndSpan → Out (Tree F C K)) (items : Trees F C K) (parts : List Part)

@@ -55,7 +55,7 @@ use Rattle.swc_steps.specs.Lists.{eaten}
 use Rattle.swc_steps.specs.declared.tokens.Listed.{Listed}
 use Rattle.swc_steps.specs.declared.productions.Productions.{Productions}
 
--- want of memory
+-- out of memory
 abbrev pub is_memory : SyntaxError → Bool
 is_memory OutOfMemory = true
 is_memory k = false
@@ -69,7 +69,7 @@ abbrev pub is_strict : Bool → Token → Bool
 is_strict is_module (token.Word w) = is_strict_in is_module w
 is_strict is_module t = false
 
--- `async`, and behind it, on the same line, `function`
+-- `async`, and after it, on the same line, `function`
 abbrev pub begins_async : List TokenAndSpan → Bool
 begins_async ts = at_token is_async (first ts) && is_function_here (rest ts)
 
@@ -91,7 +91,7 @@ abbrev pub breaks_at : Option TokenAndSpan → Bool
 breaks_at None = true
 breaks_at (Some t) = t.had_line_break
 
--- what f reads behind the first token
+-- what f reads after the first token
 abbrev pub behind : {A : Type 0} → (Scope → List TokenAndSpan → Out A) → Scope → List TokenAndSpan → Out A
 behind f c ts = f c (rest ts)
 
@@ -158,13 +158,13 @@ module _ {S : Type 0} (model : Model S) where
     pub lives : Lives model b c
     pub stays : to_come model c ≡ to_come model b
 
-  -- A refusal, which is never that of a failed parser. Where the source has failed, and no token was held before, it is want of memory.
+  -- A refusal, which is never that of a failed parser. Where the source has failed, and no token was held before, it is out of memory.
   pub record Refuses (b : Buffer S) (e : Error) (c : Buffer S) : Type 0 where
     pub spends : Spends b c
     pub kind : e.kind ≢ ParserFailed
     pub served : e.kind ≢ OutOfMemory → Served model b c
 
-  -- a refusal for want of memory
+  -- a refusal when out of memory
   pub record Forgoes (b : Buffer S) (e : Error) (c : Buffer S) : Type 0 where
     pub spends : Spends b c
     pub kind : e.kind ≡ OutOfMemory
@@ -177,7 +177,7 @@ module _ {S : Type 0} (model : Model S) where
   abbrev pub Acts : {T : Type 0} → Buffer S → Result T Error → Buffer S → Type 0
   Acts b r c = MatchResult r (λ t. Leads b c) (λ e. Refuses b e c)
 
-  -- a call that is refused for want of memory alone
+  -- a call that is refused only when out of memory
   abbrev pub Tries : {T : Type 0} → Buffer S → Result T Error → Buffer S → Type 0
   Tries b r c = MatchResult r (λ t. Leads b c) (λ e. Forgoes b e c)
 
@@ -188,7 +188,7 @@ module _ {S : Type 0} (model : Model S) where
     pub served : Served model b c
     pub end : c.cur ≡ None → (model.state c.iter).ended ≡ true
 
-  -- such a look, which is refused for want of memory alone
+  -- such a look, which is refused only when out of memory
   abbrev pub Looks : {T : Type 0} → Buffer S → Result T Error → Buffer S → Type 0
   Looks b r c = MatchResult r (λ t. Here b c) (λ e. Forgoes b e c)
 
@@ -200,7 +200,7 @@ module _ {S : Type 0} (model : Model S) where
     pub lives : Lives model b c
     pub told : (ts : List TokenAndSpan) → Future model c ts → first ts ≡ seen c → test ts ≡ answer
 
-  -- such a look ahead, which is refused for want of memory alone
+  -- such a look ahead, which is refused only when out of memory
   abbrev pub Tells : {V : Type 0} → (List TokenAndSpan → V) → Buffer S → Result V Error → Buffer S → Type 0
   Tells test b r c = MatchResult r (λ v. Told test v b c) (λ e. Forgoes b e c)
 
@@ -222,7 +222,7 @@ module _ {S : Type 0} (model : Model S) where
     pub passes : well ≡ true → (leads.taken ≡ []) × (recorded model c ≡ recorded model b)
     pub notes : well ≡ false → Loud model b → recorded model b < recorded model c
 
-  -- such a check, which is refused for want of memory alone
+  -- such a check, which is refused only when out of memory
   abbrev pub Checked : {T : Type 0} → Bool → Buffer S → Result T Error → Buffer S → Type 0
   Checked well b r c = MatchResult r (λ t. Checks well b c) (λ e. Forgoes b e c)
 
@@ -240,7 +240,7 @@ module _ {S : Type 0} (model : Model S) (sure : Bool) where
     pub on : On f (λ x ts. Some (t, ts)) b c
     pub onward : Onward model b on.leads.taken c
 
-  -- a refusal where f reads nothing, but for want of memory
+  -- a refusal where f reads nothing, except when out of memory
   pub record Unheard {A : Type 0} (f : Scope → List TokenAndSpan → Out A) (b : Buffer S) (e : Error) (c : Buffer S) : Type 0 where
     pub refuses : Refuses model b e c
     pub none : e.kind ≢ OutOfMemory → sure ≡ true → Loud model b → (ts : List TokenAndSpan) → Known model b ts → f (scope model b) ts ≡ None
@@ -283,7 +283,7 @@ module _ {F C K : Type 0} {fg : Ghosts F} {cg : Ghosts C} {kg : Ghosts K} where
   abbrev pub operand_of : ℕ → Nodes F C K fg cg kg → ExprId × BinaryOp → Type 0
   operand_of k ns r = From k ns (expr_part r.0)
 
-  -- of an item of a list, of an element of an array, with the place of the comma behind it, and of all its elements
+  -- of an item of a list, of an element of an array, with the place of the comma after it, and of all its elements
   abbrev pub item_of : ℕ → Nodes F C K fg cg kg → ExprOrSpread ExprId → Type 0
   item_of k ns x = From k ns (expr_part x.expr)
 
@@ -293,7 +293,7 @@ module _ {F C K : Type 0} {fg : Ghosts F} {cg : Ghosts C} {kg : Ghosts K} where
   abbrev pub elems_of : ℕ → Nodes F C K fg cg kg → Listed (Option (ExprOrSpread ExprId)) → Type 0
   elems_of k ns l = Apart k ns (elem_parts l.items)
 
-  -- of an argument, with the place of the comma behind it or not, of all arguments, and of what names a member, with
+  -- of an argument, with the place of the comma after it or not, of all arguments, and of what names a member, with
   -- where that ends
   abbrev pub arg_item_of : ℕ → Nodes F C K fg cg kg → ExprOrSpread ExprId × Option Span → Type 0
   arg_item_of k ns p = Apart k ns (item_parts p.0)
@@ -304,7 +304,7 @@ module _ {F C K : Type 0} {fg : Ghosts F} {cg : Ghosts C} {kg : Ghosts K} where
   abbrev pub member_name_of : ℕ → Nodes F C K fg cg kg → MemberProp ExprId × BytePos → Type 0
   member_name_of k ns p = Apart k ns (member_parts p.0)
 
-  -- of a key, of a method's function, of a property, with the place of the comma behind it or not, and of all
+  -- of a key, of a method's function, of a property, with the place of the comma after it or not, and of all
   -- properties of an object literal
   abbrev pub key_of : ℕ → Nodes F C K fg cg kg → PropName ExprId → Type 0
   key_of k ns x = Apart k ns (key_parts x)
@@ -384,7 +384,7 @@ module _ {S H F C K : Type 0} {fg : Ghosts F} {cg : Ghosts C} {kg : Ghosts K} (m
   pub record Recovers (Effect : Buffer S → Result T Error → Buffer S → Type 0) (kind : SyntaxError) (p : Productions S H F C K fg cg kg) (r : Result T Error) (q : Productions S H F C K fg cg kg) : Type 0 where
     pub effect : Effect p.input r q.input
     pub notes : Loud model p.input → OnOk r (recorded model p.input < recorded model q.input)
-    -- want of memory is not recovered from
+    -- out of memory is not recovered from
     pub some : OnOk r (kind ≢ OutOfMemory)
     pub memory : IfErr r (λ e. e.kind ≢ OutOfMemory → kind ≢ OutOfMemory)
     pub falls : OnOk r (to_come model q.input ≤ to_come model p.input)

@@ -1,5 +1,5 @@
 -- What the steps of the code read, by the clean parser: right-hand sides of productions, and what is left of them
--- behind their first parts.
+-- after their first parts.
 use Rattle.std.specs.Prelude.{ℕ, List, Option, Some, None, Bool, true, false, not, ◌&&◌, if◌then◌else◌}
 use Rattle.swc_context.specs.declared.operator.BinaryOp.{BinaryOp}
 use Rattle.swc_context.specs.declared.operator.UnaryOp.{UnaryOp}
@@ -48,7 +48,7 @@ module _ {F C K : Type 0} (hook : Hook F C K) where
 
   -- ---- prefix operators (13.5)
 
-  -- behind the prefix operator at s, and behind its operand
+  -- after the prefix operator at s, and after its operand
   unfoldable pub unary_op_tail : Span → UnaryOp → Scope → List TokenAndSpan → Out (Tree F C K)
   unary_op_tail s op c ts = reading (plan (do
     e ← symbol Unary (inner c)
@@ -70,8 +70,8 @@ module _ {F C K : Type 0} (hook : Hook F C K) where
 
   -- ---- binary operators (13.6 to 13.13)
 
-  -- one operator above the precedence m with what stands right of it, or none; what stands behind the operator, and
-  -- behind its right operand
+  -- one operator above the precedence m with what stands right of it, or none; what is after the operator, and
+  -- after its right operand
   unfoldable pub turn : Tree F C K → ℕ → Scope → List TokenAndSpan → Out (Tree F C K × Option ℕ)
   turn l m c ts = reading (turn_plan (operator_at c.context (first ts)) l m c) ts
 
@@ -92,7 +92,7 @@ module _ {F C K : Type 0} (hook : Hook F C K) where
 
   -- ---- `#` and a name (13.10)
 
-  -- behind the `#` at s
+  -- after the `#` at s
   unfoldable pub private_expr_tail : Span → Scope → List TokenAndSpan → Out (Tree F C K)
   private_expr_tail s c ts = reading (plan (do
     n ← one (any_name c)
@@ -107,7 +107,7 @@ module _ {F C K : Type 0} (hook : Hook F C K) where
   unfoldable pub private_operand : Scope → List TokenAndSpan → Out (Tree F C K)
   private_operand c ts = hash_name c ts ▸ (λ p. before_in p.0.0 c p.1)
 
-  -- Behind what begins a left-hand side: its links, and `++` or `--`.
+  -- After what begins a left-hand side: its links, and `++` or `--`.
   unfoldable pub behind_operand : Tree F C K → Scope → List TokenAndSpan → Out (Tree F C K)
   behind_operand e c ts = run hook (links true e) (inner c) ts ▸ (λ p. run hook (updates p.0) (inner c) p.1)
 

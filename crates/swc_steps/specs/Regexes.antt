@@ -31,7 +31,7 @@ regex_first (Some t) us = one (regex_in t.token t.span) us
 unfoldable pub regex_alone : Scope → List TokenAndSpan → Out Regex
 regex_alone c ts = regex_first (first ts) (rest ts)
 
--- behind the slash at s: it spans both
+-- after the slash at s: it spans both
 abbrev pub from_slash : Span → Regex → Regex
 from_slash s r = record r { span = to s r.span }
 
@@ -42,7 +42,7 @@ abbrev pub regex_by : Option TokenAndSpan → Scope → List TokenAndSpan → Ou
 regex_by None c ts = None
 regex_by (Some t) c ts = if is_slash t.token then regex_tail t.span c (rest ts) else regex_alone c ts
 
--- a regular expression, whatever its flags: a slash and what the lexer gives behind it, or a whole one
+-- a regular expression, whatever its flags: a slash and what the lexer gives after it, or a whole one
 unfoldable pub regex_text : Scope → List TokenAndSpan → Out Regex
 regex_text c ts = regex_by (first ts) c ts
 

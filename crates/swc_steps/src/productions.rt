@@ -41,6 +41,8 @@ pub struct Productions<I: Tokens, B: Bodies<I>> {
     pub bodies: B,
     /// Whether `import.` was read.
     pub found_module_item: bool,
+    /// Whether a production was refused because it would have been nested too deeply.
+    pub too_deep: bool,
 }
 
 impl<I: Tokens, B: Bodies<I>> Drop for Productions<I, B> {
@@ -51,6 +53,7 @@ impl<I: Tokens, B: Bodies<I>> Drop for Productions<I, B> {
             nodes: _,
             bodies: _,
             found_module_item: _,
+            too_deep: _,
         } = self;
     }
 }
@@ -66,6 +69,7 @@ impl<I: Tokens, B: Bodies<I>> Productions<I, B> {
             nodes,
             bodies: _,
             found_module_item: _,
+            too_deep: _,
         } = self;
         nodes
     }
@@ -80,6 +84,7 @@ impl<I: Tokens, B: Bodies<I>> Productions<I, B> {
             nodes,
             bodies,
             found_module_item: _,
+            too_deep: _,
         } = self;
         (input, nodes, bodies)
     }
@@ -155,7 +160,7 @@ impl<I: Tokens, B: Bodies<I>> Productions<I, B> {
         self.input.get_ctx()
     }
 
-    /// The number of a node. Refused only for want of memory.
+    /// The number of a node. Refused only when out of memory.
     pub fn made(&self, id: Result<ExprId, AllocError>) -> PResult<ExprId>
         ensures ok { IfOk result (λ r. id ≡ Ok r) }
         ensures refused { IfErr result (λ e. e ≡ no_memory (last_position self.now.input)) }
@@ -166,7 +171,7 @@ impl<I: Tokens, B: Bodies<I>> Productions<I, B> {
         }
     }
 
-    /// Adds to a list. Refused only for want of memory.
+    /// Adds to a list. Refused only when out of memory.
     pub fn add<T: Drop>(&self, list: &mut Vec<T>, item: T) -> PResult<()>
         ensures added { OnOk result (list.new.items ≡ list.old.items ++ item ∷ []) }
         ensures refused { IfErr result (λ e. e ≡ no_memory (last_position self.now.input)) }

@@ -72,7 +72,7 @@ fn parse_regex_text<I: Tokens>(input: &mut Buffer<I>) -> PResult<Regex>
 }
 
 /// A regular expression from the slash that is current: a lexer is told that one begins there, and gives what stands
-/// behind the slash, which is refused where it is none.
+/// after the slash, which is refused where it is none.
 fn parse_slash_regex<I: Tokens>(input: &mut Buffer<I>) -> PResult<Regex>
     requires { at_token is_slash (seen input.old) ≡ true }
     ensures parses { ParsesAlone I.model (λ r. r) regex_text input.old result input.new }

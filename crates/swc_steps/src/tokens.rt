@@ -33,7 +33,7 @@ use swc_input::buffer::Buffer;
 use swc_input::token::Token;
 use swc_input::tokens::Tokens;
 
-/// Looks at the current token: whether there is one, and not the end. Refused only for want of memory.
+/// Looks at the current token: whether there is one, and not the end. Refused only when out of memory.
 pub fn look<I: Tokens>(input: &mut Buffer<I>) -> PResult<bool>
     ensures looks { Looks I.model input.old result input.new }
     ensures token { IfOk result (λ r. r ≡ true → IsSome (current input.new)) }
@@ -45,7 +45,7 @@ pub fn look<I: Tokens>(input: &mut Buffer<I>) -> PResult<bool>
 }
 
 /// Where the current token begins, in bytes; at the end, where the token consumed last ends. Refused
-/// only for want of memory.
+/// only when out of memory.
 pub fn cur_pos<I: Tokens>(input: &mut Buffer<I>) -> PResult<BytePos>
     ensures looks { Looks I.model input.old result input.new }
     ensures falls { to_come I.model input.new ≤ to_come I.model input.old }
@@ -57,7 +57,7 @@ pub fn cur_pos<I: Tokens>(input: &mut Buffer<I>) -> PResult<BytePos>
     }
 }
 
-/// Whether a line break stands before the current token; true at the end. Refused only for want of memory.
+/// Whether a line break stands before the current token; true at the end. Refused only when out of memory.
 pub fn is_after_line_break<I: Tokens>(input: &mut Buffer<I>) -> PResult<bool>
     ensures looks { Looks I.model input.old result input.new }
     ensures value { IfOk result (λ r. r ≡ breaks_at (seen input.new)) }
@@ -66,7 +66,7 @@ pub fn is_after_line_break<I: Tokens>(input: &mut Buffer<I>) -> PResult<bool>
     Ok(!look(input)? || input.had_line_break_before_cur())
 }
 
-/// Whether `async` is current, and behind it, on the same line, `function`. Refused only for want of memory.
+/// Whether `async` is current, and after it, on the same line, `function`. Refused only when out of memory.
 pub fn is_async_function<I: Tokens>(input: &mut Buffer<I>) -> PResult<bool>
     ensures tells { Tells I.model begins_async input.old result input.new }
     ensures begins { IfOk result (λ r. r ≡ true → at_function (current input.new) ≡ true) }
@@ -90,7 +90,7 @@ pub fn is_async<I: Tokens>(input: &Buffer<I>) -> bool
     }
 }
 
-/// Whether `function` stands behind the current token, on the same line. Refused only for want of memory.
+/// Whether `function` is after the current token, on the same line. Refused only when out of memory.
 fn is_function_behind<I: Tokens>(input: &mut Buffer<I>) -> PResult<bool>
     requires { IsSome (current input.old) }
     ensures tells { Tells I.model (λ ts. is_function_here (rest ts)) input.old result input.new }
@@ -109,7 +109,7 @@ fn is_function_behind<I: Tokens>(input: &mut Buffer<I>) -> PResult<bool>
     }
 }
 
-/// Whether the token behind the current one is `function`; nothing where there is none.
+/// Whether the token after the current one is `function`; nothing where there is none.
 fn peek_function<I: Tokens>(input: &mut Buffer<I>) -> Option<bool>
     requires { IsSome (current input.old) }
     ensures peeked { Peeked I.model input.old input.new }
@@ -147,6 +147,7 @@ pub fn bump<I: Tokens>(input: &mut Buffer<I>) -> Token
 }
 
 /// Consumes the current token and lets it go.
+#[inline(never)]
 pub fn skip<I: Tokens>(input: &mut Buffer<I>)
     requires { IsSome (current input.old) }
     ensures took { (t : Token) × Bumped I.model input.old t input.new }
@@ -206,7 +207,7 @@ pub fn emit_err<I: Tokens>(input: &mut Buffer<I>, span: Span, kind: SyntaxError)
     input.emit_err(span, kind)
 }
 
-/// Records a refusal as a fault, unless it is want of memory, which is passed on.
+/// Records a refusal as a fault, unless it is out of memory, which is passed on.
 pub fn emit_error<I: Tokens>(input: &mut Buffer<I>, error: Error) -> PResult<()>
     requires { error.kind ≢ ParserFailed }
     ensures tries { Tries I.model input.old result input.new }
@@ -278,7 +279,7 @@ pub fn parse_private_name<I: Tokens>(
     Ok((name, end))
 }
 
-/// What a hook answered, or, where the source has failed, want of memory in its place: so no hook is asked to tell.
+/// What a hook answered, or, where the source has failed, out of memory in its place: so no hook is asked to tell.
 pub fn answered<I: Tokens, T: Drop>(input: &Buffer<I>, answer: PResult<T>) -> PResult<T>
     ensures runs { (state_of I.model input.now).failed ≡ false → result ≡ answer }
     ensures fails { (state_of I.model input.now).failed ≡ true → result ≡ Err (no_memory (last_position input.now)) }
@@ -289,7 +290,7 @@ pub fn answered<I: Tokens, T: Drop>(input: &Buffer<I>, answer: PResult<T>) -> PR
     Err(input.out_of_memory())
 }
 
-/// A copy of the text. Refused only for want of memory.
+/// A copy of the text. Refused only when out of memory.
 pub fn copy_of<I: Tokens>(input: &Buffer<I>, text: &Atom) -> PResult<Atom>
     ensures refused { IfErr result (λ e. e ≡ no_memory (last_position input.now)) }
 {
@@ -299,7 +300,7 @@ pub fn copy_of<I: Tokens>(input: &Buffer<I>, text: &Atom) -> PResult<Atom>
     }
 }
 
-/// Whether the error is want of memory.
+/// Whether the error is out of memory.
 pub fn is_out_of_memory(error: &Error) -> bool
     ensures { result ≡ is_memory error.now.kind }
 {
@@ -424,7 +425,7 @@ fn is_name(token: &Token, name: &str) -> bool
     }
 }
 
-/// Consumes the sign where it is current, and answers its place. Refused only for want of memory.
+/// Consumes the sign where it is current, and answers its place. Refused only when out of memory.
 pub fn eat<I: Tokens>(input: &mut Buffer<I>, sign: Sign) -> PResult<Option<Span>>
     ensures eats { Eats I.model (is_sign_token sign) input.old result input.new }
     ensures falls { OnOk result (to_come I.model input.new ≤ to_come I.model input.old) }
@@ -495,7 +496,7 @@ pub fn expect_or<I: Tokens>(input: &mut Buffer<I>, sign: Sign, kind: SyntaxError
     }
 }
 
-/// The items of a list, the place of a comma behind the last one, and that of the sign that closes the list.
+/// The items of a list, the place of a comma after the last one, and that of the sign that closes the list.
 #[derive(Drop)]
 pub struct Listed<T> {
     pub items: Vec<T>,
@@ -503,7 +504,7 @@ pub struct Listed<T> {
     pub end: Span,
 }
 
-/// Consumes what stands behind an item of a list: a comma, whose place is answered, or nothing where the sign that
+/// Consumes what is after an item of a list: a comma, whose place is answered, or nothing where the sign that
 /// closes the list is current.
 pub fn separate<I: Tokens>(input: &mut Buffer<I>, close: Sign) -> PResult<Option<Span>>
     ensures separates { ContinuesAlone I.model (λ s. s) (separated (is_sign_token close)) input.old result input.new }
@@ -530,7 +531,7 @@ fn require_close<I: Tokens>(input: &mut Buffer<I>, close: Sign) -> PResult<()>
     Ok(())
 }
 
-/// The refusal of what stands behind dots, labelled with their place; want of memory stays as it is.
+/// The refusal of what is after dots, labelled with their place; out of memory stays as it is.
 #[inline(never)]
 pub fn label_spread<I: Tokens>(
     alloc: Global,
@@ -550,7 +551,7 @@ pub fn label_spread<I: Tokens>(
     }
 }
 
-/// The refusal of an operand of `yield`, labelled with the place of that, and of a `*` behind it; want of memory stays
+/// The refusal of an operand of `yield`, labelled with the place of that, and of a `*` after it; out of memory stays
 /// as it is.
 #[inline(never)]
 pub fn label_yield<I: Tokens>(alloc: Global, input: &Buffer<I>, span: Span, error: Error) -> Error

@@ -1,4 +1,4 @@
--- Blanks and comments one behind the other, and between tokens.
+-- Blanks and comments one after the other, and between tokens.
 use Rattle.std.proofs.Common.{◌≡◌, ℕ, ◌≤◌, List, [], ◌∷◌, ◌++◌, length, subst, arith}
 use Rattle.swc_input.specs.declared.token.TokenAndSpan.{TokenAndSpan}
 use Rattle.swc_tokens.specs.Blanks.{IsBlank, AreBlanks, OnlyBlanksBetween}

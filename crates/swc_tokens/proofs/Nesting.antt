@@ -59,12 +59,12 @@ behind_text_part before brackets _ _ _ brace_outside is = cc
 behind_text_part before brackets _ _ _ close_outside is = cc
 behind_text_part before brackets _ _ _ other is = cc
 
--- behind a text a delimiter is read
+-- after a text a delimiter is read
 pub delimiter_behind : (before brackets : List Open) (here behind : Next) (t : Token) → Turns before here (part_of t) brackets behind → IsTrue (is_text t) → behind ≡ reads.Delimiter
 delimiter_behind before brackets here behind t turn is =
     behind_text_part before brackets here behind (part_of t) turn (part_of_text t is)
 
--- behind what is no text no delimiter is read
+-- after what is no text no delimiter is read
 text_before : (before brackets : List Open) (here behind : Next) (p : Part) → Turns before here p brackets behind → behind ≡ reads.Delimiter → p ≡ part.Text
 text_before before brackets _ _ _ text is = refl
 text_before before brackets _ _ _ begins is = cc

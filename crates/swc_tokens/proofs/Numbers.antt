@@ -17,7 +17,7 @@ IsFractional_dotted text low point exponent high whole rest scale = dotted point
 pub IsFractional_scaled : (text : List ℕ) (low exponent high : ℕ) → IsInteger text low exponent → IsExponent text exponent high → IsFractional text low high
 IsFractional_scaled text low exponent high whole scale = scaled exponent whole scale
 
--- a number that begins with a dot has a digit behind it
+-- a number that begins with a dot has a digit after it
 pub IsFractional_dot_first : (text : List ℕ) (low exponent high : ℕ) → StartsNumber text low → ((b : ℕ) → slice_get text (low + 1) ≡ Some b → IsTrue (is_digit Decimal b) → low + 1 < exponent) → IsFraction text low exponent → MayBeExponent text exponent high → IsFractional text low high
 IsFractional_dot_first text low exponent high (digit b there is) behind rest scale =
     let point : b ≡ 46 = let both = sym there ∙ rest.dot in cc in absurd (let no = rw point at is in cc)

@@ -68,7 +68,7 @@ left_less_taken source low lo high coming behind t (took_some more) after within
 left_less_taken source low lo high coming behind t (took_text forward here is) after within texts =
     let one = ap texts_left here in let none = ap texts_left (texts is) in omega arith
 
--- less is left behind a token: it took some bytes, or it was the text that was to come next
+-- less is left after a token: it took some bytes, or it was the text that was to come next
 pub left_less : (source : List ℕ) (low : ℕ) (coming behind : Next) (t : TokenAndSpan) (high : ℕ) → IsNext source low coming t high → high ≤ length source → (IsTrue (is_text t.token) → behind ≡ Delimiter) → left source high behind < left source low coming
 left_less source low coming behind t high is within texts =
     left_less_taken source low t.span.lo.0 high coming behind t.token (rw is.ends at is.takes) is.after within texts

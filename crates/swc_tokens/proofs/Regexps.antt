@@ -10,7 +10,7 @@ AreParts_nothing text at = nothing
 pub AreParts_more : (text : List ℕ) (low mid high : ℕ) (before behind : Bool) → AreParts text low mid before → IsPart text mid high before behind → AreParts text low high behind
 AreParts_more text low mid high before behind so_far part = and_part so_far part
 
--- a backslash and the byte behind it
+-- a backslash and the byte after it
 pub IsPart_escape : (text : List ℕ) (low high b : ℕ) (in_class : Bool) → slice_get text low ≡ Some 92 → slice_get text (low + 1) ≡ Some b → IsFalse (is_line_break b) → high ≡ low + 1 + 1 → IsPart text low high in_class in_class
 IsPart_escape text low high b in_class here there in_line two =
     escape (record { first_there = here; second_there = there }) in_line (omega arith)

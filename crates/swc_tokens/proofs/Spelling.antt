@@ -40,7 +40,7 @@ two_bytes text low a b first second =
     ap (λ n. take n (drop low text)) back ∙ ap (take 2) (drop-cons text low a inside)
     ∙ ap (λ xs. get_or text low a ∷ take 1 xs) rest ∙ ap (λ x. x ∷ get_or text (low + 1) b ∷ []) here ∙ ap (λ x. a ∷ x ∷ []) there
 
--- the backquote behind a text, and `${`
+-- the backquote after a text, and `${`
 pub Spells_backquote : (text : List ℕ) (low : ℕ) → slice_get text low ≡ Some 96 → Spells text low (low + 1) token.BackQuote
 unfolding Spells sign_text
 Spells_backquote text low there = sym (one_byte text low 96 there)

@@ -15,7 +15,7 @@ has_line_break text low high = list_any is_line_break (slice_range text low high
 abbrev pub is_blank : ℕ → Bool
 is_blank b = nat_eq b 9 || nat_eq b 11 || nat_eq b 12 || nat_eq b 32 || is_line_break b
 
--- two bytes stand at a position, one behind the other
+-- two bytes stand at a position, one after the other
 pub record StandAt (text : List ℕ) (at first second : ℕ) : Type 0 where
   pub first_there : slice_get text at ≡ Some first
   pub second_there : slice_get text (at + 1) ≡ Some second
@@ -47,7 +47,7 @@ pub record IsLineComment (text : List ℕ) (low high : ℕ) : Type 0 where
   pub one_line : AllWithin (λ b. IsFalse (is_line_break b)) text (low + 2) high
   pub ends : IfSome (slice_get text high) (λ b. IsTrue (is_line_break b))
 
--- `/*` and the bytes up to the first `*/` behind it, which is part of the comment
+-- `/*` and the bytes up to the first `*/` after it, which is part of the comment
 pub record IsBlockComment (text : List ℕ) (low high : ℕ) : Type 0 where
   pub opens : OpensBlock text low
   pub behind : low + 4 ≤ high
@@ -60,7 +60,7 @@ pub data IsBlank (text : List ℕ) (low high : ℕ) : Type 0 where
   line_comment : IsLineComment text low high → IsBlank text low high
   block_comment : IsBlockComment text low high → IsBlank text low high
 
--- blanks and comments, one behind the other, from one position to before another
+-- blanks and comments, one after the other, from one position to before another
 pub data AreBlanks (text : List ℕ) (low : ℕ) : ℕ → Type 0 where
   none : AreBlanks text low low
   more : {mid high : ℕ} → AreBlanks text low mid → IsBlank text mid high → AreBlanks text low high

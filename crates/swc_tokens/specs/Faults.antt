@@ -12,7 +12,7 @@ between low high = record { lo = record { 0 = low }; hi = record { 0 = high } }
 abbrev pub lex_fault : Span → Error
 lex_fault place = record { span = place; kind = Lex }
 
--- want of memory
+-- out of memory
 abbrev pub out_of_memory : Error
 out_of_memory = record { span = between 0 0; kind = OutOfMemory }
 

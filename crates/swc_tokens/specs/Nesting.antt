@@ -1,5 +1,5 @@
--- How templates (ECMA-262, 12.9.6) nest: a text stands behind each backquote that opens one, and behind each `}` that
--- closes a `${`; behind a text stands a `${`, or the backquote that closes the template.
+-- How templates (ECMA-262, 12.9.6) nest: a text is after each backquote that opens one, and after each `}` that
+-- closes a `${`; after a text stands a `${`, or the backquote that closes the template.
 use Rattle.std.specs.Prelude.{◌≡◌, ◌<◌, List, [], ◌∷◌, ◌++◌, Bool, true, false, length}
 use Rattle.swc_input.specs.declared.token.Token.{Token}
 use Rattle.swc_input.specs.declared.token.Token.TheVariants as token
@@ -31,12 +31,12 @@ fits reads.Delimiter part.Backquote = true
 fits reads.Delimiter part.Substitution = true
 fits reads.Delimiter _ = false
 
--- what is read behind a backquote
+-- what is read after a backquote
 abbrev pub behind_backquote : Next → Next
 behind_backquote reads.Delimiter = reads.Token
 behind_backquote _ = reads.Text
 
--- which brackets are open before a token, what is read there, what the token is, and then the same of behind it; the
+-- which brackets are open before a token, what is read there, what the token is, and then the same of after it; the
 -- innermost bracket is the last, and outside of all templates none counts
 pub data Turns : List Open → Next → Part → List Open → Next → Type 0 where
   text : {brackets : List Open} → Turns brackets reads.Text part.Text brackets reads.Delimiter
@@ -53,12 +53,12 @@ pub data Turns : List Open → Next → Part → List Open → Next → Type 0 w
   close_outside : Turns [] reads.Token part.CloseBrace [] reads.Token
   other : {brackets : List Open} → Turns brackets reads.Token part.Other brackets reads.Token
 
--- the tokens nest, with these brackets open behind them, and this is read next
+-- the tokens nest, with these brackets open after them, and this is read next
 pub data Nests : List TokenAndSpan → List Open → Next → Type 0 where
   nothing : Nests [] [] reads.Token
   and_token : {ts : List TokenAndSpan} {before brackets : List Open} {here behind : Next} (t : TokenAndSpan)
       → Nests ts before here → Turns before here (part_of t.token) brackets behind → Nests (ts ++ t ∷ []) brackets behind
 
--- the tokens nest, and no template is open behind them
+-- the tokens nest, and no template is open after them
 abbrev pub AreNested : List TokenAndSpan → Type 0
 AreNested ts = Nests ts [] reads.Token

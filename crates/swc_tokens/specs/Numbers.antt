@@ -55,7 +55,7 @@ pub record IsFraction (text : List ℕ) (low high : ℕ) : Type 0 where
   pub dot : slice_get text low ≡ Some 46
   pub digits : AreDigits Decimal text (low + 1) high
 
--- a `+` or a `-` behind the letter of an exponent, and then its digits
+-- a `+` or a `-` after the letter of an exponent, and then its digits
 pub record HasSign (text : List ℕ) (low first : ℕ) : Type 0 where
   pub sign : (slice_get text (low + 1) ≡ Some 43) ⊎ (slice_get text (low + 1) ≡ Some 45)
   pub behind : first ≡ low + 2
@@ -73,7 +73,7 @@ pub data MayBeExponent (text : List ℕ) (low high : ℕ) : Type 0 where
   some_exponent : IsExponent text low high → MayBeExponent text low high
   no_exponent : high ≡ low → MayBeExponent text low high
 
--- a whole number, in base ten with no dot behind it
+-- a whole number, in base ten with no dot after it
 pub data IsWhole (text : List ℕ) (low high : ℕ) : Type 0 where
   decimal : IsInteger text low high → slice_get text high ≢ Some 46 → IsWhole text low high
   in_base : IsInBase text low high → IsWhole text low high

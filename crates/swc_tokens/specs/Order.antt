@@ -9,7 +9,7 @@ unfoldable pub is_text : Token → Bool
 is_text (token.Template _ _) = true
 is_text _ = false
 
--- a token's place ends at or behind its beginning, and only texts of templates may be empty
+-- a token's place ends at or after its beginning, and only texts of templates may be empty
 pub record HasPlace (t : TokenAndSpan) : Type 0 where
   pub forward : t.span.lo.0 ≤ t.span.hi.0
   pub nonempty : IsFalse (is_text t.token) → t.span.lo.0 < t.span.hi.0
@@ -19,7 +19,7 @@ unfoldable pub InOrder : ℕ → List TokenAndSpan → ℕ → Type 0
 InOrder low [] high = low ≤ high
 InOrder low (t ∷ ts) high = (low ≤ t.span.lo.0) × HasPlace t × InOrder t.span.hi.0 ts high
 
--- the position behind the last token, or the given one where there is none
+-- the position after the last token, or the given one where there is none
 unfoldable pub end_of : ℕ → List TokenAndSpan → ℕ
 end_of low [] = low
 end_of low (t ∷ ts) = end_of t.span.hi.0 ts

@@ -8,7 +8,7 @@ use Rattle.swc_tokens.specs.Words.{is_word_part, IsNoWordPart}
 abbrev pub is_plain : Bool → ℕ → Bool
 is_plain in_class b = not (is_line_break b || nat_eq b 92 || nat_eq b 47 && not in_class)
 
--- whether a class is open behind the byte
+-- whether a class is open after the byte
 abbrev pub is_open_behind : Bool → ℕ → Bool
 is_open_behind in_class b = if nat_eq b 91 then true else if nat_eq b 93 then false else in_class
 
@@ -19,7 +19,7 @@ pub data IsPart (text : List ℕ) (low high : ℕ) (in_class : Bool) : Bool → 
   plain : {b : ℕ} → slice_get text low ≡ Some b → IsTrue (is_plain in_class b) → high ≡ low + 1
       → IsPart text low high in_class (is_open_behind in_class b)
 
--- such parts, one behind the other, and whether a class is open behind them; none is at their beginning
+-- such parts, one after the other, and whether a class is open after them; none is at their beginning
 pub data AreParts (text : List ℕ) (low : ℕ) : ℕ → Bool → Type 0 where
   nothing : AreParts text low low false
   and_part : {mid high : ℕ} {before behind : Bool} → AreParts text low mid before → IsPart text mid high before behind

@@ -11,7 +11,7 @@ is_quote b = nat_eq b 34 || nat_eq b 39
 abbrev pub backquote : ℕ
 backquote = 96
 
--- whether the byte stands for itself behind this quote: no quote, no backslash, no CR, and an LF in templates alone
+-- whether the byte stands for itself after this quote: no quote, no backslash, no CR, and an LF in templates alone
 abbrev pub is_plain : ℕ → ℕ → Bool
 is_plain quote b =
     not (nat_eq b quote || nat_eq b 92 || nat_eq b 13 || nat_eq b 10 && not (nat_eq quote backquote))
@@ -20,7 +20,7 @@ is_plain quote b =
 abbrev pub OpensSubstitution : List ℕ → ℕ → Type 0
 OpensSubstitution text at = StandAt text at 36 123
 
--- whether an escape with this byte behind its backslash is read: no digit, no `x`, no `u`, no line break
+-- whether an escape with this byte after its backslash is read: no digit, no `x`, no `u`, no line break
 abbrev pub is_escape : ℕ → Bool
 is_escape b = not (nat_le 48 b && nat_le b 57 || nat_eq b 120 || nat_eq b 117 || is_line_break b)
 
@@ -48,7 +48,7 @@ pub record IsPlain (text : List ℕ) (quote low high byte : ℕ) : Type 0 where
   pub opens_nothing : quote ≡ backquote → ¬ OpensSubstitution text low
   pub one : high ≡ low + 1
 
--- a backslash, and the byte behind it
+-- a backslash, and the byte after it
 pub record IsEscape (text : List ℕ) (low high byte : ℕ) : Type 0 where
   pub escaped : ℕ
   pub there : StandAt text low 92 escaped
@@ -56,18 +56,18 @@ pub record IsEscape (text : List ℕ) (low high byte : ℕ) : Type 0 where
   pub meaning : byte ≡ unescaped escaped
   pub two : high ≡ low + 2
 
--- what stands between two positions, behind this quote, means this byte
+-- what stands between two positions, after this quote, means this byte
 pub data MeansByte (text : List ℕ) (quote low high byte : ℕ) : Type 0 where
   plain : IsPlain text quote low high byte → MeansByte text quote low high byte
   escape : IsEscape text low high byte → MeansByte text quote low high byte
 
--- what stands between two positions, behind this quote, means these bytes, one behind the other
+-- what stands between two positions, after this quote, means these bytes, one after the other
 pub data Means (text : List ℕ) (quote low : ℕ) : ℕ → List ℕ → Type 0 where
   nothing : Means text quote low low []
   and_byte : {mid high byte : ℕ} {value : List ℕ} → Means text quote low mid value
       → MeansByte text quote mid high byte → Means text quote low high (value ++ byte ∷ [])
 
--- a string from its quote to behind the same quote, and what stands between them means the value
+-- a string from its quote to after the same quote, and what stands between them means the value
 pub record IsString (text : List ℕ) (low high : ℕ) (value : List ℕ) : Type 0 where
   pub quote : ℕ
   pub is_quote : IsTrue (is_quote quote)

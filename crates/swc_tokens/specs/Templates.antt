@@ -6,7 +6,7 @@ use Rattle.swc_tokens.specs.Blanks.{StandAt}
 use Rattle.swc_tokens.specs.Faults.{between, lex_fault}
 use Rattle.swc_tokens.specs.Strings.{backquote, is_escape, Means, MeansByte, OpensSubstitution}
 
--- a backslash, and a byte behind it with which no escape is read, and which is no CR
+-- a backslash, and a byte after it with which no escape is read, and which is no CR
 pub record IsBadEscape (text : List ℕ) (low high : ℕ) : Type 0 where
   pub escaped : ℕ
   pub there : StandAt text low 92 escaped
@@ -19,7 +19,7 @@ pub data IsPiece (text : List ℕ) (low high : ℕ) : Result ℕ Error → Type 
   good : {byte : ℕ} → MeansByte text backquote low high byte → IsPiece text low high (Ok byte)
   bad : IsBadEscape text low high → IsPiece text low high (Err (lex_fault (between low (low + 1))))
 
--- such pieces, one behind the other
+-- such pieces, one after the other
 pub data ArePieces (text : List ℕ) (low : ℕ) : ℕ → Type 0 where
   nothing : ArePieces text low low
   and_piece : {mid high : ℕ} {piece : Result ℕ Error} → ArePieces text low mid → IsPiece text mid high piece

@@ -115,7 +115,7 @@ impl<'a> Reader<'a> {
         }
     }
 
-    /// Skips a comment that begins here with `/*`. Without a `*/` behind it, it is a fault at the
+    /// Skips a comment that begins here with `/*`. Without a `*/` after it, it is a fault at the
     /// end of the text.
     fn skip_block_comment(&mut self) -> PResult<()>
         requires { OpensBlock self.old.text.now self.old.at }

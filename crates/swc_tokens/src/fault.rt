@@ -26,7 +26,7 @@ pub(crate) fn lex_fault(lo: usize, hi: usize) -> Error
     Error::new(span(lo, hi), SyntaxError::Lex)
 }
 
-/// Want of memory.
+/// Out of memory.
 pub(crate) fn out_of_memory() -> Error
     ensures { result ≡ faults.out_of_memory }
 {

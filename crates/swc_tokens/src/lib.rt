@@ -48,7 +48,7 @@ pub const MAX_LEN: usize = 4_294_967_295;
 /// templates (12.9.6). A token is marked as after a line break where one stands between it and the
 /// token before it, also one within a comment.
 ///
-/// A template is a `BackQuote`, a `Template` and either a `BackQuote` or a `DollarLBrace`; behind
+/// A template is a `BackQuote`, a `Template` and either a `BackQuote` or a `DollarLBrace`; after
 /// this stand tokens up to the `RBrace` that closes it, and then a `Template` again. The text of a
 /// `Template` may be empty, as no other token may. Its `raw` is as it is written, an LF included,
 /// and its `cooked` is what it means, or `Lex` at the backslash of its first escape that isn't read:
@@ -60,16 +60,16 @@ pub const MAX_LEN: usize = 4_294_967_295;
 /// divides.
 ///
 /// Positions count bytes from 0. A text longer than `MAX_LEN` is refused at 0..0, and then one with
-/// a byte above 127 at the first such byte, before all else. Want of memory is refused at 0..0. Any
+/// a byte above 127 at the first such byte, before all else. Out of memory is refused at 0..0. Any
 /// other fault is `Lex`, and the first one in the text refuses it:
 ///
 /// - at a byte with which no token begins, as a backslash;
-/// - at the letter of an exponent, or of a base, without a digit behind it;
-/// - at a letter, a digit, a `$` or a `_` right behind a number, and so at a digit behind a leading
+/// - at the letter of an exponent, or of a base, without a digit after it;
+/// - at a letter, a digit, a `$` or a `_` right after a number, and so at a digit after a leading
 ///   0;
 /// - at a line break in a string or in a regular expression, and at a CR in the text of a template;
-/// - at the backslash of an escape by number (a digit, `x` or `u` behind it) or of a line that is
-///   continued (CR or LF behind it), in a string;
+/// - at the backslash of an escape by number (a digit, `x` or `u` after it) or of a line that is
+///   continued (CR or LF after it), in a string;
 /// - at the end of the text, with an empty span, where a string, a regular expression, a template or
 ///   a `/*` comment is open.
 pub fn read_tokens(alloc: Global, text: &[u8]) -> PResult<Vec<TokenAndSpan>>
@@ -102,8 +102,8 @@ pub fn read_tokens(alloc: Global, text: &[u8]) -> PResult<Vec<TokenAndSpan>>
 /// in the whole text, where the part begins at `start`.
 ///
 /// Each position is that of `read_tokens` and `start` more: those of the tokens, those of a fault that a
-/// `Template` has as its `cooked`, and those of a refusal. So want of memory is refused at start..start.
-/// A part that would end behind position `MAX_LEN` is refused as one that is too long, by `Lex` at
+/// `Template` has as its `cooked`, and those of a refusal. So out of memory is refused at start..start.
+/// A part that would end after position `MAX_LEN` is refused as one that is too long, by `Lex` at
 /// start..start, before all else: no position is above `MAX_LEN`.
 pub fn read_tokens_at(alloc: Global, text: &[u8], start: BytePos) -> PResult<Vec<TokenAndSpan>>
     ensures too_long { MAX_LEN < start.0 + length text.now

@@ -25,7 +25,7 @@ pub(crate) enum Base {
 }
 
 impl Base {
-    /// The base that the letter behind a 0 names.
+    /// The base that the letter after a 0 names.
     fn from_letter(letter: u8) -> Option<Base>
         ensures { IfSome result (λ base. IsTrue (numbers.is_letter_of base letter)) }
     {
@@ -66,7 +66,7 @@ impl<'a> Reader<'a> {
     }
 
     /// Reads a number. An exponent or a base without digits is a fault at its letter, and a letter,
-    /// a digit, `$` or `_` behind the number a fault there.
+    /// a digit, `$` or `_` after the number a fault there.
     #[tactic(auto, unfolding(crate::specs::Order::is_free, crate::specs::Spelling::Spells))]
     pub(crate) fn read_number(&mut self) -> PResult<Token>
         requires { StartsNumber self.old.text.now self.old.at }

@@ -68,7 +68,7 @@ impl<'a> Reader<'a> {
         self.text.get(self.at).copied()
     }
 
-    /// The byte behind the next one.
+    /// The byte after the next one.
     pub(crate) fn peek_second(&self) -> Option<u8>
         ensures value { result ≡ slice_get self.now.text.now (self.now.at + 1) }
         ensures there { IsSome result ↔ (self.now.at + 1 < length self.now.text.now) }

@@ -12,7 +12,7 @@ use crate::reader::Reader;
 use swc_context::error::PResult;
 use swc_input::token::Token;
 
-/// Whether a class is open behind the byte.
+/// Whether a class is open after the byte.
 fn is_open_behind(in_class: bool, byte: u8) -> bool
     ensures { result ≡ regexps.is_open_behind in_class byte }
 {
@@ -68,7 +68,7 @@ impl<'a> Reader<'a> {
     }
 
     /// Skips the next byte of a body, and what a backslash escapes, and says whether a class is
-    /// open behind it.
+    /// open after it.
     fn skip_body_part(&mut self, in_class: bool) -> PResult<bool>
         requires { slice_get self.old.text.now self.old.at ≡ Some 47 → IsTrue in_class }
         ensures text { self.new.text ≡ self.old.text }

@@ -16,14 +16,14 @@ use swc_context::atom::Atom;
 use swc_context::error::{Error, PResult};
 use swc_input::token::Token;
 
-/// Whether an escape with this byte behind its backslash is read.
+/// Whether an escape with this byte after its backslash is read.
 fn is_escape(byte: u8) -> bool
     ensures { result ≡ strings.is_escape byte }
 {
     !matches!(byte, b'0'..=b'9' | b'x' | b'u' | b'\n' | b'\r')
 }
 
-/// What a backslash and this byte behind it mean, where such an escape is read.
+/// What a backslash and this byte after it mean, where such an escape is read.
 fn unescaped(byte: u8) -> u8
     ensures { result ≡ strings.unescaped byte }
 {
@@ -113,7 +113,7 @@ impl<'a> Reader<'a> {
     }
 
     /// Reads an escape, which begins with its backslash: what it means or, where escapes with the
-    /// byte behind the backslash aren't read, the fault of the backslash.
+    /// byte after the backslash aren't read, the fault of the backslash.
     pub(crate) fn read_escape(&mut self) -> PResult<Result<u8, Error>>
         requires { slice_get self.old.text.now self.old.at ≡ Some 92 }
         ensures text { self.new.text ≡ self.old.text }

@@ -20,7 +20,7 @@ use swc_input::token::Token;
 /// What is read next.
 #[derive(Clone, Copy)]
 pub(crate) enum Next {
-    /// A token, behind blanks and comments.
+    /// A token, after blanks and comments.
     Token,
     /// A text of a template.
     Text,
@@ -90,7 +90,7 @@ impl Templates {
         !self.brackets.is_empty()
     }
 
-    /// Goes on behind a token, which is such as is read next.
+    /// Goes on after a token, which is such as is read next.
     pub(crate) fn pass(&mut self, token: &Token) -> PResult<()>
         requires { IsTrue (fits self.old.next (nesting.part_of token.now)) }
         ensures turns { OnOk result (Turns self.old.brackets.items self.old.next (nesting.part_of token.now)
@@ -101,7 +101,7 @@ impl Templates {
         Ok(())
     }
 
-    /// What is read behind the part of a template, or behind another token.
+    /// What is read after the part of a template, or after another token.
     fn behind(&mut self, part: Part) -> PResult<Next>
         requires { IsTrue (fits self.old.next part) }
         ensures turns { IfOk result (Turns self.old.brackets.items self.old.next part self.new.brackets.items) }
@@ -124,7 +124,7 @@ impl Templates {
         }
     }
 
-    /// What is read behind a backquote: a text where it opens a template.
+    /// What is read after a backquote: a text where it opens a template.
     fn behind_backquote(&self) -> Next
         ensures { result ≡ nesting.behind_backquote self.now.next }
     {
@@ -145,7 +145,7 @@ impl Templates {
         }
     }
 
-    /// What is read behind a `}`: a text where it closes a `${`.
+    /// What is read after a `}`: a text where it closes a `${`.
     fn behind_close(&mut self) -> Next
         ensures { Turns self.old.brackets.items Next.Token Part.CloseBrace self.new.brackets.items result }
     {

@@ -83,7 +83,7 @@ module _ {F C K : Type 0} where
 -- ---- what is made of the trees
 
 module _ {F C K : Type 0} (fun_at : F → Span) (class_at : C → Span) (block_at : K → Span) where
-  -- what is left of a list, and that all behind it was put together
+  -- what is left of a list, and that all after it was put together
   pub record Making {I X : Type 0} (parts : I → List Part) (of : (ℕ → Tree F C K) → I → Tree F C K) (tree : X → Tree F C K) (all rest : List I) (old : List (Built F C K)) (made : List X) (now : List (Built F C K)) : Type 0 where
     pub done : List I
     pub split : all ≡ rest ++ done

@@ -155,7 +155,7 @@ module _ {F C K : Type 0} {fg : Ghosts F} {cg : Ghosts C} {kg : Ghosts K} where
 -- ---- trees that were made
 
 module _ {F C K : Type 0} (fun_at : F → Span) (class_at : C → Span) (block_at : K → Span) where
-  -- of the nodes behind those that are left: they stand for parts, in whose place the others' parts are
+  -- of the nodes after those that are left: they stand for parts, in whose place the others' parts are
   pub record Raising (at : ℕ → Tree F C K) (all : List Part) (ls : List (Lifted F C K)) (bs : List (Built F C K)) : Type 0 where
     pub due : List Part
     pub are : AreFor fun_at class_at block_at at due bs
@@ -225,7 +225,7 @@ module _ {F C K : Type 0} {fg : Ghosts F} {cg : Ghosts C} {kg : Ghosts K} where
       let are = raising-ends e t in
       record { left = l; moved = λ at h. (are.0, are.1 ∙ sym (given-map at (bare_at old) all h)) }
 
-  -- want of memory
+  -- out of memory
   pub out-refused : {Y : Type 0} {old now : Nodes F C K fg cg kg} {all : List Part} {same : (ℕ → Tree F C K) → Y → Type 0} (r : Result Y AllocError) → IsErr r → Left (floor (seat_at old) (count old) all) old now → TakesOut all same old r now
   out-refused (Ok y) e l = cc
   out-refused (Err y) e l = record { left = l; moved = tt }

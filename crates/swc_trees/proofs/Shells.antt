@@ -151,7 +151,7 @@ module _ {F C K : Type 0} {fg : Ghosts F} {cg : Ghosts C} {kg : Ghosts K} where
         is_node = record { stands = r.stands at ∙ m.stands; view = ap (view_ok (built_view c.tree)) g ∙ m.view };
       }
 
-  -- the node is put in, behind those
+  -- the node is put in, after those
   pub filling-more : {all : List (Built F C K)} {left : List (Shell F C K)} {ns ms : Nodes F C K fg cg kg} {kept cut : List ℕ} {z : Node F C K} (ks : Nodes F C K fg cg kg) (more : List ℕ) (i : ℕ) →
       Filled all left ns kept ms z → Grows ms ks → Added ms ks i z → cut ≡ kept → more ≡ cut ++ i ∷ [] → Filling all left ns more ks
   filling-more {all} {left} {ns} {ms} {kept} {cut} {z} ks more i f g d same pushed =

@@ -1,4 +1,4 @@
--- Trees are moved onto the end of a list from the first on: the place of each stays as those behind it are moved.
+-- Trees are moved onto the end of a list from the first on: the place of each stays as those after it are moved.
 use Rattle.std.proofs.Common.{◌≡◌, ℕ, suc, ◌+◌, ◌<◌, ◌≤◌, ◌≢◌, List, [], ◌∷◌, ◌++◌, map, take, length, get_or, true, Result, Ok, Err, Option, refl, sym, ap, subst, ◌∙◌, arith, append_assoc, rules}
 use Rattle.std.proofs.lemmas.List.{append-nil, map-append, length-append, take_more, take_all, get_or-set_other, length-set}
 use Rattle.std.proofs.Math.ListN.{set}
@@ -48,7 +48,7 @@ module _ {F C K : Type 0} where
   pub object-view : (s : Span) (props : Vec (ObjectPatProp F C K) Global) → target_view {F = F} {C = C} {K = K} (target.Object s props) ≡ pattern
   object-view s props = search (rules, the_lemmas)
 
--- the places of trees and of those behind them
+-- the places of trees and of those after them
 pub places-append : {F C K : Type 0} (k : ℕ) (bs cs : List (Built F C K)) → places k (bs ++ cs) ≡ places k bs ++ places (k + length bs) cs
 places-append k [] cs = ap (λ v. places v cs) (omega arith)
 places-append k (b ∷ bs) cs =

@@ -27,7 +27,7 @@ pub weight-item-of : {F C K : Type 0} (dots : Option Span) (t : Tree F C K) → 
 weight-item-of None t = omega arith
 weight-item-of (Some s) t = omega arith
 
--- trees behind others weigh no more than all
+-- trees after others weigh no more than all
 pub weight-behind : {F C K : Type 0} (ss ts : List (Tree F C K)) → weight_all (trees ts) ≤ weight_all (trees (ss ++ ts))
 weight-behind [] ts = omega arith
 weight-behind (s ∷ ss) ts = let w = weight-behind ss ts in omega arith

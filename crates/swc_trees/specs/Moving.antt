@@ -59,7 +59,7 @@ module _ {F C K : Type 0} {fg : Ghosts F} {cg : Ghosts C} {kg : Ghosts K} where
     pub apart : Apart k ms (parts y)
     pub moved : (at : ℕ → Tree F C K) → Agrees at ms (parts y) → same at y
 
-  -- Parts were put in, in their order, behind all nodes that there were.
+  -- Parts were put in, in their order, after all nodes that there were.
   pub record PutsIn {Y : Type 0} (parts : Y → List Part) (same : (ℕ → Tree F C K) → Y → Type 0) (ns : Nodes F C K fg cg kg) (r : Result Y AllocError) (ms : Nodes F C K fg cg kg) : Type 0 where
     pub grows : Grows ns ms
     pub put : IfOk r (Put parts same (count ns) ms)

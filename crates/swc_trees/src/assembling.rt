@@ -1,6 +1,6 @@
 // Makes an expression, a pattern or a target of a node and the trees of its parts, which are taken from the end of a
 // list: the last part first.
-// Where memory is wanted, it is asked for before a tree is in hand, as far as that goes.
+// Where memory runs out, it is asked for before a tree is in hand, as far as that goes.
 ghost use Rattle.std.specs.Prelude.{◌≡◌, true, IfOk};
 ghost use Rattle.swc_ast.specs.Parts.{simple_tree};
 ghost use Rattle.swc_ast.specs.TreeOf.{boxed_tree, pat_tree, target_tree};

@@ -1,4 +1,4 @@
-// Moves boxed trees into the nodes, behind all that there are, by two loops, so that a tree may be as deep as it likes.
+// Moves boxed trees into the nodes, after all that there are, by two loops, so that a tree may be as deep as it likes.
 // The first makes a node of each tree, the last tree first, in which the places of its parts in a list stand for them.
 // The second puts those nodes in, the last made first: so the parts of a node go in before it, the first part first, as
 // in the source. No text and no value of the hook is copied.

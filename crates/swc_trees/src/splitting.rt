@@ -1,6 +1,6 @@
 // Moves the parts out of an expression, a pattern or a target, onto the end of a list, and answers its node, in which
 // their places in the list stand for them. The first part is moved first, as in the source. What is moved leaves an
-// empty tree behind; no text and no value of the hook is copied.
+// empty tree after; no text and no value of the hook is copied.
 ghost use Rattle.std.specs.Prelude.{◌≡◌, Bool, map};
 ghost use Rattle.std.specs.declared.alloc.Global.{Global};
 ghost use Rattle.std.specs.declared.boxed.Box.{Box};

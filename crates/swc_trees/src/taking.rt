@@ -38,7 +38,7 @@ pub(crate) struct Lifted<F, C, K> {
     node: Node<F, C, K>,
 }
 
-/// Moves an expression out of the nodes, and lets go of all behind it.
+/// Moves an expression out of the nodes, and lets go of all after it.
 pub fn take_expr<F: Spanned + Drop, C: Spanned + Drop, K: Spanned + Drop>(
     nodes: &mut Nodes<F, C, K>,
     alloc: Global,
@@ -53,7 +53,7 @@ pub fn take_expr<F: Spanned + Drop, C: Spanned + Drop, K: Spanned + Drop>(
     Ok(pop_expr(&mut built, id))
 }
 
-/// Moves a pattern out of the nodes, and lets go of all behind it.
+/// Moves a pattern out of the nodes, and lets go of all after it.
 pub fn take_pat<F: Spanned + Drop, C: Spanned + Drop, K: Spanned + Drop>(
     nodes: &mut Nodes<F, C, K>,
     alloc: Global,
@@ -68,7 +68,7 @@ pub fn take_pat<F: Spanned + Drop, C: Spanned + Drop, K: Spanned + Drop>(
     Ok(pop_pat(&mut built, id))
 }
 
-/// Moves what the head of a `for` begins with out of the nodes, and lets go of all behind it.
+/// Moves what the head of a `for` begins with out of the nodes, and lets go of all after it.
 pub fn take_for_head<F: Spanned + Drop, C: Spanned + Drop, K: Spanned + Drop>(
     nodes: &mut Nodes<F, C, K>,
     alloc: Global,
@@ -87,7 +87,7 @@ pub fn take_for_head<F: Spanned + Drop, C: Spanned + Drop, K: Spanned + Drop>(
     }
 }
 
-/// Moves what a key holds out of the nodes, and lets go of all behind it. Other keys than expressions hold none.
+/// Moves what a key holds out of the nodes, and lets go of all after it. Other keys than expressions hold none.
 pub fn take_key<F: Spanned + Drop, C: Spanned + Drop, K: Spanned + Drop>(
     nodes: &mut Nodes<F, C, K>,
     alloc: Global,
@@ -110,7 +110,7 @@ pub fn take_key<F: Spanned + Drop, C: Spanned + Drop, K: Spanned + Drop>(
     }
 }
 
-/// Moves a property of an object literal out of the nodes, and lets go of all behind it.
+/// Moves a property of an object literal out of the nodes, and lets go of all after it.
 pub fn take_prop<F: Spanned + Drop, C: Spanned + Drop, K: Spanned + Drop>(
     nodes: &mut Nodes<F, C, K>,
     alloc: Global,
@@ -127,7 +127,7 @@ pub fn take_prop<F: Spanned + Drop, C: Spanned + Drop, K: Spanned + Drop>(
     prop.into_inner().assemble(alloc, &mut built)
 }
 
-/// Moves a property of an object pattern out of the nodes, and lets go of all behind it.
+/// Moves a property of an object pattern out of the nodes, and lets go of all after it.
 pub fn take_pat_prop<F: Spanned + Drop, C: Spanned + Drop, K: Spanned + Drop>(
     nodes: &mut Nodes<F, C, K>,
     alloc: Global,
@@ -143,7 +143,7 @@ pub fn take_pat_prop<F: Spanned + Drop, C: Spanned + Drop, K: Spanned + Drop>(
     prop.assemble(alloc, &mut built)
 }
 
-/// Moves formal parameters out of the nodes, and lets go of all behind them.
+/// Moves formal parameters out of the nodes, and lets go of all after them.
 pub fn take_params<F: Spanned + Drop, C: Spanned + Drop, K: Spanned + Drop>(
     nodes: &mut Nodes<F, C, K>,
     alloc: Global,
@@ -160,7 +160,7 @@ pub fn take_params<F: Spanned + Drop, C: Spanned + Drop, K: Spanned + Drop>(
     all(alloc, &mut built, params)
 }
 
-/// Moves patterns, as the parameters of an arrow function, out of the nodes, and lets go of all behind them.
+/// Moves patterns, as the parameters of an arrow function, out of the nodes, and lets go of all after them.
 pub fn take_pats<F: Spanned + Drop, C: Spanned + Drop, K: Spanned + Drop>(
     nodes: &mut Nodes<F, C, K>,
     alloc: Global,
@@ -176,7 +176,7 @@ pub fn take_pats<F: Spanned + Drop, C: Spanned + Drop, K: Spanned + Drop>(
     all(alloc, &mut built, pats)
 }
 
-/// Moves arguments of a call out of the nodes, and lets go of all behind them.
+/// Moves arguments of a call out of the nodes, and lets go of all after them.
 pub fn take_args<F: Spanned + Drop, C: Spanned + Drop, K: Spanned + Drop>(
     nodes: &mut Nodes<F, C, K>,
     alloc: Global,
@@ -192,7 +192,7 @@ pub fn take_args<F: Spanned + Drop, C: Spanned + Drop, K: Spanned + Drop>(
     all(alloc, &mut built, args)
 }
 
-/// Moves what a template holds out of the nodes, and lets go of all behind it.
+/// Moves what a template holds out of the nodes, and lets go of all after it.
 pub fn take_tpl<F: Spanned + Drop, C: Spanned + Drop, K: Spanned + Drop>(
     nodes: &mut Nodes<F, C, K>,
     alloc: Global,

@@ -15,7 +15,8 @@ use Rattle.swc_input.specs.declared.token.Token.{Token}
 use Rattle.swc_input.specs.declared.token.Token.TheVariants as token
 use Rattle.swc_input.specs.declared.token.TokenAndSpan.{TokenAndSpan}
 use Rattle.swc_context.specs.declared.span.Span.{Span}
-use Rattle.swc_verifier.specs.Faults.{cover_faults, RecordsAll, Appends, begins_fit}
+use Rattle.swc_input.specs.Recordings.{RecordsAll}
+use Rattle.swc_verifier.specs.Faults.{cover_faults, Appends, begins_fit}
 
 fit_error : (t : Token) → not (is_some (error_in t)) ≡ true → error_in t ≡ None
 fit_error (token.Error x) fit = absurd cc
@@ -109,7 +110,7 @@ module _ {S : Type 0} (model : Model S) where
     pub recorded : is_silent (state_of model b) ≡ false → (d : Buffer S) → RecordsAll model rest c d → RecordsAll model all b d
     pub appends : is_silent (state_of model b) ≡ false → is_fit (current b) ≡ true → (d : Buffer S) → Appends model rest c d → Appends model all b d
 
--- of places, none is left behind the last; and before it one, and then the others
+-- of places, none is left after the last; and before it one, and then the others
 pub none-left : (ss : List Span) (i : ℕ) → length ss ≤ i → cover_faults (drop i ss) ≡ []
 none-left ss i le = ap cover_faults (drop_of_length-le ss le)
 

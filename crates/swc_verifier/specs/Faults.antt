@@ -5,7 +5,7 @@ use Rattle.swc_context.specs.declared.error.Error.{Error}
 use Rattle.swc_context.specs.declared.error.SyntaxError.TheVariants.{AssignProperty}
 use Rattle.swc_context.specs.declared.span.Span.{Span}
 use Rattle.swc_input.specs.Buffer.{Read, state_of}
-use Rattle.swc_input.specs.Recording.{error_in, is_some, Recorded}
+use Rattle.swc_input.specs.Recording.{error_in, is_some}
 use Rattle.swc_input.specs.Source.{Model}
 use Rattle.swc_input.specs.declared.buffer.Buffer.{Buffer}
 use Rattle.swc_input.specs.declared.token.TokenAndSpan.{TokenAndSpan}
@@ -23,11 +23,6 @@ begins_fit [] = true
 begins_fit (t ∷ ts) = not (is_some (error_in t.token))
 
 module _ {S : Type 0} (model : Model S) where
-  -- The faults were recorded, one after another, and nothing else; each after the error of a current error token, which was consumed.
-  abbrev pub RecordsAll : List Error → Buffer S → Buffer S → Type 0
-  RecordsAll [] b c = c ≡ b
-  RecordsAll (e ∷ es) b c = (d : Buffer S) × Recorded model b e d × RecordsAll es d c
-
   -- The faults were recorded, and no others, and nothing was consumed.
   pub record Appends (es : List Error) (b c : Buffer S) : Type 0 where
     pub read : Read model b [] c

@@ -3,13 +3,14 @@
 ghost use Rattle.std.specs.Prelude.{◌≡◌, ◌++◌, true, false, map, List, [], IfOk, IfErr, IsOk, OnOk};
 ghost use Rattle.swc_input.specs.Buffer.{Read, ReadSome, Lives, Known, last_position, current, state_of};
 ghost use Rattle.swc_input.specs.Recording.{is_silent, is_fit, no_memory};
+ghost use Rattle.swc_input.specs.Recordings.{RecordsAll};
 ghost use Rattle.swc_input.specs.declared.token.TokenAndSpan.{TokenAndSpan};
 ghost use Rattle.swc_nodes.specs.GrowingNodes.{tree_at, Apart, From};
 ghost use Rattle.swc_nodes.specs.NodeParts.{expr_part, prop_parts, flat};
 ghost use Rattle.swc_nodes.specs.NodeTree.{prop_of};
 ghost use Rattle.swc_verifier.specs.CoverNames.{cover_names, covers_left, parts_covers_left};
 ghost use Rattle.swc_verifier.specs.Dues.{due_of, node_dues, prop_dues, part_dues, names_due, AreWithin};
-ghost use Rattle.swc_verifier.specs.Faults.{cover_faults, RecordsAll, Appends, begins_fit};
+ghost use Rattle.swc_verifier.specs.Faults.{cover_faults, Appends, begins_fit};
 
 use std::alloc::AllocError;
 use swc_ast::spanned::Spanned;
@@ -31,8 +32,8 @@ enum Due {
 /// The places of the cover names in an expression, as its nodes have them, in the order of the source.
 ///
 /// The walk goes into keys, into parameters of methods and setters, and into patterns. It goes into no arrow function,
-/// neither its parameters nor its body, and not behind a cover name, into its value. Functions, classes and blocks are
-/// the hook's, and are never gone into. It takes no recursion, and is refused only for want of memory.
+/// neither its parameters nor its body, and not after a cover name, into its value. Functions, classes and blocks are
+/// the hook's, and are never gone into. It takes no recursion, and is refused only when out of memory.
 pub fn find_cover_names<F: Spanned + Drop, C: Spanned + Drop, K: Spanned + Drop>(
     nodes: &Nodes<F, C, K>,
     expr: ExprId,
@@ -77,7 +78,7 @@ pub fn find_covers_left_in_prop<F: Spanned + Drop, C: Spanned + Drop, K: Spanned
 
 /// Records an `AssignProperty` at each of the places, in their order, as `Buffer::emit_err` records a fault: each after
 /// the error of an error token that is current, which is consumed. Where the context ignores errors, or early errors
-/// are off, nothing is done. It is refused only for want of memory.
+/// are off, nothing is done. It is refused only when out of memory.
 pub fn record_cover_names<I: Tokens>(input: &mut Buffer<I>, names: &[Span]) -> PResult<()>
     ensures silent { is_silent (state_of I.model input.old) ≡ true → IsOk result × (input.new ≡ input.old) }
     ensures recorded { is_silent (state_of I.model input.old) ≡ false
@@ -123,7 +124,7 @@ fn find_due<F: Spanned + Drop, C: Spanned + Drop, K: Spanned + Drop>(
     Ok(names)
 }
 
-/// Puts what is due of a node behind that of a list. Of an arrow function that is its parts, or nothing.
+/// Puts what is due of a node after that of a list. Of an arrow function that is its parts, or nothing.
 fn list_node<F: Spanned + Drop, C: Spanned + Drop, K: Spanned + Drop>(
     node: &Node<F, C, K>,
     in_arrows: bool,

@@ -4,7 +4,7 @@
 #![tactic(auto)]
 
 use reporting::lines::Lines;
-use reporting::{DONE, read_text, report, report_at, report_failure};
+use reporting::{DONE, Refusal, read_text, report, report_at, report_failure};
 use std::io::Write;
 use std::process::ExitCode;
 use std::{io, str};
@@ -36,9 +36,9 @@ fn run(rt: &HostRuntime) -> io::Result<u8> {
 }
 
 /// The fault of bytes that are no UTF-8.
-fn no_text(at: usize) -> Error {
+fn no_text(at: usize) -> Refusal {
     let at = template::position(at);
-    Error::new(Span::new(at, at), SyntaxError::Lex)
+    Refusal::Fault(Error::new(Span::new(at, at), SyntaxError::Lex))
 }
 
 /// Writes each piece on a line of its own.
@@ -57,7 +57,7 @@ fn write_pieces(rt: &HostRuntime, text: &str, template: &Template) -> io::Result
 }
 
 /// Says what is wrong, fault by fault, and answers the highest of their statuses.
-fn report_all(rt: &HostRuntime, text: &[u8], faults: &[Error]) -> io::Result<u8> {
+fn report_all(rt: &HostRuntime, text: &[u8], faults: &[Refusal]) -> io::Result<u8> {
     let lines = Lines::new(rt.alloc(), text)?;
     let mut status = DONE;
     for fault in faults {

@@ -20,7 +20,7 @@ enum Open {
 }
 
 /// Finds the end of the hole whose expression begins at `from`: the first `}}` outside braces, strings, templates and
-/// comments. A regular expression isn't told from operators: a brace or a quote stands behind a backslash in it.
+/// comments. A regular expression isn't told from operators: a brace or a quote is after a backslash in it.
 pub fn end_of_hole(alloc: Global, text: &[u8], from: usize) -> Result<HoleEnd, AllocError> {
     let mut open = Vec::new(alloc);
     let mut next = from;
@@ -77,7 +77,7 @@ fn length_in_template(rest: &[u8], open: &mut Vec<Open>) -> Result<usize, AllocE
     }
 }
 
-/// The length of a string with its quotes, from what stands behind the first. None where its line ends before.
+/// The length of a string with its quotes, from what is after the first. None where its line ends before.
 fn string_length(inside: &[u8], quote: u8) -> Option<usize> {
     let mut is_escaped = false;
     for (at, byte) in inside.iter().enumerate() {
@@ -92,7 +92,7 @@ fn string_length(inside: &[u8], quote: u8) -> Option<usize> {
     None
 }
 
-/// The length of a comment, from what stands behind its `/*`: through its `*/`, or to the text's end.
+/// The length of a comment, from what is after its `/*`: through its `*/`, or to the text's end.
 fn comment_length(inside: &[u8]) -> usize {
     for at in 0..inside.len() {
         if inside[at..].starts_with(b"*/") {

@@ -1,8 +1,9 @@
 // A template: a text with expressions in it.
 use crate::hole::{HoleEnd, end_of_hole};
+use reporting::Refusal;
 use reporting::expr::read_expr;
 use std::alloc::{AllocError, Global};
-use swc_ecma_parser::context::error::{Error, PResult, SyntaxError, Wanted};
+use swc_ecma_parser::context::error::{Error, SyntaxError, Wanted};
 use swc_ecma_parser::context::span::{BytePos, Span};
 use swc_ecma_parser::printing::print::PrintNodes;
 
@@ -19,14 +20,14 @@ pub enum Piece {
 #[derive(Drop)]
 pub struct Template {
     pub pieces: Vec<Piece>,
-    /// The first fault of each hole that has one. Places are in the whole text.
-    pub faults: Vec<Error>,
+    /// Why a hole isn't read, of each that isn't. Places are in the whole text.
+    pub faults: Vec<Refusal>,
 }
 
 /// The template of a text that isn't longer than positions go. A hole goes from `{{` to the first `}}` outside braces,
 /// strings, templates and comments.
 ///
-/// A hole that has a fault is left out, and the text goes on behind it; one that isn't closed ends with the text, or
+/// A hole that has a fault is left out, and the text goes on after it; one that isn't closed ends with the text, or
 /// with the line of a string that this ends.
 pub fn parse(alloc: Global, text: &[u8]) -> Result<Template, AllocError> {
     let mut template = Template {
@@ -76,14 +77,14 @@ fn push_hole(
 }
 
 /// The tree of a hole's expression, printed. `start` is where it begins in the whole text.
-fn read_hole(alloc: Global, part: &[u8], start: BytePos) -> PResult<String> {
+fn read_hole(alloc: Global, part: &[u8], start: BytePos) -> Result<String, Refusal> {
     let (nodes, expr) = read_expr(alloc, part, start)?;
-    nodes.print_expr(expr)
+    Ok(nodes.print_expr(expr)?)
 }
 
 /// The fault of a hole that isn't closed where it ends.
-fn not_closed(end: usize) -> Error {
-    Error::new(span(end, end), SyntaxError::Expected(Wanted::RBrace))
+fn not_closed(end: usize) -> Refusal {
+    Refusal::Fault(Error::new(span(end, end), SyntaxError::Expected(Wanted::RBrace)))
 }
 
 fn span(lo: usize, hi: usize) -> Span {

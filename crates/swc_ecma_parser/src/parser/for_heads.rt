@@ -11,7 +11,7 @@ use swc_nodes::node::ForHeadId;
 impl<I: Tokens, B: Bodies<I>> Parser<I, B> {
     /// What the head of a `for` begins with, where that is no declaration (ECMA-262, 14.7.4 and 14.7.5): an
     /// expression, as `parse_expr` reads it, but that `in` is no operator outside brackets, and that `async` before
-    /// `of`, where no `=>` stands behind that, is an identifier: it is recorded as `TS1106`, at `async`, unless the
+    /// `of`, where no `=>` is after that, is an identifier: it is recorded as `TS1106`, at `async`, unless the
     /// context says that the head is one of `for await` (`for_await_loop_init`). The context is put back. `let` at the
     /// start is an identifier.
     ///
@@ -22,7 +22,11 @@ impl<I: Tokens, B: Bodies<I>> Parser<I, B> {
         self.begin()?;
         let start = self.productions.nodes.len();
         let ctx = self.productions.get_ctx();
-        let answer = parse_head_expr(&mut self.productions, ctx.expr_ctx.for_await_loop_init);
+        let answer = parse_head_expr(
+            &mut self.productions,
+            self.room,
+            ctx.expr_ctx.for_await_loop_init,
+        );
         let answer = self.move_out_checked(start, answer);
         self.finish(answer)
     }
@@ -34,14 +38,14 @@ impl<I: Tokens, B: Bodies<I>> Parser<I, B> {
     {
         self.begin()?;
         let start = self.productions.nodes.len();
-        let answer = parse_for_head(&mut self.productions, is_await);
+        let answer = parse_for_head(&mut self.productions, self.room, is_await);
         let answer = self.keep_checked(start, answer);
         self.finish(answer)
     }
 
     /// What the head of a `for`, or of a `for await`, begins with, where that is no declaration (ECMA-262, 14.7.4 and
     /// 14.7.5): the expression that `parse_for_head_prefix` reads in a head of that kind, whatever the context says.
-    /// Where `of` or `in` is current behind it, it becomes a pattern that each turn assigns to, as
+    /// Where `of` or `in` is current after it, it becomes a pattern that each turn assigns to, as
     /// `reparse_expr_as_pat` makes an `AssignPat`: `ForHead::Target`. Elsewhere it stays what it is: `ForHead::Expr`.
     /// The word isn't consumed. The context is put back. `let` at the start is an identifier.
     ///
@@ -53,7 +57,7 @@ impl<I: Tokens, B: Bodies<I>> Parser<I, B> {
     {
         self.begin()?;
         let start = self.productions.nodes.len();
-        let answer = parse_for_head(&mut self.productions, is_await);
+        let answer = parse_for_head(&mut self.productions, self.room, is_await);
         let answer = self.move_out_checked(start, answer);
         self.finish(answer)
     }

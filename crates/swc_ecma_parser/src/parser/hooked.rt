@@ -14,7 +14,7 @@ impl<I: Tokens, B: Bodies<I>> Parser<I, B> {
     /// line: what the hook makes of it, in the context of the parser.
     ///
     /// Any other token is refused as `Expected`, at that token, and the end as `Eof`, where the token consumed last
-    /// ends. What the hook refuses is refused; where the source has failed, want of memory is.
+    /// ends. What the hook refuses is refused; where the source has failed, out of memory is.
     pub fn read_fun(&mut self) -> PResult<B::Fun>
         ensures { Called (HookReads I.model B.is_faithful B.forms.fun) self.old result self.new }
     {

@@ -18,7 +18,7 @@ impl<I: Tokens, B: Bodies<I>> Parser<I, B> {
     {
         self.begin()?;
         let start = self.productions.nodes.len();
-        let answer = parse_lhs_expr(&mut self.productions);
+        let answer = parse_lhs_expr(&mut self.productions, self.room);
         let answer = self.keep_checked(start, answer);
         self.finish(answer)
     }
@@ -35,7 +35,7 @@ impl<I: Tokens, B: Bodies<I>> Parser<I, B> {
     {
         self.begin()?;
         let start = self.productions.nodes.len();
-        let answer = parse_lhs_expr(&mut self.productions);
+        let answer = parse_lhs_expr(&mut self.productions, self.room);
         let answer = self.move_out_checked(start, answer);
         self.finish(answer)
     }

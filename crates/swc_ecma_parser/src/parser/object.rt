@@ -6,7 +6,9 @@ ghost use Rattle.swc_ast.specs.Tree.{trees};
 ghost use Rattle.swc_ast.specs.TreeOf.{pat_prop_tree};
 ghost use Rattle.swc_grammar.specs.Symbols.{Key, Prop};
 ghost use Rattle.swc_nodes.specs.Commas.{Remembers};
+ghost use Rattle.swc_input.specs.Recordings.{Judges};
 ghost use Rattle.swc_patterns.specs.Objects.{is_rest, props_stage, rests_checked};
+ghost use Rattle.swc_patterns.specs.RestFaults.{rest_at, rests_faults, rests_refused};
 ghost use Rattle.swc_steps.specs.Parsing.{ContinuesAlone};
 ghost use Rattle.swc_ecma_parser.specs.Calls.{buffer_of, nodes_of, commas_of, has_failed, MakesObject, MakesPattern};
 ghost use Rattle.swc_ecma_parser.specs.Calls.{Patterns};
@@ -42,7 +44,7 @@ pub trait ParseObject<Obj> {
 
     ghost reads: { Self → Result Self.Prop Error → Self → Type 0 };
 
-    /// The object of the properties, at the place. The place of a comma behind the last is given too.
+    /// The object of the properties, at the place. The place of a comma after the last is given too.
     fn make_object(
         &mut self,
         span: Span,
@@ -63,7 +65,7 @@ impl<I: Tokens, B: Bodies<I>> Parser<I, B> {
     {
         self.begin()?;
         let start = self.productions.nodes.len();
-        let answer = parse_prop_name(&mut self.productions);
+        let answer = parse_prop_name(&mut self.productions, self.room);
         let answer = self.keep(start, answer);
         self.finish(answer)
     }
@@ -78,14 +80,14 @@ impl<I: Tokens, B: Bodies<I>> Parser<I, B> {
     {
         self.begin()?;
         let start = self.productions.nodes.len();
-        let answer = parse_prop_name(&mut self.productions);
+        let answer = parse_prop_name(&mut self.productions, self.room);
         let answer = self.move_out(start, answer);
         self.finish(answer)
     }
 }
 
 impl<I: Tokens, B: Bodies<I>> Parser<I, B> {
-    /// An object literal of the properties, whose comma is remembered. Refused only for want of memory.
+    /// An object literal of the properties, whose comma is remembered. Refused only when out of memory.
     fn make_literal(
         &mut self,
         span: Span,
@@ -123,7 +125,7 @@ impl<I: Tokens, B: Bodies<I>> ParseObject<Box<ExprOf<B>>> for Parser<I, B> {
 
     ghost reads = { Promised I.model B.is_faithful B.forms prop_in_boxes Prop };
 
-    /// An object literal of the properties. Nothing is recorded. The comma behind the last is remembered at the
+    /// An object literal of the properties. Nothing is recorded. The comma after the last is remembered at the
     /// literal's start, or that there is none (`Parser::trailing_comma`).
     fn make_object(
         &mut self,
@@ -145,13 +147,13 @@ impl<I: Tokens, B: Bodies<I>> ParseObject<Box<ExprOf<B>>> for Parser<I, B> {
         }
     }
 
-    /// A property of an object literal (ECMA-262, 13.2.5 and 15.4), up to the `,` or `}` behind it, which stays.
+    /// A property of an object literal (ECMA-262, 13.2.5 and 15.4), up to the `,` or `}` after it, which stays.
     fn parse_object_prop(&mut self) -> PResult<PropOrSpread<B::Fun, B::Class, B::Block>>
         ensures { Promised I.model B.is_faithful B.forms prop_in_boxes Prop self.old result self.new }
     {
         self.begin()?;
         let start = self.productions.nodes.len();
-        let answer = parse_object_prop(&mut self.productions);
+        let answer = parse_object_prop(&mut self.productions, self.room);
         let answer = self.move_out(start, answer);
         self.finish(answer)
     }
@@ -169,6 +171,7 @@ fn rest_of<F: Spanned, C: Spanned, K: Spanned>(prop: &ObjectPatProp<F, C, K>) ->
     ensures rest { is_some result ≡ is_rest (pat_prop_tree _ _ _ F.place C.place K.place prop.now) }
     ensures name { IfSome result
         (λ r. r.is_name ≡ holds_ident (pat_prop_tree _ _ _ F.place C.place K.place prop.now)) }
+    ensures is { result ≡ rest_at (pat_prop_tree _ _ _ F.place C.place K.place prop.now) }
 {
     match prop {
         ObjectPatProp::Rest(rest) => Some(RestProp {
@@ -179,14 +182,18 @@ fn rest_of<F: Spanned, C: Spanned, K: Spanned>(prop: &ObjectPatProp<F, C, K>) ->
     }
 }
 
-/// Records and refuses the rests that don't stand last, over an identifier, with no comma behind them, in their order.
+/// Records and refuses the rests that don't stand last, over an identifier, with no comma after them, in their order.
 fn check_rests<I: Tokens, F: Spanned, C: Spanned, K: Spanned>(
     input: &mut Buffer<I>,
     props: &Vec<ObjectPatProp<F, C, K>>,
     trailing_comma: Option<Span>,
 ) -> PResult<()>
-    ensures { ContinuesAlone I.model (λ u. u) (rests_checked (props_stage
+    ensures checks { ContinuesAlone I.model (λ u. u) (rests_checked (props_stage
         (trees (map (pat_prop_tree _ _ _ F.place C.place K.place) props.now.items)) trailing_comma))
+        input.old result input.new }
+    ensures judges { Judges I.model
+        (rests_faults (trees (map (pat_prop_tree _ _ _ F.place C.place K.place) props.now.items)) trailing_comma)
+        (rests_refused (trees (map (pat_prop_tree _ _ _ F.place C.place K.place) props.now.items)))
         input.old result input.new }
 {
     let mut last = None;
@@ -240,8 +247,8 @@ impl<I: Tokens, B: Bodies<I>> ParseObject<PatOf<B>> for Parser<I, B> {
 
     /// An object pattern of the properties (ECMA-262, 14.3.3). No comma is remembered at its start any more.
     ///
-    /// A rest that another property stands behind is recorded as `NonLastRestParam`, at the rest. A last one over no
-    /// identifier is refused as `DotsWithoutIdentifier`, at the rest, and what was given is dropped; the comma behind
+    /// A rest that another property is after is recorded as `NonLastRestParam`, at the rest. A last one over no
+    /// identifier is refused as `DotsWithoutIdentifier`, at the rest, and what was given is dropped; the comma after
     /// one over an identifier is recorded as `CommaAfterRestElement`, at the comma.
     fn make_object(
         &mut self,
@@ -263,13 +270,13 @@ impl<I: Tokens, B: Bodies<I>> ParseObject<PatOf<B>> for Parser<I, B> {
         }
     }
 
-    /// A property of an object pattern (BindingProperty; ECMA-262, 14.3.3), up to what stands behind it, which stays: a
-    /// key and, behind a `:`, a binding element; a name, which is bound, and, behind a `=`, its initialiser or none; or
+    /// A property of an object pattern (BindingProperty; ECMA-262, 14.3.3), up to what is after it, which stays: a
+    /// key and, after a `:`, a binding element; a name, which is bound, and, after a `=`, its initialiser or none; or
     /// `...` and a pattern (BindingRestProperty).
     ///
     /// Where a rest stands among the properties, and that it is over an identifier, isn't looked at (`make_object`). A
     /// name that is bound without an initialiser and is reserved is recorded as `ReservedWordInObjShorthandOrPat`, at
-    /// the name. Behind a key that is no name, what is no `:` is refused as `Unexpected`, at the current token, and the
+    /// the name. After a key that is no name, what is no `:` is refused as `Unexpected`, at the current token, and the
     /// end as `Eof`, where the token consumed last ends; the key, the element, the initialiser and the pattern as
     /// `parse_prop_name`, `parse_binding_element`, `parse_assignment_expr` and `parse_pat` refuse them.
     fn parse_object_prop(&mut self) -> PResult<PatPropOf<B>>
@@ -277,7 +284,7 @@ impl<I: Tokens, B: Bodies<I>> ParseObject<PatOf<B>> for Parser<I, B> {
     {
         self.begin()?;
         let start = self.productions.nodes.len();
-        let answer = parse_object_pat_prop(&mut self.productions);
+        let answer = parse_object_pat_prop(&mut self.productions, self.room);
         let answer = self.move_out(start, answer);
         self.finish(answer)
     }

@@ -26,11 +26,11 @@ impl<I: Tokens, B: Bodies<I>> Parser<I, B> {
     }
 
     /// Formal parameters (ECMA-262, 15.1): binding elements, as `parse_binding_element` reads them, with commas between
-    /// them, and the last one may be a rest, over a pattern. A comma may stand behind the last one. They end before
+    /// them, and the last one may be a rest, over a pattern. A comma may are after the last one. They end before
     /// `)`, which stays, or at the end where a parameter could begin.
     ///
-    /// A rest that another parameter stands behind is recorded as `TS1014`, at the rest, once for each that does. The
-    /// initialiser of a rest is recorded as `TS1048`, at the pattern behind the dots, and the comma behind a last rest
+    /// A rest that another parameter is after is recorded as `TS1014`, at the rest, once for each that does. The
+    /// initialiser of a rest is recorded as `TS1048`, at the pattern after the dots, and the comma after a last rest
     /// as `CommaAfterRestElement`, at the comma. What follows a parameter and is neither `,` nor `)` is refused as
     /// `Expected`, at the current token, and the end there as `Eof`, where the token consumed last ends.
     pub fn parse_formal_params(&mut self) -> PResult<Vec<Param<PatOf<B>>>>
@@ -38,7 +38,7 @@ impl<I: Tokens, B: Bodies<I>> Parser<I, B> {
     {
         self.begin()?;
         let start = self.productions.nodes.len();
-        let answer = parse_formal_params(&mut self.productions);
+        let answer = parse_formal_params(&mut self.productions, self.room);
         let answer = self.move_out_checked(start, answer);
         self.finish(answer)
     }
@@ -49,7 +49,7 @@ impl<I: Tokens, B: Bodies<I>> Parser<I, B> {
     {
         self.begin()?;
         let start = self.productions.nodes.len();
-        let answer = parse_formal_params(&mut self.productions);
+        let answer = parse_formal_params(&mut self.productions, self.room);
         let answer = self.keep_checked(start, answer);
         self.finish(answer)
     }
@@ -64,7 +64,7 @@ impl<I: Tokens, B: Bodies<I>> Parser<I, B> {
     {
         self.begin()?;
         let start = self.productions.nodes.len();
-        let answer = parse_arrow_params(&mut self.productions);
+        let answer = parse_arrow_params(&mut self.productions, self.room);
         let answer = self.keep_checked(start, answer);
         self.finish(answer)
     }
@@ -72,15 +72,15 @@ impl<I: Tokens, B: Bodies<I>> Parser<I, B> {
     /// The parameters of an arrow function, from `(` through the `)` that closes them (ArrowFormalParameters; ECMA-262,
     /// 15.3), as their cover grammar has them (13.2.9): a list in parentheses as `parse_args_or_pats` reads it, in
     /// which `in` is an operator, and the parameters that `parse_paren_items_as_params` makes of it. The rest of a list
-    /// has the place of what stands behind its dots. Behind the last parameter, but a rest, a comma may stand; the
+    /// has the place of what is after its dots. After the last parameter, but a rest, a comma may stand; the
     /// comma isn't remembered. That a name is bound twice isn't looked at, nor is what follows the `)`.
     ///
     /// What is no `(` where they begin is refused as `Expected`, at the current token, and so is what follows an item
-    /// and is neither `,` nor `)`; the end as `Eof`, where the token consumed last ends. A refusal behind `...` is
+    /// and is neither `,` nor `)`; the end as `Eof`, where the token consumed last ends. A refusal after `...` is
     /// labelled with the place of the dots (`WithLabel`). Once its `)` was consumed, the list has the faults that
     /// `parse_paren_items_as_params` records: what is no pattern is recorded as `InvalidPat`, at its place, and
     /// `Invalid` stands in for it; a spread that isn't the last as `TS1014`, at the spread, and it is dropped; the
-    /// comma behind a last one as `CommaAfterRestElement`, at the comma, and an initialiser in it as `TS1048`, at the
+    /// comma after a last one as `CommaAfterRestElement`, at the comma, and an initialiser in it as `TS1048`, at the
     /// spread; and in strict code `eval` and `arguments`, where they are bound, as `EvalAndArgumentsInStrict`, at the
     /// word: in modules that is recorded, and it waits elsewhere. Parts of patterns have the faults that
     /// `reparse_expr_as_pat` records of a `BindingElement`; a method, a getter or a setter in one is refused as
@@ -93,7 +93,7 @@ impl<I: Tokens, B: Bodies<I>> Parser<I, B> {
     {
         self.begin()?;
         let start = self.productions.nodes.len();
-        let answer = parse_arrow_params(&mut self.productions);
+        let answer = parse_arrow_params(&mut self.productions, self.room);
         let answer = self.move_out_checked(start, answer);
         self.finish(answer)
     }

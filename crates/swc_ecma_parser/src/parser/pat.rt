@@ -26,7 +26,7 @@ impl<I: Tokens, B: Bodies<I>> Parser<I, B> {
     {
         self.begin()?;
         let start = self.productions.nodes.len();
-        let answer = parse_pat(&mut self.productions);
+        let answer = parse_pat(&mut self.productions, self.room);
         let answer = self.keep_checked(start, answer);
         self.finish(answer)
     }
@@ -36,12 +36,12 @@ impl<I: Tokens, B: Bodies<I>> Parser<I, B> {
     /// The elements of an array pattern have commas between them; each is a binding element, as
     /// `parse_binding_element` reads it, or a hole, and the last one may be a rest, over a pattern. An object pattern
     /// has properties, as `parse_object_prop` reads them, with commas between them, and the last one may be a rest,
-    /// over an identifier. Behind the last one of either a comma may stand, if it is no rest.
+    /// over an identifier. After the last one of either a comma may stand, if it is no rest.
     ///
     /// Another token than a word, `[` and `{` is refused as `Unexpected`, at that token, and the end as `Eof`, where
     /// the token consumed last ends; a word as `parse_binding_ident` refuses it, and has the faults that it has there.
-    /// A rest of an array pattern is recorded as `NonLastRestParam`, at the rest, for each element behind it, and the
-    /// comma behind a last one as `CommaAfterRestElement`, at the comma. The rests of an object pattern are recorded
+    /// A rest of an array pattern is recorded as `NonLastRestParam`, at the rest, for each element after it, and the
+    /// comma after a last one as `CommaAfterRestElement`, at the comma. The rests of an object pattern are recorded
     /// and refused as `make_object` does it, once its brace was read. What follows an element and is neither `,` nor
     /// `]`, and what follows a property and is neither `,` nor `}`, is refused as `Expected`, at the current token, and
     /// the end there as `Eof`.
@@ -53,7 +53,7 @@ impl<I: Tokens, B: Bodies<I>> Parser<I, B> {
     {
         self.begin()?;
         let start = self.productions.nodes.len();
-        let answer = parse_pat(&mut self.productions);
+        let answer = parse_pat(&mut self.productions, self.room);
         let answer = self.move_out_checked(start, answer);
         self.finish(answer)
     }
@@ -77,12 +77,12 @@ impl<I: Tokens, B: Bodies<I>> Parser<I, B> {
     {
         self.begin()?;
         let start = self.productions.nodes.len();
-        let answer = parse_binding_element(&mut self.productions);
+        let answer = parse_binding_element(&mut self.productions, self.room);
         let answer = self.keep_checked(start, answer);
         self.finish(answer)
     }
 
-    /// A binding pattern, and `=` and its initialiser behind it or none (BindingElement; ECMA-262, 14.3.3): an
+    /// A binding pattern, and `=` and its initialiser after it or none (BindingElement; ECMA-262, 14.3.3): an
     /// assignment expression, in which `in` is an operator.
     ///
     /// The pattern is refused, and has faults recorded, as `parse_pat` does it, the initialiser as
@@ -95,7 +95,7 @@ impl<I: Tokens, B: Bodies<I>> Parser<I, B> {
     {
         self.begin()?;
         let start = self.productions.nodes.len();
-        let answer = parse_binding_element(&mut self.productions);
+        let answer = parse_binding_element(&mut self.productions, self.room);
         let answer = self.move_out_checked(start, answer);
         self.finish(answer)
     }

@@ -13,18 +13,18 @@ use swc_nodes::node::ExprId;
 use swc_productions::pieces::{parse_arguments, parse_template};
 use swc_steps::tokens::Listed;
 
-/// A list in parentheses, over a hook's values, and the place of the comma behind its last item.
+/// A list in parentheses, over a hook's values, and the place of the comma after its last item.
 pub type ArgsOrPatsOf<B> = (Vec<ExprOrSpread<Box<ExprOf<B>>>>, Option<Span>);
 
 impl<I: Tokens, B: Bodies<I>> Parser<I, B> {
     /// Arguments (ECMA-262, 13.3.8), from `(` through the `)` that closes them: expressions, and spreads, in which
-    /// `in` is an operator. A comma may stand behind the last one, and isn't remembered. With `is_dynamic_import` they
+    /// `in` is an operator. A comma may are after the last one, and isn't remembered. With `is_dynamic_import` they
     /// are those of `import` (13.3.10): how many there are isn't looked at, unless the syntax is pedantic. Then others
     /// than one, or with import attributes one or two, none of them a spread, are recorded as `ImportArguments`, from
     /// the `(` through the `)`.
     ///
     /// What is no `(` where they begin is refused as `Expected`, at the current token, and so is what follows an
-    /// argument and is neither `,` nor `)`; the end as `Eof`, where the token consumed last ends. A refusal behind
+    /// argument and is neither `,` nor `)`; the end as `Eof`, where the token consumed last ends. A refusal after
     /// `...` is labelled with the place of the dots (`WithLabel`). The last comma of the arguments of `import` is
     /// refused as `TrailingCommaInsideImport`, from the `(` through the comma, where the syntax has no import
     /// attributes.
@@ -37,12 +37,12 @@ impl<I: Tokens, B: Bodies<I>> Parser<I, B> {
     {
         self.begin()?;
         let start = self.productions.nodes.len();
-        let answer = parse_arguments(&mut self.productions, is_dynamic_import);
+        let answer = parse_arguments(&mut self.productions, self.room, is_dynamic_import);
         let answer = self.move_out_checked(start, answer);
         self.finish(answer)
     }
 
-    /// A list in parentheses, from `(` through the `)` that closes it, with the place of a comma behind the last item:
+    /// A list in parentheses, from `(` through the `)` that closes it, with the place of a comma after the last item:
     /// expressions, and spreads, in which `in` is an operator. It is read as arguments are, and is what parameters of
     /// an arrow function, an expression in parentheses (ECMA-262, 13.2.9) and arguments of a call of `async` have in
     /// common; none of what these forbid is looked at.
@@ -54,7 +54,7 @@ impl<I: Tokens, B: Bodies<I>> Parser<I, B> {
     {
         self.begin()?;
         let start = self.productions.nodes.len();
-        let answer = parse_arguments(&mut self.productions, false);
+        let answer = parse_arguments(&mut self.productions, self.room, false);
         let comma = last_comma(&answer);
         let answer = self.move_out(start, answer);
         let answer = with_comma(answer, comma);
@@ -75,13 +75,13 @@ impl<I: Tokens, B: Bodies<I>> Parser<I, B> {
     {
         self.begin()?;
         let start = self.productions.nodes.len();
-        let answer = parse_template(&mut self.productions, is_tagged);
+        let answer = parse_template(&mut self.productions, self.room, is_tagged);
         let answer = self.move_out(start, answer);
         self.finish(answer)
     }
 }
 
-/// The place of the comma behind the last item of a list that was read.
+/// The place of the comma after the last item of a list that was read.
 fn last_comma(answer: &PResult<Listed<ExprOrSpread<ExprId>>>) -> Option<Span>
     ensures { IfOk answer.now (λ l. result ≡ l.trailing_comma) }
 {

@@ -1,7 +1,9 @@
 // Finished expressions become patterns, as calls of a parser.
 ghost use Rattle.std.specs.Prelude.{◌≡◌, IfOk};
 ghost use Rattle.swc_ast.specs.Trees.{is_valid, are_valid};
+ghost use Rattle.swc_cover.specs.Faults.{params_verdict};
 ghost use Rattle.swc_cover.specs.Items.{want_items};
+ghost use Rattle.swc_cover.specs.Noting.{JudgesBy, JudgesParams};
 ghost use Rattle.swc_cover.specs.PatTypes.{want_as};
 ghost use Rattle.swc_cover.specs.Refining.{pats_at};
 ghost use Rattle.swc_nodes.specs.Lists.{pats_parts};
@@ -10,7 +12,7 @@ ghost use Rattle.swc_nodes.specs.NodeParts.{one_pat};
 ghost use Rattle.swc_patterns.specs.Answers.{pat_at};
 ghost use Rattle.swc_ecma_parser.specs.Calls.{buffer_of, nodes_of, commas_of, has_failed, tree_by, MovesOut};
 ghost use Rattle.swc_ecma_parser.specs.Refinement.{boxed_items, marked_expr, marked_items, params_of, pattern_of};
-ghost use Rattle.swc_ecma_parser.specs.Refinement.{Recasts, RefinesExpr, RefinesItems};
+ghost use Rattle.swc_ecma_parser.specs.Refinement.{names_of, verdict_of, Recasts, RefinesExpr, RefinesItems};
 
 use crate::parser::{Parser, PatOf};
 use crate::taking::Take;
@@ -42,12 +44,15 @@ impl<I: Tokens, B: Bodies<I>> Parser<I, B> {
     /// and `InvalidPat` otherwise, and `Invalid` stands in for them; but a method, a getter or a setter is refused as
     /// `InvalidPat`. `Invalid` stays, and has no fault recorded.
     ///
-    /// Holes behind the last element of an array are dropped. A spread becomes a rest. One that isn't the last is
-    /// recorded as `NonLastRestParam`, and is dropped from an array; the comma behind a last one is recorded as
+    /// Holes after the last element of an array are dropped. A spread becomes a rest. One that isn't the last is
+    /// recorded as `NonLastRestParam`, and is dropped from an array; the comma after a last one is recorded as
     /// `CommaAfterRestElement`, at the comma, and an initialiser in it as `TS1048`. In a pattern that binds the rest of
     /// an object over anything but an identifier is recorded as `DotsWithoutIdentifier`, and holds `Invalid`. Where a
     /// pattern stands on the left of an assignment already, it is looked at again as one that binds: what is written to
     /// in it is recorded as `InvalidPat`, and rests of objects as above.
+    ///
+    /// The call takes stack by how deeply the expression is nested. One that this parser read is no deeper than its
+    /// bound (`limit_nesting`); one that a caller built is as deep as he built it.
     pub fn reparse_expr_as_pat(
         &mut self,
         pat_type: PatType,
@@ -69,14 +74,14 @@ impl<I: Tokens, B: Bodies<I>> Parser<I, B> {
         }
     }
 
-    /// The items of a list in parentheses (`parse_args_or_pats`), with the place of the comma behind the last one or
+    /// The items of a list in parentheses (`parse_args_or_pats`), with the place of the comma after the last one or
     /// none, as the parameters of an arrow function (ECMA-262, 15.3): each as `reparse_expr_as_pat` has it of a
     /// `BindingElement`. Nothing is read. A call that is refused drops the items.
     ///
-    /// A spread becomes a rest. One that isn't the last is recorded as `TS1014`, and dropped; the comma behind a last
+    /// A spread becomes a rest. One that isn't the last is recorded as `TS1014`, and dropped; the comma after a last
     /// one is recorded as `CommaAfterRestElement`, at the comma, and an initialiser in it as `TS1048`. In strict code
     /// `eval` and `arguments`, where they are bound, are recorded as `EvalAndArgumentsInStrict` in modules, and wait
-    /// elsewhere.
+    /// elsewhere. The call takes stack by how deeply the items are nested, as `reparse_expr_as_pat` does.
     pub fn parse_paren_items_as_params(
         &mut self,
         items: ItemsOf<B>,
@@ -127,11 +132,13 @@ impl<I: Tokens, B: Bodies<I>> Parser<I, B> {
         }
     }
 
-    /// Puts the expression behind all nodes, and makes a pattern of it.
+    /// Puts the expression after all nodes, and makes a pattern of it.
     fn recast_expr(&mut self, pat_type: PatType, expr: Box<ExprOf<B>>) -> PResult<PatId>
         ensures recasts { Recasts I.model (is_valid (tree_by B.Fun.place B.Class.place B.Block.place expr))
             (pattern_of I.model pat_type expr self.old) (want_as pat_type (marked_expr self.old expr))
             pat_at one_pat self.old result self.new }
+        ensures judges { JudgesBy I.model (verdict_of I.model pat_type expr self.old)
+            (buffer_of self.old) result (buffer_of self.new) }
         ensures commas { commas_of self.new ≡ commas_of self.old }
         ensures runs { has_failed self.new ≡ has_failed self.old }
     {
@@ -145,7 +152,7 @@ impl<I: Tokens, B: Bodies<I>> Parser<I, B> {
         }
     }
 
-    /// Puts the items behind all nodes, and makes parameters of them.
+    /// Puts the items after all nodes, and makes parameters of them.
     fn recast_items(
         &mut self,
         items: ItemsOf<B>,
@@ -154,6 +161,8 @@ impl<I: Tokens, B: Bodies<I>> Parser<I, B> {
         ensures recasts { Recasts I.model (are_valid (boxed_items B.Fun.place B.Class.place B.Block.place items.items))
             (params_of I.model items.items trailing_comma self.old) (want_items (marked_items self.old items.items))
             (λ ns v. pats_at ns v.items) pats_parts self.old result self.new }
+        ensures judges { JudgesParams I.model (params_verdict trailing_comma (marked_items self.old items.items))
+            (names_of I.model items.items self.old) (buffer_of self.old) result (buffer_of self.new) }
         ensures commas { commas_of self.new ≡ commas_of self.old }
         ensures runs { has_failed self.new ≡ has_failed self.old }
     {

@@ -29,7 +29,7 @@ impl<I: Tokens, B: Bodies<I>> Parser<I, B> {
     ///
     /// Nothing is read, but for an error token that is current where a fault is recorded: its error is recorded before
     /// the fault, and it is consumed. Where the context ignores errors, or early errors are off, nothing is recorded.
-    /// A call is refused only for want of memory, as `OutOfMemory` at the end of the token consumed last, or after that
+    /// A call is refused only when out of memory, as `OutOfMemory` at the end of the token consumed last, or after that
     /// as `ParserFailed` at the token consumed last; it then drops the expression.
     pub fn verify_expr(&mut self, expr: Box<ExprOf<B>>) -> PResult<Box<ExprOf<B>>>
         ensures { VerifiesExpr I.model expr self.old result self.new }
@@ -48,7 +48,7 @@ impl<I: Tokens, B: Bodies<I>> Parser<I, B> {
         }
     }
 
-    /// Puts the expression behind all nodes, and records the names that are left over in it.
+    /// Puts the expression after all nodes, and records the names that are left over in it.
     fn look_through(&mut self, expr: Box<ExprOf<B>>) -> PResult<ExprId>
         ensures looks { LooksThrough I.model (tree_by B.Fun.place B.Class.place B.Block.place expr)
             self.old result self.new }

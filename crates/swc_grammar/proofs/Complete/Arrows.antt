@@ -81,7 +81,7 @@ module _ {F C K : Type 0} (hook : Hook F C K) where
   abbrev paren_of : Span → Tree F C K → Tree F C K
   paren_of s es = paren_e (to s (span_of es)) (seq_of (held_exprs (items_of es)))
 
-  -- what was read behind a primary expression, at the head
+  -- what was read after a primary expression, at the head
   pub record Behind (d : Scope) (l : Tree F C K) (us : List TokenAndSpan) (e : Tree F C K) (ms : List TokenAndSpan)
       : Type 0 where
     pub left : Tree F C K
@@ -130,7 +130,7 @@ module _ {F C K : Type 0} (hook : Hook F C K) where
         },
       )
 
-  -- where an arrow stands behind it, nothing was read there
+  -- where an arrow is after it, nothing was read there
   behind-arrow : (d : Scope) (l : Tree F C K) (us : List TokenAndSpan) (e : Tree F C K) (ms : List TokenAndSpan)
       → left_ok l ≡ true → Behind d l us e ms → at_token is_arrow (first us) ≡ true → at_token is_arrow (first ms)
       ≡ true
@@ -163,7 +163,7 @@ module _ {F C K : Type 0} (hook : Hook F C K) where
   given-run g None k ts h = cc
   given-run g (Some x) k ts h = (x, refl, h)
 
-  -- what is picked with nothing behind it that goes on as an arrow function
+  -- what is picked with nothing after it that goes on as an arrow function
   pub apart-picked : {s : Symbol} {c : Scope} {r : Side F C K s} (p : Production s c r) (g : Option ℕ)
       (xs : List TokenAndSpan) (o : Answer F C K s × List TokenAndSpan)
       → exec hook (run hook) g (chosen (pick_apart p)) xs ≡ Some o

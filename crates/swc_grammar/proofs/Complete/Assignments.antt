@@ -119,7 +119,7 @@ pub equals-plain : (a : TokenAndSpan) → is_equals a.token ≡ true → assign_
 equals-plain a h = rw (equals-is a.token h) refl
 
 module _ {F C K : Type 0} (hook : Hook F C K) where
-  -- `yield`, by what stands behind it
+  -- `yield`, by what is after it
   yield-picks : (c : Scope) (a : TokenAndSpan) (us : List TokenAndSpan) (x : Choice F C K Assign c)
       → is_yield a.token ≡ true → (c.context.in_generator && yield_ok c.context) ≡ true
       → (yield_ok c.context ≡ true → yield_by {F = F} {C = C} {K = K} c (first us) ≡ x)
@@ -196,7 +196,7 @@ module _ {F C K : Type 0} (hook : Hook F C K) where
       picks hook Assign c xs p (pick p) (picked-assign p y (forget hook d)) refl
       (side-reads hook (Some 14) d (ready-assign ys stop p y))
 
-  -- what binary operators join, and what `?` or an operator that writes stands behind
+  -- what binary operators join, and what `?` or an operator that writes is after
   pub level-reads : (c : Scope) (xs ms : List TokenAndSpan) (e : Tree F C K)
       → at_token (begins_operand c) (first xs) ≡ true → no_arrow ms ≡ true
       → run hook (sym (Level 1)) (at_head c) xs ≡ Some (e, ms) → run hook (sym Assign) c xs ≡ run hook (assigns e) c ms

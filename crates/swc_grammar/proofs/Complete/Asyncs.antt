@@ -1,4 +1,4 @@
--- Async arrow functions; and what `async` is else, by what stands behind it.
+-- Async arrow functions; and what `async` is else, by what is after it.
 use Rattle.std.proofs.Common.{refl, sym as sym_path, ap, subst, ◌∙◌}
 use Rattle.std.specs.Prelude.{◌≡◌, ℕ, Bool, true, false, not, List, [], ◌∷◌, ◌&&◌, if◌then◌else◌, Option, Some, None}
 use Rattle.swc_context.specs.declared.span.Span.{Span}
@@ -83,7 +83,7 @@ module _ {F C K : Type 0} (hook : Hook F C K) where
       by-token (token.Word (word.Ident w)) b s h z = rw z refl
       by-token t b s h z = absurd cc
 
-  -- the same behind `async`
+  -- the same after `async`
   pub lparen-next : (Q : List TokenAndSpan → Type 0) (us : List TokenAndSpan) → is_lparen_here (first us) ≡ true
       → ((s : Span) (vs : List TokenAndSpan) → Q (tk token.LParen false s ∷ vs)) → Q us
   lparen-next Q [] h f = absurd cc

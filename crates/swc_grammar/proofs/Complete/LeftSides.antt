@@ -99,7 +99,7 @@ no-new-first c (a ∷ us) h = by-token a.token h
     by-token (token.Word (word.Keyword keyword.New)) h = absurd cc
     by-token t h = refl
 
--- behind a `.` a name is no `#`
+-- after a `.` a name is no `#`
 word-alone : (t : Token) → is_word t ≡ true
     → (is_hash t ≡ false) × (is_lbracket t ≡ false) × (is_lparen t ≡ false)
 word-alone (token.Word w) h = (refl, refl, refl)
@@ -236,7 +236,7 @@ module _ {F C K : Type 0} (hook : Hook F C K) where
       let (n, h, e) = given-held (any_name c a.token a.span) _ d in
       word-alone a.token (name-first c a.token a.span n h)
 
-  -- `?` and `.`, and what stands behind them
+  -- `?` and `.`, and what is after them
   pub chained : (b : Bool) (c : Scope) (a d : TokenAndSpan) (us : List TokenAndSpan) → is_question a.token ≡ true
       → is_dot d.token ≡ true
       → link {F = F} {C = C} {K = K} b c (a ∷ (d ∷ us)) ≡ chain_link (first us)

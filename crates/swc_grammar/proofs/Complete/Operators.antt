@@ -83,7 +83,7 @@ pub first-sees : (p : Token → Bool) (xs : List TokenAndSpan) → sees (λ t. p
 first-sees p [] h = refl
 first-sees p (t ∷ ts) h = h
 
--- what stands behind `await` and `yield`
+-- what is after `await` and `yield`
 await-goes-on : (c : Scope) (us : List TokenAndSpan)
     → sees (λ t. is_star t.token || (not c.context.in_async && ends_await t)) us ≡ false
     → at_token (begins_operand c) (first us) ≡ true
@@ -297,7 +297,7 @@ module _ {F C K : Type 0} (hook : Hook F C K) where
       picks hook Unary c xs p (pick p) (picked-unary p y (forget hook d)) refl
       (side-reads hook (Some 11) d (ready-unary ys stop p y))
 
-  -- a left-hand side as an operand, and what `++` or `--` stand behind
+  -- a left-hand side as an operand, and what `++` or `--` are after
   pub operand-reads : (c : Scope) (xs ms : List TokenAndSpan) (l : Tree F C K)
       → at_token (begins_left c) (first xs) ≡ true → sees (λ t. is_await t.token) xs ≡ false
       → run hook (sym (Lhs true)) c xs ≡ Some (l, ms) → run hook (sym Unary) c xs ≡ run hook (updates l) (inner c) ms

@@ -80,7 +80,7 @@ equals-colon : (o : Option TokenAndSpan) → at_token is_equals o ≡ true → a
 equals-colon None h = absurd cc
 equals-colon (Some a) h = rw (equals-is a.token h) refl
 
--- no element and no property goes on with what stands behind it in its list
+-- no element and no property goes on with what is after it in its list
 quiet-element : (c : Scope) (a : TokenAndSpan) (us : List TokenAndSpan)
     → ((is_comma a.token || is_rbracket a.token) || is_rparen a.token) ≡ true → Stop Element c (a ∷ us)
 quiet-element c a us h = by-token a.token a.had_line_break a.span h
@@ -146,7 +146,7 @@ module _ {F C K : Type 0} (hook : Hook F C K) where
   picked-pat-props-tail pat-props-tail-end (took {a = a} (held h d)) = rw (rbrace-is a.token h) refl
   picked-pat-props-tail pat-props-tail-more (took {a = a} (held h d)) = rw (comma-is a.token h) refl
 
-  -- a property whose key is a word, by what stands behind that; any other, by its first token
+  -- a property whose key is a word, by what is after that; any other, by its first token
   key-pat-picks : {c : Scope} {xs ms : List TokenAndSpan} {k : Tree F C K} → Reads hook Key c xs ms k
       → at_token is_colon (first ms) ≡ true → pat_prop {F = F} {C = C} {K = K} c xs ≡ pick pat-prop-key
   key-pat-picks {c = c} {ms = ms} (by key-name (took {a = a} {xs = us} d)) g =

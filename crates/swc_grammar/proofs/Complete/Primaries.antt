@@ -107,7 +107,7 @@ module _ {F C K : Type 0} (hook : Hook F C K) where
   class-picks c [] h = absurd cc
   class-picks c (a ∷ us) h = rw (class-is a.token h) refl
 
-  -- `async`, by what stands behind it
+  -- `async`, by what is after it
   calm-case : (l f g p q : Bool) → (not l && (f || (g && (p || q)))) ≡ false
       → ((f && not l) ≡ false) × ((g && (not l && p)) ≡ false)
   calm-case true f g p q h = (and-false f, and-false g)
@@ -146,7 +146,7 @@ module _ {F C K : Type 0} (hook : Hook F C K) where
       by-token (token.Word (word.Ident w)) b s h = rw (h, f, and-false (is_reference c.context (word.Ident w))) refl
       by-token t b s h = absurd cc
 
-  -- as what a production is picked: behind a list no `=>` may come next
+  -- as what a production is picked: after a list no `=>` may come next
   abbrev pub picking : {c : Scope} {r : Side F C K Primary} → Production Primary c r → Choice F C K Primary c
   picking paren-expr = pick_apart paren-expr
   picking async-call = pick_apart async-call

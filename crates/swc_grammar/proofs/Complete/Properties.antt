@@ -31,7 +31,7 @@ use Rattle.swc_grammar.proofs.Complete.Bools.{or-right}
 use Rattle.swc_grammar.proofs.Complete.Stops.{ends-prop-stop, expr-stop, quiet-rbracket}
 use Rattle.swc_grammar.proofs.Complete.Sides.{Ready, ready-given, gave-all, checked-gave, next-passes, checked-next}
 
--- Tests of the token behind the first one of a property: at most one holds.
+-- Tests of the token after the first one of a property: at most one holds.
 equals-apart : (o : Option TokenAndSpan) → at_token is_equals o ≡ true → at_token ends_prop o ≡ false
 equals-apart None h = refl
 equals-apart (Some a) h = rw (equals-is a.token h) refl
@@ -171,7 +171,7 @@ module _ {F C K : Type 0} (hook : Hook F C K) where
   picked-after after-value (took {a = a} (held h d)) = rw (colon-is a.token h) refl
   picked-after after-shell (part {xs = xs} e d) = rw (not-colon-first xs (begins e)) refl
 
-  -- a property that begins with a word, by what stands behind it
+  -- a property that begins with a word, by what is after it
   word-picks : (c : Scope) (a : TokenAndSpan) (us : List TokenAndSpan) (x : Choice F C K Prop c)
       → is_word a.token ≡ true
       → prop_word {F = F} {C = C} {K = K} {c = c} (Some a) (first us) ≡ x → prop c (a ∷ us) ≡ x

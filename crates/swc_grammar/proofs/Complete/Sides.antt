@@ -144,7 +144,7 @@ module _ {F C K : Type 0} (hook : Hook F C K) where
   settle (Left b) c xs ys t g h stop = absurd stop
   settle s c xs ys t g h stop = h stop
 
-  -- what is followed behind a token
+  -- what is followed after a token
   pub gave-all : {s : Symbol} {u t : Answer F C K s} {xs ys : List TokenAndSpan}
       → Follows hook s (gives u) xs ys t → xs ≡ ys
   gave-all gave = refl

@@ -108,7 +108,7 @@ stops-pat-prop c h = (stops-end PatProp h, stops-bound PatProp (with_in c) h, st
 pub stops-level : {ys : List TokenAndSpan} (s : Symbol) (c : Scope) → Stops s ys → Stop (Level 1) c ys
 stops-level s c h = (omega arith, stops-unary s c h, stops-bound s c h)
 
--- what stands behind a property is no operator and no link
+-- what is after a property is no operator and no link
 pub ends-prop-stop : (c : Scope) (ys : List TokenAndSpan) → at_token ends_prop (first ys) ≡ true → Stop Assign c ys
 ends-prop-stop c [] h = absurd cc
 ends-prop-stop c (a ∷ us) h = by-token a.token a.had_line_break a.span h

@@ -1,4 +1,4 @@
--- What is read by a call, and what goes on behind it.
+-- What is read by a call, and what goes on after it.
 use Rattle.std.proofs.Common.{◌≡◌, Bool, List, ◌++◌, Some, sym, ap, ◌∙◌, arith}
 use Rattle.swc_context.specs.declared.error.Error.{Error}
 use Rattle.swc_input.specs.declared.buffer.Buffer.{Buffer}
@@ -46,7 +46,7 @@ module _ {S : Type 0} {model : Model S} {sure : Bool} where
   heard_call {q = q} {t = t} {u = u} {b = b} {c = c} k step ends h =
       record { on = on_to (on_call k step h.on) ends; onward = h.onward }
 
-  -- what was read, and what is read behind it
+  -- what was read, and what is read after it
   pub heard_more : {A B : Type 0} {f : Reader A} {q : Reader B} {t : B} {u : A} {b c d : Buffer S} (k : Scope → B × List TokenAndSpan → Out A) → ((x : Scope) (ts : List TokenAndSpan) → f x ts ≡ (q x ts >>= k x)) →
       Heard model sure q t b c → On model sure (λ x ts. k x (t, ts)) (give u) c d → Heard model sure f u b d
   unfolding on_call
@@ -57,7 +57,7 @@ module _ {S : Type 0} {model : Model S} {sure : Bool} where
   unfolding on_call
   heard_as k step h = record { on = on_call (λ x p. Some (k p.0, p.1)) step h.on; onward = h.onward }
 
-  -- q is called, and what is read behind what it read, where that is known to be what q read
+  -- q is called, and what is read after what it read, where that is known to be what q read
   unfoldable pub on_call_read : {A B : Type 0} {f : Reader A} {q : Reader B} {g : Reader A} {t : B} {b c : Buffer S} (k : Scope → B × List TokenAndSpan → Out A) → ((x : Scope) (ts : List TokenAndSpan) → f x ts ≡ (q x ts >>= k x)) →
       On model sure q (give t) b c → ((x : Scope) (ts us : List TokenAndSpan) → q x ts ≡ Some (t, us) → (y : Scope) (ys : List TokenAndSpan) → k y (t, ys) ≡ g y ys) → On model sure f g b c
   unfolding on_call
@@ -75,7 +75,7 @@ module _ {S : Type 0} {model : Model S} {sure : Bool} where
   unfolding on_call_read
   heard_call_read {u = u} k step ends h = record { on = on_call_read {g = give u} k step h.on ends; onward = h.onward }
 
-  -- what was read, and what is read behind it, is another thing, where the first is known to be what q read
+  -- what was read, and what is read after it, is another thing, where the first is known to be what q read
   pub heard_more_read : {A B : Type 0} {f : Reader A} {q : Reader B} {t : B} {u v : A} {b c d : Buffer S} (k : Scope → B × List TokenAndSpan → Out A) → ((x : Scope) (ts : List TokenAndSpan) → f x ts ≡ (q x ts >>= k x)) →
       Heard model sure q t b c → On model sure (λ x ts. k x (t, ts)) (give u) c d → ((x : Scope) (ts us : List TokenAndSpan) → q x ts ≡ Some (t, us) → u ≡ v) → Heard model sure f v b d
   unfolding on_then leads_then on_call heard_more heard_then

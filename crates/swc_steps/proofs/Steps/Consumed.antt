@@ -85,7 +85,7 @@ module _ {S : Type 0} {model : Model S} where
   pub took_leads : {b c : Buffer S} {k : Token} → Laws model → Bumped model b k c → Leads model b c
   took_leads laws h = record { laws = laws; taken = plain h.was ∷ []; read = h.read; lives = λ f. ap (λ z. (model.state z.iter).failed) (sym h.now) ∙ f }
 
-  -- a refusal other than want of memory
+  -- a refusal other than out of memory
   unfoldable pub leads_refused : {b c : Buffer S} {e : Error} → Refuses model b e c → e.kind ≢ OutOfMemory → Leads model b c
   leads_refused r n = record { laws = r.spends.laws; taken = r.spends.taken; read = r.spends.read; lives = served_lives (r.served n) }
 
@@ -112,11 +112,11 @@ module _ {S : Type 0} {model : Model S} where
   pub forgoes_refuses : {b c : Buffer S} {e : Error} → Forgoes model b e c → Refuses model b e c
   forgoes_refuses h = record { spends = h.spends; kind = λ k. let f = sym h.kind ∙ k in cc; served = λ n. absurd (n h.kind) }
 
-  -- want of memory, with nothing done
+  -- out of memory, with nothing done
   pub forgoes_here : (laws : Laws model) (b : Buffer S) (at : BytePos) (e : Error) → e ≡ no_memory at → Forgoes model b e b
   forgoes_here laws b at e h = record { spends = spent (here laws b); kind = ap (λ x. x.kind) h }
 
-  -- a refusal for want of memory is passed on
+  -- a refusal when out of memory is passed on
   pub forgoes_on : Laws model → (b : Buffer S) (e : Error) → e.kind ≡ OutOfMemory → Forgoes model b e b
   forgoes_on laws b e h = record { spends = spent (here laws b); kind = h }
 
@@ -165,7 +165,7 @@ module _ {S : Type 0} (model : Model S) where
   tries_node b c at (Ok x) p fails = p
   tries_node b c at (Err x) p fails = forgoes_later p (forgoes_here p.laws c at x fails)
 
-  -- after what was read, a call that is refused for want of memory alone
+  -- after what was read, a call that is refused only when out of memory
   pub acts_after : {T : Type 0} {b c : Buffer S} (d : Buffer S) (r : Result T Error) → Leads model b c → Tries model c r d → Acts model b r d
   acts_after d (Ok x) p t = leads_then p t
   acts_after d (Err e) p t = refuses_later p (forgoes_refuses t)

@@ -110,7 +110,7 @@ module _ {S : Type 0} {model : Model S} {sure : Bool} where
         onward = onward_then h.onward q;
       }
 
-  -- a fault is recorded behind what was consumed
+  -- a fault is recorded after what was consumed
   pub heard_noted : {A : Type 0} {u : A} {b c d : Buffer S} (p : Leads model b c) → Onward model b p.taken c → (q : Leads model c d) → (Loud model c → recorded model c < recorded model d) → Heard model sure nothing u b d
   unfolding leads_then noted
   heard_noted p onward q lt = record {

@@ -1,6 +1,7 @@
--- A look at the current token, or behind it, and what follows of the tokens to come.
+-- A look at the current token, or after it, and what follows of the tokens to come.
 use Rattle.std.proofs.Common.{◌≡◌, ◌≢◌, Bool, true, false, not, List, [], ◌∷◌, Option, Some, None, Result, Ok, Err}
 use Rattle.std.proofs.Common.{OnOk, IfOk, IfErr, MatchResult, IsSome, refl, sym, ap, subst, ◌∙◌}
+use Rattle.std.proofs.lemmas.Bool.{false_from_ne_true}
 use Rattle.swc_context.specs.declared.error.Error.{Error}
 use Rattle.swc_context.specs.declared.span.BytePos.{BytePos}
 use Rattle.swc_context.specs.declared.span.Span.{Span}
@@ -42,7 +43,7 @@ unfit_seen : (o : Option TokenAndSpan) → is_fit o ≡ false → at_token no_er
 unfit_seen None h = refl
 unfit_seen (Some t) h = unfit_token t.token h
 
--- a refusal other than want of memory is made where a token is current, or at the end
+-- a refusal other than out of memory is made where a token is current, or at the end
 refused_at : (o : Option TokenAndSpan) (failed : Bool) (at : BytePos) (e r : Error) → r ≡ refusal o failed at e → r.kind ≢ OutOfMemory → failed ≡ true → IsSome o
 refused_at None true at e r h n f = absurd (n (ap (λ x. x.kind) h))
 refused_at None false at e r h n f = cc
@@ -60,6 +61,20 @@ module _ {S : Type 0} {model : Model S} where
 
   pub looked_later : {b c d : Buffer S} → Laws model → Looked model b c → Served model c d → Served model b d
   looked_later laws l s = record { before = λ f. let h = s.before f in (Looked-served laws l (Looked-some laws l h.1)).before h.0 }
+
+  -- a refusal other than out of memory is made where the source runs, or a token is current
+  pub here_refused : {b h c : Buffer S} {e : Error} → Looked model b h → Refuses model h e c → e.kind ≢ OutOfMemory → Here model b h
+  here_refused {h = h} {c = c} l r n =
+      let laws = r.spends.laws in
+      let took = r.spends.read.took in
+      let holds : (model.state h.iter).failed ≡ true → IsSome h.cur =
+      λ f. Looked-some laws l ((r.served n).before ((laws.gave h.iter c.iter took.given took.gave).failed f).1).1 in
+      record {
+        laws = laws;
+        looked = l;
+        served = record { before = λ f. (Looked-served laws l (holds f)).before f };
+        end = λ e. (l.end e).1 (false_from_ne_true (model.state h.iter).failed (λ f. none_some h.cur e (holds f)));
+      }
 
   seen_served : {b c d : Buffer S} (e : Buffer S → Error) (r : Error) → Looked model b c → Lives model c d → Laws model →
       r ≡ refusal (current c) (model.state (source c)).failed (last_position c) (e c) → r.kind ≢ OutOfMemory → Served model b d

@@ -17,7 +17,7 @@ use Rattle.swc_steps.specs.Parsing.{Here, Unfit, On, Unheard, Parses, Continues,
 use Rattle.swc_steps.proofs.Steps.Consumed.{Reader, read_scope, leads_then, spends_then, served_later, leads_refused}
 use Rattle.swc_steps.proofs.Steps.Consumed.{onward_later, refuses_later, forgoes_refuses, more_recorded, loud_spent}
 use Rattle.swc_steps.proofs.Steps.Consumed.{loud_after}
-use Rattle.swc_steps.proofs.Steps.Looks.{looked_later, begins}
+use Rattle.swc_steps.proofs.Steps.Looks.{looked_later, here_refused, begins}
 use Rattle.swc_steps.proofs.Steps.Tokens.{on_seen, on_told}
 
 module _ {S : Type 0} {model : Model S} {sure : Bool} where
@@ -103,14 +103,12 @@ module _ {S : Type 0} {model : Model S} {sure : Bool} where
     };
     none = λ n y l ts k.
         let w = Known-after laws b u.at [] ts u.looked.look.read.took k in
-        let runs = (laws.lawful u.at.iter).sure w.1.more w.1.known in
-        let here : Here model b u.at = record { laws = laws; looked = u.looked; served = record { before = λ f. absurd (let e : true ≡ false = sym f ∙ runs in cc) }; end = λ e. u.end e runs } in
-        let first_is = begins u.at.cur refl here w.0 (Known-Future laws u.at w.0 w.1) in
+        let first_is = begins u.at.cur refl (here_refused u.looked u.refuses n) w.0 (Known-Future laws u.at w.0 w.1) in
         step (scope model b) ts (ap (λ v. at_token no_error (first v)) w.2 ∙ ap (at_token no_error) first_is ∙ u.unfit);
   }
 
 module _ {S : Type 0} (model : Model S) (sure : Bool) {T A : Type 0} (view : T → A) (f : Reader A) where
-  -- a refused operand was recorded, and something stands in for it; but for want of memory
+  -- a refused operand was recorded, and something stands in for it; except when out of memory
   pub continues_recovered : {b c : Buffer S} {e : Error} (d : Buffer S) (r : Result T Error) → Unheard model sure f b e c → Tries model c r d →
       (Loud model c → OnOk r (recorded model c < recorded model d)) → OnOk r (e.kind ≢ OutOfMemory) → Continues model sure view f b r d
   continues_recovered d (Ok x) u t lt some = on_doomed u some t lt

@@ -92,7 +92,7 @@ module _ {S : Type 0} (model : Model S) (sure : Bool) where
       parses_then model sure view f d r (on_call_read {g = g} k step h.on same) h.onward s
 
 module _ {S : Type 0} (model : Model S) (sure : Bool) {T A : Type 0} (view : T → A) (f : Reader A) where
-  -- what may consume nothing, and is refused for want of memory alone, after a call like that
+  -- what may consume nothing, and is refused only when out of memory, after a call like that
   pub tries_then : {b c : Buffer S} (d : Buffer S) (r : Result T Error) → Leads model b c → Continues model sure view f c r d → IfErr r (λ e. e.kind ≡ OutOfMemory) → Tries model b r d
   tries_then d (Ok x) p h memory = leads_then p h.leads
   tries_then d (Err e) p u memory = forgoes_later p (record { spends = u.refuses.spends; kind = memory })

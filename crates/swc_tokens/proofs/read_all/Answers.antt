@@ -6,7 +6,7 @@ use Rattle.swc_tokens.proofs.Nesting.{AreNested_end, delimiter_behind, delimiter
 use Rattle.swc_tokens.proofs.Reading.{AreRead_nil, AreRead_push, AreRead_end, last-there, last-given, left_less}
 use Rattle.swc_tokens.proofs.read_all.Goals as goal
 
--- the token that was read stands behind the others
+-- the token that was read is after the others
 pub loop-tokens-preserved : goal.loop-tokens-preserved
 loop-tokens-preserved c =
     let so_far = c.loop-tokens.invariant in
@@ -25,7 +25,7 @@ loop-tokens-preserved c =
       delimits = λ is. rw next.ends at (delimiter_there _ _ _ _ _ _ _ _ c.in_ok-pass.ensures.turns next.spells is);
     }
 
--- less is left behind the token
+-- less is left after the token
 pub loop-tokens-smaller : goal.loop-tokens-smaller
 loop-tokens-smaller c =
     let so_far = c.loop-tokens.invariant in

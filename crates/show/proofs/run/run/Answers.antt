@@ -1,18 +1,15 @@
-use Rattle.std.proofs.Common.{sym, ◌∙◌}
-use Rattle.show.specs.Calls.{fails, answers}
-use Rattle.show.proofs.Giving.{given_by}
+use Rattle.std.proofs.Common.{sym}
+use Rattle.show.specs.Calls.{unread, unwritten, answers}
+use Rattle.show.proofs.Giving.{given_as}
 use Rattle.show.proofs.run.run.Goals as goal
 
-pub returns-then-is_err-clause-status : goal.returns-then-is_err-clause-status
-returns-then-is_err-clause-status g c = rw (sym c.in-Some.ensures.value) fails
+pub returns-in_default-read_all-clause-status : goal.returns-in_default-read_all-clause-status
+returns-in_default-read_all-clause-status g c = rw (sym c.in-Some.ensures.value) (unread c.in_default-read_all.ensures.fails)
 
-pub returns-in-Ok-clause-status : goal.returns-in-Ok-clause-status
-returns-in-Ok-clause-status g c =
-    let given = given_by (g.R.Read.remaining c.args.input.now) c.read_to_end.result
-    (sym c.is_err.ensures.value ∙ c.if-is_err.false) c.read_to_end.ensures.bytes c.new-text.ensures.items
-    c.deref.ensures.value in
+pub returns-in-Ok-write_answer-clause-status : goal.returns-in-Ok-write_answer-clause-status
+returns-in-Ok-write_answer-clause-status g c =
     rw (sym c.in-Some.ensures.value, c.status.ensures)
-    (answers given (c.answer_to-answer.ensures c.in-Some.ensures.heeded))
+    (answers (given_as (g.R.Input.given c.args.input.now) c.in-Ok.ensures.bytes c.deref.ensures.value) (c.answer_to-answer.ensures c.in-Some.ensures.heeded))
 
 pub returns-clause-status : goal.returns-clause-status
-returns-clause-status g c = rw (sym c.in-Some.ensures.value) fails
+returns-clause-status g c = rw (sym c.in-Some.ensures.value) (unwritten c.in-Err.ensures.fails)

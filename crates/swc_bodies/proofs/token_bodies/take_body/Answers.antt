@@ -2,7 +2,7 @@ use Rattle.std.proofs.Common.{sym, ap, ◌∙◌, map}
 use Rattle.std.proofs.lemmas.Result.{err_from_is_err_and}
 use Rattle.swc_input.specs.Plain.{plain}
 use Rattle.swc_bodies.specs.Taking.{taken, body}
-use Rattle.swc_bodies.proofs.Steps.{stepped, stopped-hooked, stopped-faithful, unkept-hooked, done-hooked, done-faithful, ended}
+use Rattle.swc_bodies.proofs.Steps.{stepped, stopped-hooked, stopped-faithful, stopped-quiet, unkept-hooked, unkept-quiet, done-hooked, done-faithful, ended}
 use Rattle.swc_bodies.proofs.token_bodies.take_body.Goals as goal
 
 pub returns-in_err-place-clause-hooked : goal.returns-in_err-place-clause-hooked
@@ -42,3 +42,13 @@ returns-clause-faithful g c = λ begins so.
 pub returns-in_err-place-clause-refused : goal.returns-in_err-place-clause-refused
 returns-in_err-place-clause-refused g c =
     let p = err_from_is_err_and c.from_residual-in_err-place.result c.from_residual-in_err-place.ensures.1 in rw (p.1, p.2) c.in_err-place.ensures.answer
+
+pub returns-in_err-place-clause-quiet : goal.returns-in_err-place-clause-quiet
+returns-in_err-place-clause-quiet g c =
+    stopped-quiet g.met.I.Tokens.laws c.args.input.now c.args.first c.cur_span.result.lo c.loop-place.input c.loop-place.place c.loop-place.kept.items _ c.next_place.new.input
+    c.loop-place.invariant c.in_err-place.ensures
+
+pub returns-in_err-keep_current-2-clause-quiet : goal.returns-in_err-keep_current-2-clause-quiet
+returns-in_err-keep_current-2-clause-quiet g c =
+    unkept-quiet g.met.I.Tokens.laws c.args.input.now c.args.first c.cur_span.result.lo c.loop-place.input c.loop-place.place c.loop-place.kept.items c.in_ok-place.place c.next_place.new.input
+    c.keep_current-in-loop-place.new.input c.loop-place.invariant c.in_ok-place.ensures c.in_err-keep_current-2.ensures.same

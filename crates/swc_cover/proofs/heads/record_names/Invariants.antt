@@ -1,6 +1,7 @@
-use Rattle.std.proofs.Common.{◌≤◌, not, ◌||◌, take}
+use Rattle.std.proofs.Common.{◌≤◌, not, ◌||◌, map, take}
 use Rattle.swc_input.specs.Buffer.{context, to_come}
 use Rattle.swc_cover.specs.Heads.{has_none}
+use Rattle.swc_cover.specs.Noting.{name_error, NotesStrict}
 use Rattle.swc_steps.specs.Parsing.{Checks}
 use Rattle.swc_cover.proofs.heads.record_names.Given as goal
 
@@ -10,3 +11,4 @@ invariant-loop-span g l =
     (take l.span-index l.span-items))
     l.fn.input l.input
     × (to_come g.I.Tokens.model l.input ≤ to_come g.I.Tokens.model l.fn.input)
+    × NotesStrict g.I.Tokens.model (map name_error (take l.span-index l.span-items)) l.fn.input l.input

@@ -4,6 +4,7 @@ use Rattle.swc_cover.proofs.Checked.{on-ok-as, if_err-as, from-none, found-whole
 use Rattle.swc_cover.proofs.Clear.{found-clear, found-unclear}
 use Rattle.swc_cover.proofs.Quiet.{params-quiet, quiet-params}
 use Rattle.swc_cover.specs.Refining.{items_at}
+use Rattle.swc_cover.proofs.FaultsNoted.{found-judged}
 use Rattle.swc_cover.proofs.noting.check_items.Goals as goal
 
 pub returns-in-Ok-clause-checks : goal.returns-in-Ok-clause-checks
@@ -34,3 +35,11 @@ returns-in-Ok-clause-unclear g c =
 
 pub returns-clause-unclear : goal.returns-clause-unclear
 returns-clause-unclear g c = λ n. absurd (n (ap (λ e. e.kind) c.out_of_memory.ensures))
+
+pub returns-in-Ok-clause-judges : goal.returns-in-Ok-clause-judges
+returns-in-Ok-clause-judges g c =
+    let x = from-none c.new-faults.ensures.items refl c.in-Ok.ensures in
+    found-judged g.I.Tokens.model _ _ c.record_found.result x c.record_found.ensures.judges
+
+pub returns-clause-judges : goal.returns-clause-judges
+returns-clause-judges g c = λ n. absurd (n (ap (λ e. e.kind) c.out_of_memory.ensures))

@@ -5,6 +5,7 @@ use Rattle.swc_cover.proofs.Clear.{found-clear, found-unclear}
 use Rattle.swc_cover.proofs.Typed.{quiet-as, fits-quietly}
 use Rattle.swc_cover.specs.PatTypes.{verdict_as}
 use Rattle.swc_nodes.specs.GrowingNodes.{tree_at}
+use Rattle.swc_cover.proofs.FaultsNoted.{found-judged}
 use Rattle.swc_cover.proofs.noting.check_pat.Goals as goal
 
 pub returns-in-Ok-clause-checks : goal.returns-in-Ok-clause-checks
@@ -39,3 +40,12 @@ returns-in-Ok-clause-unclear g c =
 
 pub returns-clause-unclear : goal.returns-clause-unclear
 returns-clause-unclear g c = λ n. absurd (n (ap (λ e. e.kind) c.out_of_memory.ensures))
+
+pub returns-in-Ok-clause-judges : goal.returns-in-Ok-clause-judges
+returns-in-Ok-clause-judges g c =
+    let t = tree_at c.args.nodes.now c.args.id.0 in
+    let x = from-none c.new-faults.ensures.items (ap (λ k. verdict_as k.strict c.args.pat_type t) c.get_ctx-strict.ensures) c.in-Ok.ensures in
+    found-judged g.I.Tokens.model _ _ c.record_found.result x c.record_found.ensures.judges
+
+pub returns-clause-judges : goal.returns-clause-judges
+returns-clause-judges g c = λ n. absurd (n (ap (λ e. e.kind) c.out_of_memory.ensures))

@@ -1,30 +1,47 @@
-use Rattle.std.proofs.Common.{true, refl, arith}
+use Rattle.std.proofs.Common.{true, refl, sym, subst, arith}
 use Rattle.std.proofs.lemmas.Result.{err_from_is_err_and}
 use Rattle.swc_cover.proofs.Checked.{faults-more, faults-all}
 use Rattle.swc_cover.proofs.Clear.{stays-then}
+use Rattle.swc_cover.proofs.FaultsNoted.{errors-all, errors-more}
+use Rattle.swc_input.specs.Recordings.{NotesAll}
+use Rattle.swc_steps.proofs.Emitted.{emitted, fit_seen, notes-none, notes-one, notes-then, one_more, unrecorded}
 use Rattle.swc_steps.proofs.Steps.{check_passes, forgoes_later}
 use Rattle.swc_cover.proofs.noting.record_all.Goals as goal
 
 pub loop-fault-init : goal.loop-fault-init
-loop-fault-init g c = (check_passes true g.met.I.Tokens.laws _ refl, omega arith, λ n. refl)
+loop-fault-init g c = (check_passes true g.met.I.Tokens.laws _ refl, omega arith, λ n. refl, notes-none g.I.Tokens.model _)
 
 pub returns-in_err-emit_err-clause-checks : goal.returns-in_err-emit_err-clause-checks
 returns-in_err-emit_err-clause-checks g c =
     let p = err_from_is_err_and c.from_residual.result c.from_residual.ensures.1 in rw (p.1, p.2)
-    (forgoes_later c.loop-fault.invariant.0.leads c.in_err-emit_err.ensures.tries)
+    (forgoes_later c.loop-fault.invariant.0.leads
+    (unrecorded g.met.I.Tokens.laws c.in_err-emit_err.ensures.read c.in_err-emit_err.ensures.refused.2))
 
 pub loop-fault-preserved : goal.loop-fault-preserved
-loop-fault-preserved g c = (
-  faults-more c.deref-fault-items.result.now c.loop-fault.fault-index c.loop-fault-test.true c.loop-fault.invariant.0
-      c.in_ok-emit_err.ensures.tries c.in_ok-emit_err.ensures.notes,
-  let a = c.loop-fault.invariant.1 in let b = c.in_ok-emit_err.ensures.falls in omega arith,
-  stays-then _ _ _ c.loop-fault.invariant.2 c.in_ok-emit_err.ensures.kept,
-)
+loop-fault-preserved g c =
+    let laws = g.met.I.Tokens.laws in
+    let done = c.in_ok-emit_err.ensures in
+    let leads = emitted laws done.read (λ s. (done.silent s).1) done.recorded in
+    let found = errors-more c.deref-fault-items.result.now c.loop-fault.fault-index _ c.in_order.result c.kind_of.result
+    c.loop-fault-test.true c.in_order.ensures c.kind_of.ensures.is in (
+      faults-more c.deref-fault-items.result.now c.loop-fault.fault-index c.loop-fault-test.true
+          c.loop-fault.invariant.0 leads (λ l. one_more laws (done.recorded l)),
+      let a = c.loop-fault.invariant.1 in let b = leads.read.lower in omega arith,
+      stays-then _ _ _ c.loop-fault.invariant.2 (λ n. done.kept (fit_seen _ n)),
+      rw (found) (notes-then g.I.Tokens.model c.loop-fault.invariant.0.leads c.loop-fault.invariant.3
+          (notes-one g.I.Tokens.model _ _ _ (λ s. (done.silent s).1) done.recorded)),
+    )
 
 pub returns-clause-checks : goal.returns-clause-checks
 returns-clause-checks g c =
     faults-all c.deref-fault-items.result.now c.args.faults.now.items c.loop-fault.fault-index c.deref-fault-items.ensures.value
     (let h = c.loop-fault-test.false in omega arith) c.loop-fault.invariant.0
+
+pub returns-clause-notes : goal.returns-clause-notes
+returns-clause-notes g c =
+    let all = errors-all c.deref-fault-items.result.now c.args.faults.now.items c.loop-fault.fault-index
+    c.deref-fault-items.ensures.value (let h = c.loop-fault-test.false in omega arith) in
+    rw (sym all) c.loop-fault.invariant.3
 
 pub returns-clause-falls : goal.returns-clause-falls
 returns-clause-falls g c = c.loop-fault.invariant.1

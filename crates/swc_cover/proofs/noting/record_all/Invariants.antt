@@ -1,8 +1,10 @@
 use Rattle.std.proofs.Common.{◌≡◌, ◌≤◌, true, take}
 use Rattle.swc_input.specs.Buffer.{current, to_come}
 use Rattle.swc_input.specs.Kinds.{at_token}
+use Rattle.swc_input.specs.Recordings.{NotesAll}
 use Rattle.swc_grammar.specs.Clean.{no_error}
 use Rattle.swc_cover.specs.Heads.{has_none}
+use Rattle.swc_cover.specs.Noting.{errors_of}
 use Rattle.swc_steps.specs.Parsing.{Checks, seen}
 use Rattle.swc_cover.proofs.noting.record_all.Given as goal
 
@@ -11,3 +13,4 @@ invariant-loop-fault g l =
     Checks g.I.Tokens.model (has_none (take l.fault-index l.fault-items)) l.fn.input l.input
     × (to_come g.I.Tokens.model l.input ≤ to_come g.I.Tokens.model l.fn.input)
     × (at_token no_error (seen l.fn.input) ≡ true → current l.input ≡ current l.fn.input)
+    × NotesAll g.I.Tokens.model (errors_of (take l.fault-index l.fault-items)) l.fn.input l.input

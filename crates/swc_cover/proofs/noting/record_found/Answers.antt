@@ -1,7 +1,10 @@
-use Rattle.std.proofs.Common.{refl, sym, subst}
+use Rattle.std.proofs.Common.{refl, sym, ap, subst}
 use Rattle.std.specs.Prelude.{IsSome}
 use Rattle.std.proofs.lemmas.Result.{err_from_is_err_and}
-use Rattle.swc_steps.proofs.Steps.{forgoes_refuses, refuses_later}
+use Rattle.swc_steps.proofs.Steps.{forgoes_refuses, refused, refuses_later}
+use Rattle.swc_cover.proofs.FaultsNoted.{refused-at}
+use Rattle.swc_cover.specs.Noting.{no_pattern, refusal_of}
+use Rattle.swc_context.specs.declared.error.SyntaxError.TheVariants.{InvalidPat}
 use Rattle.swc_cover.proofs.noting.record_found.Goals as goal
 
 pub returns-in_err-record_all-clause-refuses : goal.returns-in_err-record_all-clause-refuses
@@ -10,8 +13,28 @@ returns-in_err-record_all-clause-refuses g c =
     let h = c.in_err-record_all.ensures.checks in rw (p.1, p.2) (forgoes_refuses h, λ n. absurd (n h.kind))
 
 pub returns-in-Some-clause-refuses : goal.returns-in-Some-clause-refuses
-returns-in-Some-clause-refuses g c =
-    (refuses_later c.in_ok-record_all.ensures.checks.leads c.syntax_error.ensures.refuses, λ n. subst IsSome (sym c.in-Some.is) refl)
+returns-in-Some-clause-refuses g c = (
+  refuses_later c.in_ok-record_all.ensures.checks.leads
+      (refused g.met.I.Tokens.laws (λ here. no_pattern c.in-Some.span) _ (λ here. λ e. cc) (refused-at c.in-Some.span c.in_order.result InvalidPat c.in_order.ensures c.syntax_error.ensures)),
+  λ n. subst IsSome (sym c.in-Some.is) refl,
+)
 
 pub returns-in-None-clause-checks : goal.returns-in-None-clause-checks
 returns-in-None-clause-checks g c = (c.in-None.is, c.in_ok-record_all.ensures.checks)
+
+pub returns-in_err-record_all-clause-judges : goal.returns-in_err-record_all-clause-judges
+returns-in_err-record_all-clause-judges g c =
+    let p = err_from_is_err_and c.from_residual.result c.from_residual.ensures.1 in
+    let h = c.in_err-record_all.ensures.checks in rw (p.1, p.2) (λ n. absurd (n h.kind))
+
+pub returns-in-Some-clause-judges : goal.returns-in-Some-clause-judges
+returns-in-Some-clause-judges g c = λ n. record {
+  fault = no_pattern c.in-Some.span;
+  is = ap refusal_of c.in-Some.is;
+  noted = _;
+  notes = c.in_ok-record_all.ensures.notes;
+  refused = refused-at c.in-Some.span c.in_order.result InvalidPat c.in_order.ensures c.syntax_error.ensures;
+}
+
+pub returns-in-None-clause-judges : goal.returns-in-None-clause-judges
+returns-in-None-clause-judges g c = (ap refusal_of c.in-None.is, c.in_ok-record_all.ensures.notes)

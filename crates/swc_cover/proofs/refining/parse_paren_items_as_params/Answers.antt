@@ -1,7 +1,11 @@
+use Rattle.std.proofs.Common.{sym, ap, ◌∙◌}
+use Rattle.swc_input.specs.Buffer.{context}
 use Rattle.std.proofs.lemmas.Result.{err_from_is_err_and}
 use Rattle.swc_cover.proofs.Checked.{forgoes-after}
 use Rattle.swc_cover.proofs.Clear.{heads-then}
 use Rattle.swc_cover.proofs.Kept.{apart-any, parts-kept}
+use Rattle.swc_cover.proofs.FaultsNoted.{judged-params}
+use Rattle.swc_cover.specs.Noting.{names_bound}
 use Rattle.swc_cover.proofs.Refines.{items-refined, items-unfit}
 use Rattle.swc_cover.specs.Refining.{pats_at}
 use Rattle.swc_nodes.specs.NodeParts.{flat, item_parts}
@@ -45,3 +49,25 @@ returns-in_err-check_heads-in-Ok-clause-unclear g c =
 pub returns-in_ok-check_heads-in-Ok-clause-exact : goal.returns-in_ok-check_heads-in-Ok-clause-exact
 returns-in_ok-check_heads-in-Ok-clause-exact g c =
     heads-then (pats_at c.refine_items.new.nodes c.in-Ok.pats.items) c.in_ok-check_items.ensures.exact c.in_ok-check_heads-in-Ok.ensures.checks
+
+pub returns-in_err-check_items-clause-judges : goal.returns-in_err-check_items-clause-judges
+returns-in_err-check_items-clause-judges g c =
+    let p = err_from_is_err_and c.from_residual.result c.from_residual.ensures.1 in rw (p.1, p.2)
+    c.in_err-check_items.ensures.judges
+
+pub returns-in_err-check_heads-in-Ok-clause-judges : goal.returns-in_err-check_heads-in-Ok-clause-judges
+returns-in_err-check_heads-in-Ok-clause-judges g c =
+    let r = c.from_residual-in_err-check_heads-in-Ok in
+    let p = err_from_is_err_and r.result r.ensures.1 in rw (p.1, p.2)
+    (λ n. absurd (n c.in_err-check_heads-in-Ok.ensures.checks.kind))
+
+pub returns-in_ok-check_heads-in-Ok-clause-judges : goal.returns-in_ok-check_heads-in-Ok-clause-judges
+returns-in_ok-check_heads-in-Ok-clause-judges g c =
+    let checked = c.in_ok-check_items.ensures in
+    let same = ap (λ k. names_bound k (pats_at c.refine_items.new.nodes c.in-Ok.pats.items)) checked.checks.leads.read.context
+    ∙ ap (λ ps. names_bound (context g.I.Tokens.model c.args.p.now.input) ps) c.in-Ok.ensures.made.stands in
+    judged-params g.I.Tokens.model checked.judges
+    (rw (sym same) c.in_ok-check_heads-in-Ok.ensures.notes)
+
+pub returns-in-Err-clause-judges : goal.returns-in-Err-clause-judges
+returns-in-Err-clause-judges g c = λ n. absurd (n (ap (λ e. e.kind) c.out_of_memory.ensures))

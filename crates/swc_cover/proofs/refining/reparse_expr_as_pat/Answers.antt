@@ -13,3 +13,8 @@ pub returns-in_err-check_pat-clause-unclear : goal.returns-in_err-check_pat-clau
 returns-in_err-check_pat-clause-unclear g c =
     let p = err_from_is_err_and c.from_residual.result c.from_residual.ensures.1 in rw (p.1, p.2)
     c.in_err-check_pat.ensures.unclear
+
+pub returns-in_err-check_pat-clause-judges : goal.returns-in_err-check_pat-clause-judges
+returns-in_err-check_pat-clause-judges g c =
+    let p = err_from_is_err_and c.from_residual.result c.from_residual.ensures.1 in rw (p.1, p.2)
+    c.in_err-check_pat.ensures.judges

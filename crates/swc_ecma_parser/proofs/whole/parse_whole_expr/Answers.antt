@@ -11,5 +11,5 @@ use Rattle.swc_ecma_parser.proofs.whole.parse_whole_expr.Goals as goal
 pub returns-clause-headline : goal.returns-clause-headline
 returns-clause-headline g c = λ heeded.
     rw (c.into_nodes-nodes.ensures ∙ ap (λ p. nodes_of p) c.take_errors-recorded.ensures.rest, c.take_errors-recorded.ensures.taken)
-    (headline tree_of expr_part Expr at-end c.new-source.result (last_position (buffer_of c.new_from-parser.result)) c.args.tokens.items c.args.ctx c.args.syntax c.args.target
-    c.new-source.ensures.state c.new_from-parser.ensures.fresh c.new_from-parser.ensures.runs heeded c.try_whole_expr-read.ensures.tries)
+    (headline tree_of expr_part Expr at-end c.new_from-parser.result c.new-source.result (last_position (buffer_of c.new_from-parser.result)) c.args.tokens.items c.args.ctx c.args.syntax c.args.target
+    c.new-source.ensures.state c.new_from-parser.ensures.fresh c.new_from-parser.ensures.runs c.limit_nesting.ensures heeded c.try_whole_expr-read.ensures.tries)

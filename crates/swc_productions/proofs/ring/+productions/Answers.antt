@@ -134,6 +134,8 @@ use Rattle.swc_patterns.specs.Rests.{going, stage_of}
 use Rattle.swc_patterns.proofs.ElementTurns as elem_turn
 use Rattle.swc_patterns.proofs.FormalParams as formal
 use Rattle.swc_patterns.proofs.Leaving as leaving
+use Rattle.swc_patterns.proofs.ParamsRead as alone
+use Rattle.swc_patterns.specs.ParamsRead.{AllReadAlone}
 use Rattle.swc_patterns.specs.declared.pat.NextElement.TheVariants as next_element
 use Rattle.swc_patterns.specs.declared.params.NextParam.TheVariants as next_param
 use Rattle.swc_patterns.proofs.ParamTurns as param_turn
@@ -769,6 +771,14 @@ parse_member_expr-returns-in-Some g t c =
     (m.call c.parse_subscripts-in-Some.result (λ x q. run _ (links b q.0) x q.1) (λ x ts. refl)
     c.in_ok-target-in-Some.ensures.reads c.parse_new_target.ensures.grows (λ x. from-down c.in_ok-target-in-Some.ensures.from.above) c.parse_subscripts-in-Some.ensures)
 
+pub parse_member_expr-returns-in_err-less : goal.parse_member_expr-returns-in_err-less
+parse_member_expr-returns-in_err-less g t c =
+    m.refused c.from_residual-in_err-less.ensures.1
+    (s.unheard_memory (s.forgoes_later (s.leads_then (s.here_leads c.in_ok-look.ensures.looks)
+    (s.leads_then (s.took_leads g.met.I.Tokens.laws c.skip.ensures.took.1)
+    (s.eats_none g.B.Bodies.is_faithful is_dot _ _ _ c.in-None.is (c.in_ok-eat.ensures.eats g.B.Bodies.is_faithful)).leads))
+    (s.forgoes_here g.met.I.Tokens.laws _ _ _ c.in_err-less.ensures.refused))) (grows-same _)
+
 pub parse_member_expr-returns-in_err-callee : goal.parse_member_expr-returns-in_err-callee
 parse_member_expr-returns-in_err-callee g t c =
     let first = c.skip.ensures.took.1 in
@@ -1360,6 +1370,11 @@ parse_unary_expr-returns-in_err-look g t c =
     m.refused c.from_residual.ensures.1
     (s.unheard_memory c.in_err-look.ensures.looks) (grows-same _)
 
+pub parse_unary_expr-returns-in_err-less-in-Some : goal.parse_unary_expr-returns-in_err-less-in-Some
+parse_unary_expr-returns-in_err-less-in-Some g t c =
+    m.refused c.from_residual-in_err-less-in-Some.ensures.1
+    (s.unheard_memory (s.forgoes_later (s.here_leads c.in_ok-look.ensures.looks) (s.forgoes_here g.met.I.Tokens.laws _ _ _ c.in_err-less-in-Some.ensures.refused))) (grows-same _)
+
 pub parse_unary_expr-returns-in_err-arg-in-Some : goal.parse_unary_expr-returns-in_err-arg-in-Some
 parse_unary_expr-returns-in_err-arg-in-Some g t c =
     let op = c.in-Some.op in
@@ -1384,6 +1399,11 @@ parse_unary_expr-returns-in-Some g t c =
     (m.call {m = c.parse_unary_expr.new.p} c.update_prefix.result _ (update.update_splits _ q op)
     (s.heard_inner c.in_ok-arg-in-Some.ensures.reads) c.parse_unary_expr.ensures.grows (λ x. from-down c.in_ok-arg-in-Some.ensures.from.above)
     (m.on_after c.update_prefix.result (s.on_here g.met.I.Tokens.laws _ (λ x ts. ap (λ v. update_node v op x arg ts) (sym place))) (grows-same _) c.update_prefix.ensures)))
+
+pub parse_unary_expr-returns-in_err-less-in-Some-cur_prefix_op : goal.parse_unary_expr-returns-in_err-less-in-Some-cur_prefix_op
+parse_unary_expr-returns-in_err-less-in-Some-cur_prefix_op g t c =
+    m.refused c.from_residual-in_err-less-in-Some-cur_prefix_op.ensures.1
+    (s.unheard_memory (s.forgoes_later (s.here_leads c.in_ok-look.ensures.looks) (s.forgoes_here g.met.I.Tokens.laws _ _ _ c.in_err-less-in-Some-cur_prefix_op.ensures.refused))) (grows-same _)
 
 pub parse_unary_expr-returns-in_err-at-in-Some-cur_prefix_op : goal.parse_unary_expr-returns-in_err-at-in-Some-cur_prefix_op
 parse_unary_expr-returns-in_err-at-in-Some-cur_prefix_op g t c =
@@ -1455,6 +1475,13 @@ parse_unary_expr-returns-in_err-check_await g t c =
     m.refused c.from_residual-in_err-check_await.ensures.1
     (s.unheard_memory (s.forgoes_later (s.leads_then (s.here_leads c.in_ok-look.ensures.looks)
     (s.leads_then (s.took_leads g.met.I.Tokens.laws c.skip-then-is_await.ensures.took.1) (c.in_ok-is_await_name.ensures.names g.B.Bodies.is_faithful).leads)) c.in_err-check_await.ensures.checks)) (grows-same _)
+
+pub parse_unary_expr-returns-in_err-less : goal.parse_unary_expr-returns-in_err-less
+parse_unary_expr-returns-in_err-less g t c =
+    m.refused c.from_residual-in_err-less.ensures.1
+    (s.unheard_memory (s.forgoes_later (s.leads_then (s.leads_then (s.here_leads c.in_ok-look.ensures.looks)
+    (s.leads_then (s.took_leads g.met.I.Tokens.laws c.skip-then-is_await.ensures.took.1) (c.in_ok-is_await_name.ensures.names g.B.Bodies.is_faithful).leads)) c.in_ok-check_await.ensures.checks.leads)
+    (s.forgoes_here g.met.I.Tokens.laws _ _ _ c.in_err-less.ensures.refused))) (grows-same _)
 
 pub parse_unary_expr-returns-in_err-arg : goal.parse_unary_expr-returns-in_err-arg
 parse_unary_expr-returns-in_err-arg g t c =
@@ -1900,22 +1927,27 @@ parse_assignment_expr-returns-in_err-require_cur g t c =
     m.refused c.from_residual.ensures.1
     (s.unheard_unfit g.met.I.Tokens.laws (λ x ts h. rule.assign_bad _ x ts h) c.in_err-require_cur.ensures.fits) (grows-same _)
 
+pub parse_assignment_expr-returns-in_err-less : goal.parse_assignment_expr-returns-in_err-less
+parse_assignment_expr-returns-in_err-less g t c =
+    m.refused c.from_residual-in_err-less.ensures.1
+    (s.unheard_memory (s.forgoes_later (s.here_leads c.in_ok-require_cur.ensures.fits) (s.forgoes_here g.met.I.Tokens.laws _ _ _ c.in_err-less.ensures.refused))) (grows-same _)
+
 pub parse_assignment_expr-parse_yield_expr-requires : goal.parse_assignment_expr-parse_yield_expr-requires
 parse_assignment_expr-parse_yield_expr-requires g t c =
-    let falls = c.require_cur.ensures.falls in
+    let less = c.in_ok-less.ensures.less in
     let some = c.is_yield_operator.ensures.some c.if-is_yield_operator.true in
     λ κs outlives. (search rules, (search rules, (search rules, (search rules, (search rules, (search rules, some))))))
 
 pub parse_assignment_expr-returns-then-is_yield_operator : goal.parse_assignment_expr-returns-then-is_yield_operator
 parse_assignment_expr-returns-then-is_yield_operator g t c =
-    m.after {m = record c.args.p.now { input = c.require_cur.new.input }} c.parse_yield_expr.result
+    m.after {m = record c.args.p.now { input = c.require_cur.new.input; too_deep = c.deeper.new.too_deep }} c.parse_yield_expr.result
     (s.on_seen {g = yield_expr g.B.BodyForms.forms} c.in_ok-require_cur.ensures.fits (λ x ts same e. assign.yield_picked _ x ts
     (ap (λ v. at_token is_yield v && x.context.in_generator) e ∙ ap (λ v. at_token is_yield (seen c.require_cur.new.input) && v.context.in_generator) same ∙ sym c.is_yield_operator.ensures.value ∙ c.if-is_yield_operator.true)))
     (grows-same _) c.parse_yield_expr.ensures
 
 pub parse_assignment_expr-parse_arrow_or_assign-requires : goal.parse_assignment_expr-parse_arrow_or_assign-requires
 parse_assignment_expr-parse_arrow_or_assign-requires g t c =
-    let falls = c.require_cur.ensures.falls in
+    let less = c.in_ok-less.ensures.less in
     λ κs outlives. (
       search rules,
       (
@@ -1944,7 +1976,7 @@ parse_assignment_expr-parse_arrow_or_assign-requires g t c =
 
 pub parse_assignment_expr-returns : goal.parse_assignment_expr-returns
 parse_assignment_expr-returns g t c =
-    m.after {m = record c.args.p.now { input = c.require_cur.new.input }} c.parse_arrow_or_assign.result
+    m.after {m = record c.args.p.now { input = c.require_cur.new.input; too_deep = c.deeper.new.too_deep }} c.parse_arrow_or_assign.result
     (s.on_seen {g = run _ (at Assign)} c.in_ok-require_cur.ensures.fits (λ x ts same e. refl)) (grows-same _) c.parse_arrow_or_assign.ensures
 
 pub parse_yield_expr-returns-in_err-refuse_yield_param : goal.parse_yield_expr-returns-in_err-refuse_yield_param
@@ -2075,39 +2107,59 @@ parse_arrow_or_assign-parse_operators-requires-in-Operand g t c =
     let apart = pending.operands-as {k = 0} c.in-Operand.arrow (sym c.new-pending.ensures) one in
     λ κs outlives. (search rules, (search rules, (search rules, (search rules, (search rules, (search rules, apart))))))
 
-pub parse_arrow_or_assign-returns-in_err-left-in-Operand : goal.parse_arrow_or_assign-returns-in_err-left-in-Operand
-parse_arrow_or_assign-returns-in_err-left-in-Operand g t c =
-    m.refused c.from_residual-in_err-left-in-Operand.ensures.1
-    (doomed_unheard (way.operated g.B.BodyForms.forms c.in-Operand.is c.in-Ok.ensures).reads.doomed c.in_err-left-in-Operand.ensures.reads.refuses)
-    (grows-then c.in-Ok.ensures.grows c.in_err-left-in-Operand.ensures.grows)
+pub parse_arrow_or_assign-recover_operators-requires-in-Err-parse_operators : goal.parse_arrow_or_assign-recover_operators-requires-in-Err-parse_operators
+parse_arrow_or_assign-recover_operators-requires-in-Err-parse_operators g t c =
+    let kind = c.in-Err-parse_operators.ensures.reads.refuses.kind in
+    λ κs outlives. (search rules, (search rules, (search rules, (search rules, (search rules, (search rules, kind))))))
+
+pub parse_arrow_or_assign-returns-in_err-left-in-Err-parse_operators : goal.parse_arrow_or_assign-returns-in_err-left-in-Err-parse_operators
+parse_arrow_or_assign-returns-in_err-left-in-Err-parse_operators g t c =
+    let h = c.in_err-left-in-Err-parse_operators.ensures in
+    let u = doomed_unheard (way.operated g.B.BodyForms.forms c.in-Operand.is c.in-Ok.ensures).reads.doomed c.in-Err-parse_operators.ensures.reads.refuses in
+    m.refused c.from_residual-in_err-left-in-Err-parse_operators.ensures.1
+    (s.unheard_doomed u h.memory h.effect)
+    (grows-then c.in-Ok.ensures.grows (grows-then c.in-Err-parse_operators.ensures.grows h.grows))
+
+pub parse_arrow_or_assign-returns-in-Err-parse_operators : goal.parse_arrow_or_assign-returns-in-Err-parse_operators
+parse_arrow_or_assign-returns-in-Err-parse_operators g t c =
+    let h = c.in_ok-left-in-Err-parse_operators.ensures in
+    let u = doomed_unheard (way.operated g.B.BodyForms.forms c.in-Operand.is c.in-Ok.ensures).reads.doomed c.in-Err-parse_operators.ensures.reads.refuses in
+    let grows = grows-then c.in-Ok.ensures.grows c.in-Err-parse_operators.ensures.grows in
+    let a = grows-count grows in
+    let b = h.from.above in
+    way.failed {m = c.recover_operators-in-Err-parse_operators.new.p} c.finish_assignment_expr-in-Err-parse_operators.result
+    (again.fails_recovered u h.some h.effect h.notes)
+    (grows-then grows h.grows)
+    (omega arith) (λ x. from-down (omega arith))
+    c.finish_assignment_expr-in-Err-parse_operators.ensures
 
 pub parse_arrow_or_assign-returns-in_err-check_operators_end-in-Operand : goal.parse_arrow_or_assign-returns-in_err-check_operators_end-in-Operand
 parse_arrow_or_assign-returns-in_err-check_operators_end-in-Operand g t c =
     m.refused c.from_residual-in_err-check_operators_end-in-Operand.ensures.1
-    (doomed_unheard (doomed_later (way.operated g.B.BodyForms.forms c.in-Operand.is c.in-Ok.ensures).reads.doomed c.in_ok-left-in-Operand.ensures.reads.leads)
+    (doomed_unheard (doomed_later (way.operated g.B.BodyForms.forms c.in-Operand.is c.in-Ok.ensures).reads.doomed c.in-Ok-parse_operators.ensures.reads.leads)
     (s.forgoes_refuses c.in_err-check_operators_end-in-Operand.ensures.tries))
-    (grows-then c.in-Ok.ensures.grows c.in_ok-left-in-Operand.ensures.grows)
+    (grows-then c.in-Ok.ensures.grows c.in-Ok-parse_operators.ensures.grows)
 
 pub parse_arrow_or_assign-returns-in_err-check_nullish_left-in-Operand : goal.parse_arrow_or_assign-returns-in_err-check_nullish_left-in-Operand
 parse_arrow_or_assign-returns-in_err-check_nullish_left-in-Operand g t c =
     m.refused c.from_residual-in_err-check_nullish_left-in-Operand.ensures.1
-    (doomed_unheard (doomed_later (doomed_later (way.operated g.B.BodyForms.forms c.in-Operand.is c.in-Ok.ensures).reads.doomed c.in_ok-left-in-Operand.ensures.reads.leads)
+    (doomed_unheard (doomed_later (doomed_later (way.operated g.B.BodyForms.forms c.in-Operand.is c.in-Ok.ensures).reads.doomed c.in-Ok-parse_operators.ensures.reads.leads)
     c.in_ok-check_operators_end-in-Operand.ensures.tries)
     (s.forgoes_refuses c.in_err-check_nullish_left-in-Operand.ensures.checks))
-    (grows-then c.in-Ok.ensures.grows c.in_ok-left-in-Operand.ensures.grows)
+    (grows-then c.in-Ok.ensures.grows c.in-Ok-parse_operators.ensures.grows)
 
 pub parse_arrow_or_assign-returns-in_ok-check_nullish_left-in-Operand : goal.parse_arrow_or_assign-returns-in_ok-check_nullish_left-in-Operand
 parse_arrow_or_assign-returns-in_ok-check_nullish_left-in-Operand g t c =
-    let from = c.in_ok-left-in-Operand.ensures.from in
+    let from = c.in-Ok-parse_operators.ensures.from in
     let first = ap (λ e. first_at c.parse_arrow_or_operand.new.p.nodes e.0)
     (pending.first_none c.in-Operand.arrow c.new-pending.ensures) in
-    let low : count c.args.p.now.nodes ≤ first_at c.parse_operators-in-Operand.new.p.nodes c.in_ok-left-in-Operand.left.0 =
+    let low : count c.args.p.now.nodes ≤ first_at c.parse_operators-in-Operand.new.p.nodes c.in-Ok-parse_operators.left.0 =
     let a = (way.operated g.B.BodyForms.forms c.in-Operand.is c.in-Ok.ensures).from.above in let b = from.above in omega arith in
-    way.failed {j = first_at c.parse_operators-in-Operand.new.p.nodes c.in_ok-left-in-Operand.left.0} {m = record c.parse_operators-in-Operand.new.p { input = c.check_nullish_left.new.input }}
+    way.failed {j = first_at c.parse_operators-in-Operand.new.p.nodes c.in-Ok-parse_operators.left.0} {m = record c.parse_operators-in-Operand.new.p { input = c.check_nullish_left.new.input }}
     c.finish_assignment_expr-in-Operand.result
-    (fails_later (fails_later (fails_later (way.operated g.B.BodyForms.forms c.in-Operand.is c.in-Ok.ensures).reads c.in_ok-left-in-Operand.ensures.reads.leads)
+    (fails_later (fails_later (fails_later (way.operated g.B.BodyForms.forms c.in-Operand.is c.in-Ok.ensures).reads c.in-Ok-parse_operators.ensures.reads.leads)
     c.in_ok-check_operators_end-in-Operand.ensures.tries) c.in_ok-check_nullish_left-in-Operand.ensures.checks.leads)
-    (grows-then c.in-Ok.ensures.grows c.in_ok-left-in-Operand.ensures.grows)
+    (grows-then c.in-Ok.ensures.grows c.in-Ok-parse_operators.ensures.grows)
     low (λ x. from-down low)
     c.finish_assignment_expr-in-Operand.ensures
 
@@ -3040,6 +3092,11 @@ pub parse_pat-returns-in_err-look : goal.parse_pat-returns-in_err-look
 parse_pat-returns-in_err-look g t c =
     m.refused c.from_residual.ensures.1 (s.unheard_memory c.in_err-look.ensures.looks) (grows-same _)
 
+pub parse_pat-returns-in_err-less-in-Array : goal.parse_pat-returns-in_err-less-in-Array
+parse_pat-returns-in_err-less-in-Array g t c =
+    m.refused c.from_residual-in_err-less-in-Array.ensures.1
+    (s.unheard_memory (s.forgoes_later (s.here_leads c.in_ok-look.ensures.looks) (s.forgoes_here g.met.I.Tokens.laws _ _ _ c.in_err-less-in-Array.ensures.refused))) (grows-same _)
+
 pub parse_pat-returns-in_err-elems-in-Array : goal.parse_pat-returns-in_err-elems-in-Array
 parse_pat-returns-in_err-elems-in-Array g t c =
     let sign = pat_begins.is_array _ (sym c.pat_kind.ensures ∙ c.in-Array.is) in
@@ -3069,6 +3126,11 @@ parse_pat-returns-in_ok-elems-in-Array g t c =
     (m.call c.array_pat.result (λ x p. Some (array_pat_from start p.0, p.1)) (λ x ts. pat_array.array_pat_splits _ start x ts)
     c.in_ok-elems-in-Array.ensures.reads c.parse_pat_elements.ensures.grows (λ x h. h)
     (c.array_pat.ensures (count c.args.p.now.nodes) c.in_ok-elems-in-Array.ensures.from))
+
+pub parse_pat-returns-in_err-less-in-Object : goal.parse_pat-returns-in_err-less-in-Object
+parse_pat-returns-in_err-less-in-Object g t c =
+    m.refused c.from_residual-in_err-less-in-Object.ensures.1
+    (s.unheard_memory (s.forgoes_later (s.here_leads c.in_ok-look.ensures.looks) (s.forgoes_here g.met.I.Tokens.laws _ _ _ c.in_err-less-in-Object.ensures.refused))) (grows-same _)
 
 pub parse_pat-returns-in_err-props-in-Object : goal.parse_pat-returns-in_err-props-in-Object
 parse_pat-returns-in_err-props-in-Object g t c =
@@ -3271,21 +3333,24 @@ parse_formal_params-loop-params-init g t c = (
   grows-same _,
   record { chained = ap (λ v. chain (seat_at c.args.p.now.nodes) (count c.args.p.now.nodes) (flat param_parts v) (count c.args.p.now.nodes)) c.new-params.ensures.items ∙ (apart-none {ns = c.args.p.now.nodes} {k = count c.args.p.now.nodes} (omega arith)).chained },
   subst (λ v. placed c.args.p.now.nodes v) (sym c.new-params.ensures.items) tt,
+  λ l n. subst (λ v. AllReadAlone g.B.BodyForms.forms (scope g.I.Tokens.model c.args.p.now.input) (trees (map (λ p. pat_at c.args.p.now.nodes p.pat) v))) (sym c.new-params.ensures.items) tt,
 )
 
 pub parse_formal_params-returns-in_err-next_param : goal.parse_formal_params-returns-in_err-next_param
 parse_formal_params-returns-in_err-next_param g t c =
     let stage = stage_of c.loop-params.rest in
     let before = params_at c.loop-params.p.nodes c.loop-params.params in
-    leaving.leaves_none c.from_residual.result c.from_residual.ensures.1
+    alone.no_params c.from_residual.result c.from_residual.ensures.1
     (param_turn.not_turned g.B.BodyForms.forms stage before c.loop-params.invariant.0 (c.in_err-next_param.ensures.next g.B.Bodies.is_faithful)) c.loop-params.invariant.2
 
 pub parse_formal_params-returns-in-End : goal.parse_formal_params-returns-in-End
 parse_formal_params-returns-in-End g t c =
     let stage = stage_of c.loop-params.rest in
     let before = params_at c.loop-params.p.nodes c.loop-params.params in
-    leaving.leaves c.loop-params.params
-    (param_turn.ended g.B.BodyForms.forms stage before c.loop-params.invariant.0 c.in-End.is (c.in_ok-next_param.ensures.next g.B.Bodies.is_faithful))
+    let looked = c.in_ok-next_param.ensures.next g.B.Bodies.is_faithful in
+    alone.params_left_open c.loop-params.params
+    (param_turn.ended g.B.BodyForms.forms stage before c.loop-params.invariant.0 c.in-End.is looked)
+    (alone.alone_later g.I.Tokens.model g.B.BodyForms.forms before c.loop-params.invariant.0.leads looked.leads c.loop-params.invariant.5)
     c.loop-params.invariant.2 (c.loop-params.invariant.3, c.loop-params.invariant.4)
 
 pub parse_formal_params-returns-in_err-arg-in-Some : goal.parse_formal_params-returns-in_err-arg-in-Some
@@ -3293,7 +3358,7 @@ parse_formal_params-returns-in_err-arg-in-Some g t c =
     let stage = stage_of c.loop-params.rest in
     let before = params_at c.loop-params.p.nodes c.loop-params.params in
     let turned = param_turn.turned g.B.BodyForms.forms stage before c.loop-params.invariant.0 (next_param.Item (Some c.in-Some.dots)) (c.in-Item.is ∙ ap (λ o. next_param.Item o) c.in-Some.is) (c.in_ok-next_param.ensures.next g.B.Bodies.is_faithful) in
-    leaving.leaves_none c.from_residual-in_err-arg-in-Some.result c.from_residual-in_err-arg-in-Some.ensures.1
+    alone.no_params c.from_residual-in_err-arg-in-Some.result c.from_residual-in_err-arg-in-Some.ensures.1
     (param_turn.no_item g.B.BodyForms.forms stage before (Some c.in-Some.dots) turned (param_turn.no_rest g.B.BodyForms.forms c.in-Some.dots c.in_err-arg-in-Some.ensures.reads))
     (grows-then c.loop-params.invariant.2 c.parse_pat.ensures.grows)
 
@@ -3302,7 +3367,7 @@ parse_formal_params-returns-in_err-eat-in-Some g t c =
     let stage = stage_of c.loop-params.rest in
     let before = params_at c.loop-params.p.nodes c.loop-params.params in
     let turned = param_turn.turned g.B.BodyForms.forms stage before c.loop-params.invariant.0 (next_param.Item (Some c.in-Some.dots)) (c.in-Item.is ∙ ap (λ o. next_param.Item o) c.in-Some.is) (c.in_ok-next_param.ensures.next g.B.Bodies.is_faithful) in
-    leaving.leaves_none c.from_residual-in_err-eat-in-Some.result c.from_residual-in_err-eat-in-Some.ensures.1
+    alone.no_params c.from_residual-in_err-eat-in-Some.result c.from_residual-in_err-eat-in-Some.ensures.1
     (param_turn.no_item g.B.BodyForms.forms stage before (Some c.in-Some.dots) turned (s.unheard_after (param_turn.rest_begun g.B.BodyForms.forms c.in-Some.dots c.in_ok-arg-in-Some.ensures.reads.on)
     (param_turn.rest_unlooked c.in-Some.dots (pat_at c.parse_pat.new.p.nodes c.in_ok-arg-in-Some.arg) (c.in_err-eat-in-Some.ensures.eats g.B.Bodies.is_faithful))))
     (grows-then c.loop-params.invariant.2 c.parse_pat.ensures.grows)
@@ -3312,7 +3377,7 @@ parse_formal_params-returns-in_err-value-in-Some-2 g t c =
     let stage = stage_of c.loop-params.rest in
     let before = params_at c.loop-params.p.nodes c.loop-params.params in
     let turned = param_turn.turned g.B.BodyForms.forms stage before c.loop-params.invariant.0 (next_param.Item (Some c.in-Some.dots)) (c.in-Item.is ∙ ap (λ o. next_param.Item o) c.in-Some.is) (c.in_ok-next_param.ensures.next g.B.Bodies.is_faithful) in
-    leaving.leaves_none c.from_residual-in_err-value-in-Some-2.result c.from_residual-in_err-value-in-Some-2.ensures.1
+    alone.no_params c.from_residual-in_err-value-in-Some-2.result c.from_residual-in_err-value-in-Some-2.ensures.1
     (param_turn.no_item g.B.BodyForms.forms stage before (Some c.in-Some.dots) turned (s.unheard_after (param_turn.rest_begun g.B.BodyForms.forms c.in-Some.dots c.in_ok-arg-in-Some.ensures.reads.on)
     (s.unheard_after (param_turn.rest_ill c.in-Some.dots (pat_at c.parse_pat.new.p.nodes c.in_ok-arg-in-Some.arg) (s.eats_some g.B.Bodies.is_faithful is_equals _ c.in-Some-2.field-0 _ _ c.in-Some-2.is (c.in_ok-eat-in-Some.ensures.eats g.B.Bodies.is_faithful)).on)
     (s.unheard_none (λ x ts. refl) c.in_err-value-in-Some-2.ensures.reads.refuses))))
@@ -3327,7 +3392,7 @@ parse_formal_params-returns-in_err-pat-in-Some-2 g t c =
     let stage = stage_of c.loop-params.rest in
     let before = params_at c.loop-params.p.nodes c.loop-params.params in
     let turned = param_turn.turned g.B.BodyForms.forms stage before c.loop-params.invariant.0 (next_param.Item (Some c.in-Some.dots)) (c.in-Item.is ∙ ap (λ o. next_param.Item o) c.in-Some.is) (c.in_ok-next_param.ensures.next g.B.Bodies.is_faithful) in
-    leaving.leaves_none c.from_residual-in_err-pat-in-Some-2.result c.from_residual-in_err-pat-in-Some-2.ensures.1
+    alone.no_params c.from_residual-in_err-pat-in-Some-2.result c.from_residual-in_err-pat-in-Some-2.ensures.1
     (param_turn.no_item g.B.BodyForms.forms stage before (Some c.in-Some.dots) turned (s.unheard_after (param_turn.rest_begun g.B.BodyForms.forms c.in-Some.dots c.in_ok-arg-in-Some.ensures.reads.on)
     (s.unheard_after (param_turn.rest_faulty c.in-Some.dots (pat_at c.parse_pat.new.p.nodes c.in_ok-arg-in-Some.arg) (s.eats_some g.B.Bodies.is_faithful is_equals _ c.in-Some-2.field-0 _ _ c.in-Some-2.is (c.in_ok-eat-in-Some.ensures.eats g.B.Bodies.is_faithful)).on c.in_ok-value-in-Some-2.ensures.reads.on.leads)
     c.in_err-pat-in-Some-2.ensures.reads)))
@@ -3339,7 +3404,7 @@ parse_formal_params-returns-in_err-pat-in-None-2 g t c =
     let before = params_at c.loop-params.p.nodes c.loop-params.params in
     let turned = param_turn.turned g.B.BodyForms.forms stage before c.loop-params.invariant.0 (next_param.Item (Some c.in-Some.dots)) (c.in-Item.is ∙ ap (λ o. next_param.Item o) c.in-Some.is) (c.in_ok-next_param.ensures.next g.B.Bodies.is_faithful) in
     let none = s.eats_none g.B.Bodies.is_faithful is_equals _ _ _ c.in-None-2.is (c.in_ok-eat-in-Some.ensures.eats g.B.Bodies.is_faithful) in
-    leaving.leaves_none c.from_residual-in_err-pat-in-None-2.result c.from_residual-in_err-pat-in-None-2.ensures.1
+    alone.no_params c.from_residual-in_err-pat-in-None-2.result c.from_residual-in_err-pat-in-None-2.ensures.1
     (param_turn.no_item g.B.BodyForms.forms stage before (Some c.in-Some.dots) turned (s.unheard_after (param_turn.rest_begun g.B.BodyForms.forms c.in-Some.dots c.in_ok-arg-in-Some.ensures.reads.on)
     (s.unheard_after (param_turn.rest_bare c.in-Some.dots (pat_at c.parse_pat.new.p.nodes c.in_ok-arg-in-Some.arg) none) c.in_err-pat-in-None-2.ensures.reads)))
     (grows-then c.loop-params.invariant.2 (grows-then c.parse_pat.ensures.grows c.rest_pat.ensures.grows))
@@ -3349,7 +3414,7 @@ parse_formal_params-returns-in_err-pat-in-None g t c =
     let stage = stage_of c.loop-params.rest in
     let before = params_at c.loop-params.p.nodes c.loop-params.params in
     let turned = param_turn.turned g.B.BodyForms.forms stage before c.loop-params.invariant.0 (next_param.Item None) (c.in-Item.is ∙ ap (λ o. next_param.Item o) c.in-None.is) (c.in_ok-next_param.ensures.next g.B.Bodies.is_faithful) in
-    leaving.leaves_none c.from_residual-in_err-pat-in-None.result c.from_residual-in_err-pat-in-None.ensures.1
+    alone.no_params c.from_residual-in_err-pat-in-None.result c.from_residual-in_err-pat-in-None.ensures.1
     (param_turn.no_item g.B.BodyForms.forms stage before None turned c.in_err-pat-in-None.ensures.reads)
     (grows-then c.loop-params.invariant.2 c.parse_binding_element.ensures.grows)
 
@@ -3386,7 +3451,7 @@ parse_formal_params-returns-in_err-add-in-Item g t c =
           (m.yes (Ok _) w.in_ok-pat-in-None.ensures.reads w.parse_binding_element.ensures.grows w.in_ok-pat-in-None.ensures.from)
     ] in
     let read = param_turn.item g.B.BodyForms.forms stage before dots turned item.reads.on in
-    leaving.leaves_none c.from_residual-in_err-add-in-Item.result c.from_residual-in_err-add-in-Item.ensures.1
+    alone.no_params c.from_residual-in_err-add-in-Item.result c.from_residual-in_err-add-in-Item.ensures.1
     (s.unheard_memory (s.forgoes_later read.leads (s.forgoes_here g.met.I.Tokens.laws _ _ _ c.in_err-add-in-Item.ensures.refused)))
     (grows-then c.loop-params.invariant.2 item.grows)
 
@@ -3423,7 +3488,7 @@ parse_formal_params-returns-in_err-rest-in-Item g t c =
           (m.yes (Ok _) w.in_ok-pat-in-None.ensures.reads w.parse_binding_element.ensures.grows w.in_ok-pat-in-None.ensures.from)
     ] in
     let read = param_turn.item g.B.BodyForms.forms stage before dots turned item.reads.on in
-    leaving.leaves_none c.from_residual-in_err-rest-in-Item.result c.from_residual-in_err-rest-in-Item.ensures.1
+    alone.no_params c.from_residual-in_err-rest-in-Item.result c.from_residual-in_err-rest-in-Item.ensures.1
     (param_turn.not_separated g.B.BodyForms.forms (is_some dots) stage (trees_append before (cons (pat_at c.match-dots.p.nodes c.match-dots.pat) nil)) read (c.in_err-rest-in-Item.ensures.separates g.B.Bodies.is_faithful))
     (grows-then c.loop-params.invariant.2 item.grows)
 
@@ -3475,4 +3540,7 @@ parse_formal_params-loop-params-preserved g t c =
       grows-then c.loop-params.invariant.2 item.grows,
       record { chained = ap (λ v. chain (seat_at ns) (count c.args.p.now.nodes) (flat param_parts v) (count ns)) c.in_ok-add-in-Item.ensures.added ∙ parts.0.chained },
       subst (λ v. placed ns v) (sym c.in_ok-add-in-Item.ensures.added) parts.1,
+      λ l n. subst (λ v. AllReadAlone g.B.BodyForms.forms (scope g.I.Tokens.model c.args.p.now.input) v) (sym more)
+          (alone.alone_more g.I.Tokens.model g.B.BodyForms.forms before (pat_at ns pat) dots c.loop-params.invariant.0.leads (c.in_ok-next_param.ensures.next g.B.Bodies.is_faithful).leads item.reads.on
+          (c.in_ok-rest-in-Item.ensures.separates g.B.Bodies.is_faithful).leads c.loop-params.invariant.5 l n),
     )

@@ -1,4 +1,5 @@
--- Each call is made with fewer tokens to come, or on the way down to a primary expression.
+-- Each call is made with a level less of room, or on the way down to the place where one is taken: so at most 20 calls are nested for each
+-- level of the bound, and 20 more.
 use Rattle.std.proofs.Common.{◌≡◌, ◌+◌, ◌*◌, ◌≤◌, not, map, length}
 use Rattle.std.specs.Prelude.{slice_index_or}
 use Rattle.swc_input.specs.Buffer.{to_come}
@@ -16,7 +17,7 @@ use Rattle.swc_operators.specs.Assignments.{seqs_more}
 use Rattle.swc_operators.specs.Entered.{Entered, EnteredList}
 use Rattle.swc_operators.specs.Pending.{pending_reads}
 use Rattle.swc_steps.specs.Loops.{ItemsRead}
-use Rattle.swc_steps.specs.Parsing.{On, tree_of}
+use Rattle.swc_steps.specs.Parsing.{On, Loud, recorded, scope, tree_of}
 use Rattle.swc_left.specs.Templates.{parts_behind}
 use Rattle.swc_productions.proofs.ring.+productions.Given as goal
 use Rattle.swc_patterns.specs.Loops.{PatPropsRead}
@@ -26,25 +27,26 @@ use Rattle.swc_nodes.specs.NodeParts.{flat, param_parts}
 use Rattle.swc_patterns.specs.Answers.{if_there, params_at, placed}
 use Rattle.swc_patterns.specs.Arrays.{elements_left}
 use Rattle.swc_patterns.specs.Params.{params_left}
+use Rattle.swc_patterns.specs.ParamsRead.{AllReadAlone}
 use Rattle.swc_patterns.specs.Rests.{stage_of}
 
 abbrev pub decreases-parse_primary_expr : goal.decreases-parse_primary_expr
-decreases-parse_primary_expr g l = to_come g.I.Tokens.model l.p.now.input * 20 + 2
+decreases-parse_primary_expr g l = l.room * 20 + 6
 
 abbrev pub decreases-parse_base : goal.decreases-parse_base
-decreases-parse_base g l = to_come g.I.Tokens.model l.p.now.input * 20 + 3
+decreases-parse_base g l = l.room * 20 + 7
 
 abbrev pub decreases-parse_super : goal.decreases-parse_super
-decreases-parse_super g l = to_come g.I.Tokens.model l.p.now.input * 20 + 19
+decreases-parse_super g l = l.room * 20 + 3
 
 abbrev pub decreases-parse_lhs_expr : goal.decreases-parse_lhs_expr
-decreases-parse_lhs_expr g l = to_come g.I.Tokens.model l.p.now.input * 20 + 5
+decreases-parse_lhs_expr g l = l.room * 20 + 9
 
 abbrev pub decreases-parse_member_expr : goal.decreases-parse_member_expr
-decreases-parse_member_expr g l = to_come g.I.Tokens.model l.p.now.input * 20 + 4
+decreases-parse_member_expr g l = l.room * 20 + 8
 
 abbrev pub decreases-parse_subscripts : goal.decreases-parse_subscripts
-decreases-parse_subscripts g l = to_come g.I.Tokens.model l.p.now.input * 20 + 3
+decreases-parse_subscripts g l = l.room * 20 + 3
 
 abbrev pub invariant-parse_subscripts-loop-head : goal.invariant-parse_subscripts-loop-head
 invariant-parse_subscripts-loop-head g l =
@@ -60,7 +62,7 @@ abbrev pub decreases-parse_subscripts-loop-head : goal.decreases-parse_subscript
 decreases-parse_subscripts-loop-head g l = to_come g.I.Tokens.model l.p.input
 
 abbrev pub decreases-parse_args : goal.decreases-parse_args
-decreases-parse_args g l = to_come g.I.Tokens.model l.p.now.input * 20 + 16
+decreases-parse_args g l = l.room * 20 + 2
 
 abbrev pub invariant-parse_args-loop-value : goal.invariant-parse_args-loop-value
 invariant-parse_args-loop-value g l =
@@ -72,13 +74,13 @@ abbrev pub decreases-parse_args-loop-value : goal.decreases-parse_args-loop-valu
 decreases-parse_args-loop-value g l = to_come g.I.Tokens.model l.p.input
 
 abbrev pub decreases-parse_operand : goal.decreases-parse_operand
-decreases-parse_operand g l = to_come g.I.Tokens.model l.p.now.input * 20 + 7
+decreases-parse_operand g l = l.room * 20 + 11
 
 abbrev pub decreases-parse_unary_expr : goal.decreases-parse_unary_expr
-decreases-parse_unary_expr g l = to_come g.I.Tokens.model l.p.now.input * 20 + 6
+decreases-parse_unary_expr g l = l.room * 20 + 10
 
 abbrev pub decreases-parse_operators : goal.decreases-parse_operators
-decreases-parse_operators g l = to_come g.I.Tokens.model l.p.now.input * 20 + 9
+decreases-parse_operators g l = l.room * 20 + 12
 
 abbrev pub invariant-parse_operators-loop-pending : goal.invariant-parse_operators-loop-pending
 invariant-parse_operators-loop-pending g l =
@@ -96,13 +98,13 @@ decreases-parse_operators-loop-pending g l =
     to_come g.I.Tokens.model l.p.input * 2 + length (all_pending l.pending)
 
 abbrev pub decreases-recover_operators : goal.decreases-recover_operators
-decreases-recover_operators g l = to_come g.I.Tokens.model l.p.now.input * 20 + 10
+decreases-recover_operators g l = l.room * 20 + 13
 
 abbrev pub decreases-parse_bin_expr : goal.decreases-parse_bin_expr
-decreases-parse_bin_expr g l = to_come g.I.Tokens.model l.p.now.input * 20 + 11
+decreases-parse_bin_expr g l = l.room * 20 + 14
 
 abbrev pub decreases-parse_expr : goal.decreases-parse_expr
-decreases-parse_expr g l = to_come g.I.Tokens.model l.p.now.input * 20 + 14
+decreases-parse_expr g l = l.room * 20 + 1
 
 abbrev pub invariant-parse_expr-loop-exprs : goal.invariant-parse_expr-loop-exprs
 invariant-parse_expr-loop-exprs g l =
@@ -120,34 +122,34 @@ abbrev pub decreases-parse_expr-loop-exprs : goal.decreases-parse_expr-loop-expr
 decreases-parse_expr-loop-exprs g l = to_come g.I.Tokens.model l.p.input
 
 abbrev pub decreases-parse_assignment_expr : goal.decreases-parse_assignment_expr
-decreases-parse_assignment_expr g l = to_come g.I.Tokens.model l.p.now.input * 20 + 13
+decreases-parse_assignment_expr g l = l.room * 20 + 0
 
 abbrev pub decreases-parse_yield_expr : goal.decreases-parse_yield_expr
-decreases-parse_yield_expr g l = to_come g.I.Tokens.model l.p.now.input * 20 + 12
+decreases-parse_yield_expr g l = l.room * 20 + 1
 
 abbrev pub decreases-parse_arrow_or_assign : goal.decreases-parse_arrow_or_assign
-decreases-parse_arrow_or_assign g l = to_come g.I.Tokens.model l.p.now.input * 20 + 12
+decreases-parse_arrow_or_assign g l = l.room * 20 + 15
 
 abbrev pub decreases-parse_arrow_or_operand : goal.decreases-parse_arrow_or_operand
-decreases-parse_arrow_or_operand g l = to_come g.I.Tokens.model l.p.now.input * 20 + 11
+decreases-parse_arrow_or_operand g l = l.room * 20 + 4
 
 abbrev pub decreases-parse_arrow_or_base : goal.decreases-parse_arrow_or_base
-decreases-parse_arrow_or_base g l = to_come g.I.Tokens.model l.p.now.input * 20 + 10
+decreases-parse_arrow_or_base g l = l.room * 20 + 3
 
 abbrev pub decreases-parse_arrow_rest : goal.decreases-parse_arrow_rest
-decreases-parse_arrow_rest g l = to_come g.I.Tokens.model l.p.now.input * 20 + 15
+decreases-parse_arrow_rest g l = l.room * 20 + 2
 
 abbrev pub decreases-parse_arrow_body : goal.decreases-parse_arrow_body
-decreases-parse_arrow_body g l = to_come g.I.Tokens.model l.p.now.input * 20 + 14
+decreases-parse_arrow_body g l = l.room * 20 + 1
 
 abbrev pub decreases-finish_assignment_expr : goal.decreases-finish_assignment_expr
-decreases-finish_assignment_expr g l = to_come g.I.Tokens.model l.p.now.input * 20 + 2
+decreases-finish_assignment_expr g l = l.room * 20 + 1
 
 abbrev pub decreases-parse_expr_or_spread : goal.decreases-parse_expr_or_spread
-decreases-parse_expr_or_spread g l = to_come g.I.Tokens.model l.p.now.input * 20 + 14
+decreases-parse_expr_or_spread g l = l.room * 20 + 1
 
 abbrev pub decreases-parse_elements : goal.decreases-parse_elements
-decreases-parse_elements g l = to_come g.I.Tokens.model l.p.now.input * 20 + 16
+decreases-parse_elements g l = l.room * 20 + 2
 
 abbrev pub invariant-parse_elements-loop-items : goal.invariant-parse_elements-loop-items
 invariant-parse_elements-loop-items g l =
@@ -158,16 +160,16 @@ abbrev pub decreases-parse_elements-loop-items : goal.decreases-parse_elements-l
 decreases-parse_elements-loop-items g l = to_come g.I.Tokens.model l.p.input
 
 abbrev pub decreases-parse_prop_name : goal.decreases-parse_prop_name
-decreases-parse_prop_name g l = to_come g.I.Tokens.model l.p.now.input * 20 + 16
+decreases-parse_prop_name g l = l.room * 20 + 1
 
 abbrev pub decreases-parse_object_prop : goal.decreases-parse_object_prop
-decreases-parse_object_prop g l = to_come g.I.Tokens.model l.p.now.input * 20 + 18
+decreases-parse_object_prop g l = l.room * 20 + 4
 
 abbrev pub decreases-parse_method : goal.decreases-parse_method
-decreases-parse_method g l = to_come g.I.Tokens.model l.p.now.input * 20 + 16
+decreases-parse_method g l = l.room * 20 + 3
 
 abbrev pub decreases-parse_props : goal.decreases-parse_props
-decreases-parse_props g l = to_come g.I.Tokens.model l.p.now.input * 20 + 20
+decreases-parse_props g l = l.room * 20 + 5
 
 abbrev pub invariant-parse_props-loop-items : goal.invariant-parse_props-loop-items
 invariant-parse_props-loop-items g l =
@@ -179,7 +181,7 @@ abbrev pub decreases-parse_props-loop-items : goal.decreases-parse_props-loop-it
 decreases-parse_props-loop-items g l = to_come g.I.Tokens.model l.p.input
 
 abbrev pub decreases-parse_tpl_elements : goal.decreases-parse_tpl_elements
-decreases-parse_tpl_elements g l = to_come g.I.Tokens.model l.p.now.input * 20 + 16
+decreases-parse_tpl_elements g l = l.room * 20 + 2
 
 abbrev pub invariant-parse_tpl_elements-loop-value : goal.invariant-parse_tpl_elements-loop-value
 invariant-parse_tpl_elements-loop-value g l =
@@ -196,7 +198,7 @@ abbrev pub decreases-parse_tpl_elements-loop-value : goal.decreases-parse_tpl_el
 decreases-parse_tpl_elements-loop-value g l = to_come g.I.Tokens.model l.p.input
 
 abbrev pub decreases-parse_object_pat_prop : goal.decreases-parse_object_pat_prop
-decreases-parse_object_pat_prop g l = to_come g.I.Tokens.model l.p.now.input * 20 + 17
+decreases-parse_object_pat_prop g l = l.room * 20 + 2
 
 abbrev pub invariant-parse_pat_props-loop-items : goal.invariant-parse_pat_props-loop-items
 invariant-parse_pat_props-loop-items g l =
@@ -206,16 +208,16 @@ abbrev pub decreases-parse_pat_props-loop-items : goal.decreases-parse_pat_props
 decreases-parse_pat_props-loop-items g l = to_come g.I.Tokens.model l.p.input
 
 abbrev pub decreases-parse_pat_props : goal.decreases-parse_pat_props
-decreases-parse_pat_props g l = to_come g.I.Tokens.model l.p.now.input * 20 + 18
+decreases-parse_pat_props g l = l.room * 20 + 3
 
 abbrev pub decreases-parse_binding_element : goal.decreases-parse_binding_element
-decreases-parse_binding_element g l = to_come g.I.Tokens.model l.p.now.input * 20 + 2
+decreases-parse_binding_element g l = l.room * 20 + 1
 
 abbrev pub decreases-parse_pat : goal.decreases-parse_pat
-decreases-parse_pat g l = to_come g.I.Tokens.model l.p.now.input * 20 + 1
+decreases-parse_pat g l = l.room * 20 + 0
 
 abbrev pub decreases-parse_pat_elements : goal.decreases-parse_pat_elements
-decreases-parse_pat_elements g l = to_come g.I.Tokens.model l.p.now.input * 20 + 3
+decreases-parse_pat_elements g l = l.room * 20 + 2
 
 abbrev pub invariant-parse_pat_elements-loop-items : goal.invariant-parse_pat_elements-loop-items
 invariant-parse_pat_elements-loop-items g l =
@@ -231,7 +233,7 @@ abbrev pub decreases-parse_pat_elements-loop-items : goal.decreases-parse_pat_el
 decreases-parse_pat_elements-loop-items g l = to_come g.I.Tokens.model l.p.input
 
 abbrev pub decreases-parse_formal_params : goal.decreases-parse_formal_params
-decreases-parse_formal_params g l = to_come g.I.Tokens.model l.p.now.input * 20 + 3
+decreases-parse_formal_params g l = l.room * 20 + 2
 
 abbrev pub invariant-parse_formal_params-loop-params : goal.invariant-parse_formal_params-loop-params
 invariant-parse_formal_params-loop-params g l =
@@ -243,6 +245,8 @@ invariant-parse_formal_params-loop-params g l =
     × Grows l.fn.p.nodes l.p.nodes
     × Apart (count l.fn.p.nodes) l.p.nodes (flat param_parts l.params.items)
     × placed l.p.nodes l.params.items
+    × (Loud g.I.Tokens.model l.fn.p.input → recorded g.I.Tokens.model l.p.input ≡ recorded g.I.Tokens.model l.fn.p.input
+    → AllReadAlone g.B.BodyForms.forms (scope g.I.Tokens.model l.fn.p.input) (params_at l.p.nodes l.params))
 
 abbrev pub decreases-parse_formal_params-loop-params : goal.decreases-parse_formal_params-loop-params
 decreases-parse_formal_params-loop-params g l = to_come g.I.Tokens.model l.p.input

@@ -12,4 +12,4 @@ returns g c =
     let done = c.finish.ensures in
     let answered = c.is_end-answer.ensures in
     called c.is_end-answer.result c.finish.result c.in_ok-begin.ensures.runs refl done.answer done.buffer (done.nodes ∙ answered.nodes) done.commas done.fails
-    (sees_end g.met.I.Tokens.laws c.is_end-answer.result answered.looks answered.end answered.token answered.refused)
+    (sees_end c.is_end-answer.result answered.looks answered.end answered.token answered.refused)

@@ -11,7 +11,7 @@ use Rattle.swc_nodes.specs.Lists.{pats_parts}
 use Rattle.swc_ecma_parser.specs.Calls.{buffer_of, nodes_of, commas_of}
 use Rattle.swc_ecma_parser.specs.Refinement.{boxed_items, marked_items, params_of}
 use Rattle.swc_ecma_parser.proofs.Refined.{cut-kept, meets-refinement, moved-pats, of-answer}
-use Rattle.swc_ecma_parser.proofs.Refined.{promised-refinement, refinement-again, whichever}
+use Rattle.swc_ecma_parser.proofs.Refined.{promised-refinement, records-moved, refinement-again, whichever}
 use Rattle.swc_ecma_parser.proofs.parser.Parser.parse_paren_items_as_params.Goals as goal
 
 pub lift_out-answer-requires : goal.lift_out-answer-requires
@@ -40,6 +40,7 @@ returns-in-Ok g c =
     c.recast_items-answer.result c.lift_out-answer.result made.recasts
     (moved-pats (λ e. e ≡ no_memory (last_position (buffer_of q))) pat (tree_at (nodes_of q))
     c.recast_items-answer.result c.lift_out-answer.result moved.moved))
+    (records-moved _ _ _ _ c.recast_items-answer.result c.lift_out-answer.result made.judges moved.moved)
     (moved.commas ∙ made.commas)
     (cut-kept (nodes_of c.lift_out-answer.new.self) (whichever _ _ _ c.recast_items-answer.result made.recasts
     (λ x w. w.kept) (λ e w. w.kept)) (rw (sym c.len-start.ensures) moved.nodes))

@@ -1,12 +1,14 @@
-use Rattle.std.proofs.Common.{◌≤◌, arith, subst}
-use Rattle.swc_input.specs.Buffer.{last_position}
+use Rattle.std.proofs.Common.{◌≤◌, ap, arith, subst}
+use Rattle.swc_input.specs.Buffer.{context, last_position}
 use Rattle.swc_cover.proofs.Checked.{unfit-memory}
+use Rattle.swc_cover.specs.Noting.{JudgesBy}
+use Rattle.swc_cover.specs.PatTypes.{verdict_as}
 use Rattle.swc_nodes.specs.Marking.{Marks}
 use Rattle.swc_nodes.specs.GrowingNodes.{count}
 use Rattle.swc_nodes.proofs.Held.{from-down}
 use Rattle.swc_ecma_parser.specs.Calls.{buffer_of, nodes_of}
 use Rattle.swc_ecma_parser.specs.Refinement.{marks_of}
-use Rattle.swc_ecma_parser.proofs.Recast.{from-put, kept-put, recasts-expr}
+use Rattle.swc_ecma_parser.proofs.Recast.{from-put, kept-put, recasts-expr, tree-put}
 use Rattle.swc_ecma_parser.proofs.parser.Parser.recast_expr.Goals as goal
 
 pub reparse_expr_as_pat-requires : goal.reparse_expr_as_pat-requires
@@ -34,3 +36,16 @@ returns-in-Err-clause-recasts g c = record {
       c.out_of_memory.result c.out_of_memory.ensures;
   kept = kept-put c.put_expr.ensures.grows;
 }
+
+pub returns-in-Ok-clause-judges : goal.returns-in-Ok-clause-judges
+returns-in-Ok-clause-judges g c =
+    let p = c.args.self.now in
+    let marked =
+    subst (λ k. Marks (marks_of p) k c.put_expr.new.nodes c.mark.new.nodes) c.len-start.ensures c.mark.ensures in
+    let same = tree-put g.I.Tokens.model p p c.put_expr.new.nodes c.mark.new.nodes c.in-Ok.ensures.grows marked
+    c.args.pat_type c.args.expr c.in-Ok.id c.in-Ok.ensures.made in
+    subst (λ t. JudgesBy g.I.Tokens.model (verdict_as (context g.I.Tokens.model (buffer_of p)).strict c.args.pat_type t)
+    (buffer_of p) c.reparse_expr_as_pat.result c.reparse_expr_as_pat.new.p.input) same c.reparse_expr_as_pat.ensures.judges
+
+pub returns-in-Err-clause-judges : goal.returns-in-Err-clause-judges
+returns-in-Err-clause-judges g c = λ n. absurd (n (ap (λ e. e.kind) c.out_of_memory.ensures))

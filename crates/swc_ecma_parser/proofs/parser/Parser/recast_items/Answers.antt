@@ -1,11 +1,14 @@
-use Rattle.std.proofs.Common.{subst}
-use Rattle.swc_input.specs.Buffer.{last_position}
+use Rattle.std.proofs.Common.{ap, subst}
+use Rattle.swc_input.specs.Buffer.{context, last_position}
 use Rattle.swc_cover.proofs.Checked.{unfit-memory}
+use Rattle.swc_cover.specs.Faults.{params_verdict}
+use Rattle.swc_cover.specs.Items.{want_items}
+use Rattle.swc_cover.specs.Noting.{names_bound, JudgesParams}
 use Rattle.swc_nodes.specs.Marking.{Marks}
 use Rattle.swc_nodes.specs.NodeParts.{args_parts}
 use Rattle.swc_ecma_parser.specs.Calls.{buffer_of}
 use Rattle.swc_ecma_parser.specs.Refinement.{marks_of}
-use Rattle.swc_ecma_parser.proofs.Recast.{apart-put, kept-put, recasts-items}
+use Rattle.swc_ecma_parser.proofs.Recast.{apart-put, items-put, kept-put, recasts-items}
 use Rattle.swc_ecma_parser.proofs.Moving.{apart-low}
 use Rattle.swc_ecma_parser.proofs.parser.Parser.recast_items.Goals as goal
 
@@ -37,3 +40,16 @@ returns-in-Err-clause-recasts g c = record {
       c.out_of_memory.result c.out_of_memory.ensures;
   kept = kept-put c.put_args.ensures.grows;
 }
+
+pub returns-in-Ok-clause-judges : goal.returns-in-Ok-clause-judges
+returns-in-Ok-clause-judges g c =
+    let p = c.args.self.now in
+    let marked =
+    subst (λ k. Marks (marks_of p) k c.put_args.new.nodes c.mark.new.nodes) c.len-start.ensures c.mark.ensures in
+    let same = items-put g.I.Tokens.model p p c.put_args.new.nodes c.mark.new.nodes c.in-Ok.ensures.grows marked
+    c.args.items c.args.trailing_comma c.in-Ok.items c.in-Ok.ensures.apart c.in-Ok.ensures.moved in
+    subst (λ ts. JudgesParams g.I.Tokens.model (params_verdict c.args.trailing_comma ts) (names_bound (context g.I.Tokens.model (buffer_of p)) (want_items ts))
+    (buffer_of p) c.parse_paren_items_as_params.result c.parse_paren_items_as_params.new.p.input) same c.parse_paren_items_as_params.ensures.judges
+
+pub returns-in-Err-clause-judges : goal.returns-in-Err-clause-judges
+returns-in-Err-clause-judges g c = λ n. absurd (n (ap (λ e. e.kind) c.out_of_memory.ensures))

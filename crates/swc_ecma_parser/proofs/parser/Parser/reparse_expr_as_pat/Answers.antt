@@ -6,7 +6,7 @@ use Rattle.swc_nodes.specs.NodeParts.{one_pat}
 use Rattle.swc_patterns.specs.Answers.{pat_at}
 use Rattle.swc_ecma_parser.specs.Calls.{nodes_of, commas_of, tree_by}
 use Rattle.swc_ecma_parser.specs.Refinement.{marked_expr, pattern_of}
-use Rattle.swc_ecma_parser.proofs.Refined.{cut-kept, meets-refinement, of-answer, promised-refinement, refinement-again}
+use Rattle.swc_ecma_parser.proofs.Refined.{cut-kept, meets-refinement, of-answer, promised-refinement, records-moved, refinement-again}
 use Rattle.swc_ecma_parser.proofs.Refined.{whichever}
 use Rattle.swc_ecma_parser.proofs.parser.Parser.reparse_expr_as_pat.Goals as goal
 
@@ -32,6 +32,7 @@ returns-in-Ok g c =
     (pattern_of g.I.Tokens.model c.args.pat_type e p) (want_as c.args.pat_type (marked_expr p e)) pat_at one_pat unmarked
     (pat_tree _ _ _ g.B.Fun.Spanned.place g.B.Class.Spanned.place g.B.Block.Spanned.place)
     p c.recast_expr-answer.new.self c.recast_expr-answer.result c.lift_out-answer.result made.recasts moved.moved)
+    (records-moved _ _ _ _ c.recast_expr-answer.result c.lift_out-answer.result made.judges moved.moved)
     (moved.commas ∙ made.commas)
     (cut-kept (nodes_of c.lift_out-answer.new.self) (whichever _ _ _ c.recast_expr-answer.result made.recasts
     (λ x w. w.kept) (λ e w. w.kept)) (rw (sym c.len-start.ensures) moved.nodes))

@@ -10,7 +10,7 @@ use Rattle.swc_input.proofs.buffer.Buffer.require_cur.Goals.{else-knows_cur-via-
 pub returns-clause-refused : goal.returns-clause-refused
 returns-clause-refused g c =
     unfit_by g.I.Tokens.model c.args.self.now c.had_line_break_before_cur.new.self c.refuse.new.self (λ here. unfit (current here) (last_position here) Eof) c.refuse.result
-    c.had_line_break_before_cur.ensures.looked c.refuse.ensures.read c.refuse.ensures.lives
+    c.had_line_break_before_cur.ensures.looked c.refuse.ensures.read c.refuse.ensures.lives c.refuse.ensures.same
     (c.refuse.ensures.answer ∙ ap (λ e. refusal (current c.had_line_break_before_cur.new.self) (g.I.Tokens.model.state (source c.had_line_break_before_cur.new.self)).failed (last_position c.had_line_break_before_cur.new.self) e) c.unfit-error.ensures)
     (elim c.else-knows_cur.branch [
       | else-knows_cur-via-then-knows_cur+else-not-is_error w ↦ unfit-error (current c.had_line_break_before_cur.new.self) w.is_error.result w.is_error.ensures w.if-not-is_error.false

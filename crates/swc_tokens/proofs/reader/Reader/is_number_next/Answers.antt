@@ -4,7 +4,7 @@ use Rattle.swc_tokens.specs.Numbers.{is_digit}
 use Rattle.swc_tokens.proofs.Numbers.{StartsNumber_digit, StartsNumber_dot}
 use Rattle.swc_tokens.proofs.reader.Reader.is_number_next.Goals as goal
 
--- a dot, and a digit behind it
+-- a dot, and a digit after it
 pub returns-in-Some-peek_second : goal.returns-in-Some-peek_second
 returns-in-Some-peek_second c = λ is.
     let here : slice_get c.args.self.now.text.now c.args.self.now.at ≡ Some 46 = cc in

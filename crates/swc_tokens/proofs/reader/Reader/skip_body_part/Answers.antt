@@ -2,7 +2,7 @@ use Rattle.std.proofs.Common.{◌∙◌, Some, ap}
 use Rattle.swc_tokens.proofs.Regexps.{IsPart_escape, IsPart_plain}
 use Rattle.swc_tokens.proofs.reader.Reader.skip_body_part.Goals as goal
 
--- a backslash, and the byte behind it
+-- a backslash, and the byte after it
 pub returns-then-byte-eq92-clause-part : goal.returns-then-byte-eq92-clause-part
 returns-then-byte-eq92-clause-part c =
     let here = c.in_ok-byte.ensures.there ∙ ap Some c.if-byte-eq92.true in

@@ -1,0 +1,90 @@
+// Calls that read properties, and make objects of them.
+use crate::parsing::{TestExpr, TestParser, TestPat};
+use crate::shown::{NO_MEMORY, show, show_refusal};
+use crate::tokens::span_of;
+use crate::trees::push_prop;
+use std::alloc::{AllocError, Global};
+use std::mem::forget;
+use swc_ast::prop::PropOrSpread;
+use swc_bodies::token_body::TokenBody;
+use swc_context::span::{BytePos, Span};
+use swc_ecma_parser::parser::object::ParseObject;
+use swc_trees::letting_go::{let_go_pat_props, let_go_props};
+
+type Prop = PropOrSpread<TokenBody, TokenBody, TokenBody>;
+
+/// Where an object is made.
+const START: Span = Span {
+    lo: BytePos(0),
+    hi: BytePos(0),
+};
+
+/// Makes an object literal of no properties at the start of the text, with a comma at the place, or none.
+pub(crate) fn make_object(
+    parser: &mut TestParser,
+    out: &mut String,
+    trailing_comma: Option<Span>,
+) -> Result<(), AllocError> {
+    let none = Vec::new(*out.allocator());
+    show(
+        out,
+        ParseObject::<Box<TestExpr>>::make_object(parser, START, none, trailing_comma),
+    )
+}
+
+/// Reads a property of an object literal, and makes the literal of it alone at the start of the text.
+pub(crate) fn make_literal(parser: &mut TestParser, out: &mut String) -> Result<(), AllocError> {
+    match ParseObject::<Box<TestExpr>>::parse_object_prop(parser) {
+        Ok(prop) => match only_prop(*out.allocator(), prop) {
+            Some(props) => show(
+                out,
+                ParseObject::<Box<TestExpr>>::make_object(parser, START, props, None),
+            ),
+            None => out.push_str(NO_MEMORY),
+        },
+        Err(fault) => show_refusal(out, fault),
+    }
+}
+
+/// A list of the property alone, or nothing if there is no memory: then the property is forgotten, so that no tree is
+/// dropped here.
+fn only_prop(alloc: Global, prop: Prop) -> Option<Vec<Prop>> {
+    let mut props = Vec::new(alloc);
+    let pushed = props.push(prop);
+    let is_pushed = pushed.is_ok();
+    forget(pushed);
+    if is_pushed {
+        return Some(props);
+    }
+    let_go_props(props);
+    None
+}
+
+/// Makes an object pattern at the start of the text, of as many properties as are said, which the parser reads one after
+/// the other, with a comma at the place that is said after the number, or none.
+pub(crate) fn make_pattern(
+    parser: &mut TestParser,
+    out: &mut String,
+    said: &str,
+) -> Result<(), AllocError> {
+    let (count, at) = said.split_once(' ').unwrap_or((said, ""));
+    let mut props = Vec::new(*out.allocator());
+    for _ in 0..count.parse::<u32>().unwrap_or(0) {
+        match ParseObject::<TestPat>::parse_object_prop(parser) {
+            Ok(prop) => {
+                if !push_prop(&mut props, prop) {
+                    let_go_pat_props(props);
+                    return out.push_str(NO_MEMORY);
+                }
+            }
+            Err(fault) => {
+                let_go_pat_props(props);
+                return show_refusal(out, fault);
+            }
+        }
+    }
+    show(
+        out,
+        ParseObject::<TestPat>::make_object(parser, START, props, span_of(at)),
+    )
+}

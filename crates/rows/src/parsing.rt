@@ -1,0 +1,115 @@
+// Parsers, and rows of their calls.
+use crate::calls::{call, show_left};
+use crate::hooks::TestBodies;
+use crate::numbered::by_number;
+use crate::row::{Row, show_unread};
+use crate::settings::input_of;
+use crate::shown::{begin_part, show_faults};
+use crate::source::TestInput;
+use std::alloc::{AllocError, Global};
+use swc_ast::expr::Expr;
+use swc_ast::pat::Pat;
+use swc_bodies::token_body::TokenBody;
+use swc_ecma_parser::parser::Parser;
+use swc_input::capturing::Capturing;
+use swc_nodes::nodes::Nodes;
+
+/// The parser of all rows: so nothing is generic over sources and hooks.
+pub(crate) type TestParser = Parser<Capturing<TestInput>, TestBodies>;
+
+pub(crate) type TestNodes = Nodes<TokenBody, TokenBody, TokenBody>;
+
+pub(crate) type TestExpr = Expr<TokenBody, TokenBody, TokenBody>;
+
+pub(crate) type TestPat = Pat<TokenBody, TokenBody, TokenBody>;
+
+/// How a row is run: as it is written, or with calls by number, and in a pedantic syntax or not.
+#[derive(Clone, Copy)]
+pub(crate) struct How {
+    pub(crate) by_number: bool,
+    pub(crate) is_pedantic: bool,
+}
+
+impl How {
+    pub(crate) const PLAIN: How = How {
+        by_number: false,
+        is_pedantic: false,
+    };
+}
+
+/// A parser of the source, which keeps its tokens.
+pub(crate) fn parser_over(alloc: Global, source: TestInput, hook: TestBodies) -> TestParser {
+    Parser::new_from(alloc, Capturing::new(alloc, source), hook)
+}
+
+/// A parser of the row's text, in its setting.
+pub(crate) fn parser_of(alloc: Global, row: Row<'_>, is_pedantic: bool) -> Option<TestParser> {
+    let source = input_of(alloc, row, is_pedantic)?;
+    Some(parser_over(alloc, source, TestBodies::of_setting(alloc, row.setting)))
+}
+
+/// Writes what the row's calls answer; after a bar the faults that are recorded, if there are any; and after another
+/// one the place of the first token that is left, if one is.
+pub(crate) fn show_parsed(
+    alloc: Global,
+    out: &mut String,
+    row: Row<'_>,
+    how: How,
+) -> Result<(), AllocError> {
+    match parser_of(alloc, row, how.is_pedantic) {
+        Some(parser) => run(alloc, out, parser, row, how),
+        None => show_unread(out, "no such setting, or no tokens"),
+    }
+}
+
+/// Makes the row's calls. `next_parser` among them stands for another parser over the same buffer.
+fn run(
+    alloc: Global,
+    out: &mut String,
+    mut parser: TestParser,
+    row: Row<'_>,
+    how: How,
+) -> Result<(), AllocError> {
+    match row.calls.split_once("; next_parser; ") {
+        Some((first, others)) => {
+            make_each(out, &mut parser, first, how)?;
+            let (buffer, nodes, hook) = parser.into_parts();
+            write!(out, "; {}; ", nodes.len())?;
+            let mut next = Parser::over(alloc, buffer, hook);
+            make_each(out, &mut next, others, how)?;
+            show_rest(out, &mut next)
+        }
+        None => {
+            make_each(out, &mut parser, row.calls, how)?;
+            show_rest(out, &mut parser)
+        }
+    }
+}
+
+/// Makes the calls, and writes what each answers.
+pub(crate) fn make_each(
+    out: &mut String,
+    parser: &mut TestParser,
+    calls: &str,
+    how: How,
+) -> Result<(), AllocError> {
+    for (at, name) in calls.split("; ").enumerate() {
+        begin_part(out, at, "; ")?;
+        call(
+            parser,
+            out,
+            if how.by_number { by_number(name) } else { name },
+        )?;
+    }
+    Ok(())
+}
+
+/// Writes the faults that were recorded, and the place of the first token that is left.
+fn show_rest(out: &mut String, parser: &mut TestParser) -> Result<(), AllocError> {
+    let faults = parser.take_errors();
+    if !faults.is_empty() {
+        out.push_str(" | ")?;
+        show_faults(out, &faults)?;
+    }
+    show_left(out, parser)
+}

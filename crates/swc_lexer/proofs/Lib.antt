@@ -1,0 +1,4 @@
+pub mod Stacks
+pub mod Readings
+pub mod Sums
+pub mod Slashes

@@ -1,0 +1,9 @@
+pub mod Marks
+pub mod Places
+pub mod Stacks
+pub mod Signs
+pub mod Tokens
+pub mod Readings
+pub mod Coming
+pub mod Inputs
+pub mod Reads

@@ -1,0 +1,11 @@
+//! The tokens of the parser, made of the lexemes of a text.
+#![tactic(auto)]
+
+pub mod input;
+pub mod mark;
+pub mod place;
+pub mod read;
+pub mod reader;
+pub mod sign;
+pub mod stack;
+pub mod token;

@@ -1,0 +1,372 @@
+//! Reading a text, token by token.
+ghost use Rattle.std.specs.Prelude.{◌≡◌, ◌+◌, ◌≤◌, ◌<◌, ◌^◌, length, drop, false, IfOk, IfSome, OnErr};
+ghost use Rattle.swc_lexer.specs.Readings as readings;
+ghost use Rattle.swc_lexer.specs.Stacks as stacks;
+ghost use Rattle.swc_lexical.specs.Scans as scans;
+ghost use Rattle.swc_lexical.specs.Templates as templates;
+
+use crate::mark::mark_of;
+use crate::place::{Kind, is_asking, is_dot};
+use crate::stack::{Stack, Start};
+use crate::token::token;
+use std::alloc::{AllocError, Global};
+use swc_context::context::Context;
+use swc_context::error::{Error, SyntaxError};
+use swc_context::span::{BytePos, Span};
+use swc_input::token::{Token, TokenAndSpan};
+use swc_lexical::blank::{blanks_len, has_break, hashbang_len};
+use swc_lexical::bytes::{first_char, is_at};
+use swc_lexical::lexeme::Kind as Lexical;
+use swc_lexical::scan::{Goal, Piece, piece_at};
+
+/// The length of the longest text that can be read, in bytes.
+pub const MAX_LEN: usize = 4_294_967_295;
+
+/// Where a text ends.
+#[derive(Clone, Copy)]
+pub enum End {
+    /// At its end.
+    Whole,
+    /// Before a `}` whose `{` isn't in the text, or at its end.
+    BeforeBrace,
+}
+
+/// What comes next in a text.
+#[derive(Clone, Copy)]
+pub enum Here {
+    /// Nothing.
+    Over,
+    /// Something that is no token.
+    Fault,
+    /// A token.
+    Piece(Piece),
+}
+
+/// Whether the character at the place, of a text in UTF-8, begins there; also at the end.
+fn is_edge(text: &[u8], at: usize) -> bool
+    ensures { result ≡ readings.is_edge text.now at }
+{
+    match text.get(at) {
+        Some(byte) => *byte < 128 || 192 <= *byte,
+        None => at == text.len(),
+    }
+}
+
+/// The text from the place on.
+#[tactic(auto, using(crate::proofs::Readings::cut_is))]
+fn rest_from(text: &[u8], at: usize) -> &[u8]
+    requires { at ≤ length text.now }
+    ensures { result.now ≡ drop at text.now }
+{
+    &text[at..]
+}
+
+/// Whether the token takes some of the text, or is the text of a template, which may be empty.
+fn moves(piece: Piece) -> bool
+    ensures { result ≡ readings.moves piece }
+{
+    0 < piece.len || matches!(piece.goal, Goal::Text)
+}
+
+/// Whether the token is a dot with blanks before it, where a `?` is before them: `?.` is written without.
+fn gapes(asks: bool, piece: Piece, rest: &[u8]) -> bool
+    ensures { result ≡ scans.gapes asks piece rest.now }
+{
+    let is_sign = matches!(piece.kind, Lexical::Sign);
+    asks && 0 < piece.blanks && is_sign && piece.len == 1 && is_at(rest, piece.blanks, b'.')
+}
+
+/// Whether nothing but blanks is left, or the `}` before which the text ends.
+fn is_over(end: End, stack: &Stack, goal: Goal, rest: &[u8]) -> bool
+    ensures { result ≡ readings.is_over end (stacks.state_of stack.now) goal rest.now }
+{
+    match goal {
+        Goal::Text | Goal::Delimiter => false,
+        _ => {
+            let blanks = blanks_len(rest);
+            match end {
+                End::Whole => blanks == rest.len(),
+                End::BeforeBrace => {
+                    blanks == rest.len() || is_at(rest, blanks, b'}') && !stack.has_brace()
+                }
+            }
+        }
+    }
+}
+
+/// The token that is here, by the goal, or a fault.
+fn piece_here(goal: Goal, asks: bool, rest: &[u8]) -> Here
+    ensures value { result ≡ readings.piece_here goal asks rest.now }
+    ensures within { readings.IsWithin result (length rest.now) }
+    ensures goal { readings.HasGoal result goal }
+{
+    match piece_at(goal, rest) {
+        None => Here::Fault,
+        Some(piece) => {
+            if moves(piece) && !gapes(asks, piece, rest) {
+                Here::Piece(piece)
+            } else {
+                Here::Fault
+            }
+        }
+    }
+}
+
+/// Which goal of the lexical grammar comes next.
+fn goal_here(stack: &Stack, rest: &[u8]) -> Goal
+    ensures { result ≡ readings.goal_here (stacks.state_of stack.now) rest.now }
+{
+    stack.goal(has_break(rest, blanks_len(rest)))
+}
+
+/// What comes next.
+fn what_comes(end: End, stack: &Stack, rest: &[u8]) -> Here
+    ensures value { result ≡ readings.what_comes end (stacks.state_of stack.now) rest.now }
+    ensures within { readings.IsWithin result (length rest.now) }
+    ensures goal { readings.HasGoal result (readings.goal_here (stacks.state_of stack.now) rest.now) }
+{
+    let goal = goal_here(stack, rest);
+    if is_over(end, stack, goal, rest) {
+        return Here::Over;
+    }
+    piece_here(goal, is_asking(stack.place()), rest)
+}
+
+/// How many bytes the character takes that is here.
+fn char_len(rest: &[u8]) -> usize
+    ensures value { result ≡ readings.char_len rest.now }
+    ensures within { result ≤ length rest.now }
+{
+    match first_char(rest) {
+        Some((_, len)) => len,
+        None => 0,
+    }
+}
+
+/// How far after the place a fault begins, by the goal: after blanks.
+fn fault_offset(goal: Goal, rest: &[u8]) -> usize
+    ensures value { result ≡ readings.fault_offset goal rest.now }
+    ensures within { result ≤ length rest.now }
+{
+    match goal {
+        Goal::Text | Goal::Delimiter => 0,
+        _ => blanks_len(rest),
+    }
+}
+
+/// The token of a fault between two places.
+fn fault_token(lo: usize, hi: usize) -> TokenAndSpan
+    requires lo { lo < 2 ^ 32 }
+    requires hi { hi < 2 ^ 32 }
+    ensures { result ≡ readings.fault_token lo hi }
+{
+    let span = Span {
+        lo: BytePos(lo as u32),
+        hi: BytePos(hi as u32),
+    };
+    TokenAndSpan {
+        token: Token::Error(Error::new(span, SyntaxError::Lex)),
+        had_line_break: false,
+        span,
+    }
+}
+
+/// The fault of the character at the place.
+fn fault_at(text: &[u8], at: usize) -> TokenAndSpan
+    requires small { length text.now < 2 ^ 32 }
+    requires within { at ≤ length text.now }
+    ensures { result ≡ readings.fault_at text.now at }
+{
+    fault_token(at, at + char_len(rest_from(text, at)))
+}
+
+/// The fault of what comes next, which is no token: where it begins. A template that isn't closed begins before its
+/// text.
+fn fault_here(goal: Goal, text: &[u8], at: usize) -> TokenAndSpan
+    requires small { length text.now < 2 ^ 32 }
+    requires within { at ≤ length text.now }
+    ensures { result ≡ readings.fault_here goal text.now at }
+{
+    match goal {
+        Goal::Text => fault_at(text, at.saturating_sub(1)),
+        _ => fault_at(text, at + fault_offset(goal, rest_from(text, at))),
+    }
+}
+
+/// The token of a piece, whose blanks begin at the place; none where it is none.
+fn one(
+    alloc: Global,
+    named: bool,
+    at: usize,
+    piece: Piece,
+    text: &str,
+) -> Result<Option<TokenAndSpan>, AllocError>
+    requires small { length text.now < 2 ^ 32 }
+    requires within { at + piece.blanks + piece.len ≤ length text.now }
+    ensures { IfOk result (λ o. o ≡ readings.one_of named at piece text.now) }
+{
+    let lo = at + piece.blanks;
+    let hi = lo + piece.len;
+    if !is_edge(text.as_bytes(), lo) || !is_edge(text.as_bytes(), hi) {
+        return Ok(None);
+    }
+    let found = token(alloc, named, piece.kind, lo, &text[lo..hi])?;
+    match found {
+        None => Ok(None),
+        Some(token) => Ok(Some(TokenAndSpan {
+            token,
+            had_line_break: has_break(rest_from(text.as_bytes(), at), piece.blanks),
+            span: Span {
+                lo: BytePos(lo as u32),
+                hi: BytePos(hi as u32),
+            },
+        })),
+    }
+}
+
+/// Which words are operators where a text begins: those of the function around it, and `await` in a module.
+pub fn kind_in(context: Context) -> Kind
+    ensures { result ≡ readings.kind_in context }
+{
+    Kind {
+        awaits: context.in_async || context.module,
+        yields: context.in_generator,
+    }
+}
+
+/// How far a text was read.
+#[derive(Drop)]
+pub struct Reader {
+    at: usize,
+    stack: Stack,
+    ended: bool,
+}
+
+impl Reader {
+    /// A reader at the place in a text, after a hashbang at its beginning. Takes no memory.
+    pub fn new(alloc: Global, text: &[u8], at: usize, start: Start, kind: Kind) -> Reader
+        requires { at ≤ length text.now }
+        ensures value { readings.reading_of result ≡ readings.first text.now at start kind }
+        ensures within { result.at ≤ length text.now }
+    {
+        let begin = if at == 0 { hashbang_len(text) } else { at };
+        Reader {
+            at: begin,
+            stack: Stack::new(alloc, start, kind),
+            ended: false,
+        }
+    }
+
+    /// How far the text was read, in bytes.
+    pub fn at(&self) -> usize
+        ensures { result ≡ self.now.at }
+    {
+        self.at
+    }
+
+    /// Gives a fault, after which nothing comes.
+    fn give_fault(&mut self, fault: TokenAndSpan) -> TokenAndSpan
+        ensures given { result ≡ fault }
+        ensures ended { readings.reading_of self.new ≡ readings.ended (readings.reading_of self.old) }
+        ensures at { self.new.at ≡ self.old.at }
+    {
+        self.ended = true;
+        fault
+    }
+
+    /// Gives the token of the piece that comes next, or a fault.
+    fn give(&mut self, alloc: Global, text: &str, piece: Piece) -> Result<TokenAndSpan, AllocError>
+        requires small { length text.now < 2 ^ 32 }
+        requires within { self.old.at + piece.blanks + piece.len ≤ length text.now }
+        ensures given { IfOk result
+            (λ t. (t, readings.reading_of self.new) ≡ readings.given text.now (readings.reading_of self.old) piece) }
+        ensures within { self.new.at ≤ length text.now }
+        ensures unchanged { OnErr result (readings.reading_of self.new ≡ readings.reading_of self.old) }
+    {
+        let named = is_dot(self.stack.place());
+        match one(alloc, named, self.at, piece, text)? {
+            None => {
+                let fault = fault_at(text.as_bytes(), self.at + piece.blanks);
+                Ok(self.give_fault(fault))
+            }
+            Some(token) => {
+                let adjoins = piece.blanks == 0;
+                self.stack
+                    .pass(mark_of(&token.token), adjoins, token.had_line_break)?;
+                self.at = self.at + piece.blanks + piece.len;
+                Ok(token)
+            }
+        }
+    }
+
+    /// Gives the fault that comes next.
+    fn give_what_is_no_token(&mut self, text: &[u8]) -> TokenAndSpan
+        requires small { length text.now < 2 ^ 32 }
+        requires within { self.old.at ≤ length text.now }
+        ensures given { (result, readings.reading_of self.new)
+            ≡ readings.given_fault text.now (readings.reading_of self.old) }
+        ensures at { self.new.at ≡ self.old.at }
+    {
+        let goal = goal_here(&self.stack, rest_from(text, self.at));
+        let fault = fault_here(goal, text, self.at);
+        self.give_fault(fault)
+    }
+
+    /// The next token of a text that isn't too long, and not ended.
+    #[tactic(auto, using(crate::proofs::Readings::gives_piece, crate::proofs::Readings::gives_fault, crate::proofs::Readings::gives_over))]
+    fn next_in(
+        &mut self,
+        alloc: Global,
+        end: End,
+        text: &str,
+    ) -> Result<Option<TokenAndSpan>, AllocError>
+        requires small { length text.now < 2 ^ 32 }
+        requires within { self.old.at ≤ length text.now }
+        requires runs { self.old.ended ≡ false }
+        ensures given { IfOk result
+            (λ o. readings.Gives end text.now (readings.reading_of self.old) o (readings.reading_of self.new)) }
+        ensures within { self.new.at ≤ length text.now }
+        ensures unchanged { OnErr result (readings.reading_of self.new ≡ readings.reading_of self.old) }
+    {
+        let bytes = text.as_bytes();
+        let rest = rest_from(bytes, self.at);
+        match what_comes(end, &self.stack, rest) {
+            Here::Over => {
+                self.ended = true;
+                Ok(None)
+            }
+            Here::Fault => {
+                let fault = self.give_what_is_no_token(bytes);
+                Ok(Some(fault))
+            }
+            Here::Piece(piece) => {
+                let token = self.give(alloc, text, piece)?;
+                Ok(Some(token))
+            }
+        }
+    }
+
+    /// The next token of the text; none at its end. A fault is a token too, the last one. The only error is out of
+    /// memory, and then nothing changes.
+    #[tactic(auto, using(crate::proofs::Readings::gives_none, crate::proofs::Readings::gives_long))]
+    pub fn next(
+        &mut self,
+        alloc: Global,
+        end: End,
+        text: &str,
+    ) -> Result<Option<TokenAndSpan>, AllocError>
+        requires { self.old.at ≤ length text.now }
+        ensures given { IfOk result
+            (λ o. readings.Gives end text.now (readings.reading_of self.old) o (readings.reading_of self.new)) }
+        ensures within { self.new.at ≤ length text.now }
+        ensures unchanged { OnErr result (readings.reading_of self.new ≡ readings.reading_of self.old) }
+    {
+        if self.ended {
+            return Ok(None);
+        }
+        if text.len() > MAX_LEN {
+            return Ok(Some(self.give_fault(fault_token(0, 0))));
+        }
+        self.next_in(alloc, end, text)
+    }
+}

@@ -1,0 +1,5 @@
+pub mod Runs
+pub mod Chars
+pub mod Rows
+pub mod Escapes
+pub mod Meanings

@@ -1,0 +1,43 @@
+#!/usr/bin/env python3
+"""Prints the table of docs/GATE.md from what .ci/run printed.
+
+    tests/gate_table.py LOG
+
+A row has a crate, how many functions of it were proved, its processor seconds (proof, library, tests, compilers), and those of its must-fail edits.
+"""
+import re
+import sys
+
+
+def rows_of(log):
+    """The functions, the seconds and the seconds of edits of each crate, by its name, in the order in which they were proved."""
+    functions, rows = {}, {}
+    for part in re.split(r'^== ', log, flags=re.M)[1:]:
+        proved = re.search(r'^logic=proved functions=(\d+)', part, re.M)
+        name = re.match(r'\w+', part)[0]
+        functions[name] = functions.get(name, 0) + int(proved[1] if proved else 0)
+    for name, whole, edits in re.findall(r'^seconds (\w+) (\d+) (\d+)$', log, re.M):
+        rows[name] = functions.get(name, 0), int(whole), int(edits)
+    return {name: rows[name] for name in [*functions, *rows] if name in rows}
+
+
+def minutes(text):
+    """The seconds of times as the shell prints them, `1m2.5s 0m3s`."""
+    return sum(60 * int(minute) + float(second) for minute, second in re.findall(r'(\d+)m([\d.]+)s', text))
+
+
+def main():
+    with open(sys.argv[1], encoding='utf-8', errors='replace') as file:
+        log = file.read()
+    rows = rows_of(log)
+    print('| crate | functions | seconds | edits |\n|---|---|---|---|')
+    for name, (count, whole, edits) in rows.items():
+        print('| `%s` | %d | %d | %s |' % (name, count, whole, edits or ''))
+    print('| all | %d | %d | %d |' % tuple(map(sum, zip(*rows.values()))))
+    took = re.search(r'^the gate took (\d+) seconds.*: (.*)$', log, re.M)
+    if took:
+        print('\nThe whole run: %d processor seconds, %d minutes on the clock.' % (minutes(took[2]), int(took[1]) // 60))
+
+
+if __name__ == '__main__':
+    main()

@@ -1,0 +1,243 @@
+#!/usr/bin/env python3
+"""Tries the wrong bodies of tests/wrong, each of which the prover must refuse, and writes tests/wrong/RESULTS.md.
+
+    tests/wrong_bodies.py [--libs FOLDER] [--jobs N] [CRATE | CRATE/EDIT ..]     none: all
+
+They are tried by hand: the gate tries those of crates/NAME/must-fail alone. An edit is made in a copy of its crate. What is checked then is the
+function that it changes, over the proved libraries below and what earlier checks of the crate kept; and where that isn't refused, the whole crate. So
+an edit mostly takes as long as the proof of one function. N edits are tried at a time, by default one a processor.
+
+Without --libs, `rt lib` first proves of each crate, and of those below it, what has changed. FOLDER has other libraries of the same sources, as
+NAME.rlib, and as kept/NAME what their checks kept; it is only read.
+
+Prints a line an edit. Status 0 if each was refused.
+"""
+import argparse
+import datetime
+import os
+import re
+import shutil
+import subprocess
+import sys
+import tempfile
+from concurrent.futures import ThreadPoolExecutor
+from pathlib import Path
+from threading import Lock
+
+TOP = Path(__file__).parent.parent
+FOLDER = TOP / 'tests/wrong'
+RESULTS = FOLDER / 'RESULTS.md'
+HEAD = """# Wrong bodies, and when each was last refused
+
+Written by tests/wrong_bodies.py; README.md says how to read it. An edit without a day wasn't refused yet.
+"""
+COLUMNS = '| edit | clause | last refused | remark |\n|---|---|---|---|\n'
+ROW = re.compile(r'\| `(\w+)` \| .* \| ([-\d]*) \| (.*) \|$')
+# How many edits are tried in one copy of a crate.
+CHUNK = 8
+# The first line of a function, after its blanks, and the head of an impl.
+FUNCTION = re.compile(r'^ *(?:pub(?:\([\w ]+\))? )?(?:const )?fn (\w+)', re.M)
+IMPL = re.compile(r'^impl\b(?:<[^{]*?>(?= ))? *(?:([\w:]+)(?:<[^{]*?>)? for )?([\w:]+)', re.M)
+# A line of a proof file that names what the edit took away, or that cites such a proof.
+NAMES = re.compile(r'(\./)?proofs/.*(has no field|is not in scope|has no `|was not admitted)')
+# A line that says that the text of a clause or of the edited file can't be read.
+UNREAD = re.compile(r'is not in scope|has no field|is no name|operand is missing|expected the end|cannot continue')
+
+# A line that has a place.
+PLACED = re.compile(r'(note: )?(\./)?\S+:\d+:\d+:')
+
+
+class BadEdit(Exception):
+    pass
+
+
+def edited(text, crate):
+    """The texts of the files that an edit changes, by their paths, and the functions that it changes, or none where it changes other things."""
+    texts, functions, path, old = {}, [], '', ''
+    for line in text.splitlines():
+        word, _, rest = line.partition(': ')
+        if word == 'file':
+            path = rest.strip()
+            texts.setdefault(path, (crate / path).read_text(encoding='utf-8'))
+        elif word == 'old':
+            old = rest
+        elif word in ('new', 'new:'):
+            if texts[path].count(old) != 1:
+                raise BadEdit('its old text is in %s %d times' % (path, texts[path].count(old)))
+            functions.append(function_at(texts[path], texts[path].index(old)) if path.startswith('src/') else None)
+            texts[path] = texts[path].replace(old, rest)
+    return texts, [] if None in functions else functions
+
+
+def function_at(text, place):
+    """The function round a place, with the type of its impl, or none where a macro or nothing is round it."""
+    line_end = text.find('\n', place)
+    heads = [*FUNCTION.finditer(text, 0, line_end)]
+    if not heads or '\n}' in text[heads[-1].end():place] or re.search(r'^macro_rules!(?!.*\n})', text[:place], re.M | re.S):
+        return None
+    name = heads[-1][1]
+    impls = [*IMPL.finditer(text, 0, heads[-1].start())]
+    if not heads[-1][0].startswith(' ') or not impls:
+        return name
+    trait, owner = (part.rpartition('::')[2] if part else '' for part in impls[-1].groups())
+    return '%s::%s' % (owner + trait, name)
+
+
+class Libraries:
+    """Where the proved libraries are, and what checks of the crates kept."""
+
+    def __init__(self, folder):
+        self.folder = folder
+        self.kit = Path(subprocess.run(['rt', 'doc'], capture_output=True, text=True, check=True).stdout).parent
+        lines = (line.partition(':')[::2] for line in (TOP / 'crates.txt').read_text().splitlines() if ':' in line)
+        self.below = {head.split()[0]: names.split() for head, names in lines}
+
+    def build(self, crate):
+        """Proves what has changed of a crate and of those below it."""
+        words = [] if self.folder else ['lib'] if self.kept(crate).is_dir() else ['lib', 'check']
+        for word in words:
+            subprocess.run(['rt', word], cwd=TOP / 'crates' / crate, check=True, stdout=subprocess.DEVNULL)
+
+    def library(self, name):
+        return self.folder / (name + '.rlib') if self.folder else TOP / 'crates' / name / 'out/rlib' / (name + '.rlib')
+
+    def kept(self, crate):
+        return self.folder / 'kept' / crate if self.folder else TOP / 'crates' / crate / 'out/incremental'
+
+    def command(self, crate, kept):
+        words = [self.kit / 'bin/rattle', 'check', '--crate-name', crate, 'src/lib.rt', '--extern', 'std=%s/rlibs/std.rlib' % self.kit]
+        folders = {self.library(name).parent for name in self.below} | {self.kit / 'rlibs'}
+        words += [word for folder in folders for word in ('-L', 'dependency=%s' % folder)]
+        for name in self.below[crate]:
+            path = self.library(name) if name in self.below else self.kit / 'rlibs' / (name + '.rlib')
+            words += ['--extern', '%s=%s' % (name, path)]
+        words += ['--antt-project', self.kit / 'rattle/logic/antt-project.json', '--logic-built', self.kit / 'logic_built']
+        return words + ['--jobs', '1', '--incremental', kept]
+
+
+def try_edits(libraries, crate, names):
+    """What is said of each edit, and the first line that a check has on it."""
+    with tempfile.TemporaryDirectory(prefix='wrong-') as room:
+        copy, kept = Path(room, crate), Path(room, 'kept')
+        for part in ('src', 'specs', 'proofs'):
+            if (TOP / 'crates' / crate / part).is_dir():
+                shutil.copytree(TOP / 'crates' / crate / part, copy / part)
+        shutil.copytree(libraries.kept(crate), kept)
+        for name in names:
+            yield name, *try_edit(libraries.command(crate, kept), copy, FOLDER / crate / (name + '.edit'))
+
+
+def try_edit(command, crate, edit):
+    try:
+        texts, functions = edited(edit.read_text(encoding='utf-8'), crate)
+    except (BadEdit, OSError) as error:
+        return 'BAD EDIT', str(error)
+    before = {path: (crate / path).read_text(encoding='utf-8') for path in texts}
+    try:
+        write(crate, texts)
+        only = [word for name in functions for word in ('--only', name)]
+        said, why = check(command + only, crate, texts) if only else ('', '')
+        return (said, why) if said.startswith('refused') else check(command, crate, texts)
+    finally:
+        write(crate, before)
+
+
+def write(crate, texts):
+    for path, text in texts.items():
+        (crate / path).write_text(text, encoding='utf-8')
+
+
+def check(command, crate, texts):
+    """What a check says of the crate as it is now, and its first line that says why."""
+    ran = subprocess.run(command, cwd=crate, stdin=subprocess.DEVNULL, stdout=subprocess.PIPE, stderr=subprocess.STDOUT, errors='replace')
+    lines = ran.stdout.rstrip('\n').split('\n')
+    if ran.returncode == 0:
+        return 'NOT REFUSED', ''
+    if ran.returncode == 3:
+        return 'refused by a limit of the prover alone', lines[-1]
+    if ran.returncode != 1 or not lines[-1].startswith(('logic=not-proved', 'only=')):
+        return 'BAD EDIT', 'it did not reach the prover: ' + lines[0]
+    told = [line for line in lines if PLACED.match(line) and ('error' in line or line.startswith('note: '))]
+    unread = [line for line in told if line.startswith(('src/', 'specs/', *texts)) and UNREAD.search(re.sub('`[^`]*`', '', line))]
+    if unread:
+        return 'BAD EDIT', 'it cannot be read: ' + unread[0]
+    whys = [line for line in told if not NAMES.match(line)]
+    return ('refused', (whys or lines)[0]) if whys or not told else ('refused for a name in a proof file alone', told[0])
+
+
+def clause_of(crate, name):
+    """The clause that the edit names, as a table shows it."""
+    lines = (FOLDER / crate / (name + '.edit')).read_text(encoding='utf-8').splitlines()
+    named = [line.removeprefix('# clause: ') for line in lines if line.startswith('# clause: ')]
+    return named[0].replace('|', '\\|') if named else 'it names none'
+
+
+def edits():
+    """The names of the edits, by their crates."""
+    crates = sorted(it for it in FOLDER.iterdir() if it.is_dir())
+    return {crate.name: sorted(it.stem for it in crate.glob('*.edit')) for crate in crates}
+
+
+def results():
+    """The day and the remark of each row in the table."""
+    rows, crate = {}, ''
+    for line in RESULTS.read_text(encoding='utf-8').splitlines() if RESULTS.exists() else []:
+        row = ROW.match(line)
+        if line.startswith('## '):
+            crate = line.removeprefix('## ')
+        elif row:
+            rows[crate, row[1]] = row[2], row[3].strip()
+    return rows
+
+
+def record(crate, name, said):
+    """Writes RESULTS.md with what was said of one more edit."""
+    rows, today = results(), datetime.date.today().isoformat()
+    is_refused = said.startswith('refused')
+    day = today if is_refused else rows.get((crate, name), ('', ''))[0]
+    rows[crate, name] = day, said.removeprefix('refused').strip() and said + ('' if is_refused else ' on ' + today)
+    write_results(rows)
+
+
+def write_results(rows):
+    parts = [HEAD]
+    for crate, names in edits().items():
+        lines = ['| `%s` | %s | %s |\n' % (it, clause_of(crate, it), ' | '.join(rows.get((crate, it), ('', '')))) for it in names]
+        parts.append('\n## %s\n\n%s' % (crate, COLUMNS) + ''.join(lines))
+    RESULTS.write_text(''.join(parts), encoding='utf-8')
+
+
+def chunks_of(wanted):
+    """The edits that are named, or all: each crate, and some of its edits."""
+    for crate, names in edits().items():
+        names = [it for it in names if not wanted or crate in wanted or '%s/%s' % (crate, it) in wanted]
+        yield from ((crate, names[at:at + CHUNK]) for at in range(0, len(names), CHUNK))
+
+
+def main():
+    parser = argparse.ArgumentParser(usage=__doc__)
+    parser.add_argument('--libs', type=Path)
+    parser.add_argument('--jobs', type=int, default=os.cpu_count())
+    parser.add_argument('wanted', nargs='*')
+    given = parser.parse_args()
+    libraries, writing = Libraries(given.libs and given.libs.resolve()), Lock()
+
+    def count_wrong(chunk):
+        """Tries some edits of a crate, and counts those that weren't refused."""
+        wrong = 0
+        for name, said, why in try_edits(libraries, *chunk):
+            with writing:
+                print('%s/%s: %s: %s' % (chunk[0], name, said, why[:160]), flush=True)
+                record(chunk[0], name, said)
+            wrong += not said.startswith('refused')
+        return wrong
+
+    chunks = [*chunks_of(given.wanted)]
+    for crate in dict.fromkeys(crate for crate, _ in chunks):
+        libraries.build(crate)
+    with ThreadPoolExecutor(given.jobs) as pool:
+        return min(1, sum(pool.map(count_wrong, chunks)))
+
+
+if __name__ == '__main__':
+    sys.exit(main())
