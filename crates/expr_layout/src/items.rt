@@ -46,7 +46,7 @@ fn put_spread(pieces: &mut Pieces, item: &ExprOrSpread<ExprId>) -> Result<(), Al
     put_after(pieces, dots, item.expr.0)
 }
 
-/// Adds the elements of an array literal, in its brackets. After a hole at the end stands a comma of its own.
+/// Adds the elements of an array literal, in its brackets. After a hole at the end comes a comma of its own.
 pub fn put_array(
     pieces: &mut Pieces,
     elems: &[Option<ExprOrSpread<ExprId>>],
@@ -70,7 +70,7 @@ pub fn put_array(
     )
 }
 
-/// Adds the elements of an array pattern, in its brackets. After a hole at the end stands a comma of its own.
+/// Adds the elements of an array pattern, in its brackets. After a hole at the end comes a comma of its own.
 pub fn put_pat_array(pieces: &mut Pieces, elems: &[Option<PatId>]) -> Result<(), AllocError> {
     put(pieces, "[")?;
     for (index, elem) in elems.iter().enumerate() {

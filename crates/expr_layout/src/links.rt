@@ -9,7 +9,7 @@ use swc_ecma_parser::ast::expr::{
 use swc_ecma_parser::bodies::token_body::TokenBody;
 use swc_ecma_parser::nodes::node::{ExprId, PatId};
 
-/// Adds the pieces of a member. Before the dot after a number stands a blank.
+/// Adds the pieces of a member. Before the dot after a number comes a blank.
 pub fn put_member(
     pieces: &mut Pieces,
     member: &MemberExpr<ExprId>,

@@ -32,7 +32,7 @@ pub struct Name<'a> {
 type AnyNode = Node<TokenBody, TokenBody, TokenBody>;
 
 /// The names that an expression reads, writes and binds, in the order of the text. Not among them are keys and names
-/// after a dot, and what stands in functions, in classes and in blocks.
+/// after a dot, and what is in functions, in classes and in blocks.
 ///
 /// Each node tells its parts what is done with them, so it comes before them.
 pub fn names<'a>(

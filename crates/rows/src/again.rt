@@ -13,8 +13,8 @@ use swc_ecma_parser::replaying::{ReadTwice, read_again};
 use swc_input::tokens::Tokens;
 
 /// Whether the row is of an expression that is read whole, with no fault recorded: its answer begins with the tree, and
-/// has no bar. Not taken are rows of other hooks, of failing sources, of tokens that no text has, and of calls that read
-/// on.
+/// has no bar. Not taken are rows of other hooks, of failing sources, of tokens that no text has, and of calls that
+/// read on.
 pub(crate) fn is_whole_expr(row: Row<'_>, answer: &str) -> bool {
     let (call, others) = row.calls.split_once("; ").unwrap_or((row.calls, ""));
     let is_plain = !row.setting.contains("hook") && !row.setting.contains("failing");
@@ -35,8 +35,8 @@ fn reads_expr(call: &str) -> bool {
     )
 }
 
-/// Writes what is read of the row's text, and then what is read again of the tokens that were kept, if one of them isn't
-/// the tree.
+/// Writes what is read of the row's text, and then what is read again of the tokens that were kept, if one of them
+/// isn't the tree.
 pub(crate) fn show_again(
     alloc: Global,
     out: &mut String,
@@ -58,7 +58,8 @@ fn is_tree(text: &str, tree: &str) -> bool {
     text == tree || bare == tree
 }
 
-/// The source of a row, which gives each slash by itself, and a regular expression on the hint. A text with `%` has none.
+/// The source of a row, which gives each slash by itself, and a regular expression on the hint. A text with `%` has
+/// none.
 fn slashes_in(alloc: Global, row: Row<'_>) -> Option<TestInput> {
     if row.text.contains('%') {
         return input_of(alloc, row, false);

@@ -29,8 +29,8 @@ struct Texts {
     saw_all: bool,
 }
 
-/// How many lists of one length are read cleanly in both ways, how many of all in one way alone, and those that are read
-/// otherwise than they may be.
+/// How many lists of one length are read cleanly in both ways, how many of all in one way alone, and those that are
+/// read otherwise than they may be.
 #[derive(Drop)]
 struct Counts {
     both: u32,

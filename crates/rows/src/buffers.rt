@@ -30,8 +30,8 @@ use swc_print::print::Kept;
 
 type Tested = Buffer<TokensInput>;
 
-/// Writes what the calls of a buffer over the row's tokens answer; and after a bar the faults that are recorded, if there
-/// are any.
+/// Writes what the calls of a buffer over the row's tokens answer; and after a bar the faults that are recorded, if
+/// there are any.
 pub(crate) fn show_called(alloc: Global, out: &mut String, row: Row<'_>) -> Result<(), AllocError> {
     match list_of(alloc, row) {
         Some(list) => {

@@ -12,8 +12,9 @@ use swc_ecma_parser::nodes::node::ExprId;
 use swc_ecma_parser::printing::print::PrintNodes;
 use template_pieces::template::{Piece, Template, parse};
 
-/// Writes what the client of the name makes of the text: the names of an expression; its layout, and whether that is read
-/// as the same tree; its tree, where it begins at a place of a whole; the pieces of a template; the tree of a program.
+/// Writes what the client of the name makes of the text: the names of an expression; its layout, and whether that is
+/// read as the same tree; its tree, where it begins at a place of a whole; the pieces of a template; the tree of a
+/// program.
 pub(crate) fn show_made_of(
     alloc: Global,
     out: &mut String,

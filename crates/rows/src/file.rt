@@ -116,8 +116,8 @@ fn push_lines(out: &mut String, sign: &str, lines: &str) -> Result<(), AllocErro
     Ok(())
 }
 
-/// Writes each row of the file that is answered otherwise, after a `-`, and what it is now, after a `+`; and then how many
-/// lines with a bar there are, or how many programs. Answers whether all is as the file has it.
+/// Writes each row of the file that is answered otherwise, after a `-`, and what it is now, after a `+`; and then how
+/// many lines with a bar there are, or how many programs. Answers whether all is as the file has it.
 pub(crate) fn compare(rt: &HostRuntime, name: &str, text: &str) -> io::Result<bool> {
     let mut file = Comparison::new(rt.alloc());
     if text.starts_with(PROGRAM) {

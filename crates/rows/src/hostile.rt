@@ -66,8 +66,8 @@ pub(crate) fn show_hostile(
     write!(out, "{} runs{}", tally.runs, tally.wrong)
 }
 
-/// The call that reads what this one does, and answers the number of a node; for one on a part of an expression it reads
-/// an expression.
+/// The call that reads what this one does, and answers the number of a node; for one on a part of an expression it
+/// reads an expression.
 fn numbered(call: &str) -> &'static str {
     match call {
         "parse_pat" => "parse_pat_id",
@@ -196,8 +196,8 @@ fn hook_named(alloc: Global, name: &str) -> TestBodies {
     }
 }
 
-/// Makes the call, and answers what is wrong then. What is left isn't looked at where there are faults among the tokens,
-/// or where the source fails.
+/// Makes the call, and answers what is wrong then. What is left isn't looked at where there are faults among the
+/// tokens, or where the source fails.
 fn run(
     alloc: Global,
     parser: &mut TestParser,
@@ -288,8 +288,8 @@ fn first_of(
     Ok(out)
 }
 
-/// The tokens, with a fault in place of the one of this number; where there is none, each with the place of the one that
-/// is as far from the other end.
+/// The tokens, with a fault in place of the one of this number; where there is none, each with the place of the one
+/// that is as far from the other end.
 fn disordered(
     alloc: Global,
     tokens: &[TokenAndSpan],

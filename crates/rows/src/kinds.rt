@@ -98,8 +98,8 @@ fn show_words(out: &mut String, row: Row<'_>) -> Result<(), AllocError> {
     Ok(())
 }
 
-/// Writes what a row of calls of the parser answers, and what it answers by number, where its tokens are read again, and
-/// in a pedantic syntax: on a line of its own each, if it isn't the same.
+/// Writes what a row of calls of the parser answers, and what it answers by number, where its tokens are read again,
+/// and in a pedantic syntax: on a line of its own each, if it isn't the same.
 fn show_all_manners(alloc: Global, out: &mut String, row: Row<'_>) -> Result<(), AllocError> {
     let plain = parsed(alloc, row, false, false)?;
     out.push_str(plain.as_str())?;

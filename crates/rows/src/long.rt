@@ -30,8 +30,8 @@ pub(crate) fn show_long(alloc: Global, out: &mut String, row: Row<'_>) -> Result
     }
 }
 
-/// The text that is written so: after a piece, `~` and how often it comes, and a blank before the next piece. A last piece
-/// with no number comes once.
+/// The text that is written so: after a piece, `~` and how often it comes, and a blank before the next piece. A last
+/// piece with no number comes once.
 fn long_text(alloc: Global, text: &str) -> Result<String, AllocError> {
     let mut out = String::new(alloc);
     let mut piece = String::new(alloc);

@@ -1,12 +1,12 @@
 //! Answers rows of files: what calls of the parser, and of what it is built on, make of texts.
 //!
-//! The arguments are names of files. Each is read, and its rows are answered; then the lines that aren't as the file has
-//! them are written, and how many there are. With no argument a file is read from standard input, and written with its
-//! answers, each row before it is answered: so after a crash its row is the last line. With the argument `calls` one row
-//! is read from standard input for a run in which a request for memory is refused (refusing.rt).
+//! The arguments are names of files. Each is read, and its rows are answered; then the lines that aren't as the file
+//! has them are written, and how many there are. With no argument a file is read from standard input, and written with
+//! its answers, each row before it is answered: so after a crash its row is the last line. With the argument `calls`
+//! one row is read from standard input for a run in which a request for memory is refused (refusing.rt).
 //!
-//! The status is 1 where a row isn't as its file has it, and 3 where something can't be read. A row that can't be read is
-//! written on standard error.
+//! The status is 1 where a row isn't as its file has it, and 3 where something can't be read. A row that can't be read
+//! is written on standard error.
 #![tactic(auto)]
 
 mod again;

@@ -60,8 +60,8 @@ fn only_prop(alloc: Global, prop: Prop) -> Option<Vec<Prop>> {
     None
 }
 
-/// Makes an object pattern at the start of the text, of as many properties as are said, which the parser reads one after
-/// the other, with a comma at the place that is said after the number, or none.
+/// Makes an object pattern at the start of the text, of as many properties as are said, which the parser reads one
+/// after the other, with a comma at the place that is said after the number, or none.
 pub(crate) fn make_pattern(
     parser: &mut TestParser,
     out: &mut String,

@@ -174,8 +174,8 @@ fn show_faults(out: &mut String, faults: &[Error]) -> Result<(), AllocError> {
     Ok(())
 }
 
-/// Takes the tokens of the source, as many as said at most, and writes on a line for each which ones are kept then; after
-/// the last one, whether the source failed.
+/// Takes the tokens of the source, as many as said at most, and writes on a line for each which ones are kept then;
+/// after the last one, whether the source failed.
 fn show_each_kept(
     out: &mut String,
     parser: &mut TestParser,

@@ -10,8 +10,8 @@ use std::io::{Read, Write};
 #[derive(Drop, Debug)]
 pub struct Failed;
 
-/// An input, of which nothing is known but what it says itself: so what is proved over any input holds of one that never
-/// fails too.
+/// An input, of which nothing is known but what it says itself: so what is proved over any input holds of one that
+/// never fails too.
 pub trait Input {
     ghost use Rattle.std.specs.Prelude.{◌≡◌, ℕ, List, Option, IfOk, IfSome, OnErr};
 

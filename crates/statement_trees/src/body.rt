@@ -23,8 +23,8 @@ use swc_ecma_parser::tokens::read_tokens;
 /// The sign of a generator.
 const STAR: Token = Token::BinOp(BinOpToken::Mul);
 
-/// The tree of a program, as text. A fault that the parser recorded is refused as any other, and so is an expression or a
-/// pattern that is nested deeper than `LEVELS`; statements may be nested as deeply as they are.
+/// The tree of a program, as text. A fault that the parser recorded is refused as any other, and so is an expression or
+/// a pattern that is nested deeper than `LEVELS`; statements may be nested as deeply as they are.
 pub fn tree_of(alloc: Global, text: &[u8]) -> Result<String, Refusal> {
     let tokens = read_tokens(alloc, text)?;
     let most = tokens.len();

@@ -343,7 +343,7 @@ impl Script {
         Ok(())
     }
 
-    /// The head of a `for` (ECMA-262, 14.7.4 and 14.7.5), after that word. `await` stands in async code alone.
+    /// The head of a `for` (ECMA-262, 14.7.4 and 14.7.5), after that word. `await` is in async code alone.
     fn for_head(&mut self) -> PResult<()>
         ensures context { context_of self.new ≡ context_of self.old }
         ensures lower { work self.new ≤ work self.old }

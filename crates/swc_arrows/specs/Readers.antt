@@ -77,7 +77,7 @@ abbrev pub of_alone : Scope → List TokenAndSpan → Out Bool
 of_alone c ts = Some (is_of_alone c.context ts, ts)
 
 module _ {F C K : Type 0} where
-  -- after the body, which ends at a position: after parameters in parentheses and a block no binary operator stands
+  -- after the body, which ends at a position: after parameters in parentheses and a block no binary operator comes
   abbrev pub arrow_end : BytePos → BytePos → Bool → Bool → Trees F C K → Tree F C K → List TokenAndSpan
       → Out (Tree F C K)
   arrow_end lo hi is_async in_parens ps b ts =
@@ -106,7 +106,7 @@ module _ {F C K : Type 0} where
 
   -- ---- operands, which links may follow, by themselves
 
-  -- the same list, after which no `=>` stands
+  -- the same list, after which no `=>` comes
   unfoldable pub base_look : BytePos → BytePos → Option (Tree F C K) → Span → Tree F C K → Scope → List TokenAndSpan
       → Out (Tree F C K)
   base_look lo hi o s es c ts = if at_token is_arrow (first ts) then None else base_closed lo hi o s es c ts
@@ -116,7 +116,7 @@ module _ {F C K : Type 0} where
   base_plain None s es c ts = paren_closed (paren_of c s es) ts
   base_plain (Some e) s es c ts = if at_token is_arrow (first ts) then None else async_call e es c ts
 
-  -- `async`, which is an identifier in the head of a `for await` alone, where `of` stands by itself after it
+  -- `async`, which is an identifier in the head of a `for await` alone, where `of` is by itself after it
   abbrev pub of_base : Spelling → Scope → List TokenAndSpan → Out (Tree F C K)
   of_base n c ts = if c.context.expr_ctx.for_await_loop_init then Some (ident_e n.at n.text, ts) else None
 

@@ -69,7 +69,7 @@ pub fn open_list<I: Tokens, B: Bodies<I>>(
     })
 }
 
-/// What a list is that was read: the parameters of an arrow function, where `=>` is after it; else what stands in
+/// What a list is that was read: the parameters of an arrow function, where `=>` is after it; else what is in
 /// parentheses (ECMA-262, 13.2.9), or the arguments of a call of `async` (13.3.8), among which an object literal with a
 /// property `name = value` is recorded, unless the syntax is pedantic. A line break before `=>` is refused as
 /// `LineBreakBeforeArrow`, from where the list begins through its `)`.

@@ -39,7 +39,7 @@ abbrev pub is_found_at : TokenAndSpan → List TokenAndSpan → Bool
 is_found_at a [] = false
 is_found_at a (b ∷ ts) = is_pair a b
 
--- the tokens without each slash after which stands the regular expression found at it
+-- the tokens without each slash after which comes the regular expression found at it
 abbrev pub unless_found : Bool → TokenAndSpan → List TokenAndSpan → List TokenAndSpan
 unless_found true t ts = ts
 unless_found false t ts = t ∷ ts
@@ -69,7 +69,7 @@ pub record ReplayHook {F C K : Type 0} (forms : Hook F C K) : Type 0 where
   pub class : Replays forms.class
   pub block : Replays forms.block
 
--- words after which an operand stands, but where they are names
+-- words after which an operand comes, but where they are names
 abbrev pub is_operator_word : Word → Bool
 is_operator_word (word.Keyword keyword.Delete) = true
 is_operator_word (word.Keyword keyword.In) = true
@@ -86,7 +86,7 @@ names_follow token.Hash = true
 names_follow t = false
 
 -- With which tokens something that was read may end: with words (`named` says whether one is a name in any case),
--- literals, closing signs, `++` and `--`. After any other token an operand stands, if something does.
+-- literals, closing signs, `++` and `--`. After any other token an operand comes, if something does.
 abbrev pub may_end : Bool → Token → Bool
 may_end named (token.Word w) = named || not (is_operator_word w)
 may_end named token.RParen = true
@@ -101,7 +101,7 @@ may_end named (token.BigInt raw) = true
 may_end named (token.Regex exp flags) = true
 may_end named t = false
 
--- Where a regular expression was found at a slash, an operand is wanted: the slash stands first, or after a token with
+-- Where a regular expression was found at a slash, an operand is wanted: the slash is first, or after a token with
 -- which nothing ends. (`behind` says whether the token before the list is another one, `named` whether a word that
 -- stands first is a name.)
 abbrev pub wanted_behind : Bool → Bool → List TokenAndSpan → Bool

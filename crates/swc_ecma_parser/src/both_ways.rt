@@ -36,8 +36,8 @@ pub struct BothWays<B: Bodies<TokensInput>> {
 /// Reads a list of tokens that begins with `(` in both ways (ECMA-262, 15.3 and 15.1): from the parenthesis on as the
 /// parameters of an arrow function (`arrow`), and from the token after it on as formal parameters (`formal`). Each
 /// parser is new, and both hooks are of one type, so that they read the same. `levels` bounds both parsers
-/// (`Parser::limit_nesting`; `usize::MAX` is no bound), which tell whether it was met (`Parser::is_too_deep`). Is refused
-/// only when out of memory; what the calls refuse is in the answer.
+/// (`Parser::limit_nesting`; `usize::MAX` is no bound), which tell whether it was met (`Parser::is_too_deep`). Is
+/// refused only when out of memory; what the calls refuse is in the answer.
 ///
 /// The law of the cover grammar (`cover`): in a script, or in a module whose code is strict, and where early errors are
 /// on and not ignored, a list that is read as an arrow's parameters with no fault recorded is read as formal parameters

@@ -138,12 +138,13 @@ impl<I: Tokens, B: Bodies<I>> Parser<I, B> {
     }
 
     /// Bounds how deeply what later calls read may be nested. What is deeper is refused as `OutOfMemory`, at the end of
-    /// the token consumed last, and the parser has failed; `is_too_deep` tells this from a refused request for memory. A
-    /// new parser has the bound `usize::MAX`, which is none: no list of tokens is as long.
+    /// the token consumed last, and the parser has failed; `is_too_deep` tells this from a refused request for memory.
+    /// A new parser has the bound `usize::MAX`, which is none: no list of tokens is as long.
     ///
     /// A level is an assignment expression, an operand after a prefix operator or `await`, what `new` constructs, or an
     /// array or object pattern. So parentheses, brackets, arguments, templates and bodies of arrow functions each take
-    /// one, and chains of operators or links none. What a hook reads is its own: a parser in it needs a bound of its own.
+    /// one, and chains of operators or links none. What a hook reads is its own: a parser in it needs a bound of its
+    /// own.
     ///
     /// At most 20 calls of productions are nested for each level, and 20 more: that is the measure by which they are
     /// proved to return. How much stack they take is only measured (docs/SPEED.md).
@@ -322,7 +323,7 @@ impl<I: Tokens, B: Bodies<I>> Parser<I, B> {
     /// and of the `*` after it.
     ///
     /// An arrow function begins with a word that may be a reference, on the line of the `=>`; with a list in
-    /// parentheses, as `parse_args_or_pats` reads it, after which `=>` stands; or with `async`, on its line, and one
+    /// parentheses, as `parse_args_or_pats` reads it, after which `=>` comes; or with `async`, on its line, and one
     /// of these. A line break between the list and `=>` is refused as `LineBreakBeforeArrow`, from the start of the
     /// list, or of `async`, through the `)`; and where the syntax is pedantic, one between the name after `async` and
     /// `=>`, from `async` through the name (15.9). The items have the faults that `parse_paren_items_as_params`
@@ -383,7 +384,7 @@ impl<I: Tokens, B: Bodies<I>> Parser<I, B> {
     /// expression: no arrow function is read, and `async` before no function on its line is an identifier.
     ///
     /// A refused operand of `delete`, `void`, `typeof`, `+`, `-`, `~` or `!` is recorded, and a node of `Invalid`
-    /// stands in its place, at one position, that before the operand; after `++`, `--` and `await` it is refused.
+    /// is in its place, at one position, that before the operand; after `++`, `--` and `await` it is refused.
     /// `delete` of an identifier has the fault `TS1102`, and an identifier that is a word of strict code twice
     /// `InvalidIdentInStrict`; these are recorded in modules, and wait elsewhere. What `++` and `--` can't write to is
     /// recorded as `TS2406`, at its place. `await` before `*` is refused as `AwaitStar`, at the `*`; the identifier

@@ -72,7 +72,7 @@ use Rattle.swc_input.specs.Kinds.{is_hash}
 use Rattle.swc_grammar.proofs.Induct.{follows-given}
 use Rattle.swc_grammar.proofs.Only.{lparen-is}
 
--- What stands on the left of the operators above the precedence m: an operand by itself; a node, after which no
+-- What is on the left of the operators above the precedence m: an operand by itself; a node, after which no
 -- operator is read that its own level has to take, and no `**`; or `#` and a name before an `in` that takes them.
 pub data OnLeft {F C K : Type 0} (hook : Hook F C K) (c : Scope) (m : ℕ) (xs ts : List TokenAndSpan)
     (l : Tree F C K) : Type 0 where
@@ -239,7 +239,7 @@ module _ {F C K : Type 0} (hook : Hook F C K)
   choice-sound g (pick {r = x} q) ts r h = by q (side-sound g x ts r h)
   choice-sound g (pick_apart {r = x} q) ts r h = by q (side-sound g x ts r (apart-read hook p g (plan x) ts r h).0)
 
-  -- a call that stands last, and one with something after it
+  -- a call that is last, and one with something after it
   last-sound : (g : Option ℕ) (k : Call F C K) (c : Scope) (ts : List TokenAndSpan)
       (r : Ans F C K k × List TokenAndSpan)
       → exec hook p g (read k c (λ v. gives v)) ts ≡ Some r → Means hook k c ts r

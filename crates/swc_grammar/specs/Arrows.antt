@@ -66,7 +66,7 @@ of_arrow c t u =
 abbrev pub async_param : Scope → Token → Span → Option Spelling
 async_param c = spelled (λ w. may_bind c.context w && not (is_reserved c.context w))
 
--- After parameters in parentheses and a block no binary operator stands, but for `in` and `instanceof`, which are left
+-- After parameters in parentheses and a block no binary operator comes, but for `in` and `instanceof`, which are left
 -- unread: no expression goes on there.
 abbrev pub is_sign : Token → Bool
 is_sign (token.BinOp b) = true

@@ -452,7 +452,7 @@ module _ {F C K : Type 0} where
     e ← symbol (sym Assign) c
     symbol (seqs (cons e nil)) c
 
-  -- after `yield`: an operand or none, by the token that stands there
+  -- after `yield`: an operand or none, by the token that is there
   abbrev pub yield_by : (c : Scope) → Option TokenAndSpan → Choice F C K Assign c
   yield_by c u =
       if not (yield_ok c.context) then none else
@@ -531,7 +531,7 @@ module _ {F C K : Type 0} where
       check (covers_ok c.syntax.pedantic es)
       (behind_base c (call_e (to n.at (span_of es)) (ident_e n.at n.text) (items_of es)))
 
-  -- after `await`: an operand or none, by the token that stands there
+  -- after `await`: an operand or none, by the token that is there
   abbrev pub await_by : (c : Scope) → Option TokenAndSpan → Choice F C K Unary c
   await_by c u =
       if at_token is_star u then none else
@@ -644,7 +644,7 @@ module _ {F C K : Type 0} where
   abbrev pub args_tail : (i : Bool) (c : Scope) → List TokenAndSpan → Choice F C K (ArgsTail i) c
   args_tail i c ts = if at_token is_comma (first ts) then pick args-tail-more else pick args-tail-end
 
-  -- `async`, after which no `function` stands
+  -- `async`, after which no `function` comes
   abbrev pub async_primary : (c : Scope) → Option TokenAndSpan → Choice F C K Primary c
   async_primary c u = if c.head && is_lparen_here u then pick_apart async-call else pick async-ident
 
@@ -770,7 +770,7 @@ module _ {F C K : Type 0} where
   abbrev pub arrow_block : (is_async : Bool) (c : Scope) → List TokenAndSpan → Choice F C K (ArrowBody is_async) c
   arrow_block is_async c ts = if begins is_brace ts then pick body-block else pick body-expr
 
-  -- after an operator: what stands right of it, and their node, with the least precedence to go on with
+  -- after an operator: what is right of it, and their node, with the least precedence to go on with
   abbrev pub bin_op : BinaryOp → Tree F C K → ℕ → Scope → Plan F C K (Tree F C K × Option ℕ)
   bin_op op l m c = do
     must (exp_ok op l)

@@ -57,7 +57,7 @@ abbrev pub is_rest_of : {F C K : Type 0} → Role → Tree F C K → Bool
 is_rest_of (target strict) e = not (is_assign e)
 is_rest_of binding e = is_ident e
 
--- a part after which nothing stands, no comma either
+-- a part after which nothing comes, no comma either
 abbrev pub is_last : {F C K : Type 0} → Option Span → Trees F C K → Bool
 is_last None nil = true
 is_last comma ts = false

@@ -377,7 +377,7 @@ pub data Production {F C K : Type 0} : (s : Symbol) → Scope → Side F C K s �
     es ← symbol (Args i) c
     must (comma_ok (not i || import_comma_ok c) es)
     gives (behind_comma s es))
-  -- UpdateExpression (13.4): what is written to is a valid simple target, and an operator after it stands on its line.
+  -- UpdateExpression (13.4): what is written to is a valid simple target, and an operator after it is on its line.
   -- No left-hand side that is an operand by itself begins with `await`.
   unary-left : {c : Scope} → Production Unary c (do
     ahead (λ t. is_await t.token)
@@ -615,7 +615,7 @@ pub data Production {F C K : Type 0} : (s : Symbol) → Scope → Side F C K s �
     b ← symbol (ArrowBody false) c
     ahead (λ t. is_block b && is_sign t.token)
     gives (arrow_e (to (span_of hs) (span_of b)) false b (items_of hs)))
-  -- Async arrow functions (15.9): the word after `async` stands on its line, and so does the `(`.
+  -- Async arrow functions (15.9): the word after `async` is on its line, and so does the `(`.
   arrow-async-name : {c : Scope} → Production Assign c (do
     s ← one (async_name c)
     n ← one_on_line (async_param c)

@@ -97,7 +97,7 @@ divided-in_order = refl
 divided-kept : kept_of divided ≡ a ∷ regex 1 5 ∷ []
 divided-kept = refl
 
--- typeof /a/, and a.in / /a/: after the word an operand stands, and where it is a name an operator does
+-- typeof /a/, and a.in / /a/: after the word an operand comes, and where it is a name an operator does
 typeof-wanted : are_wanted (word_at (word.Keyword keyword.TypeOf) 0 6 ∷ slash 7 8 ∷ regex 7 10 ∷ []) ≡ true
 typeof-wanted = refl
 

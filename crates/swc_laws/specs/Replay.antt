@@ -16,7 +16,7 @@ is_joining regex-slash = true
 is_joining p = false
 
 module _ {F C K : Type 0} {hook : Hook F C K} where
-  -- By no other production than that one a slash is taken after which stands the regular expression found at it: so as
+  -- By no other production than that one a slash is taken after which comes the regular expression found at it: so as
   -- an operator none is.
   abbrev mutual
     pub Joined : {s : Symbol} {c : Scope} {xs ys : List TokenAndSpan} {t : Answer F C K s}

@@ -100,7 +100,7 @@ pub fn new_expr<I: Tokens, B: Bodies<I>>(
     p.made(node)
 }
 
-/// A member of `obj` (ECMA-262, 13.3.2), after the `.`; `optional`, where `?` stands before it.
+/// A member of `obj` (ECMA-262, 13.3.2), after the `.`; `optional`, where `?` is before it.
 pub fn parse_dot_member<I: Tokens, B: Bodies<I>>(
     p: &mut Productions<I, B>,
     obj: ExprId,

@@ -300,7 +300,7 @@ module _ {F C K : Type 0} (hook : Hook F C K) where
   is_false true h = absurd cc
   is_false false h = refl
 
-  -- after `yield`, where an operand stands there: with a `*` before it or not
+  -- after `yield`, where an operand is there: with a `*` before it or not
   star_reads : (s : Span) (x : Scope) (t : TokenAndSpan) (us : List TokenAndSpan) → is_star t.token ≡ true
       → t.had_line_break ≡ false
       → exec hook (run hook) None (plan (take (λ u. check (not u.had_line_break) (check (is_star u.token)

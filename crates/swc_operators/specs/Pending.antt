@@ -21,7 +21,7 @@ operator_above m None = None
 operator_above m (Some op) = if nat_le (precedence_of op) m then None else Some op
 
 module _ {F C K : Type 0} where
-  -- an operator, which stands first, is taken after its left operand l
+  -- an operator, which is first, is taken after its left operand l
   unfoldable pub operator_taken : BinaryOp → Tree F C K → Scope → List TokenAndSpan → Out (Unit {0})
   operator_taken op l c ts = if exp_ok op l then Some (tt, rest ts) else None
 

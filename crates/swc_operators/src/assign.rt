@@ -33,7 +33,7 @@ use swc_nodes::nodes::NodesOf;
 use swc_steps::productions::Productions;
 use swc_steps::tokens::{emit_err, is_after_line_break, syntax_error};
 
-/// The operator that writes which the current token is, where `left` stands before it: none after an operation.
+/// The operator that writes which the current token is, where `left` is before it: none after an operation.
 pub fn cur_assign_op<I: Tokens, B: Bodies<I>>(
     p: &Productions<I, B>,
     left: ExprId,

@@ -399,7 +399,7 @@ pub fn cur_update_op<I: Tokens>(input: &Buffer<I>) -> Option<UpdateOp>
     }
 }
 
-/// The same, where no line break stands before it. Refused only when out of memory.
+/// The same, where no line break is before it. Refused only when out of memory.
 fn update_behind_cur<I: Tokens>(input: &mut Buffer<I>) -> PResult<Option<UpdateOp>>
     ensures looks { Looks I.model input.old result input.new }
     ensures value { IfOk result (λ r. r ≡ update_behind (seen input.new)) }

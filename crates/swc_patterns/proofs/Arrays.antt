@@ -53,7 +53,7 @@ pub next_goes : (s : Stage) (x : Scope) (ts : List TokenAndSpan) → at_token is
 unfolding next_element
 next_goes s x ts h = rw h refl
 
--- the bracket, where no comma stands before it after a rest
+-- the bracket, where no comma is before it after a rest
 pub ends_well : (r : SeenRest) (x : Scope) (ts : List TokenAndSpan) → not (has_comma r) ≡ true
     → ended (stage_of r) x ts ≡ (expected is_rbracket x ts >>= (λ p. Some (next.End p.0, p.1)))
 ends_well seen.No x ts h = refl

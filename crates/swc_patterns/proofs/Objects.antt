@@ -307,7 +307,7 @@ module _ {F C K : Type 0} (hook : Hook F C K) where
 
 -- ---- rests among properties
 
--- after items of a stage, where one more stands, which gives another by itself
+-- after items of a stage, where one more is, which gives another by itself
 abbrev pub stage_with : Stage → Stage → Stage
 stage_with going s = s
 stage_with s r = never
@@ -335,7 +335,7 @@ module _ {F C K : Type 0} where
       go_on (is_rest u) (props_stage (cons v us) comma) (props_stage (trees_append (cons v us) (cons t nil)) q)
       (props_stage (cons t nil) q) (stage_more (cons v us) comma t q)
 
-  -- after a property, and after a rest, where none stands before it
+  -- after a property, and after a rest, where none is before it
   prop_stage : (before : Trees F C K) (comma : Option Span) → props_stage before comma ≡ going → (t : Tree F C K)
       → is_rest t ≡ false → (q : Option Span) → props_stage (trees_append before (cons t nil)) q ≡ going
   prop_stage before comma h t one q =

@@ -97,7 +97,7 @@ module _ {S F C K : Type 0} {model : Model S} {sure : Bool} (dots : Span) (t : T
       → Unheard model sure (rest_end dots t) a e b
   rest_unlooked u = s.unheard_call (λ x p. rest_by dots t p.0 p.1) (λ x ts. rest_end_splits dots t x ts) u
 
-  -- after the `=` nothing is read, whatever stands there
+  -- after the `=` nothing is read, whatever is there
   pub rest_ill : {e : Span} → On model sure (eaten is_equals) (give (Some e)) a b
       → On model sure (rest_end dots t) nothing a b
   rest_ill o = s.on_call (λ x p. rest_by dots t p.0 p.1) (λ x ts. rest_end_splits dots t x ts) o

@@ -118,7 +118,7 @@ module _ {F C K : Type 0} (hook : Hook F C K) where
   unfoldable pub elements_left : Stage → List (Option (Tree F C K)) → Scope → List TokenAndSpan → Out (Tree F C K)
   elements_left s before c ts = elements_by s before c ts
 
-  -- after an element, a rest or not, and after what stands before one
+  -- after an element, a rest or not, and after what is before one
   unfoldable pub behind_element : Bool → Stage → List (Option (Tree F C K)) → Scope → List TokenAndSpan
       → Out (Tree F C K)
   behind_element is_rest s before c ts =

@@ -64,7 +64,7 @@ module _ {F C K : Type 0} (hook : Hook F C K) where
   unfoldable pub params_left : Stage → Trees F C K → Scope → List TokenAndSpan → Out (Tree F C K)
   params_left s before c ts = params_by s before c ts
 
-  -- after a parameter, a rest or not, and after what stands before one
+  -- after a parameter, a rest or not, and after what is before one
   unfoldable pub behind_param : Bool → Stage → Trees F C K → Scope → List TokenAndSpan → Out (Tree F C K)
   behind_param is_rest s before c ts =
       separated_item is_rparen is_rest s c ts >>= (λ p. params_left p.0 before c p.1)

@@ -31,9 +31,9 @@ use swc_steps::tokens::{Listed, Sign, eat, emit_err, unexpected};
 /// What is after the key of a property of an object pattern.
 #[derive(Drop)]
 pub enum AfterPatKey {
-    /// A colon, after which an element stands.
+    /// A colon, after which an element comes.
     Value(PropName<ExprId>),
-    /// `=`, after which the initialiser of the name stands.
+    /// `=`, after which the initialiser of the name comes.
     Default(BindingIdent),
     /// Nothing: the name is bound.
     Name(BindingIdent),

@@ -112,7 +112,7 @@ pub enum PropHead {
 
 /// What a property begins with (ECMA-262, 13.2.5 and 15.4 to 15.6): a name alone, dots, a name and `=`, or what a
 /// method has before its key; nothing where a key comes. A name that stands for its value too, and is reserved where
-/// it stands, is recorded, at its place; so is `?` after a word, which is read on as if it weren't there.
+/// it is, is recorded, at its place; so is `?` after a word, which is read on as if it weren't there.
 ///
 /// A word with a token after it that goes on with none of these is refused as `Unexpected`, at that token, and the end
 /// as `Eof`.

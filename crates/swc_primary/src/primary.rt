@@ -92,7 +92,7 @@ pub enum PlainKind {
     Class,
     /// An identifier reference (ECMA-262, 13.1).
     Name,
-    /// `#`, after which a private name stands (ECMA-262, 13.10.1).
+    /// `#`, after which a private name comes (ECMA-262, 13.10.1).
     Private,
     /// A regular expression, or the slash that begins one (ECMA-262, 13.2.7).
     Regex,
@@ -308,8 +308,8 @@ fn parse_lone_private<I: Tokens, B: Bodies<I>>(p: &mut Productions<I, B>) -> PRe
     private_node(p, name)
 }
 
-/// Whether `#` is current, the syntax is pedantic, and no operator before it takes what it begins: then a private name is
-/// read as the left operand of an `in`.
+/// Whether `#` is current, the syntax is pedantic, and no operator before it takes what it begins: then a private name
+/// is read as the left operand of an `in`.
 pub fn begins_private<I: Tokens>(input: &Buffer<I>, is_free: bool) -> bool
     ensures value { result ≡ (is_free && ((state_of I.model input.now).syntax.pedantic
         && at_token is_hash (seen input.now))) }

@@ -649,7 +649,7 @@ pub fn parse_base<I: Tokens, B: Bodies<I>>(
     }
 }
 
-/// A property of `super`, or a call of it (ECMA-262, 13.3.7), after `super` at `start`. In brackets stands an
+/// A property of `super`, or a call of it (ECMA-262, 13.3.7), after `super` at `start`. In brackets is an
 /// expression in which `in` counts as an operator. With `no_call`, a call is refused, as anything else is: a link of an
 /// optional chain, after what it reads, and any other token as `InvalidSuper`, with `no_call` as `InvalidSuperCall`.
 /// Of a link, arguments are refused as `SuperCallOptional`; a name or brackets as `InvalidSuper`, and where `super` may

@@ -99,7 +99,7 @@ module _ {F C K : Type 0} {fg : Ghosts F} {cg : Ghosts C} {kg : Ghosts K} where
       sym (ap (λ p. seq_e (from_to p (last_end ns (y ∷ ys))) ts) first
       ∙ ap (λ p. seq_e (from_to (span_of (tree_of ns x)).lo p) ts) last)
 
-  -- after others stands one that holds nothing that was refused
+  -- after others comes one that holds nothing that was refused
   last-behind : (ns : Nodes F C K fg cg kg) (s : Span) (zs : List ExprId) (e : ExprId) →
       last_place s (trees (map (tree_of ns) (zs ++ e ∷ []))) ≡ span_of (tree_of ns e)
   last-behind ns s [] e = refl

@@ -84,11 +84,11 @@ module _ {F C K : Type 0} where
 -- ---- any list that a symbol reads, to the token that closes it
 
 module _ {F C K : Type 0} (all : Scope → List TokenAndSpan → Out (Tree F C K)) where
-  -- after an item: what is left after the comma that stands there, or where none does
+  -- after an item: what is left after the comma that is there, or where none does
   abbrev pub tail_left : Scope → Option Span × List TokenAndSpan → Out (Tree F C K)
   tail_left x q = all x q.1 >>= (λ p. Some (behind q.0 p.0, p.1))
 
-  -- after an item and the comma that stands there, or none: the list from that item on
+  -- after an item and the comma that is there, or none: the list from that item on
   abbrev pub list_from : Scope → (Tree F C K × Option Span) × List TokenAndSpan → Out (Tree F C K)
   list_from x p = all x p.1 >>= (λ q. Some (put_first p.0.0 (behind p.0.1 q.0), q.1))
 

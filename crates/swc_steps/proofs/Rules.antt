@@ -457,7 +457,7 @@ module _ {F C K : Type 0} (hook : Hook F C K) where
 
   -- ---- binary operators (13.6 to 13.13)
 
-  -- after `#` and a name no link stands before `in`, and no `++` or `--`
+  -- after `#` and a name no link comes before `in`, and no `++` or `--`
   private_stays : (e : Tree F C K) (x : Scope) (ts : List TokenAndSpan) → at_token is_in (first ts) ≡ true
       → behind_operand hook e x ts ≡ Some (e, ts)
   unfolding behind_operand

@@ -70,7 +70,7 @@ module _ {F C K : Type 0} (hook : Hook F C K) where
 
   -- ---- binary operators (13.6 to 13.13)
 
-  -- one operator above the precedence m with what stands right of it, or none; what is after the operator, and
+  -- one operator above the precedence m with what is right of it, or none; what is after the operator, and
   -- after its right operand
   unfoldable pub turn : Tree F C K → ℕ → Scope → List TokenAndSpan → Out (Tree F C K × Option ℕ)
   turn l m c ts = reading (turn_plan (operator_at c.context (first ts)) l m c) ts

@@ -57,7 +57,7 @@ pub fn cur_pos<I: Tokens>(input: &mut Buffer<I>) -> PResult<BytePos>
     }
 }
 
-/// Whether a line break stands before the current token; true at the end. Refused only when out of memory.
+/// Whether a line break is before the current token; true at the end. Refused only when out of memory.
 pub fn is_after_line_break<I: Tokens>(input: &mut Buffer<I>) -> PResult<bool>
     ensures looks { Looks I.model input.old result input.new }
     ensures value { IfOk result (λ r. r ≡ breaks_at (seen input.new)) }

@@ -1,5 +1,5 @@
 -- How templates (ECMA-262, 12.9.6) nest: a text is after each backquote that opens one, and after each `}` that
--- closes a `${`; after a text stands a `${`, or the backquote that closes the template.
+-- closes a `${`; after a text comes a `${`, or the backquote that closes the template.
 use Rattle.std.specs.Prelude.{◌≡◌, ◌<◌, List, [], ◌∷◌, ◌++◌, Bool, true, false, length}
 use Rattle.swc_input.specs.declared.token.Token.{Token}
 use Rattle.swc_input.specs.declared.token.Token.TheVariants as token

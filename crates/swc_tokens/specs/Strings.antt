@@ -56,18 +56,18 @@ pub record IsEscape (text : List ℕ) (low high byte : ℕ) : Type 0 where
   pub meaning : byte ≡ unescaped escaped
   pub two : high ≡ low + 2
 
--- what stands between two positions, after this quote, means this byte
+-- what is between two positions, after this quote, means this byte
 pub data MeansByte (text : List ℕ) (quote low high byte : ℕ) : Type 0 where
   plain : IsPlain text quote low high byte → MeansByte text quote low high byte
   escape : IsEscape text low high byte → MeansByte text quote low high byte
 
--- what stands between two positions, after this quote, means these bytes, one after the other
+-- what is between two positions, after this quote, means these bytes, one after the other
 pub data Means (text : List ℕ) (quote low : ℕ) : ℕ → List ℕ → Type 0 where
   nothing : Means text quote low low []
   and_byte : {mid high byte : ℕ} {value : List ℕ} → Means text quote low mid value
       → MeansByte text quote mid high byte → Means text quote low high (value ++ byte ∷ [])
 
--- a string from its quote to after the same quote, and what stands between them means the value
+-- a string from its quote to after the same quote, and what is between them means the value
 pub record IsString (text : List ℕ) (low high : ℕ) (value : List ℕ) : Type 0 where
   pub quote : ℕ
   pub is_quote : IsTrue (is_quote quote)

@@ -6,7 +6,7 @@ use Rattle.swc_nodes.specs.NodeParts.{Part, flat}
 
 -- Where they stand, in the order of the source, with those in arrow functions or without them. Nothing is looked for
 -- after a cover name; but in keys, in parameters of methods and in patterns. What the hook reads has no parts. The body
--- of an arrow function stands before its parameters in the tree, and after them in the source.
+-- of an arrow function is before its parameters in the tree, and after them in the source.
 abbrev mutual
   pub covers_by : {F C K : Type 0} → Bool → Tree F C K → List Span
   covers_by in_arrows (node cover s ts) = s ∷ []

@@ -5,7 +5,7 @@ use Rattle.swc_tokens.specs.Strings.{OpensSubstitution}
 use Rattle.swc_tokens.proofs.Templates.{IsPiece_escape, IsPiece_plain, plain_in_template}
 use Rattle.swc_tokens.proofs.reader.Reader.read_piece.Goals as goal
 
--- an escape after whose backslash no CR stands
+-- an escape after whose backslash no CR comes
 pub returns-in_ok-read_escape-in-Some-eq92-clause-piece :
     goal.returns-in_ok-read_escape-in-Some-eq92-clause-piece
 returns-in_ok-read_escape-in-Some-eq92-clause-piece c =
