@@ -56,7 +56,7 @@ then_read : {A B : Type 0} (o : Out A) (f : A × List TokenAndSpan → Out B) {r
 then_read None f h = cc
 then_read (Some p) f h = (p, refl, h)
 
--- a token that stands first
+-- a token that comes first
 record Taken (f : Token → Bool) (ts us : List TokenAndSpan) (s : Span) : Type 0 where
   pub token : TokenAndSpan
   pub list : ts ≡ token ∷ us
@@ -76,7 +76,7 @@ unfolding expected eaten
 expected_took f x [] s us h = cc
 expected_took f x (t ∷ ts) s us h = by_test f t ts (f t.token) s us refl h
 
--- `async`, which stands first, as a reference
+-- `async`, which comes first, as a reference
 record Async (x : Scope) (ts us : List TokenAndSpan) (n : Spelling) : Type 0 where
   pub token : TokenAndSpan
   pub list : ts ≡ token ∷ us
@@ -230,7 +230,7 @@ module _ {F C K : Type 0} {fun_at : F → Span} {class_at : C → Span} {block_a
         calm = a.calm;
       })
 
-  -- What was heard one after another: how the list begins, what stands in it, and what it is.
+  -- What was heard one after another: how the list begins, what is in it, and what it is.
   pub opened_operand : (b : Bool) (o : Option (Tree F C K)) (s : Span) (ts vs ws us : List TokenAndSpan)
       (es e : Tree F C K) → list_opening b x ts ≡ Some ((o, s), vs) → args_inside hook false x vs ≡ Some (es, ws)
       → base_plain o s es x ws ≡ Some (e, us) → Operand hook x ts us e
@@ -324,7 +324,7 @@ module _ {F C K : Type 0} {fg : Ghosts F} {cg : Ghosts C} {kg : Ghosts K} (hook 
 
 module _ {S F C K : Type 0} {fg : Ghosts F} {cg : Ghosts C} {kg : Ghosts K} {model : Model S} {sure : Bool}
     (hook : Hook F C K) (lawful : LawfulHook fg.place cg.place kg.place hook) where
-  -- ---- the same in the code: how a list begins, what stands in it, and that it is no parameters
+  -- ---- the same in the code: how a list begins, what is in it, and that it is no parameters
 
   pub list_heard : {ns : Nodes F C K fg cg kg} {k : ℕ} (a : Bool) (o : Option (Tree F C K)) (s : Span)
       (list : Listed (ExprOrSpread ExprId)) {e : Tree F C K} {b c d f : Buffer S} → Apart k ns (args_parts list.items)
@@ -352,7 +352,7 @@ module _ {S F C K : Type 0} {fg : Ghosts F} {cg : Ghosts C} {kg : Ghosts K} {mod
   }
 
 module _ {S F C K : Type 0} {model : Model S} {sure : Bool} (hook : Hook F C K) where
-  -- the same, where a look ahead stands before it
+  -- the same, where a look ahead is before it
   pub operand_told : {V : Type 0} {test : List TokenAndSpan → V} {v : V} {e : Tree F C K} {a b c d : Buffer S}
       → Here model a b → Told model test v b c → HearsOperand model sure hook e c d → HearsOperand model sure hook e a d
   operand_told l t h = record {

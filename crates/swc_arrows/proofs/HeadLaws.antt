@@ -109,7 +109,7 @@ module _ {F C K : Type 0} (hook : Hook F C K) (x : Scope) where
   named n = take (λ t. check (not t.had_line_break) (check (is_arrow t.token) (read (ArrowBody false) x
       (λ b. gives (arrow_e (to n.at (span_of b)) false b (cons (ident_e n.at n.text) nil))))))
 
-  -- after the name, by whether it may stand and be bound
+  -- after the name, by whether it may be and be bound
   name_by : (refers binds : Bool) (n : Spelling) (us : List TokenAndSpan) → is_arrow_here (first us) ≡ true
       → binds ≡ name_ok x.context n
       → exec hook (run hook) None (plan (given (if refers && binds then Some n else None) ▸ named)) us
@@ -446,7 +446,7 @@ module _ {F C K : Type 0} (hook : Hook F C K) (x : Scope) where
       plain_and true = refl
       plain_and false = refl
 
-  -- the two readings, by whether the name stands alone, and is one of a `for await`
+  -- the two readings, by whether the name is alone, and is one of a `for await`
   of_name : (t : TokenAndSpan) (us : List TokenAndSpan) → BeginsAssign x (t ∷ us)
       → Picks x (t ∷ us) false false true false → (b : Bool)
       → (before_of_here x (first us) && not (at_token is_arrow (second us))) ≡ false

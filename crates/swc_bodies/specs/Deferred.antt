@@ -1,4 +1,4 @@
--- Bodies that are kept for passes of their own, and whose places alone stand in the tree.
+-- Bodies that are kept for passes of their own, and whose places alone are in the tree.
 use Rattle.std.proofs.Common.{◌≡◌, Bool, List, [], ◌∷◌, ◌++◌, Option, Some, None, Ok, refl, sym, ap, ◌∙◌}
 use Rattle.swc_context.specs.declared.context.Context.{Context}
 use Rattle.swc_context.specs.declared.span.Span.{Span}
@@ -19,7 +19,7 @@ use Rattle.swc_bodies.specs.Laws.{token_forms_read}
 abbrev pub waiting : DeferredBodies → List Waiting
 waiting h = h.waiting.items
 
--- a body that waits, and the context that it stands in
+-- a body that waits, and the context that it is in
 abbrev pub in_context : Context → Body → Waiting
 in_context c b = record { context = c; body = b }
 

@@ -1,4 +1,4 @@
--- Where names stand that may not be bound in strict code, one after another.
+-- Where names are that may not be bound in strict code, one after another.
 use Rattle.std.proofs.Common.{◌≡◌, ℕ, ◌+◌, ◌<◌, ◌≤◌, inl, List, ◌∷◌, ◌++◌, map, drop, get_or, length, Option}
 use Rattle.std.proofs.Common.{refl, sym, ap, ◌∙◌, append_assoc}
 use Rattle.std.proofs.lemmas.List.{append-nil, drop_more, drop_all}
@@ -70,7 +70,7 @@ module _ {F C K : Type 0} {fg : Ghosts F} {cg : Ghosts C} {kg : Ghosts K} where
       x ≡ y → reserved_spans (tree_at ns i) ≡ reserved_spans (marked_tree fg.place cg.place kg.place (tree_at ns) y)
   named-is y t lt e = ap reserved_spans (tree-is y t lt e)
 
-  -- one of the parameters stands among the nodes
+  -- one of the parameters is among the nodes
   pub head-from : {ns : Nodes F C K fg cg kg} (xs : List PatId) (i : ℕ) (p : PatId) → Apart 0 ns (flat one_pat xs) →
       i < length xs → p ≡ get_or xs i p → From 0 ns (pat_part p)
   head-from {ns} xs i p a h e =

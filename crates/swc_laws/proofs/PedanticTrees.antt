@@ -93,7 +93,7 @@ module _ {F C K : Type 0} where
       → (privates_ok f t ≡ true) × (all_privates_ok r r ts ≡ true)
   privates-first f r t ts h = both (privates_ok f t) (all_privates_ok r r ts) h
 
-  -- what may stand anywhere may stand where `#` and a name may
+  -- what may be anywhere may be where `#` and a name may
   pub privates-eased : (b : Bool) (t : Tree F C K) → privates_ok false t ≡ true → privates_ok b t ≡ true
   privates-eased true (node k s ts) h = privates-parts false k s ts h
   privates-eased false t h = h

@@ -61,7 +61,7 @@ module _ {F C K : Type 0} {fg : Ghosts F} {cg : Ghosts C} {kg : Ghosts K} where
   walked-both ns ps qs first found e h =
       h ∙ ap (λ v. fold (behind ns) v qs) e ∙ sym (fold-append (behind ns) (Some 0) ps qs)
 
-  -- a node over the body that stands in its box
+  -- a node over the body that is in its box
   pub arrow-made : {ns ms : Nodes F C K fg cg kg} {i : ℕ} (lo hi : BytePos) (is_async : Bool) (ps : Vec PatId Global)
       (b : BlockStmtOrExpr ExprId K) (boxed : Box (BlockStmtOrExpr ExprId K) Global) → boxed.value ≡ b →
       hi ≡ body_end ns b → Apart 0 ns (pats_parts ps ++ body_parts b) →

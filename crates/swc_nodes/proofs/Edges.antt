@@ -45,7 +45,7 @@ module _ {F C K : Type 0} (at : ℕ → Seat F C K) where
   end-own x h = refl
 
 module _ {F C K : Type 0} {fg : Ghosts F} {cg : Ghosts C} {kg : Ghosts K} where
-  -- ---- the operand stands before the node, which begins or ends where it does
+  -- ---- the operand is before the node, which begins or ends where it does
 
   pub left-leads : {ns : Nodes F C K fg cg kg} {i : ℕ} (x : Node F C K) (e : ExprId) → left_operand x ≡ Some e →
       Stood ns i x → i < count ns → Leads ns i (expr_part e)

@@ -154,7 +154,7 @@ module _ {F C K : Type 0} {fg : Ghosts F} {cg : Ghosts C} {kg : Ghosts K} where
       ≡ trees_append (trees (map (param_tree (λ p. tree_at ns p.0)) xs)) (cons (param_tree (λ p. tree_at ms p.0) x) nil)
   params-more xs x g a = list-more param_parts (λ at. param_tree (λ p. at p.0)) param-same xs x g a
 
-  -- ---- an expression as a pattern, which stands where the expression does
+  -- ---- an expression as a pattern, which is where the expression does
 
   pub pat-expr-leads : {ns : Nodes F C K fg cg kg} {i : ℕ} {x : Node F C K} (e : ExprId) →
       x ≡ n.PatExpr e → Stood ns i x → i < count ns → Leads ns i (expr_part e)

@@ -41,7 +41,7 @@ use Rattle.swc_patterns.specs.declared.pat.PatKind.TheVariants as kind
 use Rattle.swc_patterns.specs.declared.rest.SeenRest.{SeenRest}
 use Rattle.swc_patterns.specs.declared.rest.SeenRest.TheVariants as seen
 
--- ---- what stands before an element
+-- ---- what is before an element
 
 pub next_ends : (s : Stage) (x : Scope) (ts : List TokenAndSpan) → at_token is_rbracket (first ts) ≡ true
     → next_element s x ts ≡ ended s x ts

@@ -85,7 +85,7 @@ module _ {S : Type 0} {model : Model S} (laws : Laws model) where
         (then_quiet.0 ∙ first_quiet.0, then_quiet.1 ∙ first_quiet.1);
   }
 
-  -- `function` stands there, and r tells of a line break before it
+  -- `function` is there, and r tells of a line break before it
   function_behind : {b c d : Buffer S} → Peeked model b c → Peeked model c d → IsSome (current b) → (u : TokenAndSpan)
       → c.next ≡ Some u → is_function u.token ≡ true → (r : Bool)
       → MatchOption d.next (r ≡ true) (λ t. r ≡ t.had_line_break)

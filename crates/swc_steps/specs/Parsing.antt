@@ -86,7 +86,7 @@ private_spelling n = spelling n.name n.span
 abbrev pub binding_spelling : BindingIdent → Spelling
 binding_spelling b = spelling b.id.sym b.id.span
 
--- whether a line break stands before a token, or none is left
+-- whether a line break is before a token, or none is left
 abbrev pub breaks_at : Option TokenAndSpan → Bool
 breaks_at None = true
 breaks_at (Some t) = t.had_line_break
@@ -103,7 +103,7 @@ seen_of (Some t) = Some (plain t)
 abbrev pub seen : {S : Type 0} → Buffer S → Option TokenAndSpan
 seen b = seen_of b.cur
 
--- where code stands, by its context and the syntax: no assignment expression is known to begin there, since the code
+-- where code is, by its context and the syntax: no assignment expression is known to begin there, since the code
 -- looks at the tokens with which one begins before it reads on
 abbrev pub scope_of : Context → Syntax → Scope
 scope_of c x = record { context = c; syntax = x; head = false }
@@ -113,7 +113,7 @@ abbrev pub by_hook : {V : Type 0} → Reading V → Scope → List TokenAndSpan 
 by_hook reads c ts = reads c.context ts
 
 module _ {S : Type 0} (model : Model S) where
-  -- where code stands at a buffer: by its context, without the flags that decide nothing, and the syntax
+  -- where code is at a buffer: by its context, without the flags that decide nothing, and the syntax
   abbrev pub scope : Buffer S → Scope
   scope b = scope_of (deciding (context model b)) (model.state b.iter).syntax
 
@@ -262,7 +262,7 @@ module _ {S : Type 0} (model : Model S) where
   abbrev pub ContinuesAlone : {T A : Type 0} → (T → A) → (Scope → List TokenAndSpan → Out A) → Buffer S → Result T Error → Buffer S → Type 0
   ContinuesAlone view f b r c = (sure : Bool) → Continues model sure view f b r c
 
-  -- a sign was consumed, and its place is answered, where it stands first; or nothing was
+  -- a sign was consumed, and its place is answered, where it comes first; or nothing was
   abbrev pub Eats : (Token → Bool) → Buffer S → Result (Option Span) Error → Buffer S → Type 0
   Eats f b r c = (sure : Bool) → MatchResult r
       (λ o. MatchOption o (On model sure (eaten f) (λ x ts. Some (None, ts)) b c) (λ s. Heard model sure (eaten f) (Some s) b c))

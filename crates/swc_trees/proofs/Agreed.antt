@@ -19,7 +19,7 @@ headed {t = t} {us = us} e f = ap (λ w. cons w (trees us)) e ∙ ap (λ w. cons
 pub three : {F C K : Type 0} {r s t u v w : Tree F C K} → r ≡ u → s ≡ v → t ≡ w → cons r (cons s (cons t nil)) ≡ cons u (cons v (cons w nil))
 three {r = r} {s = s} {t = t} {u = u} d e f = ap (λ x. cons x (cons s (cons t nil))) d ∙ ap (cons u) (two e f)
 
--- what is read of several values, each of which is what stands there
+-- what is read of several values, each of which is what is there
 pub read-two : {A B R : Type 0} (f : A → B → R) {a u : A} {b v : B} → a ≡ u → b ≡ v → f a b ≡ f u v
 read-two f {u = u} {b = b} d e = ap (λ w. f w b) d ∙ ap (λ w. f u w) e
 

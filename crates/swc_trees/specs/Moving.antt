@@ -64,7 +64,7 @@ module _ {F C K : Type 0} {fg : Ghosts F} {cg : Ghosts C} {kg : Ghosts K} where
     pub grows : Grows ns ms
     pub put : IfOk r (Put parts same (count ns) ms)
 
-  -- the trees of boxes, and of what stands in them, where the hook's values lie as these nodes have it
+  -- the trees of boxes, and of what is in them, where the hook's values lie as these nodes have it
   abbrev pub boxed_in : Nodes F C K fg cg kg → Box (Expr F C K) Global → Tree F C K
   boxed_in ns = boxed_tree F C K fg.place cg.place kg.place
 

@@ -47,7 +47,7 @@ module _ {S : Type 0} {model : Model S} where
       → (model.state c.iter).syntax ≡ (model.state b.iter).syntax
   kept_syntax {b} {c} laws took = (laws.gave b.iter c.iter took.given took.gave).syntax
 
-  -- where code stands is what it was, and where the context was set another
+  -- the place of code is what it was, and another where the context was set
   pub read_scope : {b c : Buffer S} {xs : List TokenAndSpan} → Laws model → Read model b xs c
       → scope model c ≡ scope model b
   read_scope laws read = scope_is (ap deciding read.context) (kept_syntax laws read.took)
