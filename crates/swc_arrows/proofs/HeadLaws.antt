@@ -18,7 +18,6 @@ use Rattle.swc_ast.specs.Tree.{Tree, nil, cons, span_of}
 use Rattle.swc_ast.specs.Trees.{to, arrow_e, ident_e}
 use Rattle.swc_bodies.specs.Readings.{Hook, is_async, is_function, is_function_here}
 use Rattle.swc_grammar.specs.Arrows.{is_arrow, is_arrow_word, binds_alone, async_name, is_bindable, is_of}
-use Rattle.swc_grammar.specs.Arrows.{async_param as async_param_of}
 use Rattle.swc_grammar.specs.Clean.{Out, and_then, first, second, third, sym as at, run, exec, plan, assigns, parens}
 use Rattle.swc_grammar.specs.Clean.{asyncs, no_error, begins_yield, begins_arrow, begins_async_name, begins_async_list}
 use Rattle.swc_grammar.specs.Clean.{is_bindable_here, before_of_here, is_arrow_here, is_lparen_here, links, updates}
@@ -332,9 +331,6 @@ module _ {F C K : Type 0} (hook : Hook F C K) (x : Scope) (n : x.head ≡ false)
       → at_token is_import (first ts) ≡ false → run hook (at (Base true)) x ts ≡ run hook (at Primary) x ts
   base_goes ts h k l =
       knot hook (at (Base true)) x ts ∙ rw (h, k, l) (last hook (Some 9) (at Primary) x ts refl)
-
-  no_new : (ts : List TokenAndSpan) → at_token is_new (first ts) ≡ false → begins_new ts ≡ false
-  no_new ts h = rw h refl
 
   async_word : (w : List ℕ) (b : Bool) (s : Span) (us : List TokenAndSpan) → is_text w (codes "async") ≡ true
       → begins_async (tk (token.Word (written.Ident w)) b s ∷ us) ≡ false

@@ -1,5 +1,5 @@
 -- How a body is taken from a buffer, a step at a time.
-use Rattle.std.proofs.Common.{◌≡◌, ◌≢◌, ◌⊎◌, ◌<◌, ◌≤◌, inl, inr, true, false, List, [], ◌∷◌, ◌++◌, Option, Some, None, Ok, Err, IsSome, length, map, refl, sym, ap, ◌∙◌, subst, arith, length-append, append_assoc}
+use Rattle.std.proofs.Common.{◌≡◌, ◌≢◌, ◌⊎◌, ◌<◌, ◌≤◌, inl, inr, true, false, List, [], ◌∷◌, ◌++◌, Option, Some, None, Ok, Err, length, map, refl, sym, ap, ◌∙◌, subst, arith, length-append, append_assoc}
 use Rattle.swc_context.specs.declared.context.Context.{Context}
 use Rattle.swc_context.specs.declared.error.Error.{Error}
 use Rattle.swc_context.specs.declared.error.SyntaxError.{SyntaxError}
@@ -94,14 +94,6 @@ module _ {S : Type 0} {model : Model S} (laws : Laws model) where
         answer = refused_token h k brace x;
         cause = why-stopped b h c p (λ here. unfit (current here) (last_position here) k) r l barred x;
       }
-
--- a token that leads on is current
-pub goes-some : {S : Type 0} {model : Model S} (b : Buffer S) (p q : Place) (c : Buffer S) → GoesOn model b p q c → IsSome (current c)
-goes-some b p q c g = some-at p q (current c) g.next
-  where
-    some-at : (p q : Place) (o : Option TokenAndSpan) → at_current p o ≡ Some q → IsSome o
-    some-at p q None h = cc
-    some-at p q (Some t) h = refl
 
 -- What was taken so far, from b to i: a body that began at the position, which is at the place p now, where these tokens are kept.
 pub record SoFar {S : Type 0} (model : Model S) (b : Buffer S) (first : Place) (from : BytePos) (i : Buffer S) (p : Place) (items : List TokenAndSpan) : Type 0 where

@@ -165,7 +165,3 @@ module _ {F C K : Type 0} {fg : Ghosts F} {cg : Ghosts C} {kg : Ghosts K} where
   pub start-later : {ns ms : Nodes F C K fg cg kg} {k : ℕ} {e : ExprId} → Grows ns ms → From k ns (expr_part e) →
       start_at ms e.0 ≡ start_at ns e.0
   start-later {e = e} g f = ap (λ s. or_position s.refused_start (span_of s.tree).lo) (seat-later e.0 g f.within)
-
-  pub end-later : {ns ms : Nodes F C K fg cg kg} {k : ℕ} {e : ExprId} → Grows ns ms → From k ns (expr_part e) →
-      end_at ms e.0 ≡ end_at ns e.0
-  end-later {e = e} g f = ap (λ s. or_position s.refused_end (span_of s.tree).hi) (seat-later e.0 g f.within)

@@ -68,13 +68,6 @@ ends_ill (seen.Last rest None) x ts h = absurd cc
 ends_ill (seen.Last rest (Some comma)) x ts h = refl
 ends_ill (seen.Earlier rest) x ts h = absurd cc
 
--- before an element nothing is read at the end
-pub head_end : (s : Stage) (x : Scope) (ts : List TokenAndSpan) → first ts ≡ None → element_head s x ts ≡ None
-head_end going x [] h = refl
-head_end going x (t ∷ ts) h = absurd cc
-head_end closing x ts h = refl
-head_end never x ts h = refl
-
 -- elsewhere an element comes, unless a rest was read before
 abbrev pub head_of : SeenRest → Scope → List TokenAndSpan → Out NextElement
 head_of r x ts = if has_rest r then None else (eaten is_comma x ts >>= (λ p. head_by p.0 x p.1))

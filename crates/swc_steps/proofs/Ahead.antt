@@ -152,14 +152,3 @@ module _ {S : Type 0} {model : Model S} (laws : Laws model) where
     lives = p.lives next;
     told = λ ts fut here. ap f (peeked_first laws p some (λ none. is_some_none next none) ts fut) ∙ e;
   }
-
-  pub told_alone : {V : Type 0} (f : Option TokenAndSpan → V) {b c : Buffer S} (v : V) → Peeked model b c
-      → IsSome (current b) → c.next ≡ None → (model.state c.iter).failed ≡ false → f None ≡ v
-      → Told model (λ ts. f (first (rest ts))) v b c
-  told_alone f v p some none runs e = record {
-    laws = laws;
-    still = p.look;
-    current = p.current;
-    lives = λ g. absurd (true_false (sym g ∙ runs));
-    told = λ ts fut here. ap f (peeked_first laws p some (λ n. runs) ts fut ∙ ap seen_of none) ∙ e;
-  }

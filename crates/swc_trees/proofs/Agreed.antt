@@ -38,10 +38,6 @@ module _ {F C K : Type 0} where
   agrees-first at of [] qs h = tt
   agrees-first at of (p ∷ ps) qs h = (h.0, agrees-first at of ps qs h.1)
 
-  pub agrees-second : (at of : ℕ → Tree F C K) (ps qs : List Part) → AreGiven at of (ps ++ qs) → AreGiven at of qs
-  agrees-second at of [] qs h = h
-  agrees-second at of (p ∷ ps) qs h = agrees-second at of ps qs h.1
-
   pub agrees-self : (of : ℕ → Tree F C K) (ps : List Part) → AreGiven of of ps
   agrees-self of [] = tt
   agrees-self of (p ∷ ps) = (refl, agrees-self of ps)
