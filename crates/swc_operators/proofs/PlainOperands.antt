@@ -1,9 +1,7 @@
 -- Operands that begin with a name, a literal or `this`: what is read before their links, and where nothing goes on with
 -- them.
-use Rattle.std.proofs.Common.{◌≡◌, Bool, true, false, not, ◌&&◌, ◌||◌, if◌then◌else◌, List, [], ◌∷◌, Option, Some, None}
+use Rattle.std.proofs.Common.{◌≡◌, Bool, true, false, not, ◌&&◌, if◌then◌else◌, List, [], ◌∷◌, Option, Some, None}
 use Rattle.std.proofs.Common.{refl, ap, ◌∙◌}
-use Rattle.swc_context.specs.declared.operator.UnaryOp.{UnaryOp}
-use Rattle.swc_context.specs.declared.operator.UpdateOp.{UpdateOp}
 use Rattle.swc_context.specs.declared.word.Keyword.TheVariants as keyword
 use Rattle.swc_context.specs.declared.word.Word.TheVariants as word
 use Rattle.swc_input.specs.declared.token.Token.{Token}
@@ -16,17 +14,16 @@ use Rattle.swc_grammar.specs.Scope.{Scope, inner}
 use Rattle.swc_grammar.specs.Symbols.{Unary, Lhs, Base, Primary}
 use Rattle.swc_grammar.specs.Tokens.{is_update, update_of, is_await, prefix_of, is_new, is_super, is_import, is_dot}
 use Rattle.swc_grammar.specs.Tokens.{is_lbracket, is_lparen, is_backquote, is_question}
-use Rattle.swc_grammar.specs.Clean.{first, second, sym as at, links, updates, prefix_at, no_link, run}
+use Rattle.swc_grammar.specs.Clean.{first, sym as at, links, run}
 use Rattle.swc_grammar.specs.Words.{◌>>=◌}
 use Rattle.swc_grammar.proofs.Complete.{last, links-end}
 use Rattle.swc_grammar.proofs.Knot.{knot}
 use Rattle.swc_grammar.proofs.Members.{lhs_parts}
 use Rattle.swc_operators.specs.Operands.{is_plain, goes_on}
-use Rattle.swc_operators.specs.Updates.{update_behind}
 use Rattle.swc_operators.proofs.Operands.{behind, updated}
 use Rattle.swc_operators.proofs.Updates.{operand_splits, updates_end}
 use Rattle.swc_steps.proofs.Keys.{then_calls}
-use Rattle.swc_steps.proofs.Lists.{binds, calls}
+use Rattle.swc_steps.proofs.Lists.{calls}
 use Rattle.swc_steps.proofs.Steps.Inner.{inner_is}
 
 -- ---- no other production begins with such a token
