@@ -1,7 +1,7 @@
 -- Operands that begin with a name, a literal or `this`: what is read before their links, and where nothing goes on with
 -- them.
 use Rattle.std.proofs.Common.{◌≡◌, Bool, true, false, not, ◌&&◌, if◌then◌else◌, List, [], ◌∷◌, Option, Some, None}
-use Rattle.std.proofs.Common.{refl, ap, ◌∙◌}
+use Rattle.std.proofs.Common.{refl, sym, ap, ◌∙◌}
 use Rattle.swc_context.specs.declared.word.Keyword.TheVariants as keyword
 use Rattle.swc_context.specs.declared.word.Word.TheVariants as word
 use Rattle.swc_input.specs.declared.token.Token.{Token}
@@ -23,7 +23,7 @@ use Rattle.swc_operators.specs.Operands.{is_plain, goes_on}
 use Rattle.swc_operators.proofs.Operands.{behind, updated}
 use Rattle.swc_operators.proofs.Updates.{operand_splits, updates_end}
 use Rattle.swc_steps.proofs.Keys.{then_calls}
-use Rattle.swc_steps.proofs.Lists.{calls}
+use Rattle.swc_steps.proofs.Lists.{binds, calls}
 use Rattle.swc_steps.proofs.Steps.Inner.{inner_is}
 
 -- ---- no other production begins with such a token
@@ -87,12 +87,7 @@ module _ {F C K : Type 0} (hook : Hook F C K) where
       ∙ ap (λ o. o >>= updated hook x) (lhs_parts hook x (t ∷ ts) (no_super t.token h) (no_import t.token h)
       ∙ calls member (λ l us. run hook (links true l) (inner x) us)
       ∙ ap (λ v. member >>= (λ p. run hook (links true p.0) v p.1)) (inner_is x none))
-      ∙ flip_binds member (λ p. run hook (links true p.0) x p.1) (updated hook x)
-    where
-      flip_binds : {A B D : Type 0} (o : Option (A × List TokenAndSpan)) (f : A × List TokenAndSpan → Option (B × List TokenAndSpan))
-          (k : B × List TokenAndSpan → Option (D × List TokenAndSpan)) → ((o >>= f) >>= k) ≡ (o >>= (λ p. f p >>= k))
-      flip_binds None f k = refl
-      flip_binds (Some p) f k = refl
+      ∙ sym (binds member (λ p. run hook (links true p.0) x p.1) (updated hook x))
 
   -- such an expression: a primary expression, and links that are no calls
   pub plain_member : (x : Scope) (ts : List TokenAndSpan) → x.head ≡ false → at_token is_plain (first ts) ≡ true

@@ -1,5 +1,5 @@
-// Operands that begin with a name, a literal or `this` (ECMA-262, 13.1, 13.2.1 and 13.2.3): no prefix operator is before
-// them, so they are read past the productions of prefix operators, and mostly nothing goes on with them.
+// Operands that begin with a name, a literal or `this` (ECMA-262, 13.1, 13.2.1 and 13.2.3). No prefix operator is before
+// one, and mostly nothing goes on after it.
 ghost use Rattle.std.specs.Prelude.{◌≡◌};
 ghost use Rattle.swc_input.specs.Kinds.{at_token};
 ghost use Rattle.swc_operators.specs.Operands.{is_plain, goes_on};
