@@ -6,5 +6,6 @@ pub mod Heads
 pub mod Promise
 pub mod Refinement
 pub mod Replaying
+pub mod TextList
 pub mod Verification
 pub mod WholeList
