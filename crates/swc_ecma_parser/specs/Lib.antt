@@ -3,6 +3,7 @@ pub mod Calls
 pub mod Finishing
 pub mod ForHeads
 pub mod Heads
+pub mod Places
 pub mod Promise
 pub mod Refinement
 pub mod Replaying

@@ -21,6 +21,7 @@ mod finishing;
 mod for_heads;
 mod heads;
 pub mod parser;
+pub mod places;
 pub mod prelude;
 pub mod replaying;
 mod taking;
