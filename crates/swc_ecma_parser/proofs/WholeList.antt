@@ -1,5 +1,5 @@
 -- From one tree read, and the end looked for, to the headline.
-use Rattle.std.proofs.Common.{◌≡◌, ℕ, Bool, true, false, not, ◌||◌, List, [], ◌∷◌, ◌++◌, Option, Some, None, Result, IfOk, IsSome, MatchResult, refl, sym, ap, subst, ◌∙◌}
+use Rattle.std.proofs.Common.{◌≡◌, ℕ, Bool, true, false, not, ◌||◌, List, [], ◌∷◌, ◌++◌, Option, Some, None, Result, Err, IfOk, IsSome, MatchResult, refl, sym, ap, subst, ◌∙◌}
 use Rattle.std.proofs.lemmas.List.{append-nil}
 use Rattle.swc_context.specs.Contexts.{view}
 use Rattle.swc_context.specs.declared.context.Context.{Context}
@@ -165,3 +165,9 @@ pub headline-in : {N F C K : Type 0} {fg : Ghosts F} {cg : Ghosts C} {kg : Ghost
 headline-in {sure = sure} {hook = hook} {s = s} {tree = tree} {ts = ts} {read = read} {nodes = nodes} {recorded = recorded} state new is lists told =
     let P : Source → Type 0 = λ v. Lists ts v → IsHeeded v.context v.syntax → Headline sure hook s tree v.context v.syntax ts read nodes recorded in
     subst P is (told ts) lists
+
+-- memory ran out
+pub headline-lost : {N F C K : Type 0} {fg : Ghosts F} {cg : Ghosts C} {kg : Ghosts K} {sure : Bool} {hook : Hook F C K} {s : Symbol} {tree : Nodes F C K fg cg kg → N → Tree F C K}
+    {c : Context} {x : Syntax} {ts : List TokenAndSpan} {nodes : Nodes F C K fg cg kg} {recorded : List Error} (e : Error) → e.kind ≡ OutOfMemory
+    → Headline sure hook s tree c x ts (Err e) nodes recorded
+headline-lost e m = record { sound = tt; one_tree = tt; complete = λ y t d. m }

@@ -1,15 +1,23 @@
 -- How a walk goes on, from the last visit to the first.
-use Rattle.std.proofs.Common.{◌≡◌, ℕ, suc, ◌+◌, ◌<◌, ◌≤◌, List, [], ◌∷◌, ◌++◌, length, map, reverse}
+use Rattle.std.proofs.Common.{◌≡◌, ℕ, suc, ◌+◌, ◌-◌, ◌<◌, ◌≤◌, get_or, Option, Some, List, [], ◌∷◌, ◌++◌, length, map, reverse}
 use Rattle.std.proofs.Common.{refl, sym, ap, subst, ◌∙◌, arith, append_assoc}
-use Rattle.std.specs.Prelude.{Contains}
-use Rattle.std.proofs.lemmas.List.{append-nil, reverse-append, length-append}
+use Rattle.std.specs.Prelude.{slice_get, vec_len, Contains}
+use Rattle.std.specs.declared.alloc.Global.{Global}
+use Rattle.std.specs.declared.vec.Vec.{Vec}
+use Rattle.std.proofs.lemmas.List.{append-nil, get_or-reverse, length-map, length-reverse, reverse-append, length-append}
+use Rattle.std.proofs.lemmas.Option.{slice_get-get_or}
 use Rattle.std.proofs.lemmas.List.Elements.{Contains-append_left, Contains-append_right}
-use Rattle.swc_nodes.specs.NodeParts.{Part}
-use Rattle.swc_nodes.specs.Visits.{Walked, over, enters, leaves, Within, Due, Goes, IsReady, opened, opening, entering, leaving, left_in, parts_under}
+use Rattle.swc_ast.specs.declared.spanned.Spanned.{Ghosts}
+use Rattle.swc_nodes.specs.GrowingNodes.{count, parts_at, Stood}
+use Rattle.swc_nodes.specs.NodeParts.{Part, slots}
+use Rattle.swc_nodes.specs.Visits.{innermost, Walked, over, enters, leaves, Within, Due, Goes, IsReady, opened, opening, entering, leaving, left_in, parts_under, Turns, past, left}
 use Rattle.swc_nodes.specs.Walking.{part_of}
 use Rattle.swc_nodes.specs.declared.apart.PartId.{PartId}
+use Rattle.swc_nodes.specs.Weights.{ats, left_over}
+use Rattle.swc_nodes.specs.declared.nodes.Nodes.{Nodes}
 use Rattle.swc_nodes.specs.declared.walk.Open.{Open}
 use Rattle.swc_nodes.specs.declared.walk.Visit.{Visit}
+use Rattle.swc_nodes.proofs.Reaching.{Going, going_on, going_past, on_less, past_less}
 
 module _ {A : Type 0} where
   last_in : (xs : List A) (x : A) → Contains (xs ++ x ∷ []) x
@@ -41,6 +49,21 @@ module _ {A : Type 0} where
   empty [] e = refl
   empty (x ∷ xs) e = absurd (let no : ⊥ = omega arith in no)
 
+head_is : (os : List Open) (d : Open) → 0 < length os → innermost (map (λ o. o.part) os) ≡ Some (get_or os 0 d).part
+head_is [] d lt = absurd (let no : ⊥ = omega arith in no)
+head_is (o ∷ os) d lt = refl
+
+-- the last one is the innermost
+pub last_inner : (os : List Open) (r : Option Open) → r ≡ slice_get os (length os - 1) → innermost (opened os) ≡ option_map (λ o. o.part) r
+last_inner [] r e = ap (option_map (λ (o : Open). o.part)) (sym e)
+last_inner (x ∷ xs) r e =
+    let os : List Open = x ∷ xs in
+    let n = length-reverse os in
+    let last : slice_get os (length os - 1) ≡ Some (get_or os (length os - 1) x) = slice_get-get_or os (length os - 1) x (omega arith) in
+    let first : get_or (reverse os) 0 x ≡ get_or os (length os - 1) x =
+    get_or-reverse os 0 x (omega arith) ∙ ap (λ k. get_or os k x) (let z : length os - 1 - 0 ≡ length os - 1 = omega arith in z) in
+    head_is (reverse os) x (omega arith) ∙ ap (λ (o : Open). Some o.part) first ∙ ap (option_map (λ (o : Open). o.part)) (sym (e ∙ last))
+
 module _ (at : ℕ → List Part) (ps : List Part) where
   -- the last part that is due is taken
   pub due_last : (os : List Open) (b : List Part) (p : Part) → IsReady (suc (length b)) os → Due at ps os (b ++ p ∷ [])
@@ -67,7 +90,7 @@ module _ (at : ℕ → List Part) (ps : List Part) where
       subst (λ v. Due at ps os v) (sym (d.split ∙ ap (λ v. d.before ++ v) none ∙ append-nil d.before)) d.outer
 
   pub goes_first : (due : List Part) → due ≡ ps → Goes at ps due [] []
-  goes_first due e = record { walked = over; due = λ p i. subst (λ v. Contains v p) e i }
+  goes_first due e = record { walked = over; under = λ p i. subst (λ v. Contains v p) e i }
 
   -- the innermost node is entered
   pub goes_enter : (due : List Part) (vs us : List Visit) (os ws : List Open) (o : Open) → os ≡ ws ++ o ∷ [] → us ≡ vs ++ entering o.part (opened ws) ∷ []
@@ -77,7 +100,7 @@ module _ (at : ℕ → List Part) (ps : List Part) where
       let w : Walked at ps (reverse vs) (o.part ∷ opened ws) = subst (λ v. Walked at ps (reverse vs) (map (λ x. x.part) v)) r g.walked in
       record {
         walked = subst (λ v. Walked at ps v (opened ws)) (sym (last_first vs us (entering o.part (opened ws)) f)) (enters w);
-        due = due_first o (reverse ws) due le (subst (λ v. Due at ps v due) r g.due);
+        under = due_first o (reverse ws) due le (subst (λ v. Due at ps v due) r g.under);
       }
 
   -- the last part that is due is left out, or left: then its own parts are due
@@ -85,8 +108,8 @@ module _ (at : ℕ → List Part) (ps : List Part) where
       → Goes at ps b vs os
   goes_past a b p vs os e ready g =
       let n : length a ≡ suc (length b) = let l = length-append b (p ∷ []) in ap length e ∙ omega arith in
-      let d = due_last (reverse os) b p (subst (λ v. IsReady v (reverse os)) n ready) (subst (λ v. Due at ps (reverse os) v) e g.due) in
-      record { walked = g.walked; due = d.1 }
+      let d = due_last (reverse os) b p (subst (λ v. IsReady v (reverse os)) n ready) (subst (λ v. Due at ps (reverse os) v) e g.under) in
+      record { walked = g.walked; under = d.1 }
 
   pub goes_leave : (a b c more : List Part) (id : PartId) (rest : ℕ) (vs us : List Visit) (os ws : List Open) → a ≡ b ++ part_of id ∷ [] → c ≡ b ++ more
       → at (part_of id).at ≡ more → rest ≡ length b → us ≡ vs ++ leaving id (opened os) ∷ [] → ws ≡ os ++ opening id rest ∷ []
@@ -94,7 +117,7 @@ module _ (at : ℕ → List Part) (ps : List Part) where
   goes_leave a b c more id rest vs us os ws e put parts counted f h ready g =
       let p = part_of id in
       let n : length a ≡ suc (length b) = let l = length-append b (p ∷ []) in ap length e ∙ omega arith in
-      let d = due_last (reverse os) b p (subst (λ v. IsReady v (reverse os)) n ready) (subst (λ v. Due at ps (reverse os) v) e g.due) in
+      let d = due_last (reverse os) b p (subst (λ v. IsReady v (reverse os)) n ready) (subst (λ v. Due at ps (reverse os) v) e g.under) in
       let r = last_first os ws (opening id rest) h in
       let w : Walked at ps (reverse us) (id ∷ opened os) =
       subst (λ v. Walked at ps v (id ∷ opened os)) (sym (last_first vs us (leaving id (opened os)) f)) (leaves d.0 g.walked) in
@@ -108,7 +131,7 @@ module _ (at : ℕ → List Part) (ps : List Part) where
       } in
       record {
         walked = subst (λ v. Walked at ps (reverse us) (map (λ x. x.part) v)) (sym r) w;
-        due = subst (λ v. Due at ps v c) (sym r) due;
+        under = subst (λ v. Due at ps v c) (sym r) due;
       }
 
   pub goes_done : (due : List Part) (vs : List Visit) (os : List Open) → IsReady 0 (reverse os) → Goes at ps due vs os → Walked at ps (reverse vs) []
@@ -124,3 +147,60 @@ left_after vs us p around e = ap (λ v. left_in v) (last_first vs us (leaving p 
 
 pub entered_after : (vs us : List Visit) (p : PartId) (around : List PartId) → us ≡ vs ++ entering p around ∷ [] → left_in (reverse us) ≡ left_in (reverse vs)
 entered_after vs us p around e = ap (λ v. left_in v) (last_first vs us (entering p around) e)
+
+-- ---- a turn of the walk
+
+module _ {F C K : Type 0} {fg : Ghosts F} {cg : Ghosts C} {kg : Ghosts K} (ns : Nodes F C K fg cg kg) (ps : List Part) where
+  -- where the walk is
+  pub record Walks (due : List PartId) (around : List Open) (visits : List Visit) : Type 0 where
+    pub going : Going ns ps (map part_of due) (map part_of (left_in (reverse visits)))
+    pub goes : Goes (parts_at ns) ps (map part_of due) visits around
+
+  pub walks_first : (due : List PartId) → map part_of due ≡ ps → Going ns ps (map part_of due) [] → Walks due [] []
+  walks_first due e g = record { going = g; goes = goes_first (parts_at ns) ps (map part_of due) e }
+
+  -- the last part that is due is taken, and a turn made of it
+  module _ (a b c : List PartId) (id : PartId) (os ws : List Open) (vs us : List Visit) (taken : map part_of a ≡ map part_of b ++ part_of id ∷ [])
+      (ready : IsReady (length (map part_of a)) (reverse os)) (w : Walks a os vs) where
+    pub turned : Turns ns id b os vs c ws us → Walks c ws us
+    turned (past le) = record {
+      going = going_past (map part_of b) (part_of id) taken w.going le;
+      goes = goes_past (parts_at ns) ps (map part_of a) (map part_of b) (part_of id) vs os taken ready w.goes;
+    }
+    turned (left {x} lt stood put opened left) = record {
+      going = subst (λ v. Going ns ps (map part_of c) v) (sym (ap (λ v. map part_of v) (left_after vs us id _ left)))
+          (going_on (map part_of b) (part_of id) taken w.going stood lt put);
+      goes = goes_leave (parts_at ns) ps (map part_of a) (map part_of b) (map part_of c) (slots x) id (length b) vs us os ws taken put stood.parts
+          (sym (length-map b part_of)) left opened ready w.goes;
+    }
+
+    pub turned_less : Turns ns id b os vs c ws us → left_over ns (ats (map part_of c)) < left_over ns (ats (map part_of a))
+    turned_less (past le) = past_less (map part_of b) (part_of id) taken w.going
+    turned_less (left {x} lt stood put opened left) = on_less (map part_of b) (part_of id) taken w.going stood lt put
+
+  pub entered : (due : List PartId) (os ws : List Open) (vs us : List Visit) (n : ℕ) → n ≡ length due
+      → ((at : ℕ → List Part) (qs ds : List Part) → length ds ≡ n → Goes at qs ds vs os → Goes at qs ds us ws)
+      → left_in (reverse us) ≡ left_in (reverse vs) → Walks due os vs → Walks due ws us
+  entered due os ws vs us n same goes left w = record {
+    going = subst (λ v. Going ns ps (map part_of due) (map part_of v)) (sym left) w.going;
+    goes = goes (parts_at ns) ps (map part_of due) (length-map due part_of ∙ sym same) w.goes;
+  }
+
+  -- the end: nothing is due, and so nothing is around
+  going_none : (due : List PartId) (found : List Part) → length due ≡ 0 → Going ns ps (map part_of due) found → Going ns ps [] found
+  going_none [] found e g = g
+  going_none (d ∷ due) found e g = absurd (let no : ⊥ = omega arith in no)
+
+  pub all_left : (due : Vec PartId Global) (os : List Open) (vs list : List Visit) → vec_len due ≡ 0 → list ≡ reverse vs → Walks due.items os vs
+      → Going ns ps [] (map part_of (left_in list))
+  all_left due os vs list none e w =
+      let o = due.ok.0 in
+      subst (λ v. Going ns ps [] (map part_of (left_in v))) (sym e) (going_none due.items _ (omega arith) w.going)
+
+  pub all_walked : (due : Vec PartId Global) (os : List Open) (vs list : List Visit) → vec_len due ≡ 0 → list ≡ reverse vs
+      → IsReady (length due.items) (reverse os) → Walks due.items os vs → Walked (parts_at ns) ps list []
+  all_walked due os vs list none e ready w =
+      let o = due.ok.0 in
+      let z : length due.items ≡ 0 = omega arith in
+      subst (λ v. Walked (parts_at ns) ps v []) (sym e)
+      (goes_done (parts_at ns) ps (map part_of due.items) vs os (subst (λ v. IsReady v (reverse os)) z ready) w.goes)

@@ -1,8 +1,12 @@
 -- Going over nodes, each before its parts and after them.
-use Rattle.std.specs.Prelude.{◌≡◌, ℕ, ◌<◌, List, [], ◌∷◌, ◌++◌, Option, Some, None, Contains, length, map, reverse}
-use Rattle.swc_nodes.specs.NodeParts.{Part}
+use Rattle.std.specs.Prelude.{◌≡◌, ℕ, ◌<◌, ◌≤◌, List, [], ◌∷◌, ◌++◌, Option, Some, None, Contains, length, map, reverse}
+use Rattle.swc_ast.specs.declared.spanned.Spanned.{Ghosts}
+use Rattle.swc_nodes.specs.GrowingNodes.{count, Stood}
+use Rattle.swc_nodes.specs.NodeParts.{Part, slots}
 use Rattle.swc_nodes.specs.Walking.{part_of}
 use Rattle.swc_nodes.specs.declared.apart.PartId.{PartId}
+use Rattle.swc_nodes.specs.declared.node.Node.{Node}
+use Rattle.swc_nodes.specs.declared.nodes.Nodes.{Nodes}
 use Rattle.swc_nodes.specs.declared.walk.Open.{Open}
 use Rattle.swc_nodes.specs.declared.walk.Step.{Step}
 use Rattle.swc_nodes.specs.declared.walk.Step.TheVariants.{Enter, Leave}
@@ -68,9 +72,17 @@ Due at ps (o ∷ os) due = Within (at (part_of o.part).at) o.rest (λ before. Du
 -- the visits so far, the last one first, and what is due before them
 pub record Goes (at : ℕ → List Part) (ps due : List Part) (visits : List Visit) (around : List Open) : Type 0 where
   pub walked : Walked at ps (reverse visits) (opened around)
-  pub due : Due at ps (reverse around) due
+  pub under : Due at ps (reverse around) due
 
 -- so many parts are due, of which the innermost node around has the last one
 abbrev pub IsReady : ℕ → List Open → Type 0
 IsReady due [] = Unit {0}
 IsReady due (o ∷ os) = o.rest < due
+
+-- The part was left, before which its own parts are due; or it was left out, since no node has its number.
+pub data Turns {F C K : Type 0} {fg : Ghosts F} {cg : Ghosts C} {kg : Ghosts K} (ns : Nodes F C K fg cg kg) (id : PartId)
+    (due : List PartId) (around : List Open) (visits : List Visit) : List PartId → List Open → List Visit → Type 0 where
+  past : count ns ≤ (part_of id).at → Turns ns id due around visits due around visits
+  left : {x : Node F C K} {more : List PartId} {os : List Open} {vs : List Visit} → (part_of id).at < count ns → Stood ns (part_of id).at x
+      → map part_of more ≡ map part_of due ++ slots x → os ≡ around ++ opening id (length due) ∷ []
+      → vs ≡ visits ++ leaving id (opened around) ∷ [] → Turns ns id due around visits more os vs

@@ -1,5 +1,6 @@
 // A walk over all that an expression or a pattern reaches, in the order of the source.
-ghost use Rattle.std.specs.Prelude.{◌≡◌, ◌<◌, ℕ, List, [], ◌∷◌, ◌++◌, All, OnOk, IfOk, length, map, reverse};
+ghost use Rattle.std.specs.Prelude.{◌≡◌, ◌<◌, ◌≤◌, ℕ, List, [], ◌∷◌, ◌++◌, All, OnOk, IfOk};
+ghost use Rattle.std.specs.Prelude.{length, map, reverse, MatchOption};
 ghost use Rattle.swc_nodes.specs.GrowingNodes.{count, parts_at, Apart};
 ghost use Rattle.swc_nodes.specs.NodeParts.{Part};
 ghost use Rattle.swc_nodes.specs.Reached.{HasReached, NumbersRise};
@@ -56,10 +57,7 @@ pub fn walk<T: Parts, F: Spanned + Drop, C: Spanned + Drop, K: Spanned + Drop>(
     let mut around = Vec::new(nodes.allocator());
     let mut visits = Vec::new(nodes.allocator());
     while let Some(part) = due.pop() {
-        if part.number() < nodes.len() {
-            leave(&mut visits, &mut around, part, due.len())?;
-            nodes.get(part.number()).list(&mut due)?;
-        }
+        turn(nodes, part, &mut due, &mut around, &mut visits)?;
         enter_all(&mut visits, &mut around, due.len())?;
     }
     visits.reverse();
@@ -72,6 +70,24 @@ fn innermost(around: &[Open]) -> Option<PartId>
 {
     let inner = around.last()?;
     Some(inner.part)
+}
+
+/// Leaves a part, where a node has its number, before which the node's parts are due; others are left out.
+fn turn<F: Spanned + Drop, C: Spanned + Drop, K: Spanned + Drop>(
+    nodes: &Nodes<F, C, K>,
+    part: PartId,
+    due: &mut Vec<PartId>,
+    around: &mut Vec<Open>,
+    visits: &mut Vec<Visit>,
+) -> Result<(), AllocError>
+    ensures { OnOk result (visiting.Turns nodes.now part due.old.items around.old.items visits.old.items
+        due.new.items around.new.items visits.new.items) }
+{
+    if nodes.len() <= part.number() {
+        return Ok(());
+    }
+    leave(visits, around, part, due.len())?;
+    nodes.get(part.number()).list(due)
 }
 
 /// Leaves a part.
@@ -100,16 +116,37 @@ fn enter_all(visits: &mut Vec<Visit>, around: &mut Vec<Open>, due: usize) -> Res
     ensures left { OnOk result (left_in (reverse visits.new.items) ≡ left_in (reverse visits.old.items)) }
     ensures ready { OnOk result (visiting.IsReady due (reverse around.new.items)) }
 {
-    while let Some(inner) = around.pop() {
-        if inner.rest < due {
-            around.push(inner)?;
-            return Ok(());
-        }
-        visits.push(Visit {
-            step: Step::Enter,
-            part: inner.part,
-            parent: innermost(around),
-        })?;
+    while let Some(inner) = take_done(around, due)? {
+        enter(visits, inner, around)?;
     }
+    Ok(())
+}
+
+/// Takes the innermost node, if it has no part that is due any more.
+fn take_done(around: &mut Vec<Open>, due: usize) -> Result<Option<Open>, AllocError>
+    ensures { IfOk result (λ inner. MatchOption inner
+        ((around.new.items ≡ around.old.items) × visiting.IsReady due (reverse around.new.items))
+        (λ o. (due ≤ o.rest) × (around.old.items ≡ around.new.items ++ o ∷ []))) }
+{
+    match around.pop() {
+        None => Ok(None),
+        Some(inner) if due <= inner.rest => Ok(Some(inner)),
+        Some(inner) => {
+            around.push(inner)?;
+            Ok(None)
+        }
+    }
+}
+
+/// Enters a node, after which those around are the innermost.
+fn enter(visits: &mut Vec<Visit>, inner: Open, around: &[Open]) -> Result<(), AllocError>
+    ensures { OnOk result (visits.new.items
+        ≡ visits.old.items ++ visiting.entering inner.part (visiting.opened around.now) ∷ []) }
+{
+    visits.push(Visit {
+        step: Step::Enter,
+        part: inner.part,
+        parent: innermost(around),
+    })?;
     Ok(())
 }
