@@ -87,7 +87,8 @@ fn turn<F: Spanned + Drop, C: Spanned + Drop, K: Spanned + Drop>(
         return Ok(());
     }
     leave(visits, around, part, due.len())?;
-    nodes.get(part.number()).list(due)
+    nodes.get(part.number()).list(due)?;
+    Ok(())
 }
 
 /// Leaves a part.
