@@ -46,6 +46,7 @@ use Rattle.swc_arrows.specs.Readers.{before_of, is_of_alone, list_opening, liste
 use Rattle.swc_arrows.specs.Answers.{HearsOperand, Operand}
 use Rattle.swc_steps.specs.Parsing.{scope, args_at, Here, Told, On, Heard}
 use Rattle.swc_steps.proofs.Steps.{Reader, give, on_call_read, on_then, on_told, heard_after, heard_more}
+use Rattle.swc_grammar.specs.Arrows.{before_of as of_follows}
 
 -- ---- tokens
 
