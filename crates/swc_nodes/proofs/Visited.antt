@@ -160,29 +160,30 @@ module _ {F C K : Type 0} {fg : Ghosts F} {cg : Ghosts C} {kg : Ghosts K} (ns : 
   walks_first due e g = record { going = g; goes = goes_first (parts_at ns) ps (map part_of due) e }
 
   -- the last part that is due is taken, and a turn made of it
-  module _ (a b c : List PartId) (id : PartId) (os ws : List Open) (vs us : List Visit) (taken : map part_of a ≡ map part_of b ++ part_of id ∷ [])
-      (ready : IsReady (length (map part_of a)) (reverse os)) (w : Walks a os vs) where
-    pub turned : Turns ns id b os vs c ws us → Walks c ws us
-    turned (past le) = record {
-      going = going_past (map part_of b) (part_of id) taken w.going le;
-      goes = goes_past (parts_at ns) ps (map part_of a) (map part_of b) (part_of id) vs os taken ready w.goes;
-    }
-    turned (left {x} lt stood put opened left) = record {
-      going = subst (λ v. Going ns ps (map part_of c) v) (sym (ap (λ v. map part_of v) (left_after vs us id _ left)))
-          (going_on (map part_of b) (part_of id) taken w.going stood lt put);
-      goes = goes_leave (parts_at ns) ps (map part_of a) (map part_of b) (map part_of c) (slots x) id (length b) vs us os ws taken put stood.parts
-          (sym (length-map b part_of)) left opened ready w.goes;
-    }
+  pub turned : (a b c : List PartId) (id : PartId) (os ws : List Open) (vs us : List Visit) → map part_of a ≡ map part_of b ++ part_of id ∷ []
+      → IsReady (length a) (reverse os) → Walks a os vs → Turns ns id b os vs c ws us → Walks c ws us
+  turned a b c id os ws vs us taken ready w (past le) = record {
+    going = going_past (map part_of b) (part_of id) taken w.going le;
+    goes = goes_past (parts_at ns) ps (map part_of a) (map part_of b) (part_of id) vs os taken
+        (subst (λ v. IsReady v (reverse os)) (sym (length-map a part_of)) ready) w.goes;
+  }
+  turned a b c id os ws vs us taken ready w (left {x} {rest} lt stood same put f h) = record {
+    going = subst (λ v. Going ns ps (map part_of c) v) (sym (ap (λ v. map part_of v) (left_after vs us id (opened os) h)))
+        (going_on (map part_of b) (part_of id) taken w.going stood lt put);
+    goes = goes_leave (parts_at ns) ps (map part_of a) (map part_of b) (map part_of c) (slots x) id rest vs us os ws taken put stood.parts
+        (same ∙ sym (length-map b part_of)) h f (subst (λ v. IsReady v (reverse os)) (sym (length-map a part_of)) ready) w.goes;
+  }
 
-    pub turned_less : Turns ns id b os vs c ws us → left_over ns (ats (map part_of c)) < left_over ns (ats (map part_of a))
-    turned_less (past le) = past_less (map part_of b) (part_of id) taken w.going
-    turned_less (left {x} lt stood put opened left) = on_less (map part_of b) (part_of id) taken w.going stood lt put
+  pub turned_less : (a b c : List PartId) (id : PartId) (os ws : List Open) (vs us : List Visit) → map part_of a ≡ map part_of b ++ part_of id ∷ []
+      → Walks a os vs → Turns ns id b os vs c ws us → left_over ns (ats (map part_of c)) < left_over ns (ats (map part_of a))
+  turned_less a b c id os ws vs us taken w (past le) = past_less (map part_of b) (part_of id) taken w.going
+  turned_less a b c id os ws vs us taken w (left {x} {rest} lt stood same put f h) = on_less (map part_of b) (part_of id) taken w.going stood lt put
 
   pub entered : (due : List PartId) (os ws : List Open) (vs us : List Visit) (n : ℕ) → n ≡ length due
       → ((at : ℕ → List Part) (qs ds : List Part) → length ds ≡ n → Goes at qs ds vs os → Goes at qs ds us ws)
       → left_in (reverse us) ≡ left_in (reverse vs) → Walks due os vs → Walks due ws us
-  entered due os ws vs us n same goes left w = record {
-    going = subst (λ v. Going ns ps (map part_of due) (map part_of v)) (sym left) w.going;
+  entered due os ws vs us n same goes kept w = record {
+    going = subst (λ v. Going ns ps (map part_of due) (map part_of v)) (sym kept) w.going;
     goes = goes (parts_at ns) ps (map part_of due) (length-map due part_of ∙ sym same) w.goes;
   }
 

@@ -83,6 +83,7 @@ IsReady due (o ∷ os) = o.rest < due
 pub data Turns {F C K : Type 0} {fg : Ghosts F} {cg : Ghosts C} {kg : Ghosts K} (ns : Nodes F C K fg cg kg) (id : PartId)
     (due : List PartId) (around : List Open) (visits : List Visit) : List PartId → List Open → List Visit → Type 0 where
   past : count ns ≤ (part_of id).at → Turns ns id due around visits due around visits
-  left : {x : Node F C K} {more : List PartId} {os : List Open} {vs : List Visit} → (part_of id).at < count ns → Stood ns (part_of id).at x
-      → map part_of more ≡ map part_of due ++ slots x → os ≡ around ++ opening id (length due) ∷ []
-      → vs ≡ visits ++ leaving id (opened around) ∷ [] → Turns ns id due around visits more os vs
+  left : {x : Node F C K} {rest : ℕ} {more : List PartId} {os : List Open} {vs : List Visit} → (part_of id).at < count ns
+      → Stood ns (part_of id).at x → rest ≡ length due → map part_of more ≡ map part_of due ++ slots x
+      → os ≡ around ++ opening id rest ∷ [] → vs ≡ visits ++ leaving id (opened around) ∷ []
+      → Turns ns id due around visits more os vs

@@ -83,11 +83,13 @@ fn turn<F: Spanned + Drop, C: Spanned + Drop, K: Spanned + Drop>(
     ensures { OnOk result (visiting.Turns nodes.now part due.old.items around.old.items visits.old.items
         due.new.items around.new.items visits.new.items) }
 {
-    if nodes.len() <= part.number() {
+    let at = part.number();
+    if nodes.len() <= at {
         return Ok(());
     }
-    leave(visits, around, part, due.len())?;
-    nodes.get(part.number()).list(due)?;
+    let rest = due.len();
+    leave(visits, around, part, rest)?;
+    nodes.get(at).list(due)?;
     Ok(())
 }
 

@@ -1,11 +1,11 @@
-use Rattle.std.proofs.Common.{◌≤◌, ◌<◌, length, map, ap, sym, subst, ◌∙◌, arith}
-use Rattle.swc_nodes.specs.GrowingNodes.{count, Stood}
-use Rattle.swc_nodes.specs.Visits.{past, left, opened, opening}
-use Rattle.swc_nodes.specs.Walking.{part_of}
+use Rattle.std.proofs.Common.{sym, arith}
+use Rattle.swc_nodes.specs.Visits.{past, left}
 use Rattle.swc_nodes.proofs.walk.turn.Goals as goal
 
-pub returns-then-len-number : goal.returns-then-len-number
-returns-then-len-number g c = past (omega (arith, c.number.ensures, c.len.ensures, c.if-len-number.true))
+pub returns-then-len-at : goal.returns-then-len-at
+returns-then-len-at g c = past (omega (arith, c.number-at.ensures, c.len.ensures, c.if-len-at.true))
 
 pub returns : goal.returns
-returns g c = ?
+returns g c =
+    left (omega (arith, c.number-at.ensures, c.len.ensures, c.if-len-at.false)) (rw (sym c.number-at.ensures) c.get.ensures)
+    (let o = c.args.due.now.ok.0 in omega (arith, c.len-rest.ensures)) c.in_ok-list.ensures c.in_ok-leave.ensures.around c.in_ok-leave.ensures.visits
