@@ -26,7 +26,7 @@ use Rattle.swc_nodes.specs.NodeParts.{flat, item_parts, args_parts, key_parts, o
 use Rattle.swc_nodes.specs.GrowingNodes.{count, seat_at, tree_at, first_at, start_at, end_at, Apart}
 use Rattle.swc_nodes.proofs.Edges.{start-later}
 use Rattle.swc_nodes.proofs.Lists.{apart-none, elem-same, item-same, prop-same, exprs-more, exprs-apart-more}
-use Rattle.swc_nodes.proofs.Lists.{trees-both, trees-more, exprs-later, apart-later, apart-more-one}
+use Rattle.swc_nodes.proofs.Lists.{trees-both, trees-more, apart-later, apart-more-one}
 use Rattle.swc_nodes.proofs.Waiting.{operands-first, operands-joined, operands-last, operands-more, operands-top}
 use Rattle.swc_nodes.specs.Pending.{all_pending, first_operand}
 use Rattle.swc_nodes.specs.Rising.{waiting}
@@ -96,7 +96,7 @@ use Rattle.swc_nodes.proofs.Lists.{apart-more, list-later, same_first}
 use Rattle.swc_productions.proofs.ring.+productions.Goals.{parse_arrow_body-then-value}
 use Rattle.swc_productions.proofs.ring.+productions.Goals.{parse_arrow_body-else-value+in-Ok-parse_assignment_expr}
 use Rattle.swc_productions.proofs.ring.+productions.Goals.{parse_arrow_body-else-value+in-Err-parse_assignment_expr}
-use Rattle.swc_arrows.proofs.Dooms.{doomed_later, doomed_unheard, fails_later, opens_after, opens_call_read, opens_later, recovered_fails}
+use Rattle.swc_arrows.proofs.Dooms.{doomed_later, doomed_unheard, fails_later, opens_after, opens_call_read, opens_later}
 use Rattle.swc_arrows.proofs.Begun as begun
 use Rattle.swc_arrows.proofs.Closes.{closed_clean}
 use Rattle.swc_arrows.specs.Readers.{arrow_end, block_inside, name_arrow, others}
