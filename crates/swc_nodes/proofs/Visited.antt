@@ -1,16 +1,15 @@
 -- How a walk goes on, from the last visit to the first.
-use Rattle.std.proofs.Common.{◌≡◌, ℕ, suc, ◌+◌, ◌-◌, ◌<◌, ◌≤◌, get_or, Option, Some, List, [], ◌∷◌, ◌++◌, length, map, reverse}
-use Rattle.std.proofs.Common.{refl, sym, ap, subst, ◌∙◌, arith, append_assoc}
-use Rattle.std.specs.Prelude.{slice_get, vec_len, Contains}
+use Rattle.std.proofs.Common.{◌≡◌, ℕ, suc, ◌+◌, ◌-◌, ◌<◌, ◌≤◌, List, [], ◌∷◌, ◌++◌, length, map, reverse}
+use Rattle.std.proofs.Common.{refl, sym, ap, subst, ◌∙◌, arith}
+use Rattle.std.specs.Prelude.{vec_len, Contains}
 use Rattle.std.specs.declared.alloc.Global.{Global}
 use Rattle.std.specs.declared.vec.Vec.{Vec}
-use Rattle.std.proofs.lemmas.List.{append-nil, get_or-reverse, length-map, length-reverse, reverse-append, length-append}
-use Rattle.std.proofs.lemmas.Option.{slice_get-get_or}
+use Rattle.std.proofs.lemmas.List.{append-nil, length-map, reverse-append, length-append}
 use Rattle.std.proofs.lemmas.List.Elements.{Contains-append_left, Contains-append_right}
 use Rattle.swc_ast.specs.declared.spanned.Spanned.{Ghosts}
-use Rattle.swc_nodes.specs.GrowingNodes.{count, parts_at, Stood}
+use Rattle.swc_nodes.specs.GrowingNodes.{parts_at}
 use Rattle.swc_nodes.specs.NodeParts.{Part, slots}
-use Rattle.swc_nodes.specs.Visits.{innermost, Walked, over, enters, leaves, Within, Due, Goes, IsReady, opened, opening, entering, leaving, left_in, parts_under, Turns, past, left}
+use Rattle.swc_nodes.specs.Visits.{innermost, Walked, over, enters, leaves, Due, Goes, IsReady, opened, opening, entering, leaving, left_in, parts_under, Turns, past, left}
 use Rattle.swc_nodes.specs.Walking.{part_of}
 use Rattle.swc_nodes.specs.declared.apart.PartId.{PartId}
 use Rattle.swc_nodes.specs.Weights.{ats, left_over}
@@ -48,21 +47,6 @@ module _ {A : Type 0} where
   pub empty : (xs : List A) → length xs ≡ 0 → xs ≡ []
   empty [] e = refl
   empty (x ∷ xs) e = absurd (let no : ⊥ = omega arith in no)
-
-head_is : (os : List Open) (d : Open) → 0 < length os → innermost (map (λ o. o.part) os) ≡ Some (get_or os 0 d).part
-head_is [] d lt = absurd (let no : ⊥ = omega arith in no)
-head_is (o ∷ os) d lt = refl
-
--- the last one is the innermost
-pub last_inner : (os : List Open) (r : Option Open) → r ≡ slice_get os (length os - 1) → innermost (opened os) ≡ option_map (λ o. o.part) r
-last_inner [] r e = ap (option_map (λ (o : Open). o.part)) (sym e)
-last_inner (x ∷ xs) r e =
-    let os : List Open = x ∷ xs in
-    let n = length-reverse os in
-    let last : slice_get os (length os - 1) ≡ Some (get_or os (length os - 1) x) = slice_get-get_or os (length os - 1) x (omega arith) in
-    let first : get_or (reverse os) 0 x ≡ get_or os (length os - 1) x =
-    get_or-reverse os 0 x (omega arith) ∙ ap (λ k. get_or os k x) (let z : length os - 1 - 0 ≡ length os - 1 = omega arith in z) in
-    head_is (reverse os) x (omega arith) ∙ ap (λ (o : Open). Some o.part) first ∙ ap (option_map (λ (o : Open). o.part)) (sym (e ∙ last))
 
 module _ (at : ℕ → List Part) (ps : List Part) where
   -- the last part that is due is taken

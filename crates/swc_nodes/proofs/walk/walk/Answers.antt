@@ -1,4 +1,4 @@
-use Rattle.std.proofs.Common.{length, map, reverse, subst, sym, arith, ◌≡◌}
+use Rattle.std.proofs.Common.{length, map, reverse, subst, arith, ◌≡◌}
 use Rattle.swc_nodes.specs.Visits.{IsReady}
 use Rattle.swc_nodes.specs.Walking.{part_of}
 use Rattle.swc_nodes.proofs.Reaching.{going_first, has-reached, found-numbers, rising-apart}
