@@ -360,7 +360,3 @@ module _ {S : Type 0} {model : Model S} {sure : Bool} where
         ∙ same (scope model b) (p.leads.taken ++ ys) ys refl (p.clean l s ys k) (scope model c) ys;
     faulty = o.faulty;
   }
-
-module _ {S F C K : Type 0} {fun_at : F → Span} {class_at : C → Span} {block_at : K → Span} {model : Model S}
-    {sure : Bool} (hook : Hook F C K) (lawful : LawfulHook fun_at class_at block_at hook) where
-    -- ---- after an operand in the code: its links, `++` or `--`, and operators
