@@ -53,15 +53,15 @@ fn find_word(text: &[u8], from: usize, word: &[u8]) -> Option<Span>
     ensures { IfSome result (λ span. IsTextAt text.now span word.now) }
 {
     let rest = text.get(from..)?;
-    let blanks = blanks_len(rest);
-    let found = &rest[blanks..];
-    if !found.starts_with(word) {
-        return None;
+    let lo = from + blanks_len(rest);
+    let hi = lo.checked_add(word.len())?;
+    let span = Span {
+        lo: BytePos(u32::try_from(lo).ok()?),
+        hi: BytePos(u32::try_from(hi).ok()?),
+    };
+    if text.get(lo..hi)? == word {
+        Some(span)
+    } else {
+        None
     }
-    let lo = from + blanks;
-    let hi = u32::try_from(lo + word.len()).ok()?;
-    Some(Span {
-        lo: BytePos(lo as u32),
-        hi: BytePos(hi),
-    })
 }
