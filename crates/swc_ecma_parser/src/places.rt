@@ -26,14 +26,14 @@ pub fn operator_span<N: NodeNumber, F: Spanned + Drop, C: Spanned + Drop, K: Spa
     let node = nodes.node(id)?;
     let operator = node.operator()?;
     let from = operator_from(nodes, node)?;
-    find_word(text.as_bytes(), from, operator.as_bytes())
+    find_word(text.as_bytes(), from.0 as usize, operator.as_bytes())
 }
 
 /// The position after which the operator of a node comes, with blanks and comments before it.
 fn operator_from<F: Spanned + Drop, C: Spanned + Drop, K: Spanned + Drop>(
     nodes: &Nodes<F, C, K>,
     node: &Node<F, C, K>,
-) -> Option<usize> {
+) -> Option<BytePos> {
     let from = match node {
         Node::Bin { left, .. } => nodes.span_of(*left)?.hi,
         Node::Assign { left, .. } => nodes.span_of(*left)?.hi,
@@ -45,7 +45,7 @@ fn operator_from<F: Spanned + Drop, C: Spanned + Drop, K: Spanned + Drop>(
         Node::Update { span, .. } | Node::Unary { span, .. } => span.lo,
         _ => return None,
     };
-    Some(from.0 as usize)
+    Some(from)
 }
 
 /// The place of the word in the text, where it comes after the position, with blanks and comments before it.
