@@ -1,5 +1,5 @@
 -- How a walk goes on, from the last visit to the first.
-use Rattle.std.proofs.Common.{◌≡◌, ℕ, suc, ◌+◌, ◌-◌, ◌<◌, ◌≤◌, List, [], ◌∷◌, ◌++◌, length, map, reverse}
+use Rattle.std.proofs.Common.{◌≡◌, ℕ, suc, ◌<◌, ◌≤◌, List, [], ◌∷◌, ◌++◌, length, map, reverse}
 use Rattle.std.proofs.Common.{refl, sym, ap, subst, ◌∙◌, arith}
 use Rattle.std.specs.Prelude.{vec_len, Contains}
 use Rattle.std.specs.declared.alloc.Global.{Global}
@@ -9,7 +9,7 @@ use Rattle.std.proofs.lemmas.List.Elements.{Contains-append_left, Contains-appen
 use Rattle.swc_ast.specs.declared.spanned.Spanned.{Ghosts}
 use Rattle.swc_nodes.specs.GrowingNodes.{parts_at}
 use Rattle.swc_nodes.specs.NodeParts.{Part, slots}
-use Rattle.swc_nodes.specs.Visits.{innermost, Walked, over, enters, leaves, Due, Goes, IsReady, opened, opening, entering, leaving, left_in, parts_under, Turns, past, left}
+use Rattle.swc_nodes.specs.Visits.{Walked, over, enters, leaves, Due, Goes, IsReady, opened, opening, entering, leaving, left_in, parts_under, Turns, past, left}
 use Rattle.swc_nodes.specs.Walking.{part_of}
 use Rattle.swc_nodes.specs.declared.apart.PartId.{PartId}
 use Rattle.swc_nodes.specs.Weights.{ats, left_over}
