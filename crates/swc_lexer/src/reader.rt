@@ -15,7 +15,8 @@ use swc_context::error::{Error, SyntaxError};
 use swc_context::span::{BytePos, Span};
 use swc_input::token::{Token, TokenAndSpan};
 use swc_lexical::blank::{blanks_len, has_break, hashbang_len};
-use swc_lexical::bytes::{first_char, is_at};
+use swc_lexical::bytes::is_at;
+use swc_lexical::fault::{Wrong, char_len, fault_of};
 use swc_lexical::lexeme::Kind as Lexical;
 use swc_lexical::scan::{Goal, Piece, piece_at};
 
@@ -54,7 +55,7 @@ fn is_edge(text: &[u8], at: usize) -> bool
 
 /// The text from the place on.
 #[tactic(auto, using(crate::proofs::Readings::cut_is))]
-fn rest_from(text: &[u8], at: usize) -> &[u8]
+pub(crate) fn rest_from(text: &[u8], at: usize) -> &[u8]
     requires { at ≤ length text.now }
     ensures { result.now ≡ drop at text.now }
 {
@@ -132,64 +133,70 @@ fn what_comes(end: End, stack: &Stack, rest: &[u8]) -> Here
     piece_here(goal, is_asking(stack.place()), rest)
 }
 
-/// How many bytes the character takes that is here.
-fn char_len(rest: &[u8]) -> usize
-    ensures value { result ≡ readings.char_len rest.now }
-    ensures within { result ≤ length rest.now }
+/// What is wrong, as the parser says it.
+fn kind_of(wrong: Wrong) -> SyntaxError
+    ensures { result ≡ readings.kind_of wrong }
 {
-    match first_char(rest) {
-        Some((_, len)) => len,
-        None => 0,
-    }
-}
-
-/// How far after the place a fault begins, by the goal: after blanks.
-fn fault_offset(goal: Goal, rest: &[u8]) -> usize
-    ensures value { result ≡ readings.fault_offset goal rest.now }
-    ensures within { result ≤ length rest.now }
-{
-    match goal {
-        Goal::Text | Goal::Delimiter => 0,
-        _ => blanks_len(rest),
+    match wrong {
+        Wrong::Comment => SyntaxError::UnterminatedBlockComment,
+        Wrong::Regexp => SyntaxError::UnterminatedRegExp,
+        Wrong::String => SyntaxError::UnterminatedStrLit,
+        Wrong::Template => SyntaxError::UnterminatedTpl,
+        Wrong::Name => SyntaxError::IdentAfterNum,
+        Wrong::Digit => SyntaxError::ExpectedDigit,
+        Wrong::Escape => SyntaxError::BadCharacterEscapeSequence,
+        Wrong::Character => SyntaxError::UnexpectedChar,
     }
 }
 
 /// The token of a fault between two places.
-fn fault_token(lo: usize, hi: usize) -> TokenAndSpan
+fn fault_token(kind: SyntaxError, lo: usize, hi: usize) -> TokenAndSpan
     requires lo { lo < 2 ^ 32 }
     requires hi { hi < 2 ^ 32 }
-    ensures { result ≡ readings.fault_token lo hi }
+    ensures { result ≡ readings.fault_token kind lo hi }
 {
     let span = Span {
         lo: BytePos(lo as u32),
         hi: BytePos(hi as u32),
     };
     TokenAndSpan {
-        token: Token::Error(Error::new(span, SyntaxError::Lex)),
+        token: Token::Error(Error::new(span, kind)),
         had_line_break: false,
         span,
     }
 }
 
-/// The fault of the character at the place.
-fn fault_at(text: &[u8], at: usize) -> TokenAndSpan
-    requires small { length text.now < 2 ^ 32 }
-    requires within { at ≤ length text.now }
-    ensures { result ≡ readings.fault_at text.now at }
+/// Where a fault begins: of a template that isn't closed before its text, with a backquote or a brace.
+fn begins(goal: Goal, at: usize) -> usize
+    ensures value { result ≡ readings.begins goal at }
+    ensures within { result ≤ at }
 {
-    fault_token(at, at + char_len(rest_from(text, at)))
+    match goal {
+        Goal::Text => at.saturating_sub(1),
+        _ => at,
+    }
 }
 
-/// The fault of what comes next, which is no token: where it begins. A template that isn't closed begins before its
-/// text.
+/// The fault of what is here, which is no token.
 fn fault_here(goal: Goal, text: &[u8], at: usize) -> TokenAndSpan
     requires small { length text.now < 2 ^ 32 }
     requires within { at ≤ length text.now }
     ensures { result ≡ readings.fault_here goal text.now at }
 {
-    match goal {
-        Goal::Text => fault_at(text, at.saturating_sub(1)),
-        _ => fault_at(text, at + fault_offset(goal, rest_from(text, at))),
+    let fault = fault_of(goal, rest_from(text, at));
+    let lo = at + fault.offset;
+    fault_token(kind_of(fault.wrong), begins(goal, lo), lo + fault.len)
+}
+
+/// The fault of a piece of so many bytes that is no token: a word with escapes that means a keyword, or a character.
+fn fault_of_kind(kind: Lexical, at: usize, len: usize, text: &[u8]) -> TokenAndSpan
+    requires small { length text.now < 2 ^ 32 }
+    requires within { at + len ≤ length text.now }
+    ensures { result ≡ readings.fault_of_kind kind at len text.now }
+{
+    match kind {
+        Lexical::Word => fault_token(SyntaxError::EscapeInReservedWord, at, at + len),
+        _ => fault_token(SyntaxError::UnexpectedChar, at, at + char_len(rest_from(text, at))),
     }
 }
 
@@ -286,7 +293,8 @@ impl Reader {
         let named = is_dot(self.stack.place());
         match one(alloc, named, self.at, piece, text)? {
             None => {
-                let fault = fault_at(text.as_bytes(), self.at + piece.blanks);
+                let lo = self.at + piece.blanks;
+                let fault = fault_of_kind(piece.kind, lo, piece.len, text.as_bytes());
                 Ok(self.give_fault(fault))
             }
             Some(token) => {
@@ -365,7 +373,7 @@ impl Reader {
             return Ok(None);
         }
         if text.len() > MAX_LEN {
-            return Ok(Some(self.give_fault(fault_token(0, 0))));
+            return Ok(Some(self.give_fault(fault_token(SyntaxError::Lex, 0, 0))));
         }
         self.next_in(alloc, end, text)
     }
