@@ -116,13 +116,16 @@ sign wants bs b =
 abbrev pub begins_number : List ℕ → ℕ → Bool
 begins_number bs b = is_ascii_digit b || nat_eq b 46 && test_at (is_digit Decimal) bs 1
 
+abbrev pub is_quote : ℕ → Bool
+is_quote b = nat_eq b 34 || nat_eq b 39
+
 abbrev pub of_first : Bool → List ℕ → ℕ → Fault
 of_first wants bs b =
     if begins_word b
     then word bs
     else if begins_number bs b
     then number_of (number_len bs) bs
-    else if nat_eq b 34 || nat_eq b 39
+    else if is_quote b
     then string b bs
     else sign wants bs b
 

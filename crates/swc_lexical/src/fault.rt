@@ -276,6 +276,13 @@ fn begins_number(rest: &[u8], byte: u8) -> bool
     byte.is_ascii_digit() || byte == b'.' && Base::Decimal.has_digit_at(rest, 1)
 }
 
+/// Whether a string begins with this byte.
+fn is_quote(byte: u8) -> bool
+    ensures { result ≡ faults.is_quote byte }
+{
+    byte == b'"' || byte == b'\''
+}
+
 /// What is wrong with what begins with this byte, which is here.
 fn of_first(wants: bool, rest: &[u8], byte: u8) -> Fault
     requires { 0 < length rest.now }
@@ -286,7 +293,7 @@ fn of_first(wants: bool, rest: &[u8], byte: u8) -> Fault
         word(rest)
     } else if begins_number(rest, byte) {
         number(rest)
-    } else if byte == b'"' || byte == b'\'' {
+    } else if is_quote(byte) {
         string(byte, rest)
     } else {
         sign(wants, rest, byte)
