@@ -1,8 +1,9 @@
 pub mod Stacks
 pub mod Readings
+pub mod Covers
 pub mod Sums
 pub mod Slashes
 pub mod Lists
-pub mod Comments
+pub mod Gathering
 pub mod Faults
-pub mod Lines
+pub mod Counting

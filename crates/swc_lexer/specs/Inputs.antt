@@ -21,7 +21,7 @@ use Rattle.swc_input.specs.declared.token.TokenAndSpan.{TokenAndSpan}
 use Rattle.swc_lexer.specs.declared.input.TextInput.{TextInput}
 use Rattle.swc_lexer.specs.declared.reader.End.{End}
 use Rattle.swc_lexer.specs.declared.stack.Start.{Start}
-use Rattle.swc_lexer.specs.Legacy.{fault, kind_at, in_number, in_string_by, in_string_at, in_token, legacy_of, is_legacy_token, any_legacy}
+use Rattle.swc_lexer.specs.Legacy.{noted, fault, kind_at, in_number, in_string_by, in_string_at, in_token, legacy_of, is_legacy_token, any_legacy}
 use Rattle.swc_lexer.specs.Readings.{Reading, Gives, gave, stopped, bound, next_of, tokens_from, tokens_of, first, kind_in, reading_of}
 use Rattle.swc_lexer.specs.Coming.{from_next, from_end, next_ended, bound_ended}
 
@@ -85,6 +85,11 @@ new_state e at s bs c x v = record {
   bound = bound bs (first bs at s (kind_in c));
 }
 
+-- of a text without numbers and escapes of old scripts it is listed
+pub new_known : (e : End) (at : ℕ) (s : Start) (bs : List ℕ) (c : Context) (x : Syntax) (v : EsVersion) → any_legacy (tokens_of e at s (kind_in c) bs) ≡ false →
+    (new_state e at s bs c x v).known ≡ Some (map plain (tokens_of e at s (kind_in c) bs))
+new_known e at s bs c x v h = ap (λ b. known_if b (map plain (tokens_of e at s (kind_in c) bs))) h
+
 -- between two states the tokens xs were given, by some calls
 pub record TextGives (s : TextInput) (xs : List TokenAndSpan) (t : TextInput) : Type 0 where
   pub list : coming s ≡ xs ++ coming t
@@ -96,11 +101,6 @@ pub record TextGives (s : TextInput) (xs : List TokenAndSpan) (t : TextInput) : 
 
 -- ---- `next`
 
--- a fault of strict code: recorded there, and in a module; elsewhere it waits, since the text may turn out to be a module
-abbrev pub noted : Option Error → Source → Source
-noted None s = s
-noted (Some e) s = if s.context.strict then with_error e s else with_module_error e s
-
 abbrev pub notes_of : TextInput → Source
 notes_of s = listed_state s.notes
 
@@ -109,11 +109,11 @@ pub record SameText (s t : TextInput) : Type 0 where
   pub text : bytes_of t ≡ bytes_of s
   pub end : t.end ≡ s.end
 
--- the token x was read: it is given, and its fault of strict code is recorded; or this failed
-pub data Hands (s : TextInput) (x : TokenAndSpan) : Option TokenAndSpan → TextInput → Type 0 where
-  handed : {t : TextInput} → t.failed ≡ false → t.held ≡ None → t.legacy ≡ (s.legacy || is_legacy_token x) →
-      notes_of t ≡ noted (legacy_of x) (notes_of s) → Hands s x (Some x) t
-  lost : {t : TextInput} → t.failed ≡ true → t.held ≡ Some x → t.legacy ≡ s.legacy → notes_of t ≡ notes_of s → Hands s x None t
+-- the token x was read, after others, with faults of strict code or not: it is given, and its fault is recorded; or this failed
+pub data Hands (legacy : Bool) (notes : Source) (x : TokenAndSpan) : Option TokenAndSpan → TextInput → Type 0 where
+  handed : {t : TextInput} → t.failed ≡ false → t.held ≡ None → t.legacy ≡ (legacy || is_legacy_token x) →
+      notes_of t ≡ noted (legacy_of x) notes → Hands legacy notes x (Some x) t
+  lost : {t : TextInput} → t.failed ≡ true → t.held ≡ Some x → t.legacy ≡ legacy → notes_of t ≡ notes → Hands legacy notes x None t
 
 -- as it is, but for how far it read
 pub record Rests (s t : TextInput) : Type 0 where
@@ -124,7 +124,7 @@ pub record Rests (s t : TextInput) : Type 0 where
 -- It gave what the text gives next; or nothing more comes; or it failed, or had failed, and gave nothing.
 pub data Takes (s : TextInput) : Option TokenAndSpan → TextInput → Type 0 where
   gives : {r : Option TokenAndSpan} {t : TextInput} (x : TokenAndSpan) → s.held ≡ None → s.failed ≡ false →
-      Gives s.end (bytes_of s) (reading s) (Some x) (reading t) → Hands s x r t → Takes s r t
+      Gives s.end (bytes_of s) (reading s) (Some x) (reading t) → Hands s.legacy (notes_of s) x r t → Takes s r t
   stops : {t : TextInput} → s.failed ≡ false → s.held ≡ None → Gives s.end (bytes_of s) (reading s) None (reading t) → Rests s t → Takes s None t
   rests : {t : TextInput} → t.failed ≡ true → reading t ≡ reading s → Rests s t → Takes s None t
 
@@ -132,6 +132,48 @@ pub data Takes (s : TextInput) : Option TokenAndSpan → TextInput → Type 0 wh
 pub record NextText (s : TextInput) (r : Option TokenAndSpan) (t : TextInput) : Type 0 where
   pub text : SameText s t
   pub token : Takes s r t
+
+or_none : (b : Bool) (o : Option Error) → o ≡ None → b ≡ (b || is_some o)
+or_none true o h = refl
+or_none false o h = sym (ap is_some h)
+
+or_some : (b : Bool) (o : Option Error) (e : Error) → o ≡ Some e → true ≡ (b || is_some o)
+or_some true o e h = refl
+or_some false o e h = sym (ap is_some h)
+
+pub hands_none : (l : Bool) (n : Source) (t : TextInput) (x : TokenAndSpan) → legacy_of x ≡ None → t.failed ≡ false → t.held ≡ None → t.legacy ≡ l →
+    notes_of t ≡ n → Hands l n x (Some x) t
+hands_none l n t x none f held legacy notes = handed f held (legacy ∙ or_none l (legacy_of x) none) (notes ∙ ap (λ o. noted o n) (sym none))
+
+pub hands_some : (l : Bool) (n : Source) (t : TextInput) (x : TokenAndSpan) (e : Error) → legacy_of x ≡ Some e → t.failed ≡ false → t.held ≡ None →
+    t.legacy ≡ true → notes_of t ≡ noted (Some e) n → Hands l n x (Some x) t
+hands_some l n t x e some f held legacy notes =
+    handed f held (legacy ∙ or_some l (legacy_of x) e some) (notes ∙ ap (λ o. noted o n) (sym some))
+
+pub hands_lost : (l : Bool) (n : Source) (t : TextInput) (x : TokenAndSpan) → t.failed ≡ true → t.held ≡ Some x → t.legacy ≡ l → notes_of t ≡ n →
+    Hands l n x None t
+hands_lost l n t x f held legacy notes = lost f held legacy notes
+
+pub next_handed : (s t : TextInput) (r : Option TokenAndSpan) (x : TokenAndSpan) (d : Reading) → s.failed ≡ false → s.held ≡ None →
+    Gives s.end (bytes_of s) (reading s) (Some x) d → bytes_of t ≡ bytes_of s → t.end ≡ s.end → reading t ≡ d → Hands s.legacy (notes_of s) x r t → NextText s r t
+next_handed s t r x d f held g text end is hands = record {
+  text = record { text = text; end = end };
+  token = gives x held f (subst (λ z. Gives s.end (bytes_of s) (reading s) (Some x) z) (sym is) g) hands;
+}
+
+pub next_stopped : (s t : TextInput) → s.failed ≡ false → s.held ≡ None → Gives s.end (bytes_of s) (reading s) None (reading t) → bytes_of t ≡ bytes_of s →
+    t.end ≡ s.end → t.held ≡ s.held → t.legacy ≡ s.legacy → notes_of t ≡ notes_of s → NextText s None t
+next_stopped s t f none g text end held legacy notes = record {
+  text = record { text = text; end = end };
+  token = stops f none g (record { held = held; legacy = legacy; notes = notes });
+}
+
+pub next_failed : (s t : TextInput) → t.failed ≡ true → reading t ≡ reading s → bytes_of t ≡ bytes_of s → t.end ≡ s.end → t.held ≡ s.held →
+    t.legacy ≡ s.legacy → notes_of t ≡ notes_of s → NextText s None t
+next_failed s t f is text end held legacy notes = record {
+  text = record { text = text; end = end };
+  token = rests f is (record { held = held; legacy = legacy; notes = notes });
+}
 
 -- ---- the laws
 
@@ -320,6 +362,12 @@ notes_keeping s t o f is none =
       quiet = λ m h. let q = quiet_noted o (notes_of s) (none m h) in (ap (λ n. n.errors) is ∙ q.0, ap (λ n. n.waiting) is ∙ q.1);
     }
 
+none_some : {A B : Type 0} (x : A) → None ≡ Some x → B
+none_some x h = let k : ⊥ = cc in absurd k
+
+true_false : {B : Type 0} → true ≡ false → B
+true_false h = let k : ⊥ = cc in absurd k
+
 -- the token x comes next, and then the tokens that come after the call
 module _ (s t : TextInput) (x : TokenAndSpan) (same : SameText s t) (none : s.held ≡ None) (runs : s.failed ≡ false)
     (next : next_of s.end (bytes_of s) (reading s) ≡ Some (x, reading t)) (lower : bound (bytes_of s) (reading t) < bound (bytes_of s) (reading s)) where
@@ -330,10 +378,10 @@ module _ (s t : TextInput) (x : TokenAndSpan) (same : SameText s t) (none : s.he
   never_over : {A : Type 0} → is_over s.reader.ended s.held ≡ true → A
   never_over e =
       let o = not_over s.held s.reader.ended e in
-      let h : None ≡ Some (x, reading t) = sym (next_ended s.end (bytes_of s) (reading s) o.0) ∙ next in cc
+      none_some (x, reading t) (sym (next_ended s.end (bytes_of s) (reading s) o.0) ∙ next)
 
   never_failed : {A : Type 0} → s.failed ≡ true → A
-  never_failed e = let h : true ≡ false = sym e ∙ runs in cc
+  never_failed e = true_false (sym e ∙ runs)
 
   less_left : (o : Option TokenAndSpan) → t.held ≡ o → left t < length (held_list o) + left s
   less_left o is =
@@ -362,7 +410,7 @@ module _ (s t : TextInput) (x : TokenAndSpan) (same : SameText s t) (none : s.he
                   let l = (or_first s.legacy (any_legacy (to_come s)) k).1 in
                   (or_first (is_legacy_token x) (any_legacy (to_come t)) (ap any_legacy (sym now) ∙ l)).0);
           runs = (runs, f);
-          lower = less_left None held;
+          lower = (let l = less_left None held in omega (arith, l));
         };
       }
 
@@ -380,12 +428,12 @@ module _ (s t : TextInput) (x : TokenAndSpan) (same : SameText s t) (none : s.he
         };
         token = record {
           keeping = notes_keeping s t None tt notes (λ m h. refl);
-          ended = λ h. let k : true ≡ false = sym f ∙ h in cc;
+          ended = λ h. true_false (sym f ∙ h);
           lower = (let l = less_left (Some x) held in omega (arith, l));
         };
       }
 
-  asked_hands : (r : Option TokenAndSpan) → Hands s x r t → Asked text_model s r t
+  asked_hands : (r : Option TokenAndSpan) → Hands s.legacy (notes_of s) x r t → Asked text_model s r t
   asked_hands r (handed f held legacy notes) = asked_handed f held legacy notes
   asked_hands r (lost f held legacy notes) = asked_lost f held legacy notes
 
@@ -418,7 +466,7 @@ asked_stops s t same runs none next over rest =
     asked_none s t rest
     (only_held t held ∙ from_end t.end (bytes_of t) (reading t) (next_ended t.end (bytes_of t) (reading t) over)
       ∙ sym (only_held s none ∙ from_end s.end (bytes_of s) (reading s) next))
-    (λ e. over_none t held over) (λ e. let h : true ≡ false = sym e ∙ runs in cc) (λ e. over_none t held over) (omega (arith, a, b, z))
+    (λ e. over_none t held over) (λ e. true_false (sym e ∙ runs)) (λ e. over_none t held over) (omega (arith, a, b, z))
 
 asked_rests : (s t : TextInput) → SameText s t → t.failed ≡ true → reading t ≡ reading s → Rests s t → Asked text_model s None t
 asked_rests s t same f is rest =
@@ -428,7 +476,7 @@ asked_rests s t same f is rest =
     let c = ap (bound (bytes_of s)) is in
     asked_none s t rest (ap (λ o. held_list o ++ tokens_from t.end (bytes_of t) (reading t)) rest.held ∙ ap (λ l. held_list s.held ++ l) now)
     (λ e. ap (λ o. is_over t.reader.ended o) rest.held ∙ ap (λ r. is_over r.ended s.held) is ∙ e)
-    (λ e. f) (λ h. let k : true ≡ false = sym f ∙ h in cc) (omega (arith, a, b, c))
+    (λ e. f) (λ h. true_false (sym f ∙ h)) (omega (arith, a, b, c))
 
 pub text_asked : (s : TextInput) (r : Option TokenAndSpan) (t : TextInput) → NextText s r t → Asked text_model s r t
 text_asked s r t n = asked_by s r t n.text n.token

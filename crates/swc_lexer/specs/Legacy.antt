@@ -1,9 +1,10 @@
 -- The faults of strict code that a token has: numbers and escapes of old scripts (ECMA-262, 12.9.3.1 and 12.9.4.1).
-use Rattle.std.specs.Prelude.{ℕ, ◌+◌, Bool, true, false, ◌||◌, ◌&&◌, if◌then◌else◌, nat_eq, nat_le, List, [], ◌∷◌, Option, Some, None, slice_get, drop}
+use Rattle.std.specs.Prelude.{◌≡◌, ◌++◌, ℕ, ◌+◌, Bool, true, false, ◌||◌, ◌&&◌, if◌then◌else◌, nat_eq, nat_le, List, [], ◌∷◌, Option, Some, None, slice_get, drop}
 use Rattle.std.specs.Option.{is_some}
 use Rattle.swc_context.specs.declared.error.Error.{Error}
 use Rattle.swc_context.specs.declared.error.SyntaxError.{SyntaxError, LegacyOctal, LegacyDecimal}
 use Rattle.swc_context.specs.declared.span.Span.{Span}
+use Rattle.swc_input.specs.Source.{Source, with_error, with_module_error}
 use Rattle.swc_input.specs.declared.token.Token.{Token}
 use Rattle.swc_input.specs.declared.token.Token.TheVariants as token
 use Rattle.swc_input.specs.declared.token.TokenAndSpan.{TokenAndSpan}
@@ -19,9 +20,12 @@ fault s k = record { span = s; kind = k }
 abbrev pub between : ℕ → ℕ → Span
 between lo hi = record { lo = record { 0 = lo }; hi = record { 0 = hi } }
 
+abbrev pub has_part : Span → ℕ → ℕ → Bool
+has_part s offset n = nat_le (s.lo.0 + offset + n) s.hi.0
+
 -- so many bytes of a token, after its first ones; the whole token where it is shorter
 abbrev pub part_of : Span → ℕ → ℕ → Span
-part_of s offset n = if nat_le (s.lo.0 + offset + n) s.hi.0 then between (s.lo.0 + offset) (s.lo.0 + offset + n) else s
+part_of s offset n = if has_part s offset n then between (s.lo.0 + offset) (s.lo.0 + offset + n) else s
 
 -- ---- numbers: 010, and 08
 
@@ -63,11 +67,22 @@ abbrev pub any_legacy : List TokenAndSpan → Bool
 any_legacy [] = false
 any_legacy (t ∷ ts) = is_legacy_token t || any_legacy ts
 
-abbrev pub and_those : Option Error → List Error → List Error
-and_those None es = es
-and_those (Some e) es = e ∷ es
+abbrev pub fault_list : Option Error → List Error
+fault_list None = []
+fault_list (Some e) = e ∷ []
 
 -- the faults of all tokens, in their order
 abbrev pub legacy_faults : List TokenAndSpan → List Error
 legacy_faults [] = []
-legacy_faults (t ∷ ts) = and_those (legacy_of t) (legacy_faults ts)
+legacy_faults (t ∷ ts) = fault_list (legacy_of t) ++ legacy_faults ts
+
+-- the faults of the tokens before the place are these
+pub record FaultsTo (ts : List TokenAndSpan) (i : ℕ) (es : List Error) : Type 0 where
+  pub sum : es ++ legacy_faults (drop i ts) ≡ legacy_faults ts
+
+-- ---- recording
+
+-- a fault of strict code: recorded there, and in a module; elsewhere it waits, since the text may turn out to be a module
+abbrev pub noted : Option Error → Source → Source
+noted None s = s
+noted (Some e) s = if s.context.strict then with_error e s else with_module_error e s

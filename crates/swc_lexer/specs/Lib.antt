@@ -10,3 +10,4 @@ pub mod Inputs
 pub mod Reads
 pub mod Comments
 pub mod Lines
+pub mod Covers

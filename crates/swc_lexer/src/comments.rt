@@ -1,6 +1,6 @@
 //! The comments of a text (ECMA-262, 12.4 and 12.5).
 ghost use Rattle.std.specs.Prelude.{◌≡◌, ◌+◌, ◌++◌, ◌≤◌, ◌<◌, ◌^◌, length, IfOk, OnOk, MatchOption, [], ◌∷◌};
-ghost use Rattle.swc_lexer.specs.Comments as comments;
+ghost use Rattle.swc_lexer.specs.Comments as grammar;
 ghost use Rattle.swc_lexer.specs.Readings as readings;
 
 use crate::place::Kind;
@@ -36,7 +36,7 @@ pub struct Comment {
 fn made(kind: CommentKind, lo: usize, hi: usize) -> Comment
     requires lo { lo < 2 ^ 32 }
     requires hi { hi < 2 ^ 32 }
-    ensures { result ≡ comments.comment kind lo hi }
+    ensures { result ≡ grammar.comment kind lo hi }
 {
     Comment {
         kind,
@@ -50,8 +50,8 @@ fn made(kind: CommentKind, lo: usize, hi: usize) -> Comment
 /// The comment that is here, at this place of a text.
 fn comment_here(at: usize, rest: &[u8]) -> Option<Comment>
     requires { at + length rest.now < 2 ^ 32 }
-    ensures { MatchOption result ([] ≡ comments.comment_here at rest.now)
-        (λ c. c ∷ [] ≡ comments.comment_here at rest.now) }
+    ensures { MatchOption result ([] ≡ grammar.comment_here at rest.now)
+        (λ c. c ∷ [] ≡ grammar.comment_here at rest.now) }
 {
     let len = comment_len(rest);
     if len == 0 {
@@ -68,7 +68,7 @@ fn comment_here(at: usize, rest: &[u8]) -> Option<Comment>
 /// Adds the comment that is here, if there is one.
 fn push_here(comments: &mut Vec<Comment>, at: usize, rest: &[u8]) -> Result<(), AllocError>
     requires { at + length rest.now < 2 ^ 32 }
-    ensures { OnOk result (comments.new.items ≡ comments.old.items ++ comments.comment_here at rest.now) }
+    ensures { OnOk result (comments.new.items ≡ comments.old.items ++ grammar.comment_here at rest.now) }
 {
     match comment_here(at, rest) {
         Some(comment) => comments.push(comment)?,
@@ -78,10 +78,10 @@ fn push_here(comments: &mut Vec<Comment>, at: usize, rest: &[u8]) -> Result<(), 
 }
 
 /// Adds the comments among the blanks that are here, at this place of a text.
-#[tactic(auto, using(crate::proofs::Comments::ReadsTo_begin))]
+#[tactic(auto, using(crate::proofs::Gathering::ReadsTo_begin))]
 fn push_comments(comments: &mut Vec<Comment>, lo: usize, blanks: &[u8]) -> Result<(), AllocError>
     requires { lo + length blanks.now < 2 ^ 32 }
-    ensures { OnOk result (comments.new.items ≡ comments.old.items ++ comments.comments_from lo 0 blanks.now) }
+    ensures { OnOk result (comments.new.items ≡ comments.old.items ++ grammar.comments_from lo 0 blanks.now) }
 {
     let mut at = 0;
     while at < blanks.len() {
@@ -104,7 +104,7 @@ fn push_between(
     hi: usize,
 ) -> Result<(), AllocError>
     requires { length text.now < 2 ^ 32 }
-    ensures { OnOk result (comments.new.items ≡ comments.old.items ++ comments.comments_between text.now lo hi) }
+    ensures { OnOk result (comments.new.items ≡ comments.old.items ++ grammar.comments_between text.now lo hi) }
 {
     if lo <= hi && hi <= text.len() {
         push_comments(comments, lo, &text[lo..hi])?;
@@ -113,7 +113,7 @@ fn push_between(
 }
 
 /// Adds the comments before the tokens, and after the last.
-#[tactic(auto, using(crate::proofs::Comments::GoesTo_begin))]
+#[tactic(auto, using(crate::proofs::Gathering::GoesTo_begin))]
 fn push_among(
     comments: &mut Vec<Comment>,
     text: &[u8],
@@ -122,20 +122,21 @@ fn push_among(
 ) -> Result<(), AllocError>
     requires { length text.now < 2 ^ 32 }
     ensures { OnOk result
-        (comments.new.items ≡ comments.old.items ++ comments.comments_among text.now begin tokens.now) }
+        (comments.new.items ≡ comments.old.items ++ grammar.comments_among text.now begin tokens.now) }
 {
     let mut at = begin;
     for token in tokens {
         push_between(comments, text, at, token.span.lo.0 as usize)?;
         at = token.span.hi.0 as usize;
     }
-    push_between(comments, text, at, text.len())
+    push_between(comments, text, at, text.len())?;
+    Ok(())
 }
 
 /// Adds `#!` and its line, if the text begins so.
 fn push_hashbang(comments: &mut Vec<Comment>, text: &[u8]) -> Result<(), AllocError>
     requires { length text.now < 2 ^ 32 }
-    ensures { OnOk result (comments.new.items ≡ comments.old.items ++ comments.hashbang text.now) }
+    ensures { OnOk result (comments.new.items ≡ comments.old.items ++ grammar.hashbang text.now) }
 {
     let len = hashbang_len(text);
     if 0 < len {
@@ -151,7 +152,7 @@ pub fn comments_of(
     text: &str,
     tokens: &[TokenAndSpan],
 ) -> Result<Vec<Comment>, AllocError>
-    ensures { IfOk result (λ v. length text.now < 2 ^ 32 → v.items ≡ comments.comments_of text.now tokens.now) }
+    ensures { IfOk result (λ v. length text.now < 2 ^ 32 → v.items ≡ grammar.comments_of text.now tokens.now) }
 {
     let mut comments = Vec::new(alloc);
     let bytes = text.as_bytes();
@@ -170,7 +171,7 @@ pub fn comments_between(
     lo: usize,
     hi: usize,
 ) -> Result<Vec<Comment>, AllocError>
-    ensures { IfOk result (λ v. length text.now < 2 ^ 32 → v.items ≡ comments.comments_between text.now lo hi) }
+    ensures { IfOk result (λ v. length text.now < 2 ^ 32 → v.items ≡ grammar.comments_between text.now lo hi) }
 {
     let mut comments = Vec::new(alloc);
     let bytes = text.as_bytes();
@@ -190,7 +191,7 @@ pub fn read_comments(
     kind: Kind,
 ) -> PResult<Vec<Comment>>
     ensures { IfOk result (λ v. length text.now < 2 ^ 32
-        → v.items ≡ comments.comments_of text.now (readings.tokens_of end 0 start kind text.now)) }
+        → v.items ≡ grammar.comments_of text.now (readings.tokens_of end 0 start kind text.now)) }
 {
     let tokens = read_text(alloc, text, start, end, kind)?;
     match comments_of(alloc, text, tokens.as_slice()) {

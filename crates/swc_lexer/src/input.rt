@@ -1,7 +1,7 @@
 //! A text as a source of the parser, which reads its tokens as they are asked for.
 ghost use Rattle.std.specs.Prelude.{◌≡◌, ◌≤◌, false, length, string_bytes, OnOk, OnErr, Some, None};
 ghost use Rattle.swc_input.specs.Listed.{listed_state};
-ghost use Rattle.swc_lexer.specs.Inputs as inputs;
+ghost use Rattle.swc_lexer.specs.Legacy.{noted};
 
 use crate::legacy::legacy_fault;
 use crate::reader::{End, MAX_LEN, Reader, kind_in};
@@ -39,7 +39,7 @@ pub struct TextInput {
 /// Records a fault of strict code, or has it wait outside of it. The only error is out of memory, and then nothing
 /// changes.
 fn note(notes: &mut TokensInput, fault: Error) -> Result<(), AllocError>
-    ensures noted { OnOk result (listed_state notes.new ≡ inputs.noted (Some fault) (listed_state notes.old)) }
+    ensures noted { OnOk result (listed_state notes.new ≡ noted (Some fault) (listed_state notes.old)) }
     ensures unchanged { OnErr result (listed_state notes.new ≡ listed_state notes.old) }
 {
     if notes.ctx().strict {
@@ -50,6 +50,8 @@ fn note(notes: &mut TokensInput, fault: Error) -> Result<(), AllocError>
 }
 
 impl TextInput {
+    ghost use Rattle.swc_lexer.specs.Inputs as inputs;
+
     /// A source of the tokens of this text, of a program or of an expression. Takes no memory.
     pub fn new(
         alloc: Global,
@@ -98,11 +100,12 @@ impl TextInput {
 
     /// Gives the token, whose fault of strict code, if it has one, is recorded. Where there is no memory to record it, the
     /// source fails.
+    #[tactic(auto, using(crate::specs::Inputs::hands_none, crate::specs::Inputs::hands_some, crate::specs::Inputs::hands_lost))]
     fn hand(&mut self, token: TokenAndSpan) -> Option<TokenAndSpan>
         requires { self.old.failed ≡ false }
         ensures same { inputs.SameText self.old self.new }
         ensures reading { inputs.reading self.new ≡ inputs.reading self.old }
-        ensures hands { inputs.Hands self.old token result self.new }
+        ensures hands { inputs.Hands self.old.legacy (inputs.notes_of self.old) token result self.new }
     {
         match legacy_fault(&token) {
             None => Some(token),
@@ -138,6 +141,7 @@ impl Iterator for TextInput {
 
     ghost remaining = { λ s. at_most (left s) };
 
+    #[tactic(auto, using(crate::specs::Inputs::next_handed, crate::specs::Inputs::next_stopped, crate::specs::Inputs::next_failed))]
     fn next(&mut self) -> Option<TokenAndSpan> {
         if self.failed {
             return None;

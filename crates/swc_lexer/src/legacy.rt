@@ -1,5 +1,5 @@
 //! The faults of strict code that tokens have: numbers and escapes of old scripts (ECMA-262, 12.9.3.1 and 12.9.4.1).
-ghost use Rattle.std.specs.Prelude.{◌≡◌, ◌+◌, ◌<◌, ◌≤◌, ◌^◌, length, IfOk, slice_get};
+ghost use Rattle.std.specs.Prelude.{◌≡◌, ◌+◌, ◌++◌, ◌<◌, ◌≤◌, length, true, IfOk, OnOk, slice_get};
 ghost use Rattle.swc_lexer.specs.Legacy as legacy;
 
 use std::alloc::{AllocError, Global};
@@ -11,17 +11,25 @@ use swc_lexical::escape::string_escape_len;
 use swc_lexical::number::{Base, is_legacy, is_octal};
 use swc_lexical::string::string_run;
 
+/// Whether so many bytes after the first ones are in the span.
+fn has_part(span: Span, offset: usize, len: usize) -> bool
+    ensures value { result ≡ legacy.has_part span offset len }
+    ensures within { result ≡ true → span.lo.0 + offset + len ≤ span.hi.0 }
+{
+    let (lo, hi) = (span.lo.0 as usize, span.hi.0 as usize);
+    offset <= hi && len <= hi && lo + offset + len <= hi
+}
+
 /// So many bytes of a token, after its first ones; the whole token where it is shorter.
 fn part_of(span: Span, offset: usize, len: usize) -> Span
-    requires { offset + len < 2 ^ 62 }
     ensures { result ≡ legacy.part_of span offset len }
 {
-    let lo = span.lo.0 as usize + offset;
-    let hi = lo + len;
-    if hi <= span.hi.0 as usize {
+    let has = has_part(span, offset, len);
+    if has {
+        let lo = span.lo.0 + offset as u32;
         Span {
-            lo: BytePos(lo as u32),
-            hi: BytePos(hi as u32),
+            lo: BytePos(lo),
+            hi: BytePos(lo + len as u32),
         }
     } else {
         span
@@ -89,6 +97,17 @@ pub fn legacy_fault(token: &TokenAndSpan) -> Option<Error>
     }
 }
 
+/// Adds that fault, if the token has one.
+fn push_fault(faults: &mut Vec<Error>, token: &TokenAndSpan) -> Result<(), AllocError>
+    ensures { OnOk result (faults.new.items ≡ faults.old.items ++ legacy.fault_list (legacy.legacy_of token.now)) }
+{
+    match legacy_fault(token) {
+        Some(fault) => faults.push(fault)?,
+        None => {}
+    }
+    Ok(())
+}
+
 /// Those faults of all tokens, in their order. Whoever reads tokens from a list adds them to what is recorded where the
 /// code is strict, or a module; `TextInput` records them itself. The only error is out of memory.
 #[tactic(auto, using(crate::proofs::Faults::FaultsTo_begin))]
@@ -97,9 +116,7 @@ pub fn legacy_faults(alloc: Global, tokens: &[TokenAndSpan]) -> Result<Vec<Error
 {
     let mut faults = Vec::new(alloc);
     for token in tokens {
-        if let Some(fault) = legacy_fault(token) {
-            faults.push(fault)?;
-        }
+        push_fault(&mut faults, token)?;
     }
     Ok(faults)
 }

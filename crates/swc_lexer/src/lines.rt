@@ -93,13 +93,14 @@ fn step(point: Point, text: &[u8], at: usize) -> Point
 }
 
 /// What is known of a later place.
-fn advance(point: Point, text: &[u8], from: usize, to: usize) -> Point
+#[tactic(auto, using(crate::proofs::Counting::lines_most, crate::proofs::Counting::chars_most, crate::proofs::Counting::units_most))]
+fn advance(begin: Point, text: &[u8], from: usize, to: usize) -> Point
     requires from { from ≤ to }
     requires to { to ≤ length text.now }
-    requires point { point ≡ lines.point_of text.now from }
+    requires begin { begin ≡ lines.point_of text.now from }
     ensures { result ≡ lines.point_of text.now to }
 {
-    let mut point = point;
+    let mut point = begin;
     let mut at = from;
     while at < to {
         point = step(point, text, at);
@@ -112,6 +113,7 @@ fn advance(point: Point, text: &[u8], from: usize, to: usize) -> Point
 const GAP: usize = 256;
 
 /// What is known of every 256th place of the text.
+#[tactic(auto, using(crate::proofs::Counting::MarkedTo_begin))]
 fn marks_of(alloc: Global, text: &[u8]) -> Result<Vec<Point>, AllocError>
     ensures { IfOk result (λ marks. lines.AreMarks text.now marks.items) }
 {
@@ -142,8 +144,6 @@ pub struct Lines<'t> {
 }
 
 impl<'t> Lines<'t> {
-    ghost use Rattle.swc_lexer.specs.Lines as lines;
-
     /// The lines of this text. Refused only when out of memory: it takes an eighth of the text.
     pub fn new(alloc: Global, text: &'t str) -> Result<Lines<'t>, AllocError>
         ensures { IfOk result (λ l. l.text.now ≡ text.now) }
@@ -165,6 +165,7 @@ impl<'t> Lines<'t> {
     }
 
     /// The line and the column of a place, in bytes. A place after the end counts as the end.
+    #[tactic(auto, using(crate::proofs::Counting::start_most, crate::proofs::Counting::count_monotone))]
     pub fn position(&self, at: usize) -> Position
         ensures { result ≡ lines.position_of self.now.text.now (lines.place_in self.now.text.now at) }
     {

@@ -2,6 +2,7 @@
 ghost use Rattle.std.specs.Prelude.{◌≡◌, ◌+◌, ◌≤◌, ◌<◌, ◌^◌, length, drop, false, IfOk, IfSome, OnErr};
 ghost use Rattle.swc_lexer.specs.Readings as readings;
 ghost use Rattle.swc_lexer.specs.Stacks as stacks;
+ghost use Rattle.swc_lexical.specs.Blanks.{blanks_len};
 ghost use Rattle.swc_lexical.specs.Scans as scans;
 ghost use Rattle.swc_lexical.specs.Templates as templates;
 
@@ -18,7 +19,7 @@ use swc_lexical::blank::{blanks_len, has_break, hashbang_len};
 use swc_lexical::bytes::is_at;
 use swc_lexical::fault::{Wrong, char_len, fault_of};
 use swc_lexical::lexeme::Kind as Lexical;
-use swc_lexical::scan::{Goal, Piece, piece_at};
+use swc_lexical::scan::{Goal, Piece, piece_after};
 
 /// The length of the longest text that can be read, in bytes.
 pub const MAX_LEN: usize = 4_294_967_295;
@@ -77,31 +78,31 @@ fn gapes(asks: bool, piece: Piece, rest: &[u8]) -> bool
     asks && 0 < piece.blanks && is_sign && piece.len == 1 && is_at(rest, piece.blanks, b'.')
 }
 
-/// Whether nothing but blanks is left, or the `}` before which the text ends.
-fn is_over(end: End, stack: &Stack, goal: Goal, rest: &[u8]) -> bool
+/// Whether nothing but blanks is left, of which so many bytes are here, or the `}` before which the text ends.
+fn is_over(end: End, stack: &Stack, goal: Goal, blanks: usize, rest: &[u8]) -> bool
+    requires { blanks ≡ blanks_len rest.now }
     ensures { result ≡ readings.is_over end (stacks.state_of stack.now) goal rest.now }
 {
     match goal {
         Goal::Text | Goal::Delimiter => false,
-        _ => {
-            let blanks = blanks_len(rest);
-            match end {
-                End::Whole => blanks == rest.len(),
-                End::BeforeBrace => {
-                    blanks == rest.len() || is_at(rest, blanks, b'}') && !stack.has_brace()
-                }
+        _ => match end {
+            End::Whole => blanks == rest.len(),
+            End::BeforeBrace => {
+                blanks == rest.len() || is_at(rest, blanks, b'}') && !stack.has_brace()
             }
-        }
+        },
     }
 }
 
-/// The token that is here, by the goal, or a fault.
-fn piece_here(goal: Goal, asks: bool, rest: &[u8]) -> Here
+/// The token that is here, by the goal, after so many bytes of blanks, or a fault.
+fn piece_here(goal: Goal, asks: bool, blanks: usize, rest: &[u8]) -> Here
+    requires within { blanks ≤ length rest.now }
+    requires blanks { blanks ≡ blanks_len rest.now }
     ensures value { result ≡ readings.piece_here goal asks rest.now }
     ensures within { readings.IsWithin result (length rest.now) }
     ensures goal { readings.HasGoal result goal }
 {
-    match piece_at(goal, rest) {
+    match piece_after(goal, blanks, rest) {
         None => Here::Fault,
         Some(piece) => {
             if moves(piece) && !gapes(asks, piece, rest) {
@@ -113,11 +114,13 @@ fn piece_here(goal: Goal, asks: bool, rest: &[u8]) -> Here
     }
 }
 
-/// Which goal of the lexical grammar comes next.
-fn goal_here(stack: &Stack, rest: &[u8]) -> Goal
+/// Which goal of the lexical grammar comes next, after so many bytes of blanks.
+fn goal_here(stack: &Stack, blanks: usize, rest: &[u8]) -> Goal
+    requires within { blanks ≤ length rest.now }
+    requires blanks { blanks ≡ blanks_len rest.now }
     ensures { result ≡ readings.goal_here (stacks.state_of stack.now) rest.now }
 {
-    stack.goal(has_break(rest, blanks_len(rest)))
+    stack.goal(has_break(rest, blanks))
 }
 
 /// What comes next.
@@ -126,11 +129,12 @@ fn what_comes(end: End, stack: &Stack, rest: &[u8]) -> Here
     ensures within { readings.IsWithin result (length rest.now) }
     ensures goal { readings.HasGoal result (readings.goal_here (stacks.state_of stack.now) rest.now) }
 {
-    let goal = goal_here(stack, rest);
-    if is_over(end, stack, goal, rest) {
+    let blanks = blanks_len(rest);
+    let goal = goal_here(stack, blanks, rest);
+    if is_over(end, stack, goal, blanks, rest) {
         return Here::Over;
     }
-    piece_here(goal, is_asking(stack.place()), rest)
+    piece_here(goal, is_asking(stack.place()), blanks, rest)
 }
 
 /// What is wrong, as the parser says it.
@@ -315,7 +319,8 @@ impl Reader {
             ≡ readings.given_fault text.now (readings.reading_of self.old) }
         ensures at { self.new.at ≡ self.old.at }
     {
-        let goal = goal_here(&self.stack, rest_from(text, self.at));
+        let rest = rest_from(text, self.at);
+        let goal = goal_here(&self.stack, blanks_len(rest), rest);
         let fault = fault_here(goal, text, self.at);
         self.give_fault(fault)
     }

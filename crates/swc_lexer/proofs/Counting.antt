@@ -1,8 +1,11 @@
 -- Lines and columns.
-use Rattle.std.proofs.Common.{◌≡◌, ℕ, zero, suc, ◌+◌, ◌-◌, ◌*◌, ◌/◌, ◌<◌, ◌≤◌, Bool, true, false, List, [], ◌∷◌, ◌++◌, length, refl, sym, ap, ◌∙◌, arith}
-use Rattle.std.specs.Prelude.{if◌then◌else◌}
+use Rattle.std.proofs.Common.{◌≡◌, ℕ, zero, suc, ◌+◌, ◌-◌, ◌*◌, ◌/◌, ◌<◌, ◌≤◌, Bool, true, false, List, [], ◌∷◌, ◌++◌, length, length-append, refl, sym, ap, ◌∙◌, subst, arith}
+use Rattle.std.specs.Prelude.{if◌then◌else◌, nat_lt, slice_index_or}
+use Rattle.std.proofs.lemmas.Bool.Decides.{nat_tests}
+use Rattle.std.proofs.lemmas.List.{get_or_append_left, get_or_push}
 use Rattle.swc_lexer.specs.declared.lines.Point.{Point}
-use Rattle.swc_lexer.specs.Lines.{count, line_start, ends_line, begins_char, is_long, one_if, point_of, step}
+use Rattle.swc_lexer.specs.Lines.{count, line_start, ends_line, begins_char, is_long, one_if, point_of, step, AreMarks, MarkedTo}
+use Rattle.swc_lexer.specs.Coming.{is_lt}
 
 if_suc : (b : Bool) (n : ℕ) → (if b then suc n else n) ≡ n + one_if b
 if_suc true n = omega arith
@@ -75,3 +78,53 @@ chars_most bs n p is = let e = ap (λ x. x.chars) is in let c = count_most (begi
 pub units_most : (bs : List ℕ) (n : ℕ) (p : Point) → p ≡ point_of bs n → p.units ≤ 2 * n
 units_most bs n p is =
     let e = ap (λ x. x.units) is in let c = count_most (begins_char bs) n in let d = count_most (is_long bs) n in omega (arith, e, c, d)
+
+-- ---- marks
+
+not_lt : (a b : ℕ) → nat_lt a b ≡ false → b ≤ a
+not_lt a b h = grind (arith, nat_tests)
+
+pub MarkedTo_begin : (bs : List ℕ) (p : Point) → p ≡ point_of bs 0 → MarkedTo bs [] 0 p
+MarkedTo_begin bs p is = record { within = omega arith; is = is; place = omega arith; each = λ k h d. absurd (omega (arith, h)) }
+
+marked_more : (bs : List ℕ) (ms : List Point) (x : Point) (k : ℕ) (d : Point) → x ≡ point_of bs (256 * length ms) →
+    ((k : ℕ) → k < length ms → (d : Point) → slice_index_or ms k d ≡ point_of bs (256 * k)) → k < length (ms ++ x ∷ []) →
+    slice_index_or (ms ++ x ∷ []) k d ≡ point_of bs (256 * k)
+marked_more bs ms x k d is each h = by_order (nat_lt k (length ms)) refl
+  where
+    by_order : (b : Bool) → nat_lt k (length ms) ≡ b → slice_index_or (ms ++ x ∷ []) k d ≡ point_of bs (256 * k)
+    by_order true e = let lt = is_lt k (length ms) e in get_or_append_left ms (x ∷ []) d k lt ∙ each k lt d
+    by_order false e =
+        let le = not_lt k (length ms) e in
+        let n = length-append ms (x ∷ []) in
+        let same : length ms ≡ k = omega (arith, le, h, n) in
+        get_or_push ms x d k same ∙ is ∙ ap (λ j. point_of bs (256 * j)) same
+
+pub MarkedTo_more : (bs : List ℕ) (ms now : List Point) (at : ℕ) (p q : Point) → MarkedTo bs ms at p → now ≡ ms ++ p ∷ [] → 256 ≤ length bs - at →
+    q ≡ point_of bs (at + 256) → MarkedTo bs now (at + 256) q
+MarkedTo_more bs ms now at p q i added some is =
+    let w = i.within in
+    let pl = i.place in
+    let n = length-append ms (p ∷ []) in
+    let l = ap length added in
+    let here : p ≡ point_of bs (256 * length ms) = i.is ∙ ap (point_of bs) i.place in
+    record {
+      within = omega (arith, w, some);
+      is = is;
+      place = omega (arith, pl, n, l);
+      each = λ k h d. ap (λ m. slice_index_or m k d) added
+          ∙ marked_more bs ms p k d here i.each (subst (λ m. k < length m) added h);
+    }
+
+pub MarkedTo_over : (bs : List ℕ) (ms now : List Point) (at : ℕ) (p : Point) → MarkedTo bs ms at p → now ≡ ms ++ p ∷ [] → length bs - at < 256 → AreMarks bs now
+MarkedTo_over bs ms now at p i added few =
+    let w = i.within in
+    let pl = i.place in
+    let n = length-append ms (p ∷ []) in
+    let l = ap length added in
+    let here : p ≡ point_of bs (256 * length ms) = i.is ∙ ap (point_of bs) i.place in
+    record {
+      len = omega (arith, w, pl, n, l, few);
+      each = λ k h d. ap (λ m. slice_index_or m k d) added
+          ∙ marked_more bs ms p k d here i.each (subst (λ m. k < length m) added h);
+    }
