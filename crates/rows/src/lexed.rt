@@ -75,11 +75,7 @@ fn show_comments(out: &mut String, comments: &[Comment]) -> Result<(), AllocErro
 }
 
 /// Writes the faults that the tokens have in strict code.
-fn show_faults(
-    alloc: Global,
-    out: &mut String,
-    tokens: &[TokenAndSpan],
-) -> Result<(), AllocError> {
+fn show_faults(alloc: Global, out: &mut String, tokens: &[TokenAndSpan]) -> Result<(), AllocError> {
     let mut count: usize = 0;
     for fault in legacy_faults(alloc, tokens)? {
         begin_part(out, count, ", ")?;

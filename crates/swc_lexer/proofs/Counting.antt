@@ -1,5 +1,5 @@
 -- Lines and columns.
-use Rattle.std.proofs.Common.{◌≡◌, ℕ, zero, suc, ◌+◌, ◌-◌, ◌*◌, ◌/◌, ◌<◌, ◌≤◌, Bool, true, false, List, [], ◌∷◌, ◌++◌, length, length-append, refl, sym, ap, ◌∙◌, subst, arith}
+use Rattle.std.proofs.Common.{◌≡◌, ℕ, zero, suc, ◌+◌, ◌-◌, ◌*◌, ◌<◌, ◌≤◌, Bool, true, false, List, [], ◌∷◌, ◌++◌, length, length-append, refl, sym, ap, ◌∙◌, subst, arith}
 use Rattle.std.specs.Prelude.{if◌then◌else◌, nat_lt, slice_index_or}
 use Rattle.std.proofs.lemmas.Bool.Decides.{nat_tests}
 use Rattle.std.proofs.lemmas.List.{get_or_append_left, get_or_push}
@@ -61,7 +61,7 @@ point_more bs n p q is next =
     let d = count_suc (is_long bs) n in
     let s = start_suc bs n in
     let u : count (begins_char bs) (suc n) + count (is_long bs) (suc n)
-            ≡ count (begins_char bs) n + count (is_long bs) n + one_if (begins_char bs n) + one_if (is_long bs n) = omega (arith, c, d) in
+    ≡ count (begins_char bs) n + count (is_long bs) n + one_if (begins_char bs n) + one_if (is_long bs n) = omega (arith, c, d) in
     next ∙ ap (λ x. step x bs n) is
     ∙ ap (λ x. record { lines = x; start = (if ends_line bs n then n + 1 else line_start bs n); chars = count (begins_char bs) n + one_if (begins_char bs n); units = count (begins_char bs) n + count (is_long bs) n + one_if (begins_char bs n) + one_if (is_long bs n) }) (sym l)
     ∙ ap (λ x. record { lines = count (ends_line bs) (suc n); start = x; chars = count (begins_char bs) n + one_if (begins_char bs n); units = count (begins_char bs) n + count (is_long bs) n + one_if (begins_char bs n) + one_if (is_long bs n) }) (sym s)
@@ -84,8 +84,14 @@ units_most bs n p is =
 not_lt : (a b : ℕ) → nat_lt a b ≡ false → b ≤ a
 not_lt a b h = grind (arith, nat_tests)
 
-pub MarkedTo_begin : (bs : List ℕ) (p : Point) → p ≡ point_of bs 0 → MarkedTo bs [] 0 p
-MarkedTo_begin bs p is = record { within = omega arith; is = is; place = omega arith; each = λ k h d. absurd (omega (arith, h)) }
+origin_is : (bs : List ℕ) (p : Point) → p ≡ record { lines = 0; start = 0; chars = 0; units = 0 } → p ≡ point_of bs 0
+unfolding count line_start
+origin_is bs p h = h
+
+pub MarkedTo_begin : (bs : List ℕ) (ms : List Point) (p : Point) → ms ≡ [] → p ≡ record { lines = 0; start = 0; chars = 0; units = 0 } → MarkedTo bs ms 0 p
+MarkedTo_begin bs ms p none is =
+    let n = ap length none in
+    record { within = omega arith; is = origin_is bs p is; place = omega (arith, n); each = λ k h d. absurd (omega (arith, h, n)) }
 
 marked_more : (bs : List ℕ) (ms : List Point) (x : Point) (k : ℕ) (d : Point) → x ≡ point_of bs (256 * length ms) →
     ((k : ℕ) → k < length ms → (d : Point) → slice_index_or ms k d ≡ point_of bs (256 * k)) → k < length (ms ++ x ∷ []) →

@@ -1,6 +1,6 @@
 -- The tokens of a text without a fault cover it.
-use Rattle.std.proofs.Common.{◌≡◌, ℕ, zero, suc, ◌+◌, ◌-◌, ◌<◌, ◌≤◌, Bool, true, false, List, [], ◌∷◌, length, drop, Option, Some, None, refl, sym, ap, ◌∙◌, arith, subst}
-use Rattle.std.specs.Prelude.{nat_lt, nat_eq, if◌then◌else◌, ◌&&◌, ◌||◌, not, slice_get, slice_range, All, IsTrue, IsFalse}
+use Rattle.std.proofs.Common.{◌≡◌, ℕ, zero, suc, ◌+◌, ◌<◌, ◌≤◌, Bool, true, false, List, [], ◌∷◌, length, drop, Option, Some, None, refl, sym, ap, ◌∙◌, arith, subst}
+use Rattle.std.specs.Prelude.{nat_lt, nat_eq, if◌then◌else◌, ◌&&◌, ◌||◌, not, slice_get, slice_range, All}
 use Rattle.std.proofs.lemmas.Bool.Decides.{nat_tests}
 use Rattle.std.proofs.lemmas.List.Elements.{All-head, All-tail}
 use Rattle.swc_input.specs.declared.token.Token.{Token}
@@ -13,7 +13,7 @@ use Rattle.swc_lexical.specs.declared.scan.Piece.{Piece}
 use Rattle.swc_lexical.specs.Blanks.{blanks_len}
 use Rattle.swc_lexical.specs.Lexemes.{lexeme}
 use Rattle.swc_lexical.specs.Runs.{is_at}
-use Rattle.swc_lexical.specs.Scans.{piece_at, piece_of, text_of, delimiter}
+use Rattle.swc_lexical.specs.Scans.{piece_at, piece_of, text_of, gapes}
 use Rattle.swc_lexical.specs.Templates as templates
 use Rattle.swc_lexer.specs.declared.place.Kind.{Kind as Function}
 use Rattle.swc_lexer.specs.declared.reader.End.{End}
@@ -22,11 +22,11 @@ use Rattle.swc_lexer.specs.declared.reader.Here.{Here}
 use Rattle.swc_lexer.specs.declared.reader.Here.TheVariants as here_
 use Rattle.swc_lexer.specs.declared.stack.Start.{Start}
 use Rattle.swc_lexer.specs.Coming.{from_next, from_end}
-use Rattle.swc_lexer.specs.Covers.{is_gap, is_end, Follows, Covers}
+use Rattle.swc_lexer.specs.Covers.{is_end, Follows, Covers}
 use Rattle.swc_lexer.specs.Places.{is_dot, is_asking}
 use Rattle.swc_lexer.specs.Reads.{is_error, IsClean}
-use Rattle.swc_lexer.specs.Readings.{Reading, bound, ended, read, given_of, given_fault, given_long, fault_of_kind, one_of, placed, edge_of, is_edge, is_over, is_over_in_code, piece_here, piece_or_fault, goal_here, what_comes, next_by, next_in, next_of, tokens_from, tokens_of, first, begin}
-use Rattle.swc_lexer.specs.Stacks.{State}
+use Rattle.swc_lexer.specs.Readings.{Reading, bound, ended, read, given_of, given_fault, given_long, fault_of_kind, one_of, placed, edge_of, is_edge, is_over, is_over_in_code, piece_here, piece_or_fault, goal_here, what_comes, next_by, next_in, next_of, tokens_from, tokens_of, first, begin, moves}
+use Rattle.swc_lexer.specs.Stacks.{State, has_brace}
 use Rattle.swc_lexer.specs.Tokens.{token_of}
 use Rattle.swc_lexer.proofs.Readings.{comes, lower_read, lower_fault, bound_runs, weights}
 
@@ -115,7 +115,7 @@ if_edges false o x h = cc
 spans_one : (bs : List ℕ) (named : Bool) (at : ℕ) (p : Piece) (x : TokenAndSpan) → one_of named at p bs ≡ Some x → Spans bs at p x
 spans_one bs named at p x h =
     let e = if_edges (is_edge bs (at + p.blanks) && is_edge bs (at + p.blanks + p.len))
-        (placed at p bs (token_of named p.kind (at + p.blanks) (slice_range bs (at + p.blanks) (at + p.blanks + p.len)))) x h in
+    (placed at p bs (token_of named p.kind (at + p.blanks) (slice_range bs (at + p.blanks) (at + p.blanks + p.len)))) x h in
     let s = spans_placed bs at p (token_of named p.kind (at + p.blanks) (slice_range bs (at + p.blanks) (at + p.blanks + p.len))) x e.1 in
     let w = and_true (is_edge bs (at + p.blanks)) (is_edge bs (at + p.blanks + p.len)) e.0 in
     record { lo = s.0; hi = s.1; within = edge_within bs (at + p.blanks + p.len) (slice_get bs (at + p.blanks + p.len)) refl w }
@@ -134,7 +134,8 @@ kind_faulty lexical.Word at n bs = refl
 kind_faulty k at n bs = refl
 
 -- a fault is the last token, and none that is clean
-by_fault : (bs : List ℕ) (r : Reading) (y x : TokenAndSpan) (t : Reading) → r.ended ≡ false → is_error y.token ≡ true → (y, ended r) ≡ (x, t) → Stepped bs r x t
+by_fault : (bs : List ℕ) (r : Reading) (y x : TokenAndSpan) (t : Reading) → r.ended ≡ false → is_error y.token ≡ true →
+    ◌≡◌ {A = TokenAndSpan × Reading} (y, ended r) (x, t) → Stepped bs r x t
 by_fault bs r y x t runs faulty is = record {
   lower = subst (λ z. bound bs z < bound bs r) (ap (λ g. g.1) is) (lower_fault bs r runs);
   clean = λ c. let k : false ≡ true = sym c ∙ ap (λ g. is_error g.0.token) (sym is) ∙ faulty in cc;
@@ -191,7 +192,7 @@ first_or false false c h = cc
 
 over_end : (e : End) (s : State) (bs : List ℕ) → is_over_in_code e s bs ≡ true → is_end e bs ≡ true
 over_end Whole s bs h = h
-over_end BeforeBrace s bs h = first_or _ _ _ h
+over_end BeforeBrace s bs h = first_or (nat_eq (blanks_len bs) (length bs)) (is_at bs (blanks_len bs) 125) (not (has_brace s.frames)) h
 
 over_at : (e : End) (s : State) (g : Goal) (bs : List ℕ) → is_over e s g bs ≡ true → is_end e bs ≡ true
 over_at e s goal.Text bs h = cc
@@ -209,12 +210,13 @@ if_piece false p h = cc
 
 never_over : (asks : Bool) (bs : List ℕ) (o : Option Piece) → piece_or_fault asks bs o ≡ here_.Over → ⊥
 never_over asks bs None h = cc
-never_over asks bs (Some p) h = if_piece _ p h
+never_over asks bs (Some p) h = if_piece (moves p && not (gapes asks p bs)) p h
 
 ends_here : (e : End) (bs : List ℕ) (r : Reading) (w : Here) → what_comes e r.state (drop r.at bs) ≡ w → next_by bs r w ≡ None → is_end e (drop r.at bs) ≡ true
 ends_here e bs r here_.Over is next =
     over_at e r.state (goal_here r.state (drop r.at bs)) (drop r.at bs)
-    (if_over _ _ (never_over (is_asking r.state.place) (drop r.at bs) (piece_at (goal_here r.state (drop r.at bs)) (drop r.at bs))) is)
+    (if_over (is_over e r.state (goal_here r.state (drop r.at bs)) (drop r.at bs))
+    (piece_here (goal_here r.state (drop r.at bs)) (is_asking r.state.place) (drop r.at bs)) (never_over (is_asking r.state.place) (drop r.at bs) (piece_at (goal_here r.state (drop r.at bs)) (drop r.at bs))) is)
 ends_here e bs r here_.Fault is next = cc
 ends_here e bs r (here_.Piece p) is next = cc
 

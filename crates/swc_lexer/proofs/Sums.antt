@@ -3,6 +3,10 @@ use Rattle.std.proofs.Common.{◌≡◌, ℕ, ◌<◌, ◌≤◌, List, [], ◌�
 use Rattle.std.specs.Prelude.{IfSome}
 use Rattle.std.specs.Iterator.{Count, IsFinite, MakesProgress, at_most, size}
 use Rattle.swc_input.specs.declared.token.TokenAndSpan.{TokenAndSpan}
+use Rattle.std.proofs.Common.{Bool}
+use Rattle.swc_input.specs.Source.{Source}
+use Rattle.swc_lexer.specs.declared.input.TextInput.{TextInput}
+use Rattle.swc_lexer.specs.Inputs.{bytes_of, reading, left, held_list, Hands, handed}
 use Rattle.swc_lexer.specs.declared.reader.End.{End}
 use Rattle.swc_lexer.specs.Covers.{Covers}
 use Rattle.swc_lexer.proofs.Covers.{covers_of}
@@ -98,3 +102,16 @@ answer_covers e b bs s k r (Err x) is begins reads = tt
 answer_covers e b bs s k r (Ok v) is begins reads =
     let f : r ≡ first bs 0 s k = begins ∙ ap (λ z. first z 0 s k) is in
     read_covers e bs s k v (reads.0 ∙ ap (λ z. tokens_from e bs z) f) reads.1
+
+-- a token that was handed out leaves less
+pub hands_lower : (s : TextInput) (t : TextInput) (e : End) (b : List ℕ) (d : Reading) (l : Bool) (n : Source) (x z : TokenAndSpan) (o r : Option TokenAndSpan) →
+    b ≡ bytes_of s → Gives e b (reading s) o d → o ≡ Some x → reading t ≡ d → bytes_of t ≡ bytes_of s → Hands l n z r t →
+    IfSome r (λ y. left t < left s)
+hands_lower s t e b d l n x z o None is g some goes same hands = tt
+hands_lower s t e b d l n x z o (Some y) is g some goes same (handed ok held legacy notes) =
+    let less = lower e b (reading s) d o x g some in
+    let before = ap (λ k. bound k (reading s)) is in
+    let after = ap (λ k. bound k d) is in
+    let now = ap (λ k. bound k (reading t)) same ∙ ap (bound (bytes_of s)) goes in
+    let none = ap (λ k. length (held_list k)) held in
+    omega (arith, less, before, after, now, none)

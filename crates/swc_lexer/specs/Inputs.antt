@@ -21,7 +21,7 @@ use Rattle.swc_input.specs.declared.token.TokenAndSpan.{TokenAndSpan}
 use Rattle.swc_lexer.specs.declared.input.TextInput.{TextInput}
 use Rattle.swc_lexer.specs.declared.reader.End.{End}
 use Rattle.swc_lexer.specs.declared.stack.Start.{Start}
-use Rattle.swc_lexer.specs.Legacy.{noted, fault, kind_at, in_number, in_string_by, in_string_at, in_token, legacy_of, is_legacy_token, any_legacy}
+use Rattle.swc_lexer.specs.Legacy.{noted, fault, in_string_by, in_token, legacy_of, is_legacy_token, any_legacy}
 use Rattle.swc_lexer.specs.Readings.{Reading, Gives, gave, stopped, bound, next_of, tokens_from, tokens_of, first, kind_in, reading_of}
 use Rattle.swc_lexer.specs.Coming.{from_next, from_end, next_ended, bound_ended}
 
@@ -407,8 +407,8 @@ module _ (s t : TextInput) (x : TokenAndSpan) (same : SameText s t) (none : s.he
         token = record {
           keeping = notes_keeping s t (legacy_of x) (token_noted x.span x.token) notes
               (λ m h. let k = (known_some (has_legacy s) (coming s) m h).0 in
-                  let l = (or_first s.legacy (any_legacy (to_come s)) k).1 in
-                  (or_first (is_legacy_token x) (any_legacy (to_come t)) (ap any_legacy (sym now) ∙ l)).0);
+              let l = (or_first s.legacy (any_legacy (to_come s)) k).1 in
+              (or_first (is_legacy_token x) (any_legacy (to_come t)) (ap any_legacy (sym now) ∙ l)).0);
           runs = (runs, f);
           lower = (let l = less_left None held in omega (arith, l));
         };
@@ -465,7 +465,7 @@ asked_stops s t same runs none next over rest =
     let z = bound_ended (bytes_of t) (reading t) over in
     asked_none s t rest
     (only_held t held ∙ from_end t.end (bytes_of t) (reading t) (next_ended t.end (bytes_of t) (reading t) over)
-      ∙ sym (only_held s none ∙ from_end s.end (bytes_of s) (reading s) next))
+    ∙ sym (only_held s none ∙ from_end s.end (bytes_of s) (reading s) next))
     (λ e. over_none t held over) (λ e. true_false (sym e ∙ runs)) (λ e. over_none t held over) (omega (arith, a, b, z))
 
 asked_rests : (s t : TextInput) → SameText s t → t.failed ≡ true → reading t ≡ reading s → Rests s t → Asked text_model s None t

@@ -98,7 +98,8 @@ fn advance(begin: Point, text: &[u8], from: usize, to: usize) -> Point
     requires from { from ≤ to }
     requires to { to ≤ length text.now }
     requires begin { begin ≡ lines.point_of text.now from }
-    ensures { result ≡ lines.point_of text.now to }
+    ensures value { result ≡ lines.point_of text.now to }
+    ensures small { result.lines ≤ to }
 {
     let mut point = begin;
     let mut at = from;
@@ -113,7 +114,6 @@ fn advance(begin: Point, text: &[u8], from: usize, to: usize) -> Point
 const GAP: usize = 256;
 
 /// What is known of every 256th place of the text.
-#[tactic(auto, using(crate::proofs::Counting::MarkedTo_begin))]
 fn marks_of(alloc: Global, text: &[u8]) -> Result<Vec<Point>, AllocError>
     ensures { IfOk result (λ marks. lines.AreMarks text.now marks.items) }
 {
@@ -158,7 +158,8 @@ impl<'t> Lines<'t> {
     /// What is known of a place of the text.
     fn point(&self, at: usize) -> Point
         requires { at ≤ length self.now.text.now }
-        ensures { result ≡ lines.point_of self.now.text.now at }
+        ensures value { result ≡ lines.point_of self.now.text.now at }
+        ensures small { result.lines ≤ at }
     {
         let mark = at / GAP;
         advance(self.marks[mark], self.text, mark * GAP, at)

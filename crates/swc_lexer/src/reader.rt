@@ -200,7 +200,11 @@ fn fault_of_kind(kind: Lexical, at: usize, len: usize, text: &[u8]) -> TokenAndS
 {
     match kind {
         Lexical::Word => fault_token(SyntaxError::EscapeInReservedWord, at, at + len),
-        _ => fault_token(SyntaxError::UnexpectedChar, at, at + char_len(rest_from(text, at))),
+        _ => fault_token(
+            SyntaxError::UnexpectedChar,
+            at,
+            at + char_len(rest_from(text, at)),
+        ),
     }
 }
 
