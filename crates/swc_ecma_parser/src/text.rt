@@ -6,7 +6,7 @@ ghost use Rattle.swc_nodes.specs.NodeParts.{expr_part, pat_part};
 ghost use Rattle.swc_nodes.specs.GrowingNodes.{From};
 ghost use Rattle.swc_patterns.specs.Answers.{pat_at};
 ghost use Rattle.swc_steps.specs.Parsing.{tree_of};
-ghost use Rattle.swc_ecma_parser.specs.TextList.{text_tokens};
+ghost use Rattle.swc_ecma_parser.specs.TextList.{text_tokens, IsModern};
 ghost use Rattle.swc_ecma_parser.specs.WholeList.{IsHeeded, Headline};
 
 use crate::whole::{Whole, read_whole_expr, read_whole_pat};
@@ -23,11 +23,12 @@ use swc_nodes::nodes::Nodes;
 /// Reads a text in UTF-8 as one expression (ECMA-262, 13.16), in the context and by the syntax, with a parser of its
 /// own, which `levels` bounds (`Parser::limit_nesting`; `usize::MAX` is no bound).
 ///
-/// The tokens are read as the parser asks for them (`TextInput`). What is no token is refused as `Lex`, where the
-/// parser comes to it; other refusals are those of `Parser::parse_expr`, and `OutOfMemory`, at 0..0 where the text
+/// The tokens are read as the parser asks for them (`TextInput`). What is no token is refused with its kind and place
+/// (`UnterminatedStrLit` and the like), where the parser comes to it; numbers and escapes of old scripts, as `010`, are
+/// recorded in strict code and modules; other refusals are those of `Parser::parse_expr`, and `OutOfMemory`, at 0..0 where the text
 /// couldn't be copied. All places are in bytes of the text.
 ///
-/// Where early errors are on and not ignored (`headline`): a tree answered with no token left after it and no fault
+/// Where early errors are on and not ignored, and the text has no number or escape of old scripts (`headline`): a tree answered with no token left after it and no fault
 /// recorded is one that the written grammar derives from the text's tokens, and the only one (`sound`, `one_tree`);
 /// and with a faithful hook each tree that it derives from them is answered so, unless memory runs out or it is nested
 /// too deeply (`complete`). The text's tokens are those of the written lexical grammar. Where the syntax is pedantic,
@@ -42,7 +43,7 @@ pub fn parse_text_expr<B: Bodies<TextInput>>(
     levels: usize,
 ) -> Whole<ExprId, B>
     ensures stands { IfOk result.read (λ r. From 0 result.nodes (expr_part r.0)) }
-    ensures headline { IsHeeded ctx syntax
+    ensures headline { IsHeeded ctx syntax → IsModern ctx text.now
         → Headline B.is_faithful B.forms Expr tree_of ctx syntax (text_tokens ctx text.now)
         result.read result.nodes result.recorded.items }
 {
@@ -71,7 +72,7 @@ pub fn parse_text_pat<B: Bodies<TextInput>>(
     levels: usize,
 ) -> Whole<PatId, B>
     ensures stands { IfOk result.read (λ r. From 0 result.nodes (pat_part r.0)) }
-    ensures headline { IsHeeded ctx syntax
+    ensures headline { IsHeeded ctx syntax → IsModern ctx text.now
         → Headline B.is_faithful B.forms Pat pat_at ctx syntax (text_tokens ctx text.now)
         result.read result.nodes result.recorded.items }
 {
