@@ -194,7 +194,9 @@ fn sentence_of(kind: &SyntaxError) -> Sentence {
         SyntaxError::ReservedWordInObjShorthandOrPat => {
             Sentence::Around("the reserved word ", " can't be a shorthand property")
         }
-        SyntaxError::IdentAfterNum => Sentence::Around("", " can't come right after a number"),
+        SyntaxError::IdentAfterNum => {
+            Sentence::Around("no name or digit can come right after the number in ", "")
+        }
         SyntaxError::BadCharacterEscapeSequence => Sentence::Around("the escape ", " is not valid"),
         SyntaxError::EscapeInReservedWord => {
             Sentence::Around("the keyword ", " can't be written with escapes")
@@ -204,9 +206,10 @@ fn sentence_of(kind: &SyntaxError) -> Sentence {
             "the octal form ",
             " can't be used in strict code",
         ),
-        SyntaxError::LegacyDecimal => {
-            Sentence::Around("the number ", " can't begin with 0 in strict code")
-        }
+        SyntaxError::LegacyDecimal => Sentence::Around(
+            "the old form ",
+            " can't be used in strict code",
+        ),
         SyntaxError::Lex => Sentence::Around("no token can be read at ", ""),
         kind => Sentence::Whole(whole_sentence(kind)),
     }
