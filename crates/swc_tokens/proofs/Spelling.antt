@@ -4,7 +4,8 @@ use Rattle.std.proofs.lemmas.Option.{get_or_from_slice_get, slice_get_within}
 use Rattle.swc_input.specs.declared.token.Token.{Token}
 use Rattle.swc_input.specs.declared.token.Token.TheVariants as token
 use Rattle.swc_tokens.specs.Signs.{has_text, sign_text}
-use Rattle.swc_tokens.specs.Spelling.{IsLexeme, IsTextBetween, Spells}
+use Rattle.swc_tokens.specs.Spelling.{IsLexeme, IsName, IsTextBetween, Spells}
+use Rattle.swc_lexical.specs.PlainNames.{name_len}
 use Rattle.swc_lexical.specs.Templates.{text_len}
 use Rattle.swc_tokens.specs.Blanks.{StandAt}
 use Rattle.swc_tokens.specs.Profile.{has, lexeme}
@@ -20,6 +21,12 @@ Spells_sign text low high (token.BigInt raw) none same = absurd (cc)
 Spells_sign text low high (token.Template raw cooked) none same = absurd (cc)
 Spells_sign text low high (token.Regex body flags) none same = absurd (cc)
 Spells_sign text low high _ none same = same
+
+-- the name that begins where the reader is, as code cuts the text
+pub IsName_here : (text : List ℕ) (low len : ℕ) → len ≡ name_len (rest_at text low) → IsName text low (low + len)
+IsName_here text low len is =
+    let back : low + len - low ≡ len = omega arith in
+    rw back (sym (is ∙ ap name_len (rest_at-drop text low)))
 
 -- the lexeme that begins where the reader is, as code cuts the text
 pub IsLexeme_here : (text : List ℕ) (wants : Bool) (low : ℕ) (found : Kind × ℕ) → lexeme wants (rest_at text low) ≡ Some found → IsLexeme found.0 text low (low + found.1)

@@ -57,7 +57,6 @@ is_long_zero bs = is_at bs 0 48 && test_at (is_digit Decimal) bs 1
 
 -- whether a lexeme of this kind is read
 abbrev pub is_read : Kind → List ℕ → Bool
-is_read kind.Word bs = not (has bs 92)
 is_read kind.Number bs = not (is_long_zero bs) && not (has bs 95)
 is_read kind.Big bs = not (is_long_zero bs) && not (has bs 95)
 is_read kind.String bs = not (has bs 92) || nat_eq (good_len bs) (length bs)
@@ -67,6 +66,6 @@ abbrev pub if_read : List ℕ → Option (Kind × ℕ) → Option (Kind × ℕ)
 if_read bs None = None
 if_read bs (Some found) = if nat_lt 0 found.1 && is_read found.0 (take found.1 bs) then Some found else None
 
--- the lexeme that begins here, where a slash begins a regular expression or divides; a `#` may come without a name
+-- the lexeme that begins here, where a slash begins a regular expression or divides
 abbrev pub lexeme : Bool → List ℕ → Option (Kind × ℕ)
-lexeme wants bs = if is_at bs 0 35 then Some (kind.Sign, 1) else if_read bs (lexemes.lexeme wants bs)
+lexeme wants bs = if_read bs (lexemes.lexeme wants bs)

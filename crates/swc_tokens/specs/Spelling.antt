@@ -5,6 +5,7 @@ use Rattle.swc_context.specs.Words.{word_of}
 use Rattle.swc_input.specs.declared.token.Token.{Token}
 use Rattle.swc_input.specs.declared.token.Token.TheVariants as token
 use Rattle.swc_lexical.specs.Meanings.{meaning}
+use Rattle.swc_lexical.specs.PlainNames.{name_len}
 use Rattle.swc_lexical.specs.Regexps.{body_len}
 use Rattle.swc_lexical.specs.Templates.{text_len}
 use Rattle.swc_lexical.specs.declared.lexeme.Kind.{Kind}
@@ -24,6 +25,10 @@ cooked at bs =
     if nat_lt (good_len bs) (length bs)
     then Err (lex_fault (between (at + good_len bs) (at + good_len bs + 1)))
     else Ok (meant bs)
+
+-- a name without escapes goes from one position to before another
+abbrev pub IsName : List ℕ → ℕ → ℕ → Type 0
+IsName text low high = name_len (drop low text) ≡ high - low
 
 -- a lexeme of this kind goes from one position to before another, which is read
 pub record IsLexeme (kind : Kind) (text : List ℕ) (low high : ℕ) : Type 0 where
@@ -57,7 +62,7 @@ pub record IsTemplateText (text : List ℕ) (low high : ℕ) (value : Result (Li
 -- are the standard's, and a string means its value, a text what is cooked of it
 unfoldable pub Spells : List ℕ → ℕ → ℕ → Token → Type 0
 Spells text low high (token.Word word) =
-    (word ≡ word_of (slice_range text low high)) × IsLexeme kind.Word text low high
+    (word ≡ word_of (slice_range text low high)) × IsName text low high
 Spells text low high (token.Str value raw) =
     (raw ≡ slice_range text low high) × (value ≡ meant (slice_range text (low + 1) (high - 1)))
     × IsLexeme kind.String text low high

@@ -131,7 +131,6 @@ fn is_read(kind: Kind, text: &[u8]) -> bool
     ensures { result ≡ profile.is_read kind text.now }
 {
     match kind {
-        Kind::Word => !has(text, b'\\'),
         Kind::Number | Kind::Big => !is_long_zero(text) && !has(text, b'_'),
         Kind::String => !has(text, b'\\') || good_len(text) == text.len(),
         _ => true,
@@ -171,10 +170,6 @@ fn fault_len(wants: bool, rest: &[u8]) -> usize
         Some(b'0'..=b'9' | b'.') => number_fault(rest),
         Some(b'\'' | b'"') => good_len(rest).min(line_len(rest)),
         Some(b'/') if wants => line_len(rest),
-        Some(b'\\') | None => 0,
-        Some(byte) if byte.is_ascii_alphabetic() || *byte == b'$' || *byte == b'_' => len_before(
-            rest, b'\\',
-        ),
         _ => 0,
     }
 }
@@ -187,9 +182,6 @@ pub(crate) fn lexeme_here(wants: bool, rest: &[u8]) -> Result<(Kind, usize), usi
     ensures within { IfOk result (λ found. found.1 ≤ length rest.now) }
     ensures fault { IfErr result (λ far. far ≤ length rest.now) }
 {
-    if is_at(rest, 0, b'#') {
-        return Ok((Kind::Sign, 1));
-    }
     match lexeme(wants, rest) {
         Some((kind, len)) if 0 < len && is_read(kind, &rest[..len]) => Ok((kind, len)),
         _ => Err(fault_len(wants, rest)),

@@ -13,7 +13,7 @@ ghost use Rattle.swc_tokens.specs.Order.{is_error, is_free, is_text};
 ghost use Rattle.swc_tokens.specs.Profile as profile;
 ghost use Rattle.swc_tokens.specs.Reading.{IsNext, Takes};
 ghost use Rattle.swc_tokens.specs.Spelling as spelling;
-ghost use Rattle.swc_tokens.specs.Spelling.{EndsText, IsLexeme, Spells};
+ghost use Rattle.swc_tokens.specs.Spelling.{EndsText, IsLexeme, IsName, Spells};
 ghost use Rattle.swc_lexical.specs.Meanings as meanings;
 ghost use Rattle.swc_lexical.specs.declared.lexeme.Kind.TheVariants as kinds;
 
@@ -27,9 +27,12 @@ use swc_context::atom::Atom;
 use swc_context::error::{Error, PResult};
 use swc_context::word::Word;
 use swc_input::token::{Token, TokenAndSpan};
+use swc_lexical::bytes::is_at;
 use swc_lexical::lexeme::Kind;
 use swc_lexical::meaning::meaning;
+use swc_lexical::name::name_len;
 use swc_lexical::quoted::body_len;
+use swc_lexical::sign::sign_len;
 
 /// A text, and how far it is read.
 #[derive(Drop)]
@@ -195,7 +198,7 @@ impl<'a> Reader<'a> {
         ensures blanks { OnOk result (AreBlanks self.old.text.now self.old.at self.new.at) }
     {
         self.at += blanks_len(&self.text[self.at..]);
-        if self.is_next(b'/', b'*') {
+        if is_at(self.text, self.at, b'/') && is_at(self.text, self.at + 1, b'*') {
             return Err(self.fault_at(self.text.len()));
         }
         Ok(())
@@ -243,7 +246,7 @@ impl<'a> Reader<'a> {
     }
 
     /// Reads the token that begins here.
-    #[tactic(auto, using(crate::proofs::Spelling::IsLexeme_here))]
+    #[tactic(auto, using(crate::proofs::Spelling::IsName_here))]
     fn read_token(&mut self, before: Option<&TokenAndSpan>) -> PResult<Token>
         requires { self.old.at < length self.old.text.now }
         ensures text { self.new.text ≡ self.old.text }
@@ -252,104 +255,140 @@ impl<'a> Reader<'a> {
         ensures free { IfOk result (λ t. IsTrue (is_free t)) }
         ensures spells { IfOk result (Spells self.old.text.now self.old.at self.new.at) }
     {
-        match lexeme_here(begins_regexp(before), &self.text[self.at..]) {
-            Ok((kind, len)) => {
-                let token = self.token(kind, self.at + len)?;
-                self.at += len;
-                Ok(token)
-            }
-            Err(far) => Err(self.fault_at(self.at + far)),
+        let name = name_len(&self.text[self.at..]);
+        if 0 < name {
+            return self.read_word(name);
+        }
+        match self.text[self.at] {
+            b'0'..=b'9' | b'.' | b'\'' | b'"' | b'/' => self.read_lexeme(begins_regexp(before)),
+            _ => self.read_sign(),
         }
     }
 
-    /// The token of this kind from here up to the place.
+    /// Reads the word of so many bytes that is here (ECMA-262, 12.7).
     #[tactic(auto, unfolding(crate::specs::Order::is_free, crate::specs::Spelling::Spells))]
-    fn token(&self, kind: Kind, end: usize) -> PResult<Token>
-        requires some { self.now.at < end }
-        requires within { end ≤ length self.now.text.now }
-        requires lexeme { IsLexeme kind self.now.text.now self.now.at end }
-        ensures refused { IfErr result (IsRefusal self.now.text.now) }
+    fn read_word(&mut self, len: usize) -> PResult<Token>
+        requires some { 0 < len }
+        requires within { self.old.at + len ≤ length self.old.text.now }
+        requires name { IsName self.old.text.now self.old.at (self.old.at + len) }
+        ensures text { self.new.text ≡ self.old.text }
+        ensures forward { OnOk result (self.old.at < self.new.at) }
+        ensures refused { IfErr result (IsRefusal self.old.text.now) }
         ensures free { IfOk result (λ t. IsTrue (is_free t)) }
-        ensures spells { IfOk result (Spells self.now.text.now self.now.at end) }
+        ensures spells { IfOk result (Spells self.old.text.now self.old.at self.new.at) }
     {
-        match kind {
-            Kind::Word => self.word(end),
-            Kind::Number => Ok(Token::Num {
-                raw: self.atom(self.at, end)?,
-            }),
-            Kind::Big => Ok(Token::BigInt {
-                raw: self.atom(self.at, end)?,
-            }),
-            Kind::String => self.string(end),
-            Kind::Regexp => self.regexp(end),
-            Kind::Sign => self.sign(end),
-            Kind::Text => Err(self.fault()),
-        }
-    }
-
-    /// The word from here up to the place (ECMA-262, 12.7).
-    #[tactic(auto, unfolding(crate::specs::Order::is_free, crate::specs::Spelling::Spells))]
-    fn word(&self, end: usize) -> PResult<Token>
-        requires some { self.now.at < end }
-        requires within { end ≤ length self.now.text.now }
-        requires lexeme { IsLexeme kinds.Word self.now.text.now self.now.at end }
-        ensures refused { IfErr result (IsRefusal self.now.text.now) }
-        ensures free { IfOk result (λ t. IsTrue (is_free t)) }
-        ensures spells { IfOk result (Spells self.now.text.now self.now.at end) }
-    {
-        match Word::new(self.alloc, self.text_between(self.at, end)) {
+        let start = self.at;
+        self.at += len;
+        match Word::new(self.alloc, self.text_between(start, self.at)) {
             Ok(word) => Ok(Token::Word(word)),
             Err(_) => Err(out_of_memory()),
         }
     }
 
-    /// The string from here up to the place (ECMA-262, 12.9.4).
-    #[tactic(auto, unfolding(crate::specs::Order::is_free, crate::specs::Spelling::Spells))]
-    fn string(&self, end: usize) -> PResult<Token>
-        requires some { self.now.at < end }
-        requires within { end ≤ length self.now.text.now }
-        requires lexeme { IsLexeme kinds.String self.now.text.now self.now.at end }
-        ensures refused { IfErr result (IsRefusal self.now.text.now) }
+    /// Reads the sign that is here (ECMA-262, 12.8).
+    fn read_sign(&mut self) -> PResult<Token>
+        requires { self.old.at < length self.old.text.now }
+        ensures text { self.new.text ≡ self.old.text }
+        ensures forward { OnOk result (self.old.at < self.new.at) }
+        ensures refused { IfErr result (IsRefusal self.old.text.now) }
         ensures free { IfOk result (λ t. IsTrue (is_free t)) }
-        ensures spells { IfOk result (Spells self.now.text.now self.now.at end) }
+        ensures spells { IfOk result (Spells self.old.text.now self.old.at self.new.at) }
     {
-        if end - self.at < 2 {
+        let len = sign_len(&self.text[self.at..]);
+        if len == 0 {
             return Err(self.fault());
         }
-        let value = self.meant(self.at + 1, end - 1)?;
-        let raw = self.atom(self.at, end)?;
+        let start = self.at;
+        self.at += len;
+        self.sign(start)
+    }
+
+    /// Reads the lexeme that is here, where a slash begins a regular expression or divides.
+    #[tactic(auto, using(crate::proofs::Spelling::IsLexeme_here))]
+    fn read_lexeme(&mut self, wants: bool) -> PResult<Token>
+        ensures text { self.new.text ≡ self.old.text }
+        ensures forward { OnOk result (self.old.at < self.new.at) }
+        ensures refused { IfErr result (IsRefusal self.old.text.now) }
+        ensures free { IfOk result (λ t. IsTrue (is_free t)) }
+        ensures spells { IfOk result (Spells self.old.text.now self.old.at self.new.at) }
+    {
+        match lexeme_here(wants, &self.text[self.at..]) {
+            Ok((kind, len)) => {
+                let start = self.at;
+                self.at += len;
+                self.token(kind, start)
+            }
+            Err(far) => Err(self.fault_at(self.at + far)),
+        }
+    }
+
+    /// The token of this kind from the place up to here.
+    #[tactic(auto, unfolding(crate::specs::Order::is_free, crate::specs::Spelling::Spells))]
+    fn token(&self, kind: Kind, start: usize) -> PResult<Token>
+        requires some { start < self.now.at }
+        requires lexeme { IsLexeme kind self.now.text.now start self.now.at }
+        ensures refused { IfErr result (IsRefusal self.now.text.now) }
+        ensures free { IfOk result (λ t. IsTrue (is_free t)) }
+        ensures spells { IfOk result (Spells self.now.text.now start self.now.at) }
+    {
+        match kind {
+            Kind::Number => Ok(Token::Num {
+                raw: self.atom(start, self.at)?,
+            }),
+            Kind::Big => Ok(Token::BigInt {
+                raw: self.atom(start, self.at)?,
+            }),
+            Kind::String => self.string(start),
+            Kind::Regexp => self.regexp(start),
+            Kind::Sign => self.sign(start),
+            Kind::Word | Kind::Text => Err(self.fault()),
+        }
+    }
+
+    /// The string from the place up to here (ECMA-262, 12.9.4).
+    #[tactic(auto, unfolding(crate::specs::Order::is_free, crate::specs::Spelling::Spells))]
+    fn string(&self, start: usize) -> PResult<Token>
+        requires some { start < self.now.at }
+        requires lexeme { IsLexeme kinds.String self.now.text.now start self.now.at }
+        ensures refused { IfErr result (IsRefusal self.now.text.now) }
+        ensures free { IfOk result (λ t. IsTrue (is_free t)) }
+        ensures spells { IfOk result (Spells self.now.text.now start self.now.at) }
+    {
+        if self.at - start < 2 {
+            return Err(self.fault());
+        }
+        let value = self.meant(start + 1, self.at - 1)?;
+        let raw = self.atom(start, self.at)?;
         Ok(Token::Str { value, raw })
     }
 
-    /// The regular expression from here up to the place (ECMA-262, 12.9.5).
+    /// The regular expression from the place up to here (ECMA-262, 12.9.5).
     #[tactic(auto, unfolding(crate::specs::Order::is_free, crate::specs::Spelling::Spells))]
-    fn regexp(&self, end: usize) -> PResult<Token>
-        requires some { self.now.at < end }
-        requires within { end ≤ length self.now.text.now }
-        requires lexeme { IsLexeme kinds.Regexp self.now.text.now self.now.at end }
+    fn regexp(&self, start: usize) -> PResult<Token>
+        requires some { start < self.now.at }
+        requires lexeme { IsLexeme kinds.Regexp self.now.text.now start self.now.at }
         ensures refused { IfErr result (IsRefusal self.now.text.now) }
         ensures free { IfOk result (λ t. IsTrue (is_free t)) }
-        ensures spells { IfOk result (Spells self.now.text.now self.now.at end) }
+        ensures spells { IfOk result (Spells self.now.text.now start self.now.at) }
     {
-        let start = self.at + 1;
-        let Some(len) = body_len(&self.text[start..end]) else {
+        let first = start + 1;
+        let Some(len) = body_len(&self.text[first..self.at]) else {
             return Err(self.fault());
         };
-        let body = self.atom(start, start + len)?;
-        let flags = self.atom(start + len + 1, end)?;
+        let body = self.atom(first, first + len)?;
+        let flags = self.atom(first + len + 1, self.at)?;
         Ok(Token::Regex(body, flags))
     }
 
-    /// The sign from here up to the place (ECMA-262, 12.8).
+    /// The sign from the place up to here (ECMA-262, 12.8).
     #[tactic(auto, using(crate::proofs::Spelling::Spells_sign))]
-    fn sign(&self, end: usize) -> PResult<Token>
-        requires some { self.now.at < end }
-        requires within { end ≤ length self.now.text.now }
+    fn sign(&self, start: usize) -> PResult<Token>
+        requires some { start < self.now.at }
         ensures refused { IfErr result (IsRefusal self.now.text.now) }
         ensures free { IfOk result (λ t. IsTrue (is_free t)) }
-        ensures spells { IfOk result (Spells self.now.text.now self.now.at end) }
+        ensures spells { IfOk result (Spells self.now.text.now start self.now.at) }
     {
-        match sign_of(&self.text[self.at..end]) {
+        match sign_of(&self.text[start..self.at]) {
             Some(token) => Ok(token),
             None => Err(self.fault()),
         }
