@@ -1,5 +1,5 @@
 -- Blanks and comments one after the other, and between tokens.
-use Rattle.std.proofs.Common.{◌≡◌, ℕ, ◌≤◌, List, [], ◌∷◌, ◌++◌, ◌+◌, length, drop, subst, ap, ◌∙◌, arith}
+use Rattle.std.proofs.Common.{◌≡◌, ℕ, ◌≤◌, List, [], ◌∷◌, ◌++◌, ◌+◌, length, subst, ap, ◌∙◌, arith}
 use Rattle.swc_input.specs.declared.token.TokenAndSpan.{TokenAndSpan}
 use Rattle.swc_tokens.specs.Blanks.{AreBlanks, OnlyBlanksBetween}
 use Rattle.swc_tokens.specs.Blanks.{none, more}

@@ -1,6 +1,6 @@
 -- Which lexemes (ECMA-262, 12) are read: those of ASCII, but for escapes by number, continued lines, and numbers with
 -- `_`, or with a digit after a leading 0.
-use Rattle.std.specs.Prelude.{ℕ, ◌+◌, Bool, true, not, ◌&&◌, ◌||◌, if◌then◌else◌, nat_eq, nat_le, nat_lt, List, Option, Some, None, length, take, slice_get}
+use Rattle.std.specs.Prelude.{ℕ, Bool, true, not, ◌&&◌, ◌||◌, if◌then◌else◌, nat_eq, nat_le, nat_lt, List, Option, Some, None, length, take}
 use Rattle.std.specs.List.{list_any}
 use Rattle.swc_lexical.specs.Blanks as blanks
 use Rattle.swc_lexical.specs.Lexemes as lexemes

@@ -1,5 +1,5 @@
 -- What a token has to do with the bytes of its place.
-use Rattle.std.specs.Prelude.{◌≡◌, ℕ, ◌+◌, ◌-◌, ◌⊎◌, Bool, true, false, if◌then◌else◌, nat_lt, List, Option, Some, Result, Ok, Err, length, drop, slice_get, slice_range}
+use Rattle.std.specs.Prelude.{◌≡◌, ℕ, ◌+◌, ◌-◌, ◌⊎◌, Bool, true, false, if◌then◌else◌, nat_lt, List, Some, Result, Ok, Err, length, drop, slice_get, slice_range}
 use Rattle.swc_context.specs.declared.error.Error.{Error}
 use Rattle.swc_context.specs.Words.{word_of}
 use Rattle.swc_input.specs.declared.token.Token.{Token}
