@@ -19,6 +19,7 @@
 mod body;
 mod script;
 mod statement;
+pub mod tree;
 mod words;
 
 pub use crate::body::tree_of;
