@@ -17,9 +17,21 @@
 #![tactic(auto)]
 
 mod body;
-mod script;
+mod brackets;
+mod frame;
+mod hook;
+mod member;
+mod module;
+mod outline;
+mod part;
+mod print;
+mod print_statement;
+mod program;
+mod reader;
+mod source;
 mod statement;
 pub mod tree;
+mod variables;
 mod words;
 
-pub use crate::body::tree_of;
+pub use crate::print::tree_of;

@@ -1,49 +1,37 @@
 // Words that are current, and what is after them.
-#![tactic(auto, unfolding(crate::specs::Contexts::effort))]
-
-ghost use Rattle.std.specs.Prelude.{◌≡◌, ◌≤◌, true, IsSome};
-ghost use Rattle.swc_ecma_parser.specs.Calls.{buffer_of};
-ghost use Rattle.swc_input.specs.Buffer.{current};
-ghost use Rattle.statement_trees.specs.Contexts.{context_of, work, Takes};
-
-use crate::script::Script;
+use crate::reader::Reader;
 use swc_ecma_parser::context::word::{Keyword, Word};
 use swc_ecma_parser::input::token::Token;
 
-impl Script {
+impl Reader {
     /// Whether the word is current, which is no keyword.
-    pub(crate) fn at_word(&mut self, word: &str) -> bool
-        ensures current { result ≡ true → IsSome (current (buffer_of self.new.parser)) }
-        ensures context { context_of self.new ≡ context_of self.old }
-        ensures lower { work self.new ≤ work self.old }
-    {
+    pub(crate) fn at_word(&mut self, word: &str) -> bool {
         match self.parser.buffer().cur() {
             Some(Token::Word(Word::Ident(name))) => name.as_str() == word,
             _ => false,
         }
     }
 
-    /// Consumes the word and writes it, unless what follows says that it is the key of a member. Says whether it did.
-    pub(crate) fn eat_modifier(&mut self, word: &str) -> bool
-        ensures context { context_of self.new ≡ context_of self.old }
-        ensures lower { work self.new ≤ work self.old }
-        ensures takes { result ≡ true → Takes self.old self.new }
-    {
+    /// Consumes the word where it is current, which is no keyword. Says whether it did.
+    pub(crate) fn eat_word(&mut self, word: &str) -> bool {
+        if !self.at_word(word) {
+            return false;
+        }
+        let _ = self.parser.buffer().bump();
+        true
+    }
+
+    /// Consumes the word, unless what follows says that it is the key of a member. Says whether it did.
+    pub(crate) fn eat_modifier(&mut self, word: &str) -> bool {
         if !self.at_word(word) || self.at_key(word) {
             return false;
         }
         let _ = self.parser.buffer().bump();
-        self.outline.put_word(word);
         true
     }
 
     /// Whether the word that is current is the key of a member.
-    fn at_key(&mut self, word: &str) -> bool
-        requires { IsSome (current (buffer_of self.old.parser)) }
-        ensures current { IsSome (current (buffer_of self.new.parser)) }
-        ensures context { context_of self.new ≡ context_of self.old }
-        ensures lower { work self.new ≤ work self.old }
-    {
+    fn at_key(&mut self, word: &str) -> bool {
         let input = self.parser.buffer();
         match input.peek() {
             None | Some(Token::LParen | Token::Semi | Token::RBrace | Token::AssignOp(_)) => true,
@@ -53,10 +41,7 @@ impl Script {
     }
 
     /// Whether a function begins here, async or not.
-    pub(crate) fn at_function(&mut self) -> bool
-        ensures context { context_of self.new ≡ context_of self.old }
-        ensures lower { work self.new ≤ work self.old }
-    {
+    pub(crate) fn at_function(&mut self) -> bool {
         if !self.at_word("async") {
             return self.at(&Token::Word(Word::Keyword(Keyword::Function)));
         }
@@ -67,11 +52,32 @@ impl Script {
     }
 
     /// Whether a word is current, and `:` is after it.
-    pub(crate) fn at_label(&mut self) -> bool
-        ensures context { context_of self.new ≡ context_of self.old }
-        ensures lower { work self.new ≤ work self.old }
-    {
+    pub(crate) fn at_label(&mut self) -> bool {
         let input = self.parser.buffer();
         matches!(input.cur(), Some(Token::Word(_))) && matches!(input.peek(), Some(Token::Colon))
+    }
+
+    /// Whether a declaration begins with the keyword that is current: `import` doesn't before `(` and `.`.
+    pub(crate) fn at_import(&mut self) -> bool {
+        let input = self.parser.buffer();
+        matches!(
+            input.cur(),
+            Some(Token::Word(Word::Keyword(Keyword::Import)))
+        ) && !matches!(input.peek(), Some(Token::LParen | Token::Dot))
+    }
+
+    /// Whether `let` is current and begins a declaration (ECMA-262, 14.5): what is after it is a name or a pattern.
+    pub(crate) fn at_let(&mut self) -> bool {
+        let input = self.parser.buffer();
+        matches!(input.cur(), Some(Token::Word(Word::Keyword(Keyword::Let))))
+            && match input.peek() {
+                Some(Token::Word(Word::Keyword(Keyword::In | Keyword::InstanceOf))) => false,
+                next => matches!(next, Some(Token::Word(_) | Token::LBracket | Token::LBrace)),
+            }
+    }
+
+    /// Whether a string is current.
+    pub(crate) fn at_string(&mut self) -> bool {
+        matches!(self.parser.buffer().cur(), Some(Token::Str { .. }))
     }
 }
