@@ -1,8 +1,10 @@
 // Functions and classes, each of which is read in a pass of its own (ECMA-262, 15).
+ghost use Rattle.std.specs.Prelude.{◌≡◌, ◌≤◌, OnOk};
+ghost use Rattle.statement_trees.specs.Contexts.{context_of, work};
+
 use crate::frame::Owner;
 use crate::reader::Reader;
 use crate::tree::{Block, Class, Function};
-use swc_ecma_parser::ast::ident::Ident;
 use swc_ecma_parser::context::context::Context;
 use swc_ecma_parser::context::error::{PResult, Wanted};
 use swc_ecma_parser::context::operator::BinOpToken;
@@ -16,7 +18,9 @@ pub(crate) const STAR: Token = Token::BinOp(BinOpToken::Mul);
 
 impl Reader {
     /// What begins here: the block of a function, a class, or a function.
-    pub(crate) fn body_of_pass(&mut self) -> PResult<()> {
+    pub(crate) fn body_of_pass(&mut self) -> PResult<()>
+        ensures context { context_of self.new ≡ context_of self.old }
+    {
         if self.at(&Token::LBrace) {
             self.block()
         } else if self.keyword() == Some(Keyword::Class) {
@@ -27,7 +31,9 @@ impl Reader {
     }
 
     /// The block of a function.
-    fn block(&mut self) -> PResult<()> {
+    fn block(&mut self) -> PResult<()>
+        ensures context { context_of self.new ≡ context_of self.old }
+    {
         let start = self.start();
         self.expect(&Token::LBrace, Wanted::LBrace)?;
         let statements = self.list(Owner::Function)?;
@@ -38,7 +44,9 @@ impl Reader {
     }
 
     /// A function (15.2, 15.5, 15.6 and 15.8).
-    fn function(&mut self) -> PResult<()> {
+    fn function(&mut self) -> PResult<()>
+        ensures context { context_of self.new ≡ context_of self.old }
+    {
         let start = self.start();
         let is_async = self.eat_modifier("async");
         self.expect_keyword(Keyword::Function)?;
@@ -63,22 +71,23 @@ impl Reader {
         self.kept(pushed)
     }
 
-    /// The name of a function or a class.
-    fn name(&mut self) -> PResult<Ident> {
-        Ok(self.parser.parse_binding_ident()?.id)
-    }
-
     /// Parameters (15.1) with their parentheses, read in the context; that from before is put back.
-    pub(crate) fn params_in(&mut self, context: Context) -> PResult<Vec<PatId>> {
+    pub(crate) fn params_in(&mut self, context: Context) -> PResult<Vec<PatId>>
+        ensures context { context_of self.new ≡ context_of self.old }
+        ensures lower { work self.new ≤ work self.old }
+    {
         let before = self.set_context(context);
         let answer = self.params();
         self.set_context(before);
         answer
     }
 
-    fn params(&mut self) -> PResult<Vec<PatId>> {
+    fn params(&mut self) -> PResult<Vec<PatId>>
+        ensures context { context_of self.new ≡ context_of self.old }
+        ensures lower { work self.new ≤ work self.old }
+    {
         self.expect(&Token::LParen, Wanted::LParen)?;
-        let params = self.parser.parse_formal_params_id()?;
+        let params = self.formal_params()?;
         self.expect(&Token::RParen, Wanted::RParen)?;
         let mut pats = Vec::new(self.alloc);
         for param in &params {
@@ -89,15 +98,20 @@ impl Reader {
     }
 
     /// A block that waits for its pass, in the context; that from before is put back. Answers its place.
-    pub(crate) fn block_in(&mut self, context: Context) -> PResult<Span> {
+    pub(crate) fn block_in(&mut self, context: Context) -> PResult<Span>
+        ensures context { context_of self.new ≡ context_of self.old }
+        ensures lower { work self.new ≤ work self.old }
+    {
         let before = self.set_context(context);
-        let answer = self.parser.read_block();
+        let answer = self.read_block();
         self.set_context(before);
         answer
     }
 
     /// A class (15.7). What is after its name is read in a context of its own.
-    fn class(&mut self) -> PResult<()> {
+    fn class(&mut self) -> PResult<()>
+        ensures context { context_of self.new ≡ context_of self.old }
+    {
         let start = self.start();
         self.expect_keyword(Keyword::Class)?;
         let name = if self.at(&Token::LBrace) || self.keyword() == Some(Keyword::Extends) {
@@ -122,10 +136,13 @@ impl Reader {
     }
 
     /// What a class extends, or nothing.
-    pub(crate) fn heritage(&mut self) -> PResult<Option<ExprId>> {
+    pub(crate) fn heritage(&mut self) -> PResult<Option<ExprId>>
+        ensures context { context_of self.new ≡ context_of self.old }
+        ensures lower { work self.new ≤ work self.old }
+    {
         if !self.eat_keyword(Keyword::Extends) {
             return Ok(None);
         }
-        Ok(Some(self.parser.parse_lhs_expr_id()?))
+        Ok(Some(self.lhs_expr()?))
     }
 }

@@ -1,4 +1,7 @@
 // The members of classes (ECMA-262, 15.7).
+ghost use Rattle.std.specs.Prelude.{◌≡◌, ◌≤◌, OnOk};
+ghost use Rattle.statement_trees.specs.Contexts.{context_of, work, Takes};
+
 use crate::body::STAR;
 use crate::reader::Reader;
 use crate::tree::{Function, Member, MemberKey, MemberKind, MethodKind};
@@ -50,7 +53,9 @@ fn is_constructor(key: &MemberKey) -> bool {
 
 impl Reader {
     /// What is after the name of a class: what it extends, the place of its braces, and its members.
-    pub(crate) fn class_tail(&mut self) -> PResult<(Option<ExprId>, Span, Vec<Member>)> {
+    pub(crate) fn class_tail(&mut self) -> PResult<(Option<ExprId>, Span, Vec<Member>)>
+        ensures context { context_of self.new ≡ context_of self.old }
+    {
         let heritage = self.heritage()?;
         let start = self.start();
         self.expect(&Token::LBrace, Wanted::LBrace)?;
@@ -65,7 +70,11 @@ impl Reader {
     }
 
     /// A member of a class, or nothing at a semicolon.
-    fn member(&mut self) -> PResult<Option<Member>> {
+    fn member(&mut self) -> PResult<Option<Member>>
+        ensures context { context_of self.new ≡ context_of self.old }
+        ensures lower { work self.new ≤ work self.old }
+        ensures takes { OnOk result (Takes self.old self.new) }
+    {
         if self.eat(&Token::Semi) {
             return Ok(None);
         }
@@ -80,7 +89,10 @@ impl Reader {
         Ok(Some(self.ended_member(start, is_static, kind)))
     }
 
-    fn ended_member(&mut self, start: BytePos, is_static: bool, kind: MemberKind) -> Member {
+    fn ended_member(&mut self, start: BytePos, is_static: bool, kind: MemberKind) -> Member
+        ensures context { context_of self.new ≡ context_of self.old }
+        ensures lower { work self.new ≤ work self.old }
+    {
         Member {
             span: self.span_from(start),
             is_static,
@@ -89,7 +101,11 @@ impl Reader {
     }
 
     /// A member that has a key.
-    fn keyed(&mut self, is_static: bool) -> PResult<MemberKind> {
+    fn keyed(&mut self, is_static: bool) -> PResult<MemberKind>
+        ensures context { context_of self.new ≡ context_of self.old }
+        ensures lower { work self.new ≤ work self.old }
+        ensures takes { OnOk result (Takes self.old self.new) }
+    {
         let is_async = self.eat_modifier("async");
         let is_generator = self.eat(&STAR);
         let is_getter = self.eat_modifier("get");
@@ -110,7 +126,10 @@ impl Reader {
     }
 
     /// The function of a method.
-    fn method(&mut self, modifiers: Modifiers, key: MemberKey) -> PResult<MemberKind> {
+    fn method(&mut self, modifiers: Modifiers, key: MemberKey) -> PResult<MemberKind>
+        ensures context { context_of self.new ≡ context_of self.old }
+        ensures lower { work self.new ≤ work self.old }
+    {
         let (is_async, is_generator) = (modifiers.is_async, modifiers.is_generator);
         let context = self.context();
         let start = self.start();
@@ -132,7 +151,10 @@ impl Reader {
     }
 
     /// The value of a field, or nothing.
-    fn field_value(&mut self) -> PResult<Option<ExprId>> {
+    fn field_value(&mut self) -> PResult<Option<ExprId>>
+        ensures context { context_of self.new ≡ context_of self.old }
+        ensures lower { work self.new ≤ work self.old }
+    {
         let context = self.context();
         self.set_context(context.class_field());
         let answer = self.value(false);
@@ -141,10 +163,14 @@ impl Reader {
     }
 
     /// The key of a member, which may be a private name.
-    fn key(&mut self) -> PResult<MemberKey> {
+    fn key(&mut self) -> PResult<MemberKey>
+        ensures context { context_of self.new ≡ context_of self.old }
+        ensures lower { work self.new ≤ work self.old }
+        ensures takes { OnOk result (Takes self.old self.new) }
+    {
         if self.at(&Token::Hash) {
-            return Ok(MemberKey::Private(self.parser.parse_private_name()?));
+            return Ok(MemberKey::Private(self.private_name()?));
         }
-        Ok(MemberKey::Prop(self.parser.parse_prop_name_id()?))
+        Ok(MemberKey::Prop(self.prop_name()?))
     }
 }

@@ -1,4 +1,7 @@
 // Items of modules (ECMA-262, 16.2).
+ghost use Rattle.std.specs.Prelude.{◌≡◌, ◌+◌, ◌≤◌, OnOk};
+ghost use Rattle.statement_trees.specs.Contexts.{context_of, work};
+
 use crate::body::STAR;
 use crate::reader::Reader;
 use crate::tree::{
@@ -14,7 +17,10 @@ use swc_ecma_parser::input::token::Token;
 
 impl Reader {
     /// An item of a module, up to its first part.
-    pub(crate) fn module_item(&mut self) -> PResult<()> {
+    pub(crate) fn module_item(&mut self) -> PResult<()>
+        ensures context { context_of self.new ≡ context_of self.old }
+        ensures falls { OnOk result (work self.new + 3 ≤ work self.old) }
+    {
         let start = self.start();
         if self.at_import() {
             return self.import(start);
@@ -26,7 +32,10 @@ impl Reader {
     }
 
     /// `import` (16.2.2)
-    fn import(&mut self, start: BytePos) -> PResult<()> {
+    fn import(&mut self, start: BytePos) -> PResult<()>
+        ensures context { context_of self.new ≡ context_of self.old }
+        ensures falls { OnOk result (work self.new + 3 ≤ work self.old) }
+    {
         self.expect_keyword(Keyword::Import)?;
         let mut specifiers = Vec::new(self.alloc);
         if !self.at_string() {
@@ -45,7 +54,10 @@ impl Reader {
     }
 
     /// The names that are imported: a default, and after a comma a namespace or a list, or one of these.
-    fn import_clause(&mut self, specifiers: &mut Vec<ImportSpecifier>) -> PResult<()> {
+    fn import_clause(&mut self, specifiers: &mut Vec<ImportSpecifier>) -> PResult<()>
+        ensures context { context_of self.new ≡ context_of self.old }
+        ensures lower { work self.new ≤ work self.old }
+    {
         if !self.at(&STAR) && !self.at(&Token::LBrace) {
             self.import_default(specifiers)?;
             if !self.eat(&Token::Comma) {
@@ -56,21 +68,23 @@ impl Reader {
             return self.import_namespace(specifiers);
         }
         self.expect(&Token::LBrace, Wanted::LBrace)?;
-        while !self.eat(&Token::RBrace) {
+        let mut is_over = self.eat(&Token::RBrace);
+        while !is_over {
             let specifier = self.import_named()?;
             let pushed = specifiers.push(specifier);
             self.kept(pushed)?;
-            if !self.at(&Token::RBrace) {
-                self.expect(&Token::Comma, Wanted::Comma)?;
-            }
+            is_over = self.ends_braces()?;
         }
         Ok(())
     }
 
     /// `local`
-    fn import_default(&mut self, specifiers: &mut Vec<ImportSpecifier>) -> PResult<()> {
+    fn import_default(&mut self, specifiers: &mut Vec<ImportSpecifier>) -> PResult<()>
+        ensures context { context_of self.new ≡ context_of self.old }
+        ensures lower { work self.new ≤ work self.old }
+    {
         let start = self.start();
-        let local = self.parser.parse_binding_ident()?.id;
+        let local = self.name()?;
         let span = self.span_from(start);
         let pushed = specifiers.push(ImportSpecifier {
             span,
@@ -81,13 +95,16 @@ impl Reader {
     }
 
     /// `* as local`
-    fn import_namespace(&mut self, specifiers: &mut Vec<ImportSpecifier>) -> PResult<()> {
+    fn import_namespace(&mut self, specifiers: &mut Vec<ImportSpecifier>) -> PResult<()>
+        ensures context { context_of self.new ≡ context_of self.old }
+        ensures lower { work self.new ≤ work self.old }
+    {
         let start = self.start();
         self.expect(&STAR, Wanted::Star)?;
         if !self.eat_word("as") {
             return Err(self.wants(Wanted::As));
         }
-        let local = self.parser.parse_binding_ident()?.id;
+        let local = self.name()?;
         let span = self.span_from(start);
         let pushed = specifiers.push(ImportSpecifier {
             span,
@@ -98,16 +115,19 @@ impl Reader {
     }
 
     /// `local`, or `name as local`.
-    fn import_named(&mut self) -> PResult<ImportSpecifier> {
+    fn import_named(&mut self) -> PResult<ImportSpecifier>
+        ensures context { context_of self.new ≡ context_of self.old }
+        ensures lower { work self.new ≤ work self.old }
+    {
         let start = self.start();
         let (name, local) = if self.is_renamed() {
-            let name = self.parser.parse_module_export_name()?;
+            let name = self.export_name()?;
             if !self.eat_word("as") {
                 return Err(self.wants(Wanted::As));
             }
-            (Some(name), self.parser.parse_binding_ident()?.id)
+            (Some(name), self.name()?)
         } else {
-            (None, self.parser.parse_binding_ident()?.id)
+            (None, self.name()?)
         };
         Ok(ImportSpecifier {
             span: self.span_from(start),
@@ -117,7 +137,10 @@ impl Reader {
     }
 
     /// Whether `as` is after the name that is current, or the name is a string.
-    fn is_renamed(&mut self) -> bool {
+    fn is_renamed(&mut self) -> bool
+        ensures context { context_of self.new ≡ context_of self.old }
+        ensures lower { work self.new ≤ work self.old }
+    {
         let input = self.parser.buffer();
         match input.cur() {
             Some(Token::Str { .. }) => true,
@@ -128,7 +151,10 @@ impl Reader {
     }
 
     /// `from`
-    fn expect_from(&mut self) -> PResult<()> {
+    fn expect_from(&mut self) -> PResult<()>
+        ensures context { context_of self.new ≡ context_of self.old }
+        ensures lower { work self.new ≤ work self.old }
+    {
         if self.eat_word("from") {
             return Ok(());
         }
@@ -136,9 +162,12 @@ impl Reader {
     }
 
     /// A string.
-    fn string(&mut self) -> PResult<Str> {
+    fn string(&mut self) -> PResult<Str>
+        ensures context { context_of self.new ≡ context_of self.old }
+        ensures lower { work self.new ≤ work self.old }
+    {
         if self.at_string()
-            && let Lit::Str(string) = self.parser.parse_lit()?
+            && let Lit::Str(string) = self.literal()?
         {
             return Ok(string);
         }
@@ -146,27 +175,32 @@ impl Reader {
     }
 
     /// `with` and attributes in braces, or nothing.
-    fn attributes(&mut self) -> PResult<Vec<ImportAttribute>> {
+    fn attributes(&mut self) -> PResult<Vec<ImportAttribute>>
+        ensures context { context_of self.new ≡ context_of self.old }
+        ensures lower { work self.new ≤ work self.old }
+    {
         let mut attributes = Vec::new(self.alloc);
         if !self.eat_keyword(Keyword::With) {
             return Ok(attributes);
         }
         self.expect(&Token::LBrace, Wanted::LBrace)?;
-        while !self.eat(&Token::RBrace) {
+        let mut is_over = self.eat(&Token::RBrace);
+        while !is_over {
             let attribute = self.attribute()?;
             let pushed = attributes.push(attribute);
             self.kept(pushed)?;
-            if !self.at(&Token::RBrace) {
-                self.expect(&Token::Comma, Wanted::Comma)?;
-            }
+            is_over = self.ends_braces()?;
         }
         Ok(attributes)
     }
 
     /// `key: value`
-    fn attribute(&mut self) -> PResult<ImportAttribute> {
+    fn attribute(&mut self) -> PResult<ImportAttribute>
+        ensures context { context_of self.new ≡ context_of self.old }
+        ensures lower { work self.new ≤ work self.old }
+    {
         let start = self.start();
-        let key = self.parser.parse_module_export_name()?;
+        let key = self.export_name()?;
         self.expect(&Token::Colon, Wanted::Colon)?;
         let value = self.string()?;
         Ok(ImportAttribute {
@@ -177,7 +211,10 @@ impl Reader {
     }
 
     /// What is after `export` (16.2.3).
-    fn export(&mut self, start: BytePos) -> PResult<()> {
+    fn export(&mut self, start: BytePos) -> PResult<()>
+        ensures context { context_of self.new ≡ context_of self.old }
+        ensures lower { OnOk result (work self.new ≤ work self.old) }
+    {
         if self.eat(&STAR) {
             return self.export_all(start);
         }
@@ -191,9 +228,12 @@ impl Reader {
     }
 
     /// What is after `export *`.
-    fn export_all(&mut self, start: BytePos) -> PResult<()> {
+    fn export_all(&mut self, start: BytePos) -> PResult<()>
+        ensures context { context_of self.new ≡ context_of self.old }
+        ensures lower { work self.new ≤ work self.old }
+    {
         let exported = if self.eat_word("as") {
-            Some(self.parser.parse_module_export_name()?)
+            Some(self.export_name()?)
         } else {
             None
         };
@@ -210,18 +250,12 @@ impl Reader {
     }
 
     /// What is after `export {`. Without a source each local name is an identifier.
-    fn export_named(&mut self, start: BytePos) -> PResult<()> {
-        let mut specifiers = Vec::new(self.alloc);
+    fn export_named(&mut self, start: BytePos) -> PResult<()>
+        ensures context { context_of self.new ≡ context_of self.old }
+        ensures lower { work self.new ≤ work self.old }
+    {
         let mut has_string = false;
-        while !self.eat(&Token::RBrace) {
-            has_string |= self.at_string();
-            let specifier = self.export_specifier()?;
-            let pushed = specifiers.push(specifier);
-            self.kept(pushed)?;
-            if !self.at(&Token::RBrace) {
-                self.expect(&Token::Comma, Wanted::Comma)?;
-            }
-        }
+        let specifiers = self.export_specifiers(&mut has_string)?;
         let mut attributes = Vec::new(self.alloc);
         let source = if has_string || self.at_word("from") {
             self.expect_from()?;
@@ -240,12 +274,32 @@ impl Reader {
         self.finish(start, StatementKind::ExportNamed(exports))
     }
 
+    /// The names that are exported, up to `}`. Notes whether a local one is a string.
+    fn export_specifiers(&mut self, has_string: &mut bool) -> PResult<Vec<ExportSpecifier>>
+        ensures context { context_of self.new ≡ context_of self.old }
+        ensures lower { work self.new ≤ work self.old }
+    {
+        let mut specifiers = Vec::new(self.alloc);
+        let mut is_over = self.eat(&Token::RBrace);
+        while !is_over {
+            *has_string |= self.at_string();
+            let specifier = self.export_specifier()?;
+            let pushed = specifiers.push(specifier);
+            self.kept(pushed)?;
+            is_over = self.ends_braces()?;
+        }
+        Ok(specifiers)
+    }
+
     /// `local`, or `local as exported`.
-    fn export_specifier(&mut self) -> PResult<ExportSpecifier> {
+    fn export_specifier(&mut self) -> PResult<ExportSpecifier>
+        ensures context { context_of self.new ≡ context_of self.old }
+        ensures lower { work self.new ≤ work self.old }
+    {
         let start = self.start();
-        let local = self.parser.parse_module_export_name()?;
+        let local = self.export_name()?;
         let exported = if self.eat_word("as") {
-            Some(self.parser.parse_module_export_name()?)
+            Some(self.export_name()?)
         } else {
             None
         };
@@ -257,11 +311,14 @@ impl Reader {
     }
 
     /// What is after `export default`.
-    fn export_default(&mut self, start: BytePos) -> PResult<()> {
+    fn export_default(&mut self, start: BytePos) -> PResult<()>
+        ensures context { context_of self.new ≡ context_of self.old }
+        ensures lower { work self.new ≤ work self.old }
+    {
         let exported = if self.at_function() {
-            DefaultExport::Function(self.parser.read_fun()?)
+            DefaultExport::Function(self.read_fun()?)
         } else if self.keyword() == Some(Keyword::Class) {
-            DefaultExport::Class(self.parser.read_class()?)
+            DefaultExport::Class(self.read_class()?)
         } else {
             let expr = self.assignment_expr()?;
             self.end_statement()?;
@@ -271,10 +328,13 @@ impl Reader {
     }
 
     /// A declaration after `export`: of variables, a function or a class.
-    fn export_declaration(&mut self, start: BytePos) -> PResult<()> {
+    fn export_declaration(&mut self, start: BytePos) -> PResult<()>
+        ensures context { context_of self.new ≡ context_of self.old }
+        ensures lower { OnOk result (work self.new ≤ work self.old) }
+    {
         let from = self.start();
         if self.at_function() {
-            let function = self.parser.read_fun()?;
+            let function = self.read_fun()?;
             self.finish(from, StatementKind::Function(function))?;
         } else {
             self.declaration(from)?;

@@ -1,4 +1,7 @@
 // What is after a part of a statement (ECMA-262, 14).
+ghost use Rattle.std.specs.Prelude.{◌≡◌, ◌≤◌, OnOk};
+ghost use Rattle.statement_trees.specs.Contexts.{context_of, work};
+
 use crate::frame::{ForHead, Frame, Part};
 use crate::reader::Reader;
 use crate::tree::{CatchClause, StatementId, StatementKind};
@@ -33,7 +36,10 @@ fn for_kind(head: ForHead, body: StatementId) -> StatementKind {
 
 impl Reader {
     /// Goes on with a statement that began there, after its part, which was read last.
-    pub(crate) fn after_part(&mut self, start: BytePos, part: Part) -> PResult<()> {
+    pub(crate) fn after_part(&mut self, start: BytePos, part: Part) -> PResult<()>
+        ensures context { context_of self.new ≡ context_of self.old }
+        ensures lower { OnOk result (work self.new ≤ work self.old) }
+    {
         let body = self.last;
         let kind = match part {
             Part::If(test) => return self.after_if(start, test),
@@ -70,10 +76,13 @@ impl Reader {
     }
 
     /// `else` and its part, or the end of an `if`.
-    fn after_if(&mut self, start: BytePos, test: ExprId) -> PResult<()> {
+    fn after_if(&mut self, start: BytePos, test: ExprId) -> PResult<()>
+        ensures context { context_of self.new ≡ context_of self.old }
+        ensures lower { OnOk result (work self.new ≤ work self.old) }
+    {
         let consequent = self.last;
         if self.eat_keyword(Keyword::Else) {
-            return self.wait(start, Part::Else(test, consequent));
+            return self.put_off_part(start, Part::Else(test, consequent));
         }
         let kind = StatementKind::If {
             test,
@@ -84,7 +93,10 @@ impl Reader {
     }
 
     /// `while` and its test, with a semicolon or none.
-    fn after_do(&mut self, start: BytePos) -> PResult<()> {
+    fn after_do(&mut self, start: BytePos) -> PResult<()>
+        ensures context { context_of self.new ≡ context_of self.old }
+        ensures lower { OnOk result (work self.new ≤ work self.old) }
+    {
         let body = self.last;
         self.expect_keyword(Keyword::While)?;
         let test = self.parens()?;
@@ -93,7 +105,10 @@ impl Reader {
     }
 
     /// `catch` up to its block, or `finally`.
-    fn after_try(&mut self, start: BytePos) -> PResult<()> {
+    fn after_try(&mut self, start: BytePos) -> PResult<()>
+        ensures context { context_of self.new ≡ context_of self.old }
+        ensures lower { OnOk result (work self.new ≤ work self.old) }
+    {
         let block = self.last;
         let from = self.start();
         if self.eat_keyword(Keyword::Catch) {
@@ -113,7 +128,10 @@ impl Reader {
     }
 
     /// The parameter of `catch`, or nothing.
-    fn catch_param(&mut self) -> PResult<Option<PatId>> {
+    fn catch_param(&mut self) -> PResult<Option<PatId>>
+        ensures context { context_of self.new ≡ context_of self.old }
+        ensures lower { work self.new ≤ work self.old }
+    {
         if !self.eat(&Token::LParen) {
             return Ok(None);
         }
@@ -128,7 +146,10 @@ impl Reader {
         start: BytePos,
         block: StatementId,
         handler: Option<CatchClause>,
-    ) -> PResult<()> {
+    ) -> PResult<()>
+        ensures context { context_of self.new ≡ context_of self.old }
+        ensures lower { OnOk result (work self.new ≤ work self.old) }
+    {
         if self.eat_keyword(Keyword::Finally) {
             self.put_off(Frame::Part(start, Part::Finally { block, handler }))?;
             return self.open_block();

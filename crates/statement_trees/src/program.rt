@@ -1,10 +1,13 @@
 // Whole programs, whose bodies are read in passes.
-use crate::brackets::Bracketed;
+ghost use Rattle.std.specs.Prelude.{◌≡◌, [], OnOk, vec_len};
+ghost use Rattle.statement_trees.specs.Contexts.{kept_bodies};
+
 use crate::frame::Owner;
-use crate::hook::ProgramBodies;
 use crate::reader::Reader;
-use crate::source::ProgramInput;
 use crate::tree::{Goal, Program, StatementId};
+use program_tokens::brackets::Bracketed;
+use program_tokens::hook::ProgramBodies;
+use program_tokens::source::ProgramInput;
 use reporting::Refusal;
 use std::alloc::{AllocError, Global};
 use swc_ecma_parser::bodies::deferred::Waiting;
@@ -74,7 +77,9 @@ impl Program {
 
 impl Reader {
     /// A reader that has read nothing. Takes no memory.
-    fn new(alloc: Global, list: Bracketed, goal: Goal, levels: usize) -> Reader {
+    fn new(alloc: Global, list: Bracketed, goal: Goal, levels: usize) -> Reader
+        ensures none { kept_bodies result ≡ [] }
+    {
         let source = ProgramInput::new(alloc, list, context_of(goal), syntax());
         let mut parser = Parser::new_from(alloc, source, ProgramBodies::new(alloc));
         parser.limit_nesting(levels);
@@ -109,7 +114,9 @@ impl Reader {
     }
 
     /// Reads the statements of the program itself, to its end.
-    fn program(&mut self) -> Result<Vec<StatementId>, Refusal> {
+    fn program(&mut self) -> Result<Vec<StatementId>, Refusal>
+        ensures taken { OnOk result (kept_bodies self.new ≡ []) }
+    {
         let answer = self.list(Owner::Program);
         let body = self.end_pass(answer)?;
         if self.parser.buffer().cur().is_some() {
@@ -120,7 +127,10 @@ impl Reader {
     }
 
     /// Reads all bodies that wait, and those within them, in the order in which they begin.
-    fn passes(&mut self) -> Result<(), Refusal> {
+    fn passes(&mut self) -> Result<(), Refusal>
+        requires { kept_bodies self.old ≡ [] }
+        ensures all { OnOk result ((vec_len self.new.waiting ≡ 0) × (kept_bodies self.new ≡ [])) }
+    {
         let mut past = 0;
         while let Some(next) = self.waiting.pop() {
             let place = next.body.span;
@@ -137,7 +147,9 @@ impl Reader {
 
     /// Reads a body that waited, in its context. The body itself is in the head of no `for`. It ends where it did when
     /// it was passed over.
-    fn pass(&mut self, next: Waiting) -> Result<(), Refusal> {
+    fn pass(&mut self, next: Waiting) -> Result<(), Refusal>
+        ensures taken { OnOk result (kept_bodies self.new ≡ []) }
+    {
         let place = next.body.span;
         self.go_to(place.lo);
         self.set_context(Context {
@@ -167,7 +179,9 @@ impl Reader {
 
     /// Refuses the first fault that was recorded, or that is one in strict code. The bodies that the pass has met wait
     /// from now on.
-    fn end_pass<T: Drop>(&mut self, answer: PResult<T>) -> Result<T, Refusal> {
+    fn end_pass<T: Drop>(&mut self, answer: PResult<T>) -> Result<T, Refusal>
+        ensures taken { OnOk result (kept_bodies self.new ≡ []) }
+    {
         if let Some(fault) = self.parser.take_errors().into_iter().next() {
             return Err(Refusal::Fault(fault));
         }
@@ -184,7 +198,9 @@ impl Reader {
     }
 
     /// Puts the bodies that the hook has kept on those that wait, the first one last.
-    fn collect(&mut self) -> PResult<()> {
+    fn collect(&mut self) -> PResult<()>
+        ensures taken { OnOk result (kept_bodies self.new ≡ []) }
+    {
         while let Some(body) = self.parser.bodies().pop() {
             let pushed = self.waiting.push(body);
             self.kept(pushed)?;

@@ -1,8 +1,11 @@
 // What all forms take: tokens, words, names, expressions, and the statements that were read.
+ghost use Rattle.std.specs.Prelude.{◌≡◌, ◌+◌, ◌<◌, ◌≤◌, true, IsSome, OnOk};
+ghost use Rattle.statement_trees.specs.Contexts.{context_of, work, Takes};
+
 use crate::frame::{Frame, Part};
-use crate::hook::ProgramBodies;
-use crate::source::ProgramInput;
 use crate::tree::{Block, Class, Function, Statement, StatementId, StatementKind};
+use program_tokens::hook::ProgramBodies;
+use program_tokens::source::ProgramInput;
 use std::alloc::Global;
 use swc_ecma_parser::bodies::deferred::Waiting;
 use swc_ecma_parser::context::context::Context;
@@ -10,7 +13,7 @@ use swc_ecma_parser::context::error::{Error, PResult, SyntaxError, Wanted};
 use swc_ecma_parser::context::span::{BytePos, Span};
 use swc_ecma_parser::context::word::{Keyword, Word};
 use swc_ecma_parser::input::token::Token;
-use swc_ecma_parser::nodes::node::{ExprId, Node, PatId};
+use swc_ecma_parser::nodes::node::{ExprId, Node};
 use swc_ecma_parser::parser::Parser;
 
 /// A program that is read: the pass that goes on, what was read so far, and the bodies that wait for passes of their own.
@@ -38,17 +41,28 @@ pub(crate) struct Reader {
 
 impl Reader {
     /// Whether the token is current.
-    pub(crate) fn at(&mut self, token: &Token) -> bool {
+    pub(crate) fn at(&mut self, token: &Token) -> bool
+        ensures context { context_of self.new ≡ context_of self.old }
+        ensures lower { work self.new ≤ work self.old }
+    {
         self.parser.buffer().is(token)
     }
 
     /// Consumes the token where it is current, and says whether it was.
-    pub(crate) fn eat(&mut self, token: &Token) -> bool {
+    pub(crate) fn eat(&mut self, token: &Token) -> bool
+        ensures context { context_of self.new ≡ context_of self.old }
+        ensures lower { work self.new ≤ work self.old }
+        ensures takes { result ≡ true → Takes self.old self.new }
+    {
         self.parser.buffer().eat(token)
     }
 
     /// Consumes the token; another one is refused.
-    pub(crate) fn expect(&mut self, token: &Token, wanted: Wanted) -> PResult<()> {
+    pub(crate) fn expect(&mut self, token: &Token, wanted: Wanted) -> PResult<()>
+        ensures context { context_of self.new ≡ context_of self.old }
+        ensures lower { work self.new ≤ work self.old }
+        ensures takes { OnOk result (Takes self.old self.new) }
+    {
         if self.eat(token) {
             return Ok(());
         }
@@ -56,13 +70,19 @@ impl Reader {
     }
 
     /// The refusal of the current token, where another one is wanted.
-    pub(crate) fn wants(&mut self, wanted: Wanted) -> Error {
+    pub(crate) fn wants(&mut self, wanted: Wanted) -> Error
+        ensures context { context_of self.new ≡ context_of self.old }
+        ensures lower { work self.new ≤ work self.old }
+    {
         let input = self.parser.buffer();
         input.unexpected(SyntaxError::Expected(wanted))
     }
 
     /// The keyword that is current.
-    pub(crate) fn keyword(&mut self) -> Option<Keyword> {
+    pub(crate) fn keyword(&mut self) -> Option<Keyword>
+        ensures context { context_of self.new ≡ context_of self.old }
+        ensures lower { work self.new ≤ work self.old }
+    {
         match self.parser.buffer().cur() {
             Some(Token::Word(Word::Keyword(keyword))) => Some(*keyword),
             _ => None,
@@ -70,12 +90,20 @@ impl Reader {
     }
 
     /// Consumes the keyword where it is current, and says whether it was.
-    pub(crate) fn eat_keyword(&mut self, keyword: Keyword) -> bool {
+    pub(crate) fn eat_keyword(&mut self, keyword: Keyword) -> bool
+        ensures context { context_of self.new ≡ context_of self.old }
+        ensures lower { work self.new ≤ work self.old }
+        ensures takes { result ≡ true → Takes self.old self.new }
+    {
         self.eat(&Token::Word(Word::Keyword(keyword)))
     }
 
     /// Consumes the keyword; another token is refused.
-    pub(crate) fn expect_keyword(&mut self, keyword: Keyword) -> PResult<()> {
+    pub(crate) fn expect_keyword(&mut self, keyword: Keyword) -> PResult<()>
+        ensures context { context_of self.new ≡ context_of self.old }
+        ensures lower { work self.new ≤ work self.old }
+        ensures takes { OnOk result (Takes self.old self.new) }
+    {
         self.expect(
             &Token::Word(Word::Keyword(keyword)),
             Wanted::Keyword(keyword),
@@ -83,19 +111,28 @@ impl Reader {
     }
 
     /// Whether a list of statements ends here.
-    pub(crate) fn at_end(&mut self) -> bool {
+    pub(crate) fn at_end(&mut self) -> bool
+        ensures context { context_of self.new ≡ context_of self.old }
+        ensures lower { work self.new ≤ work self.old }
+    {
         let is_clause = matches!(self.keyword(), Some(Keyword::Case | Keyword::Default_));
         is_clause || self.at(&Token::RBrace) || self.parser.buffer().cur().is_none()
     }
 
     /// Whether a statement may end here (ECMA-262, 12.10).
-    pub(crate) fn at_semicolon(&mut self) -> bool {
+    pub(crate) fn at_semicolon(&mut self) -> bool
+        ensures context { context_of self.new ≡ context_of self.old }
+        ensures lower { work self.new ≤ work self.old }
+    {
         let at_sign = self.at(&Token::Semi) || self.at(&Token::RBrace);
         at_sign || self.parser.buffer().had_line_break_before_cur()
     }
 
     /// Ends a statement: by a semicolon, or where one may be left out.
-    pub(crate) fn end_statement(&mut self) -> PResult<()> {
+    pub(crate) fn end_statement(&mut self) -> PResult<()>
+        ensures context { context_of self.new ≡ context_of self.old }
+        ensures lower { work self.new ≤ work self.old }
+    {
         if !self.eat(&Token::Semi) && !self.at_semicolon() {
             return Err(self.wants(Wanted::Semi));
         }
@@ -103,12 +140,18 @@ impl Reader {
     }
 
     /// Where the current token begins.
-    pub(crate) fn start(&mut self) -> BytePos {
+    pub(crate) fn start(&mut self) -> BytePos
+        ensures context { context_of self.new ≡ context_of self.old }
+        ensures lower { work self.new ≤ work self.old }
+    {
         self.parser.buffer().cur_pos()
     }
 
     /// From there to where the token that was consumed last ends.
-    pub(crate) fn span_from(&mut self, start: BytePos) -> Span {
+    pub(crate) fn span_from(&mut self, start: BytePos) -> Span
+        ensures context { context_of self.new ≡ context_of self.old }
+        ensures lower { work self.new ≤ work self.old }
+    {
         Span {
             lo: start,
             hi: self.parser.buffer().last_pos(),
@@ -116,13 +159,22 @@ impl Reader {
     }
 
     /// The context.
-    pub(crate) fn context(&mut self) -> Context {
+    pub(crate) fn context(&mut self) -> Context
+        ensures value { result ≡ context_of self.old }
+        ensures context { context_of self.new ≡ context_of self.old }
+        ensures lower { work self.new ≤ work self.old }
+    {
         self.parser.buffer().get_ctx()
     }
 
     /// Sets the context, but for the kind of text, a script or a module, which stays: so it is never refused. Answers
     /// the one from before.
-    pub(crate) fn set_context(&mut self, mut context: Context) -> Context {
+    pub(crate) fn set_context(&mut self, mut context: Context) -> Context
+        ensures before { result ≡ context_of self.old }
+        ensures kind { (context_of self.new).module ≡ (context_of self.old).module }
+        ensures set { context.module ≡ (context_of self.old).module → context_of self.new ≡ context }
+        ensures lower { work self.new ≤ work self.old }
+    {
         let before = self.context();
         context.module = before.module;
         let _ = self.parser.buffer().set_ctx(context);
@@ -130,16 +182,14 @@ impl Reader {
     }
 
     /// Refuses what could not be kept, as out of memory.
-    pub(crate) fn kept<E: Drop>(&mut self, pushed: Result<(), E>) -> PResult<()> {
+    pub(crate) fn kept<E: Drop>(&mut self, pushed: Result<(), E>) -> PResult<()>
+        ensures context { context_of self.new ≡ context_of self.old }
+        ensures lower { work self.new ≤ work self.old }
+    {
         match pushed {
             Ok(()) => Ok(()),
             Err(_) => Err(self.parser.buffer().out_of_memory()),
         }
-    }
-
-    /// Reads an expression.
-    pub(crate) fn expr(&mut self) -> PResult<ExprId> {
-        self.parser.parse_expr_id()
     }
 
     /// Whether the expression is a string by itself.
@@ -168,37 +218,61 @@ impl Reader {
     }
 
     /// Reads an expression in parentheses.
-    pub(crate) fn parens(&mut self) -> PResult<ExprId> {
+    pub(crate) fn parens(&mut self) -> PResult<ExprId>
+        ensures context { context_of self.new ≡ context_of self.old }
+        ensures lower { work self.new ≤ work self.old }
+        ensures takes { OnOk result (Takes self.old self.new) }
+    {
         self.expect(&Token::LParen, Wanted::LParen)?;
         let expr = self.expr()?;
         self.expect(&Token::RParen, Wanted::RParen)?;
         Ok(expr)
     }
 
-    /// Reads an assignment expression.
-    pub(crate) fn assignment_expr(&mut self) -> PResult<ExprId> {
-        self.parser.parse_assignment_expr_id()
-    }
-
-    /// Reads a binding pattern.
-    pub(crate) fn pat(&mut self) -> PResult<PatId> {
-        self.parser.parse_pat_id()
-    }
-
     /// Puts off what is to be done after what comes next.
-    pub(crate) fn put_off(&mut self, frame: Frame) -> PResult<()> {
+    pub(crate) fn put_off(&mut self, frame: Frame) -> PResult<()>
+        ensures context { context_of self.new ≡ context_of self.old }
+        ensures adds { work self.new ≤ work self.old + 1 }
+    {
         let pushed = self.frames.push(frame);
         self.kept(pushed)
     }
 
     /// Puts off a statement that has a part, which comes next.
-    pub(crate) fn wait(&mut self, start: BytePos, part: Part) -> PResult<()> {
+    pub(crate) fn put_off_part(&mut self, start: BytePos, part: Part) -> PResult<()>
+        ensures context { context_of self.new ≡ context_of self.old }
+        ensures adds { work self.new ≤ work self.old + 2 }
+    {
         self.put_off(Frame::Part(start, part))?;
         self.put_off(Frame::Body)
     }
 
+    /// Takes what was put off last.
+    pub(crate) fn next_frame(&mut self) -> Option<Frame>
+        ensures context { context_of self.new ≡ context_of self.old }
+        ensures falls { IsSome result → work self.new < work self.old }
+    {
+        self.frames.pop()
+    }
+
+    /// Whether a list in braces ends after an item: its `}` is consumed, or else a comma.
+    pub(crate) fn ends_braces(&mut self) -> PResult<bool>
+        ensures context { context_of self.new ≡ context_of self.old }
+        ensures lower { work self.new ≤ work self.old }
+        ensures takes { OnOk result (Takes self.old self.new) }
+    {
+        if self.eat(&Token::Comma) {
+            return Ok(self.eat(&Token::RBrace));
+        }
+        self.expect(&Token::RBrace, Wanted::RBrace)?;
+        Ok(true)
+    }
+
     /// Ends a statement that began there.
-    pub(crate) fn finish(&mut self, start: BytePos, kind: StatementKind) -> PResult<()> {
+    pub(crate) fn finish(&mut self, start: BytePos, kind: StatementKind) -> PResult<()>
+        ensures context { context_of self.new ≡ context_of self.old }
+        ensures lower { work self.new ≤ work self.old }
+    {
         let span = self.span_from(start);
         self.last = StatementId(self.statements.len());
         let pushed = self.statements.push(Statement { span, kind });

@@ -1,5 +1,8 @@
 // Statements (ECMA-262, 14). What is begun and not ended is on a stack: so statements in one another take no recursion.
-// Reading ends, since each step takes a frame from the stack, and puts off three at most where it consumes a token.
+// Reading ends, since each step takes a frame from the stack, and puts off two at most where it consumes a token.
+ghost use Rattle.std.specs.Prelude.{◌≡◌, ◌+◌, ◌≤◌, OnOk};
+ghost use Rattle.statement_trees.specs.Contexts.{context_of, work, Takes, SameModule};
+
 use crate::frame::{Clause, Frame, List, Owner, Part, Switch};
 use crate::reader::Reader;
 use crate::tree::{StatementId, StatementKind, SwitchCase, VariableKind};
@@ -13,7 +16,9 @@ use swc_ecma_parser::nodes::node::ExprId;
 
 impl Reader {
     /// Reads statements up to what begins none. A prologue that has `"use strict"` makes what is after it strict.
-    pub(crate) fn list(&mut self, owner: Owner) -> PResult<Vec<StatementId>> {
+    pub(crate) fn list(&mut self, owner: Owner) -> PResult<Vec<StatementId>>
+        ensures context { context_of self.new ≡ context_of self.old }
+    {
         let before = self.context();
         let answer = self.rest_of_list(owner);
         self.set_context(before);
@@ -22,10 +27,12 @@ impl Reader {
     }
 
     /// Reads statements up to what begins none, after which the code may be strict.
-    fn rest_of_list(&mut self, owner: Owner) -> PResult<()> {
+    fn rest_of_list(&mut self, owner: Owner) -> PResult<()>
+        ensures module { SameModule self.old self.new }
+    {
         let items = self.prologue()?;
         self.put_off(Frame::List(List { owner, items }))?;
-        while let Some(frame) = self.frames.pop() {
+        while let Some(frame) = self.next_frame() {
             self.step(frame)?;
         }
         Ok(())
@@ -33,7 +40,10 @@ impl Reader {
 
     /// Reads the directives with which a program or a body begins, and an expression after them that begins with a
     /// string (ECMA-262, 11.2.1). After `"use strict"` the code is strict.
-    fn prologue(&mut self) -> PResult<Vec<StatementId>> {
+    fn prologue(&mut self) -> PResult<Vec<StatementId>>
+        ensures module { SameModule self.old self.new }
+        ensures lower { work self.new ≤ work self.old }
+    {
         let mut items = Vec::new(self.alloc);
         let mut goes_on = true;
         while goes_on && self.at_string() {
@@ -57,7 +67,10 @@ impl Reader {
     }
 
     /// Makes the code strict that is read from now on.
-    fn make_strict(&mut self) {
+    fn make_strict(&mut self)
+        ensures module { SameModule self.old self.new }
+        ensures lower { work self.new ≤ work self.old }
+    {
         let context = self.context();
         self.set_context(Context {
             strict: true,
@@ -66,7 +79,10 @@ impl Reader {
     }
 
     /// Goes on with what was put off last.
-    fn step(&mut self, frame: Frame) -> PResult<()> {
+    fn step(&mut self, frame: Frame) -> PResult<()>
+        ensures context { context_of self.new ≡ context_of self.old }
+        ensures lower { OnOk result (work self.new ≤ work self.old) }
+    {
         match frame {
             Frame::Body => self.body(),
             Frame::List(list) => self.next_item(list),
@@ -80,7 +96,10 @@ impl Reader {
     }
 
     /// Reads a statement that is a part of another one, which is no declaration but a function.
-    fn body(&mut self) -> PResult<()> {
+    fn body(&mut self) -> PResult<()>
+        ensures context { context_of self.new ≡ context_of self.old }
+        ensures falls { OnOk result (work self.new + 3 ≤ work self.old) }
+    {
         match self.keyword() {
             Some(Keyword::Class | Keyword::Const) => Err(self.wants(Wanted::LBrace)),
             Some(Keyword::Let) if self.at_let() => Err(self.wants(Wanted::LBrace)),
@@ -89,7 +108,10 @@ impl Reader {
     }
 
     /// Reads the next statement of a list, or ends it.
-    fn next_item(&mut self, list: List) -> PResult<()> {
+    fn next_item(&mut self, list: List) -> PResult<()>
+        ensures context { context_of self.new ≡ context_of self.old }
+        ensures lower { OnOk result (work self.new ≤ work self.old) }
+    {
         if self.at_end() {
             return self.end_list(list);
         }
@@ -102,7 +124,10 @@ impl Reader {
     }
 
     /// Ends a list.
-    fn end_list(&mut self, list: List) -> PResult<()> {
+    fn end_list(&mut self, list: List) -> PResult<()>
+        ensures context { context_of self.new ≡ context_of self.old }
+        ensures lower { OnOk result (work self.new ≤ work self.old) }
+    {
         match list.owner {
             Owner::Program | Owner::Function => {
                 self.list = list.items;
@@ -126,7 +151,10 @@ impl Reader {
     }
 
     /// Reads the beginning of the next clause of a `switch`, or ends it.
-    fn next_clause(&mut self, switch: Switch) -> PResult<()> {
+    fn next_clause(&mut self, switch: Switch) -> PResult<()>
+        ensures context { context_of self.new ≡ context_of self.old }
+        ensures lower { OnOk result (work self.new ≤ work self.old) }
+    {
         if self.eat(&Token::RBrace) {
             let kind = StatementKind::Switch {
                 discriminant: switch.discriminant,
@@ -142,7 +170,11 @@ impl Reader {
     }
 
     /// What a clause of a `switch` begins with, up to its `:`.
-    fn clause(&mut self) -> PResult<Clause> {
+    fn clause(&mut self) -> PResult<Clause>
+        ensures context { context_of self.new ≡ context_of self.old }
+        ensures lower { work self.new ≤ work self.old }
+        ensures takes { OnOk result (Takes self.old self.new) }
+    {
         let start = self.start();
         let test = if self.eat_keyword(Keyword::Case) {
             Some(self.expr()?)
@@ -156,7 +188,10 @@ impl Reader {
     }
 
     /// Reads a statement, up to its first part.
-    pub(crate) fn statement(&mut self) -> PResult<()> {
+    pub(crate) fn statement(&mut self) -> PResult<()>
+        ensures context { context_of self.new ≡ context_of self.old }
+        ensures falls { OnOk result (work self.new + 3 ≤ work self.old) }
+    {
         let start = self.start();
         match self.keyword() {
             Some(Keyword::If | Keyword::While | Keyword::With) => self.tested(start),
@@ -177,32 +212,41 @@ impl Reader {
     }
 
     /// `if`, `while` or `with`, up to its first part.
-    fn tested(&mut self, start: BytePos) -> PResult<()> {
+    fn tested(&mut self, start: BytePos) -> PResult<()>
+        ensures context { context_of self.new ≡ context_of self.old }
+        ensures falls { OnOk result (work self.new + 3 ≤ work self.old) }
+    {
         if self.eat_keyword(Keyword::If) {
             let test = self.parens()?;
-            return self.wait(start, Part::If(test));
+            return self.put_off_part(start, Part::If(test));
         }
         if self.eat_keyword(Keyword::While) {
             let test = self.parens()?;
-            return self.wait(start, Part::While(test));
+            return self.put_off_part(start, Part::While(test));
         }
         self.expect_keyword(Keyword::With)?;
         let object = self.parens()?;
-        self.wait(start, Part::With(object))
+        self.put_off_part(start, Part::With(object))
     }
 
     /// `do` or `for`, up to its part.
-    fn repeated(&mut self, start: BytePos) -> PResult<()> {
+    fn repeated(&mut self, start: BytePos) -> PResult<()>
+        ensures context { context_of self.new ≡ context_of self.old }
+        ensures falls { OnOk result (work self.new + 3 ≤ work self.old) }
+    {
         if self.eat_keyword(Keyword::Do) {
-            return self.wait(start, Part::Do);
+            return self.put_off_part(start, Part::Do);
         }
         self.expect_keyword(Keyword::For)?;
         let head = self.for_head()?;
-        self.wait(start, Part::For(head))
+        self.put_off_part(start, Part::For(head))
     }
 
     /// `switch`, up to its first clause.
-    fn switch(&mut self, start: BytePos) -> PResult<()> {
+    fn switch(&mut self, start: BytePos) -> PResult<()>
+        ensures context { context_of self.new ≡ context_of self.old }
+        ensures falls { OnOk result (work self.new + 3 ≤ work self.old) }
+    {
         self.expect_keyword(Keyword::Switch)?;
         let discriminant = self.parens()?;
         self.expect(&Token::LBrace, Wanted::LBrace)?;
@@ -214,14 +258,20 @@ impl Reader {
     }
 
     /// `try`, up to its block.
-    fn try_block(&mut self, start: BytePos) -> PResult<()> {
+    fn try_block(&mut self, start: BytePos) -> PResult<()>
+        ensures context { context_of self.new ≡ context_of self.old }
+        ensures falls { OnOk result (work self.new + 3 ≤ work self.old) }
+    {
         self.expect_keyword(Keyword::Try)?;
         self.put_off(Frame::Part(start, Part::Try))?;
         self.open_block()
     }
 
     /// `{`, and the statements after it are put off.
-    pub(crate) fn open_block(&mut self) -> PResult<()> {
+    pub(crate) fn open_block(&mut self) -> PResult<()>
+        ensures context { context_of self.new ≡ context_of self.old }
+        ensures falls { OnOk result (work self.new + 3 ≤ work self.old) }
+    {
         let start = self.start();
         self.expect(&Token::LBrace, Wanted::LBrace)?;
         self.put_off(Frame::List(List {
@@ -231,7 +281,10 @@ impl Reader {
     }
 
     /// `break`, `continue`, `return`, `throw` or `debugger`.
-    fn simple(&mut self, start: BytePos) -> PResult<()> {
+    fn simple(&mut self, start: BytePos) -> PResult<()>
+        ensures context { context_of self.new ≡ context_of self.old }
+        ensures falls { OnOk result (work self.new + 3 ≤ work self.old) }
+    {
         let kind = if self.eat_keyword(Keyword::Break) {
             StatementKind::Break(self.target()?)
         } else if self.eat_keyword(Keyword::Continue) {
@@ -249,10 +302,13 @@ impl Reader {
     }
 
     /// `var`, `let`, `const` or `class`.
-    pub(crate) fn declaration(&mut self, start: BytePos) -> PResult<()> {
+    pub(crate) fn declaration(&mut self, start: BytePos) -> PResult<()>
+        ensures context { context_of self.new ≡ context_of self.old }
+        ensures falls { OnOk result (work self.new + 3 ≤ work self.old) }
+    {
         let kind = match self.keyword() {
             Some(Keyword::Class) => {
-                let class = self.parser.read_class()?;
+                let class = self.read_class()?;
                 return self.finish(start, StatementKind::Class(class));
             }
             Some(Keyword::Let) => VariableKind::Let,
@@ -266,7 +322,10 @@ impl Reader {
     }
 
     /// A statement that begins with no keyword of its own, up to its first part.
-    fn other_statement(&mut self, start: BytePos) -> PResult<()> {
+    fn other_statement(&mut self, start: BytePos) -> PResult<()>
+        ensures context { context_of self.new ≡ context_of self.old }
+        ensures falls { OnOk result (work self.new + 3 ≤ work self.old) }
+    {
         if self.at(&Token::LBrace) {
             return self.open_block();
         }
@@ -274,13 +333,13 @@ impl Reader {
             return self.finish(start, StatementKind::Empty);
         }
         if self.at_function() {
-            let function = self.parser.read_fun()?;
+            let function = self.read_fun()?;
             return self.finish(start, StatementKind::Function(function));
         }
         if self.at_label() {
-            let label = self.parser.parse_label_ident()?;
+            let label = self.label()?;
             self.expect(&Token::Colon, Wanted::Colon)?;
-            return self.wait(start, Part::Label(label));
+            return self.put_off_part(start, Part::Label(label));
         }
         let expr = self.expr()?;
         self.end_statement()?;
@@ -288,7 +347,10 @@ impl Reader {
     }
 
     /// What is returned, or nothing. Outside functions the word is refused.
-    fn returned(&mut self) -> PResult<Option<ExprId>> {
+    fn returned(&mut self) -> PResult<Option<ExprId>>
+        ensures context { context_of self.new ≡ context_of self.old }
+        ensures lower { work self.new ≤ work self.old }
+    {
         if !self.context().in_function {
             let span = self.parser.buffer().prev_span();
             let wanted = Wanted::Keyword(Keyword::Function);
@@ -301,7 +363,10 @@ impl Reader {
     }
 
     /// What is thrown, on the line of the word.
-    fn thrown(&mut self) -> PResult<ExprId> {
+    fn thrown(&mut self) -> PResult<ExprId>
+        ensures context { context_of self.new ≡ context_of self.old }
+        ensures lower { work self.new ≤ work self.old }
+    {
         if self.parser.buffer().had_line_break_before_cur() {
             return Err(self.parser.buffer().unexpected(SyntaxError::TS1109));
         }
@@ -309,10 +374,13 @@ impl Reader {
     }
 
     /// The label after `break` or `continue`, or nothing.
-    fn target(&mut self) -> PResult<Option<Ident>> {
+    fn target(&mut self) -> PResult<Option<Ident>>
+        ensures context { context_of self.new ≡ context_of self.old }
+        ensures lower { work self.new ≤ work self.old }
+    {
         if self.at_semicolon() {
             return Ok(None);
         }
-        Ok(Some(self.parser.parse_label_ident()?))
+        Ok(Some(self.label()?))
     }
 }

@@ -1,4 +1,7 @@
 // Declarations of variables, and heads of `for` (ECMA-262, 14.3 and 14.7).
+ghost use Rattle.std.specs.Prelude.{◌≡◌, ◌≤◌, OnOk};
+ghost use Rattle.statement_trees.specs.Contexts.{context_of, work, Takes};
+
 use crate::frame::ForHead;
 use crate::reader::Reader;
 use crate::tree::{Declarator, ForInit, ForTarget, VariableDeclaration, VariableKind};
@@ -33,7 +36,11 @@ impl Reader {
         &mut self,
         kind: VariableKind,
         in_head: bool,
-    ) -> PResult<(VariableDeclaration, bool)> {
+    ) -> PResult<(VariableDeclaration, bool)>
+        ensures context { context_of self.new ≡ context_of self.old }
+        ensures lower { work self.new ≤ work self.old }
+        ensures takes { OnOk result (Takes self.old self.new) }
+    {
         let start = self.start();
         self.expect_keyword(word_of(kind))?;
         let mut declarators = Vec::new(self.alloc);
@@ -57,7 +64,10 @@ impl Reader {
 
     /// A name or a pattern that is declared, and its value or nothing. The flag says that there may be one alone, and
     /// then that it is.
-    fn declarator(&mut self, kind: VariableKind, is_alone: &mut bool) -> PResult<Declarator> {
+    fn declarator(&mut self, kind: VariableKind, is_alone: &mut bool) -> PResult<Declarator>
+        ensures context { context_of self.new ≡ context_of self.old }
+        ensures lower { work self.new ≤ work self.old }
+    {
         let start = self.start();
         let is_name = !self.at(&Token::LBracket) && !self.at(&Token::LBrace);
         let id = self.pat()?;
@@ -73,7 +83,10 @@ impl Reader {
     }
 
     /// `=` and a value, or nothing where there need be none.
-    pub(crate) fn value(&mut self, needs_value: bool) -> PResult<Option<ExprId>> {
+    pub(crate) fn value(&mut self, needs_value: bool) -> PResult<Option<ExprId>>
+        ensures context { context_of self.new ≡ context_of self.old }
+        ensures lower { work self.new ≤ work self.old }
+    {
         if self.eat(&Token::AssignOp(AssignOp::Assign)) {
             return Ok(Some(self.assignment_expr()?));
         }
@@ -84,7 +97,10 @@ impl Reader {
     }
 
     /// The head of a `for` (14.7.4 and 14.7.5), after that word. `await` is in async code alone.
-    pub(crate) fn for_head(&mut self) -> PResult<ForHead> {
+    pub(crate) fn for_head(&mut self) -> PResult<ForHead>
+        ensures context { context_of self.new ≡ context_of self.old }
+        ensures lower { work self.new ≤ work self.old }
+    {
         let context = self.context();
         let is_await = context.in_async && self.eat_keyword(Keyword::Await);
         self.expect(&Token::LParen, Wanted::LParen)?;
@@ -104,7 +120,10 @@ impl Reader {
     }
 
     /// What the head begins with.
-    fn head_start(&mut self, is_await: bool) -> PResult<HeadStart> {
+    fn head_start(&mut self, is_await: bool) -> PResult<HeadStart>
+        ensures context { context_of self.new ≡ context_of self.old }
+        ensures lower { work self.new ≤ work self.old }
+    {
         let kind = match self.keyword() {
             Some(Keyword::Var) => Some(VariableKind::Var),
             Some(Keyword::Let) if self.at_let() => Some(VariableKind::Let),
@@ -121,14 +140,17 @@ impl Reader {
         if self.at(&Token::Semi) {
             return Ok(HeadStart::Init(None));
         }
-        match self.parser.parse_for_head_id(is_await)? {
+        match self.head_expr(is_await)? {
             ForHeadId::Target(pat) => Ok(HeadStart::Target(ForTarget::Pat(pat))),
             ForHeadId::Expr(expr) => Ok(HeadStart::Init(Some(ForInit::Expr(expr)))),
         }
     }
 
     /// `of` or `in`, and what is gone through.
-    fn for_each(&mut self, left: ForTarget, is_await: bool) -> PResult<ForHead> {
+    fn for_each(&mut self, left: ForTarget, is_await: bool) -> PResult<ForHead>
+        ensures context { context_of self.new ≡ context_of self.old }
+        ensures lower { work self.new ≤ work self.old }
+    {
         if !is_await && self.eat_keyword(Keyword::In) {
             let right = self.expr()?;
             return Ok(ForHead::In { left, right });
@@ -145,14 +167,20 @@ impl Reader {
     }
 
     /// The two semicolons, and the expressions after them or none.
-    fn three_parts(&mut self, init: Option<ForInit>) -> PResult<ForHead> {
+    fn three_parts(&mut self, init: Option<ForInit>) -> PResult<ForHead>
+        ensures context { context_of self.new ≡ context_of self.old }
+        ensures lower { work self.new ≤ work self.old }
+    {
         let test = self.head_part(&Token::Semi)?;
         let update = self.head_part(&Token::RParen)?;
         Ok(ForHead::Three { init, test, update })
     }
 
     /// `;` and an expression, or none where the token follows.
-    fn head_part(&mut self, end: &Token) -> PResult<Option<ExprId>> {
+    fn head_part(&mut self, end: &Token) -> PResult<Option<ExprId>>
+        ensures context { context_of self.new ≡ context_of self.old }
+        ensures lower { work self.new ≤ work self.old }
+    {
         self.expect(&Token::Semi, Wanted::Semi)?;
         if self.at(end) {
             return Ok(None);

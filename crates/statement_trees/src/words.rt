@@ -1,11 +1,22 @@
 // Words that are current, and what is after them.
+#![tactic(auto, unfolding(crate::specs::Contexts::effort))]
+
+ghost use Rattle.std.specs.Prelude.{◌≡◌, ◌≤◌, true, IsSome};
+ghost use Rattle.swc_ecma_parser.specs.Calls.{buffer_of};
+ghost use Rattle.swc_input.specs.Buffer.{current};
+ghost use Rattle.statement_trees.specs.Contexts.{context_of, work, Takes};
+
 use crate::reader::Reader;
 use swc_ecma_parser::context::word::{Keyword, Word};
 use swc_ecma_parser::input::token::Token;
 
 impl Reader {
     /// Whether the word is current, which is no keyword.
-    pub(crate) fn at_word(&mut self, word: &str) -> bool {
+    pub(crate) fn at_word(&mut self, word: &str) -> bool
+        ensures current { result ≡ true → IsSome (current (buffer_of self.new.parser)) }
+        ensures context { context_of self.new ≡ context_of self.old }
+        ensures lower { work self.new ≤ work self.old }
+    {
         match self.parser.buffer().cur() {
             Some(Token::Word(Word::Ident(name))) => name.as_str() == word,
             _ => false,
@@ -13,7 +24,11 @@ impl Reader {
     }
 
     /// Consumes the word where it is current, which is no keyword. Says whether it did.
-    pub(crate) fn eat_word(&mut self, word: &str) -> bool {
+    pub(crate) fn eat_word(&mut self, word: &str) -> bool
+        ensures context { context_of self.new ≡ context_of self.old }
+        ensures lower { work self.new ≤ work self.old }
+        ensures takes { result ≡ true → Takes self.old self.new }
+    {
         if !self.at_word(word) {
             return false;
         }
@@ -22,7 +37,11 @@ impl Reader {
     }
 
     /// Consumes the word, unless what follows says that it is the key of a member. Says whether it did.
-    pub(crate) fn eat_modifier(&mut self, word: &str) -> bool {
+    pub(crate) fn eat_modifier(&mut self, word: &str) -> bool
+        ensures context { context_of self.new ≡ context_of self.old }
+        ensures lower { work self.new ≤ work self.old }
+        ensures takes { result ≡ true → Takes self.old self.new }
+    {
         if !self.at_word(word) || self.at_key(word) {
             return false;
         }
@@ -31,7 +50,12 @@ impl Reader {
     }
 
     /// Whether the word that is current is the key of a member.
-    fn at_key(&mut self, word: &str) -> bool {
+    fn at_key(&mut self, word: &str) -> bool
+        requires { IsSome (current (buffer_of self.old.parser)) }
+        ensures current { IsSome (current (buffer_of self.new.parser)) }
+        ensures context { context_of self.new ≡ context_of self.old }
+        ensures lower { work self.new ≤ work self.old }
+    {
         let input = self.parser.buffer();
         match input.peek() {
             None | Some(Token::LParen | Token::Semi | Token::RBrace | Token::AssignOp(_)) => true,
@@ -41,7 +65,10 @@ impl Reader {
     }
 
     /// Whether a function begins here, async or not.
-    pub(crate) fn at_function(&mut self) -> bool {
+    pub(crate) fn at_function(&mut self) -> bool
+        ensures context { context_of self.new ≡ context_of self.old }
+        ensures lower { work self.new ≤ work self.old }
+    {
         if !self.at_word("async") {
             return self.at(&Token::Word(Word::Keyword(Keyword::Function)));
         }
@@ -52,13 +79,19 @@ impl Reader {
     }
 
     /// Whether a word is current, and `:` is after it.
-    pub(crate) fn at_label(&mut self) -> bool {
+    pub(crate) fn at_label(&mut self) -> bool
+        ensures context { context_of self.new ≡ context_of self.old }
+        ensures lower { work self.new ≤ work self.old }
+    {
         let input = self.parser.buffer();
         matches!(input.cur(), Some(Token::Word(_))) && matches!(input.peek(), Some(Token::Colon))
     }
 
     /// Whether a declaration begins with the keyword that is current: `import` doesn't before `(` and `.`.
-    pub(crate) fn at_import(&mut self) -> bool {
+    pub(crate) fn at_import(&mut self) -> bool
+        ensures context { context_of self.new ≡ context_of self.old }
+        ensures lower { work self.new ≤ work self.old }
+    {
         let input = self.parser.buffer();
         matches!(
             input.cur(),
@@ -67,7 +100,10 @@ impl Reader {
     }
 
     /// Whether `let` is current and begins a declaration (ECMA-262, 14.5): what is after it is a name or a pattern.
-    pub(crate) fn at_let(&mut self) -> bool {
+    pub(crate) fn at_let(&mut self) -> bool
+        ensures context { context_of self.new ≡ context_of self.old }
+        ensures lower { work self.new ≤ work self.old }
+    {
         let input = self.parser.buffer();
         matches!(input.cur(), Some(Token::Word(Word::Keyword(Keyword::Let))))
             && match input.peek() {
@@ -77,7 +113,10 @@ impl Reader {
     }
 
     /// Whether a string is current.
-    pub(crate) fn at_string(&mut self) -> bool {
+    pub(crate) fn at_string(&mut self) -> bool
+        ensures context { context_of self.new ≡ context_of self.old }
+        ensures lower { work self.new ≤ work self.old }
+    {
         matches!(self.parser.buffer().cur(), Some(Token::Str { .. }))
     }
 }
