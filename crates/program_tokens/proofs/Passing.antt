@@ -9,6 +9,7 @@ use Rattle.swc_input.specs.Buffer.{Read, Took, Future, source, held}
 use Rattle.swc_input.specs.Listed.{listed_state}
 use Rattle.swc_input.specs.Recording.{is_silent}
 use Rattle.swc_input.specs.Source.{Keeps}
+use Rattle.program_tokens.specs.declared.source.ProgramInput.{ProgramInput}
 use Rattle.program_tokens.specs.Passing.{PassesOver}
 use Rattle.program_tokens.specs.Source.{program_model, program_laws, stays}
 

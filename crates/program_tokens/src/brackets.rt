@@ -1,131 +1,132 @@
-// Which brackets of a list of tokens close which.
+// Which brackets of a list of tokens close which, and which braces are those of functions and classes.
 ghost use Rattle.std.specs.Prelude.{◌<◌, length, IfSome, IsSome};
 
 use std::alloc::{AllocError, Global};
 use swc_context::word::{Keyword, Word};
 use swc_input::token::{Token, TokenAndSpan};
 
-/// The tokens of a text, and which of them close brackets that others open.
+/// The tokens of a text, and what its brackets close.
 #[derive(Drop)]
 pub struct Bracketed {
     tokens: Vec<TokenAndSpan>,
-    /// Of each token that opens a bracket, the number of the one that closes it; of each other token, 0.
-    closers: Vec<usize>,
+    /// Of each token that opens a bracket, the number of the one that closes it; of each `function` and `class`, the
+    /// number of its `{`; of each other token, 0.
+    partners: Vec<usize>,
 }
 
-/// Notes which token closes the bracket that one opens.
-fn close(closers: &mut Vec<usize>, opener: usize, closer: usize) {
-    if opener < closers.len() {
-        closers[opener] = closer;
-    }
-}
-
-/// Of each token that opens a bracket, the number of the one that closes it; of each other token, 0. A token closes the
-/// bracket that was opened last, whichever it is.
-fn closers_of(alloc: Global, tokens: &[TokenAndSpan]) -> Result<Vec<usize>, AllocError> {
-    let mut closers = Vec::new(alloc);
-    let mut open = Vec::new(alloc);
-    for (at, found) in tokens.iter().enumerate() {
-        closers.push(0)?;
-        match &found.token {
-            Token::LParen | Token::LBracket | Token::LBrace | Token::DollarLBrace => {
-                open.push(at)?
-            }
-            Token::RParen | Token::RBracket | Token::RBrace => {
-                if let Some(opener) = open.pop() {
-                    close(&mut closers, opener, at);
-                }
-            }
-            _ => {}
-        }
-    }
-    Ok(closers)
-}
-
-/// What a token is to the head of a class.
+/// What a token is to the brackets of a text.
 #[derive(Clone, Copy, PartialEq, Eq)]
 enum Part {
+    /// `function` or `class`, whose brace is to come.
+    Head,
     /// `.` or `#`, after which a word is a name.
     Sign,
-    /// A word.
-    Word,
-    /// `class`
-    Class,
-    /// `function`
-    Function,
-    /// `extends` or `new`, after which an operand begins.
+    /// `extends` or `new`, after which a brace is an object's.
     Before,
+    /// A bracket that opens, and no brace.
+    Open,
     /// `{`
     Brace,
+    /// A bracket that closes.
+    Close,
     /// Any other token.
     Other,
 }
 
-/// What the token is to the head of a class.
+/// What the token is to the brackets of a text.
 fn part_of(token: &Token) -> Part {
     match token {
         Token::Dot | Token::Hash => Part::Sign,
-        Token::Word(Word::Keyword(Keyword::Class)) => Part::Class,
-        Token::Word(Word::Keyword(Keyword::Function)) => Part::Function,
+        Token::Word(Word::Keyword(Keyword::Class | Keyword::Function)) => Part::Head,
         Token::Word(Word::Keyword(Keyword::Extends | Keyword::New)) => Part::Before,
-        Token::Word(_) => Part::Word,
+        Token::LParen | Token::LBracket | Token::DollarLBrace => Part::Open,
         Token::LBrace => Part::Brace,
+        Token::RParen | Token::RBracket | Token::RBrace => Part::Close,
         _ => Part::Other,
     }
 }
 
-/// Where in the head of a class a token comes.
-#[derive(Clone, Copy)]
-struct Head {
-    /// How many classes wait for their brace, which come one in the heritage of another.
-    open: usize,
-    /// The token before.
-    last: Part,
+/// What the token is after a token that was `last`: after `.` and `#` a word is a name.
+fn part_after(last: Part, token: &Token) -> Part {
+    match part_of(token) {
+        Part::Head | Part::Before if last == Part::Sign => Part::Other,
+        part => part,
+    }
 }
 
-impl Head {
-    /// What the token is here: a word after `.` or `#` is a name, whichever it is.
-    fn part(self, token: &Token) -> Part {
-        match part_of(token) {
-            Part::Class | Part::Function | Part::Before if self.last == Part::Sign => Part::Word,
-            part => part,
+/// What is open where a token begins.
+#[derive(Clone, Copy)]
+enum Open {
+    /// The bracket that has the number.
+    Bracket(usize),
+    /// The function or the class whose first word has the number, and whose brace is to come.
+    Head(usize),
+}
+
+/// Notes which token another one leads to.
+fn note(partners: &mut Vec<usize>, from: usize, to: usize) {
+    if from < partners.len() {
+        partners[from] = to;
+    }
+}
+
+/// Notes the brace of the function or the class that is open there, if one is.
+fn take_brace(partners: &mut Vec<usize>, open: &mut Vec<Open>, at: usize) {
+    if let Some(Open::Head(head)) = open.last() {
+        note(partners, *head, at);
+        let _ = open.pop();
+    }
+}
+
+/// Closes the bracket that was opened last. What is after it and has no brace has none.
+fn close(partners: &mut Vec<usize>, open: &mut Vec<Open>, at: usize) {
+    while let Some(inner) = open.pop() {
+        if let Open::Bracket(opener) = inner {
+            note(partners, opener, at);
+            break;
         }
     }
+}
 
-    /// Whether it is the brace of the class itself: an operand is before it, or a name, and no other class waits.
-    fn is_brace(self, part: Part) -> bool {
-        part == Part::Brace && self.last != Part::Before && self.open == 1
+/// What tokens lead to: a bracket that opens, to the one that closes it, whichever it is; `function` and `class`, to their
+/// brace.
+fn partners_of(alloc: Global, tokens: &[TokenAndSpan]) -> Result<Vec<usize>, AllocError> {
+    let mut partners = Vec::new(alloc);
+    let mut open = Vec::new(alloc);
+    let mut last = Part::Other;
+    for (at, found) in tokens.iter().enumerate() {
+        partners.push(0)?;
+        let part = part_after(last, &found.token);
+        match part {
+            Part::Head => open.push(Open::Head(at))?,
+            Part::Open => open.push(Open::Bracket(at))?,
+            Part::Brace => {
+                if last != Part::Before {
+                    take_brace(&mut partners, &mut open, at);
+                }
+                open.push(Open::Bracket(at))?;
+            }
+            Part::Close => close(&mut partners, &mut open, at),
+            _ => {}
+        }
+        last = part;
     }
-
-    /// The head after a token that isn't the brace of the class itself.
-    fn after(self, part: Part) -> Option<Head> {
-        let open = match part {
-            Part::Class => self.open.checked_add(1)?,
-            Part::Brace if self.last != Part::Before => self.open.checked_sub(1)?,
-            _ => self.open,
-        };
-        Some(Head { open, last: part })
-    }
+    Ok(partners)
 }
 
 impl Bracketed {
     /// The tokens, and their brackets. The only error is out of memory.
     pub fn new(alloc: Global, tokens: Vec<TokenAndSpan>) -> Result<Bracketed, AllocError> {
-        let closers = closers_of(alloc, tokens.as_slice())?;
-        Ok(Bracketed { tokens, closers })
+        let partners = partners_of(alloc, tokens.as_slice())?;
+        Ok(Bracketed { tokens, partners })
     }
 
     /// No tokens.
     pub fn empty(alloc: Global) -> Bracketed {
         Bracketed {
             tokens: Vec::new(alloc),
-            closers: Vec::new(alloc),
+            partners: Vec::new(alloc),
         }
-    }
-
-    /// How many tokens there are.
-    pub fn len(&self) -> usize {
-        self.tokens.len()
     }
 
     /// The token that has the number.
@@ -140,64 +141,30 @@ impl Bracketed {
         self.tokens.partition_point(|found| found.span.lo.0 < start)
     }
 
-    /// The number of the token that closes the bracket that this one opens, if one does.
-    pub fn closer(&self, opener: usize) -> Option<usize>
-        ensures after { IfSome result (λ closer. opener < closer) }
-    {
-        let closer = *self.closers.get(opener)?;
-        (closer > opener).then_some(closer)
-    }
-
-    /// The number of the `{` of the body that begins with the token: a function, a class or a block.
-    pub fn body_brace(&self, first: usize) -> Option<usize> {
-        match &self.get(first)?.token {
-            Token::LBrace => Some(first),
-            Token::Word(Word::Keyword(Keyword::Class)) => self.class_brace(first),
-            _ => self.function_brace(first),
-        }
-    }
-
-    /// The number of the token after this one; of one that opens a bracket, after the one that closes it.
-    fn after(&self, at: usize) -> Option<usize>
+    /// The number of the token that this one leads to, if it is after it.
+    fn partner(&self, at: usize) -> Option<usize>
         ensures after { IfSome result (λ next. at < next) }
     {
-        match self.closer(at) {
-            Some(closer) => closer.checked_add(1),
-            None => at.checked_add(1),
+        let next = *self.partners.get(at)?;
+        (next > at).then_some(next)
+    }
+
+    /// The number of the `{` of the body that begins with the token, a function, a class or a block.
+    fn brace(&self, first: usize) -> Option<usize> {
+        match &self.get(first)?.token {
+            Token::LBrace => Some(first),
+            Token::Word(Word::Keyword(Keyword::Class | Keyword::Function)) => self.partner(first),
+            _ => self.partner(first.checked_add(1)?),
         }
     }
 
-    /// The number of the `{` of a function: the first one that is in no brackets.
-    fn function_brace(&self, first: usize) -> Option<usize> {
-        let mut at = first.checked_add(1)?;
-        while let Some(found) = self.get(at) {
-            if found.token == Token::LBrace {
-                return Some(at);
-            }
-            at = self.after(at)?;
-        }
-        None
-    }
-
-    /// The number of the `{` of a class. Its heritage may be an object, and may have functions and classes in it.
-    fn class_brace(&self, first: usize) -> Option<usize> {
-        let mut at = first.checked_add(1)?;
-        let mut head = Head {
-            open: 1,
-            last: Part::Class,
-        };
-        while let Some(found) = self.get(at) {
-            let part = head.part(&found.token);
-            if head.is_brace(part) {
-                return Some(at);
-            }
-            let last = match part {
-                Part::Function => self.function_brace(at)?,
-                _ => at,
-            };
-            at = self.after(last)?;
-            head = head.after(part)?;
-        }
-        None
+    /// The numbers of the braces of the body that begins with the token: a function, from `function` or from `async`; a
+    /// class; or a block.
+    pub fn braces(&self, first: usize) -> Option<(usize, usize)>
+        ensures order { IfSome result (λ braces. braces.0 < braces.1) }
+    {
+        let open = self.brace(first)?;
+        let close = self.partner(open)?;
+        Some((open, close))
     }
 }

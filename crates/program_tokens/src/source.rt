@@ -69,10 +69,7 @@ impl ProgramInput {
         ensures lower { tokens_left self.new ≤ tokens_left self.old }
     {
         let first = self.list.index_of(start.0);
-        let Some(open) = self.list.body_brace(first) else {
-            return;
-        };
-        let Some(close) = self.list.closer(open) else {
+        let Some((open, close)) = self.list.braces(first) else {
             return;
         };
         if self.at <= open {

@@ -38,6 +38,7 @@ fn context_of(goal: Goal) -> Context {
 fn syntax() -> Syntax {
     Syntax {
         import_attributes: true,
+        pedantic: true,
         ..Syntax::default()
     }
 }
