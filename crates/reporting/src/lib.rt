@@ -1,14 +1,16 @@
-//! What programs over the parser share: reading standard input, reading a text as an expression, and saying what is
-//! wrong with a text, and where.
+//! What programs over the parser share: reading their argument and standard input, reading a text as an expression, and
+//! saying what is wrong with a text, and where.
 #![tactic(auto)]
 
 pub mod expr;
+pub mod input;
 pub mod lines;
+pub mod openers;
 
+use std::alloc::AllocError;
 use std::io;
-use std::io::Read;
 use swc_ecma_parser::context::error::{Error, SyntaxError};
-use swc_ecma_parser::context::span::{LineColumn, Span};
+use swc_ecma_parser::context::span::{BytePos, LineColumn, Span};
 
 /// How deeply an expression may be nested (`Parser::limit_nesting`). So deep it takes at most two thirds of a stack of
 /// 8 MB (docs/SPEED.md).
@@ -20,7 +22,7 @@ pub const DONE: u8 = 0;
 /// The status where the text is refused.
 pub const REFUSED: u8 = 1;
 
-/// The status where memory runs out, or where standard input or output fails.
+/// The status where memory runs out, where standard input or output fails, and where the arguments are bad.
 pub const FAILED: u8 = 3;
 
 /// Why a text isn't read.
@@ -30,11 +32,20 @@ pub enum Refusal {
     Fault(Error),
     /// It is nested too deeply, there.
     TooDeep(Span),
+    /// It has this fault, and what opens there isn't closed.
+    Unclosed { fault: Error, opener: Span },
 }
 
 impl From<Error> for Refusal {
     fn from(fault: Error) -> Refusal {
         Refusal::Fault(fault)
+    }
+}
+
+impl From<AllocError> for Refusal {
+    fn from(_failure: AllocError) -> Refusal {
+        let nowhere = Span::new(BytePos(0), BytePos(0));
+        Refusal::Fault(Error::new(nowhere, SyntaxError::OutOfMemory))
     }
 }
 
@@ -48,32 +59,54 @@ impl Refusal {
         }
     }
 
+    /// The refusal by a fault of a text whose last token begins there, and after which something may be open: that is
+    /// told where the fault is at this token or after it, and what is open begins elsewhere.
+    pub fn at_end(fault: Error, open: Option<Span>, last: BytePos) -> Refusal {
+        let (place, is_failure) = (fault.span().lo, is_failure(fault.kind()));
+        match open {
+            Some(opener) if !is_failure && last <= place && opener.lo != place => {
+                Refusal::Unclosed { fault, opener }
+            }
+            _ => Refusal::Fault(fault),
+        }
+    }
+
     /// Where it is.
     pub fn span(&self) -> Span {
         match self {
-            Refusal::Fault(fault) => fault.span(),
+            Refusal::Fault(fault) | Refusal::Unclosed { fault, .. } => fault.span(),
             Refusal::TooDeep(span) => *span,
         }
     }
-}
 
-/// Standard input, whole.
-pub fn read_text(rt: &HostRuntime) -> io::Result<Vec<u8>> {
-    let mut text = Vec::new(rt.alloc());
-    rt.reader().read_to_end(&mut text)?;
-    Ok(text)
+    /// Where what opens that isn't closed.
+    pub fn opener(&self) -> Option<Span> {
+        match self {
+            Refusal::Unclosed { opener, .. } => Some(*opener),
+            _ => None,
+        }
+    }
 }
 
 /// Says on standard error what is wrong with the text, as `line:column: message`, and answers the program's status.
 /// Where memory ran out, that has no place in the text: then standard error has the message alone.
 pub fn report(rt: &HostRuntime, text: &[u8], refusal: &Refusal) -> u8 {
-    report_at(rt, refusal.span().line_column(text), refusal)
+    let opener = refusal.opener().map(|span| span.line_column(text));
+    report_at(rt, refusal.span().line_column(text), opener, refusal)
 }
 
-/// Says on standard error what is wrong at a place, as `report` does where the place isn't known.
-pub fn report_at(rt: &HostRuntime, place: LineColumn, refusal: &Refusal) -> u8 {
+/// Says on standard error what is wrong at a place, as `report` does, by the places of the fault and of what isn't
+/// closed.
+pub fn report_at(
+    rt: &HostRuntime,
+    place: LineColumn,
+    opener: Option<LineColumn>,
+    refusal: &Refusal,
+) -> u8 {
     match refusal {
-        Refusal::Fault(fault) => report_fault(rt, place, fault),
+        Refusal::Fault(fault) | Refusal::Unclosed { fault, .. } => {
+            report_fault(rt, place, opener, fault)
+        }
         Refusal::TooDeep(_) => {
             let _ = eprintln!(rt; "{place}: nested too deeply");
             REFUSED
@@ -82,7 +115,12 @@ pub fn report_at(rt: &HostRuntime, place: LineColumn, refusal: &Refusal) -> u8 {
 }
 
 /// Says on standard error which fault there is, and where.
-fn report_fault(rt: &HostRuntime, place: LineColumn, fault: &Error) -> u8 {
+fn report_fault(
+    rt: &HostRuntime,
+    place: LineColumn,
+    opener: Option<LineColumn>,
+    fault: &Error,
+) -> u8 {
     let message = fault.kind().message();
     if is_failure(fault.kind()) {
         let _ = eprintln!(rt; "{message}");
@@ -90,6 +128,9 @@ fn report_fault(rt: &HostRuntime, place: LineColumn, fault: &Error) -> u8 {
     }
     let _ = eprint!(rt; "{place}: {message}");
     let _ = say_more(rt, fault.kind());
+    if let Some(opener) = opener {
+        let _ = eprint!(rt; "; what opens at {opener} isn't closed");
+    }
     let _ = eprintln!(rt; "");
     REFUSED
 }
