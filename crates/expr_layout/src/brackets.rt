@@ -10,7 +10,7 @@ pub fn mark_brackets(alloc: Global, marks: &mut Marks) -> Result<(), AllocError>
     let mut is_list = false;
     // The brackets that end last: where they begin and end.
     let mut inner = (0usize, 0usize);
-    for number in 0..marks.units.len() {
+    for number in 0..marks.len() {
         match kind_at(marks, number) {
             kind if kind.opens() => open.push(number)?,
             Kind::Close => {
@@ -26,7 +26,8 @@ pub fn mark_brackets(alloc: Global, marks: &mut Marks) -> Result<(), AllocError>
         }
     }
     if is_list {
-        marks.add_group(0, marks.units.len().saturating_sub(1));
+        let last = marks.len().saturating_sub(1);
+        marks.add_group(0, last);
     }
     Ok(())
 }

@@ -57,6 +57,11 @@ impl Marks {
         Ok(Marks { units, marks })
     }
 
+    /// How many units there are.
+    pub fn len(&self) -> usize {
+        self.units.len()
+    }
+
     /// The number of the first unit that begins at the position or after it.
     pub fn at(&self, place: BytePos) -> usize {
         let place = place.0 as usize;

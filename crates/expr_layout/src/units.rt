@@ -99,9 +99,9 @@ pub fn units_of(
             next = next.saturating_add(1);
         }
         match bodies.get(next) {
-            Some(body) if body.lo == token.span.lo => units.push(unit(*body, Kind::Other))?,
+            Some(body) if body.lo == token.span.lo => units.push(unit_at(*body, Kind::Other))?,
             Some(body) if body.lo < token.span.lo => {}
-            _ => units.push(unit(token.span, kind_of(&token.token)))?,
+            _ => units.push(unit_at(token.span, kind_of(&token.token)))?,
         }
     }
     Ok(units)
@@ -115,7 +115,7 @@ fn is_after(place: Span, body: Option<&Span>) -> bool {
     }
 }
 
-fn unit(span: Span, kind: Kind) -> Unit {
+fn unit_at(span: Span, kind: Kind) -> Unit {
     Unit {
         lo: span.lo.0 as usize,
         hi: span.hi.0 as usize,

@@ -48,16 +48,16 @@ fn events_of(alloc: Global, names: &[Name<'_>]) -> Result<Vec<Event>, AllocError
     for (number, name) in names.iter().enumerate() {
         match name.how {
             Use::Bound(part) => {
-                events.push(event(part.lo.0, What::Begins, number))?;
-                events.push(event(part.hi.0, What::Ends, number))?;
+                events.push(event_at(part.lo.0, What::Begins, number))?;
+                events.push(event_at(part.hi.0, What::Ends, number))?;
             }
-            _ => events.push(event(name.span.lo.0, What::Used, number))?,
+            _ => events.push(event_at(name.span.lo.0, What::Used, number))?,
         }
     }
     events.sort_by_key(|event: &Event| (event.at, event.what))?;
     Ok(events)
 }
 
-fn event(at: u32, what: What, number: usize) -> Event {
+fn event_at(at: u32, what: What, number: usize) -> Event {
     Event { at, what, number }
 }

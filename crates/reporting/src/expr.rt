@@ -4,7 +4,7 @@ ghost use Rattle.swc_nodes.specs.NodeParts.{expr_part};
 ghost use Rattle.swc_nodes.specs.GrowingNodes.{From};
 ghost use Rattle.swc_ecma_parser.specs.Calls.{nodes_of};
 
-use crate::openers::open_at_end;
+use crate::openers::Ending;
 use crate::{LEVELS, Refusal};
 use std::alloc::{AllocError, Global};
 use swc_ecma_parser::bodies::token_bodies::TokenBodies;
@@ -76,9 +76,8 @@ pub fn read_expr(alloc: Global, text: &str, context: Context) -> Result<(Nodes, 
 pub fn parse_part(alloc: Global, part: Part, context: Context) -> Result<(Nodes, ExprId), Refusal>
     ensures stands { IfOk result (λ read. From 0 read.0 (expr_part read.1)) }
 {
-    let open = open_at_end(alloc, &part.tokens)?;
     let (start, syntax) = (position(part.start), Syntax::default());
-    let last = last_position(&part.tokens, start);
+    let ending = Ending::new(alloc, &part.tokens, start)?;
     let tokens = part.tokens;
     let source = TokensInput::new_at(alloc, start, tokens, context, syntax, EsVersion::default());
     let mut parser = Parser::new_from(alloc, source, TokenBodies::new(alloc));
@@ -89,15 +88,10 @@ pub fn parse_part(alloc: Global, part: Part, context: Context) -> Result<(Nodes,
     let nodes = parser.into_nodes();
     match (recorded, read) {
         (None, Ok(expr)) => Ok((nodes, expr)),
-        (Some(fault), _) => Err(Refusal::at_end(fault, open, last)),
+        (Some(fault), _) => Err(ending.refusal(fault)),
         (None, Err(fault)) if is_too_deep => Err(Refusal::TooDeep(fault.span())),
-        (None, Err(fault)) => Err(Refusal::at_end(fault, open, last)),
+        (None, Err(fault)) => Err(ending.refusal(fault)),
     }
-}
-
-/// Where the last token begins, which a fault at the end has for its place, or where it ends; elsewhere the start.
-fn last_position(tokens: &[TokenAndSpan], start: BytePos) -> BytePos {
-    tokens.last().map_or(start, |last| last.span.lo)
 }
 
 /// Reads an expression, after which no token may be left.

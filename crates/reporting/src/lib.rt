@@ -59,18 +59,6 @@ impl Refusal {
         }
     }
 
-    /// The refusal by a fault of a text whose last token begins there, and after which something may be open: that is
-    /// told where the fault is at this token or after it, and what is open begins elsewhere.
-    pub fn at_end(fault: Error, open: Option<Span>, last: BytePos) -> Refusal {
-        let (place, is_failure) = (fault.span().lo, is_failure(fault.kind()));
-        match open {
-            Some(opener) if !is_failure && last <= place && opener.lo != place => {
-                Refusal::Unclosed { fault, opener }
-            }
-            _ => Refusal::Fault(fault),
-        }
-    }
-
     /// Where it is.
     pub fn span(&self) -> Span {
         match self {

@@ -1,7 +1,20 @@
-// What isn't closed.
+// How the tokens of a text end, and what isn't closed there.
+use crate::{Refusal, is_failure};
 use std::alloc::{AllocError, Global};
-use swc_ecma_parser::context::span::Span;
+use swc_ecma_parser::context::error::Error;
+use swc_ecma_parser::context::span::{BytePos, Span};
 use swc_ecma_parser::input::token::{Token, TokenAndSpan};
+
+/// How the tokens of a text end.
+#[derive(Drop)]
+pub struct Ending {
+    /// The fault of the lexer that is the last token.
+    lexical: Option<Error>,
+    /// Where what opens that isn't closed.
+    open: Option<Span>,
+    /// Where the last token begins; with no token, where the text does.
+    last: BytePos,
+}
 
 /// What opens.
 #[derive(Clone, Copy, PartialEq, Eq)]
@@ -12,9 +25,54 @@ enum What {
     Template,
 }
 
+impl Ending {
+    /// The ending of a text that begins at the position and has these tokens. The only error is out of memory.
+    pub fn new(
+        alloc: Global,
+        tokens: &[TokenAndSpan],
+        start: BytePos,
+    ) -> Result<Ending, AllocError> {
+        let lexical = match tokens.last() {
+            Some(
+                TokenAndSpan {
+                    token: Token::Error(fault),
+                    ..
+                },
+            ) => Some(fault.try_clone()?),
+            _ => None,
+        };
+        Ok(Ending {
+            lexical,
+            open: open_at_end(alloc, tokens)?,
+            last: tokens.last().map_or(start, |last| last.span.lo),
+        })
+    }
+
+    /// The refusal by a fault of the parser: where the lexer has a fault in its place, that; and where it is at the last
+    /// token or after it, and something is open that begins elsewhere, it tells of that too.
+    pub fn refusal(self, fault: Error) -> Refusal {
+        let Ending {
+            lexical,
+            open,
+            last,
+        } = self;
+        let (place, is_failure) = (fault.span(), is_failure(fault.kind()));
+        let fault = match lexical {
+            Some(own) if !is_failure && own.span() == place => own,
+            _ => fault,
+        };
+        match open {
+            Some(opener) if !is_failure && last <= place.lo && opener.lo != place.lo => {
+                Refusal::Unclosed { fault, opener }
+            }
+            _ => Refusal::Fault(fault),
+        }
+    }
+}
+
 /// What is open after the last token, as far as the end there is its fault: where the innermost bracket opens that
 /// isn't closed; where the lexer has a fault there, where the template opens whose text that is.
-pub fn open_at_end(alloc: Global, tokens: &[TokenAndSpan]) -> Result<Option<Span>, AllocError> {
+fn open_at_end(alloc: Global, tokens: &[TokenAndSpan]) -> Result<Option<Span>, AllocError> {
     let mut open: Vec<(What, Span)> = Vec::new(alloc);
     let mut has_fault = false;
     for TokenAndSpan { token, span, .. } in tokens {
