@@ -7,8 +7,10 @@ use swc_lexical::blank::{blank_len, comment_len, has_break, hashbang_len};
 /// A part of a layout.
 #[derive(Clone, Copy)]
 pub enum Part {
-    /// What is in the text between two places.
+    /// What is in the text between two places, on one line.
     Text(usize, usize),
+    /// What is in the text between two places, through the last line break of a unit or a comment.
+    Lines(usize, usize),
     /// A blank.
     Blank,
     /// A line where its group is broken, or where it `is_forced`, and otherwise a blank, if it `is_blank`.
@@ -66,7 +68,7 @@ pub fn parts_of(alloc: Global, text: &str, marks: &Marks) -> Result<Vec<Part>, A
         if mark.opens_flat {
             parts.push(Part::Open { is_flat: true })?;
         }
-        parts.push(Part::Text(unit.lo, unit.hi))?;
+        push_text(&mut parts, text, unit.lo, unit.hi)?;
         for _ in 0..mark.closes {
             parts.push(Part::Close)?;
         }
@@ -104,8 +106,8 @@ fn push_gap(
         is_deeper: last.is_some() && next.is_some() && (is_before_close || gap != TOP_LINE),
     };
     match between.after {
-        Some(kind) if between.is_before_close => push_alone(parts, &between, kind),
-        _ => push_comments(parts, &between, gap),
+        Some(kind) if between.is_before_close => push_alone(parts, text, &between, kind),
+        _ => push_comments(parts, text, &between, gap),
     }
 }
 
@@ -114,6 +116,22 @@ const TOP_LINE: Gap = Gap::Line {
     is_blank: true,
     is_deeper: false,
 };
+
+/// Adds what is in the text between two places.
+fn push_text(parts: &mut Vec<Part>, text: &str, lo: usize, hi: usize) -> Result<(), AllocError> {
+    let piece = text.get(lo..hi).unwrap_or("");
+    match (piece.find('\n'), piece.rfind('\n')) {
+        (Some(first), Some(last)) => {
+            let first = lo.saturating_add(first);
+            let last = lo.saturating_add(last).saturating_add(1);
+            parts.push(Part::Text(lo, first))?;
+            parts.push(Part::Lines(first, last))?;
+            parts.push(Part::Text(last, hi))?;
+        }
+        _ => parts.push(Part::Text(lo, hi))?,
+    }
+    Ok(())
+}
 
 /// Adds a gap that has no comment.
 fn push_plain(parts: &mut Vec<Part>, gap: Gap, meets: bool) -> Result<(), AllocError> {
@@ -143,13 +161,19 @@ fn push_line(
 }
 
 /// Adds the comments that alone are in brackets, as a group.
-fn push_alone(parts: &mut Vec<Part>, between: &Between, kind: Kind) -> Result<(), AllocError> {
+fn push_alone(
+    parts: &mut Vec<Part>,
+    text: &str,
+    between: &Between,
+    kind: Kind,
+) -> Result<(), AllocError> {
     let is_blank = kind == Kind::OpenBrace;
     parts.push(Part::Open {
         is_flat: kind == Kind::OpenHole,
     })?;
     push_comments(
         parts,
+        text,
         between,
         Gap::Line {
             is_blank,
@@ -163,7 +187,12 @@ fn push_alone(parts: &mut Vec<Part>, between: &Between, kind: Kind) -> Result<()
 
 /// Adds comments, and one line of the gap among them: where the first line break is; where there is none, before the
 /// first, but before a closing bracket after the last.
-fn push_comments(parts: &mut Vec<Part>, between: &Between, gap: Gap) -> Result<(), AllocError> {
+fn push_comments(
+    parts: &mut Vec<Part>,
+    text: &str,
+    between: &Between,
+    gap: Gap,
+) -> Result<(), AllocError> {
     let count = between.comments.len();
     let is_line = matches!(gap, Gap::Line { .. });
     let broken = between.comments.iter().position(|comment| comment.breaks);
@@ -182,7 +211,7 @@ fn push_comments(parts: &mut Vec<Part>, between: &Between, gap: Gap) -> Result<(
         } else if 0 < number || between.after.is_none() && !between.is_first {
             parts.push(Part::Blank)?;
         }
-        parts.push(Part::Text(comment.lo, comment.hi))?;
+        push_text(parts, text, comment.lo, comment.hi)?;
     }
     if line == Some(count) {
         push_gap_line(parts, gap, between.breaks)

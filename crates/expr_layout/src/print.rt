@@ -5,33 +5,22 @@ use std::alloc::{AllocError, Global};
 /// How many columns a line has, if it can be broken.
 const COLUMNS: usize = 100;
 
-/// How many columns a level takes.
+/// What a line is indented by for each level.
 const LEVEL: &str = "    ";
 
 /// No line is indented by more levels: so the layout of what is nested deeply stays short.
 const MOST_LEVELS: usize = 16;
 
-/// What the parts before one take, on one line.
+/// What there is before a part, where all groups are on one line.
 #[derive(Clone, Copy)]
 struct Sum {
-    /// How many columns, but for texts of more than one line.
+    /// How many columns, on all lines together.
     columns: usize,
     /// How many lines are forced.
     forced: usize,
-    /// How many texts have more than one line.
+    /// How many parts there are of more than one line.
     long: usize,
-}
-
-/// A text of more than one line.
-#[derive(Clone, Copy)]
-struct Long {
-    /// What the parts before it take.
-    columns: usize,
-    /// How many columns its first line has.
-    head: usize,
-    /// How many its last line has.
-    tail: usize,
-    /// How many of these texts up to this one begin on a line that is too long, the first one apart.
+    /// How many of these end a line that is too long, but for the first.
     wide: usize,
 }
 
@@ -40,10 +29,11 @@ struct Long {
 struct Measured {
     /// Of each part and of the end.
     sums: Vec<Sum>,
-    long: Vec<Long>,
+    /// Of each part of more than one line, with itself.
+    long: Vec<Sum>,
     /// Of each part that opens a group, where it closes.
     ends: Vec<usize>,
-    /// Of each part and of the end, how many columns there are from it to the next place for a line break.
+    /// Of each part and of the end, how many columns there are from it to the next line break or place for one.
     rests: Vec<usize>,
 }
 
@@ -68,31 +58,34 @@ pub fn print(alloc: Global, text: &str, parts: &[Part]) -> Result<String, AllocE
     };
     let mut outer = Vec::new(alloc);
     for (number, part) in parts.iter().enumerate() {
-        match part {
-            Part::Text(lo, hi) => {
-                let piece = text.get(*lo..*hi).unwrap_or("");
-                out.push_str(piece)?;
-                column = column_after(column, piece);
+        match *part {
+            Part::Text(lo, hi) => out.push_str(text.get(lo..hi).unwrap_or(""))?,
+            Part::Lines(lo, hi) => {
+                out.push_str(text.get(lo..hi).unwrap_or(""))?;
+                column = 0;
             }
-            Part::Blank => column = put_blank(&mut out, column)?,
-            Part::Line { is_forced, .. } if frame.is_flat && !*is_forced => {
-                column = put_flat(&mut out, column, *part)?;
-            }
-            Part::Line { is_deeper, .. } => {
-                frame.is_entered = *is_deeper;
+            Part::Line {
+                is_deeper,
+                is_forced,
+                ..
+            } if is_forced || !frame.is_flat => {
+                frame.is_entered = is_deeper;
                 column = put_line(&mut out, level_of(frame))?;
+                continue;
             }
+            Part::Blank | Part::Line { is_blank: true, .. } => out.push_str(" ")?,
+            Part::Line { .. } => {}
             Part::Open { is_flat } => {
                 outer.push(frame)?;
-                let is_flat = frame.is_flat || *is_flat || fits(&measured, number, column);
                 frame = Frame {
                     level: level_of(frame),
-                    is_flat,
+                    is_flat: frame.is_flat || is_flat || fits(&measured, number, column),
                     is_entered: false,
                 };
             }
             Part::Close => frame = outer.pop().unwrap_or(frame),
         }
+        column = column.saturating_add(columns_of(text, *part));
     }
     Ok(out)
 }
@@ -100,20 +93,6 @@ pub fn print(alloc: Global, text: &str, parts: &[Part]) -> Result<String, AllocE
 /// The level of what is in a group where it was written to.
 fn level_of(frame: Frame) -> usize {
     frame.level.saturating_add(usize::from(frame.is_entered))
-}
-
-/// Writes a blank, and answers the column after it.
-fn put_blank(out: &mut String, column: usize) -> Result<usize, AllocError> {
-    out.push_str(" ")?;
-    Ok(column.saturating_add(1))
-}
-
-/// Writes what is in place of a line, and answers the column after it.
-fn put_flat(out: &mut String, column: usize, part: Part) -> Result<usize, AllocError> {
-    match part {
-        Part::Line { is_blank: true, .. } => put_blank(out, column),
-        _ => Ok(column),
-    }
 }
 
 /// Begins a line, and answers its column.
@@ -126,38 +105,30 @@ fn put_line(out: &mut String, level: usize) -> Result<usize, AllocError> {
     Ok(level.saturating_mul(LEVEL.len()))
 }
 
-/// Whether a group that begins with the part, at the column, goes on one line.
+/// Whether a group that begins with the part, at the column, goes on one line, but for line breaks of units.
 fn fits(measured: &Measured, number: usize, column: usize) -> bool {
     let end = measured.ends.get(number).copied().unwrap_or(0);
     let rest = measured.rests.get(end).copied().unwrap_or(0);
     let (Some(first), Some(last)) = (measured.sums.get(number), measured.sums.get(end)) else {
         return false;
     };
-    if first.forced < last.forced {
-        return false;
-    }
     let begin = measured.long.get(first.long);
     let finish = measured.long.get(last.long.saturating_sub(1));
     match (begin, finish) {
+        _ if first.forced < last.forced => false,
         (Some(begin), Some(finish)) if first.long < last.long => {
-            is_short(&[column, between(first.columns, begin.columns), begin.head])
-                && is_short(&[finish.tail, between(finish.columns, last.columns), rest])
+            is_short(column, *first, *begin)
                 && begin.wide == finish.wide
+                && is_short(rest, *finish, *last)
         }
-        _ => is_short(&[column, between(first.columns, last.columns), rest]),
+        _ => is_short(column.saturating_add(rest), *first, *last),
     }
 }
 
-fn between(lo: usize, hi: usize) -> usize {
-    hi.saturating_sub(lo)
-}
-
-/// Whether so many columns go on a line.
-fn is_short(columns: &[usize]) -> bool {
-    let sum = columns
-        .iter()
-        .fold(0usize, |sum, more| sum.saturating_add(*more));
-    sum <= COLUMNS
+/// Whether so many columns, and those between two places, go on a line.
+fn is_short(columns: usize, first: Sum, last: Sum) -> bool {
+    let between = last.columns.saturating_sub(first.columns);
+    columns.saturating_add(between) <= COLUMNS
 }
 
 /// Measures the parts.
@@ -172,10 +143,14 @@ fn measure(alloc: Global, text: &str, parts: &[Part]) -> Result<Measured, AllocE
         columns: 0,
         forced: 0,
         long: 0,
+        wide: 0,
     };
     for part in parts {
         measured.sums.push(sum)?;
-        sum = sum_after(&mut measured.long, sum, text, *part)?;
+        sum = sum_after(sum, text, *part, measured.long.last().copied());
+        if matches!(part, Part::Lines(..)) {
+            measured.long.push(sum)?;
+        }
     }
     measured.sums.push(sum)?;
     measure_ends(alloc, &mut measured, parts)?;
@@ -183,70 +158,34 @@ fn measure(alloc: Global, text: &str, parts: &[Part]) -> Result<Measured, AllocE
     Ok(measured)
 }
 
-/// What the parts up to one take, which is noted if it is a text of more than one line.
-fn sum_after(long: &mut Vec<Long>, sum: Sum, text: &str, part: Part) -> Result<Sum, AllocError> {
-    match part {
-        Part::Text(lo, hi) => {
-            let piece = text.get(lo..hi).unwrap_or("");
-            if piece.contains('\n') {
-                let next = long_text(long.last().copied(), sum.columns, piece);
-                long.push(next)?;
-            }
-        }
-        _ => {}
-    }
-    Ok(Sum {
-        columns: sum.columns.saturating_add(flat_columns(text, part)),
-        forced: sum.forced.saturating_add(usize::from(is_forced(part))),
-        long: long.len(),
-    })
-}
-
-/// A text of more than one line, after the last one.
-fn long_text(last: Option<Long>, columns: usize, piece: &str) -> Long {
-    let head = column_after(0, piece.split('\n').next().unwrap_or(""));
-    let (is_wide, wide) = match last {
-        Some(last) => {
-            let before = [last.tail, between(last.columns, columns), head];
-            (!is_short(&before), last.wide)
-        }
-        None => (false, 0),
-    };
-    Long {
-        columns,
-        head,
-        tail: column_after(0, piece),
-        wide: wide.saturating_add(usize::from(is_wide)),
-    }
-}
-
-fn is_forced(part: Part) -> bool {
-    matches!(
+/// What there is before the next part, where a part of more than one line was before.
+fn sum_after(sum: Sum, text: &str, part: Part, long: Option<Sum>) -> Sum {
+    let is_forced = matches!(
         part,
         Part::Line {
             is_forced: true,
             ..
         }
-    )
-}
-
-/// How many columns a part takes on one line, but for a text of more than one.
-fn flat_columns(text: &str, part: Part) -> usize {
-    match part {
-        Part::Text(lo, hi) => match text.get(lo..hi) {
-            Some(piece) if !piece.contains('\n') => column_after(0, piece),
-            _ => 0,
-        },
-        Part::Blank | Part::Line { is_blank: true, .. } => 1,
-        _ => 0,
+    );
+    let is_long = matches!(part, Part::Lines(..));
+    let is_wide = match long {
+        Some(long) => is_long && !is_short(0, long, sum),
+        None => false,
+    };
+    Sum {
+        columns: sum.columns.saturating_add(columns_of(text, part)),
+        forced: sum.forced.saturating_add(usize::from(is_forced)),
+        long: sum.long.saturating_add(usize::from(is_long)),
+        wide: sum.wide.saturating_add(usize::from(is_wide)),
     }
 }
 
-/// The column after a text that begins at a column. A column is a character wide.
-fn column_after(column: usize, piece: &str) -> usize {
-    match piece.rsplit_once('\n') {
-        Some((_, last)) => last.chars().count(),
-        None => column.saturating_add(piece.chars().count()),
+/// How many columns a part takes on one line. A column is a character wide.
+fn columns_of(text: &str, part: Part) -> usize {
+    match part {
+        Part::Text(lo, hi) => text.get(lo..hi).unwrap_or("").chars().count(),
+        Part::Blank | Part::Line { is_blank: true, .. } => 1,
+        _ => 0,
     }
 }
 
@@ -269,20 +208,14 @@ fn measure_ends(alloc: Global, measured: &mut Measured, parts: &[Part]) -> Resul
     Ok(())
 }
 
-/// Notes how many columns there are from each part to the next place for a line break.
+/// Notes how many columns there are from each part to the next line break or place for one.
 fn measure_rests(measured: &mut Measured, text: &str, parts: &[Part]) -> Result<(), AllocError> {
     let mut rest = 0usize;
     measured.rests.push(rest)?;
     for part in parts.iter().rev() {
         rest = match *part {
-            Part::Line { .. } => 0,
-            Part::Text(lo, hi) => {
-                let piece = text.get(lo..hi).unwrap_or("");
-                let head = column_after(0, piece.split('\n').next().unwrap_or(""));
-                let after = if piece.contains('\n') { 0 } else { rest };
-                head.saturating_add(after)
-            }
-            part => rest.saturating_add(flat_columns(text, part)),
+            Part::Line { .. } | Part::Lines(..) => 0,
+            part => rest.saturating_add(columns_of(text, part)),
         };
         measured.rests.push(rest)?;
     }

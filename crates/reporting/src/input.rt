@@ -1,6 +1,5 @@
 // What a program reads: its argument, and standard input.
-use crate::{FAILED, REFUSED};
-use std::io::Read;
+use crate::{FAILED, REFUSED, read_text};
 use std::{env, io, str};
 use swc_ecma_parser::context::context::Context;
 use swc_ecma_parser::context::span::Span;
@@ -13,7 +12,7 @@ pub fn read_input(rt: &HostRuntime) -> io::Result<Result<(String, Context), u8>>
         eprintln!(rt; "the argument may be script, module, strict, generator or async")?;
         return Ok(Err(FAILED));
     };
-    let bytes = read_bytes(rt)?;
+    let bytes = read_text(rt)?;
     match str::from_utf8(&bytes) {
         Ok(text) => Ok(Ok((String::from_str(rt.alloc(), text)?, context))),
         Err(error) => {
@@ -23,13 +22,6 @@ pub fn read_input(rt: &HostRuntime) -> io::Result<Result<(String, Context), u8>>
             Ok(Err(REFUSED))
         }
     }
-}
-
-/// Standard input, whole.
-pub fn read_bytes(rt: &HostRuntime) -> io::Result<Vec<u8>> {
-    let mut bytes = Vec::new(rt.alloc());
-    rt.reader().read_to_end(&mut bytes)?;
-    Ok(bytes)
 }
 
 /// The context that the arguments name; none where they are bad.

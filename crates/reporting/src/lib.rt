@@ -8,7 +8,8 @@ pub mod lines;
 pub mod openers;
 
 use std::alloc::AllocError;
-use std::io;
+use std::io::Read;
+use std::{io, str};
 use swc_ecma_parser::context::error::{Error, SyntaxError};
 use swc_ecma_parser::context::span::{BytePos, LineColumn, Span};
 
@@ -76,50 +77,60 @@ impl Refusal {
     }
 }
 
+/// Standard input, whole.
+pub fn read_text(rt: &HostRuntime) -> io::Result<Vec<u8>> {
+    let mut bytes = Vec::new(rt.alloc());
+    rt.reader().read_to_end(&mut bytes)?;
+    Ok(bytes)
+}
+
 /// Says on standard error what is wrong with the text, as `line:column: message`, and answers the program's status.
 /// Where memory ran out, that has no place in the text: then standard error has the message alone.
 pub fn report(rt: &HostRuntime, text: &[u8], refusal: &Refusal) -> u8 {
     let opener = refusal.opener().map(|span| span.line_column(text));
-    report_at(rt, refusal.span().line_column(text), opener, refusal)
+    report_at(rt, text, refusal.span().line_column(text), opener, refusal)
 }
 
 /// Says on standard error what is wrong at a place, as `report` does, by the places of the fault and of what isn't
 /// closed.
 pub fn report_at(
     rt: &HostRuntime,
+    text: &[u8],
     place: LineColumn,
     opener: Option<LineColumn>,
     refusal: &Refusal,
 ) -> u8 {
-    match refusal {
-        Refusal::Fault(fault) | Refusal::Unclosed { fault, .. } => {
-            report_fault(rt, place, opener, fault)
-        }
+    let fault = match refusal {
+        Refusal::Fault(fault) | Refusal::Unclosed { fault, .. } => fault,
         Refusal::TooDeep(_) => {
             let _ = eprintln!(rt; "{place}: nested too deeply");
-            REFUSED
+            return REFUSED;
         }
+    };
+    let status = report_fault(rt, place, fault);
+    if let (Some(place), Some(opener)) = (opener, refusal.opener()) {
+        let sign = text_at(text, opener);
+        let _ = eprint!(rt; "; '{sign}' at {place} isn't closed");
     }
+    let _ = eprintln!(rt; "");
+    status
 }
 
-/// Says on standard error which fault there is, and where.
-fn report_fault(
-    rt: &HostRuntime,
-    place: LineColumn,
-    opener: Option<LineColumn>,
-    fault: &Error,
-) -> u8 {
+/// What is in a text at a place; nothing, if that isn't UTF-8.
+fn text_at(text: &[u8], place: Span) -> &str {
+    let bytes = text.get(place.lo.0 as usize..place.hi.0 as usize);
+    str::from_utf8(bytes.unwrap_or(&[])).unwrap_or("")
+}
+
+/// Says on standard error which fault there is, and where, and ends no line. Answers the program's status.
+fn report_fault(rt: &HostRuntime, place: LineColumn, fault: &Error) -> u8 {
     let message = fault.kind().message();
     if is_failure(fault.kind()) {
-        let _ = eprintln!(rt; "{message}");
+        let _ = eprint!(rt; "{message}");
         return FAILED;
     }
     let _ = eprint!(rt; "{place}: {message}");
     let _ = say_more(rt, fault.kind());
-    if let Some(opener) = opener {
-        let _ = eprint!(rt; "; what opens at {opener} isn't closed");
-    }
-    let _ = eprintln!(rt; "");
     REFUSED
 }
 

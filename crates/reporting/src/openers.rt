@@ -56,13 +56,13 @@ impl Ending {
             open,
             last,
         } = self;
-        let (place, is_failure) = (fault.span(), is_failure(fault.kind()));
+        let (place, is_failure) = (fault.span().lo, is_failure(fault.kind()));
         let fault = match lexical {
-            Some(own) if !is_failure && own.span() == place => own,
+            Some(own) if !is_failure && last == place => own,
             _ => fault,
         };
         match open {
-            Some(opener) if !is_failure && last <= place.lo && opener.lo != place.lo => {
+            Some(opener) if !is_failure && last <= place && opener.lo != place => {
                 Refusal::Unclosed { fault, opener }
             }
             _ => Refusal::Fault(fault),

@@ -59,7 +59,7 @@ fn report_all(rt: &HostRuntime, text: &str, faults: &[Refusal]) -> io::Result<u8
     for fault in faults {
         let place = lines.place(fault.span().lo);
         let opener = fault.opener().map(|span| lines.place(span.lo));
-        status = status.max(report_at(rt, place, opener, fault));
+        status = status.max(report_at(rt, text.as_bytes(), place, opener, fault));
     }
     Ok(status)
 }
