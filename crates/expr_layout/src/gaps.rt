@@ -142,6 +142,7 @@ fn push_plain(parts: &mut Vec<Part>, gap: Gap, meets: bool) -> Result<(), AllocE
             is_blank,
             is_deeper,
         } => push_line(parts, is_blank || meets, is_deeper, false)?,
+        Gap::Break => push_line(parts, true, false, true)?,
     }
     Ok(())
 }
@@ -194,7 +195,7 @@ fn push_comments(
     gap: Gap,
 ) -> Result<(), AllocError> {
     let count = between.comments.len();
-    let is_line = matches!(gap, Gap::Line { .. });
+    let is_line = matches!(gap, Gap::Line { .. } | Gap::Break);
     let broken = between.comments.iter().position(|comment| comment.breaks);
     let line = match between.after {
         _ if !is_line => None,
@@ -241,6 +242,7 @@ fn push_gap_line(parts: &mut Vec<Part>, gap: Gap, is_forced: bool) -> Result<(),
             is_blank,
             is_deeper,
         } => push_line(parts, is_blank, is_deeper, is_forced),
+        Gap::Break => push_line(parts, true, false, true),
         _ => Ok(()),
     }
 }

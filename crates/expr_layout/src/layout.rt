@@ -22,10 +22,12 @@ use swc_lexer::reader::End;
 /// after an opening bracket, before a closing one or before a comma.
 ///
 /// **Lines.** A group is on one line if it and what follows it up to the next place for a line break take no more than
-/// 100 columns; otherwise each of its parts begins a line. A group within one that is on one line is so too. Groups are:
+/// 100 columns; otherwise each of its parts begins a line. A group within one that is on one line is so too. Line breaks
+/// in functions, classes, blocks, templates and comments end a line, but don't break a group by themselves. Groups are:
 ///
-/// - what brackets hold, with a part for each item, and a line for the closing bracket; but brackets that hold nothing
-///   but brackets, as in `f({..})`, are no group;
+/// - what brackets hold, with a part for each item, and a line for the closing bracket. Brackets that hold nothing but
+///   brackets, as in `f({..})`, are no group. What `[` or `{` holds is broken where a function, a class, a block or the
+///   text of a template in it has a line break;
 /// - operands of operators of the same precedence, as in `a + b - c`, after each operator;
 /// - `a ? b : c`, before `?` and `:`, where `c` may be such an expression of the same group;
 /// - a chain in which two members or more are called, as in `a.b().c()`, before each of these;
@@ -50,7 +52,7 @@ pub fn layout(
     let units = units_of(alloc, &part.tokens, &bodies)?;
     let mut marks = Marks::new(alloc, units)?;
     mark_nodes(alloc, &mut marks, nodes, expr)?;
-    mark_brackets(alloc, &mut marks)?;
+    mark_brackets(alloc, text, &mut marks)?;
     let parts = parts_of(alloc, text, &marks)?;
     print(alloc, text, &parts)
 }

@@ -17,6 +17,8 @@ pub enum Gap {
         /// The line is indented more than the first of the group.
         is_deeper: bool,
     },
+    /// A line, indented as the first of the group, which is broken.
+    Break,
 }
 
 /// A blank, or a line that is indented more.

@@ -11,8 +11,10 @@ use swc_ecma_parser::nodes::reached::reached;
 /// What a unit is, as far as that matters by itself.
 #[derive(Clone, Copy, PartialEq, Eq)]
 pub enum Kind {
-    /// `(` or `[`
-    Open,
+    /// `(`
+    OpenParen,
+    /// `[`
+    OpenSquare,
     /// `{`
     OpenBrace,
     /// `${`
@@ -38,7 +40,10 @@ pub struct Unit {
 impl Kind {
     /// Whether it is an opening bracket.
     pub fn opens(self) -> bool {
-        matches!(self, Kind::Open | Kind::OpenBrace | Kind::OpenHole)
+        matches!(
+            self,
+            Kind::OpenParen | Kind::OpenSquare | Kind::OpenBrace | Kind::OpenHole
+        )
     }
 }
 
@@ -125,7 +130,8 @@ fn unit_at(span: Span, kind: Kind) -> Unit {
 
 fn kind_of(token: &Token) -> Kind {
     match token {
-        Token::LParen | Token::LBracket => Kind::Open,
+        Token::LParen => Kind::OpenParen,
+        Token::LBracket => Kind::OpenSquare,
         Token::LBrace => Kind::OpenBrace,
         Token::DollarLBrace => Kind::OpenHole,
         Token::RParen | Token::RBracket | Token::RBrace => Kind::Close,

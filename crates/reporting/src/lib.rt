@@ -11,6 +11,7 @@ use std::alloc::AllocError;
 use std::io::Read;
 use std::{io, str};
 use swc_ecma_parser::context::error::{Error, SyntaxError};
+use swc_ecma_parser::context::frame::Frame;
 use swc_ecma_parser::context::span::{BytePos, LineColumn, Span};
 
 /// How deeply an expression may be nested (`Parser::limit_nesting`). So deep it takes at most two thirds of a stack of
@@ -68,6 +69,14 @@ impl Refusal {
         }
     }
 
+    /// Whether memory ran out, so that the text has no fault.
+    pub fn is_failure(&self) -> bool {
+        match self {
+            Refusal::Fault(fault) | Refusal::Unclosed { fault, .. } => is_failure(fault.kind()),
+            Refusal::TooDeep(_) => false,
+        }
+    }
+
     /// Where what opens that isn't closed.
     pub fn opener(&self) -> Option<Span> {
         match self {
@@ -84,8 +93,9 @@ pub fn read_text(rt: &HostRuntime) -> io::Result<Vec<u8>> {
     Ok(bytes)
 }
 
-/// Says on standard error what is wrong with the text, as `line:column: message`, and answers the program's status.
-/// Where memory ran out, that has no place in the text: then standard error has the message alone.
+/// Says on standard error what is wrong with the text, as `line:column: message`, and shows the line with marks below the
+/// fault. Answers the program's status. Where memory ran out, that has no place in the text: then standard error has the
+/// message alone.
 pub fn report(rt: &HostRuntime, text: &[u8], refusal: &Refusal) -> u8 {
     let opener = refusal.opener().map(|span| span.line_column(text));
     report_at(rt, text, refusal.span().line_column(text), opener, refusal)
@@ -100,38 +110,31 @@ pub fn report_at(
     opener: Option<LineColumn>,
     refusal: &Refusal,
 ) -> u8 {
-    let fault = match refusal {
-        Refusal::Fault(fault) | Refusal::Unclosed { fault, .. } => fault,
-        Refusal::TooDeep(_) => {
-            let _ = eprintln!(rt; "{place}: nested too deeply");
-            return REFUSED;
+    if refusal.is_failure() {
+        let _ = eprintln!(rt; "out of memory");
+        return FAILED;
+    }
+    let _ = eprint!(rt; "{place}: ");
+    let _ = match refusal {
+        Refusal::Fault(fault) | Refusal::Unclosed { fault, .. } => {
+            let explained = fault.explain(text);
+            eprint!(rt; "{explained}")
         }
+        Refusal::TooDeep(_) => eprint!(rt; "nested too deeply"),
     };
-    let status = report_fault(rt, place, fault);
     if let (Some(place), Some(opener)) = (opener, refusal.opener()) {
         let sign = text_at(text, opener);
         let _ = eprint!(rt; "; '{sign}' at {place} isn't closed");
     }
-    let _ = eprintln!(rt; "");
-    status
+    let frame = Frame::new(text, refusal.span());
+    let _ = eprintln!(rt; "\n{frame}");
+    REFUSED
 }
 
 /// What is in a text at a place; nothing, if that isn't UTF-8.
 fn text_at(text: &[u8], place: Span) -> &str {
     let bytes = text.get(place.lo.0 as usize..place.hi.0 as usize);
     str::from_utf8(bytes.unwrap_or(&[])).unwrap_or("")
-}
-
-/// Says on standard error which fault there is, and where, and ends no line. Answers the program's status.
-fn report_fault(rt: &HostRuntime, place: LineColumn, fault: &Error) -> u8 {
-    let message = fault.kind().message();
-    if is_failure(fault.kind()) {
-        let _ = eprint!(rt; "{message}");
-        return FAILED;
-    }
-    let _ = eprint!(rt; "{place}: {message}");
-    let _ = say_more(rt, fault.kind());
-    REFUSED
 }
 
 /// Says on standard error why a program failed that has no fault of the text to tell: memory runs out, or standard
@@ -144,20 +147,4 @@ pub fn report_failure(rt: &HostRuntime, failure: &io::Error) -> u8 {
 /// Whether memory ran out, so that the text has no fault.
 pub fn is_failure(kind: &SyntaxError) -> bool {
     matches!(kind, SyntaxError::OutOfMemory | SyntaxError::ParserFailed)
-}
-
-/// Writes after a message what the fault holds.
-fn say_more(rt: &HostRuntime, kind: &SyntaxError) -> io::Result<()> {
-    match kind {
-        SyntaxError::Expected(wanted) | SyntaxError::Unexpected(wanted) => {
-            eprint!(rt; ": {wanted}")
-        }
-        SyntaxError::WithLabel { inner, note, .. } => {
-            let message = inner.kind().message();
-            eprint!(rt; ": {message} ({note})")
-        }
-        SyntaxError::InvalidIdentInStrict(word) => eprint!(rt; ": {word}"),
-        SyntaxError::DuplicatedRegExpFlags(flag) => eprint!(rt; ": {flag}"),
-        _ => Ok(()),
-    }
 }

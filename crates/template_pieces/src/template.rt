@@ -29,8 +29,10 @@ pub struct Template {
 /// Where a hole ends.
 #[derive(Clone, Copy)]
 struct HoleEnd {
-    /// Where something else than its expression comes.
+    /// What comes there: `}}`, `}`, or the end of the text.
     found: Span,
+    /// What comes after that: where it is `}`, another is missing there.
+    after: Span,
     /// That is `}}`.
     closes: bool,
     /// Where the text goes on: after the next `}}`, or nowhere.
@@ -96,10 +98,18 @@ fn hole_end(text: &str, last: usize) -> HoleEnd {
     let at = last.saturating_add(blanks_len(rest.as_bytes()));
     let rest = text.get(at..).unwrap_or("");
     let closing = rest.find("}}");
-    // What isn't the end of the text is a `}`.
-    let length = usize::from(!rest.is_empty());
+    let length = match closing {
+        Some(0) => 2,
+        _ => usize::from(!rest.is_empty()),
+    };
+    let hi = at.saturating_add(length);
+    let next = text.get(hi..).and_then(|rest| rest.chars().next());
     HoleEnd {
-        found: span(at, at.saturating_add(length)),
+        found: span(at, hi),
+        after: span(
+            hi,
+            hi.saturating_add(next.map_or(0, |found| found.len_utf8())),
+        ),
         closes: closing == Some(0),
         behind: closing.map(|length| at.saturating_add(length).saturating_add(2)),
     }
@@ -107,11 +117,31 @@ fn hole_end(text: &str, last: usize) -> HoleEnd {
 
 /// The tree of a hole's expression, printed.
 fn read_hole(alloc: Global, part: Part, end: HoleEnd, context: Context) -> Result<String, Refusal> {
-    let (nodes, expr) = parse_part(alloc, part, context)?;
+    let (nodes, expr) = match parse_part(alloc, part, context) {
+        Ok(read) => read,
+        Err(refusal) => return Err(in_hole(refusal, end)),
+    };
     if end.closes {
         return Ok(nodes.print_expr(expr)?);
     }
-    Err(Refusal::Fault(Error::new(end.found, SyntaxError::Expected(Wanted::RBrace))))
+    Err(Refusal::Fault(Error::new(end.after, SyntaxError::Expected(Wanted::RBrace))))
+}
+
+/// The refusal of a hole's expression: where this ends too early, but the text doesn't end, what comes there is no
+/// expression.
+fn in_hole(refusal: Refusal, end: HoleEnd) -> Refusal {
+    let is_empty = end.found.lo == end.found.hi;
+    match refusal {
+        Refusal::Fault(fault) if !is_empty && matches!(fault.kind(), SyntaxError::Eof) => {
+            Refusal::Fault(Error::new(end.found, SyntaxError::TS1109))
+        }
+        Refusal::Unclosed { fault, opener }
+            if !is_empty && matches!(fault.kind(), SyntaxError::Eof) => {
+            let fault = Error::new(end.found, SyntaxError::TS1109);
+            Refusal::Unclosed { fault, opener }
+        }
+        refusal => refusal,
+    }
 }
 
 fn span(lo: usize, hi: usize) -> Span {
