@@ -13,8 +13,9 @@ const { readFileSync } = require('fs');
 const { expressionsOf, isBare, parseExpression } = require('./acorn_trees.js');
 const { rowsOf, runOn, Report } = require('./acorn_rows.js');
 
-/** Rows that are read here, though ECMA-262 has no such expression (docs/DIFFERENCES.md). */
-const READ_HERE_ALONE = ['[{a = 1}]', 'f({a = b})'];
+/** Rows that are read here, though ECMA-262 has no such expression (docs/DIFFERENCES.md), or acorn knows none, or none in
+ * parentheses. */
+const READ_HERE_ALONE = ['[{a = 1}]', 'f({a = b})', 'import . source ( a )', '#! a\nb'];
 
 /** What is no part of the walk, as its tokens alone are kept. */
 const BODIES = ['FunctionExpression', 'ClassExpression', 'BlockStatement'];
@@ -190,7 +191,11 @@ function compareLayouts(report) {
   const texts = ['stdin', 'stdout'].map(name => readFileSync(`crates/formatter/${name}`, 'utf8'));
   report.compare('crates/formatter', treeOf(texts[0]), treeOf(texts[1]));
   for (const { text, answers } of rowsOf('layouts.rows')) {
-    report.compare(text, treeOf(text), treeOf(answers[0]));
+    if (READ_HERE_ALONE.includes(text)) {
+      report.skip();
+    } else {
+      report.compare(text, treeOf(text), treeOf(answers[0]));
+    }
   }
 }
 

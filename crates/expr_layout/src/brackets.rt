@@ -27,12 +27,8 @@ pub fn mark_brackets(alloc: Global, text: &str, marks: &mut Marks) -> Result<(),
                     first,
                     last: number,
                 };
-                mark_pair(
-                    marks,
-                    pair,
-                    inner,
-                    matches!(long, Some(long) if first < long),
-                );
+                let is_long = matches!(long, Some(long) if first < long);
+                mark_pair(marks, pair, inner, is_long);
                 inner = pair;
             }
             Kind::Comma => {
