@@ -77,6 +77,24 @@ impl Refusal {
         }
     }
 
+    /// Whether the text ends too early.
+    pub fn is_end(&self) -> bool {
+        match self {
+            Refusal::Fault(fault) | Refusal::Unclosed { fault, .. } => {
+                matches!(fault.kind(), SyntaxError::Eof)
+            }
+            Refusal::TooDeep(_) => false,
+        }
+    }
+
+    /// The refusal that also tells what isn't closed, unless it tells of something else that isn't.
+    pub fn with_opener(self, opener: Span) -> Refusal {
+        match self {
+            Refusal::Fault(fault) => Refusal::Unclosed { fault, opener },
+            other => other,
+        }
+    }
+
     /// Where what opens that isn't closed.
     pub fn opener(&self) -> Option<Span> {
         match self {

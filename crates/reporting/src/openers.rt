@@ -57,9 +57,10 @@ impl Ending {
             last,
         } = self;
         let (place, is_failure) = (fault.span().lo, is_failure(fault.kind()));
-        let fault = match lexical {
-            Some(own) if !is_failure && last == place => own,
-            _ => fault,
+        let fault = if !is_failure && last == place {
+            lexical.unwrap_or(fault)
+        } else {
+            fault
         };
         match open {
             Some(opener) if !is_failure && last <= place && opener.lo != place => {

@@ -83,9 +83,8 @@ fn push_hole(
     let end = hole_end(text, part.end);
     match read_hole(alloc, part, end, context) {
         Ok(tree) => template.pieces.push(Piece::Hole(tree))?,
-        Err(Refusal::Fault(fault)) if end.behind.is_none() => {
-            let opener = span(open, from);
-            template.faults.push(Refusal::Unclosed { fault, opener })?
+        Err(refusal) if end.behind.is_none() => {
+            template.faults.push(refusal.with_opener(span(open, from)))?
         }
         Err(refusal) => template.faults.push(refusal)?,
     }
@@ -130,17 +129,13 @@ fn read_hole(alloc: Global, part: Part, end: HoleEnd, context: Context) -> Resul
 /// The refusal of a hole's expression: where this ends too early, but the text doesn't end, what comes there is no
 /// expression.
 fn in_hole(refusal: Refusal, end: HoleEnd) -> Refusal {
-    let is_empty = end.found.lo == end.found.hi;
-    match refusal {
-        Refusal::Fault(fault) if !is_empty && matches!(fault.kind(), SyntaxError::Eof) => {
-            Refusal::Fault(Error::new(end.found, SyntaxError::TS1109))
-        }
-        Refusal::Unclosed { fault, opener }
-            if !is_empty && matches!(fault.kind(), SyntaxError::Eof) => {
-            let fault = Error::new(end.found, SyntaxError::TS1109);
-            Refusal::Unclosed { fault, opener }
-        }
-        refusal => refusal,
+    if end.found.lo == end.found.hi || !refusal.is_end() {
+        return refusal;
+    }
+    let fault = Error::new(end.found, SyntaxError::TS1109);
+    match refusal.opener() {
+        Some(opener) => Refusal::Unclosed { fault, opener },
+        None => Refusal::Fault(fault),
     }
 }
 
