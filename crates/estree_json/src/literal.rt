@@ -14,19 +14,23 @@ impl<'a> TreeWriter<'a> {
     }
 
     /// `null`, `true` or `false`.
-    fn constant(&mut self, span: Span, word: &'static str) {
+    fn constant(&mut self, span: Span, value: &'static str, raw: &'a str) {
         self.open_literal(span);
-        self.put(Piece::Text(word));
-        self.word("raw", word);
+        self.put(Piece::Text(value));
+        self.word("raw", raw);
         self.close();
     }
 
     pub(crate) fn null_literal(&mut self, span: Span) {
-        self.constant(span, "null");
+        self.constant(span, "null", "null");
     }
 
     pub(crate) fn bool_literal(&mut self, literal: &Bool) {
-        self.constant(literal.span, if literal.value { "true" } else { "false" });
+        if literal.value {
+            self.constant(literal.span, "true", "true");
+        } else {
+            self.constant(literal.span, "false", "false");
+        }
     }
 
     pub(crate) fn string(&mut self, string: &'a Str) {

@@ -232,7 +232,7 @@ impl<'a> TreeWriter<'a> {
         &mut self,
         kind: &'static str,
         span: Span,
-        op: &'static str,
+        op: &'a str,
         is_prefix: bool,
         arg: ExprId,
     ) {
