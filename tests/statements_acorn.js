@@ -7,8 +7,8 @@
 //
 // PROGRAM is a built `statements`. Without it the programs of programs.trees and the program's own text are compared,
 // and acorn has to refuse those of refused_programs.rows. With it the program is run on each row of
-// short_programs.txt, and on programs that are put together of those that both read; or on each file that is ASCII and
-// that acorn reads as a script. The status is 1 where anything differs. Run it at the top of the repository; node needs
+// short_programs.txt, and on programs that are put together of those that both read; or on each file that acorn reads as
+// a script, a module or a CommonJS module. The status is 1 where anything differs. Run it at the top of the repository; node needs
 // its package acorn.
 //
 // A row of short_programs.txt is a mark and a program, with `\n` for a line break: `=` where both read it as the same
@@ -31,9 +31,9 @@ const REFUSED_HERE_ALONE = [
 ];
 
 /** acorn's tree of a program, or its fault. */
-function acornTree(text) {
+function acornTree(text, goal = 'script') {
   try {
-    return programTree(text);
+    return programTree(text, goal);
   } catch (error) {
     return `${error.message}\n`;
   }
@@ -56,14 +56,25 @@ function compareFaults(report) {
   }
 }
 
+/** What acorn reads a text as, and its tree. */
+function acornRead(text) {
+  for (const goal of ['script', 'module', 'commonjs']) {
+    const tree = acornTree(text, goal);
+    if (tree.startsWith('program\n')) {
+      return { goal, tree };
+    }
+  }
+  return null;
+}
+
 function compareFiles(report, program, files) {
   for (const file of files) {
-    const text = readFileSync(file, 'latin1');
-    const wanted = acornTree(text);
-    if (/[^\x00-\x7f]/.test(text) || !wanted.startsWith('program\n')) {
-      report.skip();
+    const text = readFileSync(file, 'utf8');
+    const read = acornRead(text);
+    if (read) {
+      report.compare(`${file} (${read.goal})`, read.tree, runOn(program, text, [read.goal]));
     } else {
-      report.compare(file, wanted, runOn(program, text));
+      report.skip();
     }
   }
 }

@@ -5,6 +5,7 @@ use expr_layout::layout::layout;
 use expr_names::names::{Name, Use, names};
 use reporting::Refusal;
 use reporting::expr::{Nodes, read_expr};
+use statement_trees::tree::Goal;
 use statement_trees::tree_of;
 use std::alloc::{AllocError, Global};
 use swc_ecma_parser::context::span::BytePos;
@@ -26,7 +27,9 @@ pub(crate) fn show_made_of(
         "pieces" => show_pieces(out, &parse(alloc, text.as_bytes())?),
         "layout" => show_layout(alloc, out, text),
         "layout again" => show_whether_laid_out(alloc, out, text),
-        "statements" => show_tree(out, tree_of(alloc, text.as_bytes())),
+        "statements" => show_tree(out, tree_of(alloc, text, Goal::Script)),
+        "modules" => show_tree(out, tree_of(alloc, text, Goal::Module)),
+        "CommonJS" => show_tree(out, tree_of(alloc, text, Goal::CommonJs)),
         place => match place.parse() {
             Ok(start) => show_tree(out, expr_tree(alloc, text, start)),
             Err(_) => show_unread(out, "no such client"),
@@ -36,7 +39,7 @@ pub(crate) fn show_made_of(
 
 /// Writes the tree of the program, or its fault.
 pub(crate) fn show_program(alloc: Global, out: &mut String, text: &str) -> Result<(), AllocError> {
-    match tree_of(alloc, text.as_bytes()) {
+    match tree_of(alloc, text, Goal::Script) {
         Ok(tree) => out.push_str(tree.as_str()),
         Err(refusal) => {
             show_refused(out, &refusal)?;

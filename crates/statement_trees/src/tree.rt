@@ -36,6 +36,8 @@ pub struct Program {
     pub(crate) functions: Vec<Function>,
     pub(crate) classes: Vec<Class>,
     pub(crate) blocks: Vec<Block>,
+    /// The places of all of these, in the order in which they begin.
+    pub(crate) bodies: Vec<Span>,
 }
 
 impl Program {

@@ -1,5 +1,5 @@
 -- Looking for a keyword.
-use Rattle.std.proofs.Common.{◌≡◌, ℕ, zero, suc, ◌+◌, ◌<◌, ◌≤◌, Bool, true, false, if◌then◌else◌, nat_eq, List, [], ◌∷◌, length, drop, Option, Some, None, refl, sym, ap, ◌∙◌, arith, length-drop, slice_get}
+use Rattle.std.proofs.Common.{◌≡◌, ℕ, zero, suc, ◌+◌, ◌<◌, ◌≤◌, true, false, if◌then◌else◌, nat_eq, List, [], ◌∷◌, length, drop, Option, Some, None, refl, sym, ap, ◌∙◌, arith, length-drop, slice_get}
 use Rattle.swc_context.specs.Texts.{is_text}
 use Rattle.swc_context.specs.Words.{keyword_text, keywords, keyword_among, keyword_of}
 use Rattle.swc_context.specs.declared.word.Keyword.{Keyword}

@@ -1,5 +1,5 @@
 // The parser's buffer: the current token, and the one after it.
-ghost use Rattle.std.specs.Prelude.{◌≡◌, ◌<◌, true, false, [], ◌∷◌, Some, MatchOption, IsSome, ⊤, IsTrue, ◌↔◌};
+ghost use Rattle.std.specs.Prelude.{◌≡◌, ◌<◌, true, false, [], ◌∷◌, None, Some, MatchOption, IsSome, ⊤, IsTrue, ◌↔◌};
 ghost use Rattle.std.specs.Prelude.{OnOk, OnErr};
 ghost use Rattle.std.specs.Option.{option_copied};
 ghost use Rattle.std.specs.Borrow.{sem, follows, follows_so};
@@ -174,13 +174,22 @@ impl<I: Tokens> Buffer<I> {
         }
     }
 
-    #[inline(never)]
+    /// Makes the current token known, if there is one.
+    #[inline(always)]
     fn fill(&mut self)
         ensures { Looked I.model self.old self.new }
     {
-        if self.cur.is_some() {
-            return;
+        if self.cur.is_none() {
+            self.fill_cur();
         }
+    }
+
+    /// Takes the token that was peeked at, or asks the source for one.
+    #[inline(never)]
+    fn fill_cur(&mut self)
+        requires { current self.old ≡ None }
+        ensures { Looked I.model self.old self.new }
+    {
         if let Some(token) = self.next.take() {
             put(&mut self.cur, Some(token));
             return;

@@ -1,0 +1,8 @@
+-- The bytes of an atom.
+use Rattle.std.specs.Prelude.{ℕ, List, string_bytes}
+use Rattle.swc_context.specs.declared.atom.Text.{Text}
+use Rattle.swc_context.specs.declared.atom.Text.TheVariants.{Short, Long}
+
+abbrev pub text_bytes : Text → List ℕ
+text_bytes (Short text) = text
+text_bytes (Long text) = string_bytes text.value
