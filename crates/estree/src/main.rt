@@ -2,8 +2,8 @@
 //!
 //!     estree script|module|commonjs [FILE ..]
 //!
-//! Each file is read as the word before it says, which may stand again between files; with no file, standard input is
-//! read. Standard output gets one line for each file: its tree. What is wrong with a file goes to standard error as
+//! Each file is read as the last of these words before it says; with no file, standard input is read. Standard output
+//! gets one line for each file: its tree. What is wrong with a file goes to standard error as
 //! `FILE:LINE:COLUMN: message`, with the line and a caret below it; lines and columns are counted from 1, columns in
 //! UTF-16 units.
 //!

@@ -59,7 +59,7 @@ impl Output {
     }
 
     /// Writes what is meant by the inside of a string or a template. A lexer has U+FFFD in place of each half of a
-    /// surrogate pair that stands by itself, so then the meaning is read anew.
+    /// surrogate pair by itself, so then the halves are read anew.
     fn put_meaning(&mut self, value: &str, raw: &str) {
         if value.contains('\u{fffd}') && raw.contains("\\u") {
             self.put("\"");
