@@ -170,6 +170,13 @@ impl<'a> TreeWriter<'a> {
                 self.part("right", right.0);
                 self.close();
             }
+            _ => self.assignment(node),
+        }
+    }
+
+    /// An assignment, or a pattern with its default value.
+    fn assignment(&mut self, node: &'a AnyNode) {
+        match node {
             Node::Assign {
                 span,
                 op,

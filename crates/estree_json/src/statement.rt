@@ -5,6 +5,7 @@ use statement_trees::tree::{
     CatchClause, ForInit, ForTarget, Statement, StatementId, StatementKind, SwitchCase,
     VariableDeclaration, VariableKind,
 };
+use swc_ecma_parser::ast::ident::Ident;
 use swc_ecma_parser::context::span::Span;
 use swc_ecma_parser::nodes::node::{ExprId, Node};
 
@@ -85,17 +86,7 @@ impl<'a> TreeWriter<'a> {
                 block,
                 handler,
                 finalizer,
-            } => {
-                self.open("TryStatement", span);
-                self.body("block", *block);
-                self.field("handler");
-                match handler {
-                    Some(clause) => self.catch_clause(*clause),
-                    None => self.missing(),
-                }
-                self.opt_body("finalizer", *finalizer);
-                self.close();
-            }
+            } => self.try_statement(span, *block, *handler, *finalizer),
             StatementKind::Labeled { label, body } => {
                 self.open("LabeledStatement", span);
                 self.body("body", *body);
@@ -103,22 +94,38 @@ impl<'a> TreeWriter<'a> {
                 self.name(label.span, label.sym.as_str());
                 self.close();
             }
-            StatementKind::Break(label) => {
-                self.open("BreakStatement", span);
-                self.opt_name("label", label);
-                self.close();
-            }
-            StatementKind::Continue(label) => {
-                self.open("ContinueStatement", span);
-                self.opt_name("label", label);
-                self.close();
-            }
-            _ => self.turns(statement),
+            StatementKind::Break(label) => self.jump("BreakStatement", span, label),
+            StatementKind::Continue(label) => self.jump("ContinueStatement", span, label),
+            _ => self.counted(statement),
         }
     }
 
-    /// A loop, or `with`.
-    fn turns(&mut self, statement: &'a Statement) {
+    fn jump(&mut self, kind: &'static str, span: Span, label: &'a Option<Ident>) {
+        self.open(kind, span);
+        self.opt_name("label", label);
+        self.close();
+    }
+
+    fn try_statement(
+        &mut self,
+        span: Span,
+        block: StatementId,
+        handler: Option<CatchClause>,
+        finalizer: Option<StatementId>,
+    ) {
+        self.open("TryStatement", span);
+        self.body("block", block);
+        self.field("handler");
+        match handler {
+            Some(clause) => self.catch_clause(clause),
+            None => self.missing(),
+        }
+        self.opt_body("finalizer", finalizer);
+        self.close();
+    }
+
+    /// A loop over numbers or values.
+    fn counted(&mut self, statement: &'a Statement) {
         let span = statement.span;
         match &statement.kind {
             StatementKind::For {
@@ -148,6 +155,14 @@ impl<'a> TreeWriter<'a> {
                 self.flag("await", *is_await);
                 self.for_each(left, *right, *body);
             }
+            _ => self.tested(statement),
+        }
+    }
+
+    /// A loop with a condition alone, or `with`.
+    fn tested(&mut self, statement: &'a Statement) {
+        let span = statement.span;
+        match &statement.kind {
             StatementKind::While { test, body } => {
                 self.open("WhileStatement", span);
                 self.part("test", test.0);
