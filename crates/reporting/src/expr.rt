@@ -88,9 +88,8 @@ pub fn parse_part(alloc: Global, part: Part, context: Context) -> Result<(Nodes,
     let nodes = parser.into_nodes();
     match (recorded, read) {
         (None, Ok(expr)) => Ok((nodes, expr)),
-        (Some(fault), _) => Err(ending.refusal(fault)),
-        (None, Err(fault)) if is_too_deep => Err(Refusal::TooDeep(fault.span())),
-        (None, Err(fault)) => Err(ending.refusal(fault)),
+        (Some(fault), _) => Err(ending.refusal(fault, false)),
+        (None, Err(fault)) => Err(ending.refusal(fault, is_too_deep)),
     }
 }
 
