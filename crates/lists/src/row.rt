@@ -35,7 +35,7 @@ pub(crate) struct Row {
     pub(crate) tokens: Vec<String>,
 }
 
-/// The row that the line has, if it has one: `Whole 4 | script | a + ( )`, and what may stand after another bar.
+/// The row that the line has, if it has one: `Whole 4 | script | a + ( )`, and what may be after another bar.
 pub(crate) fn row_of(alloc: Global, line: &str) -> Result<Option<Row>, AllocError> {
     let mut parts = line.split(" | ");
     let call = parts.next().unwrap_or("");

@@ -6,7 +6,8 @@ use expr_names::names::{Use, names};
 use reporting::Refusal;
 use reporting::expr::{Nodes, parse_part, read_expr, read_part};
 use reporting::input::context_named;
-use statement_trees::tree_of;
+use statement_outline::tree_of;
+use statement_trees::tree::Goal;
 use std::alloc::{AllocError, Global};
 use swc_ecma_parser::context::context::Context;
 use swc_ecma_parser::nodes::node::ExprId;
@@ -42,7 +43,9 @@ fn show_made_of(
         "pieces" => show_pieces(out, &parse(alloc, text, context)?),
         "layout" => show_layout(alloc, out, text, context),
         "layout again" => show_whether_laid_out(alloc, out, text, context),
-        "statements" => show_tree(out, tree_of(alloc, text.as_bytes())),
+        "statements" => show_tree(out, tree_of(alloc, text, Goal::Script)),
+        "modules" => show_tree(out, tree_of(alloc, text, Goal::Module)),
+        "CommonJS" => show_tree(out, tree_of(alloc, text, Goal::CommonJs)),
         place => match place.parse() {
             Ok(start) => show_tree(out, expr_tree(alloc, text, start, context)),
             Err(_) => show_unread(out, "no such client"),
@@ -52,7 +55,7 @@ fn show_made_of(
 
 /// Writes the tree of the program, or its fault.
 pub(crate) fn show_program(alloc: Global, out: &mut String, text: &str) -> Result<(), AllocError> {
-    match tree_of(alloc, text.as_bytes()) {
+    match tree_of(alloc, text, Goal::Script) {
         Ok(tree) => out.push_str(tree.as_str()),
         Err(refusal) => {
             show_refused(out, &refusal)?;

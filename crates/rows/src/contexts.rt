@@ -26,7 +26,7 @@ pub(crate) fn made(round: Context, call: &str) -> Option<Context> {
     })
 }
 
-/// The context of a mode, whatever is round it.
+/// The context of a mode, whatever is around it.
 fn of_mode(name: &str) -> Option<Context> {
     match name {
         "Context::script" => Some(Context::script()),

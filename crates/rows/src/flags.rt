@@ -3,7 +3,7 @@ use std::alloc::AllocError;
 use swc_context::context::Context;
 
 /// Writes a word for each flag that is on, with a blank before it: first those of the code, then those of the functions
-/// and classes round it, then those that are said of a place in an expression.
+/// and classes around it, then those that are said of a place in an expression.
 pub(crate) fn show_flags(out: &mut String, context: Context) -> Result<(), AllocError> {
     let head = context.expr_ctx;
     let flags = [

@@ -6,7 +6,8 @@ use expr_layout::layout::layout;
 use expr_names::names::names;
 use reporting::expr::read_expr;
 use reporting::{LEVELS, Refusal};
-use statement_trees::tree_of;
+use statement_outline::tree_of;
+use statement_trees::tree::Goal;
 use std::alloc::{AllocError, Global};
 use swc_context::context::Context;
 use swc_context::error::Error;
@@ -20,7 +21,7 @@ pub(crate) fn show_long(alloc: Global, out: &mut String, row: Row<'_>) -> Result
     let text = long_text(alloc, unescaped(alloc, row.text)?.as_str())?;
     match row.calls {
         "names" => show_names(alloc, out, text.as_str()),
-        "statements" => show_length(out, tree_of(alloc, text.as_str().as_bytes())),
+        "statements" => show_length(out, tree_of(alloc, text.as_str(), Goal::Script)),
         "pieces" => show_pieces(out, &parse(alloc, text.as_str(), Context::script())?),
         "nodes" | "whole" | "boxes" => {
             let text = text.as_str();

@@ -69,7 +69,7 @@ pub(crate) fn test_input(
     TestInput::new(alloc, setting.list(alloc, tokens), regexes, left)
 }
 
-/// What the words say: a mode of the program, and then, in their order, what differs from it; `pedantic` may stand
+/// What the words say: a mode of the program, and then, in their order, what differs from it; `pedantic` may be
 /// first.
 pub(crate) fn setting_of(words: &str, is_pedantic: bool) -> Option<Setting> {
     let mut setting = Setting {

@@ -17,7 +17,6 @@ use Rattle.swc_ast.specs.declared.expr.ExprOrSpread.{ExprOrSpread}
 use Rattle.swc_ast.specs.declared.spanned.Spanned.{Ghosts}
 use Rattle.swc_bodies.specs.Readings.{Hook, LawfulHook, is_async as is_async_token, is_function}
 use Rattle.swc_grammar.specs.Arrows.{async_name, goes_on_async, is_arrow, is_bindable, is_of, of_arrow}
-use Rattle.swc_grammar.specs.Arrows.{before_of as of_follows}
 use Rattle.swc_grammar.specs.Clean.{Out, first, second, run, links, updates, climb}
 use Rattle.swc_grammar.specs.Grammar.{async-ident, base-primary, call, left-base, lhs-left, paren-expr}
 use Rattle.swc_grammar.specs.Names.{Spelling, spelled, may_refer}
@@ -46,7 +45,8 @@ use Rattle.swc_arrows.specs.Readers.{async_base, async_call, base_look, base_pla
 use Rattle.swc_arrows.specs.Readers.{before_of, is_of_alone, list_opening, listed_base, of_base, operators_behind}
 use Rattle.swc_arrows.specs.Answers.{HearsOperand, Operand}
 use Rattle.swc_steps.specs.Parsing.{scope, args_at, Here, Told, On, Heard}
-use Rattle.swc_steps.proofs.Steps.{Reader, give, on_call, on_call_read, on_then, on_told, heard_after, heard_more}
+use Rattle.swc_steps.proofs.Steps.{Reader, give, on_call_read, on_then, on_told, heard_after, heard_more}
+use Rattle.swc_grammar.specs.Arrows.{before_of as of_follows}
 
 -- ---- tokens
 
@@ -56,7 +56,7 @@ then_read : {A B : Type 0} (o : Out A) (f : A × List TokenAndSpan → Out B) {r
 then_read None f h = cc
 then_read (Some p) f h = (p, refl, h)
 
--- a token that stands first
+-- a token that comes first
 record Taken (f : Token → Bool) (ts us : List TokenAndSpan) (s : Span) : Type 0 where
   pub token : TokenAndSpan
   pub list : ts ≡ token ∷ us
@@ -76,7 +76,7 @@ unfolding expected eaten
 expected_took f x [] s us h = cc
 expected_took f x (t ∷ ts) s us h = by_test f t ts (f t.token) s us refl h
 
--- `async`, which stands first, as a reference
+-- `async`, which comes first, as a reference
 record Async (x : Scope) (ts us : List TokenAndSpan) (n : Spelling) : Type 0 where
   pub token : TokenAndSpan
   pub list : ts ≡ token ∷ us
@@ -230,7 +230,7 @@ module _ {F C K : Type 0} {fun_at : F → Span} {class_at : C → Span} {block_a
         calm = a.calm;
       })
 
-  -- What was heard one after another: how the list begins, what stands in it, and what it is.
+  -- What was heard one after another: how the list begins, what is in it, and what it is.
   pub opened_operand : (b : Bool) (o : Option (Tree F C K)) (s : Span) (ts vs ws us : List TokenAndSpan)
       (es e : Tree F C K) → list_opening b x ts ≡ Some ((o, s), vs) → args_inside hook false x vs ≡ Some (es, ws)
       → base_plain o s es x ws ≡ Some (e, us) → Operand hook x ts us e
@@ -310,21 +310,9 @@ module _ {F C K : Type 0} {fg : Ghosts F} {cg : Ghosts C} {kg : Ghosts K} (hook 
       (closed_clean hook lawful s list y vs ws a h x ts)
   list_looks (Some c) s list y vs ws a h x ts = refl
 
-  -- what was heard one after another, where the list is one of nodes
-  pub looked_operand : {ns : Nodes F C K fg cg kg} {k : ℕ} (b : Bool) (o : Option (Tree F C K)) (s : Span)
-      (list : Listed (ExprOrSpread ExprId)) (x : Scope) (ts vs ws us : List TokenAndSpan) (e : Tree F C K)
-      → x.head ≡ false → Apart k ns (args_parts list.items) → list_opening b x ts ≡ Some ((o, s), vs)
-      → args_inside hook false x vs ≡ Some (args_at ns list, ws)
-      → base_look (first_start ns (map (λ e. e.expr) list.items.items))
-      (last_end ns (map (λ e. e.expr) list.items.items)) o s (args_at ns list) x ws ≡ Some (e, us)
-      → Operand hook x ts us e
-  looked_operand {ns} b o s list x ts vs ws us e n a h i j =
-      opened_operand hook lawful x n b o s ts vs ws us (args_at ns list) e h i
-      (sym (list_looks o s list x vs ws a i x ws) ∙ j)
-
 module _ {S F C K : Type 0} {fg : Ghosts F} {cg : Ghosts C} {kg : Ghosts K} {model : Model S} {sure : Bool}
     (hook : Hook F C K) (lawful : LawfulHook fg.place cg.place kg.place hook) where
-  -- ---- the same in the code: how a list begins, what stands in it, and that it is no parameters
+  -- ---- the same in the code: how a list begins, what is in it, and that it is no parameters
 
   pub list_heard : {ns : Nodes F C K fg cg kg} {k : ℕ} (a : Bool) (o : Option (Tree F C K)) (s : Span)
       (list : Listed (ExprOrSpread ExprId)) {e : Tree F C K} {b c d f : Buffer S} → Apart k ns (args_parts list.items)
@@ -352,7 +340,7 @@ module _ {S F C K : Type 0} {fg : Ghosts F} {cg : Ghosts C} {kg : Ghosts K} {mod
   }
 
 module _ {S F C K : Type 0} {model : Model S} {sure : Bool} (hook : Hook F C K) where
-  -- the same, where a look ahead stands before it
+  -- the same, where a look ahead is before it
   pub operand_told : {V : Type 0} {test : List TokenAndSpan → V} {v : V} {e : Tree F C K} {a b c d : Buffer S}
       → Here model a b → Told model test v b c → HearsOperand model sure hook e c d → HearsOperand model sure hook e a d
   operand_told l t h = record {
@@ -372,29 +360,3 @@ module _ {S : Type 0} {model : Model S} {sure : Bool} where
         ∙ same (scope model b) (p.leads.taken ++ ys) ys refl (p.clean l s ys k) (scope model c) ys;
     faulty = o.faulty;
   }
-
-module _ {S F C K : Type 0} {fun_at : F → Span} {class_at : C → Span} {block_at : K → Span} {model : Model S}
-    {sure : Bool} (hook : Hook F C K) (lawful : LawfulHook fun_at class_at block_at hook) where
-  -- ---- after an operand in the code: its links, `++` or `--`, and operators
-
-  pub operators_heard : {e l u k : Tree F C K} {b c d m n : Buffer S} (h : HearsOperand model sure hook e b c)
-      → On model sure (run hook (links true e)) (give l) c d → On model sure (run hook (updates l)) (give u) d m
-      → On model sure (run hook (climb u 0)) (give k) m n
-      → On model sure (operators_behind hook h.reader) (give k) b n
-  unfolding operators_behind
-  operators_heard h i j w =
-      on_then (on_call (λ x p. run hook (links true p.0) x p.1 >>= (λ l. run hook (updates l.0) x l.1
-      >>= (λ u. run hook (climb u.0 0) x u.1))) (λ x ts. refl) h.heard.on)
-      (on_then (on_call (λ x l. run hook (updates l.0) x l.1 >>= (λ u. run hook (climb u.0 0) x u.1)) (λ x ts. refl) i)
-      (on_then (on_call (λ x u. run hook (climb u.0 0) x u.1) (λ x ts. refl) j) w))
-
-  -- so what is read after these may be said of a tree that holds nothing that was refused
-  pub operators_known : {A : Type 0} {f r w : Reader A} {e l u k : Tree F C K} {b c d m n : Buffer S}
-      → HearsOperand model sure hook e b c
-      → On model sure (run hook (links true e)) (give l) c d → On model sure (run hook (updates l)) (give u) d m
-      → On model sure (run hook (climb u 0)) (give k) m n → On model sure f r b n
-      → (is_valid k ≡ true → (y : Scope) (ys : List TokenAndSpan) → r y ys ≡ w y ys) → On model sure f w b n
-  operators_known {k = k} h i j v o same =
-      on_known o (operators_heard h i j v)
-      (λ x ts us n read. same (valid (behind_operand hook lawful x n h.reader ts us k
-      (λ vs e at. h.operand x ts vs e n at) read)))

@@ -90,7 +90,7 @@ module _ {F C K : Type 0} where
         on_seen (here_now laws b (seen_some is_async_token b k))
         (λ x ts same e. alone_starts x ts (subst (λ o. at_token is_async_token o ≡ true) (sym e) k))
 
--- `async`, and what stands before `of` in the head of a `for await`
+-- `async`, and what is before `of` in the head of a `for await`
 module _ {S F C K : Type 0} {model : Model S} {sure : Bool} where
   on_before_of : (n : Spelling) (v : Bool) {m d : Buffer S} → v ≡ true → On model sure of_alone (give v) m d
       → On model sure (before_of {F = F} {C = C} {K = K} n) (of_base n) m d
@@ -108,7 +108,7 @@ module _ {S F C K : Type 0} {fg : Ghosts F} {cg : Ghosts C} {kg : Ghosts K} {mod
       (heard_more (λ x p. before_of p.0 x p.1) (λ x ts. refl) w (on_then (on_before_of n v t o) z))
   base_before_of ns laws n v c (Err e) k w t o z = tt
 
--- what stands before a list keeps its tree where nodes are appended
+-- what is before a list keeps its tree where nodes are appended
 module _ {F C K : Type 0} {fg : Ghosts F} {cg : Ghosts C} {kg : Ghosts K} where
   pub callee_later : {ns ms : Nodes F C K fg cg kg} {k : ℕ} (o : Option ExprId) → Grows ns ms
       → Apart k ns (callee_parts o) → callee_at ms o ≡ callee_at ns o

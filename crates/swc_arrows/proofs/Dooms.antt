@@ -3,7 +3,6 @@ use Rattle.std.proofs.Common.{◌≡◌, ◌≢◌, ◌<◌, Bool, List, Some, N
 use Rattle.std.proofs.Common.{refl, ap, ◌∙◌, arith, ⊎_elim}
 use Rattle.std.proofs.lemmas.Bool.{cases_lt}
 use Rattle.swc_context.specs.declared.error.Error.{Error}
-use Rattle.swc_context.specs.declared.error.SyntaxError.TheVariants.{OutOfMemory}
 use Rattle.swc_input.specs.declared.buffer.Buffer.{Buffer}
 use Rattle.swc_input.specs.declared.token.TokenAndSpan.{TokenAndSpan}
 use Rattle.swc_input.specs.Source.{Model}
@@ -12,11 +11,11 @@ use Rattle.swc_grammar.specs.Scope.{Scope}
 use Rattle.swc_grammar.specs.Clean.{Out, first}
 use Rattle.swc_grammar.specs.Words.{◌>>=◌}
 use Rattle.swc_steps.specs.Parsing.{scope, recorded, seen, Loud, Leads, Here, Refuses, Tries, On, Heard}
-use Rattle.swc_steps.specs.Parsing.{Onward, Unheard}
+use Rattle.swc_steps.specs.Parsing.{Unheard}
 use Rattle.swc_steps.proofs.Steps.{Reader, onward_then, onward_later, more_recorded, loud_after, refuses_later}
 use Rattle.swc_steps.proofs.Steps.{forgoes_later, on_seen}
 use Rattle.swc_steps.proofs.Steps.Calls.{on_call, on_call_read}
-use Rattle.swc_steps.proofs.Steps.Consumed.{leads_refused, leads_then, spent}
+use Rattle.swc_steps.proofs.Steps.Consumed.{leads_then, spent}
 use Rattle.swc_steps.proofs.Steps.Tokens.{on_then}
 use Rattle.swc_arrows.specs.Answers.{Doomed, Fails, Opens}
 
@@ -70,14 +69,6 @@ module _ {S : Type 0} {model : Model S} {sure : Bool} where
       → Refuses model c e d → Unheard model sure f b e d
   doomed_unheard h r = record { refuses = refuses_later h.leads r; none = λ n y l ts k. h.none y l ts k }
 
-  pub doomed_by : {A : Type 0} {f g : Reader A} {b c : Buffer S}
-      → ((x : Scope) (ts : List TokenAndSpan) → f x ts ≡ g x ts) → Doomed model sure g b c → Doomed model sure f b c
-  doomed_by {b = b} step h = record {
-    leads = h.leads;
-    notes = h.notes;
-    none = λ y l ts k. step (scope model b) ts ∙ h.none y l ts k;
-  }
-
   -- q is called, and reads nothing
   pub doomed_call : {A B : Type 0} {f : Reader A} {q : Reader B} {b c : Buffer S}
       (k : Scope → B × List TokenAndSpan → Out A) → ((x : Scope) (ts : List TokenAndSpan) → f x ts ≡ (q x ts >>= k x))
@@ -107,10 +98,6 @@ module _ {S : Type 0} {model : Model S} {sure : Bool} where
       → Heard model sure f t b c
   unfolding doomed_on
   fails_heard h = record { on = doomed_on h.doomed; onward = h.onward }
-
-  pub fails_opens : {A : Type 0} {f g : Reader A} {b c : Buffer S} → Fails model sure f b c → Opens model sure f g b c
-  unfolding doomed_on
-  fails_opens h = record { on = doomed_on h.doomed; onward = h.onward }
 
   pub opens_fails : {A : Type 0} {f g : Reader A} {b c d : Buffer S} → Opens model sure f g b c
       → Doomed model sure g c d
@@ -155,20 +142,3 @@ module _ {S : Type 0} {model : Model S} {sure : Bool} where
       (ys : List TokenAndSpan) → k y (t, ys) ≡ g y ys) → Opens model sure f g b c
   unfolding on_call_read on_call
   opens_call_read k step h same = record { on = on_call_read k step h.on same; onward = h.onward }
-
-  -- A call was refused, which was recorded, and a token at least was consumed after it.
-  pub recovered_fails : {A : Type 0} {f : Reader A} {b c d m : Buffer S} {e : Error} → Unheard model sure f b e c
-      → e.kind ≢ OutOfMemory → Leads model c d → (Loud model c → recorded model c < recorded model d)
-      → (q : Leads model d m) → Onward model d q.taken m → Fails model sure f b m
-  unfolding leads_then leads_refused spent
-  recovered_fails u n p lt q o =
-      let r = leads_refused u.refuses n in
-      record {
-        doomed = record {
-          leads = leads_then r (leads_then p q);
-          notes = λ l.
-              let i = more_recorded r in let j = lt (loud_after r l) in let w = more_recorded q in omega arith;
-          none = λ y l ts k. u.none n y l ts k;
-        };
-        onward = onward_later (spent r) (onward_later (spent p) o);
-      }

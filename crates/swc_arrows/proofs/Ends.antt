@@ -39,7 +39,7 @@ use Rattle.swc_arrows.proofs.Dooms.{doomed_on, doomed_seen}
 use Rattle.swc_arrows.specs.declared.bodies.ArrowOrBase.{ArrowOrBase}
 use Rattle.swc_arrows.specs.declared.bodies.ArrowOrBase.TheVariants as arrow_or
 
--- what stands at a place of a list
+-- what is at a place of a list
 there : {A : Type 0} (xs : List A) (i : ℕ) → i < length xs → (x : A) × (x ≡ slice_index_or xs i x)
 there [] i h = absurd (omega (arith, h))
 there (x ∷ xs) zero h = (x, refl)

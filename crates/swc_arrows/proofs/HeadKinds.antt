@@ -28,7 +28,7 @@ use Rattle.swc_arrows.specs.declared.heads.HeadKind.TheVariants as head
 
 -- ---- the first token
 
--- `async` is a reference wherever it stands
+-- `async` is a reference wherever it is
 reserved_async : (strict : Bool) → reserved_name strict (codes "async") ≡ false
 reserved_async true = refl
 reserved_async false = refl

@@ -18,7 +18,6 @@ use Rattle.swc_ast.specs.Tree.{Tree, nil, cons, span_of}
 use Rattle.swc_ast.specs.Trees.{to, arrow_e, ident_e}
 use Rattle.swc_bodies.specs.Readings.{Hook, is_async, is_function, is_function_here}
 use Rattle.swc_grammar.specs.Arrows.{is_arrow, is_arrow_word, binds_alone, async_name, is_bindable, is_of}
-use Rattle.swc_grammar.specs.Arrows.{async_param as async_param_of}
 use Rattle.swc_grammar.specs.Clean.{Out, and_then, first, second, third, sym as at, run, exec, plan, assigns, parens}
 use Rattle.swc_grammar.specs.Clean.{asyncs, no_error, begins_yield, begins_arrow, begins_async_name, begins_async_list}
 use Rattle.swc_grammar.specs.Clean.{is_bindable_here, before_of_here, is_arrow_here, is_lparen_here, links, updates}
@@ -49,6 +48,7 @@ use Rattle.swc_arrows.specs.Readers.{is_of_alone, async_param, async_of, async_b
 use Rattle.swc_arrows.specs.Readers.{list_head, arrow_on_line}
 use Rattle.swc_arrows.specs.declared.heads.HeadKind.TheVariants as head
 use Rattle.swc_arrows.proofs.HeadKinds.{Picks, head_picks}
+use Rattle.swc_grammar.specs.Arrows.{async_param as async_param_of}
 
 no_name : (a b d : Bool) → (a && b) ≡ false → (a && (b && d)) ≡ false
 no_name true true d h = absurd cc
@@ -109,7 +109,7 @@ module _ {F C K : Type 0} (hook : Hook F C K) (x : Scope) where
   named n = take (λ t. check (not t.had_line_break) (check (is_arrow t.token) (read (ArrowBody false) x
       (λ b. gives (arrow_e (to n.at (span_of b)) false b (cons (ident_e n.at n.text) nil))))))
 
-  -- after the name, by whether it may stand and be bound
+  -- after the name, by whether it may be and be bound
   name_by : (refers binds : Bool) (n : Spelling) (us : List TokenAndSpan) → is_arrow_here (first us) ≡ true
       → binds ≡ name_ok x.context n
       → exec hook (run hook) None (plan (given (if refers && binds then Some n else None) ▸ named)) us
@@ -333,9 +333,6 @@ module _ {F C K : Type 0} (hook : Hook F C K) (x : Scope) (n : x.head ≡ false)
   base_goes ts h k l =
       knot hook (at (Base true)) x ts ∙ rw (h, k, l) (last hook (Some 9) (at Primary) x ts refl)
 
-  no_new : (ts : List TokenAndSpan) → at_token is_new (first ts) ≡ false → begins_new ts ≡ false
-  no_new ts h = rw h refl
-
   async_word : (w : List ℕ) (b : Bool) (s : Span) (us : List TokenAndSpan) → is_text w (codes "async") ≡ true
       → begins_async (tk (token.Word (written.Ident w)) b s ∷ us) ≡ false
       → run hook (at (Level 1)) x (tk (token.Word (written.Ident w)) b s ∷ us)
@@ -446,7 +443,7 @@ module _ {F C K : Type 0} (hook : Hook F C K) (x : Scope) where
       plain_and true = refl
       plain_and false = refl
 
-  -- the two readings, by whether the name stands alone, and is one of a `for await`
+  -- the two readings, by whether the name is alone, and is one of a `for await`
   of_name : (t : TokenAndSpan) (us : List TokenAndSpan) → BeginsAssign x (t ∷ us)
       → Picks x (t ∷ us) false false true false → (b : Bool)
       → (before_of_here x (first us) && not (at_token is_arrow (second us))) ≡ false

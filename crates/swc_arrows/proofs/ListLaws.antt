@@ -259,7 +259,7 @@ module _ {F C K : Type 0} (hook : Hook F C K) (x : Scope) where
           async_base k n es (t ∷ us) h
           ∙ sym (closed_base hook lo hi (Some (ident_e n.at n.text)) n.at es x (t ∷ us) h)
 
-  -- either, where what stands before the list is `async`, so spelled, or nothing
+  -- either, where what is before the list is `async`, so spelled, or nothing
   pub closes : x.head ≡ false → (lo hi : BytePos) (o : Option (Tree F C K)) (s : Span) (es : Tree F C K)
       (ts : List TokenAndSpan) → is_callee s o → Refines es
       → paren_closed (paren_of x s es) ts ≡ paren_closed (paren_from lo hi x s es) ts

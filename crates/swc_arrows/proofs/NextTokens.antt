@@ -76,7 +76,7 @@ plain_next c (token.Template raw cooked) = refl
 plain_next c (token.Error e) = refl
 plain_next c t = refl
 
--- what is peeked at, and whether a line break stands before it
+-- what is peeked at, and whether a line break is before it
 kind_seen : (c : Context) (o q : Option TokenAndSpan) (a : Option NextKind) (k : NextKind) (r : Bool) → a ≡ Some k
     → MatchOption o (a ≡ None) (λ t. a ≡ Some (next_token c t.token)) → seen_of q ≡ seen_of o
     → MatchOption q (r ≡ true) (λ t. r ≡ t.had_line_break)

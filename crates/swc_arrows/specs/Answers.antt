@@ -44,7 +44,7 @@ abbrev pub has_block : {K : Type 0} → BlockStmtOrExpr ExprId K → Bool
 has_block (body.BlockStmt k) = true
 has_block (body.Expr e) = false
 
--- what stands before a list in parentheses: the identifier `async`, or nothing
+-- what is before a list in parentheses: the identifier `async`, or nothing
 abbrev pub callee_parts : Option ExprId → List Part
 callee_parts None = []
 callee_parts (Some e) = one_expr e
@@ -74,7 +74,7 @@ module _ {F C K : Type 0} {fg : Ghosts F} {cg : Ghosts C} {kg : Ghosts K} where
       (tree_at ns) h.params)
   beginning_behind hook ns (begins.Base e) = base_behind hook (tree_at ns e.0)
 
-  -- of what stands before such a list
+  -- of what is before such a list
   abbrev pub callee_at : Nodes F C K fg cg kg → Option ExprId → Option (Tree F C K)
   callee_at ns None = None
   callee_at ns (Some e) = Some (tree_at ns e.0)

@@ -34,7 +34,7 @@ abbrev pub spelling_of : {F C K : Type 0} → Tree F C K → Spelling
 spelling_of (node (ident text) s ts) = spelling text s
 spelling_of t = spelling [] (span_of t)
 
--- what stands before a list at s: `async`, so spelled, from there on, or nothing
+-- what is before a list at s: `async`, so spelled, from there on, or nothing
 abbrev pub is_callee : {F C K : Type 0} → Span → Option (Tree F C K) → Type 0
 is_callee s None = Unit {0}
 is_callee s (Some e) = e ≡ ident_e s (spelling_of e).text
@@ -43,11 +43,11 @@ is_callee s (Some e) = e ≡ ident_e s (spelling_of e).text
 abbrev pub name_ok : Context → Spelling → Bool
 name_ok c n = not ((c.module && c.strict) && is_one_of n.text strict_binding_words)
 
--- the next token stands on the line of the one before it
+-- the next token is on the line of the one before it
 abbrev pub on_line : Scope → List TokenAndSpan → Out (Unit {0})
 on_line c ts = if breaks_at (first ts) then None else Some (tt, ts)
 
--- where the syntax is pedantic, an `=>` that comes next stands on the line of the name before it, which is a parameter
+-- where the syntax is pedantic, an `=>` that comes next is on the line of the name before it, which is a parameter
 -- of an async arrow function by itself
 abbrev pub breaks_arrow : Scope → List TokenAndSpan → Bool
 breaks_arrow c ts = at_token is_arrow (first ts) && (c.syntax.pedantic && breaks_at (first ts))
@@ -98,7 +98,7 @@ module _ {F C K : Type 0} where
   takes_params c es =
       is_clear (params_verdict (comma_of es) (items_of es)) && names_ok c (want_items (items_of es))
 
-  -- the same list as what stands in parentheses, or as arguments of `async`
+  -- the same list as what is in parentheses, or as arguments of `async`
   abbrev pub base_closed : BytePos → BytePos → Option (Tree F C K) → Span → Tree F C K → Scope → List TokenAndSpan
       → Out (Tree F C K)
   base_closed lo hi None s es c ts = paren_closed (paren_from lo hi c s es) ts
@@ -191,7 +191,7 @@ module _ {F C K : Type 0} (hook : Hook F C K) where
   async_param n c ts = word may_bind c ts >>= (λ p. arrow_on_line c p.1 >>= (λ l. expected is_arrow c l.1
       >>= (λ q. arrow_behind n.at.lo true false (cons (ident_e p.0.at p.0.text) nil) c q.1)))
 
-  -- the same, where `of` stands by itself: `async` is an identifier, in the head of a `for await` alone
+  -- the same, where `of` is by itself: `async` is an identifier, in the head of a `for await` alone
   abbrev pub async_of : Spelling → Scope → List TokenAndSpan → Out (Tree F C K)
   async_of n c ts = if c.context.expr_ctx.for_await_loop_init then base_behind (ident_e n.at n.text) c ts else None
 

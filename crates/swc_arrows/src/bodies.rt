@@ -27,7 +27,7 @@ use swc_primary::methods::parse_block;
 use swc_steps::productions::Productions;
 use swc_steps::tokens::{Sign, emit_err, is_after_line_break, is_sign, look, set_ctx};
 
-/// What was read where an arrow function may stand.
+/// What was read where an arrow function may be.
 #[derive(Clone, Copy)]
 pub enum ArrowOrBase {
     /// An arrow function, with which the assignment expression ends.
@@ -101,14 +101,14 @@ pub fn arrow_function<I: Tokens, B: Bodies<I>>(
 }
 
 /// Whether no binary operator may are after an arrow function but for `in` and `instanceof`: where its parameters
-/// stand in parentheses, and its body is a block.
+/// are in parentheses, and its body is a block.
 fn bars_signs<K>(in_parens: bool, body: &BlockStmtOrExpr<ExprId, K>) -> bool
     ensures { result ≡ (in_parens && has_block body.now) }
 {
     in_parens && matches!(body, BlockStmtOrExpr::BlockStmt(_))
 }
 
-/// Whether a binary operator stands where it `bars` them, but for `in` and `instanceof`: it is recorded as `TS1005`.
+/// Whether a binary operator is where it `bars` them, but for `in` and `instanceof`: it is recorded as `TS1005`.
 /// Refused only when out of memory.
 fn check_sign<I: Tokens>(input: &mut Buffer<I>, bars: bool) -> PResult<bool>
     ensures checks { (sure : Bool) → MatchResult result (λ r. SignChecked I.model sure bars r input.old input.new)
@@ -138,7 +138,7 @@ fn is_at_sign<I: Tokens>(input: &mut Buffer<I>) -> PResult<bool>
 }
 
 /// Records `TS1005` after operators that followed an arrow function with a block, at the current token, unless a
-/// semicolon may stand there (ECMA-262, 12.10).
+/// semicolon may be there (ECMA-262, 12.10).
 #[inline(never)]
 pub fn check_operators_end<I: Tokens>(input: &mut Buffer<I>) -> PResult<()>
     ensures tries { Tries I.model input.old result input.new }

@@ -34,7 +34,7 @@ pub enum FirstKind {
     Paren,
     /// `async`
     Async,
-    /// A name that may stand before `=>` by itself.
+    /// A name that may be before `=>` by itself.
     Word,
     /// Another token, or none.
     Other,
@@ -76,7 +76,7 @@ pub fn head_kind<I: Tokens>(input: &mut Buffer<I>) -> PResult<HeadKind>
     }
 }
 
-/// What `async` begins, and a name that may stand before `=>`, by what is after it.
+/// What `async` begins, and a name that may be before `=>`, by what is after it.
 fn async_head(next: NextKind) -> HeadKind
     ensures { result ≡ async_head next }
 {

@@ -99,7 +99,7 @@ pub fn close_list<I: Tokens, B: Bodies<I>>(
     Ok(Beginning::Base(base))
 }
 
-/// The list as what stands in parentheses, or as the arguments of a call of `async`.
+/// The list as what is in parentheses, or as the arguments of a call of `async`.
 fn close_base<I: Tokens, B: Bodies<I>>(
     p: &mut Productions<I, B>,
     start: ListStart,

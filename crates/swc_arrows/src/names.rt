@@ -34,9 +34,9 @@ use swc_steps::tokens::{
 pub struct ArrowHead {
     /// Where it begins, in bytes.
     pub start: BytePos,
-    /// Whether `async` stands before its parameters.
+    /// Whether `async` is before its parameters.
     pub is_async: bool,
-    /// Whether its parameters stand in parentheses.
+    /// Whether its parameters are in parentheses.
     pub in_parens: bool,
     /// Its parameters.
     pub params: Vec<PatId>,
@@ -96,7 +96,7 @@ pub fn parse_async_name<I: Tokens, B: Bodies<I>>(p: &mut Productions<I, B>) -> P
 }
 
 /// Refuses `=>` after a line break, where the syntax is pedantic, from `start` through the token consumed last. Any
-/// other token may stand there.
+/// other token may be there.
 fn refuse_arrow_line<I: Tokens>(input: &mut Buffer<I>, start: BytePos) -> PResult<()>
     ensures continues { ContinuesAlone I.model (λ u. u) arrow_on_line input.old result input.new }
     ensures falls { OnOk result (to_come I.model input.new ≤ to_come I.model input.old) }

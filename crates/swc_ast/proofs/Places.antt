@@ -1,4 +1,4 @@
--- Where the parts stand that are no node of their own, in worked rows, by computation.
+-- Where the parts are that are no node of their own, in worked rows, by computation.
 use Rattle.std.proofs.Common.{◌≡◌, ℕ, true, Option, Some, None, List, refl, rules}
 use Rattle.std.specs.declared.alloc.Global.{Global}
 use Rattle.std.specs.declared.boxed.Box.{Box}
@@ -34,7 +34,7 @@ use Rattle.swc_ast.specs.TreeOf.{target_tree, prop_tree, prop_or_spread_tree, pa
 abbrev at : ℕ → ℕ → Span
 at lo hi = record { lo = record { 0 = lo }; hi = record { 0 = hi } }
 
--- an item that stands at 5..6, without dots and with dots at 2..5
+-- an item that is at 5..6, without dots and with dots at 2..5
 plain_item : item_span None (at 5 6) ≡ at 5 6
 plain_item = refl
 
@@ -115,7 +115,7 @@ module _ (F C K : Type 0) (fun_at : F → Span) (class_at : C → Span) (block_a
   assign_prop : (i : Ident) (e : E) → prop_at (prop.Assign (record { span = at 1 6; key = i; value = e })) ≡ at 1 6
   assign_prop i e = search (rules, the_lemmas)
 
-  -- a method stands where its function does
+  -- a method is where its function does
   method_prop : (k : PropName E) (f : Box (Function P K) Global) → prop_at (prop.Method k f) ≡ f.value.span
   method_prop k f = search (rules, the_lemmas)
 

@@ -21,7 +21,7 @@ abbrev pub takes_private_behind : {F C K : Type 0} → Kind F C K → Bool
 takes_private_behind member = true
 takes_private_behind k = false
 
--- everywhere in a tree `#` and a name stand on the left of `in` alone, or name a link; b says whether they may be it all
+-- everywhere in a tree `#` and a name are on the left of `in` alone, or name a link; b says whether they may be it all
 abbrev mutual
   pub privates_ok : {F C K : Type 0} → Bool → Tree F C K → Bool
   privates_ok b (node k s ts) =

@@ -14,7 +14,7 @@ use Rattle.swc_ast.specs.declared.prop.PropOrSpread.{PropOrSpread}
 use Rattle.swc_ast.specs.Tree.{this, array, object, fun, class, block, unary, update, bin, assign, cond, seq, call, new, tagged, arrow, await, yield, meta, invalid, shorthand, key_value, method, getter, setter, binding_prop, default, pat_expr, Tree, node, nil, cons, trees, span_of}
 use Rattle.swc_ast.specs.Parts.{leaf, or_hole, unbox, ident_tree, binding_tree, private_tree, lit_tree, prop_name_tree, item_tree, item_trees, args_tree, paren_tree, member_tree, super_prop_tree, chain_tree, callee_tree, tpl_tree, body_tree, simple_tree, rest_tree, function_tree, cover_tree, spread_tree}
 
--- the hook's types, and where their values stand
+-- the hook's types, and where their values are
 module _ (F C K : Type 0) (fun_at : F → Span) (class_at : C → Span) (block_at : K → Span) where
   abbrev T : Type 0
   T = Tree F C K
@@ -28,7 +28,7 @@ module _ (F C K : Type 0) (fun_at : F → Span) (class_at : C → Span) (block_a
   target_step (o.AssignTarget::Array s elems) = node array s (trees (map (or_hole (λ t. t)) elems.items))
   target_step (o.AssignTarget::Object s props) = node object s (trees props.items)
 
-  -- of an arrow function the body stands first, then the parameters
+  -- of an arrow function the body comes first, then the parameters
   abbrev expr_step : o.Expr-F F C K T T T T T T → T
   expr_step (o.This e) = leaf this e.span
   expr_step (o.Expr::Array s elems) = node array s (trees (map (or_hole (item_tree unbox)) elems.items))
@@ -102,6 +102,6 @@ module _ (F C K : Type 0) (fun_at : F → Span) (class_at : C → Span) (block_a
   abbrev pub prop_or_spread_tree : PropOrSpread F C K → T
   prop_or_spread_tree = fold-PropOrSpread F C K T T T T T T target_step expr_step pat_prop_step pat_step prop_step item_step
 
-  -- what stands in a box
+  -- what is in a box
   abbrev pub boxed_tree : Box (Expr F C K) Global → T
   boxed_tree b = expr_tree b.value

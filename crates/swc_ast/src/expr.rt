@@ -55,7 +55,7 @@ pub struct Import {
     pub phase: ImportPhase,
 }
 
-/// What stands in place of a part that could not be read, where the fault was recorded.
+/// What is in place of a part that could not be read, where the fault was recorded.
 #[derive(Drop)]
 pub struct Invalid {
     pub span: Span,
@@ -172,7 +172,7 @@ pub enum BlockStmtOrExpr<E, K> {
     Expr(E),
 }
 
-/// What may stand left of an assignment operator and is no pattern (ECMA-262, 13.15).
+/// What may be left of an assignment operator and is no pattern (ECMA-262, 13.15).
 #[derive(Drop)]
 pub enum SimpleAssignTarget<E> {
     Ident(BindingIdent),
@@ -293,7 +293,7 @@ pub enum Expr<F, C, K> {
     },
     /// `new.target` or `import.meta`
     MetaProp(MetaPropExpr),
-    /// `#name`, which stands left of `in` (ECMA-262, 13.10).
+    /// `#name`, which is left of `in` (ECMA-262, 13.10).
     PrivateName(PrivateName),
     /// An identifier.
     Ident(Ident),
@@ -486,7 +486,7 @@ impl<F: Drop, C: Drop, K: Drop> Expr<F, C, K> {
     }
 }
 
-/// What stands left of an assignment operator (ECMA-262, 13.15).
+/// What is left of an assignment operator (ECMA-262, 13.15).
 #[cycle(ast)]
 #[derive(Drop)]
 pub enum AssignTarget<F, C, K> {

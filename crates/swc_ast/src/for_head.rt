@@ -2,7 +2,7 @@
 use crate::expr::Expr;
 use crate::pat::Pat;
 
-/// What stands in the head of a `for` before `of`, `in` or the first `;` (ECMA-262, 14.7.4 and 14.7.5), where that is
+/// What is in the head of a `for` before `of`, `in` or the first `;` (ECMA-262, 14.7.4 and 14.7.5), where that is
 /// no declaration.
 #[derive(Drop)]
 pub enum ForHead<F, C, K> {

@@ -1,4 +1,4 @@
-// Which expressions may stand left of an operator that writes.
+// Which expressions may be left of an operator that writes.
 ghost use Rattle.std.specs.Prelude.{◌≡◌};
 ghost use Rattle.swc_ast.specs.Targets.{is_target};
 ghost use Rattle.swc_ast.specs.TreeOf.{expr_tree};
@@ -16,11 +16,11 @@ pub trait ExprExt<F: Spanned, C: Spanned, K: Spanned> {
     fn as_expr(&self) -> &Expr<F, C, K>
         ensures { result.now ≡ inner self.now };
 
-    /// Whether it may stand left of an operator that writes, as `=` or `++`, and is no pattern (ECMA-262, 8.6.4).
+    /// Whether it may be left of an operator that writes, as `=` or `++`, and is no pattern (ECMA-262, 8.6.4).
     ///
     /// That may an identifier, in strict code neither `eval` nor `arguments`; a property of
     /// `super`; a member whose object is no link of an optional chain and, if it is a member, may
-    /// stand there too; and any of these in parentheses.
+    /// are there too; and any of these in parentheses.
     fn is_valid_simple_assignment_target(&self, strict: bool) -> bool
         ensures { result ≡ is_target strict (expr_tree _ _ _ F.place C.place K.place (inner self.now)) }
     {

@@ -6,7 +6,7 @@ use Rattle.std.proofs.lemmas.List.{append_assoc}
 use Rattle.swc_context.specs.declared.span.BytePos.{BytePos}
 use Rattle.swc_input.specs.declared.token.TokenAndSpan.{TokenAndSpan}
 use Rattle.swc_input.specs.Kept.{ends_behind, in_front, cleared, kept_on, kept_of}
-use Rattle.swc_bodies.specs.Replaying.{both, pair, stays, left-out, regex-stays, kept-pair}
+use Rattle.swc_bodies.specs.Replaying.{both, pair, stays, left-out, kept-pair}
 use Rattle.swc_bodies.specs.Slashes.{is_pair, without_slashes, goes_on, in_order}
 
 front-some : (late : Bool) (t : TokenAndSpan) (ts : List TokenAndSpan) (u : TokenAndSpan)
@@ -63,36 +63,3 @@ kept-all ks t (u ∷ us) h k = elim (is_pair t u)
 pub kept-is : (ts : List TokenAndSpan) → in_order ts ≡ true → kept_of ts ≡ without_slashes ts
 kept-is [] h = refl
 kept-is (t ∷ ts) h = kept-all [] t ts h refl
-
--- tokens in the order of the text stay so
-stays-behind : (t u : TokenAndSpan) (us : List TokenAndSpan) → nat_le t.span.hi.0 u.span.lo.0 ≡ true
-    → goes_on t (without_slashes (u ∷ us)) ≡ true
-stays-behind t u [] h = either (is_pair t u) (nat_le t.span.hi.0 u.span.lo.0) h
-stays-behind t u (v ∷ vs) h = elim (is_pair u v)
-    as (λ b. is_pair u v ≡ b → goes_on t (without_slashes (u ∷ v ∷ vs)) ≡ true) [
-      | true ↦ (λ e.
-          let p = pair u v e in
-          ap (goes_on t) (left-out u (v ∷ vs) e ∙ regex-stays v vs p.regex)
-          ∙ either (is_pair t v) (nat_le t.span.hi.0 v.span.lo.0) (ap (λ w. nat_le t.span.hi.0 w.0) (sym p.start) ∙ h))
-      | false ↦ (λ e.
-          ap (goes_on t) (stays u (v ∷ vs) e) ∙ either (is_pair t u) (nat_le t.span.hi.0 u.span.lo.0) h)
-    ] refl
-
-without-in_order : (ts : List TokenAndSpan) → in_order ts ≡ true → in_order (without_slashes ts) ≡ true
-without-in_order [] h = refl
-without-in_order (t ∷ []) h = h
-without-in_order (t ∷ u ∷ us) h = elim (is_pair t u)
-    as (λ b. is_pair t u ≡ b → in_order (without_slashes (t ∷ u ∷ us)) ≡ true) [
-      | true ↦ (λ e.
-          let (g, r) = both (goes_on t (u ∷ us)) (in_order (u ∷ us)) h in
-          ap in_order (left-out t (u ∷ us) e) ∙ without-in_order (u ∷ us) r)
-      | false ↦ (λ e.
-          let (g, r) = both (goes_on t (u ∷ us)) (in_order (u ∷ us)) h in
-          let k = second (is_pair t u) (nat_le t.span.hi.0 u.span.lo.0) g e in
-          ap in_order (stays t (u ∷ us) e)
-          ∙ ap (λ b. b && in_order (without_slashes (u ∷ us))) (stays-behind t u us k)
-          ∙ without-in_order (u ∷ us) r)
-    ] refl
-
-pub kept-in_order : (ts : List TokenAndSpan) → in_order ts ≡ true → in_order (kept_of ts) ≡ true
-kept-in_order ts h = ap in_order (kept-is ts h) ∙ without-in_order ts h

@@ -1,5 +1,5 @@
 -- How a body is taken from a buffer, a step at a time.
-use Rattle.std.proofs.Common.{◌≡◌, ◌≢◌, ◌⊎◌, ◌<◌, ◌≤◌, inl, inr, true, false, List, [], ◌∷◌, ◌++◌, Option, Some, None, Ok, Err, IsSome, length, map, refl, sym, ap, ◌∙◌, subst, arith, length-append, append_assoc}
+use Rattle.std.proofs.Common.{◌≡◌, ◌≢◌, ◌⊎◌, ◌<◌, ◌≤◌, inl, inr, true, false, List, [], ◌∷◌, ◌++◌, Option, Some, None, Ok, Err, length, map, refl, sym, ap, ◌∙◌, subst, arith, length-append, append_assoc}
 use Rattle.swc_context.specs.declared.context.Context.{Context}
 use Rattle.swc_context.specs.declared.error.Error.{Error}
 use Rattle.swc_context.specs.declared.error.SyntaxError.{SyntaxError}
@@ -50,7 +50,7 @@ module _ {S : Type 0} {model : Model S} (laws : Laws model) where
       let second = q later.0 later.1 in
       (second.0 ∙ first.0, second.1 ∙ first.1)
 
-  -- no token comes that may stand at the place, where the current one may not
+  -- no token comes that may be at the place, where the current one may not
   none-next : (h : Buffer S) (p : Place) (ts : List TokenAndSpan) (o : Option TokenAndSpan) → current h ≡ o → at_current p o ≡ None → Future model h ts →
       (o ≡ None → ts ≡ []) → next p ts ≡ None
   none-next h p ts None at barred future end = ap (next p) (end refl)
@@ -67,7 +67,7 @@ module _ {S : Type 0} {model : Model S} (laws : Laws model) where
       let k = Known-after laws b h [] ts l.look.read.took known in
       ap (next p) k.2 ∙ none-next h p k.0 (current h) refl barred (Known-Future laws h k.0 k.1) (at-end b h k.0 l k.1 runs)
 
-  -- why the current token is refused: the source has failed, or no token comes that may stand at the place
+  -- why the current token is refused: the source has failed, or no token comes that may be at the place
   why-stopped : (b h c : Buffer S) (p : Place) (e : Buffer S → Error) (r : Error) → Looked model b h → at_current p (current h) ≡ None → Refused model h e r c →
       (r.kind ≡ kind.OutOfMemory) ⊎ ((ts : List TokenAndSpan) → Known model b ts → next p ts ≡ None)
   why-stopped b h c p e r l barred x = elim (current h) as (λ o. current h ≡ o → (r.kind ≡ kind.OutOfMemory) ⊎ ((ts : List TokenAndSpan) → Known model b ts → next p ts ≡ None)) [
@@ -94,14 +94,6 @@ module _ {S : Type 0} {model : Model S} (laws : Laws model) where
         answer = refused_token h k brace x;
         cause = why-stopped b h c p (λ here. unfit (current here) (last_position here) k) r l barred x;
       }
-
--- a token that leads on is current
-pub goes-some : {S : Type 0} {model : Model S} (b : Buffer S) (p q : Place) (c : Buffer S) → GoesOn model b p q c → IsSome (current c)
-goes-some b p q c g = some-at p q (current c) g.next
-  where
-    some-at : (p q : Place) (o : Option TokenAndSpan) → at_current p o ≡ Some q → IsSome o
-    some-at p q None h = cc
-    some-at p q (Some t) h = refl
 
 -- What was taken so far, from b to i: a body that began at the position, which is at the place p now, where these tokens are kept.
 pub record SoFar {S : Type 0} (model : Model S) (b : Buffer S) (first : Place) (from : BytePos) (i : Buffer S) (p : Place) (items : List TokenAndSpan) : Type 0 where

@@ -1,4 +1,4 @@
--- Bodies that are kept for passes of their own, and whose places alone stand in the tree.
+-- Bodies that are kept for passes of their own, and whose places alone are in the tree.
 use Rattle.std.proofs.Common.{◌≡◌, Bool, List, [], ◌∷◌, ◌++◌, Option, Some, None, Ok, refl, sym, ap, ◌∙◌}
 use Rattle.swc_context.specs.declared.context.Context.{Context}
 use Rattle.swc_context.specs.declared.span.Span.{Span}
@@ -10,8 +10,8 @@ use Rattle.swc_bodies.specs.declared.deferred.DeferredBodies.{DeferredBodies}
 use Rattle.swc_bodies.specs.declared.deferred.Waiting.{Waiting}
 use Rattle.swc_bodies.specs.Body.{Body}
 use Rattle.swc_bodies.specs.Readings.{Reading, Hook, Hooked, Faithful, ReadsOwn, IsReading, LawfulHook}
-use Rattle.swc_bodies.specs.Replaying.{token_forms_replay, token_forms_end}
-use Rattle.swc_bodies.specs.Slashes.{without_slashes, Replays, ReplayHook, EndsWell, EndsBodies}
+use Rattle.swc_bodies.specs.Replaying.{token_forms_replay}
+use Rattle.swc_bodies.specs.Slashes.{without_slashes, Replays, ReplayHook}
 use Rattle.swc_bodies.specs.Taking.{token_forms}
 use Rattle.swc_bodies.specs.Laws.{token_forms_read}
 
@@ -19,7 +19,7 @@ use Rattle.swc_bodies.specs.Laws.{token_forms_read}
 abbrev pub waiting : DeferredBodies → List Waiting
 waiting h = h.waiting.items
 
--- a body that waits, and the context that it stands in
+-- a body that waits, and the context that it is in
 abbrev pub in_context : Context → Body → Waiting
 in_context c b = record { context = c; body = b }
 
@@ -92,9 +92,6 @@ module _ (reads : Reading Body) where
       let f = found (reads c ts) place rest h in
       ap placed (replays c ts f.body rest f.is) ∙ ap (λ s. Some (s, without_slashes rest)) f.span
 
-  place-ends : EndsWell reads → EndsWell (by_place reads)
-  place-ends ends c ts place h = let f = found (reads c ts) place [] h in ends c ts f.body f.is
-
 -- the laws of the hook
 pub place_forms_read : LawfulHook (λ (s : Span). s) (λ (s : Span). s) (λ (s : Span). s) place_forms
 place_forms_read = record {
@@ -108,12 +105,4 @@ place_forms_replay = record {
   fun = place-replays token_forms.fun token_forms_replay.fun;
   class = place-replays token_forms.class token_forms_replay.class;
   block = place-replays token_forms.block token_forms_replay.block;
-}
-
--- and bodies end well
-pub place_forms_end : EndsBodies place_forms
-place_forms_end = record {
-  fun = place-ends token_forms.fun token_forms_end.fun;
-  class = place-ends token_forms.class token_forms_end.class;
-  block = place-ends token_forms.block token_forms_end.block;
 }

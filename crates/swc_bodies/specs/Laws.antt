@@ -135,11 +135,6 @@ place_if-true p q false h = cc
 opens-by : (f : Token → Bool) (p : Place) → Opens (λ t. place_if p (f t)) (begins f)
 opens-by f p t own q v h alone = place_if-true p q (f t.token) h
 
--- the first word of a function is `function`, or `async` with `function` after it
-function-alone : (t : Token) → is_function t ≡ true → is_async t ≡ false
-function-alone (token.Word (word.Keyword keyword.Function)) h = refl
-function-alone t h = cc
-
 wanted : (t : Token) (b : Bool) → (is_function t && not b) ≡ false → behind_async (on_line b (sign_of t)) ≡ None
 wanted (token.Word (word.Keyword keyword.Function)) true h = refl
 wanted (token.Word (word.Keyword keyword.Function)) false h = cc

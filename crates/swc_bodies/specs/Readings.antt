@@ -55,7 +55,7 @@ abbrev pub begins : (Token → Bool) → List TokenAndSpan → Bool
 begins f [] = false
 begins f (t ∷ ts) = f t.token
 
--- from the start of the first token to the end of the last, as they stand, as nodes have it
+-- from the start of the first token to the end of the last, as they are, as nodes have it
 abbrev pub last_of : TokenAndSpan → List TokenAndSpan → TokenAndSpan
 last_of t [] = t
 last_of t (u ∷ us) = last_of u us

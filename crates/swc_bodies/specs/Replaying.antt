@@ -18,11 +18,11 @@ use Rattle.swc_bodies.specs.declared.place.Place.{Place}
 use Rattle.swc_bodies.specs.declared.place.Place.TheVariants as place
 use Rattle.swc_bodies.specs.Body.{Body}
 use Rattle.swc_bodies.specs.Laws.{taken-end, taken-next, taken-none, read, value_or, rest_or}
-use Rattle.swc_bodies.specs.Readings.{is_function, is_async, is_class, is_brace, no_forms}
+use Rattle.swc_bodies.specs.Readings.{no_forms}
 use Rattle.swc_bodies.specs.Slashes.{is_slash, is_regex, agree, is_pair, is_found_at, unless_found, without_slashes}
-use Rattle.swc_bodies.specs.Slashes.{Replays, ReplayHook, may_end, ends_well, EndsWell, EndsBodies}
+use Rattle.swc_bodies.specs.Slashes.{Replays, ReplayHook, may_end, ends_well}
 use Rattle.swc_bodies.specs.Taking.{sign_of, on_line, sign_at, after, is_end, closed, braced, body, taken_on, taken, function_first}
-use Rattle.swc_bodies.specs.Taking.{class_first, block_first, place_if, or_async, token_forms}
+use Rattle.swc_bodies.specs.Taking.{class_first, block_first, token_forms}
 
 pub both : (a b : Bool) → (a && b) ≡ true → (a ≡ true) × (b ≡ true)
 both true true h = (refl, refl)
@@ -291,43 +291,3 @@ module _ (from : BytePos) where
             let n = taken-next from t (u ∷ us) p q ks to k in
             ends-on u us q (kept ks t) t.span.hi v refl (sym n ∙ h))
       ] refl
-
-first-ends : (first : Token → Option Place) → ((t : Token) (p : Place) → first t ≡ Some p → is_end p ≡ false)
-    → EndsWell (taken first)
-first-ends first start c [] v h = cc
-first-ends first start c (t ∷ []) v h = elim (first t.token)
-    as (λ o. first t.token ≡ o → may_end false t.token ≡ true) [
-      | None ↦ (λ e. let none = rw (e, taken) at h in cc)
-      | Some p ↦ (λ e.
-          let k : taken_on t.span.lo [] p (t ∷ []) t.span.hi ≡ Some (v, []) = rw (e, taken) at h in
-          let n = taken-none t.span.lo [] p (t ∷ []) t.span.hi (start t.token p e) refl in cc)
-    ] refl
-first-ends first start c (t ∷ u ∷ us) v h = elim (first t.token)
-    as (λ o. first t.token ≡ o → ends_well (u ∷ us) ≡ true) [
-      | None ↦ (λ e. let none = rw (e, taken) at h in cc)
-      | Some p ↦ (λ e. ends-on t.span.lo u us p (t ∷ []) t.span.hi v (start t.token p e) (rw (e, taken) at h))
-    ] refl
-
--- no body ends with its first token
-goes-in : (p q : Place) (b : Bool) → is_end p ≡ false → place_if p b ≡ Some q → is_end q ≡ false
-goes-in p q true k h = ap is_end (sym (some-same p q h)) ∙ k
-  where
-    some-same : (p q : Place) → Some p ≡ Some q → p ≡ q
-    some-same p q h = cc
-goes-in p q false k h = cc
-
-async-goes : (b : Bool) (t : Token) (p : Place) → or_async b t ≡ Some p → is_end p ≡ false
-async-goes true t (place.Head depth) h = refl
-async-goes true t p h = cc
-async-goes false t p h = goes-in place.Async p (is_async t) refl h
-
--- bodies that are taken as tokens end well, and so does what reads nothing
-pub token_forms_end : EndsBodies token_forms
-token_forms_end = record {
-  fun = first-ends function_first (λ t p h. async-goes (is_function t) t p h);
-  class = first-ends class_first (λ t p h. goes-in (place.Head 0) p (is_class t) refl h);
-  block = first-ends block_first (λ t p h. goes-in (place.Inside 0) p (is_brace t) refl h);
-}
-
-pub no_forms_end : {F C K : Type 0} → EndsBodies {F = F} {C = C} {K = K} no_forms
-no_forms_end = record { fun = λ c own v h. cc; class = λ c own v h. cc; block = λ c own v h. cc }

@@ -102,8 +102,8 @@ may_end named (token.Regex exp flags) = true
 may_end named t = false
 
 -- Where a regular expression was found at a slash, an operand is wanted: the slash is first, or after a token with
--- which nothing ends. (`behind` says whether the token before the list is another one, `named` whether a word that
--- stands first is a name.)
+-- which nothing ends. (`after` says whether the token before the list is another one, `named` whether a word that
+-- comes first is a name.)
 abbrev pub wanted_behind : Bool → Bool → List TokenAndSpan → Bool
 wanted_behind behind named [] = true
 wanted_behind behind named (t ∷ ts) =

@@ -21,7 +21,7 @@ wanting (Unexpected what) = Some what
 wanting k = None
 
 module _ {S : Type 0} (model : Model S) where
-  -- Why no body was answered: out of memory, at the end of the token consumed last; or the current token, which may not stand in the
+  -- Why no body was answered: out of memory, at the end of the token consumed last; or the current token, which may not be in the
   -- body, or is an error token, or the end.
   pub data NoBody (e : Error) (c : Buffer S) : Type 0 where
     wanted_memory : e ≡ no_memory (last_position c) → NoBody e c
@@ -51,12 +51,12 @@ module _ {S : Type 0} (model : Model S) where
     pub last : last_position c ≡ token.span.hi
     pub kept : MatchResult r (λ u. us ≡ kept ts token) (λ e. e ≡ no_memory (last_position c))
 
-  -- a token is current that may stand at the place p, and leads to q
+  -- a token is current that may be at the place p, and leads to q
   pub record GoesOn (b : Buffer S) (p q : Place) (c : Buffer S) : Type 0 where
     pub looked : Looked model b c
     pub next : at_current p (current c) ≡ Some q
 
-  -- the refusal e, when out of memory, or since no token comes that may stand at the place p
+  -- the refusal e, when out of memory, or since no token comes that may be at the place p
   pub record Stops (b : Buffer S) (p : Place) (e : Error) (c : Buffer S) : Type 0 where
     pub read : ReadSome model b c
     pub quiet : Quiet b c

@@ -1,4 +1,4 @@
--- Which tokens a body is: those to the first `{` that stands in no bracket, and through the `}` that closes it.
+-- Which tokens a body is: those to the first `{` that is in no bracket, and through the `}` that closes it.
 use Rattle.std.specs.Prelude.{ℕ, zero, suc, ◌+◌, Bool, true, false, List, [], ◌∷◌, Option, Some, None, nat_eq}
 use Rattle.swc_context.specs.declared.context.Context.{Context}
 use Rattle.swc_context.specs.declared.span.BytePos.{BytePos}
@@ -74,7 +74,7 @@ abbrev pub behind_async : Sign → Option Place
 behind_async sign.Function = Some (place.Head 0)
 behind_async s = None
 
--- after a token, if it may stand there
+-- after a token, if it may be there
 abbrev pub after : Place → Sign → Option Place
 after place.Async s = behind_async s
 after (place.Head depth) s = before depth s
@@ -95,7 +95,7 @@ is_full (place.Head depth) = nat_eq depth most_open
 is_full (place.Inside depth) = nat_eq depth most_open
 is_full p = false
 
--- after the first of the tokens, if it may stand there
+-- after the first of the tokens, if it may be there
 abbrev pub next : Place → List TokenAndSpan → Option Place
 next p [] = None
 next p (t ∷ ts) = after p (sign_at t)

@@ -22,10 +22,10 @@ use swc_input::tokens::Tokens;
 /// begins.
 ///
 /// For a block that is the context of the body, as the parser has set it. For a function and a class it is the context
-/// round them, from which `Context::function_params` and its like make those within.
+/// around them, from which `Context::function_params` and its like make those within.
 #[derive(Drop)]
 pub struct Waiting {
-    /// The context that the body stands in.
+    /// The context that the body is in.
     pub context: Context,
     /// The body's place and its tokens.
     pub body: TokenBody,
@@ -40,12 +40,12 @@ pub struct Waiting {
 /// where the token consumed last ends. No refusal changes which bodies wait. The hook records no fault itself.
 ///
 /// `pop` hands out the body that was read last first. A client reads each with a parser of its own, over the body's
-/// tokens and in the context that comes with it. Where that parser has this hook too, what stands within the body is
+/// tokens and in the context that comes with it. Where that parser has this hook too, what is within the body is
 /// put after the bodies that still wait: so a loop that ends when `pop` answers `None` reads all, however deep they
-/// stand.
+/// are.
 ///
-/// Tokens are moved, and none is copied. Over all these passes a token is moved once for each body that it stands in:
-/// so their cost grows with the square of how deep bodies stand in one another, and with that alone.
+/// Tokens are moved, and none is copied. Over all these passes a token is moved once for each body that it is in:
+/// so their cost grows with the square of how deep bodies are in one another, and with that alone.
 #[derive(Drop)]
 pub struct DeferredBodies {
     taker: TokenBodies,

@@ -109,7 +109,7 @@ impl Place {
         matches!(self, Place::End)
     }
 
-    /// The place after a token, if it may stand here.
+    /// The place after a token, if it may be here.
     pub(crate) fn after(self, sign: Sign) -> Option<Place>
         requires { is_full self ≡ false }
         ensures { result ≡ after self sign }

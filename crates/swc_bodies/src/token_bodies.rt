@@ -22,7 +22,7 @@ use swc_input::keeping::keep;
 use swc_input::token::{Token, TokenAndSpan};
 use swc_input::tokens::Tokens;
 
-/// The place after the current token, if that may stand here. Consumes nothing.
+/// The place after the current token, if that may be here. Consumes nothing.
 fn after_current<I: Tokens>(place: Place, input: &mut Buffer<I>) -> Option<Place>
     requires { is_full place ≡ false }
     ensures looked { Looked I.model input.old input.new }
@@ -35,7 +35,7 @@ fn after_current<I: Tokens>(place: Place, input: &mut Buffer<I>) -> Option<Place
     }
 }
 
-/// The place after the current token. One that may not stand here is refused, as `Unexpected` with `{`.
+/// The place after the current token. One that may not be here is refused, as `Unexpected` with `{`.
 fn next_place<I: Tokens>(place: Place, input: &mut Buffer<I>) -> PResult<Place>
     ensures { MatchResult result (λ next. GoesOn I.model input.old place next input.new)
         (λ e. Stops I.model input.old place e input.new) }
@@ -97,7 +97,7 @@ fn take_body<I: Tokens>(alloc: Global, first: Place, input: &mut Buffer<I>) -> P
 
 /// The hook that keeps the tokens of functions, classes and blocks, and looks at their brackets alone.
 ///
-/// Each call takes the tokens to the first `{` that stands in no bracket, and through the `}` that
+/// Each call takes the tokens to the first `{` that is in no bracket, and through the `}` that
 /// closes it. Before that brace `(`, `[`, `${` and `{` open a bracket, and `)`, `]` and `}` close one,
 /// whichever was opened; after it `{` and `${` open, `}` closes, and no other bracket counts. Each
 /// token is moved, and none is copied. Before one is kept, those kept at the end that end after its

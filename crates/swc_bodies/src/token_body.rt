@@ -8,7 +8,7 @@ use swc_input::token::TokenAndSpan;
 /// A function, a class or a block, as the tokens that were kept of it. Contracts see the tokens as `plain`.
 #[derive(Drop)]
 pub struct TokenBody {
-    /// The place, from where the first token that was taken begins to where the last one ends, as they stand.
+    /// The place, from where the first token that was taken begins to where the last one ends, as they are.
     pub span: Span,
     /// The tokens that were kept, in the order in which they were taken.
     pub tokens: Vec<TokenAndSpan>,

@@ -22,7 +22,7 @@ impl fmt::Display for Explained<'_> {
 }
 
 impl Error {
-    /// The fault in words, to be printed, where `text` is the text in which the fault is. What stands at the fault's span
+    /// The fault in words, to be printed, where `text` is the text in which the fault is. The text at the fault's span
     /// is shown in quotes, up to 40 bytes of it. An empty span, and one at the end of the text, is the end of the text.
     pub fn explain<'a>(&'a self, text: &'a [u8]) -> Explained<'a> {
         Explained { error: self, text }
@@ -65,7 +65,8 @@ impl Error {
     }
 }
 
-/// What was found: its text in quotes, which are double ones around a single one, or the end of the text. Of a character that can't be seen the number is shown.
+/// What was found: its text in quotes, which are double ones around a single one, or the end of the text. Of a
+/// character that can't be seen the number is shown.
 #[derive(Clone, Copy)]
 struct Found<'a> {
     /// The text that was found, which is empty at the end.
@@ -193,7 +194,9 @@ fn sentence_of(kind: &SyntaxError) -> Sentence {
         SyntaxError::ReservedWordInObjShorthandOrPat => {
             Sentence::Around("the reserved word ", " can't be a shorthand property")
         }
-        SyntaxError::IdentAfterNum => Sentence::Around("", " can't come right after a number"),
+        SyntaxError::IdentAfterNum => {
+            Sentence::Around("no name or digit can come right after the number in ", "")
+        }
         SyntaxError::BadCharacterEscapeSequence => Sentence::Around("the escape ", " is not valid"),
         SyntaxError::EscapeInReservedWord => {
             Sentence::Around("the keyword ", " can't be written with escapes")
@@ -203,9 +206,10 @@ fn sentence_of(kind: &SyntaxError) -> Sentence {
             "the octal form ",
             " can't be used in strict code",
         ),
-        SyntaxError::LegacyDecimal => {
-            Sentence::Around("the number ", " can't begin with 0 in strict code")
-        }
+        SyntaxError::LegacyDecimal => Sentence::Around(
+            "the old form ",
+            " can't be used in strict code",
+        ),
         SyntaxError::Lex => Sentence::Around("no token can be read at ", ""),
         kind => Sentence::Whole(whole_sentence(kind)),
     }

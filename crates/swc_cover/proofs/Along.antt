@@ -58,9 +58,6 @@ module _ {F C K : Type 0} where
   headed : {s t : Tree F C K} {us vs : List (Tree F C K)} → s ≡ t → us ≡ vs → cons s (trees us) ≡ cons t (trees vs)
   headed {t = t} {us = us} e f = ap (λ w. cons w (trees us)) e ∙ ap (λ w. cons t (trees w)) f
 
-  quasis-along : {vs ws : List (Tree F C K)} (ts : List (Tree F C K)) → vs ≡ ws → trees (ts ++ vs) ≡ trees (ts ++ ws)
-  quasis-along ts e = ap (λ w. trees (ts ++ w)) e
-
   module _ (at by : ℕ → Tree F C K) where
     -- lists
     pub list-along : {X : Type 0} (parts : X → List Part) (f g : X → Tree F C K) →

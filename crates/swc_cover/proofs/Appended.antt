@@ -120,7 +120,7 @@ module _ {F C K : Type 0} {fg : Ghosts F} {cg : Ghosts C} {kg : Ghosts K} where
       let t = added-stays y d k (record { chained = le-leb k (count ns) h }) in
       record { within = t.within; above = t.above; first = t.first; form = t.form; stands = t.stands }
 
-  -- ---- where a pattern stands that holds an expression
+  -- ---- where a pattern is that holds an expression
 
   pub held-from : {ns : Nodes F C K fg cg kg} {i : ℕ} {x : Node F C K} (e : ExprId) → x ≡ n.PatExpr e → Stood ns i x →
       i < count ns → From 0 ns (expr_part e)

@@ -103,12 +103,6 @@ module _ {S : Type 0} {model : Model S} where
 
   -- ---- after the check: out of memory, or the names that are bound
 
-  pub memory-later : {whole fit ok : Bool} {b c : Buffer S} (at : BytePos) (e : Error) →
-      ChecksWhole model whole fit b c → e ≡ no_memory at → Unfitting model ok b e c
-  memory-later {c = c} at e h m =
-      let f = forgoes_here h.leads.laws c at e m in
-      record { refuses = refuses_later h.leads (forgoes_refuses f); unfit = λ n. absurd (n f.kind) }
-
   pub forgoes-after : {whole fit ok : Bool} {b c d : Buffer S} {e : Error} → ChecksWhole model whole fit b c →
       Forgoes model c e d → Unfitting model ok b e d
   forgoes-after h f = record { refuses = refuses_later h.leads (forgoes_refuses f); unfit = λ n. absurd (n f.kind) }

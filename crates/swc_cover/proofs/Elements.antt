@@ -21,7 +21,7 @@ use Rattle.swc_cover.specs.Wanted.{all_holes, put_elem, pat_elems}
 use Rattle.swc_cover.specs.Roles.{as_array}
 use Rattle.swc_nodes.proofs.Chains.{both_true, fitting, chain-cons, chain-one, chain-bound, chain-down, chain-second}
 use Rattle.swc_nodes.proofs.Held.{from-later}
-use Rattle.swc_nodes.proofs.Standing.{grows-same, grows-then, seat-later}
+use Rattle.swc_nodes.proofs.Standing.{grows-then, seat-later}
 use Rattle.swc_nodes.specs.Lists.{elem_parts}
 use Rattle.swc_nodes.specs.NodeTree.{marked_tree}
 use Rattle.swc_nodes.specs.NumberedTrees.{chain}
@@ -84,20 +84,6 @@ module _ {F C K : Type 0} {fg : Ghosts F} {cg : Ghosts C} {kg : Ghosts K} where
     pub apart : (lo : ℕ) → chain (seat_at old) lo (elem_pats xs) (count old) ≡ true →
         chain (seat_at now) lo (pat_parts (reverse ps)) (count now) ≡ true
     pub starts : xs ≡ [] → (now ≡ old) × (ps ≡ [])
-
-  pub elements-start : {old now : Nodes F C K fg cg kg} {ps : List (Option PatId)}
-      (xs : List (Option (ExprOrSpread ExprId))) → xs ≡ [] → ps ≡ [] → now ≡ old → Elements old xs now false ps
-  elements-start {old} {now} {ps} xs e d s =
-      let none : Elements old [] old false [] = record {
-        grows = grows-same old;
-        shown = refl;
-        stands = refl;
-        apart = λ lo h. h;
-        starts = λ h. (refl, refl);
-      } in
-      let first = subst (λ v. Elements old v old false []) (sym e) none in
-      let second = subst (λ v. Elements old xs v false []) (sym s) first in
-      subst (λ v. Elements old xs now false v) (sym d) second
 
   -- a hole
   hole-more : {old now : Nodes F C K fg cg kg} {ps : List (Option PatId)} (xs : List (Option (ExprOrSpread ExprId)))

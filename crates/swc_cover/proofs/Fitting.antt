@@ -88,7 +88,7 @@ in-flat f xs j x p h e i =
     (in-left p (f x) (flat f (drop (j + 1) xs)) i))
 
 module _ {F C K : Type 0} {fg : Ghosts F} {cg : Ghosts C} {kg : Ghosts K} where
-  -- a part stands before its node
+  -- a part is before its node
   pub record Below (ns : Nodes F C K fg cg kg) (i : ℕ) (p : Part) : Type 0 where
     pub less : p.at < i
     pub from : From 0 ns p
@@ -137,7 +137,7 @@ module _ {F C K : Type 0} {fg : Ghosts F} {cg : Ghosts C} {kg : Ghosts K} where
       part-below p t lt (subst (λ v. In p (slots v)) (sym e) (in-flat prop_parts props.items j y p h g
       (subst (λ v. In p (prop_parts v)) (sym q) own)))
 
-  -- ---- what stands left of an assignment
+  -- ---- what is left of an assignment
   node-at : (ns : Nodes F C K fg cg kg) (x : Node F C K) (j : ℕ) → j < count ns →
       Stood ns j (slice_index_or ns.nodes.items j x)
   node-at ns x j lt = get_stood ns j (slice_index_or ns.nodes.items j x) lt

@@ -245,6 +245,6 @@ module _ {F C K : Type 0} {fg : Ghosts F} {cg : Ghosts C} {kg : Ghosts K} where
       (λ p j. let c = chain-in (seat_at ns) 0 i (slots (node_of ns i)) p j (stood-parts t h) in let a = c.0 in
       shaped-here ns p.at p.view (omega arith) c.1.view))
 
-  -- each part that stands among nodes
+  -- each part that is among nodes
   pub part-formed : (ns : Nodes F C K fg cg kg) (p : Part) → From 0 ns p → PartFormed p.view (tree_at ns p.at)
   part-formed ns p f = formed-below ns (suc p.at) p.at p.view (omega arith) f.within f.view

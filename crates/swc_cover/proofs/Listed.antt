@@ -210,7 +210,7 @@ module _ {F C K : Type 0} {fg : Ghosts F} {cg : Ghosts C} {kg : Ghosts K} where
       ap (λ v. cons v (trees (map (λ (q : PatId). tree_at ms q.0) ps ++ t ∷ []))) same
       ∙ ap (cons (tree_at ns p.0)) (pats-later (suc p.0) hi ps t g le b.1)
 
-  -- where the rest's pattern stands
+  -- where the rest's pattern is
   pub held-item : {old now : Nodes F C K fg cg kg} {k : ℕ} {ids : Numbers} (xs : List (ExprOrSpread ExprId))
       (z : Dotted) (i : ℕ) → MovedOver old k (map (item_due Bind) xs) now ids → Some z ≡ last_rest xs →
       i ≡ given ids z.held.0 →

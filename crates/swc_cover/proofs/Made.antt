@@ -7,8 +7,8 @@ use Rattle.swc_ast.specs.Tree.{Kind, ident, hole, array_with, object_with, rest,
 use Rattle.swc_ast.specs.Parts.{no_tree}
 use Rattle.swc_ast.specs.declared.spanned.Spanned.{Ghosts}
 use Rattle.swc_cover.proofs.Objects.{pat-props-parts}
-use Rattle.swc_cover.specs.Nodes.{is_ident, is_array, is_object, is_assign, as_pat, as_pats, with_default}
-use Rattle.swc_cover.specs.Roles.{by_op, becomes_as, becomes_in, rebound_as, rest_as, again_as, kind_of, places, stays}
+use Rattle.swc_cover.specs.Nodes.{is_array, is_assign, as_pat, as_pats, with_default}
+use Rattle.swc_cover.specs.Roles.{by_op, becomes_as, becomes_in, rest_as, again_as, kind_of, places, stays}
 use Rattle.swc_cover.specs.Roles.{left_role, child_role, ready, new_view, recast, recast_in}
 use Rattle.swc_cover.specs.declared.role.Becomes.{Becomes}
 use Rattle.swc_cover.specs.declared.role.Becomes.TheVariants.{Same, PatObject, Held, Ident, Array, Object, Default}
@@ -79,45 +79,14 @@ recast-steady b r (q ∷ qs) (p ∷ ps) h = ap (λ v. record { at = p.at; view =
 not-plain : (b : Becomes) → Array ≡ b → plain b ≡ true → ⊥
 not-plain b e h = cc
 
-not-object : (b : Becomes) → Object ≡ b → plain b ≡ true → ⊥
-not-object b e h = cc
-
 not-default : (b : Becomes) → Default ≡ b → plain b ≡ true → ⊥
 not-default b e h = cc
-
-op-not-ident : (o : AssignOp) → Ident ≡ by_op o → ⊥
-op-not-ident op.Assign e = cc
-op-not-ident o e = cc
-
-never-ident : {F C K : Type 0} (k : Kind F C K) → Ident ≡ rebound_as k → ⊥
-never-ident (ident w) e = cc
-never-ident hole e = cc
-never-ident (array_with c) e = cc
-never-ident (object_with c) e = cc
-never-ident rest e = cc
-never-ident default e = cc
-never-ident invalid e = cc
-never-ident k e = cc
-
-never-again : {F C K : Type 0} (z : Span) (k : Kind F C K) → Ident ≡ again_as z k → ⊥
-never-again z (ident w) e = cc
-never-again z invalid e = cc
-never-again z hole e = cc
-never-again z (array_with c) e = cc
-never-again z (object_with c) e = cc
-never-again z rest e = cc
-never-again z default e = cc
-never-again z k e = cc
 
 -- ---- what role a node has that becomes an array or object pattern, or one with a default value
 
 op-not-array : (o : AssignOp) → Array ≡ by_op o → ⊥
 op-not-array op.Assign e = cc
 op-not-array o e = cc
-
-op-not-object : (o : AssignOp) → Object ≡ by_op o → ⊥
-op-not-object op.Assign e = cc
-op-not-object o e = cc
 
 -- of a pattern, and of what a rest holds
 abbrev Literal : Role → Bool
@@ -190,39 +159,12 @@ module _ {F C K : Type 0} (fun_at : F → Span) (class_at : C → Span) (block_a
   is-array Assign x h e = cc
   is-array r x h e = absurd (not-plain (how r x) e (again-plain r (kind_at x) refl))
 
-  pub is-object : (r : Role) (x : Node F C K) → ready r (form x) ≡ true → Object ≡ how r x → is_object x ≡ true
-  is-object Bind (n.Object s props c) h e = refl
-  is-object Bind (n.PatObject s props) h e = cc
-  is-object Bind (n.Assign s o l r) h e = absurd (op-not-object o e)
-  is-object Bind x h e = cc
-  is-object Assign (n.Object s props c) h e = refl
-  is-object Assign (n.PatObject s props) h e = cc
-  is-object Assign (n.Assign s o l r) h e = absurd (op-not-object o e)
-  is-object Assign x h e = cc
-  is-object r x h e = absurd (not-object (how r x) e (again-plain r (kind_at x) refl))
-
   pub is-assign : (r : Role) (x : Node F C K) → ready r (form x) ≡ true → Default ≡ how r x → is_assign x ≡ true
   is-assign Bind (n.Assign s o l r) h e = refl
   is-assign Bind x h e = cc
   is-assign Assign (n.Assign s o l r) h e = refl
   is-assign Assign x h e = cc
   is-assign r x h e = absurd (not-default (how r x) e (again-plain r (kind_at x) refl))
-
-  pub is-ident : (r : Role) (x : Node F C K) → ready r (form x) ≡ true → Ident ≡ how r x → is_ident x ≡ true
-  is-ident Keep x h e = cc
-  is-ident Rebind x h e = absurd (never-ident _ e)
-  is-ident (RebindRest z) x h e = absurd (never-again z _ e)
-  is-ident Bind (n.Ident i) h e = refl
-  is-ident Bind (n.PatIdent b) h e = cc
-  is-ident Bind (n.Assign s o l r) h e = absurd (op-not-ident o e)
-  is-ident Bind x h e = cc
-  is-ident Assign (n.Ident i) h e = refl
-  is-ident Assign (n.PatIdent b) h e = cc
-  is-ident Assign (n.Assign s o l r) h e = absurd (op-not-ident o e)
-  is-ident Assign x h e = cc
-  is-ident (BindRest z) (n.Ident i) h e = refl
-  is-ident (BindRest z) (n.PatIdent b) h e = cc
-  is-ident (BindRest z) x h e = cc
 
   -- an array's parts become patterns
   array-parts : (r : Role) (x : Node F C K) → is_array x ≡ true → Array ≡ how r x →

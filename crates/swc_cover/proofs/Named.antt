@@ -1,14 +1,13 @@
--- Where names stand that may not be bound in strict code, one after another.
+-- Where names are that may not be bound in strict code, one after another.
 use Rattle.std.proofs.Common.{◌≡◌, ℕ, ◌+◌, ◌<◌, ◌≤◌, inl, List, ◌∷◌, ◌++◌, map, drop, get_or, length, Option}
 use Rattle.std.proofs.Common.{refl, sym, ap, ◌∙◌, append_assoc}
 use Rattle.std.proofs.lemmas.List.{append-nil, drop_more, drop_all}
 use Rattle.swc_context.specs.declared.span.Span.{Span}
-use Rattle.swc_ast.specs.Parts.{or_hole}
 use Rattle.swc_ast.specs.Tree.{Trees, trees}
 use Rattle.swc_ast.specs.declared.spanned.Spanned.{Ghosts}
 use Rattle.swc_cover.proofs.Fitting.{chain-in, in-flat, pats_of, pat_props_of, tree-is}
-use Rattle.swc_cover.specs.Heads.{reserved_spans, all_reserved, prop_reserved, props_reserved}
-use Rattle.swc_nodes.specs.NodeTree.{marked_tree, pat_prop_of}
+use Rattle.swc_cover.specs.Heads.{reserved_spans, all_reserved, props_reserved}
+use Rattle.swc_nodes.specs.NodeTree.{marked_tree}
 use Rattle.swc_nodes.specs.NodeParts.{pat_part, flat, one_pat}
 use Rattle.swc_nodes.specs.GrowingNodes.{count, seat_at, tree_at, Apart, From, Stood}
 use Rattle.swc_nodes.specs.declared.node.Node.{Node}
@@ -19,28 +18,6 @@ use Rattle.swc_nodes.specs.declared.nodes.Nodes.{Nodes}
 module _ {F C K : Type 0} {fg : Ghosts F} {cg : Ghosts C} {kg : Ghosts K} where
   abbrev pub heads_of : Nodes F C K fg cg kg → List PatId → Trees F C K
   heads_of ns ps = trees (map (λ (p : PatId). tree_at ns p.0) ps)
-
-  pub named-pats-more : (ns : Nodes F C K fg cg kg) (xs : List (Option PatId)) (i : ℕ) (o : Option PatId)
-      (fs gs whole : List Span) → i < length xs → o ≡ get_or xs i o →
-      gs ≡ fs ++ reserved_spans (or_hole (λ (p : PatId). tree_at ns p.0) o) →
-      fs ++ all_reserved (pats_of ns (drop i xs)) ≡ whole → gs ++ all_reserved (pats_of ns (drop (i + 1) xs)) ≡ whole
-  named-pats-more ns xs i o fs gs whole h e g w =
-      let back = all_reserved (pats_of ns (drop (i + 1) xs)) in
-      ap (λ v. v ++ back) g ∙ append_assoc fs (reserved_spans (or_hole (λ (p : PatId). tree_at ns p.0) o)) back
-      ∙ ap (λ v. fs ++ all_reserved (pats_of ns v)) (sym (drop_more xs i o h ∙ ap (λ v. v ∷ drop (i + 1) xs) (sym e)))
-      ∙ w
-
-  pub named-props-more : (ns : Nodes F C K fg cg kg) (xs : List PatPropNode) (i : ℕ) (y : PatPropNode)
-      (fs gs whole : List Span) → i < length xs → y ≡ get_or xs i y →
-      gs ≡ fs ++ prop_reserved (pat_prop_of fg.place cg.place kg.place (tree_at ns) y) →
-      fs ++ props_reserved (pat_props_of ns (drop i xs)) ≡ whole →
-      gs ++ props_reserved (pat_props_of ns (drop (i + 1) xs)) ≡ whole
-  named-props-more ns xs i y fs gs whole h e g w =
-      let back = props_reserved (pat_props_of ns (drop (i + 1) xs)) in
-      ap (λ v. v ++ back) g ∙ append_assoc fs (prop_reserved (pat_prop_of fg.place cg.place kg.place (tree_at ns) y))
-      back
-      ∙ ap (λ v. fs ++ props_reserved (pat_props_of ns v)) (sym
-      (drop_more xs i y h ∙ ap (λ v. v ∷ drop (i + 1) xs) (sym e))) ∙ w
 
   pub named-heads-more : (ns : Nodes F C K fg cg kg) (xs : List PatId) (i : ℕ) (p : PatId) (fs gs whole : List Span) →
       i < length xs → p ≡ get_or xs i p → gs ≡ fs ++ reserved_spans (tree_at ns p.0) →
@@ -70,7 +47,7 @@ module _ {F C K : Type 0} {fg : Ghosts F} {cg : Ghosts C} {kg : Ghosts K} where
       x ≡ y → reserved_spans (tree_at ns i) ≡ reserved_spans (marked_tree fg.place cg.place kg.place (tree_at ns) y)
   named-is y t lt e = ap reserved_spans (tree-is y t lt e)
 
-  -- one of the parameters stands among the nodes
+  -- one of the parameters is among the nodes
   pub head-from : {ns : Nodes F C K fg cg kg} (xs : List PatId) (i : ℕ) (p : PatId) → Apart 0 ns (flat one_pat xs) →
       i < length xs → p ≡ get_or xs i p → From 0 ns (pat_part p)
   head-from {ns} xs i p a h e =

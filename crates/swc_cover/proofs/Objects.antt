@@ -1,7 +1,7 @@
 -- The properties of an object, and those of the object pattern that it becomes.
-use Rattle.std.proofs.Common.{◌≡◌, ℕ, suc, true, List, [], ◌∷◌, ◌++◌, map, reverse, Option, Some, None, refl, sym, ap}
+use Rattle.std.proofs.Common.{◌≡◌, ℕ, suc, true, List, [], ◌∷◌, ◌++◌, map, Option, None, refl, sym, ap}
 use Rattle.std.proofs.Common.{subst, ◌∙◌, arith, append_assoc}
-use Rattle.std.proofs.lemmas.List.{append-nil, map-append, reverse-append}
+use Rattle.std.proofs.lemmas.List.{append-nil, map-append}
 use Rattle.std.specs.declared.alloc.Global.{Global}
 use Rattle.std.specs.declared.vec.Vec.{Vec}
 use Rattle.swc_context.specs.declared.span.Span.{Span}
@@ -84,13 +84,6 @@ pub props-none : {K : Type 0} (xs ys : List (PropNode K)) (p : PropNode K) (rs w
     xs ≡ ys ++ p ∷ [] → None ≡ as_pat_prop p → as_pat_props xs ++ rs ≡ whole → as_pat_props ys ++ rs ≡ whole
 props-none xs ys p rs whole e n h = ap (λ v. as_pat_props ys ++ (one_or_none v ++ rs)) n
     ∙ sym (props-last xs ys p rs e) ∙ h
-
-pub props-some : {K : Type 0} (xs ys : List (PropNode K)) (p : PropNode K) (q : PatPropNode)
-    (rs us whole : List PatPropNode) → xs ≡ ys ++ p ∷ [] → Some q ≡ as_pat_prop p → us ≡ rs ++ q ∷ [] →
-    as_pat_props xs ++ reverse rs ≡ whole → as_pat_props ys ++ reverse us ≡ whole
-props-some xs ys p q rs us whole e n u h =
-    ap (λ v. as_pat_props ys ++ v) (ap reverse u ∙ reverse-append rs (q ∷ []))
-    ∙ ap (λ v. as_pat_props ys ++ (one_or_none v ++ reverse rs)) n ∙ sym (props-last xs ys p (reverse rs) e) ∙ h
 
 -- ---- parts before others that lie apart
 

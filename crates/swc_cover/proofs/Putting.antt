@@ -1,9 +1,9 @@
 -- What was taken is appended again, the first first: each number that was gets a new one, which stands for what its
 -- tree was to become.
-use Rattle.std.proofs.Common.{◌≡◌, ℕ, suc, ◌<◌, ◌≤◌, inl, inr, true, List, [], ◌∷◌, ◌++◌, map, take, length, refl, sym}
+use Rattle.std.proofs.Common.{◌≡◌, ℕ, suc, ◌<◌, ◌≤◌, inl, inr, true, List, [], ◌∷◌, ◌++◌, map, length, refl, sym}
 use Rattle.std.proofs.Common.{ap, subst, ◌∙◌, arith, append_assoc}
 use Rattle.std.proofs.lemmas.Bool.{le-leb}
-use Rattle.std.proofs.lemmas.List.{append-nil, take-append-le}
+use Rattle.std.proofs.lemmas.List.{append-nil}
 use Rattle.swc_context.specs.declared.operator.AssignOp.{AssignOp}
 use Rattle.swc_context.specs.declared.operator.AssignOp.TheVariants as op
 use Rattle.swc_context.specs.declared.span.Span.{Span}
@@ -14,7 +14,7 @@ use Rattle.swc_cover.proofs.Among.{in-right, in-either, in-map, falls-before, fa
 use Rattle.swc_cover.proofs.Dressed.{Shaped, dressed, each-due, shaped}
 use Rattle.swc_cover.proofs.Lifting.{chain-raise}
 use Rattle.swc_cover.proofs.Places.{dues-moved, dues-parts, due-of-part, places-moved}
-use Rattle.swc_cover.specs.Moving.{In, Fall, SetsTo, top, moved_due, MovedOver, KeptTo, Stays, Entry, IsLifted, dues_of}
+use Rattle.swc_cover.specs.Moving.{In, Fall, SetsTo, top, moved_due, MovedOver, Stays, Entry, IsLifted, dues_of}
 use Rattle.swc_cover.specs.Roles.{Due, becomes_as, becomes_in, kind_of, places, ready, refines, suits, due, new_view}
 use Rattle.swc_cover.specs.Roles.{new_form, recast, recast_in, shallow_as, sought, part_of_due, by_op, bound_as}
 use Rattle.swc_cover.specs.Roles.{assigned_as, rebound_as, rest_as, again_as}
@@ -31,7 +31,7 @@ use Rattle.swc_nodes.specs.NodeTree.{marked_tree}
 use Rattle.swc_nodes.specs.Renumbering.{given, Renumbered}
 use Rattle.swc_nodes.specs.NumberedTrees.{Seat, floor, chain}
 use Rattle.swc_nodes.specs.NodeParts.{Part, View, Form, expr, pat, slots, form, view_ok}
-use Rattle.swc_nodes.specs.GrowingNodes.{count, seat_at, tree_at, first_at, node_seat, Apart, Grows, Left, Made}
+use Rattle.swc_nodes.specs.GrowingNodes.{count, seat_at, tree_at, first_at, node_seat, Apart, Grows, Made}
 use Rattle.swc_nodes.specs.declared.renumbering.Numbers.{Numbers}
 use Rattle.swc_nodes.specs.declared.node.Node.{Node}
 use Rattle.swc_nodes.specs.declared.nodes.Nodes.{Nodes}
@@ -79,10 +79,6 @@ pat-of Keep f h g = cc
 pat-of Rebind f h g = cc
 pat-of (BindRest z) f h g = cc
 pat-of (RebindRest z) f h g = cc
-
--- the first of a list, of which more follow
-take-front : {A : Type 0} (xs ys zs : List A) (k : ℕ) → xs ≡ ys ++ zs → k ≤ length ys → take k xs ≡ take k ys
-take-front xs ys zs k e h = ap (take k) e ∙ take-append-le k ys zs h
 
 -- what a node that may become it is afterwards
 view-kept : {F C K : Type 0} (r : Role) (k : Kind F C K) (v : View) (f : Form) → ready r f ≡ true →
@@ -526,17 +522,6 @@ module _ {F C K : Type 0} {fg : Ghosts F} {cg : Ghosts C} {kg : Ghosts K} where
       } in
       subst (λ w. Made k ms (record { at = w; view = pat }) (sought d.role (tree_at ns (part_of d.part).at))) (sym n)
       made
-
-  -- nodes with numbers below k stay
-  pub kept-to : {old base now : Nodes F C K fg cg kg} {k : ℕ} → Left k old base → Grows base now → KeptTo k old now
-  kept-to {old} {base} {now} {k} l g =
-      let c = grows-count g in
-      let a = l.above in
-      record {
-        kept = take-front now.nodes.items base.nodes.items g.more k g.appended a
-            ∙ sym (take-front old.nodes.items base.nodes.items l.grows.more k l.grows.appended a);
-        above = omega arith;
-      }
 
 pub refines-suit : (r : Role) → refines r ≡ true → suits r expr ≡ true
 refines-suit Bind h = refl

@@ -9,27 +9,24 @@ use Rattle.swc_context.specs.declared.operator.AssignOp.{AssignOp}
 use Rattle.swc_context.specs.declared.operator.AssignOp.TheVariants as op
 use Rattle.swc_context.specs.declared.span.Span.{Span}
 use Rattle.swc_ast.specs.Parts.{or_hole, item_tree}
-use Rattle.swc_ast.specs.Tree.{span_of, Trees, trees}
+use Rattle.swc_ast.specs.Tree.{Trees, trees}
 use Rattle.swc_ast.specs.declared.expr.ExprOrSpread.{ExprOrSpread}
-use Rattle.swc_nodes.specs.declared.node.InvalidNode.{InvalidNode}
 use Rattle.swc_ast.specs.declared.spanned.Spanned.{Ghosts}
 use Rattle.swc_grammar.specs.Cover.{is_pattern}
 use Rattle.swc_cover.specs.Fits.{Way}
 use Rattle.swc_cover.proofs.Fitting.{Below, chain-in, in-flat, elems_of, props_of, pats_of, pat_props_of, elem-below}
-use Rattle.swc_cover.proofs.Fitting.{prop-in, pat-elem-below, pat-prop-in, nil-by, tree-is, stood-tree, left-shape}
+use Rattle.swc_cover.proofs.Fitting.{prop-in, pat-elem-below, pat-prop-in, nil-by, tree-is, left-shape}
 use Rattle.swc_cover.proofs.Fitting.{left-below}
 use Rattle.swc_cover.proofs.Among.{in-right}
 use Rattle.swc_cover.specs.Checking.{plain_op}
 use Rattle.swc_cover.specs.Below.{ElemStep, PropStep, PatElemStep, PatPropStep, ElemsBelow, PropsBelow, PatElemsBelow}
 use Rattle.swc_cover.specs.Below.{PatPropsBelow}
 use Rattle.swc_cover.specs.Faults.{Verdict, clean, recorded, goes_on, also, verdict, elem_verdict, elems_verdict}
-use Rattle.swc_cover.specs.Faults.{prop_verdict, props_verdict, param_verdict, params_verdict, own_faults, left_faults}
-use Rattle.swc_cover.specs.Faults.{again, all_again, prop_again, props_again, one, Recorded}
+use Rattle.swc_cover.specs.Faults.{prop_verdict, props_verdict, param_verdict, params_verdict, left_faults}
+use Rattle.swc_cover.specs.Faults.{again, all_again, prop_again, props_again, Recorded}
 use Rattle.swc_cover.specs.declared.faults.Fault.{Fault}
-use Rattle.swc_cover.specs.declared.faults.FaultKind.TheVariants as fault
 use Rattle.swc_nodes.specs.NodeTree.{marked_tree, prop_of, pat_prop_of}
-use Rattle.swc_nodes.proofs.Held.{stood-view}
-use Rattle.swc_nodes.specs.NodeParts.{expr, key_parts, expr_part, pat_part, target_part, form, view_ok, flat}
+use Rattle.swc_nodes.specs.NodeParts.{expr, key_parts, expr_part, pat_part, target_part, flat}
 use Rattle.swc_nodes.specs.NodeParts.{item_parts}
 use Rattle.swc_nodes.specs.GrowingNodes.{count, tree_at, From, Stood, seat_at, Apart}
 use Rattle.swc_nodes.specs.declared.node.ExprId.{ExprId}
@@ -43,17 +40,6 @@ use Rattle.swc_nodes.specs.declared.node.PropNode.TheVariants as prop
 use Rattle.swc_nodes.specs.declared.node.TargetNode.{TargetNode}
 use Rattle.swc_nodes.specs.declared.node.TargetNode.TheVariants as target
 use Rattle.swc_nodes.specs.declared.nodes.Nodes.{Nodes}
-
-pub nothing-recorded : (was now : List Fault) → now ≡ was → Recorded was clean now None
-nothing-recorded was now e = record { faults = e ∙ sym (append-nil was); refused = refl }
-
-pub just-recorded : {was now : List Fault} (fs : List Fault) → now ≡ was ++ fs → Recorded was (recorded fs) now None
-just-recorded fs e = record { faults = e; refused = refl }
-
-pub then-recorded : {was mid now : List Fault} {v : Verdict} {r : Option Span} (fs : List Fault) → mid ≡ was ++ fs →
-    Recorded mid v now r → Recorded was (goes_on fs None v) now r
-then-recorded {was} {mid} {now} {v} {r} fs e x =
-    record { faults = x.faults ∙ ap (λ w. w ++ v.faults) e ∙ append_assoc was fs v.faults; refused = x.refused }
 
 pub recorded-as : {was now : List Fault} {u v : Verdict} {r : Option Span} → u ≡ v → Recorded was u now r →
     Recorded was v now r
@@ -75,14 +61,6 @@ also-ends : (u v : Verdict) (r : Option Span) → r ≡ u.refused → is_some r 
     also u v ≡ record { faults = u.faults; refused = r }
 also-ends u v None e h = cc
 also-ends u v (Some s) e h = ap (λ w. goes_on u.faults w v) (sym e)
-
-pub remains-starts : (was now : List Fault) (whole left : Verdict) → now ≡ was → left ≡ whole →
-    Remains was whole now left
-remains-starts was now whole left e d = record {
-  faults = ap (λ w. w ++ whole.faults) (sym e) ∙ ap
-      (λ w. now ++ w.faults) (sym d);
-  refused = ap (λ w. w.refused) (sym d);
-}
 
 pub remains-more : {was now next : List Fault} {whole left : Verdict} {r : Option Span} (u v : Verdict) →
     left ≡ also u v → is_some r ≡ false → Recorded now u next r → Remains was whole now left → Remains was whole next v
@@ -204,13 +182,6 @@ module _ {F C K : Type 0} {fg : Ghosts F} {cg : Ghosts C} {kg : Ghosts K} where
 
   -- ---- an assignment
 
-  op-verdict : (ns : Nodes F C K fg cg kg) (w : Way) (s : Span) (o : AssignOp) (l : TargetNode) (r : ExprId) →
-      plain_op o ≡ false →
-      verdict w (marked_tree fg.place cg.place kg.place (tree_at ns) (n.Assign s o l r)) ≡ recorded
-      (own_faults w (marked_tree fg.place cg.place kg.place (tree_at ns) (n.Assign s o l r)))
-  op-verdict ns w s op.Assign l r h = cc
-  op-verdict ns w s o l r h = refl
-
   simple-verdict : (ns : Nodes F C K fg cg kg) (w : Way) (s : Span) (o : AssignOp) (u r : ExprId) → plain_op o ≡ true →
       is_pattern (tree_at ns u.0) ≡ false → verdict w (marked_tree fg.place cg.place kg.place (tree_at ns)
       (n.Assign s o (target.Simple u) r)) ≡ verdict w (tree_at ns u.0)
@@ -225,13 +196,6 @@ module _ {F C K : Type 0} {fg : Ghosts F} {cg : Ghosts C} {kg : Ghosts K} where
   pattern-verdict ns w s op.Assign u r h p = ap (λ b. if b then recorded (left_faults w (tree_at ns u.0)) else verdict
       w (tree_at ns u.0)) p
   pattern-verdict ns w s o u r h p = cc
-
-  pub assign-other : {ns : Nodes F C K fg cg kg} {i : ℕ} {x : Node F C K} (w : Way) (s : Span) (o : AssignOp)
-      (l : TargetNode) (r : ExprId) → Stood ns i x → i < count ns → x ≡ n.Assign s o l r → plain_op o ≡ false →
-      recorded (own_faults w (tree_at ns i)) ≡ verdict w (tree_at ns i)
-  assign-other {ns} w s o l r t lt e h =
-      let tree = tree-is (n.Assign s o l r) t lt e in
-      sym (ap (verdict w) tree ∙ op-verdict ns w s o l r h ∙ ap (λ v. recorded (own_faults w v)) (sym tree))
 
   pub assign-simple : {ns : Nodes F C K fg cg kg} {i : ℕ} {x : Node F C K} (w : Way) (s : Span) (o : AssignOp)
       (l : TargetNode) (r u : ExprId) → Stood ns i x → i < count ns → x ≡ n.Assign s o l r → plain_op o ≡ true →
@@ -253,37 +217,6 @@ module _ {F C K : Type 0} {fg : Ghosts F} {cg : Ghosts C} {kg : Ghosts K} where
       ∙ pattern-verdict ns w s o u r h (left-shape x (target.Pat u) b.from))
 
   -- ---- all else
-
-  pub invalid-verdict : {ns : Nodes F C K fg cg kg} {i : ℕ} {x : Node F C K} (w : Way) (v : InvalidNode) →
-      Stood ns i x → i < count ns → x ≡ n.Invalid v → clean ≡ verdict w (tree_at ns i)
-  invalid-verdict w v t lt e = sym (ap (verdict w) (tree-is (n.Invalid v) t lt e))
-
-  no-literal : (ns : Nodes F C K fg cg kg) (w : Way) (x : Node F C K) → view_ok expr (form x) ≡ true →
-      ((v : InvalidNode) → x ≡ n.Invalid v → ⊥) → ((s : Span) (es : Vec (Option (ExprOrSpread ExprId)) Global)
-      (c : Option Span) → x ≡ n.Array s es c → ⊥) →
-      ((s : Span) (ps : Vec (PropNode K) Global) (c : Option Span) → x ≡ n.Object s ps c → ⊥) →
-      ((s : Span) (o : AssignOp) (l : TargetNode) (r : ExprId) → x ≡ n.Assign s o l r → ⊥) →
-      verdict w (marked_tree fg.place cg.place kg.place (tree_at ns) x) ≡ recorded
-      (own_faults w (marked_tree fg.place cg.place kg.place (tree_at ns) x))
-  no-literal ns w (n.Invalid v) k h1 h2 h3 h4 = absurd (h1 v refl)
-  no-literal ns w (n.Array s es c) k h1 h2 h3 h4 = absurd (h2 s es c refl)
-  no-literal ns w (n.Object s ps c) k h1 h2 h3 h4 = absurd (h3 s ps c refl)
-  no-literal ns w (n.Assign s o l r) k h1 h2 h3 h4 = absurd (h4 s o l r refl)
-  no-literal ns w (n.PatArray s es) k h1 h2 h3 h4 = cc
-  no-literal ns w (n.PatObject s ps) k h1 h2 h3 h4 = cc
-  no-literal ns w (n.PatInvalid v) k h1 h2 h3 h4 = cc
-  no-literal ns w x k h1 h2 h3 h4 = refl
-
-  pub other-verdict : {ns : Nodes F C K fg cg kg} {i : ℕ} {x : Node F C K} (w : Way) → Stood ns i x →
-      From 0 ns (record { at = i; view = expr }) → ((v : InvalidNode) → x ≡ n.Invalid v → ⊥) →
-      ((s : Span) (es : Vec (Option (ExprOrSpread ExprId)) Global) (c : Option Span) → x ≡ n.Array s es c → ⊥) →
-      ((s : Span) (ps : Vec (PropNode K) Global) (c : Option Span) → x ≡ n.Object s ps c → ⊥) →
-      ((s : Span) (o : AssignOp) (l : TargetNode) (r : ExprId) → x ≡ n.Assign s o l r → ⊥) →
-      recorded (own_faults w (tree_at ns i)) ≡ verdict w (tree_at ns i)
-  other-verdict {ns} {i} {x} w t f h1 h2 h3 h4 =
-      let tree = stood-tree t f.within in
-      sym (ap (verdict w) tree ∙ no-literal ns w x (stood-view expr t f) h1 h2 h3 h4
-      ∙ ap (λ v. recorded (own_faults w v)) (sym tree))
 
   -- ---- patterns, once more
 
@@ -330,15 +263,6 @@ module _ {F C K : Type 0} {fg : Ghosts F} {cg : Ghosts C} {kg : Ghosts K} where
       PatPropsBelow ns i props.items
   pat-props-below s props t lt e = record { each = λ j y h g. pat-prop-step s props y t lt e h g }
 
-  pub pats-more : (ns : Nodes F C K fg cg kg) (xs : List (Option PatId)) (i : ℕ) (o : Option PatId)
-      (fs gs whole : List Fault) → i < length xs → o ≡ get_or xs i o →
-      gs ≡ fs ++ again (or_hole (λ (p : PatId). tree_at ns p.0) o) →
-      fs ++ all_again (pats_of ns (drop i xs)) ≡ whole → gs ++ all_again (pats_of ns (drop (i + 1) xs)) ≡ whole
-  pats-more ns xs i o fs gs whole h e g w =
-      let back = all_again (pats_of ns (drop (i + 1) xs)) in
-      ap (λ v. v ++ back) g ∙ append_assoc fs (again (or_hole (λ (p : PatId). tree_at ns p.0) o)) back
-      ∙ ap (λ v. fs ++ all_again (pats_of ns v)) (sym (drop_more xs i o h ∙ ap (λ v. v ∷ drop (i + 1) xs) (sym e))) ∙ w
-
   pub pat-props-more : (ns : Nodes F C K fg cg kg) (xs : List PatPropNode) (i : ℕ) (y : PatPropNode)
       (fs gs whole : List Fault) → i < length xs → y ≡ get_or xs i y →
       gs ≡ fs ++ prop_again (pat_prop_of fg.place cg.place kg.place (tree_at ns) y) →
@@ -362,11 +286,6 @@ module _ {F C K : Type 0} {fg : Ghosts F} {cg : Ghosts C} {kg : Ghosts K} where
   pub again-is : {ns : Nodes F C K fg cg kg} {i : ℕ} {x : Node F C K} (y : Node F C K) → Stood ns i x → i < count ns →
       x ≡ y → again (tree_at ns i) ≡ again (marked_tree fg.place cg.place kg.place (tree_at ns) y)
   again-is y t lt e = ap again (tree-is y t lt e)
-
-  pub again-expr : {ns : Nodes F C K fg cg kg} {i : ℕ} {x : Node F C K} (e : ExprId) → Stood ns i x → i < count ns →
-      x ≡ n.PatExpr e → again (tree_at ns i) ≡ one fault.InvalidPat (span_of (tree_at ns i))
-  again-expr {ns} e t lt q = let tree = tree-is (n.PatExpr e) t lt q in
-      ap again tree ∙ ap (λ v. one fault.InvalidPat (span_of v)) (sym tree)
 
   -- ---- items
 

@@ -4,7 +4,6 @@ use Rattle.std.proofs.Common.{arith}
 use Rattle.std.specs.Prelude.{if◌then◌else◌}
 use Rattle.swc_context.specs.declared.context.Context.{Context}
 use Rattle.swc_context.specs.declared.error.Error.{Error}
-use Rattle.swc_context.specs.declared.error.SyntaxError.TheVariants.{OutOfMemory}
 use Rattle.swc_context.specs.declared.span.Span.{Span}
 use Rattle.swc_input.specs.Buffer.{context}
 use Rattle.swc_input.specs.Source.{Model}
@@ -24,7 +23,7 @@ use Rattle.swc_cover.specs.Heads.{names_ok}
 use Rattle.swc_cover.specs.Items.{want_items, AllMade}
 use Rattle.swc_cover.specs.Moving.{KeptTo}
 use Rattle.swc_cover.specs.PatTypes.{want_as, pattern_as}
-use Rattle.swc_cover.specs.Refining.{ChecksWhole, Unfitting, Refined, Unrefined, RefinedItems, fits_at, items_at}
+use Rattle.swc_cover.specs.Refining.{ChecksWhole, Unfitting, Refined, RefinedItems, fits_at, items_at}
 use Rattle.swc_cover.specs.Refining.{pats_at, items_floor, params_ok, takes_heads}
 use Rattle.swc_cover.specs.declared.pat_type.PatType.{PatType}
 use Rattle.swc_cover.specs.declared.pat_type.PatType.TheVariants.{AssignPat}
@@ -117,20 +116,11 @@ must-fit : {m n : ℕ} (b : Bool) → (b ≡ false → m < n) → n ≡ m → b 
 must-fit true f e = refl
 must-fit false f e = let h = f refl in absurd (omega arith)
 
-cannot-fit : {m n : ℕ} (b : Bool) → (b ≡ true → n ≡ m) → m < n → b ≡ false
-cannot-fit true f h = let e = f refl in absurd (omega arith)
-cannot-fit false f h = refl
-
 module _ {F C K : Type 0} where
   some-by : {o : Option (Tree F C K)} (b : Bool) (u : Tree F C K) → o ≡ (if b then Some u else None) → b ≡ true →
       o ≡ Some u
   some-by true u e h = e
   some-by false u e h = cc
-
-  none-by : {o : Option (Tree F C K)} (b : Bool) (u : Tree F C K) → o ≡ (if b then Some u else None) → b ≡ false →
-      o ≡ None
-  none-by true u e h = cc
-  none-by false u e h = e
 
   heads-by : (c : Context) (o : Option (Trees F C K)) (b : Bool) (us : Trees F C K) →
       o ≡ (if b then Some us else None) →
@@ -158,24 +148,6 @@ module _ {S H F C K : Type 0} {fg : Ghosts F} {cg : Ghosts C} {kg : Ghosts K} {m
       some-by (fits_at model t id p) (tree_at q.nodes pat.0) r.pattern
       (must-fit (fits_at model t id p) (λ n. r.checks.notes v n loud) same)
 
-  -- a fault was recorded: the expression is no such pattern
-  pub refined-faulty : {p q : Productions S H F C K fg cg kg} {t : PatType} {id : ExprId} {pat : PatId} →
-      Refined model t id p pat q → recorded model p.input < recorded model q.input →
-      pattern_as (context model p.input).strict t (tree_at p.nodes id.0) ≡ None
-  refined-faulty {p} {q} {t} {id} {pat} r lt =
-      none-by (fits_at model t id p) (tree_at q.nodes pat.0) r.pattern
-      (cannot-fit (fits_at model t id p) (λ w. (r.checks.passes w).1) lt)
-
-  -- it was refused: the same, except when out of memory
-  pub unrefined-none : {p q : Productions S H F C K fg cg kg} {t : PatType} {id : ExprId} {e : Error} →
-      From 0 p.nodes (expr_part id) → Unrefined model t id p e q → e.kind ≢ OutOfMemory →
-      pattern_as (context model p.input).strict t (tree_at p.nodes id.0) ≡ None
-  unrefined-none {p} {t = t} {id = id} f u n =
-      none-by (fits_at model t id p) (want_as t (tree_at p.nodes id.0))
-      (pattern-is (context model p.input).strict t (tree_at p.nodes id.0) (want_as t (tree_at p.nodes id.0))
-      (expr-formed id f) refl)
-      (u.refuses.unfit n)
-
   -- the same of items that become parameters
   pub items-clean : {p q : Productions S H F C K fg cg kg} {xs : List (ExprOrSpread ExprId)} {comma : Option Span}
       {ps : List PatId} → RefinedItems model xs comma p ps q → are_valid (items_at p.nodes xs) ≡ true →
@@ -186,9 +158,3 @@ module _ {S H F C K : Type 0} {fg : Ghosts F} {cg : Ghosts C} {kg : Ghosts K} {m
       heads-by (context model p.input) (as_elements binding comma (items_at p.nodes xs))
       (elems_fit Binding comma (items_at p.nodes xs)) (pats_at q.nodes ps) r.params
       (must-fit (params_ok (context model p.input) comma (items_at p.nodes xs)) (λ n. r.checks.notes v n loud) same)
-
-  pub items-faulty : {p q : Productions S H F C K fg cg kg} {xs : List (ExprOrSpread ExprId)} {comma : Option Span}
-      {ps : List PatId} → RefinedItems model xs comma p ps q → recorded model p.input < recorded model q.input →
-      params_ok (context model p.input) comma (items_at p.nodes xs) ≡ false
-  items-faulty {p} {q} {xs} {comma} r lt =
-      cannot-fit (params_ok (context model p.input) comma (items_at p.nodes xs)) (λ w. (r.checks.passes w).1) lt

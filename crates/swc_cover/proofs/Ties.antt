@@ -48,7 +48,7 @@ two-ifs true true a d f = refl
 two-ifs true false a d f = refl
 two-ifs false c a d f = refl
 
--- what stands under a test of its own, and what it is put before
+-- what is under a test of its own, and what it is put before
 guarded : {A B : Type 0} (b c : Bool) (a : A) (f : A → B) → ((if b then answer c a else None) >>> (λ x. Some (f x))) ≡
     answer (b && c) (f a)
 guarded true true a f = refl
@@ -106,7 +106,7 @@ module _ {F C K : Type 0} where
     props-any nil f = refl
     props-any (cons t ts) f = both-same (prop-any t f.0) (props-any ts f.1)
 
-  -- ---- what stands left of a `=`
+  -- ---- what is left of a `=`
 
   bound-left : (l : Tree F C K) (b : Bool) → binds l ≡ b → answer b l ≡ answer b (want Rebind l)
   bound-left l true h = ap Some (sym (binds-same l h))

@@ -1,32 +1,24 @@
 -- The kinds of patterns that expressions are refined as: what is sought, and where nothing is recorded.
-use Rattle.std.proofs.Common.{◌≡◌, ℕ, Bool, true, false, not, ◌&&◌, refl, sym, ap, subst, ◌∙◌, arith}
+use Rattle.std.proofs.Common.{◌≡◌, ℕ, Bool, true, false, not, ◌&&◌, refl, sym, ap, subst, ◌∙◌}
 use Rattle.std.specs.Prelude.{if◌then◌else◌}
 use Rattle.swc_ast.specs.Targets.{is_target}
 use Rattle.swc_ast.specs.Tree.{ident, pat_expr, Tree, node, nil, cons, span_of}
 use Rattle.swc_ast.specs.Trees.{is_ident, is_valid}
 use Rattle.swc_ast.specs.declared.spanned.Spanned.{Ghosts}
 use Rattle.swc_cover.proofs.Covers.{keeps-by}
-use Rattle.swc_cover.proofs.Kept.{kept-grows, kept-less}
 use Rattle.swc_cover.proofs.Quiet.{fits-quiet, quiet-fits}
 use Rattle.swc_cover.specs.Faults.{clean, recorded, one_if, verdict}
 use Rattle.swc_cover.specs.Fits.{fits}
-use Rattle.swc_cover.specs.Moving.{KeptTo}
 use Rattle.swc_cover.specs.PatTypes.{role_in, role_for, way_in, stands_whole, held_whole, want_as, fits_as, verdict_as}
-use Rattle.swc_cover.specs.Roles.{refines, sought}
+use Rattle.swc_cover.specs.Roles.{sought}
 use Rattle.swc_cover.specs.Wanted.{want, Assign, Ident}
 use Rattle.swc_cover.specs.declared.faults.FaultKind.TheVariants as fault
 use Rattle.swc_cover.specs.declared.pat_type.PatType.{PatType}
-use Rattle.swc_cover.specs.declared.role.Role.{Role as NodeRole}
 use Rattle.swc_cover.specs.declared.pat_type.PatType.TheVariants.{BindingPat, BindingElement, AssignPat, AssignElement}
 use Rattle.swc_nodes.specs.NodeParts.{Part}
-use Rattle.swc_nodes.specs.GrowingNodes.{first_at, From, Grows, Made}
+use Rattle.swc_nodes.specs.GrowingNodes.{Made}
 use Rattle.swc_nodes.specs.declared.nodes.Nodes.{Nodes}
-
-pub role-refines : (p : PatType) → refines (role_for p) ≡ true
-role-refines BindingPat = refl
-role-refines BindingElement = refl
-role-refines AssignPat = refl
-role-refines AssignElement = refl
+use Rattle.swc_cover.specs.declared.role.Role.{Role as NodeRole}
 
 chosen : {A : Type 0} (b : Bool) (x y : A) → b ≡ true → (if b then x else y) ≡ x
 chosen true x y h = refl
@@ -39,11 +31,6 @@ passed-by false x y h = refl
 none-left : (a : Bool) → (a && not true) ≡ false
 none-left true = refl
 none-left false = refl
-
-both-parts : (a b : Bool) → (a && not b) ≡ true → (a ≡ true) × (b ≡ false)
-both-parts true false h = (refl, refl)
-both-parts true true h = cc
-both-parts false b h = cc
 
 module _ {F C K : Type 0} where
   pub role-sought : (p : PatType) (t : Tree F C K) → sought (role_for p) t ≡ want (role_in p) t
@@ -62,13 +49,6 @@ module _ {F C K : Type 0} where
   whole-kept BindingPat t h e = cc
   whole-kept BindingElement t h e = cc
   whole-kept AssignElement t h e = cc
-
-  pub whole-wanted : (p : PatType) (t : Tree F C K) → (stands_whole p t && not (is_ident t)) ≡ true →
-      node pat_expr (span_of t) (cons t nil) ≡ want_as p t
-  whole-wanted p t h =
-      let e = both-parts (stands_whole p t) (is_ident t) h in
-      sym (chosen (stands_whole p t) (held_whole t) (want (role_in p) t) e.0
-      ∙ passed-by (is_ident t) t (node pat_expr (span_of t) (cons t nil)) e.1)
 
   wanted-by : (p : PatType) (t : Tree F C K) (b c : Bool) → stands_whole p t ≡ b → is_ident t ≡ c →
       (b && not c) ≡ false → want (role_in p) t ≡ want_as p t
@@ -121,11 +101,6 @@ module _ {F C K : Type 0} {fg : Ghosts F} {cg : Ghosts C} {kg : Ghosts K} where
   pub made-as : {ms : Nodes F C K fg cg kg} {k : ℕ} {p : Part} (w r : Tree F C K) → w ≡ r → Made k ms p w →
       Made k ms p r
   made-as {ms} {k} {p} w r e m = subst (λ v. Made k ms p v) e m
-
-  -- nodes that were appended alone: those below an expression that was there stay
-  pub kept-under : {ns ms : Nodes F C K fg cg kg} {p : Part} → From 0 ns p → Grows ns ms →
-      KeptTo (first_at ns p.at) ns ms
-  kept-under {ns} {ms} {p} f g = let w = f.within in let l = f.first in kept-less (omega arith) (kept-grows g)
 
   pub typed-made : {ms : Nodes F C K fg cg kg} {k : ℕ} {q : Part} {r : NodeRole} (p : PatType) (t : Tree F C K) →
       r ≡ role_for p → want (role_in p) t ≡ want_as p t →

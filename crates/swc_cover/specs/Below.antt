@@ -1,4 +1,4 @@
--- The parts of what is looked at, which stand among the nodes, before it.
+-- The parts of what is looked at, which are among the nodes, before it.
 use Rattle.std.specs.Prelude.{◌≡◌, ℕ, ◌+◌, ◌*◌, ◌<◌, List, Option, Some, None, get_or, length}
 use Rattle.swc_ast.specs.declared.expr.ExprOrSpread.{ExprOrSpread}
 use Rattle.swc_ast.specs.declared.spanned.Spanned.{Ghosts}
@@ -32,7 +32,7 @@ pat_prop_size (pat_prop.Rest s d p) = p.0 * 4 + 4
 pat_prop_size p = 0
 
 module _ {F C K : Type 0} {fg : Ghosts F} {cg : Ghosts C} {kg : Ghosts K} where
-  -- what is held stands among the nodes
+  -- what is held is among the nodes
   abbrev pub ElemFrom : Nodes F C K fg cg kg → Option (ExprOrSpread ExprId) → Type 0
   ElemFrom ns None = Unit {0}
   ElemFrom ns (Some x) = From 0 ns (expr_part x.expr)

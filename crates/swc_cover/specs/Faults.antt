@@ -43,7 +43,7 @@ goes_on fs (Some s) v = record { faults = fs; refused = Some s }
 abbrev pub also : Verdict → Verdict → Verdict
 also u v = goes_on u.faults u.refused v
 
--- ---- a pattern that stands left of a `=` already, as what binds
+-- ---- a pattern that is left of a `=` already, as what binds
 
 -- what an object's rest may hold: an identifier, or what was recorded before
 abbrev pub may_rest : {F C K : Type 0} → Tree F C K → Bool

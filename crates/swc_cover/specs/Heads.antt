@@ -39,6 +39,6 @@ abbrev pub has_none : {A : Type 0} → List A → Bool
 has_none [] = true
 has_none (x ∷ xs) = false
 
--- whether parameters bind none of them, or stand in no module or in no strict code
+-- whether parameters bind none of them, or are in no module or in no strict code
 abbrev pub names_ok : {F C K : Type 0} → Context → Trees F C K → Bool
 names_ok c ps = not (c.module && c.strict) || has_none (all_reserved ps)

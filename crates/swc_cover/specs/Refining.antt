@@ -60,7 +60,7 @@ module _ {F C K : Type 0} {fg : Ghosts F} {cg : Ghosts C} {kg : Ghosts K} where
   items_floor ns xs = floor (seat_at ns) (count ns) (flat item_parts xs)
 
 module _ {S H F C K : Type 0} {fg : Ghosts F} {cg : Ghosts C} {kg : Ghosts K} (model : Model S) where
-  -- whether the expression is a pattern of the kind, where the code stands
+  -- whether the expression is a pattern of the kind, where the code is
   abbrev pub fits_at : PatType → ExprId → Productions S H F C K fg cg kg → Bool
   fits_at pat_type id p = fits_as (context model p.input).strict pat_type (tree_at p.nodes id.0)
 

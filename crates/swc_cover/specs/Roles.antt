@@ -1,4 +1,4 @@
--- What becomes of a node that is to become a pattern, at the node alone: by what stands there, and for each part by
+-- What becomes of a node that is to become a pattern, at the node alone: by what is there, and for each part by
 -- what the part is, and in an object by its place. What the whole tree is to become is said in Wanted.antt.
 use Rattle.std.specs.Prelude.{Bool, true, false, ◌&&◌, if◌then◌else◌, List, [], ◌∷◌, ◌++◌, map}
 use Rattle.swc_context.specs.declared.operator.AssignOp.{AssignOp}
@@ -44,7 +44,7 @@ sought Rebind t = want wanted.Rebind t
 sought (BindRest s) t = held_rest wanted.Bind s (want wanted.Bind t)
 sought (RebindRest s) t = held_rest wanted.Rebind s (want wanted.Rebind t)
 
--- ---- how what stands at a node becomes that
+-- ---- how what is at a node becomes that
 
 abbrev pub by_op : AssignOp → Becomes
 by_op op.Assign = Default

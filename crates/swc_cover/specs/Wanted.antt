@@ -163,7 +163,7 @@ abbrev pub first_as : {F C K : Type 0} → Role → Trees F C K → Role
 first_as r nil = Keep
 first_as r (cons t ts) = r
 
--- what a part is to become, after which others stand
+-- what a part is to become, after which others are
 abbrev pub again_as : {F C K : Type 0} → Kind F C K → Trees F C K → Role
 again_as (array_with c) ts = Rebind
 again_as default ts = first_as Rebind ts

@@ -35,7 +35,7 @@ use swc_nodes::nodes::Nodes;
 pub(crate) enum FaultKind {
     /// It cannot be assigned to.
     NotSimpleAssign,
-    /// It cannot be assigned to as it stands.
+    /// It cannot be assigned to as it is.
     TS2406,
     /// It is no pattern.
     InvalidPat,
@@ -391,7 +391,7 @@ fn record_spread<F: Spanned + Drop, C: Spanned + Drop, K: Spanned + Drop>(
     record_comma(faults, trailing_comma)
 }
 
-/// Records what is wrong of where an object's spread stands.
+/// Records what is wrong of where an object's spread is.
 fn record_rest(
     faults: &mut Vec<Fault>,
     span: Span,
@@ -507,7 +507,7 @@ fn kind<F: Spanned + Drop, C: Spanned + Drop, K: Spanned + Drop>(
     }
 }
 
-/// The same of a pattern that stands left of a `=` already.
+/// The same of a pattern that is left of a `=` already.
 fn check_left<F: Spanned + Drop, C: Spanned + Drop, K: Spanned + Drop>(
     faults: &mut Vec<Fault>,
     nodes: &Nodes<F, C, K>,

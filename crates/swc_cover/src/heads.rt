@@ -171,7 +171,7 @@ fn add_prop_names<F: Spanned + Drop, C: Spanned + Drop, K: Spanned + Drop>(
     }
 }
 
-/// Adds where the name stands, if it may not be bound in strict code.
+/// Adds where the name is, if it may not be bound in strict code.
 fn add_name(spans: &mut Vec<Span>, name: &BindingIdent) -> Result<(), AllocError>
     ensures { IfOk result (λ _. spans.new.items ≡ spans.old.items ++ name_spans name.now.id.sym name.now.id.span) }
 {

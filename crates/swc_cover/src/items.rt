@@ -20,7 +20,7 @@ use swc_nodes::node::{ExprId, Node, PatId};
 use swc_nodes::nodes::Nodes;
 use swc_nodes::renumbering::Numbers;
 
-/// What a spread holds, and where its dots stand.
+/// What a spread holds, and where its dots are.
 #[derive(Clone, Copy)]
 pub struct Dotted {
     pub dots: Span,

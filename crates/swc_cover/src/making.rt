@@ -50,7 +50,7 @@ pub fn make<F: Spanned + Drop, C: Spanned + Drop, K: Spanned + Drop>(
     }
 }
 
-/// An expression that is assigned to as it stands.
+/// An expression that is assigned to as it is.
 fn hold<F: Spanned + Drop, C: Spanned + Drop, K: Spanned + Drop>(
     nodes: &mut Nodes<F, C, K>,
     node: Node<F, C, K>,

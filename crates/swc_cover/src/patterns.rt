@@ -43,7 +43,7 @@ fn role(pat_type: PatType) -> Role
     }
 }
 
-/// A pattern that is an expression which is assigned to as it stands.
+/// A pattern that is an expression which is assigned to as it is.
 fn hold_expr<F: Spanned + Drop, C: Spanned + Drop, K: Spanned + Drop>(
     nodes: &mut Nodes<F, C, K>,
     id: ExprId,

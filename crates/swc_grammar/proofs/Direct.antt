@@ -99,7 +99,7 @@ module _ {F C K : Type 0} (hook : Hook F C K) where
       → prop_binds_names any t ≡ true
   property-binds d = bind-all d
 
-  -- after dots, where any pattern may stand
+  -- after dots, where any pattern may be
   pub dotted-binds : {c : Scope} {xs ys : List TokenAndSpan} {t : Tree F C K} → Reads hook Rest c xs ys t
       → binds_names any t ≡ true
   dotted-binds d = bind-all d

@@ -1,5 +1,5 @@
 -- What holds of every tree that the grammar derives: it has no `Invalid` in it, its operators group as the levels say,
--- and no `??` stands on the left of `||` or `&&`. One clause a production says that its node keeps this; the induction
+-- and no `??` is on the left of `||` or `&&`. One clause a production says that its node keeps this; the induction
 -- is done once.
 use Rattle.std.specs.Prelude.{◌≡◌, ℕ, suc, ◌≤◌, Bool, true, false, not, ◌&&◌, ◌||◌, List, Option, Some, None, IsTrue}
 use Rattle.std.specs.Prelude.{nat_le, nat_lt}
@@ -191,7 +191,7 @@ module _ {F C K : Type 0} where
       subst (λ v. Good F C K Key v) (inj _ e h) (leaf _ refl refl refl (omega arith))
   key-lit-good t s e h = absurd cc
 
-  -- nor does it matter where a node stands
+  -- nor does it matter where a node is
   moved-at : (k : Kind F C K) (s s' : Span) (ts : Trees F C K) → grouped_at (node k s ts) ≡ grouped_at (node k s' ts)
   moved-at (bin_kind op) s s' (cons l (cons r nil)) = refl
   moved-at (bin_kind op) s s' ts = refl

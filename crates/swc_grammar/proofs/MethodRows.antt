@@ -305,7 +305,7 @@ module _ {F C : Type 0} where
   getter_of_one-refused : {e : Tree F C Span} → Reads braces Expr script getter_of_one [] e → ⊥
   getter_of_one-refused d = refused braces getter_of_one-computed d
 
--- whatever the hook; where they are read, code of a generator or of an async function stands round the last two methods
+-- whatever the hook; where they are read, code of a generator or of an async function is around the last two methods
 module _ {F C K : Type 0} (hook : Hook F C K) where
   yield_bound-computed : answer hook script yield_bound ≡ None
   unfolding answer

@@ -24,7 +24,7 @@ use Rattle.swc_grammar.proofs.Texts.{ident, num, bin, key}
 abbrev one : {F C K : Type 0} → Tree F C K → Trees F C K
 one t = cons t nil
 
--- a rest, whose dots stand first
+-- a rest, whose dots come first
 abbrev rest_of : {F C K : Type 0} → ℕ → ℕ → Tree F C K → Tree F C K
 rest_of lo hi p = rest_p (place lo hi) (node dots (place lo (lo + 3)) nil) p
 

@@ -84,7 +84,7 @@ pub data OnLeft {F C K : Type 0} (hook : Hook F C K) (c : Scope) (m : ℕ) (xs t
       → Reads hook (Level 8) (inner c) us ys r
       → Reads hook (Level 7) c xs ys (bin_e (to (span_of l) (span_of r)) binary.In l r)) → OnLeft hook c m xs ts l
 
--- What is read as a left-hand side: one with links, or `new` without arguments, after which none stand.
+-- What is read as a left-hand side: one with links, or `new` without arguments, after which none are.
 pub data Sided {F C K : Type 0} (hook : Hook F C K) (b : Bool) (c : Scope) (xs ts : List TokenAndSpan)
     (l : Tree F C K) : Type 0 where
   linked-side : Reads hook (Left b) c xs ts l → Sided hook b c xs ts l
@@ -136,7 +136,7 @@ reads-of hook (Level (suc k)) c ts r m = m.0
 reads-of hook (Lhs b) c ts r m = side-read hook m
 reads-of hook s c ts r m = m
 
--- a test of what stands first, on the list
+-- a test of what comes first, on the list
 sees-first : (p : Token → Bool) (xs : List TokenAndSpan) → at_token p (first xs) ≡ false
     → sees (λ t. p t.token) xs ≡ false
 sees-first p [] h = refl

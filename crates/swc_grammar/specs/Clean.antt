@@ -1,6 +1,6 @@
 -- The clean parser: the grammar's readings, computed. From the tokens to come it answers a tree and the tokens left, or
--- nothing where the code refuses or records a fault. By what stands first it picks one of the grammar's productions,
--- whose right-hand side is then run as it stands, so what is read is derived by construction. It is a private measure
+-- nothing where the code refuses or records a fault. By what comes first it picks one of the grammar's productions,
+-- whose right-hand side is then run as it is, so what is read is derived by construction. It is a private measure
 -- of the code: what is promised to callers speaks of the grammar.
 use Rattle.std.specs.Prelude.{ℕ, zero, suc, ◌+◌, ◌-◌, ◌*◌, ◌≤◌, Bool, true, false, not, ◌&&◌, ◌||◌, if◌then◌else◌}
 use Rattle.std.specs.Prelude.{List, [], ◌∷◌, Option, Some, None, ◌≡◌, length, take as front, nat_le, nat_lt}
@@ -86,7 +86,7 @@ abbrev pub third : List TokenAndSpan → Option TokenAndSpan
 third [] = None
 third (t ∷ ts) = second ts
 
--- the tokens that stand before the ones left
+-- the tokens that are before the ones left
 abbrev pub before : List TokenAndSpan → List TokenAndSpan → List TokenAndSpan
 before ts us = front (length ts - length us) ts
 
@@ -108,7 +108,7 @@ pub data Call (F C K : Type 0) : Type 0 where
   assigns : Tree F C K → Call F C K
   seqs : Trees F C K → Call F C K
   defaults : Tree F C K → Call F C K
-  -- after a list in parentheses, at its place, where an arrow may stand; and after `async` and such a list
+  -- after a list in parentheses, at its place, where an arrow may be; and after `async` and such a list
   parens : Span → Tree F C K → Call F C K
   asyncs : Spelling → Tree F C K → Call F C K
 
@@ -139,7 +139,7 @@ plan (peek_two p r) = peek_two p (plan r)
 plan (read s c f) = read (sym s) c (λ e. plan (f e))
 plan (hear b c f) = hear b c (λ v s. plan (f v s))
 
--- Which calls may stand first in which, before a token: those of a lower rank. So the recursion ends.
+-- Which calls may come first in which, before a token: those of a lower rank. So the recursion ends.
 abbrev pub rank_of : Symbol → ℕ
 rank_of Expr = 15
 rank_of Exprs = 15
@@ -193,7 +193,7 @@ rank (asyncs n es) = 2
 abbrev pub measure : {F C K : Type 0} → Call F C K → List TokenAndSpan → ℕ
 measure k ts = 20 * length ts + rank k
 
--- whether a call of the rank n may stand here: a token was taken before, or its rank is below
+-- whether a call of the rank n may be here: a token was taken before, or its rank is below
 abbrev pub allowed : Option ℕ → ℕ → Bool
 allowed None n = true
 allowed (Some m) n = nat_lt n m
@@ -201,7 +201,7 @@ allowed (Some m) n = nat_lt n m
 abbrev pub Runs : (F C K : Type 0) → Type 0
 Runs F C K = (k : Call F C K) → Scope → List TokenAndSpan → Out (Ans F C K k)
 
--- a right-hand side run, from what the calls read; g is the rank below which a call may stand first
+-- a right-hand side run, from what the calls read; g is the rank below which a call may come first
 abbrev pub exec : {F C K A : Type 0} → Hook F C K → Runs F C K → Option ℕ → Plan F C K A → List TokenAndSpan → Out A
 exec hook run g (gives a) ts = Some (a, ts)
 exec hook run g never ts = None
@@ -215,7 +215,7 @@ exec hook run g (read k c f) ts =
 exec hook run g (hear b c f) ts =
     hear_then (reading_of hook b c.context ts) ts (λ v s us. exec hook run None (f v s) us)
 
--- Tests of what stands first.
+-- Tests of what comes first.
 abbrev pub is_lit : Token → Bool
 is_lit (token.Word written.Null) = true
 is_lit (token.Word written.True) = true
@@ -228,12 +228,12 @@ is_lit t = false
 abbrev pub is_identifier : Context → Token → Bool
 is_identifier c t = at_word (λ w. is_ref c w) t
 
--- no fault of the text stands in its place
+-- no fault of the text is in its place
 abbrev pub no_error : Token → Bool
 no_error (token.Error e) = false
 no_error t = true
 
--- the operators that are read where a token stands
+-- the operators that are read where a token is
 abbrev pub operator_where : Bool → Option TokenAndSpan → Option BinaryOp
 operator_where include_in None = None
 operator_where include_in (Some t) = binary_where include_in t.token
@@ -297,7 +297,7 @@ abbrev pub begins_new : List TokenAndSpan → Bool
 begins_new ts = at_token is_new (first ts) && not (at_token is_dot (second ts))
 
 -- A reference alone, and `=>` after it on its line: an arrow function and no other expression, even where that name
--- may not stand or not be bound (an early error, which the code records).
+-- may not be or not be bound (an early error, which the code records).
 abbrev pub is_alone : Context → Token → Bool
 is_alone c t = at_word (λ w. is_reference c w && is_arrow_word w) t
 
@@ -778,7 +778,7 @@ module _ {F C K : Type 0} where
     must (nullish_ok op l r)
     gives (bin_e (to (span_of l) (span_of r)) op l r, Some m)
 
-  -- one operator above the precedence m with what stands right of it, or none
+  -- one operator above the precedence m with what is right of it, or none
   abbrev pub turn : Option BinaryOp → Tree F C K → ℕ → Scope → Plan F C K (Tree F C K × Option ℕ)
   turn None l m c = gives (l, None)
   turn (Some op) l m c = if nat_le (precedence_of op) m then gives (l, None) else take (λ t. bin_op op l m c)

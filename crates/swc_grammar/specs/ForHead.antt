@@ -1,4 +1,4 @@
--- Heads of `for` (14.7.4, 14.7.5) that begin with no declaration: what stands in them before `of`, before `in`, or before
+-- Heads of `for` (14.7.4, 14.7.5) that begin with no declaration: what is in them before `of`, before `in`, or before
 -- the first `;`. Nothing of the grammar is made of heads, so they have no symbol.
 use Rattle.std.specs.Prelude.{◌≡◌, Bool, true, false, ◌||◌, List, [], ◌∷◌, Some, IsTrue}
 use Rattle.swc_context.specs.declared.context.Context.{Context}

@@ -1,4 +1,4 @@
--- The written grammar, after ECMA-262, whose sections stand beside it. `Production symbol c side` says that in the
+-- The written grammar, after ECMA-262, whose sections are beside it. `Production symbol c side` says that in the
 -- scope c the right-hand side is one of the symbol's. What it means that a right-hand side is followed is said in
 -- Reads.
 use Rattle.std.specs.Prelude.{ℕ, suc, Bool, true, false, not, ◌||◌, ◌&&◌, None, IsTrue, codes, nat_eq, nat_lt}
@@ -393,7 +393,7 @@ pub data Production {F C K : Type 0} : (s : Symbol) → Scope → Side F C K s �
     e ← symbol Unary (inner c)
     must (is_simple_target c.context.strict e)
     gives (update_e (to s (span_of e)) op true e))
-  -- `await` (15.8), and the identifier `await` (13.1), which stands outside async code where no operand can follow. A `*`
+  -- `await` (15.8), and the identifier `await` (13.1), which is outside async code where no operand can follow. A `*`
   -- follows neither.
   await-expr : {c : Scope} → Production Unary c (do
     s ← token is_await
@@ -412,7 +412,7 @@ pub data Production {F C K : Type 0} : (s : Symbol) → Scope → Side F C K s �
     e ← symbol Unary (inner c)
     must (delete_ok c.context op e)
     gives (unary_e (to s (span_of e)) op e))
-  -- ExponentiationExpression (13.6): it groups to the right, and no prefix operator stands on its left
+  -- ExponentiationExpression (13.6): it groups to the right, and no prefix operator is on its left
   exp-unary : {c : Scope} → Production (Level 11) c (symbol Unary c)
   exp-op : {c : Scope} → Production (Level 11) c (do
     l ← symbol Unary c
@@ -519,7 +519,7 @@ pub data Production {F C K : Type 0} : (s : Symbol) → Scope → Side F C K s �
     s ← token is_dots
     p ← symbol Pat c
     gives (rest_p (to s (span_of p)) (node dots s nil) p))
-  -- ArrayBindingPattern: holes at the end leave nothing, and a rest stands directly before the bracket
+  -- ArrayBindingPattern: holes at the end leave nothing, and a rest is directly before the bracket
   pat-elements-end : {c : Scope} → Production PatElements c (do
     s ← token is_rbracket
     gives (listed None s nil))
@@ -603,7 +603,7 @@ pub data Production {F C K : Type 0} : (s : Symbol) → Scope → Side F C K s �
     ps ← given (as_params es)
     must (heads_ok c.context ps)
     gives (listed None (to s (span_of es)) ps))
-  -- Arrow functions (15.3), whose `=>` stands on the line of what stands before it, and whose body is a block at `{`
+  -- Arrow functions (15.3), whose `=>` is on the line of what is before it, and whose body is a block at `{`
   arrow-name : {c : Scope} → Production Assign c (do
     n ← one (arrow_name c)
     token_on_line is_arrow

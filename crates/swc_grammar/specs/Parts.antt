@@ -40,7 +40,7 @@ lit_of (tok.BigInt raw) s = Some (big_e s raw)
 lit_of (tok.Str value raw) s = Some (str_e s value raw)
 lit_of t s = None
 
--- The flags that a regular expression may have; whether one among others is none; and the first that stands once more
+-- The flags that a regular expression may have; whether one among others is none; and the first that comes once more
 -- after it. Early errors (13.2.7.1): each is one that there is, and none occurs twice.
 abbrev pub is_flag : ℕ → Bool
 is_flag b = list_any (λ f. nat_eq f b) (codes "dgimsuvy")

@@ -96,7 +96,7 @@ module _ {S : Type 0} (model : Model S) where
     refused_word : {w : Word} {k : SyntaxError} {at : Span} {spoken noted : Buffer S} → Spoken b w at spoken → (judge (context model b) w).refusal ≡ Some k →
         Notes at (judge (context model b) w).faults spoken noted → Refused model noted (λ here. fault_at at k) e c → Unnamed judge b e c
 
-  -- Why a word that may be bound where it stands isn't: memory ran out; or the table refuses the word, which was consumed, and whose
+  -- Why a word that may be bound where it is isn't: memory ran out; or the table refuses the word, which was consumed, and whose
   -- faults were noted. So the end and an error token are never refused.
   pub data Unbindable (b : Buffer S) (e : Error) (c : Buffer S) : Type 0 where
     no_memory_to_bind : (xs : List TokenAndSpan) → Read model b xs c → e.kind ≡ kind.OutOfMemory → Unbindable b e c
@@ -150,7 +150,7 @@ module _ {S : Type 0} (model : Model S) where
     no_string : {k : SyntaxError} (r : Refused model b (λ here. unfit (current here) (last_position here) k) e c) → misses k ≡ Some wanted.IdentOrStr →
         at_token is_word (current r.here) ≡ false → at_token is_str (current r.here) ≡ false → Unexported b e c
 
-  -- a word that may be bound where it stands is bound; before anything else nothing is consumed
+  -- a word that may be bound there is bound; before anything else nothing is consumed
   abbrev pub Unbound : Buffer S → Buffer S → Type 0
   Unbound b c = Looked model b c × (at_token (is_bindable (context model b)) (current c) ≡ false)
 

@@ -84,7 +84,7 @@ binding_verdict c w = elim (ident_verdict true true c w).refusal [ None ↦ and_
 abbrev pub name_of_any : Context → Word → Verdict
 name_of_any c w = taken
 
--- a word that may be bound where it stands, which is what an optional binding asks
+-- a word that may be bound where it is, which is what an optional binding asks
 abbrev pub is_bindable : Context → Token → Bool
 is_bindable c (token.Word w) = not (is_reserved c w)
 is_bindable c t = false

@@ -218,7 +218,7 @@ pub fn parse_opt_binding_ident<I: Tokens>(
     Ok(Some(name))
 }
 
-/// Whether a word is current that may be bound where it stands.
+/// Whether a word is current that may be bound where it is.
 fn is_at_bindable<I: Tokens>(input: &Buffer<I>) -> bool
     ensures { result ≡ at_token (is_bindable (context I.model input.now)) (current input.now) }
 {

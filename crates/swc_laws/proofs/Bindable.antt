@@ -24,11 +24,6 @@ not-either : (e x : Bool) → not (e || x) ≡ true → not e ≡ true
 not-either true x h = absurd cc
 not-either false x h = refl
 
-not-and : (a b : Bool) → not (a && b) ≡ true → a ≡ true → b ≡ false
-not-and true true h k = absurd cc
-not-and true false h k = refl
-not-and false b h k = absurd cc
-
 and-no : (a : Bool) → not (a && false) ≡ true
 and-no true = refl
 and-no false = refl

@@ -296,7 +296,7 @@ module _ {F C K : Type 0} (hook : Hook F C K) where
         same = ap erase_all (sym x) ∙ put-same qs (items_of v.tree) v.same;
       }
 
-  -- a rest that stands last, and what closes the list
+  -- a rest that comes last, and what closes the list
   close-elements : (c : Scope) (xs ms ys : List TokenAndSpan) (p : Tree F C K) → Covers hook Rest c xs ms p
       → Closes hook is_rbracket ms ys → CoversAll hook PatElements c xs ys (cons p nil)
   close-elements c xs ms ys p v w = record {

@@ -92,7 +92,7 @@ module _ {F C K : Type 0} (hook : Hook F C K) where
       (all-both (λ n. not ((c.context.module && c.context.strict) && is_one_of n strict_binding_words))
       (is_kept_name c.context) (may_be_bound c.context) (heads-name c.context strict) ps k j)
 
-  -- and so what stands before `=>`
+  -- and so what is before `=>`
   heads-gave : (c : Scope) (s : Span) (ps : Trees F C K) {xs ys : List TokenAndSpan} {hs : Tree F C K}
       → Follows hook Heads (check (heads_ok c.context ps) (gives (listed None s ps))) xs ys hs
       → (heads_ok c.context ps ≡ true) × (hs ≡ listed None s ps) × (xs ≡ ys)

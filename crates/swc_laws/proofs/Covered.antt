@@ -127,7 +127,7 @@ module _ {F C K : Type 0} (hook : Hook F C K) where
     plain-prop : Covers PatProp c xs ys p → PropPart c xs ys is_end p
     dotted-prop : is_end ≡ true → holds_ident p ≡ true → Covers Rest c xs ys p → PropPart c xs ys is_end p
 
-  -- what closes a list stands here
+  -- what closes a list is here
   abbrev pub Closes : (Token → Bool) → List TokenAndSpan → List TokenAndSpan → Type 0
   Closes closer xs ys = (a : TokenAndSpan) × (closer a.token ≡ true) × (xs ≡ a ∷ ys)
 

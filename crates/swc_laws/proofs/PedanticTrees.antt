@@ -6,7 +6,7 @@ use Rattle.swc_context.specs.declared.span.Span.{Span}
 use Rattle.swc_ast.specs.Pedantic.{privates_ok, all_privates_ok, no_cover_left, none_left, is_private_kind}
 use Rattle.swc_ast.specs.Pedantic.{is_cover_kind, takes_private_first, takes_private_behind}
 use Rattle.swc_ast.specs.Tree.{Kind, Tree, node, Trees, nil, cons, erase, erase_all, args_with, array_with, object_with}
-use Rattle.swc_ast.specs.Trees.{unmarked, all_unmarked, unmarked_kind, items_of}
+use Rattle.swc_ast.specs.Trees.{unmarked, all_unmarked, unmarked_kind}
 use Rattle.swc_grammar.proofs.Answers.{both}
 
 module _ {F C K : Type 0} where
@@ -76,24 +76,12 @@ module _ {F C K : Type 0} where
     all-covers-unmarked nil = refl
     all-covers-unmarked (cons t ts) = rw (covers-unmarked t, all-covers-unmarked ts) refl
 
-  -- of a tree it holds of its parts, and of a list of each
-  pub covers-parts : (t : Tree F C K) → no_cover_left t ≡ true → none_left (items_of t) ≡ true
-  covers-parts (node k s ts) h = (both (not (is_cover_kind k)) (none_left ts) h).1
-
-  pub covers-first : (t : Tree F C K) (ts : Trees F C K) → none_left (cons t ts) ≡ true
-      → (no_cover_left t ≡ true) × (none_left ts ≡ true)
-  covers-first t ts h = both (no_cover_left t) (none_left ts) h
-
   pub privates-parts : (b : Bool) (k : Kind F C K) (s : Span) (ts : Trees F C K) → privates_ok b (node k s ts) ≡ true
       → all_privates_ok (takes_private_first k) (takes_private_behind k) ts ≡ true
   privates-parts b k s ts h =
       (both (b || not (is_private_kind k)) (all_privates_ok (takes_private_first k) (takes_private_behind k) ts) h).1
 
-  pub privates-first : (f r : Bool) (t : Tree F C K) (ts : Trees F C K) → all_privates_ok f r (cons t ts) ≡ true
-      → (privates_ok f t ≡ true) × (all_privates_ok r r ts ≡ true)
-  privates-first f r t ts h = both (privates_ok f t) (all_privates_ok r r ts) h
-
-  -- what may stand anywhere may stand where `#` and a name may
+  -- what may be anywhere may be where `#` and a name may
   pub privates-eased : (b : Bool) (t : Tree F C K) → privates_ok false t ≡ true → privates_ok b t ≡ true
   privates-eased true (node k s ts) h = privates-parts false k s ts h
   privates-eased false t h = h

@@ -1,4 +1,4 @@
--- What holds of every tree that the grammar derives where the syntax is pedantic: `#` and a name stand on the left of
+-- What holds of every tree that the grammar derives where the syntax is pedantic: `#` and a name are on the left of
 -- `in` alone, or name a link (13.10.1). One clause a production says that its node keeps this; the induction is done
 -- once.
 use Rattle.std.specs.Prelude.{◌≡◌, ℕ, Bool, true, false, not, ◌||◌, if◌then◌else◌, List, Option, Some, None}
@@ -156,7 +156,7 @@ module _ {F C K : Type 0} where
       by-cooked (Some o) h = land h refl
   text-fit is_tagged is_last t s e h = absurd cc
 
-  -- it doesn't matter where a node stands
+  -- it doesn't matter where a node is
   moved : (s : Span) (t : Tree F C K) → Fit t → Fit (at_place s t)
   moved s (node k s' ts) h = h
 

@@ -16,7 +16,7 @@ use Rattle.swc_grammar.proofs.Answers.{only, inj, both}
 use Rattle.swc_grammar.proofs.Related.{bind-some, literal-is}
 
 module _ {F C K : Type 0} where
-  -- in a tree, or in all of a list, `#` and a name stand where they may
+  -- in a tree, or in all of a list, `#` and a name are where they may
   abbrev pub Fit : Tree F C K → Type 0
   Fit t = privates_ok false t ≡ true
 

@@ -10,15 +10,13 @@ use Rattle.swc_input.specs.declared.token.Token.TheVariants as token
 use Rattle.swc_input.specs.declared.token.TokenAndSpan.{TokenAndSpan}
 use Rattle.swc_ast.specs.Tree.{Tree, span_of}
 use Rattle.swc_bodies.specs.Readings.{Hook, LawfulHook, whole_span, is_brace, is_function}
-use Rattle.swc_bodies.specs.Slashes.{is_slash, is_regex, is_pair, is_found_at, without_slashes, in_order, ReplayHook}
-use Rattle.swc_input.specs.Kept.{kept_of}
+use Rattle.swc_bodies.specs.Slashes.{is_slash, is_regex, is_pair, is_found_at, without_slashes, ReplayHook}
 use Rattle.swc_grammar.specs.Scope.{Scope}
 use Rattle.swc_grammar.specs.Rule.{Rule, gives, never, take, check, peek, peek_two, read, hear, sees, sees_two, given, ◌>>=◌}
 use Rattle.swc_grammar.specs.Symbols.{Symbol, Primary, Answer, Body, function, class, block, Value, reading_of, Side}
 use Rattle.swc_grammar.specs.Grammar.{Production, await-expr, regex-alone, regex-slash}
 use Rattle.swc_grammar.specs.Tokens.{is_await, is_star, ends_operand, ends_await, begins_yielded, goes_on_yield}
 use Rattle.swc_grammar.specs.Arrows.{is_arrow, is_sign, is_bindable, before_of, goes_on_async, of_arrow}
-use Rattle.swc_laws.specs.Bound.{Spelled}
 use Rattle.swc_bodies.specs.Replaying.{pair, stays, left-out, regex-stays}
 use Rattle.swc_bodies.proofs.Slashes.{kept-is}
 use Rattle.swc_grammar.specs.Parts.{regex_of, flags_ok}
@@ -325,15 +323,3 @@ module _ {F C K : Type 0} {fun_at : F → Span} {class_at : C → Span} {block_a
   -- the law
   pub replay : (s : Symbol) → Replay hook s
   replay s c xs t d o j = subst (λ l. Reads hook s c l [] t) (sym (kept-is xs o)) (again d j)
-
--- words that are kept are spelled as before
-without-spelled : (ts : List TokenAndSpan) → Spelled ts → Spelled (without_slashes ts)
-without-spelled [] h = tt
-without-spelled (t ∷ ts) h = elim (is_found_at t ts)
-    as (λ b. is_found_at t ts ≡ b → Spelled (without_slashes (t ∷ ts))) [
-      | true ↦ (λ e. subst Spelled (sym (left-out t ts e)) (without-spelled ts h.1))
-      | false ↦ (λ e. subst Spelled (sym (stays t ts e)) (h.0, without-spelled ts h.1))
-    ] refl
-
-pub kept-spelled : (ts : List TokenAndSpan) → in_order ts ≡ true → Spelled ts → Spelled (kept_of ts)
-kept-spelled ts o h = subst Spelled (sym (kept-is ts o)) (without-spelled ts h)

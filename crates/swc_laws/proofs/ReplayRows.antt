@@ -159,7 +159,7 @@ module _ {F C K : Type 0} (hook : Hook F C K) where
   unfolding answer repeated
   divided-lost = refl
 
-  -- Marks that differ: an operand stands on the line of the slash, and none on that of the regular expression.
+  -- Marks that differ: an operand is on the line of the slash, and none on that of the regular expression.
   awaited-read : answer hook script (await ∷ slash 6 7 ∷ regex_below 6 9 ∷ [])
       ≡ Some (await_e (place 0 9) (expression 6 9), [])
   unfolding answer repeated

@@ -179,7 +179,7 @@ module _ {F C K : Type 0} where
   NoSlash b (hear x c f) = (v : Value F C K x) (s : Span) → NoSlash true (f v s)
 
   -- What was taken or read last is such that something may end with it. `b` says whether it is, and `o` whether a word
-  -- that stands next is a name.
+  -- that comes next is a name.
   abbrev Ends : {A : Type 0} → Bool → Bool → Rule Symbol (Answer F C K) Body (Value F C K) A → Type 0
   Ends b o (gives a) = b ≡ true
   Ends b o never = Unit {0}

@@ -1,5 +1,5 @@
 -- Which link comes next, by the current token, and by the one after a `?`.
-use Rattle.std.proofs.Common.{◌≡◌, Bool, true, false, Option, Some, None, Result, Ok, Err, refl, sym, ap, ◌∙◌}
+use Rattle.std.proofs.Common.{◌≡◌, Bool, true, false, Option, Some, None, refl, sym, ap, ◌∙◌}
 use Rattle.swc_context.specs.declared.error.Error.{Error}
 use Rattle.swc_input.specs.declared.buffer.Buffer.{Buffer}
 use Rattle.swc_input.specs.declared.token.Token.{Token}
@@ -14,7 +14,7 @@ use Rattle.swc_grammar.specs.Words.{rest}
 use Rattle.swc_grammar.proofs.Only.{question-is}
 use Rattle.swc_left.specs.declared.left.Link.{Link}
 use Rattle.swc_left.specs.Links.{link_at, chain_at, link_here}
-use Rattle.swc_steps.specs.Parsing.{seen, seen_of, Told, Tells}
+use Rattle.swc_steps.specs.Parsing.{seen, seen_of, Told}
 use Rattle.swc_steps.proofs.Ahead.{told_here}
 
 plain_dot : (t : Token) → is_dot (plain_token t) ≡ is_dot t
@@ -53,10 +53,3 @@ module _ {S : Type 0} {model : Model S} where
         ap (λ o. link_at n o (first (rest ts))) (here ∙ ap seen_of t.current)
         ∙ link_chain n (seen b) (first (rest ts)) q ∙ t.told ts fut here;
   }
-
--- one is
-pub tells_chain : {S : Type 0} (model : Model S) (b c : Buffer S) (n : Bool) (r : Result (Option Link) Error)
-    → Tells model (λ ts. chain_at (first (rest ts))) b r c → at_token is_question (seen b) ≡ true
-    → Tells model (link_here n) b r c
-tells_chain model b c n (Ok k) t q = chained n t q
-tells_chain model b c n (Err e) t q = t

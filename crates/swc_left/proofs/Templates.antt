@@ -290,7 +290,7 @@ module _ {F C K : Type 0} (hook : Hook F C K) where
       ∙ bind_same (run hook (at (Parts is_tagged)) x r.1) _ _ (λ w.
       ap (λ v. Some (v, w.1)) (parts_twice texts exprs t r.0 w.0)))
 
-  -- a text after those that stand before, and what is after it
+  -- a text after those that are before, and what is after it
   pub behind_splits : (is_tagged : Bool) (texts exprs : Trees F C K) (x : Scope) (ts : List TokenAndSpan)
       → parts_behind hook is_tagged texts exprs x ts
       ≡ (tpl_element is_tagged x ts

@@ -5,7 +5,7 @@ use Rattle.swc_ast.specs.declared.expr.ExprOrSpread.{ExprOrSpread}
 use Rattle.swc_grammar.specs.Scope.{Scope}
 
 module _ {X : Type 0} where
-  -- no dots stand before the item
+  -- no dots are before the item
   abbrev pub is_plain : ExprOrSpread X → Bool
   is_plain x = not (is_some x.spread)
 

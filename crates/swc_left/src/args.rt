@@ -39,7 +39,7 @@ pub fn separate_args<I: Tokens>(
 }
 
 /// Refuses the comma at `comma` where the parenthesis that closes the list is current, as `TrailingCommaInsideImport`,
-/// from `start`, where the list is opened, through the comma; unless one may stand there.
+/// from `start`, where the list is opened, through the comma; unless one may be there.
 fn refuse_last_comma<I: Tokens>(input: &mut Buffer<I>, start: Span, comma: Span) -> PResult<()>
     ensures passes { ContinuesAlone I.model (λ u. u) last_comma input.old result input.new }
     ensures falls { OnOk result (to_come I.model input.new ≤ to_come I.model input.old) }

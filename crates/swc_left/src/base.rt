@@ -34,7 +34,7 @@ use swc_steps::tokens::{
 pub enum SuperHead {
     /// `.`: a property, by its name.
     Name,
-    /// `[`, which stands at the place: a property, by an expression.
+    /// `[`, which is at the place: a property, by an expression.
     Computed(Span),
     /// `(`: a call.
     Call,
@@ -227,7 +227,7 @@ fn import_member<I: Tokens>(
     }
 }
 
-/// `import.meta` (ECMA-262, 13.3.12), which stands at `span`. Consumes nothing, and is refused only for want of
+/// `import.meta` (ECMA-262, 13.3.12), which is at `span`. Consumes nothing, and is refused only for want of
 /// memory.
 pub fn import_meta<I: Tokens, B: Bodies<I>>(
     p: &mut Productions<I, B>,

@@ -133,7 +133,7 @@ pub(crate) fn parse_member_name<I: Tokens, B: Bodies<I>>(
 }
 
 /// A member of `obj` (ECMA-262, 13.3.2), after the bracket at `start` and the expression `expr`: the bracket that
-/// closes it; `optional`, where `?.` stands before these.
+/// closes it; `optional`, where `?.` is before these.
 pub fn computed_member<I: Tokens, B: Bodies<I>>(
     p: &mut Productions<I, B>,
     obj: ExprId,
@@ -156,7 +156,7 @@ pub fn computed_member<I: Tokens, B: Bodies<I>>(
     p.made(node)
 }
 
-/// The node of a call (ECMA-262, 13.3.6), with its arguments; `optional`, where `?.` stands before these. Refused
+/// The node of a call (ECMA-262, 13.3.6), with its arguments; `optional`, where `?.` is before these. Refused
 /// only when out of memory.
 #[inline(never)]
 pub fn call_expr<I: Tokens, B: Bodies<I>>(
@@ -309,7 +309,7 @@ fn check_new_target<I: Tokens>(input: &mut Buffer<I>, span: Span) -> PResult<()>
     emit_err(input, span.in_order(), SyntaxError::InvalidNewTarget)
 }
 
-/// Whether `new.target` may stand in the context.
+/// Whether `new.target` may be in the context.
 fn may_be_new_target(ctx: Context) -> bool
     ensures { result ≡ new_target_ok ctx }
 {

@@ -28,7 +28,7 @@ use swc_nodes::nodes::NodesOf;
 use swc_steps::productions::Productions;
 use swc_steps::tokens::{Sign, bump, eat, emit_err, expect, is_sign, look, unexpected};
 
-/// What stands between the backquotes of a template: its texts, an expression between each two of them, and the place
+/// What is between the backquotes of a template: its texts, an expression between each two of them, and the place
 /// of the backquote that closes it.
 #[derive(Drop)]
 pub struct TplParts {

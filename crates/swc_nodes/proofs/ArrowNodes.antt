@@ -1,5 +1,5 @@
 -- Arrow functions: their nodes, over parameters and a body that lie apart, in this order.
-use Rattle.std.proofs.Common.{◌≡◌, ℕ, Bool, false, Option, Some, List, [], ◌++◌, fold, refl, sym, ap, subst, ◌∙◌}
+use Rattle.std.proofs.Common.{◌≡◌, ℕ, Bool, Option, Some, List, [], ◌++◌, fold, refl, sym, ap, subst, ◌∙◌}
 use Rattle.std.proofs.lemmas.List.Sums.{fold-append}
 use Rattle.std.specs.declared.alloc.Global.{Global}
 use Rattle.std.specs.declared.boxed.Box.{Box}
@@ -7,22 +7,21 @@ use Rattle.std.specs.declared.vec.Vec.{Vec}
 use Rattle.swc_context.specs.Spans.{from_to}
 use Rattle.swc_context.specs.declared.span.BytePos.{BytePos}
 use Rattle.swc_ast.specs.Parts.{body_tree}
-use Rattle.swc_ast.specs.Tree.{Tree, span_of}
-use Rattle.swc_ast.specs.Trees.{arrow_e, ends_in_invalid}
+use Rattle.swc_ast.specs.Tree.{Tree}
+use Rattle.swc_ast.specs.Trees.{arrow_e}
 use Rattle.swc_ast.specs.declared.expr.BlockStmtOrExpr.{BlockStmtOrExpr}
 use Rattle.swc_ast.specs.declared.expr.BlockStmtOrExpr.TheVariants as body
 use Rattle.swc_ast.specs.declared.spanned.Spanned.{Ghosts}
 use Rattle.swc_nodes.specs.Lists.{pats_parts, pat_trees}
 use Rattle.swc_nodes.specs.NodeParts.{Part, expr, expr_part, body_parts}
-use Rattle.swc_nodes.specs.GrowingNodes.{seat_at, count, tree_at, body_end, Apart, From, Grows, Added, Made}
+use Rattle.swc_nodes.specs.GrowingNodes.{seat_at, count, tree_at, body_end, Apart, From, Added, Made}
 use Rattle.swc_nodes.specs.Walking.{behind}
 use Rattle.swc_nodes.specs.declared.node.ExprId.{ExprId}
 use Rattle.swc_nodes.specs.declared.node.Node.TheVariants as n
 use Rattle.swc_nodes.specs.declared.node.PatId.{PatId}
 use Rattle.swc_nodes.specs.declared.nodes.Nodes.{Nodes}
 use Rattle.swc_nodes.proofs.Chains.{chain-second}
-use Rattle.swc_nodes.proofs.Edges.{end-clean, end-later}
-use Rattle.swc_nodes.proofs.Held.{from-apart, tree-later}
+use Rattle.swc_nodes.proofs.Held.{from-apart}
 use Rattle.swc_nodes.proofs.Lists.{list-made}
 
 module _ {F C K : Type 0} {fg : Ghosts F} {cg : Ghosts C} {kg : Ghosts K} where
@@ -35,25 +34,6 @@ module _ {F C K : Type 0} {fg : Ghosts F} {cg : Ghosts C} {kg : Ghosts K} where
       Apart k ns (body_parts b) → From k ns (expr_part e)
   body-from {ns} {k} b e h a = from-apart (expr_part e) [] (subst (λ v. Apart k ns (body_parts v)) h a)
 
-  -- a body that doesn't end in an operand that was refused ends where its tree does
-  pub body-clean : {ns : Nodes F C K fg cg kg} {k : ℕ} (b : BlockStmtOrExpr ExprId K) → Apart k ns (body_parts b) →
-      ends_in_invalid (body_tree kg.place (λ e. tree_at ns e.0) b) ≡ false →
-      body_end ns b ≡ (span_of (body_tree kg.place (λ e. tree_at ns e.0) b)).hi
-  body-clean (body.BlockStmt v) a h = refl
-  body-clean (body.Expr e) a h = end-clean (from-apart (expr_part e) [] a) h
-
-  -- it keeps its tree, and where it ends, among more nodes
-  pub body-later : {ns ms : Nodes F C K fg cg kg} {k : ℕ} (b : BlockStmtOrExpr ExprId K) → Grows ns ms →
-      Apart k ns (body_parts b) →
-      body_tree kg.place (λ e. tree_at ms e.0) b ≡ body_tree kg.place (λ e. tree_at ns e.0) b
-  body-later (body.BlockStmt v) g a = refl
-  body-later (body.Expr e) g a = tree-later g (from-apart (expr_part e) [] a)
-
-  pub body-end-later : {ns ms : Nodes F C K fg cg kg} {k : ℕ} (b : BlockStmtOrExpr ExprId K) → Grows ns ms →
-      Apart k ns (body_parts b) → body_end ms b ≡ body_end ns b
-  body-end-later (body.BlockStmt v) g a = refl
-  body-end-later (body.Expr e) g a = end-later g (from-apart (expr_part e) [] a)
-
   -- going over parts, and then over others
   pub walked-both : (ns : Nodes F C K fg cg kg) (ps qs : List Part) (first found : Option ℕ) →
       first ≡ fold (behind ns) (Some 0) ps → found ≡ fold (behind ns) first qs →
@@ -61,7 +41,7 @@ module _ {F C K : Type 0} {fg : Ghosts F} {cg : Ghosts C} {kg : Ghosts K} where
   walked-both ns ps qs first found e h =
       h ∙ ap (λ v. fold (behind ns) v qs) e ∙ sym (fold-append (behind ns) (Some 0) ps qs)
 
-  -- a node over the body that stands in its box
+  -- a node over the body that is in its box
   pub arrow-made : {ns ms : Nodes F C K fg cg kg} {i : ℕ} (lo hi : BytePos) (is_async : Bool) (ps : Vec PatId Global)
       (b : BlockStmtOrExpr ExprId K) (boxed : Box (BlockStmtOrExpr ExprId K) Global) → boxed.value ≡ b →
       hi ≡ body_end ns b → Apart 0 ns (pats_parts ps ++ body_parts b) →

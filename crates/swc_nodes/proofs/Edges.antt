@@ -45,7 +45,7 @@ module _ {F C K : Type 0} (at : ℕ → Seat F C K) where
   end-own x h = refl
 
 module _ {F C K : Type 0} {fg : Ghosts F} {cg : Ghosts C} {kg : Ghosts K} where
-  -- ---- the operand stands before the node, which begins or ends where it does
+  -- ---- the operand is before the node, which begins or ends where it does
 
   pub left-leads : {ns : Nodes F C K fg cg kg} {i : ℕ} (x : Node F C K) (e : ExprId) → left_operand x ≡ Some e →
       Stood ns i x → i < count ns → Leads ns i (expr_part e)
@@ -165,7 +165,3 @@ module _ {F C K : Type 0} {fg : Ghosts F} {cg : Ghosts C} {kg : Ghosts K} where
   pub start-later : {ns ms : Nodes F C K fg cg kg} {k : ℕ} {e : ExprId} → Grows ns ms → From k ns (expr_part e) →
       start_at ms e.0 ≡ start_at ns e.0
   start-later {e = e} g f = ap (λ s. or_position s.refused_start (span_of s.tree).lo) (seat-later e.0 g f.within)
-
-  pub end-later : {ns ms : Nodes F C K fg cg kg} {k : ℕ} {e : ExprId} → Grows ns ms → From k ns (expr_part e) →
-      end_at ms e.0 ≡ end_at ns e.0
-  end-later {e = e} g f = ap (λ s. or_position s.refused_end (span_of s.tree).hi) (seat-later e.0 g f.within)

@@ -14,7 +14,7 @@ use Rattle.swc_nodes.specs.declared.node.ExprId.{ExprId}
 use Rattle.swc_nodes.specs.declared.node.Node.{Node}
 use Rattle.swc_nodes.specs.declared.node.Node.TheVariants as n
 use Rattle.swc_nodes.specs.declared.nodes.Nodes.{Nodes}
-use Rattle.swc_nodes.proofs.Chains.{both_true, fitting, chain-one, chain-cons, chain-up, chain-same, chain-bound, floor-under}
+use Rattle.swc_nodes.proofs.Chains.{both_true, fitting, chain-one, chain-up, chain-same, chain-bound, floor-under}
 use Rattle.swc_nodes.proofs.Standing.{before-same, grows-count, seat-later}
 
 pub pat_not_expr : (f : Form) → view_ok pat f ≡ not (view_ok expr f)
@@ -39,15 +39,6 @@ module _ {F C K : Type 0} {fg : Ghosts F} {cg : Ghosts C} {kg : Ghosts K} where
 
   pub apart-from : {ns : Nodes F C K fg cg kg} {k : ℕ} (p : Part) → From k ns p → Apart k ns (p ∷ [])
   apart-from {ns} {k} p f = record { chained = chain-one (seat_at ns) k p (count ns) (record { above = f.above; first = f.first; view = f.view }) f.within }
-
-  -- two parts that lie apart, in their order
-  pub apart-two : {ns : Nodes F C K fg cg kg} {k : ℕ} (p q : Part) → From k ns p → From (p.at + 1) ns q → Apart k ns (p ∷ q ∷ [])
-  apart-two {ns} {k} p q f g =
-      let a = g.above in
-      record {
-        chained = chain-cons (seat_at ns) k p (q ∷ []) (count ns) (record { above = f.above; first = f.first; view = f.view })
-            (chain-one (seat_at ns) (suc p.at) q (count ns) (record { above = omega arith; first = g.first; view = g.view }) g.within);
-      }
 
   pub from-down : {ns : Nodes F C K fg cg kg} {k j : ℕ} {p : Part} → k ≤ j → From j ns p → From k ns p
   from-down h f = let a = f.above in record { within = f.within; above = omega arith; first = f.first; view = f.view }

@@ -1,12 +1,11 @@
 -- What nodes stand for whose literals were marked with their commas.
 use Rattle.std.proofs.Common.{◌≡◌, ℕ, suc, ◌+◌, ◌<◌, ◌≤◌, true, List, [], ◌∷◌, ◌++◌, map, length, take}
 use Rattle.std.proofs.Common.{drop, Option, Some, None, refl, sym, ap, subst, ◌∙◌, arith, length-append, ⊎_elim}
-use Rattle.std.proofs.Common.{append_assoc}
 use Rattle.std.proofs.lemmas.Bool.{cases_lt, le-leb}
-use Rattle.std.proofs.lemmas.List.{append-nil, drop_all, drop_more, drop-set-lt, get_or_append_left, get_or_at}
-use Rattle.std.proofs.lemmas.List.{get_or_past, length-map, length-set, length-take-le, take_all, take-append-drop}
-use Rattle.std.proofs.lemmas.List.{take-take, take_at, take_more_set}
-use Rattle.std.specs.Prelude.{get_or, set, slice_index_or}
+use Rattle.std.proofs.lemmas.List.{append-nil, drop_all, get_or_append_left, get_or_at}
+use Rattle.std.proofs.lemmas.List.{get_or_past, length-map, length-take-le, take-append-drop}
+use Rattle.std.proofs.lemmas.List.{take-take, take_at}
+use Rattle.std.specs.Prelude.{slice_index_or}
 use Rattle.std.specs.declared.alloc.Global.{Global}
 use Rattle.std.specs.declared.vec.Vec.{Vec}
 use Rattle.swc_context.specs.declared.span.Span.{Span}
@@ -617,31 +616,6 @@ module _ {F C K : Type 0} {fg : Ghosts F} {cg : Ghosts C} {kg : Ghosts K} (m : M
 pub record Marking {F C K : Type 0} (m : Marker) (from i : ℕ) (old now : List (Node F C K)) : Type 0 where
   pub left : marked_from m i now ≡ marked_from m from old
   pub counted : length now ≡ length old
-
-pub marking_more : {F C K : Type 0} (m : Marker) (from i : ℕ) (old now next : List (Node F C K)) (d x : Node F C K)
-    → i < length now
-    → x ≡ marked_node m (get_or now i d) → next ≡ set now i x → Marking m from i old now
-    → Marking m from (i + 1) old next
-marking_more {F = F} {C = C} {K = K} m from i old now next d x lt e put h =
-    let mark : Node F C K → Node F C K = marked_node m in
-    let front : take (i + 1) next ≡ take i now ++ x ∷ [] = ap (take (i + 1)) put ∙ take_more_set now i x lt in
-    let back : drop (i + 1) next ≡ drop (i + 1) now =
-    ap (drop (i + 1)) put ∙ drop-set-lt (i + 1) now i x (let le : i < i + 1 = omega arith in le) in
-    record {
-      left =
-          ap (λ v. v ++ map mark (drop (i + 1) next)) front ∙ ap (λ v. (take i now ++ x ∷ []) ++ map mark v) back
-          ∙ append_assoc (take i now) (x ∷ []) (map mark (drop (i + 1) now))
-          ∙ ap (λ v. take i now ++ v ∷ map mark (drop (i + 1) now)) e
-          ∙ ap (λ v. take i now ++ map mark v) (sym (drop_more now i d lt)) ∙ h.left;
-      counted = ap length put ∙ length-set now i x ∙ h.counted;
-    }
-
-pub marking_ends : {F C K : Type 0} (m : Marker) (from i : ℕ) (old now : List (Node F C K)) → length now ≤ i
-    → Marking m from i old now
-    → now ≡ marked_from m from old
-marking_ends m from i old now le h =
-    sym (ap (λ v. take i now ++ map (marked_node m) v) (drop_all i now le) ∙ append-nil (take i now)
-    ∙ take_all i now le) ∙ h.left
 
 -- ---- parts of nodes that were marked
 

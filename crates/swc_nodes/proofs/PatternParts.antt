@@ -3,11 +3,11 @@
 use Rattle.std.proofs.Common.{◌≡◌, ℕ, suc, ◌<◌, true, List, [], ◌∷◌, ◌++◌, map, Option, Some, None, refl, sym, ap, ◌∙◌}
 use Rattle.swc_context.specs.declared.span.Span.{Span}
 use Rattle.swc_ast.specs.Parts.{leaf, or_hole, binding_tree, prop_name_tree, param_tree}
-use Rattle.swc_ast.specs.Tree.{Tree, node, Trees, cons, nil, trees, span_of, key_value, binding_prop, rest, dots, param}
-use Rattle.swc_ast.specs.Trees.{trees_append, params_e, setter_parts}
+use Rattle.swc_ast.specs.Tree.{Tree, node, cons, nil, trees, span_of, key_value, binding_prop, rest, dots}
+use Rattle.swc_ast.specs.Trees.{trees_append, setter_parts}
 use Rattle.swc_ast.specs.declared.function.Param.{Param}
 use Rattle.swc_ast.specs.declared.spanned.Spanned.{Ghosts}
-use Rattle.swc_nodes.specs.Lists.{pat_elem_tree, first_param_pat}
+use Rattle.swc_nodes.specs.Lists.{first_param_pat}
 use Rattle.swc_nodes.specs.NodeTree.{pat_prop_of}
 use Rattle.swc_nodes.specs.NumberedTrees.{Seat, chain}
 use Rattle.swc_nodes.specs.NodeParts.{Part, expr_part, flat, one_expr, one_pat, if_some, key_parts, param_parts}
@@ -31,10 +31,6 @@ module _ {F C K : Type 0} (at by : ℕ → Tree F C K) where
   pub pat-same : (p : PatId) → SameTrees at by (one_pat p) → at p.0 ≡ by p.0
   pat-same p h = same_first h
 
-  pub pat-elem-same : (x : Option PatId) → SameTrees at by (if_some one_pat x) → pat_elem_tree at x ≡ pat_elem_tree by x
-  pat-elem-same None h = refl
-  pat-elem-same (Some p) h = pat-same p h
-
   value-same : (v : Option ExprId) → SameTrees at by (if_some one_expr v) →
       or_hole (λ e. at e.0) v ≡ or_hole (λ e. by e.0) v
   value-same None h = refl
@@ -54,11 +50,6 @@ module _ {F C K : Type 0} (fun_at : F → Span) (class_at : C → Span) (block_a
   pat-prop-same (pat_prop.Rest s d p) h = ap (λ t. node rest s (cons (leaf dots d) (cons t nil))) (pat-same at by p h)
 
 -- ---- trees of parameters, and then more of them
-
-pub params-both : {F C K : Type 0} (ts us : Trees F C K) →
-    params_e (trees_append ts us) ≡ trees_append (params_e ts) (params_e us)
-params-both nil us = refl
-params-both (cons t ts) us = ap (cons (node param (span_of t) (cons t nil))) (params-both ts us)
 
 -- ---- what a setter has of its function, before its block: the pattern of the first parameter
 
@@ -98,17 +89,6 @@ module _ {F C K : Type 0} {fg : Ghosts F} {cg : Ghosts C} {kg : Ghosts K} where
 
   -- ---- the elements of an array
 
-  pub pat-elems-later : {ns ms : Nodes F C K fg cg kg} {k : ℕ} (xs : List (Option PatId)) →
-      Grows ns ms → Apart k ns (flat (if_some one_pat) xs) →
-      trees (map (pat_elem_tree (tree_at ms)) xs) ≡ trees (map (pat_elem_tree (tree_at ns)) xs)
-  pat-elems-later xs g a = list-later (if_some one_pat) pat_elem_tree pat-elem-same xs g a
-
-  pub pat-elems-more : {ns ms : Nodes F C K fg cg kg} {k : ℕ} (xs : List (Option PatId)) (x : Option PatId) →
-      Grows ns ms → Apart k ns (flat (if_some one_pat) xs) →
-      trees (map (pat_elem_tree (tree_at ms)) (xs ++ x ∷ []))
-      ≡ trees_append (trees (map (pat_elem_tree (tree_at ns)) xs)) (cons (pat_elem_tree (tree_at ms) x) nil)
-  pat-elems-more xs x g a = list-more (if_some one_pat) pat_elem_tree pat-elem-same xs x g a
-
   -- ---- patterns one after another, as the parameters of an arrow function
 
   pub pats-later : {ns ms : Nodes F C K fg cg kg} {k : ℕ} (xs : List PatId) →
@@ -116,21 +96,7 @@ module _ {F C K : Type 0} {fg : Ghosts F} {cg : Ghosts C} {kg : Ghosts K} where
       trees (map (λ p. tree_at ms p.0) xs) ≡ trees (map (λ p. tree_at ns p.0) xs)
   pats-later xs g a = list-later one_pat (λ at p. at p.0) pat-same xs g a
 
-  pub pats-more : {ns ms : Nodes F C K fg cg kg} {k : ℕ} (xs : List PatId) (x : PatId) →
-      Grows ns ms → Apart k ns (flat one_pat xs) →
-      trees (map (λ p. tree_at ms p.0) (xs ++ x ∷ []))
-      ≡ trees_append (trees (map (λ p. tree_at ns p.0) xs)) (cons (tree_at ms x.0) nil)
-  pats-more xs x g a = list-more one_pat (λ at p. at p.0) pat-same xs x g a
-
   -- ---- the properties of an object
-
-  pub pat-props-later : {ns ms : Nodes F C K fg cg kg} {k : ℕ} (xs : List PatPropNode) →
-      Grows ns ms → Apart k ns (flat pat_prop_parts xs) →
-      trees (map (pat_prop_of fg.place cg.place kg.place (tree_at ms)) xs)
-      ≡ trees (map (pat_prop_of fg.place cg.place kg.place (tree_at ns)) xs)
-  pat-props-later xs g a =
-      let same = pat-prop-same fg.place cg.place kg.place in
-      list-later pat_prop_parts (pat_prop_of fg.place cg.place kg.place) same xs g a
 
   pub pat-props-more : {ns ms : Nodes F C K fg cg kg} {k : ℕ} (xs : List PatPropNode) (x : PatPropNode) →
       Grows ns ms → Apart k ns (flat pat_prop_parts xs) →
@@ -154,7 +120,7 @@ module _ {F C K : Type 0} {fg : Ghosts F} {cg : Ghosts C} {kg : Ghosts K} where
       ≡ trees_append (trees (map (param_tree (λ p. tree_at ns p.0)) xs)) (cons (param_tree (λ p. tree_at ms p.0) x) nil)
   params-more xs x g a = list-more param_parts (λ at. param_tree (λ p. at p.0)) param-same xs x g a
 
-  -- ---- an expression as a pattern, which stands where the expression does
+  -- ---- an expression as a pattern, which is where the expression does
 
   pub pat-expr-leads : {ns : Nodes F C K fg cg kg} {i : ℕ} {x : Node F C K} (e : ExprId) →
       x ≡ n.PatExpr e → Stood ns i x → i < count ns → Leads ns i (expr_part e)

@@ -24,7 +24,7 @@ pub record Remembers (start : ℕ) (comma : Option Span) (old new : TrailingComm
 abbrev pub Literal : Type 0
 Literal = ℕ × Option Span
 
--- the literal that stands at a node itself
+-- the literal that is at a node itself
 abbrev pub own_comma : {F C K : Type 0} → Kind F C K → Span → List Literal
 own_comma (array_with comma) s = (s.lo.0, comma) ∷ []
 own_comma (object_with comma) s = (s.lo.0, comma) ∷ []

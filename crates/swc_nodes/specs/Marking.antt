@@ -11,7 +11,7 @@ use Rattle.swc_nodes.specs.declared.node.Node.{Node}
 use Rattle.swc_nodes.specs.declared.node.Node.TheVariants as n
 use Rattle.swc_nodes.specs.declared.nodes.Nodes.{Nodes}
 
--- where the comma of a literal stands, by where the literal begins, or that there is none
+-- where the comma of a literal is, by where the literal begins, or that there is none
 abbrev pub Marker : Type 0
 Marker = ℕ → Option Span
 
@@ -19,9 +19,9 @@ Marker = ℕ → Option Span
 -- array or
 -- object pattern has none. On the left of an assignment, among the parameters of an arrow function, in that of a
 -- function and
--- in that of a setter patterns stand; in a pattern expressions are its initialisers, its keys, and what is written to
+-- in that of a setter patterns are; in a pattern expressions are its initialisers, its keys, and what is written to
 -- as it
--- stands.
+-- is.
 abbrev mutual
   pub marked_by : {F C K : Type 0} → Marker → Tree F C K → Tree F C K
   marked_by m (node (array_with comma) s ts) = node (array_with (m s.lo.0)) s (all_marked_by m ts)

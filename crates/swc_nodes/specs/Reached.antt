@@ -19,7 +19,7 @@ module _ {F C K : Type 0} {fg : Ghosts F} {cg : Ghosts C} {kg : Ghosts K} where
   abbrev pub HasReached : Nodes F C K fg cg kg → List Part → List Part → Type 0
   HasReached ns ps list = (p : Part) → Contains list p ↔ Reaches ns ps p
 
-  -- before each in the list stand all parts of its node
+  -- before each in the list are all parts of its node
   abbrev pub PartsFirst : Nodes F C K fg cg kg → List Part → Type 0
   PartsFirst ns list = (before behind : List Part) (p q : Part) → list ≡ before ++ p ∷ behind
       → Contains (parts_at ns p.at) q → Contains before q

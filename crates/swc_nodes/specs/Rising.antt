@@ -1,4 +1,4 @@
--- How operators whose right operands are being read stand on one another, from bottom to top.
+-- How operators whose right operands are being read are on one another, from bottom to top.
 use Rattle.std.specs.Prelude.{ℕ, Bool, true, ◌&&◌, nat_lt, List, [], ◌∷◌}
 use Rattle.swc_context.specs.Operators.{precedence_of}
 use Rattle.swc_context.specs.declared.operator.BinaryOp.{BinaryOp}
@@ -10,13 +10,13 @@ use Rattle.swc_nodes.specs.declared.pending.PendingOperator.{PendingOperator}
 abbrev pub waiting : ExprId → BinaryOp → PendingOperator
 waiting left op = record { left = left; op = op }
 
--- Above operators that stand on m: the precedence above which operators belong to the right operand of the one on top.
+-- Above operators that are on m: the precedence above which operators belong to the right operand of the one on top.
 abbrev pub least_above : ℕ → List PendingOperator → ℕ
 least_above m [] = m
 least_above m (w ∷ ws) = least_above (min_right w.op) ws
 
 -- From bottom to top each operator binds tighter than m, which is what the one below it leaves to its right: so the
--- precedences rise, and only `**`, which groups to the right, stands on one of its own precedence, on `**`.
+-- precedences rise, and only `**`, which groups to the right, is on one of its own precedence, on `**`.
 abbrev pub rises : ℕ → List PendingOperator → Bool
 rises m [] = true
 rises m (w ∷ ws) = nat_lt m (precedence_of w.op) && rises (min_right w.op) ws

@@ -1,4 +1,4 @@
-// Makes the nodes of productions, and says where they stand.
+// Makes the nodes of productions, and says where they are.
 ghost use Rattle.std.specs.Prelude.{◌≡◌, ℕ, ◌+◌, ◌≤◌, true, false, ◌++◌, length, map, IfOk};
 ghost use Rattle.swc_context.specs.Spans.{from_to};
 ghost use Rattle.swc_ast.specs.Parts.{leaf, ident_tree, lit_tree, item_trees, member_prop_tree, base_tree};
@@ -401,7 +401,7 @@ impl<F: Spanned + Drop, C: Spanned + Drop, K: Spanned + Drop> Nodes<F, C, K> {
         })?))
     }
 
-    /// `++` or `--` and its operand, which stands before it (ECMA-262, 13.4); to `end`, a position in bytes.
+    /// `++` or `--` and its operand, which is before it (ECMA-262, 13.4); to `end`, a position in bytes.
     pub fn update_postfix(
         &mut self,
         op: UpdateOp,
@@ -518,7 +518,7 @@ impl<F: Spanned + Drop, C: Spanned + Drop, K: Spanned + Drop> Nodes<F, C, K> {
         })?))
     }
 
-    /// An assignment (ECMA-262, 13.15) of `value` to what may be assigned to as it stands (`has_target`).
+    /// An assignment (ECMA-262, 13.15) of `value` to what may be assigned to as it is (`has_target`).
     ///
     /// All that is reached from `value` lies after `left`.
     pub fn assign_expr(

@@ -19,7 +19,7 @@ pub(crate) fn mark_all<F, C, K>(
     }
 }
 
-/// Puts the comma that is remembered of a literal after its last part, or takes away what stood there.
+/// Puts the comma that is remembered of a literal after its last part, or takes away what was there.
 fn mark_node<F, C, K>(node: &mut Node<F, C, K>, commas: &TrailingCommas)
     ensures { node.new ≡ marked_node (comma_at commas.now) node.old }
 {

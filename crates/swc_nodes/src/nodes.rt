@@ -83,7 +83,7 @@ impl<F: Spanned + Drop, C: Spanned + Drop, K: Spanned + Drop> Nodes<F, C, K> {
         id.0 < self.len() && !is_expr(self.get(id.0))
     }
 
-    /// Whether what may be assigned to has the number, as it stands or as a pattern.
+    /// Whether what may be assigned to has the number, as it is or as a pattern.
     pub fn has_target(&self, target: TargetNode) -> bool
         ensures has { result ≡ true → From 0 self.now (target_part target) }
         ensures all { From 0 self.now (target_part target) → result ≡ true }
@@ -154,7 +154,7 @@ fn is_expr<F, C, K>(node: &Node<F, C, K>) -> bool
     }
 }
 
-/// Whether the node is an expression that may be assigned to as it stands.
+/// Whether the node is an expression that may be assigned to as it is.
 fn is_target<F, C, K>(node: &Node<F, C, K>) -> bool
     ensures { result ≡ view_ok simple (form node.now) }
 {

@@ -1,4 +1,4 @@
-// Makes the nodes of patterns, of formal parameters and of assignments to patterns, and says where they stand.
+// Makes the nodes of patterns, of formal parameters and of assignments to patterns, and says where they are.
 ghost use Rattle.std.specs.Prelude.{◌≡◌, ℕ, ◌+◌, ◌++◌, None, IfOk};
 ghost use Rattle.swc_context.specs.Spans.{from_to};
 ghost use Rattle.swc_context.specs.declared.operator.AssignOp.TheVariants as assign_op;
@@ -38,7 +38,7 @@ impl<F: Spanned + Drop, C: Spanned + Drop, K: Spanned + Drop> Nodes<F, C, K> {
 
     /// An array pattern (ECMA-262, 14.3.3) from `start` to `end`, positions in bytes, with a `None` for each hole.
     ///
-    /// The elements are taken as they stand: holes at the end are dropped before. All that is reached from an element
+    /// The elements are taken as they are: holes at the end are dropped before. All that is reached from an element
     /// lies after the element before it (`are_pat_elems_apart`).
     pub fn array_pat(
         &mut self,

@@ -18,7 +18,7 @@ pub struct PendingOperator {
 
 /// Operators that wait for their right operands, each one for what the operators above it join.
 ///
-/// From bottom to top their precedences rise, and only `**` stands on an operator of its own precedence, on `**`: so of
+/// From bottom to top their precedences rise, and only `**` is on an operator of its own precedence, on `**`: so of
 /// all others there are never more than ten. They are one list, so however many `**` follow one another, no recursion
 /// is needed.
 pub struct PendingOperators {

@@ -1,4 +1,4 @@
-// Where a node stands, and what form it has.
+// Where a node is, and what form it has.
 ghost use Rattle.std.specs.Prelude.{◌≡◌, not, true, false, MatchOption};
 ghost use Rattle.swc_context.specs.Spans.{in_order};
 ghost use Rattle.swc_ast.specs.Targets as targets;
@@ -145,7 +145,7 @@ impl<F: Spanned + Drop, C: Spanned + Drop, K: Spanned + Drop> Nodes<F, C, K> {
         )
     }
 
-    /// Whether the expression may stand left of an operator that writes, and is no pattern (ECMA-262, 8.6.4); in strict
+    /// Whether the expression may be left of an operator that writes, and is no pattern (ECMA-262, 8.6.4); in strict
     /// code or not. That may what `is_valid_simple_assignment_target` of swc_ast says of trees in boxes.
     pub fn is_simple_target(&self, id: ExprId, strict: bool) -> bool
         requires { From 0 self.now (expr_part id) }
@@ -165,7 +165,7 @@ impl<F: Spanned + Drop, C: Spanned + Drop, K: Spanned + Drop> Nodes<F, C, K> {
     }
 
     /// Whether the expression is an array or an object literal, which may be assigned to as a pattern, and not as it
-    /// stands.
+    /// is.
     pub fn is_array_or_object(&self, id: ExprId) -> bool
         requires { From 0 self.now (expr_part id) }
         ensures { result ≡ true → From 0 self.now (target_part (target.Simple id)) → ⊥ }

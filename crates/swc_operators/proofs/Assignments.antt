@@ -2,8 +2,6 @@
 -- the code goes it.
 use Rattle.std.proofs.Common.{◌≡◌, Bool, true, false, not, ◌&&◌, if◌then◌else◌, List, [], ◌∷◌, Option, Some, None}
 use Rattle.std.proofs.Common.{Result, refl, sym, ap, ◌∙◌, ◌||◌}
-use Rattle.std.specs.Prelude.{is_some as is_given}
-use Rattle.swc_context.specs.Contexts.{view as deciding}
 use Rattle.swc_context.specs.declared.context.Context.{Context}
 use Rattle.swc_context.specs.declared.error.Error.{Error}
 use Rattle.swc_context.specs.declared.operator.AssignOp.{AssignOp}
@@ -25,21 +23,20 @@ use Rattle.swc_ast.specs.Patterns.{array_p, object_p}
 use Rattle.swc_ast.specs.Tree.{Tree, Trees, nil, cons, span_of, node, array_with, object_with}
 use Rattle.swc_ast.specs.Trees.{to, trees_append, cond_e, assign_e, yield_e, hole_e, is_operation}
 use Rattle.swc_bodies.specs.Readings.{Hook}
-use Rattle.swc_grammar.specs.Scope.{Scope, at_head}
+use Rattle.swc_grammar.specs.Scope.{Scope}
 use Rattle.swc_grammar.specs.Cover.{is_assign as is_assign_tree, as_literal, as_elements, as_props, is_pattern}
 use Rattle.swc_grammar.specs.Cover.{is_plain_assign, target, ◌>>>◌}
 use Rattle.swc_grammar.specs.Rule.{gives, take, check, read, sees, given, symbol, ◌>>=◌ as ◌▸◌}
-use Rattle.swc_grammar.specs.Symbols.{Expr, Assign, Level}
+use Rattle.swc_grammar.specs.Symbols.{Expr, Assign}
 use Rattle.swc_grammar.specs.Tokens.{include_in, with_in, assign_of, is_assign, is_comma, is_question, is_colon}
-use Rattle.swc_grammar.specs.Tokens.{is_star, is_equals, is_lparen, tk, is_yield, yield_ok, goes_on_yield}
+use Rattle.swc_grammar.specs.Tokens.{is_star, is_equals, tk, is_yield, yield_ok, goes_on_yield}
 use Rattle.swc_grammar.specs.Tokens.{begins_yielded}
-use Rattle.swc_grammar.specs.Clean.{Out, and_then, first, sym as at, assigns, seqs, no_error, begins_yield, plan}
-use Rattle.swc_grammar.specs.Clean.{writes_tail, begins_arrow, begins_async_name, begins_async_list}
+use Rattle.swc_grammar.specs.Clean.{Out, and_then, first, sym as at, assigns, seqs, begins_yield, plan}
+use Rattle.swc_grammar.specs.Clean.{writes_tail}
 use Rattle.swc_grammar.specs.Clean.{goes_on_yield_at, exec, run, chosen, yield_by as yield_choice}
 use Rattle.swc_grammar.specs.Words.{◌>>=◌, rest}
 use Rattle.swc_grammar.proofs.Answers.{both}
 use Rattle.swc_grammar.proofs.Complete.{last}
-use Rattle.swc_grammar.proofs.Head.{level-run}
 use Rattle.swc_grammar.proofs.Knot.{knot}
 use Rattle.swc_operators.specs.Assignments.{refines, pattern_by, assign_pattern, assign_refined, assign_by, assigned_by}
 use Rattle.swc_cover.proofs.Clear.{clear-fits}
@@ -60,8 +57,10 @@ use Rattle.swc_steps.specs.Parsing.{behind, Moves, Parses}
 use Rattle.swc_steps.proofs.Keys.{then_calls, then_token}
 use Rattle.swc_steps.proofs.Lists.{calls}
 use Rattle.swc_steps.proofs.Rules.{inside_assign}
-use Rattle.swc_steps.proofs.Steps.{parses_within, parses_aside, parses_inner, inner_of, inner_is}
+use Rattle.swc_steps.proofs.Steps.{parses_within, parses_aside, parses_inner, inner_of}
 use Rattle.swc_operators.proofs.Updates.{if_on, if_off}
+use Rattle.std.specs.Prelude.{is_some as is_given}
+use Rattle.swc_context.specs.Contexts.{view as deciding}
 
 -- whether something is given, by either name
 pub given_some : {A : Type 0} (o : Option A) → is_given o ≡ is_some o
@@ -121,23 +120,6 @@ module _ {F C K : Type 0} (hook : Hook F C K) where
   seqs_more_splits es x ts = refl
 
   -- ---- assignment expressions (13.15)
-
-  -- what isn't told by its first tokens to be an arrow function, `async` and a list, or a list in parentheses
-  pub assign_splits : (x : Scope) (ts : List TokenAndSpan) → x.head ≡ false → begins_yield x ts ≡ false
-      → begins_arrow x ts ≡ false → at_token is_lparen (first ts) ≡ false → begins_async_name x ts ≡ false
-      → begins_async_list ts ≡ false → at_token no_error (first ts) ≡ true
-      → run hook (at Assign) x ts ≡ (run hook (at (Level 1)) x ts >>= (λ p. run hook (assigns p.0) x p.1))
-  assign_splits x ts none y a p n l h =
-      let level = run hook (at (Level 1)) (at_head x) ts in
-      knot hook (at Assign) x ts ∙ rw (y, a, p, n, l, h) (then_last level)
-      ∙ ap (λ o. o >>= (λ p. run hook (assigns p.0) x p.1))
-      (level-run hook x ts (rw (n, l) refl) ∙ ap (λ v. run hook (at (Level 1)) v ts) (inner_is x none))
-    where
-      then_last : (o : Out (Tree F C K))
-          → and_then o (λ e us. exec hook (run hook) (Some 14) (read (assigns e) x (λ v. gives v)) us)
-          ≡ (o >>= (λ p. run hook (assigns p.0) x p.1))
-      then_last None = refl
-      then_last (Some p) = last hook (Some 14) (assigns p.0) x p.1 refl
 
   -- after the `:` of a conditional
   alt_reads : (l e : Tree F C K) (x : Scope) (t : TokenAndSpan) (us : List TokenAndSpan)

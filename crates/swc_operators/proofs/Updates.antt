@@ -31,7 +31,7 @@ use Rattle.swc_grammar.specs.Words.{◌>>=◌, rest}
 use Rattle.swc_grammar.proofs.Complete.{last}
 use Rattle.swc_grammar.proofs.Knot.{knot}
 use Rattle.swc_operators.specs.Updates.{update_at, update_behind, update_node, update_tail, update_prefix}
-use Rattle.swc_operators.specs.Updates.{await_ident, await_operand, await_go, await_tail, await_expr}
+use Rattle.swc_operators.specs.Updates.{await_ident, await_operand, await_tail, await_expr}
 use Rattle.swc_steps.specs.Parsing.{Continues, Parses}
 use Rattle.swc_steps.proofs.Lists.{calls}
 use Rattle.swc_steps.proofs.Steps.{Reader, heard_first, on_took, unheard_after, inner_is}
@@ -158,10 +158,6 @@ module _ {F C K : Type 0} (hook : Hook F C K) where
 
   -- ---- `await` (15.8)
 
-  await_apart : (t : Token) → is_await t ≡ true → is_update t ≡ false
-  await_apart (token.Word w) h = refl
-  await_apart t h = absurd cc
-
   -- what is after the word is what the production looks at
   sees_end : (us : List TokenAndSpan) → at_token is_star (first us) ≡ false → ends_await_at (first us) ≡ true
       → sees (λ t. is_star t.token || not (ends_await t)) us ≡ false
@@ -229,24 +225,6 @@ module _ {F C K : Type 0} (hook : Hook F C K) where
       → await_expr hook x (t ∷ ts) ≡ await_tail hook t.span x ts
   unfolding await_expr
   await_opens t x ts = refl
-
-  pub await_star : (s : Span) (x : Scope) (ts : List TokenAndSpan) → at_token is_star (first ts) ≡ true
-      → await_tail hook s x ts ≡ None
-  unfolding await_tail
-  await_star s x ts h = rw h refl
-
-  pub await_plain : (s : Span) (x : Scope) (ts : List TokenAndSpan) → at_token is_star (first ts) ≡ false
-      → await_tail hook s x ts ≡ await_go hook s x ts
-  unfolding await_tail
-  await_plain s x ts h = rw h refl
-
-  pub await_named : (s : Span) (x : Scope) (ts : List TokenAndSpan)
-      → (not x.context.in_async && ends_await_at (first ts)) ≡ true → await_go hook s x ts ≡ await_ident s x ts
-  await_named s x ts h = rw h refl
-
-  pub await_goes : (s : Span) (x : Scope) (ts : List TokenAndSpan)
-      → (not x.context.in_async && ends_await_at (first ts)) ≡ false → await_go hook s x ts ≡ await_operand hook s x ts
-  await_goes s x ts h = rw h refl
 
   pub await_well : (s : Span) (x : Scope) (ts : List TokenAndSpan) → await_ok x.context ≡ true
       → await_operand hook s x ts

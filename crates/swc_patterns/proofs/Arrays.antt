@@ -41,7 +41,7 @@ use Rattle.swc_patterns.specs.declared.pat.PatKind.TheVariants as kind
 use Rattle.swc_patterns.specs.declared.rest.SeenRest.{SeenRest}
 use Rattle.swc_patterns.specs.declared.rest.SeenRest.TheVariants as seen
 
--- ---- what stands before an element
+-- ---- what is before an element
 
 pub next_ends : (s : Stage) (x : Scope) (ts : List TokenAndSpan) → at_token is_rbracket (first ts) ≡ true
     → next_element s x ts ≡ ended s x ts
@@ -67,13 +67,6 @@ ends_ill seen.No x ts h = absurd cc
 ends_ill (seen.Last rest None) x ts h = absurd cc
 ends_ill (seen.Last rest (Some comma)) x ts h = refl
 ends_ill (seen.Earlier rest) x ts h = absurd cc
-
--- before an element nothing is read at the end
-pub head_end : (s : Stage) (x : Scope) (ts : List TokenAndSpan) → first ts ≡ None → element_head s x ts ≡ None
-head_end going x [] h = refl
-head_end going x (t ∷ ts) h = absurd cc
-head_end closing x ts h = refl
-head_end never x ts h = refl
 
 -- elsewhere an element comes, unless a rest was read before
 abbrev pub head_of : SeenRest → Scope → List TokenAndSpan → Out NextElement

@@ -32,7 +32,7 @@ use Rattle.swc_patterns.proofs.Arrays.{elements_turn, behind_element_splits}
 module _ {S F C K : Type 0} {model : Model S} {sure : Bool} (hook : Hook F C K) {f : Reader (Tree F C K)}
     (stage : Stage) (before : List (Option (Tree F C K))) {a b : Buffer S}
     (so_far : On model sure f (elements_left hook stage before) a b) where
-  -- what stands before the next element
+  -- what is before the next element
   pub turned : {c : Buffer S} {n : NextElement} (known : NextElement) → n ≡ known
       → On model sure (next_element stage) (give n) b c
       → On model sure f (λ x ts. elements_with hook known stage before x ts) a c

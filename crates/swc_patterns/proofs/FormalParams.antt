@@ -35,7 +35,7 @@ use Rattle.swc_patterns.specs.declared.params.NextParam.TheVariants as next
 use Rattle.swc_patterns.proofs.Closing.{closing_by, rest_closes}
 use Rattle.swc_patterns.proofs.Objects.{answer, again}
 
--- ---- what stands before a parameter
+-- ---- what is before a parameter
 
 -- at the end
 pub next_param_none : (s : Stage) (x : Scope) (ts : List TokenAndSpan) → first ts ≡ None

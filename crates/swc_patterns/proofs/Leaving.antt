@@ -1,7 +1,6 @@
 -- Calls that don't read all that they are to read, but leave some of it.
-use Rattle.std.proofs.Common.{◌≡◌, ℕ, Bool, List, ◌++◌, Result, Ok, Err, IsErrAnd, MatchResult, sym, ap}
+use Rattle.std.proofs.Common.{◌≡◌, ℕ, Bool, List, ◌++◌, Result, Ok, Err, MatchResult, sym, ap}
 use Rattle.std.proofs.Common.{subst, ◌∙◌}
-use Rattle.swc_context.specs.Contexts.{view as deciding}
 use Rattle.swc_context.specs.declared.error.Error.{Error}
 use Rattle.swc_input.specs.declared.buffer.Buffer.{Buffer}
 use Rattle.swc_input.specs.declared.token.TokenAndSpan.{TokenAndSpan}
@@ -17,6 +16,7 @@ use Rattle.swc_steps.specs.Parsing.{scope, Moves, On, Unheard}
 use Rattle.swc_steps.specs.declared.productions.Productions.{Productions}
 use Rattle.swc_steps.proofs.Steps.{Reader, less, read_scope, parses_aside}
 use Rattle.swc_patterns.specs.Answers.{Leaves}
+use Rattle.swc_context.specs.Contexts.{view as deciding}
 
 module _ {S : Type 0} {model : Model S} {sure : Bool} where
   -- q is called, of which r is left, and k goes on
@@ -59,8 +59,3 @@ module _ {S H F C K : Type 0} {fg : Ghosts F} {cg : Ghosts C} {kg : Ghosts K} {m
   pub leaves : (t : T) → On model sure f (g q.nodes t) p.input q.input → Grows p.nodes q.nodes → held k q.nodes t
       → Leaves model sure held f g k p (Ok t) q
   leaves t o w from = record { reads = o; falls = less o.leads; grows = w; from = from }
-
-  pub leaves_none : {e : Error} (r : Result T Error) → IsErrAnd r (λ x. x ≡ e) → Unheard model sure f p.input e q.input
-      → Grows p.nodes q.nodes → Leaves model sure held f g k p r q
-  leaves_none (Ok x) h u w = absurd h
-  leaves_none (Err x) h u w = rw h (record { reads = u; falls = tt; grows = w; from = tt })

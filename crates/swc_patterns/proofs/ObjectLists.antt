@@ -60,7 +60,7 @@ module _ {S H F C K : Type 0} {fg : Ghosts F} {cg : Ghosts C} {kg : Ghosts K} {m
         → Unheard model sure (run hook (at PatProps)) p.input e b
     end_refused u = unheard_after so.on (unheard_call _ (props_turn hook before comma) u)
 
-    -- it stands there
+    -- it is there
     pub closed : {o : Option Span} {s : Span} {b : Buffer S} → o ≡ Some s → Looked model sure q.input o b
         → On model sure (run hook (at PatProps)) (props_done (listed comma s before)) p.input b
     closed {o} {s} {b} is looked =

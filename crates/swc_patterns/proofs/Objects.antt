@@ -428,7 +428,7 @@ module _ {F C K : Type 0} (hook : Hook F C K) where
   left_from before x p =
       separated is_rbrace x p.1 >>= (λ q. pat_props_left hook (trees_append before (cons p.0 nil)) q.0 x q.1)
 
-  -- the same, where the item is no rest, and none stands before it
+  -- the same, where the item is no rest, and none is before it
   prop_left : (before : Trees F C K) (comma : Option Span) → props_stage before comma ≡ going
       → (x : Scope) (p : Tree F C K × List TokenAndSpan) → is_rest p.0 ≡ false
       → (run hook (at PatPropsTail) x p.1 >>= (λ q. with_items before (put_first p.0 q.0, q.1))) ≡ left_from before x p

@@ -34,7 +34,7 @@ use Rattle.swc_patterns.proofs.FormalParams.{params_turn, behind_param_splits, r
 module _ {S F C K : Type 0} {model : Model S} {sure : Bool} (hook : Hook F C K) {f : Reader (Tree F C K)}
     (stage : Stage) (before : Trees F C K) {a b : Buffer S}
     (so_far : On model sure f (params_left hook stage before) a b) where
-  -- what stands before the next element
+  -- what is before the next element
   pub turned : {c : Buffer S} {n : NextParam} (known : NextParam) → n ≡ known
       → On model sure (next_param stage) (give n) b c
       → On model sure f (λ x ts. params_with hook known stage before x ts) a c

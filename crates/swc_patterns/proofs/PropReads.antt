@@ -39,7 +39,7 @@ module _ {S F C K : Type 0} {model : Model S} {sure : Bool} (hook : Hook F C K) 
 
 module _ {S F C K : Type 0} {model : Model S} {sure : Bool} (hook : Hook F C K) {a b c : Buffer S}
     {o : Option Span} where
-  -- they stand there, and then a pattern
+  -- they are there, and then a pattern
   pub rest_refused : {s : Span} {e : Error} → o ≡ Some s → Looked model sure a o b
       → Unheard model sure (run hook (at Pat)) b e c → Unheard model sure (pat_prop_item hook) a e c
   rest_refused {s} is looked u =
@@ -82,7 +82,7 @@ module _ {S F C K : Type 0} {model : Model S} {sure : Bool} (hook : Hook F C K) 
 module _ {S F C K : Type 0} {model : Model S} {sure : Bool} (hook : Hook F C K) (view : ExprId → Tree F C K)
     (k : PropName ExprId) {a b c : Buffer S}
     (named : On model sure (pat_prop_item hook) (key_left hook (prop_name_tree view k)) a b) where
-  -- what stands there is asked for, and that is refused
+  -- what is there is asked for, and that is refused
   pub behind_refused : {e : Error} → Unheard model sure (after_pat_key k) b e c
       → Unheard model sure (pat_prop_item hook) a e c
   behind_refused u = unheard_after named (unheard_call _ (key_left_splits hook view k) u)

@@ -61,7 +61,7 @@ array_from s l = array_p (to s (span_of l)) (items_of l)
 abbrev pub default_to : {F C K : Type 0} → Tree F C K → BytePos → Tree F C K → Tree F C K
 default_to l hi e = default_p (from_to (span_of l).lo hi) l e
 
--- ---- what stands before an element: the bracket that closes the list, a comma alone, or the dots of a rest
+-- ---- what is before an element: the bracket that closes the list, a comma alone, or the dots of a rest
 
 abbrev pub is_item : NextElement → Bool
 is_item (next.Item o) = true

@@ -91,7 +91,7 @@ module _ {F C K : Type 0} (hook : Hook F C K) where
   unfoldable pub pat_prop_item : Scope → List TokenAndSpan → Out (Tree F C K)
   pat_prop_item c ts = eaten is_dots c ts >>= (λ p. pat_prop_by p.0 c p.1)
 
--- ---- where rests may stand among properties: last, over a name, with no comma after them
+-- ---- where rests may be among properties: last, over a name, with no comma after them
 
 -- what is left where nothing is but the check
 abbrev pub rests_checked : Stage → Scope → List TokenAndSpan → Out (Unit {0})

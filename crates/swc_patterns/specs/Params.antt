@@ -17,7 +17,7 @@ use Rattle.swc_patterns.specs.Rests.{Stage, going, closing, never, separated_ite
 use Rattle.swc_patterns.specs.declared.params.NextParam.{NextParam}
 use Rattle.swc_patterns.specs.declared.params.NextParam.TheVariants as next
 
--- ---- what stands before a parameter: the parenthesis that closes the list, which stays, or the end; or the dots of a
+-- ---- what is before a parameter: the parenthesis that closes the list, which stays, or the end; or the dots of a
 -- rest
 
 abbrev pub params_end : Stage → List TokenAndSpan → Out NextParam

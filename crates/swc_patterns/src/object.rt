@@ -1,4 +1,4 @@
-// Object patterns (ECMA-262, 14.3.3): what is after a key, and where rests may stand.
+// Object patterns (ECMA-262, 14.3.3): what is after a key, and where rests may be.
 ghost use Rattle.std.specs.Option.{is_some};
 ghost use Rattle.std.specs.Prelude.{ℕ, ◌≡◌, ◌≤◌, false, not, IfOk, IfSome, OnOk};
 ghost use Rattle.swc_context.specs.Reserved.{is_reserved_word};
@@ -40,7 +40,7 @@ pub enum AfterPatKey {
 }
 
 /// What is after the key of a property of an object pattern (ECMA-262, 14.3.3): a colon, or `=` after a name,
-/// which are consumed, or nothing. A name alone that is reserved where it stands is recorded as
+/// which are consumed, or nothing. A name alone that is reserved there is recorded as
 /// `ReservedWordInObjShorthandOrPat`, at the name. After another key than a name, another token is refused as
 /// `Unexpected`, at that token, and the end as `Eof`.
 pub fn after_pat_key<I: Tokens>(
@@ -90,7 +90,7 @@ fn bound(name: IdentName) -> BindingIdent
     }
 }
 
-/// Records a name that is reserved where it stands.
+/// Records a name that is reserved where it is.
 fn check_name<I: Tokens>(input: &mut Buffer<I>, name: &IdentName) -> PResult<()>
     ensures checks { Checked I.model
         (not (is_reserved_word (context I.model input.old) name.now.sym)) input.old result input.new }
@@ -130,7 +130,7 @@ pub struct RestProp {
     pub is_name: bool,
 }
 
-/// Records and refuses the rests that don't stand last, over a name, with no comma after them, in their order.
+/// Records and refuses the rests that don't come last, over a name, with no comma after them, in their order.
 fn check_rests<I: Tokens, B: Bodies<I>>(
     input: &mut Buffer<I>,
     nodes: &NodesOf<B>,

@@ -22,7 +22,7 @@ use swc_nodes::node::{ExprId, PatId};
 use swc_steps::productions::Productions;
 use swc_steps::tokens::{Sign, eat, emit_err, is_sign, look};
 
-/// What stands before a formal parameter.
+/// What is before a formal parameter.
 #[derive(Clone, Copy)]
 pub enum NextParam {
     /// The parenthesis that closes the list, or the end.
@@ -31,7 +31,7 @@ pub enum NextParam {
     Item(Option<Span>),
 }
 
-/// What stands before a formal parameter (ECMA-262, 15.1), where `rest` was seen before; or the parenthesis that closes
+/// What is before a formal parameter (ECMA-262, 15.1), where `rest` was seen before; or the parenthesis that closes
 /// the list, which stays, or the end. A rest with a comma and that parenthesis after it is recorded as
 /// `CommaAfterRestElement`, at the comma, one with another parameter after it as `TS1014`, at the rest.
 pub fn next_param<I: Tokens>(input: &mut Buffer<I>, rest: SeenRest) -> PResult<NextParam>
@@ -49,7 +49,7 @@ pub fn next_param<I: Tokens>(input: &mut Buffer<I>, rest: SeenRest) -> PResult<N
     Ok(NextParam::End)
 }
 
-/// What stands before a parameter where one comes.
+/// What is before a parameter where one comes.
 fn param_head<I: Tokens>(input: &mut Buffer<I>, rest: SeenRest) -> PResult<NextParam>
     ensures next { ContinuesAlone I.model (λ n. n) (param_head (stage_of rest)) input.old result input.new }
     ensures falls { OnOk result (to_come I.model input.new ≤ to_come I.model input.old) }

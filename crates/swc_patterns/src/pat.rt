@@ -33,7 +33,7 @@ use swc_nodes::node::{ExprId, PatId};
 use swc_steps::productions::Productions;
 use swc_steps::tokens::{Listed, Sign, eat, expect, is_sign, look, unexpected};
 
-/// A binding pattern (ECMA-262, 14.3.3), by the token that begins it, if other patterns stand in it.
+/// A binding pattern (ECMA-262, 14.3.3), by the token that begins it, if other patterns are in it.
 #[derive(Clone, Copy)]
 pub enum PatKind {
     /// `[`: an array pattern.
@@ -128,7 +128,7 @@ pub fn rest_pat<I: Tokens, B: Bodies<I>>(
     made(&p.input, node)
 }
 
-/// What stands before an element of an array pattern.
+/// What is before an element of an array pattern.
 #[derive(Clone, Copy)]
 pub enum NextElement {
     /// The bracket that closes the list.
@@ -139,7 +139,7 @@ pub enum NextElement {
     Item(Option<Span>),
 }
 
-/// What stands before an element of an array pattern (ECMA-262, 14.3.3), or the bracket that closes the list, where
+/// What is before an element of an array pattern (ECMA-262, 14.3.3), or the bracket that closes the list, where
 /// `rest` was seen before. A rest with a comma and that bracket after it is recorded as `CommaAfterRestElement`, at
 /// the comma, one with anything else after it as `NonLastRestParam`, at the rest. The end is refused as `Eof`.
 pub fn next_element<I: Tokens>(input: &mut Buffer<I>, rest: SeenRest) -> PResult<NextElement>
@@ -157,7 +157,7 @@ pub fn next_element<I: Tokens>(input: &mut Buffer<I>, rest: SeenRest) -> PResult
     Ok(NextElement::End(end))
 }
 
-/// What stands before an element that isn't the bracket.
+/// What is before an element that isn't the bracket.
 fn element_head<I: Tokens>(input: &mut Buffer<I>, rest: SeenRest) -> PResult<NextElement>
     ensures next { ContinuesAlone I.model (λ n. n) (element_head (stage_of rest)) input.old result input.new }
     ensures falls { OnOk result (to_come I.model input.new ≤ to_come I.model input.old) }

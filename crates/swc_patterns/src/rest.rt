@@ -1,4 +1,4 @@
-// Rests in lists of patterns (ECMA-262, 14.3.3 and 15.1), after which nothing may stand.
+// Rests in lists of patterns (ECMA-262, 14.3.3 and 15.1), after which nothing may be.
 ghost use Rattle.std.specs.Option.{is_some};
 ghost use Rattle.std.specs.Prelude.{◌≡◌, ◌≢◌, ◌≤◌, true, not, OnOk};
 ghost use Rattle.swc_context.specs.declared.error.SyntaxError.TheVariants.{OutOfMemory};

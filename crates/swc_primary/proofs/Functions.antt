@@ -39,7 +39,7 @@ use Rattle.swc_primary.specs.declared.modifiers.MethodKind.{MethodKind}
 use Rattle.swc_primary.specs.declared.modifiers.MethodKind.TheVariants as kind
 use Rattle.swc_primary.specs.Methods.{async_in, generator_in, accessor_ok, function_ok, just_one}
 use Rattle.swc_primary.specs.Methods.{misses_param, in_params, method_function_node, method_function_of, method_block_by, method_end}
-use Rattle.swc_primary.specs.Methods.{method_close, method_left, method_inside, method_by, method_function, begins_rest}
+use Rattle.swc_primary.specs.Methods.{method_close, method_left, method_inside, method_by, method_function}
 use Rattle.swc_steps.specs.Keys.{expected, method_body}
 use Rattle.swc_steps.specs.Lists.{eaten}
 use Rattle.swc_input.specs.Buffer.{context}
@@ -88,13 +88,6 @@ module _ {F C K : Type 0} {fg : Ghosts F} {cg : Ghosts C} {kg : Ghosts K} where
       → not (is_some (first_param_pat ps)) ≡ accessor_ok (Some kind.Getter) (trees (map (λ p. pat_at ns p.pat) ps))
   getter-counts ns [] = refl
   getter-counts ns (p ∷ ps) = refl
-
-  pub setter-counts : (ns : Nodes F C K fg cg kg) (ps : List (Param PatId))
-      → not (not (just_one ps) || begins_rest ns ps)
-      ≡ accessor_ok (Some kind.Setter) (trees (map (λ p. pat_at ns p.pat) ps))
-  setter-counts ns [] = refl
-  setter-counts ns (p ∷ []) = refl
-  setter-counts ns (p ∷ (q ∷ ps)) = refl
 
   -- a setter that has none isn't as it has to be
   pub missed : (ns : Nodes F C K fg cg kg) (m : Option MethodKind) (ps : List (Param PatId)) → misses_param m ps ≡ true

@@ -141,7 +141,7 @@ module _ (t : Option TokenAndSpan) where
   pub not_template : primary_kind t ≡ kind.Plain → at_token is_backquote t ≡ false
   not_template h = (not_any h).3
 
--- ---- a primary expression in which no other stands, by the test that its first token passes
+-- ---- a primary expression in which no other is, by the test that its first token passes
 
 module _ {S : Type 0} (model : Model S) (b : Buffer S) where
   pub kind_is : {j k : PlainKind} → j ≡ k → BeginsPlain (context model b) (λ f. at_token f (seen b)) j
@@ -172,7 +172,7 @@ module _ {F C K : Type 0} (hook : Hook F C K) where
       rule.primary_ends hook x ts name lit (not_paren o p) hash this (not_array o p)
       (rule.function_not ts function (no_async ts async)) async class (not_object o p) (not_template o p) regex
 
--- `async` is a reference wherever it stands
+-- `async` is a reference wherever it is
 async_name : (c : Context) (w : Atom) → is_text w (codes "async") ≡ true → is_reference c (word.Ident w) ≡ true
 async_name c w h =
     let same = is_same w (codes "async") h in

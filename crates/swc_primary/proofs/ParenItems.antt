@@ -1,4 +1,4 @@
--- What stands in parentheses, as the items of its list are looked at one after another.
+-- What is in parentheses, as the items of its list are looked at one after another.
 use Rattle.std.proofs.Common.{◌≡◌, ◌≢◌, ℕ, zero, suc, ◌+◌, ◌<◌, ◌≤◌, Bool, true, false, not, ◌&&◌, ◌||◌, List, []}
 use Rattle.std.proofs.Common.{◌∷◌}
 use Rattle.std.proofs.Common.{Option, Some, None, Result, Ok, Err, OnOk, IfErr, length, take, get_or, refl, sym, ap}
@@ -129,7 +129,7 @@ module _ {F C K X : Type 0} (at : X → Tree F C K) where
   one_spread xs ys i d same lt h =
       spreads-are ys ∙ ap (all_pass plain_item) (sym same) ∙ pass-fails plain_item xs i d lt (ap not h)
 
-  -- what may stand in parentheses
+  -- what may be in parentheses
   paren_is : (p : Bool) (comma : Option Span) (s : Span) (xs : List (ExprOrSpread X)) → 1 ≤ length xs
       → no_spread (item_trees at xs) ≡ true
       → ((p || no_covers (item_trees at xs)) && not (is_some comma)) ≡ paren_ok p (listed comma s (item_trees at xs))

@@ -27,7 +27,7 @@ none_then None k h = refl
 none_then (Some p) k h = h p
 
 module _ {S : Type 0} {model : Model S} {sure : Bool} where
-  -- f is g where code stands, and nothing was done
+  -- f is g where code is, and nothing was done
   on_where : {A : Type 0} {f g : Reader A} → Laws model → (b : Buffer S)
       → ((ts : List TokenAndSpan) → f (scope model b) ts ≡ g (scope model b) ts) → On model sure f g b b
   on_where laws b step = on_checked_in true (check_passes true laws b refl) (λ ts w. step ts) (λ ts w. cc)

@@ -306,7 +306,7 @@ module _ {F C K : Type 0} (hook : Hook F C K) where
   none_picked x ts k h e = knot hook (at Prop) x ts ∙ ap (λ v. exec hook (run hook) (Some 4) (chosen v) ts)
       (sym (prop_choice ts) ∙ ap kind_choice h ∙ e)
 
--- dots stand at no other kind
+-- dots are at no other kind
 spread_by : (b : Bool) (k : PropKind) → (k ≡ kind.Spread → ⊥) → (if b then kind.Spread else k) ≡ kind.Spread → b ≡ true
 spread_by true k n h = refl
 spread_by false k n h = absurd (n h)

@@ -3,7 +3,6 @@ use Rattle.std.specs.Prelude.{◌≡◌, Bool, true, false, not, if◌then◌els
 use Rattle.std.specs.declared.alloc.Global.{Global}
 use Rattle.std.specs.declared.vec.Vec.{Vec}
 use Rattle.swc_context.specs.Contexts.{method_params}
-use Rattle.swc_context.specs.Contexts.{view as deciding}
 use Rattle.swc_context.specs.declared.context.Context.{Context}
 use Rattle.swc_context.specs.declared.error.Error.{Error}
 use Rattle.swc_context.specs.declared.span.Span.{Span}
@@ -38,6 +37,7 @@ use Rattle.swc_primary.specs.declared.modifiers.MethodKind.TheVariants as kind
 use Rattle.swc_steps.specs.Keys.{expected, method_body}
 use Rattle.swc_steps.specs.Parsing.{shell_of, Heard, Moves, Unheard}
 use Rattle.swc_steps.specs.Readers.{inside}
+use Rattle.swc_context.specs.Contexts.{view as deciding}
 
 -- which kinds of methods are async and generators; and of a method with or without a kind
 abbrev pub of_async : MethodKind → Bool
@@ -57,10 +57,6 @@ async_in (Some m) = of_async m
 abbrev pub generator_in : Option MethodKind → Bool
 generator_in None = false
 generator_in (Some m) = of_generator m
-
-abbrev pub is_setter_in : Option MethodKind → Bool
-is_setter_in (Some kind.Setter) = true
-is_setter_in o = false
 
 -- The node of a key and of what is after it: a value that lies at s; of a method that begins at s, and of a getter and a setter.
 abbrev pub value_behind : {K : Type 0} → PropName ExprId → Span → ExprId → PropNode K

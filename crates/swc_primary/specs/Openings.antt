@@ -27,7 +27,7 @@ use Rattle.swc_primary.specs.declared.primary.PrimaryKind.TheVariants as kind
 use Rattle.swc_primary.specs.declared.primary.PlainKind.{PlainKind}
 use Rattle.swc_primary.specs.declared.primary.PlainKind.TheVariants as plain
 
--- which primary expression the token begins, of those that other expressions stand in
+-- which primary expression the token begins, of those that other expressions are in
 abbrev pub primary_kind : Option TokenAndSpan → PrimaryKind
 primary_kind t =
     if at_token is_lparen t then kind.Paren else
@@ -45,7 +45,7 @@ literal (token.BigInt raw) s = Some (lit.BigInt (record { span = s; raw = raw })
 literal (token.Str value raw) s = Some (lit.Str (record { span = s; value = value; raw = raw }))
 literal t s = None
 
--- by which test of the token it begins a primary expression in which no other stands
+-- by which test of the token it begins a primary expression in which no other is
 abbrev pub BeginsPlain : Context → ((Token → Bool) → Bool) → PlainKind → Type 0
 BeginsPlain c at plain.This = at is_this ≡ true
 BeginsPlain c at plain.Async = at is_async ≡ true

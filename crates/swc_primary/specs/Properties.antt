@@ -25,7 +25,7 @@ use Rattle.swc_steps.specs.Keys.{expected}
 use Rattle.swc_steps.specs.Readers.{inside}
 use Rattle.swc_steps.specs.Lists.{separated, with_comma}
 
--- a name that isn't reserved where it stands, and so may stand for its value too
+-- a name that isn't reserved where it is, and so may stand for its value too
 abbrev pub open_by : Scope → Spelling × List TokenAndSpan → Out Spelling
 open_by c p = if is_reserved_word c.context p.0.text then None else Some p
 

@@ -33,7 +33,7 @@ use swc_steps::tokens::{
 };
 
 /// Sets the context of a method's parameters (ECMA-262, 15.4), and consumes the parenthesis that opens them. Answers
-/// its place, and the context from before. Another token is refused as `Expected`, and where nothing stands before the
+/// its place, and the context from before. Another token is refused as `Expected`, and where nothing is before the
 /// method's key as `Unexpected`, at that token; the end as `Eof`. Then the context is that from before.
 pub fn open_params<I: Tokens>(
     input: &mut Buffer<I>,
@@ -55,7 +55,7 @@ pub fn open_params<I: Tokens>(
     }
 }
 
-/// What a token is refused as that stands where a method's parameters begin.
+/// What a token is refused as that is where a method's parameters begin.
 fn without_params(kind: Option<MethodKind>) -> SyntaxError
     ensures { result ≢ ParserFailed }
 {

@@ -36,7 +36,7 @@ pub enum PropKind {
     Unfit,
 }
 
-/// What a method is, by what stands before its key (ECMA-262, 15.4 to 15.6 and 15.8).
+/// What a method is, by what is before its key (ECMA-262, 15.4 to 15.6 and 15.8).
 #[derive(Clone, Copy)]
 pub enum MethodKind {
     /// `*`: a generator.
@@ -206,7 +206,7 @@ pub(crate) fn parse_modifiers<I: Tokens>(input: &mut Buffer<I>, kind: MethodKind
     }
 }
 
-/// Consumes `async` and `*`, and answers where the first stands.
+/// Consumes `async` and `*`, and answers where the first is.
 fn parse_async_star<I: Tokens>(input: &mut Buffer<I>) -> PResult<Span>
     ensures parses { ParsesAlone I.model (λ s. s) async_star input.old result input.new }
     ensures falls { OnOk result (to_come I.model input.new < to_come I.model input.old) }

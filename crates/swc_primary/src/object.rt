@@ -163,7 +163,7 @@ fn parse_questioned_head<I: Tokens>(alloc: Global, input: &mut Buffer<I>) -> PRe
     }
 }
 
-/// A name that stands for its value too (ECMA-262, 13.2.5.1). One that is reserved where it stands is recorded, at its
+/// A name that stands for its value too (ECMA-262, 13.2.5.1). One that is reserved there is recorded, at its
 /// place.
 fn parse_open_name<I: Tokens>(alloc: Global, input: &mut Buffer<I>) -> PResult<Ident>
     ensures parses { ParsesAlone I.model ident_spelling open_name input.old result input.new }
@@ -177,8 +177,8 @@ fn parse_open_name<I: Tokens>(alloc: Global, input: &mut Buffer<I>) -> PResult<I
     })
 }
 
-/// A name that stands for its value too, and the `=` after it (ECMA-262, 13.2.5). A name that is reserved where it
-/// stands is recorded, at its place. Another token than `=` is refused as `Expected`, at that token, and the end as
+/// A name that stands for its value too, and the `=` after it (ECMA-262, 13.2.5). A name that is reserved
+/// there is recorded, at its place. Another token than `=` is refused as `Expected`, at that token, and the end as
 /// `Eof`.
 fn parse_cover_name<I: Tokens>(alloc: Global, input: &mut Buffer<I>) -> PResult<Ident>
     ensures parses { ParsesAlone I.model ident_spelling cover_name input.old result input.new }
@@ -189,7 +189,7 @@ fn parse_cover_name<I: Tokens>(alloc: Global, input: &mut Buffer<I>) -> PResult<
     Ok(name)
 }
 
-/// Records a name that is reserved where it stands.
+/// Records a name that is reserved where it is.
 fn check_open_name<I: Tokens>(input: &mut Buffer<I>, name: &IdentName) -> PResult<()>
     ensures checks { Checked I.model
         (not (is_reserved_word (context I.model input.old) name.now.sym)) input.old result input.new }
@@ -210,7 +210,7 @@ struct Questioned {
 }
 
 /// A word with `?` after it, which is recorded, and the `=` of a cover name or the `*` of an async generator after
-/// that. A name that stands for its value too, and is reserved where it stands, is recorded.
+/// that. A name that stands for its value too, and is reserved where it is, is recorded.
 fn parse_questioned<I: Tokens>(alloc: Global, input: &mut Buffer<I>) -> PResult<Questioned>
     ensures parses { ParsesAlone I.model (λ q. q) nothing input.old result input.new }
     ensures falls { OnOk result (to_come I.model input.new < to_come I.model input.old) }
@@ -239,7 +239,7 @@ fn parse_questioned_name<I: Tokens>(alloc: Global, input: &mut Buffer<I>) -> PRe
     Ok(name)
 }
 
-/// Records a name that stands for its value too, by what it begins, and is reserved where it stands.
+/// Records a name that stands for its value too, by what it begins, and is reserved where it is.
 fn check_questioned<I: Tokens>(
     input: &mut Buffer<I>,
     kind: PropKind,
@@ -266,7 +266,7 @@ fn eat_questioned<I: Tokens>(input: &mut Buffer<I>, kind: PropKind) -> PResult<O
     }
 }
 
-/// From a place to the end of an expression, as they stand.
+/// From a place to the end of an expression, as they are.
 fn span_to<F: Spanned + Drop, C: Spanned + Drop, K: Spanned + Drop>(
     nodes: &Nodes<F, C, K>,
     start: Span,

@@ -1,4 +1,4 @@
-// What can't stand in parentheses by itself (ECMA-262, 13.2.9), of a list as arguments have it.
+// What can't be in parentheses by itself (ECMA-262, 13.2.9), of a list as arguments have it.
 ghost use Rattle.std.specs.Prelude.{length, ◌≡◌, ◌≢◌, ◌≤◌, true, false, not, ◌||◌, OnOk, IfErr};
 ghost use Rattle.swc_ast.specs.Parts.{item_trees};
 ghost use Rattle.swc_ast.specs.Trees.{no_cover_in, no_covers, no_spread, paren_ok};
@@ -22,7 +22,7 @@ use swc_nodes::nodes::NodesOf;
 use swc_steps::tokens::{Listed, Sign, emit_err, is_after_line_break, is_sign, syntax_error};
 
 /// Refuses `=>` after a list in parentheses that is no list of parameters, at the place of the list: as
-/// `LineBreakBeforeArrow` where it stands on another line, or else as `ArrowNotAllowed`.
+/// `LineBreakBeforeArrow` where it is on another line, or else as `ArrowNotAllowed`.
 pub(crate) fn refuse_arrow<I: Tokens>(input: &mut Buffer<I>, list: Span) -> PResult<()>
     ensures free { ContinuesAlone I.model (λ u. u) arrow_free input.old result input.new }
     ensures falls { OnOk result (to_come I.model input.new ≤ to_come I.model input.old) }
@@ -39,8 +39,8 @@ pub(crate) fn refuse_arrow<I: Tokens>(input: &mut Buffer<I>, list: Span) -> PRes
     Err(syntax_error(input, list, kind))
 }
 
-/// Records and refuses what can't stand in parentheses, of a list from the one at `start` on. Where the syntax is
-/// pedantic, a property `name = value` of an object literal may stand there.
+/// Records and refuses what can't be in parentheses, of a list from the one at `start` on. Where the syntax is
+/// pedantic, a property `name = value` of an object literal may be there.
 pub(crate) fn check_paren_items<I: Tokens, B: Bodies<I>>(
     input: &mut Buffer<I>,
     nodes: &NodesOf<B>,

@@ -49,7 +49,7 @@ use swc_steps::tokens::{
 /// An element of an array literal, or a hole.
 pub type Elem = Option<ExprOrSpread<ExprId>>;
 
-/// A primary expression (ECMA-262, 13.2), by the token that begins it, if other expressions stand in it.
+/// A primary expression (ECMA-262, 13.2), by the token that begins it, if other expressions are in it.
 #[derive(Clone, Copy)]
 pub enum PrimaryKind {
     /// `(`: expressions in parentheses (ECMA-262, 13.2.9).
@@ -77,7 +77,7 @@ pub fn primary_kind<I: Tokens>(input: &Buffer<I>) -> PrimaryKind
     }
 }
 
-/// A primary expression in which no other stands (ECMA-262, 13.2), by the token that begins it.
+/// A primary expression in which no other is (ECMA-262, 13.2), by the token that begins it.
 #[derive(Clone, Copy)]
 pub enum PlainKind {
     /// `this` (ECMA-262, 13.2.1).
@@ -100,7 +100,7 @@ pub enum PlainKind {
     Other,
 }
 
-/// Which primary expression in which no other stands the current token begins.
+/// Which primary expression in which no other is the current token begins.
 fn plain_kind<I: Tokens>(input: &Buffer<I>) -> PlainKind
     ensures begins { BeginsPlain (context I.model input.now) (λ f. at_token f (seen input.now)) result }
     ensures function { result ≡ Function → at_function (current input.now) ≡ true }
@@ -132,7 +132,7 @@ fn word_kind(ctx: Context, word: &Word) -> PlainKind
     }
 }
 
-/// A primary expression in which no other stands (ECMA-262, 13.2): `this`, a function, a literal, a class, an
+/// A primary expression in which no other is (ECMA-262, 13.2): `this`, a function, a literal, a class, an
 /// identifier, `#` and a name, or a regular expression. Another token is refused as `TS1109`, at that token. `async`
 /// is an identifier, unless `function` is after it on its line. Where the syntax is pedantic, `#` and a name are
 /// recorded as `PrivateNameNotLeftOfIn`.
@@ -211,7 +211,7 @@ pub fn parse_class_expr<I: Tokens, B: Bodies<I>>(p: &mut Productions<I, B>) -> P
     p.made(node)
 }
 
-/// A function, which the hook reads, where a statement stands (ECMA-262, 15.2, 15.5, 15.6 and 15.8). Another token than
+/// A function, which the hook reads, where a statement is (ECMA-262, 15.2, 15.5, 15.6 and 15.8). Another token than
 /// `function`, and `async` with `function` after it, is refused as `Expected`.
 pub fn parse_function<I: Tokens, B: Bodies<I>>(p: &mut Productions<I, B>) -> PResult<B::Fun>
     ensures reads { Parses I.model B.is_faithful (λ v. v) (by_hook B.forms.fun) p.old.input result p.new.input }
@@ -239,7 +239,7 @@ fn function_here<I: Tokens, B: Bodies<I>>(p: &mut Productions<I, B>) -> PResult<
     answered(&p.input, answer)
 }
 
-/// A class, which the hook reads, where a statement stands (ECMA-262, 15.7). Another token than `class` is refused as
+/// A class, which the hook reads, where a statement is (ECMA-262, 15.7). Another token than `class` is refused as
 /// `Expected`.
 pub fn parse_class<I: Tokens, B: Bodies<I>>(p: &mut Productions<I, B>) -> PResult<B::Class>
     ensures reads { Parses I.model B.is_faithful (λ v. v) (by_hook B.forms.class) p.old.input result p.new.input }
@@ -379,7 +379,7 @@ fn private_node<I: Tokens, B: Bodies<I>>(
     p.made(node)
 }
 
-/// What stands in parentheses, of a list from the one at `start` on: one expression by itself, or a sequence. A `=>`
+/// What is in parentheses, of a list from the one at `start` on: one expression by itself, or a sequence. A `=>`
 /// after the list is refused first. An object literal among the items with a property `name = value` is recorded,
 /// unless the syntax is pedantic. A comma after the last item is recorded; an empty list is refused, and so is an
 /// expression after dots.

@@ -85,7 +85,7 @@ module _ {S : Type 0} {model : Model S} (laws : Laws model) where
         (then_quiet.0 ∙ first_quiet.0, then_quiet.1 ∙ first_quiet.1);
   }
 
-  -- `function` stands there, and r tells of a line break before it
+  -- `function` is there, and r tells of a line break before it
   function_behind : {b c d : Buffer S} → Peeked model b c → Peeked model c d → IsSome (current b) → (u : TokenAndSpan)
       → c.next ≡ Some u → is_function u.token ≡ true → (r : Bool)
       → MatchOption d.next (r ≡ true) (λ t. r ≡ t.had_line_break)
@@ -151,15 +151,4 @@ module _ {S : Type 0} {model : Model S} (laws : Laws model) where
     current = p.current;
     lives = p.lives next;
     told = λ ts fut here. ap f (peeked_first laws p some (λ none. is_some_none next none) ts fut) ∙ e;
-  }
-
-  pub told_alone : {V : Type 0} (f : Option TokenAndSpan → V) {b c : Buffer S} (v : V) → Peeked model b c
-      → IsSome (current b) → c.next ≡ None → (model.state c.iter).failed ≡ false → f None ≡ v
-      → Told model (λ ts. f (first (rest ts))) v b c
-  told_alone f v p some none runs e = record {
-    laws = laws;
-    still = p.look;
-    current = p.current;
-    lives = λ g. absurd (true_false (sym g ∙ runs));
-    told = λ ts fut here. ap f (peeked_first laws p some (λ n. runs) ts fut ∙ ap seen_of none) ∙ e;
   }

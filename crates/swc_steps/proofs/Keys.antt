@@ -1,5 +1,5 @@
 -- The clean parser's steps in keys and in the functions of methods, as the code goes them.
-use Rattle.std.specs.Prelude.{◌≡◌, Bool, true, false, ◌&&◌, ◌||◌, if◌then◌else◌, List, [], ◌∷◌, ◌++◌, Option, Some, None, Result}
+use Rattle.std.specs.Prelude.{◌≡◌, Bool, true, false, ◌&&◌, ◌||◌, if◌then◌else◌, List, [], ◌∷◌, ◌++◌, Some, None, Result}
 use Rattle.std.specs.Prelude.{Ok, Err, IfOk}
 use Rattle.std.proofs.Common.{refl, sym, ap, ◌∙◌, arith}
 use Rattle.swc_context.specs.Contexts.{method_block}
@@ -22,7 +22,7 @@ use Rattle.swc_bodies.specs.Readings.{Hook, LawfulHook, begins, begins_function,
 use Rattle.swc_grammar.specs.Scope.{Scope}
 use Rattle.swc_grammar.specs.Rule.{gives, take, check}
 use Rattle.swc_grammar.specs.Symbols.{Assign, Key}
-use Rattle.swc_grammar.specs.Tokens.{tk, with_in, is_word, is_rparen, is_lbracket, is_rbracket}
+use Rattle.swc_grammar.specs.Tokens.{tk, with_in, is_word, is_lbracket, is_rbracket}
 use Rattle.swc_grammar.specs.Names.{may_name}
 use Rattle.swc_grammar.specs.Clean.{Out, and_then, first, no_error, sym as at, exec, run}
 use Rattle.swc_grammar.specs.Words.{◌>>=◌, word}
@@ -30,7 +30,7 @@ use Rattle.swc_grammar.proofs.Knot.{knot}
 use Rattle.swc_steps.specs.Keys.{expected_by, expected, is_key_lit, plain_key, key_close, computed_key, key_by}
 use Rattle.swc_steps.proofs.Making as m
 use Rattle.swc_steps.proofs.Steps as s
-use Rattle.swc_steps.specs.Keys.{named_key, literal_key, plain_key_tree, key_plain, ends_params, method_body}
+use Rattle.swc_steps.specs.Keys.{named_key, literal_key, plain_key_tree, key_plain, method_body}
 use Rattle.swc_steps.specs.Lists.{eaten_by, eaten}
 use Rattle.swc_steps.specs.Parsing.{Parses, Produces, tree_of, key_of, key_at}
 use Rattle.swc_steps.specs.declared.productions.Productions.{Productions}
@@ -170,10 +170,6 @@ module _ {F C K : Type 0} (hook : Hook F C K) where
   computed_key_splits s x ts = refl
 
 -- ---- the functions of methods (15.4)
-
-pub ends_here : (o : Option TokenAndSpan) → at_token is_rparen o ≡ true → ends_params o ≡ true
-ends_here None h = refl
-ends_here (Some t) h = h
 
 pub bind_none : {A B : Type 0} (o : Out A) (f : A × List TokenAndSpan → Out B)
     → ((p : A × List TokenAndSpan) → f p ≡ None) → (o >>= f) ≡ None

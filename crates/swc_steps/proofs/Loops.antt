@@ -58,7 +58,7 @@ module _ {S H F C K : Type 0} {fg : Ghosts F} {cg : Ghosts C} {kg : Ghosts K} {m
         → Unheard model sure all p.input e b
     end_refused u = unheard_after so.on (unheard_call _ (list_splits list items comma) u)
 
-    -- it stands there
+    -- it is there
     pub closed : {o : Option Span} {s : Span} {b : Buffer S} → o ≡ Some s → Looked model sure closes q.input o b
         → Heard model sure all (listed comma s items) p.input b
     closed {o} {s} {b} is looked =

@@ -5,7 +5,6 @@ use Rattle.std.proofs.Common.{◌∙◌, arith, length-append, codes}
 use Rattle.swc_context.specs.Reserved.{strict_names}
 use Rattle.swc_context.specs.Texts.{is_text, is_one_of}
 use Rattle.swc_context.specs.Words.{word_text}
-use Rattle.swc_context.specs.Contexts.{view as deciding}
 use Rattle.swc_context.specs.declared.context.Context.{Context}
 use Rattle.swc_context.specs.declared.error.Error.{Error}
 use Rattle.swc_context.specs.declared.error.SyntaxError.{SyntaxError}
@@ -39,6 +38,7 @@ use Rattle.swc_steps.proofs.Steps.{Reader, here, read_scope, parses_after, on_to
 use Rattle.swc_steps.proofs.Steps.{refused, required, on_seen, on_then, heard_after, heard_first, unheard_after}
 use Rattle.swc_steps.proofs.Steps.{unheard_at, unheard_memory, unheard_unfit, lower, on_looked, looked_again}
 use Rattle.swc_steps.proofs.Words.{none_counts, is_taken, is_clean, reference-table}
+use Rattle.swc_context.specs.Contexts.{view as deciding}
 
 -- a call never refuses a word as the parser's own failure, and looks at no flag that decides nothing
 pub record Honest (judge : Judges) : Type 0 where
@@ -224,9 +224,6 @@ module _ {S : Type 0} {model : Model S} where
   -- what is refused after a look is refused where it was looked
   pub refused_here : {b c : Buffer S} {f : Buffer S → Error} {e : Error} → Laws model → (r : Refused model b f e c) → Refused model r.here f e c
   refused_here laws r = record { here = r.here; looked = looked_again laws r.looked; read = r.read; lives = r.lives; same = r.same; answer = r.answer }
-
-  spoken_here : {b c : Buffer S} {w : Word} {at : Span} → Laws model → (s : Spoken model b w at c) → Here model b s.here
-  spoken_here laws s = here_at laws s.looked (λ e. let found = s.took.current in cc)
 
   spoken_context : {b c : Buffer S} {w : Word} {at : Span} → Spoken model b w at c → context model c ≡ context model b
   spoken_context s = s.took.read.context ∙ s.looked.look.read.context

@@ -161,7 +161,7 @@ and_false : (b : Bool) → (b && false) ≡ false
 and_false true = refl
 and_false false = refl
 
--- where no `#` stands that is free
+-- where no `#` is that is free
 not_private : (f p h i : Bool) → (f && (p && h)) ≡ false → (h && (f && (p && i))) ≡ false
 not_private f p false i z = refl
 not_private false p true i z = refl
@@ -616,7 +616,7 @@ module _ {F C K : Type 0} (hook : Hook F C K) where
       by-place false z = unary_splits m x ts le (not_private (nat_lt m 7) x.syntax.pedantic _ _ z)
       by-place true z = private_splits m x ts le z
 
-  -- what stands right of an operator
+  -- what is right of an operator
   pub right_splits : (op : BinaryOp) (m : ℕ) (x : Scope) (ts : List TokenAndSpan) → m ≡ min_right op
       → run hook (at (Level (suc (min_right op)))) x ts
       ≡ (operand hook (nat_lt m 7) x ts >>= (λ p. run hook (climb p.0 m) (inner x) p.1))

@@ -11,10 +11,10 @@ use Rattle.swc_context.specs.declared.error.SyntaxError.TheVariants as kind
 use Rattle.swc_context.specs.declared.word.Keyword.TheVariants as keyword
 use Rattle.swc_context.specs.declared.word.Word.{Word}
 use Rattle.swc_context.specs.declared.word.Word.TheVariants as word
-use Rattle.swc_grammar.specs.Names.{may_bind, may_name}
+use Rattle.swc_grammar.specs.Names.{may_bind}
 use Rattle.swc_grammar.specs.Tokens.{is_reference, ref_ok}
 use Rattle.swc_ident.specs.Verdicts.{Fault, now, in_modules, Verdict, taken, taken_with, unless, ident_verdict}
-use Rattle.swc_ident.specs.Verdicts.{reference_verdict, binding_verdict, binding_faults, name_of_any}
+use Rattle.swc_ident.specs.Verdicts.{reference_verdict, binding_verdict, binding_faults}
 
 -- whether a fault counts, as it is recorded: one of modules waits elsewhere
 abbrev pub counts : Bool → Fault → Bool
@@ -190,7 +190,3 @@ binding-table c (word.Keyword keyword.Let) = of_bound c (word.Keyword keyword.Le
 binding-table c (word.Keyword keyword.Yield) = of_bound c (word.Keyword keyword.Yield) ∙ binding_yield c.module c.in_generator c.in_class_field
 binding-table c (word.Keyword keyword.Await) = of_bound c (word.Keyword keyword.Await) ∙ binding_await c.module c.in_static_block c.in_async c.in_class_field c.in_generator
 binding-table c w = refl
-
--- and any word is a name
-pub name-table : (c : Context) (w : Word) → is_clean c (name_of_any c w) ≡ may_name c w
-name-table c w = refl

@@ -48,7 +48,7 @@ unfoldable pub arrow_free : Scope → List TokenAndSpan → Out (Unit {0})
 arrow_free c ts = if no_arrow ts then Some (tt, ts) else None
 
 module _ {F C K : Type 0} where
-  -- a list in parentheses (13.2.9), which begins at s: what stands in them
+  -- a list in parentheses (13.2.9), which begins at s: what is in them
   abbrev pub paren_of : Scope → Span → Tree F C K → List TokenAndSpan → Out (Tree F C K)
   paren_of c s es ts =
       if paren_ok c.syntax.pedantic es then

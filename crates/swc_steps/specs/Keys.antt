@@ -21,7 +21,7 @@ use Rattle.swc_grammar.specs.Words.{◌>>=◌, rest, one, word}
 use Rattle.swc_steps.specs.Lists.{eaten}
 use Rattle.swc_steps.specs.Readers.{inside}
 
--- a token that passes a test, which has to stand first, by its place
+-- a token that passes a test, which has to come first, by its place
 abbrev pub expected_by : Option Span → List TokenAndSpan → Out Span
 expected_by None ts = None
 expected_by (Some s) ts = Some (s, ts)

@@ -58,7 +58,7 @@ is_sign_token sign.Arrow = is_arrow
 is_sign_token sign.Function = is_function
 is_sign_token sign.Class = is_class
 
--- a token that passes a test is taken, if it stands first
+-- a token that passes a test is taken, if it comes first
 abbrev pub eaten_by : Bool → List TokenAndSpan → Out (Option Span)
 eaten_by true (t ∷ ts) = Some (Some t.span, ts)
 eaten_by b ts = Some (None, ts)

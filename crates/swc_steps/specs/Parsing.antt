@@ -1,7 +1,6 @@
 -- What parsing calls do to the buffer, and which clean reading each answers.
 use Rattle.std.specs.Prelude.{◌≡◌, ◌≢◌, ℕ, ◌≤◌, ◌<◌, Bool, true, false, List, [], ◌∷◌, ◌++◌, Option, Some, None}
 use Rattle.std.specs.Prelude.{Result, MatchResult, MatchOption, OnOk, IfOk, IfErr, length, ◌&&◌}
-use Rattle.swc_context.specs.Contexts.{view as deciding}
 use Rattle.swc_context.specs.declared.context.Context.{Context}
 use Rattle.swc_context.specs.declared.context.Syntax.{Syntax}
 use Rattle.swc_context.specs.declared.error.Error.{Error}
@@ -42,18 +41,19 @@ use Rattle.swc_bodies.specs.Readings.{Reading, is_async, is_function_here}
 use Rattle.swc_grammar.specs.Words.{rest}
 use Rattle.swc_grammar.specs.Names.{Spelling, spelling}
 use Rattle.swc_grammar.specs.Tokens.{is_strict_word}
-use Rattle.swc_nodes.specs.Lists.{elem_parts, elem_tree, elem_trees, props_parts, props_trees}
-use Rattle.swc_nodes.specs.NodeParts.{expr_part, flat, if_some, item_parts, args_parts, key_parts, member_parts}
+use Rattle.swc_nodes.specs.Lists.{elem_parts, elem_trees, props_parts, props_trees}
+use Rattle.swc_nodes.specs.NodeParts.{expr_part, flat, args_parts, key_parts, member_parts}
 use Rattle.swc_nodes.specs.NodeParts.{param_parts, prop_parts}
 use Rattle.swc_nodes.specs.GrowingNodes.{tree_at, count, From, Apart, Grows}
 use Rattle.swc_nodes.specs.declared.node.ExprId.{ExprId}
 use Rattle.swc_nodes.specs.declared.node.PatId.{PatId}
-use Rattle.swc_nodes.specs.NodeTree.{prop_of as prop_tree}
 use Rattle.swc_nodes.specs.declared.node.PropNode.{PropNode}
 use Rattle.swc_nodes.specs.declared.nodes.Nodes.{Nodes}
 use Rattle.swc_steps.specs.Lists.{eaten}
 use Rattle.swc_steps.specs.declared.tokens.Listed.{Listed}
 use Rattle.swc_steps.specs.declared.productions.Productions.{Productions}
+use Rattle.swc_context.specs.Contexts.{view as deciding}
+use Rattle.swc_nodes.specs.NodeTree.{prop_of as prop_tree}
 
 -- out of memory
 abbrev pub is_memory : SyntaxError → Bool
@@ -86,7 +86,7 @@ private_spelling n = spelling n.name n.span
 abbrev pub binding_spelling : BindingIdent → Spelling
 binding_spelling b = spelling b.id.sym b.id.span
 
--- whether a line break stands before a token, or none is left
+-- whether a line break is before a token, or none is left
 abbrev pub breaks_at : Option TokenAndSpan → Bool
 breaks_at None = true
 breaks_at (Some t) = t.had_line_break
@@ -103,7 +103,7 @@ seen_of (Some t) = Some (plain t)
 abbrev pub seen : {S : Type 0} → Buffer S → Option TokenAndSpan
 seen b = seen_of b.cur
 
--- where code stands, by its context and the syntax: no assignment expression is known to begin there, since the code
+-- where code is, by its context and the syntax: no assignment expression is known to begin there, since the code
 -- looks at the tokens with which one begins before it reads on
 abbrev pub scope_of : Context → Syntax → Scope
 scope_of c x = record { context = c; syntax = x; head = false }
@@ -113,7 +113,7 @@ abbrev pub by_hook : {V : Type 0} → Reading V → Scope → List TokenAndSpan 
 by_hook reads c ts = reads c.context ts
 
 module _ {S : Type 0} (model : Model S) where
-  -- where code stands at a buffer: by its context, without the flags that decide nothing, and the syntax
+  -- where code is at a buffer: by its context, without the flags that decide nothing, and the syntax
   abbrev pub scope : Buffer S → Scope
   scope b = scope_of (deciding (context model b)) (model.state b.iter).syntax
 
@@ -262,7 +262,7 @@ module _ {S : Type 0} (model : Model S) where
   abbrev pub ContinuesAlone : {T A : Type 0} → (T → A) → (Scope → List TokenAndSpan → Out A) → Buffer S → Result T Error → Buffer S → Type 0
   ContinuesAlone view f b r c = (sure : Bool) → Continues model sure view f b r c
 
-  -- a sign was consumed, and its place is answered, where it stands first; or nothing was
+  -- a sign was consumed, and its place is answered, where it comes first; or nothing was
   abbrev pub Eats : (Token → Bool) → Buffer S → Result (Option Span) Error → Buffer S → Type 0
   Eats f b r c = (sure : Bool) → MatchResult r
       (λ o. MatchOption o (On model sure (eaten f) (λ x ts. Some (None, ts)) b c) (λ s. Heard model sure (eaten f) (Some s) b c))
@@ -287,16 +287,8 @@ module _ {F C K : Type 0} {fg : Ghosts F} {cg : Ghosts C} {kg : Ghosts K} where
   abbrev pub item_of : ℕ → Nodes F C K fg cg kg → ExprOrSpread ExprId → Type 0
   item_of k ns x = From k ns (expr_part x.expr)
 
-  abbrev pub elem_of : ℕ → Nodes F C K fg cg kg → Option (ExprOrSpread ExprId) × Option Span → Type 0
-  elem_of k ns p = Apart k ns (if_some item_parts p.0)
-
   abbrev pub elems_of : ℕ → Nodes F C K fg cg kg → Listed (Option (ExprOrSpread ExprId)) → Type 0
   elems_of k ns l = Apart k ns (elem_parts l.items)
-
-  -- of an argument, with the place of the comma after it or not, of all arguments, and of what names a member, with
-  -- where that ends
-  abbrev pub arg_item_of : ℕ → Nodes F C K fg cg kg → ExprOrSpread ExprId × Option Span → Type 0
-  arg_item_of k ns p = Apart k ns (item_parts p.0)
 
   abbrev pub args_of : ℕ → Nodes F C K fg cg kg → Listed (ExprOrSpread ExprId) → Type 0
   args_of k ns l = Apart k ns (args_parts l.items)
@@ -315,9 +307,6 @@ module _ {F C K : Type 0} {fg : Ghosts F} {cg : Ghosts C} {kg : Ghosts K} where
   abbrev pub prop_of : ℕ → Nodes F C K fg cg kg → PropNode K → Type 0
   prop_of k ns x = Apart k ns (prop_parts x)
 
-  abbrev pub prop_item_of : ℕ → Nodes F C K fg cg kg → PropNode K × Option Span → Type 0
-  prop_item_of k ns p = prop_of k ns p.0
-
   abbrev pub props_of : ℕ → Nodes F C K fg cg kg → Listed (PropNode K) → Type 0
   props_of k ns l = Apart k ns (props_parts l.items)
 
@@ -329,14 +318,8 @@ module _ {F C K : Type 0} {fg : Ghosts F} {cg : Ghosts C} {kg : Ghosts K} where
   abbrev pub item_at : Nodes F C K fg cg kg → ExprOrSpread ExprId → Tree F C K
   item_at ns x = item_tree (tree_of ns) x
 
-  abbrev pub elem_at : Nodes F C K fg cg kg → Option (ExprOrSpread ExprId) × Option Span → Tree F C K × Option Span
-  elem_at ns p = (elem_tree (tree_at ns) p.0, p.1)
-
   abbrev pub elems_at : Nodes F C K fg cg kg → Listed (Option (ExprOrSpread ExprId)) → Tree F C K
   elems_at ns l = listed l.trailing_comma l.end (elem_trees (tree_at ns) l.items)
-
-  abbrev pub arg_item_at : Nodes F C K fg cg kg → ExprOrSpread ExprId × Option Span → Tree F C K × Option Span
-  arg_item_at ns p = (item_at ns p.0, p.1)
 
   abbrev pub args_at : Nodes F C K fg cg kg → Listed (ExprOrSpread ExprId) → Tree F C K
   args_at ns l = listed l.trailing_comma l.end (item_trees (tree_of ns) l.items.items)
@@ -352,9 +335,6 @@ module _ {F C K : Type 0} {fg : Ghosts F} {cg : Ghosts C} {kg : Ghosts K} where
 
   abbrev pub prop_at : Nodes F C K fg cg kg → PropNode K → Tree F C K
   prop_at ns x = prop_tree fg.place cg.place kg.place (tree_at ns) x
-
-  abbrev pub prop_item_at : Nodes F C K fg cg kg → PropNode K × Option Span → Tree F C K × Option Span
-  prop_item_at ns p = (prop_at ns p.0, p.1)
 
   abbrev pub props_at : Nodes F C K fg cg kg → Listed (PropNode K) → Tree F C K
   props_at ns l = listed l.trailing_comma l.end (props_trees fg.place cg.place kg.place (tree_at ns) l.items)

@@ -1,4 +1,4 @@
-//! What productions stand on: the parser's state, steps over the buffer, and regular expressions.
+//! What productions are on: the parser's state, steps over the buffer, and regular expressions.
 #![tactic(auto)]
 
 pub mod productions;

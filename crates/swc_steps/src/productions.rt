@@ -1,4 +1,4 @@
-// What all productions stand on: the buffer, the nodes and the hook.
+// What all productions are on: the buffer, the nodes and the hook.
 ghost use Rattle.std.specs.Prelude.{◌≡◌, ◌++◌, ◌∷◌, [], true, false, None, Some, Ok, IfOk, IfErr, OnOk, IsSome};
 ghost use Rattle.std.specs.Prelude.{MatchOption};
 ghost use Rattle.swc_input.specs.Buffer.{current, context, state_of, previous, last_position, Looked};
@@ -27,7 +27,7 @@ use swc_nodes::nodes::NodesOf;
 /// The productions of the grammar, as methods: each reads its symbol from the buffer, from the
 /// current token on, and keeps the context.
 ///
-/// `Parser` of swc_ecma_parser stands over them, and says of its calls what the productions of the
+/// `Parser` of swc_ecma_parser is over them, and says of its calls what the productions of the
 /// same names record and refuse, and where. A production doesn't ask whether an earlier one wanted
 /// memory: that is left to its caller.
 pub struct Productions<I: Tokens, B: Bodies<I>> {

@@ -28,7 +28,7 @@ use swc_nodes::node::ExprId;
 
 /// A regular expression (ECMA-262, 13.2.7), at the slash with which it begins, or at a whole one. Where a slash is
 /// current, a lexer is told that a regular expression begins there. Flags that no regular expression has are
-/// recorded, and one that stands twice.
+/// recorded, and one that comes twice.
 pub fn parse_regex<I: Tokens, B: Bodies<I>>(p: &mut Productions<I, B>) -> PResult<ExprId>
     requires { at_token begins_regex (seen p.old.input) ≡ true }
     ensures { Produces I.model B.is_faithful itself tree_of regex_expr
@@ -71,7 +71,7 @@ fn parse_regex_text<I: Tokens>(input: &mut Buffer<I>) -> PResult<Regex>
     Ok(bump_regex(input))
 }
 
-/// A regular expression from the slash that is current: a lexer is told that one begins there, and gives what stands
+/// A regular expression from the slash that is current: a lexer is told that one begins there, and gives what is
 /// after the slash, which is refused where it is none.
 fn parse_slash_regex<I: Tokens>(input: &mut Buffer<I>) -> PResult<Regex>
     requires { at_token is_slash (seen input.old) ≡ true }
@@ -125,7 +125,7 @@ fn regex_of(token: Token, span: Span) -> Regex
     }
 }
 
-/// Records flags that no regular expression has, and one that stands twice, at the literal.
+/// Records flags that no regular expression has, and one that comes twice, at the literal.
 fn check_flags<I: Tokens>(input: &mut Buffer<I>, regex: &Regex) -> PResult<()>
     ensures checks { Checked I.model (flags_ok regex.now.flags) input.old result input.new }
     ensures falls { OnOk result (to_come I.model input.new ≤ to_come I.model input.old) }
@@ -147,7 +147,7 @@ fn check_known<I: Tokens>(input: &mut Buffer<I>, span: Span, flags: &[u8]) -> PR
     emit_err(input, span, SyntaxError::UnknownRegExpFlags)
 }
 
-/// Records the first flag that stands twice.
+/// Records the first flag that comes twice.
 fn check_once<I: Tokens>(input: &mut Buffer<I>, span: Span, flags: &[u8]) -> PResult<()>
     ensures checks { Checked I.model (not (is_some (parts.repeated flags.now))) input.old result input.new }
     ensures falls { OnOk result (to_come I.model input.new ≤ to_come I.model input.old) }
@@ -175,7 +175,7 @@ fn is_flag(flag: u8) -> bool
     matches!(flag, b'd' | b'g' | b'i' | b'm' | b's' | b'u' | b'v' | b'y')
 }
 
-/// The first flag, in their order, that stands once more.
+/// The first flag, in their order, that comes once more.
 #[tactic(auto, using(crate::proofs::Regexes::repeated_steps))]
 fn repeated(flags: &[u8]) -> Option<u8>
     ensures { result ≡ parts.repeated flags.now }

@@ -565,7 +565,7 @@ pub fn label_yield<I: Tokens>(alloc: Global, input: &Buffer<I>, span: Span, erro
     labelled(alloc, input, span, Note::YieldArgument, error)
 }
 
-/// The error, with a note on what stands at the place.
+/// The error, with a note on what is at the place.
 fn labelled<I: Tokens>(
     alloc: Global,
     input: &Buffer<I>,

@@ -19,7 +19,7 @@ headed {t = t} {us = us} e f = ap (λ w. cons w (trees us)) e ∙ ap (λ w. cons
 pub three : {F C K : Type 0} {r s t u v w : Tree F C K} → r ≡ u → s ≡ v → t ≡ w → cons r (cons s (cons t nil)) ≡ cons u (cons v (cons w nil))
 three {r = r} {s = s} {t = t} {u = u} d e f = ap (λ x. cons x (cons s (cons t nil))) d ∙ ap (cons u) (two e f)
 
--- what is read of several values, each of which is what stands there
+-- what is read of several values, each of which is what is there
 pub read-two : {A B R : Type 0} (f : A → B → R) {a u : A} {b v : B} → a ≡ u → b ≡ v → f a b ≡ f u v
 read-two f {u = u} {b = b} d e = ap (λ w. f w b) d ∙ ap (λ w. f u w) e
 
@@ -37,10 +37,6 @@ module _ {F C K : Type 0} where
   pub agrees-first : (at of : ℕ → Tree F C K) (ps qs : List Part) → AreGiven at of (ps ++ qs) → AreGiven at of ps
   agrees-first at of [] qs h = tt
   agrees-first at of (p ∷ ps) qs h = (h.0, agrees-first at of ps qs h.1)
-
-  pub agrees-second : (at of : ℕ → Tree F C K) (ps qs : List Part) → AreGiven at of (ps ++ qs) → AreGiven at of qs
-  agrees-second at of [] qs h = h
-  agrees-second at of (p ∷ ps) qs h = agrees-second at of ps qs h.1
 
   pub agrees-self : (of : ℕ → Tree F C K) (ps : List Part) → AreGiven of of ps
   agrees-self of [] = tt

@@ -1,10 +1,8 @@
 -- Nodes are taken out for parts, the last first: all parts that are due lie apart, before what was taken. Then trees are made of the nodes, from the last
 -- on: each finds those of its parts last in the list.
-use Rattle.std.proofs.Common.{◌≡◌, ℕ, suc, ◌<◌, ◌≤◌, true, List, [], ◌∷◌, ◌++◌, map, reverse, length, Result, Ok, Err, refl, sym, ap, subst, ◌∙◌, arith}
+use Rattle.std.proofs.Common.{◌≡◌, ℕ, suc, ◌<◌, ◌≤◌, true, List, [], ◌∷◌, ◌++◌, map, reverse, length, Ok, refl, sym, ap, subst, ◌∙◌, arith}
 use Rattle.std.proofs.lemmas.Bool.{le-leb}
 use Rattle.std.proofs.lemmas.List.{append_cancel_right, length-map, map-append, reverse-append}
-use Rattle.std.specs.Result.{IsErr}
-use Rattle.std.specs.declared.alloc.AllocError.{AllocError}
 use Rattle.std.specs.declared.alloc.Global.{Global}
 use Rattle.std.specs.declared.vec.Vec.{Vec}
 use Rattle.swc_context.specs.declared.span.Span.{Span}
@@ -224,8 +222,3 @@ module _ {F C K : Type 0} {fg : Ghosts F} {cg : Ghosts C} {kg : Ghosts K} where
   taken-out {old} {all = all} l e t =
       let are = raising-ends e t in
       record { left = l; moved = λ at h. (are.0, are.1 ∙ sym (given-map at (bare_at old) all h)) }
-
-  -- out of memory
-  pub out-refused : {Y : Type 0} {old now : Nodes F C K fg cg kg} {all : List Part} {same : (ℕ → Tree F C K) → Y → Type 0} (r : Result Y AllocError) → IsErr r → Left (floor (seat_at old) (count old) all) old now → TakesOut all same old r now
-  out-refused (Ok y) e l = cc
-  out-refused (Err y) e l = record { left = l; moved = tt }

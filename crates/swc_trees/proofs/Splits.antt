@@ -2,7 +2,6 @@
 use Rattle.std.proofs.Common.{◌≡◌, ℕ, suc, ◌+◌, ◌<◌, ◌≤◌, ◌≢◌, List, [], ◌∷◌, ◌++◌, map, take, length, get_or, true, Result, Ok, Err, Option, refl, sym, ap, subst, ◌∙◌, arith, append_assoc, rules}
 use Rattle.std.proofs.lemmas.List.{append-nil, map-append, length-append, take_more, take_all, get_or-set_other, length-set}
 use Rattle.std.proofs.Math.ListN.{set}
-use Rattle.std.specs.Result.{IsErr}
 use Rattle.std.specs.declared.alloc.AllocError.{AllocError}
 use Rattle.std.specs.declared.alloc.Global.{Global}
 use Rattle.std.specs.declared.boxed.Box.{Box}
@@ -18,7 +17,6 @@ use Rattle.swc_ast.specs.declared.pat.Pat.{Pat}
 use Rattle.swc_nodes.specs.NodeParts.{Part, View, Form, target_expr, other_expr, target_pat, other_pat, pat, simple}
 use Rattle.swc_nodes.specs.NodeParts.{pattern, form, view_ok, flat}
 use Rattle.swc_nodes.specs.declared.node.Node.{Node}
-use Rattle.swc_trees.specs.Building.{built_tree}
 use Rattle.swc_trees.specs.Moving.{IsNode}
 use Rattle.swc_trees.specs.Splitting.{part, target_view, built_view, places, AreAt, SplitsTo}
 use Rattle.swc_trees.specs.declared.built.Built.{Built}
@@ -68,10 +66,6 @@ module _ {F C K : Type 0} {fun_at : F → Span} {class_at : C → Span} {block_a
   pub split-none : {Y : Type 0} {parts : Y → List Part} {same : (ℕ → Tree F C K) → Y → Type 0} {old : List (Built F C K)} {y : Y} → parts y ≡ [] → ((at : ℕ → Tree F C K) → same at y) → SplitsTo fun_at class_at block_at parts same old (Ok y) old
   split-none {old = old} e f = record { split = record { own = []; added = sym (append-nil old); placed = e; moved = λ at a. f at } }
 
-  pub split-refused : {Y : Type 0} {parts : Y → List Part} {same : (ℕ → Tree F C K) → Y → Type 0} {old new : List (Built F C K)} (r : Result Y AllocError) → IsErr r → SplitsTo fun_at class_at block_at parts same old r new
-  split-refused (Ok y) e = cc
-  split-refused (Err y) e = record { split = tt }
-
   pub split-one : {Y Z : Type 0} {ps : Y → List Part} {parts : Z → List Part} {same : (ℕ → Tree F C K) → Y → Type 0} {then : (ℕ → Tree F C K) → Z → Type 0} {old new : List (Built F C K)} {y : Y} {z : Z} →
       SplitsTo fun_at class_at block_at ps same old (Ok y) new → parts z ≡ ps y → ((at : ℕ → Tree F C K) → same at y → then at z) → SplitsTo fun_at class_at block_at parts then old (Ok z) new
   split-one p e f = record { split = record { own = p.split.own; added = p.split.added; placed = e ∙ p.split.placed; moved = λ at a. f at (p.split.moved at a) } }
@@ -94,11 +88,6 @@ module _ {F C K : Type 0} {fun_at : F → Span} {class_at : C → Span} {block_a
   split-three {X} {Y} {ps = ps} {qs = qs} {second = second} {third = third} {mid = mid} {new = new} {x = x} {y = y} o p q e f =
       let more : SplitsTo fun_at class_at block_at {Y = X × Y} (λ v. ps v.0 ++ qs v.1) (λ at v. second at v.0 × third at v.1) mid (Ok (x, y)) new = split-two p q refl (λ at i j. (i, j)) in
       split-two o more e (λ at i j. f at i j.0 j.1)
-
-  -- a tree of its own is moved onto the end
-  pub split-placed : {Y : Type 0} {parts : Y → List Part} {same : (ℕ → Tree F C K) → Y → Type 0} {old new : List (Built F C K)} {y : Y} (b : Built F C K) → new ≡ old ++ b ∷ [] → parts y ≡ part (built_view b) (length old) ∷ [] →
-      ((at : ℕ → Tree F C K) → at (length old) ≡ built_tree fun_at class_at block_at b → same at y) → SplitsTo fun_at class_at block_at parts same old (Ok y) new
-  split-placed b e f g = record { split = record { own = b ∷ []; added = e; placed = f; moved = λ at a. g at a.0 } }
 
   -- the same, where it is answered as a value
   pub split-is : {Y : Type 0} {parts : Y → List Part} {same : (ℕ → Tree F C K) → Y → Type 0} {old new : List (Built F C K)} {r : Result Y AllocError} {y : Y} → SplitsTo fun_at class_at block_at parts same old r new → r ≡ Ok y → SplitsTo fun_at class_at block_at parts same old (Ok y) new

@@ -1,5 +1,5 @@
 -- How many nodes a tree has: each call is made with fewer, or on the way to a part of the same tree.
-use Rattle.std.proofs.Common.{ℕ, zero, suc, ◌+◌, ◌<◌, ◌≤◌, List, [], ◌∷◌, ◌++◌, map, length, get_or, Option, Some, None, arith}
+use Rattle.std.proofs.Common.{ℕ, suc, ◌+◌, ◌<◌, ◌≤◌, List, [], ◌∷◌, ◌++◌, map, Option, Some, None, arith}
 use Rattle.swc_context.specs.declared.span.Span.{Span}
 use Rattle.swc_ast.specs.Parts.{item_of}
 use Rattle.swc_ast.specs.Tree.{Tree, Trees, node, nil, cons, trees}
@@ -15,12 +15,6 @@ abbrev mutual
 -- of a list of trees
 abbrev pub weight_of : {F C K X : Type 0} → (X → Tree F C K) → List X → ℕ
 weight_of tree xs = weight_all (trees (map tree xs))
-
--- an item weighs no more than the list
-pub weight-item : {F C K X : Type 0} (tree : X → Tree F C K) (xs : List X) (i : ℕ) (d : X) → i < length xs → weight (tree (get_or xs i d)) ≤ weight_of tree xs
-weight-item tree [] i d h = absurd (omega arith)
-weight-item tree (x ∷ xs) zero d h = omega arith
-weight-item tree (x ∷ xs) (suc i) d h = let w = weight-item tree xs i d (omega arith) in omega arith
 
 -- an expression weighs no more than the item that it is
 pub weight-item-of : {F C K : Type 0} (dots : Option Span) (t : Tree F C K) → weight t ≤ weight (item_of dots t)

@@ -39,7 +39,7 @@ pub record Offers {F C K : Type 0} (ps : List Part) (bs : List (Built F C K)) : 
   pub front : List Kind
   pub ends : map built_kind bs ≡ front ++ map part_kind ps
 
--- the hook's types, and where their values stand
+-- the hook's types, and where their values are
 module _ {F C K : Type 0} (fun_at : F → Span) (class_at : C → Span) (block_at : K → Span) where
   abbrev pub built_tree : Built F C K → Tree F C K
   built_tree (built.Expr e) = boxed_tree F C K fun_at class_at block_at e

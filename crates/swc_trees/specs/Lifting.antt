@@ -8,7 +8,7 @@ use Rattle.swc_nodes.specs.Walking.{part_of}
 use Rattle.swc_trees.specs.Moving.{AreGiven}
 use Rattle.swc_trees.specs.declared.taking.Lifted.{Lifted}
 
--- the hook's types, and where their values stand
+-- the hook's types, and where their values are
 module _ {F C K : Type 0} (fun_at : F → Span) (class_at : C → Span) (block_at : K → Span) where
   -- a node is what its part is to be, and stands for the part's tree where its own parts stand for what is given
   pub record IsOf (at : ℕ → Tree F C K) (l : Lifted F C K) : Type 0 where

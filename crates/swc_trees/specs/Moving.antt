@@ -6,27 +6,22 @@ use Rattle.std.specs.declared.boxed.Box.{Box}
 use Rattle.swc_context.specs.declared.span.Span.{Span}
 use Rattle.swc_ast.specs.Tree.{Tree}
 use Rattle.swc_ast.specs.declared.spanned.Spanned.{Ghosts}
-use Rattle.swc_ast.specs.TreeOf.{expr_tree, boxed_tree, pat_tree, pat_prop_tree, prop_tree, prop_or_spread_tree, target_tree}
-use Rattle.swc_ast.specs.declared.expr.AssignTarget.{AssignTarget}
+use Rattle.swc_ast.specs.TreeOf.{boxed_tree, pat_tree, pat_prop_tree, prop_or_spread_tree}
 use Rattle.swc_ast.specs.declared.expr.Expr.{Expr}
 use Rattle.swc_ast.specs.declared.for_head.ForHead.{ForHead}
 use Rattle.swc_ast.specs.declared.for_head.ForHead.TheVariants as boxed_head
 use Rattle.swc_ast.specs.declared.pat.ObjectPatProp.{ObjectPatProp}
 use Rattle.swc_ast.specs.declared.pat.Pat.{Pat}
-use Rattle.swc_ast.specs.declared.prop.Prop.{Prop}
 use Rattle.swc_ast.specs.declared.prop.PropOrSpread.{PropOrSpread}
-use Rattle.swc_nodes.specs.NodeTree.{marked_tree, expr_of, pat_of, target_of, prop_of, pat_prop_of}
+use Rattle.swc_nodes.specs.NodeTree.{marked_tree, prop_of, pat_prop_of}
 use Rattle.swc_nodes.specs.NumberedTrees.{floor}
-use Rattle.swc_nodes.specs.NodeParts.{Part, View, form, view_ok, slots, prop_parts, pat_prop_parts, target_part}
+use Rattle.swc_nodes.specs.NodeParts.{Part, View, form, view_ok}
 use Rattle.swc_nodes.specs.GrowingNodes.{count, seat_at, tree_at, bare_at, Apart, Grows, Left}
-use Rattle.swc_nodes.specs.declared.node.ExprId.{ExprId}
 use Rattle.swc_nodes.specs.declared.node.ForHeadId.{ForHeadId}
 use Rattle.swc_nodes.specs.declared.node.ForHeadId.TheVariants as head
 use Rattle.swc_nodes.specs.declared.node.Node.{Node}
-use Rattle.swc_nodes.specs.declared.node.PatId.{PatId}
 use Rattle.swc_nodes.specs.declared.node.PatPropNode.{PatPropNode}
 use Rattle.swc_nodes.specs.declared.node.PropNode.{PropNode}
-use Rattle.swc_nodes.specs.declared.node.TargetNode.{TargetNode}
 use Rattle.swc_nodes.specs.declared.nodes.Nodes.{Nodes}
 
 -- what is given for each part is what it has there
@@ -64,21 +59,12 @@ module _ {F C K : Type 0} {fg : Ghosts F} {cg : Ghosts C} {kg : Ghosts K} where
     pub grows : Grows ns ms
     pub put : IfOk r (Put parts same (count ns) ms)
 
-  -- the trees of boxes, and of what stands in them, where the hook's values lie as these nodes have it
+  -- the trees of boxes, and of what is in them, where the hook's values lie as these nodes have it
   abbrev pub boxed_in : Nodes F C K fg cg kg → Box (Expr F C K) Global → Tree F C K
   boxed_in ns = boxed_tree F C K fg.place cg.place kg.place
 
-  abbrev pub expr_in : Nodes F C K fg cg kg → Expr F C K → Tree F C K
-  expr_in ns = expr_tree F C K fg.place cg.place kg.place
-
   abbrev pub pat_in : Nodes F C K fg cg kg → Pat F C K → Tree F C K
   pat_in ns = pat_tree F C K fg.place cg.place kg.place
-
-  abbrev pub target_in : Nodes F C K fg cg kg → AssignTarget F C K → Tree F C K
-  target_in ns = target_tree F C K fg.place cg.place kg.place
-
-  abbrev pub prop_in : Nodes F C K fg cg kg → Prop F C K → Tree F C K
-  prop_in ns = prop_tree F C K fg.place cg.place kg.place
 
   abbrev pub prop_or_spread_in : Nodes F C K fg cg kg → PropOrSpread F C K → Tree F C K
   prop_or_spread_in ns = prop_or_spread_tree F C K fg.place cg.place kg.place
@@ -97,23 +83,3 @@ module _ {F C K : Type 0} {fg : Ghosts F} {cg : Ghosts C} {kg : Ghosts K} where
 
   abbrev pub pat_prop_node_as : Nodes F C K fg cg kg → (ℕ → Tree F C K) → PatPropNode → Tree F C K
   pat_prop_node_as ns = pat_prop_of fg.place cg.place kg.place
-
-  -- numbers, as what is given for them
-  abbrev pub expr_as : Nodes F C K fg cg kg → (ℕ → Tree F C K) → ExprId → Tree F C K
-  expr_as ns = expr_of fg.place cg.place kg.place
-
-  abbrev pub pat_as : Nodes F C K fg cg kg → (ℕ → Tree F C K) → PatId → Tree F C K
-  pat_as ns = pat_of fg.place cg.place kg.place
-
-  -- Parts of a node for the tree were put in; those of a property, of one of a pattern, and of a target.
-  abbrev pub PutsNode : View → Tree F C K → Nodes F C K fg cg kg → Result (Node F C K) AllocError → Nodes F C K fg cg kg → Type 0
-  PutsNode v tree ns r ms = PutsIn slots (IsNode fg.place cg.place kg.place v tree) ns r ms
-
-  abbrev pub PutsProp : Tree F C K → Nodes F C K fg cg kg → Result (PropNode K) AllocError → Nodes F C K fg cg kg → Type 0
-  PutsProp tree ns r ms = PutsIn prop_parts (λ at y. prop_of fg.place cg.place kg.place at y ≡ tree) ns r ms
-
-  abbrev pub PutsPatProp : Tree F C K → Nodes F C K fg cg kg → Result PatPropNode AllocError → Nodes F C K fg cg kg → Type 0
-  PutsPatProp tree ns r ms = PutsIn pat_prop_parts (λ at y. pat_prop_of fg.place cg.place kg.place at y ≡ tree) ns r ms
-
-  abbrev pub PutsTarget : Tree F C K → Nodes F C K fg cg kg → Result TargetNode AllocError → Nodes F C K fg cg kg → Type 0
-  PutsTarget tree ns r ms = PutsIn (λ y. target_part y ∷ []) (λ at y. target_of fg.place cg.place kg.place at y ≡ tree) ns r ms

@@ -59,7 +59,7 @@ abbrev pub places : {F C K : Type 0} → ℕ → List (Built F C K) → List Par
 places k [] = []
 places k (b ∷ bs) = part (built_view b) k ∷ places (suc k) bs
 
--- the hook's types, and where their values stand
+-- the hook's types, and where their values are
 module _ {F C K : Type 0} (fun_at : F → Span) (class_at : C → Span) (block_at : K → Span) where
   -- what is given for the places from k on is what the trees stand for
   abbrev pub AreAt : (ℕ → Tree F C K) → ℕ → List (Built F C K) → Type 0

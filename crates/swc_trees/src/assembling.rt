@@ -272,7 +272,7 @@ pub(crate) fn assemble_pat<F: Spanned + Drop, C: Spanned + Drop, K: Spanned + Dr
     }
 }
 
-/// What is assigned to as it stands, from its node.
+/// What is assigned to as it is, from its node.
 pub(crate) fn assemble_simple<F: Spanned + Drop, C: Spanned + Drop, K: Spanned + Drop>(
     alloc: Global,
     built: &mut Vec<Built<F, C, K>>,

@@ -1,4 +1,4 @@
-// Trees that were taken out, and wait for the node that they are parts of. Those of one node stand in a list, in the
+// Trees that were taken out, and wait for the node that they are parts of. Those of one node are in a list, in the
 // order of its parts, and
 // are taken from its end.
 ghost use Rattle.std.specs.Prelude.{◌≡◌, ◌∷◌, []};
@@ -18,7 +18,7 @@ use swc_nodes::node::{ExprId, PatId, TargetNode};
 pub(crate) enum Built<F, C, K> {
     Expr(Box<Expr<F, C, K>>),
     Pat(Pat<F, C, K>),
-    /// What stands left of an assignment operator.
+    /// What is left of an assignment operator.
     Target(AssignTarget<F, C, K>),
 }
 
@@ -67,7 +67,7 @@ pub(crate) fn pop_pat<F: Spanned + Drop, C: Spanned + Drop, K: Spanned + Drop>(
     }
 }
 
-/// Takes the last tree, for what stands left of an assignment operator.
+/// Takes the last tree, for what is left of an assignment operator.
 pub(crate) fn pop_target<F: Spanned + Drop, C: Spanned + Drop, K: Spanned + Drop>(
     built: &mut Vec<Built<F, C, K>>,
     target: TargetNode,

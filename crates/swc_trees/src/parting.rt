@@ -36,7 +36,7 @@ use swc_context::span::Span;
 use swc_nodes::aside::Aside;
 use swc_nodes::node::{ExprId, PatId, PatPropNode, PropNode};
 
-/// Splits what stands in parentheses.
+/// Splits what is in parentheses.
 pub(crate) fn split_paren<F: Spanned + Drop, C: Spanned + Drop, K: Spanned + Drop>(
     alloc: Global,
     built: &mut Vec<Built<F, C, K>>,

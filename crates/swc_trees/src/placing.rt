@@ -44,7 +44,7 @@ pub(crate) fn place_pat<F: Spanned + Drop, C: Spanned + Drop, K: Spanned + Drop>
     Ok(PatId(place))
 }
 
-/// Moves what stands left of an assignment operator onto the end of a list, and answers its place there.
+/// Moves what is left of an assignment operator onto the end of a list, and answers its place there.
 pub(crate) fn place_target<F: Spanned + Drop, C: Spanned + Drop, K: Spanned + Drop>(
     alloc: Global,
     built: &mut Vec<Built<F, C, K>>,

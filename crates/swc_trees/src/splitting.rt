@@ -59,7 +59,7 @@ pub(crate) fn split<F: Spanned + Drop, C: Spanned + Drop, K: Spanned + Drop>(
     }
 }
 
-/// The node of what stands left of an assignment operator.
+/// The node of what is left of an assignment operator.
 fn split_target<F: Spanned + Drop, C: Spanned + Drop, K: Spanned + Drop>(
     alloc: Global,
     built: &mut Vec<Built<F, C, K>>,

@@ -227,7 +227,7 @@ fn take_all<F: Spanned + Drop, C: Spanned + Drop, K: Spanned + Drop>(
     Ok(built)
 }
 
-/// Takes nodes out for parts, and for the parts of those nodes, the last first, until none is due. So each node stands
+/// Takes nodes out for parts, and for the parts of those nodes, the last first, until none is due. So each node is
 /// before those of its parts, and from the last node on each finds the trees of its parts made.
 fn lift<F: Spanned + Drop, C: Spanned + Drop, K: Spanned + Drop>(
     nodes: &mut Nodes<F, C, K>,

@@ -3,27 +3,21 @@ use Rattle.std.proofs.Common.{◌≡◌, ℕ, true, List, [], ◌∷◌, ◌++�
 use Rattle.std.proofs.lemmas.List.Elements.{All-same}
 use Rattle.std.specs.declared.alloc.Global.{Global}
 use Rattle.std.specs.declared.vec.Vec.{Vec}
-use Rattle.swc_context.specs.declared.span.Span.{Span}
-use Rattle.swc_ast.specs.Parts.{prop_name_tree, args_tree, tpl_tree, param_tree}
+use Rattle.swc_ast.specs.Parts.{args_tree}
 use Rattle.swc_ast.specs.Pedantic.{no_cover_left, none_left}
 use Rattle.swc_ast.specs.Tree.{cover, arrow, args, Tree, node, Trees, nil, cons, no_span, trees}
 use Rattle.swc_ast.specs.declared.expr.ExprOrSpread.{ExprOrSpread}
-use Rattle.swc_ast.specs.declared.expr.Tpl.{Tpl}
-use Rattle.swc_ast.specs.declared.function.Param.{Param}
-use Rattle.swc_ast.specs.declared.prop.PropName.{PropName}
 use Rattle.swc_ast.specs.declared.spanned.Spanned.{Ghosts}
 use Rattle.swc_nodes.specs.GrowingNodes.{count, seat_at, Apart}
-use Rattle.swc_nodes.specs.NodeParts.{Part, flat, one_expr, one_pat, args_parts, key_parts, param_parts, prop_parts, pat_prop_parts}
-use Rattle.swc_nodes.specs.NodeTree.{pat_prop_of}
+use Rattle.swc_nodes.specs.NodeParts.{Part, flat, one_expr, one_pat, args_parts, prop_parts}
 use Rattle.swc_nodes.specs.declared.node.ExprId.{ExprId}
 use Rattle.swc_nodes.specs.declared.node.PatId.{PatId}
-use Rattle.swc_nodes.specs.declared.node.PatPropNode.{PatPropNode}
 use Rattle.swc_nodes.specs.declared.node.PropNode.{PropNode}
 use Rattle.swc_nodes.specs.declared.nodes.Nodes.{Nodes}
 use Rattle.swc_nodes.proofs.Chains.{both_true, true_both}
 use Rattle.swc_verifier.specs.CoverNames.{covers_left, covers_left_of_all, covers_of_arrow, parts_covers_left}
 use Rattle.swc_verifier.specs.Dues.{Task, part_dues, prop_dues, names_due, is_within, AreWithin}
-use Rattle.swc_verifier.proofs.Names.{listed, expr_same, pat_same, args_names, key_names, tpl_names, pat_prop_names}
+use Rattle.swc_verifier.proofs.Names.{listed, expr_same, pat_same, args_names}
 use Rattle.swc_verifier.proofs.Shrinking.{part_within, prop_within}
 
 -- ---- none is left
@@ -86,27 +80,9 @@ module _ {F C K : Type 0} (at : ℕ → Tree F C K) where
       → covers_left (args_tree (λ (e : ExprId). at e.0) xs) ≡ parts_covers_left at (args_parts xs)
   args-left xs = args_names true at xs ∙ due-left (args_parts xs)
 
-  pub key-left : (k : PropName ExprId) → covers_left (prop_name_tree (λ (e : ExprId). at e.0) k) ≡ parts_covers_left at (key_parts k)
-  key-left k = key_names true at k ∙ due-left (key_parts k)
-
-  pub tpl-left : (t : Tpl ExprId)
-      → covers_left (tpl_tree (λ (e : ExprId). at e.0) t) ≡ parts_covers_left at (flat one_expr t.exprs.items)
-  tpl-left t = tpl_names true at t ∙ due-left (flat one_expr t.exprs.items)
-
-  pub params-left : (ps : List (Param PatId))
-      → covers_left (node args no_span (trees (map (param_tree (λ (p : PatId). at p.0)) ps)))
-      ≡ parts_covers_left at (flat param_parts ps)
-  params-left ps =
-      listed true at (param_tree (λ (p : PatId). at p.0)) param_parts (λ p. refl) ps ∙ due-left (flat param_parts ps)
-
   pub pats-left : (ps : List PatId)
       → covers_left (node args no_span (trees (map (λ (p : PatId). at p.0) ps))) ≡ parts_covers_left at (flat one_pat ps)
   pats-left ps = listed true at (λ (p : PatId). at p.0) one_pat (pat_same true at) ps ∙ due-left (flat one_pat ps)
-
-  pub pat_prop-left : (fun_at : F → Span) (class_at : C → Span) (block_at : K → Span) (p : PatPropNode)
-      → covers_left (pat_prop_of fun_at class_at block_at at p) ≡ parts_covers_left at (pat_prop_parts p)
-  pat_prop-left fun_at class_at block_at p =
-      pat_prop_names fun_at class_at block_at true at p ∙ due-left (pat_prop_parts p)
 
 -- ---- what a walk begins with, among nodes
 

@@ -4,7 +4,7 @@ use Rattle.swc_context.specs.declared.span.Span.{Span}
 use Rattle.swc_ast.specs.Tree.{cover, arrow, Tree, node, Trees, nil, cons}
 use Rattle.swc_nodes.specs.NodeParts.{Part, flat}
 
--- Where they stand, in the order of the source, with those in arrow functions or without them. Nothing is looked for
+-- Where they are, in the order of the source, with those in arrow functions or without them. Nothing is looked for
 -- after a cover name; but in keys, in parameters of methods and in patterns. What the hook reads has no parts. The body
 -- of an arrow function is before its parameters in the tree, and after them in the source.
 abbrev mutual

@@ -48,7 +48,7 @@ here-arrow None h = absurd cc
 here-arrow (Some t) h = (both (not t.had_line_break) (is_arrow t.token) h).1
 
 module _ {F C K : Type 0} (hook : Hook F C K) where
-  -- an arrow function: in its body the same operators are read, and `=>` stands on a line
+  -- an arrow function: in its body the same operators are read, and `=>` is on a line
   pub body-bound : (c : Scope) (is_async : Bool) (ys : List TokenAndSpan) → Bound c 0 ys
       → Bound (in_context (arrow_body is_async) c) 0 ys
   body-bound c is_async [] h = λ op k. absurd cc
@@ -77,7 +77,7 @@ module _ {F C K : Type 0} (hook : Hook F C K) where
       by-token token.Arrow b s h = (refl, refl, λ op k. absurd cc)
       by-token t b s h = absurd cc
 
-  -- a list in parentheses: as an operand, and as it is read where an arrow may stand
+  -- a list in parentheses: as an operand, and as it is read where an arrow may be
   abbrev paren_of : Span → Tree F C K → Tree F C K
   paren_of s es = paren_e (to s (span_of es)) (seq_of (held_exprs (items_of es)))
 
@@ -204,7 +204,7 @@ module _ {F C K : Type 0} (hook : Hook F C K) where
       subst (λ v. exec hook (run hook) (Some 2) (plan (arrow_tail c v.0)) v.1 ≡ Some (t, ys)) (sym_path o) d in
       head-reads c b s us w.1 w.0 a1 ∙ knot hook (parens s w.0) c w.1 ∙ rw (z, e, ok) f
 
-  -- A reference that may stand alone, before `=>`: nothing more is read there than it.
+  -- A reference that may be alone, before `=>`: nothing more is read there than it.
   alone-places : (d : Scope) (a : TokenAndSpan) (us : List TokenAndSpan) → is_alone d.context a.token ≡ true
       → (unary {F = F} {C = C} {K = K} d (a ∷ us) ≡ operand d) × (begins_new (a ∷ us) ≡ false)
       × (base {F = F} {C = C} {K = K} true d (a ∷ us) ≡ pick base-primary)

@@ -141,7 +141,7 @@ module _ {F C K : Type 0} (hook : Hook F C K) where
       if-off (not (yield_ok c.context)) _ _ (not-off (yield_ok c.context) o)
       ∙ if-off (not (goes_on_yield_at u)) _ _ (not-off (goes_on_yield_at u) h) ∙ e
 
-  -- the productions that are picked by what stands first: those of `yield`, and of arrow functions of one name
+  -- the productions that are picked by what comes first: those of `yield`, and of arrow functions of one name
   abbrev is_yielded : {c : Scope} {r : Side F C K Assign} → Production Assign c r → Bool
   is_yielded yield-alone = true
   is_yielded yield-expr = true
@@ -189,7 +189,7 @@ module _ {F C K : Type 0} (hook : Hook F C K) where
       (λ n h d x. (refl, λ e. ((stop.0, body-bound hook c true ys stop.1), tt))))
   ready-assign ys stop p y = absurd cc
 
-  -- what is picked by what stands first
+  -- what is picked by what comes first
   pub yielded : {c : Scope} {r : Side F C K Assign} {xs ys : List TokenAndSpan} {t : Tree F C K}
       (p : Production Assign c r) → is_yielded p ≡ true → Ran hook Assign r xs ys t → Claim hook Assign c xs ys t
   yielded {c = c} {xs = xs} {ys = ys} p y d = λ stop.

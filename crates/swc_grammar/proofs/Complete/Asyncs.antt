@@ -119,7 +119,7 @@ module _ {F C K : Type 0} (hook : Hook F C K) where
       by-token (token.Word (word.Ident w)) b s h = (refl, refl, refl)
       by-token t b s h = absurd cc
 
-  -- at `async` and `(`, as it is read where an arrow may stand, and as a primary expression
+  -- at `async` and `(`, as it is read where an arrow may be, and as a primary expression
   async-reads : (c : Scope) (a : TokenAndSpan) (s : Span) (us vs : List TokenAndSpan) (n : Spelling) (es : Tree F C K)
       → async_name c a.token a.span ≡ Some n → run hook (sym (Args false)) (with_in c) us ≡ Some (es, vs)
       → run hook (sym Assign) c (a ∷ (tk token.LParen false s ∷ us)) ≡ run hook (asyncs n es) c vs

@@ -77,7 +77,7 @@ await-apart : (t : Token) → is_await t ≡ true → is_update t ≡ false
 await-apart (token.Word w) h = refl
 await-apart t h = absurd cc
 
--- a test of what stands first, on the list
+-- a test of what comes first, on the list
 pub first-sees : (p : Token → Bool) (xs : List TokenAndSpan) → sees (λ t. p t.token) xs ≡ false
     → at_token p (first xs) ≡ false
 first-sees p [] h = refl

@@ -88,7 +88,7 @@ module _ {F C K : Type 0} (hook : Hook F C K) where
   lit-picks c [] h = absurd cc
   lit-picks c (a ∷ us) h = lit-token c a.token a.had_line_break a.span us h
 
-  -- functions and classes, by the tokens that stand first
+  -- functions and classes, by the tokens that come first
   fn-token : (c : Scope) (t : Token) (b : Bool) (s : Span) (us : List TokenAndSpan)
       → begins_function (tk t b s ∷ us) ≡ true → primary {F = F} {C = C} {K = K} c (tk t b s ∷ us) ≡ pick fn-expr
   fn-token c (token.Word (word.Keyword keyword.Function)) b s us h = refl

@@ -55,7 +55,7 @@ then-some None = refl
 then-some (Some p) = refl
 
 module _ {F C K : Type 0} where
-  -- what stands before a side is followed by tokens of which Q holds
+  -- what is before a side is followed by tokens of which Q holds
   abbrev Before : {A : Type 0} → (List TokenAndSpan → Type 0) → List TokenAndSpan
       → Rule Symbol (Answer F C K) Body (Value F C K) A → Type 0
   Before Q ys (gives a) = Q ys
@@ -67,7 +67,7 @@ module _ {F C K : Type 0} where
   Before Q ys (read s c f) = (a : TokenAndSpan) (us : List TokenAndSpan) → starts s c a.token ≡ true → Q (a ∷ us)
   Before Q ys (hear b c f) = (own us : List TokenAndSpan) → begins_body b own ≡ true → Q (own ++ us)
 
-  -- a side may be run: its parts stop before what follows them, and a call that stands first is of a lower rank
+  -- a side may be run: its parts stop before what follows them, and a call that comes first is of a lower rank
   abbrev pub Ready : {A : Type 0} → Option ℕ → List TokenAndSpan → Rule Symbol (Answer F C K) Body (Value F C K) A
       → Type 0
   Ready g ys (gives a) = Unit {0}
@@ -103,7 +103,7 @@ module _ {F C K : Type 0} where
   before-held Q (heard {ms = ms} h d) b = subst Q (sym_path h.list) (b h.own ms h.begins)
 
 module _ {F C K : Type 0} (hook : Hook F C K) where
-  -- a call that stands last
+  -- a call that comes last
   pub last : (g : Option ℕ) (k : Call F C K) (c : Scope) (ts : List TokenAndSpan) → allowed g (rank k) ≡ true
       → exec hook (run hook) g (read k c (λ v. gives v)) ts ≡ run hook k c ts
   last g k c ts h = rw h (then-some (run hook k c ts))

@@ -1,7 +1,6 @@
 -- What is consumed, what is kept, and what a call does to the buffer by itself.
 use Rattle.std.proofs.Common.{◌≡◌, ◌≢◌, ℕ, ◌≤◌, ◌<◌, List, [], ◌∷◌, ◌++◌, Option, Some, None, Result, Ok, Err, OnOk}
 use Rattle.std.proofs.Common.{IfErr, MatchOption, length, refl, sym, ap, subst, ◌∙◌, arith, length-append}
-use Rattle.swc_context.specs.Contexts.{view as deciding}
 use Rattle.swc_context.specs.declared.context.Context.{Context}
 use Rattle.swc_context.specs.declared.context.Syntax.{Syntax}
 use Rattle.swc_context.specs.declared.error.Error.{Error}
@@ -20,6 +19,7 @@ use Rattle.swc_grammar.specs.Scope.{Scope, in_context}
 use Rattle.swc_grammar.specs.Clean.{Out}
 use Rattle.swc_steps.specs.Parsing.{scope_of, scope, recorded, Loud, Spends, Leads, Onward, Advances, Moves, Refuses}
 use Rattle.swc_steps.specs.Parsing.{Forgoes, Consumes, Acts, Tries}
+use Rattle.swc_context.specs.Contexts.{view as deciding}
 
 abbrev pub Reader : Type 0 → Type 0
 Reader A = Scope → List TokenAndSpan → Out A
@@ -47,7 +47,7 @@ module _ {S : Type 0} {model : Model S} where
       → (model.state c.iter).syntax ≡ (model.state b.iter).syntax
   kept_syntax {b} {c} laws took = (laws.gave b.iter c.iter took.given took.gave).syntax
 
-  -- where code stands is what it was, and where the context was set another
+  -- the place of code is what it was, and another where the context was set
   pub read_scope : {b c : Buffer S} {xs : List TokenAndSpan} → Laws model → Read model b xs c
       → scope model c ≡ scope model b
   read_scope laws read = scope_is (ap deciding read.context) (kept_syntax laws read.took)
@@ -129,9 +129,6 @@ module _ {S : Type 0} {model : Model S} where
   pub more_recorded : {b c : Buffer S} → Leads model b c → recorded model b ≤ recorded model c
   more_recorded p = kept p.read.errors
 
-  more_spent : {b c : Buffer S} → Spends model b c → recorded model b ≤ recorded model c
-  more_spent p = kept p.read.errors
-
   pub loud_spent : {b c : Buffer S} → Spends model b c → Loud model b → Loud model c
   loud_spent {b} {c} p l =
       let syntax = (p.laws.gave b.iter c.iter p.read.took.given p.read.took.gave).syntax in
@@ -154,10 +151,6 @@ module _ {S : Type 0} {model : Model S} where
   pub acts_later : {T : Type 0} {b c : Buffer S} (d : Buffer S) (r : Result T Error) → Leads model b c → Acts model c r d → Acts model b r d
   acts_later d (Ok x) p h = leads_then p h
   acts_later d (Err e) p u = refuses_later p u
-
-pub acts_of : {S T : Type 0} (model : Model S) (b c : Buffer S) (r : Result T Error) → Tries model b r c → Acts model b r c
-acts_of model b c (Ok x) h = h
-acts_of model b c (Err e) h = forgoes_refuses h
 
 module _ {S : Type 0} (model : Model S) where
   -- a node is made in the end

@@ -76,17 +76,6 @@ module _ {S : Type 0} {model : Model S} {sure : Bool} where
       ((x : Scope) (ts : List TokenAndSpan) → well ≡ true → f x ts ≡ g x ts) → ((x : Scope) (ts : List TokenAndSpan) → well ≡ false → f x ts ≡ None) → On model sure f g b c
   on_checked {b = b} well h goes fails = on_checked_in well h (λ ts. goes (scope model b) ts) (λ ts. fails (scope model b) ts)
 
-  -- Where f reads nothing of any list, what is heard is a fault that was recorded: whatever it stands for, and whatever follows.
-  pub heard_none : {A : Type 0} {f : Reader A} {t u : A} {b c : Buffer S} → ((x : Scope) (ts : List TokenAndSpan) → f x ts ≡ None) → Heard model sure f t b c → Heard model sure f u b c
-  heard_none {b = b} none h = record {
-    on = record {
-      leads = h.on.leads;
-      clean = λ l s ys fut. let e = sym (none (scope model b) (h.on.leads.taken ++ ys)) ∙ h.on.clean l s ys fut in absurd cc;
-      faulty = h.on.faulty;
-    };
-    onward = h.onward;
-  }
-
   pub on_nothing : {A B : Type 0} {g : Reader A} {v : B} {b c : Buffer S} → Heard model sure nothing v b c → On model sure nothing g b c
   on_nothing h = record {
     leads = h.on.leads;

@@ -25,10 +25,6 @@ module _ {S : Type 0} {model : Model S} {sure : Bool} {A : Type 0} {f : Reader A
   unfoldable pub on_inner : {g : Reader A} {b c : Buffer S} → On model sure f g b c → On model sure (inner_of f) g b c
   on_inner o = record { leads = o.leads; clean = o.clean; faulty = o.faulty }
 
-  -- and what is left to be read
-  pub on_to_inner : {g : Reader A} {b c : Buffer S} → On model sure f g b c → On model sure f (inner_of g) b c
-  on_to_inner o = record { leads = o.leads; clean = o.clean; faulty = o.faulty }
-
   pub on_from_inner : {g : Reader A} {b c : Buffer S} → On model sure f (inner_of g) b c → On model sure f g b c
   on_from_inner o = record { leads = o.leads; clean = o.clean; faulty = o.faulty }
 

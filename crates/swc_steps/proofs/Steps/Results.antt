@@ -98,7 +98,7 @@ module _ {S : Type 0} (model : Model S) (sure : Bool) {T A : Type 0} (view : T �
   tries_then d (Err e) p u memory = forgoes_later p (record { spends = u.refuses.spends; kind = memory })
 
 module _ {S : Type 0} (model : Model S) where
-  -- a sign that is taken where it stands, or not
+  -- a sign that is taken where it is, or not
   pub eats_acts : (f : Token → Bool) (b c : Buffer S) (r : Result (Option Span) Error) →
       MatchResult r
       (λ o. MatchOption o (On model true (eaten f) (λ x ts. Some (None, ts)) b c) (λ s. Heard model true (eaten f) (Some s) b c))

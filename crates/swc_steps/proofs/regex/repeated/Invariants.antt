@@ -2,7 +2,7 @@ use Rattle.std.proofs.Common.{◌≡◌, length}
 use Rattle.swc_grammar.specs.Parts.{repeated}
 use Rattle.swc_steps.proofs.regex.repeated.Given as goal
 
--- what stands twice among the flags that are left stands twice among all
+-- what comes twice among the flags that are left comes twice among all
 abbrev pub invariant-loop-flag : goal.invariant-loop-flag
 invariant-loop-flag l = repeated l.rest ≡ repeated l.fn.flags
 
