@@ -77,7 +77,7 @@ pub fn parse_part(alloc: Global, part: Part, context: Context) -> Result<(Nodes,
     ensures stands { IfOk result (λ read. From 0 read.0 (expr_part read.1)) }
 {
     let (start, syntax) = (position(part.start), Syntax::default());
-    let ending = Ending::new(alloc, &part.tokens, start)?;
+    let ending = Ending::new(alloc, &part.tokens, start, context.strict)?;
     let tokens = part.tokens;
     let source = TokensInput::new_at(alloc, start, tokens, context, syntax, EsVersion::default());
     let mut parser = Parser::new_from(alloc, source, TokenBodies::new(alloc));
@@ -87,10 +87,12 @@ pub fn parse_part(alloc: Global, part: Part, context: Context) -> Result<(Nodes,
     let recorded = parser.take_errors().into_iter().next();
     let nodes = parser.into_nodes();
     match (recorded, read) {
-        (None, Ok(expr)) => Ok((nodes, expr)),
-        (Some(fault), _) => Err(ending.refusal(fault)),
-        (None, Err(fault)) if is_too_deep => Err(Refusal::TooDeep(fault.span())),
-        (None, Err(fault)) => Err(ending.refusal(fault)),
+        (None, Ok(expr)) => match ending.legacy() {
+            None => Ok((nodes, expr)),
+            Some(fault) => Err(Refusal::Fault(fault)),
+        },
+        (Some(fault), _) => Err(ending.refusal(fault, false)),
+        (None, Err(fault)) => Err(ending.refusal(fault, is_too_deep)),
     }
 }
 

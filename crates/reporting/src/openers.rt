@@ -4,6 +4,7 @@ use std::alloc::{AllocError, Global};
 use swc_ecma_parser::context::error::Error;
 use swc_ecma_parser::context::span::{BytePos, Span};
 use swc_ecma_parser::input::token::{Token, TokenAndSpan};
+use swc_lexer::legacy::legacy_fault;
 
 /// How the tokens of a text end.
 #[derive(Drop)]
@@ -14,6 +15,8 @@ pub struct Ending {
     open: Option<Span>,
     /// Where the last token begins; with no token, where the text does.
     last: BytePos,
+    /// In strict code the first number or escape of old scripts, as `010`.
+    legacy: Option<Error>,
 }
 
 /// What opens.
@@ -26,11 +29,13 @@ enum What {
 }
 
 impl Ending {
-    /// The ending of a text that begins at the position and has these tokens. The only error is out of memory.
+    /// The ending of a text that begins at the position, has these tokens, and is strict code or not. The only error is
+    /// out of memory.
     pub fn new(
         alloc: Global,
         tokens: &[TokenAndSpan],
         start: BytePos,
+        is_strict: bool,
     ) -> Result<Ending, AllocError> {
         let lexical = match tokens.last() {
             Some(
@@ -45,16 +50,26 @@ impl Ending {
             lexical,
             open: open_at_end(alloc, tokens)?,
             last: tokens.last().map_or(start, |last| last.span.lo),
+            legacy: if is_strict { legacy_in(tokens) } else { None },
         })
     }
 
-    /// The refusal by a fault of the parser: where the lexer has a fault in its place, that; and where it is at the last
-    /// token or after it, and something is open that begins elsewhere, it tells of that too.
-    pub fn refusal(self, fault: Error) -> Refusal {
+    /// The fault of a text in which the parser has none.
+    pub fn legacy(self) -> Option<Error> {
+        self.legacy
+    }
+
+    /// The refusal by a fault of the parser, which `is_too_deep` or not: where the lexer has a fault in its place, that; and
+    /// where it is at the last token or after it, and something is open that begins elsewhere, it tells of that too.
+    pub fn refusal(self, fault: Error, is_too_deep: bool) -> Refusal {
+        if is_too_deep {
+            return Refusal::TooDeep(fault.span());
+        }
         let Ending {
             lexical,
             open,
             last,
+            legacy: _,
         } = self;
         let (place, is_failure) = (fault.span().lo, is_failure(fault.kind()));
         let fault = if !is_failure && last == place {
@@ -69,6 +84,16 @@ impl Ending {
             _ => Refusal::Fault(fault),
         }
     }
+}
+
+/// The fault of the first number or escape of old scripts.
+fn legacy_in(tokens: &[TokenAndSpan]) -> Option<Error> {
+    for token in tokens {
+        if let Some(fault) = legacy_fault(token) {
+            return Some(fault);
+        }
+    }
+    None
 }
 
 /// What is open after the last token, as far as the end there is its fault: where the innermost bracket opens that
