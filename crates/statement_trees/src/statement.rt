@@ -30,7 +30,10 @@ impl Reader {
     fn rest_of_list(&mut self, owner: Owner) -> PResult<()>
         ensures module { SameModule self.old self.new }
     {
-        let items = self.prologue()?;
+        let items = match owner {
+            Owner::StaticBlock => Vec::new(self.alloc),
+            _ => self.prologue()?,
+        };
         self.put_off(Frame::List(List { owner, items }))?;
         while let Some(frame) = self.next_frame() {
             self.step(frame)?;
@@ -129,7 +132,7 @@ impl Reader {
         ensures lower { OnOk result (work self.new ≤ work self.old) }
     {
         match list.owner {
-            Owner::Program | Owner::Function => {
+            Owner::Program | Owner::Function | Owner::StaticBlock => {
                 self.list = list.items;
                 Ok(())
             }
