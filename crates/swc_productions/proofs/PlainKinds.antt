@@ -1,5 +1,5 @@
 -- A name, a literal or `this` begins a primary expression in which no other stands.
-use Rattle.std.proofs.Common.{◌≡◌, ◌×◌, Option, Some, None, true, false, refl}
+use Rattle.std.proofs.Common.{◌≡◌, Option, Some, None, true, false, refl}
 use Rattle.swc_bodies.specs.Readings.{is_brace}
 use Rattle.swc_grammar.specs.Tokens.{is_lparen, is_lbracket, is_backquote}
 use Rattle.swc_input.specs.Kinds.{at_token}

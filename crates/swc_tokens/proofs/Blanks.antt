@@ -1,18 +1,21 @@
 -- Blanks and comments one after the other, and between tokens.
-use Rattle.std.proofs.Common.{◌≡◌, ℕ, ◌≤◌, List, [], ◌∷◌, ◌++◌, length, subst, arith}
+use Rattle.std.proofs.Common.{◌≡◌, ℕ, ◌≤◌, List, [], ◌∷◌, ◌++◌, ◌+◌, length, subst, ap, ◌∙◌, arith}
 use Rattle.swc_input.specs.declared.token.TokenAndSpan.{TokenAndSpan}
-use Rattle.swc_tokens.specs.Blanks.{IsBlank, AreBlanks, OnlyBlanksBetween}
+use Rattle.swc_tokens.specs.Blanks.{AreBlanks, OnlyBlanksBetween}
 use Rattle.swc_tokens.specs.Blanks.{none, more}
+use Rattle.swc_tokens.specs.Profile.{blanks_len}
+use Rattle.swc_lexical.proofs.Runs.{rest_at, rest_at-drop}
 
 pub AreBlanks_none : (text : List ℕ) (at : ℕ) → AreBlanks text at at
 AreBlanks_none text at = none
 
-pub AreBlanks_more : (text : List ℕ) (low mid high : ℕ) → AreBlanks text low mid → IsBlank text mid high → AreBlanks text low high
-AreBlanks_more text low mid high so_far blank = more so_far blank
+-- all that are here, as code cuts them
+pub AreBlanks_all : (text : List ℕ) (low len : ℕ) → len ≡ blanks_len (rest_at text low) → AreBlanks text low (low + len)
+AreBlanks_all text low len is = more none (ap (λ n. low + n) (is ∙ ap blanks_len (rest_at-drop text low)))
 
 pub AreBlanks_join : (text : List ℕ) (low mid high : ℕ) → AreBlanks text low mid → AreBlanks text mid high → AreBlanks text low high
 AreBlanks_join text low mid high left none = left
-AreBlanks_join text low mid high left (more right blank) = more (AreBlanks_join text low mid _ left right) blank
+AreBlanks_join text low mid high left (more right is) = more (AreBlanks_join text low mid _ left right) is
 
 -- with no byte left, the blanks reach to the end
 pub AreBlanks_end : (text : List ℕ) (low at : ℕ) → AreBlanks text low at → at ≤ length text → length text ≤ at → AreBlanks text low (length text)

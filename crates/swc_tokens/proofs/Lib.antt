@@ -2,11 +2,6 @@ pub mod Blanks
 pub mod Marks
 pub mod Moved
 pub mod Nesting
-pub mod Numbers
 pub mod Order
 pub mod Reading
-pub mod Regexps
 pub mod Spelling
-pub mod Strings
-pub mod Templates
-pub mod Words

@@ -1,7 +1,8 @@
 -- Tokens of a part of a text may be moved to where it stands in the whole, and stay in their order.
-use Rattle.std.proofs.Common.{◌≡◌, ℕ, ◌+◌, ◌<◌, ◌≤◌, ◌^◌, List, [], ◌∷◌, Ok, Err, IsFalse, length, map, refl, sym, ◌∙◌, inl, arith}
+use Rattle.std.proofs.Common.{◌≡◌, ℕ, ◌+◌, ◌-◌, Bool, true, false, if◌then◌else◌, IsTrue, slice_range, drop, length-drop, ◌<◌, ◌≤◌, ◌^◌, List, [], ◌∷◌, Ok, Err, IsFalse, length, map, refl, sym, ◌∙◌, inl, arith}
 use Rattle.std.proofs.lemmas.List.Elements.{All-from_recursion, recursion_from_All}
-use Rattle.std.proofs.lemmas.Option.{slice_get_within}
+use Rattle.std.proofs.lemmas.List.{length-take}
+use Rattle.std.proofs.lemmas.Bool.Decides.{nat_tests}
 use Rattle.std.specs.List.{All, AllByRecursion}
 use Rattle.swc_context.specs.declared.error.Error.{Error}
 use Rattle.swc_input.specs.declared.token.Token.{Token}
@@ -9,14 +10,21 @@ use Rattle.swc_input.specs.declared.token.Token.TheVariants as token
 use Rattle.swc_input.specs.declared.token.TokenAndSpan.{TokenAndSpan}
 use Rattle.swc_tokens.specs.Moved.{moved_token, moved_within, MayMove, MayMoveError, MayMoveWithin}
 use Rattle.swc_tokens.specs.Order.{InOrder, is_error, is_text}
-use Rattle.swc_tokens.specs.Spelling.{Spells}
-use Rattle.swc_tokens.specs.Templates.{IsCooked, first_bad}
+use Rattle.swc_tokens.specs.Spelling.{cooked, meant, Spells}
+use Rattle.swc_tokens.specs.Profile.{good_len}
 
--- the fault of the first bad escape
-may_move_cooked : (text : List ℕ) (by low high : ℕ) (e : Error) → length text + by < 2 ^ 32 → IsCooked text low high (Err e) → MayMoveError by e
-may_move_cooked text by low high _ short (first_bad {at = at} _ bad _) =
-    let inside = slice_get_within text (at + 1) bad.escaped bad.there.second_there in
-    record { kind = inl refl; room = record { lo = omega arith; hi = omega arith } }
+of_if : (b : Bool) (x e : Error) (value : List ℕ) → Err e ≡ (if b then Err x else Ok value) → (e ≡ x) × IsTrue b
+of_if true x e value is = (cc, refl)
+of_if false x e value is = absurd (cc)
+
+-- the fault of the first escape that isn't read
+may_move_cooked : (text : List ℕ) (by low high : ℕ) (e : Error) → length text + by < 2 ^ 32 → Err e ≡ cooked low (slice_range text low high) → MayMoveError by e
+may_move_cooked text by low high e short is =
+    let bs = slice_range text low high in
+    let both = of_if _ _ e (meant bs) is in
+    let some : good_len bs < length bs = let b = both.1 in grind (arith, nat_tests) in
+    let size : length bs ≤ length text - low = let l = length-take (high - low) (drop low text) in let r = length-drop low text in omega (arith, l, r) in
+    rw both.0 (record { kind = inl refl; room = record { lo = omega arith; hi = omega arith } })
 
 may_move_within : (text : List ℕ) (by low high : ℕ) (t : Token) → length text + by < 2 ^ 32 → Spells text low high t → IsFalse (is_error t) → MayMoveWithin by t
 unfolding Spells is_error MayMoveWithin

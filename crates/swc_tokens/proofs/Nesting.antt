@@ -12,8 +12,7 @@ use Rattle.swc_tokens.specs.declared.template.Part.TheVariants as part
 use Rattle.swc_tokens.specs.Nesting.{part_of, fits, behind_backquote, Turns, text, begins, ends, opens, closes, opens_brace, closes_brace, brace_outside, close_outside, other}
 use Rattle.swc_tokens.specs.Nesting.{Nests, and_token, AreNested}
 use Rattle.swc_tokens.specs.Order.{is_error, is_free, is_text}
-use Rattle.swc_tokens.specs.Spelling.{Spells}
-use Rattle.swc_tokens.specs.Templates.{EndsText}
+use Rattle.swc_tokens.specs.Spelling.{EndsText, Spells}
 
 pub no_error : (t : Token) → IsTrue (is_free t) → IsFalse (is_error t)
 unfolding is_free is_error

@@ -1,26 +1,47 @@
 -- Tokens that have no text of their own: signs, and what ends a text of a template.
-use Rattle.std.proofs.Common.{◌≡◌, ℕ, suc, ◌+◌, ◌-◌, List, [], ◌∷◌, Some, IsFalse, take, drop, drop-cons, get_or, slice_get, slice_range, add-one, ap, sym, ◌∙◌, arith}
+use Rattle.std.proofs.Common.{◌≡◌, ℕ, suc, ◌+◌, ◌-◌, List, [], ◌∷◌, Bool, false, Some, IsFalse, take, drop, drop-cons, get_or, slice_get, slice_range, add-one, ap, sym, ◌∙◌, arith}
 use Rattle.std.proofs.lemmas.Option.{get_or_from_slice_get, slice_get_within}
 use Rattle.swc_input.specs.declared.token.Token.{Token}
 use Rattle.swc_input.specs.declared.token.Token.TheVariants as token
 use Rattle.swc_tokens.specs.Signs.{has_text, sign_text}
-use Rattle.swc_tokens.specs.Spelling.{Spells}
-use Rattle.swc_tokens.specs.Strings.{OpensSubstitution}
+use Rattle.swc_tokens.specs.Spelling.{IsLexeme, IsName, IsTextBetween, Spells}
+use Rattle.swc_lexical.specs.PlainNames.{name_len}
+use Rattle.swc_lexical.specs.Templates.{text_len}
+use Rattle.swc_tokens.specs.Blanks.{StandAt}
+use Rattle.swc_tokens.specs.Profile.{has, lexeme}
+use Rattle.swc_lexical.specs.declared.lexeme.Kind.{Kind}
+use Rattle.swc_lexical.proofs.Runs.{rest_at, rest_at-drop}
 
-without-text : (text : List ℕ) (low high : ℕ) (t : Token) → IsFalse (has_text t) → sign_text t ≡ slice_range text low high → Spells text low high t
+pub Spells_sign : (text : List ℕ) (low high : ℕ) (t : Token) → IsFalse (has_text t) → sign_text t ≡ slice_range text low high → Spells text low high t
 unfolding Spells has_text
-without-text text low high (token.Word word) none same = absurd (cc)
-without-text text low high (token.Str value raw) none same = absurd (cc)
-without-text text low high (token.Num raw) none same = absurd (cc)
-without-text text low high (token.BigInt raw) none same = absurd (cc)
-without-text text low high (token.Template raw cooked) none same = absurd (cc)
-without-text text low high (token.Regex body flags) none same = absurd (cc)
-without-text text low high _ none same = same
+Spells_sign text low high (token.Word word) none same = absurd (cc)
+Spells_sign text low high (token.Str value raw) none same = absurd (cc)
+Spells_sign text low high (token.Num raw) none same = absurd (cc)
+Spells_sign text low high (token.BigInt raw) none same = absurd (cc)
+Spells_sign text low high (token.Template raw cooked) none same = absurd (cc)
+Spells_sign text low high (token.Regex body flags) none same = absurd (cc)
+Spells_sign text low high _ none same = same
 
-pub Spells_sign : (text : List ℕ) (low size : ℕ) (t : Token) → IsFalse (has_text t) → sign_text t ≡ take size (drop low text) → Spells text low (low + size) t
-Spells_sign text low size t none same =
-    let back : size ≡ (low + size) - low = omega arith in
-    without-text text low (low + size) t none (same ∙ ap (λ n. take n (drop low text)) back)
+-- the name that begins where the reader is, as code cuts the text
+pub IsName_here : (text : List ℕ) (low len : ℕ) → len ≡ name_len (rest_at text low) → IsName text low (low + len)
+IsName_here text low len is =
+    let back : low + len - low ≡ len = omega arith in
+    rw back (sym (is ∙ ap name_len (rest_at-drop text low)))
+
+-- the lexeme that begins where the reader is, as code cuts the text
+pub IsLexeme_here : (text : List ℕ) (wants : Bool) (low : ℕ) (found : Kind × ℕ) → lexeme wants (rest_at text low) ≡ Some found → IsLexeme found.0 text low (low + found.1)
+IsLexeme_here text wants low found is =
+    let back : low + found.1 - low ≡ found.1 = omega arith in
+    record { wants = wants; found = rw back (rw (rest_at-drop text low) at is) }
+
+-- the text of a template, the same
+pub IsTextBetween_here : (text : List ℕ) (low len : ℕ) → text_len (rest_at text low) ≡ Some len → has (take len (rest_at text low)) 13 ≡ false → IsTextBetween text low (low + len)
+IsTextBetween_here text low len whole none =
+    let back : low + len - low ≡ len = omega arith in
+    record {
+      whole = rw back (rw (rest_at-drop text low) at whole);
+      no_return = rw back (rw (rest_at-drop text low) at none);
+    }
 
 one_byte : (text : List ℕ) (low b : ℕ) → slice_get text low ≡ Some b → slice_range text low (low + 1) ≡ b ∷ []
 one_byte text low b there =
@@ -45,6 +66,6 @@ pub Spells_backquote : (text : List ℕ) (low : ℕ) → slice_get text low ≡ 
 unfolding Spells sign_text
 Spells_backquote text low there = sym (one_byte text low 96 there)
 
-pub Spells_substitution : (text : List ℕ) (low : ℕ) → OpensSubstitution text low → Spells text low (low + 2) token.DollarLBrace
+pub Spells_substitution : (text : List ℕ) (low : ℕ) → StandAt text low 36 123 → Spells text low (low + 2) token.DollarLBrace
 unfolding Spells sign_text
 Spells_substitution text low opens = sym (two_bytes text low 36 123 opens.first_there opens.second_there)

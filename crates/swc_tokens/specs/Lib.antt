@@ -2,12 +2,8 @@ pub mod Blanks
 pub mod Faults
 pub mod Moved
 pub mod Nesting
-pub mod Numbers
 pub mod Order
+pub mod Profile
 pub mod Reading
-pub mod Regexps
 pub mod Signs
 pub mod Spelling
-pub mod Strings
-pub mod Templates
-pub mod Words

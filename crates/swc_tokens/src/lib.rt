@@ -19,14 +19,11 @@ ghost use Rattle.swc_tokens.specs.Reading.{AreRead};
 ghost use Rattle.swc_tokens.specs.Spelling.{Spells};
 ghost use Rattle.std.specs.Str.{IsAscii};
 
-mod blank;
 mod fault;
 mod moving;
-mod number;
+mod profile;
 mod reader;
-mod regexp;
 mod sign;
-mod string;
 mod template;
 
 use crate::fault::{lex_fault, out_of_memory};

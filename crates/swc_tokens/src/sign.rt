@@ -1,14 +1,11 @@
-// Signs and operators (ECMA-262, 12.8): the longest that fits is read.
-ghost use Rattle.std.specs.Prelude.{◌≡◌, ◌<◌, ◌≤◌, length, take, IsTrue, IsFalse, IfSome};
+// Signs and operators (ECMA-262, 12.8), and what a slash is.
+ghost use Rattle.std.specs.Prelude.{◌≡◌, IsTrue, IsFalse, IfSome};
 ghost use Rattle.swc_tokens.specs.Order.{is_free};
 ghost use Rattle.swc_tokens.specs.Signs.{has_text, sign_text};
 
 use swc_context::operator::{AssignOp, BinOpToken};
 use swc_context::word::{Keyword, Word};
 use swc_input::token::{Token, TokenAndSpan};
-
-/// The length of the longest sign, in bytes.
-const LONGEST: usize = 4;
 
 /// Whether a slash after this token begins a regular expression, and doesn't divide.
 pub(crate) fn begins_regexp(before: Option<&TokenAndSpan>) -> bool {
@@ -38,25 +35,9 @@ fn ends_operand(token: &Token) -> bool {
     }
 }
 
-/// The longest sign that the text begins with, and its length.
-pub(crate) fn longest_sign(text: &[u8]) -> Option<(Token, usize)>
-    ensures free { IfSome result (λ r. IsTrue (is_free r.0)) }
-    ensures no_text { IfSome result (λ r. IsFalse (has_text r.0)) }
-    ensures spells { IfSome result (λ r. sign_text r.0 ≡ take r.1 text.now) }
-    ensures nonempty { IfSome result (λ r. 0 < r.1) }
-    ensures inside { IfSome result (λ r. r.1 ≤ length text.now) }
-{
-    for len in (1..=LONGEST).rev() {
-        if let Some(token) = text.get(..len).and_then(sign_of) {
-            return Some((token, len));
-        }
-    }
-    None
-}
-
 /// The sign that is written so, but for `${`. There is no token for `?.`.
 #[tactic(auto, unfolding(crate::specs::Order::is_free, crate::specs::Signs::sign_text, crate::specs::Signs::has_text))]
-fn sign_of(text: &[u8]) -> Option<Token>
+pub(crate) fn sign_of(text: &[u8]) -> Option<Token>
     ensures free { IfSome result (λ t. IsTrue (is_free t)) }
     ensures no_text { IfSome result (λ t. IsFalse (has_text t)) }
     ensures spells { IfSome result (λ t. sign_text t ≡ text.now) }

@@ -1,20 +1,13 @@
-// Templates (ECMA-262, 12.9.6), and which brackets are open in them.
-ghost use Rattle.std.specs.Prelude.{◌≡◌, ◌↔◌, ◌+◌, ◌<◌, ◌≤◌, [], ◌∷◌, ◌++◌, length, IsTrue, IsFalse, IfSome};
-ghost use Rattle.std.specs.Prelude.{IfNone, IfOk, OnOk, IfErr};
+// Which brackets are open in templates (ECMA-262, 12.9.6).
+ghost use Rattle.std.specs.Prelude.{◌≡◌, ◌↔◌, ◌<◌, [], ◌∷◌, ◌++◌, length, IsTrue};
+ghost use Rattle.std.specs.Prelude.{IfOk, OnOk, IfErr};
 ghost use Rattle.swc_tokens.specs.Faults as faults;
-ghost use Rattle.swc_tokens.specs.Faults.{IsRefusal};
 ghost use Rattle.swc_tokens.specs.Nesting as nesting;
 ghost use Rattle.swc_tokens.specs.Nesting.{fits, Turns};
-ghost use Rattle.swc_tokens.specs.Order.{is_error, is_text};
-ghost use Rattle.swc_tokens.specs.Spelling.{Spells};
-ghost use Rattle.swc_tokens.specs.Templates.{bytes_of, with_piece, EndsText, IsPiece, IsTemplateText};
 
 use crate::fault::out_of_memory;
-use crate::reader::Reader;
-use crate::string::push;
 use std::alloc::Global;
-use swc_context::atom::Atom;
-use swc_context::error::{Error, PResult};
+use swc_context::error::PResult;
 use swc_input::token::Token;
 
 /// What is read next.
@@ -153,110 +146,6 @@ impl Templates {
             Some(Open::Substitution) => Next::Text,
             Some(Open::Brace) => Next::Token,
             None => Next::Token,
-        }
-    }
-}
-
-/// What a text means with one more piece, which means a byte or is a bad escape.
-fn cook(cooked: Result<String, Error>, piece: Result<u8, Error>) -> PResult<Result<String, Error>>
-    requires { IfOk piece (λ byte. byte < 128) }
-    ensures more { IfOk result (λ new. bytes_of new ≡ with_piece (bytes_of cooked) piece) }
-    ensures refused { IfErr result (λ e. e ≡ faults.out_of_memory) }
-{
-    let mut value = match cooked {
-        Ok(value) => value,
-        Err(first) => return Ok(Err(first)),
-    };
-    match piece {
-        Ok(byte) => {
-            push(&mut value, byte)?;
-            Ok(Ok(value))
-        }
-        Err(fault) => Ok(Err(fault)),
-    }
-}
-
-impl<'a> Reader<'a> {
-    /// Reads a text of a template, up to the `${` or the backquote that ends it.
-    #[tactic(auto, unfolding(crate::specs::Order::is_text, crate::specs::Spelling::Spells))]
-    pub(crate) fn read_text(&mut self) -> PResult<Token>
-        ensures text { self.new.text ≡ self.old.text }
-        ensures forward { self.old.at ≤ self.new.at }
-        ensures refused { IfErr result (IsRefusal self.old.text.now) }
-        ensures is_text { IfOk result (λ t. IsTrue (is_text t)) }
-        ensures spells { IfOk result (Spells self.old.text.now self.old.at self.new.at) }
-    {
-        let start = self.at;
-        let cooked = self.read_cooked()?;
-        let raw = self.atom_from(start)?;
-        Ok(Token::Template { raw, cooked })
-    }
-
-    /// Reads the `${` or the backquote that ends a text.
-    #[tactic(auto, unfolding(crate::specs::Order::is_error))]
-    pub(crate) fn read_delimiter(&mut self) -> Token
-        requires { EndsText self.old.text.now self.old.at }
-        ensures text { self.new.text ≡ self.old.text }
-        ensures forward { self.old.at < self.new.at }
-        ensures fits { IsTrue (fits Next.Delimiter (nesting.part_of result)) }
-        ensures no_error { IsFalse (is_error result) }
-        ensures spells { Spells self.old.text.now self.old.at self.new.at result }
-    {
-        if self.is_next(b'$', b'{') {
-            self.bump();
-            self.bump();
-            return Token::DollarLBrace;
-        }
-        self.bump();
-        Token::BackQuote
-    }
-
-    /// Reads up to the `${` or the backquote, and gives what the text means, or the fault of its
-    /// first bad escape.
-    #[tactic(auto, using(crate::proofs::Templates::IsCooked_nothing, crate::proofs::Templates::IsCooked_more))]
-    fn read_cooked(&mut self) -> PResult<Result<Atom, Error>>
-        ensures text { self.new.text ≡ self.old.text }
-        ensures forward { self.old.at ≤ self.new.at }
-        ensures refused { IfErr result (IsRefusal self.old.text.now) }
-        ensures is_text { IfOk result (IsTemplateText self.old.text.now self.old.at self.new.at) }
-    {
-        let mut cooked = Ok(String::new(self.alloc));
-        while let Some(piece) = self.read_piece()? {
-            cooked = cook(cooked, piece)?;
-        }
-        match cooked {
-            Ok(value) => Ok(Ok(self.atom(value.as_str())?)),
-            Err(fault) => Ok(Err(fault)),
-        }
-    }
-
-    /// Reads a byte or an escape of a text, unless that ends here. A CR is a fault, and so is the
-    /// end of the source text.
-    fn read_piece(&mut self) -> PResult<Option<Result<u8, Error>>>
-        ensures text { self.new.text ≡ self.old.text }
-        ensures forward { self.old.at ≤ self.new.at }
-        ensures taken { IfOk result (λ r. IfSome r (λ _. self.old.at < self.new.at)) }
-        ensures refused { IfErr result (IsRefusal self.old.text.now) }
-        ensures piece { IfOk result (λ r. IfSome r (IsPiece self.old.text.now self.old.at self.new.at)) }
-        ensures ascii { IfOk result (λ r. IfSome r (λ piece. IfOk piece (λ byte. byte < 128))) }
-        ensures stays { IfOk result (λ r. IfNone r (self.new.at ≡ self.old.at)) }
-        ensures ends { IfOk result (λ r. IfNone r (EndsText self.old.text.now self.old.at)) }
-    {
-        if self.is_next(b'$', b'{') {
-            return Ok(None);
-        }
-        if self.is_next(b'\\', b'\r') {
-            self.bump();
-            return Err(self.fault());
-        }
-        match self.peek() {
-            None | Some(b'\r') => Err(self.fault()),
-            Some(b'`') => Ok(None),
-            Some(b'\\') => Ok(Some(self.read_escape()?)),
-            Some(byte) => {
-                self.bump();
-                Ok(Some(Ok(byte)))
-            }
         }
     }
 }

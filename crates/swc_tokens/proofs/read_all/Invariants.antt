@@ -1,7 +1,7 @@
 use Rattle.std.proofs.Common.{◌≡◌}
 use Rattle.swc_tokens.specs.declared.template.Next.TheVariants.{Delimiter}
 use Rattle.swc_tokens.specs.Nesting.{Nests}
-use Rattle.swc_tokens.specs.Templates.{EndsText}
+use Rattle.swc_tokens.specs.Spelling.{EndsText}
 use Rattle.swc_tokens.specs.Order.{end_of}
 use Rattle.swc_tokens.specs.Reading.{AreRead, left}
 use Rattle.swc_tokens.proofs.read_all.Given as goal

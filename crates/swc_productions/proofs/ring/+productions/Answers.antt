@@ -1552,8 +1552,8 @@ parse_unary_expr-returns g t c =
     (m.call c.parse_update_postfix.result (λ x p. run _ (updates p.0) x p.1) (λ x ts. refl)
     c.in_ok-expr.ensures.reads c.parse_lhs_expr.ensures.grows (λ x. from-down c.in_ok-expr.ensures.from.above) c.parse_update_postfix.ensures)
 
-pub parse_plain_operand-parse_plain_member-requires : goal.parse_plain_operand-parse_plain_member-requires
-parse_plain_operand-parse_plain_member-requires g t c =
+pub parse_plain_operand-parse_plain_member-member-requires : goal.parse_plain_operand-parse_plain_member-member-requires
+parse_plain_operand-parse_plain_member-member-requires g t c =
     let plain = ap (λ o. at_token is_plain (seen_of o)) c.set_ctx.ensures.current ∙ c.requires.plain in
     let looked = s.here_now g.met.I.Tokens.laws c.set_ctx.new.input (s.seen_some is_plain c.set_ctx.new.input plain) in
     λ κs outlives. (search rules, (search rules, (search rules, (search rules, (search rules, (search rules, (looked, plain)))))))

@@ -1,9 +1,0 @@
-use Rattle.std.proofs.Common.{rules, ◌-◌}
-use Rattle.std.proofs.lemmas.Str.{IsUtf8-from_ascii, IsAscii-take, IsAscii-drop}
-use Rattle.swc_tokens.proofs.reader.Reader.text_from.Goals as goal
-
--- a piece of an ASCII text is text
-pub unwrap-requires : goal.unwrap-requires
-unwrap-requires c =
-    let text = IsUtf8-from_ascii _ (IsAscii-take _ (c.args.self.now.at - c.args.start) (IsAscii-drop _ c.args.start c.args.self.now.ascii)) in
-    search rules
