@@ -131,20 +131,21 @@ impl Reader {
         ensures context { context_of self.new ≡ context_of self.old }
         ensures lower { OnOk result (work self.new ≤ work self.old) }
     {
-        match list.owner {
+        let List { owner, items } = list;
+        match owner {
             Owner::Program | Owner::Function | Owner::StaticBlock => {
-                self.list = list.items;
+                self.list = items;
                 Ok(())
             }
             Owner::Block(start) => {
                 self.expect(&Token::RBrace, Wanted::RBrace)?;
-                self.finish(start, StatementKind::Block(list.items))
+                self.finish(start, StatementKind::Block(items))
             }
             Owner::Clause(mut switch, clause) => {
                 let case = SwitchCase {
                     span: self.span_from(clause.start),
                     test: clause.test,
-                    consequent: list.items,
+                    consequent: items,
                 };
                 let pushed = switch.cases.push(case);
                 self.kept(pushed)?;
