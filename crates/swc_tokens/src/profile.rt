@@ -174,8 +174,8 @@ fn fault_len(wants: bool, rest: &[u8]) -> usize
     }
 }
 
-/// The lexeme that begins here, and how many bytes it takes, where a slash begins a regular expression or divides; or how
-/// far its fault is.
+/// The lexeme that begins here, and how many bytes it takes; or how far its fault is. `wants` says that a slash begins
+/// a regular expression, and doesn't divide.
 pub(crate) fn lexeme_here(wants: bool, rest: &[u8]) -> Result<(Kind, usize), usize>
     ensures read { IfOk result (λ found. profile.lexeme wants rest.now ≡ Some found) }
     ensures some { IfOk result (λ found. 0 < found.1) }

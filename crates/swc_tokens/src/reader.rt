@@ -1,6 +1,6 @@
 // The reader: a text, and how far it is read.
-ghost use Rattle.std.specs.Prelude.{◌≡◌, ◌↔◌, ◌+◌, ◌<◌, ◌≤◌, ◌^◌, length, drop, IsTrue, IsFalse, IsSome, IfOk, IfErr, IfSome};
-ghost use Rattle.std.specs.Prelude.{true, IfNone, OnOk, slice_range};
+ghost use Rattle.std.specs.Prelude.{◌≡◌, ◌↔◌, ◌+◌, ◌<◌, ◌≤◌, ◌^◌, length, drop, IsTrue, IsFalse, IsSome, IfOk, IfErr};
+ghost use Rattle.std.specs.Prelude.{IfSome, true, IfNone, OnOk, slice_range};
 ghost use Rattle.std.specs.List.{list_any};
 ghost use Rattle.std.specs.Str.{IsAscii};
 ghost use Rattle.swc_tokens.specs.Faults as faults;
