@@ -54,6 +54,11 @@ fn part_after(last: Part, token: &Token) -> Part {
     }
 }
 
+/// Whether the token is `static`.
+fn is_static(token: &Token) -> bool {
+    matches!(token, Token::Word(Word::Ident(name)) if name.as_str() == "static")
+}
+
 /// What is open where a token begins.
 #[derive(Clone, Copy)]
 enum Open {
@@ -139,6 +144,17 @@ impl Bracketed {
     /// The number of the first token that begins there, a position in bytes, or after it.
     pub fn index_of(&self, start: u32) -> usize {
         self.tokens.partition_point(|found| found.span.lo.0 < start)
+    }
+
+    /// Whether the token before the one that has the number is `static`.
+    pub fn is_after_static(&self, at: usize) -> bool {
+        let Some(before) = at.checked_sub(1) else {
+            return false;
+        };
+        match self.get(before) {
+            Some(found) => is_static(&found.token),
+            None => false,
+        }
     }
 
     /// The number of the token that this one leads to, if it is after it.

@@ -80,6 +80,12 @@ impl ProgramInput {
         }
     }
 
+    /// Whether `static` is before the first token that begins at the place or after it: so the block that begins there is
+    /// one of a class (ECMA-262, 15.7), and the body of no function.
+    pub fn is_after_static(&self, start: BytePos) -> bool {
+        self.list.is_after_static(self.list.index_of(start.0))
+    }
+
     /// Goes on to the next token.
     fn step(&mut self)
         requires { self.old.at < length self.old.list.tokens.items }

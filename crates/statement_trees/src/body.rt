@@ -8,7 +8,7 @@ use crate::tree::{Block, Class, Function};
 use swc_ecma_parser::context::context::Context;
 use swc_ecma_parser::context::error::{PResult, Wanted};
 use swc_ecma_parser::context::operator::BinOpToken;
-use swc_ecma_parser::context::span::Span;
+use swc_ecma_parser::context::span::{BytePos, Span};
 use swc_ecma_parser::context::word::Keyword;
 use swc_ecma_parser::input::token::Token;
 use swc_ecma_parser::nodes::node::{ExprId, PatId};
@@ -30,17 +30,30 @@ impl Reader {
         }
     }
 
-    /// The block of a function.
+    /// The block of a function, or a static block of a class.
     fn block(&mut self) -> PResult<()>
         ensures context { context_of self.new ≡ context_of self.old }
     {
         let start = self.start();
+        let is_static = self.is_after_static(start);
         self.expect(&Token::LBrace, Wanted::LBrace)?;
-        let statements = self.list(Owner::Function)?;
+        let owner = if is_static {
+            Owner::StaticBlock
+        } else {
+            Owner::Function
+        };
+        let statements = self.list(owner)?;
         self.expect(&Token::RBrace, Wanted::RBrace)?;
         let span = self.span_from(start);
         let pushed = self.blocks.push(Block { span, statements });
         self.kept(pushed)
+    }
+
+    /// Whether a block that begins there is a static block of a class.
+    fn is_after_static(&mut self, start: BytePos) -> bool
+        ensures context { context_of self.new ≡ context_of self.old }
+    {
+        self.parser.input().is_after_static(start)
     }
 
     /// A function (15.2, 15.5, 15.6 and 15.8).

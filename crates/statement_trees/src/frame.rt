@@ -31,6 +31,8 @@ pub(crate) enum Owner {
     Program,
     /// The block of a function, whose `}` stays.
     Function,
+    /// A static block of a class, whose `}` stays.
+    StaticBlock,
     /// A block that began there.
     Block(BytePos),
     /// A clause of a `switch`.

@@ -30,7 +30,10 @@ impl Reader {
     fn rest_of_list(&mut self, owner: Owner) -> PResult<()>
         ensures module { SameModule self.old self.new }
     {
-        let items = self.prologue()?;
+        let items = match owner {
+            Owner::StaticBlock => Vec::new(self.alloc),
+            _ => self.prologue()?,
+        };
         self.put_off(Frame::List(List { owner, items }))?;
         while let Some(frame) = self.next_frame() {
             self.step(frame)?;
@@ -128,20 +131,21 @@ impl Reader {
         ensures context { context_of self.new ≡ context_of self.old }
         ensures lower { OnOk result (work self.new ≤ work self.old) }
     {
-        match list.owner {
-            Owner::Program | Owner::Function => {
-                self.list = list.items;
+        let List { owner, items } = list;
+        match owner {
+            Owner::Program | Owner::Function | Owner::StaticBlock => {
+                self.list = items;
                 Ok(())
             }
             Owner::Block(start) => {
                 self.expect(&Token::RBrace, Wanted::RBrace)?;
-                self.finish(start, StatementKind::Block(list.items))
+                self.finish(start, StatementKind::Block(items))
             }
             Owner::Clause(mut switch, clause) => {
                 let case = SwitchCase {
                     span: self.span_from(clause.start),
                     test: clause.test,
-                    consequent: list.items,
+                    consequent: items,
                 };
                 let pushed = switch.cases.push(case);
                 self.kept(pushed)?;
