@@ -23,9 +23,14 @@ const ESCAPED = String.raw`\\u[0-9a-fA-F]{4}|\\u\{[0-9a-fA-F]+\}`;
 const NAME = new RegExp(
   `(?:[$_\\p{ID_Start}]|${ESCAPED})(?:[$\\u200c\\u200d\\p{ID_Continue}]|${ESCAPED})*`, 'uy');
 const DIGITS = '[0-9](?:_?[0-9])*';
-const WHOLE = '(?:0(?![0-9_])|[1-9](?:_?[0-9])*)';
+const OCTAL = '0[0-7]+(?![0-9])';
+const OLD = '0[0-9]+';
+const WHOLE = '(?:0(?![0-9])|[1-9](?:_?[0-9])*)';
 const NUMBER = new RegExp('0[bB][01](?:_?[01])*n?|0[oO][0-7](?:_?[0-7])*n?|0[xX][0-9a-fA-F](?:_?[0-9a-fA-F])*n?|' +
-  `${WHOLE}n|(?:${WHOLE}(?:\\.(?:${DIGITS})?)?|\\.${DIGITS})(?:[eE][+-]?${DIGITS})?`, 'y');
+  `${WHOLE}n|${OCTAL}|(?:(?:${WHOLE}|${OLD})(?:\\.(?:${DIGITS})?)?|\\.${DIGITS})(?:[eE][+-]?${DIGITS})?`, 'y');
+// A number up to where it lacks a digit.
+const LACKING = new RegExp(`0[bB](?![01])|0[oO](?![0-7])|0[xX](?![0-9a-fA-F])|` +
+  `(?:(?:${WHOLE}|(?!${OCTAL})${OLD})(?:\\.(?:${DIGITS})?)?|\\.${DIGITS})[eE](?:[+-](?![0-9])|(?![-+0-9]))`, 'y');
 const STRING = /"(?:[^"\\\n\r]|\\(?:\r\n|[^]))*"|'(?:[^'\\\n\r]|\\(?:\r\n|[^]))*'/y;
 const CLASS = String.raw`\[(?:[^\]\\\n\r\u2028\u2029]|\\[^\n\r\u2028\u2029])*\]`;
 const REGEXP = new RegExp(String.raw`\/(?![*\/])(?:[^\/\\\[\n\r\u2028\u2029]|\\[^\n\r\u2028\u2029]|${CLASS})+\/` +
@@ -94,7 +99,7 @@ function tokenAt(text, start, last) {
   if (c === '"' || c === "'") {
     const raw = at(STRING, text, start);
     try {
-      return raw && { kind: 'string', values: [vm.runInNewContext(`"use strict";(${raw})`)], end: start + raw.length };
+      return raw && { kind: 'string', values: [vm.runInNewContext(`(${raw})`)], end: start + raw.length };
     } catch {
       return null;
     }
@@ -138,7 +143,7 @@ function readings(text) {
       if (open.at(-1) === '`') {
         const body = templateText(text, from);
         if (body === null) {
-          found.push({ tokens, fault: from - 1 });
+          found.push({ tokens, fault: from - 1, isText: true });
           return;
         }
         put(body, from, false);
@@ -204,31 +209,125 @@ const shown = value => {
   return `[${[...Buffer.from(value.toWellFormed())].map(byte).join('')}]`;
 };
 
-function spot(text, start) {
-  const lo = length(text.slice(0, start));
-  return `${lo}..${lo + (start < text.length ? length(String.fromCodePoint(text.codePointAt(start))) : 0)}`;
+const place = (text, start, end) => `${length(text.slice(0, start))}..${length(text.slice(0, end))}`;
+
+// Of an escape that is no good one: a backslash and a character, and the digits and the brace after `\\u{`, `\\u` or `\\x`.
+const BAD_ESCAPE = /\\(?:u\{[0-9a-fA-F]*\}?|[ux][0-9a-fA-F]*|[^]?)/uy;
+
+// What is wrong where no token begins, and where: from what isn't closed on, from the number on, or the escape, the word or the character.
+function faultAt(text, start) {
+  const said = (kind, from, end) => `${kind} ${place(text, from, end)}`;
+  const c = text[start];
+  const name = at(NAME, text, start);
+  if (text.startsWith('/*', start)) {
+    return said('UnterminatedBlockComment', start, text.length);
+  }
+  if (name !== null && meant(name) !== null) {
+    return said('EscapeInReservedWord', start, start + name.length);
+  }
+  if (c === '\\') {
+    const whole = /\\u(?:[0-9a-fA-F]{4}|\{0*(?:10[0-9a-fA-F]{4}|[0-9a-fA-F]{1,5})\})/uy;
+    return said('BadCharacterEscapeSequence', start, start + (at(whole, text, start) ?? at(BAD_ESCAPE, text, start)).length);
+  }
+  if (c === '"' || c === "'") {
+    let end = start + 1;
+    while (end < text.length && text[end] !== '\n' && text[end] !== '\r') {
+      if (text[end] !== '\\') {
+        end++;
+        continue;
+      }
+      const good = /^\\(?:x[0-9a-fA-F]{2}|u[0-9a-fA-F]{4}|u\{0*(?:10[0-9a-fA-F]{4}|[0-9a-fA-F]{1,5})\}|\r\n|[^xu])/u.exec(text.slice(end));
+      if (good === null && end + 1 < text.length) {
+        return said('BadCharacterEscapeSequence', end, end + at(BAD_ESCAPE, text, end).length);
+      }
+      end += good === null ? 1 : good[0].length;
+    }
+    return said('UnterminatedStrLit', start, end);
+  }
+  if (/[0-9]/.test(c) || (c === '.' && /[0-9]/.test(text[start + 1] ?? ''))) {
+    const lacking = at(LACKING, text, start);
+    if (lacking !== null) {
+      return said('ExpectedDigit', start, start + lacking.length);
+    }
+    const end = start + at(NUMBER, text, start).length;
+    if (text[end] === '_') {
+      return said('ExpectedDigit', start, end + 1);
+    }
+    return said('IdentAfterNum', start, end + at(/(?:[$\u200c\u200d\p{ID_Continue}]|\\u[0-9a-fA-F]{4}|\\u\{[0-9a-fA-F]+\})*/uy, text, end).length);
+  }
+  return said('UnexpectedChar', start, start + (c === undefined ? 0 : String.fromCodePoint(text.codePointAt(start)).length));
 }
 
 function show(text, token) {
   const lo = length(text.slice(0, token.start));
   const parts = [(token.breaks ? '^' : '') + token.kind, ...(token.sign ? [token.sign] : token.values.map(shown))];
   if (token.bad >= 0) {
-    const bad = length(text.slice(0, token.bad));
-    parts.push(`(Lex ${bad}..${bad + 1})`);
+    parts.push(`(BadCharacterEscapeSequence ${place(text, token.bad, token.bad + at(BAD_ESCAPE, text, token.bad).length)})`);
   }
   return [...parts, `${lo}..${lo + length(text.slice(token.start, token.end))}`].join(' ');
 }
 
-function answer(text, reading, isOnly) {
-  if (reading.fault !== undefined) {
-    return `refused: Lex ${spot(text, reading.fault)}`;
+// The faults that the tokens have in strict code: numbers that begin with 0 and a digit, and the first escape by digits of each string.
+function strictFaults(text, tokens) {
+  const found = [];
+  for (const token of tokens) {
+    const raw = text.slice(token.start, token.end);
+    if (token.kind === 'number' && /^0[0-9]/.test(raw)) {
+      found.push(`${/^[0-7]+$/.test(raw) ? 'LegacyOctal' : 'LegacyDecimal'} ${place(text, token.start, token.end)}`);
+    }
+    const escape = token.kind === 'string' && /^(?:[^\\]|\\(?![0-9])[^]|\\0(?![0-9]))*(\\(?!0(?![0-9]))(?:[0-3][0-7]{0,2}|[4-7][0-7]?|[89]))/.exec(raw);
+    if (escape) {
+      const start = token.start + escape[0].length - escape[1].length;
+      found.push(`${/[89]/.test(escape[1]) ? 'LegacyDecimal' : 'LegacyOctal'} ${place(text, start, token.start + escape[0].length)}`);
+    }
   }
-  const tokens = reading.tokens.filter(token => !isOnly || token.kind === 'regexp');
+  return found.join(', ') || 'none';
+}
+
+// The comments between the tokens, and after the last.
+function comments(text, tokens) {
+  const found = [];
+  const bang = /^#![^\n\r\u2028\u2029]*/.exec(text);
+  if (bang) {
+    found.push(`hashbang ${place(text, 0, bang[0].length)}`);
+  }
+  let from = bang ? bang[0].length : 0;
+  for (const token of [...tokens, { start: text.length, end: text.length }]) {
+    for (const one of text.slice(from, token.start).matchAll(/\/\/[^\n\r\u2028\u2029]*|\/\*[^]*?\*\//gu)) {
+      const start = from + one.index;
+      found.push(`${one[0][1] === '/' ? 'line' : 'block'} ${place(text, start, start + one[0].length)}`);
+    }
+    from = token.end;
+  }
+  return found.join(', ') || 'none';
+}
+
+// The line of the end of the text, its column in bytes, characters and units of UTF-16, and all such units.
+function endOf(text) {
+  const all = text.split(/\r\n|[\n\r\u2028\u2029]/);
+  const last = all.at(-1);
+  return `${all.length}:${length(last)} ${[...last].length} ${last.length} of ${text.length}`;
+}
+
+function answer(text, reading, wanted) {
+  if (reading.fault !== undefined) {
+    return `refused: ${reading.isText ? `UnterminatedTpl ${place(text, reading.fault, text.length)}` : faultAt(text, reading.fault)}`;
+  }
+  if (wanted === 'strict') {
+    return strictFaults(text, reading.tokens);
+  }
+  if (wanted === 'comments') {
+    return comments(text, reading.tokens);
+  }
+  const tokens = reading.tokens.filter(token => wanted !== 'regexps' || token.kind === 'regexp');
   return tokens.map(token => show(text, token)).join(', ') || 'none';
 }
 
 // What V8 makes of the text, or null where it can't say.
-function judged(text, isModule, isOnly) {
+function judged(text, isModule, wanted) {
+  if (wanted === 'lines') {
+    return endOf(text);
+  }
   let all = readings(text);
   const hasSlash = all.length > 1 || all[0].tokens.some(isSlash) || text[all[0].fault] === '/';
   if (hasSlash) {
@@ -237,7 +336,7 @@ function judged(text, isModule, isOnly) {
     }
     all = all.filter(one => one.fault === undefined && takes(isModule, guarded(text, one.tokens)));
   }
-  const answers = new Set(all.map(one => answer(text, one, isOnly)));
+  const answers = new Set(all.map(one => answer(text, one, wanted)));
   return answers.size === 1 ? [...answers][0] : `${answers.size} answers`;
 }
 
@@ -260,12 +359,12 @@ const counts = { same: 0, differ: 0, left: 0 };
 for (const file of process.argv.slice(2)) {
   let heading = null;
   for (const line of fs.readFileSync(file, 'utf8').split('\n')) {
-    heading = /^lexed: (tokens|regexps) \| (script|module):$/.exec(line) ?? heading;
+    heading = /^lexed: (tokens|regexps|strict|comments|lines) \| (script|module):$/.exec(line) ?? heading;
     const row = /^ {4}(.*?) \| (.*)$/.exec(line);
     if (heading === null || row === null) {
       continue;
     }
-    const wanted = judged(decoded(row[1]), heading[2] === 'module', heading[1] === 'regexps');
+    const wanted = judged(decoded(row[1]), heading[2] === 'module', heading[1]);
     counts[wanted === null ? 'left' : wanted === row[2] ? 'same' : 'differ']++;
     if (wanted !== null && wanted !== row[2]) {
       console.log(`${file}: ${row[1]}\n    V8:   ${wanted}\n    here: ${row[2]}`);

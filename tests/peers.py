@@ -5,8 +5,8 @@
 
 PROGRAM is the program show_expr, or the one that the gate built. Each text is read in turn by show_expr, which prints the tree, and by acorn, which
 doesn't; by V8 and SpiderMonkey, which compile it, functions too; and by esbuild, which prints it anew. Of each the least processor time of six
-turns counts. Memory is what show_expr takes at its peak, less what it takes for an empty text, in bytes for a byte of the text. Instructions are
-those of a text of 100 kB, in millions, as callgrind counts them.
+turns counts. Memory is what show_expr takes at its peak, less what it takes for a short text, in bytes for a byte of the text. Twice is its time
+for the text to that for one of half the size. Instructions are those of a text of 100 kB, in millions, as callgrind counts them.
 
 A parser that isn't installed is left out. They are Debian's node-acorn, nodejs, esbuild, libmozjs-102-dev with g++, and valgrind.
 """
@@ -110,26 +110,29 @@ def main():
     program = os.path.abspath(sys.argv[1] if len(sys.argv) > 1 else os.path.join(HERE, '../crates/show_expr/out/show_expr'))
     os.environ.update(NODE_PATH='/usr/share/nodejs', GOMAXPROCS='1', GOGC='off')
     ratios = {peer: [] for peer in PEERS}
-    print('| text | bytes | to acorn | to V8 | to SpiderMonkey | to esbuild | memory, bytes a byte | instructions of 100 kB, millions |')
-    print('|---|---|---|---|---|---|---|---|')
+    print('| text | bytes | to acorn | to V8 | to SpiderMonkey | to esbuild | twice | memory, bytes a byte | instructions of 100 kB, millions |')
+    print('|---|---|---|---|---|---|---|---|---|')
     with tempfile.TemporaryDirectory() as room:
         sm, path = spider_monkey(room), os.path.join(room, 'text')
         open(path, 'wb').write(b'a')
         bare = run([program, 'expr', 'script'], path)[1]
         shorter = dict((name, text) for name, _, text in texts(SHORT))
+        halves = dict((name, text) for name, _, text in texts(MB // 2))
         for name, mode, text in texts(MB):
             open(path, 'wb').write(text)
             best, memory = measure(program, sm, mode, path, room)
+            open(path, 'wb').write(halves[name])
+            half = min(run([program, 'expr', mode], path)[0] for _ in range(TURNS))
             open(path, 'wb').write(shorter[name])
             count = instructions(program, mode, path, room) if shutil.which('valgrind') else None
             row = [best['own'] / best[peer] if best[peer] and best['own'] else None for peer in PEERS]
             for peer, ratio in zip(PEERS, row):
                 ratios[peer] += [ratio] if ratio else []
             spent = None if memory is None else (memory - bare) * 1024 / len(text)
-            cells = [cell(ratio) for ratio in row] + [cell(spent, '%.0f'), cell(count, '%.1f')]
+            cells = [cell(ratio) for ratio in row] + [cell(best['own'] and best['own'] / half), cell(spent, '%.0f'), cell(count, '%.1f')]
             print('| %s | %d | %s |' % (name, len(text), ' | '.join(cells)), flush=True)
     means = [math.exp(sum(map(math.log, ratios[peer])) / len(ratios[peer])) if ratios[peer] else None for peer in PEERS]
-    print('| geometric mean | | %s | | |' % ' | '.join(map(cell, means)))
+    print('| geometric mean | | %s | | | |' % ' | '.join(map(cell, means)))
 
 
 if __name__ == '__main__':

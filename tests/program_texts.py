@@ -1,11 +1,11 @@
-"""Ten texts of expressions as real programs have them, of any size, written by rules: tests/programs.py measures them."""
+"""Ten texts of expressions as real programs have them, of any size, written by rules: tests/peers.py measures them."""
 import re
 from collections import namedtuple
 
 # Rules of a kind of program. `open`, then as many of `item` as the size takes, with `between` between them, then `close` make the text.
 # `name = .. | ..` has what `name` may stand for, and `name: ..` words. `@other` in it stands for a text of that rule, and `@other~` does where
 # a letter follows; `@nl` is a new line, and `@none` nothing. Where more than `depth` rules are within one another, the first choice is taken.
-# What README.md says isn't read stands in bodies alone, of which the tokens are taken: arrow functions, patterns, parameters of methods.
+# Statements are in bodies alone, of which the tokens are taken.
 Program = namedtuple('Program', 'name mode depth rules')
 
 BASE = r'''

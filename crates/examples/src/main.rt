@@ -3,15 +3,7 @@
 
 use std::alloc::Global;
 use std::io;
-use swc_ecma_parser::bodies::none::NoBodies;
-use swc_ecma_parser::context::context::{Context, EsVersion, Syntax};
-use swc_ecma_parser::context::error::PResult;
-use swc_ecma_parser::printing::print::PrintNodes;
-use swc_ecma_parser::whole::parse_whole_expr;
-use swc_lexer::place::Kind;
-use swc_lexer::read::read_text;
-use swc_lexer::reader::End;
-use swc_lexer::stack::Start;
+use swc_ecma_parser::prelude::*;
 
 /// How deeply an expression may be nested, for a stack of 8 MB.
 const LEVELS: usize = 800;
@@ -19,13 +11,8 @@ const LEVELS: usize = 800;
 /// The tree of a text that is one expression, or `None` where tokens are left after it. The first fault is the error,
 /// also where it was recorded beside a tree.
 fn tree_of(alloc: Global, text: &str) -> PResult<Option<String>> {
-    let script = Kind {
-        awaits: false,
-        yields: false,
-    };
-    let tokens = read_text(alloc, text, Start::Operand, End::Whole, script)?;
     let (context, syntax, target) = (Context::script(), Syntax::default(), EsVersion::default());
-    let whole = parse_whole_expr(alloc, tokens, context, syntax, target, NoBodies, LEVELS);
+    let whole = parse_text_expr(alloc, text, context, syntax, target, NoBodies, LEVELS);
     let (expr, unread) = whole.read?;
     match whole.recorded.into_iter().next() {
         Some(fault) => Err(fault),

@@ -6,13 +6,17 @@ use std::str;
 use swc_context::operator::BinaryOp;
 use swc_context::word::Word;
 use swc_input::token::{Token, TokenAndSpan};
+use swc_lexer::comments::{Comment, CommentKind, read_comments};
+use swc_lexer::legacy::legacy_faults;
+use swc_lexer::lines::Lines;
 use swc_lexer::place::Kind;
 use swc_lexer::read::read_text;
 use swc_lexer::reader::End;
 use swc_lexer::stack::Start;
 
-/// Writes the tokens of the row's text, or the regular expressions among them: what is written before the setting says
-/// which. `await` is an operator in the setting `module`.
+/// Writes the tokens of the row's text, the regular expressions among them, its comments, the faults that its tokens have
+/// in strict code, or the line and the column of its end: what is written before the setting says which. `await` is an
+/// operator in the setting `module`.
 pub(crate) fn show_lexed(alloc: Global, out: &mut String, row: Row<'_>) -> Result<(), AllocError> {
     let Some(bytes) = bytes_of(alloc, row.text)? else {
         return show_unread(out, "no such byte");
@@ -24,10 +28,64 @@ pub(crate) fn show_lexed(alloc: Global, out: &mut String, row: Row<'_>) -> Resul
         awaits: row.setting == "module",
         yields: false,
     };
-    match read_text(alloc, text, Start::Statements, End::Whole, kind) {
-        Ok(tokens) => show_tokens(out, &tokens, row.calls == "regexps"),
-        Err(fault) => write!(out, "refused: {}", fault.brief()),
+    match row.calls {
+        "lines" => show_end(alloc, out, text),
+        "comments" => match read_comments(alloc, text, Start::Statements, End::Whole, kind) {
+            Ok(comments) => show_comments(out, &comments),
+            Err(fault) => write!(out, "refused: {}", fault.brief()),
+        },
+        calls => match read_text(alloc, text, Start::Statements, End::Whole, kind) {
+            Ok(tokens) if calls == "strict" => show_faults(alloc, out, &tokens),
+            Ok(tokens) => show_tokens(out, &tokens, calls == "regexps"),
+            Err(fault) => write!(out, "refused: {}", fault.brief()),
+        },
     }
+}
+
+/// Writes the line of the text's end, its column in bytes, characters and units of UTF-16, and how many such units the
+/// text has.
+fn show_end(alloc: Global, out: &mut String, text: &str) -> Result<(), AllocError> {
+    let lines = Lines::new(alloc, text)?;
+    let end = lines.position(text.len());
+    let units = lines.utf16_offset(text.len());
+    write!(
+        out,
+        "{}:{} {} {} of {units}",
+        end.line, end.bytes, end.chars, end.units
+    )
+}
+
+/// Writes the comments, each with its kind and its place.
+fn show_comments(out: &mut String, comments: &[Comment]) -> Result<(), AllocError> {
+    let mut count: usize = 0;
+    for comment in comments {
+        begin_part(out, count, ", ")?;
+        let kind = match comment.kind {
+            CommentKind::Line => "line",
+            CommentKind::Block => "block",
+            CommentKind::Hashbang => "hashbang",
+        };
+        write!(out, "{kind} {}", comment.span)?;
+        count = count.saturating_add(1);
+    }
+    if count == 0 {
+        out.push_str("none")?;
+    }
+    Ok(())
+}
+
+/// Writes the faults that the tokens have in strict code.
+fn show_faults(alloc: Global, out: &mut String, tokens: &[TokenAndSpan]) -> Result<(), AllocError> {
+    let mut count: usize = 0;
+    for fault in legacy_faults(alloc, tokens)? {
+        begin_part(out, count, ", ")?;
+        write!(out, "{}", fault.brief())?;
+        count = count.saturating_add(1);
+    }
+    if count == 0 {
+        out.push_str("none")?;
+    }
+    Ok(())
 }
 
 /// The bytes that are written so: after a backslash `n`, `r` or two digits of base 16.

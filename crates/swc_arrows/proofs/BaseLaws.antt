@@ -46,6 +46,7 @@ use Rattle.swc_arrows.specs.Readers.{before_of, is_of_alone, list_opening, liste
 use Rattle.swc_arrows.specs.Answers.{HearsOperand, Operand}
 use Rattle.swc_steps.specs.Parsing.{scope, args_at, Here, Told, On, Heard}
 use Rattle.swc_steps.proofs.Steps.{Reader, give, on_call_read, on_then, on_told, heard_after, heard_more}
+use Rattle.swc_grammar.specs.Arrows.{before_of as of_follows}
 
 -- ---- tokens
 
@@ -359,7 +360,3 @@ module _ {S : Type 0} {model : Model S} {sure : Bool} where
         ∙ same (scope model b) (p.leads.taken ++ ys) ys refl (p.clean l s ys k) (scope model c) ys;
     faulty = o.faulty;
   }
-
-module _ {S F C K : Type 0} {fun_at : F → Span} {class_at : C → Span} {block_at : K → Span} {model : Model S}
-    {sure : Bool} (hook : Hook F C K) (lawful : LawfulHook fun_at class_at block_at hook) where
-    -- ---- after an operand in the code: its links, `++` or `--`, and operators

@@ -48,6 +48,7 @@ use Rattle.swc_arrows.specs.Readers.{is_of_alone, async_param, async_of, async_b
 use Rattle.swc_arrows.specs.Readers.{list_head, arrow_on_line}
 use Rattle.swc_arrows.specs.declared.heads.HeadKind.TheVariants as head
 use Rattle.swc_arrows.proofs.HeadKinds.{Picks, head_picks}
+use Rattle.swc_grammar.specs.Arrows.{async_param as async_param_of}
 
 no_name : (a b d : Bool) → (a && b) ≡ false → (a && (b && d)) ≡ false
 no_name true true d h = absurd cc

@@ -18,6 +18,7 @@ use Rattle.swc_cover.specs.declared.pat_type.PatType.TheVariants.{BindingPat, Bi
 use Rattle.swc_nodes.specs.NodeParts.{Part}
 use Rattle.swc_nodes.specs.GrowingNodes.{Made}
 use Rattle.swc_nodes.specs.declared.nodes.Nodes.{Nodes}
+use Rattle.swc_cover.specs.declared.role.Role.{Role as NodeRole}
 
 chosen : {A : Type 0} (b : Bool) (x y : A) → b ≡ true → (if b then x else y) ≡ x
 chosen true x y h = refl

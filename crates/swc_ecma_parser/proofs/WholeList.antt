@@ -1,5 +1,5 @@
 -- From one tree read, and the end looked for, to the headline.
-use Rattle.std.proofs.Common.{◌≡◌, ℕ, Bool, true, false, not, ◌||◌, List, [], ◌∷◌, ◌++◌, Option, Some, None, Result, IfOk, IsSome, MatchResult, refl, sym, ap, subst, ◌∙◌}
+use Rattle.std.proofs.Common.{◌≡◌, ℕ, Bool, true, false, not, ◌||◌, List, [], ◌∷◌, ◌++◌, Option, Some, None, Result, Err, IfOk, IsSome, MatchResult, refl, sym, ap, subst, ◌∙◌}
 use Rattle.std.proofs.lemmas.List.{append-nil}
 use Rattle.swc_context.specs.Contexts.{view}
 use Rattle.swc_context.specs.declared.context.Context.{Context}
@@ -11,7 +11,7 @@ use Rattle.swc_context.specs.declared.error.SyntaxError.TheVariants.{OutOfMemory
 use Rattle.swc_input.specs.declared.buffer.Buffer.{Buffer}
 use Rattle.swc_input.specs.declared.listed.TokensInput.{TokensInput}
 use Rattle.swc_input.specs.declared.token.TokenAndSpan.{TokenAndSpan}
-use Rattle.swc_input.specs.Source.{Model, Laws, given_one}
+use Rattle.swc_input.specs.Source.{Model, Laws, Source, given_one}
 use Rattle.swc_input.specs.Buffer.{Known, Looked, current, fresh, held, source}
 use Rattle.swc_input.specs.Listed.{listed_state, listed_model, listed_laws, new_state}
 use Rattle.swc_input.specs.Laws.{Known-after, Known-Future, Future-end}
@@ -27,7 +27,7 @@ use Rattle.swc_nodes.specs.declared.nodes.Nodes.{Nodes}
 use Rattle.swc_steps.specs.Parsing.{scope_of, scope, Loud}
 use Rattle.swc_ecma_parser.specs.Calls.{buffer_of, has_failed, nodes_of, with_bound}
 use Rattle.swc_ecma_parser.specs.Promise.{EndsAt, Finished, Unmarred, covers_done}
-use Rattle.swc_ecma_parser.specs.WholeList.{plain_list, IsHeeded, Headline, Tries, tried, refused, lost}
+use Rattle.swc_ecma_parser.specs.WholeList.{plain_list, IsHeeded, Headline, Lists, Tries, tried, refused, lost}
 use Rattle.swc_ecma_parser.specs.declared.parser.Parser.{Parser}
 
 was_not : (v : Bool) → not v ≡ false → v ≡ true
@@ -86,6 +86,25 @@ module _ {S H N F C K : Type 0} {fg : Ghosts F} {cg : Ghosts C} {kg : Ghosts K} 
   whole-sound ts (refused h) runs k loud clean = tt
   whole-sound ts (lost h c) runs k loud clean = tt
 
+  whole-alone : EndsAt s [] → {p q : Parser S H F C K fg cg kg} {r : Result (N × Bool) Error} (ts : List TokenAndSpan) → Tries model sure hook tree part s p r q → has_failed p ≡ false
+      → Known model (buffer_of p) ts → Loud model (buffer_of p) → (model.state (source (buffer_of p))).errors ≡ []
+      → IfOk r (λ x. x.1 ≡ false → (model.state (source (buffer_of q))).errors ≡ []
+      → (t : Tree F C K) → Finished covers_done (Reads hook s) (scope model (buffer_of p)) ts [] t → t ≡ tree (nodes_of q) x.0)
+  whole-alone stops {p} ts (tried {id = id} {v = v} {q = q} {r = r} h c) runs k loud clean = λ all none t derived.
+      let sees = c.effect (h.fails runs) in
+      let d0 = h.reads runs in
+      let w = Known-after laws (buffer_of p) (buffer_of q) d0.leads.taken ts d0.leads.read.took k in
+      let same : Unmarred model (buffer_of p) (buffer_of q) = sym (look_quiet laws sees.looks.looked w.1) ∙ none ∙ sym clean in
+      let d = h.one_tree runs loud same in
+      let x = Known-after laws (buffer_of p) (buffer_of q) d.consumed ts d.read.took k in
+      let end = sees.end (was_not v all) in
+      let rest = none_left laws x.0 sees.looks.looked x.1 end.0 end.1 in
+      let whole : ts ≡ d.consumed = x.2 ∙ ap (λ l. d.consumed ++ l) rest ∙ append-nil d.consumed in
+      let P : List TokenAndSpan → Type 0 = λ l. Finished covers_done (Reads hook s) (scope model (buffer_of p)) l [] t in
+      d.alone stops t (subst P whole derived) ∙ ap (λ ns. tree ns id) (sym c.nodes)
+  whole-alone stops ts (refused h) runs k loud clean = tt
+  whole-alone stops ts (lost h c) runs k loud clean = tt
+
   whole-complete : EndsAt s [] → {p q : Parser S H F C K fg cg kg} {r : Result (N × Bool) Error} (ts : List TokenAndSpan) (t : Tree F C K) → Tries model sure hook tree part s p r q → has_failed p ≡ false
       → Known model (buffer_of p) ts → Loud model (buffer_of p) → (model.state (source (buffer_of p))).errors ≡ [] → sure ≡ true
       → Finished covers_done (Reads hook s) (scope model (buffer_of p)) ts [] t
@@ -109,23 +128,46 @@ module _ (input : TokensInput) (at : BytePos) (ts : List TokenAndSpan) (c : Cont
   pub fresh-loud : listed_state input ≡ new_state ts c x v → IsHeeded c x → Loud listed_model (fresh input at)
   fresh-loud is heeded = ap (λ s. is_silent s) is ∙ heeds c.ignore_error x.early_errors heeded.0 heeded.1
 
-module _ {H N F C K : Type 0} {fg : Ghosts F} {cg : Ghosts C} {kg : Ghosts K} {sure : Bool} {hook : Hook F C K}
+module _ {S H N F C K : Type 0} {fg : Ghosts F} {cg : Ghosts C} {kg : Ghosts K} {model : Model S} {sure : Bool} {hook : Hook F C K} (laws : Laws model)
     (tree : Nodes F C K fg cg kg → N → Tree F C K) (part : N → Part) (s : Symbol) (stops : EndsAt s []) where
-  -- by a new parser with a bound
-  pub headline : {n : ℕ} {p q : Parser TokensInput H F C K fg cg kg} {r : Result (N × Bool) Error} (o : Parser TokensInput H F C K fg cg kg) (input : TokensInput) (at : BytePos) (ts : List TokenAndSpan) (c : Context) (x : Syntax) (v : EsVersion)
-      → listed_state input ≡ new_state ts c x v → buffer_of o ≡ fresh input at → has_failed o ≡ false → p ≡ with_bound n o → IsHeeded c x → Tries listed_model sure hook tree part s p r q
-      → Headline sure hook s tree c x (plain_list ts) r (nodes_of q) (listed_state (source (buffer_of q))).errors
-  headline {p = p} {q = q} {r = r} o input at ts c x v is unread ran bounded heeded t =
+  -- by a new parser with a bound, over a source that nothing was asked of
+  pub headline : {n : ℕ} {p q : Parser S H F C K fg cg kg} {r : Result (N × Bool) Error} (o : Parser S H F C K fg cg kg) (input : S) (at : BytePos) (ts : List TokenAndSpan)
+      → Lists ts (model.state input) → buffer_of o ≡ fresh input at → has_failed o ≡ false → p ≡ with_bound n o
+      → IsHeeded (model.state input).context (model.state input).syntax → Tries model sure hook tree part s p r q
+      → Headline sure hook s tree (model.state input).context (model.state input).syntax ts r (nodes_of q) (model.state (source (buffer_of q))).errors
+  headline {p = p} {q = q} {r = r} o input at ts lists unread ran bounded heeded t =
+      let c = (model.state input).context in
+      let x = (model.state input).syntax in
       let new : buffer_of p ≡ fresh input at = ap (λ b. buffer_of b) bounded ∙ unread in
       let runs : has_failed p ≡ false = ap (λ b. has_failed b) bounded ∙ ran in
-      let known : Known listed_model (buffer_of p) (plain_list ts) = rw (new) (fresh-known input at ts c x v is) in
-      let loud : Loud listed_model (buffer_of p) = rw (new) (fresh-loud input at ts c x v is heeded) in
-      let clean : (listed_state (source (buffer_of p))).errors ≡ [] = ap (λ b. (listed_state (source b)).errors) new ∙ ap (λ s. s.errors) is in
-      let same : scope listed_model (buffer_of p) ≡ scope_of (view c) x = ap (λ b. scope listed_model b) new ∙ ap (λ s. scope_of (view s.context) s.syntax) is in
+      let unasked : Known model (fresh input at) ts = record { more = ts; begins = refl; known = lists.known } in
+      let known : Known model (buffer_of p) ts = rw (new) unasked in
+      let heard : Loud model (fresh input at) = heeds c.ignore_error x.early_errors heeded.0 heeded.1 in
+      let loud : Loud model (buffer_of p) = rw (new) heard in
+      let clean : (model.state (source (buffer_of p))).errors ≡ [] = ap (λ b. (model.state (source b)).errors) new ∙ lists.clean in
+      let same : scope model (buffer_of p) ≡ scope_of (view c) x = ap (λ b. scope model b) new in
       let S : Scope → Type 0 = λ k. IfOk r (λ y. y.1 ≡ false
-      → (listed_state (source (buffer_of q))).errors ≡ [] → Finished covers_done (Reads hook s) k (plain_list ts) [] (tree (nodes_of q) y.0)) in
+      → (model.state (source (buffer_of q))).errors ≡ [] → Finished covers_done (Reads hook s) k ts [] (tree (nodes_of q) y.0)) in
+      let A : Scope → Type 0 = λ k. IfOk r (λ y. y.1 ≡ false → (model.state (source (buffer_of q))).errors ≡ []
+      → (e : Tree F C K) → Finished covers_done (Reads hook s) k ts [] e → e ≡ tree (nodes_of q) y.0) in
       record {
-        sound = subst S same (whole-sound tree part s listed_laws (plain_list ts) t runs known loud clean);
-        complete = λ y e d. whole-complete tree part s listed_laws stops (plain_list ts) e t runs known loud clean y
-            (let D : Scope → Type 0 = λ k. Finished covers_done (Reads hook s) k (plain_list ts) [] e in subst D (sym same) d);
+        sound = subst S same (whole-sound tree part s laws ts t runs known loud clean);
+        one_tree = subst A same (whole-alone tree part s laws stops ts t runs known loud clean);
+        complete = λ y e d. whole-complete tree part s laws stops ts e t runs known loud clean y
+            (let D : Scope → Type 0 = λ k. Finished covers_done (Reads hook s) k ts [] e in subst D (sym same) d);
       }
+
+-- of a new source, in its context and by its syntax
+pub headline-in : {N F C K : Type 0} {fg : Ghosts F} {cg : Ghosts C} {kg : Ghosts K} {sure : Bool} {hook : Hook F C K} {s : Symbol} {tree : Nodes F C K fg cg kg → N → Tree F C K}
+    {ts : List TokenAndSpan} {read : Result (N × Bool) Error} {nodes : Nodes F C K fg cg kg} {recorded : List Error} (state new : Source) → state ≡ new → Lists ts new
+    → ((us : List TokenAndSpan) → Lists us state → IsHeeded state.context state.syntax → Headline sure hook s tree state.context state.syntax us read nodes recorded)
+    → IsHeeded new.context new.syntax → Headline sure hook s tree new.context new.syntax ts read nodes recorded
+headline-in {sure = sure} {hook = hook} {s = s} {tree = tree} {ts = ts} {read = read} {nodes = nodes} {recorded = recorded} state new is lists told =
+    let P : Source → Type 0 = λ v. Lists ts v → IsHeeded v.context v.syntax → Headline sure hook s tree v.context v.syntax ts read nodes recorded in
+    subst P is (told ts) lists
+
+-- memory ran out
+pub headline-lost : {N F C K : Type 0} {fg : Ghosts F} {cg : Ghosts C} {kg : Ghosts K} {sure : Bool} {hook : Hook F C K} {s : Symbol} {tree : Nodes F C K fg cg kg → N → Tree F C K}
+    {c : Context} {x : Syntax} {ts : List TokenAndSpan} {nodes : Nodes F C K fg cg kg} {recorded : List Error} (e : Error) → e.kind ≡ OutOfMemory
+    → Headline sure hook s tree c x ts (Err e) nodes recorded
+headline-lost e m = record { sound = tt; one_tree = tt; complete = λ y t d. m }

@@ -3,8 +3,10 @@ pub mod Calls
 pub mod Finishing
 pub mod ForHeads
 pub mod Heads
+pub mod Places
 pub mod Promise
 pub mod Refinement
 pub mod Replaying
+pub mod TextList
 pub mod Verification
 pub mod WholeList

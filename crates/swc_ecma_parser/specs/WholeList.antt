@@ -1,5 +1,5 @@
--- A whole list of tokens, read as one expression or as one binding pattern: the headline, in its own words.
-use Rattle.std.specs.Prelude.{◌≡◌, Bool, true, false, not, List, [], map, Result, Ok, Err, IfOk, MatchResult}
+-- All that a listed source gives, read as one expression or as one binding pattern: the headline, in its own words.
+use Rattle.std.specs.Prelude.{◌≡◌, Bool, true, false, not, List, [], map, Option, Some, Result, Ok, Err, IfOk, MatchResult}
 use Rattle.swc_context.specs.Contexts.{view}
 use Rattle.swc_context.specs.declared.context.Context.{Context}
 use Rattle.swc_context.specs.declared.context.Syntax.{Syntax}
@@ -7,7 +7,7 @@ use Rattle.swc_context.specs.declared.error.Error.{Error}
 use Rattle.swc_context.specs.declared.error.SyntaxError.TheVariants.{OutOfMemory}
 use Rattle.swc_input.specs.declared.token.TokenAndSpan.{TokenAndSpan}
 use Rattle.swc_input.specs.Plain.{plain}
-use Rattle.swc_input.specs.Source.{Model}
+use Rattle.swc_input.specs.Source.{Model, Source}
 use Rattle.swc_ast.specs.declared.spanned.Spanned.{Ghosts}
 use Rattle.swc_ast.specs.Tree.{Tree}
 use Rattle.swc_bodies.specs.Readings.{Hook}
@@ -28,6 +28,11 @@ plain_list ts = map plain ts
 abbrev pub IsHeeded : Context → Syntax → Type 0
 IsHeeded c x = (c.ignore_error ≡ false) × (x.early_errors ≡ true)
 
+-- A listed source that has recorded nothing, and still gives these tokens
+pub record Lists (ts : List TokenAndSpan) (s : Source) : Type 0 where
+  pub known : s.known ≡ Some ts
+  pub clean : s.errors ≡ []
+
 module _ {N F C K : Type 0} {fg : Ghosts F} {cg : Ghosts C} {kg : Ghosts K} where
   -- In the context c, of which four flags decide nothing (`view`), and by the syntax x, what is read of the tokens ts as the symbol s: what
   -- has the number of a tree and whether tokens are left after it, or a refusal; the nodes; and the faults that were recorded
@@ -36,6 +41,9 @@ module _ {N F C K : Type 0} {fg : Ghosts F} {cg : Ghosts C} {kg : Ghosts K} wher
     -- A tree answered with no token left and no fault recorded is derived by the written grammar from the whole list, and is finished.
     pub sound : IfOk read (λ r. r.1 ≡ false → recorded ≡ []
         → Finished covers_done (Reads hook s) (scope_of (view c) x) ts [] (tree nodes r.0))
+    -- No other finished tree is derived from it.
+    pub one_tree : IfOk read (λ r. r.1 ≡ false → recorded ≡ []
+        → (t : Tree F C K) → Finished covers_done (Reads hook s) (scope_of (view c) x) ts [] t → t ≡ tree nodes r.0)
     -- Each finished tree that the grammar derives from the whole list is answered, with no token left and no fault recorded, or memory
     -- was wanted. The hook has to be faithful.
     pub complete : sure ≡ true → (t : Tree F C K) → Finished covers_done (Reads hook s) (scope_of (view c) x) ts [] t

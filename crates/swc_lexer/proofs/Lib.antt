@@ -1,4 +1,9 @@
 pub mod Stacks
 pub mod Readings
+pub mod Covers
 pub mod Sums
 pub mod Slashes
+pub mod Lists
+pub mod Gathering
+pub mod Faults
+pub mod Counting

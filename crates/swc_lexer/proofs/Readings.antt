@@ -1,5 +1,5 @@
 -- What comes next in a text.
-use Rattle.std.proofs.Common.{◌≡◌, ℕ, ◌+◌, ◌-◌, ◌*◌, ◌<◌, ◌≤◌, Bool, true, false, List, [], ◌∷◌, length, take, drop, Option, Some, None, refl, sym, ap, ◌∙◌, arith, length-drop, subst}
+use Rattle.std.proofs.Common.{◌≡◌, ℕ, ◌+◌, ◌-◌, ◌*◌, ◌<◌, ◌≤◌, Bool, true, false, List, length, take, drop, Option, Some, None, refl, sym, ap, ◌∙◌, arith, length-drop, subst}
 use Rattle.std.specs.Prelude.{nat_lt, if◌then◌else◌, ◌&&◌, ◌||◌, not, slice_range}
 use Rattle.std.proofs.Math.Seq.{take-length}
 use Rattle.swc_input.specs.declared.token.TokenAndSpan.{TokenAndSpan}
@@ -53,7 +53,7 @@ weight_between true true = (omega arith, omega arith)
 weight_between true false = (omega arith, omega arith)
 weight_between false h = (omega arith, omega arith)
 
-weights : (s : State) → (1 ≤ weight s) × (weight s ≤ 2)
+pub weights : (s : State) → (1 ≤ weight s) × (weight s ≤ 2)
 weights s = weight_between (is_template (innermost s.frames)) s.place.has_text
 
 weight_with_text : (t h : Bool) → h ≡ true → weight_if t h ≡ 1
@@ -71,10 +71,10 @@ weight_by_goal false h false e = cc
 weight_at_text : (s : State) (breaks : Bool) → stacks.goal s breaks ≡ goal.Text → weight s ≡ 2
 weight_at_text s breaks e = weight_by_goal (is_template (innermost s.frames)) s.place.has_text (wants_regexp s.place.before breaks) e
 
-bound_runs : (bs : List ℕ) (r : Reading) → r.ended ≡ false → bound bs r ≡ 2 * (length bs - r.at) + weight r.state
+pub bound_runs : (bs : List ℕ) (r : Reading) → r.ended ≡ false → bound bs r ≡ 2 * (length bs - r.at) + weight r.state
 bound_runs bs r h = ap (λ b. if b then 0 else (2 * (length bs - r.at) + weight r.state)) h
 
-lower_fault : (bs : List ℕ) (r : Reading) → r.ended ≡ false → bound bs (ended r) < bound bs r
+pub lower_fault : (bs : List ℕ) (r : Reading) → r.ended ≡ false → bound bs (ended r) < bound bs r
 lower_fault bs r h =
     let z : bound bs (ended r) ≡ 0 = refl in let b = bound_runs bs r h in let w = weights r.state in omega (arith, z, b, w.0)
 
@@ -97,7 +97,7 @@ or_fault asks bs (Some q) p e =
     let f = if_piece (moves q && not (gapes asks q bs)) q p e in
     (ap Some f.1, ap moves (sym f.1) ∙ and_left (moves q) (not (gapes asks q bs)) f.0)
 
-comes : (e : End) (s : State) (bs : List ℕ) (p : Piece) → what_comes e s bs ≡ here_.Piece p → (piece_at (goal_here s bs) bs ≡ Some p) × (moves p ≡ true)
+pub comes : (e : End) (s : State) (bs : List ℕ) (p : Piece) → what_comes e s bs ≡ here_.Piece p → (piece_at (goal_here s bs) bs ≡ Some p) × (moves p ≡ true)
 comes e s bs p h =
     or_fault (is_asking s.place) bs (piece_at (goal_here s bs) bs) p
     (over_else (is_over e s (goal_here s bs) bs) (piece_here (goal_here s bs) (is_asking s.place) bs) p h)
@@ -157,7 +157,7 @@ lower_text bs r p t h before after =
 
 module _ (e : End) (bs : List ℕ) (r : Reading) (p : Piece) (runs : r.ended ≡ false) (next : what_comes e r.state (drop r.at bs) ≡ here_.Piece p)
     (same : p.goal ≡ goal_here r.state (drop r.at bs)) (within : r.at + p.blanks + p.len ≤ length bs) where
-  lower_read : (t : TokenAndSpan) → one_of (is_dot r.state.place) r.at p bs ≡ Some t → bound bs (read p t r) < bound bs r
+  pub lower_read : (t : TokenAndSpan) → one_of (is_dot r.state.place) r.at p bs ≡ Some t → bound bs (read p t r) < bound bs r
   lower_read t h = elim (nat_lt 0 p.len) as (λ b. nat_lt 0 p.len ≡ b → bound bs (read p t r) < bound bs r) [
     | true ↦ (λ l. lower_some bs r p t runs within (is_lt 0 p.len l))
     | false ↦ (λ l.

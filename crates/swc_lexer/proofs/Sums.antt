@@ -3,12 +3,18 @@ use Rattle.std.proofs.Common.{◌≡◌, ℕ, ◌<◌, ◌≤◌, List, [], ◌�
 use Rattle.std.specs.Prelude.{IfSome}
 use Rattle.std.specs.Iterator.{Count, IsFinite, MakesProgress, at_most, size}
 use Rattle.swc_input.specs.declared.token.TokenAndSpan.{TokenAndSpan}
+use Rattle.std.proofs.Common.{Bool}
+use Rattle.swc_input.specs.Source.{Source}
+use Rattle.swc_lexer.specs.declared.input.TextInput.{TextInput}
+use Rattle.swc_lexer.specs.Inputs.{bytes_of, reading, left, held_list, Hands, handed}
 use Rattle.swc_lexer.specs.declared.reader.End.{End}
-use Rattle.swc_lexer.specs.Readings.{Reading, Gives, gave, stopped, bound, first, tokens_from, tokens_of}
-use Rattle.swc_lexer.specs.Reads.{Answers, Reads, read, refused, out_of_memory}
+use Rattle.swc_lexer.specs.Covers.{Covers}
+use Rattle.swc_lexer.proofs.Covers.{covers_of}
+use Rattle.swc_lexer.specs.Readings.{Reading, Gives, gave, stopped, bound, begin, first, tokens_from, tokens_of}
+use Rattle.swc_lexer.specs.Reads.{Answers, Reads, IsClean, read, refused, out_of_memory}
 use Rattle.swc_lexer.specs.declared.place.Kind.{Kind}
 use Rattle.swc_lexer.specs.declared.stack.Start.{Start}
-use Rattle.std.specs.Prelude.{Result, Err}
+use Rattle.std.specs.Prelude.{Result, Ok, Err, IfOk, All}
 use Rattle.std.specs.declared.alloc.Global.{Global}
 use Rattle.std.specs.declared.vec.Vec.{Vec}
 use Rattle.swc_context.specs.declared.error.Error.{Error}
@@ -84,3 +90,28 @@ read_answers e b bs s k r a is begins reads =
 
 pub refused_answers : (all : List TokenAndSpan) (e : Error) → e ≡ out_of_memory → Answers (Err e) all
 refused_answers all e is = subst (λ z. Answers (Err z) all) (sym is) refused
+
+pub read_covers : (e : End) (bs : List ℕ) (s : Start) (k : Kind) (v : Vec TokenAndSpan Global) → v.items ≡ tokens_of e 0 s k bs → All IsClean v.items →
+    Covers e bs (begin bs 0) v.items
+read_covers e bs s k v is clean = subst (λ l. Covers e bs (begin bs 0) l) (sym is) (covers_of e bs 0 s k (subst (λ l. All IsClean l) is clean))
+
+-- such an answer covers the text
+pub answer_covers : (e : End) (b bs : List ℕ) (s : Start) (k : Kind) (r : Reading) (a : Result (Vec TokenAndSpan Global) Error) → b ≡ bs → r ≡ first b 0 s k →
+    Reads a (tokens_from e bs r) → IfOk a (λ v. Covers e bs (begin bs 0) v.items)
+answer_covers e b bs s k r (Err x) is begins reads = tt
+answer_covers e b bs s k r (Ok v) is begins reads =
+    let f : r ≡ first bs 0 s k = begins ∙ ap (λ z. first z 0 s k) is in
+    read_covers e bs s k v (reads.0 ∙ ap (λ z. tokens_from e bs z) f) reads.1
+
+-- a token that was handed out leaves less
+pub hands_lower : (s : TextInput) (t : TextInput) (e : End) (b : List ℕ) (d : Reading) (l : Bool) (n : Source) (x z : TokenAndSpan) (o r : Option TokenAndSpan) →
+    b ≡ bytes_of s → Gives e b (reading s) o d → o ≡ Some x → reading t ≡ d → bytes_of t ≡ bytes_of s → Hands l n z r t →
+    IfSome r (λ y. left t < left s)
+hands_lower s t e b d l n x z o None is g some goes same hands = tt
+hands_lower s t e b d l n x z o (Some y) is g some goes same (handed ok held legacy notes) =
+    let less = lower e b (reading s) d o x g some in
+    let before = ap (λ k. bound k (reading s)) is in
+    let after = ap (λ k. bound k d) is in
+    let now = ap (λ k. bound k (reading t)) same ∙ ap (bound (bytes_of s)) goes in
+    let none = ap (λ k. length (held_list k)) held in
+    omega (arith, less, before, after, now, none)

@@ -5,5 +5,9 @@ pub mod Signs
 pub mod Tokens
 pub mod Readings
 pub mod Coming
+pub mod Legacy
 pub mod Inputs
 pub mod Reads
+pub mod Comments
+pub mod Lines
+pub mod Covers

@@ -1,7 +1,8 @@
 -- How a text is read: token by token, each by the goal that the tokens before it tell.
 use Rattle.std.specs.Prelude.{◌≡◌, ℕ, zero, suc, ◌+◌, ◌-◌, ◌*◌, ◌≤◌, ◌<◌, Bool, true, false, not, ◌&&◌, ◌||◌, if◌then◌else◌, nat_eq, nat_lt, nat_le, List, [], ◌∷◌, Option, Some, None, length, drop, slice_range, slice_get}
 use Rattle.swc_context.specs.declared.context.Context.{Context}
-use Rattle.swc_context.specs.declared.error.SyntaxError.{Lex}
+use Rattle.swc_context.specs.declared.error.SyntaxError.{SyntaxError}
+use Rattle.swc_context.specs.declared.error.SyntaxError.TheVariants as fault
 use Rattle.swc_context.specs.declared.span.Span.{Span}
 use Rattle.swc_input.specs.declared.token.Token.{Token}
 use Rattle.swc_input.specs.declared.token.Token.TheVariants as token
@@ -10,7 +11,11 @@ use Rattle.swc_lexical.specs.declared.scan.Goal.{Goal}
 use Rattle.swc_lexical.specs.declared.scan.Goal.TheVariants as goal
 use Rattle.swc_lexical.specs.declared.scan.Piece.{Piece}
 use Rattle.swc_lexical.specs.Blanks.{blanks_len, has_break, hashbang_len}
-use Rattle.swc_lexical.specs.Chars.{first_char}
+use Rattle.swc_lexical.specs.declared.fault.Wrong.{Wrong}
+use Rattle.swc_lexical.specs.declared.fault.Wrong.TheVariants as wrong
+use Rattle.swc_lexical.specs.declared.lexeme.Kind.{Kind as Lexical}
+use Rattle.swc_lexical.specs.declared.lexeme.Kind.TheVariants as lexical
+use Rattle.swc_lexical.specs.Faults.{char_len, fault_of}
 use Rattle.swc_lexical.specs.Runs.{is_at}
 use Rattle.swc_lexical.specs.Scans.{piece_at, gapes}
 use Rattle.swc_lexer.specs.declared.place.Kind.{Kind}
@@ -86,32 +91,36 @@ HasGoal h g = Unit {0}
 
 -- ---- faults
 
-abbrev pub len_of : Option (ℕ × ℕ) → ℕ
-len_of None = 0
-len_of (Some c) = c.1
+-- what is wrong, as the parser says it
+abbrev pub kind_of : Wrong → SyntaxError
+kind_of wrong.Comment = fault.UnterminatedBlockComment
+kind_of wrong.Regexp = fault.UnterminatedRegExp
+kind_of wrong.String = fault.UnterminatedStrLit
+kind_of wrong.Template = fault.UnterminatedTpl
+kind_of wrong.Name = fault.IdentAfterNum
+kind_of wrong.Digit = fault.ExpectedDigit
+kind_of wrong.Escape = fault.BadCharacterEscapeSequence
+kind_of wrong.Character = fault.UnexpectedChar
 
--- how many bytes the character takes that is here
-abbrev pub char_len : List ℕ → ℕ
-char_len bs = len_of (first_char bs)
-
--- after blanks
-abbrev pub fault_offset : Goal → List ℕ → ℕ
-fault_offset goal.Text bs = 0
-fault_offset goal.Delimiter bs = 0
-fault_offset g bs = blanks_len bs
-
-abbrev pub fault_token : ℕ → ℕ → TokenAndSpan
-fault_token lo hi =
+abbrev pub fault_token : SyntaxError → ℕ → ℕ → TokenAndSpan
+fault_token k lo hi =
     let s : Span = record { lo = record { 0 = lo }; hi = record { 0 = hi } } in
-    record { token = token.Error (record { span = s; kind = Lex }); had_line_break = false; span = s }
+    record { token = token.Error (record { span = s; kind = k }); had_line_break = false; span = s }
 
-abbrev pub fault_at : List ℕ → ℕ → TokenAndSpan
-fault_at bs at = fault_token at (at + char_len (drop at bs))
+-- a template that isn't closed begins before its text, with a backquote or a brace
+abbrev pub begins : Goal → ℕ → ℕ
+begins goal.Text at = at - 1
+begins g at = at
 
--- a template that isn't closed begins before its text
+-- the fault of what is here, which is no token
 abbrev pub fault_here : Goal → List ℕ → ℕ → TokenAndSpan
-fault_here goal.Text bs at = fault_at bs (at - 1)
-fault_here g bs at = fault_at bs (at + fault_offset g (drop at bs))
+fault_here g bs at =
+    let f = fault_of g (drop at bs) in fault_token (kind_of f.wrong) (begins g (at + f.offset)) (at + f.offset + f.len)
+
+-- the fault of a piece that is no token: a word with escapes, which means a keyword, or a character
+abbrev pub fault_of_kind : Lexical → ℕ → ℕ → List ℕ → TokenAndSpan
+fault_of_kind lexical.Word at len bs = fault_token fault.EscapeInReservedWord at (at + len)
+fault_of_kind k at len bs = fault_token fault.UnexpectedChar at (at + char_len (drop at bs))
 
 -- ---- a token
 
@@ -138,7 +147,7 @@ abbrev pub read : Piece → TokenAndSpan → Reading → Reading
 read p t r = record r { at = r.at + p.blanks + p.len; state = passed (mark_of t.token) (nat_eq p.blanks 0) t.had_line_break r.state }
 
 abbrev pub given_of : List ℕ → Reading → Piece → Option TokenAndSpan → TokenAndSpan × Reading
-given_of bs r p None = (fault_at bs (r.at + p.blanks), ended r)
+given_of bs r p None = (fault_of_kind p.kind (r.at + p.blanks) p.len bs, ended r)
 given_of bs r p (Some t) = (t, read p t r)
 
 -- the token of a piece, and the reading after it; or a fault, after which nothing comes
@@ -156,7 +165,7 @@ next_by bs r (here_.Piece p) = Some (given bs r p)
 
 -- a text of 4 GB or more is a fault
 abbrev pub given_long : List ℕ → Reading → TokenAndSpan × Reading
-given_long bs r = (fault_token 0 0, ended r)
+given_long bs r = (fault_token fault.Lex 0 0, ended r)
 
 abbrev pub next_in : End → List ℕ → Reading → Option (TokenAndSpan × Reading)
 next_in e bs r =

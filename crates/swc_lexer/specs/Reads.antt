@@ -1,15 +1,20 @@
 -- All tokens of a text, or its first fault.
-use Rattle.std.specs.Prelude.{◌≡◌, Bool, true, false, List, [], ◌∷◌, ◌++◌, Result, Ok, Err, All, IsFalse}
+use Rattle.std.specs.Prelude.{◌≡◌, ℕ, ◌+◌, min, Bool, true, false, List, ◌∷◌, ◌++◌, Result, Ok, Err, All, IsFalse}
 use Rattle.std.specs.declared.alloc.Global.{Global}
 use Rattle.std.specs.declared.vec.Vec.{Vec}
 use Rattle.swc_context.specs.declared.error.Error.{Error}
-use Rattle.swc_context.specs.declared.error.SyntaxError.{OutOfMemory}
+use Rattle.swc_context.specs.declared.error.SyntaxError.{OutOfMemory, InvalidUtf8}
 use Rattle.swc_input.specs.declared.token.Token.{Token}
 use Rattle.swc_input.specs.declared.token.Token.TheVariants as token
 use Rattle.swc_input.specs.declared.token.TokenAndSpan.{TokenAndSpan}
 
 abbrev pub out_of_memory : Error
 out_of_memory = record { span = record { lo = record { 0 = 0 }; hi = record { 0 = 0 } }; kind = OutOfMemory }
+
+-- the fault of bytes that are no UTF-8, the first of which is there
+abbrev pub bad_utf8 : ℕ → Error
+bad_utf8 at =
+    let lo = min at 4294967294 in record { span = record { lo = record { 0 = lo }; hi = record { 0 = lo + 1 } }; kind = InvalidUtf8 }
 
 abbrev pub is_error : Token → Bool
 is_error (token.Error e) = true

@@ -2,7 +2,7 @@
 use Rattle.std.specs.Prelude.{ℕ, ◌+◌, ◌-◌, Bool, true, false, if◌then◌else◌, nat_eq, nat_lt, List, Option, Some, None, Result, Ok, Err, length, drop, slice_range}
 use Rattle.std.specs.List.{list_any}
 use Rattle.swc_context.specs.declared.error.Error.{Error}
-use Rattle.swc_context.specs.declared.error.SyntaxError.{Lex}
+use Rattle.swc_context.specs.declared.error.SyntaxError.{BadCharacterEscapeSequence}
 use Rattle.swc_context.specs.declared.word.Word.{Word}
 use Rattle.swc_context.specs.declared.word.Word.TheVariants as word
 use Rattle.swc_context.specs.Words.{word_of}
@@ -10,6 +10,7 @@ use Rattle.swc_input.specs.declared.token.Token.{Token}
 use Rattle.swc_input.specs.declared.token.Token.TheVariants as token
 use Rattle.swc_lexical.specs.declared.lexeme.Kind.{Kind}
 use Rattle.swc_lexical.specs.declared.lexeme.Kind.TheVariants as kind
+use Rattle.swc_lexical.specs.Faults.{bad_len}
 use Rattle.swc_lexical.specs.Meanings.{meaning}
 use Rattle.swc_lexical.specs.Runs.{is_at}
 use Rattle.swc_lexical.specs.Templates.{good_len}
@@ -35,13 +36,14 @@ inner bs = slice_range bs 1 (length bs - 1)
 abbrev pub string_token : List ℕ → Option Token
 string_token bs = if nat_lt (length bs) 2 then None else Some (token.Str (meaning true (inner bs)) bs)
 
--- the fault of the byte at a place
-abbrev pub fault_at : ℕ → Error
-fault_at at = record { span = record { lo = record { 0 = at }; hi = record { 0 = at + 1 } }; kind = Lex }
+-- the fault of a bad escape of so many bytes, at a place
+abbrev pub fault_at : ℕ → ℕ → Error
+fault_at at len = record { span = record { lo = record { 0 = at }; hi = record { 0 = at + len } }; kind = BadCharacterEscapeSequence }
 
 -- what a text of a template means, or the fault at its first bad escape
 abbrev pub cooked : ℕ → List ℕ → Result (List ℕ) Error
-cooked at bs = if nat_lt (good_len bs) (length bs) then Err (fault_at (at + good_len bs)) else Ok (meaning true bs)
+cooked at bs =
+    if nat_lt (good_len bs) (length bs) then Err (fault_at (at + good_len bs) (bad_len (drop (good_len bs) bs))) else Ok (meaning true bs)
 
 abbrev pub template_token : ℕ → List ℕ → Option Token
 template_token at bs = Some (token.Template (meaning false bs) (cooked at bs))

@@ -1,7 +1,10 @@
 //! A text as a source of the parser, which reads its tokens as they are asked for.
-ghost use Rattle.std.specs.Prelude.{◌≡◌, ◌≤◌, length, string_bytes};
+ghost use Rattle.std.specs.Prelude.{◌≡◌, ◌≤◌, false, length, string_bytes, OnOk, OnErr, Some, None};
+ghost use Rattle.swc_input.specs.Listed.{listed_state};
+ghost use Rattle.swc_lexer.specs.Legacy.{noted};
 
-use crate::reader::{End, Reader, kind_in};
+use crate::legacy::legacy_fault;
+use crate::reader::{End, MAX_LEN, Reader, kind_in};
 use crate::stack::Start;
 use std::alloc::{AllocError, Global};
 use swc_context::context::{Context, EsVersion, Syntax, TokenContexts};
@@ -12,7 +15,9 @@ use swc_input::token::TokenAndSpan;
 use swc_input::tokens::Tokens;
 
 /// A source that gives the tokens of a text as they are asked for. It holds no list of them, and owns its text. A fault
-/// of the text is an error token, after which nothing comes. It fails only when it is out of memory.
+/// of the text is an error token, after which nothing comes. A number or an escape of old scripts, as `010` or `"\1"`, is
+/// recorded where it is read in strict code or a module, and elsewhere waits for the text to turn out a module. The source
+/// fails only when it is out of memory.
 #[derive(Drop)]
 pub struct TextInput {
     alloc: Global,
@@ -23,7 +28,25 @@ pub struct TextInput {
     /// The context, and the faults that were recorded.
     notes: TokensInput,
     failed: bool,
+    /// A token with a fault of strict code was given.
+    legacy: bool,
+    /// The token that wasn't given, since there was no memory to record its fault.
+    held: Option<TokenAndSpan>,
     ghost within: { reader.at ≤ length (string_bytes text) },
+    ghost none_held: { failed ≡ false → held ≡ None },
+}
+
+/// Records a fault of strict code, or has it wait outside of it. The only error is out of memory, and then nothing
+/// changes.
+fn note(notes: &mut TokensInput, fault: Error) -> Result<(), AllocError>
+    ensures noted { OnOk result (listed_state notes.new ≡ noted (Some fault) (listed_state notes.old)) }
+    ensures unchanged { OnErr result (listed_state notes.new ≡ listed_state notes.old) }
+{
+    if notes.ctx().strict {
+        notes.add_error(fault)
+    } else {
+        notes.add_module_mode_error(fault)
+    }
 }
 
 impl TextInput {
@@ -42,15 +65,61 @@ impl TextInput {
         ensures state { inputs.text_state result
             ≡ inputs.new_state end 0 start (string_bytes text) context syntax target }
     {
-        let reader = Reader::new(alloc, text.as_str().as_bytes(), 0, start, kind_in(context));
+        TextInput::new_at(alloc, text, 0, start, end, context, syntax, target)
+    }
+
+    /// A source of the tokens of a part of this text, as `new` makes it: from the byte `at` on, as far as `end` says. The
+    /// places of tokens are in the whole text. A hashbang is read at its beginning alone.
+    pub fn new_at(
+        alloc: Global,
+        text: String,
+        at: usize,
+        start: Start,
+        end: End,
+        context: Context,
+        syntax: Syntax,
+        target: EsVersion,
+    ) -> TextInput
+        requires { at ≤ length (string_bytes text) }
+        ensures state { inputs.text_state result
+            ≡ inputs.new_state end at start (string_bytes text) context syntax target }
+    {
+        let reader = Reader::new(alloc, text.as_str().as_bytes(), at, start, kind_in(context));
         TextInput {
             alloc,
             end,
-            begin: 0,
+            begin: at,
             reader,
             notes: TokensInput::new(alloc, Vec::new(alloc), context, syntax, target),
             failed: false,
+            legacy: false,
+            held: None,
             text,
+        }
+    }
+
+    /// Gives the token, whose fault of strict code, if it has one, is recorded. Where there is no memory to record it, the
+    /// source fails.
+    #[tactic(auto, using(crate::specs::Inputs::hands_none, crate::specs::Inputs::hands_some, crate::specs::Inputs::hands_lost))]
+    fn hand(&mut self, token: TokenAndSpan) -> Option<TokenAndSpan>
+        requires { self.old.failed ≡ false }
+        ensures same { inputs.SameText self.old self.new }
+        ensures reading { inputs.reading self.new ≡ inputs.reading self.old }
+        ensures hands { inputs.Hands self.old.legacy (inputs.notes_of self.old) token result self.new }
+    {
+        match legacy_fault(&token) {
+            None => Some(token),
+            Some(fault) => match note(&mut self.notes, fault) {
+                Ok(()) => {
+                    self.legacy = true;
+                    Some(token)
+                }
+                Err(AllocError) => {
+                    self.failed = true;
+                    self.held = Some(token);
+                    None
+                }
+            },
         }
     }
 
@@ -72,14 +141,15 @@ impl Iterator for TextInput {
 
     ghost remaining = { λ s. at_most (left s) };
 
-    #[tactic(auto, using(crate::specs::Inputs::next_taken, crate::specs::Inputs::next_failed))]
+    #[tactic(auto, using(crate::specs::Inputs::next_handed, crate::specs::Inputs::next_stopped, crate::specs::Inputs::next_failed))]
     fn next(&mut self) -> Option<TokenAndSpan> {
         if self.failed {
             return None;
         }
         match self.reader.next(self.alloc, self.end, self.text.as_str()) {
-            Ok(token) => token,
-            Err(_) => {
+            Ok(Some(token)) => self.hand(token),
+            Ok(None) => None,
+            Err(AllocError) => {
                 self.failed = true;
                 None
             }
@@ -120,6 +190,14 @@ impl Tokens for TextInput {
 
     fn target(&self) -> EsVersion {
         self.notes.target()
+    }
+
+    fn start_pos(&self) -> BytePos {
+        if self.begin <= MAX_LEN {
+            BytePos(self.begin as u32)
+        } else {
+            BytePos(0)
+        }
     }
 
     #[tactic(auto, using(crate::specs::Inputs::untouched))]

@@ -1,7 +1,10 @@
 //! The tokens of the parser, made of the lexemes of a text.
 #![tactic(auto)]
 
+pub mod comments;
 pub mod input;
+pub mod legacy;
+pub mod lines;
 pub mod mark;
 pub mod place;
 pub mod read;

@@ -1,10 +1,13 @@
 //! All tokens of a text.
-ghost use Rattle.std.specs.Prelude.{◌≡◌, ◌≤◌, length, IfOk, IfErr};
+ghost use Rattle.std.specs.Prelude.{◌≡◌, ◌≤◌, length, IfOk, IfErr, Err};
+ghost use Rattle.std.specs.Str.{IsUtf8};
+ghost use Rattle.std.specs.Str.Lossy.{utf8_valid_len};
+ghost use Rattle.swc_lexer.specs.Covers as covers;
 ghost use Rattle.swc_lexer.specs.Reads as reads;
 ghost use Rattle.swc_lexer.specs.Readings as readings;
 
 use crate::place::Kind;
-use crate::reader::{End, Reader};
+use crate::reader::{End, MAX_LEN, Reader};
 use crate::stack::Start;
 use std::alloc::{AllocError, Global};
 use swc_context::error::{Error, PResult, SyntaxError};
@@ -75,8 +78,9 @@ pub fn read_list(
     Ok(tokens)
 }
 
-/// The tokens of a text (ECMA-262, 12), of a program or an expression, in a function of the kind. A fault refuses the
-/// text, the first one, with its place; and memory, at 0..0.
+/// The tokens of a text (ECMA-262, 12), of a program or an expression, in a function of the kind. Between them are white
+/// space, line terminators and comments alone (`comments_of` reads these). A fault refuses the text, the first one, with
+/// its place; and memory, at 0..0. Numbers and escapes of old scripts are read: `legacy_faults` has their faults.
 pub fn read_text(
     alloc: Global,
     text: &str,
@@ -84,11 +88,43 @@ pub fn read_text(
     end: End,
     kind: Kind,
 ) -> PResult<Vec<TokenAndSpan>>
-    ensures { reads.Answers result (readings.tokens_of end 0 start kind text.now) }
+    ensures answers { reads.Answers result (readings.tokens_of end 0 start kind text.now) }
+    ensures covers { IfOk result (λ v. covers.Covers end text.now (readings.begin text.now 0) v.items) }
 {
     let mut reader = Reader::new(alloc, text.as_bytes(), 0, start, kind);
     match read_all(alloc, end, text, &mut reader) {
         Ok(answer) => answer,
         Err(_) => Err(out_of_memory()),
+    }
+}
+
+/// The fault of bytes that are no UTF-8, the first of which is there.
+fn bad_utf8(at: usize) -> Error
+    ensures { result ≡ reads.bad_utf8 at }
+{
+    let lo = at.min(MAX_LEN - 1);
+    let span = Span {
+        lo: BytePos(lo as u32),
+        hi: BytePos((lo + 1) as u32),
+    };
+    Error::new(span, SyntaxError::InvalidUtf8)
+}
+
+/// The tokens of a text in UTF-8, as `read_text` gives them. Bytes that are no UTF-8 refuse the text as `InvalidUtf8`, at
+/// the first such byte.
+pub fn read_bytes(
+    alloc: Global,
+    bytes: &[u8],
+    start: Start,
+    end: End,
+    kind: Kind,
+) -> PResult<Vec<TokenAndSpan>>
+    ensures read { IsUtf8 bytes.now
+        → reads.Answers result (readings.tokens_of end 0 start kind bytes.now) }
+    ensures refused { (IsUtf8 bytes.now → ⊥) → result ≡ Err (reads.bad_utf8 (utf8_valid_len bytes.now)) }
+{
+    match str::from_utf8(bytes) {
+        Ok(text) => read_text(alloc, text, start, end, kind),
+        Err(error) => Err(bad_utf8(error.valid_up_to())),
     }
 }

@@ -2,6 +2,7 @@
 ghost use Rattle.std.specs.Prelude.{◌≡◌, ◌+◌, ◌≤◌, ◌<◌, ◌^◌, length, drop, false, IfOk, IfSome, OnErr};
 ghost use Rattle.swc_lexer.specs.Readings as readings;
 ghost use Rattle.swc_lexer.specs.Stacks as stacks;
+ghost use Rattle.swc_lexical.specs.Blanks.{blanks_len};
 ghost use Rattle.swc_lexical.specs.Scans as scans;
 ghost use Rattle.swc_lexical.specs.Templates as templates;
 
@@ -15,9 +16,10 @@ use swc_context::error::{Error, SyntaxError};
 use swc_context::span::{BytePos, Span};
 use swc_input::token::{Token, TokenAndSpan};
 use swc_lexical::blank::{blanks_len, has_break, hashbang_len};
-use swc_lexical::bytes::{first_char, is_at};
+use swc_lexical::bytes::is_at;
+use swc_lexical::fault::{Wrong, char_len, fault_of};
 use swc_lexical::lexeme::Kind as Lexical;
-use swc_lexical::scan::{Goal, Piece, piece_at};
+use swc_lexical::scan::{Goal, Piece, piece_after};
 
 /// The length of the longest text that can be read, in bytes.
 pub const MAX_LEN: usize = 4_294_967_295;
@@ -54,7 +56,7 @@ fn is_edge(text: &[u8], at: usize) -> bool
 
 /// The text from the place on.
 #[tactic(auto, using(crate::proofs::Readings::cut_is))]
-fn rest_from(text: &[u8], at: usize) -> &[u8]
+pub(crate) fn rest_from(text: &[u8], at: usize) -> &[u8]
     requires { at ≤ length text.now }
     ensures { result.now ≡ drop at text.now }
 {
@@ -76,31 +78,31 @@ fn gapes(asks: bool, piece: Piece, rest: &[u8]) -> bool
     asks && 0 < piece.blanks && is_sign && piece.len == 1 && is_at(rest, piece.blanks, b'.')
 }
 
-/// Whether nothing but blanks is left, or the `}` before which the text ends.
-fn is_over(end: End, stack: &Stack, goal: Goal, rest: &[u8]) -> bool
+/// Whether nothing but blanks is left, of which so many bytes are here, or the `}` before which the text ends.
+fn is_over(end: End, stack: &Stack, goal: Goal, blanks: usize, rest: &[u8]) -> bool
+    requires { blanks ≡ blanks_len rest.now }
     ensures { result ≡ readings.is_over end (stacks.state_of stack.now) goal rest.now }
 {
     match goal {
         Goal::Text | Goal::Delimiter => false,
-        _ => {
-            let blanks = blanks_len(rest);
-            match end {
-                End::Whole => blanks == rest.len(),
-                End::BeforeBrace => {
-                    blanks == rest.len() || is_at(rest, blanks, b'}') && !stack.has_brace()
-                }
+        _ => match end {
+            End::Whole => blanks == rest.len(),
+            End::BeforeBrace => {
+                blanks == rest.len() || is_at(rest, blanks, b'}') && !stack.has_brace()
             }
-        }
+        },
     }
 }
 
-/// The token that is here, by the goal, or a fault.
-fn piece_here(goal: Goal, asks: bool, rest: &[u8]) -> Here
+/// The token that is here, by the goal, after so many bytes of blanks, or a fault.
+fn piece_here(goal: Goal, asks: bool, blanks: usize, rest: &[u8]) -> Here
+    requires within { blanks ≤ length rest.now }
+    requires blanks { blanks ≡ blanks_len rest.now }
     ensures value { result ≡ readings.piece_here goal asks rest.now }
     ensures within { readings.IsWithin result (length rest.now) }
     ensures goal { readings.HasGoal result goal }
 {
-    match piece_at(goal, rest) {
+    match piece_after(goal, blanks, rest) {
         None => Here::Fault,
         Some(piece) => {
             if moves(piece) && !gapes(asks, piece, rest) {
@@ -112,11 +114,13 @@ fn piece_here(goal: Goal, asks: bool, rest: &[u8]) -> Here
     }
 }
 
-/// Which goal of the lexical grammar comes next.
-fn goal_here(stack: &Stack, rest: &[u8]) -> Goal
+/// Which goal of the lexical grammar comes next, after so many bytes of blanks.
+fn goal_here(stack: &Stack, blanks: usize, rest: &[u8]) -> Goal
+    requires within { blanks ≤ length rest.now }
+    requires blanks { blanks ≡ blanks_len rest.now }
     ensures { result ≡ readings.goal_here (stacks.state_of stack.now) rest.now }
 {
-    stack.goal(has_break(rest, blanks_len(rest)))
+    stack.goal(has_break(rest, blanks))
 }
 
 /// What comes next.
@@ -125,71 +129,82 @@ fn what_comes(end: End, stack: &Stack, rest: &[u8]) -> Here
     ensures within { readings.IsWithin result (length rest.now) }
     ensures goal { readings.HasGoal result (readings.goal_here (stacks.state_of stack.now) rest.now) }
 {
-    let goal = goal_here(stack, rest);
-    if is_over(end, stack, goal, rest) {
+    let blanks = blanks_len(rest);
+    let goal = goal_here(stack, blanks, rest);
+    if is_over(end, stack, goal, blanks, rest) {
         return Here::Over;
     }
-    piece_here(goal, is_asking(stack.place()), rest)
+    piece_here(goal, is_asking(stack.place()), blanks, rest)
 }
 
-/// How many bytes the character takes that is here.
-fn char_len(rest: &[u8]) -> usize
-    ensures value { result ≡ readings.char_len rest.now }
-    ensures within { result ≤ length rest.now }
+/// What is wrong, as the parser says it.
+fn kind_of(wrong: Wrong) -> SyntaxError
+    ensures { result ≡ readings.kind_of wrong }
 {
-    match first_char(rest) {
-        Some((_, len)) => len,
-        None => 0,
-    }
-}
-
-/// How far after the place a fault begins, by the goal: after blanks.
-fn fault_offset(goal: Goal, rest: &[u8]) -> usize
-    ensures value { result ≡ readings.fault_offset goal rest.now }
-    ensures within { result ≤ length rest.now }
-{
-    match goal {
-        Goal::Text | Goal::Delimiter => 0,
-        _ => blanks_len(rest),
+    match wrong {
+        Wrong::Comment => SyntaxError::UnterminatedBlockComment,
+        Wrong::Regexp => SyntaxError::UnterminatedRegExp,
+        Wrong::String => SyntaxError::UnterminatedStrLit,
+        Wrong::Template => SyntaxError::UnterminatedTpl,
+        Wrong::Name => SyntaxError::IdentAfterNum,
+        Wrong::Digit => SyntaxError::ExpectedDigit,
+        Wrong::Escape => SyntaxError::BadCharacterEscapeSequence,
+        Wrong::Character => SyntaxError::UnexpectedChar,
     }
 }
 
 /// The token of a fault between two places.
-fn fault_token(lo: usize, hi: usize) -> TokenAndSpan
+fn fault_token(kind: SyntaxError, lo: usize, hi: usize) -> TokenAndSpan
     requires lo { lo < 2 ^ 32 }
     requires hi { hi < 2 ^ 32 }
-    ensures { result ≡ readings.fault_token lo hi }
+    ensures { result ≡ readings.fault_token kind lo hi }
 {
     let span = Span {
         lo: BytePos(lo as u32),
         hi: BytePos(hi as u32),
     };
     TokenAndSpan {
-        token: Token::Error(Error::new(span, SyntaxError::Lex)),
+        token: Token::Error(Error::new(span, kind)),
         had_line_break: false,
         span,
     }
 }
 
-/// The fault of the character at the place.
-fn fault_at(text: &[u8], at: usize) -> TokenAndSpan
-    requires small { length text.now < 2 ^ 32 }
-    requires within { at ≤ length text.now }
-    ensures { result ≡ readings.fault_at text.now at }
+/// Where a fault begins: of a template that isn't closed before its text, with a backquote or a brace.
+fn begins(goal: Goal, at: usize) -> usize
+    ensures value { result ≡ readings.begins goal at }
+    ensures within { result ≤ at }
 {
-    fault_token(at, at + char_len(rest_from(text, at)))
+    match goal {
+        Goal::Text => at.saturating_sub(1),
+        _ => at,
+    }
 }
 
-/// The fault of what comes next, which is no token: where it begins. A template that isn't closed begins before its
-/// text.
+/// The fault of what is here, which is no token.
 fn fault_here(goal: Goal, text: &[u8], at: usize) -> TokenAndSpan
     requires small { length text.now < 2 ^ 32 }
     requires within { at ≤ length text.now }
     ensures { result ≡ readings.fault_here goal text.now at }
 {
-    match goal {
-        Goal::Text => fault_at(text, at.saturating_sub(1)),
-        _ => fault_at(text, at + fault_offset(goal, rest_from(text, at))),
+    let fault = fault_of(goal, rest_from(text, at));
+    let lo = at + fault.offset;
+    fault_token(kind_of(fault.wrong), begins(goal, lo), lo + fault.len)
+}
+
+/// The fault of a piece of so many bytes that is no token: a word with escapes that means a keyword, or a character.
+fn fault_of_kind(kind: Lexical, at: usize, len: usize, text: &[u8]) -> TokenAndSpan
+    requires small { length text.now < 2 ^ 32 }
+    requires within { at + len ≤ length text.now }
+    ensures { result ≡ readings.fault_of_kind kind at len text.now }
+{
+    match kind {
+        Lexical::Word => fault_token(SyntaxError::EscapeInReservedWord, at, at + len),
+        _ => fault_token(
+            SyntaxError::UnexpectedChar,
+            at,
+            at + char_len(rest_from(text, at)),
+        ),
     }
 }
 
@@ -286,7 +301,8 @@ impl Reader {
         let named = is_dot(self.stack.place());
         match one(alloc, named, self.at, piece, text)? {
             None => {
-                let fault = fault_at(text.as_bytes(), self.at + piece.blanks);
+                let lo = self.at + piece.blanks;
+                let fault = fault_of_kind(piece.kind, lo, piece.len, text.as_bytes());
                 Ok(self.give_fault(fault))
             }
             Some(token) => {
@@ -307,7 +323,8 @@ impl Reader {
             ≡ readings.given_fault text.now (readings.reading_of self.old) }
         ensures at { self.new.at ≡ self.old.at }
     {
-        let goal = goal_here(&self.stack, rest_from(text, self.at));
+        let rest = rest_from(text, self.at);
+        let goal = goal_here(&self.stack, blanks_len(rest), rest);
         let fault = fault_here(goal, text, self.at);
         self.give_fault(fault)
     }
@@ -365,7 +382,7 @@ impl Reader {
             return Ok(None);
         }
         if text.len() > MAX_LEN {
-            return Ok(Some(self.give_fault(fault_token(0, 0))));
+            return Ok(Some(self.give_fault(fault_token(SyntaxError::Lex, 0, 0))));
         }
         self.next_in(alloc, end, text)
     }

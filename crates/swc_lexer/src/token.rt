@@ -14,6 +14,7 @@ use swc_context::span::{BytePos, Span};
 use swc_context::word::Word;
 use swc_input::token::Token;
 use swc_lexical::bytes::is_at;
+use swc_lexical::fault::bad_len;
 use swc_lexical::lexeme::Kind;
 use swc_lexical::meaning::meaning;
 use swc_lexical::quoted::body_len;
@@ -73,17 +74,17 @@ fn string(alloc: Global, text: &str) -> Result<Option<Token>, AllocError>
     }))
 }
 
-/// The fault of the byte at a place.
-fn fault_at(at: usize) -> Error
-    requires { at + 1 < 2 ^ 32 }
-    ensures { result ≡ tokens.fault_at at }
+/// The fault of a bad escape of so many bytes, at a place.
+fn fault_at(at: usize, len: usize) -> Error
+    requires { at + len < 2 ^ 32 }
+    ensures { result ≡ tokens.fault_at at len }
 {
     Error::new(
         Span {
             lo: BytePos(at as u32),
-            hi: BytePos((at + 1) as u32),
+            hi: BytePos((at + len) as u32),
         },
-        SyntaxError::Lex,
+        SyntaxError::BadCharacterEscapeSequence,
     )
 }
 
@@ -94,7 +95,7 @@ fn cooked(alloc: Global, at: usize, bytes: &[u8]) -> Result<Result<Atom, Error>,
 {
     let good = good_len(bytes);
     if good < bytes.len() {
-        Ok(Err(fault_at(at + good)))
+        Ok(Err(fault_at(at + good, bad_len(&bytes[good..]))))
     } else {
         Ok(Ok(meant(alloc, true, bytes)?))
     }

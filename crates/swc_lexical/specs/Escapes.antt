@@ -1,7 +1,7 @@
 -- Escapes (ECMA-262, 12.9.4 and 12.7).
 use Rattle.std.specs.Prelude.{◌≡◌, ◌≤◌, length, ℕ, suc, ◌+◌, ◌*◌, ◌-◌, Bool, ◌&&◌, ◌||◌, not, if◌then◌else◌, nat_eq, nat_lt, nat_le, List, [], ◌∷◌, Option, Some, None, slice_get, drop}
 use Rattle.swc_lexical.specs.Numbers.{is_digit}
-use Rattle.swc_lexical.specs.declared.number.Base.TheVariants.{Decimal}
+use Rattle.swc_lexical.specs.declared.number.Base.TheVariants.{Decimal, Octal}
 use Rattle.swc_lexical.specs.declared.escape.Meaning.{Meaning}
 use Rattle.swc_lexical.specs.declared.escape.Meaning.TheVariants.{Code, Nothing}
 use Rattle.swc_lexical.specs.Runs.{is_at, test_at, run}
@@ -122,9 +122,39 @@ escape bs =
     then None
     else sign_escape bs
 
+-- the value of a digit of base 8
+abbrev pub octal_at : Option ℕ → Option ℕ
+octal_at None = None
+octal_at (Some b) = if is_digit Octal b then Some (b - 48) else None
+
+-- the value and the length of an escape of old scripts, by its octal digits: up to three of them, the first of which is 3 at most
+abbrev pub after_two : ℕ → ℕ → Option ℕ → ℕ × ℕ
+after_two d e None = (8 * d + e, 3)
+after_two d e (Some f) = if nat_le d 3 then (64 * d + 8 * e + f, 4) else (8 * d + e, 3)
+
+abbrev pub after_one : ℕ → Option ℕ → Option ℕ → ℕ × ℕ
+after_one d None f = (d, 2)
+after_one d (Some e) f = after_two d e f
+
+-- a digit that isn't octal means itself
+abbrev pub legacy_of : Option ℕ → List ℕ → Option (ℕ × ℕ)
+legacy_of None bs = with_len 2 (slice_get bs 1)
+legacy_of (Some d) bs = Some (after_one d (octal_at (slice_get bs 2)) (octal_at (slice_get bs 3)))
+
+-- an escape by digits (LegacyOctalEscapeSequence, NonOctalDecimalEscapeSequence), from its backslash on, after which a digit comes
+abbrev pub legacy_escape : List ℕ → Option (Meaning × ℕ)
+legacy_escape bs = as_code (legacy_of (octal_at (slice_get bs 1)) bs)
+
+-- the escape of a string, from its backslash on: also of old scripts
+abbrev pub string_escape : List ℕ → Option (Meaning × ℕ)
+string_escape bs = if test_at (is_digit Decimal) bs 1 then legacy_escape bs else escape bs
+
 abbrev pub escape_len_of : Option (Meaning × ℕ) → ℕ
 escape_len_of None = 0
 escape_len_of (Some r) = r.1
 
 abbrev pub escape_len : List ℕ → ℕ
 escape_len bs = escape_len_of (escape bs)
+
+abbrev pub string_escape_len : List ℕ → ℕ
+string_escape_len bs = escape_len_of (string_escape bs)

@@ -8,7 +8,7 @@ use Rattle.swc_lexical.specs.Runs.{is_at, test_at, run}
 use Rattle.swc_lexical.specs.Chars.{starts_plain}
 use Rattle.swc_lexical.specs.Names as names
 use Rattle.swc_lexical.specs.PlainNames as plain
-use Rattle.swc_lexical.specs.Numbers.{is_digit, digits_len, number_len}
+use Rattle.swc_lexical.specs.Numbers.{is_digit, digits_len, number_len, is_legacy, has_base}
 use Rattle.swc_lexical.specs.Strings.{string_len}
 use Rattle.swc_lexical.specs.Regexps.{body_len}
 use Rattle.swc_lexical.specs.Signs.{sign_len}
@@ -19,14 +19,9 @@ some_of k n = if nat_lt 0 n then Some (k, n) else None
 abbrev pub word : List ℕ → Option (Kind × ℕ)
 word bs = some_of kind.Word (names.name_len bs)
 
--- 0b, 0o or 0x
-abbrev pub has_base : List ℕ → Bool
-has_base bs =
-    is_at bs 0 48 && (is_at bs 1 98 || is_at bs 1 66 || is_at bs 1 111 || is_at bs 1 79 || is_at bs 1 120 || is_at bs 1 88)
-
 -- whether the number of so many bytes is an integer with `n` after it
 abbrev pub is_big : List ℕ → ℕ → Bool
-is_big bs len = is_at bs len 110 && (has_base bs || nat_eq (digits_len Decimal bs) len)
+is_big bs len = is_at bs len 110 && not (is_legacy bs) && (has_base bs || nat_eq (digits_len Decimal bs) len)
 
 -- no digit and no name may come after a number
 abbrev pub ended : Kind → ℕ → List ℕ → Option (Kind × ℕ)

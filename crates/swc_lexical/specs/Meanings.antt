@@ -5,7 +5,7 @@ use Rattle.swc_lexical.specs.declared.escape.Meaning.{Meaning}
 use Rattle.swc_lexical.specs.declared.escape.Meaning.TheVariants.{Code, Nothing}
 use Rattle.swc_lexical.specs.Runs.{is_at}
 use Rattle.swc_lexical.specs.Chars.{first_char, terminator_len}
-use Rattle.swc_lexical.specs.Escapes.{escape}
+use Rattle.swc_lexical.specs.Escapes.{string_escape}
 use Rattle.swc_lexical.specs.Names.{scalar}
 
 abbrev pub is_high : ℕ → Bool
@@ -61,7 +61,7 @@ char_piece (Some r) = (Code r.0, r.1)
 abbrev pub piece : Bool → List ℕ → Meaning × ℕ
 piece cooks bs =
     if cooks && is_at bs 0 92
-    then piece_of (escape bs)
+    then piece_of (string_escape bs)
     else if is_at bs 0 13
     then (Code 10, terminator_len bs)
     else char_piece (first_char bs)

@@ -34,12 +34,41 @@ abbrev pub plus : ℕ → Option ℕ → Option ℕ
 plus n None = None
 plus n (Some k) = Some (n + k)
 
--- a number without base letter that has `whole` bytes before its dot: with its fraction and exponent
+-- of a number that has `whole` bytes before its dot: these and its fraction
+abbrev pub mantissa : ℕ → List ℕ → ℕ
+mantissa whole bs = if is_at bs whole 46 then whole + 1 + digits_len Decimal (drop (whole + 1) bs) else whole
+
+-- such a number, with its fraction and exponent
 abbrev pub with_fraction : ℕ → List ℕ → Option ℕ
-with_fraction whole bs =
-    if is_at bs whole 46
-    then (let end = whole + 1 + digits_len Decimal (drop (whole + 1) bs) in plus end (exponent_len (drop end bs)))
-    else plus whole (exponent_len (drop whole bs))
+with_fraction whole bs = plus (mantissa whole bs) (exponent_len (drop (mantissa whole bs) bs))
+
+-- a digit of the base, without `_`, and all that are here
+abbrev pub plain_digit_len : Base → List ℕ → ℕ
+plain_digit_len base bs = if test_at (is_digit base) bs 0 then 1 else 0
+
+abbrev pub plain_digits_len : Base → List ℕ → ℕ
+plain_digits_len base bs = run (plain_digit_len base) bs
+
+-- a number of old scripts: a 0 and a digit. It is octal where all its digits are (LegacyOctalIntegerLiteral, and otherwise
+-- NonOctalDecimalIntegerLiteral)
+abbrev pub is_legacy : List ℕ → Bool
+is_legacy bs = is_at bs 0 48 && test_at (is_digit Decimal) bs 1
+
+abbrev pub is_octal : List ℕ → Bool
+is_octal bs = is_legacy bs && nat_eq (plain_digits_len Octal bs) (plain_digits_len Decimal bs)
+
+-- what comes before the dot of a number without base letter
+abbrev pub whole_len : List ℕ → ℕ
+whole_len bs = if is_legacy bs then plain_digits_len Decimal bs else if is_at bs 0 48 then 1 else digits_len Decimal bs
+
+-- 0b, 0o or 0x
+abbrev pub has_base : List ℕ → Bool
+has_base bs =
+    is_at bs 0 48 && (is_at bs 1 98 || is_at bs 1 66 || is_at bs 1 111 || is_at bs 1 79 || is_at bs 1 120 || is_at bs 1 88)
+
+-- by the letter after the 0
+abbrev pub base_of : List ℕ → Base
+base_of bs = if is_at bs 1 98 || is_at bs 1 66 then Binary else if is_at bs 1 111 || is_at bs 1 79 then Octal else Hexadecimal
 
 abbrev pub in_base : Base → List ℕ → Option ℕ
 in_base base bs = then_some 2 (digits_len base (drop 2 bs))
@@ -47,13 +76,8 @@ in_base base bs = then_some 2 (digits_len base (drop 2 bs))
 -- a number, without the `n` of a big one, and without what may not come after it
 abbrev pub number_len : List ℕ → Option ℕ
 number_len bs =
-    if is_at bs 0 48
-    then
-    (if is_at bs 1 98 || is_at bs 1 66
-    then in_base Binary bs
-    else if is_at bs 1 111 || is_at bs 1 79
-    then in_base Octal bs
-    else if is_at bs 1 120 || is_at bs 1 88
-    then in_base Hexadecimal bs
-    else with_fraction 1 bs)
-    else with_fraction (digits_len Decimal bs) bs
+    if has_base bs
+    then in_base (base_of bs) bs
+    else if is_octal bs
+    then Some (whole_len bs)
+    else with_fraction (whole_len bs) bs

@@ -92,7 +92,7 @@ fn hex_digit_len(rest: &[u8]) -> usize
 
 /// All such digits.
 #[tactic(auto, using(crate::proofs::Runs::RunsTo_begin))]
-fn hex_run(rest: &[u8]) -> usize
+pub(crate) fn hex_run(rest: &[u8]) -> usize
     ensures value { result ≡ run escapes.hex_digit_len rest.now }
     ensures within { result ≤ length rest.now }
 {
@@ -220,8 +220,8 @@ fn sign_escape(rest: &[u8]) -> Option<(Meaning, usize)>
     }
 }
 
-/// The escape of a string or a template, from its backslash on, and how many bytes it takes; none where it is a bad
-/// one.
+/// The escape of a template, or of a string in strict code, from its backslash on, and how many bytes it takes; none
+/// where it is a bad one.
 pub fn escape(rest: &[u8]) -> Option<(Meaning, usize)>
     requires { 0 < length rest.now }
     ensures value { result ≡ escapes.escape rest.now }
@@ -252,13 +252,96 @@ pub fn escape(rest: &[u8]) -> Option<(Meaning, usize)>
     sign_escape(rest)
 }
 
-/// How many bytes such an escape takes; 0 where it is a bad one.
+/// The value of the digit of base 8 that is there.
+fn octal_at(rest: &[u8], at: usize) -> Option<u32>
+    ensures value { result ≡ escapes.octal_at (slice_get rest.now at) }
+    ensures small { IfSome result (λ n. n < 8) }
+    ensures within { IfSome result (λ n. at < length rest.now) }
+{
+    match rest.get(at) {
+        Some(byte) if Base::Octal.has_digit(*byte) => Some(u32::from(*byte - b'0')),
+        _ => None,
+    }
+}
+
+/// The value and the length of an escape of two octal digits, and a third one where it is taken.
+fn after_two(first: u32, second: u32, third: Option<u32>) -> (u32, usize)
+    requires first { first < 8 }
+    requires second { second < 8 }
+    requires third { IfSome third (λ n. n < 8) }
+    ensures { result ≡ escapes.after_two first second third }
+{
+    match third {
+        Some(third) if first <= 3 => (64 * first + 8 * second + third, 4),
+        _ => (8 * first + second, 3),
+    }
+}
+
+/// The value and the length of an escape of an octal digit, after which more may come.
+fn after_one(first: u32, rest: &[u8]) -> (u32, usize)
+    requires digit { first < 8 }
+    requires within { 1 < length rest.now }
+    ensures value { result ≡ escapes.after_one first (escapes.octal_at (slice_get rest.now 2)) (escapes.octal_at (slice_get rest.now 3)) }
+    ensures within { result.1 ≤ length rest.now }
+    ensures some { 0 < result.1 }
+{
+    let third = octal_at(rest, 3);
+    match octal_at(rest, 2) {
+        None => (first, 2),
+        Some(second) => after_two(first, second, third),
+    }
+}
+
+/// An escape by digits, as old scripts have them, from its backslash on, after which a digit comes.
+pub fn legacy_escape(rest: &[u8]) -> Option<(Meaning, usize)>
+    ensures value { result ≡ escapes.legacy_escape rest.now }
+    ensures within { IfSome result (λ r. (0 < r.1) × (r.1 ≤ length rest.now)) }
+{
+    match octal_at(rest, 1) {
+        Some(first) => {
+            let (code, len) = after_one(first, rest);
+            Some((Meaning::Code(code), len))
+        }
+        None => match rest.get(1) {
+            Some(byte) => Some((Meaning::Code(u32::from(*byte)), 2)),
+            None => None,
+        },
+    }
+}
+
+/// The escape of a string, from its backslash on, and how many bytes it takes; none where it is a bad one. Escapes by
+/// digits, as old scripts have them, are good ones.
+pub fn string_escape(rest: &[u8]) -> Option<(Meaning, usize)>
+    requires { 0 < length rest.now }
+    ensures value { result ≡ escapes.string_escape rest.now }
+    ensures within { IfSome result (λ r. (0 < r.1) × (r.1 ≤ length rest.now)) }
+{
+    if Base::Decimal.has_digit_at(rest, 1) {
+        legacy_escape(rest)
+    } else {
+        escape(rest)
+    }
+}
+
+/// How many bytes the escape of a template takes; 0 where it is a bad one.
 pub fn escape_len(rest: &[u8]) -> usize
     requires { 0 < length rest.now }
     ensures value { result ≡ escapes.escape_len rest.now }
     ensures within { result ≤ length rest.now }
 {
     match escape(rest) {
+        Some((_, len)) => len,
+        None => 0,
+    }
+}
+
+/// How many bytes the escape of a string takes; 0 where it is a bad one.
+pub fn string_escape_len(rest: &[u8]) -> usize
+    requires { 0 < length rest.now }
+    ensures value { result ≡ escapes.string_escape_len rest.now }
+    ensures within { result ≤ length rest.now }
+{
+    match string_escape(rest) {
         Some((_, len)) => len,
         None => 0,
     }

@@ -4,7 +4,7 @@ ghost use Rattle.swc_lexical.specs.Lexemes as lexemes;
 
 use crate::bytes::is_at;
 use crate::name::{more_run, starts_plain, written_begin_len, written_len};
-use crate::number::{Base, digits_len, number_len};
+use crate::number::{Base, digits_len, has_base, is_legacy, number_len};
 use crate::quoted::body_len;
 use crate::sign::sign_len;
 use crate::string::string_len;
@@ -32,25 +32,14 @@ fn some_of(kind: Kind, len: usize) -> Option<(Kind, usize)>
     if 0 < len { Some((kind, len)) } else { None }
 }
 
-/// Whether `0b`, `0o` or `0x` is here.
-fn has_base(rest: &[u8]) -> bool
-    ensures { result ≡ lexemes.has_base rest.now }
-{
-    is_at(rest, 0, b'0')
-        && (is_at(rest, 1, b'b')
-            || is_at(rest, 1, b'B')
-            || is_at(rest, 1, b'o')
-            || is_at(rest, 1, b'O')
-            || is_at(rest, 1, b'x')
-            || is_at(rest, 1, b'X'))
-}
-
 /// Whether the number of so many bytes is an integer with `n` after it.
-fn is_big(rest: &[u8], len: usize) -> bool
+pub(crate) fn is_big(rest: &[u8], len: usize) -> bool
     ensures value { result ≡ lexemes.is_big rest.now len }
     ensures within { result ≡ true → len < length rest.now }
 {
-    is_at(rest, len, b'n') && (has_base(rest) || digits_len(Base::Decimal, rest) == len)
+    is_at(rest, len, b'n')
+        && !is_legacy(rest)
+        && (has_base(rest) || digits_len(Base::Decimal, rest) == len)
 }
 
 /// A number of so many bytes, after which no digit and no name comes.
@@ -114,7 +103,7 @@ fn is_stray(rest: &[u8]) -> bool
 }
 
 /// Whether only a word may begin with the byte.
-fn begins_word(byte: u8) -> bool
+pub(crate) fn begins_word(byte: u8) -> bool
     ensures { result ≡ lexemes.begins_word byte }
 {
     starts_plain(byte) || byte == b'\\' || 128 <= byte

@@ -5,6 +5,7 @@ pub mod blank;
 pub mod bytes;
 pub mod comment;
 pub mod escape;
+pub mod fault;
 pub mod lexeme;
 pub mod meaning;
 pub mod name;

@@ -3,7 +3,7 @@ ghost use Rattle.std.specs.Prelude.{◌≡◌, ◌+◌, ◌++◌, ◌≤◌, ◌
 ghost use Rattle.swc_lexical.specs.Meanings as meanings;
 
 use crate::bytes::{first_char, is_at, terminator_len};
-use crate::escape::{Meaning, escape};
+use crate::escape::{Meaning, string_escape};
 use crate::name::scalar;
 use std::alloc::{AllocError, Global};
 
@@ -73,7 +73,7 @@ fn piece(cooks: bool, rest: &[u8]) -> (Meaning, usize)
     ensures some { 0 < result.1 }
 {
     if cooks && is_at(rest, 0, b'\\') {
-        return match escape(rest) {
+        return match string_escape(rest) {
             Some(found) => found,
             None => (Meaning::Nothing, 1),
         };

@@ -156,7 +156,7 @@ fn written_more_len(rest: &[u8]) -> usize
 
 /// All with which a name goes on.
 #[tactic(auto, using(crate::proofs::Runs::RunsTo_begin))]
-fn written_run(rest: &[u8]) -> usize
+pub(crate) fn written_run(rest: &[u8]) -> usize
     ensures value { result ≡ run written.more_len rest.now }
     ensures within { result ≤ length rest.now }
 {

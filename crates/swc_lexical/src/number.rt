@@ -105,17 +105,107 @@ fn exponent_len(rest: &[u8]) -> Option<usize>
     then_some(1, digits_len(Base::Decimal, &rest[1..]))
 }
 
-/// A number that has so many bytes before its dot, with its fraction and exponent.
+/// A digit without `_`.
+fn plain_digit_len(base: Base, rest: &[u8]) -> usize
+    ensures value { result ≡ numbers.plain_digit_len base rest.now }
+    ensures within { result ≤ length rest.now }
+{
+    if base.has_digit_at(rest, 0) { 1 } else { 0 }
+}
+
+/// Digits without `_`.
+#[tactic(auto, using(crate::proofs::Runs::RunsTo_begin))]
+fn plain_digits_len(base: Base, rest: &[u8]) -> usize
+    ensures value { result ≡ numbers.plain_digits_len base rest.now }
+    ensures within { result ≤ length rest.now }
+{
+    let mut at = 0;
+    while at < rest.len() {
+        let len = plain_digit_len(base, &rest[at..]);
+        if len == 0 {
+            return at;
+        }
+        at += len;
+    }
+    at
+}
+
+/// Whether a number of old scripts is here: a `0` and a digit.
+pub fn is_legacy(rest: &[u8]) -> bool
+    ensures { result ≡ numbers.is_legacy rest.now }
+{
+    is_at(rest, 0, b'0') && Base::Decimal.has_digit_at(rest, 1)
+}
+
+/// Whether such a number is here, of octal digits alone.
+pub fn is_octal(rest: &[u8]) -> bool
+    ensures { result ≡ numbers.is_octal rest.now }
+{
+    is_legacy(rest) && plain_digits_len(Base::Octal, rest) == plain_digits_len(Base::Decimal, rest)
+}
+
+/// What comes before the dot of a number without base letter.
+pub(crate) fn whole_len(rest: &[u8]) -> usize
+    ensures value { result ≡ numbers.whole_len rest.now }
+    ensures within { result ≤ length rest.now }
+{
+    if is_legacy(rest) {
+        plain_digits_len(Base::Decimal, rest)
+    } else if is_at(rest, 0, b'0') {
+        1
+    } else {
+        digits_len(Base::Decimal, rest)
+    }
+}
+
+/// Of a number that has so many bytes before its dot: these and its fraction.
+pub(crate) fn mantissa(whole: usize, rest: &[u8]) -> usize
+    requires { whole ≤ length rest.now }
+    ensures value { result ≡ numbers.mantissa whole rest.now }
+    ensures within { result ≤ length rest.now }
+{
+    if is_at(rest, whole, b'.') {
+        whole + 1 + digits_len(Base::Decimal, &rest[whole + 1..])
+    } else {
+        whole
+    }
+}
+
+/// Such a number, with its fraction and exponent.
 fn with_fraction(whole: usize, rest: &[u8]) -> Option<usize>
     requires { whole ≤ length rest.now }
     ensures value { result ≡ numbers.with_fraction whole rest.now }
     ensures within { IfSome result (λ len. len ≤ length rest.now) }
 {
-    if is_at(rest, whole, b'.') {
-        let end = whole + 1 + digits_len(Base::Decimal, &rest[whole + 1..]);
-        return Some(end + exponent_len(&rest[end..])?);
+    let end = mantissa(whole, rest);
+    Some(end + exponent_len(&rest[end..])?)
+}
+
+/// Whether `0b`, `0o` or `0x` is here.
+pub(crate) fn has_base(rest: &[u8]) -> bool
+    ensures value { result ≡ numbers.has_base rest.now }
+    ensures within { result ≡ true → 2 ≤ length rest.now }
+{
+    is_at(rest, 0, b'0')
+        && (is_at(rest, 1, b'b')
+            || is_at(rest, 1, b'B')
+            || is_at(rest, 1, b'o')
+            || is_at(rest, 1, b'O')
+            || is_at(rest, 1, b'x')
+            || is_at(rest, 1, b'X'))
+}
+
+/// The base, by the letter after the `0`.
+fn base_of(rest: &[u8]) -> Base
+    ensures { result ≡ numbers.base_of rest.now }
+{
+    if is_at(rest, 1, b'b') || is_at(rest, 1, b'B') {
+        Base::Binary
+    } else if is_at(rest, 1, b'o') || is_at(rest, 1, b'O') {
+        Base::Octal
+    } else {
+        Base::Hexadecimal
     }
-    Some(whole + exponent_len(&rest[whole..])?)
 }
 
 /// Digits of the base, after a 0 and its letter.
@@ -127,22 +217,19 @@ fn in_base(base: Base, rest: &[u8]) -> Option<usize>
     then_some(2, digits_len(base, &rest[2..]))
 }
 
-/// A number, without the `n` of a big one.
+/// A number, without the `n` of a big one. One of old scripts, as `010` and `08.5`, is one too.
 pub fn number_len(rest: &[u8]) -> Option<usize>
     ensures value { result ≡ numbers.number_len rest.now }
     ensures within { IfSome result (λ len. len ≤ length rest.now) }
 {
-    if !is_at(rest, 0, b'0') {
-        return with_fraction(digits_len(Base::Decimal, rest), rest);
+    let has_letter = has_base(rest);
+    if has_letter {
+        return in_base(base_of(rest), rest);
     }
-    if is_at(rest, 1, b'b') || is_at(rest, 1, b'B') {
-        return in_base(Base::Binary, rest);
+    let whole = whole_len(rest);
+    if is_octal(rest) {
+        Some(whole)
+    } else {
+        with_fraction(whole, rest)
     }
-    if is_at(rest, 1, b'o') || is_at(rest, 1, b'O') {
-        return in_base(Base::Octal, rest);
-    }
-    if is_at(rest, 1, b'x') || is_at(rest, 1, b'X') {
-        return in_base(Base::Hexadecimal, rest);
-    }
-    with_fraction(1, rest)
 }

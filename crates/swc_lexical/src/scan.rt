@@ -1,10 +1,10 @@
 //! The token that is next in a text.
 ghost use Rattle.std.specs.Prelude.{◌≡◌, ◌+◌, ◌≤◌, ◌<◌, length, IfSome};
+ghost use Rattle.swc_lexical.specs.Blanks.{blanks_len};
 ghost use Rattle.swc_lexical.specs.Scans as scans;
 ghost use Rattle.swc_lexical.specs.Templates as templates;
 ghost use Rattle.swc_lexical.specs.declared.scan.Goal.TheVariants as goals;
 
-use crate::blank::blanks_len;
 use crate::bytes::is_at;
 use crate::lexeme::{Kind, lexeme};
 use crate::template::{is_end, text_len};
@@ -32,13 +32,14 @@ pub struct Piece {
     pub len: usize,
 }
 
-/// The token after blanks.
-fn in_code(goal: Goal, wants: bool, rest: &[u8]) -> Option<Piece>
+/// The token after so many bytes of blanks.
+fn in_code(goal: Goal, wants: bool, blanks: usize, rest: &[u8]) -> Option<Piece>
+    requires within { blanks ≤ length rest.now }
+    requires blanks { blanks ≡ blanks_len rest.now }
     ensures value { result ≡ scans.in_code goal wants rest.now }
     ensures within { IfSome result (λ p. p.blanks + p.len ≤ length rest.now) }
     ensures goal { IfSome result (λ p. p.goal ≡ goal) }
 {
-    let blanks = blanks_len(rest);
     match lexeme(wants, &rest[blanks..]) {
         None => None,
         Some((kind, len)) => Some(Piece {
@@ -85,15 +86,17 @@ fn delimiter(rest: &[u8]) -> Option<Piece>
     })
 }
 
-/// The token that is here, by the goal.
-pub fn piece_at(goal: Goal, rest: &[u8]) -> Option<Piece>
+/// The token that is here, by the goal, where so many bytes of blanks are.
+pub fn piece_after(goal: Goal, blanks: usize, rest: &[u8]) -> Option<Piece>
+    requires within { blanks ≤ length rest.now }
+    requires blanks { blanks ≡ blanks_len rest.now }
     ensures value { result ≡ scans.piece_at goal rest.now }
     ensures within { IfSome result (λ p. p.blanks + p.len ≤ length rest.now) }
     ensures goal { IfSome result (λ p. p.goal ≡ goal) }
 {
     match goal {
-        Goal::Div => in_code(goal, false, rest),
-        Goal::RegExp => in_code(goal, true, rest),
+        Goal::Div => in_code(goal, false, blanks, rest),
+        Goal::RegExp => in_code(goal, true, blanks, rest),
         Goal::Text => text(rest),
         Goal::Delimiter => delimiter(rest),
     }

@@ -14,5 +14,6 @@ pub mod Standing
 pub mod Targets
 pub mod Unmarked
 pub mod Waiting
+pub mod Visited
 pub mod Walked
 pub mod Weighed

@@ -59,6 +59,8 @@ use Rattle.swc_steps.proofs.Lists.{calls}
 use Rattle.swc_steps.proofs.Rules.{inside_assign}
 use Rattle.swc_steps.proofs.Steps.{parses_within, parses_aside, parses_inner, inner_of}
 use Rattle.swc_operators.proofs.Updates.{if_on, if_off}
+use Rattle.std.specs.Prelude.{is_some as is_given}
+use Rattle.swc_context.specs.Contexts.{view as deciding}
 
 -- whether something is given, by either name
 pub given_some : {A : Type 0} (o : Option A) → is_given o ≡ is_some o

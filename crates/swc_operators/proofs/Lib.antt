@@ -3,6 +3,7 @@ pub mod Entered
 pub mod InContext
 pub mod Operands
 pub mod Pending
+pub mod PlainOperands
 pub mod Prefixes
 pub mod Sequences
 pub mod Targets

@@ -1,5 +1,6 @@
 pub mod Assignments
 pub mod Entered
+pub mod Operands
 pub mod Pending
 pub mod Prefixes
 pub mod Updates

@@ -4,5 +4,6 @@
 
 pub mod assign;
 pub mod ops;
+pub mod plain;
 pub mod prefix;
 pub mod within;

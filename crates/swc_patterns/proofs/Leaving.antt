@@ -16,6 +16,7 @@ use Rattle.swc_steps.specs.Parsing.{scope, Moves, On, Unheard}
 use Rattle.swc_steps.specs.declared.productions.Productions.{Productions}
 use Rattle.swc_steps.proofs.Steps.{Reader, less, read_scope, parses_aside}
 use Rattle.swc_patterns.specs.Answers.{Leaves}
+use Rattle.swc_context.specs.Contexts.{view as deciding}
 
 module _ {S : Type 0} {model : Model S} {sure : Bool} where
   -- q is called, of which r is left, and k goes on

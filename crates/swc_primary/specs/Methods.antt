@@ -37,6 +37,7 @@ use Rattle.swc_primary.specs.declared.modifiers.MethodKind.TheVariants as kind
 use Rattle.swc_steps.specs.Keys.{expected, method_body}
 use Rattle.swc_steps.specs.Parsing.{shell_of, Heard, Moves, Unheard}
 use Rattle.swc_steps.specs.Readers.{inside}
+use Rattle.swc_context.specs.Contexts.{view as deciding}
 
 -- which kinds of methods are async and generators; and of a method with or without a kind
 abbrev pub of_async : MethodKind → Bool

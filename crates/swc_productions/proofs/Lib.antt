@@ -3,4 +3,5 @@ pub mod ArrowBodies
 pub mod ArrowOrAssign
 pub mod ByThemselves
 pub mod InnerCalls
+pub mod PlainKinds
 pub mod Recovered

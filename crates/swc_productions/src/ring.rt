@@ -22,6 +22,7 @@ ghost use Rattle.swc_nodes.specs.Pending.{all_pending, operand_parts, first_oper
 ghost use Rattle.swc_nodes.specs.NodeParts.{expr_part};
 ghost use Rattle.swc_nodes.specs.GrowingNodes.{count, tree_at, first_at, From, Apart, start_at};
 ghost use Rattle.swc_operators.specs.Assignments.{assigns_from, yield_expr};
+ghost use Rattle.swc_operators.specs.Operands.{is_plain};
 ghost use Rattle.swc_operators.specs.Pending.{pending_reads};
 ghost use Rattle.swc_primary.specs.Methods.{method_function, method_shell};
 ghost use Rattle.swc_steps.specs.Args.{args_inside};
@@ -119,6 +120,8 @@ use swc_operators::ops::recover_left;
 use swc_operators::ops::take_operator;
 use swc_operators::ops::unary_expr;
 use swc_operators::ops::unary_expr_without_operand;
+use swc_operators::plain::begins_plain;
+use swc_operators::plain::may_go_on;
 use swc_operators::prefix::is_await_name;
 use swc_operators::prefix::update_prefix;
 use swc_operators::within::enter_args;
@@ -800,6 +803,9 @@ pub fn parse_unary_expr<I: Tokens, B: Bodies<I>>(
         (count p.old.nodes) p.old result p.new }
 {
     look(&mut p.input)?;
+    if begins_plain(&p.input) {
+        return parse_plain_operand(p, room);
+    }
     match cur_update_op(&p.input) {
         Some(op) => {
             let less = deeper(&p.input, &mut p.too_deep, room)?;
@@ -837,6 +843,54 @@ pub fn parse_unary_expr<I: Tokens, B: Bodies<I>>(
     }
     let expr = parse_lhs_expr(p, room)?;
     parse_update_postfix(p, expr)
+}
+
+/// A unary expression (ECMA-262, 13.5) that begins with a name, a literal or `this`: a left-hand side, and `++` or `--`
+/// after it on the same line. Where nothing goes on with what stands before its first call, that is all of it. The
+/// context is that from before, also after a refusal.
+#[cycle(productions)]
+fn parse_plain_operand<I: Tokens, B: Bodies<I>>(
+    p: &mut Productions<I, B>,
+    room: usize,
+) -> PResult<ExprId>
+    requires looked { Here I.model p.old.input p.old.input }
+    requires plain { at_token is_plain (seen p.old.input) ≡ true }
+    ensures { Produces I.model B.is_faithful itself tree_of (run B.forms (sym Unary))
+        (count p.old.nodes) p.old result p.new }
+{
+    let ctx = p.get_ctx();
+    set_ctx(
+        &mut p.input,
+        Context {
+            should_not_lex_lt_or_gt_as_type: true,
+            ..ctx
+        },
+    );
+    let member = parse_plain_member(p, room);
+    set_ctx(&mut p.input, ctx);
+    let callee = member?;
+    look(&mut p.input)?;
+    if !may_go_on(&p.input) {
+        return Ok(callee);
+    }
+    let expr = parse_subscripts(p, room, callee, false)?;
+    parse_update_postfix(p, expr)
+}
+
+/// A member expression (ECMA-262, 13.3) that begins with a name, a literal or `this`: a primary expression, and the
+/// links after it, but for calls.
+#[cycle(productions)]
+fn parse_plain_member<I: Tokens, B: Bodies<I>>(
+    p: &mut Productions<I, B>,
+    room: usize,
+) -> PResult<ExprId>
+    requires looked { Here I.model p.old.input p.old.input }
+    requires plain { at_token is_plain (seen p.old.input) ≡ true }
+    ensures { Produces I.model B.is_faithful itself tree_of (run B.forms (sym (Lhs false)))
+        (count p.old.nodes) p.old result p.new }
+{
+    let base = parse_plain_primary(p)?;
+    parse_subscripts(p, room, base, true)
 }
 
 // ---- Expressions with commas between them, assignment expressions, conditionals and `yield` (ECMA-262, 13.14 to 13.16

@@ -38,6 +38,7 @@ use Rattle.swc_steps.proofs.Steps.{Reader, here, read_scope, parses_after, on_to
 use Rattle.swc_steps.proofs.Steps.{refused, required, on_seen, on_then, heard_after, heard_first, unheard_after}
 use Rattle.swc_steps.proofs.Steps.{unheard_at, unheard_memory, unheard_unfit, lower, on_looked, looked_again}
 use Rattle.swc_steps.proofs.Words.{none_counts, is_taken, is_clean, reference-table}
+use Rattle.swc_context.specs.Contexts.{view as deciding}
 
 -- a call never refuses a word as the parser's own failure, and looks at no flag that decides nothing
 pub record Honest (judge : Judges) : Type 0 where

@@ -52,6 +52,8 @@ use Rattle.swc_nodes.specs.declared.nodes.Nodes.{Nodes}
 use Rattle.swc_steps.specs.Lists.{eaten}
 use Rattle.swc_steps.specs.declared.tokens.Listed.{Listed}
 use Rattle.swc_steps.specs.declared.productions.Productions.{Productions}
+use Rattle.swc_context.specs.Contexts.{view as deciding}
+use Rattle.swc_nodes.specs.NodeTree.{prop_of as prop_tree}
 
 -- out of memory
 abbrev pub is_memory : SyntaxError → Bool

@@ -19,6 +19,7 @@ use Rattle.swc_grammar.specs.Scope.{Scope, in_context}
 use Rattle.swc_grammar.specs.Clean.{Out}
 use Rattle.swc_steps.specs.Parsing.{scope_of, scope, recorded, Loud, Spends, Leads, Onward, Advances, Moves, Refuses}
 use Rattle.swc_steps.specs.Parsing.{Forgoes, Consumes, Acts, Tries}
+use Rattle.swc_context.specs.Contexts.{view as deciding}
 
 abbrev pub Reader : Type 0 → Type 0
 Reader A = Scope → List TokenAndSpan → Out A

@@ -1,15 +1,8 @@
-use Rattle.std.proofs.Common.{ap, ◌∙◌}
-use Rattle.swc_input.specs.Buffer.{last_position}
-use Rattle.swc_grammar.specs.Reads.{at-end}
-use Rattle.swc_grammar.specs.Symbols.{Expr}
-use Rattle.swc_nodes.specs.NodeParts.{expr_part}
-use Rattle.swc_steps.specs.Parsing.{tree_of}
-use Rattle.swc_ecma_parser.specs.Calls.{buffer_of, nodes_of}
-use Rattle.swc_ecma_parser.proofs.WholeList.{headline}
+use Rattle.std.proofs.Common.{refl}
+use Rattle.swc_input.specs.Listed.{listed_state, new_state}
+use Rattle.swc_ecma_parser.proofs.WholeList.{headline-in}
 use Rattle.swc_ecma_parser.proofs.whole.parse_whole_expr.Goals as goal
 
 pub returns-clause-headline : goal.returns-clause-headline
-returns-clause-headline g c = λ heeded.
-    rw (c.into_nodes-nodes.ensures ∙ ap (λ p. nodes_of p) c.take_errors-recorded.ensures.rest, c.take_errors-recorded.ensures.taken)
-    (headline tree_of expr_part Expr at-end c.new_from-parser.result c.new-source.result (last_position (buffer_of c.new_from-parser.result)) c.args.tokens.items c.args.ctx c.args.syntax c.args.target
-    c.new-source.ensures.state c.new_from-parser.ensures.fresh c.new_from-parser.ensures.runs c.limit_nesting.ensures heeded c.try_whole_expr-read.ensures.tries)
+returns-clause-headline g c = headline-in (listed_state c.new-source.result) (new_state c.args.tokens.items c.args.ctx c.args.syntax c.args.target) c.new-source.ensures.state
+    (record { known = refl; clean = refl }) c.read_whole_expr.ensures.headline

@@ -26,11 +26,11 @@ use Rattle.swc_nodes.specs.NodeParts.{flat, item_parts, args_parts, key_parts, o
 use Rattle.swc_nodes.specs.GrowingNodes.{count, seat_at, tree_at, first_at, start_at, end_at, Apart}
 use Rattle.swc_nodes.proofs.Edges.{start-later}
 use Rattle.swc_nodes.proofs.Lists.{apart-none, elem-same, item-same, prop-same, exprs-more, exprs-apart-more}
-use Rattle.swc_nodes.proofs.Lists.{trees-both, trees-more, exprs-later, apart-later, apart-more-one}
+use Rattle.swc_nodes.proofs.Lists.{trees-both, trees-more, apart-later, apart-more-one}
 use Rattle.swc_nodes.proofs.Waiting.{operands-first, operands-joined, operands-last, operands-more, operands-top}
 use Rattle.swc_nodes.specs.Pending.{all_pending, first_operand}
 use Rattle.swc_nodes.specs.Rising.{waiting}
-use Rattle.swc_grammar.specs.Symbols.{Assign, Level, Unary, Lhs, Props, Template}
+use Rattle.swc_grammar.specs.Symbols.{Assign, Level, Unary, Lhs, Primary, Props, Template}
 use Rattle.swc_ast.specs.Targets.{is_target}
 use Rattle.swc_ast.specs.Trees.{trees_append, begins_in_invalid, cover_e, ident_e, to, await_e, cond_e, assign_e}
 use Rattle.swc_ast.specs.Trees.{yield_e, hole_e, seq_of}
@@ -39,7 +39,7 @@ use Rattle.swc_input.specs.Recording.{is_some}
 use Rattle.swc_grammar.specs.Clean.{sym as at, run, first, links, updates, climb, assigns, prefix_at, no_error}
 use Rattle.swc_grammar.specs.Clean.{goes_on_yield_at}
 use Rattle.swc_grammar.specs.Words.{◌>>=◌}
-use Rattle.swc_steps.specs.Parsing.{scope, seen, behind, tree_of, elems_at, ident_spelling, key_at}
+use Rattle.swc_steps.specs.Parsing.{scope, seen, seen_of, behind, tree_of, elems_at, ident_spelling, key_at}
 use Rattle.swc_steps.specs.Parsing.{props_at}
 use Rattle.swc_steps.specs.Args.{paren_expr_tail}
 use Rattle.swc_operators.specs.Assignments.{seqs_more, cond_tail, cond_close}
@@ -56,11 +56,13 @@ use Rattle.swc_primary.specs.declared.object.PropHead.TheVariants as head
 use Rattle.swc_nodes.proofs.Standing.{grows-count, grows-same, grows-then}
 use Rattle.swc_nodes.proofs.Held.{apart-from, from-down, from-later, from_self, first_kept, if_from, tree-later}
 use Rattle.swc_steps.proofs.Building.{apart-down, apart-lower, apart_behind, grows-kept, made_over}
+use Rattle.swc_operators.specs.Operands.{is_plain, goes_on}
 use Rattle.swc_operators.specs.Pending.{pending_reads}
 use Rattle.swc_operators.proofs.Assignments as assign
 use Rattle.swc_operators.proofs.InContext.{assign_within, expr_within, within}
 use Rattle.swc_operators.proofs.Sequences.{behind_comma}
 use Rattle.swc_operators.proofs.Operands as operand
+use Rattle.swc_operators.proofs.PlainOperands as plain_operand
 use Rattle.swc_operators.proofs.Pending as pending
 use Rattle.swc_operators.proofs.Entered as entered
 use Rattle.swc_steps.proofs.Args as args
@@ -96,7 +98,7 @@ use Rattle.swc_nodes.proofs.Lists.{apart-more, list-later, same_first}
 use Rattle.swc_productions.proofs.ring.+productions.Goals.{parse_arrow_body-then-value}
 use Rattle.swc_productions.proofs.ring.+productions.Goals.{parse_arrow_body-else-value+in-Ok-parse_assignment_expr}
 use Rattle.swc_productions.proofs.ring.+productions.Goals.{parse_arrow_body-else-value+in-Err-parse_assignment_expr}
-use Rattle.swc_arrows.proofs.Dooms.{doomed_later, doomed_unheard, fails_later, opens_after, opens_call_read, opens_later, recovered_fails}
+use Rattle.swc_arrows.proofs.Dooms.{doomed_later, doomed_unheard, fails_later, opens_after, opens_call_read, opens_later}
 use Rattle.swc_arrows.proofs.Begun as begun
 use Rattle.swc_arrows.proofs.Closes.{closed_clean}
 use Rattle.swc_arrows.specs.Readers.{arrow_end, block_inside, name_arrow, others}
@@ -105,6 +107,7 @@ use Rattle.swc_productions.proofs.ArrowOrAssign as way
 use Rattle.swc_productions.proofs.Recovered as again
 use Rattle.swc_productions.proofs.ArrowBodies as bodies
 use Rattle.swc_productions.proofs.InnerCalls as inside
+use Rattle.swc_productions.proofs.PlainKinds.{plain_kind}
 use Rattle.swc_grammar.specs.Scope.{inner}
 use Rattle.swc_primary.specs.Methods.{async_in, generator_in, method_end, method_inside, method_function}
 use Rattle.swc_primary.proofs.Functions as function
@@ -1370,6 +1373,18 @@ parse_unary_expr-returns-in_err-look g t c =
     m.refused c.from_residual.ensures.1
     (s.unheard_memory c.in_err-look.ensures.looks) (grows-same _)
 
+pub parse_unary_expr-parse_plain_operand-requires : goal.parse_unary_expr-parse_plain_operand-requires
+parse_unary_expr-parse_plain_operand-requires g t c =
+    let looked = opening.looked c.in_ok-look.ensures.looks in
+    let plain = sym c.begins_plain.ensures ∙ c.if-begins_plain.true in
+    λ κs outlives. (search rules, (search rules, (search rules, (search rules, (search rules, (search rules, (looked, plain)))))))
+
+pub parse_unary_expr-returns-then-begins_plain : goal.parse_unary_expr-returns-then-begins_plain
+parse_unary_expr-returns-then-begins_plain g t c =
+    m.after {m = record c.args.p.now { input = c.look.new.input }} c.parse_plain_operand.result
+    (s.on_seen {g = run _ (at Unary)} c.in_ok-look.ensures.looks (λ x ts same e. refl)) (grows-same _)
+    c.parse_plain_operand.ensures
+
 pub parse_unary_expr-returns-in_err-less-in-Some : goal.parse_unary_expr-returns-in_err-less-in-Some
 parse_unary_expr-returns-in_err-less-in-Some g t c =
     m.refused c.from_residual-in_err-less-in-Some.ensures.1
@@ -1536,6 +1551,118 @@ parse_unary_expr-returns g t c =
     (ap prefix_at e ∙ sym c.cur_prefix_op.ensures.value ∙ c.in-None-cur_prefix_op.is))) (grows-same _)
     (m.call c.parse_update_postfix.result (λ x p. run _ (updates p.0) x p.1) (λ x ts. refl)
     c.in_ok-expr.ensures.reads c.parse_lhs_expr.ensures.grows (λ x. from-down c.in_ok-expr.ensures.from.above) c.parse_update_postfix.ensures)
+
+pub parse_plain_operand-parse_plain_member-requires : goal.parse_plain_operand-parse_plain_member-requires
+parse_plain_operand-parse_plain_member-requires g t c =
+    let plain = ap (λ o. at_token is_plain (seen_of o)) c.set_ctx.ensures.current ∙ c.requires.plain in
+    let looked = s.here_now g.met.I.Tokens.laws c.set_ctx.new.input (s.seen_some is_plain c.set_ctx.new.input plain) in
+    λ κs outlives. (search rules, (search rules, (search rules, (search rules, (search rules, (search rules, (looked, plain)))))))
+
+pub parse_plain_operand-returns-in_err-callee : goal.parse_plain_operand-returns-in_err-callee
+parse_plain_operand-returns-in_err-callee g t c =
+    let tree = tree_of c.parse_plain_member-member.new.p.nodes in
+    let member = s.parses_aside g.I.Tokens.model g.B.Bodies.is_faithful tree (run _ (at (Lhs false))) c.parse_plain_member-member.result
+    c.set_ctx.ensures.moves (ap deciding c.set_ctx.ensures.context ∙ ap deciding c.get_ctx-ctx.ensures) c.parse_plain_member-member.ensures.reads c.set_ctx-2.ensures.moves
+    (c.set_ctx-2.ensures.context ∙ c.get_ctx-ctx.ensures) in
+    let begun = s.on_seen {g = λ x ts. run g.B.BodyForms.forms (at (Lhs false)) x ts >>= operand.behind g.B.BodyForms.forms x} c.requires.looked
+    (λ x ts same e. plain_operand.plain_unary _ x ts (s.no_head same) (ap (at_token is_plain) e ∙ c.requires.plain)) in
+    m.refused c.from_residual.ensures.1
+    (s.unheard_after begun
+    (s.unheard_call (operand.behind _) (λ x ts. refl)
+    (s.parses_err g.I.Tokens.model g.B.Bodies.is_faithful tree (run _ (at (Lhs false))) _ _ c.parse_plain_member-member.result _ c.in_err-callee.was member)))
+    c.parse_plain_member-member.ensures.grows
+
+pub parse_plain_operand-returns-in_err-look : goal.parse_plain_operand-returns-in_err-look
+parse_plain_operand-returns-in_err-look g t c =
+    let tree = tree_of c.parse_plain_member-member.new.p.nodes in
+    let member = s.parses_aside g.I.Tokens.model g.B.Bodies.is_faithful tree (run _ (at (Lhs false))) c.parse_plain_member-member.result
+    c.set_ctx.ensures.moves (ap deciding c.set_ctx.ensures.context ∙ ap deciding c.get_ctx-ctx.ensures) c.parse_plain_member-member.ensures.reads c.set_ctx-2.ensures.moves
+    (c.set_ctx-2.ensures.context ∙ c.get_ctx-ctx.ensures) in
+    let read = s.parses_ok g.I.Tokens.model g.B.Bodies.is_faithful tree (run _ (at (Lhs false))) _ _ c.parse_plain_member-member.result c.in_ok-callee.callee c.in_ok-callee.was member in
+    m.refused c.from_residual-in_err-look.ensures.1
+    (s.unheard_memory (s.forgoes_later read.on.leads c.in_err-look.ensures.looks)) c.parse_plain_member-member.ensures.grows
+
+pub parse_plain_operand-returns-then-not-may_go_on : goal.parse_plain_operand-returns-then-not-may_go_on
+parse_plain_operand-returns-then-not-may_go_on g t c =
+    let tree = tree_of c.parse_plain_member-member.new.p.nodes in
+    let member = s.parses_aside g.I.Tokens.model g.B.Bodies.is_faithful tree (run _ (at (Lhs false))) c.parse_plain_member-member.result
+    c.set_ctx.ensures.moves (ap deciding c.set_ctx.ensures.context ∙ ap deciding c.get_ctx-ctx.ensures) c.parse_plain_member-member.ensures.reads c.set_ctx-2.ensures.moves
+    (c.set_ctx-2.ensures.context ∙ c.get_ctx-ctx.ensures) in
+    let read = s.parses_ok g.I.Tokens.model g.B.Bodies.is_faithful tree (run _ (at (Lhs false))) _ _ c.parse_plain_member-member.result c.in_ok-callee.callee c.in_ok-callee.was member in
+    let held = m.held_is _ c.parse_plain_member-member.result c.in_ok-callee.callee c.in_ok-callee.was c.parse_plain_member-member.ensures.from in
+    let begun = s.on_seen {g = λ x ts. run g.B.BodyForms.forms (at (Lhs false)) x ts >>= operand.behind g.B.BodyForms.forms x} c.requires.looked
+    (λ x ts same e. plain_operand.plain_unary _ x ts (s.no_head same) (ap (at_token is_plain) e ∙ c.requires.plain)) in
+    let l = tree c.in_ok-callee.callee in
+    m.yes (Ok c.in_ok-callee.callee)
+    (s.heard_after begun
+    (s.heard_more (operand.behind _) (λ x ts. refl) read
+    (s.on_seen {g = s.give l} c.in_ok-look.ensures.looks
+    (λ x ts same e. plain_operand.ends_here _ l x ts (ap (at_token goes_on) e ∙ sym c.may_go_on.ensures ∙ c.if-not-may_go_on.true)))))
+    c.parse_plain_member-member.ensures.grows held
+
+pub parse_plain_operand-parse_subscripts-requires : goal.parse_plain_operand-parse_subscripts-requires
+parse_plain_operand-parse_subscripts-requires g t c =
+    let falls = c.parse_plain_member-member.ensures.falls in
+    let read = c.in_ok-callee.was in
+    let from = from-down (omega arith) (m.held_is _ c.parse_plain_member-member.result c.in_ok-callee.callee read c.parse_plain_member-member.ensures.from) in
+    λ κs outlives. (search rules, (search rules, (search rules, (search rules, (search rules, (search rules, from))))))
+
+pub parse_plain_operand-returns-in_err-expr : goal.parse_plain_operand-returns-in_err-expr
+parse_plain_operand-returns-in_err-expr g t c =
+    let tree = tree_of c.parse_plain_member-member.new.p.nodes in
+    let member = s.parses_aside g.I.Tokens.model g.B.Bodies.is_faithful tree (run _ (at (Lhs false))) c.parse_plain_member-member.result
+    c.set_ctx.ensures.moves (ap deciding c.set_ctx.ensures.context ∙ ap deciding c.get_ctx-ctx.ensures) c.parse_plain_member-member.ensures.reads c.set_ctx-2.ensures.moves
+    (c.set_ctx-2.ensures.context ∙ c.get_ctx-ctx.ensures) in
+    let read = s.parses_ok g.I.Tokens.model g.B.Bodies.is_faithful tree (run _ (at (Lhs false))) _ _ c.parse_plain_member-member.result c.in_ok-callee.callee c.in_ok-callee.was member in
+    let begun = s.on_seen {g = λ x ts. run g.B.BodyForms.forms (at (Lhs false)) x ts >>= operand.behind g.B.BodyForms.forms x} c.requires.looked
+    (λ x ts same e. plain_operand.plain_unary _ x ts (s.no_head same) (ap (at_token is_plain) e ∙ c.requires.plain)) in
+    let l = tree c.in_ok-callee.callee in
+    let again = s.heard_then read.on read.onward (s.on_seen {f = s.give l} {g = s.give l} c.in_ok-look.ensures.looks (λ x ts same e. refl)) in
+    m.refused c.from_residual-in_err-expr.ensures.1
+    (s.unheard_after (s.on_then begun (s.on_call (operand.behind _) (λ x ts. refl) again.on))
+    (s.unheard_call (operand.updated _) (λ x ts. refl) c.in_err-expr.ensures.reads))
+    (grows-then c.parse_plain_member-member.ensures.grows c.parse_subscripts.ensures.grows)
+
+pub parse_plain_operand-parse_update_postfix-requires : goal.parse_plain_operand-parse_update_postfix-requires
+parse_plain_operand-parse_update_postfix-requires g t c = record { from = from-down (omega arith) c.in_ok-expr.ensures.from }
+
+pub parse_plain_operand-returns : goal.parse_plain_operand-returns
+parse_plain_operand-returns g t c =
+    let tree = tree_of c.parse_plain_member-member.new.p.nodes in
+    let member = s.parses_aside g.I.Tokens.model g.B.Bodies.is_faithful tree (run _ (at (Lhs false))) c.parse_plain_member-member.result
+    c.set_ctx.ensures.moves (ap deciding c.set_ctx.ensures.context ∙ ap deciding c.get_ctx-ctx.ensures) c.parse_plain_member-member.ensures.reads c.set_ctx-2.ensures.moves
+    (c.set_ctx-2.ensures.context ∙ c.get_ctx-ctx.ensures) in
+    let read = s.parses_ok g.I.Tokens.model g.B.Bodies.is_faithful tree (run _ (at (Lhs false))) _ _ c.parse_plain_member-member.result c.in_ok-callee.callee c.in_ok-callee.was member in
+    let held = m.held_is _ c.parse_plain_member-member.result c.in_ok-callee.callee c.in_ok-callee.was c.parse_plain_member-member.ensures.from in
+    let begun = s.on_seen {g = λ x ts. run g.B.BodyForms.forms (at (Lhs false)) x ts >>= operand.behind g.B.BodyForms.forms x} c.requires.looked
+    (λ x ts same e. plain_operand.plain_unary _ x ts (s.no_head same) (ap (at_token is_plain) e ∙ c.requires.plain)) in
+    let l = tree c.in_ok-callee.callee in
+    let again = s.heard_then read.on read.onward (s.on_seen {f = s.give l} {g = s.give l} c.in_ok-look.ensures.looks (λ x ts same e. refl)) in
+    let r = c.parse_update_postfix.result in
+    let a = held.above in
+    let b = c.in_ok-expr.ensures.from.above in
+    m.after {m = c.args.p.now} r begun (grows-same _)
+    (m.call {m = record c.parse_plain_member-member.new.p { input = c.look.new.input }} r (operand.behind _) (λ x ts. refl) again
+    c.parse_plain_member-member.ensures.grows (λ x. from-down (omega arith))
+    (m.on_after r (s.on_call (operand.updated _) (λ x ts. refl) c.in_ok-expr.ensures.reads)
+    c.parse_subscripts.ensures.grows c.parse_update_postfix.ensures))
+
+pub parse_plain_member-parse_plain_primary-requires : goal.parse_plain_member-parse_plain_primary-requires
+parse_plain_member-parse_plain_primary-requires g t c = record { looked = c.requires.looked; plain = plain_kind _ c.requires.plain }
+
+pub parse_plain_member-returns-in_err-base : goal.parse_plain_member-returns-in_err-base
+parse_plain_member-returns-in_err-base g t c =
+    m.refused c.from_residual.ensures.1
+    (s.unheard_after (s.on_seen {g = λ x ts. run _ (at Primary) x ts >>= (λ p. run _ (links false p.0) x p.1)} c.requires.looked
+    (λ x ts same e. plain_operand.plain_member _ x ts (s.no_head same) (ap (at_token is_plain) e ∙ c.requires.plain)))
+    (s.unheard_call (λ x p. run _ (links false p.0) x p.1) (λ x ts. refl) c.in_err-base.ensures.reads)) c.parse_plain_primary.ensures.grows
+
+pub parse_plain_member-returns : goal.parse_plain_member-returns
+parse_plain_member-returns g t c =
+    m.after {m = c.args.p.now} c.parse_subscripts.result (s.on_seen {g = λ x ts. run _ (at Primary) x ts >>= (λ p. run _ (links false p.0) x p.1)} c.requires.looked
+    (λ x ts same e. plain_operand.plain_member _ x ts (s.no_head same) (ap (at_token is_plain) e ∙ c.requires.plain))) (grows-same _)
+    (m.call c.parse_subscripts.result (λ x p. run _ (links false p.0) x p.1) (λ x ts. refl)
+    c.in_ok-base.ensures.reads c.parse_plain_primary.ensures.grows (λ x. from-down c.in_ok-base.ensures.from.above) c.parse_subscripts.ensures)
 
 pub parse_bin_expr-returns-in_err-first : goal.parse_bin_expr-returns-in_err-first
 parse_bin_expr-returns-in_err-first g t c =

@@ -79,6 +79,12 @@ decreases-parse_operand g l = l.room * 20 + 11
 abbrev pub decreases-parse_unary_expr : goal.decreases-parse_unary_expr
 decreases-parse_unary_expr g l = l.room * 20 + 10
 
+abbrev pub decreases-parse_plain_operand : goal.decreases-parse_plain_operand
+decreases-parse_plain_operand g l = l.room * 20 + 9
+
+abbrev pub decreases-parse_plain_member : goal.decreases-parse_plain_member
+decreases-parse_plain_member g l = l.room * 20 + 8
+
 abbrev pub decreases-parse_operators : goal.decreases-parse_operators
 decreases-parse_operators g l = l.room * 20 + 12
 

@@ -1,5 +1,5 @@
 use Rattle.std.proofs.Common.{rules}
-use Rattle.swc_trees.proofs.Lifting.{raising-starts, raising-offers, raising-view, raising-more, taken-out, out-refused}
+use Rattle.swc_trees.proofs.Lifting.{raising-starts, raising-offers, raising-view, raising-more, taken-out}
 use Rattle.swc_trees.proofs.taking.take_all.Goals as goal
 
 pub loop-part-init : goal.loop-part-init

@@ -1,0 +1,13 @@
+use Rattle.std.proofs.Common.{ap, refl}
+use Rattle.swc_lexer.specs.Inputs.{text_state, new_state}
+use Rattle.swc_lexer.specs.declared.reader.End.TheVariants.{Whole}
+use Rattle.swc_lexer.specs.declared.stack.Start.TheVariants.{Operand}
+use Rattle.swc_ecma_parser.proofs.WholeList.{headline-in, headline-lost}
+use Rattle.swc_ecma_parser.proofs.text.parse_text_pat.Goals as goal
+
+pub returns-in-Ok-clause-headline : goal.returns-in-Ok-clause-headline
+returns-in-Ok-clause-headline g c = headline-in (text_state c.in-Ok.source) (new_state Whole 0 Operand c.args.text.now c.args.ctx c.args.syntax c.args.target) c.in-Ok.ensures
+    (record { known = refl; clean = refl }) c.read_whole_pat.ensures.headline
+
+pub returns-in-Err-clause-headline : goal.returns-in-Err-clause-headline
+returns-in-Err-clause-headline g c = λ heeded. headline-lost c.out_of_memory.result (ap (λ e. e.kind) c.out_of_memory.ensures)

@@ -1,0 +1,102 @@
+// A text, read as one expression, or as one binding pattern.
+ghost use Rattle.std.specs.Prelude.{◌≡◌, string_bytes, IfOk};
+ghost use Rattle.swc_lexer.specs.Inputs.{new_state, text_state};
+ghost use Rattle.swc_grammar.specs.Symbols.{Expr, Pat};
+ghost use Rattle.swc_nodes.specs.NodeParts.{expr_part, pat_part};
+ghost use Rattle.swc_nodes.specs.GrowingNodes.{From};
+ghost use Rattle.swc_patterns.specs.Answers.{pat_at};
+ghost use Rattle.swc_steps.specs.Parsing.{tree_of};
+ghost use Rattle.swc_ecma_parser.specs.TextList.{text_tokens};
+ghost use Rattle.swc_ecma_parser.specs.WholeList.{IsHeeded, Headline};
+
+use crate::whole::{Whole, read_whole_expr, read_whole_pat};
+use std::alloc::{AllocError, Global};
+use swc_bodies::bodies::Bodies;
+use swc_context::context::{Context, EsVersion, Syntax};
+use swc_lexer::input::TextInput;
+use swc_lexer::read::out_of_memory;
+use swc_lexer::reader::End;
+use swc_lexer::stack::Start;
+use swc_nodes::node::{ExprId, PatId};
+use swc_nodes::nodes::Nodes;
+
+/// Reads a text in UTF-8 as one expression (ECMA-262, 13.16), in the context and by the syntax, with a parser of its
+/// own, which `levels` bounds (`Parser::limit_nesting`; `usize::MAX` is no bound).
+///
+/// The tokens are read as the parser asks for them (`TextInput`). What is no token is refused as `Lex`, where the
+/// parser comes to it; other refusals are those of `Parser::parse_expr`, and `OutOfMemory`, at 0..0 where the text
+/// couldn't be copied. All places are in bytes of the text.
+///
+/// Where early errors are on and not ignored (`headline`): a tree answered with no token left after it and no fault
+/// recorded is one that the written grammar derives from the text's tokens, and the only one (`sound`, `one_tree`);
+/// and with a faithful hook each tree that it derives from them is answered so, unless memory runs out or it is nested
+/// too deeply (`complete`). The text's tokens are those of the written lexical grammar. Where the syntax is pedantic,
+/// that is so of trees in which no property `name = value` of an object literal is left (ECMA-262, 13.2.5.1).
+pub fn parse_text_expr<B: Bodies<TextInput>>(
+    alloc: Global,
+    text: &str,
+    ctx: Context,
+    syntax: Syntax,
+    target: EsVersion,
+    bodies: B,
+    levels: usize,
+) -> Whole<ExprId, B>
+    ensures stands { IfOk result.read (λ r. From 0 result.nodes (expr_part r.0)) }
+    ensures headline { IsHeeded ctx syntax
+        → Headline B.is_faithful B.forms Expr tree_of ctx syntax (text_tokens ctx text.now)
+        result.read result.nodes result.recorded.items }
+{
+    match text_source(alloc, text, ctx, syntax, target) {
+        Ok(source) => read_whole_expr(alloc, source, bodies, levels),
+        Err(_) => Whole {
+            read: Err(out_of_memory()),
+            nodes: Nodes::new(alloc),
+            recorded: Vec::new(alloc),
+            too_deep: false,
+        },
+    }
+}
+
+/// Reads a text in UTF-8 as one binding pattern (ECMA-262, 14.3.3), as `parse_text_expr` reads an expression.
+///
+/// Refuses as `Parser::parse_pat` does, and otherwise as that call does. What it answers is judged (`headline`) as by
+/// it.
+pub fn parse_text_pat<B: Bodies<TextInput>>(
+    alloc: Global,
+    text: &str,
+    ctx: Context,
+    syntax: Syntax,
+    target: EsVersion,
+    bodies: B,
+    levels: usize,
+) -> Whole<PatId, B>
+    ensures stands { IfOk result.read (λ r. From 0 result.nodes (pat_part r.0)) }
+    ensures headline { IsHeeded ctx syntax
+        → Headline B.is_faithful B.forms Pat pat_at ctx syntax (text_tokens ctx text.now)
+        result.read result.nodes result.recorded.items }
+{
+    match text_source(alloc, text, ctx, syntax, target) {
+        Ok(source) => read_whole_pat(alloc, source, bodies, levels),
+        Err(_) => Whole {
+            read: Err(out_of_memory()),
+            nodes: Nodes::new(alloc),
+            recorded: Vec::new(alloc),
+            too_deep: false,
+        },
+    }
+}
+
+/// A source of the text's tokens, which has a copy of the text.
+fn text_source(
+    alloc: Global,
+    text: &str,
+    ctx: Context,
+    syntax: Syntax,
+    target: EsVersion,
+) -> Result<TextInput, AllocError>
+    ensures { IfOk result
+        (λ s. text_state s ≡ new_state End.Whole 0 Start.Operand text.now ctx syntax target) }
+{
+    let copy = text.to_string(alloc)?;
+    Ok(TextInput::new(alloc, copy, Start::Operand, End::Whole, ctx, syntax, target))
+}
