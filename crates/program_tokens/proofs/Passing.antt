@@ -1,5 +1,5 @@
 -- A body that is read after it was passed over is read from before that too.
-use Rattle.std.proofs.Common.{◌≡◌, ◌≤◌, ◌<◌, ◌+◌, ℕ, List, [], ◌∷◌, ◌++◌, Result, length, refl, sym, ap, ◌∙◌, subst, arith}
+use Rattle.std.proofs.Common.{◌≡◌, List, [], ◌++◌, Result, length, sym, ap, ◌∙◌, subst, arith}
 use Rattle.std.specs.Prelude.{IfOk, Some}
 use Rattle.swc_bodies.specs.Readings.{Hooked, Reading, Loud}
 use Rattle.swc_context.specs.declared.error.Error.{Error}

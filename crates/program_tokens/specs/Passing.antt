@@ -1,7 +1,5 @@
 -- That a hook passes over a body changes nothing but how many tokens are still to come.
-use Rattle.std.specs.Prelude.{◌≡◌, ◌≤◌, ◌++◌, [], ◌∷◌, List, Result}
-use Rattle.swc_bodies.specs.Readings.{Hooked, Reading}
-use Rattle.swc_context.specs.declared.error.Error.{Error}
+use Rattle.std.specs.Prelude.{◌≡◌, ◌≤◌}
 use Rattle.swc_input.specs.declared.buffer.Buffer.{Buffer}
 use Rattle.swc_input.specs.Buffer.{with_source, source}
 use Rattle.program_tokens.specs.Source.{StillOpen, tokens_left}

@@ -1,12 +1,12 @@
 -- The source of a program: what it gives isn't promised, but that nothing comes after its end, nor after it has failed.
-use Rattle.std.specs.Prelude.{◌≡◌, ⊤, ℕ, ◌+◌, ◌-◌, ◌<◌, ◌≤◌, false, true, List, [], ◌++◌, Option, Some, None, MatchOption, length}
+use Rattle.std.specs.Prelude.{◌≡◌, ⊤, ℕ, ◌-◌, ◌<◌, ◌≤◌, false, true, List, [], ◌++◌, Option, Some, None, MatchOption, length}
 use Rattle.std.proofs.Common.{refl, ap, ◌∙◌}
 use Rattle.swc_context.specs.declared.context.TokenContexts.{TokenContexts}
 use Rattle.swc_input.specs.Laws.{keeps_same}
 use Rattle.swc_input.specs.declared.listed.TokensInput.{TokensInput}
 use Rattle.swc_input.specs.declared.token.TokenAndSpan.{TokenAndSpan}
 use Rattle.swc_input.specs.Listed.{listed_state, listed_lawful, ListedGives}
-use Rattle.swc_input.specs.Source.{Source, Model, Laws, IsLawful, Keeping, Gave, Asked, Unmoved, given_one}
+use Rattle.swc_input.specs.Source.{Source, Model, Laws, IsLawful, Keeping, Gave, Asked, Unmoved}
 use Rattle.program_tokens.specs.declared.source.ProgramInput.{ProgramInput}
 
 -- no more tokens than this are still to come

@@ -1,9 +1,8 @@
-//! Whole ECMAScript programs, read over the expression parser, as values and as text.
+//! Whole ECMAScript programs, read over the expression parser, as values.
 //!
 //! `Program::read` reads a script, a module or a CommonJS module (ECMA-262, 14, 15 and 16): all statements, declarations,
 //! functions, classes, imports and exports. The types of the tree are those of `tree`: statements in one vector, and
-//! expressions and patterns among the nodes of one `Nodes`. `tree_of` writes a program as text, a line for each statement,
-//! clause and member.
+//! expressions and patterns among the nodes of one `Nodes`. The crate statement_outline writes them as text.
 //!
 //!     let program = Program::read(alloc, "let a = () => { return b }", Goal::Script, 800)?;
 //!     for id in &program.body {
@@ -15,10 +14,6 @@
 //! A function, a class, and the block of a method or an arrow function is read in a pass of its own. In a statement or a
 //! node it is named by its place, by which `Program::function`, `Program::class` and `Program::block` find it. The source
 //! of a program passes over what is in its braces in one step, so functions in one another take linear time.
-//!
-//! In the text of `tree_of` what a line holds is below it, two blanks deeper. Expressions and patterns are written as
-//! swc_print writes them. After `with` a line names the places of the bodies in it, in their order, and each body is after
-//! the program as `at` and its place.
 //!
 //! It isn't promised that these trees are those of ECMA-262. Not looked at are: names that are bound twice, or are missing
 //! in a declaration; whether a label, a loop or a `switch` is there for `break` and `continue`, whether a label stands
@@ -34,15 +29,10 @@ mod calls;
 mod frame;
 mod member;
 mod module;
-mod outline;
 mod part;
-mod print;
-mod print_statement;
 mod program;
 mod reader;
 mod statement;
 pub mod tree;
 mod variables;
 mod words;
-
-pub use crate::print::tree_of;

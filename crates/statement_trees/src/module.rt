@@ -137,6 +137,7 @@ impl Reader {
     }
 
     /// Whether `as` is after the name that is current, or the name is a string.
+    #[tactic(auto, unfolding(crate::specs::Contexts::effort))]
     fn is_renamed(&mut self) -> bool
         ensures context { context_of self.new ≡ context_of self.old }
         ensures lower { work self.new ≤ work self.old }

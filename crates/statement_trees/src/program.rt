@@ -132,16 +132,17 @@ impl Reader {
         requires { kept_bodies self.old ≡ [] }
         ensures all { OnOk result ((vec_len self.new.waiting ≡ 0) × (kept_bodies self.new ≡ [])) }
     {
-        let mut past = 0;
+        let mut past = 0u64;
         while let Some(next) = self.waiting.pop() {
             let place = next.body.span;
-            if place.lo.0 < past {
+            let start = u64::from(place.lo.0);
+            if start < past {
                 return Err(Refusal::Fault(out_of_order(place)));
             }
-            past = place.lo.0.saturating_add(1);
-            self.pass(next)?;
+            past = start + 1;
             let pushed = self.bodies.push(place);
             self.kept(pushed)?;
+            self.pass(next)?;
         }
         Ok(())
     }
@@ -202,9 +203,12 @@ impl Reader {
     fn collect(&mut self) -> PResult<()>
         ensures taken { OnOk result (kept_bodies self.new ≡ []) }
     {
+        let mut failed = false;
         while let Some(body) = self.parser.bodies().pop() {
-            let pushed = self.waiting.push(body);
-            self.kept(pushed)?;
+            failed |= self.waiting.push(body).is_err();
+        }
+        if failed {
+            return Err(self.parser.buffer().out_of_memory());
         }
         Ok(())
     }

@@ -1,4 +1,6 @@
 // What all forms take: tokens, words, names, expressions, and the statements that were read.
+#![tactic(auto, unfolding(crate::specs::Contexts::effort))]
+
 ghost use Rattle.std.specs.Prelude.{◌≡◌, ◌+◌, ◌<◌, ◌≤◌, true, IsSome, OnOk};
 ghost use Rattle.statement_trees.specs.Contexts.{context_of, work, Takes};
 
@@ -208,7 +210,7 @@ impl Reader {
     /// How the string is written that the expression is.
     fn raw_string(&self, expr: ExprId) -> Option<&str> {
         let nodes = self.parser.nodes();
-        if !nodes.has_expr(expr) {
+        if expr.0 >= nodes.len() {
             return None;
         }
         match nodes.get(expr.0) {

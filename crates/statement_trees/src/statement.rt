@@ -347,6 +347,7 @@ impl Reader {
     }
 
     /// What is returned, or nothing. Outside functions the word is refused.
+    #[tactic(auto, unfolding(crate::specs::Contexts::effort))]
     fn returned(&mut self) -> PResult<Option<ExprId>>
         ensures context { context_of self.new ≡ context_of self.old }
         ensures lower { work self.new ≤ work self.old }
@@ -363,6 +364,7 @@ impl Reader {
     }
 
     /// What is thrown, on the line of the word.
+    #[tactic(auto, unfolding(crate::specs::Contexts::effort))]
     fn thrown(&mut self) -> PResult<ExprId>
         ensures context { context_of self.new ≡ context_of self.old }
         ensures lower { work self.new ≤ work self.old }

@@ -37,7 +37,7 @@ pub struct Program {
     pub(crate) classes: Vec<Class>,
     pub(crate) blocks: Vec<Block>,
     /// The places of all of these, in the order in which they begin.
-    pub(crate) bodies: Vec<Span>,
+    pub bodies: Vec<Span>,
 }
 
 impl Program {

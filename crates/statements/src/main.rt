@@ -6,8 +6,8 @@
 #![tactic(auto)]
 
 use reporting::{DONE, FAILED, read_text, report, report_failure};
+use statement_outline::tree_of;
 use statement_trees::tree::Goal;
-use statement_trees::tree_of;
 use std::process::ExitCode;
 use std::{env, io, str};
 

@@ -1,11 +1,11 @@
 // Programs as text: their statements, and then their functions, classes and blocks.
 use crate::outline::Outline;
-use crate::print_statement::Lines;
-use crate::tree::{
+use crate::statement::Lines;
+use reporting::{LEVELS, Refusal};
+use statement_trees::tree::{
     CatchClause, Class, Function, Goal, Member, MemberKind, MethodKind, Program, Statement,
     StatementId, StatementKind, SwitchCase,
 };
-use reporting::{LEVELS, Refusal};
 use std::alloc::Global;
 use swc_ecma_parser::context::span::{BytePos, Span};
 use swc_ecma_parser::nodes::node::ExprId;

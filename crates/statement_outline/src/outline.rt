@@ -1,5 +1,5 @@
 // Lines of text, one for each part of a tree.
-use crate::tree::{MemberKey, Program};
+use statement_trees::tree::{MemberKey, Program};
 use std::alloc::Global;
 use swc_ecma_parser::ast::ident::{Ident, ModuleExportName};
 use swc_ecma_parser::ast::prop::PropName;

@@ -1,7 +1,7 @@
 // Statements as lines of text.
+use crate::lines::Line;
 use crate::outline::Outline;
-use crate::print::Line;
-use crate::tree::{
+use statement_trees::tree::{
     CatchClause, DefaultExport, ForInit, ForTarget, ImportAttribute, ImportKind, ImportSpecifier,
     NamedExports, Statement, StatementId, StatementKind, VariableDeclaration, VariableKind,
 };
