@@ -4,23 +4,21 @@
 //!
 //! Each file is read as the last of these words before it says; with no file, standard input is read. Standard output
 //! gets one line for each file: its tree. What is wrong with a file goes to standard error as
-//! `FILE:LINE:COLUMN: message`, with the line and a caret below it; lines and columns are counted from 1, columns in
+//! `FILE:LINE:COLUMN: message`, with the line and marks below it; lines and columns are counted from 1, columns in
 //! UTF-16 units.
 //!
 //! The status is 0; 1 where a file is refused; 3 where a file can't be read or written, where memory runs out, and
 //! where the words are others.
 #![tactic(auto)]
 
-mod place;
-
-use crate::place::Place;
 use estree_json::writer::TreeWriter;
-use reporting::{DONE, FAILED, LEVELS, REFUSED, Refusal, report_at, report_failure};
+use reporting::{DONE, FAILED, LEVELS, REFUSED, Refusal, is_failure, report_failure};
 use statement_trees::tree::{Goal, Program};
 use std::io::{Read, Write};
 use std::process::ExitCode;
 use std::{env, fs, io};
-use swc_ecma_parser::context::span::LineColumn;
+use swc_ecma_parser::context::frame::Frame;
+use swc_lexer::lines::Lines;
 
 /// What files are read as after the word.
 fn goal_of(word: &str) -> Option<Goal> {
@@ -47,16 +45,23 @@ fn write_tree(rt: &HostRuntime, text: &str, program: &Program) -> io::Result<()>
 /// Says on standard error what is wrong with a file, and where. Answers the status.
 fn refuse(rt: &HostRuntime, name: &str, text: &str, refusal: &Refusal) -> io::Result<u8> {
     let span = refusal.span();
-    let LineColumn { line, .. } = span.line_column(text.as_bytes());
-    let place = Place::new(text, span.lo.0 as usize);
-    let column = place.column();
-    eprint!(rt; "{name}:")?;
-    let status = report_at(rt, LineColumn { line, column }, refusal);
-    if status == REFUSED {
-        let frame = place.frame(rt.alloc())?;
-        eprint!(rt; "{frame}")?;
+    let place = Lines::new(rt.alloc(), text)?.position(span.lo.0 as usize);
+    let (line, column) = (place.line, place.units.saturating_add(1));
+    match refusal {
+        Refusal::Fault(fault) if is_failure(fault.kind()) => {
+            let message = fault.kind().message();
+            eprintln!(rt; "{name}: {message}")?;
+            return Ok(FAILED);
+        }
+        Refusal::Fault(fault) => {
+            let message = fault.explain(text.as_bytes());
+            eprintln!(rt; "{name}:{line}:{column}: {message}")?;
+        }
+        Refusal::TooDeep(_) => eprintln!(rt; "{name}:{line}:{column}: nested too deeply")?,
     }
-    Ok(status)
+    let frame = Frame::new(text.as_bytes(), span);
+    eprintln!(rt; "{frame}")?;
+    Ok(REFUSED)
 }
 
 /// Writes the tree of a text, or says what is wrong with it. Answers the status.

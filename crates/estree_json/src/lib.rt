@@ -17,7 +17,7 @@ mod number;
 mod object;
 mod output;
 mod piece;
-pub mod positions;
+mod positions;
 mod statement;
 mod units;
 pub mod writer;
