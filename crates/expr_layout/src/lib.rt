@@ -1,10 +1,8 @@
 //! Expressions as texts, in a layout of their own.
 #![tactic(auto)]
 
-mod brackets;
-mod gaps;
+mod items;
+mod kinds;
 pub mod layout;
-mod marks;
-mod operators;
-mod print;
-mod units;
+mod links;
+mod pieces;

@@ -1,17 +1,14 @@
 // The names of an expression, and what it does with each.
-use crate::binding::bind;
 use reporting::expr::Nodes;
 use std::alloc::{AllocError, Global};
 use swc_ecma_parser::ast::ident::Ident;
-use swc_ecma_parser::ast::prop::PropName;
-use swc_ecma_parser::ast::spanned::Spanned;
 use swc_ecma_parser::bodies::token_body::TokenBody;
 use swc_ecma_parser::context::operator::AssignOp;
-use swc_ecma_parser::context::span::{BytePos, Span};
+use swc_ecma_parser::context::span::Span;
 use swc_ecma_parser::nodes::node::{ExprId, Node, PatPropNode, PropNode, TargetNode};
 use swc_ecma_parser::nodes::reached::reached;
 
-/// What is done with a name, or with what is in an expression or a pattern.
+/// What is done with a name, or with what stands in an expression or a pattern.
 #[derive(Clone, Copy, PartialEq, Eq)]
 pub enum Use {
     /// Its value is taken.
@@ -20,27 +17,22 @@ pub enum Use {
     Written,
     /// Its value is taken, and it is assigned to.
     ReadAndWritten,
-    /// It is a parameter's name, known in this part of the text.
-    Bound(Span),
+    /// It is a parameter's name.
+    Bound,
 }
 
-/// A name, where it is, and what is done with it there.
+/// A name, where it stands, and what is done with it there.
 #[derive(Drop)]
 pub struct Name<'a> {
     pub text: &'a str,
     pub span: Span,
     pub how: Use,
-    /// The place of the parameter that it refers to; none if it is a parameter, or if none has its name.
-    pub binding: Option<Span>,
 }
 
 type AnyNode = Node<TokenBody, TokenBody, TokenBody>;
 
 /// The names that an expression reads, writes and binds, in the order of the text. Not among them are keys and names
 /// after a dot, and what is in functions, in classes and in blocks.
-///
-/// A parameter of an arrow function is known in the whole of this, and one of a method in its parameters and its body
-/// (ECMA-262, 15.3 and 15.4). A name refers to the innermost parameter of its text that is known where it is.
 ///
 /// Each node tells its parts what is done with them, so it comes before them.
 pub fn names<'a>(
@@ -60,7 +52,6 @@ pub fn names<'a>(
         }
     }
     found.sort_by_key(|name: &Name| name.span.lo.0)?;
-    bind(alloc, &mut found)?;
     Ok(found)
 }
 
@@ -110,12 +101,7 @@ fn push_pat_shorthands<'a>(
 
 fn push<'a>(found: &mut Vec<Name<'a>>, name: &'a Ident, how: Use) -> Result<(), AllocError> {
     let (text, span) = (name.sym.as_str(), name.span);
-    found.push(Name {
-        text,
-        span,
-        how,
-        binding: None,
-    })?;
+    found.push(Name { text, span, how })?;
     Ok(())
 }
 
@@ -126,9 +112,9 @@ fn tell_parts(uses: &mut [Use], node: &AnyNode, how: Use) {
         Node::Update { arg, .. } => tell(uses, arg.0, Use::ReadAndWritten),
         Node::Paren(paren) => tell(uses, paren.expr.0, how),
         Node::Object { props, .. } => tell_params_of_methods(uses, props),
-        Node::Arrow { params, span, .. } => {
+        Node::Arrow { params, .. } => {
             for param in params {
-                tell(uses, param.0, Use::Bound(*span));
+                tell(uses, param.0, Use::Bound);
             }
         }
         _ => tell_pattern(uses, node, how),
@@ -164,29 +150,18 @@ fn tell_props(uses: &mut [Use], props: &[PatPropNode], how: Use) {
 fn tell_params_of_methods(uses: &mut [Use], props: &[PropNode<TokenBody>]) {
     for prop in props {
         match prop {
-            PropNode::Method { key, function } => {
-                let how = bound_after(key, function.span.hi);
+            PropNode::Method { function, .. } => {
                 for param in &function.params {
-                    tell(uses, param.pat.0, how);
+                    tell(uses, param.pat.0, Use::Bound);
                 }
             }
-            PropNode::Setter {
-                key,
-                param,
-                span,
-                ..
-            } => tell(uses, param.0, bound_after(key, span.hi)),
+            PropNode::Setter { param, .. } => tell(uses, param.0, Use::Bound),
             _ => {}
         }
     }
 }
 
-/// A parameter of a method that has the key and ends there.
-fn bound_after(key: &PropName<ExprId>, end: BytePos) -> Use {
-    Use::Bound(Span::new(key.span().hi, end))
-}
-
-/// What is left of `=` is written; other operators read it too.
+/// What stands left of `=` is written; other operators read it too.
 fn tell_target(uses: &mut [Use], target: TargetNode, op: AssignOp) {
     let how = match op {
         AssignOp::Assign => Use::Written,

@@ -1,53 +1,34 @@
 // What the clients make of texts.
-use crate::row::{Row, show_unread};
+use crate::row::show_unread;
 use crate::shown::begin_part;
 use expr_layout::layout::layout;
-use expr_names::names::{Use, names};
+use expr_names::names::{Name, Use, names};
 use reporting::Refusal;
-use reporting::expr::{Nodes, parse_part, read_expr, read_part};
-use reporting::input::context_named;
-use statement_outline::tree_of;
-use statement_trees::tree::Goal;
+use reporting::expr::{Nodes, read_expr};
+use statement_trees::tree_of;
 use std::alloc::{AllocError, Global};
-use swc_ecma_parser::context::context::Context;
+use swc_ecma_parser::context::span::BytePos;
 use swc_ecma_parser::nodes::node::ExprId;
 use swc_ecma_parser::printing::print::PrintNodes;
-use swc_lexer::reader::End;
 use template_pieces::template::{Piece, Template, parse};
 
-/// Writes what the client of the name makes of the text, in the context that the row's setting names.
-pub(crate) fn show_client(
-    alloc: Global,
-    out: &mut String,
-    row: Row<'_>,
-    text: &str,
-) -> Result<(), AllocError> {
-    match context_named(row.setting) {
-        Some(context) => show_made_of(alloc, out, row.calls, text, context),
-        None => show_unread(out, "no such context"),
-    }
-}
-
 /// Writes what the client of the name makes of the text: the names of an expression; its layout, and whether that is
-/// read as the same tree; its tree, where it begins at a place of the text; the pieces of a template; the tree of a
+/// read as the same tree; its tree, where it begins at a place of a whole; the pieces of a template; the tree of a
 /// program.
-fn show_made_of(
+pub(crate) fn show_made_of(
     alloc: Global,
     out: &mut String,
     client: &str,
     text: &str,
-    context: Context,
 ) -> Result<(), AllocError> {
     match client {
-        "names" => show_names_in(alloc, out, text, context),
-        "pieces" => show_pieces(out, &parse(alloc, text, context)?),
-        "layout" => show_layout(alloc, out, text, context),
-        "layout again" => show_whether_laid_out(alloc, out, text, context),
-        "statements" => show_tree(out, tree_of(alloc, text, Goal::Script)),
-        "modules" => show_tree(out, tree_of(alloc, text, Goal::Module)),
-        "CommonJS" => show_tree(out, tree_of(alloc, text, Goal::CommonJs)),
+        "names" => show_names_in(alloc, out, text),
+        "pieces" => show_pieces(out, &parse(alloc, text.as_bytes())?),
+        "layout" => show_layout(alloc, out, text),
+        "layout again" => show_whether_laid_out(alloc, out, text),
+        "statements" => show_tree(out, tree_of(alloc, text.as_bytes())),
         place => match place.parse() {
-            Ok(start) => show_tree(out, expr_tree(alloc, text, start, context)),
+            Ok(start) => show_tree(out, expr_tree(alloc, text, start)),
             Err(_) => show_unread(out, "no such client"),
         },
     }
@@ -55,7 +36,7 @@ fn show_made_of(
 
 /// Writes the tree of the program, or its fault.
 pub(crate) fn show_program(alloc: Global, out: &mut String, text: &str) -> Result<(), AllocError> {
-    match tree_of(alloc, text, Goal::Script) {
+    match tree_of(alloc, text.as_bytes()) {
         Ok(tree) => out.push_str(tree.as_str()),
         Err(refusal) => {
             show_refused(out, &refusal)?;
@@ -69,7 +50,6 @@ pub(crate) fn show_refused(out: &mut String, refusal: &Refusal) -> Result<(), Al
     match refusal {
         Refusal::Fault(fault) => write!(out, "{}", fault.brief()),
         Refusal::TooDeep(span) => write!(out, "nested too deeply {span}"),
-        Refusal::Unclosed { fault, opener } => { write!(out, "{} (open {opener})", fault.brief()) }
     }
 }
 
@@ -91,26 +71,19 @@ fn show_lines(out: &mut String, text: &str) -> Result<(), AllocError> {
     Ok(())
 }
 
-/// The tree of the part of the text that begins at the place.
-fn expr_tree(alloc: Global, text: &str, start: usize, context: Context) -> Result<String, Refusal> {
-    let part = read_part(alloc, text, start, End::BeforeBrace, context)?;
-    let (nodes, expr) = parse_part(alloc, part, context)?;
+fn expr_tree(alloc: Global, text: &str, start: u32) -> Result<String, Refusal> {
+    let (nodes, expr) = read_expr(alloc, text.as_bytes(), BytePos(start))?;
     Ok(nodes.print_expr(expr)?)
 }
 
 /// Writes the layout of the text, and a word more where that isn't read as the same tree, or not laid out as itself.
-fn show_layout(
-    alloc: Global,
-    out: &mut String,
-    text: &str,
-    context: Context,
-) -> Result<(), AllocError> {
-    match read_expr(alloc, text, context) {
+fn show_layout(alloc: Global, out: &mut String, text: &str) -> Result<(), AllocError> {
+    match read_expr(alloc, text.as_bytes(), BytePos(0)) {
         Ok((nodes, expr)) => {
-            let first = layout(alloc, text, &nodes, expr, context)?;
+            let first = layout(alloc, text, &nodes, expr)?;
             show_lines(out, first.as_str())?;
             let tree = nodes.print_expr(expr).ok();
-            if is_laid_out(alloc, first.as_str(), tree, context)? {
+            if is_laid_out(alloc, first.as_str(), tree)? {
                 Ok(())
             } else {
                 out.push_str(" read otherwise")
@@ -121,17 +94,12 @@ fn show_layout(
 }
 
 /// Writes whether the layout of the text is read as the same tree, and is laid out as itself.
-fn show_whether_laid_out(
-    alloc: Global,
-    out: &mut String,
-    text: &str,
-    context: Context,
-) -> Result<(), AllocError> {
-    match read_expr(alloc, text, context) {
+fn show_whether_laid_out(alloc: Global, out: &mut String, text: &str) -> Result<(), AllocError> {
+    match read_expr(alloc, text.as_bytes(), BytePos(0)) {
         Ok((nodes, expr)) => {
-            let first = layout(alloc, text, &nodes, expr, context)?;
+            let first = layout(alloc, text, &nodes, expr)?;
             let tree = nodes.print_expr(expr).ok();
-            let is_same = is_laid_out(alloc, first.as_str(), tree, context)?;
+            let is_same = is_laid_out(alloc, first.as_str(), tree)?;
             out.push_str(if is_same {
                 "read as the same tree"
             } else {
@@ -143,28 +111,18 @@ fn show_whether_laid_out(
 }
 
 /// Whether the text is read as the tree, and laid out as itself.
-fn is_laid_out(
-    alloc: Global,
-    text: &str,
-    tree: Option<String>,
-    context: Context,
-) -> Result<bool, AllocError> {
-    match read_expr(alloc, text, context) {
+fn is_laid_out(alloc: Global, text: &str, tree: Option<String>) -> Result<bool, AllocError> {
+    match read_expr(alloc, text.as_bytes(), BytePos(0)) {
         Ok((nodes, expr)) => {
-            let again = layout(alloc, text, &nodes, expr, context)?;
+            let again = layout(alloc, text, &nodes, expr)?;
             Ok(again.as_str() == text && nodes.print_expr(expr).ok() == tree)
         }
         Err(_) => Ok(false),
     }
 }
 
-fn show_names_in(
-    alloc: Global,
-    out: &mut String,
-    text: &str,
-    context: Context,
-) -> Result<(), AllocError> {
-    match read_expr(alloc, text, context) {
+fn show_names_in(alloc: Global, out: &mut String, text: &str) -> Result<(), AllocError> {
+    match read_expr(alloc, text.as_bytes(), BytePos(0)) {
         Ok((nodes, expr)) => show_names(alloc, out, &nodes, expr),
         Err(refusal) => show_refused(out, &refusal),
     }
@@ -177,14 +135,9 @@ fn show_names(
     expr: ExprId,
 ) -> Result<(), AllocError> {
     let found = names(alloc, nodes, expr)?;
-    for (at, name) in found.iter().enumerate() {
+    for (at, Name { text, span, how }) in found.iter().enumerate() {
         begin_part(out, at, "; ")?;
-        write!(out, "{} {} {}", name.text, name.span, words(name.how))?;
-        match (name.how, name.binding) {
-            (Use::Bound(_), _) => {}
-            (_, None) => out.push_str(" free")?,
-            (_, Some(place)) => write!(out, " bound {place}")?,
-        }
+        write!(out, "{text} {span} {}", words(*how))?;
     }
     show_none(out, found.is_empty())
 }
@@ -195,7 +148,7 @@ fn words(how: Use) -> &'static str {
         Use::Read => "read",
         Use::Written => "written",
         Use::ReadAndWritten => "read and written",
-        Use::Bound(_) => "bound",
+        Use::Bound => "bound",
     }
 }
 

@@ -6,11 +6,10 @@ use expr_layout::layout::layout;
 use expr_names::names::names;
 use reporting::expr::read_expr;
 use reporting::{LEVELS, Refusal};
-use statement_outline::tree_of;
-use statement_trees::tree::Goal;
+use statement_trees::tree_of;
 use std::alloc::{AllocError, Global};
-use swc_context::context::Context;
 use swc_context::error::Error;
+use swc_context::span::BytePos;
 use swc_ecma_parser::PatType;
 use swc_nodes::node::ExprId;
 use swc_trees::letting_go::let_go_pat;
@@ -21,8 +20,8 @@ pub(crate) fn show_long(alloc: Global, out: &mut String, row: Row<'_>) -> Result
     let text = long_text(alloc, unescaped(alloc, row.text)?.as_str())?;
     match row.calls {
         "names" => show_names(alloc, out, text.as_str()),
-        "statements" => show_length(out, tree_of(alloc, text.as_str(), Goal::Script)),
-        "pieces" => show_pieces(out, &parse(alloc, text.as_str(), Context::script())?),
+        "statements" => show_length(out, tree_of(alloc, text.as_str().as_bytes())),
+        "pieces" => show_pieces(out, &parse(alloc, text.as_str().as_bytes())?),
         "nodes" | "whole" | "boxes" => {
             let text = text.as_str();
             show_parsed(alloc, out, Row { text, ..row })
@@ -125,15 +124,14 @@ fn show_end(out: &mut String, parser: &mut TestParser, word: &str) -> Result<(),
     out.push_str(if is_end { word } else { "not read to the end" })
 }
 
-/// Writes how many names an expression has, and in how many lines it is laid out.
+/// Writes how many names an expression has, and whether it is laid out as its text.
 fn show_names(alloc: Global, out: &mut String, text: &str) -> Result<(), AllocError> {
-    let context = Context::script();
-    match read_expr(alloc, text, context) {
+    match read_expr(alloc, text.as_bytes(), BytePos(0)) {
         Ok((nodes, expr)) => {
             let count = names(alloc, &nodes, expr)?.len();
-            let laid_out = layout(alloc, text, &nodes, expr, context)?;
-            let lines = laid_out.split('\n').count();
-            write!(out, "{count} names, laid out in {lines} lines")
+            let is_itself = layout(alloc, text, &nodes, expr)?.as_str() == text;
+            let how = if is_itself { "itself" } else { "another text" };
+            write!(out, "{count} names, laid out as {how}")
         }
         Err(refusal) => show_refused(out, &refusal),
     }

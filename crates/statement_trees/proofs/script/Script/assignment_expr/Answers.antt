@@ -1,0 +1,15 @@
+use Rattle.swc_input.specs.Listed.{listed_model}
+use Rattle.statement_trees.proofs.Kept.{promised_keeps, lower_effort}
+use Rattle.statement_trees.proofs.script.Script.assignment_expr.Goals as goal
+
+pub returns-in_err-expr : goal.returns-in_err-expr
+returns-in_err-expr c = record {
+  context = (promised_keeps listed_model c.parse_assignment_expr_id.ensures.promised).0;
+  lower = lower_effort _ _ _ (promised_keeps listed_model c.parse_assignment_expr_id.ensures.promised).1;
+}
+
+pub returns : goal.returns
+returns c = record {
+  context = (promised_keeps listed_model c.parse_assignment_expr_id.ensures.promised).0;
+  lower = lower_effort _ _ _ (promised_keeps listed_model c.parse_assignment_expr_id.ensures.promised).1;
+}
