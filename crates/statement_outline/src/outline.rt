@@ -26,6 +26,22 @@ pub(crate) struct Outline<'a> {
     pub(crate) past: usize,
 }
 
+/// Of bodies in the order in which they begin, those from a number on that begin before the place and are in no other; and
+/// how many begin before it. Those for which there is no memory are left out.
+fn bodies_before(alloc: Global, bodies: &[Span], from: usize, end: BytePos) -> (Vec<Span>, usize) {
+    let mut found = Vec::new(alloc);
+    let mut at = from;
+    while let Some(body) = bodies.get(at) {
+        if body.lo >= end {
+            break;
+        }
+        let _ = found.push(*body);
+        let after = bodies.partition_point(|inner| inner.lo < body.hi);
+        at = after.max(at + 1);
+    }
+    (found, at)
+}
+
 impl Outline<'_> {
     /// Writes a text in the current line.
     pub(crate) fn put(&mut self, text: &str) {
@@ -154,30 +170,15 @@ impl Outline<'_> {
         self.put(word);
     }
 
-    /// Leaves out the bodies that begin before the place.
-    pub(crate) fn pass_to(&mut self, place: BytePos) {
-        let past = self.program.bodies.partition_point(|body| body.lo < place);
-        self.past = self.past.max(past);
-    }
-
-    /// Takes the next body, if it begins before the place.
-    fn next_body(&mut self, end: BytePos) -> Option<Span> {
-        let body = *self.program.bodies.get(self.past)?;
-        if body.lo >= end {
-            return None;
-        }
-        self.past += 1;
-        Some(body)
-    }
-
     /// Ends a line, with the places of the bodies in it: those that begin before the place, and are in no other.
     pub(crate) fn end_line(&mut self, end: BytePos) {
+        let (bodies, past) = bodies_before(self.alloc, &self.program.bodies, self.past, end);
+        self.past = past;
         let mut sign = " with";
-        while let Some(body) = self.next_body(end) {
+        for body in &bodies {
             self.put(sign);
-            self.put_span(body);
-            self.failed |= self.named.push(body).is_err();
-            self.pass_to(body.hi);
+            self.put_span(*body);
+            self.failed |= self.named.push(*body).is_err();
             sign = ",";
         }
         self.put("\n");
