@@ -1,6 +1,6 @@
 // Lines of text, one for each part of a tree.
 use statement_trees::tree::{MemberKey, Program};
-use std::alloc::Global;
+use std::alloc::{AllocError, Global};
 use swc_ecma_parser::ast::ident::{Ident, ModuleExportName};
 use swc_ecma_parser::ast::prop::PropName;
 use swc_ecma_parser::context::error::PResult;
@@ -27,19 +27,24 @@ pub(crate) struct Outline<'a> {
 }
 
 /// Of bodies in the order in which they begin, those from a number on that begin before the place and are in no other; and
-/// how many begin before it. Those for which there is no memory are left out.
-fn bodies_before(alloc: Global, bodies: &[Span], from: usize, end: BytePos) -> (Vec<Span>, usize) {
+/// how many begin before it. The only error is out of memory.
+fn bodies_before(
+    alloc: Global,
+    bodies: &[Span],
+    from: usize,
+    end: BytePos,
+) -> Result<(Vec<Span>, usize), AllocError> {
     let mut found = Vec::new(alloc);
     let mut at = from;
     while let Some(body) = bodies.get(at) {
         if body.lo >= end {
             break;
         }
-        let _ = found.push(*body);
+        found.push(*body)?;
         let after = bodies.partition_point(|inner| inner.lo < body.hi);
         at = after.max(at + 1);
     }
-    (found, at)
+    Ok((found, at))
 }
 
 impl Outline<'_> {
@@ -172,7 +177,11 @@ impl Outline<'_> {
 
     /// Ends a line, with the places of the bodies in it: those that begin before the place, and are in no other.
     pub(crate) fn end_line(&mut self, end: BytePos) {
-        let (bodies, past) = bodies_before(self.alloc, &self.program.bodies, self.past, end);
+        let before = bodies_before(self.alloc, &self.program.bodies, self.past, end);
+        let Ok((bodies, past)) = before else {
+            self.failed = true;
+            return;
+        };
         self.past = past;
         let mut sign = " with";
         for body in &bodies {
