@@ -1,6 +1,6 @@
 // Lines of text, one for each part of a tree.
 use statement_trees::tree::{MemberKey, Program};
-use std::alloc::Global;
+use std::alloc::{AllocError, Global};
 use swc_ecma_parser::ast::ident::{Ident, ModuleExportName};
 use swc_ecma_parser::ast::prop::PropName;
 use swc_ecma_parser::context::error::PResult;
@@ -24,6 +24,27 @@ pub(crate) struct Outline<'a> {
     pub(crate) named: Vec<Span>,
     /// How many of all bodies begin before what is to be written.
     pub(crate) past: usize,
+}
+
+/// Of bodies in the order in which they begin, those from a number on that begin before the place and are in no other; and
+/// how many begin before it. The only error is out of memory.
+fn bodies_before(
+    alloc: Global,
+    bodies: &[Span],
+    from: usize,
+    end: BytePos,
+) -> Result<(Vec<Span>, usize), AllocError> {
+    let mut found = Vec::new(alloc);
+    let mut at = from;
+    while let Some(body) = bodies.get(at) {
+        if body.lo >= end {
+            break;
+        }
+        found.push(*body)?;
+        let after = bodies.partition_point(|inner| inner.lo < body.hi);
+        at = after.max(at + 1);
+    }
+    Ok((found, at))
 }
 
 impl Outline<'_> {
@@ -154,30 +175,19 @@ impl Outline<'_> {
         self.put(word);
     }
 
-    /// Leaves out the bodies that begin before the place.
-    pub(crate) fn pass_to(&mut self, place: BytePos) {
-        let past = self.program.bodies.partition_point(|body| body.lo < place);
-        self.past = self.past.max(past);
-    }
-
-    /// Takes the next body, if it begins before the place.
-    fn next_body(&mut self, end: BytePos) -> Option<Span> {
-        let body = *self.program.bodies.get(self.past)?;
-        if body.lo >= end {
-            return None;
-        }
-        self.past += 1;
-        Some(body)
-    }
-
     /// Ends a line, with the places of the bodies in it: those that begin before the place, and are in no other.
     pub(crate) fn end_line(&mut self, end: BytePos) {
+        let before = bodies_before(self.alloc, &self.program.bodies, self.past, end);
+        let Ok((bodies, past)) = before else {
+            self.failed = true;
+            return;
+        };
+        self.past = past;
         let mut sign = " with";
-        while let Some(body) = self.next_body(end) {
+        for body in &bodies {
             self.put(sign);
-            self.put_span(body);
-            self.failed |= self.named.push(body).is_err();
-            self.pass_to(body.hi);
+            self.put_span(*body);
+            self.failed |= self.named.push(*body).is_err();
             sign = ",";
         }
         self.put("\n");
