@@ -1,11 +1,11 @@
 // Functions, classes and their blocks.
-use crate::writer::TreeWriter;
+use crate::pieces::Pieces;
 use statement_trees::tree::{Class, Function, Member, MemberKey, MemberKind, MethodKind};
 use swc_ecma_parser::ast::ident::Ident;
 use swc_ecma_parser::context::span::Span;
 use swc_ecma_parser::nodes::node::ExprId;
 
-impl<'a> TreeWriter<'a> {
+impl<'a> Pieces<'a> {
     /// The function at the place.
     pub(crate) fn function_at(&mut self, kind: &'static str, place: Span) {
         let program = self.program;

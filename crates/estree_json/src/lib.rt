@@ -17,6 +17,7 @@ mod number;
 mod object;
 mod output;
 mod piece;
+mod pieces;
 mod positions;
 mod statement;
 mod units;

@@ -1,6 +1,6 @@
 // Members, calls, optional chains and templates with tags.
 use crate::piece::Piece;
-use crate::writer::TreeWriter;
+use crate::pieces::Pieces;
 use swc_ecma_parser::ast::expr::{
     Callee, ExprOrSpread, Import, ImportPhase, MemberExpr, MemberProp, OptChainBase, OptChainExpr,
     SuperProp, SuperPropExpr, Tpl,
@@ -9,7 +9,7 @@ use swc_ecma_parser::ast::ident::PrivateName;
 use swc_ecma_parser::context::span::Span;
 use swc_ecma_parser::nodes::node::ExprId;
 
-impl<'a> TreeWriter<'a> {
+impl<'a> Pieces<'a> {
     /// `#name`, as a node.
     pub(crate) fn private(&mut self, name: &'a PrivateName) {
         self.named("PrivateIdentifier", name.span, name.name.as_str());

@@ -1,12 +1,12 @@
 // Literals and templates.
 use crate::piece::Piece;
-use crate::writer::TreeWriter;
+use crate::pieces::Pieces;
 use swc_ecma_parser::ast::expr::{Tpl, TplElement};
 use swc_ecma_parser::ast::lit::{BigInt, Bool, Num, Regex, Str};
 use swc_ecma_parser::context::span::Span;
 use swc_ecma_parser::nodes::node::ExprId;
 
-impl<'a> TreeWriter<'a> {
+impl<'a> Pieces<'a> {
     /// Begins a literal, up to its value.
     fn open_literal(&mut self, span: Span) {
         self.open("Literal", span);

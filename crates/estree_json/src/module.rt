@@ -1,6 +1,6 @@
 // Imports and exports.
 use crate::piece::Piece;
-use crate::writer::TreeWriter;
+use crate::pieces::Pieces;
 use statement_trees::tree::{
     AllExports, DefaultExport, ExportSpecifier, ImportAttribute, ImportDeclaration, ImportKind,
     ImportSpecifier, NamedExports, Statement, StatementId, StatementKind,
@@ -8,7 +8,7 @@ use statement_trees::tree::{
 use swc_ecma_parser::ast::ident::ModuleExportName;
 use swc_ecma_parser::context::span::Span;
 
-impl<'a> TreeWriter<'a> {
+impl<'a> Pieces<'a> {
     /// An import or an export.
     pub(crate) fn module_item(&mut self, statement: &'a Statement) {
         let span = statement.span;

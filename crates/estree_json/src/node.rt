@@ -1,6 +1,6 @@
 // Expressions and patterns.
 use crate::piece::Piece;
-use crate::writer::TreeWriter;
+use crate::pieces::Pieces;
 use swc_ecma_parser::ast::expr::{BlockStmtOrExpr, MetaPropExpr, MetaPropKind};
 use swc_ecma_parser::context::operator::BinaryOp;
 use swc_ecma_parser::context::span::{BytePos, Span};
@@ -12,7 +12,7 @@ pub(crate) type AnyNode = Node<Span, Span, Span>;
 /// A property of an object literal.
 pub(crate) type AnyProp = PropNode<Span>;
 
-impl<'a> TreeWriter<'a> {
+impl<'a> Pieces<'a> {
     /// The node that has the number.
     fn get(&self, number: usize) -> Option<&'a AnyNode> {
         let nodes = &self.program.nodes;

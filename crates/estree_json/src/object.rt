@@ -1,7 +1,7 @@
 // Literals of arrays and objects, and patterns.
 use crate::node::AnyProp;
 use crate::piece::Piece;
-use crate::writer::TreeWriter;
+use crate::pieces::Pieces;
 use swc_ecma_parser::ast::expr::ExprOrSpread;
 use swc_ecma_parser::ast::function::Function;
 use swc_ecma_parser::ast::ident::Ident;
@@ -10,7 +10,7 @@ use swc_ecma_parser::ast::spanned::Spanned;
 use swc_ecma_parser::context::span::{BytePos, Span};
 use swc_ecma_parser::nodes::node::{ExprId, PatId, PatPropNode};
 
-impl<'a> TreeWriter<'a> {
+impl<'a> Pieces<'a> {
     pub(crate) fn array(&mut self, span: Span, elems: &'a [Option<ExprOrSpread<ExprId>>]) {
         self.open("ArrayExpression", span);
         self.open_list("elements");

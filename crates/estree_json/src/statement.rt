@@ -1,6 +1,6 @@
 // Statements and declarations.
 use crate::piece::Piece;
-use crate::writer::TreeWriter;
+use crate::pieces::Pieces;
 use statement_trees::tree::{
     CatchClause, ForInit, ForTarget, Statement, StatementId, StatementKind, SwitchCase,
     VariableDeclaration, VariableKind,
@@ -9,7 +9,7 @@ use swc_ecma_parser::ast::ident::Ident;
 use swc_ecma_parser::context::span::Span;
 use swc_ecma_parser::nodes::node::{ExprId, Node};
 
-impl<'a> TreeWriter<'a> {
+impl<'a> Pieces<'a> {
     /// The statement that has the number.
     pub(crate) fn statement(&mut self, id: StatementId) {
         let program = self.program;
