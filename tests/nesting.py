@@ -47,11 +47,11 @@ def text_of(form, depth, is_closed=True):
 
 
 def run(command, text, stack=STACK):
-    """The status, a negative one after a signal, and the last line that was written."""
+    """The status, a negative one after a signal, and what was written."""
     def limit():
         resource.setrlimit(resource.RLIMIT_STACK, (stack, stack))
     ended = subprocess.run(command, input=text.encode(), stdout=subprocess.PIPE, stderr=subprocess.STDOUT, preexec_fn=limit)
-    return ended.returncode, ended.stdout.strip().rpartition(b'\n')[2]
+    return ended.returncode, ended.stdout.strip()
 
 
 def program(name):
@@ -78,7 +78,8 @@ def check_boxes(rows, form, depth):
     # The hook `hook_records` takes one token for a block.
     closes = form.closes.replace('{}', '{')
     row = '%s~1 %s~%d %s~1 %s~%d %s' % (form.before, form.opens, depth, form.middle, closes, depth, form.after)
-    status, line = run([rows], 'long: boxes | script hook_records:\n\n    %s | \n' % row)
+    status, written = run([rows], 'long: boxes | script hook_records:\n\n    %s | \n' % row)
+    line = written.rpartition(b'\n')[2]
     is_read = status == 0 and line.endswith(b' | whole')
     return [] if is_read else ['%d deep, in boxes: status %d, %s' % (depth, status, line.decode())]
 
@@ -89,13 +90,13 @@ def check(form, bounded, unbounded, wrap, levels):
     is_told = form.opens != RECORDS
     for is_closed in True, False:
         status, message = run(bounded, wrap % text_of(form, DEEP, is_closed))
-        if status != REFUSED or is_closed and is_told and not message.endswith(TOO_DEEP):
-            wrong.append('%d deep, %s: status %d, %s' % (DEEP, 'closed' if is_closed else 'cut', status, message.decode()))
+        if status != REFUSED or is_closed and is_told and TOO_DEEP not in message:
+            wrong.append('%d deep, %s: status %d, %s' % (DEEP, 'closed' if is_closed else 'cut', status, message.decode()[:200]))
     shallow = text_of(form, SHALLOW)
     for command, text in (bounded, wrap % shallow), (unbounded, shallow):
         status, message = run(command, text)
-        if status not in (0, 1) or message.endswith(TOO_DEEP):
-            wrong.append('%d deep, by %s: status %d, %s' % (SHALLOW, command[0], status, message.decode()))
+        if status not in (0, 1) or TOO_DEEP in message:
+            wrong.append('%d deep, by %s: status %d, %s' % (SHALLOW, command[0], status, message.decode()[:200]))
     stack = least_stack(bounded, wrap % text_of(form, levels * 2))
     print('| `` %s `` | %d | %d |' % (wrap % text_of(form, 1), stack, stack * 1024 // levels), flush=True)
     return wrong
