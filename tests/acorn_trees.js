@@ -15,15 +15,13 @@ function findAcorn() {
 
 const acorn = findAcorn();
 
-/** How acorn reads a script, a module, or a CommonJS module, which is the body of a function. */
-function options(goal) {
-  const isCommonJs = goal === 'commonjs';
-  const sourceType = isCommonJs ? 'script' : goal;
-  return { ecmaVersion: 2022, sourceType, preserveParens: true, allowReturnOutsideFunction: isCommonJs };
+/** Places are counted in bytes, so a text has to be ASCII. */
+function options(sourceType) {
+  return { ecmaVersion: 2022, sourceType, preserveParens: true };
 }
 
-function parseProgram(text, goal) {
-  return acorn.parse(text, options(goal));
+function parseProgram(text, sourceType) {
+  return acorn.parse(text, options(sourceType));
 }
 
 /** What has to stand around some expressions: an async function, and a class that declares a name of its own. */
@@ -242,22 +240,6 @@ const EXPRESSIONS = {
   CallExpression: (p, n) => p.link(n, `Call(${p.expr(n.callee)}, ${p.args(n.arguments)})`),
 };
 
-/** How many bytes come before each place of a text that isn't ASCII. */
-function bytesOf(text) {
-  if (/^[\x00-\x7f]*$/.test(text)) {
-    return null;
-  }
-  const bytes = new Uint32Array(text.length + 1);
-  for (let at = 0, before = 0; at < text.length; at += 1) {
-    bytes[at] = before;
-    const code = text.charCodeAt(at);
-    const isHalf = code >= 0xd800 && code < 0xe000;
-    before += isHalf ? 2 : Buffer.byteLength(text[at]);
-    bytes[at + 1] = before;
-  }
-  return bytes;
-}
-
 /** Lines deeper than this are indented no further, and begin with their depth. */
 const DEEPEST = 40;
 
@@ -268,7 +250,6 @@ class Outline {
     this.lines = [];
     this.waiting = [];
     this.printer = new Printer(text);
-    this.bytes = bytesOf(text);
   }
 
   expr(node) {
@@ -302,12 +283,7 @@ class Outline {
       blanks.lastIndex = start + 'static'.length;
       start = blanks.lastIndex + blanks.exec(this.text)[0].length;
     }
-    return `${this.byte(start)}..${this.byte(body.end)}`;
-  }
-
-  /** A place in bytes, of one in the units of JavaScript's strings. */
-  byte(at) {
-    return this.bytes ? this.bytes[at] : at;
+    return `${start}..${body.end}`;
   }
 
   list(nodes, depth) {
@@ -438,44 +414,6 @@ function declared(word) {
   };
 }
 
-/** A name that a module imports or exports. */
-function exportName(node) {
-  return node.type === 'Literal' ? node.raw : node.name;
-}
-
-/** What is imported, each with a comma after it. */
-const SPECIFIERS = {
-  ImportDefaultSpecifier: n => ` default as ${n.local.name},`,
-  ImportNamespaceSpecifier: n => ` * as ${n.local.name},`,
-  ImportSpecifier: n => (n.imported.end === n.local.end ? ` ${n.local.name},` : ` ${exportName(n.imported)} as ${n.local.name},`),
-};
-
-/** `export` with names or a declaration. */
-function exportNamed(o, n, depth) {
-  if (n.declaration) {
-    const { type } = n.declaration;
-    if (type === 'VariableDeclaration') {
-      o.line(depth, `export ${o.names(n.declaration)}`);
-    } else {
-      o.printer.kept(n.declaration);
-      o.line(depth, `export ${type === 'FunctionDeclaration' ? 'function' : 'class'}`);
-    }
-    return;
-  }
-  const names = n.specifiers.map(({ local, exported }) =>
-    local.end === exported.end ? ` ${exportName(local)},` : ` ${exportName(local)} as ${exportName(exported)},`);
-  o.line(depth, `export${names.join('')}${n.source ? ` from ${n.source.raw}` : ''}`);
-}
-
-/** `export default` */
-function exportDefault(o, n, depth) {
-  const word = { FunctionDeclaration: 'function', ClassDeclaration: 'class' }[n.declaration.type];
-  if (word) {
-    o.printer.kept(n.declaration);
-  }
-  o.line(depth, `export default ${word || o.expr(n.declaration)}`);
-}
-
 /** How each kind of statement is printed. */
 const STATEMENTS = {
   ExpressionStatement: (o, n, depth) => o.line(depth, `expr ${o.expr(n.expression)}`),
@@ -506,28 +444,22 @@ const STATEMENTS = {
   ForStatement: (o, n, depth) => o.counted(n, depth),
   ForInStatement: (o, n, depth) => o.each(n, depth, 'in'),
   ForOfStatement: (o, n, depth) => o.each(n, depth, 'of'),
-  ImportDeclaration: (o, n, depth) =>
-    o.line(depth, `import${n.specifiers.map(s => SPECIFIERS[s.type](s)).join('')} from ${n.source.raw}`),
-  ExportNamedDeclaration: exportNamed,
-  ExportDefaultDeclaration: exportDefault,
-  ExportAllDeclaration: (o, n, depth) =>
-    o.line(depth, `export *${n.exported ? ` as ${exportName(n.exported)}` : ''} from ${n.source.raw}`),
 };
 
-/** Whether acorn reads a text as a script, a module or a CommonJS module. */
-function isProgram(text, goal) {
+/** Whether acorn reads a text as a script or a module. */
+function isProgram(text, sourceType) {
   try {
-    parseProgram(text, goal);
+    parseProgram(text, sourceType);
     return true;
   } catch (_) {
     return false;
   }
 }
 
-/** The tree of a program, as the program `statements` writes it. */
-function programTree(text, goal = 'script') {
+/** The tree of a script, as the program `statements` writes it. */
+function programTree(text) {
   const outline = new Outline(text);
-  const program = parseProgram(text, goal);
+  const program = parseProgram(text, 'script');
   outline.lines.push('program');
   outline.list(program.body, 1);
   for (let next = 0; next < outline.waiting.length; next += 1) {

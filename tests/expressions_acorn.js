@@ -13,9 +13,8 @@ const { readFileSync } = require('fs');
 const { expressionsOf, isBare, parseExpression } = require('./acorn_trees.js');
 const { rowsOf, runOn, Report } = require('./acorn_rows.js');
 
-/** Rows that are read here, though ECMA-262 has no such expression (docs/DIFFERENCES.md), or acorn knows none, or none in
- * parentheses. */
-const READ_HERE_ALONE = ['[{a = 1}]', 'f({a = b})', 'import . source ( a )', '#! a\nb'];
+/** Rows that are read here, though ECMA-262 has no such expression (docs/DIFFERENCES.md). */
+const READ_HERE_ALONE = ['[{a = 1}]', 'f({a = b})'];
 
 /** What is no part of the walk, as its tokens alone are kept. */
 const BODIES = ['FunctionExpression', 'ClassExpression', 'BlockStatement'];
@@ -24,43 +23,10 @@ const READ = 'read';
 const BOUND = 'bound';
 const CHANGED = 'read and written';
 
-/** The names that a pattern binds. */
-function bindingsOf(pattern) {
-  switch (pattern && pattern.type) {
-    case 'Identifier':
-      return [pattern];
-    case 'ArrayPattern':
-      return pattern.elements.flatMap(bindingsOf);
-    case 'ObjectPattern':
-      return pattern.properties.flatMap(prop => bindingsOf(prop.argument || prop.value));
-    case 'RestElement':
-      return bindingsOf(pattern.argument);
-    case 'AssignmentPattern':
-      return bindingsOf(pattern.left);
-    default:
-      return [];
-  }
-}
-
 /** The names that an expression reads, writes and binds. Each part is walked with what is done with it. */
 class Names {
   constructor() {
     this.found = [];
-    /** The parameters that are known, by name, the innermost function last. */
-    this.scopes = [];
-  }
-
-  /** Walks what is in a function that has these parameters. */
-  within(params, walk) {
-    this.scopes.push(new Map(params.flatMap(bindingsOf).map(id => [id.name, id])));
-    walk();
-    this.scopes.pop();
-  }
-
-  add({ name, start, end }, how) {
-    const scope = this.scopes.filter(known => known.has(name)).pop();
-    const binding = how === BOUND ? null : scope && scope.get(name);
-    this.found.push({ name, start, end, how, binding });
   }
 
   walk(node, how) {
@@ -87,7 +53,7 @@ class Names {
   prop(prop, how) {
     this.key(prop);
     if (prop.method || prop.kind !== 'init') {
-      this.within(prop.value.params, () => this.all(prop.value.params, BOUND));
+      this.all(prop.value.params, BOUND);
     } else {
       this.walk(prop.value, how);
     }
@@ -96,7 +62,7 @@ class Names {
 
 /** Nodes that do more with their parts than to read them all, or have parts that are no names. */
 const WALKS = {
-  Identifier: (names, n, how) => names.add(n, how),
+  Identifier: (names, n, how) => names.found.push({ name: n.name, start: n.start, end: n.end, how }),
   PrivateIdentifier: () => {},
   MetaProperty: () => {},
   TemplateElement: () => {},
@@ -108,10 +74,8 @@ const WALKS = {
     names.walk(n.right, READ);
   },
   ArrowFunctionExpression: (names, n) => {
-    names.within(n.params, () => {
-      names.all(n.params, BOUND);
-      names.walk(n.body, READ);
-    });
+    names.all(n.params, BOUND);
+    names.walk(n.body, READ);
   },
   ObjectExpression: (names, n) => names.all(n.properties, READ),
   Property: (names, n, how) => names.prop(n, how),
@@ -129,17 +93,8 @@ function namesOf(text) {
   const { node, shift } = parseExpression(text);
   const names = new Names();
   names.walk(node, READ);
-  const shifted = ({ start, end }) => ({ start: start - shift, end: end - shift });
-  const found = names.found.map(name => ({ ...name, ...shifted(name), binding: name.binding && shifted(name.binding) }));
+  const found = names.found.map(({ name, start, end, how }) => ({ name, how, start: start - shift, end: end - shift }));
   return found.sort((a, b) => a.start - b.start);
-}
-
-/** What is said of where a name is bound, by what says where a place is. */
-function boundText({ how, binding }, placeText) {
-  if (how === BOUND) {
-    return '';
-  }
-  return binding ? ` bound ${placeText(binding)}` : ' free';
 }
 
 /** Line and column, both from 1 on. */
@@ -150,15 +105,7 @@ function lineColumn(text, place) {
 
 /** The names of a text, as the program `scopes` writes them. */
 function namesText(text) {
-  const placeText = ({ start }) => lineColumn(text, start);
-  return namesOf(text).map(name => `${placeText(name)} ${name.name} ${name.how}${boundText(name, placeText)}\n`).join('');
-}
-
-/** The names of a text, as a row has them. */
-function namesAnswer(text) {
-  const placeText = ({ start, end }) => `${start}..${end}`;
-  const names = namesOf(text).map(name => `${name.name} ${placeText(name)} ${name.how}${boundText(name, placeText)}`);
-  return names.join('; ') || 'none';
+  return namesOf(text).map(({ name, start, how }) => `${lineColumn(text, start)} ${name} ${how}\n`).join('');
 }
 
 function compareNames(report) {
@@ -168,7 +115,8 @@ function compareNames(report) {
     if (READ_HERE_ALONE.includes(row.text)) {
       report.skip();
     } else {
-      report.compare(row.text, namesAnswer(row.text), row.answers[0]);
+      const names = namesOf(row.text).map(({ name, start, end, how }) => `${name} ${start}..${end} ${how}`);
+      report.compare(row.text, names.join('; ') || 'none', row.answers[0]);
     }
   }
 }
@@ -191,11 +139,7 @@ function compareLayouts(report) {
   const texts = ['stdin', 'stdout'].map(name => readFileSync(`crates/formatter/${name}`, 'utf8'));
   report.compare('crates/formatter', treeOf(texts[0]), treeOf(texts[1]));
   for (const { text, answers } of rowsOf('layouts.rows')) {
-    if (READ_HERE_ALONE.includes(text)) {
-      report.skip();
-    } else {
-      report.compare(text, treeOf(text), treeOf(answers[0]));
-    }
+    report.compare(text, treeOf(text), treeOf(answers[0]));
   }
 }
 

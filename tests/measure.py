@@ -1,4 +1,4 @@
-"""Runs programs and measures them, for clients_speed.sh. Needs Linux."""
+"""Runs programs and measures them, for speed.sh and programs.py. Needs Linux."""
 import ctypes
 import os
 import resource
