@@ -45,11 +45,17 @@ fn report(rt: &HostRuntime, nodes: &NodesOf<NoBodies>, text: &str, expr: ExprId)
 fn lint(rt: &HostRuntime, text: &str) -> io::Result<()> {
     let (context, syntax, target) = (Context::script(), Syntax::default(), EsVersion::default());
     let whole = parse_text_expr(rt.alloc(), text, context, syntax, target, NoBodies, LEVELS);
-    for fault in whole.recorded {
+    let Whole {
+        read,
+        nodes,
+        recorded,
+        too_deep: _,
+    } = whole;
+    for fault in recorded {
         println!(rt; "{}: {fault}", fault.span().line_column(text.as_bytes()))?;
     }
-    match whole.read {
-        Ok((expr, false)) => report(rt, &whole.nodes, text, expr),
+    match read {
+        Ok((expr, false)) => report(rt, &nodes, text, expr),
         Ok((_, true)) => println!(rt; "tokens are left after the expression"),
         Err(fault) => println!(rt; "{}: {fault}", fault.span().line_column(text.as_bytes())),
     }
