@@ -35,17 +35,33 @@ pub(crate) fn show_lexed(alloc: Global, out: &mut String, row: Row<'_>) -> Resul
             Err(fault) => write!(out, "refused: {}", fault.brief()),
         },
         calls => match read_text(alloc, text, Start::Statements, End::Whole, kind) {
-            Ok(tokens) if calls == "strict" => show_faults(alloc, out, &tokens),
-            Ok(tokens) => show_tokens(out, &tokens, calls == "regexps"),
+            Ok(tokens) => show_read(alloc, out, calls, &tokens),
             Err(fault) => write!(out, "refused: {}", fault.brief()),
         },
+    }
+}
+
+/// Writes the faults that the tokens have in strict code, or the tokens, or the regular expressions among them.
+fn show_read(
+    alloc: Global,
+    out: &mut String,
+    calls: &str,
+    tokens: &[TokenAndSpan],
+) -> Result<(), AllocError> {
+    if calls == "strict" {
+        show_faults(alloc, out, tokens)
+    } else {
+        show_tokens(out, tokens, calls == "regexps")
     }
 }
 
 /// Writes the line of the text's end, its column in bytes, characters and units of UTF-16, and how many such units the
 /// text has.
 fn show_end(alloc: Global, out: &mut String, text: &str) -> Result<(), AllocError> {
-    let lines = Lines::new(alloc, text)?;
+    let lines = match Lines::new(alloc, text) {
+        Ok(lines) => lines,
+        Err(refused) => return Err(refused),
+    };
     let end = lines.position(text.len());
     let units = lines.utf16_offset(text.len());
     write!(
