@@ -9,7 +9,8 @@ use Rattle.swc_input.specs.Buffer.{state_of}
 use Rattle.swc_input.specs.Recording.{no_memory}
 use Rattle.swc_input.specs.Source.{Model}
 use Rattle.swc_bodies.specs.Body.{Body}
-use Rattle.swc_bodies.specs.Deferred.{by_place, found}
+use Rattle.swc_bodies.specs.Deferred.{lies_at}
+use Rattle.swc_bodies.specs.Mapped.{mapped_reading, found}
 use Rattle.swc_bodies.specs.Readings.{Reading, Faithful}
 
 -- the place of a body is answered, or memory runs out
@@ -24,14 +25,14 @@ put-found body at (Err e) place answer lies left quiet = ap (λ x. x.kind) answe
 module _ {S : Type 0} (model : Model S) (reads : Reading Body) (b c : Buffer S) where
   -- a body was read, and then kept, or refused when out of memory
   pub put-faithful : (body : Body) (at : BytePos) (r : Result Span Error) → Faithful model reads b (Ok body) c →
-      Answers body at r → Faithful model (by_place reads) b r c
+      Answers body at r → Faithful model (mapped_reading lies_at reads) b r c
   put-faithful body at r faithful answer = λ loud ts place rest known read.
-      let f = found (reads (state_of model b).context ts) place rest read in
-      let x = faithful loud ts f.body rest known f.is in
-      put-found body at r place answer (ap (λ v. v.span) x.0 ∙ f.span) x.1 x.2
+      let f = found lies_at (reads (state_of model b).context ts) place rest read in
+      let x = faithful loud ts f.value rest known f.is in
+      put-found body at r place answer (ap (λ v. v.span) x.0 ∙ f.same) x.1 x.2
 
   -- no body was read
-  pub none-faithful : (e : Error) → Faithful model reads b (Err e) c → Faithful model (by_place reads) b (Err e) c
+  pub none-faithful : (e : Error) → Faithful model reads b (Err e) c → Faithful model (mapped_reading lies_at reads) b (Err e) c
   none-faithful e faithful = λ loud ts place rest known read.
-      let f = found (reads (state_of model b).context ts) place rest read in
-      faithful loud ts f.body rest known f.is
+      let f = found lies_at (reads (state_of model b).context ts) place rest read in
+      faithful loud ts f.value rest known f.is

@@ -1,6 +1,7 @@
 pub mod Body
 pub mod Deferred
 pub mod Laws
+pub mod Mapped
 pub mod Readings
 pub mod Replaying
 pub mod Slashes
