@@ -1,6 +1,6 @@
 -- What comes next in a text.
 use Rattle.std.proofs.Common.{◌≡◌, ℕ, ◌+◌, ◌-◌, ◌*◌, ◌<◌, ◌≤◌, Bool, true, false, List, length, take, drop, Option, Some, None, refl, sym, ap, ◌∙◌, arith, length-drop, subst}
-use Rattle.std.specs.Prelude.{nat_lt, if◌then◌else◌, ◌&&◌, ◌||◌, not, slice_range}
+use Rattle.std.specs.Prelude.{nat_lt, if◌then◌else◌, ◌&&◌, ◌||◌, not, slice_range, Result, Ok, Err, IfOk}
 use Rattle.std.proofs.Math.Seq.{take-length}
 use Rattle.swc_input.specs.declared.token.TokenAndSpan.{TokenAndSpan}
 use Rattle.swc_lexical.specs.declared.lexeme.Kind.{Kind}
@@ -19,7 +19,7 @@ use Rattle.swc_lexer.specs.Marks.{mark_of}
 use Rattle.swc_lexer.specs.Places.{is_template, is_asking, wants_regexp, is_dot}
 use Rattle.swc_lexer.specs.Stacks as stacks
 use Rattle.swc_lexer.specs.Stacks.{State, innermost, is_chars}
-use Rattle.swc_lexer.specs.Readings.{Reading, Gives, gave, stopped, bound, weight, is_text, read, moves, ended, given, given_of, given_fault, given_long, one_of, placed, piece_here, piece_or_fault, is_over, goal_here, what_comes, next_by, next_in, next_of, is_edge}
+use Rattle.swc_lexer.specs.Readings.{Reading, Gives, gave, stopped, bound, weight, is_text, read, moves, ended, given, given_of, AreGiven, given_fault, given_long, one_of, placed, piece_here, piece_or_fault, is_over, goal_here, what_comes, next_by, next_in, next_of, is_edge}
 use Rattle.swc_lexer.specs.Tokens.{token_of}
 
 -- the rest of a text, as code cuts it
@@ -180,15 +180,21 @@ module _ (e : End) (bs : List ℕ) (r : Reading) (p : Piece) (runs : r.ended ≡
   gives_piece t x small is =
       gave (next_is e bs r (here_.Piece p) runs small next ∙ ap Some (sym is)) (subst (λ g. bound bs g.1 < bound bs r) (sym is) lower_given)
 
--- the same, of what code compares
-pub gives_read : (e : End) (bytes rest bs : List ℕ) (r : Reading) (p : Piece) (w : Here) (t : Reading) (x : TokenAndSpan) → r.ended ≡ false → bytes ≡ bs →
-    rest ≡ drop r.at bytes → w ≡ what_comes e r.state rest → w ≡ here_.Piece p → p.goal ≡ goal_here r.state rest → p.blanks + p.len ≤ length rest →
-    r.at ≤ length bs → length bs ≤ 4294967295 → (x, t) ≡ given bs r p → Gives e bs r (Some x) t
-gives_read e bytes rest bs r p w t x runs text cut comes is same within le small gives =
-    let f : rest ≡ drop r.at bs = cut ∙ ap (drop r.at) text in
-    let n = ap length f in
-    let l = length-drop r.at bs in
-    gives_piece e bs r p runs (ap (what_comes e r.state) (sym f) ∙ sym comes ∙ is) (same ∙ ap (goal_here r.state) f) (omega (arith, within, n, l, le)) t x small gives
+-- the same, of what code compares and answers
+module _ (e : End) (bytes rest bs : List ℕ) (r : Reading) (p : Piece) (w : Here) (runs : r.ended ≡ false) (text : bytes ≡ bs) (cut : rest ≡ drop r.at bytes)
+    (comes : w ≡ what_comes e r.state rest) (is : w ≡ here_.Piece p) (same : p.goal ≡ goal_here r.state rest) (within : p.blanks + p.len ≤ length rest)
+    (le : r.at ≤ length bs) (small : length bs ≤ 4294967295) where
+  gives_read : (t : Reading) (x : TokenAndSpan) → (x, t) ≡ given bs r p → Gives e bs r (Some x) t
+  gives_read t x gives =
+      let f : rest ≡ drop r.at bs = cut ∙ ap (drop r.at) text in
+      let n = ap length f in
+      let l = length-drop r.at bs in
+      gives_piece e bs r p runs (ap (what_comes e r.state) (sym f) ∙ sym comes ∙ is) (same ∙ ap (goal_here r.state) f) (omega (arith, within, n, l, le)) t x small gives
+
+  pub gives_ok : {E : Type 0} (a : Result (Option TokenAndSpan) E) (t : Reading) → IfOk a (λ o. AreGiven o t (given bs r p)) → IfOk a (λ o. Gives e bs r o t)
+  gives_ok (Err x) t h = tt
+  gives_ok (Ok o) t h =
+      subst (λ q. Gives e bs r q t) (sym h.0) (gives_read t (given bs r p).0 (ap (λ u. ((given bs r p).0, u)) h.1))
 
 pub gives_fault : (e : End) (bs : List ℕ) (r t : Reading) (x : TokenAndSpan) → r.ended ≡ false → length bs ≤ 4294967295 →
     what_comes e r.state (drop r.at bs) ≡ here_.Fault → (x, t) ≡ given_fault bs r → Gives e bs r (Some x) t

@@ -154,6 +154,10 @@ given_of bs r p (Some t) = (t, read p t r)
 abbrev pub given : List ℕ → Reading → Piece → TokenAndSpan × Reading
 given bs r p = given_of bs r p (one_of (is_dot r.state.place) r.at p bs)
 
+-- a call gave this token, and led to this reading
+abbrev pub AreGiven : Option TokenAndSpan → Reading → TokenAndSpan × Reading → Type 0
+AreGiven o t g = (o ≡ Some g.0) × (t ≡ g.1)
+
 -- what is no token, after which nothing comes
 abbrev pub given_fault : List ℕ → Reading → TokenAndSpan × Reading
 given_fault bs r = (fault_here (goal_here r.state (drop r.at bs)) bs r.at, ended r)

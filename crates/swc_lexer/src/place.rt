@@ -32,7 +32,7 @@ pub enum Then {
 pub enum Open {
     /// `(`
     Paren,
-    /// `(` after `async`: a call, or the head of an arrow function.
+    /// `(` after `async`: a call, or the parameters of an arrow function.
     AsyncParen,
     /// `(` after `if`, `while`, `with`, `switch` or `catch`.
     Head,

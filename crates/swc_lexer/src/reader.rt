@@ -1,5 +1,5 @@
 //! Reading a text, token by token.
-ghost use Rattle.std.specs.Prelude.{◌≡◌, ◌+◌, ◌≤◌, ◌<◌, ◌^◌, length, drop, false, IfOk, IfSome, OnErr};
+ghost use Rattle.std.specs.Prelude.{◌≡◌, ◌+◌, ◌≤◌, ◌<◌, ◌^◌, length, drop, false, IfOk, IfSome, OnErr, Some, None};
 ghost use Rattle.swc_lexer.specs.Readings as readings;
 ghost use Rattle.swc_lexer.specs.Stacks as stacks;
 ghost use Rattle.swc_lexical.specs.Blanks.{blanks_len};
@@ -8,6 +8,7 @@ ghost use Rattle.swc_lexical.specs.Templates as templates;
 
 use crate::mark::mark_of;
 use crate::place::{Kind, is_asking, is_dot};
+use crate::sign::sign;
 use crate::stack::{Stack, Start};
 use crate::token::token;
 use std::alloc::{AllocError, Global};
@@ -208,37 +209,6 @@ fn fault_of_kind(kind: Lexical, at: usize, len: usize, text: &[u8]) -> TokenAndS
     }
 }
 
-/// The token of a piece, whose blanks begin at the place; none where it is none.
-fn one(
-    alloc: Global,
-    named: bool,
-    at: usize,
-    piece: Piece,
-    text: &str,
-) -> Result<Option<TokenAndSpan>, AllocError>
-    requires small { length text.now < 2 ^ 32 }
-    requires within { at + piece.blanks + piece.len ≤ length text.now }
-    ensures { IfOk result (λ o. o ≡ readings.one_of named at piece text.now) }
-{
-    let lo = at + piece.blanks;
-    let hi = lo + piece.len;
-    if !is_edge(text.as_bytes(), lo) || !is_edge(text.as_bytes(), hi) {
-        return Ok(None);
-    }
-    let found = token(alloc, named, piece.kind, lo, &text[lo..hi])?;
-    match found {
-        None => Ok(None),
-        Some(token) => Ok(Some(TokenAndSpan {
-            token,
-            had_line_break: has_break(rest_from(text.as_bytes(), at), piece.blanks),
-            span: Span {
-                lo: BytePos(lo as u32),
-                hi: BytePos(hi as u32),
-            },
-        })),
-    }
-}
-
 /// Which words are operators where a text begins: those of the function around it, and `await` in a module.
 pub fn kind_in(context: Context) -> Kind
     ensures { result ≡ readings.kind_in context }
@@ -289,29 +259,82 @@ impl Reader {
         fault
     }
 
-    /// Gives the token of the piece that comes next, or a fault.
-    fn give(&mut self, alloc: Global, text: &str, piece: Piece) -> Result<TokenAndSpan, AllocError>
+    /// Gives the fault of the piece that comes next, which is no token.
+    fn give_fault_of(&mut self, text: &[u8], piece: Piece) -> TokenAndSpan
         requires small { length text.now < 2 ^ 32 }
         requires within { self.old.at + piece.blanks + piece.len ≤ length text.now }
-        ensures given { IfOk result
-            (λ t. (t, readings.reading_of self.new) ≡ readings.given text.now (readings.reading_of self.old) piece) }
+        ensures given { (result, readings.reading_of self.new)
+            ≡ readings.given_of text.now (readings.reading_of self.old) piece None }
+        ensures at { self.new.at ≡ self.old.at }
+    {
+        let fault = fault_of_kind(piece.kind, self.at + piece.blanks, piece.len, text);
+        self.give_fault(fault)
+    }
+
+    /// Goes on after this token, which the piece that comes next is.
+    #[inline(always)]
+    fn go_on(
+        &mut self,
+        text: &[u8],
+        piece: Piece,
+        token: Token,
+    ) -> Result<Option<TokenAndSpan>, AllocError>
+        requires small { length text.now < 2 ^ 32 }
+        requires within { self.old.at + piece.blanks + piece.len ≤ length text.now }
+        ensures given { IfOk result (λ o. readings.AreGiven o (readings.reading_of self.new)
+            (readings.given_of text.now (readings.reading_of self.old) piece
+            (readings.placed self.old.at piece text.now (Some token)))) }
         ensures within { self.new.at ≤ length text.now }
         ensures unchanged { OnErr result (readings.reading_of self.new ≡ readings.reading_of self.old) }
     {
+        let lo = self.at + piece.blanks;
+        let hi = lo + piece.len;
+        let had_line_break = has_break(rest_from(text, self.at), piece.blanks);
+        self.stack
+            .pass(mark_of(&token), piece.blanks == 0, had_line_break)?;
+        self.at = hi;
+        Ok(Some(TokenAndSpan {
+            token,
+            had_line_break,
+            span: Span {
+                lo: BytePos(lo as u32),
+                hi: BytePos(hi as u32),
+            },
+        }))
+    }
+
+    /// Gives the token of the piece that comes next, or a fault. A sign takes no memory.
+    #[inline(never)]
+    fn give(
+        &mut self,
+        alloc: Global,
+        text: &str,
+        piece: Piece,
+    ) -> Result<Option<TokenAndSpan>, AllocError>
+        requires small { length text.now < 2 ^ 32 }
+        requires within { self.old.at + piece.blanks + piece.len ≤ length text.now }
+        ensures given { IfOk result (λ o. readings.AreGiven o (readings.reading_of self.new)
+            (readings.given text.now (readings.reading_of self.old) piece)) }
+        ensures within { self.new.at ≤ length text.now }
+        ensures unchanged { OnErr result (readings.reading_of self.new ≡ readings.reading_of self.old) }
+    {
+        let bytes = text.as_bytes();
+        let lo = self.at + piece.blanks;
+        let hi = lo + piece.len;
+        if !is_edge(bytes, lo) || !is_edge(bytes, hi) {
+            return Ok(Some(self.give_fault_of(bytes, piece)));
+        }
+        if let Lexical::Sign = piece.kind {
+            return match sign(&bytes[lo..hi]) {
+                None => Ok(Some(self.give_fault_of(bytes, piece))),
+                Some(token) => self.go_on(bytes, piece, token),
+            };
+        }
         let named = is_dot(self.stack.place());
-        match one(alloc, named, self.at, piece, text)? {
-            None => {
-                let lo = self.at + piece.blanks;
-                let fault = fault_of_kind(piece.kind, lo, piece.len, text.as_bytes());
-                Ok(self.give_fault(fault))
-            }
-            Some(token) => {
-                let adjoins = piece.blanks == 0;
-                self.stack
-                    .pass(mark_of(&token.token), adjoins, token.had_line_break)?;
-                self.at = self.at + piece.blanks + piece.len;
-                Ok(token)
-            }
+        match token(alloc, named, piece.kind, lo, &text[lo..hi]) {
+            Err(refused) => Err(refused),
+            Ok(None) => Ok(Some(self.give_fault_of(bytes, piece))),
+            Ok(Some(token)) => self.go_on(bytes, piece, token),
         }
     }
 
@@ -356,10 +379,7 @@ impl Reader {
                 let fault = self.give_what_is_no_token(bytes);
                 Ok(Some(fault))
             }
-            Here::Piece(piece) => {
-                let token = self.give(alloc, text, piece)?;
-                Ok(Some(token))
-            }
+            Here::Piece(piece) => self.give(alloc, text, piece),
         }
     }
 

@@ -249,10 +249,15 @@ fn apply(frames: &mut Vec<Frame>, change: Change) -> Result<(), AllocError>
     ensures changed { OnOk result (reverse frames.new.items ≡ stacks.frames_after frames.old.items change) }
     ensures unchanged { OnErr result (frames.new.items ≡ frames.old.items) }
 {
-    frames.reserve(2)?;
-    frames.truncate(change.depth);
-    push_some(frames, change.first);
-    push_some(frames, change.second);
+    match (change.first, change.second) {
+        (None, None) => frames.truncate(change.depth),
+        (first, second) => {
+            frames.reserve(2)?;
+            frames.truncate(change.depth);
+            push_some(frames, first);
+            push_some(frames, second);
+        }
+    }
     Ok(())
 }
 

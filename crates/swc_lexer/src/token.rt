@@ -39,6 +39,7 @@ fn escaped(named: bool, word: Word) -> Option<Token>
 }
 
 /// A word (ECMA-262, 12.7).
+#[inline(never)]
 fn word(alloc: Global, named: bool, text: &str) -> Result<Option<Token>, AllocError>
     ensures { IfOk result (λ o. o ≡ tokens.word_token named text.now) }
 {
@@ -60,6 +61,7 @@ fn meant(alloc: Global, cooks: bool, bytes: &[u8]) -> Result<Atom, AllocError>
 }
 
 /// A string with its quotes (ECMA-262, 12.9.4).
+#[inline(never)]
 fn string(alloc: Global, text: &str) -> Result<Option<Token>, AllocError>
     ensures { IfOk result (λ o. o ≡ tokens.string_token text.now) }
 {
@@ -102,6 +104,7 @@ fn cooked(alloc: Global, at: usize, bytes: &[u8]) -> Result<Result<Atom, Error>,
 }
 
 /// A text of a template (ECMA-262, 12.9.6).
+#[inline(never)]
 fn template(alloc: Global, at: usize, bytes: &[u8]) -> Result<Option<Token>, AllocError>
     requires { at + length bytes.now < 2 ^ 32 }
     ensures { IfOk result (λ o. o ≡ tokens.template_token at bytes.now) }
@@ -113,6 +116,7 @@ fn template(alloc: Global, at: usize, bytes: &[u8]) -> Result<Option<Token>, All
 }
 
 /// A regular expression, which begins with a slash (ECMA-262, 12.9.5).
+#[inline(never)]
 fn slashed(alloc: Global, text: &str) -> Result<Option<Token>, AllocError>
     requires some { 0 < length text.now }
     requires opens { is_at text.now 0 47 ≡ true }
@@ -148,6 +152,7 @@ fn regexp(alloc: Global, text: &str) -> Result<Option<Token>, AllocError>
 
 /// The token that begins at the place, of this kind, and is written so; none where none is. After `.` a word is a
 /// name (`named`). The only error is out of memory.
+#[inline(never)]
 pub fn token(
     alloc: Global,
     named: bool,

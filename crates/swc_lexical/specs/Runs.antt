@@ -1,4 +1,4 @@
--- Pieces that stand one after another at the beginning of a text.
+-- Pieces, one after another, at the beginning of a text.
 use Rattle.std.specs.Prelude.{◌≡◌, ℕ, zero, suc, ◌+◌, ◌-◌, ◌<◌, ◌≤◌, Bool, false, if◌then◌else◌, nat_eq, List, [], ◌∷◌, Option, Some, None, slice_get, length, drop}
 
 -- whether a byte is there that passes the test

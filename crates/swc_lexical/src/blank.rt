@@ -63,8 +63,8 @@ pub fn comment_len(rest: &[u8]) -> usize
     }
 }
 
-/// White space, a line terminator or a comment.
-pub fn blank_len(rest: &[u8]) -> usize
+/// White space, a line terminator or a comment, where bytes are that may begin one.
+fn some_blank_len(rest: &[u8]) -> usize
     ensures value { result ≡ blanks.blank_len rest.now }
     ensures within { result ≤ length rest.now }
 {
@@ -77,6 +77,19 @@ pub fn blank_len(rest: &[u8]) -> usize
         return breaks;
     }
     comment_len(rest)
+}
+
+/// White space, a line terminator or a comment.
+pub fn blank_len(rest: &[u8]) -> usize
+    ensures value { result ≡ blanks.blank_len rest.now }
+    ensures within { result ≤ length rest.now }
+{
+    match rest.get(0) {
+        None => 0,
+        Some(b' ') => 1,
+        Some(byte) if b' ' < *byte && *byte < 128 && *byte != b'/' => 0,
+        Some(_) => some_blank_len(rest),
+    }
 }
 
 /// All blanks that are here.

@@ -59,9 +59,9 @@ pub fn plain_len(rest: &[u8]) -> usize
     ensures value { result ≡ chars.plain_len rest.now }
     ensures within { result ≤ length rest.now }
 {
-    if !rest.is_empty() && terminator_len(rest) == 0 {
-        1
-    } else {
-        0
+    match rest.get(0) {
+        None => 0,
+        Some(byte) if b'\r' < *byte && *byte < 0xE2 => 1,
+        Some(_) => { if terminator_len(rest) == 0 { 1 } else { 0 } }
     }
 }

@@ -129,13 +129,13 @@ pub(crate) fn written_begin_len(rest: &[u8]) -> usize
     ensures value { result ≡ written.begin_len rest.now }
     ensures within { result ≤ length rest.now }
 {
-    if is_at(rest, 0, b'\\') {
-        match name_escape(rest) {
+    match rest.get(0) {
+        Some(byte) if starts_plain(*byte) => 1,
+        Some(b'\\') => match name_escape(rest) {
             Some((ch, len)) if starts_name(ch) => len,
             _ => 0,
-        }
-    } else {
-        begin_len(rest)
+        },
+        _ => begin_len(rest),
     }
 }
 
@@ -144,13 +144,13 @@ fn written_more_len(rest: &[u8]) -> usize
     ensures value { result ≡ written.more_len rest.now }
     ensures within { result ≤ length rest.now }
 {
-    if is_at(rest, 0, b'\\') {
-        match name_escape(rest) {
+    match rest.get(0) {
+        Some(byte) if continues_plain(*byte) => 1,
+        Some(b'\\') => match name_escape(rest) {
             Some((ch, len)) if continues_name(ch) => len,
             _ => 0,
-        }
-    } else {
-        more_len(rest)
+        },
+        _ => more_len(rest),
     }
 }
 
